@@ -1,0 +1,9 @@
+pub mod Blocks
+pub mod Decomposition
+pub mod Lists
+pub mod Matching
+pub mod Matrix
+pub mod Parts
+pub mod Paths
+pub mod Start
+pub mod Witness

@@ -1,0 +1,28 @@
+-- Words on lists that stand for sets.
+use Rattle.std.specs.Prelude.{◌≡◌, ◌⊎◌, ℕ, ◌<◌, List, [], ◌∷◌}
+
+-- x is one of the list
+abbrev pub Among : {X : Type 0} → X → List X → Type 0
+Among x [] = ⊥
+Among x (y ∷ ys) = (x ≡ y) ⊎ Among x ys
+
+-- no element stands twice
+abbrev pub AreDistinct : {X : Type 0} → List X → Type 0
+AreDistinct [] = Unit {0}
+AreDistinct (x ∷ xs) = ¬ Among x xs × AreDistinct xs
+
+-- x is below each of the list
+abbrev pub IsBelowEach : ℕ → List ℕ → Type 0
+IsBelowEach x [] = Unit {0}
+IsBelowEach x (y ∷ ys) = (x < y) × IsBelowEach x ys
+
+-- each number is below all later ones
+abbrev pub IsRising : List ℕ → Type 0
+IsRising [] = Unit {0}
+IsRising (x ∷ xs) = IsBelowEach x xs × IsRising xs
+
+-- the one list, rising, of the numbers that have P
+pub record Lists (P : ℕ → Type 0) (xs : List ℕ) : Type 0 where
+  pub rising : IsRising xs
+  pub sound : (x : ℕ) → Among x xs → P x
+  pub complete : (x : ℕ) → P x → Among x xs
