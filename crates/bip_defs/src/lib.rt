@@ -4,9 +4,10 @@
 //! A law is a function with an empty body: its contract is the theorem.
 #![tactic(auto)]
 
-ghost use Rattle.std.specs.Prelude.{◌≡◌, ℕ, List, length};
+ghost use Rattle.std.specs.Prelude.{◌≡◌, ℕ, suc, List, length};
 ghost use Rattle.bip_defs.specs.Matching.{IsHallSet, IsMatching, IsMaximum};
-ghost use Rattle.bip_defs.specs.Matrix.{Matrix, Place};
+ghost use Rattle.bip_defs.specs.Matrix.{AreEntries, Matrix, Place};
+ghost use Rattle.bip_defs.specs.Paths.{IsAugmenting};
 ghost use Rattle.bip_defs.specs.Parts.{ArePartsOf, Parts};
 
 /// A matching that has a Hall set is maximum.
@@ -15,6 +16,13 @@ ghost use Rattle.bip_defs.specs.Parts.{ArePartsOf, Parts};
 /// matched with their neighbours alone, so each matching leaves as many of them unmatched.
 pub fn hall_set_shows_maximum()
     ensures { (a : Matrix) (m : List Place) (w : List ℕ) → IsMatching a m → IsHallSet a m w → IsMaximum a m }
+{}
+
+/// An augmenting path of entries shows a matching that is longer by one.
+///
+/// One half of Berge's theorem (Berge 1957).
+pub fn augmenting_path_shows_more()
+    ensures { (a : Matrix) (m path : List Place) → IsMatching a m → AreEntries a path → IsAugmenting m path → (n : List Place) × IsMatching a n × (length n ≡ suc (length m)) }
 {}
 
 /// Two maximum matchings have one size.
