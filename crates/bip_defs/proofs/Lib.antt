@@ -1,3 +1,4 @@
 pub mod Duality
 pub mod Exchange
+pub mod Reaching
 pub mod Sets

@@ -7,3 +7,4 @@ pub mod Parts
 pub mod Paths
 pub mod Start
 pub mod Witness
+pub mod Walks

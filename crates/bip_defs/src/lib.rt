@@ -8,6 +8,8 @@ ghost use Rattle.std.specs.Prelude.{◌≡◌, ℕ, suc, List, length};
 ghost use Rattle.bip_defs.specs.Matching.{IsHallSet, IsMatching, IsMaximum};
 ghost use Rattle.bip_defs.specs.Matrix.{AreEntries, Matrix, Place};
 ghost use Rattle.bip_defs.specs.Paths.{IsAugmenting};
+ghost use Rattle.bip_defs.specs.Walks.{IsReached};
+ghost use Rattle.bip_defs.specs.Witness.{IsWitness};
 ghost use Rattle.bip_defs.specs.Parts.{ArePartsOf, Parts};
 
 /// A matching that has a Hall set is maximum.
@@ -23,6 +25,14 @@ pub fn hall_set_shows_maximum()
 /// One half of Berge's theorem (Berge 1957).
 pub fn augmenting_path_shows_more()
     ensures { (a : Matrix) (m path : List Place) → IsMatching a m → AreEntries a path → IsAugmenting m path → (n : List Place) × IsMatching a n × (length n ≡ suc (length m)) }
+{}
+
+/// Where every row of the columns that walks reach from unmatched columns is matched, these are the
+/// columns that some maximum matching misses, and a Hall set.
+///
+/// The other half of Berge's theorem, and Dulmage and Mendelsohn's horizontal part (1958).
+pub fn reached_columns_are_horizontal()
+    ensures { (a : Matrix) (m : List Place) (w : List ℕ) → IsMatching a m → IsReached a m w → IsWitness a m w }
 {}
 
 /// Two maximum matchings have one size.

@@ -1,0 +1,6 @@
+pub mod Arrays
+pub mod Empty
+pub mod Halfway
+pub mod Handing
+pub mod Mates
+pub mod Seen

@@ -1,0 +1,6 @@
+//! Matchings of the rows and columns of a sparse matrix.
+#![tactic(auto)]
+
+mod matching;
+
+pub use matching::Matching;
