@@ -4,13 +4,13 @@
 //! A law is a function with an empty body: its contract is the theorem.
 #![tactic(auto)]
 
-ghost use Rattle.std.specs.Prelude.{◌≡◌, ℕ, suc, List, length};
-ghost use Rattle.bip_defs.specs.Matching.{IsHallSet, IsMatching, IsMaximum};
-ghost use Rattle.bip_defs.specs.Matrix.{AreEntries, Matrix, Place};
+ghost use Rattle.std.specs.Prelude.{◌≡◌, ◌+◌, ℕ, suc, List, length};
+ghost use Rattle.bip_defs.specs.Matching.{IsHallSet, IsMatching, IsMaximum, IsRank};
+ghost use Rattle.bip_defs.specs.Matrix.{AreEntries, Matrix, Place, cols};
 ghost use Rattle.bip_defs.specs.Paths.{IsAugmenting};
 ghost use Rattle.bip_defs.specs.Walks.{IsReached};
 ghost use Rattle.bip_defs.specs.Witness.{IsWitness};
-ghost use Rattle.bip_defs.specs.Parts.{ArePartsOf, Parts};
+ghost use Rattle.bip_defs.specs.Parts.{ArePartsOf, IsHorizontalCol, IsHorizontalRow, IsVerticalCol, IsVerticalRow, Parts};
 
 /// A matching that has a Hall set is maximum.
 ///
@@ -40,7 +40,26 @@ pub fn one_rank()
     ensures { (a : Matrix) (m n : List Place) → IsMaximum a m → IsMaximum a n → length m ≡ length n }
 {}
 
+/// The horizontal and the vertical part share no row and no column.
+pub fn parts_are_apart()
+    ensures rows { (a : Matrix) (r : ℕ) → IsHorizontalRow a r → ¬ IsVerticalRow a r }
+    ensures cols { (a : Matrix) (c : ℕ) → IsHorizontalCol a c → ¬ IsVerticalCol a c }
+{}
+
 /// The six parts of a matrix are determined.
 pub fn one_parts()
     ensures { (a : Matrix) (p q : Parts) → ArePartsOf a p → ArePartsOf a q → p ≡ q }
+{}
+
+/// How many rows and columns the parts have.
+///
+/// `horizontal` and `vertical` say that the surplus of a part is what a maximum matching leaves
+/// unmatched (Dulmage and Mendelsohn 1958; Pothen and Fan 1990).
+pub fn parts_counted()
+    ensures rows { (a : Matrix) (p : Parts) → ArePartsOf a p → length p.horizontal_rows + length p.square_rows + length p.vertical_rows ≡ a.rows }
+    ensures cols { (a : Matrix) (p : Parts) → ArePartsOf a p → length p.horizontal_cols + length p.square_cols + length p.vertical_cols ≡ cols a }
+    ensures square { (a : Matrix) (m : List Place) (p : Parts) → IsMaximum a m → ArePartsOf a p → length p.square_rows ≡ length p.square_cols }
+    ensures horizontal { (a : Matrix) (m : List Place) (p : Parts) → IsMaximum a m → ArePartsOf a p → length p.horizontal_cols + length m ≡ cols a + length p.horizontal_rows }
+    ensures vertical { (a : Matrix) (m : List Place) (p : Parts) → IsMaximum a m → ArePartsOf a p → length p.vertical_rows + length m ≡ a.rows + length p.vertical_cols }
+    ensures rank { (a : Matrix) (k : ℕ) (p : Parts) → IsRank a k → ArePartsOf a p → k ≡ length p.horizontal_rows + length p.square_rows + length p.vertical_cols }
 {}
