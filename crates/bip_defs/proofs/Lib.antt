@@ -5,3 +5,4 @@ pub mod Reaching
 pub mod Sets
 pub mod Square
 pub mod Turned
+pub mod Uniqueness
