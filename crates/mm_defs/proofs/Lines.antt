@@ -1,5 +1,5 @@
 -- Lines, byte by byte.
-use Rattle.std.proofs.Common.{◌≡◌, ℕ, Bool, true, false, cond, if◌then◌else◌, List, [], ◌∷◌, ◌++◌, refl, sym, ap, ◌∙◌, append_assoc, append-nil}
+use Rattle.std.proofs.Common.{◌≡◌, ℕ, Bool, true, false, if◌then◌else◌, List, [], ◌∷◌, ◌++◌, refl, ◌∙◌, append-nil}
 use Rattle.std.specs.List.{slice_split}
 use Rattle.mm_defs.specs.Words.{but_last, but_empty_last, last_part, has_bytes, is_lf, lines, open_line}
 use Rattle.mm_defs.proofs.Splitting.{joined_to, split_cons, split-append, but_last-append, but_empty_last-append, last_part-append, but_empty_last-is, parts_are, split-push_yes, split-push_no}
@@ -43,10 +43,12 @@ lines-ended bytes = but_empty_last-is (slice_split is_lf bytes)
 pub lines-append : (ended : Bool) (bytes more : List ℕ) → (rest : List (List ℕ)) × (lines ended (bytes ++ more) ≡ lines false bytes ++ rest)
 unfolding lines
 lines-append true bytes more =
-    let c = split_cons is_lf more in
-    (but_empty_last (joined_to (last_part (slice_split is_lf bytes)) (c.0 ∷ c.1)),
-    rw (split-append is_lf bytes more, c.2) (but_empty_last-append (but_last (slice_split is_lf bytes)) _ c.1))
+    let c = split_cons is_lf more in (
+      but_empty_last (joined_to (last_part (slice_split is_lf bytes)) (c.0 ∷ c.1)),
+      rw (split-append is_lf bytes more, c.2) (but_empty_last-append (but_last (slice_split is_lf bytes)) _ c.1),
+    )
 lines-append false bytes more =
-    let c = split_cons is_lf more in
-    (but_last (joined_to (last_part (slice_split is_lf bytes)) (c.0 ∷ c.1)),
-    rw (split-append is_lf bytes more, c.2) (but_last-append (but_last (slice_split is_lf bytes)) _ c.1))
+    let c = split_cons is_lf more in (
+      but_last (joined_to (last_part (slice_split is_lf bytes)) (c.0 ∷ c.1)),
+      rw (split-append is_lf bytes more, c.2) (but_last-append (but_last (slice_split is_lf bytes)) _ c.1),
+    )

@@ -1,16 +1,13 @@
 -- What one more line adds to the faults, by its role.
-use Rattle.std.proofs.Common.{◌≡◌, ℕ, zero, suc, ◌+◌, ◌<◌, Bool, true, false, not, List, [], ◌∷◌, ◌++◌, length, take, drop, refl, sym, ap, ◌∙◌, append_assoc, append-nil, arith, flat_map, add-zero}
+use Rattle.std.proofs.Common.{◌≡◌, ℕ, zero, suc, ◌+◌, ◌<◌, true, false, not, List, [], ◌∷◌, ◌++◌, length, take, drop, refl, sym, ap, ◌∙◌, append_assoc, append-nil, arith, add-zero}
 use Rattle.std.proofs.lemmas.List.{map-append}
 use Rattle.std.proofs.lemmas.List.Elements.{filter-append}
 use Rattle.mm_defs.specs.declared.answers.End.{End}
 use Rattle.mm_defs.specs.declared.answers.End.TheVariants.{File, LastEntry}
-use Rattle.mm_defs.specs.declared.header.Header.{Header}
-use Rattle.mm_defs.specs.declared.header.Size.{Size}
-use Rattle.mm_defs.specs.declared.kinds.Kind.TheVariants.{Trailing}
 use Rattle.mm_defs.specs.Words.{Word, Line, words, is_skipped, numbered, kept}
 use Rattle.mm_defs.specs.Header.{header, size}
 use Rattle.mm_defs.specs.Faults.{Rule, banner_rules, size_rules, entry_rules}
-use Rattle.mm_defs.specs.File.{Fault, banner_lines, later_lines, size_lines, words_of_first, header_of, size_of, fault_by, faults_by, trailing, line_faults}
+use Rattle.mm_defs.specs.File.{Fault, later_lines, words_of_first, fault_by, faults_by, trailing, line_faults}
 
 -- ---- lines with their numbers
 
@@ -97,12 +94,12 @@ faults_of end b (s ∷ es) = fault_by banner_rules b ++ fault_by (size_rules (he
 
 sum_is : (end : End) (b : Line) (later : List Line)
     → faults_by banner_rules (b ∷ [])
-        ++ faults_by (size_rules (header b.words)) (take 1 later)
-        ++ faults_by (entry_rules (header b.words) (size (words_of_first (take 1 later)))) (take (size (words_of_first (take 1 later))).count (drop 1 later))
-        ++ trailing end (drop (size (words_of_first (take 1 later))).count (drop 1 later))
+    ++ faults_by (size_rules (header b.words)) (take 1 later)
+    ++ faults_by (entry_rules (header b.words) (size (words_of_first (take 1 later)))) (take (size (words_of_first (take 1 later))).count (drop 1 later))
+    ++ trailing end (drop (size (words_of_first (take 1 later))).count (drop 1 later))
     ≡ faults_of end b later
 sum_is end b [] = simp (trailing-none end, append-nil)
-sum_is end b (s ∷ es) = 
+sum_is end b (s ∷ es) =
     simp (append-nil, append_assoc) (ap (λ (t : List Fault). fault_by banner_rules b ++ (fault_by (size_rules (header b.words)) s ++ t)) (walk-is end (entry_rules (header b.words) (size s.words)) (size s.words).count es))
 
 pub line_faults-is : (end : End) (first : List ℕ) (others : List (List ℕ)) → line_faults end (first ∷ others) ≡ faults_of end (line_at 1 first) (later_lines (first ∷ others))
