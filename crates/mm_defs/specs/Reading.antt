@@ -110,3 +110,21 @@ pub record Causes {T : Type 0} (rose : Type 0) (before now : ℕ) (result : Resu
   pub later : before ≤ now
   pub steady : OnOk result (now ≡ before)
   pub failed : IsErrOf result errors.ReadFault → rose
+
+-- it refuses the bytes for what they are
+abbrev pub IsRefusal : {T : Type 0} → Result T ReadError → Type 0
+IsRefusal (Ok t) = ⊥
+IsRefusal (Err (errors.Malformed line kind)) = Unit {0}
+IsRefusal (Err (errors.Limit line kind)) = Unit {0}
+IsRefusal (Err errors.TooLong) = Unit {0}
+IsRefusal (Err errors.ReadFault) = ⊥
+IsRefusal (Err errors.OutOfMemory) = Unit {0}
+
+-- it is a value, unless memory ran out
+abbrev pub IsOkOrNoMemory : {T : Type 0} → Result T ReadError → Type 0
+IsOkOrNoMemory (Ok t) = Unit {0}
+IsOkOrNoMemory (Err (errors.Malformed line kind)) = ⊥
+IsOkOrNoMemory (Err (errors.Limit line kind)) = ⊥
+IsOkOrNoMemory (Err errors.TooLong) = ⊥
+IsOkOrNoMemory (Err errors.ReadFault) = ⊥
+IsOkOrNoMemory (Err errors.OutOfMemory) = Unit {0}

@@ -37,6 +37,16 @@ unfoldable pub lines : Bool → List ℕ → List (List ℕ)
 lines true bytes = but_empty_last (slice_split is_lf bytes)
 lines false bytes = but_last (slice_split is_lf bytes)
 
+-- what stands behind the last separator
+abbrev pub last_part : List (List ℕ) → List ℕ
+last_part [] = []
+last_part (part ∷ []) = part
+last_part (part ∷ next ∷ parts) = last_part (next ∷ parts)
+
+-- what has come of a line that has not ended
+unfoldable pub open_line : List ℕ → List ℕ
+open_line bytes = last_part (slice_split is_lf bytes)
+
 -- no words, or a comment
 abbrev pub is_skipped : List Word → Bool
 is_skipped [] = true

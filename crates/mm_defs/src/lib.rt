@@ -7,9 +7,13 @@
 mod answers;
 mod header;
 mod kinds;
+mod laws;
 mod worked;
 
 pub use answers::{End, ReadError};
 pub use header::{Header, Size, Symmetry};
 pub use kinds::Kind;
+pub use laws::{
+    bad_file_is_refused, bad_line_is_told, bad_line_stays, front_of_good_file, good_file_is_read,
+};
 pub use worked::{worked_files, worked_fronts, worked_refusals, worked_rests};
