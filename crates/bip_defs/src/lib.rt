@@ -4,13 +4,16 @@
 //! A law is a function with an empty body: its contract is the theorem.
 #![tactic(auto)]
 
-ghost use Rattle.std.specs.Prelude.{◌≡◌, ℕ, suc, List, length};
-ghost use Rattle.bip_defs.specs.Matching.{IsHallSet, IsMatching, IsMaximum};
-ghost use Rattle.bip_defs.specs.Matrix.{AreEntries, Matrix, Place};
+ghost use Rattle.std.specs.Prelude.{◌≡◌, ◌+◌, ◌↔◌, ℕ, suc, List, length};
+ghost use Rattle.bip_defs.specs.Blocks.{Block, IsBlock, IsPerfect};
+ghost use Rattle.bip_defs.specs.Components.{AreComponents, IsComponent};
+ghost use Rattle.bip_defs.specs.Decomposition.{Decomposition, IsDecompositionOf};
+ghost use Rattle.bip_defs.specs.Matching.{IsHallSet, IsMatching, IsMaximum, IsRank, turned};
+ghost use Rattle.bip_defs.specs.Matrix.{AreEntries, HasPlaces, IsTransposeOf, Matrix, Place, cols, transpose};
+ghost use Rattle.bip_defs.specs.Parts.{ArePartsOf, IsHorizontalCol, IsHorizontalRow, IsSquareCol, IsVerticalCol, IsVerticalRow, Parts};
 ghost use Rattle.bip_defs.specs.Paths.{IsAugmenting};
 ghost use Rattle.bip_defs.specs.Walks.{IsReached};
 ghost use Rattle.bip_defs.specs.Witness.{IsWitness};
-ghost use Rattle.bip_defs.specs.Parts.{ArePartsOf, Parts};
 
 /// A matching that has a Hall set is maximum.
 ///
@@ -35,6 +38,43 @@ pub fn reached_columns_are_horizontal()
     ensures { (a : Matrix) (m : List Place) (w : List ℕ) → IsMatching a m → IsReached a m w → IsWitness a m w }
 {}
 
+/// The transpose exchanges rows and columns, and the vertical and the horizontal part.
+pub fn transpose_turns_parts()
+    ensures entries { (a : Matrix) → IsTransposeOf a (transpose a) }
+    ensures maximum { (a b : Matrix) (m : List Place) → IsTransposeOf a b → IsMaximum a m → IsMaximum b (turned m) }
+    ensures rows { (a b : Matrix) (r : ℕ) → IsTransposeOf a b → IsVerticalRow a r ↔ IsHorizontalCol b r }
+    ensures cols { (a b : Matrix) (c : ℕ) → IsTransposeOf a b → IsVerticalCol a c ↔ IsHorizontalRow b c }
+{}
+
+/// The horizontal and the vertical part share no row and no column.
+pub fn parts_are_apart()
+    ensures rows { (a : Matrix) (r : ℕ) → IsHorizontalRow a r → ¬ IsVerticalRow a r }
+    ensures cols { (a : Matrix) (c : ℕ) → IsHorizontalCol a c → ¬ IsVerticalCol a c }
+{}
+
+/// How many rows and columns the parts have.
+///
+/// `horizontal` and `vertical` say that the surplus of a part is what a maximum matching leaves
+/// unmatched (Dulmage and Mendelsohn 1958; Pothen and Fan 1990).
+pub fn parts_counted()
+    ensures rows { (a : Matrix) (p : Parts) → ArePartsOf a p → length p.horizontal_rows + length p.square_rows + length p.vertical_rows ≡ a.rows }
+    ensures cols { (a : Matrix) (p : Parts) → ArePartsOf a p → length p.horizontal_cols + length p.square_cols + length p.vertical_cols ≡ cols a }
+    ensures square { (a : Matrix) (m : List Place) (p : Parts) → IsMaximum a m → ArePartsOf a p → length p.square_rows ≡ length p.square_cols }
+    ensures horizontal { (a : Matrix) (m : List Place) (p : Parts) → IsMaximum a m → ArePartsOf a p → length p.horizontal_cols + length m ≡ cols a + length p.horizontal_rows }
+    ensures vertical { (a : Matrix) (m : List Place) (p : Parts) → IsMaximum a m → ArePartsOf a p → length p.vertical_rows + length m ≡ a.rows + length p.vertical_cols }
+    ensures rank { (a : Matrix) (k : ℕ) (p : Parts) → IsRank a k → ArePartsOf a p → k ≡ length p.horizontal_rows + length p.square_rows + length p.vertical_cols }
+{}
+
+/// The strong components of the square part's columns, each with the mates of its columns, are the
+/// fine blocks.
+///
+/// An entry lies in some perfect matching exactly where it lies on an alternating cycle or is a pair
+/// (Berge 1957; Pothen and Fan 1990).
+pub fn numbered_components_are_blocks()
+    ensures sound { (a : Matrix) (m : List Place) (number : ℕ → ℕ) (c : ℕ) (b : Block) → IsPerfect a m → AreComponents a m number → IsSquareCol a c → IsComponent a m number (number c) b → IsBlock a b }
+    ensures complete { (a : Matrix) (m : List Place) (number : ℕ → ℕ) (b : Block) → IsPerfect a m → AreComponents a m number → IsBlock a b → (c : ℕ) × IsSquareCol a c × IsComponent a m number (number c) b }
+{}
+
 /// Two maximum matchings have one size.
 pub fn one_rank()
     ensures { (a : Matrix) (m n : List Place) → IsMaximum a m → IsMaximum a n → length m ≡ length n }
@@ -43,4 +83,14 @@ pub fn one_rank()
 /// The six parts of a matrix are determined.
 pub fn one_parts()
     ensures { (a : Matrix) (p q : Parts) → ArePartsOf a p → ArePartsOf a q → p ≡ q }
+{}
+
+/// A matrix has one rank, one list of each part and one list of blocks.
+pub fn one_decomposition()
+    ensures { (a : Matrix) (d e : Decomposition) → IsDecompositionOf a d → IsDecompositionOf a e → d ≡ e }
+{}
+
+/// The places determine the matrix.
+pub fn one_matrix()
+    ensures { (m n : ℕ) (places : List Place) (a b : Matrix) → HasPlaces m n places a → HasPlaces m n places b → a ≡ b }
 {}

@@ -1,7 +1,6 @@
 -- How the entries of a file are stored.
-use Rattle.std.specs.Prelude.{ℕ, ℤ, pos, List, [], ◌∷◌, ◌≡◌, ◌≢◌, ◌<◌, ◌≤◌, length}
+use Rattle.std.specs.Prelude.{ℕ, ℤ, pos, List, [], ◌∷◌, ◌≡◌, ◌≢◌, ◌<◌, length}
 use Rattle.std.specs.List.{AllByRecursion}
-use Rattle.sp_ids.specs.declared.triples.Field.{Field}
 use Rattle.sp_ids.specs.declared.triples.Field.TheVariants.{Integer}
 use Rattle.sp_ids.specs.declared.triples.Triples.TheInside.{Inside}
 use Rattle.sp_ids.specs.Entries.{Triple, Entries, IsInside}

@@ -1,0 +1,139 @@
+#!/usr/bin/env python3
+"""Runs `btf rank` and what Debian packages for the same job on the same files, interleaved, and prints a table.
+
+    apt-get install g++ libsuitesparse-dev libigraph-dev python3-scipy
+    bench/run.py --btf crates/btf/out/btf [--work DIR] [--entries 100000,1000000] [--families er27,grid2d] [--repeats 3]
+                 [--peers cxsparse,suitesparse,igraph,scipy] [--limit SECONDS]
+
+Files, programs and outputs go to DIR (by default bench-work in the system's folder for temporary files). Times are those
+of whole processes, from a file in the page cache to a text in a file: the median of the repeats. Every program writes the
+same text as `btf rank`, and a difference is told and makes the exit status 1. Ratios of one run compare programs; single
+times compare nothing.
+"""
+import argparse
+import os
+import resource
+import statistics
+import subprocess
+import sys
+import tempfile
+import time
+
+HERE = os.path.dirname(os.path.abspath(__file__))
+
+# family: how many columns give about so many entries
+COLUMNS = {
+    "er27": 1 / 2.7,
+    "er10": 1 / 10,
+    "rmat": 1 / 8,
+    "grid2d": 1 / 5,
+    "circuit": 0.29,
+    "hilo": 1 / 9.8,
+    "fewg": 1 / 5,
+    "load": 1 / 3,
+    "ksbad": 1 / 11,
+}
+
+
+def build(work):
+    """The generator and the peers, compiled where they are older than their source."""
+    for name, libraries in (("generate", []), ("peers", ["-lcxsparse", "-lbtf", "-ligraph"])):
+        program, source = os.path.join(work, name), os.path.join(HERE, name + ".cpp")
+        if os.path.exists(program) and os.path.getmtime(program) > os.path.getmtime(source):
+            continue
+        done = subprocess.run(["g++", "-O3", "-std=c++17", "-o", program, source] + libraries)
+        if done.returncode != 0 and name == "generate":
+            sys.exit("run.py: the generator does not compile")
+
+
+def matrix(work, family, entries):
+    """The file of a family with about so many entries."""
+    columns = str(max(1, int(entries * COLUMNS[family])))
+    path = os.path.join(work, f"{family}-{columns}.mtx")
+    if not os.path.exists(path):
+        with open(path + ".part", "wb") as file:
+            subprocess.run([os.path.join(work, "generate"), family, columns, "1"], stdout=file, check=True)
+        os.rename(path + ".part", path)
+    return path
+
+
+def scipy_python():
+    for python in ("/usr/bin/python3", sys.executable):
+        if subprocess.run([python, "-c", "import scipy.sparse.csgraph"], stderr=subprocess.DEVNULL).returncode == 0:
+            return python
+    return None
+
+
+def programs(options):
+    found = {"btf": [options.btf, "rank"]}
+    for peer in options.peers.split(","):
+        if peer == "scipy":
+            python = scipy_python()
+            if python:
+                found[peer] = [python, os.path.join(HERE, "scipy_rank.py")]
+        elif os.path.exists(os.path.join(options.work, "peers")):
+            found[peer] = [os.path.join(options.work, "peers"), peer]
+    return found
+
+
+def once(command, path, out, limit):
+    """Seconds and peak bytes of one run, or none where it took too long."""
+    with open(path, "rb") as file, open(out, "wb") as text:
+        begin = time.monotonic()
+        child = subprocess.Popen(command, stdin=file, stdout=text, stderr=subprocess.DEVNULL,
+                                 preexec_fn=lambda: resource.setrlimit(resource.RLIMIT_CPU, (limit, limit)))
+        _, status, usage = os.wait4(child.pid, 0)
+        child.returncode = status
+        return (time.monotonic() - begin, usage.ru_maxrss * 1024) if status == 0 else None
+
+
+def main():
+    parser = argparse.ArgumentParser(description=__doc__, formatter_class=argparse.RawDescriptionHelpFormatter)
+    parser.add_argument("--btf", required=True)
+    parser.add_argument("--work", default=os.path.join(tempfile.gettempdir(), "bench-work"))
+    parser.add_argument("--entries", default="100000,1000000")
+    parser.add_argument("--families", default=",".join(COLUMNS))
+    parser.add_argument("--peers", default="cxsparse,suitesparse,igraph,scipy")
+    parser.add_argument("--repeats", type=int, default=3)
+    parser.add_argument("--limit", type=int, default=30)
+    options = parser.parse_args()
+    os.makedirs(options.work, exist_ok=True)
+    build(options.work)
+    tools = programs(options)
+    print("| file | entries | " + " | ".join(f"{name} ns" for name in tools) + " | ratio to the best | btf bytes an entry |")
+    print("|---|---|" + "---|" * (len(tools) + 2))
+    differs = False
+    for family in options.families.split(","):
+        for size in options.entries.split(","):
+            path = matrix(options.work, family, int(size))
+            with open(path, "rb") as file:
+                file.readline()
+                entries = int(file.readline().split()[2])
+            times, peaks, texts, late = {name: [] for name in tools}, {}, {}, set()
+            for _ in range(options.repeats):
+                for name, command in tools.items():
+                    if name in late:
+                        continue
+                    out = os.path.join(options.work, name + ".out")
+                    done = once(command, path, out, options.limit)
+                    if done is None:
+                        late.add(name)
+                        continue
+                    times[name].append(done[0])
+                    peaks[name] = done[1]
+                    with open(out, "rb") as text:
+                        texts[name] = text.read()
+            for name, text in texts.items():
+                if text != texts.get("btf"):
+                    print(f"run.py: {name} and btf differ on {path}", file=sys.stderr)
+                    differs = True
+            median = {name: statistics.median(ts) for name, ts in times.items() if ts}
+            others = [t for name, t in median.items() if name != "btf"]
+            ratio = f"{median['btf'] / min(others):.2f}" if others and "btf" in median else "-"
+            cells = [f"{median[name] * 1e9 / entries:.0f}" if name in median else f"over {options.limit} s" for name in tools]
+            peak = f"{peaks['btf'] / entries:.0f}" if "btf" in peaks else "-"
+            print(f"| {family} | {entries} | " + " | ".join(cells) + f" | {ratio} | {peak} |", flush=True)
+    sys.exit(1 if differs else 0)
+
+
+main()

@@ -1,0 +1,158 @@
+//! Sets of numbers below a bound that give their least member.
+//!
+//! A set is a tree of 64-bit words: the lowest words have a bit for each number, and each word above says which of the
+//! 64 words below it are not empty (van Emde Boas 1977 in its simplest form). A set of numbers below 64^k takes about an
+//! eighth of a byte a number, and each call looks at k words at most.
+#![tactic(auto)]
+
+mod tree;
+
+ghost use Rattle.std.specs.Prelude.{◌≡◌, ◌⊎◌, ◌↔◌, ◌≢◌, ◌<◌, ◌≤◌, ◌∷◌, ℕ, [], length, IfOk, IfSome, IfNone, MatchOption, IsTrue};
+ghost use Rattle.bip_defs.specs.Lists.{Among, IsRising};
+
+use sp_ids::OutOfMemory;
+use std::alloc::Global;
+use std::marker::Model;
+
+/// A set of numbers below a bound that is set when it is made.
+#[derive(Drop)]
+pub struct IntSet {
+    words: Vec<u64>,
+    depth: u32,
+    first: usize,
+    bound: u32,
+}
+
+impl Model for IntSet {
+    ghost use Rattle.int_set.specs.Numbers.{Numbers};
+
+    ghost Value = { Numbers };
+
+    ghost use Rattle.int_set.specs.Tree.{numbers_of, IsSetOf};
+
+    ghost view = { λ s. numbers_of s.words.items s.first s.bound };
+
+    ghost invariant = { λ s. IsSetOf s.words.items s.depth s.first s.bound };
+}
+
+impl IntSet {
+    /// The empty set of numbers below `bound`.
+    ///
+    /// It takes `bound / 8` bytes and a little more, and writes them.
+    pub fn new(alloc: Global, bound: u32) -> Result<IntSet, OutOfMemory>
+        ensures { IfOk result (λ s. s ≡ record { bound = bound; members = [] }) }
+    {
+        let lowest = bound as usize / 64 + 1;
+        let shape = tree::shape_for(lowest);
+        let words = tree::zeros(alloc, shape.start + lowest)?;
+        Ok(IntSet {
+            words,
+            depth: shape.depth,
+            first: 64 * shape.start,
+            bound,
+        })
+    }
+
+    /// Puts a number in.
+    pub fn insert(&mut self, number: u32)
+        requires { number < self.old.bound }
+        ensures members { (x : ℕ) → Among x self.new.members ↔ ((x ≡ number) ⊎ Among x self.old.members) }
+        ensures bound { self.new.bound ≡ self.old.bound }
+    {
+        let words = self.words.as_mut_slice();
+        tree::mark(words, self.first, number);
+    }
+
+    /// Takes a number out, if it is in.
+    pub fn remove(&mut self, number: u32)
+        requires { number < self.old.bound }
+        ensures members { (x : ℕ) → Among x self.new.members ↔ ((x ≢ number) × Among x self.old.members) }
+        ensures bound { self.new.bound ≡ self.old.bound }
+    {
+        let words = self.words.as_mut_slice();
+        tree::clear(words, self.first, number);
+    }
+
+    /// Whether a number is in.
+    pub fn contains(&self, number: u32) -> bool
+        requires { number < self.now.bound }
+        ensures { IsTrue result ↔ Among number self.now.members }
+    {
+        let bit = self.first + number as usize;
+        let words = self.words.as_slice();
+        words[bit / 64] >> (bit % 64) & 1 == 1
+    }
+
+    /// The least member.
+    pub fn least(&self) -> Option<u32>
+        ensures none { IfNone result (self.now.members ≡ []) }
+        ensures least { IfSome result (λ x. Among x self.now.members × ((y : ℕ) → Among y self.now.members → x ≤ y)) }
+        ensures in_range { IfSome result (λ x. x < self.now.bound) }
+        ensures rising { IsRising self.now.members }
+    {
+        let words = self.words.as_slice();
+        if words[0] == 0 {
+            return None;
+        }
+        let bit = tree::least_bit(words, self.depth);
+        Some((bit - self.first) as u32)
+    }
+
+    /// Takes the least member out.
+    pub fn take_least(&mut self) -> Option<u32>
+        ensures none { IfNone result ((self.old.members ≡ []) × (self.new.members ≡ [])) }
+        ensures least { IfSome result (λ x. self.old.members ≡ x ∷ self.new.members) }
+        ensures in_range { IfSome result (λ x. x < self.old.bound) }
+        ensures rising { IsRising self.old.members }
+        ensures bound { self.new.bound ≡ self.old.bound }
+    {
+        let least = self.least()?;
+        let words = self.words.as_mut_slice();
+        tree::clear(words, self.first, least);
+        Some(least)
+    }
+}
+
+#[cfg(test)]
+mod tests {
+    use super::*;
+
+    // 200,000 numbers have three levels, and the members below differ at each of them.
+    #[test]
+    fn gives_members_by_size(rt: HostRuntime) -> Result<(), OutOfMemory> {
+        let mut set = IntSet::new(rt.alloc(), 200_000)?;
+        assert_eq!(rt; set.take_least(), None);
+        set.insert(70_000);
+        set.insert(199_999);
+        set.insert(64);
+        set.insert(0);
+        set.insert(4_096);
+        set.insert(63);
+        set.insert(130);
+        set.remove(130);
+        set.remove(131);
+        assert!(rt; set.contains(64) && !set.contains(130) && !set.contains(65));
+        assert_eq!(rt; set.least(), Some(0));
+        assert_eq!(rt; set.take_least(), Some(0));
+        assert_eq!(rt; set.take_least(), Some(63));
+        assert_eq!(rt; set.take_least(), Some(64));
+        assert_eq!(rt; set.take_least(), Some(4_096));
+        assert_eq!(rt; set.take_least(), Some(70_000));
+        set.insert(5);
+        assert_eq!(rt; set.take_least(), Some(5));
+        assert_eq!(rt; set.take_least(), Some(199_999));
+        assert_eq!(rt; set.take_least(), None);
+        Ok(())
+    }
+
+    #[test]
+    fn is_made_for_no_numbers_too(rt: HostRuntime) -> Result<(), OutOfMemory> {
+        let mut none = IntSet::new(rt.alloc(), 0)?;
+        assert_eq!(rt; none.least(), None);
+        let mut one = IntSet::new(rt.alloc(), 1)?;
+        one.insert(0);
+        assert_eq!(rt; none.take_least(), None);
+        assert_eq!(rt; one.take_least(), Some(0));
+        Ok(())
+    }
+}

@@ -1,0 +1,73 @@
+-- What stands behind the LFs of a front.
+use Rattle.std.proofs.Common.{◌≡◌, ℕ, zero, suc, ◌+◌, ◌<◌, ◌≤◌, Bool, true, false, cond, List, [], ◌∷◌, ◌++◌, length, count_by, refl, ap, ◌∙◌, arith}
+use Rattle.std.specs.List.{slice_split, onto_first}
+use Rattle.std.proofs.lemmas.List.Splits.{length-slice_split}
+use Rattle.std.proofs.lemmas.List.Sums.{sum_by-cons}
+use Rattle.mm_defs.specs.Words.{but_last, last_part, is_lf, lines, open_line}
+use Rattle.mm_defs.specs.File.{behind}
+use Rattle.mm_defs.proofs.Splitting.{split_cons}
+
+length-but_last : (x : List ℕ) (xs : List (List ℕ)) → length (but_last (x ∷ xs)) ≡ length xs
+length-but_last x [] = refl
+length-but_last x (y ∷ ys) = ap suc (length-but_last y ys)
+
+-- as many lines have ended as there are LFs
+pub length-lines : (bytes : List ℕ) → length (lines false bytes) ≡ count_by is_lf bytes
+unfolding lines
+length-lines bytes =
+    let c = split_cons is_lf bytes in
+    let n = length-slice_split is_lf bytes in
+    let m : length (c.0 ∷ c.1) ≡ count_by is_lf bytes + 1 = rw c.2 at n in
+    let k = length-but_last c.0 c.1 in
+    rw c.2 (omega (arith, m, k))
+
+-- a front that ends with an LF, or is empty
+behind_lf : (b : ℕ) (front rest : List ℕ) (s : List ℕ) (ss : List (List ℕ)) (lf : Bool) → is_lf b ≡ lf
+    → length (s ∷ ss) ≡ count_by is_lf front + 1
+    → last_part (cond lf ([] ∷ s ∷ ss) (onto_first b (s ∷ ss))) ≡ []
+    → (last_part (s ∷ ss) ≡ [] → behind (count_by is_lf front) (front ++ rest) ≡ rest)
+    → behind (count_by is_lf (b ∷ front)) (b ∷ front ++ rest) ≡ rest
+behind_lf b front rest s ss true e n h ih =
+    let k : count_by is_lf (b ∷ front) ≡ suc (count_by is_lf front) = sum_by-cons _ b front ∙ rw e (omega arith) in
+    rw (k, e) (ih h)
+behind_lf b front rest s [] false e n h ih = absurd cc
+behind_lf b front rest s (q ∷ qs) false e n h ih =
+    let k : count_by is_lf (b ∷ front) ≡ count_by is_lf front = sum_by-cons _ b front ∙ rw e (omega arith) in
+    let p : count_by is_lf front ≡ suc (length qs) = omega (arith, n) in
+    let r : behind (suc (length qs)) (front ++ rest) ≡ rest = rw (← p) (ih h) in
+    rw (k, p, e) r
+
+pub behind-front : (front rest : List ℕ) → open_line front ≡ [] → behind (length (lines false front)) (front ++ rest) ≡ rest
+unfolding open_line
+behind-front front rest h = rw (length-lines front) (go front h)
+  where
+    go : (front : List ℕ) → last_part (slice_split is_lf front) ≡ [] → behind (count_by is_lf front) (front ++ rest) ≡ rest
+    go [] h = refl
+    go (b ∷ front) h =
+        let c = split_cons is_lf front in
+        let n = length-slice_split is_lf front in
+        behind_lf b front rest c.0 c.1 (is_lf b) refl (rw c.2 at n) (rw c.2 at h) (λ e. go front (rw c.2 e))
+
+-- past the last LF there is nothing
+pub behind-past : (n : ℕ) (bytes : List ℕ) → count_by is_lf bytes < n → behind n bytes ≡ []
+behind-past zero bytes h = absurd (omega arith)
+behind-past (suc n) [] h = refl
+behind-past (suc n) (b ∷ bytes) h = by (is_lf b) refl (behind-past n bytes) (behind-past (suc n) bytes)
+  where
+    by : (lf : Bool) → is_lf b ≡ lf → (count_by is_lf bytes < n → behind n bytes ≡ []) → (count_by is_lf bytes < suc n → behind (suc n) bytes ≡ []) → behind (suc n) (b ∷ bytes) ≡ []
+    by true e yes_lf no_lf =
+        let k : count_by is_lf (b ∷ bytes) ≡ suc (count_by is_lf bytes) = sum_by-cons _ b bytes ∙ rw e (omega arith) in
+        rw e (yes_lf (omega (arith, k, h)))
+    by false e yes_lf no_lf =
+        let k : count_by is_lf (b ∷ bytes) ≡ count_by is_lf bytes = sum_by-cons _ b bytes ∙ rw e (omega arith) in
+        rw e (no_lf (omega (arith, k, h)))
+
+-- what stands behind some LFs is no longer than all
+pub length-behind : (n : ℕ) (bytes : List ℕ) → length (behind n bytes) ≤ length bytes
+length-behind zero bytes = omega arith
+length-behind (suc n) [] = omega arith
+length-behind (suc n) (b ∷ bytes) = by (is_lf b) refl (length-behind n bytes) (length-behind (suc n) bytes)
+  where
+    by : (lf : Bool) → is_lf b ≡ lf → length (behind n bytes) ≤ length bytes → length (behind (suc n) bytes) ≤ length bytes → length (behind (suc n) (b ∷ bytes)) ≤ length (b ∷ bytes)
+    by true e yes_lf no_lf = rw e (omega arith)
+    by false e yes_lf no_lf = rw e (omega arith)

@@ -1,0 +1,5 @@
+use Rattle.mm_defs.proofs.Fronts.{bad_stays}
+use Rattle.mm_defs.proofs.laws.bad_line_stays.Goals as goal
+
+pub returns : goal.returns
+returns c = bad_stays

@@ -1,0 +1,5 @@
+use Rattle.mm_defs.proofs.Fronts.{good_front}
+use Rattle.mm_defs.proofs.laws.front_of_good_file.Goals as goal
+
+pub returns : goal.returns
+returns c = good_front

@@ -1,0 +1,42 @@
+//! Laws on bad lines, good files and answers.
+
+ghost use Rattle.std.specs.Prelude.{◌≡◌, ◌≤◌, ℕ, Bool, List, [], ◌++◌, length, Result, true, false};
+ghost use Rattle.sp_ids.specs.Entries.{Entries};
+ghost use Rattle.mm_defs.specs.declared.answers.End.{End};
+ghost use Rattle.mm_defs.specs.declared.answers.ReadError.{ReadError};
+ghost use Rattle.mm_defs.specs.Words.{lines};
+ghost use Rattle.mm_defs.specs.File.{Fault, Reads, faults, first_fault};
+ghost use Rattle.mm_defs.specs.Reading.{Call, offered, first_bad, IsAnswer, Tells, IsRefusal, IsOkOrNoMemory};
+
+/// The first bad line stays the first one, whatever follows, and whether the input ends there or not.
+pub fn bad_line_stays()
+    ensures { (end : End) (ended : Bool) (bytes more : List ℕ) (fault : Fault)
+        → first_fault end false bytes ≡ Some fault → first_fault end ended (bytes ++ more) ≡ Some fault }
+{}
+
+/// No line of a front of a good file is bad.
+pub fn front_of_good_file()
+    ensures { (end : End) (bytes more : List ℕ) → faults end true (lines true (bytes ++ more)) ≡ [] → first_fault end false bytes ≡ None }
+{}
+
+/// Each answer to a call with a bad line tells the first one.
+pub fn bad_line_is_told()
+    ensures { (end : End) (call : Call) (rest : List ℕ) (result : Result Entries ReadError) (fault : Fault)
+        → IsAnswer end call rest result → first_bad end call ≡ Some fault → Tells fault result }
+{}
+
+/// A good file within the limit is read, where no read failed and memory did not run out, and its entries are given.
+pub fn good_file_is_read()
+    ensures answer { (end : End) (call : Call) (rest : List ℕ) (result : Result Entries ReadError) (t : Entries) (follows : List ℕ)
+        → IsAnswer end call rest result → Reads (offered call) end t follows
+        → length (offered call) ≤ call.room → call.failures_after ≡ call.failures_before → IsOkOrNoMemory result }
+    ensures entries { (end : End) (call : Call) (rest : List ℕ) (t u : Entries) (follows : List ℕ)
+        → IsAnswer end call rest (Ok u) → Reads (offered call) end t follows → (u ≡ t) × (rest ≡ follows) }
+{}
+
+/// Other bytes are refused, where no read failed and memory did not run out.
+pub fn bad_file_is_refused()
+    ensures { (end : End) (call : Call) (rest : List ℕ) (result : Result Entries ReadError)
+        → IsAnswer end call rest result → ((t : Entries) (follows : List ℕ) → Reads (offered call) end t follows → ⊥)
+        → call.failures_after ≡ call.failures_before → IsRefusal result }
+{}

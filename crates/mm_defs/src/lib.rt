@@ -1,0 +1,19 @@
+//! Matrix Market coordinate files: what a good file is and what it says, the kinds of faults and the one that is told,
+//! and what the answers of a reader say of the bytes that it was given.
+//!
+//! The definitions are in `specs/`. A law is a function with an empty body: its contract is the theorem.
+#![tactic(auto)]
+
+mod answers;
+mod header;
+mod kinds;
+mod laws;
+mod worked;
+
+pub use answers::{End, ReadError};
+pub use header::{Header, Size, Symmetry};
+pub use kinds::Kind;
+pub use laws::{
+    bad_file_is_refused, bad_line_is_told, bad_line_stays, front_of_good_file, good_file_is_read,
+};
+pub use worked::{worked_files, worked_fronts, worked_refusals, worked_rests};
