@@ -1,6 +1,7 @@
 pub mod Counts
 pub mod Duality
 pub mod Exchange
+pub mod Fine
 pub mod Reaching
 pub mod Sets
 pub mod Square

@@ -128,6 +128,14 @@ filter_complete test x (y ∷ ys) (inr h) e = by (test y) (filter_complete test 
     by true k = inr k
     by false k = k
 
+pub filter_distinct : {X : Type 0} (test : X → Bool) (xs : List X) → AreDistinct xs → AreDistinct (filter test xs)
+filter_distinct test [] d = tt
+filter_distinct test (x ∷ xs) d = by (test x) (filter_distinct test xs d.1)
+  where
+    by : (b : Bool) → AreDistinct (filter test xs) → AreDistinct (cond b (x ∷ filter test xs) (filter test xs))
+    by true k = (λ h. d.0 (filter_sound test x xs h).0, k)
+    by false k = k
+
 -- What is left of a list without one of its elements.
 
 -- ys is xs without an x

@@ -1,4 +1,5 @@
 pub mod Blocks
+pub mod Components
 pub mod Decomposition
 pub mod Lists
 pub mod Matching
@@ -6,5 +7,5 @@ pub mod Matrix
 pub mod Parts
 pub mod Paths
 pub mod Start
-pub mod Witness
 pub mod Walks
+pub mod Witness

@@ -5,10 +5,12 @@
 #![tactic(auto)]
 
 ghost use Rattle.std.specs.Prelude.{◌≡◌, ◌+◌, ◌↔◌, ℕ, suc, List, length};
+ghost use Rattle.bip_defs.specs.Blocks.{Block, IsBlock, IsPerfect};
+ghost use Rattle.bip_defs.specs.Components.{AreComponents, IsComponent};
 ghost use Rattle.bip_defs.specs.Decomposition.{Decomposition, IsDecompositionOf};
 ghost use Rattle.bip_defs.specs.Matching.{IsHallSet, IsMatching, IsMaximum, IsRank, turned};
 ghost use Rattle.bip_defs.specs.Matrix.{AreEntries, HasPlaces, IsTransposeOf, Matrix, Place, cols, transpose};
-ghost use Rattle.bip_defs.specs.Parts.{ArePartsOf, IsHorizontalCol, IsHorizontalRow, IsVerticalCol, IsVerticalRow, Parts};
+ghost use Rattle.bip_defs.specs.Parts.{ArePartsOf, IsHorizontalCol, IsHorizontalRow, IsSquareCol, IsVerticalCol, IsVerticalRow, Parts};
 ghost use Rattle.bip_defs.specs.Paths.{IsAugmenting};
 ghost use Rattle.bip_defs.specs.Walks.{IsReached};
 ghost use Rattle.bip_defs.specs.Witness.{IsWitness};
@@ -61,6 +63,16 @@ pub fn parts_counted()
     ensures horizontal { (a : Matrix) (m : List Place) (p : Parts) → IsMaximum a m → ArePartsOf a p → length p.horizontal_cols + length m ≡ cols a + length p.horizontal_rows }
     ensures vertical { (a : Matrix) (m : List Place) (p : Parts) → IsMaximum a m → ArePartsOf a p → length p.vertical_rows + length m ≡ a.rows + length p.vertical_cols }
     ensures rank { (a : Matrix) (k : ℕ) (p : Parts) → IsRank a k → ArePartsOf a p → k ≡ length p.horizontal_rows + length p.square_rows + length p.vertical_cols }
+{}
+
+/// The strong components of the square part's columns, each with the mates of its columns, are the
+/// fine blocks.
+///
+/// An entry lies in some perfect matching exactly where it lies on an alternating cycle or is a pair
+/// (Berge 1957; Pothen and Fan 1990).
+pub fn numbered_components_are_blocks()
+    ensures sound { (a : Matrix) (m : List Place) (number : ℕ → ℕ) (c : ℕ) (b : Block) → IsPerfect a m → AreComponents a m number → IsSquareCol a c → IsComponent a m number (number c) b → IsBlock a b }
+    ensures complete { (a : Matrix) (m : List Place) (number : ℕ → ℕ) (b : Block) → IsPerfect a m → AreComponents a m number → IsBlock a b → (c : ℕ) × IsSquareCol a c × IsComponent a m number (number c) b }
 {}
 
 /// Two maximum matchings have one size.
