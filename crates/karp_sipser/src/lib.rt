@@ -1,0 +1,4 @@
+//! The start of Karp and Sipser.
+#![tactic(auto)]
+
+mod degrees;
