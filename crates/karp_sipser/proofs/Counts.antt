@@ -1,8 +1,10 @@
 -- Counts of numbers that have something.
-use Rattle.std.proofs.Common.{◌≡◌, ◌≢◌, ◌⊎◌, ◌∙◌, ℕ, zero, suc, ◌+◌, ◌-◌, ◌<◌, ◌≤◌, List, [], ◌∷◌, length, refl, ap, sym, subst, inl, inr, ⊎_elim, arith}
-use Rattle.bip_defs.proofs.Sets.{below_each_from, below_each_sound, Drops, drops_gone, drops_kept, drops_length, drops_only, here, later, lists_same, lists_unique, number_same, rising_distinct, taken}
-use Rattle.bip_defs.specs.Lists.{Among, IsBelowEach, IsRising, Lists}
-use Rattle.bip_defs.specs.Start.{IsLeast, IsOnly}
+use Rattle.std.proofs.Common.{◌≡◌, ◌≢◌, ◌∙◌, ℕ, ◌+◌, ◌-◌, ◌<◌, ◌≤◌, List, [], ◌∷◌, ◌++◌, length, slice_index, refl, sym, subst, inl, inr, ⊎_elim, arith}
+use Rattle.std.proofs.lemmas.List.{get_or_append_left, get_or_at}
+use Rattle.bip_defs.proofs.Sets.{few_distinct, upto_length, upto_lists, below_each_from, below_each_sound, Drops, drops_gone, drops_kept, drops_length, drops_only, here, later, lists_same, number_same, rising_distinct, taken}
+use Rattle.bip_defs.specs.Lists.{Among, IsRising, Lists}
+use Rattle.bip_defs.specs.Matrix.{upto}
+use Rattle.bip_defs.specs.Start.{IsOnly}
 use Rattle.karp_sipser.specs.Counts.{IsCount}
 
 pub count_same : (P Q : ℕ → Type 0) (n : ℕ) → ((x : ℕ) → P x → Q x) → ((x : ℕ) → Q x → P x) → IsCount P n → IsCount Q n
@@ -27,9 +29,9 @@ count_has P n k ne = let (x, h) = first_of k.having (λ e. ne (sym k.size ∙ e)
 one_of : (xs : List ℕ) → length xs ≡ 1 → (x y : ℕ) → Among x xs → Among y xs → x ≡ y
 one_of [] e x y h g = absurd h
 one_of (z ∷ zs) e x y h g = elim h [
-    inl f ↦ elim g [ inl k ↦ f ∙ sym k | inr k ↦ absurd (among_nil y zs (omega arith) k) ]
+  | inl f ↦ elim g [ inl k ↦ f ∙ sym k | inr k ↦ absurd (among_nil y zs (omega arith) k) ]
   | inr k ↦ absurd (among_nil x zs (omega arith) k)
-  ]
+]
 
 -- where the count is 1, what has P is the only one
 pub count_only : (P : ℕ → Type 0) (x : ℕ) → IsCount P 1 → P x → IsOnly P x
@@ -72,3 +74,15 @@ count_none P none = record { having = []; lists = record { rising = tt; sound = 
 
 pub no_count : (P : ℕ → Type 0) (n : ℕ) → IsCount P n → ((x : ℕ) → ¬ P x) → n ≡ 0
 no_count P n k none = elim (number_same n 0) [ inl e ↦ e | inr ne ↦ let (x, p) = count_has P n k ne in absurd (none x p) ]
+
+-- at most n numbers below n have P
+pub few_having : (P : ℕ → Type 0) (n : ℕ) (xs : List ℕ) → Lists P xs → ((x : ℕ) → P x → x < n) → length xs ≤ n
+few_having P n xs l below = omega (arith, few_distinct xs (upto n) (rising_distinct xs l.rising) (λ x h. (upto_lists n).complete x (below x (l.sound x h))), upto_length 0 n)
+
+-- the counts of a list that has grown by one
+pub counted_next : (F : ℕ → ℕ → Type 0) (counts : List ℕ) (k n : ℕ) → length counts ≡ k → ((x : ℕ) → x < k → IsCount (F x) (slice_index counts x)) → IsCount (F k) n
+    → (x : ℕ) → x < k + 1 → IsCount (F x) (slice_index (counts ++ n ∷ []) x)
+counted_next F counts k n long before last x lt = elim (number_same x k) [
+  | inl e ↦ subst (λ z. IsCount (F z) (slice_index (counts ++ n ∷ []) z)) (sym e) (subst (IsCount (F k)) (sym (get_or_at counts n [] 0 k long)) last)
+  | inr ne ↦ subst (IsCount (F x)) (sym (get_or_append_left counts (n ∷ []) 0 x (omega arith))) (before x (omega arith))
+]

@@ -1,8 +1,8 @@
 -- The front of a list of rows or columns that a loop has passed.
-use Rattle.std.proofs.Common.{◌≡◌, ◌≢◌, ◌⊎◌, ◌∙◌, ℕ, zero, suc, ◌+◌, ◌-◌, ◌<◌, ◌≤◌, List, [], ◌∷◌, ◌++◌, map, take, length, slice_index, slice_index_or, slice_set, refl, ap, sym, subst, inl, inr, ⊎_elim, arith}
+use Rattle.std.proofs.Common.{◌≡◌, ◌≢◌, ◌⊎◌, ◌∙◌, ℕ, zero, suc, ◌+◌, ◌-◌, ◌<◌, ◌≤◌, List, [], ◌∷◌, map, take, length, slice_index, slice_index_or, slice_set, refl, ap, sym, subst, inl, inr, ⊎_elim, arith}
 use Rattle.std.proofs.lemmas.Bool.{cases_eq}
-use Rattle.std.proofs.lemmas.List.{get_or-set_other, get_or-set_same, take_more, length-set}
-use Rattle.bip_defs.proofs.Sets.{among_last, among_left, among_map, among_right, below_each_sound, number_among}
+use Rattle.std.proofs.lemmas.List.{get_or-set_other, get_or-set_same, length-map, length-set, take_more}
+use Rattle.bip_defs.proofs.Sets.{among_last, among_left, among_right, below_each_sound}
 use Rattle.bip_defs.specs.Lists.{Among, IsRising}
 use Rattle.bip_defs.specs.Start.{IsLeast}
 use Rattle.karp_sipser.specs.Counts.{HoldsOnes}
@@ -47,8 +47,8 @@ not_in_front i [] up lt = absurd (omega arith)
 not_in_front zero (x ∷ xs) up lt = λ h. h
 not_in_front (suc i) (x ∷ xs) up lt = λ (h : Among (slice_index xs i) (x ∷ take i xs)).
     elim h [
-      inl e ↦ let below = below_each_sound x (slice_index xs i) xs up.0 (among_index xs i (omega arith)) in absurd (omega (arith, e, below))
-    | inr k ↦ not_in_front i xs up.1 (omega arith) k
+      | inl e ↦ let below = below_each_sound x (slice_index xs i) xs up.0 (among_index xs i (omega arith)) in absurd (omega (arith, e, below))
+      | inr k ↦ not_in_front i xs up.1 (omega arith) k
     ]
 
 -- the least of a rising list that has a degree, where none of the front has one
@@ -84,12 +84,25 @@ lowering_next old new members more xs i up lt inside s grows two =
     record {
       long = length-set new x (d - 1) ∙ s.long;
       lowered = λ y h. elim (cases_eq y x) [
-        inl e ↦ rw e (here ∙ ap (λ n. n - 1) (s.kept x fresh))
-      | inr ne ↦ off y ne ∙ s.lowered y (⊎_elim (λ k. k) (λ e. absurd (ne e)) (front_next y i xs lt h))
+        | inl e ↦ rw e (here ∙ ap (λ n. n - 1) (s.kept x fresh))
+        | inr ne ↦ off y ne ∙ s.lowered y (⊎_elim (λ k. k) (λ e. absurd (ne e)) (front_next y i xs lt h))
       ];
       kept = λ y h. let ne : y ≢ x = λ e. h (rw (e, take_more xs i 0 lt) (among_right x (take i xs) (x ∷ []) (inl refl))) in off y ne ∙ s.kept y (λ k. h (rw (take_more xs i 0 lt) (among_left y (take i xs) (x ∷ []) k)));
       ones = λ y one. elim (cases_eq y x) [
-        inl e ↦ let low : slice_index (slice_set new x (d - 1)) x ≡ 1 = rw (← e) one in rw e (two (omega (arith, low, here)))
-      | inr ne ↦ grows y (s.ones y (sym (off y ne) ∙ one))
+        | inl e ↦ let low : slice_index (slice_set new x (d - 1)) x ≡ 1 = subst (λ z. slice_index (slice_set new x (d - 1)) z ≡ 1) e one in rw e (two (omega (arith, low, here)))
+        | inr ne ↦ grows y (s.ones y (sym (off y ne) ∙ one))
       ];
     }
+
+-- the same, of an element that was read
+pub lowering_step : (old new members more xs : List ℕ) (i x lower : ℕ) → IsRising xs → i < length xs → slice_index xs i ≡ x → x < length old → IsLowering old new members (take i xs)
+    → ((y : ℕ) → Among y members → Among y more) → (slice_index new x ≡ 2 → Among x more) → lower ≡ slice_index new x - 1
+    → IsLowering old (slice_set new x lower) more (take (i + 1) xs)
+lowering_step old new members more xs i x lower up lt at inside s grows two low =
+    subst (λ y. IsLowering old (slice_set new y lower) more (take (i + 1) xs)) at
+    (rw (let e : lower ≡ slice_index new (slice_index xs i) - 1 = rw at low in e)
+    (lowering_next old new members more xs i up lt (rw at inside) s grows (λ e. rw at (two (rw (← at) e)))))
+
+-- an element that was read is on the list, and its number is in range
+pub read_among : {X : Type 0} (f : X → ℕ) (xs : List X) (i n : ℕ) (x : X) → i < length xs → x ≡ slice_index_or xs i x → ((y : ℕ) → Among y (map f xs) → y < n) → f x < n
+read_among f xs i n x lt e within = within (f x) (rw (← number_at f xs i x lt e) (among_index (map f xs) i (rw length-map lt)))

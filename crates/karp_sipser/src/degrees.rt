@@ -94,3 +94,21 @@ pub fn lower<I: Id>(degrees: &mut [u32], ids: &[I], ones: &mut IntSet)
         }
     }
 }
+
+/// Leaves out a row or column that is matched now: it has no degree, and those of `ids`, its kind beside its mate, have
+/// one less.
+pub fn leave_out<I: Id>(degrees: &mut [u32], matched: I, ids: &[I], ones: &mut IntSet)
+    requires rising { IsRising (map I.number ids.now) }
+    requires in_range { (x : ℕ) → Among x (map I.number ids.now) → x < length degrees.old }
+    requires beside { Among (I.number matched) (map I.number ids.now) }
+    requires bound { ones.old.bound ≡ length degrees.old }
+    requires ones { HoldsOnesBut (I.number matched) degrees.old ones.old.members }
+    ensures matched { slice_index degrees.new (I.number matched) ≡ 0 }
+    ensures lowered { (x : ℕ) → x ≢ I.number matched → Among x (map I.number ids.now) → slice_index degrees.new x ≡ slice_index degrees.old x - 1 }
+    ensures kept { (x : ℕ) → ¬ Among x (map I.number ids.now) → slice_index degrees.new x ≡ slice_index degrees.old x }
+    ensures ones { HoldsOnes degrees.new ones.new.members }
+    ensures bound { ones.new.bound ≡ length degrees.old }
+{
+    degrees[matched.number() as usize] = 0;
+    lower(degrees, ids, ones);
+}

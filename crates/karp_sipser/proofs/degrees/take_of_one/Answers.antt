@@ -1,4 +1,4 @@
-use Rattle.std.proofs.Common.{◌≡◌, ℕ, ◌≤◌, ◌∷◌, slice_index, sym, subst, inl, inr, arith}
+use Rattle.std.proofs.Common.{◌≡◌, ℕ, ◌≤◌, List, ◌∷◌, subst, inl, inr, arith}
 use Rattle.bip_defs.proofs.Sets.{below_each_sound}
 use Rattle.bip_defs.specs.Lists.{Among, IsRising}
 use Rattle.karp_sipser.proofs.degrees.take_of_one.Goals as goal
