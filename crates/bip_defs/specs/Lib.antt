@@ -6,6 +6,7 @@ pub mod Matching
 pub mod Matrix
 pub mod Parts
 pub mod Paths
+pub mod Searches
 pub mod Start
 pub mod Walks
 pub mod Witness

@@ -12,8 +12,11 @@ ghost use Rattle.bip_defs.specs.Matching.{IsHallSet, IsMatching, IsMaximum, IsRa
 ghost use Rattle.bip_defs.specs.Matrix.{AreEntries, HasPlaces, IsTransposeOf, Matrix, Place, cols, transpose};
 ghost use Rattle.bip_defs.specs.Parts.{ArePartsOf, IsHorizontalCol, IsHorizontalRow, IsSquareCol, IsVerticalCol, IsVerticalRow, Parts};
 ghost use Rattle.bip_defs.specs.Paths.{IsAugmenting};
+ghost use Rattle.bip_defs.specs.Searches.{AreReadOff};
 ghost use Rattle.bip_defs.specs.Walks.{IsReached};
 ghost use Rattle.bip_defs.specs.Witness.{IsWitness};
+
+pub mod examples;
 
 /// A matching that has a Hall set is maximum.
 ///
@@ -50,6 +53,12 @@ pub fn transpose_turns_parts()
 pub fn parts_are_apart()
     ensures rows { (a : Matrix) (r : ℕ) → IsHorizontalRow a r → ¬ IsVerticalRow a r }
     ensures cols { (a : Matrix) (c : ℕ) → IsHorizontalCol a c → ¬ IsVerticalCol a c }
+{}
+
+/// Two searches from one matching, from the unmatched columns and from the unmatched rows, give the
+/// six parts (Pothen and Fan 1990).
+pub fn searches_give_parts()
+    ensures { (a : Matrix) (m : List Place) (w v : List ℕ) (p : Parts) → IsMatching a m → IsReached a m w → IsReached (transpose a) (turned m) v → AreReadOff a w v p → ArePartsOf a p }
 {}
 
 /// How many rows and columns the parts have.
