@@ -7,6 +7,7 @@ pub mod Matrix
 pub mod Parts
 pub mod Paths
 pub mod Searches
+pub mod Small
 pub mod Start
 pub mod Walks
 pub mod Witness
