@@ -77,8 +77,8 @@ pub fn parts_counted()
 /// The strong components of the square part's columns, each with the mates of its columns, are the
 /// fine blocks.
 ///
-/// An entry lies in some perfect matching exactly where it lies on an alternating cycle or is a pair
-/// (Berge 1957; Pothen and Fan 1990).
+/// An entry lies in some perfect matching exactly where it is a pair or lies on an alternating cycle
+/// (Pothen and Fan 1990).
 pub fn numbered_components_are_blocks()
     ensures sound { (a : Matrix) (m : List Place) (number : ℕ → ℕ) (c : ℕ) (b : Block) → IsPerfect a m → AreComponents a m number → IsSquareCol a c → IsComponent a m number (number c) b → IsBlock a b }
     ensures complete { (a : Matrix) (m : List Place) (number : ℕ → ℕ) (b : Block) → IsPerfect a m → AreComponents a m number → IsBlock a b → (c : ℕ) × IsSquareCol a c × IsComponent a m number (number c) b }
