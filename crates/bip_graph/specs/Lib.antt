@@ -1,2 +1,4 @@
 pub mod Pairing
 pub mod Stretches
+pub mod Texts
+pub mod Answers

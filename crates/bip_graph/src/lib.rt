@@ -3,8 +3,10 @@
 
 mod answers;
 mod blocks;
+mod laws;
 mod matching;
 
 pub use answers::{Decomposition, Heaviest, Parts};
 pub use blocks::Blocks;
+pub use laws::{one_rank_text, one_report};
 pub use matching::Matching;
