@@ -1,0 +1,6 @@
+pub mod Closing
+mod Flipping
+pub mod Marking
+mod Places
+mod Steps
+mod Trailing
