@@ -1,4 +1,5 @@
 pub mod Closing
+pub mod Counting
 mod Flipping
 pub mod Marking
 mod Places

@@ -8,8 +8,9 @@ use Rattle.bip_defs.proofs.Sets.{among_last, among_left, among_right, entry_col,
 use Rattle.path_search.specs.Advancing.{GoesOn, Onward, Reaches}
 use Rattle.path_search.specs.Searching.{Fails, IsMarked, IsShut, Searching}
 use Rattle.path_search.specs.Trails.{IsSearch, Passed, Trail, turn}
+use Rattle.path_search.proofs.Counting.{distinct_below}
 use Rattle.path_search.proofs.Marking.{marked_below, marked_grows, marked_now, marks_more, shut_grows}
-use Rattle.path_search.proofs.Trailing.{distinct_below, distinct_last, passed_all, passed_more, passed_none, rows_last, passed_grows, trail_alternates, trail_back, trail_begins, trail_empty, trail_entries, trail_grows, trail_matched, trail_on, trail_root}
+use Rattle.path_search.proofs.Trailing.{distinct_last, passed_all, passed_more, passed_none, rows_last, passed_grows, trail_alternates, trail_back, trail_begins, trail_empty, trail_entries, trail_grows, trail_matched, trail_on, trail_root}
 
 abbrev pub started : Searching → ℕ → Searching
 started s root = record s { root = root; path = []; places = []; seen = [] }

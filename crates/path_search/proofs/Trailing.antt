@@ -15,10 +15,6 @@ pub distinct_last : {X : Type 0} (xs : List X) (x : X) → AreDistinct xs → ¬
 distinct_last [] x a n = (λ h. h, tt)
 distinct_last (y ∷ xs) x a n = (λ h. ⊎_elim a.0 (λ (e : y ≡ x). n (inl (sym e))) (among_last y x xs h), distinct_last xs x a.1 (λ h. n (inr h)))
 
--- distinct numbers below n are at most n
-pub distinct_below : (n : ℕ) (xs : List ℕ) → AreDistinct xs → ((x : ℕ) → Among x xs → x < n) → length xs ≤ n
-distinct_below n xs a below = let le = few_distinct xs (upto n) a (λ x h. upto_complete 0 n x (omega arith) (let lt = below x h in omega arith)) in omega (arith, le, upto_length 0 n)
-
 pub rows_last : (path : List Place) (p : Place) → rows_of (path ++ p ∷ []) ≡ rows_of path ++ p.0 ∷ []
 rows_last [] p = refl
 rows_last (q ∷ path) p = ap (λ (xs : List ℕ). q.0 ∷ xs) (rows_last path p)
