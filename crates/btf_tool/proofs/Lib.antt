@@ -1,0 +1,3 @@
+mod Completing
+mod Jobs
+mod Touching
