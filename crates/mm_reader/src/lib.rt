@@ -1,0 +1,6 @@
+//! A reader of Matrix Market coordinate files, from any source of bytes.
+#![tactic(auto)]
+
+mod line;
+mod number;
+mod text;
