@@ -1,6 +1,7 @@
 //! A reader of Matrix Market coordinate files, from any source of bytes.
 #![tactic(auto)]
 
+mod judge;
 mod line;
 mod number;
 mod text;

@@ -1,11 +1,14 @@
 //! What is kept of a line.
 
-ghost use Rattle.std.specs.Prelude.{◌≡◌, ℕ, ◌≢◌, List, [], ◌∷◌, ◌++◌, false, true};
-ghost use Rattle.mm_defs.specs.Words.{is_blank};
-ghost use Rattle.mm_reader.specs.Tokens.{token_of};
+ghost use Rattle.std.specs.Prelude.{◌≡◌, ℕ, ◌==◌, ◌<◌, ◌≤◌, List, [], ◌∷◌, ◌++◌, length, map, false, true};
+ghost use Rattle.std.specs.Char.{to_ascii_lowercase};
+ghost use Rattle.std.specs.Str.{bytes_eq};
+ghost use Rattle.mm_defs.specs.Words.{is_blank, is_skipped, word, words};
+ghost use Rattle.mm_defs.specs.Header.{spells};
+ghost use Rattle.mm_reader.specs.Tokens.{token_of, ReadsNumber, ReadsInteger};
 ghost use Rattle.mm_reader.specs.Lines.{IsLine};
 
-use crate::number::Number;
+use crate::number::{Integer, Number};
 use crate::text::Text;
 
 /// A word, by what the rules ask of it.
@@ -126,5 +129,78 @@ impl LineSoFar {
             return;
         }
         self.tokens[self.count - 1].push(byte);
+    }
+
+    /// Whether it has so many words.
+    pub fn has_words(&self, count: usize) -> bool
+        requires { count ≤ 5 }
+        ensures { (line : List ℕ) → IsLine self.now.tokens self.now.count self.now.inside line
+            → result ≡ (length (words line) == count) }
+    {
+        self.count == count
+    }
+
+    /// Whether it is skipped: it has no words, or the first begins with a percent sign.
+    pub fn is_skipped(&self) -> bool
+        ensures { (line : List ℕ) → IsLine self.now.tokens self.now.count self.now.inside line
+            → result ≡ is_skipped (words line) }
+    {
+        if self.count == 0 {
+            return true;
+        }
+        self.tokens[0].text.front() == b'%'
+    }
+
+    /// Whether a word is this text.
+    pub fn is(&self, k: usize, text: &[u8]) -> bool
+        requires word { k < 5 }
+        requires short { length text.now < 15 }
+        requires some { 0 < length text.now }
+        ensures { (line : List ℕ) → IsLine self.now.tokens self.now.count self.now.inside line
+            → result ≡ bytes_eq (word (words line) k) text.now }
+    {
+        if self.count <= k {
+            return false;
+        }
+        self.tokens[k].text.is(text)
+    }
+
+    /// Whether a word is this text but for the case of letters. The text is in lower case.
+    pub fn spells(&self, k: usize, text: &[u8]) -> bool
+        requires word { k < 5 }
+        requires short { length text.now < 15 }
+        requires some { 0 < length text.now }
+        requires lower { map to_ascii_lowercase text.now ≡ text.now }
+        ensures { (line : List ℕ) → IsLine self.now.tokens self.now.count self.now.inside line
+            → result ≡ spells text.now (word (words line) k) }
+    {
+        if self.count <= k {
+            return false;
+        }
+        self.tokens[k].text.spells(text)
+    }
+
+    /// A word as a number, if it is one.
+    pub fn number(&self, k: usize) -> Option<u64>
+        requires { k < 5 }
+        ensures { (line : List ℕ) → IsLine self.now.tokens self.now.count self.now.inside line
+            → ReadsNumber (word (words line) k) result }
+    {
+        if self.count <= k {
+            return None;
+        }
+        self.tokens[k].number.unsigned()
+    }
+
+    /// A word as an integer, if it is one.
+    pub fn integer(&self, k: usize) -> Option<Integer>
+        requires { k < 5 }
+        ensures { (line : List ℕ) → IsLine self.now.tokens self.now.count self.now.inside line
+            → ReadsInteger (word (words line) k) result }
+    {
+        if self.count <= k {
+            return None;
+        }
+        self.tokens[k].number.signed()
     }
 }

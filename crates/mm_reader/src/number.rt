@@ -1,7 +1,7 @@
 //! What is kept of a word that may be a number: not its digits, so it may have any count of them.
 
 ghost use Rattle.std.specs.Prelude.{◌≡◌, ℕ, List, [], ◌∷◌, ◌++◌};
-ghost use Rattle.mm_reader.specs.Tokens.{number_facts, next_number};
+ghost use Rattle.mm_reader.specs.Tokens.{number_facts, next_number, ReadsNumber, ReadsInteger};
 
 /// A word, by what the rules ask of it as a number.
 #[derive(Clone, Copy, Debug, PartialEq, Eq)]
@@ -14,6 +14,13 @@ pub struct Number {
     pub digits: bool,
     /// What the digits stand for, or the greatest number that fits; 0 where they are not digits.
     pub value: u64,
+}
+
+/// An integer, by its sign and its magnitude, or the greatest magnitude that fits.
+#[derive(Clone, Copy, Debug, PartialEq, Eq)]
+pub struct Integer {
+    pub minus: bool,
+    pub magnitude: u64,
 }
 
 impl Number {
@@ -56,5 +63,37 @@ impl Number {
             self.digits = false;
             self.value = 0;
         }
+    }
+
+    /// The number, if the word is one.
+    pub fn unsigned(&self) -> Option<u64>
+        ensures { (w : List ℕ) → self.now ≡ number_facts w → ReadsNumber w result }
+    {
+        if self.minus {
+            return None;
+        }
+        if !self.some {
+            return None;
+        }
+        if !self.digits {
+            return None;
+        }
+        Some(self.value)
+    }
+
+    /// The integer, if the word is one.
+    pub fn signed(&self) -> Option<Integer>
+        ensures { (w : List ℕ) → self.now ≡ number_facts w → ReadsInteger w result }
+    {
+        if !self.some {
+            return None;
+        }
+        if !self.digits {
+            return None;
+        }
+        Some(Integer {
+            minus: self.minus,
+            magnitude: self.value,
+        })
     }
 }
