@@ -1,3 +1,4 @@
+pub mod Judges
 pub mod LineSteps
 pub mod Lookups
 pub mod Numbers
