@@ -1,15 +1,12 @@
 -- From what is kept of a line to the rules on it.
-use Rattle.std.proofs.Common.{◌≡◌, ◌≢◌, ℕ, ℤ, ◌+◌, ◌-◌, ◌<◌, ◌≤◌, min, Bool, true, false, not, ◌&&◌, ◌||◌, ◌==◌, nat_lt, if◌then◌else◌, pos, List, [], ◌∷◌, ◌++◌, length, refl, sym, ap, ◌∙◌, arith, Option, Some, None, Result, Ok, Err, ne_eqb, le-ltb}
+use Rattle.std.proofs.Common.{◌≡◌, ◌≢◌, ℕ, ℤ, ◌+◌, ◌-◌, ◌≤◌, Bool, true, false, ◌==◌, List, [], ◌∷◌, ◌++◌, length, refl, ◌∙◌, arith, Some, None, Result, Ok, Err, ne_eqb, le-ltb}
 use Rattle.sp_ids.specs.Entries.{Triple}
-use Rattle.sp_ids.specs.declared.triples.Field as field
-use Rattle.sp_ids.specs.declared.triples.Field.TheVariants.{Integer}
 use Rattle.mm_defs.specs.declared.header.Header.{Header}
 use Rattle.mm_defs.specs.declared.header.Size.{Size}
 use Rattle.mm_defs.specs.declared.kinds.Kind.{Kind}
-use Rattle.mm_defs.specs.declared.kinds.Kind.TheVariants as kinds
-use Rattle.mm_defs.specs.Words.{Word, word, words}
-use Rattle.mm_defs.specs.Numbers.{is_number, number, integer}
-use Rattle.mm_defs.specs.Header.{value_words, is_integer_field, size}
+use Rattle.mm_defs.specs.Words.{Word, word}
+use Rattle.mm_defs.specs.Numbers.{is_number, number}
+use Rattle.mm_defs.specs.Header.{value_words, size}
 use Rattle.mm_defs.specs.Faults.{Rule, first_kind, size_limits, size_rules, is_outside, value_rules, triangle_rules, place_rules, entry_rules}
 use Rattle.mm_defs.specs.File.{triple, triple_at}
 use Rattle.mm_reader.specs.declared.judge.Entry.{Entry}

@@ -3,3 +3,4 @@ pub mod LineSteps
 pub mod Lookups
 pub mod Numbers
 pub mod Words
+pub mod StepLaws

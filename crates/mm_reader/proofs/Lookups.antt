@@ -1,13 +1,13 @@
 -- What is kept of a line, by its words.
-use Rattle.std.proofs.Common.{◌≡◌, ℕ, zero, suc, ◌+◌, ◌-◌, ◌<◌, ◌≤◌, min, Bool, true, false, not, ◌&&◌, ◌==◌, cond, List, [], ◌∷◌, ◌++◌, length, take, get_or, map, slice_index_or, slice_index, refl, sym, ap, ◌∙◌, arith, bytes_eq, get_or-take, length-take, eqb-true}
-use Rattle.std.specs.Char.{to_ascii_lowercase, is_ascii_digit}
+use Rattle.std.proofs.Common.{◌≡◌, ℕ, zero, suc, ◌<◌, ◌≤◌, Bool, true, false, not, ◌&&◌, ◌==◌, List, [], ◌∷◌, length, take, get_or, map, slice_index, refl, sym, ap, ◌∙◌, arith, bytes_eq, get_or-take, length-take, eqb-true}
+use Rattle.std.specs.Char.{to_ascii_lowercase}
 use Rattle.std.specs.Str.{all_ascii_digits}
 use Rattle.std.proofs.lemmas.List.{take-map}
 use Rattle.mm_defs.specs.Words.{Word, words, word, has_bytes, is_skipped}
-use Rattle.mm_defs.specs.Numbers.{bare, unsigned, is_negative, is_number, number, value, are_digits}
+use Rattle.mm_defs.specs.Numbers.{bare, unsigned, is_negative, is_number}
 use Rattle.mm_defs.specs.Header.{spells}
 use Rattle.mm_reader.specs.declared.line.Token.{Token}
-use Rattle.mm_reader.specs.Tokens.{token_of, number_facts, capped}
+use Rattle.mm_reader.specs.Tokens.{token_of}
 use Rattle.mm_reader.specs.Lines.{IsLine}
 
 get_or-map : (ws : List Word) (k : ℕ) (d : Token) → k < length ws → get_or (map token_of ws) k d ≡ token_of (get_or ws k [])

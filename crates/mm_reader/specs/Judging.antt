@@ -1,5 +1,5 @@
 -- What a line is found to be.
-use Rattle.std.specs.Prelude.{◌≡◌, ◌≤◌, ℕ, false, List, Option, Some, None, Result, Ok, Err}
+use Rattle.std.specs.Prelude.{◌≡◌, ◌≤◌, false, List, Option, Some, None, Result, Ok, Err}
 use Rattle.sp_ids.specs.Entries.{Triple}
 use Rattle.mm_defs.specs.declared.kinds.Kind.{Kind}
 use Rattle.mm_defs.specs.declared.header.Header.{Header}

@@ -1,3 +1,5 @@
 pub mod Tokens
 pub mod Lines
 pub mod Judging
+pub mod Machine
+pub mod Additions

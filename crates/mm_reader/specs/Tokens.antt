@@ -1,5 +1,5 @@
 -- What is kept of a line that comes byte by byte.
-use Rattle.std.specs.Prelude.{◌≡◌, ℕ, Bool, false, Option, Some, None, true, if◌then◌else◌, ◌&&◌, ◌+◌, ◌*◌, ◌-◌, min, take}
+use Rattle.std.specs.Prelude.{◌≡◌, ℕ, false, Option, Some, None, true, if◌then◌else◌, ◌&&◌, ◌+◌, ◌*◌, ◌-◌, min, take}
 use Rattle.std.specs.Char.{is_ascii_digit}
 use Rattle.std.specs.Str.{all_ascii_digits}
 use Rattle.mm_defs.specs.Words.{Word, has_bytes}

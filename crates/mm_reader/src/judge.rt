@@ -1,6 +1,6 @@
 //! The judges of lines: the first kind of fault that applies, or what the line says.
 
-ghost use Rattle.std.specs.Prelude.{◌≡◌, ℕ, ◌≤◌, ◌<◌, pos, true, false, if◌then◌else◌, List, IfOk};
+ghost use Rattle.std.specs.Prelude.{◌≡◌, ℕ, ◌≤◌, ◌<◌, pos, nat_abs, true, false, if◌then◌else◌, List, IfOk};
 ghost use Rattle.mm_defs.specs.declared.header.Size.{Size};
 ghost use Rattle.mm_defs.specs.Numbers.{integer};
 ghost use Rattle.mm_defs.specs.Words.{Word, word, words};
@@ -179,6 +179,7 @@ pub fn judge_entry(header: Header, size: Size, line: &LineSoFar) -> Result<Entry
         → JudgedEntry (entry_rules header size (words bytes)) (triple header (words bytes)) result }
     ensures inside { IfOk result (λ e. (e.row < size.rows) × (e.col < size.cols)) }
     ensures value { IfOk result (λ e. is_integer_field header.field ≡ false → e.value ≡ pos 0) }
+    ensures small { IfOk result (λ e. nat_abs e.value ≤ MAX_VALUE) }
 {
     if !line.has_words(2 + value_words(header.field)) {
         return Err(Kind::EntryWords);
@@ -221,6 +222,7 @@ pub fn judge_place(
         → JudgedEntry (place_rules header size i j w) (triple_at header.field i j w) result }
     ensures inside { IfOk result (λ e. (e.row < size.rows) × (e.col < size.cols)) }
     ensures value { IfOk result (λ e. is_integer_field header.field ≡ false → e.value ≡ pos 0) }
+    ensures small { IfOk result (λ e. nat_abs e.value ≤ MAX_VALUE) }
 {
     if row == 0 {
         return Err(Kind::RowRange);
@@ -253,6 +255,7 @@ fn value_of(field: Field, value: Option<Integer>) -> Result<i64, Kind>
     ensures judged { (w : Word) → (is_integer_field field ≡ true → ReadsInteger w value)
         → Judged (value_rules field w) (if is_integer_field field then integer w else pos 0) result }
     ensures none { IfOk result (λ v. is_integer_field field ≡ false → v ≡ pos 0) }
+    ensures small { IfOk result (λ v. nat_abs v ≤ MAX_VALUE) }
 {
     match field {
         Field::Integer => judge_integer(value),
@@ -262,7 +265,8 @@ fn value_of(field: Field, value: Option<Integer>) -> Result<i64, Kind>
 
 /// Judges the value of an integer file.
 fn judge_integer(value: Option<Integer>) -> Result<i64, Kind>
-    ensures { (w : Word) → ReadsInteger w value → Judged (value_rules Field.Integer w) (integer w) result }
+    ensures judged { (w : Word) → ReadsInteger w value → Judged (value_rules Field.Integer w) (integer w) result }
+    ensures small { IfOk result (λ v. nat_abs v ≤ MAX_VALUE) }
 {
     let Integer { minus, magnitude } = match value {
         None => return Err(Kind::ValueNumber),
@@ -293,7 +297,11 @@ fn triangle(symmetry: Symmetry, row: u64, col: u64) -> Option<Kind>
             }
         }
         Symmetry::Symmetric | Symmetry::Hermitian => {
-            if row < col { Some(Kind::UpperEntry) } else { None }
+            if row < col {
+                Some(Kind::UpperEntry)
+            } else {
+                None
+            }
         }
     }
 }

@@ -3,5 +3,6 @@
 
 mod judge;
 mod line;
+mod machine;
 mod number;
 mod text;

@@ -1,0 +1,163 @@
+//! The reader's machine: what each line is, by the lines before it.
+
+ghost use Rattle.std.specs.Prelude.{◌≡◌, ◌≤◌, ◌<◌, ◌+◌, ◌++◌, ℕ, nat_abs, pos, true, false, List, [], ◌∷◌, length, IfOk, OnOk};
+ghost use Rattle.sp_ids.specs.Entries.{Entries};
+ghost use Rattle.mm_defs.specs.Words.{words};
+ghost use Rattle.mm_defs.specs.Header.{is_general, is_integer_field};
+ghost use Rattle.mm_defs.specs.File.{mirror, line_faults, later_lines};
+ghost use Rattle.mm_reader.specs.Lines.{IsLine};
+ghost use Rattle.mm_reader.specs.Judging.{triple_of};
+ghost use Rattle.mm_reader.specs.Machine.{HasBanner, HasEntries, HasRoom, IsReady, Steps, is_complete};
+ghost use Rattle.mm_reader.specs.Additions.{with_entries};
+
+use crate::judge::{Entry, judge_banner, judge_entry, judge_size};
+use crate::line::LineSoFar;
+use mm_defs::{End, Header, Kind, Size, Symmetry};
+use sp_ids::{Col, OutOfMemory, Row, Triples};
+use std::alloc::Global;
+
+/// Which lines have come.
+#[derive(Clone, Copy, Debug, PartialEq, Eq)]
+pub enum Phase {
+    /// None.
+    Banner,
+    /// The banner, and no size line yet.
+    Sizes {
+        header: Header,
+    },
+    /// The size line, and so many entry lines.
+    Entries {
+        header: Header,
+        size: Size,
+        done: u32,
+    },
+}
+
+/// Why the machine stopped.
+#[derive(Clone, Copy, Debug, PartialEq, Eq)]
+pub enum Stop {
+    /// A line is bad.
+    Bad { line: u64, kind: Kind },
+    /// There was not enough memory.
+    Memory,
+}
+
+/// Whether the matrix is read, where what follows is not judged.
+pub fn is_complete(end: End, phase: Phase) -> bool
+    ensures { result ≡ is_complete end phase }
+{
+    match end {
+        End::File => false,
+        End::LastEntry => match phase {
+            Phase::Banner => false,
+            Phase::Sizes { .. } => false,
+            Phase::Entries { size, done, .. } => done == size.count,
+        },
+    }
+}
+
+/// Line 1 has come.
+pub fn after_banner(line: &LineSoFar) -> Result<Phase, Stop>
+    ensures steps { (end : End) (bytes : List ℕ) (t : Entries) → IsLine line.now.tokens line.now.count line.now.inside bytes
+        → Steps end (bytes ∷ []) t result }
+    ensures ready { (t : Entries) → IfOk result (λ phase. IsReady phase t) }
+{
+    match judge_banner(line) {
+        Ok(header) => Ok(Phase::Sizes { header }),
+        Err(kind) => Err(Stop::Bad { line: 1, kind }),
+    }
+}
+
+/// A later line has come, and no size line before it.
+pub fn after_size(
+    alloc: Global,
+    header: Header,
+    line: &LineSoFar,
+    number: u64,
+    triples: &mut Triples,
+) -> Result<Phase, Stop>
+    ensures steps { (end : End) (ls : List (List ℕ)) (bytes : List ℕ) → IsLine line.now.tokens line.now.count line.now.inside bytes
+        → HasBanner header ls → later_lines ls ≡ [] → line_faults end ls ≡ [] → number ≡ length ls + 1
+        → Steps end (ls ++ bytes ∷ []) triples.new result }
+    ensures ready { IfOk result (λ phase. IsReady phase triples.new) }
+{
+    if line.is_skipped() {
+        return Ok(Phase::Sizes { header });
+    }
+    let size = match judge_size(header, line) {
+        Err(kind) => return Err(Stop::Bad { line: number, kind }),
+        Ok(size) => size,
+    };
+    match Triples::new(alloc, size.rows, size.cols, header.field) {
+        Err(_) => return Err(Stop::Memory),
+        Ok(empty) => *triples = empty,
+    }
+    Ok(Phase::Entries {
+        header,
+        size,
+        done: 0,
+    })
+}
+
+/// A line behind the size line has come.
+pub fn after_entry(
+    header: Header,
+    size: Size,
+    done: u32,
+    line: &LineSoFar,
+    number: u64,
+    triples: &mut Triples,
+) -> Result<Phase, Stop>
+    requires { HasRoom header size done triples.old }
+    ensures steps { (end : End) (ls : List (List ℕ)) (bytes : List ℕ) → IsLine line.now.tokens line.now.count line.now.inside bytes
+        → HasBanner header ls → HasEntries header size done triples.old (later_lines ls) → line_faults end ls ≡ [] → number ≡ length ls + 1
+        → is_complete end (Phase.Entries header size done) ≡ false
+        → Steps end (ls ++ bytes ∷ []) triples.new result }
+    ensures ready { IfOk result (λ phase. IsReady phase triples.new) }
+{
+    if line.is_skipped() {
+        return Ok(Phase::Entries { header, size, done });
+    }
+    if done == size.count {
+        return Err(Stop::Bad {
+            line: number,
+            kind: Kind::Trailing,
+        });
+    }
+    let entry = match judge_entry(header, size, line) {
+        Err(kind) => return Err(Stop::Bad { line: number, kind }),
+        Ok(entry) => entry,
+    };
+    match add(header.symmetry, entry, triples) {
+        Err(_) => Err(Stop::Memory),
+        Ok(()) => Ok(Phase::Entries {
+            header,
+            size,
+            done: done + 1,
+        }),
+    }
+}
+
+/// Adds an entry, and the place on the other side of the diagonal.
+pub fn add(symmetry: Symmetry, entry: Entry, triples: &mut Triples) -> Result<(), OutOfMemory>
+    requires row { entry.row < triples.old.rows }
+    requires col { entry.col < triples.old.cols }
+    requires square { is_general symmetry ≡ false → triples.old.rows ≡ triples.old.cols }
+    requires few { length triples.old.items < 4294967290 }
+    requires value { is_integer_field triples.old.field ≡ false → entry.value ≡ pos 0 }
+    requires small { nat_abs entry.value ≤ 9223372036854775807 }
+    ensures { OnOk result (triples.new ≡ with_entries triples.old (triple_of entry ∷ mirror symmetry (triple_of entry))) }
+{
+    let Entry { row, col, value } = entry;
+    triples.push(row, col, value)?;
+    match symmetry {
+        Symmetry::General => Ok(()),
+        Symmetry::SkewSymmetric => triples.push(Row(col.0), Col(row.0), -value),
+        Symmetry::Symmetric | Symmetry::Hermitian => {
+            if row.0 == col.0 {
+                return Ok(());
+            }
+            triples.push(Row(col.0), Col(row.0), value)
+        }
+    }
+}
