@@ -4,3 +4,4 @@ pub mod Lookups
 pub mod Numbers
 pub mod Words
 pub mod StepLaws
+pub mod AfterLaws

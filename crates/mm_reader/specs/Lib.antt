@@ -3,3 +3,4 @@ pub mod Lines
 pub mod Judging
 pub mod Machine
 pub mod Additions
+pub mod Standing

@@ -1,19 +1,20 @@
 //! The reader's machine: what each line is, by the lines before it.
 
-ghost use Rattle.std.specs.Prelude.{◌≡◌, ◌≤◌, ◌<◌, ◌+◌, ◌++◌, ℕ, nat_abs, pos, true, false, List, [], ◌∷◌, length, IfOk, OnOk};
+ghost use Rattle.std.specs.Prelude.{◌≡◌, ◌≤◌, ◌<◌, ◌+◌, ◌++◌, ℕ, nat_abs, pos, true, false, List, [], ◌∷◌, length, IfOk, OnOk, MatchResult, ◌-◌, ◌^◌};
 ghost use Rattle.sp_ids.specs.Entries.{Entries};
 ghost use Rattle.mm_defs.specs.Words.{words};
 ghost use Rattle.mm_defs.specs.Header.{is_general, is_integer_field};
 ghost use Rattle.mm_defs.specs.File.{mirror, line_faults, later_lines};
 ghost use Rattle.mm_reader.specs.Lines.{IsLine};
 ghost use Rattle.mm_reader.specs.Judging.{triple_of};
-ghost use Rattle.mm_reader.specs.Machine.{HasBanner, HasEntries, HasRoom, IsReady, Steps, is_complete};
+ghost use Rattle.mm_reader.specs.Machine.{HasBanner, HasEntries, HasLines, HasRoom, IsReady, Steps, is_complete};
+ghost use Rattle.mm_reader.specs.Standing.{begun_lines, IsBetween, IsAfter, StopsAt, StopsIn};
 ghost use Rattle.mm_reader.specs.Additions.{with_entries};
 
 use crate::judge::{Entry, judge_banner, judge_entry, judge_size};
 use crate::line::LineSoFar;
 use mm_defs::{End, Header, Kind, Size, Symmetry};
-use sp_ids::{Col, OutOfMemory, Row, Triples};
+use sp_ids::{Col, Field, OutOfMemory, Row, Triples};
 use std::alloc::Global;
 
 /// Which lines have come.
@@ -160,4 +161,97 @@ pub fn add(symmetry: Symmetry, entry: Entry, triples: &mut Triples) -> Result<()
             triples.push(Row(col.0), Col(row.0), value)
         }
     }
+}
+
+/// The reader's machine.
+#[derive(Drop)]
+pub struct Machine {
+    pub phase: Phase,
+    /// How many lines have ended.
+    pub number: u64,
+    pub triples: Triples,
+    /// The open line has bytes.
+    pub begun: bool,
+    pub line: LineSoFar,
+}
+
+/// No byte has come.
+pub fn start(alloc: Global) -> Result<Machine, OutOfMemory>
+    ensures ready { IfOk result (λ m. IsReady m.phase m.triples) }
+    ensures none { IfOk result (λ m. begun_lines m ≡ 0) }
+    ensures open { (end : End) → IfOk result (λ m. is_complete end m.phase ≡ false) }
+    ensures stands { (end : End) → IfOk result (λ m. IsAfter end m []) }
+{
+    let triples = Triples::new(alloc, 0, 0, Field::Pattern)?;
+    Ok(Machine {
+        phase: Phase::Banner,
+        number: 0,
+        triples,
+        begun: false,
+        line: LineSoFar::new(),
+    })
+}
+
+/// One more line has come.
+fn next_phase(
+    alloc: Global,
+    phase: Phase,
+    line: &LineSoFar,
+    number: u64,
+    triples: &mut Triples,
+) -> Result<Phase, Stop>
+    requires { IsReady phase triples.old }
+    ensures steps { (end : End) (ls : List (List ℕ)) (bytes : List ℕ) → IsLine line.now.tokens line.now.count line.now.inside bytes
+        → HasLines end phase triples.old ls → number ≡ length ls + 1 → is_complete end phase ≡ false
+        → Steps end (ls ++ bytes ∷ []) triples.new result }
+    ensures ready { IfOk result (λ next. IsReady next triples.new) }
+{
+    match phase {
+        Phase::Banner => after_banner(line),
+        Phase::Sizes { header } => after_size(alloc, header, line, number, triples),
+        Phase::Entries { header, size, done } => {
+            after_entry(header, size, done, line, number, triples)
+        }
+    }
+}
+
+/// The open line has ended.
+fn end_line(alloc: Global, m: &mut Machine) -> Result<(), Stop>
+    requires ready { IsReady m.old.phase m.old.triples }
+    requires room { m.old.number < 2 ^ 64 - 1 }
+    ensures ready { OnOk result (IsReady m.new.phase m.new.triples) }
+    ensures number { OnOk result (begun_lines m.new ≡ m.old.number + 1) }
+    ensures closed { OnOk result (m.new.begun ≡ false) }
+    ensures steps { (end : End) (ls : List (List ℕ)) (bytes : List ℕ) → IsLine m.old.line.tokens m.old.line.count m.old.line.inside bytes
+        → HasLines end m.old.phase m.old.triples ls → m.old.number ≡ length ls → is_complete end m.old.phase ≡ false
+        → MatchResult result (λ _. IsBetween end m.new (ls ++ bytes ∷ [])) (StopsAt end (ls ++ bytes ∷ [])) }
+{
+    let number = m.number + 1;
+    let phase = match next_phase(alloc, m.phase, &m.line, number, &mut m.triples) {
+        Err(stop) => return Err(stop),
+        Ok(phase) => phase,
+    };
+    m.phase = phase;
+    m.number = number;
+    m.begun = false;
+    m.line.clear();
+    Ok(())
+}
+
+/// One more byte comes.
+pub fn take(alloc: Global, m: &mut Machine, byte: u8) -> Result<(), Stop>
+    requires ready { IsReady m.old.phase m.old.triples }
+    requires room { begun_lines m.old < 2 ^ 64 - 1 }
+    ensures ready { OnOk result (IsReady m.new.phase m.new.triples) }
+    ensures number { OnOk result (begun_lines m.new ≤ begun_lines m.old + 1) }
+    ensures steps { (end : End) (bytes : List ℕ) → IsAfter end m.old bytes → is_complete end m.old.phase ≡ false
+        → MatchResult result (λ _. IsAfter end m.new (bytes ++ byte ∷ [])) (StopsIn end (bytes ++ byte ∷ [])) }
+    ensures open { (end : End) → OnOk result (is_complete end m.old.phase ≡ false → is_complete end m.new.phase ≡ true → m.new.begun ≡ false) }
+{
+    if byte == b'\n' {
+        return end_line(alloc, m);
+    }
+    m.line.push(byte);
+    m.begun = true;
+    Ok(())
 }
