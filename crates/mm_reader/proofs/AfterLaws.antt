@@ -1,5 +1,5 @@
 -- The machine, byte by byte.
-use Rattle.std.proofs.Common.{◌≡◌, ◌≢◌, ℕ, ◌+◌, Bool, true, false, ◌==◌, List, [], ◌∷◌, ◌++◌, length, refl, sym, ap, subst, ◌∙◌, Result, Ok, Err, MatchResult, OnOk, eq-eqb, ne_eqb}
+use Rattle.std.proofs.Common.{◌≡◌, ◌≢◌, ℕ, true, false, List, [], ◌∷◌, ◌++◌, refl, sym, Result, Ok, Err, MatchResult, eq-eqb, ne_eqb}
 use Rattle.sp_ids.specs.Entries as entries
 use Rattle.mm_defs.specs.declared.answers.End.{End}
 use Rattle.mm_defs.specs.declared.answers.End.TheVariants.{File, LastEntry}
@@ -12,8 +12,8 @@ use Rattle.mm_reader.specs.declared.machine.Phase.TheVariants as phases
 use Rattle.mm_reader.specs.declared.machine.Stop.{Stop}
 use Rattle.mm_reader.specs.declared.machine.Stop.TheVariants as stops
 use Rattle.mm_reader.specs.Lines.{IsLine}
-use Rattle.mm_reader.specs.Machine.{HasLines, is_complete}
-use Rattle.mm_reader.specs.Standing.{IsBetween, IsAfter, StopsAt, StopsIn, EndsBad}
+use Rattle.mm_reader.specs.Machine.{is_complete}
+use Rattle.mm_reader.specs.Standing.{IsBetween, IsAfter, StopsAt, StopsIn}
 
 pub map_result : {T E : Type 0} (P Q : T → Type 0) (F G : E → Type 0) (r : Result T E) → ((x : T) → P x → Q x) → ((e : E) → F e → G e) → MatchResult r P F → MatchResult r Q G
 map_result P Q F G (Ok x) f g h = f x h

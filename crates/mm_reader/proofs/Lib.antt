@@ -5,3 +5,5 @@ pub mod Numbers
 pub mod Words
 pub mod StepLaws
 pub mod AfterLaws
+pub mod EndLaws
+pub mod FeedLaws

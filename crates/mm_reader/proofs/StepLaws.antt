@@ -107,6 +107,7 @@ module _ (end : End) (ls : List (List ℕ)) (l : List ℕ) (h : Header) (n : ℕ
           later_are = later_more ∙ ap (λ (t : List Line). t ++ line_at n l ∷ []) none;
           size_is = is;
           done_is = refl;
+          in_count = omega arith;
           triples_are = refl;
         },
       );
@@ -156,6 +157,7 @@ module _ (end : End) (ls : List (List ℕ)) (l : List ℕ) (h : Header) (n : ℕ
             entry_lines = has.entry_lines ++ line_at n l ∷ [];
             later_are = later_entries;
             size_is = has.size_is;
+            in_count = omega arith;
             done_is = ap (λ k. k + 1) has.done_is ∙ sym (length-append has.entry_lines (line_at n l ∷ []));
             triples_are = is ∙ triples_more;
           },

@@ -31,6 +31,7 @@ pub record HasEntries (h : Header) (s : Size) (done : ℕ) (t : entries.Entries)
   pub later_are : later ≡ size_line ∷ entry_lines
   pub size_is : s ≡ size size_line.words
   pub done_is : done ≡ length entry_lines
+  pub in_count : done ≤ s.count
   pub triples_are : t ≡ record { rows = s.rows; cols = s.cols; field = h.field; items = flat_map (triples h) entry_lines }
 
 -- where the machine is, after these lines

@@ -1,14 +1,16 @@
 -- What the machine stands for between two bytes.
-use Rattle.std.specs.Prelude.{◌≡◌, ◌≤◌, ◌<◌, ◌+◌, ℕ, Bool, true, false, if◌then◌else◌, List, [], ◌∷◌, ◌++◌, length, Option, Some, None, Result, Ok, Err}
+use Rattle.std.specs.Prelude.{◌≡◌, ◌+◌, ℕ, true, false, if◌then◌else◌, List, [], ◌∷◌, ◌++◌, length, max, slice_get, Some}
 use Rattle.sp_ids.specs.Entries as entries
 use Rattle.mm_defs.specs.declared.answers.End.{End}
+use Rattle.mm_defs.specs.declared.answers.End.TheVariants.{LastEntry}
 use Rattle.mm_defs.specs.Words.{lines, open_line, has_bytes}
-use Rattle.mm_defs.specs.File.{Fault, line_faults, faults, first_fault, entries_of, rest_of, behind}
+use Rattle.mm_defs.specs.File.{Fault, line_faults, faults, first_fault, entries_of, rest_of, behind, last_number, matrix_lines}
 use Rattle.mm_reader.specs.declared.machine.Machine.{Machine}
+use Rattle.mm_reader.specs.declared.machine.Phase.{Phase}
 use Rattle.mm_reader.specs.declared.machine.Stop.{Stop}
 use Rattle.mm_reader.specs.declared.machine.Stop.TheVariants as stops
 use Rattle.mm_reader.specs.Lines.{IsLine}
-use Rattle.mm_reader.specs.Machine.{HasLines, IsReady}
+use Rattle.mm_reader.specs.Machine.{HasLines, is_complete}
 
 -- how many lines have begun
 abbrev pub begun_lines : Machine → ℕ
@@ -49,6 +51,18 @@ pub record StopsWithin (end : End) (bytes piece : List ℕ) (stop : Stop) : Type
   pub rest : List ℕ
   pub piece_is : piece ≡ front ++ rest
   pub stops : StopsIn end (bytes ++ front) stop
+
+-- the input ended with these lines, and none is bad or missing
+pub record IsAll (end : End) (phase : Phase) (t : entries.Entries) (ls : List (List ℕ)) : Type 0 where
+  pub good : faults end true ls ≡ []
+  pub entries : t ≡ entries_of ls
+  pub complete : is_complete LastEntry phase ≡ true
+  pub last : end ≡ LastEntry → last_number (matrix_lines ls) ≡ length ls
+
+-- the input ended with these lines, and this is its first fault
+abbrev pub Lacks : End → List (List ℕ) → Stop → Type 0
+Lacks end ls (stops.Bad line kind) = (slice_get (faults end true ls) 0 ≡ Some (record { line = line; kind = kind })) × (line ≡ max (length ls) 1)
+Lacks end ls stops.Memory = Unit {0}
 
 -- The input ended with these bytes: they are a good file, and nothing follows it.
 pub record IsWhole (end : End) (bytes : List ℕ) (t : entries.Entries) : Type 0 where

@@ -1,6 +1,6 @@
 //! The reader's machine: what each line is, by the lines before it.
 
-ghost use Rattle.std.specs.Prelude.{◌≡◌, ◌≤◌, ◌<◌, ◌+◌, ◌++◌, ℕ, nat_abs, pos, true, false, List, [], ◌∷◌, length, IfOk, OnOk, MatchResult, ◌-◌, ◌^◌};
+ghost use Rattle.std.specs.Prelude.{◌≡◌, ◌≤◌, ◌<◌, ◌+◌, ◌++◌, ℕ, nat_abs, pos, true, false, List, [], ◌∷◌, length, take, IfOk, OnOk, MatchResult, ◌-◌, ◌^◌};
 ghost use Rattle.sp_ids.specs.Entries.{Entries};
 ghost use Rattle.mm_defs.specs.Words.{words};
 ghost use Rattle.mm_defs.specs.Header.{is_general, is_integer_field};
@@ -8,7 +8,7 @@ ghost use Rattle.mm_defs.specs.File.{mirror, line_faults, later_lines};
 ghost use Rattle.mm_reader.specs.Lines.{IsLine};
 ghost use Rattle.mm_reader.specs.Judging.{triple_of};
 ghost use Rattle.mm_reader.specs.Machine.{HasBanner, HasEntries, HasLines, HasRoom, IsReady, Steps, is_complete};
-ghost use Rattle.mm_reader.specs.Standing.{begun_lines, IsBetween, IsAfter, StopsAt, StopsIn};
+ghost use Rattle.mm_reader.specs.Standing.{begun_lines, IsBetween, IsAfter, IsAll, IsWhole, Lacks, StopsAt, StopsIn, StopsWithin, StopsAtEnd};
 ghost use Rattle.mm_reader.specs.Additions.{with_entries};
 
 use crate::judge::{Entry, judge_banner, judge_entry, judge_size};
@@ -254,4 +254,73 @@ pub fn take(alloc: Global, m: &mut Machine, byte: u8) -> Result<(), Stop>
     m.line.push(byte);
     m.begun = true;
     Ok(())
+}
+
+/// A piece comes. It gives how many of its bytes were used: all, unless the matrix is read and what follows is not
+/// judged.
+pub fn feed(alloc: Global, m: &mut Machine, end: End, piece: &[u8]) -> Result<usize, Stop>
+    requires ready { IsReady m.old.phase m.old.triples }
+    requires room { begun_lines m.old + length piece.now < 2 ^ 64 }
+    requires open { is_complete end m.old.phase ≡ false }
+    ensures ready { OnOk result (IsReady m.new.phase m.new.triples) }
+    ensures used { IfOk result (λ n. n ≤ length piece.now) }
+    ensures number { IfOk result (λ n. begun_lines m.new ≤ begun_lines m.old + n) }
+    ensures whole { IfOk result (λ n. is_complete end m.new.phase ≡ false → n ≡ length piece.now) }
+    ensures closed { OnOk result (is_complete end m.new.phase ≡ true → m.new.begun ≡ false) }
+    ensures steps { (bytes : List ℕ) → IsAfter end m.old bytes
+        → MatchResult result (λ n. IsAfter end m.new (bytes ++ take n piece.now)) (StopsWithin end bytes piece.now) }
+{
+    let mut at = 0;
+    while at < piece.len() {
+        if let Err(stop) = take(alloc, m, piece[at]) {
+            return Err(stop);
+        }
+        at += 1;
+        if is_complete(end, m.phase) {
+            return Ok(at);
+        }
+    }
+    Ok(at)
+}
+
+/// The input has ended.
+pub fn finish(alloc: Global, m: &mut Machine) -> Result<(), Stop>
+    requires ready { IsReady m.old.phase m.old.triples }
+    requires room { begun_lines m.old < 2 ^ 64 }
+    ensures { (end : End) (bytes : List ℕ) → IsAfter end m.old bytes → is_complete end m.old.phase ≡ false
+        → MatchResult result (λ _. IsWhole end bytes m.new.triples) (StopsAtEnd end bytes) }
+{
+    if !m.begun {
+        return missing(m.phase, m.number);
+    }
+    if let Err(stop) = end_line(alloc, m) {
+        return Err(stop);
+    }
+    missing(m.phase, m.number)
+}
+
+/// What is missing at the end of the input.
+fn missing(phase: Phase, number: u64) -> Result<(), Stop>
+    ensures { (end : End) (t : Entries) (ls : List (List ℕ)) → HasLines end phase t ls → number ≡ length ls
+        → MatchResult result (λ _. IsAll end phase t ls) (Lacks end ls) }
+{
+    match phase {
+        Phase::Banner => Err(Stop::Bad {
+            line: 1,
+            kind: Kind::NoBanner,
+        }),
+        Phase::Sizes { .. } => Err(Stop::Bad {
+            line: number,
+            kind: Kind::NoSize,
+        }),
+        Phase::Entries { size, done, .. } => {
+            if done < size.count {
+                return Err(Stop::Bad {
+                    line: number,
+                    kind: Kind::MissingEntries,
+                });
+            }
+            Ok(())
+        }
+    }
 }

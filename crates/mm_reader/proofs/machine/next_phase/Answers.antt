@@ -1,5 +1,4 @@
-use Rattle.std.proofs.Common.{◌≡◌, [], List, ℕ, ◌++◌, ◌∷◌, sym, subst}
-use Rattle.mm_reader.specs.Machine.{Steps, IsPhase}
+use Rattle.std.proofs.Common.{◌≡◌, []}
 use Rattle.mm_reader.proofs.machine.next_phase.Goals as goal
 
 pub returns-in-Banner-clause-steps : goal.returns-in-Banner-clause-steps

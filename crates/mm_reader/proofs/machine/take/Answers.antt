@@ -1,4 +1,4 @@
-use Rattle.std.proofs.Common.{◌≡◌, ◌++◌, ◌∷◌, [], true, false, Result, Ok, Err, OnOk}
+use Rattle.std.proofs.Common.{◌++◌, ◌∷◌, [], false}
 use Rattle.mm_defs.specs.Words.{lines, open_line}
 use Rattle.mm_reader.specs.Standing.{IsBetween, IsAfter, StopsAt, StopsIn}
 use Rattle.mm_reader.proofs.AfterLaws.{map_result, lf_comes, lf_stops, byte_comes}
