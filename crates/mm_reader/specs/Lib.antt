@@ -4,3 +4,4 @@ pub mod Judging
 pub mod Machine
 pub mod Additions
 pub mod Standing
+pub mod Windows

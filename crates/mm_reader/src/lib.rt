@@ -6,3 +6,4 @@ mod line;
 mod machine;
 mod number;
 mod text;
+mod window;
