@@ -1,9 +1,10 @@
+pub mod AfterLaws
+pub mod EndLaws
+pub mod FeedLaws
 pub mod Judges
 pub mod LineSteps
 pub mod Lookups
 pub mod Numbers
-pub mod Words
 pub mod StepLaws
-pub mod AfterLaws
-pub mod EndLaws
-pub mod FeedLaws
+pub mod WindowLaws
+pub mod Words

@@ -6,6 +6,7 @@ use Rattle.mm_defs.specs.declared.answers.ReadError.TheVariants as errors
 use Rattle.mm_defs.specs.Words.{lines}
 use Rattle.mm_defs.specs.Faults.{is_limit}
 use Rattle.mm_defs.specs.File.{Fault, line_faults}
+use Rattle.mm_defs.specs.Reading.{Call}
 use Rattle.mm_reader.specs.declared.machine.Machine.{Machine}
 use Rattle.mm_reader.specs.declared.machine.Stop.{Stop}
 use Rattle.mm_reader.specs.declared.machine.Stop.TheVariants as stops
@@ -63,3 +64,14 @@ Refuses end bytes ahead room errors.OutOfMemory = Unit {0}
 abbrev pub refusal_of : Stop → ReadError
 refusal_of (stops.Bad line kind) = if is_limit kind then errors.Limit line kind else errors.Malformed line kind
 refusal_of stops.Memory = errors.OutOfMemory
+
+-- the call over a source that tells its bytes
+abbrev pub call_of : Window → ℕ → ℕ → List ℕ → List ℕ → Call
+call_of w failures_before failures_after before after = record {
+  room = w.room;
+  ahead = ahead_of w;
+  before = before;
+  after = after;
+  failures_before = failures_before;
+  failures_after = failures_after;
+}

@@ -5,5 +5,6 @@ mod judge;
 mod line;
 mod machine;
 mod number;
+mod reader;
 mod text;
 mod window;
