@@ -1,10 +1,13 @@
 pub mod AfterLaws
+pub mod CompleteLaws
 pub mod EndLaws
+pub mod Exits
 pub mod FeedLaws
 pub mod Judges
 pub mod LineSteps
 pub mod Lookups
 pub mod Numbers
 pub mod StepLaws
+pub mod StreamLaws
 pub mod WindowLaws
 pub mod Words

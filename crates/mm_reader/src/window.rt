@@ -1,6 +1,6 @@
 //! The bytes that were taken from a source and are not used yet.
 
-ghost use Rattle.std.specs.Prelude.{◌≡◌, ◌≤◌, ◌<◌, ◌+◌, ◌^◌, take, length, vec_len, IfOk, OnErr};
+ghost use Rattle.std.specs.Prelude.{◌≡◌, ◌≤◌, ◌<◌, ◌+◌, ◌^◌, take, length, vec_len, IfOk, OnErr, IsTrue, IsFalse};
 ghost use Rattle.sp_ports.specs.Bytes.{Gives, IsAtEnd};
 ghost use Rattle.sp_ports.specs.Counts.{HasCause, SourceRose};
 ghost use Rattle.mm_reader.specs.Windows.{ahead_of, IsWindow};
@@ -65,8 +65,10 @@ pub fn refill<S: Source>(window: &mut Window, source: &mut S) -> Result<usize, F
     ensures window { IsWindow window.new }
     ensures bytes { IfOk result (λ k. Gives (S.left source.old) (S.left source.new) (ahead_of window.new)) }
     ensures count { IfOk result (λ k. k ≡ length (ahead_of window.new)) }
-    ensures end { IfOk result (λ k. k ≡ 0 → IsAtEnd (S.left source.new)) }
+    ensures some { IfOk result (λ k. IsFalse window.new.at_end → 0 < k) }
+    ensures end { IfOk result (λ k. IsTrue window.new.at_end → IsAtEnd (S.left source.new)) }
     ensures kept { OnErr result (S.left source.new ≡ S.left source.old) }
+    ensures same { OnErr result (window.new.at_end ≡ window.old.at_end) }
     ensures cause { HasCause (SourceRose (S.left source.old) (S.faults source.old) (S.faults source.new)) (S.faults source.old) (S.faults source.new) result }
     ensures room { window.new.room ≡ window.old.room }
     ensures lines { window.new.lines ≡ window.old.lines }
