@@ -1,4 +1,5 @@
 pub mod AfterLaws
+pub mod Calls
 pub mod CompleteLaws
 pub mod EndLaws
 pub mod Exits

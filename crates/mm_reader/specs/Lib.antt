@@ -5,3 +5,4 @@ pub mod Machine
 pub mod Additions
 pub mod Standing
 pub mod Windows
+pub mod Inputs
