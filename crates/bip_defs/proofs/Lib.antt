@@ -3,7 +3,9 @@ pub mod Duality
 pub mod Exchange
 pub mod Fine
 pub mod Reaching
+pub mod Searches
 pub mod Sets
+pub mod Small
 pub mod Square
 pub mod Turned
 pub mod Uniqueness

@@ -6,6 +6,8 @@ pub mod Matching
 pub mod Matrix
 pub mod Parts
 pub mod Paths
+pub mod Searches
+pub mod Small
 pub mod Start
 pub mod Walks
 pub mod Witness

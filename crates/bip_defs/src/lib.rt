@@ -12,8 +12,11 @@ ghost use Rattle.bip_defs.specs.Matching.{IsHallSet, IsMatching, IsMaximum, IsRa
 ghost use Rattle.bip_defs.specs.Matrix.{AreEntries, HasPlaces, IsTransposeOf, Matrix, Place, cols, transpose};
 ghost use Rattle.bip_defs.specs.Parts.{ArePartsOf, IsHorizontalCol, IsHorizontalRow, IsSquareCol, IsVerticalCol, IsVerticalRow, Parts};
 ghost use Rattle.bip_defs.specs.Paths.{IsAugmenting};
+ghost use Rattle.bip_defs.specs.Searches.{AreReadOff};
 ghost use Rattle.bip_defs.specs.Walks.{IsReached};
 ghost use Rattle.bip_defs.specs.Witness.{IsWitness};
+
+pub mod examples;
 
 /// A matching that has a Hall set is maximum.
 ///
@@ -52,6 +55,12 @@ pub fn parts_are_apart()
     ensures cols { (a : Matrix) (c : ℕ) → IsHorizontalCol a c → ¬ IsVerticalCol a c }
 {}
 
+/// Two searches from one matching, from the unmatched columns and from the unmatched rows, give the
+/// six parts (Pothen and Fan 1990).
+pub fn searches_give_parts()
+    ensures { (a : Matrix) (m : List Place) (w v : List ℕ) (p : Parts) → IsMatching a m → IsReached a m w → IsReached (transpose a) (turned m) v → AreReadOff a w v p → ArePartsOf a p }
+{}
+
 /// How many rows and columns the parts have.
 ///
 /// `horizontal` and `vertical` say that the surplus of a part is what a maximum matching leaves
@@ -68,8 +77,8 @@ pub fn parts_counted()
 /// The strong components of the square part's columns, each with the mates of its columns, are the
 /// fine blocks.
 ///
-/// An entry lies in some perfect matching exactly where it lies on an alternating cycle or is a pair
-/// (Berge 1957; Pothen and Fan 1990).
+/// An entry lies in some perfect matching exactly where it is a pair or lies on an alternating cycle
+/// (Pothen and Fan 1990).
 pub fn numbered_components_are_blocks()
     ensures sound { (a : Matrix) (m : List Place) (number : ℕ → ℕ) (c : ℕ) (b : Block) → IsPerfect a m → AreComponents a m number → IsSquareCol a c → IsComponent a m number (number c) b → IsBlock a b }
     ensures complete { (a : Matrix) (m : List Place) (number : ℕ → ℕ) (b : Block) → IsPerfect a m → AreComponents a m number → IsBlock a b → (c : ℕ) × IsSquareCol a c × IsComponent a m number (number c) b }

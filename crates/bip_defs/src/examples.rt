@@ -1,0 +1,31 @@
+//! What the definitions say of small matrices, of matrices without entries, and of places given
+//! twice or out of range.
+
+ghost use Rattle.std.specs.Prelude.{◌≡◌, ◌↔◌, ◌<◌, ℕ, List, [], ◌∷◌};
+ghost use Rattle.bip_defs.specs.Decomposition.{IsDecompositionOf};
+ghost use Rattle.bip_defs.specs.Lists.{Among};
+ghost use Rattle.bip_defs.specs.Small.{lower_triangle, lower_triangle_parts, wide_row, wide_row_parts};
+ghost use Rattle.bip_defs.specs.Matrix.{HasPlaces, IsEntry, Matrix, Place, cols, upto};
+
+/// A place given twice stands for one entry, and no place is out of range.
+pub fn given_places()
+    ensures twice { (m n : ℕ) (p : Place) (places : List Place) (a : Matrix) → HasPlaces m n (p ∷ p ∷ places) a ↔ HasPlaces m n (p ∷ places) a }
+    ensures in_range { (m n : ℕ) (places : List Place) (a : Matrix) (r c : ℕ) → HasPlaces m n places a → Among (r, c) places → (r < m) × (c < n) }
+{}
+
+/// Without entries, as without rows or columns, the rank is 0, all columns are horizontal and all
+/// rows vertical.
+pub fn no_entries()
+    ensures { (a : Matrix) → ((r c : ℕ) → ¬ IsEntry a r c) → IsDecompositionOf a (record { rank = 0; parts = record { horizontal_rows = []; horizontal_cols = upto (cols a); square_rows = []; square_cols = []; vertical_rows = upto a.rows; vertical_cols = [] }; blocks = [] }) }
+{}
+
+/// Two columns with one row: both are horizontal, and the other row is vertical.
+pub fn two_columns_of_one_row()
+    ensures { IsDecompositionOf wide_row wide_row_parts }
+{}
+
+/// Of a lower triangle the last column's block comes first: it is the one whose column has entries
+/// in no other block's row.
+pub fn lower_triangle_from_its_end()
+    ensures { IsDecompositionOf lower_triangle lower_triangle_parts }
+{}

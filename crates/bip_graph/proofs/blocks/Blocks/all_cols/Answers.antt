@@ -1,0 +1,6 @@
+use Rattle.std.proofs.Common.{◌∙◌}
+use Rattle.bip_graph.proofs.Stretching.{seen_all_cols}
+use Rattle.bip_graph.proofs.blocks.Blocks.all_cols.Goals as goal
+
+pub returns : goal.returns
+returns c = c.as_slice.ensures.value ∙ seen_all_cols c.self.invariant c.self.view_is

@@ -1,0 +1,63 @@
+-- What the texts of a matrix say: each is the text of its rank, parts and blocks as they are defined.
+use Rattle.std.specs.Prelude.{◌≡◌, ℕ, Bool, true, false, List, ◌++◌, length, Option, None, Some}
+use Rattle.bip_defs.specs.Blocks.{Block}
+use Rattle.bip_defs.specs.Decomposition.{Decomposition, IsDecompositionOf}
+use Rattle.bip_defs.specs.Lists.{IsRising, Lists}
+use Rattle.bip_defs.specs.Matching.{IsMaximum, IsRank, cols_of}
+use Rattle.bip_defs.specs.Matrix.{Matrix, Place}
+use Rattle.bip_defs.specs.Parts.{IsHorizontalCol, IsHorizontalRow}
+use Rattle.bip_graph.specs.Stretches.{all_cols, all_rows}
+use Rattle.bip_graph.specs.Texts.{Report, rank_text, report_text, sizes_of}
+
+-- the text over the rank and the rising lists of the horizontal part
+pub record IsRankText (a : Matrix) (text : List ℕ) : Type 0 where
+  pub rank : ℕ
+  pub rows : List ℕ
+  pub cols : List ℕ
+  pub is_rank : IsRank a rank
+  pub are_rows : Lists (IsHorizontalRow a) rows
+  pub are_cols : Lists (IsHorizontalCol a) cols
+  pub spelled : text ≡ rank_text (sizes_of a) rank rows cols
+
+-- the rows in the order in which the matrix is block upper triangular, and the columns
+abbrev pub orders_of : Decomposition → List ℕ × List ℕ
+orders_of d = (d.parts.horizontal_rows ++ all_rows d.blocks ++ d.parts.vertical_rows, d.parts.horizontal_cols ++ all_cols d.blocks ++ d.parts.vertical_cols)
+
+abbrev pub where_asked : {X : Type 0} → Bool → X → Option X
+where_asked true x = Some x
+where_asked false x = None
+
+-- what is reported of a matrix: its decomposition, and what else is asked for
+abbrev pub report_of : Matrix → Decomposition → Bool → Option (List Place) → Report
+report_of a d order pairs = record {
+  sizes = sizes_of a;
+  rank = d.rank;
+  horizontal_rows = d.parts.horizontal_rows;
+  horizontal_cols = d.parts.horizontal_cols;
+  blocks = d.blocks;
+  vertical_rows = d.parts.vertical_rows;
+  vertical_cols = d.parts.vertical_cols;
+  orders = where_asked order (orders_of d);
+  pairs = pairs;
+}
+
+-- the report of a matrix, without pairs
+pub record IsReport (a : Matrix) (order : Bool) (text : List ℕ) : Type 0 where
+  pub decomposition : Decomposition
+  pub is_decomposition : IsDecompositionOf a decomposition
+  pub spelled : text ≡ report_text (report_of a decomposition order None)
+
+-- pairs are listed where they are asked for, and then they are a maximum matching, rising by column
+abbrev pub ArePairs : Matrix → Bool → Option (List Place) → Type 0
+ArePairs a true (Some m) = IsMaximum a m × IsRising (cols_of m)
+ArePairs a true None = ⊥
+ArePairs a false (Some m) = ⊥
+ArePairs a false None = Unit {0}
+
+-- the report of a matrix; with pairs they stand before its end
+pub record IsAnalysis (a : Matrix) (order pairs : Bool) (text : List ℕ) : Type 0 where
+  pub decomposition : Decomposition
+  pub is_decomposition : IsDecompositionOf a decomposition
+  pub matching : Option (List Place)
+  pub are_pairs : ArePairs a pairs matching
+  pub spelled : text ≡ report_text (report_of a decomposition order matching)

@@ -1,0 +1,3 @@
+pub mod Pouring
+pub mod Lines
+pub mod Parts

@@ -1,0 +1,60 @@
+-- Texts of several lines, and parts.
+use Rattle.std.proofs.Common.{arith, inl, inr, map, ◌≡◌, ◌≢◌, ◌+◌, ◌==◌, if◌then◌else◌, ℕ, Bool, false, List, [], ◌∷◌, ◌++◌, length, append-nil, refl, sym, ap, ap₂, ◌∙◌, subst, Option, None, Some}
+use Rattle.std.proofs.lemmas.List.{map-id}
+use Rattle.std.proofs.lemmas.Grind.{flat_map-append}
+use Rattle.std.proofs.lemmas.Bool.Decides.{eqb_tells}
+use Rattle.sp_ports.specs.Bytes.{Takes}
+use Rattle.bip_graph.specs.Texts.{TextLine, line, lists, part, spelled, text_of}
+use Rattle.btf_text.specs.Held.{Held, Poured, PoursLines}
+use Rattle.btf_text.proofs.Pouring.{pours-then}
+use Rattle.btf_text.proofs.Lines.{pours-as}
+
+-- some lines, and then others
+pub lines_then : {taken mid last : Option (List ℕ)} {faults between now : ℕ} {held room after : Held} {first second : List TextLine}
+    → PoursLines taken faults held mid between room first → PoursLines mid between room last now after second
+    → PoursLines taken faults held last now after (first ++ second)
+lines_then {first = first} {second = second} one two = record {
+  pours = pours-as _ (text_of (first ++ second)) (sym (flat_map-append spelled first second)) (pours-then (text_of first) (text_of second) one.pours two.pours);
+}
+
+-- the same lines
+pub lines_as : {taken last : Option (List ℕ)} {faults now : ℕ} {held after : Held} {first second : List TextLine}
+    → first ≡ second → PoursLines taken faults held last now after first → PoursLines taken faults held last now after second
+lines_as {taken = taken} {last = last} {faults = faults} {now = now} {held = held} {after = after} e p =
+    subst (λ (ls : List TextLine). PoursLines taken faults held last now after ls) e p
+
+takes_nothing : (taken : Option (List ℕ)) → Takes taken taken []
+takes_nothing None = tt
+takes_nothing (Some bytes) = sym (append-nil bytes)
+
+-- lines that begin a text
+pub begun : {taken last : Option (List ℕ)} {faults now : ℕ} {after held : Held} {ls : List TextLine}
+    → held ≡ record { bytes = []; failed = false } → PoursLines taken faults held last now after ls
+    → Poured (record { taken = taken; faults = faults }) last now after (text_of ls)
+begun {taken = taken} {last = last} {faults = faults} {now = now} {after = after} {held = held} {ls = ls} fresh p =
+    p.pours (record { taken = taken; faults = faults }) []
+    (subst (λ (h : Held). Poured (record { taken = taken; faults = faults }) taken faults h []) (sym fresh)
+    (record { bytes = ([], refl, takes_nothing taken); later = omega arith; cause = refl }))
+
+pub part-empty : (word rows cols : List ℕ) → length rows + length cols ≡ 0 → line word (length rows ∷ length cols ∷ []) ∷ [] ≡ part word rows cols
+part-empty word rows cols e = sym (ap (λ (n : ℕ). line word (length rows ∷ length cols ∷ []) ∷ (if n == 0 then [] else lists rows cols)) e)
+
+differs : (n : ℕ) → n ≢ 0 → (n == 0) ≡ false
+differs n ne = elim (eqb_tells n 0) [ inl p ↦ absurd (ne p.1) | inr p ↦ p.0 ]
+
+-- rows and columns stand for their numbers
+same_ids : (list : List ℕ) → map (λ (n : ℕ). n) list ≡ list
+same_ids list = map-id list
+
+pub part-lists : (word rows cols : List ℕ) → length rows + length cols ≢ 0
+    → line word (length rows ∷ length cols ∷ []) ∷ lists (map (λ (n : ℕ). n) rows) (map (λ (n : ℕ). n) cols) ≡ part word rows cols
+part-lists word rows cols ne =
+    ap₂ (λ (r c : List ℕ). line word (length rows ∷ length cols ∷ []) ∷ lists r c) (same_ids rows) (same_ids cols) ∙ sym (ap (λ (b : Bool). line word (length rows ∷ length cols ∷ []) ∷ (if b then [] else lists rows cols)) (differs (length rows + length cols) ne))
+
+-- a line of one number, and a line of three
+pub same_number : (word : List ℕ) {a b : ℕ} → a ≡ b → line word (a ∷ []) ∷ [] ≡ line word (b ∷ []) ∷ []
+same_number word e = ap (λ (n : ℕ). line word (n ∷ []) ∷ []) e
+
+pub same_numbers : (word : List ℕ) {a b c d e f : ℕ} → a ≡ b → c ≡ d → e ≡ f → line word (a ∷ c ∷ e ∷ []) ∷ [] ≡ line word (b ∷ d ∷ f ∷ []) ∷ []
+same_numbers word {b = b} {c = c} {d = d} {e = e} one two three =
+    ap (λ (n : ℕ). line word (n ∷ c ∷ e ∷ []) ∷ []) one ∙ ap (λ (n : ℕ). line word (b ∷ n ∷ e ∷ []) ∷ []) two ∙ ap (λ (n : ℕ). line word (b ∷ d ∷ n ∷ []) ∷ []) three

@@ -1,0 +1,166 @@
+//! The buffer through which a text goes to its sink.
+
+ghost use Rattle.std.specs.Prelude.{◌≡◌, OnOk, OnErr, true, ◌∷◌, ◌++◌, ◌+◌, ◌≤◌, ◌<◌, ℕ, List, [], false, Bool, length, map, suc, codes, decimal, IfOk};
+ghost use Rattle.std.specs.List.{flat_map};
+ghost use Rattle.bip_graph.specs.Texts.{counted, line, spelled};
+ghost use Rattle.btf_text.specs.Held.{Finishes, Pours, PoursLines, Poured, Start};
+ghost use Rattle.sp_ports.specs.Bytes.{Writes};
+ghost use Rattle.sp_ports.specs.Counts.{HasCause, Rose};
+
+use itoa::Buffer;
+use sp_ids::{Id, OutOfMemory};
+use sp_ports::{Failed, Sink, write_all};
+use std::alloc::Global;
+use std::marker::Model;
+
+/// How many bytes the buffer holds.
+const CAPACITY: usize = 65_536;
+
+/// A buffer of 65,536 bytes, and whether a write has failed since the text began.
+///
+/// A failure is kept and answered when the text is over. Nothing more is written after it.
+#[derive(Drop)]
+pub struct TextBuf {
+    bytes: Vec<u8>,
+    failed: bool,
+}
+
+impl Model for TextBuf {
+    ghost use Rattle.std.specs.Prelude.{◌≤◌};
+    ghost use Rattle.std.specs.Vec.{vec_len, vec_capacity};
+    ghost use Rattle.btf_text.specs.Held.{Held};
+
+    ghost Value = { Held };
+
+    ghost view = { λ b. record { bytes = b.bytes.items; failed = b.failed } };
+
+    ghost invariant = { λ b. (vec_len b.bytes ≤ 65536) × (65536 ≤ vec_capacity b.bytes) };
+}
+
+/// Hands the bytes on, unless a write has failed before: whether one has failed by now.
+fn pour<K: Sink>(out: &mut K, bytes: &[u8], failed: bool) -> bool
+    ensures { (start : Start) (text : List ℕ)
+        → Poured start (K.taken out.old) (K.faults out.old) (record { bytes = bytes.now; failed = failed }) text
+        → Poured start (K.taken out.new) (K.faults out.new) (record { bytes = []; failed = result }) text }
+{
+    if failed {
+        return true;
+    }
+    match write_all(out, bytes) {
+        Ok(()) => false,
+        Err(Failed) => true,
+    }
+}
+
+/// Whether a text was written.
+fn outcome(failed: bool) -> Result<(), Failed>
+    ensures ok { OnOk result (failed ≡ false) }
+    ensures err { OnErr result (failed ≡ true) }
+{
+    if failed { Err(Failed) } else { Ok(()) }
+}
+
+impl TextBuf {
+    /// A buffer in which no text stands. It takes 65,536 bytes, and no call of it takes memory later.
+    pub fn new(alloc: Global) -> Result<TextBuf, OutOfMemory>
+        ensures { IfOk result (λ b. b ≡ record { bytes = []; failed = false }) }
+    {
+        Ok(TextBuf {
+            bytes: Vec::with_capacity(alloc, CAPACITY)?,
+            failed: false,
+        })
+    }
+
+    /// Begins a text: what an earlier one left is forgotten.
+    pub fn start(&mut self)
+        ensures { self.new ≡ record { bytes = []; failed = false } }
+    {
+        self.bytes.clear();
+        self.failed = false;
+    }
+
+    /// Hands on what is held.
+    fn hand_on<K: Sink>(&mut self, out: &mut K)
+        ensures empty { self.new.bytes ≡ [] }
+        ensures same { Pours (K.taken out.old) (K.faults out.old) self.old (K.taken out.new) (K.faults out.new) self.new [] }
+    {
+        self.failed = pour(out, self.bytes.as_slice(), self.failed);
+        self.bytes.clear();
+    }
+
+    /// Adds bytes to what is held, for which there is room.
+    fn add(&mut self, piece: &[u8])
+        requires { length self.old.bytes + length piece.now ≤ 65536 }
+        ensures bytes { self.new.bytes ≡ self.old.bytes ++ piece.now }
+        ensures failed { self.new.failed ≡ self.old.failed }
+    {
+        match self.bytes.extend_from_slice(piece) {
+            Ok(()) => {}
+            Err(_) => unreachable!(),
+        }
+    }
+
+    /// Makes room for so many bytes.
+    fn make_room<K: Sink>(&mut self, out: &mut K, count: usize)
+        requires { count ≤ 65536 }
+        ensures room { length self.new.bytes + count ≤ 65536 }
+        ensures same { Pours (K.taken out.old) (K.faults out.old) self.old (K.taken out.new) (K.faults out.new) self.new [] }
+    {
+        if self.bytes.len() <= CAPACITY - count {
+            return;
+        }
+        self.hand_on(out);
+    }
+
+    /// Goes on with these bytes.
+    pub fn put<K: Sink>(&mut self, out: &mut K, piece: &[u8])
+        requires { length piece.now ≤ 65536 }
+        ensures { Pours (K.taken out.old) (K.faults out.old) self.old (K.taken out.new) (K.faults out.new) self.new piece.now }
+    {
+        self.make_room(out, piece.len());
+        self.add(piece);
+    }
+
+    /// Goes on with a space and a number.
+    pub fn put_number<K: Sink>(&mut self, out: &mut K, number: u64)
+        ensures { Pours (K.taken out.old) (K.faults out.old) self.old (K.taken out.new) (K.faults out.new) self.new (32 ∷ decimal number) }
+    {
+        let mut digits = Buffer::new();
+        let text = digits.format(number).as_bytes();
+        self.make_room(out, 1 + text.len());
+        self.add(b" ");
+        self.add(text);
+    }
+    /// Goes on with a line: a word, and a space and a number each.
+    pub fn put_line<K: Sink>(&mut self, out: &mut K, word: &[u8], numbers: &[u64])
+        requires { length word.now ≤ 65536 }
+        ensures { PoursLines (K.taken out.old) (K.faults out.old) self.old (K.taken out.new) (K.faults out.new) self.new (line word.now numbers.now ∷ []) }
+    {
+        self.put(out, word);
+        for number in numbers {
+            self.put_number(out, *number);
+        }
+        self.put(out, b"\n");
+    }
+
+    /// Goes on with a list line: a word, and a space and a number each, which count from 1.
+    pub fn put_list<K: Sink, N: Id>(&mut self, out: &mut K, word: &[u8], list: &[N])
+        requires { length word.now ≤ 65536 }
+        ensures { PoursLines (K.taken out.old) (K.faults out.old) self.old (K.taken out.new) (K.faults out.new) self.new (line word.now (counted (map N.number list.now)) ∷ []) }
+    {
+        self.put(out, word);
+        for id in list {
+            self.put_number(out, u64::from(id.number()) + 1);
+        }
+        self.put(out, b"\n");
+    }
+
+    /// Ends the text: hands on what is held, and tells whether a write has failed since the text began.
+    pub fn finish<K: Sink>(&mut self, out: &mut K) -> Result<(), Failed>
+        ensures { (start : Start) (text : List ℕ) → Poured start (K.taken out.old) (K.faults out.old) self.old text
+            → Finishes start (K.taken out.new) (K.faults out.new) text result }
+    {
+        self.hand_on(out);
+        outcome(self.failed)
+    }
+}

@@ -1,0 +1,11 @@
+use Rattle.std.proofs.Common.{subst, sym}
+use Rattle.bip_defs.specs.Lists.{Among}
+use Rattle.bip_defs.specs.Matrix.{Place}
+use Rattle.bip_defs.proofs.Turned.{turned_among, turned_rows}
+use Rattle.hall_witness.proofs.sides.ByRowsSideCol.mate.Goals as goal
+
+pub returns-in-Some-clause-found : goal.returns-in-Some-clause-found
+returns-in-Some-clause-found c = turned_among _ c.args.row c.args.self.now.matching.now.pairs (subst (λ r. Among {X = Place} (r, c.args.row) c.args.self.now.matching.now.pairs) (sym c.mate.view_is) c.in-Some.ensures.found)
+
+pub returns-in-None-clause-none : goal.returns-in-None-clause-none
+returns-in-None-clause-none c = λ h. c.in-None.ensures.none (subst (Among c.args.row) (turned_rows c.args.self.now.matching.now.pairs) h)

@@ -1,0 +1,5 @@
+pub mod Choices
+pub mod Counts
+pub mod Free
+pub mod Fronts
+pub mod Way

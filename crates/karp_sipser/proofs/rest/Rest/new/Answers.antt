@@ -1,0 +1,19 @@
+use Rattle.std.proofs.Common.{rules, ◌≡◌, ◌∙◌, [], List, length, ap, sym, subst, arith}
+use Rattle.bip_defs.specs.Matrix.{Place}
+use Rattle.bip_graph.specs.Pairing.{Pairing}
+use Rattle.karp_sipser.specs.Counts.{AreDegrees}
+use Rattle.karp_sipser.proofs.rest.Rest.new.Goals as goal
+
+pub returns-clause-rest : goal.returns-clause-rest
+returns-clause-rest c =
+    let none : c.in_ok-matching.matching.pairs ≡ [] = ap (λ (m : Pairing). m.pairs) c.in_ok-matching.ensures in
+    record {
+      same_rows = ap (λ (m : Pairing). m.rows) c.in_ok-matching.ensures ∙ c.rows.ensures;
+      same_cols = ap (λ (m : Pairing). m.cols) c.in_ok-matching.ensures ∙ c.cols.ensures;
+      degrees = subst (λ (ps : List Place). AreDegrees c.args.pattern.now ps c.in_ok-col_degrees.col_degrees.items c.in_ok-row_degrees.row_degrees.items) (sym none)
+          (record { long_cols = c.in_ok-col_degrees.ensures.long; long_rows = c.in_ok-row_degrees.ensures.long; col = c.in_ok-col_degrees.ensures.degrees; row = c.in_ok-row_degrees.ensures.degrees });
+      cols_bound = c.in_ok-cols_of_one.ensures.bound ∙ ap length c.as_slice.ensures.value ∙ c.in_ok-col_degrees.ensures.long;
+      rows_bound = c.in_ok-rows_of_one.ensures.bound ∙ ap length c.as_slice-2.ensures.value ∙ c.in_ok-row_degrees.ensures.long;
+      passed = search rules;
+      below = λ x lt. absurd (omega arith);
+    }

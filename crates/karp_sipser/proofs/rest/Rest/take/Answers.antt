@@ -1,0 +1,60 @@
+use Rattle.std.proofs.Common.{rules, drop, take, ◌++◌, ◌≡◌, ◌∙◌, ℕ, List, map, length, ap, subst, arith}
+use Rattle.std.proofs.lemmas.List.{map-id}
+use Rattle.bip_defs.proofs.Sets.{entry_col}
+use Rattle.bip_defs.specs.Lists.{Lists}
+use Rattle.bip_defs.specs.Matrix.{IsEntry}
+use Rattle.int_set.proofs.Members.{written_back}
+use Rattle.karp_sipser.proofs.Choices.{alone_col, alone_row}
+use Rattle.karp_sipser.proofs.Free.{AreLowered, degrees_after, still_none}
+use Rattle.karp_sipser.proofs.rest.Rest.take.Goals as goal
+
+pub leave_out-requires-clause-in_range : goal.leave_out-requires-clause-in_range
+leave_out-requires-clause-in_range c =
+    let rows : Lists (λ r. IsEntry c.args.pattern.now r c.args.col) (map (λ (x : ℕ). x) c.rows_of.result.now) = rw map-id c.rows_of.ensures.rows in
+    λ x h. omega (arith, (rows.sound x h).0, c.requires.rest.degrees.long_rows, ap length c.as_mut_slice-rows.ensures.value)
+
+pub leave_out-requires-2-clause-in_range : goal.leave_out-requires-2-clause-in_range
+leave_out-requires-2-clause-in_range c =
+    let columns : Lists (λ b. IsEntry c.args.pattern.now c.args.row b) (map (λ (x : ℕ). x) c.cols_of.result.now) = rw map-id c.cols_of.ensures.cols in
+    λ x h. omega (arith, entry_col c.args.pattern.now c.args.row x (columns.sound x h), c.requires.rest.degrees.long_cols, ap length c.as_mut_slice-cols.ensures.value)
+
+pub returns-clause-rest : goal.returns-clause-rest
+returns-clause-rest c =
+    let a = c.args.pattern.now in
+    let s = c.args.self.now in
+    let back_c : take s.col_degrees.len (c.leave_out-2.new.degrees ++ drop (length c.leave_out-2.new.degrees) s.col_degrees.items) ≡ c.leave_out-2.new.degrees = written_back s.col_degrees.items c.leave_out-2.new.degrees s.col_degrees.len (omega arith) in
+    let back_r : take s.row_degrees.len (c.leave_out.new.degrees ++ drop (length c.leave_out.new.degrees) s.row_degrees.items) ≡ c.leave_out.new.degrees = written_back s.row_degrees.items c.leave_out.new.degrees s.row_degrees.len (omega arith) in
+    let rows : Lists (λ r. IsEntry a r c.args.col) (map (λ (x : ℕ). x) c.rows_of.result.now) = rw map-id c.rows_of.ensures.rows in
+    let columns : Lists (λ b. IsEntry a c.args.row b) (map (λ (x : ℕ). x) c.cols_of.result.now) = rw map-id c.cols_of.ensures.cols in
+    let lr : AreLowered (map (λ (x : ℕ). x) c.rows_of.result.now) c.args.row s.row_degrees.items c.leave_out.new.degrees =
+    subst (λ (z : List ℕ). AreLowered (map (λ (x : ℕ). x) c.rows_of.result.now) c.args.row z c.leave_out.new.degrees) c.as_mut_slice-rows.ensures.value
+    (record { long = search rules; matched = c.leave_out.ensures.matched; lowered = c.leave_out.ensures.lowered; kept = c.leave_out.ensures.kept }) in
+    let lc : AreLowered (map (λ (x : ℕ). x) c.cols_of.result.now) c.args.col s.col_degrees.items c.leave_out-2.new.degrees =
+    subst (λ (z : List ℕ). AreLowered (map (λ (x : ℕ). x) c.cols_of.result.now) c.args.col z c.leave_out-2.new.degrees) c.as_mut_slice-cols.ensures.value
+    (record { long = search rules; matched = c.leave_out-2.ensures.matched; lowered = c.leave_out-2.ensures.lowered; kept = c.leave_out-2.ensures.kept }) in
+    record {
+      same_rows = c.pair.ensures.sizes.0 ∙ c.requires.rest.same_rows;
+      same_cols = c.pair.ensures.sizes.1 ∙ c.requires.rest.same_cols;
+      degrees = rw (back_c, back_r) (degrees_after a (c.args.row, c.args.col) s.matching.pairs c.pair.new.self.pairs _ _ _ _ _ _ c.requires.rest.degrees c.pair.ensures.added c.requires.free rows columns lc lr);
+      cols_bound = c.leave_out-2.ensures.bound ∙ ap length c.as_mut_slice-cols.ensures.value ∙ c.requires.rest.degrees.long_cols;
+      rows_bound = c.leave_out.ensures.bound ∙ ap length c.as_mut_slice-rows.ensures.value ∙ c.requires.rest.degrees.long_rows;
+      passed = c.requires.rest.passed;
+      below = λ x lt. rw back_c (still_none _ c.args.col x _ _ lc (c.requires.rest.below x lt));
+    }
+
+pub returns-clause-ones : goal.returns-clause-ones
+returns-clause-ones c =
+    let s = c.args.self.now in
+    let back_c : take s.col_degrees.len (c.leave_out-2.new.degrees ++ drop (length c.leave_out-2.new.degrees) s.col_degrees.items) ≡ c.leave_out-2.new.degrees = written_back s.col_degrees.items c.leave_out-2.new.degrees s.col_degrees.len (omega arith) in
+    let back_r : take s.row_degrees.len (c.leave_out.new.degrees ++ drop (length c.leave_out.new.degrees) s.row_degrees.items) ≡ c.leave_out.new.degrees = written_back s.row_degrees.items c.leave_out.new.degrees s.row_degrees.len (omega arith) in
+    record { of_cols = rw back_c c.leave_out-2.ensures.ones; of_rows = rw back_r c.leave_out.ensures.ones }
+
+pub leave_out-requires-clause-alone : goal.leave_out-requires-clause-alone
+leave_out-requires-clause-alone c =
+    let rows : Lists (λ r. IsEntry c.args.pattern.now r c.args.col) (map (λ (x : ℕ). x) c.rows_of.result.now) = rw map-id c.rows_of.ensures.rows in
+    λ test. alone_col c.args.pattern.now c.args.self.now.matching.pairs _ _ _ _ _ c.args.row c.args.col _ c.requires.rest.degrees c.requires.free c.as_mut_slice-cols.ensures.value c.as_mut_slice-rows.ensures.value c.col.view_is test rows
+
+pub leave_out-requires-2-clause-alone : goal.leave_out-requires-2-clause-alone
+leave_out-requires-2-clause-alone c =
+    let columns : Lists (λ b. IsEntry c.args.pattern.now c.args.row b) (map (λ (x : ℕ). x) c.cols_of.result.now) = rw map-id c.cols_of.ensures.cols in
+    λ test. alone_row c.args.pattern.now c.args.self.now.matching.pairs _ _ _ _ _ c.args.row c.args.col _ c.requires.rest.degrees c.requires.free c.as_mut_slice-cols.ensures.value c.as_mut_slice-rows.ensures.value c.row.view_is test columns

@@ -1,0 +1,40 @@
+//! The start of Karp and Sipser: a maximal matching that takes rows and columns with one unmatched neighbour first.
+#![tactic(auto)]
+
+mod degrees;
+mod rest;
+
+ghost use Rattle.std.specs.Prelude.{◌≡◌, ℕ, IfOk};
+ghost use Rattle.bip_defs.specs.Matching.{IsMatching};
+ghost use Rattle.bip_defs.specs.Matrix.{cols};
+ghost use Rattle.bip_defs.specs.Start.{IsFree, IsStart};
+
+use crate::rest::Rest;
+use bip_graph::Matching;
+use sp_ids::OutOfMemory;
+use sp_pattern::Pattern;
+use std::alloc::Global;
+
+/// A maximal matching to start a search from (Karp and Sipser 1981).
+///
+/// Of the unmatched rest it takes again and again: the least column with exactly one unmatched neighbour, with that row;
+/// else the least row with exactly one unmatched neighbour, with that column; else the least column that has an unmatched
+/// neighbour, with the least such row. A pair of the first two kinds is in some maximum matching of what was left, so the
+/// start is often maximum or nearly so.
+///
+/// Answers `OutOfMemory` where its tables can't be had: 8 bytes a row and 8 a column for degrees and the matching, and a
+/// quarter of a byte for the waiting ones. Work: each entry is looked at a fixed number of times.
+pub fn start(alloc: Global, pattern: &Pattern) -> Result<Matching, OutOfMemory>
+    ensures start { IfOk result (λ m. IsStart pattern.now m.pairs) }
+    ensures matching { IfOk result (λ m. IsMatching pattern.now m.pairs) }
+    ensures maximal { IfOk result (λ m. (r c : ℕ) → ¬ IsFree pattern.now m.pairs r c) }
+    ensures sizes { IfOk result (λ m. (m.rows ≡ pattern.now.rows) × (m.cols ≡ cols pattern.now)) }
+{
+    let mut rest = Rest::new(alloc, pattern)?;
+    while let Some((row, col)) = rest.choose(pattern) {
+        rest.take(pattern, row, col);
+    }
+    let matching = rest.matching;
+    let _size = matching.size();
+    Ok(matching)
+}

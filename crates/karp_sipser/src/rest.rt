@@ -1,0 +1,138 @@
+//! What is left unmatched, and the next pair of it.
+
+ghost use Rattle.std.specs.Prelude.{◌≡◌, ◌⊎◌, ◌↔◌, ℕ, suc, ◌<◌, [], length, slice_index, IfOk, IfSome, IfNone};
+ghost use Rattle.bip_defs.specs.Lists.{Among};
+ghost use Rattle.bip_defs.specs.Matrix.{cols, Place};
+ghost use Rattle.bip_defs.specs.Start.{IsFree, IsChoice};
+ghost use Rattle.karp_sipser.specs.Counts.{IsCount};
+ghost use Rattle.karp_sipser.specs.Rest.{HasOnes, HasOnesBut, IsRest};
+
+use crate::degrees::{first_with_degree, leave_out, next_with_degree, of_one, take_of_one};
+use bip_graph::Matching;
+use int_set::IntSet;
+use sp_ids::{Col, OutOfMemory, Row};
+use sp_pattern::Pattern;
+use std::alloc::Global;
+
+/// The matching so far, and the degrees of the rows and columns that it leaves.
+#[derive(Drop)]
+pub struct Rest {
+    pub matching: Matching,
+    pub col_degrees: Vec<u32>,
+    pub row_degrees: Vec<u32>,
+    pub cols_of_one: IntSet,
+    pub rows_of_one: IntSet,
+    pub next_col: usize,
+}
+
+/// For each column how many entries it has.
+fn col_degrees(alloc: Global, pattern: &Pattern) -> Result<Vec<u32>, OutOfMemory>
+    ensures long { IfOk result (λ d. length d.items ≡ cols pattern.now) }
+    ensures degrees { IfOk result (λ d. (c : ℕ) → c < cols pattern.now → IsCount (λ r. IsFree pattern.now [] r c) (slice_index d.items c)) }
+{
+    pattern.is_pattern();
+    let count = pattern.cols();
+    let mut degrees = Vec::with_capacity(alloc, count as usize)?;
+    for col in 0..count {
+        degrees.push(pattern.rows_of(Col(col)).len() as u32)?;
+    }
+    Ok(degrees)
+}
+
+/// For each row how many entries it has.
+fn row_degrees(alloc: Global, pattern: &Pattern) -> Result<Vec<u32>, OutOfMemory>
+    ensures long { IfOk result (λ d. length d.items ≡ pattern.now.rows) }
+    ensures degrees { IfOk result (λ d. (r : ℕ) → r < pattern.now.rows → IsCount (λ c. IsFree pattern.now [] r c) (slice_index d.items r)) }
+{
+    pattern.is_pattern();
+    let count = pattern.rows();
+    let mut degrees = Vec::with_capacity(alloc, count as usize)?;
+    for row in 0..count {
+        degrees.push(pattern.cols_of(Row(row)).len() as u32)?;
+    }
+    Ok(degrees)
+}
+
+impl Rest {
+    /// Nothing is matched.
+    pub fn new(alloc: Global, pattern: &Pattern) -> Result<Rest, OutOfMemory>
+        ensures rest { IfOk result (IsRest pattern.now) }
+        ensures ones { IfOk result HasOnes }
+        ensures empty { IfOk result (λ rest. rest.matching.pairs ≡ []) }
+    {
+        pattern.is_pattern();
+        let matching = Matching::empty(alloc, pattern.rows(), pattern.cols())?;
+        let col_degrees = col_degrees(alloc, pattern)?;
+        let row_degrees = row_degrees(alloc, pattern)?;
+        let cols_of_one = of_one(alloc, col_degrees.as_slice())?;
+        let rows_of_one = of_one(alloc, row_degrees.as_slice())?;
+        Ok(Rest {
+            matching,
+            col_degrees,
+            row_degrees,
+            cols_of_one,
+            rows_of_one,
+            next_col: 0,
+        })
+    }
+
+    /// The pair that is taken next, or none where no entry has both its row and its column unmatched.
+    pub fn choose(&mut self, pattern: &Pattern) -> Option<(Row, Col)>
+        requires rest { IsRest pattern.now self.old }
+        requires ones { HasOnes self.old }
+        ensures none { IfNone result ((r c : ℕ) → ¬ IsFree pattern.now self.old.matching.pairs r c) }
+        ensures choice { IfSome result (IsChoice pattern.now self.old.matching.pairs) }
+        ensures rest { IsRest pattern.now self.new }
+        ensures ones { IfSome result (λ p. HasOnesBut p self.new) }
+        ensures matching { self.new.matching ≡ self.old.matching }
+    {
+        pattern.is_pattern();
+        let col_degrees = self.col_degrees.as_slice();
+        let row_degrees = self.row_degrees.as_slice();
+        if let Some(number) = take_of_one(col_degrees, &mut self.cols_of_one) {
+            let col = Col(number);
+            return Some((first_with_degree(row_degrees, pattern.rows_of(col)), col));
+        }
+        if let Some(number) = take_of_one(row_degrees, &mut self.rows_of_one) {
+            let row = Row(number);
+            return Some((row, first_with_degree(col_degrees, pattern.cols_of(row))));
+        }
+        self.next_col = next_with_degree(col_degrees, self.next_col);
+        if self.next_col == col_degrees.len() {
+            return None;
+        }
+        let col = Col(self.next_col as u32);
+        Some((first_with_degree(row_degrees, pattern.rows_of(col)), col))
+    }
+
+    /// Takes a pair.
+    pub fn take(&mut self, pattern: &Pattern, row: Row, col: Col)
+        requires rest { IsRest pattern.now self.old }
+        requires ones { HasOnesBut (row, col) self.old }
+        requires free { IsFree pattern.now self.old.matching.pairs row col }
+        ensures rest { IsRest pattern.now self.new }
+        ensures ones { HasOnes self.new }
+        ensures pairs { (p : Place) → Among p self.new.matching.pairs ↔ ((p ≡ (row, col)) ⊎ Among p self.old.matching.pairs) }
+        ensures size { length self.new.matching.pairs ≡ suc (length self.old.matching.pairs) }
+    {
+        self.matching.pair(row, col);
+        let cols = self.col_degrees.as_mut_slice();
+        let rows = self.row_degrees.as_mut_slice();
+        let more_rows = cols[col.0 as usize] > 1;
+        let more_cols = rows[row.0 as usize] > 1;
+        leave_out(
+            rows,
+            row,
+            pattern.rows_of(col),
+            more_rows,
+            &mut self.rows_of_one,
+        );
+        leave_out(
+            cols,
+            col,
+            pattern.cols_of(row),
+            more_cols,
+            &mut self.cols_of_one,
+        );
+    }
+}

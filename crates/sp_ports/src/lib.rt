@@ -1,0 +1,13 @@
+//! Where the bytes of a run come from and where they go: the traits of the outside, and devices in memory for tests.
+#![tactic(auto)]
+
+mod calls;
+mod gates;
+mod ports;
+mod sinks;
+mod sources;
+
+pub use gates::{Gate, NoGate};
+pub use ports::{Failed, Sink, Source, write_all};
+pub use sinks::{MemSink, SteadySink};
+pub use sources::{MemSource, SteadySource};

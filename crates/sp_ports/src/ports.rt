@@ -1,0 +1,102 @@
+//! Sources and sinks of bytes.
+
+ghost use Rattle.std.specs.Prelude.{◌≡◌, ◌<◌, ◌≤◌, ℕ, List, Option, length, take, IfOk, OnErr};
+ghost use Rattle.sp_ports.specs.Bytes.{Gives, IsAtEnd, Takes, Writes};
+ghost use Rattle.sp_ports.specs.Counts.{HasCause, Rose, SourceRose};
+
+/// A device did not do what it was asked.
+#[derive(Clone, Copy, Debug, PartialEq, Eq)]
+pub struct Failed;
+
+/// Bytes from outside.
+pub trait Source {
+    /// What is left, where it is told.
+    ghost left: { Self → Option (List ℕ) };
+
+    /// How often a read has failed.
+    ghost faults: { Self → ℕ };
+
+    /// Moves bytes from the front of what is left into the buffer, and tells how many. 0 for a buffer that is not empty
+    /// comes only at the end. `Failed` comes only where the count of faults rose, and then nothing was moved.
+    fn read(&mut self, buf: &mut [u8]) -> Result<usize, Failed>
+        ensures bound { IfOk result (λ k. k ≤ length buf.old) }
+        ensures bytes { IfOk result (λ k. Gives (left self.old) (left self.new) (take k buf.new)) }
+        // No bytes come only at the end, or into no room.
+        ensures end { IfOk result (λ k. k ≡ 0 → 0 < length buf.old → IsAtEnd (left self.new)) }
+        ensures kept { OnErr result (left self.new ≡ left self.old) }
+        ensures cause { HasCause (SourceRose (left self.old) (faults self.old) (faults self.new)) (faults self.old) (faults self.new) result };
+}
+
+/// Where bytes go.
+pub trait Sink {
+    /// What was taken, where it is told.
+    ghost taken: { Self → Option (List ℕ) };
+
+    /// How often a call has failed.
+    ghost faults: { Self → ℕ };
+
+    /// Takes bytes from the front of the piece, and tells how many: at least one of a piece that is not empty. `Failed`
+    /// comes only where the count of faults rose, and then nothing was taken.
+    fn write(&mut self, piece: &[u8]) -> Result<usize, Failed>
+        ensures bound { IfOk result (λ k. k ≤ length piece.now) }
+        ensures some { IfOk result (λ k. 0 < length piece.now → 0 < k) }
+        ensures bytes { IfOk result (λ k. Takes (taken self.old) (taken self.new) (take k piece.now)) }
+        ensures kept { OnErr result (taken self.new ≡ taken self.old) }
+        ensures cause { HasCause (Rose (faults self.old) (faults self.new)) (faults self.old) (faults self.new) result };
+
+    /// Hands on what was taken. `Failed` comes only where the count of faults rose.
+    fn flush(&mut self) -> Result<(), Failed>
+        ensures kept { taken self.new ≡ taken self.old }
+        ensures cause { HasCause (Rose (faults self.old) (faults self.new)) (faults self.old) (faults self.new) result };
+}
+
+/// Writes all of the bytes, in as many calls as the sink asks. After `Failed`, which is the answer of the first call that
+/// fails, a front of them was taken. It takes no memory.
+pub fn write_all<K: Sink>(out: &mut K, bytes: &[u8]) -> Result<(), Failed>
+    ensures bytes { Writes (K.taken out.old) (K.taken out.new) bytes.now result }
+    ensures cause { HasCause (Rose (K.faults out.old) (K.faults out.new)) (K.faults out.old) (K.faults out.new) result }
+{
+    let mut rest = bytes;
+    while !rest.is_empty() {
+        let count = out.write(rest)?;
+        rest = &rest[count..];
+    }
+    Ok(())
+}
+
+#[cfg(test)]
+mod tests {
+    use super::*;
+    use crate::{MemSink, SteadySink};
+    use std::test::Fail;
+
+    #[test]
+    fn all_is_written_in_pieces(rt: HostRuntime) -> Result<(), Fail> {
+        let alloc = rt.alloc();
+        let mut sink = MemSink::new(alloc, 7, 2, Vec::new(alloc))?;
+        assert_eq!(rt; write_all(&mut sink, b"abcdefg"), Ok(()));
+        assert_eq!(rt; sink.bytes(), b"abcdefg".as_slice());
+        // No room is needed for nothing.
+        assert_eq!(rt; write_all(&mut sink, b""), Ok(()));
+        assert_eq!(rt; sink.failed_calls(), 0);
+        Ok(())
+    }
+
+    #[test]
+    fn a_front_is_written_up_to_the_failing_call(rt: HostRuntime) -> Result<(), Fail> {
+        let alloc = rt.alloc();
+        let mut sink = MemSink::new(alloc, 9, 2, [3].to_vec(alloc)?)?;
+        assert_eq!(rt; write_all(&mut sink, b"abcdefgh"), Err(Failed));
+        assert_eq!(rt; sink.bytes(), b"abcdef".as_slice());
+        assert_eq!(rt; sink.failed_calls(), 1);
+        Ok(())
+    }
+
+    #[test]
+    fn a_steady_sink_takes_all(rt: HostRuntime) -> Result<(), Fail> {
+        let mut sink = SteadySink::new(rt.alloc(), 4, 3)?;
+        assert_eq!(rt; write_all(&mut sink, b"abcdefg"), Ok(()));
+        assert_eq!(rt; sink.bytes(), b"abcd".as_slice());
+        Ok(())
+    }
+}
