@@ -1,5 +1,5 @@
 -- Both orders of the same places are a pattern.
-use Rattle.std.proofs.Common.{◌≡◌, ◌↔◌, ◌∙◌, ℕ, ◌+◌, ◌-◌, ◌<◌, ◌≤◌, ◌^◌, List, [], length, get_or, map, refl, sym, ap, arith, subst, ◌∷◌, ◌⊎◌, ◌≢◌, inl, inr, Bool, true, false, IsPermutation, is_lt, nat_cmp, tests, true≢false}
+use Rattle.std.proofs.Common.{◌≡◌, ◌∙◌, ℕ, ◌-◌, ◌<◌, ◌^◌, List, [], length, map, sym, ap, arith, subst, ◌∷◌, ◌⊎◌, ◌≢◌, inl, inr, true, false, IsPermutation, is_lt, nat_cmp, tests, true≢false}
 use Rattle.std.specs.Ordering.{ordering_then}
 use Rattle.std.specs.List.{AllByRecursion}
 use Rattle.std.proofs.lemmas.List.Sorted.{Contains-permutation, length_permutation, IsPermutation-sym}
@@ -9,11 +9,11 @@ use Rattle.std.proofs.Math.Decide.{dec_lt}
 use Rattle.std.proofs.lemmas.List.{get_or_past, map-id}
 use Rattle.bip_defs.specs.Lists.{Among, Lists}
 use Rattle.bip_defs.specs.Matching.{turned}
-use Rattle.bip_defs.specs.Matrix.{HasPlaces, IsEntry, Matrix, Place, column, cols}
+use Rattle.bip_defs.specs.Matrix.{HasPlaces, IsEntry, Matrix, Place, cols}
 use Rattle.bip_defs.proofs.Sets.{among_from_contains, contains_from_among, lists_same, number_same}
 use Rattle.bip_defs.proofs.Turned.{turned_among, turned_back, turned_length, turned_twice}
-use Rattle.sp_pattern.specs.Order.{AreInside, AreParts, IsAtMost, IsOrder, IsOrderOf, IsTurned, Pair}
-use Rattle.sp_pattern.specs.Stored.{AreOrders, AreStarts, piece, pieces, stored}
+use Rattle.sp_pattern.specs.Order.{AreInside, AreParts, IsAtMost, IsOrderOf, IsTurned, Pair}
+use Rattle.sp_pattern.specs.Stored.{AreOrders, piece, pieces, stored}
 use Rattle.sp_pattern.proofs.Cuts.{get_or-pieces, length-pieces}
 use Rattle.sp_pattern.proofs.Shape.{orders_columns}
 use Rattle.sp_pattern.proofs.Sides.{inners_lists, inners_of, order_piece, order_starts}

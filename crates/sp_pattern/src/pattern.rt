@@ -80,8 +80,12 @@ impl Pattern {
     {
         let (col_starts, col_rows) = compress::<P, Row>(alloc, &pairs, cols, rows)?;
         drop(pairs);
-        let (row_starts, row_cols) =
-            turn::<Col, Row>(alloc, col_starts.as_slice(), col_rows.as_slice(), rows)?;
+        let (row_starts, row_cols) = turn::<Col, Row>(
+            alloc,
+            col_starts.as_slice(),
+            col_rows.as_slice(),
+            rows,
+        )?;
         Ok(Pattern {
             col_starts,
             col_rows,
@@ -104,8 +108,12 @@ impl Pattern {
     {
         let (row_starts, row_cols) = compress::<P, Col>(alloc, &pairs, rows, cols)?;
         drop(pairs);
-        let (col_starts, col_rows) =
-            turn::<Row, Col>(alloc, row_starts.as_slice(), row_cols.as_slice(), cols)?;
+        let (col_starts, col_rows) = turn::<Row, Col>(
+            alloc,
+            row_starts.as_slice(),
+            row_cols.as_slice(),
+            cols,
+        )?;
         Ok(Pattern {
             col_starts,
             col_rows,

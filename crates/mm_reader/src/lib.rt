@@ -1,0 +1,14 @@
+//! A reader of Matrix Market coordinate files, from any source of bytes, through one buffer.
+#![tactic(auto)]
+
+mod input;
+mod judge;
+mod line;
+mod machine;
+mod number;
+mod reader;
+mod text;
+mod window;
+
+pub use input::{read_matrix, Input};
+pub use mm_defs::{End, Kind, ReadError};
