@@ -62,15 +62,15 @@ answered r status wanted is taken P job written ok = record {
 }
 
 -- the run was refused for a bad line
-bad : (r : Run) (status : Status) (line : ℕ) (kind : Kind) (limit : Bool) → is_limit kind ≡ limit → status ≡ (if limit then statuses.Limit else statuses.Malformed)
+bad : (r : Run) (status : Status) (line : ℕ) (kind : Kind) (limit : Bool) → status ≡ (if limit then statuses.Limit else statuses.Malformed)
     → AreTaken r.words → HasNotFallen r.input
-    → OfReading r.input (λ call. first_bad File call ≡ Some (record { line = line; kind = kind })) → Completes r status
-bad r status line kind limit is said taken later first = record {
+    → OfReading r.input (λ call. (first_bad File call ≡ Some (record { line = line; kind = kind })) × (is_limit kind ≡ limit)) → Completes r status
+bad r status line kind limit said taken later first = record {
   usage = λ not. absurd (not taken);
   bad_line = λ _. told r.input.before r.input.after first
-      (λ x y before h fault two. inl (said ∙ kind_status line kind fault (first_bad File (reading r.input x y)) limit h is two));
+      (λ x y before h fault two. inl (said ∙ kind_status line kind fault (first_bad File (reading r.input x y)) limit h.0 h.1 two));
   good = λ _ no_read no_write. told r.input.before r.input.after first
-      (λ x y before h t reads few. absurd (not_answered limit (reading r.input x y) t h is reads few (steady r.input x before later no_read)));
+      (λ x y before h t reads few. absurd (not_answered limit (reading r.input x y) t h.0 h.1 reads few (steady r.input x before later no_read)));
   not_good = λ _ no_read. told r.input.before r.input.after first (λ x y before h none. inl (either limit said));
 }
   where
@@ -90,8 +90,8 @@ refused r status Usage said c = record {
   good = λ taken. absurd (c.0 taken);
   not_good = λ taken. absurd (c.0 taken);
 }
-refused r status (Malformed line kind) said c = bad r status line kind false c.3.1 said c.1.taken c.2 c.3.0
-refused r status (Limit line kind) said c = bad r status line kind true c.3.1 said c.1.taken c.2 c.3.0
+refused r status (Malformed line kind) said c = bad r status line kind false said c.1.taken c.2 c.3.0
+refused r status (Limit line kind) said c = bad r status line kind true said c.1.taken c.2 c.3.0
 refused r status TooLong said c = record {
   usage = λ not. absurd (not c.1.taken);
   bad_line = λ _. told r.input.before r.input.after c.3.0 (λ x y before h fault two. absurd (clash (first_bad File (reading r.input x y)) fault h.0 two));

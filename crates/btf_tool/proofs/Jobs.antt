@@ -18,8 +18,8 @@ use Rattle.btf_tool.proofs.Completing.{told}
 -- the reading was refused, and nothing was written
 pub file_refused : (job : Job) (input out : Device) (refusal : Refusal) → FileSays input (Err refusal) → HasNotFallen input → IsUntouched out → JobSays job input out (Err refusal)
 file_refused job input out Usage says later same = absurd says
-file_refused job input out (Malformed line kind) says later same = (later, (says.0, says.1, same))
-file_refused job input out (Limit line kind) says later same = (later, (says.0, says.1, same))
+file_refused job input out (Malformed line kind) says later same = (later, (says, same))
+file_refused job input out (Limit line kind) says later same = (later, (says, same))
 file_refused job input out TooLong says later same = (later, (says, same))
 file_refused job input out ReadFault says later same = (later, (says.0, says.1, same))
 file_refused job input out WriteFault says later same = absurd says

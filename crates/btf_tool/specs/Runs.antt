@@ -1,5 +1,5 @@
 -- What a run was given, what came of it, and what each status says.
-use Rattle.std.specs.Prelude.{◌≡◌, ◌≤◌, ◌<◌, ◌⊎◌, ℕ, true, false, List, [], length, if◌then◌else◌, Some, None, Result, Ok, Err}
+use Rattle.std.specs.Prelude.{◌≡◌, ◌≤◌, ◌<◌, ◌⊎◌, ℕ, Bool, true, false, List, [], length, if◌then◌else◌, Some, None, Result, Ok, Err}
 use Rattle.sp_ids.specs.Entries.{Entries}
 use Rattle.sp_ids.specs.declared.outcomes.Status.{Status}
 use Rattle.sp_ids.specs.declared.outcomes.Status.TheVariants as statuses
@@ -41,9 +41,9 @@ pub record Succeeds (r : Run) : Type 0 where
 
 -- ---- refusals
 
--- the first bad line of the input is this one
-abbrev pub IsBadLine : Device → Fault → Type 0
-IsBadLine input fault = OfReading input (λ call. first_bad File call ≡ Some fault)
+-- the first bad line of the input is this one, and whether it passes a limit
+abbrev pub IsBadLine : Device → Fault → Bool → Type 0
+IsBadLine input fault limit = OfReading input (λ call. (first_bad File call ≡ Some fault) × (is_limit fault.kind ≡ limit))
 
 -- no line is bad of what the input gave
 abbrev pub NoBadLine : Device → Type 0
@@ -56,9 +56,9 @@ TellsStill input = WhereTold input.before input.after (λ before after. Unit {0}
 -- What a refusal of a job says of the input and of the output.
 abbrev pub IsCause : Job → Device → Device → Refusal → Type 0
 -- the first bad line is not of the file's form
-IsCause job input out (Malformed line kind) = IsBadLine input (record { line = line; kind = kind }) × (is_limit kind ≡ false) × IsUntouched out
+IsCause job input out (Malformed line kind) = IsBadLine input (record { line = line; kind = kind }) false × IsUntouched out
 -- the first bad line passes a limit
-IsCause job input out (Limit line kind) = IsBadLine input (record { line = line; kind = kind }) × (is_limit kind ≡ true) × IsUntouched out
+IsCause job input out (Limit line kind) = IsBadLine input (record { line = line; kind = kind }) true × IsUntouched out
 -- no line is bad, and the input gave more bytes than it may have
 IsCause job input out TooLong = OfReading input (λ call. (first_bad File call ≡ None) × (call.room < length (got call))) × IsUntouched out
 -- a read failed, and no line that had ended is bad
@@ -73,8 +73,8 @@ IsCause job input out Usage = ⊥
 -- What each outcome of the reading of a matrix file says of the input.
 abbrev pub FileSays : Device → Result Entries Refusal → Type 0
 FileSays input (Ok t) = IsSteady input × OfReading input (λ call. WasRead call t)
-FileSays input (Err (Malformed line kind)) = IsBadLine input (record { line = line; kind = kind }) × (is_limit kind ≡ false)
-FileSays input (Err (Limit line kind)) = IsBadLine input (record { line = line; kind = kind }) × (is_limit kind ≡ true)
+FileSays input (Err (Malformed line kind)) = IsBadLine input (record { line = line; kind = kind }) false
+FileSays input (Err (Limit line kind)) = IsBadLine input (record { line = line; kind = kind }) true
 FileSays input (Err TooLong) = OfReading input (λ call. (first_bad File call ≡ None) × (call.room < length (got call)))
 FileSays input (Err ReadFault) = HasReadFault input × NoBadLine input
 FileSays input (Err OutOfMemory) = TellsStill input
