@@ -49,7 +49,7 @@ fed_consumed end ahead old now room lfs m m2 w w2 done f c =
       lines_same = c.uses.lines_same ∙ f.lines_same;
     }
 
-gives_then : (a b c : Option (List ℕ)) (x y : List ℕ) → Gives a b x → Gives b c y → Gives a c (x ++ y)
+pub gives_then : (a b c : Option (List ℕ)) (x y : List ℕ) → Gives a b x → Gives b c y → Gives a c (x ++ y)
 gives_then None b c x y h k = tt
 gives_then (Some l) None c x y h k = absurd h
 gives_then (Some l) (Some r) None x y h k = absurd k
@@ -74,6 +74,18 @@ rose_since None None gave fb f1 fa g e h = omega arith
 rose_since None (Some r) gave fb f1 fa g e h = omega arith
 rose_since (Some l) None gave fb f1 fa g e h = absurd g
 rose_since (Some l) (Some r) gave fb f1 fa g e h = omega arith
+
+-- ---- what was used was counted
+
+pub counted : (w0 w3 w : Window) (before after gave used : List ℕ) → before ≡ gave ++ after → ahead_of w0 ++ gave ≡ used ++ ahead_of w → length used + w.room ≡ w0.room
+    → ahead_of w3 ≡ ahead_of w → w3.room ≡ w.room → w3.lines ≡ w0.lines + count_by is_lf used → HasCounted w0 w3 before after
+counted w0 w3 w before after gave used b split size same room_same lfs_are =
+    let all : ahead_of w0 ++ before ≡ used ++ (ahead_of w3 ++ after) =
+        ap (λ (t : List ℕ). ahead_of w0 ++ t) b ∙ sym (append_assoc (ahead_of w0) gave after) ∙ ap (λ (t : List ℕ). t ++ after) split
+        ∙ append_assoc used (ahead_of w) after ∙ ap (λ (t : List ℕ). used ++ (t ++ after)) (sym same) in
+    let n : length (ahead_of w0 ++ before) ≡ length used + length (ahead_of w3 ++ after) = ap length all ∙ length-append used (ahead_of w3 ++ after) in
+    let k : count_by is_lf (ahead_of w0 ++ before) ≡ count_by is_lf used + count_by is_lf (ahead_of w3 ++ after) = ap (count_by is_lf) all ∙ sum_by-append _ used (ahead_of w3 ++ after) in
+    record { bytes = omega arith; lfs = omega arith }
 
 -- ---- the exits
 
@@ -105,16 +117,6 @@ module _ (end : End) (w0 w3 : Window) (lfs fb fa : ℕ) (m : Machine) (w : Windo
         counts = tt;
       }
 
-  counted : (before after gave used : List ℕ) → before ≡ gave ++ after → ahead_of w0 ++ gave ≡ used ++ ahead_of w → length used + w.room ≡ w0.room
-      → ahead_of w3 ≡ ahead_of w → w3.room ≡ w.room → w3.lines ≡ w0.lines + count_by is_lf used → HasCounted w0 w3 before after
-  counted before after gave used b split size same room_same lfs_are =
-      let all : ahead_of w0 ++ before ≡ used ++ (ahead_of w3 ++ after) =
-          ap (λ (t : List ℕ). ahead_of w0 ++ t) b ∙ sym (append_assoc (ahead_of w0) gave after) ∙ ap (λ (t : List ℕ). t ++ after) split
-          ∙ append_assoc used (ahead_of w) after ∙ ap (λ (t : List ℕ). used ++ (t ++ after)) (sym same) in
-      let n : length (ahead_of w0 ++ before) ≡ length used + length (ahead_of w3 ++ after) = ap length all ∙ length-append used (ahead_of w3 ++ after) in
-      let k : count_by is_lf (ahead_of w0 ++ before) ≡ count_by is_lf used + count_by is_lf (ahead_of w3 ++ after) = ap (count_by is_lf) all ∙ sum_by-append _ used (ahead_of w3 ++ after) in
-      record { bytes = omega arith; lfs = omega arith }
-
   lf-count : (used : List ℕ) → IsAfter end m used → m.number ≡ count_by is_lf used
   lf-count used a = a.number_is ∙ length-lines used
 
@@ -135,7 +137,7 @@ module _ (end : End) (w0 w3 : Window) (lfs fb fa : ℕ) (m : Machine) (w : Windo
         record {
           answer = read_on end (ahead_of w0) before after f.gave f.used (ahead_of w) w0.room fb fa f.told f.split fits t (ahead_of w3 ++ after) (ap (λ (x : List ℕ). x ++ after) same) (rw is r);
           near = tt;
-          counts = counted before after f.gave f.used f.told f.split f.size same room_same (omega (arith, f.lines_same));
+          counts = counted w0 w3 w before after f.gave f.used f.told f.split f.size same room_same (omega (arith, f.lines_same));
         }
 
     exit_of : (before after : List ℕ) (f : Fed end (ahead_of w0) (Some before) (Some after) w0.room lfs m w) (result : Result entries.Entries ReadError) → ahead_of w ≡ [] → after ≡ [] → fa ≡ fb
@@ -147,7 +149,7 @@ module _ (end : End) (w0 w3 : Window) (lfs fb fa : ℕ) (m : Machine) (w : Windo
         record {
           answer = end_read end (ahead_of w0) before after f.gave f.used (ahead_of w) w0.room fb fa f.told f.split fits none over steady t (ahead_of w3 ++ after) (rw (same, none, over) refl) h;
           near = tt;
-          counts = counted before after f.gave f.used f.told f.split f.size same room_same (omega (arith, f.lines_same));
+          counts = counted w0 w3 w before after f.gave f.used f.told f.split f.size same room_same (omega (arith, f.lines_same));
         }
     exit_of before after f (Err error) none over steady counts h =
         let fits : length f.used ≤ w0.room = omega (arith, f.size) in

@@ -8,6 +8,7 @@ pub mod Judges
 pub mod LineSteps
 pub mod Lookups
 pub mod Numbers
+pub mod RestLaws
 pub mod StepLaws
 pub mod StreamLaws
 pub mod WindowLaws

@@ -41,10 +41,10 @@ module _ (end : End) (ahead before after gave used rest : List ℕ) (room fb fa 
       let e : length before - length after ≡ length gave = omega arith in
       rw (e, b) (take-append_seam gave after)
 
-  got-is : got call ≡ used ++ rest
+  pub got-is : got call ≡ used ++ rest
   got-is = ap (λ (t : List ℕ). ahead ++ t) gave-is ∙ split
 
-  offered-is : offered call ≡ used ++ (rest ++ after)
+  pub offered-is : offered call ≡ used ++ (rest ++ after)
   offered-is = ap (λ (t : List ℕ). ahead ++ t) b ∙ sym (append_assoc ahead gave after) ∙ ap (λ (t : List ℕ). t ++ after) split ∙ append_assoc used rest after
 
   given-is : given call ≡ used ++ take (room - length used) rest
@@ -70,7 +70,7 @@ module _ (end : End) (ahead before after gave used rest : List ℕ) (room fb fa 
   not-ended-past : room < length (got call) → ended call ≡ false
   not-ended-past h = let e = lt-leb (length (got call)) room h in rw e refl
 
-  past : room - length used < length rest → room < length (got call)
+  pub past : room - length used < length rest → room < length (got call)
   past h = let n : length (got call) ≡ length used + length rest = ap length got-is ∙ length-append used rest in omega arith
 
   too_long : (room - length used < length rest) → line_faults end (lines false (used ++ take (room - length used) rest)) ≡ [] → (first_bad end call ≡ None) × (room < length (got call))
@@ -127,7 +127,7 @@ module _ (end : End) (ahead before after gave used rest : List ℕ) (room fb fa 
     end_refused t errors.ReadFault h = absurd h
     end_refused t errors.OutOfMemory h = (tt, tt)
 
-    offered-used : offered call ≡ used
+    pub offered-used : offered call ≡ used
     offered-used = offered-is ∙ rw (none, over) (append-nil used)
 
     pub end_read : (t : entries.Entries) (r : List ℕ) → r ≡ [] → IsWhole end used t → IsAnswer end call r (Ok t)

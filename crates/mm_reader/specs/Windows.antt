@@ -9,7 +9,7 @@ use Rattle.mm_defs.specs.declared.answers.ReadError.TheVariants as errors
 use Rattle.mm_defs.specs.Words.{lines, is_lf}
 use Rattle.mm_defs.specs.Faults.{is_limit}
 use Rattle.mm_defs.specs.File.{Fault, line_faults, first_fault, behind}
-use Rattle.mm_defs.specs.Reading.{Call, IsAnswer, IsNear}
+use Rattle.mm_defs.specs.Reading.{Call, IsAnswer, IsNear, IsRest}
 use Rattle.mm_reader.specs.declared.machine.Machine.{Machine}
 use Rattle.mm_reader.specs.declared.machine.Stop.{Stop}
 use Rattle.mm_reader.specs.declared.machine.Stop.TheVariants as stops
@@ -113,3 +113,33 @@ pub record Answers (end : End) (call : Call) (old new : Window) (result : Result
   pub answer : IsAnswer end call (ahead_of new ++ call.after) result
   pub near : IsNear call result
   pub counts : OnOk result (HasCounted old new call.before call.after)
+
+-- ---- the reading of all that follows
+
+-- the bytes ahead were added to these
+pub record TakesAhead (old new : Window) (before after : List ℕ) : Type 0 where
+  pub bytes_are : after ≡ before ++ ahead_of old
+  pub ahead_is : ahead_of new ≡ []
+  pub room_is : new.room + length (ahead_of old) ≡ old.room
+  pub lines_are : new.lines ≡ old.lines + count_by is_lf (ahead_of old)
+
+-- why the bytes ahead were not added
+abbrev pub RefusesAhead : Window → ReadError → Type 0
+RefusesAhead w (errors.Malformed line kind) = ⊥
+RefusesAhead w (errors.Limit line kind) = ⊥
+RefusesAhead w errors.TooLong = w.room < length (ahead_of w)
+RefusesAhead w errors.ReadFault = ⊥
+RefusesAhead w errors.OutOfMemory = Unit {0}
+
+-- what was read so far
+pub record Filled (ahead : List ℕ) (old now : Option (List ℕ)) (room lfs : ℕ) (bytes : List ℕ) (w : Window) : Type 0 where
+  pub gave : List ℕ
+  pub told : Gives old now gave
+  pub split : ahead ++ gave ≡ bytes ++ ahead_of w
+  pub size : length bytes + w.room ≡ room
+  pub lines_are : w.lines ≡ lfs + count_by is_lf bytes
+
+-- all was read and counted
+pub record RestRead (call : Call) (old new : Window) (bytes : List ℕ) : Type 0 where
+  pub rest : IsRest call (ahead_of new ++ call.after) bytes
+  pub counts : HasCounted old new call.before call.after

@@ -1,14 +1,15 @@
 //! Inputs: what callers see of the bytes ahead, and the calls that read them.
 
-ghost use Rattle.std.specs.Prelude.{◌≡◌, ◌≤◌, ◌<◌, ◌+◌, ◌++◌, ◌↔◌, ℕ, List, [], length, IfOk, OnOk, OnErr, IsOk, IsTrue, true, false, ℕ};
+ghost use Rattle.std.specs.Prelude.{◌≡◌, ◌≤◌, ◌<◌, ◌+◌, ◌++◌, ◌↔◌, ℕ, List, [], length, IfOk, MatchResult, OnOk, IsOk, IsTrue, true, false};
 ghost use Rattle.std.specs.List.{count_by};
 ghost use Rattle.sp_ports.specs.Bytes.{IsAtEnd, WhereTold};
 ghost use Rattle.sp_ports.specs.Counts.{SourceRose};
 ghost use Rattle.mm_defs.specs.Words.{is_lf};
 ghost use Rattle.mm_defs.specs.File.{Fault};
-ghost use Rattle.mm_defs.specs.Reading.{call_on, first_bad, Causes, IsAnswer, IsNear, Tells};
+ghost use Rattle.mm_defs.specs.Reading.{call_on, first_bad, Causes, IsAnswer, IsNear, IsRest, RefusesRest, Tells};
 
 use crate::reader::matrix;
+use crate::rest::rest;
 use crate::window::{new_buffer, Window};
 use mm_defs::{End, ReadError};
 use sp_ids::{OutOfMemory, Triples};
@@ -130,5 +131,45 @@ pub fn read_matrix<S: Source>(
             Err(error)
         }
         Ok(triples) => Ok(triples),
+    }
+}
+
+/// Reads all that follows: the bytes ahead, then those of the source up to its end. It judges no line.
+///
+/// It answers `TooLong` where more bytes follow than may still be used, `ReadFault` where a read failed, `OutOfMemory`,
+/// and no other error. After an `Err` the input is not good. It takes memory for the bytes.
+pub fn read_rest<S: Source>(
+    alloc: Global,
+    input: &mut Input,
+    source: &mut S,
+) -> Result<Vec<u8>, ReadError>
+    requires good { IsTrue input.old.good }
+    requires at_end { IsTrue input.old.at_end → IsAtEnd (S.left source.old) }
+
+    // What each answer says of the bytes.
+    ensures answer { WhereTold (S.left source.old) (S.left source.new) (λ before after.
+        MatchResult result (λ v. IsRest (call_on input.old (S.faults source.old) (S.faults source.new) before after) (input.new.ahead ++ after) v.items)
+        (RefusesRest (call_on input.old (S.faults source.old) (S.faults source.new) before after))) }
+
+    // A failed read is the one cause of `ReadFault`, and at Ok no read has failed.
+    ensures cause { Causes (SourceRose (S.left source.old) (S.faults source.old) (S.faults source.new)) (S.faults source.old) (S.faults source.new) result }
+
+    // Where a read has given no bytes, the source is not asked again.
+    ensures at_end { IsTrue input.new.at_end → IsAtEnd (S.left source.new) }
+    ensures unasked { IsTrue input.old.at_end → source.new ≡ source.old }
+
+    ensures good { IsTrue input.new.good ↔ IsOk result }
+    ensures limit { input.new.limit ≡ input.old.limit }
+    ensures lines { OnOk result (WhereTold (S.left source.old) (S.left source.new) (λ before after.
+        input.new.lines + count_by is_lf (input.new.ahead ++ after) ≡ input.old.lines + count_by is_lf (input.old.ahead ++ before))) }
+    ensures taken { OnOk result (WhereTold (S.left source.old) (S.left source.new) (λ before after.
+        input.new.taken + length after ≡ input.old.taken + length before)) }
+{
+    match rest(alloc, &mut input.window, source) {
+        Err(error) => {
+            input.good = false;
+            Err(error)
+        }
+        Ok(bytes) => Ok(bytes),
     }
 }

@@ -7,8 +7,12 @@ mod line;
 mod machine;
 mod number;
 mod reader;
+mod rest;
 mod text;
 mod window;
 
-pub use input::{read_matrix, Input};
+pub use input::{read_matrix, read_rest, Input};
 pub use mm_defs::{End, Kind, ReadError};
+
+#[cfg(test)]
+mod tests;
