@@ -22,8 +22,9 @@ use std::alloc::Global;
 /// neighbour, with the least such row. A pair of the first two kinds is in some maximum matching of what was left, so the
 /// start is often maximum or nearly so.
 ///
-/// Answers `OutOfMemory` where its tables can't be had: 8 bytes a row and 8 a column for degrees and the matching, and a
-/// quarter of a byte for the waiting ones. Work: each entry is looked at a fixed number of times.
+/// Answers `OutOfMemory` where its tables can't be had: 8 bytes a row and 8 a column for the matching and the degrees, and
+/// an eighth of a byte each for the waiting ones. Work: each entry is looked at four times at most, and each row and column
+/// goes in and out of a set once at most.
 pub fn start(alloc: Global, pattern: &Pattern) -> Result<Matching, OutOfMemory>
     ensures start { IfOk result (λ m. IsStart pattern.now m.pairs) }
     ensures matching { IfOk result (λ m. IsMatching pattern.now m.pairs) }
@@ -35,6 +36,7 @@ pub fn start(alloc: Global, pattern: &Pattern) -> Result<Matching, OutOfMemory>
         rest.take(pattern, row, col);
     }
     let matching = rest.matching;
+    // Tells the proof that no row and no column stands twice.
     let _size = matching.size();
     Ok(matching)
 }
