@@ -1,4 +1,5 @@
+pub mod Answers
 pub mod Pairing
+pub mod Shown
 pub mod Stretches
 pub mod Texts
-pub mod Answers

@@ -1,3 +1,5 @@
+pub mod Backwards
 pub mod Marking
+pub mod Phases
 pub mod Scanning
 pub mod Searching

@@ -41,6 +41,7 @@ pub trait Side<Far: Id> {
 }
 
 /// The pattern and the matching, seen from the columns.
+#[derive(Clone, Copy)]
 pub struct ByCols<'p> {
     pub pattern: &'p Pattern,
     pub matching: &'p Matching,
@@ -77,6 +78,7 @@ impl Side<Row> for ByCols<'_> {
 }
 
 /// The pattern and the matching, seen from the rows.
+#[derive(Clone, Copy)]
 pub struct ByRows<'p> {
     pub pattern: &'p Pattern,
     pub matching: &'p Matching,

@@ -1,6 +1,6 @@
 -- The degrees show which pair is taken next.
-use Rattle.std.proofs.Common.{◌≡◌, ◌≢◌, ℕ, ◌<◌, List, slice_index, subst, inl, inr, arith}
-use Rattle.std.proofs.lemmas.Bool.{cases_lt}
+use Rattle.std.proofs.Common.{◌≤◌, false, nat_lt, ◌≡◌, ◌≢◌, ℕ, ◌<◌, List, slice_index, subst, inl, inr, arith}
+use Rattle.std.proofs.lemmas.Bool.{cases_eq, cases_lt, ltb-false}
 use Rattle.bip_defs.proofs.Sets.{entry_col}
 use Rattle.bip_defs.specs.Lists.{Among, Lists}
 use Rattle.bip_defs.specs.Matrix.{cols, IsEntry, Matrix, Place}
@@ -83,3 +83,35 @@ some_row a m cd rd rs c d lt ne in_col = let (r, f) = col_free a m cd rd c d lt 
 pub some_col : (a : Matrix) (m : List Place) (cd rd cs : List ℕ) (r : ℕ) → AreDegrees a m cd rd → r < a.rows → slice_index rd r ≢ 0 → Lists (λ b. IsEntry a r b) cs
     → (x : ℕ) × Among x cs × (slice_index cd x ≢ 0)
 some_col a m cd rd cs r d lt ne in_row = let (c, f) = row_free a m cd rd r d lt ne in (c, in_row.complete c f.0, (free_degrees a m cd rd r c d f).0)
+
+-- where the column has one free entry, the other rows of its entries have no degree
+alone_in_col : (a : Matrix) (m : List Place) (cd rd : List ℕ) (r c : ℕ) → AreDegrees a m cd rd → IsFree a m r c → slice_index cd c ≤ 1 → (s : ℕ) → s ≢ r → IsEntry a s c → slice_index rd s ≡ 0
+alone_in_col a m cd rd r c d free few s ne entry = elim (cases_eq (slice_index rd s) 0) [
+  | inl e ↦ e
+  | inr some ↦
+      let has = (free_degrees a m cd rd r c d free).0 in
+      let one : IsCount (λ s. IsFree a m s c) 1 = subst (IsCount (λ s. IsFree a m s c)) (let e : slice_index cd c ≡ 1 = omega (arith, has) in e) (d.col c (entry_col a r c free.0)) in
+      absurd (ne ((count_only (λ s. IsFree a m s c) r one free).1 s (degrees_free a m cd rd s c d entry has some)))
+]
+
+alone_in_row : (a : Matrix) (m : List Place) (cd rd : List ℕ) (r c : ℕ) → AreDegrees a m cd rd → IsFree a m r c → slice_index rd r ≤ 1 → (b : ℕ) → b ≢ c → IsEntry a r b → slice_index cd b ≡ 0
+alone_in_row a m cd rd r c d free few b ne entry = elim (cases_eq (slice_index cd b) 0) [
+  | inl e ↦ e
+  | inr some ↦
+      let has = (free_degrees a m cd rd r c d free).1 in
+      let one : IsCount (λ b. IsFree a m r b) 1 = subst (IsCount (λ b. IsFree a m r b)) (let e : slice_index rd r ≡ 1 = omega (arith, has) in e) (d.row r free.0.0) in
+      absurd (ne ((count_only (λ b. IsFree a m r b) c one free).1 b (degrees_free a m cd rd r b d entry some has)))
+]
+
+-- the same of what was read from slices of the degrees
+pub alone_col : (a : Matrix) (m : List Place) (cd rd cds rds rs : List ℕ) (r c at : ℕ) → AreDegrees a m cd rd → IsFree a m r c → cds ≡ cd → rds ≡ rd → at ≡ c → nat_lt 1 (slice_index cds at) ≡ false
+    → Lists (λ s. IsEntry a s c) rs → (s : ℕ) → s ≢ r → Among s rs → slice_index rds s ≡ 0
+alone_col a m cd rd cds rds rs r c at d free same_c same_r same_at test l s ne h =
+    let few : slice_index cd c ≤ 1 = rw (← same_c, ← same_at) (ltb-false 1 (slice_index cds at) test) in
+    rw same_r (alone_in_col a m cd rd r c d free few s ne (l.sound s h))
+
+pub alone_row : (a : Matrix) (m : List Place) (cd rd cds rds cs : List ℕ) (r c at : ℕ) → AreDegrees a m cd rd → IsFree a m r c → cds ≡ cd → rds ≡ rd → at ≡ r → nat_lt 1 (slice_index rds at) ≡ false
+    → Lists (λ b. IsEntry a r b) cs → (b : ℕ) → b ≢ c → Among b cs → slice_index cds b ≡ 0
+alone_row a m cd rd cds rds cs r c at d free same_c same_r same_at test l b ne h =
+    let few : slice_index rd r ≤ 1 = rw (← same_r, ← same_at) (ltb-false 1 (slice_index rds at) test) in
+    rw same_c (alone_in_row a m cd rd r c d free few b ne (l.sound b h))

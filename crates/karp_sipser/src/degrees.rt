@@ -1,6 +1,6 @@
 //! Degrees: for each row or column how many unmatched neighbours it has, with 0 for a matched one.
 
-ghost use Rattle.std.specs.Prelude.{◌≡◌, ◌≢◌, ◌-◌, ◌<◌, ◌≤◌, ◌^◌, ℕ, length, map, slice_index, IfOk, IfSome, IfNone};
+ghost use Rattle.std.specs.Prelude.{◌≡◌, ◌≢◌, ◌-◌, ◌<◌, ◌≤◌, ◌^◌, ℕ, false, length, map, slice_index, IfOk, IfSome, IfNone};
 ghost use Rattle.bip_defs.specs.Lists.{Among, IsRising};
 ghost use Rattle.bip_defs.specs.Start.{IsLeast};
 ghost use Rattle.karp_sipser.specs.Counts.{HoldsOnes, HoldsOnesBut};
@@ -96,11 +96,12 @@ pub fn lower<I: Id>(degrees: &mut [u32], ids: &[I], ones: &mut IntSet)
 }
 
 /// Leaves out a row or column that is matched now: it has no degree, and those of `ids`, its kind beside its mate, have
-/// one less.
-pub fn leave_out<I: Id>(degrees: &mut [u32], matched: I, ids: &[I], ones: &mut IntSet)
+/// one less. `others` tells whether others of these may have a degree.
+pub fn leave_out<I: Id>(degrees: &mut [u32], matched: I, ids: &[I], others: bool, ones: &mut IntSet)
     requires rising { IsRising (map I.number ids.now) }
     requires in_range { (x : ℕ) → Among x (map I.number ids.now) → x < length degrees.old }
     requires beside { Among (I.number matched) (map I.number ids.now) }
+    requires alone { others ≡ false → (x : ℕ) → x ≢ I.number matched → Among x (map I.number ids.now) → slice_index degrees.old x ≡ 0 }
     requires bound { ones.old.bound ≡ length degrees.old }
     requires ones { HoldsOnesBut (I.number matched) degrees.old ones.old.members }
     ensures matched { slice_index degrees.new (I.number matched) ≡ 0 }
@@ -110,5 +111,7 @@ pub fn leave_out<I: Id>(degrees: &mut [u32], matched: I, ids: &[I], ones: &mut I
     ensures bound { ones.new.bound ≡ length degrees.old }
 {
     degrees[matched.number() as usize] = 0;
-    lower(degrees, ids, ones);
+    if others {
+        lower(degrees, ids, ones);
+    }
 }

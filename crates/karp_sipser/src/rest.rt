@@ -116,9 +116,23 @@ impl Rest {
         ensures size { length self.new.matching.pairs ≡ suc (length self.old.matching.pairs) }
     {
         self.matching.pair(row, col);
-        let rows = self.row_degrees.as_mut_slice();
-        leave_out(rows, row, pattern.rows_of(col), &mut self.rows_of_one);
         let cols = self.col_degrees.as_mut_slice();
-        leave_out(cols, col, pattern.cols_of(row), &mut self.cols_of_one);
+        let rows = self.row_degrees.as_mut_slice();
+        let more_rows = cols[col.0 as usize] > 1;
+        let more_cols = rows[row.0 as usize] > 1;
+        leave_out(
+            rows,
+            row,
+            pattern.rows_of(col),
+            more_rows,
+            &mut self.rows_of_one,
+        );
+        leave_out(
+            cols,
+            col,
+            pattern.cols_of(row),
+            more_cols,
+            &mut self.cols_of_one,
+        );
     }
 }

@@ -1,2 +1,9 @@
+pub mod Both
 pub mod Cuts
+pub mod Numbers
+pub mod Orders
+pub mod Placing
 pub mod Shape
+pub mod Slices
+pub mod Sides
+pub mod Tallies

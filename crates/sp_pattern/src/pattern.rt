@@ -1,12 +1,17 @@
 //! The pattern of a matrix.
 
-ghost use Rattle.std.specs.Prelude.{◌≡◌, ◌<◌, ◌^◌, ◌↔◌, IsTrue, IfOk};
+ghost use Rattle.std.specs.Prelude.{◌≡◌, ◌<◌, ◌^◌, ◌↔◌, IsTrue, IfOk, length};
+ghost use Rattle.bip_defs.specs.Matching.{turned};
+ghost use Rattle.sp_pattern.specs.Order.{AreInside, AreSorted};
 ghost use Rattle.bip_defs.specs.Lists.{Lists};
 ghost use Rattle.bip_defs.specs.Matrix.{IsEntry, HasPlaces, cols, column, row_list, entry_count};
 ghost use Rattle.sp_ids.specs.Entries.{places};
 ghost use Rattle.sp_pattern.specs.Stored.{IsPattern};
 
+use crate::compress::compress;
+use crate::pairs::{ByCol, ByRow, Pairs, are_sorted, sorted_by_col};
 use crate::pieces::part;
+use crate::turn::turn;
 use sp_ids::{Col, OutOfMemory, Row, Triples};
 use std::alloc::Global;
 use std::marker::Model;
@@ -38,6 +43,10 @@ impl Model for Pattern {
 
 impl Pattern {
     /// The pattern of the places of these entries. A place that is given several times is one entry.
+    ///
+    /// Answers `OutOfMemory` where there is no memory for the pattern, or for 8 bytes an entry beside it where the
+    /// entries stand neither by columns nor by rows. Work: linear in the entries, the rows and the columns, and in that
+    /// last case one sort of the entries.
     pub fn build<R: Threads + Sync>(
         rt: &R,
         alloc: Global,
@@ -45,7 +54,64 @@ impl Pattern {
     ) -> Result<Pattern, OutOfMemory>
         ensures { IfOk result (HasPlaces triples.now.rows triples.now.cols (places triples.now)) }
     {
-        Err(OutOfMemory)
+        let places = triples.places();
+        let (rows, cols) = (triples.rows(), triples.cols());
+        if are_sorted(&ByCol { places }) {
+            return Pattern::from_columns(alloc, rows, cols, ByCol { places });
+        }
+        if are_sorted(&ByRow { places }) {
+            return Pattern::from_rows(alloc, rows, cols, ByRow { places });
+        }
+        let sorted = sorted_by_col(rt, alloc, places)?;
+        Pattern::from_columns(alloc, rows, cols, sorted)
+    }
+
+    // The pattern of pairs of a column and a row, in order. The pairs are let go as soon as they are compressed.
+    fn from_columns<P: Pairs>(
+        alloc: Global,
+        rows: u32,
+        cols: u32,
+        pairs: P,
+    ) -> Result<Pattern, OutOfMemory>
+        requires sorted { AreSorted (P.pairs pairs) }
+        requires inside { AreInside cols rows (P.pairs pairs) }
+        requires few { length (P.pairs pairs) < 2 ^ 32 }
+        ensures { IfOk result (HasPlaces rows cols (turned (P.pairs pairs))) }
+    {
+        let (col_starts, col_rows) = compress::<P, Row>(alloc, &pairs, cols, rows)?;
+        drop(pairs);
+        let (row_starts, row_cols) =
+            turn::<Col, Row>(alloc, col_starts.as_slice(), col_rows.as_slice(), rows)?;
+        Ok(Pattern {
+            col_starts,
+            col_rows,
+            row_starts,
+            row_cols,
+        })
+    }
+
+    // The pattern of pairs of a row and a column, in order.
+    fn from_rows<P: Pairs>(
+        alloc: Global,
+        rows: u32,
+        cols: u32,
+        pairs: P,
+    ) -> Result<Pattern, OutOfMemory>
+        requires sorted { AreSorted (P.pairs pairs) }
+        requires inside { AreInside rows cols (P.pairs pairs) }
+        requires few { length (P.pairs pairs) < 2 ^ 32 }
+        ensures { IfOk result (HasPlaces rows cols (P.pairs pairs)) }
+    {
+        let (row_starts, row_cols) = compress::<P, Col>(alloc, &pairs, rows, cols)?;
+        drop(pairs);
+        let (col_starts, col_rows) =
+            turn::<Row, Col>(alloc, row_starts.as_slice(), row_cols.as_slice(), cols)?;
+        Ok(Pattern {
+            col_starts,
+            col_rows,
+            row_starts,
+            row_cols,
+        })
     }
 
     /// The number of rows.

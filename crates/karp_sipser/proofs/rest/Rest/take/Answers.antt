@@ -4,6 +4,7 @@ use Rattle.bip_defs.proofs.Sets.{entry_col}
 use Rattle.bip_defs.specs.Lists.{Lists}
 use Rattle.bip_defs.specs.Matrix.{IsEntry}
 use Rattle.int_set.proofs.Members.{written_back}
+use Rattle.karp_sipser.proofs.Choices.{alone_col, alone_row}
 use Rattle.karp_sipser.proofs.Free.{AreLowered, degrees_after, still_none}
 use Rattle.karp_sipser.proofs.rest.Rest.take.Goals as goal
 
@@ -47,3 +48,13 @@ returns-clause-ones c =
     let back_c : take s.col_degrees.len (c.leave_out-2.new.degrees ++ drop (length c.leave_out-2.new.degrees) s.col_degrees.items) ≡ c.leave_out-2.new.degrees = written_back s.col_degrees.items c.leave_out-2.new.degrees s.col_degrees.len (omega arith) in
     let back_r : take s.row_degrees.len (c.leave_out.new.degrees ++ drop (length c.leave_out.new.degrees) s.row_degrees.items) ≡ c.leave_out.new.degrees = written_back s.row_degrees.items c.leave_out.new.degrees s.row_degrees.len (omega arith) in
     record { of_cols = rw back_c c.leave_out-2.ensures.ones; of_rows = rw back_r c.leave_out.ensures.ones }
+
+pub leave_out-requires-clause-alone : goal.leave_out-requires-clause-alone
+leave_out-requires-clause-alone c =
+    let rows : Lists (λ r. IsEntry c.args.pattern.now r c.args.col) (map (λ (x : ℕ). x) c.rows_of.result.now) = rw map-id c.rows_of.ensures.rows in
+    λ test. alone_col c.args.pattern.now c.args.self.now.matching.pairs _ _ _ _ _ c.args.row c.args.col _ c.requires.rest.degrees c.requires.free c.as_mut_slice-cols.ensures.value c.as_mut_slice-rows.ensures.value c.col.view_is test rows
+
+pub leave_out-requires-2-clause-alone : goal.leave_out-requires-2-clause-alone
+leave_out-requires-2-clause-alone c =
+    let columns : Lists (λ b. IsEntry c.args.pattern.now c.args.row b) (map (λ (x : ℕ). x) c.cols_of.result.now) = rw map-id c.cols_of.ensures.cols in
+    λ test. alone_row c.args.pattern.now c.args.self.now.matching.pairs _ _ _ _ _ c.args.row c.args.col _ c.requires.rest.degrees c.requires.free c.as_mut_slice-cols.ensures.value c.as_mut_slice-rows.ensures.value c.row.view_is test columns

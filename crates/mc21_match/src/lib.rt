@@ -1,0 +1,63 @@
+//! Maximum matchings by one depth-first search from each unmatched column, after Duff's MC21 (1981).
+//!
+//! Each column's list is looked through for an unmatched row before the search goes deeper (cheap assignment), from where
+//! the last look-ahead ended: rows that were found matched stay matched. The rows that a failed search has seen are left
+//! out of all later ones, since no augmenting path leads through them, then or later: all failed searches together look at
+//! each entry once.
+#![tactic(auto)]
+
+ghost use Rattle.std.specs.Prelude.{◌≡◌, ℕ, ◌+◌, ◌<◌, IfOk};
+ghost use Rattle.bip_defs.specs.Lists.{Among};
+ghost use Rattle.bip_defs.specs.Matching.{IsMatching, IsMaximum, rows_of, cols_of};
+ghost use Rattle.bip_defs.specs.Matrix.{cols};
+ghost use Rattle.mc21_match.specs.Running.{IsSearched};
+
+use bip_graph::Matching;
+use path_search::Search;
+use sp_ids::{Col, OutOfMemory};
+use sp_pattern::Pattern;
+use std::alloc::Global;
+
+/// A maximum matching, in which every row and column that was matched before is matched.
+///
+/// The matching must be of the pattern's entries and sizes. Answers `OutOfMemory` where there is no memory for 17 bytes a
+/// row and 4 a column; the matching is dropped then. Work: one pass over the entries for all failed searches together, and
+/// at most one for each successful one (Duff 1981).
+pub fn complete(
+    alloc: Global,
+    pattern: &Pattern,
+    matching: Matching,
+) -> Result<Matching, OutOfMemory>
+    requires rows { matching.rows ≡ pattern.now.rows }
+    requires cols { matching.cols ≡ cols pattern.now }
+    requires matching { IsMatching pattern.now matching.pairs }
+    ensures sizes { IfOk result (λ m. (m.rows ≡ matching.rows) × (m.cols ≡ matching.cols)) }
+    ensures maximum { IfOk result (λ m. IsMaximum pattern.now m.pairs) }
+    ensures rows_stay { IfOk result (λ m. (r : ℕ) → Among r (rows_of matching.pairs) → Among r (rows_of m.pairs)) }
+    ensures cols_stay { IfOk result (λ m. (c : ℕ) → Among c (cols_of matching.pairs) → Among c (cols_of m.pairs)) }
+{
+    let mut search = Search::new(alloc, pattern.rows(), pattern.cols())?;
+    let mut grown = matching;
+    for number in 0..pattern.cols() {
+        extend(&mut search, pattern, &mut grown, Col(number));
+    }
+    Ok(grown)
+}
+
+// Searches from a column, if it is unmatched. The marks of a failed search stay.
+fn extend(search: &mut Search, pattern: &Pattern, matching: &mut Matching, root: Col)
+    requires root { root < cols pattern.now }
+    requires searched { IsSearched pattern.now matching.old search.old root }
+    ensures searched { IsSearched pattern.now matching.new search.new (root + 1) }
+    ensures rows_stay { (r : ℕ) → Among r (rows_of matching.old.pairs) → Among r (rows_of matching.new.pairs) }
+    ensures cols_stay { (c : ℕ) → Among c (cols_of matching.old.pairs) → Among c (cols_of matching.new.pairs) }
+{
+    match matching.row_of(root) {
+        Some(_) => {}
+        None => {
+            if search.augment(pattern, matching, root, false) {
+                search.forget();
+            }
+        }
+    }
+}

@@ -1,0 +1,7 @@
+pub mod Closing
+pub mod Counting
+mod Flipping
+pub mod Marking
+mod Places
+mod Steps
+mod Trailing

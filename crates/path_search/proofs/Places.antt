@@ -1,0 +1,13 @@
+-- What is read at a place of a list.
+use Rattle.std.proofs.Common.{◌≡◌, ℕ, ◌<◌, ◌∙◌, List, length, slice_index_or, sym, subst}
+use Rattle.std.proofs.lemmas.List.{get_or_default}
+use Rattle.bip_defs.specs.Lists.{Among}
+use Rattle.bip_defs.proofs.Sets.{among_at}
+
+-- what was read is on the list
+pub read_among : {X : Type 0} (x : X) (xs : List X) (k : ℕ) → k < length xs → x ≡ slice_index_or xs k x → Among x xs
+read_among x xs k lt e = subst (λ y. Among y xs) (sym e) (among_at xs k x lt)
+
+-- and it is the list's element, whatever stands past its end
+pub read_at : {X : Type 0} (x d : X) (xs : List X) (k : ℕ) → k < length xs → x ≡ slice_index_or xs k x → x ≡ slice_index_or xs k d
+read_at x d xs k lt e = e ∙ get_or_default xs k x d lt

@@ -1,0 +1,168 @@
+-- The steps of a search: down by a row, to an unmatched row, back, and its end.
+use Rattle.std.proofs.Common.{◌≡◌, ◌⊎◌, ◌∙◌, ℕ, suc, ◌<◌, ◌≤◌, ◌^◌, Bool, true, List, [], ◌∷◌, ◌++◌, length, set, slice_index, refl, sym, subst, inl, inr, ⊎_elim, arith, length-append}
+use Rattle.std.proofs.Math.ListN.{length-set}
+use Rattle.bip_defs.specs.Lists.{Among, AreDistinct, Lists}
+use Rattle.bip_defs.specs.Matching.{IsMatching, cols_of, rows_of}
+use Rattle.bip_defs.specs.Matrix.{IsEntry, Matrix, Place, cols, column}
+use Rattle.bip_defs.proofs.Sets.{among_last, among_left, among_right, entry_col, rising_distinct, row_among}
+use Rattle.path_search.specs.Advancing.{GoesOn, Onward, Reaches}
+use Rattle.path_search.specs.Searching.{Fails, IsMarked, IsShut, Searching}
+use Rattle.path_search.specs.Trails.{IsSearch, Passed, Trail, turn}
+use Rattle.path_search.proofs.Counting.{distinct_below}
+use Rattle.path_search.proofs.Marking.{marked_below, marked_grows, marked_now, marks_more, shut_grows}
+use Rattle.path_search.proofs.Trailing.{distinct_last, passed_all, passed_more, passed_none, rows_last, passed_grows, trail_alternates, trail_back, trail_begins, trail_empty, trail_entries, trail_grows, trail_matched, trail_on, trail_root}
+
+abbrev pub started : Searching → ℕ → Searching
+started s root = record s { root = root; path = []; places = []; seen = [] }
+
+abbrev pub ended : Searching → ℕ → ℕ → Searching
+ended s r c = record s { path = s.path ++ (r, c) ∷ [] }
+
+abbrev pub entered : Searching → ℕ → ℕ → Searching
+entered s r c = record s { marks = set s.marks r true; seen = s.seen ++ r ∷ []; path = s.path ++ (r, c) ∷ [] }
+
+abbrev pub noted : Searching → ℕ → Searching
+noted s k = record s { places = s.places ++ k ∷ [] }
+
+abbrev pub left_from : Searching → ℕ → ℕ → ℕ → Searching
+left_from s r d j = record s { path = s.path ++ (r, d) ∷ []; places = s.places ++ j ∷ [] }
+
+pub search_starts : (a : Matrix) (m : List Place) (turned : Bool) (s : Searching) (root : ℕ) → s.cols ≡ cols a → length s.marks ≡ a.rows → a.rows < 2 ^ 32 → root < cols a → ¬ Among root (cols_of m) → IsSearch a m turned (started s root) root 0
+search_starts a m turned s root cs rs few lt free = record {
+  cols_are = cs;
+  rows_are = rs;
+  few_rows = few;
+  in_range = lt;
+  root_unmatched = free;
+  trail = refl;
+  passed = passed_none turned s.marks (column a root);
+  rows_differ = tt;
+  path_seen = λ r h. h;
+  seen_differ = tt;
+  seen_marked = λ r h. absurd h;
+  finished = λ r h. absurd h;
+  path_shorter = omega arith;
+}
+
+pub unmarked_unseen : (a : Matrix) (m : List Place) (turned : Bool) (s : Searching) (c k r : ℕ) → IsSearch a m turned s c k → ¬ IsMarked s.marks r → ¬ Among r s.seen
+unmarked_unseen a m turned s c k r f un h = un (f.seen_marked r h)
+
+pub unmatched_unseen : (a : Matrix) (m : List Place) (turned : Bool) (s : Searching) (c k r : ℕ) → IsSearch a m turned s c k → ¬ Among r (rows_of m) → ¬ Among r s.seen
+unmatched_unseen a m turned s c k r f free h = ⊎_elim (λ g. free (trail_matched a m turned s.marks s.root c s.path s.places r f.trail g)) (λ g. free (row_among r g.0 m g.1)) (f.finished r h)
+
+-- there is room for one row more
+pub seen_room : (a : Matrix) (m : List Place) (turned : Bool) (s : Searching) (c k r : ℕ) → IsSearch a m turned s c k → r < a.rows → ¬ Among r s.seen → suc (length s.seen) ≤ a.rows
+seen_room a m turned s c k r f lt un = distinct_below a.rows (r ∷ s.seen) (un, f.seen_differ) (λ x h. ⊎_elim (λ (e : x ≡ r). omega arith) (λ g. let below = marked_below s.marks x (f.seen_marked x g) in let e = f.rows_are in omega arith) h)
+
+pub onward_entered : (s : Searching) (r c : ℕ) → r < length s.marks → ¬ IsMarked s.marks r → Onward s (entered s r c)
+onward_entered s r c lt un = record { cols_stay = refl; root_stays = refl; marks = λ start k. marks_more s.seen start s.marks r lt un k }
+
+-- To an unmatched row.
+
+row_on_path : (path : List Place) (x r c : ℕ) → Among x (rows_of (path ++ (r, c) ∷ [])) → Among x (rows_of path) ⊎ (x ≡ r)
+row_on_path path x r c h = among_last x r (rows_of path) (subst (λ xs. Among x xs) (rows_last path (r, c)) h)
+
+pub reaches_end : (a : Matrix) (m : List Place) (turned : Bool) (s : Searching) (c k r : ℕ) → IsSearch a m turned s c k → IsEntry a r c → ¬ Among r (rows_of m) → Reaches a m (ended s r c)
+reaches_end a m turned s c k r f e free = record {
+  augmenting = record {
+    begins = trail_begins a m turned s.marks s.root c r s.path s.places f.trail f.root_unmatched;
+    alternates = trail_alternates a m turned s.marks s.root c r s.path s.places f.trail free;
+    rows_differ = rw rows_last (distinct_last (rows_of s.path) r f.rows_differ (λ h. free (trail_matched a m turned s.marks s.root c s.path s.places r f.trail h)));
+  };
+  entries = λ x d h. ⊎_elim (λ g. trail_entries a m turned s.marks s.root c s.path s.places f.trail x d g) (λ (g : (x, d) ≡ (r, c)). subst (λ (q : Place). IsEntry a q.0 q.1) (sym g) e) (among_last (x, d) (r, c) s.path h);
+  from_root = trail_root a m turned s.marks s.root c r s.path s.places f.trail;
+  seen = λ x h matched. ⊎_elim (λ g. f.path_seen x g) (λ (g : x ≡ r). absurd (free (subst (λ y. Among y (rows_of m)) g matched))) (row_on_path s.path x r c h);
+}
+
+pub reaches_entered : (a : Matrix) (m : List Place) (turned : Bool) (s : Searching) (c k r : ℕ) → IsSearch a m turned s c k → IsEntry a r c → ¬ Among r (rows_of m) → Reaches a m (entered s r c)
+reaches_entered a m turned s c k r f e free =
+    let g = reaches_end a m turned s c k r f e free in
+    record { augmenting = g.augmenting; entries = g.entries; from_root = g.from_root; seen = λ x h matched. among_left x s.seen (r ∷ []) (g.seen x h matched) }
+
+-- Down.
+
+pub goes_down : (a : Matrix) (m : List Place) (turned : Bool) (s : Searching) (c k r d i j : ℕ) → IsMatching a m → IsSearch a m turned s c k → IsEntry a r c → ¬ IsMarked s.marks r → Among (r, d) m → Passed turned s.marks (column a c) i → r ≡ slice_index (column a c) (turn turned (length (column a c)) i) → j ≡ suc i → GoesOn a m turned s (noted (entered s r c) j) d 0
+goes_down a m turned s c k r d i j matching f e un mate passed at next = record {
+  onward = let on = onward_entered s r c lt un in record { cols_stay = refl; root_stays = refl; marks = on.marks };
+  search = record {
+    cols_are = f.cols_are;
+    rows_are = length-set s.marks r true ∙ f.rows_are;
+    few_rows = f.few_rows;
+    in_range = entry_col a r d (matching.entries r d mate);
+    root_unmatched = f.root_unmatched;
+    trail = trail_on a m turned now s.root c r d j s.path s.places (trail_grows a m turned s.marks now s.root c s.path s.places grows f.trail) e (subst (λ x. Passed turned now (column a c) x) (sym next) (passed_more turned now (column a c) i (passed_grows turned s.marks now (column a c) i grows passed) (subst (λ x. IsMarked now x) at (marked_now s.marks r lt)))) mate;
+    passed = passed_none turned now (column a d);
+    rows_differ = rw rows_last (distinct_last (rows_of s.path) r f.rows_differ (λ h. unseen (f.path_seen r h)));
+    path_seen = λ x h. ⊎_elim (λ g. among_left x s.seen (r ∷ []) (f.path_seen x g)) (λ g. among_right x s.seen (r ∷ []) (inl g)) (row_on_path s.path x r c h);
+    seen_differ = distinct_last s.seen r f.seen_differ unseen;
+    seen_marked = λ x h. ⊎_elim (λ g. grows x (f.seen_marked x g)) (λ (g : x ≡ r). subst (λ y. IsMarked now y) (sym g) (marked_now s.marks r lt)) (among_last x r s.seen h);
+    finished = λ x h. ⊎_elim (λ g. ⊎_elim (λ p. inl (rw rows_last (among_left x (rows_of s.path) (r ∷ []) p))) (λ p. inr (p.0, p.1, shut_grows a s.marks now p.0 grows p.2)) (f.finished x g)) (λ (g : x ≡ r). inl (rw rows_last (among_right x (rows_of s.path) (r ∷ []) (inl g)))) (among_last x r s.seen h);
+    path_shorter = let le = f.path_shorter in omega (arith, length-append s.path ((r, c) ∷ []), length-append s.seen (r ∷ []));
+  };
+  falls = let room = seen_room a m turned s c k r f e.0 unseen in omega (arith, length-append s.path ((r, c) ∷ []), length-append s.seen (r ∷ []));
+}
+  where
+    now : List Bool
+    now = set s.marks r true
+
+    lt : r < length s.marks
+    lt = let same = f.rows_are in let below = e.0 in omega arith
+
+    grows : (x : ℕ) → IsMarked s.marks x → IsMarked (set s.marks r true) x
+    grows = marked_grows s.marks r (let same = f.rows_are in let below = e.0 in omega arith)
+
+    unseen : ¬ Among r s.seen
+    unseen = unmarked_unseen a m turned s c k r f un
+
+-- Back.
+
+pub goes_back : (a : Matrix) (m : List Place) (turned : Bool) (t : Searching) (c k r d j : ℕ) → IsSearch a m turned (left_from t r d j) c k → IsShut a t.marks c → GoesOn a m turned (left_from t r d j) t d j
+goes_back a m turned t c k r d j f shut = record {
+  onward = record { cols_stay = refl; root_stays = refl; marks = λ start h. h };
+  search = record {
+    cols_are = f.cols_are;
+    rows_are = f.rows_are;
+    few_rows = f.few_rows;
+    in_range = entry_col a r d back.1;
+    root_unmatched = f.root_unmatched;
+    trail = back.0;
+    passed = back.2;
+    rows_differ = front_differs (rows_of t.path) (subst (λ xs. AreDistinct xs) (rows_last t.path (r, d)) f.rows_differ);
+    path_seen = λ x h. f.path_seen x (rw rows_last (among_left x (rows_of t.path) (r ∷ []) h));
+    seen_differ = f.seen_differ;
+    seen_marked = f.seen_marked;
+    finished = λ x h. ⊎_elim (λ g. ⊎_elim (λ p. inl p) (λ (e : x ≡ r). inr (c, subst (λ y. Among (y, c) m) (sym e) back.3, shut)) (row_on_path t.path x r d g)) (λ g. inr g) (f.finished x h);
+    path_shorter = let le = f.path_shorter in omega (arith, length-append t.path ((r, d) ∷ []));
+  };
+  falls = omega (arith, length-append t.path ((r, d) ∷ []));
+}
+  where
+    back : Trail a m turned t.marks t.root t.path t.places d × IsEntry a r d × Passed turned t.marks (column a d) j × Among (r, c) m
+    back = trail_back a m turned t.marks t.root c j (r, d) t.path t.places f.trail
+
+    front_differs : (xs : List ℕ) → AreDistinct (xs ++ r ∷ []) → AreDistinct xs
+    front_differs [] h = tt
+    front_differs (x ∷ xs) h = (λ g. h.0 (among_left x xs (r ∷ []) g), front_differs xs h.1)
+
+-- The end.
+
+pub search_fails : (a : Matrix) (m : List Place) (turned : Bool) (s : Searching) (c k : ℕ) → IsSearch a m turned s c k → IsShut a s.marks c → s.path ≡ [] → Fails a m s.marks s.seen s.root
+search_fails a m turned s c k f shut empty = record {
+  of_root = subst (λ x. IsShut a s.marks x) (sym (trail_empty a m turned s.marks s.root c s.places (subst (λ (path : List Place). Trail a m turned s.marks s.root path s.places c) empty f.trail))) shut;
+  of_mates = λ r h. ⊎_elim (λ g. absurd (subst (λ (path : List Place). Among r (rows_of path)) empty g)) (λ g. g) (f.finished r h);
+}
+
+-- The same, where the column's list is lent.
+
+pub goes_down_by : (a : Matrix) (m : List Place) (turned : Bool) (s : Searching) (c k r d i j : ℕ) (rows : List ℕ) → IsMatching a m → IsSearch a m turned s c k → IsEntry a r c → ¬ IsMarked s.marks r → Among (r, d) m → rows ≡ column a c → Passed turned s.marks rows i → r ≡ slice_index rows (turn turned (length rows) i) → j ≡ suc i → GoesOn a m turned s (noted (entered s r c) j) d 0
+goes_down_by a m turned s c k r d i j rows matching f e un mate same = subst (λ (xs : List ℕ). Passed turned s.marks xs i → r ≡ slice_index xs (turn turned (length xs) i) → j ≡ suc i → GoesOn a m turned s (noted (entered s r c) j) d 0) (sym same) (λ passed at next. goes_down a m turned s c k r d i j matching f e un mate passed at next)
+
+pub passed_all_by : (a : Matrix) (turned : Bool) (marks : List Bool) (c k : ℕ) (rows : List ℕ) → rows ≡ column a c → length rows ≤ k → Passed turned marks rows k → IsShut a marks c
+passed_all_by a turned marks c k rows same = subst (λ (xs : List ℕ). length xs ≤ k → Passed turned marks xs k → IsShut a marks c) (sym same) (λ le p. passed_all a turned marks c k le p)
+
+-- a column's list is no longer than the matrix has rows
+pub column_short : (a : Matrix) (rows : List ℕ) (c : ℕ) → Lists (λ r. IsEntry a r c) rows → length rows ≤ a.rows
+column_short a rows c l = distinct_below a.rows rows (rising_distinct rows l.rising) (λ r h. (l.sound r h).0)
+
+pub goes_back_by : (a : Matrix) (m : List Place) (turned : Bool) (s t : Searching) (c k r d j : ℕ) → s ≡ left_from t r d j → IsSearch a m turned s c k → IsShut a s.marks c → GoesOn a m turned s t d j
+goes_back_by a m turned s t c k r d j e = subst (λ z. IsSearch a m turned z c k → IsShut a z.marks c → GoesOn a m turned z t d j) (sym e) (λ f shut. goes_back a m turned t c k r d j f shut)

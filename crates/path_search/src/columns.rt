@@ -1,0 +1,87 @@
+//! One column's list.
+
+ghost use Rattle.std.specs.Prelude.{◌≡◌, ◌⊎◌, ℕ, ◌+◌, ◌<◌, ◌≤◌, ◌^◌, length, slice_index, All, IfSome, vec_len, vec_capacity, ◌∷◌, ◌++◌, []};
+ghost use Rattle.bip_defs.specs.Lists.{Among};
+ghost use Rattle.bip_defs.specs.Matching.{rows_of};
+ghost use Rattle.path_search.specs.Searching.{IsMarked, Unmarks};
+ghost use Rattle.path_search.specs.Trails.{Passed, turn};
+
+use bip_graph::Matching;
+use sp_ids::Row;
+
+// The place at which a list is read as its k-th, from its front or from its end.
+pub fn turn(turned: bool, len: usize, k: usize) -> usize
+    requires { k < len }
+    ensures place { result ≡ turn turned len k }
+    ensures in_range { result < len }
+{
+    if turned { len - 1 - k } else { k }
+}
+
+/// The first place, from `place` on, of an unmarked row, or one past the end.
+pub fn next_unmarked(rows: &[Row], marks: &[bool], place: usize, turned: bool) -> usize
+    requires in_range { (r : ℕ) → Among r rows.now → r < length marks.now }
+    requires passed { Passed turned marks.now rows.now place }
+    ensures passed { Passed turned marks.now rows.now result }
+    ensures unmarked { result < length rows.now → ¬ IsMarked marks.now (slice_index rows.now (turn turned (length rows.now) result)) }
+{
+    let mut at = place;
+    while at < rows.len() {
+        let row = rows[turn(turned, rows.len(), at)];
+        if !marks[row.0 as usize] {
+            return at;
+        }
+        at += 1;
+    }
+    at
+}
+
+/// An unmatched row of the list, from `look` on, which moves past all that were looked at: matched rows stay matched.
+pub fn unmatched_row(rows: &[Row], matching: &Matching, look: &mut u32) -> Option<Row>
+    requires in_range { (r : ℕ) → Among r rows.now → r < matching.now.rows }
+    requires few { length rows.now < 2 ^ 32 }
+    ensures { IfSome result (λ r. Among r rows.now × (¬ Among r (rows_of matching.now.pairs))) }
+{
+    let mut at = *look as usize;
+    while at < rows.len() {
+        let row = rows[at];
+        at += 1;
+        match matching.col_of(row) {
+            Some(_) => {}
+            None => {
+                *look = at as u32;
+                return Some(row);
+            }
+        }
+    }
+    *look = at as u32;
+    None
+}
+
+/// Appends within the room that was taken.
+pub fn put<T: Copy + Drop>(list: &mut Vec<T>, item: T)
+    requires { vec_len list.old < vec_capacity list.old }
+    ensures items { list.new.items ≡ list.old.items ++ item ∷ [] }
+    ensures capacity { vec_capacity list.old ≤ vec_capacity list.new }
+{
+    let _room = list.push(item).is_ok();
+}
+
+/// Takes the marks of these rows away.
+pub fn unmark(marks: &mut [bool], rows: &[Row])
+    requires { (r : ℕ) → Among r rows.now → r < length marks.old }
+    ensures { Unmarks rows.now marks.old marks.new }
+{
+    for row in rows {
+        marks[row.0 as usize] = false;
+    }
+}
+
+/// Takes all marks away.
+pub fn unmark_all(marks: &mut [bool])
+    ensures { (r : ℕ) → ¬ IsMarked marks.new r }
+{
+    for mark in marks.iter_mut() {
+        *mark = false;
+    }
+}

@@ -1,0 +1,286 @@
+//! Searches, and what one keeps for the next.
+
+ghost use Rattle.std.specs.Bool.{OnTrue, OnFalse};
+ghost use Rattle.std.specs.Prelude.{◌≡◌, ◌⊎◌, ℕ, suc, ◌+◌, ◌<◌, ◌≤◌, ◌^◌, ◌∷◌, ◌++◌, [], true, length, set, slice_index, IfOk, IfSome, IfNone};
+ghost use Rattle.bip_defs.specs.Lists.{Among};
+ghost use Rattle.bip_defs.specs.Matching.{IsMatching, rows_of, cols_of};
+ghost use Rattle.bip_defs.specs.Matrix.{IsEntry, Place, cols, column};
+ghost use Rattle.path_search.specs.Searching.{IsMarked, Augments, Marks, Unmarks, Finds, Fails};
+ghost use Rattle.path_search.specs.Advancing.{Advances, Visits};
+ghost use Rattle.path_search.specs.Trails.{IsSearch, Passed, turn};
+
+use crate::columns::{next_unmarked, put, turn, unmark, unmark_all, unmatched_row};
+use crate::step::{Stand, Step};
+use bip_graph::Matching;
+use sp_ids::{Col, OutOfMemory, Row};
+use sp_pattern::Pattern;
+use std::alloc::Global;
+use std::marker::Model;
+
+/// What searches for augmenting paths keep from one to the next: marks of rows, and how far each column's list was looked
+/// through for an unmatched row.
+#[derive(Drop)]
+pub struct Search {
+    look: Vec<u32>,
+    marks: Vec<bool>,
+    root: Col,
+    path: Vec<(Row, Col)>,
+    places: Vec<u32>,
+    seen: Vec<Row>,
+}
+
+impl Model for Search {
+    ghost use Rattle.std.specs.Prelude.{length, vec_capacity, ◌≤◌};
+    ghost use Rattle.path_search.specs.Searching.{Searching};
+
+    ghost Value = { Searching };
+
+    ghost view = { λ s. record { cols = length s.look.items; marks = s.marks.items; root = s.root; path = s.path.items; places = s.places.items; seen = s.seen.items } };
+
+    ghost invariant = { λ s. (length s.marks.items ≤ vec_capacity s.path) × (length s.marks.items ≤ vec_capacity s.places) × (length s.marks.items ≤ vec_capacity s.seen) };
+}
+
+impl Search {
+    /// For patterns of so many rows and columns, with no row marked.
+    pub fn new(alloc: Global, rows: u32, cols: u32) -> Result<Search, OutOfMemory>
+        ensures cols { IfOk result (λ s. s.cols ≡ cols) }
+        ensures rows { IfOk result (λ s. length s.marks ≡ rows) }
+        ensures marks { IfOk result (λ s. (r : ℕ) → ¬ IsMarked s.marks r) }
+    {
+        let room = rows as usize;
+        let look = vec![in alloc; 0u32; cols as usize]?;
+        let marks = vec![in alloc; false; room]?;
+        let path = Vec::with_capacity(alloc, room)?;
+        let places = Vec::with_capacity(alloc, room)?;
+        let seen = Vec::with_capacity(alloc, room)?;
+        Ok(Search {
+            look,
+            marks,
+            root: Col(0),
+            path,
+            places,
+            seen,
+        })
+    }
+
+    // Puts the search at a column, with nothing on its path.
+    fn start(&mut self, root: Col)
+        ensures { self.new ≡ record self.old { root = root; path = []; places = []; seen = [] } }
+    {
+        self.root = root;
+        self.path.clear();
+        self.places.clear();
+        self.seen.clear();
+    }
+
+    // Marks a row, and goes to it.
+    fn enter(&mut self, row: Row, col: Col)
+        requires row { row < length self.old.marks }
+        requires room { length self.old.seen < length self.old.marks }
+        requires shorter { length self.old.path ≤ length self.old.seen }
+        ensures { self.new ≡ record self.old { marks = set self.old.marks row true; seen = self.old.seen ++ row ∷ []; path = self.old.path ++ (row, col) ∷ [] } }
+    {
+        self.marks[row.0 as usize] = true;
+        put(&mut self.seen, row);
+        put(&mut self.path, (row, col));
+    }
+
+    // Ends the path.
+    fn end(&mut self, row: Row, col: Col)
+        requires room { length self.old.path < length self.old.marks }
+        ensures { self.new ≡ record self.old { path = self.old.path ++ (row, col) ∷ [] } }
+    {
+        put(&mut self.path, (row, col));
+    }
+
+    // Notes the place from where the list of the path's last column is left to be read.
+    fn note(&mut self, place: u32)
+        requires room { length self.old.places < length self.old.marks }
+        ensures { self.new ≡ record self.old { places = self.old.places ++ place ∷ [] } }
+    {
+        put(&mut self.places, place);
+    }
+
+    // Leaves the path's last pair: the place from where its column is left to be read.
+    fn back(&mut self) -> Option<Stand>
+        requires { length self.old.path ≡ length self.old.places }
+        ensures some { IfSome result (λ s. (r : ℕ) × (self.old ≡ record self.new { path = self.new.path ++ (r, s.col) ∷ []; places = self.new.places ++ s.place ∷ [] })) }
+        ensures none { IfNone result ((self.new ≡ self.old) × (self.old.path ≡ [])) }
+    {
+        let place = self.places.pop()?;
+        let (_row, col) = self.path.pop()?;
+        Some(Stand { col, place })
+    }
+
+    // An unmatched row of a column, where one was not passed yet.
+    fn look_ahead(&mut self, pattern: &Pattern, matching: &Matching, col: Col) -> Option<Row>
+        requires rows { matching.now.rows ≡ pattern.now.rows }
+        requires cols { self.old.cols ≡ cols pattern.now }
+        requires col { col < cols pattern.now }
+        ensures same { self.new ≡ self.old }
+        ensures found { IfSome result (λ r. IsEntry pattern.now r col × (¬ Among r (rows_of matching.now.pairs))) }
+    {
+        pattern.is_pattern();
+        let rows = pattern.rows_of(col);
+        let look = &mut self.look[col.0 as usize];
+        unmatched_row(rows, matching, look)
+    }
+
+    // The first place of an unmarked row, from `place` on, or one past the end.
+    fn next_place(&self, rows: &[Row], place: u32, turned: bool) -> usize
+        requires in_range { (r : ℕ) → Among r rows.now → r < length self.now.marks }
+        requires passed { Passed turned self.now.marks rows.now place }
+        ensures passed { Passed turned self.now.marks rows.now result }
+        ensures unmarked { result < length rows.now → ¬ IsMarked self.now.marks (slice_index rows.now (turn turned (length rows.now) result)) }
+    {
+        next_unmarked(rows, self.marks.as_slice(), place as usize, turned)
+    }
+
+    // Goes down by the first unmarked row of a column, if there is one.
+    fn descend(&mut self, pattern: &Pattern, matching: &Matching, at: Stand, turned: bool) -> Step
+        requires rows { matching.now.rows ≡ pattern.now.rows }
+        requires matching { IsMatching pattern.now matching.now.pairs }
+        requires search { IsSearch pattern.now matching.now.pairs turned self.old at.col at.place }
+        ensures { Visits pattern.now matching.now.pairs turned self.old self.new at.col result }
+    {
+        let rows = pattern.rows_of(at.col);
+        let place = self.next_place(rows, at.place, turned);
+        if place >= rows.len() {
+            return Step::Stuck;
+        }
+        let row = rows[turn(turned, rows.len(), place)];
+        self.enter(row, at.col);
+        match matching.col_of(row) {
+            None => Step::Found,
+            Some(next) => {
+                self.note(place as u32 + 1);
+                Step::On(Stand {
+                    col: next,
+                    place: 0,
+                })
+            }
+        }
+    }
+
+    // At a column's first visit looks ahead, and goes down.
+    fn visit(&mut self, pattern: &Pattern, matching: &Matching, at: Stand, turned: bool) -> Step
+        requires rows { matching.now.rows ≡ pattern.now.rows }
+        requires matching { IsMatching pattern.now matching.now.pairs }
+        requires search { IsSearch pattern.now matching.now.pairs turned self.old at.col at.place }
+        ensures { Visits pattern.now matching.now.pairs turned self.old self.new at.col result }
+    {
+        if at.place == 0 {
+            if let Some(row) = self.look_ahead(pattern, matching, at.col) {
+                self.end(row, at.col);
+                return Step::Found;
+            }
+        }
+        self.descend(pattern, matching, at, turned)
+    }
+
+    // Goes down, or back where that isn't possible.
+    fn advance(&mut self, pattern: &Pattern, matching: &Matching, at: Stand, turned: bool) -> Step
+        requires rows { matching.now.rows ≡ pattern.now.rows }
+        requires matching { IsMatching pattern.now matching.now.pairs }
+        requires search { IsSearch pattern.now matching.now.pairs turned self.old at.col at.place }
+        ensures { Advances pattern.now matching.now.pairs turned self.old self.new result }
+    {
+        match self.visit(pattern, matching, at, turned) {
+            Step::Stuck => match self.back() {
+                Some(before) => Step::On(before),
+                None => Step::Stuck,
+            },
+            step => step,
+        }
+    }
+
+    // Searches from an unmatched column for an augmenting path through rows that are not marked.
+    fn find(&mut self, pattern: &Pattern, matching: &Matching, root: Col, turned: bool) -> bool
+        requires rows { length self.old.marks ≡ pattern.now.rows }
+        requires cols { self.old.cols ≡ cols pattern.now }
+        requires matching_rows { matching.now.rows ≡ pattern.now.rows }
+        requires matching { IsMatching pattern.now matching.now.pairs }
+        requires root { root < cols pattern.now }
+        requires unmatched { ¬ Among root (cols_of matching.now.pairs) }
+        ensures cols { self.new.cols ≡ self.old.cols }
+        ensures marks { Marks self.new.seen self.old.marks self.new.marks }
+        ensures found { OnTrue result (Finds pattern.now matching.now.pairs self.old.marks root self.new.path) }
+        ensures failed { OnFalse result (Fails pattern.now matching.now.pairs self.new.marks self.new.seen root) }
+    {
+        pattern.is_pattern();
+        self.start(root);
+        let mut at = Stand {
+            col: root,
+            place: 0,
+        };
+        loop {
+            match self.advance(pattern, matching, at, turned) {
+                Step::Found => return true,
+                Step::Stuck => return false,
+                Step::On(next) => at = next,
+            }
+        }
+    }
+
+    fn path(&self) -> &[(Row, Col)]
+        ensures { result.now ≡ self.now.path }
+    {
+        self.path.as_slice()
+    }
+
+    /// Searches from an unmatched column, and exchanges the augmenting path that it finds. Whether it found one.
+    ///
+    /// The search is depth-first with look-ahead, through rows that are not marked, and marks each row that it goes to.
+    /// Where `turned` holds, each column's list is read from its end. Work: the entries of the columns that it comes to,
+    /// and of all look-aheads together each entry once.
+    pub fn augment(
+        &mut self,
+        pattern: &Pattern,
+        matching: &mut Matching,
+        root: Col,
+        turned: bool,
+    ) -> bool
+        requires rows { length self.old.marks ≡ pattern.now.rows }
+        requires cols { self.old.cols ≡ cols pattern.now }
+        requires matching_rows { matching.old.rows ≡ pattern.now.rows }
+        requires matching_cols { matching.old.cols ≡ cols pattern.now }
+        requires matching { IsMatching pattern.now matching.old.pairs }
+        requires root { root < cols pattern.now }
+        requires unmatched { ¬ Among root (cols_of matching.old.pairs) }
+        ensures cols { self.new.cols ≡ self.old.cols }
+        ensures marks { Marks self.new.seen self.old.marks self.new.marks }
+        ensures sizes { (matching.new.rows ≡ matching.old.rows) × (matching.new.cols ≡ matching.old.cols) }
+        ensures matching { IsMatching pattern.now matching.new.pairs }
+        ensures rows_stay { (r : ℕ) → Among r (rows_of matching.old.pairs) → Among r (rows_of matching.new.pairs) }
+        ensures cols_stay { (c : ℕ) → Among c (cols_of matching.old.pairs) → Among c (cols_of matching.new.pairs) }
+        ensures found { OnTrue result (Augments root self.old.marks matching.old.pairs matching.new.pairs) }
+
+        // Without a path the matching stays, and the rows that were marked are of no use to any other path.
+        ensures failed { OnFalse result ((matching.new ≡ matching.old) × Fails pattern.now matching.old.pairs self.new.marks self.new.seen root) }
+    {
+        if !self.find(pattern, matching, root, turned) {
+            return false;
+        }
+        let path = self.path();
+        matching.flip(path);
+        true
+    }
+
+    /// Takes the marks of the last search away.
+    pub fn forget(&mut self)
+        requires { (r : ℕ) → Among r self.old.seen → r < length self.old.marks }
+        ensures cols { self.new.cols ≡ self.old.cols }
+        ensures marks { Unmarks self.old.seen self.old.marks self.new.marks }
+    {
+        unmark(self.marks.as_mut_slice(), self.seen.as_slice());
+    }
+
+    /// Takes all marks away.
+    pub fn clear(&mut self)
+        ensures cols { self.new.cols ≡ self.old.cols }
+        ensures rows { length self.new.marks ≡ length self.old.marks }
+        ensures marks { (r : ℕ) → ¬ IsMarked self.new.marks r }
+    {
+        unmark_all(self.marks.as_mut_slice());
+    }
+}

@@ -1,0 +1,189 @@
+-- Both orders of the same places are a pattern.
+use Rattle.std.proofs.Common.{◌≡◌, ◌↔◌, ◌∙◌, ℕ, ◌+◌, ◌-◌, ◌<◌, ◌≤◌, ◌^◌, List, [], length, get_or, map, refl, sym, ap, arith, subst, ◌∷◌, ◌⊎◌, ◌≢◌, inl, inr, Bool, true, false, IsPermutation, is_lt, nat_cmp, tests, true≢false}
+use Rattle.std.specs.Ordering.{ordering_then}
+use Rattle.std.specs.List.{AllByRecursion}
+use Rattle.std.proofs.lemmas.List.Sorted.{Contains-permutation, length_permutation, IsPermutation-sym}
+use Rattle.std.proofs.lemmas.Bool.Decides.{nat_tests}
+use Rattle.sp_ids.specs.Entries.{IsInside}
+use Rattle.std.proofs.Math.Decide.{dec_lt}
+use Rattle.std.proofs.lemmas.List.{get_or_past, map-id}
+use Rattle.bip_defs.specs.Lists.{Among, Lists}
+use Rattle.bip_defs.specs.Matching.{turned}
+use Rattle.bip_defs.specs.Matrix.{HasPlaces, IsEntry, Matrix, Place, column, cols}
+use Rattle.bip_defs.proofs.Sets.{among_from_contains, contains_from_among, lists_same, number_same}
+use Rattle.bip_defs.proofs.Turned.{turned_among, turned_back, turned_length, turned_twice}
+use Rattle.sp_pattern.specs.Order.{AreInside, AreParts, IsAtMost, IsOrder, IsOrderOf, IsTurned, Pair}
+use Rattle.sp_pattern.specs.Stored.{AreOrders, AreStarts, piece, pieces, stored}
+use Rattle.sp_pattern.proofs.Cuts.{get_or-pieces, length-pieces}
+use Rattle.sp_pattern.proofs.Shape.{orders_columns}
+use Rattle.sp_pattern.proofs.Sides.{inners_lists, inners_of, order_piece, order_starts}
+
+-- an order of pairs, by its parts
+pub order_parts : (m n : ℕ) (ps : List Pair) (starts flat : List ℕ) → IsOrderOf m n ps starts flat → AreParts m (λ i j. Among (i, j) ps) starts flat
+order_parts m n ps starts flat o = record {
+  long = o.order.long;
+  cut = order_starts m n starts flat o.order;
+  parts = λ i lt. subst (Lists (λ j. Among (i, j) ps)) (sym (order_piece m n starts flat o.order i lt))
+      (lists_same (λ j. Among (i, j) o.order.pairs) (λ j. Among (i, j) ps) (inners_of i o.order.pairs)
+      (λ j h. (o.same (i, j)).0 h) (λ j h. (o.same (i, j)).1 h) (inners_lists i o.order.pairs o.order.front.rising));
+}
+
+-- turned round, the parts are of the same pairs
+pub turned_parts : (m n k : ℕ) (P : ℕ → ℕ → Type 0) (starts flat new_starts new_flat : List ℕ) → AreParts m P starts flat → ((i j : ℕ) → P i j → i < m) → k ≡ m
+    → AreParts n (λ j i. (i < k) × Among j (piece starts flat i)) new_starts new_flat → AreParts n (λ j i. P i j) new_starts new_flat
+turned_parts m n k P starts flat new_starts new_flat a inside same b = record {
+  long = b.long;
+  cut = b.cut;
+  parts = λ j lt. lists_same (λ i. (i < k) × Among j (piece starts flat i)) (λ i. P i j) (piece new_starts new_flat j)
+      (λ i h. (a.parts i (let l = h.0 in omega (arith, l, same))).sound j h.1)
+      (λ i h. let lt' = inside i j h in (omega (arith, lt', same), (a.parts i lt').complete j h))
+      (b.parts j lt);
+}
+
+module _ (rows cols : ℕ) (P : ℕ → ℕ → Type 0) (cs rs us vs : List ℕ) (by_col : AreParts cols (λ c r. P r c) cs rs) (by_row : AreParts rows P us vs) (inside : (r c : ℕ) → P r c → (r < rows) × (c < cols)) where
+  entry_over : (r c : ℕ) → IsEntry (stored cs rs us) r c → P r c
+  entry_over r c e = by (dec_lt c cols)
+    where
+      by : Dec (c < cols) → P r c
+      by (yes lt) =
+          let long = by_col.long in
+          (by_col.parts c lt).sound r (subst (Among r) (get_or-pieces cs rs c [] (omega (arith, long, lt))) e.1)
+      by (no nlt) = absurd (subst (Among r) (get_or_past (pieces cs rs) c [] (let n = length-pieces cs rs in let long = by_col.long in omega (arith, n, long))) e.1)
+
+  entry_back : (r c : ℕ) → P r c → IsEntry (stored cs rs us) r c
+  entry_back r c p =
+      let within = inside r c p in
+      let long = by_col.long in
+      let tall = by_row.long in
+      let below = within.0 in
+      let lt = within.1 in
+      (omega (arith, tall, below), subst (Among r) (sym (get_or-pieces cs rs c [] (omega (arith, long, lt)))) ((by_col.parts c lt).complete r p))
+
+  pub both_orders : rows < 2 ^ 32 → cols < 2 ^ 32 → length rs < 2 ^ 32 → AreOrders cs rs us vs
+  both_orders few_rows few_cols few = record {
+    few_cols = let l = by_col.long in omega (arith, l);
+    few_rows = let l = by_row.long in omega (arith, l);
+    few_entries = few;
+    by_col = by_col.cut;
+    by_row = by_row.cut;
+    rows = λ c lt. lists_same (λ r. P r c) (λ r. IsEntry (stored cs rs us) r c) (piece cs rs c) (λ r h. entry_back r c h) (λ r h. entry_over r c h) (by_col.parts c (let l = by_col.long in omega (arith, l)));
+    cols = λ r lt. lists_same (λ c. P r c) (λ c. IsEntry (stored cs rs us) r c) (piece us vs r) (λ c h. entry_back r c h) (λ c h. entry_over r c h) (by_row.parts r (let l = by_row.long in omega (arith, l)));
+  }
+
+  pub both_places : (ps : List Place) → ((r c : ℕ) → P r c → Among (r, c) ps) → ((r c : ℕ) → Among (r, c) ps → P r c) → AreOrders cs rs us vs → HasPlaces rows cols ps (stored cs rs us)
+  both_places ps over back o = record {
+    rows_are = let l = by_row.long in omega (arith, l);
+    cols_are = let n = length-pieces cs rs in let l = by_col.long in omega (arith, n, l);
+    entries = λ r c. ((λ e. over r c (entry_over r c e)), λ h. entry_back r c (back r c h));
+    columns = orders_columns cs rs us vs o;
+  }
+
+-- A pattern of pairs of a column and a row, and one of pairs of a row and a column.
+
+pub of_columns : (rows cols : ℕ) (ps : List Pair) (cs rs us vs : List ℕ) → IsOrderOf cols rows ps cs rs → IsTurned (length cs - 1) rows cs rs us vs → AreInside cols rows ps
+    → rows < 2 ^ 32 → cols < 2 ^ 32 → length ps < 2 ^ 32 → AreOrders cs rs us vs × HasPlaces rows cols (turned ps) (stored cs rs us)
+of_columns rows cols ps cs rs us vs o t inside few_rows few_cols few =
+    let by_col = order_parts cols rows ps cs rs o in
+    let long = by_col.long in
+    let by_row = turned_parts cols rows (length cs - 1) (λ c r. Among (c, r) ps) cs rs us vs by_col (λ c r h. (inside (c, r) h).0) (omega (arith, long)) t.parts in
+    let within : (r c : ℕ) → Among (c, r) ps → (r < rows) × (c < cols) = λ r c h. ((inside (c, r) h).1, (inside (c, r) h).0) in
+    let orders = both_orders rows cols (λ r c. Among (c, r) ps) cs rs us vs by_col by_row within few_rows few_cols (let f = o.few in omega (arith, f, few)) in
+    (orders, both_places rows cols (λ r c. Among (c, r) ps) cs rs us vs by_col by_row within (turned ps) (λ r c h. turned_among c r ps h) (λ r c h. turned_back c r ps h) orders)
+
+pub of_rows : (rows cols : ℕ) (ps : List Pair) (cs rs us vs : List ℕ) → IsOrderOf rows cols ps us vs → IsTurned (length us - 1) cols us vs cs rs → AreInside rows cols ps
+    → rows < 2 ^ 32 → cols < 2 ^ 32 → length ps < 2 ^ 32 → AreOrders cs rs us vs × HasPlaces rows cols ps (stored cs rs us)
+of_rows rows cols ps cs rs us vs o t inside few_rows few_cols few =
+    let by_row = order_parts rows cols ps us vs o in
+    let long = by_row.long in
+    let by_col = turned_parts rows cols (length us - 1) (λ r c. Among (r, c) ps) us vs cs rs by_row (λ r c h. (inside (r, c) h).0) (omega (arith, long)) t.parts in
+    let within : (r c : ℕ) → Among (r, c) ps → (r < rows) × (c < cols) = λ r c h. inside (r, c) h in
+    let orders = both_orders rows cols (λ r c. Among (r, c) ps) cs rs us vs by_col by_row within few_rows few_cols (let f = o.few in let s = t.same_length in omega (arith, f, s, few)) in
+    (orders, both_places rows cols (λ r c. Among (r, c) ps) cs rs us vs by_col by_row within ps (λ r c h. h) (λ r c h. h) orders)
+
+-- The same, as the calls say it.
+
+abbrev pub itself : ℕ → ℕ
+itself x = x
+
+pub made_by_columns : (rows cols : ℕ) (ps : List Pair) (cs rs us vs lent_starts lent_flat : List ℕ) → IsOrderOf cols rows ps cs (map itself rs) → lent_starts ≡ cs → lent_flat ≡ rs
+    → IsTurned (length lent_starts - 1) rows lent_starts (map itself lent_flat) us (map itself vs) → AreInside cols rows ps
+    → rows < 2 ^ 32 → cols < 2 ^ 32 → length ps < 2 ^ 32 → AreOrders cs rs us vs × HasPlaces rows cols (turned ps) (stored cs rs us)
+made_by_columns rows cols ps cs rs us vs ss ff o es ef t inside few_rows few_cols few =
+    of_columns rows cols ps cs rs us vs (subst (λ xs. IsOrderOf cols rows ps cs xs) (map-id rs) o)
+    (subst (λ xs. IsTurned (length cs - 1) rows cs xs us vs) (map-id rs)
+    (subst (λ xs. IsTurned (length cs - 1) rows cs (map itself xs) us vs) ef
+    (subst (λ xs. IsTurned (length xs - 1) rows xs (map itself ff) us vs) es
+    (subst (λ xs. IsTurned (length ss - 1) rows ss (map itself ff) us xs) (map-id vs) t))))
+    inside few_rows few_cols few
+
+pub made_by_rows : (rows cols : ℕ) (ps : List Pair) (cs rs us vs lent_starts lent_flat : List ℕ) → IsOrderOf rows cols ps us (map itself vs) → lent_starts ≡ us → lent_flat ≡ vs
+    → IsTurned (length lent_starts - 1) cols lent_starts (map itself lent_flat) cs (map itself rs) → AreInside rows cols ps
+    → rows < 2 ^ 32 → cols < 2 ^ 32 → length ps < 2 ^ 32 → AreOrders cs rs us vs × HasPlaces rows cols ps (stored cs rs us)
+made_by_rows rows cols ps cs rs us vs ss ff o es ef t inside few_rows few_cols few =
+    of_rows rows cols ps cs rs us vs (subst (λ xs. IsOrderOf rows cols ps us xs) (map-id vs) o)
+    (subst (λ xs. IsTurned (length us - 1) cols us xs cs rs) (map-id vs)
+    (subst (λ xs. IsTurned (length us - 1) cols us (map itself xs) cs rs) ef
+    (subst (λ xs. IsTurned (length xs - 1) cols xs (map itself ff) cs rs) es
+    (subst (λ xs. IsTurned (length ss - 1) cols ss (map itself ff) cs xs) (map-id rs) t))))
+    inside few_rows few_cols few
+
+-- What a list of places gives.
+
+pub inside_turned : (rows cols : ℕ) (ps : List Place) → AllByRecursion (IsInside rows cols) ps → AreInside cols rows (turned ps)
+inside_turned rows cols [] all p h = elim h [ ]
+inside_turned rows cols (q ∷ ps) all p (inl e) = let first = ap (λ (z : Pair). z.0) e in let second = ap (λ (z : Pair). z.1) e in let a = all.0.0 in let b = all.0.1 in (omega (arith, first, b), omega (arith, second, a))
+inside_turned rows cols (q ∷ ps) all p (inr h) = inside_turned rows cols ps all.1 p h
+
+pub inside_places : (rows cols : ℕ) (ps : List Place) → AllByRecursion (IsInside rows cols) ps → AreInside rows cols ps
+inside_places rows cols [] all p h = elim h [ ]
+inside_places rows cols (q ∷ ps) all p (inl e) = let first = ap (λ (z : Pair). z.0) e in let second = ap (λ (z : Pair). z.1) e in let a = all.0.0 in let b = all.0.1 in (omega (arith, first, a), omega (arith, second, b))
+inside_places rows cols (q ∷ ps) all p (inr h) = inside_places rows cols ps all.1 p h
+
+-- only the members of the places matter
+pub places_same : (rows cols : ℕ) (ps qs : List Place) (a : Matrix) → ((p : Place) → Among p ps → Among p qs) → ((p : Place) → Among p qs → Among p ps) → HasPlaces rows cols ps a → HasPlaces rows cols qs a
+places_same rows cols ps qs a over back h = record {
+  rows_are = h.rows_are;
+  cols_are = h.cols_are;
+  entries = λ r c. ((λ e. over (r, c) ((h.entries r c).0 e)), λ m. (h.entries r c).1 (back (r, c) m));
+  columns = h.columns;
+}
+
+pub permuted : {X : Type 0} (xs ys : List X) → IsPermutation xs ys → (x : X) → Among x ys → Among x xs
+permuted xs ys p x h = among_from_contains x xs (Contains-permutation ys xs x (IsPermutation-sym xs ys p) (contains_from_among x ys h))
+
+pub permuted_back : {X : Type 0} (xs ys : List X) → IsPermutation xs ys → (x : X) → Among x xs → Among x ys
+permuted_back xs ys p x h = among_from_contains x ys (Contains-permutation xs ys x p (contains_from_among x xs h))
+
+pub turned_permuted : (rows cols : ℕ) (ps : List Place) (qs : List Pair) (a : Matrix) → IsPermutation (turned ps) qs → HasPlaces rows cols (turned qs) a → HasPlaces rows cols ps a
+turned_permuted rows cols ps qs a p h = places_same rows cols (turned qs) ps a
+    (λ z m. turned_back z.0 z.1 ps (permuted (turned ps) qs p (z.1, z.0) (turned_back z.1 z.0 qs m)))
+    (λ z m. turned_among z.1 z.0 qs (permuted_back (turned ps) qs p (z.1, z.0) (turned_among z.0 z.1 ps m)))
+    h
+
+pub from_turned_twice : (rows cols m n : ℕ) (ps qs : List Place) (a : Matrix) → m ≡ rows → n ≡ cols → ps ≡ qs → HasPlaces m n (turned (turned ps)) a → HasPlaces rows cols qs a
+from_turned_twice rows cols m n ps qs a em en same h = rw (← em, ← en, ← same) (subst (λ xs. HasPlaces m n xs a) (turned_twice ps) h)
+
+pub from_permuted : (rows cols m n : ℕ) (ps qs : List Place) (ss : List Pair) (a : Matrix) → m ≡ rows → n ≡ cols → ps ≡ qs → IsPermutation (turned ps) ss → HasPlaces m n (turned ss) a → HasPlaces rows cols qs a
+from_permuted rows cols m n ps qs ss a em en same p h = rw (← em, ← en, ← same) (turned_permuted m n ps ss a p h)
+
+pub inside_permuted : (rows cols m n : ℕ) (ps : List Place) (ss : List Pair) → m ≡ rows → n ≡ cols → AllByRecursion (IsInside rows cols) ps → IsPermutation (turned ps) ss → AreInside n m ss
+inside_permuted rows cols m n ps ss em en all p q h = rw (em, en) (inside_turned rows cols ps all q (permuted (turned ps) ss p q h))
+
+pub length_permuted : (ps : List Place) (ss : List Pair) → IsPermutation (turned ps) ss → length ss ≡ length ps
+length_permuted ps ss p = length_permutation (turned ps) ss p ∙ turned_length ps
+
+-- What the order of pairs says.
+pub not_less : (a b : Pair) → is_lt (ordering_then (nat_cmp b.0 a.0) (nat_cmp b.1 a.1)) ≡ false → IsAtMost a b
+not_less a b h = by (number_same a.0 b.0) (dec_lt a.0 b.0) (dec_lt b.1 a.1)
+  where
+    by : (a.0 ≡ b.0) ⊎ (a.0 ≢ b.0) → Dec (a.0 < b.0) → Dec (b.1 < a.1) → IsAtMost a b
+    by e (yes lt) d = inl lt
+    by (inl e) (no nlt) (no d) = inr (e, omega arith)
+    by (inl e) (no nlt) (yes d) = absurd (true≢false (sym (less_second a b e d) ∙ h))
+      where
+        less_second : (a b : Pair) → a.0 ≡ b.0 → b.1 < a.1 → is_lt (ordering_then (nat_cmp b.0 a.0) (nat_cmp b.1 a.1)) ≡ true
+        less_second a b e d = grind (arith, nat_tests, tests)
+    by (inr ne) (no nlt) d = absurd (true≢false (sym (less_first a b (omega arith)) ∙ h))
+      where
+        less_first : (a b : Pair) → b.0 < a.0 → is_lt (ordering_then (nat_cmp b.0 a.0) (nat_cmp b.1 a.1)) ≡ true
+        less_first a b d = grind (arith, nat_tests, tests)

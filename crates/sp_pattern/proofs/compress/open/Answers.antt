@@ -1,0 +1,13 @@
+use Rattle.std.proofs.Common.{◌≡◌, ◌++◌, ◌∷◌, ◌+◌, ◌≤◌, [], List, length, length-append, arith, rules, subst, sym}
+use Rattle.sp_pattern.specs.Order.{IsFront}
+use Rattle.sp_pattern.proofs.Orders.{front_open}
+use Rattle.sp_pattern.proofs.compress.open.Goals as goal
+
+pub loop-starts-preserved : goal.loop-starts-preserved
+loop-starts-preserved c =
+    let items = c.in_ok-push.ensures.items in
+    let inv = c.loop-starts.invariant in
+    record {
+      room = rw (items, length-append) (let le = c.loop-starts-test.true in let n = c.len.ensures in let ok = c.loop-starts.starts.ok in omega (arith, le, n, ok));
+      front = λ ds flat long f. rw items (front_open ds c.loop-starts.starts.items flat c.args.end long (inv.front ds flat long f));
+    }

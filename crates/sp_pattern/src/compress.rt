@@ -1,0 +1,54 @@
+//! Pairs in order, compressed: a start for each outer number, and one flat list of inner numbers.
+
+ghost use Rattle.std.specs.Prelude.{◌≡◌, ◌+◌, ◌<◌, ◌≤◌, ◌^◌, ℕ, List, length, map, IfOk, MatchBool, OnOk};
+ghost use Rattle.sp_pattern.specs.Order.{AreInside, AreSorted, IsAgain, IsFront, IsNew, IsOrderOf, Pair};
+
+use crate::pairs::Pairs;
+use sp_ids::{Id, OutOfMemory};
+use std::alloc::Global;
+
+// Writes `end` as the start of each outer number up to this one that has none yet.
+fn open(starts: &mut Vec<u32>, outer: u32, end: u32) -> Result<(), OutOfMemory>
+    requires { length starts.old.items ≤ outer + 1 }
+    ensures opened { OnOk result (length starts.new.items ≡ outer + 1) }
+    ensures front { OnOk result ((ds : List Pair) (flat : List ℕ) → length flat ≡ end → IsFront ds starts.old.items flat → IsFront ds starts.new.items flat) }
+{
+    while starts.len() <= outer as usize {
+        starts.push(end)?;
+    }
+    Ok(())
+}
+
+// Whether the pair at `k` is not the one before it.
+fn is_new<P: Pairs>(pairs: &P, k: usize) -> bool
+    requires { k < length (P.pairs pairs.now) }
+    ensures { MatchBool result (IsNew (P.pairs pairs.now) k) (IsAgain (P.pairs pairs.now) k) }
+{
+    k == 0 || pairs.at(k - 1) != pairs.at(k)
+}
+
+/// The pairs, each of them once. Work: one look at each pair, and one write for each that differs and each outer number.
+pub fn compress<P: Pairs, I: Id>(
+    alloc: Global,
+    pairs: &P,
+    outer: u32,
+    inner: u32,
+) -> Result<(Vec<u32>, Vec<I>), OutOfMemory>
+    requires sorted { AreSorted (P.pairs pairs.now) }
+    requires inside { AreInside outer inner (P.pairs pairs.now) }
+    requires few { length (P.pairs pairs.now) < 2 ^ 32 }
+    ensures { IfOk result (λ o. IsOrderOf outer inner (P.pairs pairs.now) o.0.items (map I.number o.1.items)) }
+{
+    let len = pairs.len();
+    let mut starts = Vec::with_capacity(alloc, outer as usize + 1)?;
+    let mut flat = Vec::with_capacity(alloc, len)?;
+    for k in 0..len {
+        let (i, j) = pairs.at(k);
+        open(&mut starts, i, flat.len() as u32)?;
+        if is_new(pairs, k) {
+            flat.push(I::of(j))?;
+        }
+    }
+    open(&mut starts, outer, flat.len() as u32)?;
+    Ok((starts, flat))
+}

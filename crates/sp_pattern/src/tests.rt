@@ -1,0 +1,65 @@
+//! Small matrices, worked out by hand. Tables count rows and columns from 0.
+
+use crate::Pattern;
+use sp_ids::{Col, Field, OutOfMemory, Row, Triples};
+use std::alloc::Global;
+use std::test::Fail;
+
+fn triples(
+    alloc: Global,
+    rows: u32,
+    cols: u32,
+    places: &[(u32, u32)],
+) -> Result<Triples, OutOfMemory> {
+    let mut triples = Triples::new(alloc, rows, cols, Field::Pattern)?;
+    for (row, col) in places {
+        if *row < triples.rows() && *col < triples.cols() && triples.len() < 100 {
+            triples.push(Row(*row), Col(*col), 0)?;
+        }
+    }
+    Ok(triples)
+}
+
+#[test]
+fn places_in_no_order_and_one_of_them_twice(rt: HostRuntime) -> Result<(), Fail> {
+    let places = [(2, 1), (0, 0), (2, 1), (1, 3), (0, 1), (2, 0)];
+    let pattern = Pattern::build(&rt, rt.alloc(), &triples(rt.alloc(), 3, 4, &places)?)?;
+    assert_eq!(rt; pattern.rows(), 3);
+    assert_eq!(rt; pattern.cols(), 4);
+    assert_eq!(rt; pattern.entries(), 5);
+    assert_eq!(rt; pattern.rows_of(Col(1)), [Row(0), Row(2)].as_slice());
+    assert_eq!(rt; pattern.cols_of(Row(2)), [Col(0), Col(1)].as_slice());
+    assert_eq!(rt; pattern.rows_of(Col(2)).is_empty(), true);
+    assert_eq!(rt; pattern.has(Row(1), Col(3)), true);
+    assert_eq!(rt; pattern.has(Row(1), Col(2)), false);
+    assert_eq!(rt; pattern.has(Row(9), Col(9)), false);
+    Ok(())
+}
+
+#[test]
+fn places_by_columns_and_by_rows(rt: HostRuntime) -> Result<(), Fail> {
+    let by_columns = [(0, 0), (2, 0), (2, 0), (1, 2)];
+    let pattern = Pattern::build(&rt, rt.alloc(), &triples(rt.alloc(), 3, 3, &by_columns)?)?;
+    assert_eq!(rt; pattern.entries(), 3);
+    assert_eq!(rt; pattern.rows_of(Col(0)), [Row(0), Row(2)].as_slice());
+    assert_eq!(rt; pattern.cols_of(Row(1)), [Col(2)].as_slice());
+    let by_rows = [(0, 0), (1, 2), (2, 0), (2, 0)];
+    let pattern = Pattern::build(&rt, rt.alloc(), &triples(rt.alloc(), 3, 3, &by_rows)?)?;
+    assert_eq!(rt; pattern.entries(), 3);
+    assert_eq!(rt; pattern.rows_of(Col(0)), [Row(0), Row(2)].as_slice());
+    assert_eq!(rt; pattern.cols_of(Row(1)), [Col(2)].as_slice());
+    Ok(())
+}
+
+#[test]
+fn no_rows_and_no_entries(rt: HostRuntime) -> Result<(), Fail> {
+    let empty = Pattern::build(&rt, rt.alloc(), &triples(rt.alloc(), 0, 0, &[])?)?;
+    assert_eq!(rt; empty.rows(), 0);
+    assert_eq!(rt; empty.cols(), 0);
+    assert_eq!(rt; empty.entries(), 0);
+    assert_eq!(rt; empty.has(Row(0), Col(0)), false);
+    let bare = Pattern::build(&rt, rt.alloc(), &triples(rt.alloc(), 1, 2, &[])?)?;
+    assert_eq!(rt; bare.cols(), 2);
+    assert_eq!(rt; bare.entries(), 0);
+    Ok(())
+}
