@@ -1,16 +1,18 @@
 //! The coarse parts of a matrix, from a maximum matching.
 #![tactic(auto)]
 
+mod maximum;
 mod split;
 
 ghost use Rattle.std.specs.Prelude.{◌≡◌, IfOk};
 ghost use Rattle.bip_defs.specs.Matching.{IsMaximum};
 ghost use Rattle.bip_defs.specs.Matrix.{cols};
-ghost use Rattle.bip_defs.specs.Parts.{ArePartsOf};
+ghost use Rattle.bip_defs.specs.Parts.{ArePartsOf, IsHorizontalCol, IsVerticalRow};
+ghost use Rattle.bip_graph.specs.Shown.{parts_of};
+ghost use Rattle.hall_witness.specs.Search.{Marks};
 
-use crate::split::{Split, split};
+use crate::maximum::Maximum;
 use bip_graph::{Matching, Parts};
-use hall_witness::{ByCols, ByRows, reached};
 use sp_ids::OutOfMemory;
 use sp_pattern::Pattern;
 use std::alloc::Global;
@@ -33,21 +35,19 @@ pub fn coarse<R: Threads + Sync>(
     requires rows { matching.now.rows ≡ pattern.now.rows }
     requires cols { matching.now.cols ≡ cols pattern.now }
     requires maximum { IsMaximum pattern.now matching.now.pairs }
-    ensures { IfOk result (λ p. ArePartsOf pattern.now (record { horizontal_rows = p.hr.items; horizontal_cols = p.hc.items; square_rows = p.sr.items; square_cols = p.sc.items; vertical_rows = p.vr.items; vertical_cols = p.vc.items })) }
+    ensures { IfOk result (λ p. ArePartsOf pattern.now (parts_of p)) }
 {
-    let by_cols = ByCols { pattern, matching };
-    let by_rows = ByRows { pattern, matching };
-    let (cols, rows) = join(rt, || reached(alloc, &by_cols), || reached(alloc, &by_rows));
-    let cols = cols?;
-    let rows = rows?;
-    let of_rows = split(alloc, &by_cols, cols.as_slice(), rows.as_slice())?;
-    let of_cols = split(alloc, &by_rows, rows.as_slice(), cols.as_slice())?;
+    let known = Maximum { pattern, matching };
+    let cols = known.horizontal_cols(alloc)?;
+    let rows = known.vertical_rows(alloc)?;
+    let of_rows = known.split_rows(alloc, cols.as_slice(), rows.as_slice())?;
+    let of_cols = known.split_cols(alloc, cols.as_slice(), rows.as_slice())?;
     Ok(Parts {
         hr: of_rows.horizontal,
-        hc: of_cols.vertical,
+        hc: of_cols.horizontal,
         sr: of_rows.square,
         sc: of_cols.square,
         vr: of_rows.vertical,
-        vc: of_cols.horizontal,
+        vc: of_cols.vertical,
     })
 }

@@ -12,9 +12,9 @@ use hall_witness::Side;
 use sp_ids::{Id, OutOfMemory};
 use std::alloc::Global;
 
-/// The rows of each part, rising.
+/// The rows or the columns of each part, rising.
 #[derive(Drop)]
-pub struct Split<F> {
+pub struct Thirds<F> {
     pub horizontal: Vec<F>,
     pub square: Vec<F>,
     pub vertical: Vec<F>,
@@ -35,7 +35,7 @@ pub fn split<F: Id, S: Side<F>>(
     side: &S,
     horizontal: &[bool],
     vertical: &[bool],
-) -> Result<Split<F>, OutOfMemory>
+) -> Result<Thirds<F>, OutOfMemory>
     requires maximum { IsMaximum (S.matrix side.now) (S.pairs side.now) }
     requires few { Matrix.rows (S.matrix side.now) < 2 ^ 32 }
     requires horizontal { Marks (cols (S.matrix side.now)) (IsHorizontalCol (S.matrix side.now)) horizontal.now }
@@ -55,7 +55,7 @@ pub fn split<F: Id, S: Side<F>>(
             Part::Vertical => vertical_rows.push(row)?,
         }
     }
-    Ok(Split {
+    Ok(Thirds {
         horizontal: horizontal_rows,
         square: square_rows,
         vertical: vertical_rows,
