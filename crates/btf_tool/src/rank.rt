@@ -1,6 +1,10 @@
 //! The job `rank`.
 
-ghost use Rattle.std.specs.Prelude.{IfOk};
+ghost use Rattle.std.specs.Prelude.{◌≡◌, IfOk};
+ghost use Rattle.bip_defs.specs.Lists.{Lists};
+ghost use Rattle.bip_defs.specs.Matching.{IsMaximum};
+ghost use Rattle.bip_defs.specs.Matrix.{cols};
+ghost use Rattle.bip_defs.specs.Parts.{IsHorizontalCol};
 ghost use Rattle.bip_graph.specs.Texts.{rank_text, sizes_of};
 ghost use Rattle.btf_words.specs.declared.jobs.Job.TheVariants.{Rank};
 ghost use Rattle.sp_ports.specs.Bytes.{Writes};
@@ -12,8 +16,11 @@ ghost use Rattle.btf_tool.specs.Runs.{JobSays};
 use crate::Refusal;
 use crate::neighbours::neighbours;
 use crate::reading::read_file;
+use bip_graph::Matching;
 use btf_text::{TextBuf, write_rank};
-use hall_witness::plain;
+use hall_witness::{Reach, reach};
+use karp_sipser::start;
+use pothen_fan::complete;
 use sp_ids::{Col, OutOfMemory, Row, Triples};
 use sp_pattern::Pattern;
 use sp_ports::{Failed, Sink, Source};
@@ -64,8 +71,9 @@ fn rank_of<R: Threads + Sync>(
 {
     let pattern = Pattern::build(rt, alloc, &triples)?;
     drop(triples);
-    let (matching, cols) = plain(alloc, &pattern)?;
+    let matching = maximum(alloc, &pattern)?;
     let rank = matching.size();
+    let cols = horizontal_cols(alloc, &pattern, &matching)?;
     drop(matching);
     let rows = neighbours(alloc, &pattern, cols.as_slice())?;
     Ok(RankAnswer {
@@ -74,6 +82,34 @@ fn rank_of<R: Threads + Sync>(
         rows,
         cols,
     })
+}
+
+/// A maximum matching: the start of Karp and Sipser, completed by the phases of Pothen and Fan.
+fn maximum(alloc: Global, pattern: &Pattern) -> Result<Matching, OutOfMemory>
+    ensures maximum { IfOk result (λ m. IsMaximum pattern.now m.pairs) }
+    ensures rows { IfOk result (λ m. m.rows ≡ pattern.now.rows) }
+    ensures cols { IfOk result (λ m. m.cols ≡ cols pattern.now) }
+{
+    let matching = start(alloc, pattern)?;
+    complete(alloc, pattern, matching)
+}
+
+/// The columns that some maximum matching misses.
+fn horizontal_cols(
+    alloc: Global,
+    pattern: &Pattern,
+    matching: &Matching,
+) -> Result<Vec<Col>, OutOfMemory>
+    requires rows { matching.now.rows ≡ pattern.now.rows }
+    requires cols { matching.now.cols ≡ cols pattern.now }
+    requires maximum { IsMaximum pattern.now matching.now.pairs }
+    ensures { IfOk result (λ w. Lists (IsHorizontalCol pattern.now) w.items) }
+{
+    match reach(alloc, pattern, matching) {
+        Ok(Reach::Witness(cols)) => Ok(cols),
+        Ok(Reach::Path(_)) => unreachable!(),
+        Err(OutOfMemory) => Err(OutOfMemory),
+    }
 }
 
 /// Writes the text of the answer, and hands it on.
