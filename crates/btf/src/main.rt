@@ -8,9 +8,8 @@ use btf_words::usage_line;
 use devices::{StderrSink, StdinSource, StdoutSink};
 use sp_ids::Status;
 use sp_ports::{NoGate, write_all};
-use std::env;
-use std::io;
 use std::process::ExitCode;
+use std::{env, io};
 
 fn main(rt: HostRuntime) -> ExitCode {
     let mut err = StderrSink::new(rt.stderr());
@@ -18,7 +17,15 @@ fn main(rt: HostRuntime) -> ExitCode {
         Ok(words) => {
             let mut input = StdinSource::new(rt.stdin());
             let mut out = StdoutSink::new(rt.stdout());
-            run(&rt, rt.alloc(), words.as_slice(), &mut input, &mut out, &mut err, &NoGate)
+            run(
+                &rt,
+                rt.alloc(),
+                words.as_slice(),
+                &mut input,
+                &mut out,
+                &mut err,
+                &NoGate,
+            )
         }
         Err(error) => refuse(&mut err, &error),
     };

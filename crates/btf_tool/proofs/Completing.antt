@@ -58,7 +58,7 @@ answered r status wanted is taken P job written ok = record {
   good = λ _ no_read no_write. told r.input.before r.input.after written (λ x y before h t reads few. ok no_write);
   not_good = λ _ no_read. told r.input.before r.input.after written
       (λ x y before h none. let read = (answer_read job (reading r.input x y) h.0 h.1).1 in
-          absurd (none (answer_read job (reading r.input x y) h.0 h.1).0 read.reads (omega (arith, read.within))));
+      absurd (none (answer_read job (reading r.input x y) h.0 h.1).0 read.reads (omega (arith, read.within))));
 }
 
 -- the run was refused for a bad line
@@ -78,6 +78,7 @@ bad r status line kind limit said taken later first = record {
         → Reads (call.ahead ++ call.before) File t [] → length (call.ahead ++ call.before) ≤ call.room → call.failures_after ≡ call.failures_before → ⊥
     not_answered true call t h is reads few same = good_file_answer File call [] (Err (errors.Limit line kind)) t [] (h, is) reads few same
     not_answered false call t h is reads few same = good_file_answer File call [] (Err (errors.Malformed line kind)) t [] (h, is) reads few same
+
     either : (limit : Bool) → status ≡ (if limit then statuses.Limit else statuses.Malformed) → (status ≡ statuses.Malformed) ⊎ (status ≡ statuses.Limit)
     either true said = inr said
     either false said = inl said
@@ -177,4 +178,4 @@ pub job_not_done : (r : Run) (job : Job) (result : Result (Unit {0}) Refusal) (r
     → JobSays job r.input r.out result → status ≡ status_of refusal → WasTold r.err (line_of refusal) → Says r status
 job_not_done r job result refusal status is names says said told =
     refusal_says r status refusal said told
-        (job_refused r job refusal names (subst (λ (o : Result (Unit {0}) Refusal). JobSays job r.input r.out o) is says))
+    (job_refused r job refusal names (subst (λ (o : Result (Unit {0}) Refusal). JobSays job r.input r.out o) is says))

@@ -21,14 +21,16 @@ adds_one old now rows i d r inside is lt h = record {
   where
     more : take (i + 1) rows ≡ take i rows ++ r ∷ []
     more = take_more rows i d inside ∙ ap (λ (x : ℕ). take i rows ++ x ∷ []) (sym is)
+
     to : (k : ℕ) → IsMarked (set now r true) k → IsMarked old k ⊎ Among k (take (i + 1) rows)
     to k m = ⊎_elim (λ (e : k ≡ r). inr (subst (Among k) (sym more) (among_right k (take i rows) (r ∷ []) (inl e))))
         (λ ne. ⊎_elim (λ o. inl o) (λ a. inr (subst (Among k) (sym more) (among_left k (take i rows) (r ∷ []) a))) ((h.marked k).0 (sym (get_or-set_other now r k true false ne) ∙ m)))
         (number_same k r)
+
     from : (k : ℕ) → IsMarked old k ⊎ Among k (take (i + 1) rows) → IsMarked (set now r true) k
     from k m = ⊎_elim (λ o. marked_more now r k lt ((h.marked k).1 (inl o)))
         (λ a. ⊎_elim (λ b. marked_more now r k lt ((h.marked k).1 (inr b))) (λ (e : k ≡ r). ap (λ x. get_or (set now r true) x false) e ∙ get_or-set_same now r true false lt)
-            (among_last k r (take i rows) (subst (Among k) more a)))
+        (among_last k r (take i rows) (subst (Among k) more a)))
         m
 
 -- the rows of one more column
@@ -39,9 +41,11 @@ touches_one a old now columns rows i d c inside is listed adds before r = (to, f
   where
     more : take (i + 1) columns ≡ take i columns ++ c ∷ []
     more = take_more columns i d inside ∙ ap (λ (x : ℕ). take i columns ++ x ∷ []) (sym is)
+
     to : IsMarked now r → Touches a (take (i + 1) columns) r
     to m = ⊎_elim (λ o. let t = (before r).0 o in (t.0, subst (Among t.0) (sym more) (among_left t.0 (take i columns) (c ∷ []) t.1), t.2))
         (λ k. (c, subst (Among c) (sym more) (among_right c (take i columns) (c ∷ []) (inl (λ i. c))), listed.sound r k)) ((adds.marked r).0 m)
+
     from : Touches a (take (i + 1) columns) r → IsMarked now r
     from t = ⊎_elim (λ k. (adds.marked r).1 (inl ((before r).1 (t.0, k, t.2))))
         (λ (e : t.0 ≡ c). (adds.marked r).1 (inr (listed.complete r (subst (IsEntry a r) e t.2))))
@@ -56,7 +60,7 @@ pub touching_listed : (a : Matrix) (columns rows : List ℕ) (marks : List Bool)
     → Lists (λ r. (r < length marks) × IsMarked marks r) rows → Lists (Touches a columns) rows
 touching_listed a columns rows marks long exact l =
     lists_same (λ r. (r < length marks) × IsMarked marks r) (Touches a columns) rows (λ r h. (exact r).0 h.1)
-        (λ r t. (let lt = t.2.0 in omega (arith, long), (exact r).1 t)) l
+    (λ r t. (let lt = t.2.0 in omega (arith, long), (exact r).1 t)) l
 
 -- the horizontal rows, from the horizontal columns
 pub horizontal_rows : (a : Matrix) (columns rows : List ℕ) → Lists (IsHorizontalCol a) columns → Lists (Touches a columns) rows → Lists (IsHorizontalRow a) rows

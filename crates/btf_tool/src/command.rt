@@ -29,18 +29,18 @@ pub fn run<R: Threads + Sync, S: Source, O: Sink, E: Sink, G: Gate>(
 ) -> Status
     // What each status says.
     ensures says { Says (record {
-        words = map string_bytes words.now;
-        input = seen S.left S.faults input.old input.new;
-        out = seen O.taken O.faults out.old out.new;
-        err = seen E.taken E.faults err.old err.new;
+      words = map string_bytes words.now;
+      input = seen S.left S.faults input.old input.new;
+      out = seen O.taken O.faults out.old out.new;
+      err = seen E.taken E.faults err.old err.new;
     }) result }
 
     // Which status has to come.
     ensures complete { Completes (record {
-        words = map string_bytes words.now;
-        input = seen S.left S.faults input.old input.new;
-        out = seen O.taken O.faults out.old out.new;
-        err = seen E.taken E.faults err.old err.new;
+      words = map string_bytes words.now;
+      input = seen S.left S.faults input.old input.new;
+      out = seen O.taken O.faults out.old out.new;
+      err = seen E.taken E.faults err.old err.new;
     }) result }
 {
     match read_words(alloc, words) {

@@ -30,7 +30,6 @@ pub enum Refusal {
 }
 
 impl Refusal {
-
     /// The status with which the run ends.
     pub fn status(self) -> Status
         ensures { result ≡ status_of self }

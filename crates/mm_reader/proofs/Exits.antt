@@ -31,9 +31,9 @@ fed_start end w m left a = record {
   lines_same = refl;
 }
   where
-  gives_none : (o : Option (List ℕ)) → Gives o o []
-  gives_none None = tt
-  gives_none (Some xs) = refl
+    gives_none : (o : Option (List ℕ)) → Gives o o []
+    gives_none None = tt
+    gives_none (Some xs) = refl
 
 pub fed_consumed : (end : End) (ahead : List ℕ) (old now : Option (List ℕ)) (room lfs : ℕ) (m m2 : Machine) (w w2 : Window) (done : Bool)
     → Fed end ahead old now room lfs m w → Consumes end w w2 m m2 done → Fed end ahead old now room lfs m2 w2
@@ -81,8 +81,8 @@ pub counted : (w0 w3 w : Window) (before after gave used : List ℕ) → before 
     → ahead_of w3 ≡ ahead_of w → w3.room ≡ w.room → w3.lines ≡ w0.lines + count_by is_lf used → HasCounted w0 w3 before after
 counted w0 w3 w before after gave used b split size same room_same lfs_are =
     let all : ahead_of w0 ++ before ≡ used ++ (ahead_of w3 ++ after) =
-        ap (λ (t : List ℕ). ahead_of w0 ++ t) b ∙ sym (append_assoc (ahead_of w0) gave after) ∙ ap (λ (t : List ℕ). t ++ after) split
-        ∙ append_assoc used (ahead_of w) after ∙ ap (λ (t : List ℕ). used ++ (t ++ after)) (sym same) in
+    ap (λ (t : List ℕ). ahead_of w0 ++ t) b ∙ sym (append_assoc (ahead_of w0) gave after) ∙ ap (λ (t : List ℕ). t ++ after) split
+    ∙ append_assoc used (ahead_of w) after ∙ ap (λ (t : List ℕ). used ++ (t ++ after)) (sym same) in
     let n : length (ahead_of w0 ++ before) ≡ length used + length (ahead_of w3 ++ after) = ap length all ∙ length-append used (ahead_of w3 ++ after) in
     let k : count_by is_lf (ahead_of w0 ++ before) ≡ count_by is_lf used + count_by is_lf (ahead_of w3 ++ after) = ap (count_by is_lf) all ∙ sum_by-append _ used (ahead_of w3 ++ after) in
     record { bytes = omega arith; lfs = omega arith }
@@ -191,29 +191,30 @@ pub turn_smaller : (w w1 w2 : Window) (count : ℕ) → IsWindow w → IsWindow 
     → (w2.at_end ≡ false → 0 < length (ahead_of w2)) → measure w2 < measure w
 turn_smaller w w1 w2 count win win2 rooms all more same some = by (w.from == w.to) refl w2.at_end refl
   where
-  most : (b : Bool) → (if b then 1 else 0) ≤ 1
-  most true = omega arith
-  most false = omega arith
-  by : (b : Bool) → (w.from == w.to) ≡ b → (e : Bool) → w2.at_end ≡ e → measure w2 < measure w
-  by true b true e = let n = length-ahead_of w win in let m = most (w2.from == w2.to) in rw (more, b, e) (omega arith)
-  by false b true e =
-      let n = length-ahead_of w win in
-      let m = most (w2.from == w2.to) in
-      let ne : w.from ≢ w.to = λ x. let y = eq-eqb w.from w.to x in cc in
-      rw (more, b, e) (omega (arith, win.in_order))
-  by true b false e =
-      let k = some e in
-      let n2 = length-ahead_of w2 win2 in
-      let ne : (w2.from == w2.to) ≡ false = ne_eqb w2.from w2.to (omega arith) in
-      let n = length-ahead_of w win in
-      rw (more, b, e, ne) (omega arith)
-  by false b false e =
-      let k = some e in
-      let n2 = length-ahead_of w2 win2 in
-      let ne2 : (w2.from == w2.to) ≡ false = ne_eqb w2.from w2.to (omega arith) in
-      let n = length-ahead_of w win in
-      let ne : w.from ≢ w.to = λ x. let y = eq-eqb w.from w.to x in cc in
-      rw (more, b, e, ne2) (omega (arith, win.in_order))
+    most : (b : Bool) → (if b then 1 else 0) ≤ 1
+    most true = omega arith
+    most false = omega arith
+
+    by : (b : Bool) → (w.from == w.to) ≡ b → (e : Bool) → w2.at_end ≡ e → measure w2 < measure w
+    by true b true e = let n = length-ahead_of w win in let m = most (w2.from == w2.to) in rw (more, b, e) (omega arith)
+    by false b true e =
+        let n = length-ahead_of w win in
+        let m = most (w2.from == w2.to) in
+        let ne : w.from ≢ w.to = λ x. let y = eq-eqb w.from w.to x in cc in
+        rw (more, b, e) (omega (arith, win.in_order))
+    by true b false e =
+        let k = some e in
+        let n2 = length-ahead_of w2 win2 in
+        let ne : (w2.from == w2.to) ≡ false = ne_eqb w2.from w2.to (omega arith) in
+        let n = length-ahead_of w win in
+        rw (more, b, e, ne) (omega arith)
+    by false b false e =
+        let k = some e in
+        let n2 = length-ahead_of w2 win2 in
+        let ne2 : (w2.from == w2.to) ≡ false = ne_eqb w2.from w2.to (omega arith) in
+        let n = length-ahead_of w win in
+        let ne : w.from ≢ w.to = λ x. let y = eq-eqb w.from w.to x in cc in
+        rw (more, b, e, ne2) (omega (arith, win.in_order))
 
 -- where nothing is left ahead, all was used
 pub all_used : (xs ys : List ℕ) (n : ℕ) → n ≤ length xs → ys ≡ drop n xs → ys ≡ [] → n ≡ length xs

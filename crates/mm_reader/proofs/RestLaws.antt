@@ -22,9 +22,9 @@ filled_start w left = record {
   lines_are = omega arith;
 }
   where
-  gives_none : (o : Option (List ℕ)) → Gives o o []
-  gives_none None = tt
-  gives_none (Some xs) = refl
+    gives_none : (o : Option (List ℕ)) → Gives o o []
+    gives_none None = tt
+    gives_none (Some xs) = refl
 
 pub filled_taken : (ahead : List ℕ) (old now : Option (List ℕ)) (room lfs : ℕ) (bytes bytes2 : List ℕ) (w w2 : Window)
     → Filled ahead old now room lfs bytes w → TakesAhead w w2 bytes bytes2 → Filled ahead old now room lfs bytes2 w2

@@ -57,7 +57,7 @@ module _ (end : End) (ahead before after gave used rest : List ℕ) (room fb fa 
       let n : length h.front ≤ room - length used = h.short in
       let e : take (room - length used) rest ≡ h.front ++ take ((room - length used) - length h.front) h.rest = ap (take (room - length used)) h.ahead_is ∙ take-front (room - length used) h.front h.rest n in
       let k : given call ≡ (used ++ h.front) ++ take ((room - length used) - length h.front) h.rest =
-          given-is ∙ ap (λ (t : List ℕ). used ++ t) e ∙ sym (append_assoc used h.front (take ((room - length used) - length h.front) h.rest)) in
+      given-is ∙ ap (λ (t : List ℕ). used ++ t) e ∙ sym (append_assoc used h.front (take ((room - length used) - length h.front) h.rest)) in
       rw k (bad_stays end (ended call) (used ++ h.front) (take ((room - length used) - length h.front) h.rest) fault (first_is end (used ++ h.front) fault h.ends.bad))
 
   bad-near : (fault : Fault) → length rest ≤ 65536 → HasBadFront end used rest (room - length used) fault → length (behind fault.line (got call)) ≤ 65536
@@ -101,9 +101,9 @@ module _ (end : End) (ahead before after gave used rest : List ℕ) (room fb fa 
       let k : given call ≡ used = given-is ∙ rw none (append-nil-take (room - length used) used) in
       (rw (e, k) (first_none end used good), h)
     where
-    append-nil-take : (n : ℕ) (xs : List ℕ) → xs ++ take n [] ≡ xs
-    append-nil-take zero xs = append-nil xs
-    append-nil-take (suc n) xs = append-nil xs
+      append-nil-take : (n : ℕ) (xs : List ℕ) → xs ++ take n [] ≡ xs
+      append-nil-take zero xs = append-nil xs
+      append-nil-take (suc n) xs = append-nil xs
 
   -- ---- the input ended
 

@@ -10,7 +10,7 @@ ghost use Rattle.mm_defs.specs.Reading.{call_on, first_bad, Causes, IsAnswer, Is
 
 use crate::reader::matrix;
 use crate::rest::rest;
-use crate::window::{new_buffer, Window};
+use crate::window::{Window, new_buffer};
 use mm_defs::{End, ReadError};
 use sp_ids::{OutOfMemory, Triples};
 use sp_ports::Source;

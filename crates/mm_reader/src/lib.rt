@@ -11,7 +11,7 @@ mod rest;
 mod text;
 mod window;
 
-pub use input::{read_matrix, read_rest, Input};
+pub use input::{Input, read_matrix, read_rest};
 pub use mm_defs::{End, Kind, ReadError};
 
 #[cfg(test)]

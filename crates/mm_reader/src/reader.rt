@@ -8,8 +8,8 @@ ghost use Rattle.mm_reader.specs.Machine.{IsReady, is_complete};
 ghost use Rattle.mm_reader.specs.Standing.{begun_lines, IsAfter, IsWhole};
 ghost use Rattle.mm_reader.specs.Windows.{ahead_of, call_of, Answers, IsWindow, KeepsWindow, Consumes, Refuses, RefusesAtEnd, refusal_of};
 
-use crate::machine::{feed, finish, is_complete, start, Machine, Stop};
-use crate::window::{refill, Window};
+use crate::machine::{Machine, Stop, feed, finish, is_complete, start};
+use crate::window::{Window, refill};
 use mm_defs::{End, ReadError};
 use sp_ids::Triples;
 use sp_ports::Source;
@@ -33,12 +33,7 @@ fn refusal(stop: Stop) -> ReadError
 
 /// The machine gets the bytes ahead, as many as may be used. It tells whether the matrix is read and what follows is not
 /// judged; else all bytes ahead were used.
-fn consume(
-    alloc: Global,
-    m: &mut Machine,
-    end: End,
-    window: &mut Window,
-) -> Result<bool, ReadError>
+fn consume(alloc: Global, m: &mut Machine, end: End, window: &mut Window) -> Result<bool, ReadError>
     requires window { IsWindow window.old }
     requires ready { IsReady m.old.phase m.old.triples }
     requires open { is_complete end m.old.phase ≡ false }

@@ -8,7 +8,7 @@ ghost use Rattle.mm_defs.specs.Words.{is_lf};
 ghost use Rattle.mm_defs.specs.Reading.{Causes, RefusesRest};
 ghost use Rattle.mm_reader.specs.Windows.{ahead_of, call_of, IsWindow, KeepsWindow, TakesAhead, RefusesAhead, RestRead};
 
-use crate::window::{refill, Window};
+use crate::window::{Window, refill};
 use mm_defs::ReadError;
 use sp_ports::Source;
 use std::alloc::Global;

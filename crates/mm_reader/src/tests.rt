@@ -1,6 +1,6 @@
 //! Readings from a source in memory.
 
-use crate::{read_matrix, read_rest, End, Input, Kind, ReadError};
+use crate::{End, Input, Kind, ReadError, read_matrix, read_rest};
 use sp_ids::{Col, Field, Row, Triples};
 use sp_ports::MemSource;
 use std::alloc::{AllocError, Global};
@@ -90,15 +90,30 @@ fn pieces_change_nothing(rt: HostRuntime) -> Result<(), Fail> {
 fn each_failing_read_is_answered(rt: HostRuntime) -> Result<(), Fail> {
     let alloc = rt.alloc();
     for call in 0..7u64 {
-        assert_eq!(rt; refusal(read(alloc, SMALLEST, 10, &[call], 1000)), Some(ReadError::ReadFault));
+        assert_eq!(rt;
+            refusal(read(alloc, SMALLEST, 10, &[call], 1000)),
+            Some(ReadError::ReadFault)
+        );
     }
     assert_eq!(rt; refusal(read(alloc, SMALLEST, 10, &[7], 1000)), None);
     // A bad line that had ended comes first.
-    let no_banner = ReadError::Malformed { line: 1, kind: Kind::NoBanner };
-    assert_eq!(rt; refusal(read(alloc, b"%%NotIt\n", 8, &[1], 1000)), Some(no_banner));
+    let no_banner = ReadError::Malformed {
+        line: 1,
+        kind: Kind::NoBanner,
+    };
+    assert_eq!(rt;
+        refusal(read(alloc, b"%%NotIt\n", 8, &[1], 1000)),
+        Some(no_banner)
+    );
     let twice = b"%%MatrixMarket matrix coordinate pattern general\n1 1 1\n1 1\n1 1\n";
-    let trailing = ReadError::Malformed { line: 4, kind: Kind::Trailing };
-    assert_eq!(rt; refusal(read(alloc, twice, 1, &[62], 1000)), Some(ReadError::ReadFault));
+    let trailing = ReadError::Malformed {
+        line: 4,
+        kind: Kind::Trailing,
+    };
+    assert_eq!(rt;
+        refusal(read(alloc, twice, 1, &[62], 1000)),
+        Some(ReadError::ReadFault)
+    );
     assert_eq!(rt; refusal(read(alloc, twice, 1, &[63], 1000)), Some(trailing));
     Ok(())
 }
@@ -120,14 +135,32 @@ fn the_limit_counts_bytes(rt: HostRuntime) -> Result<(), Fail> {
 #[test]
 fn values_and_mirrors(rt: HostRuntime) -> Result<(), Fail> {
     let alloc = rt.alloc();
-    let foreign = read_all(alloc, b"%%MatrixMarket matrix coordinate integer general\r\n1 1 2\r\n1 1 5\r\n1 1 -5")?;
-    assert_eq!(rt; foreign.places(), [(Row(0), Col(0)), (Row(0), Col(0))].as_slice());
+    let foreign = read_all(
+        alloc,
+        b"%%MatrixMarket matrix coordinate integer general\r\n1 1 2\r\n1 1 5\r\n1 1 -5",
+    )?;
+    assert_eq!(rt;
+        foreign.places(),
+        [(Row(0), Col(0)), (Row(0), Col(0))].as_slice()
+    );
     assert_eq!(rt; values(&foreign), [5, -5].as_slice());
-    let skew = read_all(alloc, b"%%MatrixMarket matrix coordinate integer skew-symmetric\n2 2 1\n2 1 -4\n")?;
-    assert_eq!(rt; skew.places(), [(Row(1), Col(0)), (Row(0), Col(1))].as_slice());
+    let skew = read_all(
+        alloc,
+        b"%%MatrixMarket matrix coordinate integer skew-symmetric\n2 2 1\n2 1 -4\n",
+    )?;
+    assert_eq!(rt;
+        skew.places(),
+        [(Row(1), Col(0)), (Row(0), Col(1))].as_slice()
+    );
     assert_eq!(rt; values(&skew), [-4, 4].as_slice());
-    let complex = read_all(alloc, b"%%MatrixMarket MATRIX Coordinate complex hermitian\n2 2 2\n1 1 1 0\n2 1 0 1\n")?;
-    assert_eq!(rt; complex.places(), [(Row(0), Col(0)), (Row(1), Col(0)), (Row(0), Col(1))].as_slice());
+    let complex = read_all(
+        alloc,
+        b"%%MatrixMarket MATRIX Coordinate complex hermitian\n2 2 2\n1 1 1 0\n2 1 0 1\n",
+    )?;
+    assert_eq!(rt;
+        complex.places(),
+        [(Row(0), Col(0)), (Row(1), Col(0)), (Row(0), Col(1))].as_slice()
+    );
     Ok(())
 }
 
@@ -137,17 +170,26 @@ fn lines_may_be_longer_than_the_buffer(rt: HostRuntime) -> Result<(), Fail> {
     let mut blanks = with_entry(alloc, b"1")?;
     blanks.extend_from_slice(&filled(alloc, b' ', 70_000)?)?;
     blanks.extend_from_slice(b"1\n")?;
-    assert_eq!(rt; read_all(alloc, &blanks)?.places(), [(Row(0), Col(0))].as_slice());
+    assert_eq!(rt;
+        read_all(alloc, &blanks)?.places(),
+        [(Row(0), Col(0))].as_slice()
+    );
     let zeros = filled(alloc, b'0', 70_000)?;
     let mut padded = with_entry(alloc, &zeros)?;
     padded.extend_from_slice(b"1 ")?;
     padded.extend_from_slice(&zeros)?;
     padded.extend_from_slice(b"1\n")?;
-    assert_eq!(rt; read_all(alloc, &padded)?.places(), [(Row(0), Col(0))].as_slice());
+    assert_eq!(rt;
+        read_all(alloc, &padded)?.places(),
+        [(Row(0), Col(0))].as_slice()
+    );
     let mut nines = b"%%MatrixMarket matrix coordinate pattern general\n".to_vec(alloc)?;
     nines.extend_from_slice(&filled(alloc, b'9', 400)?)?;
     nines.extend_from_slice(b" 1 0\n")?;
-    let rows = ReadError::Limit { line: 2, kind: Kind::Rows };
+    let rows = ReadError::Limit {
+        line: 2,
+        kind: Kind::Rows,
+    };
     assert_eq!(rt; refusal(read_all(alloc, &nines)), Some(rows));
     Ok(())
 }
@@ -187,10 +229,16 @@ fn the_rest_is_all_that_follows(rt: HostRuntime) -> Result<(), Fail> {
     for piece in [1, 61, 100] {
         let mut bytes = SMALLEST.to_vec(alloc)?;
         bytes.extend_from_slice(b"% c\nbtf 1\n")?;
-        assert_eq!(rt; rest_after(alloc, bytes, piece, 69)?.as_slice(), b"% c\nbtf 1\n".as_slice());
+        assert_eq!(rt;
+            rest_after(alloc, bytes, piece, 69)?.as_slice(),
+            b"% c\nbtf 1\n".as_slice()
+        );
         let mut longer = SMALLEST.to_vec(alloc)?;
         longer.extend_from_slice(b"% c\nbtf 1\n!")?;
-        assert_eq!(rt; rest_after(alloc, longer, piece, 69), Err(ReadError::TooLong));
+        assert_eq!(rt;
+            rest_after(alloc, longer, piece, 69),
+            Err(ReadError::TooLong)
+        );
     }
     Ok(())
 }

@@ -13,4 +13,4 @@ bounds-marks-row-inside c =
 pub loop-row-preserved : goal.loop-row-preserved
 loop-row-preserved c =
     adds_one c.args.marks.now c.loop-row.marks c.args.rows.now c.loop-row.row-index c.row-item.result c.row.inside.0 c.loop-row-test.true
-        (c.row.view_is ∙ c.row-item.is) (bounds-marks-row-inside c) c.loop-row.invariant
+    (c.row.view_is ∙ c.row-item.is) (bounds-marks-row-inside c) c.loop-row.invariant

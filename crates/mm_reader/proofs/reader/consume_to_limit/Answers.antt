@@ -8,7 +8,7 @@ pub returns-in-Err-clause-err : goal.returns-in-Err-clause-err
 returns-in-Err-clause-err c bytes h =
     let s = rw c.deref.ensures.value at (c.in-Err.ensures.steps bytes h) in
     let r = refuses c.args.end bytes _ (drop c.args.window.now.room (ahead_of c.args.window.now)) (ahead_of c.args.window.now) c.args.window.now.room
-        (limited c.args.window.now c.requires.window c.requires.over) (length-limited c.args.window.now) c.in-Err.stop s in
+    (limited c.args.window.now c.requires.window c.requires.over) (length-limited c.args.window.now) c.in-Err.stop s in
     subst (λ (e : ReadError). Refuses c.args.end bytes (ahead_of c.args.window.now) c.args.window.now.room e) (sym c.refusal.ensures) r
 
 pub returns-then-is_complete-clause-ok : goal.returns-then-is_complete-clause-ok

@@ -63,7 +63,7 @@ returns-in-Err-refill g c =
     let f = fed_consumed c.args.end (ahead_of c.args.window.now) _ _ c.args.window.now.room c.args.window.now.lines c.reading.m c.consume.new.m c.reading.window c.consume.new.window c.in-Ok-consume.done i.fed e.ok in
     let r = c.in-Err-refill.ensures in
     let s : SourceRose (g.S.Source.left c.args.source.now) (g.S.Source.faults c.args.source.now) (g.S.Source.faults c.refill.new.source) =
-        rose_since (g.S.Source.left c.args.source.now) (g.S.Source.left c.reading.source) i.fed.gave _ (g.S.Source.faults c.reading.source) _ i.fed.told i.steady r.cause.failed in
+    rose_since (g.S.Source.left c.args.source.now) (g.S.Source.left c.reading.source) i.fed.gave _ (g.S.Source.faults c.reading.source) _ i.fed.told i.steady r.cause.failed in
     record {
       told = rw r.kept (exit_fault c.args.end c.args.window.now c.refill.new.window c.args.window.now.lines (g.S.Source.faults c.args.source.now) (g.S.Source.faults c.refill.new.source) c.consume.new.m c.consume.new.window e.window
           (g.S.Source.left c.args.source.now) (g.S.Source.left c.reading.source) f (e.ok.all c.if-done.false) s);

@@ -38,7 +38,7 @@ returns-in-Err-refill g c =
     let f = filled_taken (ahead_of c.args.window.now) _ _ c.args.window.now.room c.args.window.now.lines c.reading.bytes.items c.take_ahead.new.bytes.items c.reading.window c.take_ahead.new.window i.filled e.ok in
     let r = c.in-Err-refill.ensures in
     let s : SourceRose (g.S.Source.left c.args.source.now) (g.S.Source.faults c.args.source.now) (g.S.Source.faults c.refill.new.source) =
-        rose_since (g.S.Source.left c.args.source.now) (g.S.Source.left c.reading.source) i.filled.gave _ (g.S.Source.faults c.reading.source) _ i.filled.told i.steady r.cause.failed in
+    rose_since (g.S.Source.left c.args.source.now) (g.S.Source.left c.reading.source) i.filled.gave _ (g.S.Source.faults c.reading.source) _ i.filled.told i.steady r.cause.failed in
     record {
       told = rw r.kept (rest_fault c.args.window.now c.refill.new.window (g.S.Source.faults c.args.source.now) (g.S.Source.faults c.refill.new.source) c.args.window.now.lines c.take_ahead.new.bytes.items c.take_ahead.new.window
           (g.S.Source.left c.args.source.now) (g.S.Source.left c.reading.source) f s);
