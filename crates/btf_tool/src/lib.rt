@@ -9,3 +9,6 @@ mod refusals;
 
 pub use command::run;
 pub use refusals::Refusal;
+
+#[cfg(test)]
+mod tests;
