@@ -7,6 +7,8 @@
 #![tactic(auto)]
 
 mod sweep;
+#[cfg(test)]
+mod tests;
 
 ghost use Rattle.std.specs.Prelude.{◌≡◌, ◌↔◌, ℕ, ◌+◌, ◌<◌, length, IfOk, OnErr};
 ghost use Rattle.bip_defs.specs.Lists.{Among};
