@@ -20,7 +20,12 @@ fn triples(
 ) -> Result<Triples, OutOfMemory> {
     let mut triples = Triples::new(alloc, rows, cols, Field::Pattern)?;
     for (row, col) in places {
-        if 0 < *row && *row <= triples.rows() && 0 < *col && *col <= triples.cols() && triples.len() < 100 {
+        if 0 < *row
+            && *row <= triples.rows()
+            && 0 < *col
+            && *col <= triples.cols()
+            && triples.len() < 100
+        {
             triples.push(Row(*row - 1), Col(*col - 1), 0)?;
         }
     }
@@ -50,7 +55,11 @@ fn pair_up(pattern: &Pattern, matching: &mut Matching, row: Row, col: Col)
 }
 
 // The matching of these pairs.
-fn paired<R: Abort + AllocGlobal>(rt: &R, pattern: &Pattern, pairs: &[(u32, u32)]) -> Result<Matching, OutOfMemory>
+fn paired<R: Abort + AllocGlobal>(
+    rt: &R,
+    pattern: &Pattern,
+    pairs: &[(u32, u32)],
+) -> Result<Matching, OutOfMemory>
     ensures rows { IfOk result (λ m. m.rows ≡ pattern.now.rows) }
     ensures cols { IfOk result (λ m. m.cols ≡ cols pattern.now) }
     ensures matching { IfOk result (λ m. IsMatching pattern.now m.pairs) }
@@ -102,7 +111,19 @@ fn keeps_what_was_matched(rt: HostRuntime) -> Result<(), OutOfMemory> {
 #[test]
 fn exchanges_a_long_chain(rt: HostRuntime) -> Result<(), OutOfMemory> {
     // Column j has rows j and j + 1, the last one row 6 alone: all six pairs must change places.
-    let places = [(1, 1), (2, 1), (2, 2), (3, 2), (3, 3), (4, 3), (4, 4), (5, 4), (5, 5), (6, 5), (6, 6)];
+    let places = [
+        (1, 1),
+        (2, 1),
+        (2, 2),
+        (3, 2),
+        (3, 3),
+        (4, 3),
+        (4, 4),
+        (5, 4),
+        (5, 5),
+        (6, 5),
+        (6, 6),
+    ];
     let matrix = triples(rt.alloc(), 6, 6, &places)?;
     let pairs = [(2, 1), (3, 2), (4, 3), (5, 4), (6, 5)];
     let sure = [(1, 1), (2, 2), (3, 3), (4, 4), (5, 5), (6, 6)];
@@ -114,14 +135,38 @@ fn exchanges_a_long_chain(rt: HostRuntime) -> Result<(), OutOfMemory> {
 fn flat_narrow_and_empty_ones(rt: HostRuntime) -> Result<(), OutOfMemory> {
     completes(&rt, &triples(rt.alloc(), 0, 0, &[])?, &[], 0, &[])?;
     completes(&rt, &triples(rt.alloc(), 3, 2, &[])?, &[], 0, &[])?;
-    completes(&rt, &triples(rt.alloc(), 1, 3, &[(1, 1), (1, 2), (1, 3)])?, &[], 1, &[])?;
-    completes(&rt, &triples(rt.alloc(), 3, 1, &[(1, 1), (2, 1), (3, 1)])?, &[], 1, &[])
+    completes(
+        &rt,
+        &triples(rt.alloc(), 1, 3, &[(1, 1), (1, 2), (1, 3)])?,
+        &[],
+        1,
+        &[],
+    )?;
+    completes(
+        &rt,
+        &triples(rt.alloc(), 3, 1, &[(1, 1), (2, 1), (3, 1)])?,
+        &[],
+        1,
+        &[],
+    )
 }
 
 #[test]
 fn goes_on_after_searches_that_fail(rt: HostRuntime) -> Result<(), OutOfMemory> {
     // Columns 1 to 4 have two rows for the four of them, columns 5 and 6 the other two rows, one by way of row 3.
-    let places = [(1, 1), (2, 1), (1, 2), (2, 2), (1, 3), (2, 3), (2, 4), (3, 5), (4, 5), (2, 6), (3, 6)];
+    let places = [
+        (1, 1),
+        (2, 1),
+        (1, 2),
+        (2, 2),
+        (1, 3),
+        (2, 3),
+        (2, 4),
+        (3, 5),
+        (4, 5),
+        (2, 6),
+        (3, 6),
+    ];
     let matrix = triples(rt.alloc(), 4, 6, &places)?;
     completes(&rt, &matrix, &[(3, 5)], 4, &[(3, 6), (4, 5)])?;
     completes(&rt, &matrix, &[], 4, &[(3, 6), (4, 5)])

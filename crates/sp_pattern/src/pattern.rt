@@ -1,8 +1,8 @@
 //! The pattern of a matrix.
 
-ghost use Rattle.std.specs.Prelude.{◌≡◌, ◌<◌, ◌^◌, ◌↔◌, IsTrue, IfOk, length};
+ghost use Rattle.std.specs.Prelude.{◌≡◌, ◌<◌, ◌^◌, ◌↔◌, IsTrue, IfOk, List, length};
 ghost use Rattle.bip_defs.specs.Matching.{turned};
-ghost use Rattle.sp_pattern.specs.Order.{AreInside, AreSorted};
+ghost use Rattle.sp_pattern.specs.Order.{AreInside, AreSorted, IsOrder, IsOrderOf, Pair};
 ghost use Rattle.bip_defs.specs.Lists.{Lists};
 ghost use Rattle.bip_defs.specs.Matrix.{IsEntry, HasPlaces, cols, column, row_list, entry_count};
 ghost use Rattle.sp_ids.specs.Entries.{places};
@@ -80,6 +80,21 @@ impl Pattern {
     {
         let (col_starts, col_rows) = compress::<P, Row>(alloc, &pairs, cols, rows)?;
         drop(pairs);
+        Pattern::from_column_order(alloc, rows, cols, col_starts, col_rows)
+    }
+
+    // The pattern of an order by columns.
+    pub(crate) fn from_column_order(
+        alloc: Global,
+        rows: u32,
+        cols: u32,
+        col_starts: Vec<u32>,
+        col_rows: Vec<Row>,
+    ) -> Result<Pattern, OutOfMemory>
+        requires order { IsOrder cols rows col_starts.items col_rows.items }
+        requires few { length col_rows.items < 2 ^ 32 }
+        ensures { IfOk result (λ a. (ps : List Pair) → IsOrderOf cols rows ps col_starts.items col_rows.items → HasPlaces rows cols (turned ps) a) }
+    {
         let (row_starts, row_cols) = turn::<Col, Row>(
             alloc,
             col_starts.as_slice(),

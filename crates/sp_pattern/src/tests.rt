@@ -1,6 +1,6 @@
 //! Small matrices, worked out by hand. Tables count rows and columns from 0.
 
-use crate::Pattern;
+use crate::{Pattern, load_matrix};
 use sp_ids::{Col, Field, OutOfMemory, Row, Triples};
 use std::alloc::Global;
 use std::test::Fail;
@@ -66,5 +66,15 @@ fn no_rows_and_no_entries(rt: HostRuntime) -> Result<(), Fail> {
     let bare = Pattern::build(&rt, rt.alloc(), &triples(rt.alloc(), 1, 2, &[])?)?;
     assert_eq!(rt; bare.cols(), 2);
     assert_eq!(rt; bare.entries(), 0);
+    Ok(())
+}
+
+#[test]
+fn load_matrices(rt: HostRuntime) -> Result<(), Fail> {
+    assert_eq!(rt; load_matrix(&rt, rt.alloc(), 30, 0)?.entries(), 85);
+    assert_eq!(rt; load_matrix(&rt, rt.alloc(), 2, 1)?.entries(), 4);
+    let one = load_matrix(&rt, rt.alloc(), 1, 18446744073709551615)?;
+    assert_eq!(rt; one.entries(), 1);
+    assert_eq!(rt; one.has(Row(0), Col(0)), true);
     Ok(())
 }

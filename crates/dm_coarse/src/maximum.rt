@@ -1,0 +1,98 @@
+//! A matrix with a maximum matching: what its two searches mark, and its rows and columns split by that.
+
+ghost use Rattle.std.specs.Prelude.{◌≡◌, IfOk};
+ghost use Rattle.bip_defs.specs.Lists.{Lists};
+ghost use Rattle.bip_defs.specs.Matching.{IsMaximum};
+ghost use Rattle.bip_defs.specs.Matrix.{cols};
+ghost use Rattle.bip_defs.specs.Parts.{IsHorizontalCol, IsHorizontalRow, IsSquareCol, IsSquareRow, IsVerticalCol, IsVerticalRow};
+ghost use Rattle.hall_witness.specs.Search.{Marks};
+
+use crate::split::{Thirds, split};
+use bip_graph::Matching;
+use hall_witness::{ByCols, ByRows, reached};
+use sp_ids::{Col, OutOfMemory, Row};
+use sp_pattern::Pattern;
+use std::alloc::Global;
+
+/// A matrix and a maximum matching of it.
+#[derive(Clone, Copy)]
+pub struct Maximum<'p> {
+    pub pattern: &'p Pattern,
+    pub matching: &'p Matching,
+    ghost rows: { matching.now.rows ≡ pattern.now.rows },
+    ghost cols: { matching.now.cols ≡ cols pattern.now },
+    // A ghost field has one proof at most, so it says that nothing refutes this.
+    ghost maximum: { ¬ ¬ IsMaximum pattern.now matching.now.pairs },
+}
+
+impl Maximum<'_> {
+    /// Marks the horizontal columns.
+    pub fn horizontal_cols(&self, alloc: Global) -> Result<Vec<bool>, OutOfMemory>
+        ensures { IfOk result (λ v. Marks (cols self.now.pattern.now) (IsHorizontalCol self.now.pattern.now) v.items) }
+    {
+        let side = ByCols {
+            pattern: self.pattern,
+            matching: self.matching,
+        };
+        reached(alloc, &side)
+    }
+
+    /// Marks the vertical rows.
+    pub fn vertical_rows(&self, alloc: Global) -> Result<Vec<bool>, OutOfMemory>
+        ensures { IfOk result (λ v. Marks self.now.pattern.now.rows (IsVerticalRow self.now.pattern.now) v.items) }
+    {
+        let side = ByRows {
+            pattern: self.pattern,
+            matching: self.matching,
+        };
+        reached(alloc, &side)
+    }
+
+    /// The rows of the three parts, by the marks.
+    pub fn split_rows(
+        &self,
+        alloc: Global,
+        horizontal: &[bool],
+        vertical: &[bool],
+    ) -> Result<Thirds<Row>, OutOfMemory>
+        requires horizontal { Marks (cols self.now.pattern.now) (IsHorizontalCol self.now.pattern.now) horizontal.now }
+        requires vertical { Marks self.now.pattern.now.rows (IsVerticalRow self.now.pattern.now) vertical.now }
+        ensures horizontal { IfOk result (λ s. Lists (IsHorizontalRow self.now.pattern.now) s.horizontal.items) }
+        ensures square { IfOk result (λ s. Lists (IsSquareRow self.now.pattern.now) s.square.items) }
+        ensures vertical { IfOk result (λ s. Lists (IsVerticalRow self.now.pattern.now) s.vertical.items) }
+    {
+        self.pattern.is_pattern();
+        let side = ByCols {
+            pattern: self.pattern,
+            matching: self.matching,
+        };
+        split(alloc, &side, horizontal, vertical)
+    }
+
+    /// The columns of the three parts, by the marks.
+    pub fn split_cols(
+        &self,
+        alloc: Global,
+        horizontal: &[bool],
+        vertical: &[bool],
+    ) -> Result<Thirds<Col>, OutOfMemory>
+        requires horizontal { Marks (cols self.now.pattern.now) (IsHorizontalCol self.now.pattern.now) horizontal.now }
+        requires vertical { Marks self.now.pattern.now.rows (IsVerticalRow self.now.pattern.now) vertical.now }
+        ensures horizontal { IfOk result (λ s. Lists (IsHorizontalCol self.now.pattern.now) s.horizontal.items) }
+        ensures square { IfOk result (λ s. Lists (IsSquareCol self.now.pattern.now) s.square.items) }
+        ensures vertical { IfOk result (λ s. Lists (IsVerticalCol self.now.pattern.now) s.vertical.items) }
+    {
+        self.pattern.is_pattern();
+        let side = ByRows {
+            pattern: self.pattern,
+            matching: self.matching,
+        };
+        // The horizontal columns are the vertical rows of the transpose.
+        let turned = split(alloc, &side, vertical, horizontal)?;
+        Ok(Thirds {
+            horizontal: turned.vertical,
+            square: turned.square,
+            vertical: turned.horizontal,
+        })
+    }
+}

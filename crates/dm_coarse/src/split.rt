@@ -1,0 +1,86 @@
+//! The rows of a matrix, split into its three parts.
+
+ghost use Rattle.std.specs.Prelude.{◌≡◌, ◌<◌, ◌^◌, map, length, IfOk};
+ghost use Rattle.bip_defs.specs.Lists.{Lists};
+ghost use Rattle.bip_defs.specs.Matching.{IsMaximum};
+ghost use Rattle.bip_defs.specs.Matrix.{Matrix, cols};
+ghost use Rattle.bip_defs.specs.Parts.{IsHorizontalCol, IsHorizontalRow, IsSquareRow, IsVerticalRow};
+ghost use Rattle.hall_witness.specs.Search.{Marks};
+ghost use Rattle.dm_coarse.specs.Split.{IsInPart};
+
+use hall_witness::Side;
+use sp_ids::{Id, OutOfMemory};
+use std::alloc::Global;
+
+/// The rows or the columns of each part, rising.
+#[derive(Drop)]
+pub struct Thirds<F> {
+    pub horizontal: Vec<F>,
+    pub square: Vec<F>,
+    pub vertical: Vec<F>,
+}
+
+/// One of the three parts.
+pub enum Part {
+    Horizontal,
+    Square,
+    Vertical,
+}
+
+/// The rows of each part, where it is known which columns are horizontal and which rows are vertical.
+///
+/// Work: one look at each row and its mate.
+pub fn split<F: Id, S: Side<F>>(
+    alloc: Global,
+    side: &S,
+    horizontal: &[bool],
+    vertical: &[bool],
+) -> Result<Thirds<F>, OutOfMemory>
+    requires maximum { IsMaximum (S.matrix side.now) (S.pairs side.now) }
+    requires few { Matrix.rows (S.matrix side.now) < 2 ^ 32 }
+    requires horizontal { Marks (cols (S.matrix side.now)) (IsHorizontalCol (S.matrix side.now)) horizontal.now }
+    requires vertical { Marks (Matrix.rows (S.matrix side.now)) (IsVerticalRow (S.matrix side.now)) vertical.now }
+    ensures horizontal { IfOk result (λ s. Lists (IsHorizontalRow (S.matrix side.now)) (map F.number s.horizontal.items)) }
+    ensures square { IfOk result (λ s. Lists (IsSquareRow (S.matrix side.now)) (map F.number s.square.items)) }
+    ensures vertical { IfOk result (λ s. Lists (IsVerticalRow (S.matrix side.now)) (map F.number s.vertical.items)) }
+{
+    let mut horizontal_rows = Vec::new(alloc);
+    let mut square_rows = Vec::new(alloc);
+    let mut vertical_rows = Vec::new(alloc);
+    for at in 0..vertical.len() {
+        let row = F::of(at as u32);
+        match part_of(side, row, horizontal, vertical) {
+            Part::Horizontal => horizontal_rows.push(row)?,
+            Part::Square => square_rows.push(row)?,
+            Part::Vertical => vertical_rows.push(row)?,
+        }
+    }
+    Ok(Thirds {
+        horizontal: horizontal_rows,
+        square: square_rows,
+        vertical: vertical_rows,
+    })
+}
+
+// The part of a row: a row with an entry in a horizontal column is the mate of one.
+fn part_of<F: Id, S: Side<F>>(side: &S, row: F, horizontal: &[bool], vertical: &[bool]) -> Part
+    requires row { F.number row < Matrix.rows (S.matrix side.now) }
+    requires maximum { IsMaximum (S.matrix side.now) (S.pairs side.now) }
+    requires horizontal { Marks (cols (S.matrix side.now)) (IsHorizontalCol (S.matrix side.now)) horizontal.now }
+    requires vertical { Marks (Matrix.rows (S.matrix side.now)) (IsVerticalRow (S.matrix side.now)) vertical.now }
+    ensures { IsInPart (S.matrix side.now) (F.number row) result }
+{
+    if vertical[row.number() as usize] {
+        return Part::Vertical;
+    }
+    match side.mate(row) {
+        Some(col) => {
+            if horizontal[col as usize] {
+                Part::Horizontal
+            } else {
+                Part::Square
+            }
+        }
+        None => Part::Square,
+    }
+}
