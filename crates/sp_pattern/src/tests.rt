@@ -1,9 +1,6 @@
 //! Small matrices, worked out by hand. Tables count rows and columns from 0.
 
-ghost use Rattle.std.specs.Prelude.{◌≡◌, IfOk};
-ghost use Rattle.sp_ids.specs.declared.triples.Field.TheVariants.{Integer};
-
-use crate::{Pattern, WeightError, Weights, load_matrix};
+use crate::{Pattern, load_matrix};
 use sp_ids::{Col, Field, OutOfMemory, Row, Triples};
 use std::alloc::Global;
 use std::test::Fail;
@@ -79,60 +76,5 @@ fn load_matrices(rt: HostRuntime) -> Result<(), Fail> {
     let one = load_matrix(&rt, rt.alloc(), 1, 18446744073709551615)?;
     assert_eq!(rt; one.entries(), 1);
     assert_eq!(rt; one.has(Row(0), Col(0)), true);
-    Ok(())
-}
-
-fn integers(
-    alloc: Global,
-    rows: u32,
-    cols: u32,
-    entries: &[(u32, u32, i64)],
-) -> Result<Triples, OutOfMemory>
-    ensures { IfOk result (λ t. t.field ≡ Integer) }
-{
-    let mut triples = Triples::new(alloc, rows, cols, Field::Integer)?;
-    for (row, col, value) in entries {
-        if *row < triples.rows() && *col < triples.cols() && triples.len() < 100 {
-            triples.push(Row(*row), Col(*col), *value)?;
-        }
-    }
-    Ok(triples)
-}
-
-#[test]
-fn weights_of_a_place_given_twice(rt: HostRuntime) -> Result<(), Fail> {
-    let entries = [(1, 0, 4), (0, 0, -7), (1, 1, 1), (0, 1, 5), (1, 1, -9)];
-    let triples = integers(rt.alloc(), 2, 2, &entries)?;
-    let pattern = Pattern::build(&rt, rt.alloc(), &triples)?;
-    let weights = Weights::build(rt.alloc(), &pattern, &triples)?;
-    if pattern.cols() > 1 {
-        assert_eq!(rt; weights.weights_of(Col(0)), [7, 4].as_slice());
-        assert_eq!(rt; weights.weights_of(Col(1)), [5, 8].as_slice());
-    }
-    if pattern.has(Row(1), Col(1)) {
-        assert_eq!(rt; weights.weight(Row(1), Col(1)), 8);
-    }
-    Ok(())
-}
-
-#[test]
-fn sums_past_the_limit(rt: HostRuntime) -> Result<(), Fail> {
-    let entries = [(0, 1, 9223372036854775807), (0, 1, 1), (1, 0, -9223372036854775807), (1, 0, -1), (0, 0, 1)];
-    let triples = integers(rt.alloc(), 2, 2, &entries)?;
-    let pattern = Pattern::build(&rt, rt.alloc(), &triples)?;
-    let refused = Weights::build(rt.alloc(), &pattern, &triples).err();
-    assert_eq!(rt; refused, Some(WeightError::SumLimit { row: Row(1), col: Col(0) }));
-    Ok(())
-}
-
-#[test]
-fn sums_at_the_limit(rt: HostRuntime) -> Result<(), Fail> {
-    let entries = [(0, 0, 9223372036854775807), (0, 0, 9), (0, 0, -9)];
-    let triples = integers(rt.alloc(), 1, 1, &entries)?;
-    let pattern = Pattern::build(&rt, rt.alloc(), &triples)?;
-    let weights = Weights::build(rt.alloc(), &pattern, &triples)?;
-    if pattern.has(Row(0), Col(0)) {
-        assert_eq!(rt; weights.weight(Row(0), Col(0)), 9223372036854775807);
-    }
     Ok(())
 }

@@ -45,7 +45,7 @@ impl<'p> Model for Weights<'p> {
 }
 
 impl<'p> Weights<'p> {
-    /// The weights of an entry's column, in the order of its rows as `Pattern::rows_of` lends them, lent without copying.
+    /// The weights of a column's entries, in the order in which `Pattern::rows_of` lends its rows, lent without copying.
     pub fn weights_of(&self, col: Col) -> &[u64]
         requires { col < cols self.now.matrix }
         ensures weights { result.now ≡ weights_in self.now col }
