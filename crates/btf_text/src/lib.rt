@@ -2,7 +2,9 @@
 #![tactic(auto)]
 
 mod buffer;
+mod load;
 mod rank;
 
 pub use buffer::TextBuf;
+pub use load::write_load;
 pub use rank::write_rank;
