@@ -47,7 +47,7 @@ differs : (n : ℕ) → n ≢ 0 → (n == 0) ≡ false
 differs n ne = elim (eqb_tells n 0) [ inl p ↦ absurd (ne p.1) | inr p ↦ p.0 ]
 
 -- rows and columns stand for their numbers
-same_ids : (list : List ℕ) → map (λ (n : ℕ). n) list ≡ list
+pub same_ids : (list : List ℕ) → map (λ (n : ℕ). n) list ≡ list
 same_ids list = map-id list
 
 pub part-lists : (word rows cols : List ℕ) → length rows + length cols ≢ 0

@@ -4,6 +4,9 @@
 mod buffer;
 mod load;
 mod rank;
+mod report;
+#[cfg(test)]
+mod tests;
 
 pub use buffer::TextBuf;
 pub use load::write_load;
