@@ -1,2 +1,2 @@
 #!/bin/sh
-rt check "$@" 2>&1 | grep -v "proved$" | cut -c1-1600 | grep -v "^statements\|^library\|^logic /\|^so far\|^checked\|^rt: chose\|note: to see how far\|note: a goal may be false even"
+rt check "$@" 2>&1 | grep -a -v "proved$" | cut -c1-1600 | grep -a -v "^statements\|^library\|^logic /\|^so far\|^checked\|^rt: chose\|note: to see how far\|note: a goal may be false even"

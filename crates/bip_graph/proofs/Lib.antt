@@ -4,5 +4,6 @@ pub mod Ends
 pub mod Halfway
 pub mod Handing
 pub mod Mates
+pub mod Members
 pub mod Seen
 pub mod Stretching

@@ -1,6 +1,5 @@
 -- What the texts of a matrix say: each is the text of its rank, parts and blocks as they are defined.
-use Rattle.std.specs.Prelude.{◌≡◌, ℕ, Bool, true, false, List, ◌++◌, length, Option, None, Some}
-use Rattle.bip_defs.specs.Blocks.{Block}
+use Rattle.std.specs.Prelude.{◌≡◌, ℕ, Bool, true, false, List, ◌++◌, Option, None, Some}
 use Rattle.bip_defs.specs.Decomposition.{Decomposition, IsDecompositionOf}
 use Rattle.bip_defs.specs.Lists.{IsRising, Lists}
 use Rattle.bip_defs.specs.Matching.{IsMaximum, IsRank, cols_of}

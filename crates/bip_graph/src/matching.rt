@@ -120,10 +120,11 @@ impl Matching {
         ensures size { length self.new.pairs ≡ length self.old.pairs }
         ensures sizes { (self.new.rows ≡ self.old.rows) × (self.new.cols ≡ self.old.cols) }
     {
-        let before = self.col_of_row[row.0 as usize];
+        let (at_row, at_col) = (row.0 as usize, col.0 as usize);
+        let before = self.col_of_row[at_row];
         self.row_of_col[before as usize] = NONE;
-        self.row_of_col[col.0 as usize] = row.0;
-        self.col_of_row[row.0 as usize] = col.0;
+        self.row_of_col[at_col] = row.0;
+        self.col_of_row[at_row] = col.0;
     }
 
     /// Exchanges an augmenting path, given in order from its unmatched column to its unmatched row: each listed pair is
@@ -154,5 +155,38 @@ impl Matching {
         let step = path[last];
         self.pair(step.0, step.1);
         let _after = self.size();
+    }
+}
+
+#[cfg(test)]
+mod tests {
+    use super::*;
+
+    // The base matching has row 0 at column 2. Two paths are exchanged one after the other: column 1 takes row 0 and
+    // column 2 takes row 1; then column 0 takes row 0 and column 1 takes row 2.
+    #[test]
+    fn exchanges_paths(rt: HostRuntime) -> Result<(), OutOfMemory> {
+        let mut matching = Matching::empty(rt.alloc(), 3, 3)?;
+        matching.pair(Row(0), Col(2));
+        matching.flip(&[(Row(0), Col(1)), (Row(1), Col(2))]);
+        assert_eq!(rt; matching.row_of(Col(0)), None);
+        matching.flip(&[(Row(0), Col(0)), (Row(2), Col(1))]);
+        assert_eq!(rt; matching.size(), 3);
+        assert_eq!(rt; matching.row_of(Col(0)), Some(Row(0)));
+        assert_eq!(rt; matching.row_of(Col(1)), Some(Row(2)));
+        assert_eq!(rt; matching.row_of(Col(2)), Some(Row(1)));
+        assert_eq!(rt; matching.col_of(Row(1)), Some(Col(2)));
+        Ok(())
+    }
+
+    #[test]
+    fn a_copy_stands_alone(rt: HostRuntime) -> Result<(), OutOfMemory> {
+        let mut matching = Matching::empty(rt.alloc(), 1, 2)?;
+        let copy = matching.copy(rt.alloc())?;
+        matching.pair(Row(0), Col(1));
+        assert_eq!(rt; (copy.size(), matching.size()), (0, 1));
+        assert_eq!(rt; copy.col_of(Row(0)), None);
+        assert_eq!(rt; matching.col_of(Row(0)), Some(Col(1)));
+        Ok(())
     }
 }

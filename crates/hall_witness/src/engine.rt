@@ -1,6 +1,7 @@
 //! The plain engine: one augmenting path after another.
 
-ghost use Rattle.std.specs.Prelude.{IfOk};
+ghost use Rattle.std.specs.Prelude.{◌≡◌, IfOk};
+ghost use Rattle.bip_defs.specs.Matrix.{cols};
 ghost use Rattle.bip_defs.specs.Witness.{IsWitness};
 
 use crate::answer::Reach;
@@ -15,7 +16,8 @@ use std::alloc::Global;
 /// Answers `OutOfMemory` where the matching, 9 bytes a column and a path or the witness can't be had. Work: one search
 /// for each pair, each of which looks at each column and each entry once at most (Berge 1957).
 pub fn plain(alloc: Global, pattern: &Pattern) -> Result<(Matching, Vec<Col>), OutOfMemory>
-    ensures { IfOk result (λ o. IsWitness pattern.now o.0.pairs o.1.items) }
+    ensures witness { IfOk result (λ o. IsWitness pattern.now o.0.pairs o.1.items) }
+    ensures sizes { IfOk result (λ o. (o.0.rows ≡ pattern.now.rows) × (o.0.cols ≡ cols pattern.now)) }
 {
     let mut matching = Matching::empty(alloc, pattern.rows(), pattern.cols())?;
     loop {

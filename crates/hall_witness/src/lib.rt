@@ -5,6 +5,8 @@ mod answer;
 mod engine;
 mod search;
 mod sides;
+#[cfg(test)]
+mod tests;
 mod witness;
 
 pub use answer::Reach;

@@ -1,8 +1,8 @@
 //! Sets of numbers below a bound that give their least member.
 //!
 //! A set is a tree of 64-bit words: the lowest words have a bit for each number, and each word above says which of the
-//! 64 words below it are not empty (van Emde Boas 1977 in its simplest form). A set of numbers below 64^k takes about an
-//! eighth of a byte a number, and each call looks at k words at most.
+//! 64 words below it are not empty (after van Emde Boas 1975). A set of numbers below 64^k takes about an eighth of a byte
+//! a number; `insert`, `remove` and `least` look at k words at most, and `take_least` at 2 k.
 #![tactic(auto)]
 
 mod tree;

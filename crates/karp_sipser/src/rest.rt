@@ -1,6 +1,6 @@
 //! What is left unmatched, and the next pair of it.
 
-ghost use Rattle.std.specs.Prelude.{◌≡◌, ◌⊎◌, ◌↔◌, ℕ, suc, ◌<◌, [], length, slice_index, IfOk, IfSome, IfNone};
+ghost use Rattle.std.specs.Prelude.{◌≡◌, ◌⊎◌, ◌↔◌, ℕ, suc, ◌<◌, ◌≤◌, [], length, slice_index, IfOk, IfSome, IfNone};
 ghost use Rattle.bip_defs.specs.Lists.{Among};
 ghost use Rattle.bip_defs.specs.Matrix.{cols, Place};
 ghost use Rattle.bip_defs.specs.Start.{IsFree, IsChoice};
@@ -84,6 +84,7 @@ impl Rest {
         ensures choice { IfSome result (IsChoice pattern.now self.old.matching.pairs) }
         ensures rest { IsRest pattern.now self.new }
         ensures ones { IfSome result (λ p. HasOnesBut p self.new) }
+        ensures forward { self.old.next_col ≤ self.new.next_col }
         ensures matching { self.new.matching ≡ self.old.matching }
     {
         pattern.is_pattern();
@@ -114,6 +115,7 @@ impl Rest {
         ensures ones { HasOnes self.new }
         ensures pairs { (p : Place) → Among p self.new.matching.pairs ↔ ((p ≡ (row, col)) ⊎ Among p self.old.matching.pairs) }
         ensures size { length self.new.matching.pairs ≡ suc (length self.old.matching.pairs) }
+        ensures next { self.new.next_col ≡ self.old.next_col }
     {
         self.matching.pair(row, col);
         let cols = self.col_degrees.as_mut_slice();

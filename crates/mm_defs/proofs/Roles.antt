@@ -157,3 +157,24 @@ module _ (end : End) (first : List ℕ) (others : List (List ℕ)) (l : List ℕ
       → line_faults end ((first ∷ others) ++ l ∷ []) ≡ line_faults end (first ∷ others) ++ trailing end (line_at n l ∷ [])
   trailing_comes s es e h =
       pushed ∙ rw (line_faults-is end first others, e) (simp append_assoc (ap (λ (t : List Fault). fault_by banner_rules (line_at 1 first) ++ (fault_by (size_rules (header (words first))) s ++ t)) (walk-push_past end (entry_rules (header (words first)) (size s.words)) (size s.words).count es (line_at n l) h)))
+
+-- ---- lines behind the matrix
+
+walk-past : (end : End) (rules : List Word → List Rule) (n : ℕ) (ls ms : List Line) → length ls ≡ n → walk end rules n (ls ++ ms) ≡ walk end rules n ls ++ trailing end ms
+walk-past end rules zero [] ms h = walk-zero end rules ms
+walk-past end rules (suc n) [] ms h = absurd (omega arith)
+walk-past end rules zero (l ∷ ls) ms h = absurd (omega arith)
+walk-past end rules (suc n) (l ∷ ls) ms h =
+    let h2 : length ls ≡ n = omega arith in
+    ap (λ (t : List Fault). fault_by rules l ++ t) (walk-past end rules n ls ms h2) ∙ sym (append_assoc (fault_by rules l) (walk end rules n ls) (trailing end ms))
+
+-- they are not judged, where the matrix ends with its last entry
+pub line_faults-past : (first : List ℕ) (others ms : List (List ℕ)) (s : Line) (es : List Line) → later_lines (first ∷ others) ≡ s ∷ es → length es ≡ (size s.words).count
+    → line_faults LastEntry ((first ∷ others) ++ ms) ≡ line_faults LastEntry (first ∷ others)
+line_faults-past first others ms s es e h =
+    let more : List Line = kept (numbered (2 + length others) ms) in
+    let k : later_lines ((first ∷ others) ++ ms) ≡ s ∷ (es ++ more) = later_lines-append first others ms ∙ ap (λ (t : List Line). t ++ more) e in
+    let w = walk-past LastEntry (entry_rules (header (words first)) (size s.words)) (size s.words).count es more h in
+    line_faults-is LastEntry first (others ++ ms) ∙ ap (faults_of LastEntry (line_at 1 first)) k
+    ∙ ap (λ (t : List Fault). fault_by banner_rules (line_at 1 first) ++ fault_by (size_rules (header (words first))) s ++ t) (w ∙ append-nil (walk LastEntry (entry_rules (header (words first)) (size s.words)) (size s.words).count es))
+    ∙ ap (faults_of LastEntry (line_at 1 first)) (sym e) ∙ sym (line_faults-is LastEntry first others)

@@ -85,14 +85,19 @@ IsNear call (Err errors.TooLong) = Unit {0}
 IsNear call (Err errors.ReadFault) = Unit {0}
 IsNear call (Err errors.OutOfMemory) = Unit {0}
 
--- What each answer to the reading of all that follows says: it judges no line.
-abbrev pub IsRest : Call → List ℕ → Result (List ℕ) ReadError → Type 0
-IsRest call rest (Ok bytes) = (bytes ≡ offered call) × (rest ≡ []) × (length (offered call) ≤ call.room)
-IsRest call rest (Err (errors.Malformed line kind)) = ⊥
-IsRest call rest (Err (errors.Limit line kind)) = ⊥
-IsRest call rest (Err errors.TooLong) = call.room < length (got call)
-IsRest call rest (Err errors.ReadFault) = call.failures_before < call.failures_after
-IsRest call rest (Err errors.OutOfMemory) = Unit {0}
+-- all that the call could come to, within the limit, and nothing is left
+pub record IsRest (call : Call) (left bytes : List ℕ) : Type 0 where
+  pub bytes_are : bytes ≡ offered call
+  pub nothing_left : left ≡ []
+  pub within : length (offered call) ≤ call.room
+
+-- Why what follows was not read, by the error: no line is judged.
+abbrev pub RefusesRest : Call → ReadError → Type 0
+RefusesRest call (errors.Malformed line kind) = ⊥
+RefusesRest call (errors.Limit line kind) = ⊥
+RefusesRest call errors.TooLong = call.room < length (got call)
+RefusesRest call errors.ReadFault = call.failures_before < call.failures_after
+RefusesRest call errors.OutOfMemory = Unit {0}
 
 -- the call on an input over a source that tells its bytes
 abbrev pub call_on : Intake → ℕ → ℕ → List ℕ → List ℕ → Call

@@ -2,6 +2,6 @@ pub mod Closing
 pub mod Counting
 mod Flipping
 pub mod Marking
-mod Places
+pub mod Places
 mod Steps
 mod Trailing

@@ -2,9 +2,9 @@
 use Rattle.std.proofs.Common.{◌≡◌, ◌≢◌, ◌∙◌, ℕ, suc, ◌<◌, ◌≤◌, Bool, true, false, List, [], ◌∷◌, ◌++◌, length, slice_index, refl, sym, ap, subst, inl, inr, ⊎_elim, arith}
 use Rattle.bip_defs.specs.Lists.{Among, AreDistinct}
 use Rattle.bip_defs.specs.Matching.{cols_of, rows_of}
-use Rattle.bip_defs.specs.Matrix.{AreEntries, IsEntry, Matrix, Place, column, upto}
+use Rattle.bip_defs.specs.Matrix.{AreEntries, IsEntry, Matrix, Place, column}
 use Rattle.bip_defs.specs.Paths.{Alternates, BeginsUnmatched}
-use Rattle.bip_defs.proofs.Sets.{among_last, few_distinct, number_same, place_among, row_among, upto_complete, upto_length}
+use Rattle.bip_defs.proofs.Sets.{among_last, number_same, place_among, row_among}
 use Rattle.path_search.specs.Searching.{IsMarked, IsShut}
 use Rattle.path_search.specs.Trails.{Passed, Trail, turn}
 use Rattle.path_search.proofs.Marking.{Grows}

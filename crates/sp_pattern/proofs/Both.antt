@@ -1,5 +1,5 @@
 -- Both orders of the same places are a pattern.
-use Rattle.std.proofs.Common.{◌≡◌, ◌↔◌, ◌∙◌, ℕ, ◌+◌, ◌-◌, ◌<◌, ◌≤◌, ◌^◌, List, [], length, get_or, map, refl, sym, ap, arith, subst, ◌∷◌, ◌⊎◌, ◌≢◌, inl, inr, Bool, true, false, IsPermutation, is_lt, nat_cmp, tests, true≢false}
+use Rattle.std.proofs.Common.{◌≡◌, ◌∙◌, ℕ, ◌-◌, ◌<◌, ◌^◌, List, [], length, map, sym, ap, arith, subst, ◌∷◌, ◌⊎◌, ◌≢◌, inl, inr, true, false, IsPermutation, is_lt, nat_cmp, tests, true≢false}
 use Rattle.std.specs.Ordering.{ordering_then}
 use Rattle.std.specs.List.{AllByRecursion}
 use Rattle.std.proofs.lemmas.List.Sorted.{Contains-permutation, length_permutation, IsPermutation-sym}
@@ -9,12 +9,13 @@ use Rattle.std.proofs.Math.Decide.{dec_lt}
 use Rattle.std.proofs.lemmas.List.{get_or_past, map-id}
 use Rattle.bip_defs.specs.Lists.{Among, Lists}
 use Rattle.bip_defs.specs.Matching.{turned}
-use Rattle.bip_defs.specs.Matrix.{HasPlaces, IsEntry, Matrix, Place, column, cols}
+use Rattle.bip_defs.specs.Matrix.{HasPlaces, IsEntry, Matrix, Place, cols}
 use Rattle.bip_defs.proofs.Sets.{among_from_contains, contains_from_among, lists_same, number_same}
 use Rattle.bip_defs.proofs.Turned.{turned_among, turned_back, turned_length, turned_twice}
 use Rattle.sp_pattern.specs.Order.{AreInside, AreParts, IsAtMost, IsOrder, IsOrderOf, IsTurned, Pair}
-use Rattle.sp_pattern.specs.Stored.{AreOrders, AreStarts, piece, pieces, stored}
+use Rattle.sp_pattern.specs.Stored.{AreOrders, piece, pieces, stored}
 use Rattle.sp_pattern.proofs.Cuts.{get_or-pieces, length-pieces}
+use Rattle.sp_pattern.proofs.Orders.{length-inners}
 use Rattle.sp_pattern.proofs.Shape.{orders_columns}
 use Rattle.sp_pattern.proofs.Sides.{inners_lists, inners_of, order_piece, order_starts}
 
@@ -80,15 +81,24 @@ module _ (rows cols : ℕ) (P : ℕ → ℕ → Type 0) (cs rs us vs : List ℕ)
 
 -- A pattern of pairs of a column and a row, and one of pairs of a row and a column.
 
-pub of_columns : (rows cols : ℕ) (ps : List Pair) (cs rs us vs : List ℕ) → IsOrderOf cols rows ps cs rs → IsTurned (length cs - 1) rows cs rs us vs → AreInside cols rows ps
-    → rows < 2 ^ 32 → cols < 2 ^ 32 → length ps < 2 ^ 32 → AreOrders cs rs us vs × HasPlaces rows cols (turned ps) (stored cs rs us)
-of_columns rows cols ps cs rs us vs o t inside few_rows few_cols few =
+pub of_columns : (rows cols : ℕ) (ps : List Pair) (cs rs us vs : List ℕ) → IsOrderOf cols rows ps cs rs → IsTurned (length cs - 1) rows cs rs us vs
+    → rows < 2 ^ 32 → cols < 2 ^ 32 → length rs < 2 ^ 32 → AreOrders cs rs us vs × HasPlaces rows cols (turned ps) (stored cs rs us)
+of_columns rows cols ps cs rs us vs o t few_rows few_cols few =
     let by_col = order_parts cols rows ps cs rs o in
     let long = by_col.long in
+    let inside : AreInside cols rows ps = λ p h. o.order.inside p ((o.same p).1 h) in
     let by_row = turned_parts cols rows (length cs - 1) (λ c r. Among (c, r) ps) cs rs us vs by_col (λ c r h. (inside (c, r) h).0) (omega (arith, long)) t.parts in
     let within : (r c : ℕ) → Among (c, r) ps → (r < rows) × (c < cols) = λ r c h. ((inside (c, r) h).1, (inside (c, r) h).0) in
-    let orders = both_orders rows cols (λ r c. Among (c, r) ps) cs rs us vs by_col by_row within few_rows few_cols (let f = o.few in omega (arith, f, few)) in
+    let orders = both_orders rows cols (λ r c. Among (c, r) ps) cs rs us vs by_col by_row within few_rows few_cols few in
     (orders, both_places rows cols (λ r c. Among (c, r) ps) cs rs us vs by_col by_row within (turned ps) (λ r c h. turned_among c r ps h) (λ r c h. turned_back c r ps h) orders)
+
+-- an order is one of its own pairs
+pub order_itself : (m n : ℕ) (starts flat : List ℕ) (o : IsOrder m n starts flat) → IsOrderOf m n o.pairs starts flat
+order_itself m n starts flat o = record {
+  order = o;
+  same = λ p. ((λ h. h), λ h. h);
+  few = let same = ap length o.front.numbers ∙ length-inners o.pairs in omega (arith, same);
+}
 
 pub of_rows : (rows cols : ℕ) (ps : List Pair) (cs rs us vs : List ℕ) → IsOrderOf rows cols ps us vs → IsTurned (length us - 1) cols us vs cs rs → AreInside rows cols ps
     → rows < 2 ^ 32 → cols < 2 ^ 32 → length ps < 2 ^ 32 → AreOrders cs rs us vs × HasPlaces rows cols ps (stored cs rs us)
@@ -105,16 +115,25 @@ of_rows rows cols ps cs rs us vs o t inside few_rows few_cols few =
 abbrev pub itself : ℕ → ℕ
 itself x = x
 
-pub made_by_columns : (rows cols : ℕ) (ps : List Pair) (cs rs us vs lent_starts lent_flat : List ℕ) → IsOrderOf cols rows ps cs (map itself rs) → lent_starts ≡ cs → lent_flat ≡ rs
-    → IsTurned (length lent_starts - 1) rows lent_starts (map itself lent_flat) us (map itself vs) → AreInside cols rows ps
-    → rows < 2 ^ 32 → cols < 2 ^ 32 → length ps < 2 ^ 32 → AreOrders cs rs us vs × HasPlaces rows cols (turned ps) (stored cs rs us)
-made_by_columns rows cols ps cs rs us vs ss ff o es ef t inside few_rows few_cols few =
-    of_columns rows cols ps cs rs us vs (subst (λ xs. IsOrderOf cols rows ps cs xs) (map-id rs) o)
+pub made_by_columns : (rows cols : ℕ) (ps : List Pair) (cs rs us vs lent_starts lent_flat : List ℕ) → IsOrderOf cols rows ps cs rs → lent_starts ≡ cs → lent_flat ≡ rs
+    → IsTurned (length lent_starts - 1) rows lent_starts (map itself lent_flat) us (map itself vs)
+    → rows < 2 ^ 32 → cols < 2 ^ 32 → length rs < 2 ^ 32 → AreOrders cs rs us vs × HasPlaces rows cols (turned ps) (stored cs rs us)
+made_by_columns rows cols ps cs rs us vs ss ff o es ef t few_rows few_cols few =
+    of_columns rows cols ps cs rs us vs o
     (subst (λ xs. IsTurned (length cs - 1) rows cs xs us vs) (map-id rs)
     (subst (λ xs. IsTurned (length cs - 1) rows cs (map itself xs) us vs) ef
     (subst (λ xs. IsTurned (length xs - 1) rows xs (map itself ff) us vs) es
     (subst (λ xs. IsTurned (length ss - 1) rows ss (map itself ff) us xs) (map-id vs) t))))
-    inside few_rows few_cols few
+    few_rows few_cols few
+
+pub lent_order : (m n : ℕ) (starts flat lent_starts lent_flat : List ℕ) → IsOrder m n starts flat → lent_starts ≡ starts → lent_flat ≡ flat → IsOrder (length lent_starts - 1) n lent_starts (map itself lent_flat)
+lent_order m n starts flat ss ff o es ef =
+    let long = o.long in
+    let same : length starts - 1 ≡ m = omega (arith, long) in
+    rw (es, ef, map-id, same) o
+
+pub order_numbers : (m n : ℕ) (ps : List Pair) (starts flat : List ℕ) → IsOrderOf m n ps starts (map itself flat) → IsOrderOf m n ps starts flat
+order_numbers m n ps starts flat o = subst (λ xs. IsOrderOf m n ps starts xs) (map-id flat) o
 
 pub made_by_rows : (rows cols : ℕ) (ps : List Pair) (cs rs us vs lent_starts lent_flat : List ℕ) → IsOrderOf rows cols ps us (map itself vs) → lent_starts ≡ us → lent_flat ≡ vs
     → IsTurned (length lent_starts - 1) cols lent_starts (map itself lent_flat) cs (map itself rs) → AreInside rows cols ps

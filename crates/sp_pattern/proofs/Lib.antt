@@ -1,5 +1,6 @@
 pub mod Both
 pub mod Cuts
+pub mod Loading
 pub mod Numbers
 pub mod Orders
 pub mod Placing

@@ -7,8 +7,8 @@ use crate::pairs::Pairs;
 use sp_ids::{Id, OutOfMemory};
 use std::alloc::Global;
 
-// Writes `end` as the start of each outer number up to this one that has none yet.
-fn open(starts: &mut Vec<u32>, outer: u32, end: u32) -> Result<(), OutOfMemory>
+/// Writes `end` as the start of each outer number up to this one that has none yet.
+pub fn open(starts: &mut Vec<u32>, outer: u32, end: u32) -> Result<(), OutOfMemory>
     requires { length starts.old.items ≤ outer + 1 }
     ensures opened { OnOk result (length starts.new.items ≡ outer + 1) }
     ensures front { OnOk result ((ds : List Pair) (flat : List ℕ) → length flat ≡ end → IsFront ds starts.old.items flat → IsFront ds starts.new.items flat) }

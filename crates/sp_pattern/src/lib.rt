@@ -2,6 +2,7 @@
 #![tactic(auto)]
 
 mod compress;
+mod load;
 mod pairs;
 mod pattern;
 mod pieces;
@@ -9,4 +10,5 @@ mod pieces;
 mod tests;
 mod turn;
 
+pub use load::load_matrix;
 pub use pattern::Pattern;

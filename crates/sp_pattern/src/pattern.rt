@@ -1,8 +1,8 @@
 //! The pattern of a matrix.
 
-ghost use Rattle.std.specs.Prelude.{◌≡◌, ◌<◌, ◌^◌, ◌↔◌, IsTrue, IfOk, length};
+ghost use Rattle.std.specs.Prelude.{◌≡◌, ◌<◌, ◌^◌, ◌↔◌, IsTrue, IfOk, List, length};
 ghost use Rattle.bip_defs.specs.Matching.{turned};
-ghost use Rattle.sp_pattern.specs.Order.{AreInside, AreSorted};
+ghost use Rattle.sp_pattern.specs.Order.{AreInside, AreSorted, IsOrder, IsOrderOf, Pair};
 ghost use Rattle.bip_defs.specs.Lists.{Lists};
 ghost use Rattle.bip_defs.specs.Matrix.{IsEntry, HasPlaces, cols, column, row_list, entry_count};
 ghost use Rattle.sp_ids.specs.Entries.{places};
@@ -80,8 +80,27 @@ impl Pattern {
     {
         let (col_starts, col_rows) = compress::<P, Row>(alloc, &pairs, cols, rows)?;
         drop(pairs);
-        let (row_starts, row_cols) =
-            turn::<Col, Row>(alloc, col_starts.as_slice(), col_rows.as_slice(), rows)?;
+        Pattern::from_column_order(alloc, rows, cols, col_starts, col_rows)
+    }
+
+    // The pattern of an order by columns.
+    pub(crate) fn from_column_order(
+        alloc: Global,
+        rows: u32,
+        cols: u32,
+        col_starts: Vec<u32>,
+        col_rows: Vec<Row>,
+    ) -> Result<Pattern, OutOfMemory>
+        requires order { IsOrder cols rows col_starts.items col_rows.items }
+        requires few { length col_rows.items < 2 ^ 32 }
+        ensures { IfOk result (λ a. (ps : List Pair) → IsOrderOf cols rows ps col_starts.items col_rows.items → HasPlaces rows cols (turned ps) a) }
+    {
+        let (row_starts, row_cols) = turn::<Col, Row>(
+            alloc,
+            col_starts.as_slice(),
+            col_rows.as_slice(),
+            rows,
+        )?;
         Ok(Pattern {
             col_starts,
             col_rows,
@@ -104,8 +123,12 @@ impl Pattern {
     {
         let (row_starts, row_cols) = compress::<P, Col>(alloc, &pairs, rows, cols)?;
         drop(pairs);
-        let (col_starts, col_rows) =
-            turn::<Row, Col>(alloc, row_starts.as_slice(), row_cols.as_slice(), cols)?;
+        let (col_starts, col_rows) = turn::<Row, Col>(
+            alloc,
+            row_starts.as_slice(),
+            row_cols.as_slice(),
+            cols,
+        )?;
         Ok(Pattern {
             col_starts,
             col_rows,

@@ -1,6 +1,6 @@
 //! Small matrices, worked out by hand. Tables count rows and columns from 0.
 
-use crate::Pattern;
+use crate::{Pattern, load_matrix};
 use sp_ids::{Col, Field, OutOfMemory, Row, Triples};
 use std::alloc::Global;
 use std::test::Fail;
@@ -37,16 +37,21 @@ fn places_in_no_order_and_one_of_them_twice(rt: HostRuntime) -> Result<(), Fail>
 }
 
 #[test]
-fn places_by_columns_and_by_rows(rt: HostRuntime) -> Result<(), Fail> {
-    let by_columns = [(0, 0), (2, 0), (2, 0), (1, 2)];
-    let pattern = Pattern::build(&rt, rt.alloc(), &triples(rt.alloc(), 3, 3, &by_columns)?)?;
+fn places_by_columns(rt: HostRuntime) -> Result<(), Fail> {
+    let places = [(0, 0), (2, 0), (2, 0), (1, 2)];
+    let pattern = Pattern::build(&rt, rt.alloc(), &triples(rt.alloc(), 3, 3, &places)?)?;
     assert_eq!(rt; pattern.entries(), 3);
+    assert_eq!(rt; pattern.cols(), 3);
     assert_eq!(rt; pattern.rows_of(Col(0)), [Row(0), Row(2)].as_slice());
-    assert_eq!(rt; pattern.cols_of(Row(1)), [Col(2)].as_slice());
-    let by_rows = [(0, 0), (1, 2), (2, 0), (2, 0)];
-    let pattern = Pattern::build(&rt, rt.alloc(), &triples(rt.alloc(), 3, 3, &by_rows)?)?;
+    Ok(())
+}
+
+#[test]
+fn places_by_rows(rt: HostRuntime) -> Result<(), Fail> {
+    let places = [(0, 0), (1, 2), (2, 0), (2, 0)];
+    let pattern = Pattern::build(&rt, rt.alloc(), &triples(rt.alloc(), 3, 3, &places)?)?;
     assert_eq!(rt; pattern.entries(), 3);
-    assert_eq!(rt; pattern.rows_of(Col(0)), [Row(0), Row(2)].as_slice());
+    assert_eq!(rt; pattern.rows(), 3);
     assert_eq!(rt; pattern.cols_of(Row(1)), [Col(2)].as_slice());
     Ok(())
 }
@@ -61,5 +66,15 @@ fn no_rows_and_no_entries(rt: HostRuntime) -> Result<(), Fail> {
     let bare = Pattern::build(&rt, rt.alloc(), &triples(rt.alloc(), 1, 2, &[])?)?;
     assert_eq!(rt; bare.cols(), 2);
     assert_eq!(rt; bare.entries(), 0);
+    Ok(())
+}
+
+#[test]
+fn load_matrices(rt: HostRuntime) -> Result<(), Fail> {
+    assert_eq!(rt; load_matrix(&rt, rt.alloc(), 30, 0)?.entries(), 85);
+    assert_eq!(rt; load_matrix(&rt, rt.alloc(), 2, 1)?.entries(), 4);
+    let one = load_matrix(&rt, rt.alloc(), 1, 18446744073709551615)?;
+    assert_eq!(rt; one.entries(), 1);
+    assert_eq!(rt; one.has(Row(0), Col(0)), true);
     Ok(())
 }

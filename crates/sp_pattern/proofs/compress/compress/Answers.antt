@@ -1,4 +1,4 @@
-use Rattle.std.proofs.Common.{rules, ◌≡◌, ◌+◌, ◌-◌, ◌<◌, ◌≤◌, ℕ, length, map, get_or, arith, ◌∙◌, sym, ap, refl, subst}
+use Rattle.std.proofs.Common.{◌≡◌, ◌<◌, length, map, arith, ◌∙◌, sym, refl}
 use Rattle.std.proofs.lemmas.List.{map-append}
 use Rattle.sp_pattern.proofs.Numbers.{length_numbers}
 use Rattle.sp_pattern.proofs.Orders.{compressing_start, compressing_again, compressing_more, compressing_end, inside_at}
@@ -16,10 +16,10 @@ loop-k-preserved g c =
     let long : length flat ≡ c.len.result = length_numbers g.I.Id.number c.loop-k.flat.items ∙ (let n = c.len.ensures in let ok = c.loop-k.flat.ok in omega (arith, n, ok)) in
     let inside = inside_at c.args.outer c.args.inner ps c.loop-k.k c.at-i.result c.requires.inside lt c.at-i.ensures in
     elim c.if-is_new.branch [
-      then-is_new+in_ok-push w ↦ compressing_more c.args.outer ps c.loop-k.k c.loop-k.starts.items c.open.new.starts.items flat (map g.I.Id.number c.if-is_new.flat.items) c.at-i.result c.requires.sorted c.loop-k.invariant lt c.at-i.ensures
+      | then-is_new+in_ok-push w ↦ compressing_more c.args.outer ps c.loop-k.k c.loop-k.starts.items c.open.new.starts.items flat (map g.I.Id.number c.if-is_new.flat.items) c.at-i.result c.requires.sorted c.loop-k.invariant lt c.at-i.ensures
           (λ z e. w.if-is_new.ensures z (e ∙ c.at-i.ensures)) c.in_ok-open.ensures.opened inside (λ ds f. c.in_ok-open.ensures.front ds flat long f)
           (rw (w.flat-is, w.in_ok-push.ensures.items, map-append, w.of.ensures) refl)
-    | else-is_new w ↦ rw w.flat-is (compressing_again c.args.outer ps c.loop-k.k c.loop-k.starts.items c.open.new.starts.items flat c.at-i.result c.requires.sorted c.loop-k.invariant lt c.at-i.ensures
+      | else-is_new w ↦ rw w.flat-is (compressing_again c.args.outer ps c.loop-k.k c.loop-k.starts.items c.open.new.starts.items flat c.at-i.result c.requires.sorted c.loop-k.invariant lt c.at-i.ensures
           w.if-is_new.ensures.0 (w.if-is_new.ensures.1 ∙ sym c.at-i.ensures) c.in_ok-open.ensures.opened inside (λ ds f. c.in_ok-open.ensures.front ds flat long f))
     ]
 

@@ -1,5 +1,4 @@
-use Rattle.std.proofs.Common.{◌≡◌, ◌++◌, ◌∷◌, ◌+◌, ◌≤◌, [], List, length, length-append, arith, rules, subst, sym}
-use Rattle.sp_pattern.specs.Order.{IsFront}
+use Rattle.std.proofs.Common.{length-append, arith}
 use Rattle.sp_pattern.proofs.Orders.{front_open}
 use Rattle.sp_pattern.proofs.compress.open.Goals as goal
 

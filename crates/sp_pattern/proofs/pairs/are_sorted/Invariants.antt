@@ -1,4 +1,4 @@
-use Rattle.std.proofs.Common.{◌≡◌, ◌+◌, ◌-◌, ◌<◌, ◌≤◌, ℕ}
+use Rattle.std.proofs.Common.{◌≡◌, ◌+◌, ◌-◌, ◌<◌, ℕ}
 use Rattle.sp_pattern.specs.Order.{IsAtMost, pair_at}
 use Rattle.sp_pattern.proofs.pairs.are_sorted.Given as goal
 

@@ -1,6 +1,5 @@
-use Rattle.std.proofs.Common.{rules, map, arith, ◌+◌, ◌≡◌, ◌<◌, length, take, sym, take_all, subst, IsPermutation}
-use Rattle.bip_defs.specs.Matching.{turned}
-use Rattle.sp_pattern.specs.Order.{AreSorted, pair_at}
+use Rattle.std.proofs.Common.{rules, arith, ◌+◌, ◌≡◌, take, take_all}
+use Rattle.sp_pattern.specs.Order.{pair_at}
 use Rattle.sp_pattern.proofs.Both.{not_less}
 use Rattle.sp_pattern.proofs.Numbers.{came_back}
 use Rattle.sp_pattern.proofs.pairs.sorted_by_col.Goals as goal

@@ -1,4 +1,4 @@
-use Rattle.std.proofs.Common.{arith, rules, ◌∙◌, length}
+use Rattle.std.proofs.Common.{arith}
 use Rattle.rayon.proofs.ListFacts.{IfOk-then}
 use Rattle.sp_pattern.proofs.Both.{from_permuted, from_turned_twice, inside_permuted, inside_places, inside_turned, length_permuted}
 use Rattle.sp_pattern.proofs.pattern.Pattern.build.Goals as goal

@@ -1,0 +1,96 @@
+//! A line in a buffer of its own.
+
+ghost use Rattle.std.specs.Prelude.{◌≡◌, ◌+◌, ◌≤◌, ◌++◌, ℕ, List, [], length, take, codes, decimal};
+ghost use Rattle.btf_lines.specs.Lines.{fault_line as line_of_fault, malformed_line as malformed, limit_line as limit};
+
+use itoa::Buffer;
+use mm_defs::Kind;
+use std::marker::Model;
+
+/// How many bytes a line may have.
+const ROOM: usize = 80;
+
+/// A line of at most 80 bytes.
+#[derive(Drop)]
+pub struct Line {
+    bytes: [u8; 80],
+    len: usize,
+}
+
+impl Model for Line {
+    ghost use Rattle.std.specs.Prelude.{ℕ, List, take, ◌≤◌};
+
+    ghost Value = { List ℕ };
+
+    ghost view = { λ l. take l.len l.bytes };
+
+    ghost invariant = { λ l. l.len ≤ 80 };
+}
+
+impl Line {
+    /// No bytes.
+    fn new() -> Line
+        ensures { result ≡ [] }
+    {
+        Line {
+            bytes: [0; ROOM],
+            len: 0,
+        }
+    }
+
+    /// Goes on with these bytes, for which there is room.
+    fn push(&mut self, piece: &[u8])
+        requires { length self.old + length piece.now ≤ 80 }
+        ensures { self.new ≡ self.old ++ piece.now }
+    {
+        self.len = write_at(&mut self.bytes, self.len, piece);
+    }
+
+    /// The bytes of the line, its line end among them.
+    pub fn as_bytes(&self) -> &[u8]
+        ensures { result.now ≡ self.now }
+    {
+        &self.bytes[..self.len]
+    }
+}
+
+/// Writes a piece at a place of a buffer, and gives the place behind it.
+fn write_at(buffer: &mut [u8], at: usize, piece: &[u8]) -> usize
+    requires { at + length piece.now ≤ length buffer.old }
+    ensures end { result ≡ at + length piece.now }
+    ensures bytes { take result buffer.new ≡ take at buffer.old ++ piece.now }
+    ensures len { length buffer.new ≡ length buffer.old }
+{
+    let end = at + piece.len();
+    buffer[at..end].copy_from_slice(piece);
+    end
+}
+
+/// The line of a fault: what stands before, the number of the line, and the kind.
+fn fault_line(before: &[u8], line: u64, kind: Kind) -> Line
+    requires { length before.now ≤ 20 }
+    ensures { result ≡ line_of_fault before.now line kind }
+{
+    let mut digits = Buffer::new();
+    let mut text = Line::new();
+    text.push(before);
+    text.push(digits.format(line).as_bytes());
+    text.push(b": ");
+    text.push(kind.name().as_bytes());
+    text.push(b"\n");
+    text
+}
+
+/// `btf: malformed line <line>: <kind>`, with a line end.
+pub fn malformed_line(line: u64, kind: Kind) -> Line
+    ensures { result ≡ malformed line kind }
+{
+    fault_line(b"btf: malformed line ", line, kind)
+}
+
+/// `btf: limit line <line>: <kind>`, with a line end.
+pub fn limit_line(line: u64, kind: Kind) -> Line
+    ensures { result ≡ limit line kind }
+{
+    fault_line(b"btf: limit line ", line, kind)
+}

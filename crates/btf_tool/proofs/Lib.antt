@@ -1,0 +1,4 @@
+mod Completing
+mod FileAnswers
+mod Jobs
+mod Touching

@@ -1,0 +1,36 @@
+use Rattle.std.proofs.Common.{refl, ap, Err, ◌∙◌, string_bytes, map}
+use Rattle.btf_tool.specs.Devices.{seen}
+use Rattle.btf_tool.specs.declared.refusals.Refusal.TheVariants.{Usage, OutOfMemory}
+use Rattle.btf_tool.proofs.Completing.{completes, job_done, job_not_done, named, refusal_says, untouched_tells}
+use Rattle.btf_tool.proofs.command.run.Goals as goal
+
+pub returns-in-Err-Usage-clause-says : goal.returns-in-Err-Usage-clause-says
+returns-in-Err-Usage-clause-says g c =
+    refusal_says _ _ Usage c.refuse.ensures.status c.refuse.ensures.told
+    (c.read_words.ensures.usage (c.in-Err-Usage.is ∙ ap Err c.in-Err-Usage.field-0-is), (refl, refl), (refl, refl))
+
+pub returns-in-Err-Usage-clause-complete : goal.returns-in-Err-Usage-clause-complete
+returns-in-Err-Usage-clause-complete g c = completes _ _ (returns-in-Err-Usage-clause-says g c)
+
+pub returns-in-Err-OutOfMemory-clause-says : goal.returns-in-Err-OutOfMemory-clause-says
+returns-in-Err-OutOfMemory-clause-says g c =
+    refusal_says _ _ OutOfMemory c.refuse-in-Err-OutOfMemory.ensures.status c.refuse-in-Err-OutOfMemory.ensures.told
+    (untouched_tells (seen g.S.Source.left g.S.Source.faults c.args.input.now c.args.input.now) (refl, refl), (refl, refl))
+
+pub returns-in-Err-OutOfMemory-clause-complete : goal.returns-in-Err-OutOfMemory-clause-complete
+returns-in-Err-OutOfMemory-clause-complete g c = completes _ _ (returns-in-Err-OutOfMemory-clause-says g c)
+
+pub returns-in-Ok-perform-clause-says : goal.returns-in-Ok-perform-clause-says
+returns-in-Ok-perform-clause-says g c =
+    job_done _ c.in-Ok.job _ c.in-Ok-perform.is (named _ _ _ c.in-Ok.is c.read_words.ensures.taken c.read_words.ensures.job) c.perform.ensures (refl, refl)
+
+pub returns-in-Ok-perform-clause-complete : goal.returns-in-Ok-perform-clause-complete
+returns-in-Ok-perform-clause-complete g c = completes _ _ (returns-in-Ok-perform-clause-says g c)
+
+pub returns-in-Err-clause-says : goal.returns-in-Err-clause-says
+returns-in-Err-clause-says g c =
+    job_not_done _ c.in-Ok.job _ _ _ c.in-Err.is (named _ _ _ c.in-Ok.is c.read_words.ensures.taken c.read_words.ensures.job) c.perform.ensures
+    c.refuse-in-Err.ensures.status c.refuse-in-Err.ensures.told
+
+pub returns-in-Err-clause-complete : goal.returns-in-Err-clause-complete
+returns-in-Err-clause-complete g c = completes _ _ (returns-in-Err-clause-says g c)

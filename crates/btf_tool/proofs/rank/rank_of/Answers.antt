@@ -1,0 +1,17 @@
+use Rattle.std.proofs.Common.{subst, sym, List, ℕ}
+use Rattle.bip_defs.specs.Lists.{Among, Lists}
+use Rattle.btf_tool.specs.Touching.{Touches}
+use Rattle.btf_tool.proofs.Touching.{horizontal_rows}
+use Rattle.btf_tool.proofs.rank.rank_of.Goals as goal
+
+pub neighbours-requires : goal.neighbours-requires
+neighbours-requires g c column h = (c.in_ok-cols.ensures.sound column (subst (λ (w : List ℕ). Among column w) c.as_slice.ensures.value h)).0
+
+pub returns : goal.returns
+returns g c = record {
+  matrix = c.in_ok-pattern.ensures;
+  is_rank = (c.in_ok-matching.matching.pairs, c.in_ok-matching.ensures.maximum, sym c.size-rank.ensures.size);
+  are_rows = horizontal_rows _ _ _ c.in_ok-cols.ensures
+      (subst (λ (w : List ℕ). Lists (Touches c.in_ok-pattern.pattern w) c.in_ok-rows.rows.items) c.as_slice.ensures.value c.in_ok-rows.ensures);
+  are_cols = c.in_ok-cols.ensures;
+}

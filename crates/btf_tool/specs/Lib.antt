@@ -1,0 +1,6 @@
+pub mod Devices
+pub mod Jobs
+pub mod Refusals
+pub mod Runs
+pub mod Touching
+pub mod Ranks

@@ -1,0 +1,37 @@
+-- Why a run is refused: the status and the line that tell it.
+use Rattle.std.specs.Prelude.{ℕ, List}
+use Rattle.sp_ids.specs.declared.outcomes.Status.{Status}
+use Rattle.sp_ids.specs.declared.outcomes.Status.TheVariants as statuses
+use Rattle.mm_defs.specs.declared.answers.ReadError.{ReadError}
+use Rattle.mm_defs.specs.declared.answers.ReadError.TheVariants as errors
+use Rattle.btf_words.specs.UsageLine.{usage_line}
+use Rattle.btf_lines.specs.Lines.{malformed_line, limit_line, too_long_line, read_fault_line, write_fault_line, out_of_memory_line}
+use Rattle.btf_tool.specs.declared.refusals.Refusal.{Refusal}
+use Rattle.btf_tool.specs.declared.refusals.Refusal.TheVariants.{Usage, Malformed, Limit, TooLong, ReadFault, WriteFault, OutOfMemory}
+
+abbrev pub status_of : Refusal → Status
+status_of Usage = statuses.Usage
+status_of (Malformed line kind) = statuses.Malformed
+status_of (Limit line kind) = statuses.Limit
+status_of TooLong = statuses.Limit
+status_of ReadFault = statuses.ReadFault
+status_of WriteFault = statuses.WriteFault
+status_of OutOfMemory = statuses.OutOfMemory
+
+-- the line on the standard error
+abbrev pub line_of : Refusal → List ℕ
+line_of Usage = usage_line
+line_of (Malformed line kind) = malformed_line line kind
+line_of (Limit line kind) = limit_line line kind
+line_of TooLong = too_long_line
+line_of ReadFault = read_fault_line
+line_of WriteFault = write_fault_line
+line_of OutOfMemory = out_of_memory_line
+
+-- the refusal of a run whose input could not be read
+abbrev pub refusal_for : ReadError → Refusal
+refusal_for (errors.Malformed line kind) = Malformed line kind
+refusal_for (errors.Limit line kind) = Limit line kind
+refusal_for errors.TooLong = TooLong
+refusal_for errors.ReadFault = ReadFault
+refusal_for errors.OutOfMemory = OutOfMemory

@@ -1,0 +1,69 @@
+//! The top call.
+
+ghost use Rattle.std.specs.Prelude.{map, string_bytes};
+ghost use Rattle.btf_tool.specs.Devices.{seen};
+ghost use Rattle.btf_tool.specs.Runs.{Completes, JobSays, Says};
+
+use crate::Refusal;
+use crate::rank::rank;
+use crate::refusals::refuse;
+use btf_words::{Job, WordsError, read_words};
+use sp_ids::Status;
+use sp_ports::{Gate, Sink, Source};
+use std::alloc::Global;
+use std::thread::Threads;
+
+/// Does what the words say: reads `input`, writes the answer to `out`, and where there is none tells on `err` why.
+///
+/// `words` are those after the program's name. The answer is the status with which the program ends. Nothing is written
+/// to `out` before all input is read and all memory is taken. No answer depends on `gate` or on the order in which
+/// threads run.
+pub fn run<R: Threads + Sync, S: Source, O: Sink, E: Sink, G: Gate>(
+    rt: &R,
+    alloc: Global,
+    words: &[String],
+    input: &mut S,
+    out: &mut O,
+    err: &mut E,
+    _gate: &G,
+) -> Status
+    // What each status says.
+    ensures says { Says (record {
+      words = map string_bytes words.now;
+      input = seen S.left S.faults input.old input.new;
+      out = seen O.taken O.faults out.old out.new;
+      err = seen E.taken E.faults err.old err.new;
+    }) result }
+
+    // Which status has to come.
+    ensures complete { Completes (record {
+      words = map string_bytes words.now;
+      input = seen S.left S.faults input.old input.new;
+      out = seen O.taken O.faults out.old out.new;
+      err = seen E.taken E.faults err.old err.new;
+    }) result }
+{
+    match read_words(alloc, words) {
+        Err(WordsError::Usage) => refuse(err, Refusal::Usage),
+        Err(WordsError::OutOfMemory) => refuse(err, Refusal::OutOfMemory),
+        Ok(job) => match perform(rt, alloc, job, input, out) {
+            Ok(()) => Status::Ok,
+            Err(refusal) => refuse(err, refusal),
+        },
+    }
+}
+
+/// Does a job: reads the input and writes the answer, or tells why there is none.
+fn perform<R: Threads + Sync, S: Source, O: Sink>(
+    rt: &R,
+    alloc: Global,
+    job: Job,
+    input: &mut S,
+    out: &mut O,
+) -> Result<(), Refusal>
+    ensures { JobSays job (seen S.left S.faults input.old input.new) (seen O.taken O.faults out.old out.new) result }
+{
+    match job {
+        Job::Rank => rank(rt, alloc, input, out),
+    }
+}

@@ -1,0 +1,126 @@
+//! The job `rank`.
+
+ghost use Rattle.std.specs.Prelude.{◌≡◌, IfOk};
+ghost use Rattle.bip_defs.specs.Lists.{Lists};
+ghost use Rattle.bip_defs.specs.Matching.{IsMaximum};
+ghost use Rattle.bip_defs.specs.Matrix.{cols};
+ghost use Rattle.bip_defs.specs.Parts.{IsHorizontalCol};
+ghost use Rattle.bip_graph.specs.Texts.{rank_text, sizes_of};
+ghost use Rattle.btf_words.specs.declared.jobs.Job.TheVariants.{Rank};
+ghost use Rattle.sp_ports.specs.Bytes.{Writes};
+ghost use Rattle.sp_ports.specs.Counts.{HasCause, Rose};
+ghost use Rattle.btf_tool.specs.Devices.{seen};
+ghost use Rattle.btf_tool.specs.Ranks.{IsRankOf};
+ghost use Rattle.btf_tool.specs.Runs.{JobSays};
+
+use crate::Refusal;
+use crate::neighbours::neighbours;
+use crate::reading::read_file;
+use bip_graph::Matching;
+use btf_text::{TextBuf, write_rank};
+use hall_witness::{Reach, reach};
+use karp_sipser::start;
+use pothen_fan::complete;
+use sp_ids::{Col, OutOfMemory, Row, Triples};
+use sp_pattern::Pattern;
+use sp_ports::{Failed, Sink, Source};
+use std::alloc::Global;
+use std::thread::Threads;
+
+/// A matrix with its rank, and the rows and columns of its horizontal part.
+#[derive(Drop)]
+struct RankAnswer {
+    pattern: Pattern,
+    rank: u32,
+    rows: Vec<Row>,
+    cols: Vec<Col>,
+}
+
+/// Reads a matrix and writes the text of its rank.
+pub(crate) fn rank<R: Threads + Sync, S: Source, O: Sink>(
+    rt: &R,
+    alloc: Global,
+    input: &mut S,
+    out: &mut O,
+) -> Result<(), Refusal>
+    ensures { JobSays Rank (seen S.left S.faults input.old input.new) (seen O.taken O.faults out.old out.new) result }
+{
+    let triples = match read_file(alloc, input) {
+        Ok(triples) => triples,
+        Err(refusal) => return Err(refusal),
+    };
+    let Ok(answer) = rank_of(rt, alloc, triples) else {
+        return Err(Refusal::OutOfMemory);
+    };
+    let Ok(mut buf) = TextBuf::new(alloc) else {
+        return Err(Refusal::OutOfMemory);
+    };
+    match write_answer(out, &mut buf, &answer) {
+        Ok(()) => Ok(()),
+        Err(Failed) => Err(Refusal::WriteFault),
+    }
+}
+
+/// The rank and the horizontal part of the matrix of these entries, which are let go once the matrix stands.
+fn rank_of<R: Threads + Sync>(
+    rt: &R,
+    alloc: Global,
+    triples: Triples,
+) -> Result<RankAnswer, OutOfMemory>
+    ensures { IfOk result (λ s. IsRankOf triples s.pattern s.rank s.rows.items s.cols.items) }
+{
+    let pattern = Pattern::build(rt, alloc, &triples)?;
+    drop(triples);
+    let matching = maximum(alloc, &pattern)?;
+    let rank = matching.size();
+    let cols = horizontal_cols(alloc, &pattern, &matching)?;
+    drop(matching);
+    let rows = neighbours(alloc, &pattern, cols.as_slice())?;
+    Ok(RankAnswer {
+        pattern,
+        rank,
+        rows,
+        cols,
+    })
+}
+
+/// A maximum matching: the start of Karp and Sipser, completed by the phases of Pothen and Fan.
+fn maximum(alloc: Global, pattern: &Pattern) -> Result<Matching, OutOfMemory>
+    ensures maximum { IfOk result (λ m. IsMaximum pattern.now m.pairs) }
+    ensures rows { IfOk result (λ m. m.rows ≡ pattern.now.rows) }
+    ensures cols { IfOk result (λ m. m.cols ≡ cols pattern.now) }
+{
+    let matching = start(alloc, pattern)?;
+    complete(alloc, pattern, matching)
+}
+
+/// The columns that some maximum matching misses.
+fn horizontal_cols(
+    alloc: Global,
+    pattern: &Pattern,
+    matching: &Matching,
+) -> Result<Vec<Col>, OutOfMemory>
+    requires rows { matching.now.rows ≡ pattern.now.rows }
+    requires cols { matching.now.cols ≡ cols pattern.now }
+    requires maximum { IsMaximum pattern.now matching.now.pairs }
+    ensures { IfOk result (λ w. Lists (IsHorizontalCol pattern.now) w.items) }
+{
+    match reach(alloc, pattern, matching) {
+        Ok(Reach::Witness(cols)) => Ok(cols),
+        Ok(Reach::Path(_)) => unreachable!(),
+        Err(OutOfMemory) => Err(OutOfMemory),
+    }
+}
+
+/// Writes the text of the answer, and hands it on.
+fn write_answer<O: Sink>(out: &mut O, buf: &mut TextBuf, answer: &RankAnswer) -> Result<(), Failed>
+    ensures bytes { Writes (O.taken out.old) (O.taken out.new) (rank_text (sizes_of answer.now.pattern) answer.now.rank answer.now.rows.items answer.now.cols.items) result }
+    ensures cause { HasCause (Rose (O.faults out.old) (O.faults out.new)) (O.faults out.old) (O.faults out.new) result }
+{
+    let rows = answer.rows.as_slice();
+    let cols = answer.cols.as_slice();
+    match write_rank(out, buf, &answer.pattern, answer.rank, rows, cols) {
+        Ok(()) => out.flush(),
+        Err(Failed) => Err(Failed),
+    }
+}

@@ -1,0 +1,80 @@
+//! Why a run is refused, and how that is told.
+
+ghost use Rattle.std.specs.Prelude.{◌≡◌};
+ghost use Rattle.btf_tool.specs.Refusals.{status_of, line_of};
+ghost use Rattle.btf_tool.specs.Devices.{WasTold, seen};
+
+use btf_lines::{limit_line, malformed_line};
+use btf_words::usage_line;
+use mm_defs::Kind;
+use sp_ids::Status;
+use sp_ports::{Failed, Sink, write_all};
+
+/// Why a run is refused.
+#[derive(Clone, Copy, Debug, PartialEq, Eq)]
+pub enum Refusal {
+    /// The words are not those of a command.
+    Usage,
+    /// The first bad line of the input is not of the file's form.
+    Malformed { line: u64, kind: Kind },
+    /// The first bad line of the input passes a limit.
+    Limit { line: u64, kind: Kind },
+    /// No line is bad, and the input has more bytes than it may have.
+    TooLong,
+    /// A read of the input failed, and no line that had ended is bad.
+    ReadFault,
+    /// A write of the answer failed.
+    WriteFault,
+    /// There was not enough memory.
+    OutOfMemory,
+}
+
+impl Refusal {
+    /// The status with which the run ends.
+    pub fn status(self) -> Status
+        ensures { result ≡ status_of self }
+    {
+        match self {
+            Refusal::Usage => Status::Usage,
+            Refusal::Malformed { .. } => Status::Malformed,
+            Refusal::Limit { .. } | Refusal::TooLong => Status::Limit,
+            Refusal::ReadFault => Status::ReadFault,
+            Refusal::WriteFault => Status::WriteFault,
+            Refusal::OutOfMemory => Status::OutOfMemory,
+        }
+    }
+
+    /// Tells it by its one line. What the device does with the line changes nothing else.
+    pub(crate) fn tell<E: Sink>(self, err: &mut E)
+        ensures { WasTold (seen E.taken E.faults err.old err.new) (line_of self) }
+    {
+        match self {
+            Refusal::Usage => put(err, usage_line().as_bytes()),
+            Refusal::Malformed { line, kind } => put(err, malformed_line(line, kind).as_bytes()),
+            Refusal::Limit { line, kind } => put(err, limit_line(line, kind).as_bytes()),
+            Refusal::TooLong => put(err, b"btf: limit: TooLong\n"),
+            Refusal::ReadFault => put(err, b"btf: read fault\n"),
+            Refusal::WriteFault => put(err, b"btf: write fault\n"),
+            Refusal::OutOfMemory => put(err, b"btf: out of memory\n"),
+        }
+    }
+}
+
+/// Writes a line, or as much of it as the device takes.
+fn put<E: Sink>(err: &mut E, line: &[u8])
+    ensures { WasTold (seen E.taken E.faults err.old err.new) line.now }
+{
+    match write_all(err, line) {
+        Ok(()) => {}
+        Err(Failed) => {}
+    }
+}
+
+/// Tells a refusal, and gives its status.
+pub(crate) fn refuse<E: Sink>(err: &mut E, refusal: Refusal) -> Status
+    ensures status { result ≡ status_of refusal }
+    ensures told { WasTold (seen E.taken E.faults err.old err.new) (line_of refusal) }
+{
+    refusal.tell(err);
+    refusal.status()
+}

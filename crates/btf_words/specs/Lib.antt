@@ -1,0 +1,2 @@
+pub mod UsageLine
+pub mod Words

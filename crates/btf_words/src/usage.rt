@@ -1,0 +1,12 @@
+//! The line that tells how the program is called.
+
+ghost use Rattle.std.specs.Prelude.{◌≡◌};
+ghost use Rattle.btf_words.specs.UsageLine.{usage_line as line_of_usage};
+
+/// The line that is written where the words are not taken, with its line end. It names every command, with the options
+/// that each is to have.
+pub fn usage_line() -> &'static str
+    ensures { result.now ≡ line_of_usage }
+{
+    "btf: usage: btf rank | analyse [--engine E] [--workers W] [--order] [--pairs] | diagonal | check | load --size N --seed S [--engine E] [--workers W]\n"
+}

@@ -1,0 +1,90 @@
+-- The matrix is read, and more follows.
+use Rattle.std.proofs.Common.{◌≡◌, ℕ, suc, ◌+◌, ◌-◌, ◌<◌, ◌≤◌, Bool, true, false, ◌==◌, nat_lt, List, [], ◌∷◌, ◌++◌, length, take, drop, refl, sym, ap, subst, ◌∙◌, arith, append-nil, append_assoc, length-append, take_all, take-append-drop, flat_map, le-ltb, eqb-true}
+use Rattle.std.proofs.Math.Seq.{take-append_seam}
+use Rattle.std.proofs.lemmas.List.{length-take-le, take-append-le}
+use Rattle.sp_ids.specs.Entries as entries
+use Rattle.mm_defs.specs.declared.answers.End.{End}
+use Rattle.mm_defs.specs.declared.answers.End.TheVariants.{File, LastEntry}
+use Rattle.mm_defs.specs.declared.header.Header.{Header}
+use Rattle.mm_defs.specs.declared.header.Size.{Size}
+use Rattle.mm_defs.specs.Words.{Line, lines, open_line, numbered, kept}
+use Rattle.mm_defs.specs.Header.{header, size}
+use Rattle.mm_defs.specs.File.{later_lines, line_faults, no_banner, missing, faults, entries_of, rest_of, behind, last_number, matrix_lines, Reads, triples}
+use Rattle.mm_defs.proofs.Behind.{behind-front}
+use Rattle.mm_defs.proofs.Lines.{lines-append}
+use Rattle.mm_defs.proofs.Roles.{later_lines-append, line_faults-past}
+use Rattle.mm_reader.specs.declared.machine.Phase.{Phase}
+use Rattle.mm_reader.specs.declared.machine.Phase.TheVariants as phases
+use Rattle.mm_reader.specs.Machine.{HasBanner, HasEntries, HasLines, is_complete}
+
+-- the matrix of lines behind which others follow
+module _ (h : Header) (s : Size) (done : ℕ) (t : entries.Entries) (ls more : List (List ℕ)) (b : HasBanner h ls) (has : HasEntries h s done t (later_lines ls)) (full : done ≡ s.count) where
+  abbrev extra : List Line
+  extra = kept (numbered (2 + length b.others) more)
+
+  later_more : later_lines (ls ++ more) ≡ has.size_line ∷ (has.entry_lines ++ extra)
+  later_more =
+      let e : later_lines (ls ++ more) ≡ later_lines ls ++ extra = rw b.lines_are (later_lines-append b.first b.others more) in
+      e ∙ ap (λ (x : List Line). x ++ extra) has.later_are
+
+  count_is : (size has.size_line.words).count ≡ length has.entry_lines
+  count_is = sym (ap (λ (x : Size). x.count) has.size_is) ∙ sym full ∙ has.done_is
+
+  front_is : take (size has.size_line.words).count (has.entry_lines ++ extra) ≡ has.entry_lines
+  front_is = rw count_is (take-append_seam has.entry_lines extra)
+
+  no_banner-none : no_banner (ls ++ more) ≡ []
+  no_banner-none = rw b.lines_are refl
+
+  missing-none : missing (ls ++ more) ≡ []
+  missing-none =
+      let n : nat_lt (length has.entry_lines) (length has.entry_lines) ≡ false = le-ltb (length has.entry_lines) (length has.entry_lines) (omega arith) in
+      rw later_more (rw front_is (rw count_is (rw n refl)))
+
+  faults-none : line_faults LastEntry ls ≡ [] → line_faults LastEntry (ls ++ more) ≡ []
+  faults-none good =
+      let at : later_lines (b.first ∷ b.others) ≡ has.size_line ∷ has.entry_lines = ap later_lines (sym b.lines_are) ∙ has.later_are in
+      let e : line_faults LastEntry (ls ++ more) ≡ line_faults LastEntry ls = rw b.lines_are (line_faults-past b.first b.others more has.size_line has.entry_lines at (sym count_is)) in
+      e ∙ good
+
+  pub good : line_faults LastEntry ls ≡ [] → faults LastEntry true (ls ++ more) ≡ []
+  good g =
+      let a = no_banner-none in
+      let c = faults-none g in
+      let d = missing-none in
+      rw (a, c, d) refl
+
+  pub entries_are : t ≡ entries_of (ls ++ more)
+  unfolding entries_of
+  entries_are =
+      let l = later_more in
+      let f = front_is in
+      has.triples_are ∙ rw (l, f) (rw (b.lines_are, has.size_is, b.header_is) refl)
+
+  matrix_is : matrix_lines (ls ++ more) ≡ has.size_line ∷ has.entry_lines
+  matrix_is =
+      let l = later_more in
+      rw l (ap (λ (r : List Line). has.size_line ∷ r) front_is)
+
+  pub last_is : last_number (later_lines ls) ≡ length ls → last_number (matrix_lines (ls ++ more)) ≡ length ls
+  last_is e = ap last_number matrix_is ∙ ap last_number (sym has.later_are) ∙ e
+
+-- the matrix is read, and this follows it
+complete_entries : (h : Header) (s : Size) (done : ℕ) (t : entries.Entries) (used rest : List ℕ) → HasLines LastEntry (phases.Entries h s done) t (lines false used)
+    → is_complete LastEntry (phases.Entries h s done) ≡ true → open_line used ≡ [] → Reads (used ++ rest) LastEntry t rest
+unfolding rest_of
+complete_entries h s done t used rest l e closed =
+    let r = lines-append true used rest in
+    let full = eqb-true done s.count e in
+    let n = last_is h s done t (lines false used) r.0 l.phase_is.0 l.phase_is.1 full (l.last e) in
+    record {
+      good = rw r.1 (good h s done t (lines false used) r.0 l.phase_is.0 l.phase_is.1 full l.good);
+      entries = rw r.1 (entries_are h s done t (lines false used) r.0 l.phase_is.0 l.phase_is.1 full);
+      follows = rw r.1 (sym (ap (λ k. behind k (used ++ rest)) n ∙ behind-front used rest closed));
+    }
+
+pub complete_reads : (end : End) (phase : Phase) (t : entries.Entries) (used rest : List ℕ) → HasLines end phase t (lines false used) → is_complete end phase ≡ true → open_line used ≡ [] → Reads (used ++ rest) end t rest
+complete_reads File phase t used rest l e closed = absurd cc
+complete_reads LastEntry phases.Banner t used rest l e closed = absurd cc
+complete_reads LastEntry (phases.Sizes h) t used rest l e closed = absurd cc
+complete_reads LastEntry (phases.Entries h s done) t used rest l e closed = complete_entries h s done t used rest l e closed

@@ -1,0 +1,78 @@
+-- From what is kept of a line to the rules on it.
+use Rattle.std.proofs.Common.{◌≡◌, ◌≢◌, ℕ, ℤ, ◌+◌, ◌-◌, ◌≤◌, Bool, true, false, ◌==◌, List, [], ◌∷◌, ◌++◌, length, refl, ◌∙◌, arith, Some, None, Result, Ok, Err, ne_eqb, le-ltb}
+use Rattle.sp_ids.specs.Entries.{Triple}
+use Rattle.mm_defs.specs.declared.header.Header.{Header}
+use Rattle.mm_defs.specs.declared.header.Size.{Size}
+use Rattle.mm_defs.specs.declared.kinds.Kind.{Kind}
+use Rattle.mm_defs.specs.Words.{Word, word}
+use Rattle.mm_defs.specs.Numbers.{is_number, number}
+use Rattle.mm_defs.specs.Header.{value_words, size}
+use Rattle.mm_defs.specs.Faults.{Rule, first_kind, size_limits, size_rules, is_outside, value_rules, triangle_rules, place_rules, entry_rules}
+use Rattle.mm_defs.specs.File.{triple, triple_at}
+use Rattle.mm_reader.specs.declared.judge.Entry.{Entry}
+use Rattle.mm_reader.specs.Tokens.{capped}
+use Rattle.mm_reader.specs.Judging.{Judged, JudgedEntry, triple_of, IsWithin}
+
+pub size_judged : (h : Header) (ws : List Word) (r : Result Size Kind) → (length ws == 3) ≡ true
+    → is_number (word ws 0) ≡ true → is_number (word ws 1) ≡ true → is_number (word ws 2) ≡ true
+    → Judged (size_limits h (size ws)) (size ws) r → Judged (size_rules h ws) (size ws) r
+size_judged h ws (Ok y) n a b d j = (rw (n, a, b, d) j.0, j.1)
+size_judged h ws (Err kind) n a b d j = rw (n, a, b, d) j
+
+pub entry_judged : (h : Header) (s : Size) (ws : List Word) (r : Result Entry Kind) → (length ws == 2 + value_words h.field) ≡ true
+    → is_number (word ws 0) ≡ true → is_number (word ws 1) ≡ true
+    → JudgedEntry (place_rules h s (number (word ws 0)) (number (word ws 1)) (word ws 2)) (triple h ws) r → JudgedEntry (entry_rules h s ws) (triple h ws) r
+entry_judged h s ws (Ok e) n a b j = (rw (n, a, b) j.0, j.1)
+entry_judged h s ws (Err kind) n a b j = rw (n, a, b) j
+
+none_then : (k : Kind) (b : Bool) (front bs : List Rule) → (first_kind front ≡ None → first_kind (front ++ bs) ≡ first_kind bs) → first_kind ((k, b) ∷ front) ≡ None → first_kind ((k, b) ∷ front ++ bs) ≡ first_kind bs
+none_then k true front bs ih h = absurd cc
+none_then k false front bs ih h = ih h
+
+first_none : (front bs : List Rule) → first_kind front ≡ None → first_kind (front ++ bs) ≡ first_kind bs
+first_none [] bs h = refl
+first_none ((k, b) ∷ front) bs h = none_then k b front bs (first_none front bs) h
+
+some_then : (k : Kind) (b : Bool) (front bs : List Rule) (x : Kind) → (first_kind front ≡ Some x → first_kind (front ++ bs) ≡ Some x) → first_kind ((k, b) ∷ front) ≡ Some x → first_kind ((k, b) ∷ front ++ bs) ≡ Some x
+some_then k true front bs x ih h = h
+some_then k false front bs x ih h = ih h
+
+first_some : (front bs : List Rule) (x : Kind) → first_kind front ≡ Some x → first_kind (front ++ bs) ≡ Some x
+first_some [] bs x h = absurd cc
+first_some ((k, b) ∷ front) bs x h = some_then k b front bs x (first_some front bs x) h
+
+inside : (limit n row : ℕ) → row ≡ capped n → row ≢ 0 → row ≤ limit → limit ≤ 16777216 → is_outside limit n ≡ false
+inside limit n row e some low small =
+    let a : n ≢ 0 = omega arith in
+    let b : n ≤ limit = omega arith in
+    rw (ne_eqb n 0 a, le-ltb limit n b) refl
+
+module _ (h : Header) (s : Size) (within : IsWithin h s) (row col i j : ℕ) (w : Word)
+    (row_is : row ≡ capped i) (col_is : col ≡ capped j)
+    (row_some : row ≢ 0) (row_low : row ≤ s.rows) (col_some : col ≢ 0) (col_low : col ≤ s.cols) where
+  placed : (r : Result Entry Kind) → JudgedEntry (value_rules h.field w ++ triangle_rules h.symmetry i j) (triple_at h.field i j w) r
+      → JudgedEntry (place_rules h s i j w) (triple_at h.field i j w) r
+  placed (Ok e) k =
+      let a = inside s.rows i row row_is row_some row_low within.rows in
+      let b = inside s.cols j col col_is col_some col_low within.cols in
+      (rw (a, b) k.0, k.1)
+  placed (Err kind) k =
+      let a = inside s.rows i row row_is row_some row_low within.rows in
+      let b = inside s.cols j col col_is col_some col_low within.cols in
+      rw (a, b) k
+
+  pub numbers : (row ≡ i) × (col ≡ j)
+  numbers = (omega (arith, within.rows), omega (arith, within.cols))
+
+  pub bad_value : (kind : Kind) → first_kind (value_rules h.field w) ≡ Some kind → JudgedEntry (place_rules h s i j w) (triple_at h.field i j w) (Err kind)
+  bad_value kind e = placed (Err kind) (first_some (value_rules h.field w) (triangle_rules h.symmetry i j) kind e)
+
+  pub bad_triangle : (kind : Kind) → first_kind (value_rules h.field w) ≡ None → first_kind (triangle_rules h.symmetry i j) ≡ Some kind → JudgedEntry (place_rules h s i j w) (triple_at h.field i j w) (Err kind)
+  bad_triangle kind e f = placed (Err kind) (first_none (value_rules h.field w) (triangle_rules h.symmetry i j) e ∙ f)
+
+  pub good_place : (e : Entry) → first_kind (value_rules h.field w) ≡ None → first_kind (triangle_rules h.symmetry i j) ≡ None
+      → triple_of e ≡ triple_at h.field i j w → JudgedEntry (place_rules h s i j w) (triple_at h.field i j w) (Ok e)
+  good_place e a b is = placed (Ok e) (first_none (value_rules h.field w) (triangle_rules h.symmetry i j) a ∙ b, is)
+
+pub same_triple : (r c r2 c2 : ℕ) (v v2 : ℤ) → r ≡ r2 → c ≡ c2 → v ≡ v2 → ◌≡◌ {A = Triple} (record { row = r - 1; col = c - 1; value = v }) (record { row = r2 - 1; col = c2 - 1; value = v2 })
+same_triple r c r2 c2 v v2 a b d = cc

@@ -1,0 +1,15 @@
+pub mod AfterLaws
+pub mod Calls
+pub mod CompleteLaws
+pub mod EndLaws
+pub mod Exits
+pub mod FeedLaws
+pub mod Judges
+pub mod LineSteps
+pub mod Lookups
+pub mod Numbers
+pub mod RestLaws
+pub mod StepLaws
+pub mod StreamLaws
+pub mod WindowLaws
+pub mod Words

@@ -1,0 +1,126 @@
+-- What is kept of a line, byte by byte.
+use Rattle.std.proofs.Common.{◌≡◌, ◌≢◌, ℕ, suc, ◌+◌, ◌-◌, ◌<◌, ◌≤◌, Bool, true, false, List, [], ◌∷◌, ◌++◌, length, take, set, get_or, map, refl, sym, ap, ◌∙◌, subst, arith, length-append, length-set, take_all, take-suc-set, get_or-take, take-take, add-one}
+use Rattle.std.proofs.Math.Seq.{take-append_seam, get_or-append_seam}
+use Rattle.std.proofs.lemmas.List.{map-append, take-append-le, length-map}
+use Rattle.mm_defs.specs.Words.{Word, words, is_blank}
+use Rattle.mm_reader.specs.declared.line.Token.{Token}
+use Rattle.mm_reader.specs.Tokens.{token_of}
+use Rattle.mm_reader.specs.Lines.{IsLine}
+use Rattle.mm_reader.proofs.Words.{GoesOn, words-none, words-blank, in_word-blank, in_word-push, words-begin, words-go_on}
+
+pub nothing : (tokens : List Token) → length tokens ≡ 5 → IsLine tokens 0 false []
+nothing tokens e = record {
+  places = e;
+  tokens_are = rw words-none refl;
+  count_is = rw words-none refl;
+  inside_is = refl;
+}
+
+module _ (tokens : List Token) (count : ℕ) (inside : Bool) (line : List ℕ) (b : ℕ) (l : IsLine tokens count inside line) where
+  pub blank_comes : is_blank b ≡ true → IsLine tokens count false (line ++ b ∷ [])
+  blank_comes e = record {
+    places = l.places;
+    tokens_are = rw (words-blank line b e) l.tokens_are;
+    count_is = rw (words-blank line b e) l.count_is;
+    inside_is = sym (in_word-blank line b e);
+  }
+
+  length_more : words (line ++ b ∷ []) ≡ words line ++ (b ∷ []) ∷ [] → length (words (line ++ b ∷ [])) ≡ length (words line) + 1
+  length_more k = ap length k ∙ length-append (words line) ((b ∷ []) ∷ [])
+
+  pub word_begins : is_blank b ≡ false → inside ≡ false → count < 5 → IsLine (set tokens count (token_of (b ∷ []))) (count + 1) true (line ++ b ∷ [])
+  word_begins e out low =
+      let k : words (line ++ b ∷ []) ≡ words line ++ (b ∷ []) ∷ [] = words-begin line b e (sym l.inside_is ∙ out) in
+      let n : length (words line) ≡ count = omega (arith, l.count_is) in
+      let m = length_more k in
+      let few : length (words (line ++ b ∷ [])) ≤ 5 = omega arith in
+      let few_before : length (words line) ≤ 5 = omega arith in
+      let room : count < length tokens = omega (arith, l.places) in
+      let kept : take count tokens ≡ map token_of (words line) = l.tokens_are ∙ ap (map token_of) (take_all 5 (words line) few_before) in
+      record {
+        places = length-set tokens count (token_of (b ∷ [])) ∙ l.places;
+        tokens_are =
+            ap (λ i. take i (set tokens count (token_of (b ∷ [])))) (add-one count)
+            ∙ take-suc-set tokens count (token_of (b ∷ [])) room
+            ∙ ap (λ (t : List Token). t ++ token_of (b ∷ []) ∷ []) kept
+            ∙ sym (map-append token_of (words line) ((b ∷ []) ∷ []))
+            ∙ ap (map token_of) (sym k ∙ sym (take_all 5 (words (line ++ b ∷ [])) few));
+        count_is = omega arith;
+        inside_is = sym (in_word-push line b e);
+      }
+
+  pub word_past : is_blank b ≡ false → inside ≡ false → 5 ≤ count → IsLine tokens 6 true (line ++ b ∷ [])
+  word_past e out high =
+      let k : words (line ++ b ∷ []) ≡ words line ++ (b ∷ []) ∷ [] = words-begin line b e (sym l.inside_is ∙ out) in
+      let m = length_more k in
+      let many : 5 ≤ length (words line) = omega (arith, l.count_is) in
+      let all : length tokens ≤ 6 = omega (arith, l.places) in
+      let all_before : length tokens ≤ count = omega (arith, l.places) in
+      record {
+        places = l.places;
+        tokens_are =
+            take_all 6 tokens all ∙ sym (take_all count tokens all_before) ∙ l.tokens_are
+            ∙ ap (map token_of) (sym (ap (take 5) k ∙ take-append-le 5 (words line) ((b ∷ []) ∷ []) many));
+        count_is = omega arith;
+        inside_is = sym (in_word-push line b e);
+      }
+
+  length_same : (g : GoesOn line b) → (length (words line) ≡ length g.front + 1) × (length (words (line ++ b ∷ [])) ≡ length g.front + 1)
+  length_same g = (ap length g.before ∙ length-append g.front ((g.first ∷ g.others) ∷ []), ap length g.after ∙ length-append g.front (((g.first ∷ g.others) ++ b ∷ []) ∷ []))
+
+  pub word_goes_on : (old new : Token) → is_blank b ≡ false → inside ≡ true → count ≢ 0 → count ≤ 5
+      → ((c : ℕ) (cs : List ℕ) → get_or tokens (count - 1) old ≡ token_of (c ∷ cs) → new ≡ token_of ((c ∷ cs) ++ b ∷ []))
+      → IsLine (set tokens (count - 1) new) count inside (line ++ b ∷ [])
+  word_goes_on old new e isin some low pushed =
+      let g = words-go_on line b e (sym l.inside_is ∙ isin) in
+      let n = length_same g in
+      let last : count - 1 ≡ length g.front = omega (arith, l.count_is, n.0) in
+      let count_is2 : count ≡ suc (length g.front) = omega (arith, l.count_is, n.0) in
+      let room : length g.front < length tokens = omega (arith, l.places) in
+      let below : length g.front < count = omega arith in
+      let few : length (words line) ≤ 5 = omega (arith, n.0) in
+      let few_after : length (words (line ++ b ∷ [])) ≤ 5 = omega (arith, n.1) in
+      let w : Word = g.first ∷ g.others in
+      let kept : take count tokens ≡ map token_of g.front ++ token_of w ∷ [] =
+      l.tokens_are ∙ ap (map token_of) (take_all 5 (words line) few ∙ g.before) ∙ map-append token_of g.front (w ∷ []) in
+      let m : length (map token_of g.front) ≡ length g.front = length-map g.front token_of in
+      let seam : get_or (map token_of g.front ++ token_of w ∷ []) (length g.front) old ≡ token_of w =
+      subst (λ i. get_or (map token_of g.front ++ token_of w ∷ []) i old ≡ token_of w) m (get_or-append_seam (map token_of g.front) (token_of w) [] old) in
+      let is : get_or tokens (count - 1) old ≡ token_of w =
+      ap (λ i. get_or tokens i old) last ∙ sym (get_or-take count tokens (length g.front) old below) ∙ ap (λ (t : List Token). get_or t (length g.front) old) kept ∙ seam in
+      let new_is : new ≡ token_of (w ++ b ∷ []) = pushed g.first g.others is in
+      let front_is : take (length g.front) tokens ≡ map token_of g.front =
+      sym (take-take (length g.front) count tokens (omega arith)) ∙ ap (take (length g.front)) kept
+      ∙ subst (λ i. take i (map token_of g.front ++ token_of w ∷ []) ≡ map token_of g.front) m (take-append_seam (map token_of g.front) (token_of w ∷ [])) in
+      record {
+        places = length-set tokens (count - 1) new ∙ l.places;
+        tokens_are =
+            rw last (ap (λ i. take i (set tokens (length g.front) new)) count_is2 ∙ take-suc-set tokens (length g.front) new room)
+            ∙ ap (λ (t : List Token). t ++ new ∷ []) front_is
+            ∙ ap (λ (t : Token). map token_of g.front ++ t ∷ []) new_is
+            ∙ sym (map-append token_of g.front ((w ++ b ∷ []) ∷ []))
+            ∙ ap (map token_of) (sym g.after ∙ sym (take_all 5 (words (line ++ b ∷ [])) few_after));
+        count_is = omega (arith, l.count_is, n.0, n.1);
+        inside_is = isin ∙ sym (in_word-push line b e);
+      }
+
+  pub word_goes_on_past : is_blank b ≡ false → inside ≡ true → 5 < count → IsLine tokens count inside (line ++ b ∷ [])
+  word_goes_on_past e isin high =
+      let g = words-go_on line b e (sym l.inside_is ∙ isin) in
+      let n = length_same g in
+      let many : 5 ≤ length g.front = omega (arith, l.count_is, n.0) in
+      let same : take 5 (words (line ++ b ∷ [])) ≡ take 5 (words line) =
+      ap (take 5) g.after ∙ take-append-le 5 g.front (((g.first ∷ g.others) ++ b ∷ []) ∷ []) many
+      ∙ sym (ap (take 5) g.before ∙ take-append-le 5 g.front ((g.first ∷ g.others) ∷ []) many) in
+      record {
+        places = l.places;
+        tokens_are = l.tokens_are ∙ ap (map token_of) (sym same);
+        count_is = omega (arith, l.count_is, n.0, n.1);
+        inside_is = isin ∙ sym (in_word-push line b e);
+      }
+
+  pub none_goes_on : inside ≡ true → is_blank b ≡ false → count ≡ 0 → ⊥
+  none_goes_on isin e none =
+      let g = words-go_on line b e (sym l.inside_is ∙ isin) in
+      let n = length_same g in
+      omega (arith, l.count_is, n.0)

@@ -1,0 +1,33 @@
+-- What a line is found to be.
+use Rattle.std.specs.Prelude.{◌≡◌, ◌≤◌, false, List, Option, Some, None, Result, Ok, Err}
+use Rattle.sp_ids.specs.Entries.{Triple}
+use Rattle.mm_defs.specs.declared.kinds.Kind.{Kind}
+use Rattle.mm_defs.specs.declared.header.Header.{Header}
+use Rattle.mm_defs.specs.declared.header.Size.{Size}
+use Rattle.mm_defs.specs.Header.{is_general}
+use Rattle.mm_defs.specs.Faults.{Rule, first_kind}
+use Rattle.mm_reader.specs.declared.judge.Entry.{Entry}
+
+-- no kind applies and the line says this, or the first kind that applies
+abbrev pub Judged : {X : Type 0} → List Rule → X → Result X Kind → Type 0
+Judged rules says (Ok x) = (first_kind rules ≡ None) × (x ≡ says)
+Judged rules says (Err kind) = first_kind rules ≡ Some kind
+
+abbrev pub triple_of : Entry → Triple
+triple_of e = record { row = e.row; col = e.col; value = e.value }
+
+-- the same of the entry that a line says
+abbrev pub JudgedEntry : List Rule → Triple → Result Entry Kind → Type 0
+JudgedEntry rules says (Ok e) = (first_kind rules ≡ None) × (triple_of e ≡ says)
+JudgedEntry rules says (Err kind) = first_kind rules ≡ Some kind
+
+-- none of the rules applies, or this is the first that does
+abbrev pub Passes : List Rule → Option Kind → Type 0
+Passes rules found = first_kind rules ≡ found
+
+-- the sizes are within the limits, and equal where a mirror may come
+pub record IsWithin (h : Header) (s : Size) : Type 0 where
+  pub rows : s.rows ≤ 16777216
+  pub cols : s.cols ≤ 16777216
+  pub count : s.count ≤ 134217728
+  pub square : is_general h.symmetry ≡ false → s.rows ≡ s.cols

@@ -1,0 +1,77 @@
+-- What the reader's machine stands for.
+use Rattle.std.specs.Prelude.{◌≡◌, ◌≤◌, ◌*◌, ℕ, Bool, true, false, ◌==◌, List, [], ◌∷◌, length, Result, Ok, Err}
+use Rattle.std.specs.List.{flat_map}
+use Rattle.sp_ids.specs.Entries as entries
+use Rattle.mm_defs.specs.declared.answers.End.{End}
+use Rattle.mm_defs.specs.declared.answers.End.TheVariants.{File, LastEntry}
+use Rattle.mm_defs.specs.declared.header.Header.{Header}
+use Rattle.mm_defs.specs.declared.header.Size.{Size}
+use Rattle.mm_defs.specs.Words.{Line, words}
+use Rattle.mm_defs.specs.Header.{header, size}
+use Rattle.mm_defs.specs.File.{later_lines, line_faults, triples, last_number}
+use Rattle.mm_reader.specs.declared.machine.Phase.{Phase}
+use Rattle.mm_reader.specs.declared.machine.Phase.TheVariants as phases
+use Rattle.mm_reader.specs.declared.machine.Stop.{Stop}
+use Rattle.mm_reader.specs.declared.machine.Stop.TheVariants as stops
+use Rattle.mm_reader.specs.Judging.{IsWithin}
+
+-- ---- what the lines were
+
+-- the first line is a banner that says this
+pub record HasBanner (h : Header) (ls : List (List ℕ)) : Type 0 where
+  pub first : List ℕ
+  pub others : List (List ℕ)
+  pub lines_are : ls ≡ first ∷ others
+  pub header_is : h ≡ header (words first)
+
+-- the size line and so many entry lines have come
+pub record HasEntries (h : Header) (s : Size) (done : ℕ) (t : entries.Entries) (later : List Line) : Type 0 where
+  pub size_line : Line
+  pub entry_lines : List Line
+  pub later_are : later ≡ size_line ∷ entry_lines
+  pub size_is : s ≡ size size_line.words
+  pub done_is : done ≡ length entry_lines
+  pub in_count : done ≤ s.count
+  pub triples_are : t ≡ record { rows = s.rows; cols = s.cols; field = h.field; items = flat_map (triples h) entry_lines }
+
+-- where the machine is, after these lines
+abbrev pub IsPhase : Phase → entries.Entries → List (List ℕ) → Type 0
+IsPhase phases.Banner t ls = ls ≡ []
+IsPhase (phases.Sizes h) t ls = HasBanner h ls × (later_lines ls ≡ [])
+IsPhase (phases.Entries h s done) t ls = HasBanner h ls × HasEntries h s done t (later_lines ls)
+
+-- the matrix is read and what follows is not judged
+abbrev pub is_complete : End → Phase → Bool
+is_complete File phase = false
+is_complete LastEntry phases.Banner = false
+is_complete LastEntry (phases.Sizes h) = false
+is_complete LastEntry (phases.Entries h s done) = done == s.count
+
+-- ---- what one more line does
+
+-- The machine has these lines, and none of them is bad. Where the matrix is read, the last of them is its last line.
+pub record HasLines (end : End) (phase : Phase) (t : entries.Entries) (ls : List (List ℕ)) : Type 0 where
+  pub phase_is : IsPhase phase t ls
+  pub good : line_faults end ls ≡ []
+  pub last : is_complete end phase ≡ true → last_number (later_lines ls) ≡ length ls
+
+-- The phase after one more line, or its fault, which is the only one.
+abbrev pub Steps : End → List (List ℕ) → entries.Entries → Result Phase Stop → Type 0
+Steps end ls t (Ok phase) = HasLines end phase t ls
+Steps end ls t (Err (stops.Bad line kind)) = (line_faults end ls ≡ record { line = line; kind = kind } ∷ []) × (line ≡ length ls)
+Steps end ls t (Err stops.Memory) = Unit {0}
+
+-- ---- what the code keeps of its own, whatever the lines were
+
+pub record HasRoom (h : Header) (s : Size) (done : ℕ) (t : entries.Entries) : Type 0 where
+  pub within : IsWithin h s
+  pub in_count : done ≤ s.count
+  pub rows : t.rows ≡ s.rows
+  pub cols : t.cols ≡ s.cols
+  pub field : t.field ≡ h.field
+  pub few : length t.items ≤ 2 * done
+
+abbrev pub IsReady : Phase → entries.Entries → Type 0
+IsReady phases.Banner t = Unit {0}
+IsReady (phases.Sizes h) t = Unit {0}
+IsReady (phases.Entries h s done) t = HasRoom h s done t

@@ -1,0 +1,76 @@
+-- What the machine stands for between two bytes.
+use Rattle.std.specs.Prelude.{◌≡◌, ◌+◌, ℕ, true, false, if◌then◌else◌, List, [], ◌∷◌, ◌++◌, length, max, slice_get, Some}
+use Rattle.sp_ids.specs.Entries as entries
+use Rattle.mm_defs.specs.declared.answers.End.{End}
+use Rattle.mm_defs.specs.declared.answers.End.TheVariants.{LastEntry}
+use Rattle.mm_defs.specs.Words.{lines, open_line, has_bytes}
+use Rattle.mm_defs.specs.File.{Fault, line_faults, faults, first_fault, entries_of, rest_of, behind, last_number, matrix_lines}
+use Rattle.mm_reader.specs.declared.machine.Machine.{Machine}
+use Rattle.mm_reader.specs.declared.machine.Phase.{Phase}
+use Rattle.mm_reader.specs.declared.machine.Stop.{Stop}
+use Rattle.mm_reader.specs.declared.machine.Stop.TheVariants as stops
+use Rattle.mm_reader.specs.Lines.{IsLine}
+use Rattle.mm_reader.specs.Machine.{HasLines, is_complete}
+
+-- how many lines have begun
+abbrev pub begun_lines : Machine → ℕ
+begun_lines m = m.number + (if m.begun then 1 else 0)
+
+-- These lines have come, and none has begun behind them.
+pub record IsBetween (end : End) (m : Machine) (ls : List (List ℕ)) : Type 0 where
+  pub lines_are : HasLines end m.phase m.triples ls
+  pub number_is : m.number ≡ length ls
+  pub open_is : IsLine m.line.tokens m.line.count m.line.inside []
+  pub begun_is : m.begun ≡ false
+
+-- These bytes have come: their lines are good, and the open line is kept by its words.
+pub record IsAfter (end : End) (m : Machine) (bytes : List ℕ) : Type 0 where
+  pub lines_are : HasLines end m.phase m.triples (lines false bytes)
+  pub number_is : m.number ≡ length (lines false bytes)
+  pub open_is : IsLine m.line.tokens m.line.count m.line.inside (open_line bytes)
+  pub begun_is : m.begun ≡ has_bytes (open_line bytes)
+
+-- the last of these lines is the one bad line
+abbrev pub StopsAt : End → List (List ℕ) → Stop → Type 0
+StopsAt end ls (stops.Bad line kind) = (line_faults end ls ≡ record { line = line; kind = kind } ∷ []) × (line ≡ length ls)
+StopsAt end ls stops.Memory = Unit {0}
+
+-- the bytes end with the one bad line
+pub record EndsBad (end : End) (fault : Fault) (bytes : List ℕ) : Type 0 where
+  pub bad : line_faults end (lines false bytes) ≡ fault ∷ []
+  pub number_is : fault.line ≡ length (lines false bytes)
+  pub closed : open_line bytes ≡ []
+
+abbrev pub StopsIn : End → List ℕ → Stop → Type 0
+StopsIn end bytes (stops.Bad line kind) = EndsBad end (record { line = line; kind = kind }) bytes
+StopsIn end bytes stops.Memory = Unit {0}
+
+-- a front of the piece ends with the one bad line
+pub record StopsWithin (end : End) (bytes piece : List ℕ) (stop : Stop) : Type 0 where
+  pub front : List ℕ
+  pub rest : List ℕ
+  pub piece_is : piece ≡ front ++ rest
+  pub stops : StopsIn end (bytes ++ front) stop
+
+-- the input ended with these lines, and none is bad or missing
+pub record IsAll (end : End) (phase : Phase) (t : entries.Entries) (ls : List (List ℕ)) : Type 0 where
+  pub good : faults end true ls ≡ []
+  pub entries : t ≡ entries_of ls
+  pub complete : is_complete LastEntry phase ≡ true
+  pub last : end ≡ LastEntry → last_number (matrix_lines ls) ≡ length ls
+
+-- the input ended with these lines, and this is its first fault
+abbrev pub Lacks : End → List (List ℕ) → Stop → Type 0
+Lacks end ls (stops.Bad line kind) = (slice_get (faults end true ls) 0 ≡ Some (record { line = line; kind = kind })) × (line ≡ max (length ls) 1)
+Lacks end ls stops.Memory = Unit {0}
+
+-- The input ended with these bytes: they are a good file, and nothing follows it.
+pub record IsWhole (end : End) (bytes : List ℕ) (t : entries.Entries) : Type 0 where
+  pub good : faults end true (lines true bytes) ≡ []
+  pub entries : t ≡ entries_of (lines true bytes)
+  pub rest : rest_of end bytes ≡ []
+
+-- the input ended with these bytes, and this is its first fault
+abbrev pub StopsAtEnd : End → List ℕ → Stop → Type 0
+StopsAtEnd end bytes (stops.Bad line kind) = (first_fault end true bytes ≡ Some (record { line = line; kind = kind })) × (behind line bytes ≡ [])
+StopsAtEnd end bytes stops.Memory = Unit {0}

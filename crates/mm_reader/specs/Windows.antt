@@ -1,0 +1,145 @@
+-- The bytes of a source that were taken and are not used yet.
+use Rattle.std.specs.Prelude.{◌≡◌, ◌≤◌, ◌<◌, ◌+◌, ◌-◌, ◌^◌, ℕ, Bool, true, false, List, [], ◌++◌, length, take, drop, vec_len, if◌then◌else◌, Option, Some, Result, OnOk}
+use Rattle.std.specs.List.{count_by}
+use Rattle.sp_ids.specs.Entries as entries
+use Rattle.sp_ports.specs.Bytes.{Gives}
+use Rattle.mm_defs.specs.declared.answers.End.{End}
+use Rattle.mm_defs.specs.declared.answers.ReadError.{ReadError}
+use Rattle.mm_defs.specs.declared.answers.ReadError.TheVariants as errors
+use Rattle.mm_defs.specs.Words.{lines, is_lf}
+use Rattle.mm_defs.specs.Faults.{is_limit}
+use Rattle.mm_defs.specs.File.{Fault, line_faults, first_fault, behind}
+use Rattle.mm_defs.specs.Reading.{Call, IsAnswer, IsNear, IsRest}
+use Rattle.mm_reader.specs.declared.machine.Machine.{Machine}
+use Rattle.mm_reader.specs.declared.machine.Stop.{Stop}
+use Rattle.mm_reader.specs.declared.machine.Stop.TheVariants as stops
+use Rattle.mm_reader.specs.declared.window.Window.{Window}
+use Rattle.mm_reader.specs.Machine.{IsReady, is_complete}
+use Rattle.mm_reader.specs.Standing.{begun_lines, IsAfter, EndsBad}
+
+-- the bytes ahead
+abbrev pub ahead_of : Window → List ℕ
+ahead_of w = take (w.to - w.from) (drop w.from w.buffer.items)
+
+-- the buffer has its size, and the counts fit
+pub record IsWindow (w : Window) : Type 0 where
+  pub long : vec_len w.buffer ≡ 65536
+  pub in_order : w.from ≤ w.to
+  pub within : w.to ≤ 65536
+  pub fits : w.lines + w.room < 2 ^ 64
+
+-- so many of the bytes ahead were used
+pub record Uses (old new : Window) (n : ℕ) : Type 0 where
+  pub some : n ≤ length (ahead_of old)
+  pub ahead_is : ahead_of new ≡ drop n (ahead_of old)
+  pub room_is : new.room + n ≡ old.room
+  pub lines_same : new.lines ≡ old.lines
+  pub at_end_same : new.at_end ≡ old.at_end
+
+-- the machine got the front of the bytes ahead, and is ready for more or has its matrix
+pub record Consumes (end : End) (old new : Window) (before after : Machine) (done : Bool) : Type 0 where
+  pub count : ℕ
+  pub uses : Uses old new count
+  pub stands : (bytes : List ℕ) → IsAfter end before bytes → IsAfter end after (bytes ++ take count (ahead_of old))
+  pub done_is : done ≡ is_complete end after.phase
+  pub all : done ≡ false → ahead_of new ≡ []
+  pub closed : done ≡ true → after.begun ≡ false
+  pub number : begun_lines after ≤ begun_lines before + count
+  pub ready : IsReady after.phase after.triples
+
+-- a front of these bytes, within the room, ends with the one bad line
+pub record HasBadFront (end : End) (bytes ahead : List ℕ) (room : ℕ) (fault : Fault) : Type 0 where
+  pub front : List ℕ
+  pub rest : List ℕ
+  pub ahead_is : ahead ≡ front ++ rest
+  pub short : length front ≤ room
+  pub ends : EndsBad end fault (bytes ++ front)
+
+-- why the bytes ahead are refused
+abbrev pub Refuses : End → List ℕ → List ℕ → ℕ → ReadError → Type 0
+Refuses end bytes ahead room (errors.Malformed line kind) = HasBadFront end bytes ahead room (record { line = line; kind = kind }) × (is_limit kind ≡ false)
+Refuses end bytes ahead room (errors.Limit line kind) = HasBadFront end bytes ahead room (record { line = line; kind = kind }) × (is_limit kind ≡ true)
+Refuses end bytes ahead room errors.TooLong = (room < length ahead) × (line_faults end (lines false (bytes ++ take room ahead)) ≡ [])
+Refuses end bytes ahead room errors.ReadFault = ⊥
+Refuses end bytes ahead room errors.OutOfMemory = Unit {0}
+
+-- why bytes are refused with which the input ended
+abbrev pub RefusesAtEnd : End → List ℕ → ReadError → Type 0
+RefusesAtEnd end bytes (errors.Malformed line kind) = (first_fault end true bytes ≡ Some (record { line = line; kind = kind })) × (behind line bytes ≡ []) × (is_limit kind ≡ false)
+RefusesAtEnd end bytes (errors.Limit line kind) = (first_fault end true bytes ≡ Some (record { line = line; kind = kind })) × (behind line bytes ≡ []) × (is_limit kind ≡ true)
+RefusesAtEnd end bytes errors.TooLong = ⊥
+RefusesAtEnd end bytes errors.ReadFault = ⊥
+RefusesAtEnd end bytes errors.OutOfMemory = Unit {0}
+
+-- how a stop is answered
+abbrev pub refusal_of : Stop → ReadError
+refusal_of (stops.Bad line kind) = if is_limit kind then errors.Limit line kind else errors.Malformed line kind
+refusal_of stops.Memory = errors.OutOfMemory
+
+-- the call over a source that tells its bytes
+abbrev pub call_of : Window → ℕ → ℕ → List ℕ → List ℕ → Call
+call_of w failures_before failures_after before after = record {
+  room = w.room;
+  ahead = ahead_of w;
+  before = before;
+  after = after;
+  failures_before = failures_before;
+  failures_after = failures_after;
+}
+
+-- what was used was counted, its LFs too
+pub record HasCounted (old new : Window) (before after : List ℕ) : Type 0 where
+  pub bytes : new.room + length (ahead_of old ++ before) ≡ old.room + length (ahead_of new ++ after)
+  pub lfs : new.lines + count_by is_lf (ahead_of new ++ after) ≡ old.lines + count_by is_lf (ahead_of old ++ before)
+
+-- what the machine was given so far
+pub record Fed (end : End) (ahead : List ℕ) (old now : Option (List ℕ)) (room lfs : ℕ) (m : Machine) (w : Window) : Type 0 where
+  pub used : List ℕ
+  pub gave : List ℕ
+  pub told : Gives old now gave
+  pub split : ahead ++ gave ≡ used ++ ahead_of w
+  pub size : length used + w.room ≡ room
+  pub stands : IsAfter end m used
+  pub lines_same : w.lines ≡ lfs
+
+-- what a reading leaves of a window, whatever it answers
+pub record KeepsWindow (old new : Window) : Type 0 where
+  pub window : IsWindow new
+  pub room : new.room ≤ old.room
+  pub counts : new.lines + new.room ≤ old.lines + old.room
+
+-- what a reading of a matrix answers, of a source that tells its bytes
+pub record Answers (end : End) (call : Call) (old new : Window) (result : Result entries.Entries ReadError) : Type 0 where
+  pub answer : IsAnswer end call (ahead_of new ++ call.after) result
+  pub near : IsNear call result
+  pub counts : OnOk result (HasCounted old new call.before call.after)
+
+-- ---- the reading of all that follows
+
+-- the bytes ahead were added to these
+pub record TakesAhead (old new : Window) (before after : List ℕ) : Type 0 where
+  pub bytes_are : after ≡ before ++ ahead_of old
+  pub ahead_is : ahead_of new ≡ []
+  pub room_is : new.room + length (ahead_of old) ≡ old.room
+  pub lines_are : new.lines ≡ old.lines + count_by is_lf (ahead_of old)
+
+-- why the bytes ahead were not added
+abbrev pub RefusesAhead : Window → ReadError → Type 0
+RefusesAhead w (errors.Malformed line kind) = ⊥
+RefusesAhead w (errors.Limit line kind) = ⊥
+RefusesAhead w errors.TooLong = w.room < length (ahead_of w)
+RefusesAhead w errors.ReadFault = ⊥
+RefusesAhead w errors.OutOfMemory = Unit {0}
+
+-- what was read so far
+pub record Filled (ahead : List ℕ) (old now : Option (List ℕ)) (room lfs : ℕ) (bytes : List ℕ) (w : Window) : Type 0 where
+  pub gave : List ℕ
+  pub told : Gives old now gave
+  pub split : ahead ++ gave ≡ bytes ++ ahead_of w
+  pub size : length bytes + w.room ≡ room
+  pub lines_are : w.lines ≡ lfs + count_by is_lf bytes
+
+-- all was read and counted
+pub record RestRead (call : Call) (old new : Window) (bytes : List ℕ) : Type 0 where
+  pub rest : IsRest call (ahead_of new ++ call.after) bytes
+  pub counts : HasCounted old new call.before call.after

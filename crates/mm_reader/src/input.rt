@@ -1,0 +1,175 @@
+//! Inputs: what callers see of the bytes ahead, and the calls that read them.
+
+ghost use Rattle.std.specs.Prelude.{◌≡◌, ◌≤◌, ◌<◌, ◌+◌, ◌++◌, ◌↔◌, ℕ, List, [], length, IfOk, MatchResult, OnOk, IsOk, IsTrue, true, false};
+ghost use Rattle.std.specs.List.{count_by};
+ghost use Rattle.sp_ports.specs.Bytes.{IsAtEnd, WhereTold};
+ghost use Rattle.sp_ports.specs.Counts.{SourceRose};
+ghost use Rattle.mm_defs.specs.Words.{is_lf};
+ghost use Rattle.mm_defs.specs.File.{Fault};
+ghost use Rattle.mm_defs.specs.Reading.{call_on, first_bad, Causes, IsAnswer, IsNear, IsRest, RefusesRest, Tells};
+
+use crate::reader::matrix;
+use crate::rest::rest;
+use crate::window::{Window, new_buffer};
+use mm_defs::{End, ReadError};
+use sp_ids::{OutOfMemory, Triples};
+use sp_ports::Source;
+use std::alloc::Global;
+use std::marker::Model;
+
+/// An input: how many bytes it may use, and those that were taken from its source and are not used yet.
+///
+/// The source is lent to each call beside it. It keeps one buffer of 65,536 bytes.
+#[derive(Drop)]
+pub struct Input {
+    limit: u64,
+    good: bool,
+    window: Window,
+}
+
+impl Model for Input {
+    ghost use Rattle.mm_defs.specs.Reading.{Intake};
+
+    ghost Value = { Intake };
+
+    ghost use Rattle.mm_reader.specs.Inputs.{intake_of, IsInput};
+
+    ghost view = { intake_of };
+
+    ghost invariant = { IsInput };
+}
+
+impl Input {
+    /// Nothing was taken. The input may use so many bytes of its source in all. It takes memory for its buffer.
+    pub fn new(alloc: Global, limit: u64) -> Result<Input, OutOfMemory>
+        ensures { IfOk result (λ input. input ≡ record { limit = limit; taken = 0; ahead = []; at_end = false; lines = 0; good = true }) }
+    {
+        let buffer = new_buffer(alloc)?;
+        Ok(Input {
+            limit,
+            good: true,
+            window: Window {
+                buffer,
+                from: 0,
+                to: 0,
+                at_end: false,
+                room: limit,
+                lines: 0,
+            },
+        })
+    }
+
+    /// The number of LFs among the bytes used.
+    pub fn lines(&self) -> u64
+        ensures { result ≡ self.now.lines }
+    {
+        self.window.lines
+    }
+
+    /// Whether no call on it has failed. It is the condition of the reading calls: after a failure the source has lost
+    /// what was taken.
+    pub fn is_good(&self) -> bool
+        ensures { result ≡ self.now.good }
+    {
+        self.good
+    }
+
+    /// The number of bytes that were taken from the source and are not used yet.
+    pub fn ahead(&self) -> usize
+        ensures ahead { result ≡ length self.now.ahead }
+        ensures buffer { result ≤ 65536 }
+    {
+        self.window.to - self.window.from
+    }
+}
+
+/// Reads a matrix file: the bytes ahead first, then those of the source.
+///
+/// `End::File` reads to the end of the input. `End::LastEntry` ends with the line end of the last entry line, or of the
+/// size line where there are no entries, and leaves what follows. A line is judged when its end was given, and the first
+/// bad line is answered: `Malformed` or `Limit` with its number, counted from 1. A bad line that had ended before a read
+/// failed is answered in place of `ReadFault`, and one within the limit in place of `TooLong`. After an `Err` the input
+/// is not good. At `Malformed` and `Limit` at most 65,536 bytes past the end of the bad line were taken.
+///
+/// The work is linear in the bytes. Besides the input's buffer it keeps the triples alone.
+pub fn read_matrix<S: Source>(
+    alloc: Global,
+    input: &mut Input,
+    source: &mut S,
+    end: End,
+) -> Result<Triples, ReadError>
+    requires good { IsTrue input.old.good }
+    requires at_end { IsTrue input.old.at_end → IsAtEnd (S.left source.old) }
+
+    // What each answer says of the bytes.
+    ensures answer { WhereTold (S.left source.old) (S.left source.new) (λ before after.
+        IsAnswer end (call_on input.old (S.faults source.old) (S.faults source.new) before after) (input.new.ahead ++ after) result) }
+
+    // A bad line is answered, and the first one.
+    ensures bad { WhereTold (S.left source.old) (S.left source.new) (λ before after. (fault : Fault) →
+        first_bad end (call_on input.old (S.faults source.old) (S.faults source.new) before after) ≡ Some fault → Tells fault result) }
+    ensures near { WhereTold (S.left source.old) (S.left source.new) (λ before after.
+        IsNear (call_on input.old (S.faults source.old) (S.faults source.new) before after) result) }
+
+    // A failed read is the one cause of `ReadFault`, and at Ok no read has failed.
+    ensures cause { Causes (SourceRose (S.left source.old) (S.faults source.old) (S.faults source.new)) (S.faults source.old) (S.faults source.new) result }
+
+    // Where a read has given no bytes, the source is not asked again.
+    ensures at_end { IsTrue input.new.at_end → IsAtEnd (S.left source.new) }
+    ensures unasked { IsTrue input.old.at_end → source.new ≡ source.old }
+
+    ensures good { IsTrue input.new.good ↔ IsOk result }
+    ensures limit { input.new.limit ≡ input.old.limit }
+    ensures lines { OnOk result (WhereTold (S.left source.old) (S.left source.new) (λ before after.
+        input.new.lines + count_by is_lf (input.new.ahead ++ after) ≡ input.old.lines + count_by is_lf (input.old.ahead ++ before))) }
+    ensures taken { OnOk result (WhereTold (S.left source.old) (S.left source.new) (λ before after.
+        input.new.taken + length after ≡ input.old.taken + length before)) }
+{
+    match matrix(alloc, &mut input.window, source, end) {
+        Err(error) => {
+            input.good = false;
+            Err(error)
+        }
+        Ok(triples) => Ok(triples),
+    }
+}
+
+/// Reads all that follows: the bytes ahead, then those of the source up to its end. It judges no line.
+///
+/// It answers `TooLong` where more bytes follow than may still be used, `ReadFault` where a read failed, `OutOfMemory`,
+/// and no other error. After an `Err` the input is not good. It takes memory for the bytes.
+pub fn read_rest<S: Source>(
+    alloc: Global,
+    input: &mut Input,
+    source: &mut S,
+) -> Result<Vec<u8>, ReadError>
+    requires good { IsTrue input.old.good }
+    requires at_end { IsTrue input.old.at_end → IsAtEnd (S.left source.old) }
+
+    // What each answer says of the bytes.
+    ensures answer { WhereTold (S.left source.old) (S.left source.new) (λ before after.
+        MatchResult result (λ v. IsRest (call_on input.old (S.faults source.old) (S.faults source.new) before after) (input.new.ahead ++ after) v.items)
+        (RefusesRest (call_on input.old (S.faults source.old) (S.faults source.new) before after))) }
+
+    // A failed read is the one cause of `ReadFault`, and at Ok no read has failed.
+    ensures cause { Causes (SourceRose (S.left source.old) (S.faults source.old) (S.faults source.new)) (S.faults source.old) (S.faults source.new) result }
+
+    // Where a read has given no bytes, the source is not asked again.
+    ensures at_end { IsTrue input.new.at_end → IsAtEnd (S.left source.new) }
+    ensures unasked { IsTrue input.old.at_end → source.new ≡ source.old }
+
+    ensures good { IsTrue input.new.good ↔ IsOk result }
+    ensures limit { input.new.limit ≡ input.old.limit }
+    ensures lines { OnOk result (WhereTold (S.left source.old) (S.left source.new) (λ before after.
+        input.new.lines + count_by is_lf (input.new.ahead ++ after) ≡ input.old.lines + count_by is_lf (input.old.ahead ++ before))) }
+    ensures taken { OnOk result (WhereTold (S.left source.old) (S.left source.new) (λ before after.
+        input.new.taken + length after ≡ input.old.taken + length before)) }
+{
+    match rest(alloc, &mut input.window, source) {
+        Err(error) => {
+            input.good = false;
+            Err(error)
+        }
+        Ok(bytes) => Ok(bytes),
+    }
+}

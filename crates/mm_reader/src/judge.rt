@@ -1,0 +1,307 @@
+//! The judges of lines: the first kind of fault that applies, or what the line says.
+
+ghost use Rattle.std.specs.Prelude.{◌≡◌, ℕ, ◌≤◌, ◌<◌, pos, nat_abs, true, false, if◌then◌else◌, List, IfOk};
+ghost use Rattle.mm_defs.specs.declared.header.Size.{Size};
+ghost use Rattle.mm_defs.specs.Numbers.{integer};
+ghost use Rattle.mm_defs.specs.Words.{Word, word, words};
+ghost use Rattle.mm_defs.specs.Header.{fields, symmetries, named, may_combine, is_integer_field, is_general, value_words, header, size};
+ghost use Rattle.mm_defs.specs.Faults.{banner_rules, size_limits, size_rules, place_rules, value_rules, triangle_rules, entry_rules};
+ghost use Rattle.mm_defs.specs.File.{triple, triple_at};
+ghost use Rattle.mm_reader.specs.Tokens.{capped, ReadsInteger};
+ghost use Rattle.mm_reader.specs.Lines.{IsLine};
+ghost use Rattle.mm_reader.specs.Judging.{Judged, JudgedEntry, Passes, IsWithin};
+
+use crate::line::LineSoFar;
+use crate::number::Integer;
+use mm_defs::{Header, Kind, Size, Symmetry};
+use sp_ids::{Col, Field, MAX_COLS, MAX_ENTRY_LINES, MAX_ROWS, MAX_VALUE, Row};
+
+/// An entry line's place, counted from 0, and its value.
+#[derive(Clone, Copy, Debug, PartialEq, Eq)]
+pub struct Entry {
+    pub row: Row,
+    pub col: Col,
+    pub value: i64,
+}
+
+/// Judges line 1.
+pub fn judge_banner(line: &LineSoFar) -> Result<Header, Kind>
+    ensures { (bytes : List ℕ) → IsLine line.now.tokens line.now.count line.now.inside bytes
+        → Judged (banner_rules (words bytes)) (header (words bytes)) result }
+{
+    if !line.is(0, b"%%MatrixMarket") {
+        return Err(Kind::NoBanner);
+    }
+    if !line.has_words(5) {
+        return Err(Kind::HeaderWords);
+    }
+    if !line.spells(1, b"matrix") {
+        return Err(Kind::Object);
+    }
+    if line.spells(2, b"array") {
+        return Err(Kind::ArrayFormat);
+    }
+    if !line.spells(2, b"coordinate") {
+        return Err(Kind::Format);
+    }
+    let field = match field(line) {
+        None => return Err(Kind::Field),
+        Some(field) => field,
+    };
+    let symmetry = match symmetry(line) {
+        None => return Err(Kind::Symmetry),
+        Some(symmetry) => symmetry,
+    };
+    if !may_combine(field, symmetry) {
+        return Err(Kind::Combination);
+    }
+    Ok(Header { field, symmetry })
+}
+
+/// The field that the fourth word names.
+fn field(line: &LineSoFar) -> Option<Field>
+    ensures { (bytes : List ℕ) → IsLine line.now.tokens line.now.count line.now.inside bytes
+        → result ≡ named fields (word (words bytes) 3) }
+{
+    if line.spells(3, b"real") {
+        Some(Field::Real)
+    } else if line.spells(3, b"complex") {
+        Some(Field::Complex)
+    } else if line.spells(3, b"integer") {
+        Some(Field::Integer)
+    } else if line.spells(3, b"pattern") {
+        Some(Field::Pattern)
+    } else {
+        None
+    }
+}
+
+/// The symmetry that the fifth word names.
+fn symmetry(line: &LineSoFar) -> Option<Symmetry>
+    ensures { (bytes : List ℕ) → IsLine line.now.tokens line.now.count line.now.inside bytes
+        → result ≡ named symmetries (word (words bytes) 4) }
+{
+    if line.spells(4, b"general") {
+        Some(Symmetry::General)
+    } else if line.spells(4, b"symmetric") {
+        Some(Symmetry::Symmetric)
+    } else if line.spells(4, b"skew-symmetric") {
+        Some(Symmetry::SkewSymmetric)
+    } else if line.spells(4, b"hermitian") {
+        Some(Symmetry::Hermitian)
+    } else {
+        None
+    }
+}
+
+/// Whether files of this field may have this symmetry.
+fn may_combine(field: Field, symmetry: Symmetry) -> bool
+    ensures { result ≡ may_combine field symmetry }
+{
+    match symmetry {
+        Symmetry::General | Symmetry::Symmetric => true,
+        Symmetry::SkewSymmetric => match field {
+            Field::Real | Field::Complex | Field::Integer => true,
+            Field::Pattern => false,
+        },
+        Symmetry::Hermitian => match field {
+            Field::Complex => true,
+            Field::Real | Field::Integer | Field::Pattern => false,
+        },
+    }
+}
+
+/// Judges the size line.
+pub fn judge_size(header: Header, line: &LineSoFar) -> Result<Size, Kind>
+    ensures judged { (bytes : List ℕ) → IsLine line.now.tokens line.now.count line.now.inside bytes
+        → Judged (size_rules header (words bytes)) (size (words bytes)) result }
+    ensures within { IfOk result (IsWithin header) }
+{
+    if !line.has_words(3) {
+        return Err(Kind::SizeWords);
+    }
+    let rows = match line.number(0) {
+        None => return Err(Kind::SizeNumber),
+        Some(rows) => rows,
+    };
+    let cols = match line.number(1) {
+        None => return Err(Kind::SizeNumber),
+        Some(cols) => cols,
+    };
+    let count = match line.number(2) {
+        None => return Err(Kind::SizeNumber),
+        Some(count) => count,
+    };
+    limits(header, rows, cols, count)
+}
+
+/// Whether every entry has a line of its own.
+fn is_general(symmetry: Symmetry) -> bool
+    ensures { result ≡ is_general symmetry }
+{
+    match symmetry {
+        Symmetry::General => true,
+        Symmetry::Symmetric | Symmetry::SkewSymmetric | Symmetry::Hermitian => false,
+    }
+}
+
+/// Judges the numbers of the size line, of which the greatest stands for all that do not fit.
+fn limits(header: Header, rows: u64, cols: u64, count: u64) -> Result<Size, Kind>
+    ensures judged { (s : Size) → rows ≡ capped s.rows → cols ≡ capped s.cols → count ≡ capped s.count
+        → Judged (size_limits header s) s result }
+    ensures within { IfOk result (IsWithin header) }
+{
+    if rows > u64::from(MAX_ROWS) {
+        return Err(Kind::Rows);
+    }
+    if cols > u64::from(MAX_COLS) {
+        return Err(Kind::Columns);
+    }
+    if count > u64::from(MAX_ENTRY_LINES) {
+        return Err(Kind::Entries);
+    }
+    if !is_general(header.symmetry) {
+        if rows != cols {
+            return Err(Kind::NotSquare);
+        }
+    }
+    Ok(Size {
+        rows: rows as u32,
+        cols: cols as u32,
+        count: count as u32,
+    })
+}
+
+/// Judges an entry line.
+pub fn judge_entry(header: Header, size: Size, line: &LineSoFar) -> Result<Entry, Kind>
+    requires { IsWithin header size }
+    ensures judged { (bytes : List ℕ) → IsLine line.now.tokens line.now.count line.now.inside bytes
+        → JudgedEntry (entry_rules header size (words bytes)) (triple header (words bytes)) result }
+    ensures inside { IfOk result (λ e. (e.row < size.rows) × (e.col < size.cols)) }
+    ensures value { IfOk result (λ e. is_integer_field header.field ≡ false → e.value ≡ pos 0) }
+    ensures small { IfOk result (λ e. nat_abs e.value ≤ MAX_VALUE) }
+{
+    if !line.has_words(2 + value_words(header.field)) {
+        return Err(Kind::EntryWords);
+    }
+    let row = match line.number(0) {
+        None => return Err(Kind::RowNumber),
+        Some(row) => row,
+    };
+    let col = match line.number(1) {
+        None => return Err(Kind::ColumnNumber),
+        Some(col) => col,
+    };
+    judge_place(header, size, row, col, line.integer(2))
+}
+
+/// How many value words an entry line has.
+fn value_words(field: Field) -> usize
+    ensures words { result ≡ value_words field }
+    ensures few { result ≤ 2 }
+{
+    match field {
+        Field::Real | Field::Integer => 1,
+        Field::Complex => 2,
+        Field::Pattern => 0,
+    }
+}
+
+/// Judges what an entry line says: its row and column, counted from 1, of which the greatest number stands for all that
+/// do not fit, and its value, if it is an integer.
+pub fn judge_place(
+    header: Header,
+    size: Size,
+    row: u64,
+    col: u64,
+    value: Option<Integer>,
+) -> Result<Entry, Kind>
+    requires { IsWithin header size }
+    ensures judged { (i j : ℕ) (w : Word) → row ≡ capped i → col ≡ capped j
+        → (is_integer_field header.field ≡ true → ReadsInteger w value)
+        → JudgedEntry (place_rules header size i j w) (triple_at header.field i j w) result }
+    ensures inside { IfOk result (λ e. (e.row < size.rows) × (e.col < size.cols)) }
+    ensures value { IfOk result (λ e. is_integer_field header.field ≡ false → e.value ≡ pos 0) }
+    ensures small { IfOk result (λ e. nat_abs e.value ≤ MAX_VALUE) }
+{
+    if row == 0 {
+        return Err(Kind::RowRange);
+    }
+    if row > u64::from(size.rows) {
+        return Err(Kind::RowRange);
+    }
+    if col == 0 {
+        return Err(Kind::ColumnRange);
+    }
+    if col > u64::from(size.cols) {
+        return Err(Kind::ColumnRange);
+    }
+    let value = match value_of(header.field, value) {
+        Err(kind) => return Err(kind),
+        Ok(value) => value,
+    };
+    if let Some(kind) = triangle(header.symmetry, row, col) {
+        return Err(kind);
+    }
+    Ok(Entry {
+        row: Row((row - 1) as u32),
+        col: Col((col - 1) as u32),
+        value,
+    })
+}
+
+/// Judges the value, which is 0 where the field is not integer.
+fn value_of(field: Field, value: Option<Integer>) -> Result<i64, Kind>
+    ensures judged { (w : Word) → (is_integer_field field ≡ true → ReadsInteger w value)
+        → Judged (value_rules field w) (if is_integer_field field then integer w else pos 0) result }
+    ensures none { IfOk result (λ v. is_integer_field field ≡ false → v ≡ pos 0) }
+    ensures small { IfOk result (λ v. nat_abs v ≤ MAX_VALUE) }
+{
+    match field {
+        Field::Integer => judge_integer(value),
+        Field::Real | Field::Complex | Field::Pattern => Ok(0),
+    }
+}
+
+/// Judges the value of an integer file.
+fn judge_integer(value: Option<Integer>) -> Result<i64, Kind>
+    ensures judged { (w : Word) → ReadsInteger w value → Judged (value_rules Field.Integer w) (integer w) result }
+    ensures small { IfOk result (λ v. nat_abs v ≤ MAX_VALUE) }
+{
+    let Integer { minus, magnitude } = match value {
+        None => return Err(Kind::ValueNumber),
+        Some(value) => value,
+    };
+    if magnitude > MAX_VALUE {
+        return Err(Kind::Value);
+    }
+    if minus {
+        return Ok(-(magnitude as i64));
+    }
+    Ok(magnitude as i64)
+}
+
+/// The kind, if a place is in the part of the matrix that other entries tell.
+fn triangle(symmetry: Symmetry, row: u64, col: u64) -> Option<Kind>
+    ensures { (i j : ℕ) → row ≡ i → col ≡ j → Passes (triangle_rules symmetry i j) result }
+{
+    match symmetry {
+        Symmetry::General => None,
+        Symmetry::SkewSymmetric => {
+            if row < col {
+                Some(Kind::UpperEntry)
+            } else if row == col {
+                Some(Kind::DiagonalEntry)
+            } else {
+                None
+            }
+        }
+        Symmetry::Symmetric | Symmetry::Hermitian => {
+            if row < col {
+                Some(Kind::UpperEntry)
+            } else {
+                None
+            }
+        }
+    }
+}

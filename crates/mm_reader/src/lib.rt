@@ -1,0 +1,18 @@
+//! A reader of Matrix Market coordinate files, from any source of bytes, through one buffer.
+#![tactic(auto)]
+
+mod input;
+mod judge;
+mod line;
+mod machine;
+mod number;
+mod reader;
+mod rest;
+mod text;
+mod window;
+
+pub use input::{Input, read_matrix, read_rest};
+pub use mm_defs::{End, Kind, ReadError};
+
+#[cfg(test)]
+mod tests;

@@ -1,0 +1,326 @@
+//! The reader's machine: what each line is, by the lines before it.
+
+ghost use Rattle.std.specs.Prelude.{◌≡◌, ◌≤◌, ◌<◌, ◌+◌, ◌++◌, ℕ, nat_abs, pos, true, false, List, [], ◌∷◌, length, take, IfOk, OnOk, MatchResult, ◌-◌, ◌^◌};
+ghost use Rattle.sp_ids.specs.Entries.{Entries};
+ghost use Rattle.mm_defs.specs.Words.{words};
+ghost use Rattle.mm_defs.specs.Header.{is_general, is_integer_field};
+ghost use Rattle.mm_defs.specs.File.{mirror, line_faults, later_lines};
+ghost use Rattle.mm_reader.specs.Lines.{IsLine};
+ghost use Rattle.mm_reader.specs.Judging.{triple_of};
+ghost use Rattle.mm_reader.specs.Machine.{HasBanner, HasEntries, HasLines, HasRoom, IsReady, Steps, is_complete};
+ghost use Rattle.mm_reader.specs.Standing.{begun_lines, IsBetween, IsAfter, IsAll, IsWhole, Lacks, StopsAt, StopsIn, StopsWithin, StopsAtEnd};
+ghost use Rattle.mm_reader.specs.Additions.{with_entries};
+
+use crate::judge::{Entry, judge_banner, judge_entry, judge_size};
+use crate::line::LineSoFar;
+use mm_defs::{End, Header, Kind, Size, Symmetry};
+use sp_ids::{Col, Field, OutOfMemory, Row, Triples};
+use std::alloc::Global;
+
+/// Which lines have come.
+#[derive(Clone, Copy, Debug, PartialEq, Eq)]
+pub enum Phase {
+    /// None.
+    Banner,
+    /// The banner, and no size line yet.
+    Sizes {
+        header: Header,
+    },
+    /// The size line, and so many entry lines.
+    Entries {
+        header: Header,
+        size: Size,
+        done: u32,
+    },
+}
+
+/// Why the machine stopped.
+#[derive(Clone, Copy, Debug, PartialEq, Eq)]
+pub enum Stop {
+    /// A line is bad.
+    Bad { line: u64, kind: Kind },
+    /// There was not enough memory.
+    Memory,
+}
+
+/// Whether the matrix is read, where what follows is not judged.
+pub fn is_complete(end: End, phase: Phase) -> bool
+    ensures { result ≡ is_complete end phase }
+{
+    match end {
+        End::File => false,
+        End::LastEntry => match phase {
+            Phase::Banner => false,
+            Phase::Sizes { .. } => false,
+            Phase::Entries { size, done, .. } => done == size.count,
+        },
+    }
+}
+
+/// Line 1 has come.
+pub fn after_banner(line: &LineSoFar) -> Result<Phase, Stop>
+    ensures steps { (end : End) (bytes : List ℕ) (t : Entries) → IsLine line.now.tokens line.now.count line.now.inside bytes
+        → Steps end (bytes ∷ []) t result }
+    ensures ready { (t : Entries) → IfOk result (λ phase. IsReady phase t) }
+{
+    match judge_banner(line) {
+        Ok(header) => Ok(Phase::Sizes { header }),
+        Err(kind) => Err(Stop::Bad { line: 1, kind }),
+    }
+}
+
+/// A later line has come, and no size line before it.
+pub fn after_size(
+    alloc: Global,
+    header: Header,
+    line: &LineSoFar,
+    number: u64,
+    triples: &mut Triples,
+) -> Result<Phase, Stop>
+    ensures steps { (end : End) (ls : List (List ℕ)) (bytes : List ℕ) → IsLine line.now.tokens line.now.count line.now.inside bytes
+        → HasBanner header ls → later_lines ls ≡ [] → line_faults end ls ≡ [] → number ≡ length ls + 1
+        → Steps end (ls ++ bytes ∷ []) triples.new result }
+    ensures ready { IfOk result (λ phase. IsReady phase triples.new) }
+{
+    if line.is_skipped() {
+        return Ok(Phase::Sizes { header });
+    }
+    let size = match judge_size(header, line) {
+        Err(kind) => return Err(Stop::Bad { line: number, kind }),
+        Ok(size) => size,
+    };
+    match Triples::new(alloc, size.rows, size.cols, header.field) {
+        Err(_) => return Err(Stop::Memory),
+        Ok(empty) => *triples = empty,
+    }
+    Ok(Phase::Entries {
+        header,
+        size,
+        done: 0,
+    })
+}
+
+/// A line behind the size line has come.
+pub fn after_entry(
+    header: Header,
+    size: Size,
+    done: u32,
+    line: &LineSoFar,
+    number: u64,
+    triples: &mut Triples,
+) -> Result<Phase, Stop>
+    requires { HasRoom header size done triples.old }
+    ensures steps { (end : End) (ls : List (List ℕ)) (bytes : List ℕ) → IsLine line.now.tokens line.now.count line.now.inside bytes
+        → HasBanner header ls → HasEntries header size done triples.old (later_lines ls) → line_faults end ls ≡ [] → number ≡ length ls + 1
+        → is_complete end (Phase.Entries header size done) ≡ false
+        → Steps end (ls ++ bytes ∷ []) triples.new result }
+    ensures ready { IfOk result (λ phase. IsReady phase triples.new) }
+{
+    if line.is_skipped() {
+        return Ok(Phase::Entries { header, size, done });
+    }
+    if done == size.count {
+        return Err(Stop::Bad {
+            line: number,
+            kind: Kind::Trailing,
+        });
+    }
+    let entry = match judge_entry(header, size, line) {
+        Err(kind) => return Err(Stop::Bad { line: number, kind }),
+        Ok(entry) => entry,
+    };
+    match add(header.symmetry, entry, triples) {
+        Err(_) => Err(Stop::Memory),
+        Ok(()) => Ok(Phase::Entries {
+            header,
+            size,
+            done: done + 1,
+        }),
+    }
+}
+
+/// Adds an entry, and the place on the other side of the diagonal.
+pub fn add(symmetry: Symmetry, entry: Entry, triples: &mut Triples) -> Result<(), OutOfMemory>
+    requires row { entry.row < triples.old.rows }
+    requires col { entry.col < triples.old.cols }
+    requires square { is_general symmetry ≡ false → triples.old.rows ≡ triples.old.cols }
+    requires few { length triples.old.items < 4294967290 }
+    requires value { is_integer_field triples.old.field ≡ false → entry.value ≡ pos 0 }
+    requires small { nat_abs entry.value ≤ 9223372036854775807 }
+    ensures { OnOk result (triples.new ≡ with_entries triples.old (triple_of entry ∷ mirror symmetry (triple_of entry))) }
+{
+    let Entry { row, col, value } = entry;
+    triples.push(row, col, value)?;
+    match symmetry {
+        Symmetry::General => Ok(()),
+        Symmetry::SkewSymmetric => triples.push(Row(col.0), Col(row.0), -value),
+        Symmetry::Symmetric | Symmetry::Hermitian => {
+            if row.0 == col.0 {
+                return Ok(());
+            }
+            triples.push(Row(col.0), Col(row.0), value)
+        }
+    }
+}
+
+/// The reader's machine.
+#[derive(Drop)]
+pub struct Machine {
+    pub phase: Phase,
+    /// How many lines have ended.
+    pub number: u64,
+    pub triples: Triples,
+    /// The open line has bytes.
+    pub begun: bool,
+    pub line: LineSoFar,
+}
+
+/// No byte has come.
+pub fn start(alloc: Global) -> Result<Machine, OutOfMemory>
+    ensures ready { IfOk result (λ m. IsReady m.phase m.triples) }
+    ensures none { IfOk result (λ m. begun_lines m ≡ 0) }
+    ensures open { (end : End) → IfOk result (λ m. is_complete end m.phase ≡ false) }
+    ensures stands { (end : End) → IfOk result (λ m. IsAfter end m []) }
+{
+    let triples = Triples::new(alloc, 0, 0, Field::Pattern)?;
+    Ok(Machine {
+        phase: Phase::Banner,
+        number: 0,
+        triples,
+        begun: false,
+        line: LineSoFar::new(),
+    })
+}
+
+/// One more line has come.
+fn next_phase(
+    alloc: Global,
+    phase: Phase,
+    line: &LineSoFar,
+    number: u64,
+    triples: &mut Triples,
+) -> Result<Phase, Stop>
+    requires { IsReady phase triples.old }
+    ensures steps { (end : End) (ls : List (List ℕ)) (bytes : List ℕ) → IsLine line.now.tokens line.now.count line.now.inside bytes
+        → HasLines end phase triples.old ls → number ≡ length ls + 1 → is_complete end phase ≡ false
+        → Steps end (ls ++ bytes ∷ []) triples.new result }
+    ensures ready { IfOk result (λ next. IsReady next triples.new) }
+{
+    match phase {
+        Phase::Banner => after_banner(line),
+        Phase::Sizes { header } => after_size(alloc, header, line, number, triples),
+        Phase::Entries { header, size, done } => {
+            after_entry(header, size, done, line, number, triples)
+        }
+    }
+}
+
+/// The open line has ended.
+fn end_line(alloc: Global, m: &mut Machine) -> Result<(), Stop>
+    requires ready { IsReady m.old.phase m.old.triples }
+    requires room { m.old.number < 2 ^ 64 - 1 }
+    ensures ready { OnOk result (IsReady m.new.phase m.new.triples) }
+    ensures number { OnOk result (begun_lines m.new ≡ m.old.number + 1) }
+    ensures closed { OnOk result (m.new.begun ≡ false) }
+    ensures steps { (end : End) (ls : List (List ℕ)) (bytes : List ℕ) → IsLine m.old.line.tokens m.old.line.count m.old.line.inside bytes
+        → HasLines end m.old.phase m.old.triples ls → m.old.number ≡ length ls → is_complete end m.old.phase ≡ false
+        → MatchResult result (λ _. IsBetween end m.new (ls ++ bytes ∷ [])) (StopsAt end (ls ++ bytes ∷ [])) }
+{
+    let number = m.number + 1;
+    let phase = match next_phase(alloc, m.phase, &m.line, number, &mut m.triples) {
+        Err(stop) => return Err(stop),
+        Ok(phase) => phase,
+    };
+    m.phase = phase;
+    m.number = number;
+    m.begun = false;
+    m.line.clear();
+    Ok(())
+}
+
+/// One more byte comes.
+pub fn take(alloc: Global, m: &mut Machine, byte: u8) -> Result<(), Stop>
+    requires ready { IsReady m.old.phase m.old.triples }
+    requires room { begun_lines m.old < 2 ^ 64 - 1 }
+    ensures ready { OnOk result (IsReady m.new.phase m.new.triples) }
+    ensures number { OnOk result (begun_lines m.new ≤ begun_lines m.old + 1) }
+    ensures steps { (end : End) (bytes : List ℕ) → IsAfter end m.old bytes → is_complete end m.old.phase ≡ false
+        → MatchResult result (λ _. IsAfter end m.new (bytes ++ byte ∷ [])) (StopsIn end (bytes ++ byte ∷ [])) }
+    ensures open { (end : End) → OnOk result (is_complete end m.old.phase ≡ false → is_complete end m.new.phase ≡ true → m.new.begun ≡ false) }
+{
+    if byte == b'\n' {
+        return end_line(alloc, m);
+    }
+    m.line.push(byte);
+    m.begun = true;
+    Ok(())
+}
+
+/// A piece comes. It gives how many of its bytes were used: all, unless the matrix is read and what follows is not
+/// judged.
+pub fn feed(alloc: Global, m: &mut Machine, end: End, piece: &[u8]) -> Result<usize, Stop>
+    requires ready { IsReady m.old.phase m.old.triples }
+    requires room { begun_lines m.old + length piece.now < 2 ^ 64 }
+    requires open { is_complete end m.old.phase ≡ false }
+    ensures ready { OnOk result (IsReady m.new.phase m.new.triples) }
+    ensures used { IfOk result (λ n. n ≤ length piece.now) }
+    ensures number { IfOk result (λ n. begun_lines m.new ≤ begun_lines m.old + n) }
+    ensures whole { IfOk result (λ n. is_complete end m.new.phase ≡ false → n ≡ length piece.now) }
+    ensures closed { OnOk result (is_complete end m.new.phase ≡ true → m.new.begun ≡ false) }
+    ensures steps { (bytes : List ℕ) → IsAfter end m.old bytes
+        → MatchResult result (λ n. IsAfter end m.new (bytes ++ take n piece.now)) (StopsWithin end bytes piece.now) }
+{
+    let mut at = 0;
+    while at < piece.len() {
+        if let Err(stop) = take(alloc, m, piece[at]) {
+            return Err(stop);
+        }
+        at += 1;
+        if is_complete(end, m.phase) {
+            return Ok(at);
+        }
+    }
+    Ok(at)
+}
+
+/// The input has ended.
+pub fn finish(alloc: Global, m: &mut Machine) -> Result<(), Stop>
+    requires ready { IsReady m.old.phase m.old.triples }
+    requires room { begun_lines m.old < 2 ^ 64 }
+    ensures { (end : End) (bytes : List ℕ) → IsAfter end m.old bytes → is_complete end m.old.phase ≡ false
+        → MatchResult result (λ _. IsWhole end bytes m.new.triples) (StopsAtEnd end bytes) }
+{
+    if !m.begun {
+        return missing(m.phase, m.number);
+    }
+    if let Err(stop) = end_line(alloc, m) {
+        return Err(stop);
+    }
+    missing(m.phase, m.number)
+}
+
+/// What is missing at the end of the input.
+fn missing(phase: Phase, number: u64) -> Result<(), Stop>
+    ensures { (end : End) (t : Entries) (ls : List (List ℕ)) → HasLines end phase t ls → number ≡ length ls
+        → MatchResult result (λ _. IsAll end phase t ls) (Lacks end ls) }
+{
+    match phase {
+        Phase::Banner => Err(Stop::Bad {
+            line: 1,
+            kind: Kind::NoBanner,
+        }),
+        Phase::Sizes { .. } => Err(Stop::Bad {
+            line: number,
+            kind: Kind::NoSize,
+        }),
+        Phase::Entries { size, done, .. } => {
+            if done < size.count {
+                return Err(Stop::Bad {
+                    line: number,
+                    kind: Kind::MissingEntries,
+                });
+            }
+            Ok(())
+        }
+    }
+}

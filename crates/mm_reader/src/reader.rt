@@ -1,0 +1,170 @@
+//! Reading a matrix from the bytes ahead and from a source.
+
+ghost use Rattle.std.specs.Prelude.{◌≡◌, ◌≤◌, ◌<◌, ◌+◌, ◌^◌, ℕ, List, false, length, IfOk, IfErr, MatchResult, OnOk, IsTrue};
+ghost use Rattle.sp_ports.specs.Bytes.{IsAtEnd, WhereTold};
+ghost use Rattle.sp_ports.specs.Counts.{SourceRose};
+ghost use Rattle.mm_defs.specs.Reading.{Causes};
+ghost use Rattle.mm_reader.specs.Machine.{IsReady, is_complete};
+ghost use Rattle.mm_reader.specs.Standing.{begun_lines, IsAfter, IsWhole};
+ghost use Rattle.mm_reader.specs.Windows.{ahead_of, call_of, Answers, IsWindow, KeepsWindow, Consumes, Refuses, RefusesAtEnd, refusal_of};
+
+use crate::machine::{Machine, Stop, feed, finish, is_complete, start};
+use crate::window::{Window, refill};
+use mm_defs::{End, ReadError};
+use sp_ids::Triples;
+use sp_ports::Source;
+use std::alloc::Global;
+
+/// The answer to what stopped the machine.
+fn refusal(stop: Stop) -> ReadError
+    ensures { result ≡ refusal_of stop }
+{
+    match stop {
+        Stop::Bad { line, kind } => {
+            if kind.is_limit() {
+                ReadError::Limit { line, kind }
+            } else {
+                ReadError::Malformed { line, kind }
+            }
+        }
+        Stop::Memory => ReadError::OutOfMemory,
+    }
+}
+
+/// The machine gets the bytes ahead, as many as may be used. It tells whether the matrix is read and what follows is not
+/// judged; else all bytes ahead were used.
+fn consume(alloc: Global, m: &mut Machine, end: End, window: &mut Window) -> Result<bool, ReadError>
+    requires window { IsWindow window.old }
+    requires ready { IsReady m.old.phase m.old.triples }
+    requires open { is_complete end m.old.phase ≡ false }
+    requires number { begun_lines m.old + window.old.room < 2 ^ 64 }
+    ensures window { IsWindow window.new }
+    ensures ok { IfOk result (Consumes end window.old window.new m.old m.new) }
+    ensures room { window.new.room ≤ window.old.room }
+    ensures lines { window.new.lines ≡ window.old.lines }
+    ensures at_end { window.new.at_end ≡ window.old.at_end }
+    ensures err { (bytes : List ℕ) → IsAfter end m.old bytes → IfErr result (Refuses end bytes (ahead_of window.old) window.old.room) }
+{
+    if (window.to - window.from) as u64 > window.room {
+        return consume_to_limit(alloc, m, end, window);
+    }
+    let used = match feed(alloc, m, end, &window.buffer[window.from..window.to]) {
+        Err(stop) => return Err(refusal(stop)),
+        Ok(used) => used,
+    };
+    window.from += used;
+    window.room -= used as u64;
+    Ok(is_complete(end, m.phase))
+}
+
+/// The same where not all bytes ahead may be used.
+fn consume_to_limit(
+    alloc: Global,
+    m: &mut Machine,
+    end: End,
+    window: &mut Window,
+) -> Result<bool, ReadError>
+    requires window { IsWindow window.old }
+    requires ready { IsReady m.old.phase m.old.triples }
+    requires open { is_complete end m.old.phase ≡ false }
+    requires number { begun_lines m.old + window.old.room < 2 ^ 64 }
+    requires over { window.old.room < length (ahead_of window.old) }
+    ensures window { IsWindow window.new }
+    ensures ok { IfOk result (Consumes end window.old window.new m.old m.new) }
+    ensures room { window.new.room ≤ window.old.room }
+    ensures lines { window.new.lines ≡ window.old.lines }
+    ensures at_end { window.new.at_end ≡ window.old.at_end }
+    ensures err { (bytes : List ℕ) → IsAfter end m.old bytes → IfErr result (Refuses end bytes (ahead_of window.old) window.old.room) }
+{
+    let to = window.from + window.room as usize;
+    let used = match feed(alloc, m, end, &window.buffer[window.from..to]) {
+        Err(stop) => return Err(refusal(stop)),
+        Ok(used) => used,
+    };
+    window.from += used;
+    window.room -= used as u64;
+    if is_complete(end, m.phase) {
+        return Ok(true);
+    }
+    Err(ReadError::TooLong)
+}
+
+/// The matrix is read, and what follows stays ahead.
+fn complete(m: Machine, window: &mut Window) -> Triples
+    requires window { IsWindow window.old }
+    requires number { window.old.lines + m.number + window.old.room < 2 ^ 64 }
+    ensures triples { result ≡ m.triples }
+    ensures window { IsWindow window.new }
+    ensures ahead { ahead_of window.new ≡ ahead_of window.old }
+    ensures room { window.new.room ≡ window.old.room }
+    ensures lines { window.new.lines ≡ window.old.lines + m.number }
+    ensures at_end { window.new.at_end ≡ window.old.at_end }
+{
+    window.lines += m.number;
+    let Machine { triples, .. } = m;
+    triples
+}
+
+/// The input has ended.
+fn conclude(alloc: Global, m: Machine, window: &mut Window) -> Result<Triples, ReadError>
+    requires window { IsWindow window.old }
+    requires ready { IsReady m.phase m.triples }
+    requires number { window.old.lines + m.number + window.old.room < 2 ^ 64 }
+    requires room { begun_lines m < 2 ^ 64 }
+    ensures answer { (end : End) (bytes : List ℕ) → IsAfter end m bytes → is_complete end m.phase ≡ false
+        → MatchResult result (λ t. IsWhole end bytes t) (RefusesAtEnd end bytes) }
+    ensures window { IsWindow window.new }
+    ensures ahead { ahead_of window.new ≡ ahead_of window.old }
+    ensures room { window.new.room ≡ window.old.room }
+    ensures lines { OnOk result (window.new.lines ≡ window.old.lines + m.number) }
+    ensures bound { window.new.lines ≤ window.old.lines + m.number }
+    ensures at_end { window.new.at_end ≡ window.old.at_end }
+{
+    let mut m = m;
+    let ended = m.number;
+    match finish(alloc, &mut m) {
+        Err(stop) => Err(refusal(stop)),
+        Ok(()) => {
+            window.lines += ended;
+            let Machine { triples, .. } = m;
+            Ok(triples)
+        }
+    }
+}
+
+/// Reads a matrix from the bytes ahead and from the source, within the window's room.
+pub fn matrix<S: Source>(
+    alloc: Global,
+    window: &mut Window,
+    source: &mut S,
+    end: End,
+) -> Result<Triples, ReadError>
+    requires window { IsWindow window.old }
+    requires at_end { IsTrue window.old.at_end → IsAtEnd (S.left source.old) }
+    ensures told { WhereTold (S.left source.old) (S.left source.new) (λ before after.
+        Answers end (call_of window.old (S.faults source.old) (S.faults source.new) before after) window.old window.new result) }
+    ensures cause { Causes (SourceRose (S.left source.old) (S.faults source.old) (S.faults source.new)) (S.faults source.old) (S.faults source.new) result }
+    ensures window { KeepsWindow window.old window.new }
+    ensures at_end { IsTrue window.new.at_end → IsAtEnd (S.left source.new) }
+    ensures unasked { IsTrue window.old.at_end → source.new ≡ source.old }
+{
+    let mut m = match start(alloc) {
+        Err(_) => return Err(ReadError::OutOfMemory),
+        Ok(m) => m,
+    };
+    'reading: loop {
+        let done = match consume(alloc, &mut m, end, window) {
+            Err(error) => return Err(error),
+            Ok(done) => done,
+        };
+        if done {
+            return Ok(complete(m, window));
+        }
+        if window.at_end {
+            return conclude(alloc, m, window);
+        }
+        if let Err(_) = refill(window, source) {
+            return Err(ReadError::ReadFault);
+        }
+    }
+}

@@ -1,0 +1,74 @@
+//! Reading all that follows.
+
+ghost use Rattle.std.specs.Prelude.{◌≡◌, ◌≤◌, ◌<◌, ◌+◌, length, IfErr, MatchResult, OnOk, IsTrue};
+ghost use Rattle.std.specs.List.{count_by};
+ghost use Rattle.sp_ports.specs.Bytes.{IsAtEnd, WhereTold};
+ghost use Rattle.sp_ports.specs.Counts.{SourceRose};
+ghost use Rattle.mm_defs.specs.Words.{is_lf};
+ghost use Rattle.mm_defs.specs.Reading.{Causes, RefusesRest};
+ghost use Rattle.mm_reader.specs.Windows.{ahead_of, call_of, IsWindow, KeepsWindow, TakesAhead, RefusesAhead, RestRead};
+
+use crate::window::{Window, refill};
+use mm_defs::ReadError;
+use sp_ports::Source;
+use std::alloc::Global;
+
+/// How many of the bytes are LFs.
+fn count_lfs(bytes: &[u8]) -> usize
+    ensures { result ≡ count_by is_lf bytes.now }
+{
+    bytes.iter().filter(|byte| **byte == b'\n').count()
+}
+
+/// Adds the bytes ahead, where all of them may be used.
+fn take_ahead(bytes: &mut Vec<u8>, window: &mut Window) -> Result<(), ReadError>
+    requires { IsWindow window.old }
+    ensures window { KeepsWindow window.old window.new }
+    ensures ok { OnOk result (TakesAhead window.old window.new bytes.old.items bytes.new.items) }
+    ensures err { IfErr result (RefusesAhead window.old) }
+    ensures at_end { window.new.at_end ≡ window.old.at_end }
+{
+    let count = window.to - window.from;
+    if count as u64 > window.room {
+        return Err(ReadError::TooLong);
+    }
+    let ahead = &window.buffer[window.from..window.to];
+    let lfs = count_lfs(ahead);
+    if let Err(_) = bytes.extend_from_slice(ahead) {
+        return Err(ReadError::OutOfMemory);
+    }
+    window.from = window.to;
+    window.room -= count as u64;
+    window.lines += lfs as u64;
+    Ok(())
+}
+
+/// Reads the bytes ahead and all that the source gives, within the window's room.
+pub fn rest<S: Source>(
+    alloc: Global,
+    window: &mut Window,
+    source: &mut S,
+) -> Result<Vec<u8>, ReadError>
+    requires window { IsWindow window.old }
+    requires at_end { IsTrue window.old.at_end → IsAtEnd (S.left source.old) }
+    ensures told { WhereTold (S.left source.old) (S.left source.new) (λ before after.
+        MatchResult result (λ v. RestRead (call_of window.old (S.faults source.old) (S.faults source.new) before after) window.old window.new v.items)
+        (RefusesRest (call_of window.old (S.faults source.old) (S.faults source.new) before after))) }
+    ensures cause { Causes (SourceRose (S.left source.old) (S.faults source.old) (S.faults source.new)) (S.faults source.old) (S.faults source.new) result }
+    ensures window { KeepsWindow window.old window.new }
+    ensures at_end { IsTrue window.new.at_end → IsAtEnd (S.left source.new) }
+    ensures unasked { IsTrue window.old.at_end → source.new ≡ source.old }
+{
+    let mut bytes = Vec::new(alloc);
+    'reading: loop {
+        if let Err(error) = take_ahead(&mut bytes, window) {
+            return Err(error);
+        }
+        if window.at_end {
+            return Ok(bytes);
+        }
+        if let Err(_) = refill(window, source) {
+            return Err(ReadError::ReadFault);
+        }
+    }
+}

@@ -1,0 +1,244 @@
+//! Readings from a source in memory.
+
+use crate::{End, Input, Kind, ReadError, read_matrix, read_rest};
+use sp_ids::{Col, Field, Row, Triples};
+use sp_ports::MemSource;
+use std::alloc::{AllocError, Global};
+use std::test::Fail;
+
+/// One entry, in 59 bytes.
+const SMALLEST: &[u8] = b"%%MatrixMarket matrix coordinate pattern general\n1 1 1\n1 1\n";
+
+/// Reads a file that comes in pieces of so many bytes, from a source some of whose calls fail.
+fn read(
+    alloc: Global,
+    bytes: &[u8],
+    piece: usize,
+    failing: &[u64],
+    limit: u64,
+) -> Result<Triples, ReadError>
+    requires { 0 < piece }
+{
+    let mut source = MemSource::new(copied(alloc, bytes)?, piece, numbers(alloc, failing)?);
+    let mut input = match Input::new(alloc, limit) {
+        Err(_) => return Err(ReadError::OutOfMemory),
+        Ok(input) => input,
+    };
+    read_matrix(alloc, &mut input, &mut source, End::File)
+}
+
+/// A whole file in one piece.
+fn read_all(alloc: Global, bytes: &[u8]) -> Result<Triples, ReadError> {
+    read(alloc, bytes, 4096, &[], 1_000_000)
+}
+
+fn copied(alloc: Global, bytes: &[u8]) -> Result<Vec<u8>, ReadError> {
+    match bytes.to_vec(alloc) {
+        Err(_) => Err(ReadError::OutOfMemory),
+        Ok(bytes) => Ok(bytes),
+    }
+}
+
+fn numbers(alloc: Global, numbers: &[u64]) -> Result<Vec<u64>, ReadError> {
+    match numbers.to_vec(alloc) {
+        Err(_) => Err(ReadError::OutOfMemory),
+        Ok(numbers) => Ok(numbers),
+    }
+}
+
+/// What was refused, if it was.
+fn refusal(answer: Result<Triples, ReadError>) -> Option<ReadError> {
+    match answer {
+        Err(error) => Some(error),
+        Ok(_) => None,
+    }
+}
+
+/// The values of a file of the field integer.
+fn values(triples: &Triples) -> &[i64] {
+    if triples.field() == Field::Integer {
+        return triples.values();
+    }
+    &[]
+}
+
+/// So many times the same byte.
+fn filled(alloc: Global, byte: u8, count: usize) -> Result<Vec<u8>, AllocError> {
+    Vec::from_elem(alloc, byte, count)
+}
+
+/// A pattern file of one row and one column whose entry line is this.
+fn with_entry(alloc: Global, line: &[u8]) -> Result<Vec<u8>, AllocError> {
+    let mut bytes = b"%%MatrixMarket matrix coordinate pattern general\n1 1 1\n".to_vec(alloc)?;
+    bytes.extend_from_slice(line)?;
+    Ok(bytes)
+}
+
+#[test]
+fn pieces_change_nothing(rt: HostRuntime) -> Result<(), Fail> {
+    let alloc = rt.alloc();
+    for piece in [1, 7, 59] {
+        let triples = read(alloc, SMALLEST, piece, &[], 59)?;
+        assert_eq!(rt; triples.places(), [(Row(0), Col(0))].as_slice());
+        assert_eq!(rt; (triples.rows(), triples.cols()), (1, 1));
+        assert_eq!(rt; triples.field(), Field::Pattern);
+    }
+    Ok(())
+}
+
+#[test]
+fn each_failing_read_is_answered(rt: HostRuntime) -> Result<(), Fail> {
+    let alloc = rt.alloc();
+    for call in 0..7u64 {
+        assert_eq!(rt;
+            refusal(read(alloc, SMALLEST, 10, &[call], 1000)),
+            Some(ReadError::ReadFault)
+        );
+    }
+    assert_eq!(rt; refusal(read(alloc, SMALLEST, 10, &[7], 1000)), None);
+    // A bad line that had ended comes first.
+    let no_banner = ReadError::Malformed {
+        line: 1,
+        kind: Kind::NoBanner,
+    };
+    assert_eq!(rt;
+        refusal(read(alloc, b"%%NotIt\n", 8, &[1], 1000)),
+        Some(no_banner)
+    );
+    let twice = b"%%MatrixMarket matrix coordinate pattern general\n1 1 1\n1 1\n1 1\n";
+    let trailing = ReadError::Malformed {
+        line: 4,
+        kind: Kind::Trailing,
+    };
+    assert_eq!(rt;
+        refusal(read(alloc, twice, 1, &[62], 1000)),
+        Some(ReadError::ReadFault)
+    );
+    assert_eq!(rt; refusal(read(alloc, twice, 1, &[63], 1000)), Some(trailing));
+    Ok(())
+}
+
+#[test]
+fn the_limit_counts_bytes(rt: HostRuntime) -> Result<(), Fail> {
+    let alloc = rt.alloc();
+    for piece in [1, 10, 59] {
+        let mut source = MemSource::new(SMALLEST.to_vec(alloc)?, piece, Vec::new(alloc));
+        let mut input = Input::new(alloc, 58)?;
+        let answer = read_matrix(alloc, &mut input, &mut source, End::File);
+        assert_eq!(rt; refusal(answer), Some(ReadError::TooLong));
+        assert_eq!(rt; input.is_good(), false);
+    }
+    assert_eq!(rt; read(alloc, SMALLEST, 10, &[], 59)?.len(), 1);
+    Ok(())
+}
+
+#[test]
+fn values_and_mirrors(rt: HostRuntime) -> Result<(), Fail> {
+    let alloc = rt.alloc();
+    let foreign = read_all(
+        alloc,
+        b"%%MatrixMarket matrix coordinate integer general\r\n1 1 2\r\n1 1 5\r\n1 1 -5",
+    )?;
+    assert_eq!(rt;
+        foreign.places(),
+        [(Row(0), Col(0)), (Row(0), Col(0))].as_slice()
+    );
+    assert_eq!(rt; values(&foreign), [5, -5].as_slice());
+    let skew = read_all(
+        alloc,
+        b"%%MatrixMarket matrix coordinate integer skew-symmetric\n2 2 1\n2 1 -4\n",
+    )?;
+    assert_eq!(rt;
+        skew.places(),
+        [(Row(1), Col(0)), (Row(0), Col(1))].as_slice()
+    );
+    assert_eq!(rt; values(&skew), [-4, 4].as_slice());
+    let complex = read_all(
+        alloc,
+        b"%%MatrixMarket MATRIX Coordinate complex hermitian\n2 2 2\n1 1 1 0\n2 1 0 1\n",
+    )?;
+    assert_eq!(rt;
+        complex.places(),
+        [(Row(0), Col(0)), (Row(1), Col(0)), (Row(0), Col(1))].as_slice()
+    );
+    Ok(())
+}
+
+#[test]
+fn lines_may_be_longer_than_the_buffer(rt: HostRuntime) -> Result<(), Fail> {
+    let alloc = rt.alloc();
+    let mut blanks = with_entry(alloc, b"1")?;
+    blanks.extend_from_slice(&filled(alloc, b' ', 70_000)?)?;
+    blanks.extend_from_slice(b"1\n")?;
+    assert_eq!(rt;
+        read_all(alloc, &blanks)?.places(),
+        [(Row(0), Col(0))].as_slice()
+    );
+    let zeros = filled(alloc, b'0', 70_000)?;
+    let mut padded = with_entry(alloc, &zeros)?;
+    padded.extend_from_slice(b"1 ")?;
+    padded.extend_from_slice(&zeros)?;
+    padded.extend_from_slice(b"1\n")?;
+    assert_eq!(rt;
+        read_all(alloc, &padded)?.places(),
+        [(Row(0), Col(0))].as_slice()
+    );
+    let mut nines = b"%%MatrixMarket matrix coordinate pattern general\n".to_vec(alloc)?;
+    nines.extend_from_slice(&filled(alloc, b'9', 400)?)?;
+    nines.extend_from_slice(b" 1 0\n")?;
+    let rows = ReadError::Limit {
+        line: 2,
+        kind: Kind::Rows,
+    };
+    assert_eq!(rt; refusal(read_all(alloc, &nines)), Some(rows));
+    Ok(())
+}
+
+#[test]
+fn what_follows_the_last_entry_is_left(rt: HostRuntime) -> Result<(), Fail> {
+    let alloc = rt.alloc();
+    let mut bytes = SMALLEST.to_vec(alloc)?;
+    bytes.extend_from_slice(b"% c\nbtf 1\n")?;
+    let mut source = MemSource::new(bytes, 61, Vec::new(alloc));
+    let mut input = Input::new(alloc, 1000)?;
+    let triples = read_matrix(alloc, &mut input, &mut source, End::LastEntry)?;
+    assert_eq!(rt; triples.places(), [(Row(0), Col(0))].as_slice());
+    assert_eq!(rt; (input.lines(), input.ahead()), (3, 2));
+    assert_eq!(rt; input.is_good(), true);
+    Ok(())
+}
+
+/// All that follows a matrix.
+fn rest_after(alloc: Global, bytes: Vec<u8>, piece: usize, limit: u64) -> Result<Vec<u8>, ReadError>
+    requires { 0 < piece }
+{
+    let mut source = MemSource::new(bytes, piece, Vec::new(alloc));
+    let mut input = match Input::new(alloc, limit) {
+        Err(_) => return Err(ReadError::OutOfMemory),
+        Ok(input) => input,
+    };
+    match read_matrix(alloc, &mut input, &mut source, End::LastEntry) {
+        Err(error) => Err(error),
+        Ok(_) => read_rest(alloc, &mut input, &mut source),
+    }
+}
+
+#[test]
+fn the_rest_is_all_that_follows(rt: HostRuntime) -> Result<(), Fail> {
+    let alloc = rt.alloc();
+    for piece in [1, 61, 100] {
+        let mut bytes = SMALLEST.to_vec(alloc)?;
+        bytes.extend_from_slice(b"% c\nbtf 1\n")?;
+        assert_eq!(rt;
+            rest_after(alloc, bytes, piece, 69)?.as_slice(),
+            b"% c\nbtf 1\n".as_slice()
+        );
+        let mut longer = SMALLEST.to_vec(alloc)?;
+        longer.extend_from_slice(b"% c\nbtf 1\n!")?;
+        assert_eq!(rt;
+            rest_after(alloc, longer, piece, 69),
+            Err(ReadError::TooLong)
+        );
+    }
+    Ok(())
+}

@@ -1,0 +1,83 @@
+//! The bytes that were taken from a source and are not used yet.
+
+ghost use Rattle.std.specs.Prelude.{◌≡◌, ◌≤◌, ◌<◌, ◌+◌, ◌^◌, take, length, vec_len, IfOk, OnErr, IsTrue, IsFalse};
+ghost use Rattle.sp_ports.specs.Bytes.{Gives, IsAtEnd};
+ghost use Rattle.sp_ports.specs.Counts.{HasCause, SourceRose};
+ghost use Rattle.mm_reader.specs.Windows.{ahead_of, IsWindow};
+
+use sp_ids::OutOfMemory;
+use sp_ports::{Failed, Source};
+use std::alloc::Global;
+
+/// How many bytes are read at once.
+pub const BUFFER: usize = 65_536;
+
+/// A buffer, the bytes in it that are not used yet, and what may still be used.
+#[derive(Drop)]
+pub struct Window {
+    pub buffer: Vec<u8>,
+    /// Where the bytes ahead begin.
+    pub from: usize,
+    /// Where they end.
+    pub to: usize,
+    /// A read gave no bytes.
+    pub at_end: bool,
+    /// How many bytes may still be used.
+    pub room: u64,
+    /// How many LFs were used.
+    pub lines: u64,
+}
+
+/// A buffer of that length. Of its bytes nothing is said: a list of so many would be written out in each goal.
+pub fn new_buffer(alloc: Global) -> Result<Vec<u8>, OutOfMemory>
+    ensures { IfOk result (λ buffer. vec_len buffer ≡ BUFFER) }
+{
+    Ok(Vec::from_elem(alloc, 0u8, BUFFER)?)
+}
+
+/// How many bytes are asked for: one more than may be used, as far as they have room.
+fn most_wanted(room: u64) -> usize
+    ensures some { 0 < result }
+    ensures fits { result ≤ BUFFER }
+{
+    if room < BUFFER as u64 {
+        return room as usize + 1;
+    }
+    BUFFER
+}
+
+/// Reads at most so many bytes into the front of the buffer.
+fn read_some<S: Source>(source: &mut S, buffer: &mut [u8], most: usize) -> Result<usize, Failed>
+    requires some { 0 < most }
+    requires fits { most ≤ length buffer.old }
+    ensures bound { IfOk result (λ k. k ≤ most) }
+    ensures bytes { IfOk result (λ k. Gives (S.left source.old) (S.left source.new) (take k buffer.new)) }
+    ensures end { IfOk result (λ k. k ≡ 0 → IsAtEnd (S.left source.new)) }
+    ensures kept { OnErr result (S.left source.new ≡ S.left source.old) }
+    ensures cause { HasCause (SourceRose (S.left source.old) (S.faults source.old) (S.faults source.new)) (S.faults source.old) (S.faults source.new) result }
+{
+    source.read(&mut buffer[..most])
+}
+
+/// Reads into the empty window, at most one byte more than may be used, and tells how many bytes came.
+pub fn refill<S: Source>(window: &mut Window, source: &mut S) -> Result<usize, Failed>
+    requires window { IsWindow window.old }
+    ensures window { IsWindow window.new }
+    ensures bytes { IfOk result (λ k. Gives (S.left source.old) (S.left source.new) (ahead_of window.new)) }
+    ensures count { IfOk result (λ k. k ≡ length (ahead_of window.new)) }
+    ensures some { IfOk result (λ k. IsFalse window.new.at_end → 0 < k) }
+    ensures end { IfOk result (λ k. IsTrue window.new.at_end → IsAtEnd (S.left source.new)) }
+    ensures kept { OnErr result (S.left source.new ≡ S.left source.old) }
+    ensures same { OnErr result (window.new.at_end ≡ window.old.at_end) }
+    ensures cause { HasCause (SourceRose (S.left source.old) (S.faults source.old) (S.faults source.new)) (S.faults source.old) (S.faults source.new) result }
+    ensures room { window.new.room ≡ window.old.room }
+    ensures lines { window.new.lines ≡ window.old.lines }
+{
+    window.from = 0;
+    window.to = 0;
+    let most = most_wanted(window.room);
+    let count = read_some(source, &mut window.buffer, most)?;
+    window.to = count;
+    window.at_end = count == 0;
+    Ok(count)
+}

@@ -1,0 +1,27 @@
+use Rattle.std.proofs.Common.{◌≡◌, length, take, arith, ap, ◌∙◌, subst}
+use Rattle.std.proofs.Math.Seq.{take-length}
+use Rattle.std.proofs.lemmas.List.{take_more}
+use Rattle.pothen_fan.specs.Sweeping.{Progress}
+use Rattle.pothen_fan.proofs.Phases.{progress_ends, progress_more}
+use Rattle.path_search.proofs.Places.{read_among, read_at}
+use Rattle.pothen_fan.proofs.sweep.sweep.Goals as goal
+
+pub extend-requires-clause-root : goal.extend-requires-clause-root
+extend-requires-clause-root c = c.requires.roots.in_range _ (read_among _ c.args.roots.now _ c.loop-root-test.true c.root-item.is)
+
+pub loop-root-preserved : goal.loop-root-preserved
+loop-root-preserved c =
+    let roots = c.args.roots.now in
+    let at = read_at _ 0 roots _ c.loop-root-test.true c.root-item.is in
+    record {
+      fits = c.extend.ensures.fits;
+      progress = rw (take_more roots c.loop-root.root-index 0 c.loop-root-test.true, ← at) (progress_more _ _ _ _ _ _ _ _ c.loop-root.invariant.progress c.extend.ensures.turns);
+      rows_stay = λ r h. c.extend.ensures.rows_stay r (c.loop-root.invariant.rows_stay r h);
+      cols_stay = λ x h. c.extend.ensures.cols_stay x (c.loop-root.invariant.cols_stay x h);
+    }
+
+pub returns-clause-maximum : goal.returns-clause-maximum
+returns-clause-maximum c =
+    let roots = c.args.roots.now in
+    let all : take c.loop-root.root-index roots ≡ roots = (let e : c.loop-root.root-index ≡ length roots = (let to = c.loop-root.auto.root-index-end in let past = c.loop-root-test.false in omega arith) in ap (λ k. take k roots) e ∙ take-length roots) in
+    progress_ends _ _ _ _ roots (subst (λ xs. Progress c.args.pattern.now c.args.matching.now c.loop-root.matching c.loop-root.search.marks xs) all c.loop-root.invariant.progress) c.requires.roots c.loop-root.invariant.fits.matching

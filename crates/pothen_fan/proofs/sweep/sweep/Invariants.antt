@@ -1,0 +1,13 @@
+use Rattle.std.proofs.Common.{ℕ, take}
+use Rattle.bip_defs.specs.Lists.{Among}
+use Rattle.bip_defs.specs.Matching.{rows_of, cols_of}
+use Rattle.pothen_fan.specs.Sweeping.{Fits, Progress}
+use Rattle.pothen_fan.proofs.sweep.sweep.Given as goal
+
+abbrev pub invariant-loop-root : goal.invariant-loop-root
+invariant-loop-root l = record {
+  fits : Fits l.pattern l.matching l.search;
+  progress : Progress l.pattern l.fn.matching l.matching l.search.marks (take l.root-index l.roots);
+  rows_stay : (r : ℕ) → Among r (rows_of l.fn.matching.pairs) → Among r (rows_of l.matching.pairs);
+  cols_stay : (c : ℕ) → Among c (cols_of l.fn.matching.pairs) → Among c (cols_of l.matching.pairs);
+}

@@ -1,0 +1,34 @@
+-- Phases of searches from the unmatched columns.
+use Rattle.std.specs.Prelude.{◌≡◌, ◌⊎◌, ℕ, ◌<◌, Bool, List, length}
+use Rattle.bip_defs.specs.Lists.{Among}
+use Rattle.bip_defs.specs.Matching.{IsMatching, cols_of}
+use Rattle.bip_defs.specs.Matrix.{Matrix, Place, cols}
+use Rattle.bip_graph.specs.Pairing.{Pairing}
+use Rattle.path_search.specs.Searching.{AreLeftOut, IsMarked, IsShut, Searching}
+
+-- a matching of the matrix's entries, and a search of its sizes
+pub record Fits (a : Matrix) (m : Pairing) (s : Searching) : Type 0 where
+  pub marks_are : length s.marks ≡ a.rows
+  pub looks_are : s.cols ≡ cols a
+  pub rows_are : m.rows ≡ a.rows
+  pub cols_are : m.cols ≡ cols a
+  pub matching : IsMatching a m.pairs
+
+-- columns of the matrix, among them each unmatched one
+pub record HoldUnmatched (a : Matrix) (m : List Place) (roots : List ℕ) : Type 0 where
+  pub in_range : (c : ℕ) → Among c roots → c < cols a
+  pub complete : (c : ℕ) → c < cols a → ¬ Among c (cols_of m) → Among c roots
+
+-- a search from the root failed, or was not needed: marks stay, and no augmenting path leads through more marked rows
+pub record Fruitless (a : Matrix) (m : List Place) (old new : List Bool) (root : ℕ) : Type 0 where
+  pub marked : (r : ℕ) → IsMarked old r → IsMarked new r
+  pub left_out : AreLeftOut a m old → AreLeftOut a m new
+  pub of_root : ¬ Among root (cols_of m) → IsShut a new root
+
+-- the matching stayed, or it grew
+abbrev pub Turns : Matrix → Pairing → Pairing → List Bool → List Bool → ℕ → Type 0
+Turns a m n old new root = ((n ≡ m) × Fruitless a m.pairs old new root) ⊎ (length m.pairs < length n.pairs)
+
+-- the matching is as at the phase's start, and the rows that were marked are left out for good, or it has grown
+abbrev pub Progress : Matrix → Pairing → Pairing → List Bool → List ℕ → Type 0
+Progress a start m marks roots = ((m ≡ start) × AreLeftOut a m.pairs marks × ((c : ℕ) → Among c roots → ¬ Among c (cols_of m.pairs) → IsShut a marks c)) ⊎ (length start.pairs < length m.pairs)

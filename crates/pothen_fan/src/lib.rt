@@ -1,0 +1,77 @@
+//! Maximum matchings by phases of vertex-disjoint depth-first searches, after Pothen and Fan (1990).
+//!
+//! A phase searches once from each unmatched column, and goes to each row at most once, so it is one pass over the entries.
+//! Each column's list is looked through for an unmatched row before the search goes deeper, from where the last look-ahead
+//! ended: rows that were found matched stay matched. Phases turn the direction in which lists are read (Azad,
+//! Halappanavar, Rajamanickam, Boman, Khan and Pothen 2012).
+#![tactic(auto)]
+
+mod sweep;
+#[cfg(test)]
+mod tests;
+
+ghost use Rattle.std.specs.Prelude.{◌≡◌, ◌↔◌, ℕ, ◌+◌, ◌<◌, length, IfOk, OnErr};
+ghost use Rattle.bip_defs.specs.Lists.{Among};
+ghost use Rattle.bip_defs.specs.Matching.{IsMatching, IsMaximum, rows_of, cols_of};
+ghost use Rattle.bip_defs.specs.Matrix.{cols};
+
+use crate::sweep::{sweep, unmatched_cols};
+use bip_graph::Matching;
+use path_search::Search;
+use sp_ids::OutOfMemory;
+use sp_pattern::Pattern;
+use std::alloc::Global;
+
+/// One phase of searches. Gives by how much the matching has grown: 0 exactly where it was maximum.
+///
+/// The matching must be of the pattern's entries and sizes, and no row or column loses its mate without a new one. Answers
+/// `OutOfMemory` where there is no memory for 17 bytes a row, 4 a column and 4 an unmatched column; the matching is as
+/// before then. Work: one pass over the entries.
+pub fn phase(alloc: Global, pattern: &Pattern, matching: &mut Matching) -> Result<u32, OutOfMemory>
+    requires rows { matching.old.rows ≡ pattern.now.rows }
+    requires cols { matching.old.cols ≡ cols pattern.now }
+    requires matching { IsMatching pattern.now matching.old.pairs }
+    ensures sizes { (matching.new.rows ≡ matching.old.rows) × (matching.new.cols ≡ matching.old.cols) }
+    ensures matching { IsMatching pattern.now matching.new.pairs }
+    ensures growth { IfOk result (λ k. length matching.new.pairs ≡ length matching.old.pairs + k) }
+    ensures maximum { IfOk result (λ k. (k ≡ 0) ↔ IsMaximum pattern.now matching.old.pairs) }
+    ensures rows_stay { (r : ℕ) → Among r (rows_of matching.old.pairs) → Among r (rows_of matching.new.pairs) }
+    ensures cols_stay { (c : ℕ) → Among c (cols_of matching.old.pairs) → Among c (cols_of matching.new.pairs) }
+    ensures refused { OnErr result (matching.new ≡ matching.old) }
+{
+    let mut search = Search::new(alloc, pattern.rows(), pattern.cols())?;
+    let roots = unmatched_cols(alloc, pattern, matching)?;
+    let before = matching.size();
+    let _grows = sweep(&mut search, pattern, matching, roots.as_slice(), false);
+    Ok(matching.size() - before)
+}
+
+/// A maximum matching, in which every row and column that was matched before is matched.
+///
+/// The matching must be of the pattern's entries and sizes. Answers `OutOfMemory` where there is no memory for 17 bytes a
+/// row, 4 a column and 4 an unmatched column; the matching is dropped then. Work: one pass over the entries for each
+/// phase, of which all but the last make the matching larger.
+pub fn complete(
+    alloc: Global,
+    pattern: &Pattern,
+    matching: Matching,
+) -> Result<Matching, OutOfMemory>
+    requires rows { matching.rows ≡ pattern.now.rows }
+    requires cols { matching.cols ≡ cols pattern.now }
+    requires matching { IsMatching pattern.now matching.pairs }
+    ensures sizes { IfOk result (λ m. (m.rows ≡ matching.rows) × (m.cols ≡ matching.cols)) }
+    ensures maximum { IfOk result (λ m. IsMaximum pattern.now m.pairs) }
+    ensures rows_stay { IfOk result (λ m. (r : ℕ) → Among r (rows_of matching.pairs) → Among r (rows_of m.pairs)) }
+    ensures cols_stay { IfOk result (λ m. (c : ℕ) → Among c (cols_of matching.pairs) → Among c (cols_of m.pairs)) }
+{
+    let mut search = Search::new(alloc, pattern.rows(), pattern.cols())?;
+    let roots = unmatched_cols(alloc, pattern, &matching)?;
+    let mut grown = matching;
+    let mut turned = false;
+    let mut grows = true;
+    while grows {
+        grows = sweep(&mut search, pattern, &mut grown, roots.as_slice(), turned);
+        turned = !turned;
+    }
+    Ok(grown)
+}
