@@ -12,8 +12,7 @@ use Rattle.btf_text.proofs.Parts.{same_ids}
 
 -- no lines
 pub lines_none : (taken : Option (List ℕ)) (faults : ℕ) (held : Held) → PoursLines taken faults held taken faults held []
-lines_none taken faults held = record { pours = pours_none taken faults held; }
-
+lines_none taken faults held = record { pours = pours_none taken faults held }
 
 blocks_more : (k n : ℕ) (bs : List Block) (b : Block) → n ≡ k + length bs
     → block_lines k (bs ++ b ∷ []) ≡ block_lines k bs ++ (line (codes "block") (n ∷ length b.rows ∷ []) ∷ lists b.rows b.cols)

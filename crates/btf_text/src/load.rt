@@ -16,7 +16,11 @@ use sp_ports::{Failed, Sink};
 pub(crate) fn put_head<K: Sink>(out: &mut K, buf: &mut TextBuf, dec: &Decomposition)
     ensures { PoursLines (K.taken out.old) (K.faults out.old) buf.old (K.taken out.new) (K.faults out.new) buf.new (matrix_line (sizes_told dec.now) ∷ rank_line dec.now.rank ∷ []) }
 {
-    buf.put_line(out, b"matrix", &[u64::from(dec.m), u64::from(dec.n), u64::from(dec.e)]);
+    buf.put_line(
+        out,
+        b"matrix",
+        &[u64::from(dec.m), u64::from(dec.n), u64::from(dec.e)],
+    );
     buf.put_line(out, b"rank", &[u64::from(dec.rank)]);
 }
 
@@ -50,8 +54,20 @@ pub fn write_load<K: Sink>(
     buf.start();
     put_head(out, buf, dec);
     let parts = &dec.parts;
-    put_lengths(out, buf, b"horizontal", parts.hr.as_slice(), parts.hc.as_slice());
+    put_lengths(
+        out,
+        buf,
+        b"horizontal",
+        parts.hr.as_slice(),
+        parts.hc.as_slice(),
+    );
     put_square(out, buf, &dec.blocks);
-    put_lengths(out, buf, b"vertical", parts.vr.as_slice(), parts.vc.as_slice());
+    put_lengths(
+        out,
+        buf,
+        b"vertical",
+        parts.vr.as_slice(),
+        parts.vc.as_slice(),
+    );
     buf.finish(out)
 }

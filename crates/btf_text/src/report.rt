@@ -49,18 +49,27 @@ fn put_order<K: Sink, N: Id>(
 }
 
 /// Goes on with the rows and the columns in the order of the block triangular form, where they are asked for.
-pub(crate) fn put_orders<K: Sink>(
-    out: &mut K,
-    buf: &mut TextBuf,
-    dec: &Decomposition,
-    order: bool,
-)
+pub(crate) fn put_orders<K: Sink>(out: &mut K, buf: &mut TextBuf, dec: &Decomposition, order: bool)
     ensures { PoursLines (K.taken out.old) (K.faults out.old) buf.old (K.taken out.new) (K.faults out.new) buf.new (order_lines (where_asked order (orders_of (decomposition_of dec.now)))) }
 {
     if !order {
         return;
     }
     let (parts, blocks) = (&dec.parts, &dec.blocks);
-    put_order(out, buf, b"row_order", parts.hr.as_slice(), blocks.all_rows(), parts.vr.as_slice());
-    put_order(out, buf, b"column_order", parts.hc.as_slice(), blocks.all_cols(), parts.vc.as_slice());
+    put_order(
+        out,
+        buf,
+        b"row_order",
+        parts.hr.as_slice(),
+        blocks.all_rows(),
+        parts.vr.as_slice(),
+    );
+    put_order(
+        out,
+        buf,
+        b"column_order",
+        parts.hc.as_slice(),
+        blocks.all_cols(),
+        parts.vc.as_slice(),
+    );
 }

@@ -19,17 +19,26 @@ fn the_rank_of_a_wide_matrix(rt: HostRuntime) -> Result<(), Fail> {
     let mut buf = TextBuf::new(alloc)?;
     let mut out = SteadySink::new(alloc, 100, 7)?;
     let (rows, cols) = ([Row(0)], [Col(0), Col(1)]);
-    assert_eq!(rt; write_rank(&mut out, &mut buf, &pattern, 1, &rows, &cols), Ok(()));
+    assert_eq!(rt;
+        write_rank(&mut out, &mut buf, &pattern, 1, &rows, &cols),
+        Ok(())
+    );
     assert_eq!(rt; out.bytes(), text.as_slice());
 
     // The first call takes 10 bytes and the second fails: a front of the text was taken. The same buffer then writes
     // the whole of it to another sink.
     let mut failing = MemSink::new(alloc, 100, 10, [1].to_vec(alloc)?)?;
-    assert_eq!(rt; write_rank(&mut failing, &mut buf, &pattern, 1, &rows, &cols), Err(Failed));
+    assert_eq!(rt;
+        write_rank(&mut failing, &mut buf, &pattern, 1, &rows, &cols),
+        Err(Failed)
+    );
     assert_eq!(rt; failing.bytes(), b"matrix 2 2".as_slice());
     assert_eq!(rt; failing.failed_calls(), 1);
     let mut again = MemSink::new(alloc, 60, 60, Vec::new(alloc))?;
-    assert_eq!(rt; write_rank(&mut again, &mut buf, &pattern, 1, &rows, &cols), Ok(()));
+    assert_eq!(rt;
+        write_rank(&mut again, &mut buf, &pattern, 1, &rows, &cols),
+        Ok(())
+    );
     assert_eq!(rt; again.bytes(), text.as_slice());
     Ok(())
 }
@@ -44,10 +53,19 @@ fn the_rank_of_a_tall_matrix(rt: HostRuntime) -> Result<(), Fail> {
     let pattern = Pattern::build(&rt, alloc, &triples)?;
     let mut buf = TextBuf::new(alloc)?;
     let mut out = SteadySink::new(alloc, 100, 100)?;
-    assert_eq!(rt; write_rank(&mut out, &mut buf, &pattern, 1, &[], &[]), Ok(()));
-    assert_eq!(rt; out.bytes(), b"matrix 2 1 2\nrank 1\nhorizontal 0 0\nend\n".as_slice());
+    assert_eq!(rt;
+        write_rank(&mut out, &mut buf, &pattern, 1, &[], &[]),
+        Ok(())
+    );
+    assert_eq!(rt;
+        out.bytes(),
+        b"matrix 2 1 2\nrank 1\nhorizontal 0 0\nend\n".as_slice()
+    );
     let mut small = MemSink::new(alloc, 12, 100, Vec::new(alloc))?;
-    assert_eq!(rt; write_rank(&mut small, &mut buf, &pattern, 1, &[], &[]), Err(Failed));
+    assert_eq!(rt;
+        write_rank(&mut small, &mut buf, &pattern, 1, &[], &[]),
+        Err(Failed)
+    );
     assert_eq!(rt; small.bytes(), b"matrix 2 1 2".as_slice());
     Ok(())
 }
