@@ -1,3 +1,4 @@
 pub mod Pouring
 pub mod Lines
 pub mod Parts
+pub mod Orders

@@ -3,7 +3,7 @@ use Rattle.std.proofs.Common.{◌≡◌, ◌<◌, ◌+◌, ℕ, suc, List, [], �
 use Rattle.std.proofs.lemmas.List.{take_more, map-append}
 use Rattle.std.proofs.lemmas.Grind.{flat_map-append}
 use Rattle.bip_graph.specs.Texts.{TextLine, counted, line, spaced, spelled, text_of}
-use Rattle.btf_text.specs.Held.{Held, Pours}
+use Rattle.btf_text.specs.Held.{Held, Poured, Pours}
 
 -- the same bytes
 pub pours-as : {taken last : Option (List ℕ)} {faults now : ℕ} {held after : Held} (first second : List ℕ)
@@ -22,15 +22,17 @@ numbers_go_on word numbers i d inside =
     ∙ ap (λ (t : List ℕ). word ++ t) (sym (ap spaced (take_more numbers i d inside) ∙ spaced-more (take i numbers) (get_or numbers i d)))
 
 -- one more row or column of a list
-pub ids_go_on : {N : Type 0} (number : N → ℕ) (word : List ℕ) (list : List N) (i : ℕ) (d : N) (n : ℕ) → i < length list → n ≡ suc (number (get_or list i d))
-    → (word ++ spaced (counted (map number (take i list)))) ++ 32 ∷ decimal n ≡ word ++ spaced (counted (map number (take (i + 1) list)))
-ids_go_on number word list i d n inside is =
-    append_assoc word _ (32 ∷ decimal n)
-    ∙ ap (λ (t : List ℕ). word ++ t)
-    (sym (ap (λ (t : List ℕ). spaced (counted t)) (ap (map number) (take_more list i d inside) ∙ map-append number (take i list) (get_or list i d ∷ []))
+pub ids_go_on : {N : Type 0} (number : N → ℕ) (list : List N) (i : ℕ) (d : N) (n : ℕ) → i < length list → n ≡ suc (number (get_or list i d))
+    → spaced (counted (map number (take i list))) ++ 32 ∷ decimal n ≡ spaced (counted (map number (take (i + 1) list)))
+ids_go_on number list i d n inside is =
+    sym (ap (λ (t : List ℕ). spaced (counted t)) (ap (map number) (take_more list i d inside) ∙ map-append number (take i list) (get_or list i d ∷ []))
     ∙ ap spaced (map-append suc (map number (take i list)) (number (get_or list i d) ∷ []))
     ∙ spaced-more (counted (map number (take i list))) (suc (number (get_or list i d)))
-    ∙ ap (λ (m : ℕ). spaced (counted (map number (take i list))) ++ 32 ∷ decimal m) (sym is)))
+    ∙ ap (λ (m : ℕ). spaced (counted (map number (take i list))) ++ 32 ∷ decimal m) (sym is))
+
+-- nothing yet
+pub pours_none : (taken : Option (List ℕ)) (faults : ℕ) (held : Held) → Pours taken faults held taken faults held []
+pours_none taken faults held start text p = subst (λ (t : List ℕ). Poured start taken faults held t) (sym (append-nil text)) p
 
 -- the line ends
 pub line_ends : (word numbers front : List ℕ) → front ≡ numbers → (word ++ spaced front) ++ 10 ∷ [] ≡ spelled (line word numbers)

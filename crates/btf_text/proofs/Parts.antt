@@ -1,10 +1,14 @@
 -- Texts of several lines, and parts.
-use Rattle.std.proofs.Common.{arith, inl, inr, map, ◌≡◌, ◌≢◌, ◌+◌, ◌==◌, if◌then◌else◌, ℕ, Bool, false, List, [], ◌∷◌, ◌++◌, length, append-nil, refl, sym, ap, ap₂, ◌∙◌, subst, Option, None, Some}
+use Rattle.std.proofs.Common.{codes, arith, inl, inr, map, ◌≡◌, ◌≢◌, ◌+◌, ◌==◌, if◌then◌else◌, ℕ, Bool, false, List, [], ◌∷◌, ◌++◌, length, append-nil, refl, sym, ap, ap₂, ◌∙◌, subst, Option, None, Some}
 use Rattle.std.proofs.lemmas.List.{map-id}
 use Rattle.std.proofs.lemmas.Grind.{flat_map-append}
 use Rattle.std.proofs.lemmas.Bool.Decides.{eqb_tells}
 use Rattle.sp_ports.specs.Bytes.{Takes}
-use Rattle.bip_graph.specs.Texts.{TextLine, line, lists, part, spelled, text_of}
+use Rattle.std.proofs.lemmas.List.Concat.{length-flat_map}
+use Rattle.bip_defs.specs.Blocks.{Block}
+use Rattle.bip_graph.specs.Stretches.{all_rows}
+use Rattle.bip_graph.specs.Texts.{TextLine, line, lists, part, spelled, square_line, text_of}
+use Rattle.btf_text.specs.Reports.{lengths_line}
 use Rattle.btf_text.specs.Held.{Held, Poured, PoursLines}
 use Rattle.btf_text.proofs.Pouring.{pours-then}
 use Rattle.btf_text.proofs.Lines.{pours-as}
@@ -43,7 +47,7 @@ differs : (n : ℕ) → n ≢ 0 → (n == 0) ≡ false
 differs n ne = elim (eqb_tells n 0) [ inl p ↦ absurd (ne p.1) | inr p ↦ p.0 ]
 
 -- rows and columns stand for their numbers
-same_ids : (list : List ℕ) → map (λ (n : ℕ). n) list ≡ list
+pub same_ids : (list : List ℕ) → map (λ (n : ℕ). n) list ≡ list
 same_ids list = map-id list
 
 pub part-lists : (word rows cols : List ℕ) → length rows + length cols ≢ 0
@@ -58,3 +62,12 @@ same_number word e = ap (λ (n : ℕ). line word (n ∷ []) ∷ []) e
 pub same_numbers : (word : List ℕ) {a b c d e f : ℕ} → a ≡ b → c ≡ d → e ≡ f → line word (a ∷ c ∷ e ∷ []) ∷ [] ≡ line word (b ∷ d ∷ f ∷ []) ∷ []
 same_numbers word {b = b} {c = c} {d = d} {e = e} one two three =
     ap (λ (n : ℕ). line word (n ∷ c ∷ e ∷ []) ∷ []) one ∙ ap (λ (n : ℕ). line word (b ∷ n ∷ e ∷ []) ∷ []) two ∙ ap (λ (n : ℕ). line word (b ∷ d ∷ n ∷ []) ∷ []) three
+
+-- lines over the lengths of equal lists
+pub same_lengths : (word : List ℕ) {rows cols r c : List ℕ} → rows ≡ r → cols ≡ c → lengths_line word rows cols ∷ [] ≡ lengths_line word r c ∷ []
+same_lengths word rows_are cols_are = ap₂ (λ (r c : List ℕ). lengths_line word r c ∷ []) rows_are cols_are
+
+pub same_square : {rows : List ℕ} {count : ℕ} (blocks : List Block) → rows ≡ all_rows blocks → count ≡ length blocks
+    → line (codes "square") (length rows ∷ count ∷ []) ∷ [] ≡ square_line blocks ∷ []
+same_square blocks rows_are count_is =
+    ap₂ (λ (s b : ℕ). line (codes "square") (s ∷ b ∷ []) ∷ []) (ap length rows_are ∙ length-flat_map (λ (b : Block). b.rows) blocks) count_is

@@ -2,7 +2,7 @@
 
 ghost use Rattle.std.specs.Prelude.{◌≡◌, OnOk, OnErr, true, ◌∷◌, ◌++◌, ◌+◌, ◌≤◌, ◌<◌, ℕ, List, [], false, Bool, length, map, suc, codes, decimal, IfOk};
 ghost use Rattle.std.specs.List.{flat_map};
-ghost use Rattle.bip_graph.specs.Texts.{counted, line, spelled};
+ghost use Rattle.bip_graph.specs.Texts.{counted, line, spaced, spelled};
 ghost use Rattle.btf_text.specs.Held.{Finishes, Pours, PoursLines, Poured, Start};
 ghost use Rattle.sp_ports.specs.Bytes.{Writes};
 ghost use Rattle.sp_ports.specs.Counts.{HasCause, Rose};
@@ -149,10 +149,17 @@ impl TextBuf {
         ensures { PoursLines (K.taken out.old) (K.faults out.old) self.old (K.taken out.new) (K.faults out.new) self.new (line word.now (counted (map N.number list.now)) ∷ []) }
     {
         self.put(out, word);
+        self.put_ids(out, list);
+        self.put(out, b"\n");
+    }
+
+    /// Goes on with a space and a number each, which count from 1.
+    pub(crate) fn put_ids<K: Sink, N: Id>(&mut self, out: &mut K, list: &[N])
+        ensures { Pours (K.taken out.old) (K.faults out.old) self.old (K.taken out.new) (K.faults out.new) self.new (spaced (counted (map N.number list.now))) }
+    {
         for id in list {
             self.put_number(out, u64::from(id.number()) + 1);
         }
-        self.put(out, b"\n");
     }
 
     /// Ends the text: hands on what is held, and tells whether a write has failed since the text began.

@@ -7,4 +7,6 @@ pub mod Placing
 pub mod Shape
 pub mod Slices
 pub mod Sides
+pub mod Summing
 pub mod Tallies
+pub mod Weighed

@@ -59,7 +59,7 @@ piece_rows cs rs us vs c o lt = o.rows c (col_fits cs rs us c lt)
 
 -- Looking for a row.
 
-rising_step : (xs : List ℕ) → IsRising xs → (i j : ℕ) → i ≤ j → j < length xs → get_or xs i 0 ≤ get_or xs j 0
+pub rising_step : (xs : List ℕ) → IsRising xs → (i j : ℕ) → i ≤ j → j < length xs → get_or xs i 0 ≤ get_or xs j 0
 rising_step [] up i j le lt = grind arith
 rising_step (x ∷ xs) up zero zero le lt = omega arith
 rising_step (x ∷ xs) up zero (suc j) le lt = let below = below_each_sound x (get_or xs j 0) xs up.0 (among_at xs j 0 (omega arith)) in omega arith

@@ -1,3 +1,5 @@
 pub mod Load
 pub mod Order
+pub mod Refusal
 pub mod Stored
+pub mod Weighing

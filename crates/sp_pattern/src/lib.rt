@@ -9,6 +9,8 @@ mod pieces;
 #[cfg(test)]
 mod tests;
 mod turn;
+mod weights;
 
 pub use load::load_matrix;
 pub use pattern::Pattern;
+pub use weights::{WeightError, Weights};

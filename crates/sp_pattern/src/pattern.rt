@@ -1,12 +1,13 @@
 //! The pattern of a matrix.
 
-ghost use Rattle.std.specs.Prelude.{◌≡◌, ◌<◌, ◌^◌, ◌↔◌, IsTrue, IfOk, List, length};
+ghost use Rattle.std.specs.Prelude.{◌≡◌, ◌<◌, ◌^◌, ◌↔◌, IsTrue, IfOk, List, length, ◌+◌, ◌≤◌};
 ghost use Rattle.bip_defs.specs.Matching.{turned};
 ghost use Rattle.sp_pattern.specs.Order.{AreInside, AreSorted, IsOrder, IsOrderOf, Pair};
-ghost use Rattle.bip_defs.specs.Lists.{Lists};
+ghost use Rattle.bip_defs.specs.Lists.{IsRising, Lists};
 ghost use Rattle.bip_defs.specs.Matrix.{IsEntry, HasPlaces, cols, column, row_list, entry_count};
 ghost use Rattle.sp_ids.specs.Entries.{places};
 ghost use Rattle.sp_pattern.specs.Stored.{IsPattern};
+ghost use Rattle.sp_pattern.specs.Weighing.{position, start_of};
 
 use crate::compress::compress;
 use crate::pairs::{ByCol, ByRow, Pairs, are_sorted, sorted_by_col};
@@ -182,6 +183,46 @@ impl Pattern {
             self.row_cols.as_slice(),
             row.0 as usize,
         )
+    }
+
+    /// Where a column's entries begin and end, in the order of all columns.
+    pub(crate) fn span(&self, col: Col) -> (usize, usize)
+        requires { col < cols self.now }
+        ensures from { result.0 ≡ start_of self.now col }
+        ensures to { result.1 ≡ start_of self.now (col + 1) }
+        ensures within { (result.0 ≤ result.1) × (result.1 ≤ entry_count self.now) }
+        ensures rising { IsRising (column self.now col) }
+    {
+        let starts = self.col_starts.as_slice();
+        (
+            starts[col.0 as usize] as usize,
+            starts[col.0 as usize + 1] as usize,
+        )
+    }
+
+    /// Where an entry stands, in the order of all columns.
+    pub(crate) fn place_of(&self, row: Row, col: Col) -> usize
+        requires { IsEntry self.now row col }
+        ensures place { result ≡ position self.now row col }
+        ensures within { result < entry_count self.now }
+    {
+        let (from, _) = self.span(col);
+        from + self.rows_of(col).binary_search(&row).unwrap_or(0)
+    }
+
+    /// The entry that stands there, in the order of all columns. Work: one look at each column up to its own.
+    pub(crate) fn place_at(&self, at: usize) -> (Row, Col)
+        requires { at < entry_count self.now }
+        ensures entry { IsEntry self.now result.0 result.1 }
+        ensures place { at ≡ position self.now result.0 result.1 }
+    {
+        for col in 0..self.cols() {
+            let (from, to) = self.span(Col(col));
+            if at < to {
+                return (self.rows_of(Col(col))[at - from], Col(col));
+            }
+        }
+        unreachable!()
     }
 
     /// Whether a place is an entry. Any row and column may be asked for.

@@ -1,0 +1,41 @@
+-- What is written of a decomposition: its report, and its summary.
+use Rattle.std.specs.Prelude.{ℕ, Bool, List, [], ◌∷◌, length, Option, codes}
+use Rattle.bip_defs.specs.Matrix.{Place}
+use Rattle.bip_graph.specs.Answers.{orders_of, where_asked}
+use Rattle.bip_graph.specs.Shown.{decomposition_of}
+use Rattle.bip_graph.specs.Texts.{Report, Sizes, TextLine, line, matrix_line, rank_line, square_line, text_of}
+use Rattle.bip_graph.specs.declared.answers.Decomposition.{Decomposition}
+
+abbrev pub sizes_told : Decomposition → Sizes
+sizes_told d = record { rows = d.m; cols = d.n; entries = d.e }
+
+-- all of it, the orders where they are asked for, and these pairs
+abbrev pub reported : Decomposition → Bool → Option (List Place) → Report
+reported d order pairs = record {
+  sizes = sizes_told d;
+  rank = d.rank;
+  horizontal_rows = d.parts.hr.items;
+  horizontal_cols = d.parts.hc.items;
+  blocks = d.blocks;
+  vertical_rows = d.parts.vr.items;
+  vertical_cols = d.parts.vc.items;
+  orders = where_asked order (orders_of (decomposition_of d));
+  pairs = pairs;
+}
+
+-- the lengths of two lists
+abbrev pub lengths_line : List ℕ → List ℕ → List ℕ → TextLine
+lengths_line word rows cols = line word (length rows ∷ length cols ∷ [])
+
+-- five lines: sizes alone
+abbrev pub summary_lines : Decomposition → List TextLine
+summary_lines d =
+    matrix_line (sizes_told d)
+    ∷ rank_line d.rank
+    ∷ lengths_line (codes "horizontal") d.parts.hr.items d.parts.hc.items
+    ∷ square_line d.blocks
+    ∷ lengths_line (codes "vertical") d.parts.vr.items d.parts.vc.items
+    ∷ []
+
+abbrev pub summary_text : Decomposition → List ℕ
+summary_text d = text_of (summary_lines d)

@@ -1,0 +1,152 @@
+//! The weights of a pattern's entries.
+
+ghost use Rattle.std.specs.Prelude.{◌≡◌, ◌+◌, ◌+ℤ◌, ◌<◌, ◌≤◌, ◌^◌, FitsSigned, ℕ, ℤ, pos, IfOk, IfErr, IfNone, IfSome, length, map, replicate, slice_index, slice_index_or};
+ghost use Rattle.std.specs.Int.{w128};
+ghost use Rattle.std.specs.Int.RustNames.{unsigned_abs};
+ghost use Rattle.bip_defs.specs.Matrix.{HasPlaces, IsEntry, cols, column, entry_count};
+ghost use Rattle.sp_ids.specs.Entries.{places};
+ghost use Rattle.sp_ids.specs.declared.triples.Field.TheVariants.{Integer};
+ghost use Rattle.sp_pattern.specs.Weighing.{AreSums, AreWeightsOf, weight_at, weight_limit, weights_in};
+
+use crate::Pattern;
+use sp_ids::{Col, MAX_VALUE, OutOfMemory, Row, Triples};
+use std::alloc::Global;
+use std::marker::Model;
+
+/// Why there are no weights.
+#[derive(Clone, Copy, Debug, PartialEq, Eq)]
+pub enum WeightError {
+    /// The sum of a place's values passes 9,223,372,036,854,775,807 in magnitude. Of all such places this is the one of
+    /// least column, and in it of least row.
+    SumLimit { row: Row, col: Col },
+    /// There was not enough memory.
+    OutOfMemory,
+}
+
+/// For each entry of a pattern the magnitude of the sum of the values that an integer file gives for its place.
+///
+/// It keeps 8 bytes an entry, in the order of the pattern's columns.
+#[derive(Drop)]
+pub struct Weights<'p> {
+    pattern: &'p Pattern,
+    weights: Vec<u64>,
+}
+
+impl<'p> Model for Weights<'p> {
+    ghost use Rattle.std.specs.Prelude.{◌≡◌, length};
+    ghost use Rattle.bip_defs.specs.Matrix.{entry_count};
+    ghost use Rattle.sp_pattern.specs.Weighing.{Weighing};
+
+    ghost Value = { Weighing };
+
+    ghost view = { λ w. record { matrix = w.pattern.now; weights = w.weights.items } };
+
+    ghost invariant = { λ w. length w.weights.items ≡ entry_count w.pattern.now };
+}
+
+impl<'p> Weights<'p> {
+    /// The weights of a column's entries, in the order in which `Pattern::rows_of` lends its rows, lent without copying.
+    pub fn weights_of(&self, col: Col) -> &[u64]
+        requires { col < cols self.now.matrix }
+        ensures weights { result.now ≡ weights_in self.now col }
+        ensures length { length result.now ≡ length (column self.now.matrix col) }
+        ensures each { (k : ℕ) → k < length result.now → slice_index result.now k ≡ weight_at self.now (slice_index (column self.now.matrix col) k) col }
+    {
+        let (from, to) = self.pattern.span(col);
+        &self.weights.as_slice()[from..to]
+    }
+
+    /// The magnitude of the sum of an entry's values.
+    pub fn weight(&self, row: Row, col: Col) -> u64
+        requires { IsEntry self.now.matrix row col }
+        ensures { result ≡ weight_at self.now row col }
+    {
+        self.weights.as_slice()[self.pattern.place_of(row, col)]
+    }
+}
+
+impl<'p> Weights<'p> {
+    ghost use Rattle.sp_pattern.specs.Refusal.{IsRefusal};
+
+    /// The weights of a pattern's entries, by the integer file that the pattern is of.
+    ///
+    /// Answers `SumLimit` exactly where the sum of some place's values passes the limit in magnitude, and `OutOfMemory`
+    /// where there is no memory for the weights, or for 16 bytes an entry beside them while the values are added up.
+    /// Work: a search in its column for each entry of the file, and one look at each entry of the pattern.
+    pub fn build(
+        alloc: Global,
+        pattern: &'p Pattern,
+        triples: &Triples,
+    ) -> Result<Weights<'p>, WeightError>
+        requires integer { triples.now.field ≡ Integer }
+        requires pattern { HasPlaces triples.now.rows triples.now.cols (places triples.now) pattern.now }
+        ensures weights { IfOk result (AreWeightsOf triples.now pattern.now) }
+        ensures refused { IfErr result (IsRefusal triples.now) }
+    {
+        let Ok(sums) = sums_of(alloc, pattern, triples) else {
+            return Err(WeightError::OutOfMemory);
+        };
+        if let Some(at) = first_large(sums.as_slice()) {
+            let (row, col) = pattern.place_at(at);
+            return Err(WeightError::SumLimit { row, col });
+        }
+        let Ok(weights) = magnitudes(alloc, sums.as_slice()) else {
+            return Err(WeightError::OutOfMemory);
+        };
+        Ok(Weights { pattern, weights })
+    }
+}
+
+// The sums of the entries' values, in the order of the pattern's columns.
+fn sums_of(alloc: Global, pattern: &Pattern, triples: &Triples) -> Result<Vec<i128>, OutOfMemory>
+    requires integer { triples.now.field ≡ Integer }
+    requires pattern { HasPlaces triples.now.rows triples.now.cols (places triples.now) pattern.now }
+    ensures { IfOk result (λ s. AreSums triples.now.items pattern.now s.items) }
+{
+    let mut sums = zeros(alloc, pattern.entries())?;
+    for k in 0..triples.len() {
+        let (row, col) = triples.place(k);
+        let at = pattern.place_of(row, col);
+        sums[at] = added(sums[at], triples.value(k));
+    }
+    Ok(sums)
+}
+
+fn added(sum: i128, value: i64) -> i128
+    requires { FitsSigned w128 (sum +ℤ value) }
+    ensures { result ≡ sum +ℤ value }
+{
+    sum + value as i128
+}
+
+fn zeros(alloc: Global, count: u32) -> Result<Vec<i128>, OutOfMemory>
+    ensures { IfOk result (λ s. s.items ≡ replicate count (pos 0)) }
+{
+    Ok(vec![in alloc; 0; count as usize]?)
+}
+
+// Where the first sum stands that passes the limit.
+fn first_large(sums: &[i128]) -> Option<usize>
+    ensures found { IfSome result (λ k. (k < length sums.now) × (weight_limit < unsigned_abs (slice_index_or sums.now k (pos 0)))) }
+    ensures first { IfSome result (λ k. (i : ℕ) → i < k → unsigned_abs (slice_index_or sums.now i (pos 0)) ≤ weight_limit) }
+    ensures none { IfNone result ((i : ℕ) → i < length sums.now → unsigned_abs (slice_index_or sums.now i (pos 0)) ≤ weight_limit) }
+{
+    for k in 0..sums.len() {
+        if sums[k].unsigned_abs() > MAX_VALUE as u128 {
+            return Some(k);
+        }
+    }
+    None
+}
+
+// The magnitudes of sums that are within the limit.
+fn magnitudes(alloc: Global, sums: &[i128]) -> Result<Vec<u64>, OutOfMemory>
+    requires { (i : ℕ) → i < length sums.now → unsigned_abs (slice_index_or sums.now i (pos 0)) ≤ weight_limit }
+    ensures { IfOk result (λ w. w.items ≡ map unsigned_abs sums.now) }
+{
+    let mut weights = Vec::with_capacity(alloc, sums.len())?;
+    for k in 0..sums.len() {
+        weights.push(sums[k].unsigned_abs() as u64)?;
+    }
+    Ok(weights)
+}
