@@ -56,7 +56,9 @@ fn a_tall_part(rt: HostRuntime) -> Result<(), Fail> {
     let parts = parts_at(&rt, rt.alloc(), 2, 1, &[(0, 0), (1, 0)])?;
     assert_eq!(rt; parts.vr.as_slice(), [Row(0), Row(1)].as_slice());
     assert_eq!(rt; parts.vc.as_slice(), [Col(0)].as_slice());
-    assert!(rt; parts.hr.is_empty() && parts.hc.is_empty() && parts.sr.is_empty() && parts.sc.is_empty());
+    assert!(rt;
+        parts.hr.is_empty() && parts.hc.is_empty() && parts.sr.is_empty() && parts.sc.is_empty()
+    );
     Ok(())
 }
 
@@ -67,7 +69,9 @@ fn a_square_part_alone(rt: HostRuntime) -> Result<(), Fail> {
     let parts = parts_at(&rt, rt.alloc(), 3, 3, &places)?;
     assert_eq!(rt; parts.sr.as_slice(), [Row(0), Row(1), Row(2)].as_slice());
     assert_eq!(rt; parts.sc.as_slice(), [Col(0), Col(1), Col(2)].as_slice());
-    assert!(rt; parts.hr.is_empty() && parts.hc.is_empty() && parts.vr.is_empty() && parts.vc.is_empty());
+    assert!(rt;
+        parts.hr.is_empty() && parts.hc.is_empty() && parts.vr.is_empty() && parts.vc.is_empty()
+    );
     Ok(())
 }
 
@@ -77,7 +81,9 @@ fn no_entries(rt: HostRuntime) -> Result<(), Fail> {
     let parts = parts_at(&rt, rt.alloc(), 1, 2, &[])?;
     assert_eq!(rt; parts.hc.as_slice(), [Col(0), Col(1)].as_slice());
     assert_eq!(rt; parts.vr.as_slice(), [Row(0)].as_slice());
-    assert!(rt; parts.hr.is_empty() && parts.sr.is_empty() && parts.sc.is_empty() && parts.vc.is_empty());
+    assert!(rt;
+        parts.hr.is_empty() && parts.sr.is_empty() && parts.sc.is_empty() && parts.vc.is_empty()
+    );
     let none = parts_at(&rt, rt.alloc(), 0, 0, &[])?;
     assert!(rt; none.hc.is_empty() && none.vr.is_empty());
     Ok(())
