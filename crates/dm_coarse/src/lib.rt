@@ -9,9 +9,8 @@ mod tests;
 ghost use Rattle.std.specs.Prelude.{◌≡◌, IfOk};
 ghost use Rattle.bip_defs.specs.Matching.{IsMaximum};
 ghost use Rattle.bip_defs.specs.Matrix.{cols};
-ghost use Rattle.bip_defs.specs.Parts.{ArePartsOf, IsHorizontalCol, IsVerticalRow};
+ghost use Rattle.bip_defs.specs.Parts.{ArePartsOf};
 ghost use Rattle.bip_graph.specs.Shown.{parts_of};
-ghost use Rattle.hall_witness.specs.Search.{Marks};
 
 use crate::maximum::Maximum;
 use bip_graph::{Matching, Parts};
