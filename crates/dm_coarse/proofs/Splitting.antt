@@ -1,15 +1,15 @@
 -- Rows of a side one after another, each in its part.
-use Rattle.std.proofs.Common.{Result, Ok, Err, IfOk, Vec, Global, ◌≡◌, ◌≢◌, ◌∙◌, true≢false, ℕ, zero, suc, ◌+◌, ◌<◌, ◌≤◌, Bool, true, false, List, [], ◌∷◌, ◌++◌, map, length, get_or, refl, sym, ap, subst, inl, inr, ⊎_elim, arith}
+use Rattle.std.proofs.Common.{Result, Ok, Err, IfOk, Vec, Global, ◌≡◌, ◌∙◌, true≢false, ℕ, suc, ◌+◌, ◌<◌, ◌≤◌, Bool, true, false, List, [], ◌∷◌, ◌++◌, map, length, get_or, sym, ap, subst, inl, ⊎_elim, arith}
 use Rattle.std.proofs.Math.Decide.{dec_lt}
 use Rattle.std.proofs.lemmas.List.{map-append, map-id}
 use Rattle.bip_defs.specs.Lists.{Among, AreDistinct, Lists}
 use Rattle.bip_defs.specs.Matching.{IsMaximum, cols_of, rows_of, turned}
-use Rattle.bip_defs.specs.Matrix.{IsEntry, Matrix, Place, cols, column, transpose}
-use Rattle.bip_defs.specs.Parts.{ArePartsOf, IsHorizontalCol, IsHorizontalRow, IsSquareCol, IsSquareRow, IsVerticalCol, IsVerticalRow, Parts}
+use Rattle.bip_defs.specs.Matrix.{Matrix, Place, cols, column, transpose}
+use Rattle.bip_defs.specs.Parts.{IsHorizontalCol, IsHorizontalRow, IsSquareCol, IsSquareRow, IsVerticalCol, IsVerticalRow}
 use Rattle.bip_defs.proofs.Sets.{among_last, among_left, among_right, entry_col, lists_same, number_among, number_same, rising_last}
 use Rattle.bip_defs.proofs.Square.{horizontal_mate, rows_apart}
 use Rattle.bip_defs.proofs.Turned.{horizontal_turned, square_col_turned, square_row_turned, transpose_back, transpose_cols, transpose_is, turned_horizontal, turned_maximum, turned_vertical, turned_vertical_col, vertical_col_turned, vertical_turned}
-use Rattle.hall_witness.specs.Search.{IsMarked, Marks}
+use Rattle.hall_witness.specs.Search.{Marks}
 
 -- The numbers below a bound that have P, as the bound grows.
 

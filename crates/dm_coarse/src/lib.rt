@@ -9,27 +9,26 @@ mod tests;
 ghost use Rattle.std.specs.Prelude.{◌≡◌, IfOk};
 ghost use Rattle.bip_defs.specs.Matching.{IsMaximum};
 ghost use Rattle.bip_defs.specs.Matrix.{cols};
-ghost use Rattle.bip_defs.specs.Parts.{ArePartsOf, IsHorizontalCol, IsVerticalRow};
+ghost use Rattle.bip_defs.specs.Parts.{ArePartsOf};
 ghost use Rattle.bip_graph.specs.Shown.{parts_of};
-ghost use Rattle.hall_witness.specs.Search.{Marks};
 
 use crate::maximum::Maximum;
 use bip_graph::{Matching, Parts};
 use sp_ids::OutOfMemory;
 use sp_pattern::Pattern;
 use std::alloc::Global;
-use std::thread::{Threads, join};
+use std::thread::Threads;
 
 /// The coarse parts of a matrix, from a maximum matching (Dulmage and Mendelsohn 1958; Pothen and Fan 1990).
 ///
 /// Two searches, from the unmatched columns and from the unmatched rows, mark the columns and the rows that some maximum
-/// matching misses. They run at the same time where a thread can be had. The rows of the horizontal part are the mates of
-/// its columns, the columns of the vertical part those of its rows, and the square part has the rest.
+/// matching misses, one after the other in this thread. The rows of the horizontal part are the mates of its columns, the
+/// columns of the vertical part those of its rows, and the square part has the rest.
 ///
 /// Answers `OutOfMemory` where 9 bytes a row and 9 a column can't be had for the searches, or 4 each for the lists. Work:
 /// each entry is looked at twice at most, and each row and column a fixed number of times.
 pub fn coarse<R: Threads + Sync>(
-    rt: &R,
+    _rt: &R,
     alloc: Global,
     pattern: &Pattern,
     matching: &Matching,
