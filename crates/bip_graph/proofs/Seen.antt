@@ -41,6 +41,13 @@ seen_rows_differ xs ys n v m seen = subst (λ (w : Pairing). AreDistinct (rows_o
 pub seen_cols_rise : (xs ys : List ℕ) (v : Pairing) → shown xs ys ≡ v → IsRising (cols_of v.pairs)
 seen_cols_rise xs ys v seen = subst (λ (w : Pairing). IsRising (cols_of w.pairs)) seen (cols_rising 0 xs)
 
+-- each pair lies within the rows and columns
+pub seen_rows_within : (xs ys : List ℕ) (n : ℕ) (v : Pairing) (r c : ℕ) → AreMates xs ys n → shown xs ys ≡ v → Among (r, c) v.pairs → r < v.rows
+seen_rows_within xs ys n v r c m seen = subst (λ (w : Pairing). Among (r, c) w.pairs → r < w.rows) seen (λ h. (back xs ys n r c m h).0)
+
+pub seen_cols_within : (xs ys : List ℕ) (v : Pairing) (r c : ℕ) → shown xs ys ≡ v → Among (r, c) v.pairs → c < v.cols
+seen_cols_within xs ys v r c seen = subst (λ (w : Pairing). Among (r, c) w.pairs → c < w.cols) seen (λ h. (read xs r c h).0)
+
 -- What is known where a row is given to a column.
 
 pub free_from : {xs ys : List ℕ} {n : ℕ} {v : Pairing} {j i r c : ℕ} → AreMates xs ys n → shown xs ys ≡ v → j ≡ r → i ≡ c → r < v.rows → c < v.cols → ¬ Among r (rows_of v.pairs) → ¬ Among c (cols_of v.pairs) → AreFree xs ys n j i

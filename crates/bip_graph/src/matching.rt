@@ -64,6 +64,22 @@ impl Matching {
         })
     }
 
+    /// The number of rows, matched or not. Each row of a pair is below it.
+    pub fn rows(&self) -> u32
+        ensures count { result ≡ self.now.rows }
+        ensures within { (r c : ℕ) → Among (r, c) self.now.pairs → r < self.now.rows }
+    {
+        self.col_of_row.len() as u32
+    }
+
+    /// The number of columns, matched or not. Each column of a pair is below it.
+    pub fn cols(&self) -> u32
+        ensures count { result ≡ self.now.cols }
+        ensures within { (r c : ℕ) → Among (r, c) self.now.pairs → c < self.now.cols }
+    {
+        self.row_of_col.len() as u32
+    }
+
     /// The number of pairs, which have distinct rows and rise by column.
     pub fn size(&self) -> u32
         ensures size { result ≡ length self.now.pairs }
@@ -176,6 +192,16 @@ mod tests {
         assert_eq!(rt; matching.row_of(Col(1)), Some(Row(2)));
         assert_eq!(rt; matching.row_of(Col(2)), Some(Row(1)));
         assert_eq!(rt; matching.col_of(Row(1)), Some(Col(2)));
+        Ok(())
+    }
+
+    #[test]
+    fn counts_rows_and_columns(rt: HostRuntime) -> Result<(), OutOfMemory> {
+        let matching = Matching::empty(rt.alloc(), 2, 3)?;
+        assert_eq!(rt;
+            (matching.rows(), matching.cols(), matching.size()),
+            (2, 3, 0)
+        );
         Ok(())
     }
 

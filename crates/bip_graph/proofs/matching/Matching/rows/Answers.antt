@@ -1,0 +1,5 @@
+use Rattle.bip_graph.proofs.Seen.{seen_rows_within}
+use Rattle.bip_graph.proofs.matching.Matching.rows.Goals as goal
+
+pub returns-clause-within : goal.returns-clause-within
+returns-clause-within c = λ r d. seen_rows_within c.self.inside.row_of_col.items c.self.inside.col_of_row.items c.self.inside.size c.args.self.now r d c.self.invariant c.self.view_is
