@@ -1,6 +1,6 @@
 //! Small matrices, worked out by hand. Tables count rows and columns from 0.
 
-use crate::{Pattern, load_matrix};
+use crate::{Pattern, WeightError, Weights, load_matrix};
 use sp_ids::{Col, Field, OutOfMemory, Row, Triples};
 use std::alloc::Global;
 use std::test::Fail;
@@ -76,5 +76,37 @@ fn load_matrices(rt: HostRuntime) -> Result<(), Fail> {
     let one = load_matrix(&rt, rt.alloc(), 1, 18446744073709551615)?;
     assert_eq!(rt; one.entries(), 1);
     assert_eq!(rt; one.has(Row(0), Col(0)), true);
+    Ok(())
+}
+
+#[test]
+fn weights_of_a_place_given_twice(rt: HostRuntime) -> Result<(), Fail> {
+    let mut triples = Triples::new(rt.alloc(), 2, 1, Field::Integer)?;
+    triples.push(Row(1), Col(0), 1)?;
+    triples.push(Row(0), Col(0), -7)?;
+    triples.push(Row(1), Col(0), -9)?;
+    let pattern = Pattern::build(&rt, rt.alloc(), &triples)?;
+    let weights = Weights::build(rt.alloc(), &pattern, &triples)?;
+    if pattern.cols() > 0 {
+        assert_eq!(rt; weights.weights_of(Col(0)), [7, 8].as_slice());
+    }
+    if pattern.has(Row(1), Col(0)) {
+        assert_eq!(rt; weights.weight(Row(1), Col(0)), 8);
+    }
+    Ok(())
+}
+
+#[test]
+fn a_sum_past_the_limit(rt: HostRuntime) -> Result<(), Fail> {
+    let mut triples = Triples::new(rt.alloc(), 1, 1, Field::Integer)?;
+    triples.push(Row(0), Col(0), 9223372036854775807)?;
+    triples.push(Row(0), Col(0), 1)?;
+    let pattern = Pattern::build(&rt, rt.alloc(), &triples)?;
+    let refused = Weights::build(rt.alloc(), &pattern, &triples).err();
+    let expected = WeightError::SumLimit {
+        row: Row(0),
+        col: Col(0),
+    };
+    assert_eq!(rt; refused, Some(expected));
     Ok(())
 }
