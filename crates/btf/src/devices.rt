@@ -25,7 +25,9 @@ pub struct Incoming<R: Read> {
 
 impl<R: Read> Incoming<R> {
     /// The reader, which has not failed yet.
-    pub fn new(reader: R) -> Incoming<R> {
+    pub fn new(reader: R) -> Incoming<R>
+        ensures fresh { result.faults ≡ 0 }
+    {
         Incoming { reader, faults: 0 }
     }
 }
@@ -52,7 +54,9 @@ pub struct Outgoing<W: Write> {
 
 impl<W: Write> Outgoing<W> {
     /// The writer, which has not failed yet.
-    pub fn new(writer: W) -> Outgoing<W> {
+    pub fn new(writer: W) -> Outgoing<W>
+        ensures fresh { result.faults ≡ 0 }
+    {
         Outgoing { writer, faults: 0 }
     }
 }
