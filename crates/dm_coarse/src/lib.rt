@@ -21,14 +21,14 @@ use std::thread::Threads;
 
 /// The coarse parts of a matrix, from a maximum matching (Dulmage and Mendelsohn 1958; Pothen and Fan 1990).
 ///
-/// Two searches, from the unmatched columns and from the unmatched rows, mark the columns and the rows that some maximum
-/// matching misses, one after the other in this thread. The rows of the horizontal part are the mates of its columns, the
-/// columns of the vertical part those of its rows, and the square part has the rest.
+/// Two searches at once, from the unmatched columns and from the unmatched rows, mark the columns and the rows that some
+/// maximum matching misses; where no thread can be made they run one after the other. The rows of the horizontal part are
+/// the mates of its columns, the columns of the vertical part those of its rows, and the square part has the rest.
 ///
 /// Answers `OutOfMemory` where 9 bytes a row and 9 a column can't be had for the searches, or 4 each for the lists. Work:
 /// each entry is looked at twice at most, and each row and column a fixed number of times.
 pub fn coarse<R: Threads + Sync>(
-    _rt: &R,
+    rt: &R,
     alloc: Global,
     pattern: &Pattern,
     matching: &Matching,
@@ -39,8 +39,8 @@ pub fn coarse<R: Threads + Sync>(
     ensures { IfOk result (λ p. ArePartsOf pattern.now (parts_of p)) }
 {
     let known = Maximum { pattern, matching };
-    let cols = known.horizontal_cols(alloc)?;
-    let rows = known.vertical_rows(alloc)?;
+    let (cols, rows) = known.marks(rt, alloc);
+    let (cols, rows) = (cols?, rows?);
     let of_rows = known.split_rows(alloc, cols.as_slice(), rows.as_slice())?;
     let of_cols = known.split_cols(alloc, cols.as_slice(), rows.as_slice())?;
     Ok(Parts {

@@ -13,6 +13,7 @@ use hall_witness::{ByCols, ByRows, reached};
 use sp_ids::{Col, OutOfMemory, Row};
 use sp_pattern::Pattern;
 use std::alloc::Global;
+use std::thread::{Threads, join};
 
 /// A matrix and a maximum matching of it.
 #[derive(Clone, Copy)]
@@ -26,8 +27,29 @@ pub struct Maximum<'p> {
 }
 
 impl Maximum<'_> {
+    /// Marks the horizontal columns and the vertical rows, by two searches at once.
+    pub fn marks<R: Threads + Sync>(
+        &self,
+        rt: &R,
+        alloc: Global,
+    ) -> (
+        Result<Vec<bool>, OutOfMemory>,
+        Result<Vec<bool>, OutOfMemory>,
+    )
+        ensures cols { IfOk result.0 (λ v. Marks (cols self.now.pattern.now) (IsHorizontalCol self.now.pattern.now) v.items) }
+        ensures rows { IfOk result.1 (λ v. Marks self.now.pattern.now.rows (IsVerticalRow self.now.pattern.now) v.items) }
+    {
+        let of_cols = move || -> Result<Vec<bool>, OutOfMemory>
+            ensures { IfOk result (λ v. Marks (cols self.entry.now.pattern.now) (IsHorizontalCol self.entry.now.pattern.now) v.items) }
+        { self.horizontal_cols(alloc) };
+        let of_rows = move || -> Result<Vec<bool>, OutOfMemory>
+            ensures { IfOk result (λ v. Marks self.entry.now.pattern.now.rows (IsVerticalRow self.entry.now.pattern.now) v.items) }
+        { self.vertical_rows(alloc) };
+        join(rt, of_cols, of_rows)
+    }
+
     /// Marks the horizontal columns.
-    pub fn horizontal_cols(&self, alloc: Global) -> Result<Vec<bool>, OutOfMemory>
+    fn horizontal_cols(&self, alloc: Global) -> Result<Vec<bool>, OutOfMemory>
         ensures { IfOk result (λ v. Marks (cols self.now.pattern.now) (IsHorizontalCol self.now.pattern.now) v.items) }
     {
         let side = ByCols {
@@ -38,7 +60,7 @@ impl Maximum<'_> {
     }
 
     /// Marks the vertical rows.
-    pub fn vertical_rows(&self, alloc: Global) -> Result<Vec<bool>, OutOfMemory>
+    fn vertical_rows(&self, alloc: Global) -> Result<Vec<bool>, OutOfMemory>
         ensures { IfOk result (λ v. Marks self.now.pattern.now.rows (IsVerticalRow self.now.pattern.now) v.items) }
     {
         let side = ByRows {
