@@ -1,5 +1,5 @@
 -- Which status has to come, from what each status says.
-use Rattle.std.proofs.Common.{IfOk, ◌≡◌, ◌≤◌, ◌<◌, ◌-◌, ◌++◌, ◌⊎◌, ℕ, Bool, true, false, List, [], length, inl, inr, refl, sym, ap, ◌∙◌, subst, arith, Option, Some, None, Ok, Err, Result, if◌then◌else◌}
+use Rattle.std.proofs.Common.{IfOk, ◌≡◌, ◌≤◌, ◌<◌, ◌++◌, ◌⊎◌, ℕ, Bool, true, false, List, [], length, inl, inr, refl, sym, ap, ◌∙◌, subst, arith, Option, Some, None, Ok, Err, Result, if◌then◌else◌}
 use Rattle.sp_ids.specs.Entries.{Entries}
 use Rattle.sp_ids.specs.declared.outcomes.Status.{Status}
 use Rattle.sp_ids.specs.declared.outcomes.Status.TheVariants as statuses
@@ -10,7 +10,7 @@ use Rattle.btf_words.specs.declared.jobs.WordsError.{WordsError}
 use Rattle.btf_words.specs.declared.jobs.Job.{Job}
 use Rattle.mm_defs.specs.Faults.{is_limit}
 use Rattle.mm_defs.specs.File.{Fault, Reads}
-use Rattle.mm_defs.specs.Reading.{Call, first_bad, got, IsAnswer, ReadsAll}
+use Rattle.mm_defs.specs.Reading.{Call, first_bad, ReadsAll}
 use Rattle.mm_defs.specs.declared.answers.End.TheVariants.{File}
 use Rattle.mm_defs.specs.declared.answers.ReadError.TheVariants as errors
 use Rattle.mm_defs.specs.declared.kinds.Kind.{Kind}
@@ -18,9 +18,9 @@ use Rattle.mm_defs.proofs.Answering.{bad_line_told, good_file_answer}
 use Rattle.btf_tool.specs.declared.refusals.Refusal.{Refusal}
 use Rattle.btf_tool.specs.declared.refusals.Refusal.TheVariants.{Usage, Malformed, Limit, TooLong, ReadFault, WriteFault, OutOfMemory}
 use Rattle.btf_tool.specs.Devices.{Device, HasNotFallen, HasReadFault, HasWriteFault, IsUntouched, WasTold}
-use Rattle.btf_tool.specs.Jobs.{IsAnswer as IsJobAnswer, OfReading, WasRead, WithAnswer, input_limit, reading}
+use Rattle.btf_tool.specs.Jobs.{IsAnswer as IsJobAnswer, OfReading, WithAnswer, reading}
 use Rattle.btf_tool.specs.Refusals.{line_of, status_of}
-use Rattle.btf_tool.specs.Runs.{Completes, HasCause, IsOrNoMemory, IsRefused, JobSays, Names, Run, Says, Succeeds, TellsStill, status_of_fault}
+use Rattle.btf_tool.specs.Runs.{Completes, HasCause, IsOrNoMemory, JobSays, Names, Run, Says, TellsStill, status_of_fault}
 
 -- what follows of what holds where bytes are told
 pub told : {P Q : List ℕ → List ℕ → Type 0} (before after : Option (List ℕ)) → WhereTold before after P

@@ -1,10 +1,9 @@
 -- What the reading of a file says, from what the reader answers.
-use Rattle.std.proofs.Common.{◌≡◌, ◌≤◌, ◌<◌, ◌++◌, ℕ, List, [], ◌∷◌, Option, None, Some, Ok, Err, Result, refl, sym, subst, ◌∙◌, arith, ap}
+use Rattle.std.proofs.Common.{◌≡◌, ◌++◌, ℕ, List, [], ◌∷◌, Ok, Err, refl, subst}
 use Rattle.sp_ids.specs.Entries.{Entries}
 use Rattle.sp_ports.specs.Bytes.{WhereTold}
-use Rattle.sp_ports.specs.Counts.{SourceRose}
 use Rattle.mm_defs.specs.File.{rest_of}
-use Rattle.mm_defs.specs.Reading.{Call, Causes, IsAnswer, ReadsAll}
+use Rattle.mm_defs.specs.Reading.{Call, IsAnswer, ReadsAll}
 use Rattle.mm_defs.specs.declared.answers.End.TheVariants.{File}
 use Rattle.mm_defs.specs.declared.answers.ReadError.{ReadError}
 use Rattle.mm_defs.specs.declared.answers.ReadError.TheVariants as errors

@@ -1,18 +1,18 @@
 -- What the steps of a job say together.
-use Rattle.std.proofs.Common.{◌≡◌, ◌≤◌, ◌++◌, ℕ, List, [], Option, None, Some, Ok, Err, refl, sym, subst, arith, append-nil, Result}
+use Rattle.std.proofs.Common.{◌≡◌, ℕ, List, [], Option, Ok, Err, refl, sym, subst, append-nil, Result}
 use Rattle.sp_ids.specs.Entries.{Entries}
 use Rattle.bip_defs.specs.Matrix.{Matrix}
 use Rattle.bip_graph.specs.Answers.{IsRankText}
 use Rattle.bip_graph.specs.Texts.{Sizes, rank_text, sizes_of}
 use Rattle.btf_tool.specs.Ranks.{IsRankOf}
-use Rattle.sp_ports.specs.Bytes.{Takes, TakesFront, WhereTold, Writes}
+use Rattle.sp_ports.specs.Bytes.{Takes, TakesFront, Writes}
 use Rattle.sp_ports.specs.Counts.{HasCause, Rose}
 use Rattle.btf_words.specs.declared.jobs.Job.{Job}
 use Rattle.btf_tool.specs.declared.refusals.Refusal.{Refusal}
 use Rattle.btf_tool.specs.declared.refusals.Refusal.TheVariants.{Usage, Malformed, Limit, TooLong, ReadFault, WriteFault, OutOfMemory}
 use Rattle.btf_tool.specs.Devices.{Device, HasNotFallen, IsSteady, IsUntouched, Took, TookFront}
-use Rattle.btf_tool.specs.Jobs.{IsAnswer, IsMatrixOf, IsTextOf, OfReading, WasRead, WithAnswer, reading}
-use Rattle.btf_tool.specs.Runs.{FileSays, JobSays, TellsStill}
+use Rattle.btf_tool.specs.Jobs.{IsMatrixOf, IsTextOf, OfReading, WasRead, WithAnswer}
+use Rattle.btf_tool.specs.Runs.{FileSays, JobSays}
 use Rattle.btf_tool.proofs.Completing.{told}
 
 -- the reading was refused, and nothing was written

@@ -1,10 +1,10 @@
 -- Marking the rows of some columns.
-use Rattle.std.proofs.Common.{IfOk, Result, Ok, Err, ◌≡◌, ◌∙◌, ◌⊎◌, ◌↔◌, ℕ, ◌+◌, ◌<◌, Bool, true, false, List, [], ◌∷◌, ◌++◌, take, length, get_or, set, replicate, sym, ap, subst, inl, inr, ⊎_elim, arith, length-set, get_or-set_same, get_or-set_other, true≢false}
+use Rattle.std.proofs.Common.{IfOk, Result, Ok, Err, ◌≡◌, ◌∙◌, ◌⊎◌, ◌↔◌, ℕ, ◌+◌, ◌<◌, Bool, true, false, List, [], ◌∷◌, ◌++◌, take, length, get_or, set, sym, ap, subst, inl, inr, ⊎_elim, arith, length-set, get_or-set_same, get_or-set_other}
 use Rattle.std.proofs.lemmas.List.{take_more}
 use Rattle.bip_defs.specs.Lists.{Among, Lists}
-use Rattle.bip_defs.specs.Matrix.{IsEntry, Matrix, cols}
+use Rattle.bip_defs.specs.Matrix.{IsEntry, Matrix}
 use Rattle.bip_defs.specs.Parts.{IsHorizontalCol, IsHorizontalRow}
-use Rattle.bip_defs.proofs.Sets.{among_at, among_last, among_left, among_right, lists_same, number_same}
+use Rattle.bip_defs.proofs.Sets.{among_last, among_left, among_right, lists_same, number_same}
 use Rattle.hall_witness.specs.Search.{IsMarked}
 use Rattle.btf_tool.specs.Touching.{AddsMarks, Touches}
 

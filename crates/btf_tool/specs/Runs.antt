@@ -7,7 +7,7 @@ use Rattle.btf_words.specs.Words.{AreTaken, job_of}
 use Rattle.btf_words.specs.declared.jobs.Job.{Job}
 use Rattle.mm_defs.specs.Faults.{is_limit}
 use Rattle.mm_defs.specs.File.{Fault, Reads}
-use Rattle.mm_defs.specs.Reading.{Call, first_bad, got}
+use Rattle.mm_defs.specs.Reading.{first_bad, got}
 use Rattle.mm_defs.specs.declared.answers.End.TheVariants.{File}
 use Rattle.sp_ports.specs.Bytes.{WhereTold}
 use Rattle.btf_tool.specs.declared.refusals.Refusal.{Refusal}

@@ -25,7 +25,7 @@ pub fn run<R: Threads + Sync, S: Source, O: Sink, E: Sink, G: Gate>(
     input: &mut S,
     out: &mut O,
     err: &mut E,
-    _gate: &G,
+    gate: &G,
 ) -> Status
     // What each status says.
     ensures says { Says (record {
@@ -46,7 +46,7 @@ pub fn run<R: Threads + Sync, S: Source, O: Sink, E: Sink, G: Gate>(
     match read_words(alloc, words) {
         Err(WordsError::Usage) => refuse(err, Refusal::Usage),
         Err(WordsError::OutOfMemory) => refuse(err, Refusal::OutOfMemory),
-        Ok(job) => match perform(rt, alloc, job, input, out) {
+        Ok(job) => match perform(rt, alloc, job, input, out, gate) {
             Ok(()) => Status::Ok,
             Err(refusal) => refuse(err, refusal),
         },
@@ -54,16 +54,17 @@ pub fn run<R: Threads + Sync, S: Source, O: Sink, E: Sink, G: Gate>(
 }
 
 /// Does a job: reads the input and writes the answer, or tells why there is none.
-fn perform<R: Threads + Sync, S: Source, O: Sink>(
+fn perform<R: Threads + Sync, S: Source, O: Sink, G: Gate>(
     rt: &R,
     alloc: Global,
     job: Job,
     input: &mut S,
     out: &mut O,
+    gate: &G,
 ) -> Result<(), Refusal>
     ensures { JobSays job (seen S.left S.faults input.old input.new) (seen O.taken O.faults out.old out.new) result }
 {
     match job {
-        Job::Rank => rank(rt, alloc, input, out),
+        Job::Rank => rank(rt, alloc, input, out, gate),
     }
 }

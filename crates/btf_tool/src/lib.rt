@@ -2,13 +2,18 @@
 #![tactic(auto)]
 
 mod command;
+mod engines;
 mod neighbours;
 mod rank;
 mod reading;
 mod refusals;
 
+pub use btf_words::Engine;
 pub use command::run;
+pub use engines::solve;
 pub use refusals::Refusal;
 
+#[cfg(test)]
+mod engine_tests;
 #[cfg(test)]
 mod tests;

@@ -14,16 +14,16 @@ ghost use Rattle.btf_tool.specs.Ranks.{IsRankOf};
 ghost use Rattle.btf_tool.specs.Runs.{JobSays};
 
 use crate::Refusal;
+use crate::engines::solve;
 use crate::neighbours::neighbours;
 use crate::reading::read_file;
 use bip_graph::Matching;
 use btf_text::{TextBuf, write_rank};
+use btf_words::Engine;
 use hall_witness::{Reach, reach};
-use karp_sipser::start;
-use pothen_fan::complete;
 use sp_ids::{Col, OutOfMemory, Row, Triples};
 use sp_pattern::Pattern;
-use sp_ports::{Failed, Sink, Source};
+use sp_ports::{Failed, Gate, Sink, Source};
 use std::alloc::Global;
 use std::thread::Threads;
 
@@ -37,11 +37,12 @@ struct RankAnswer {
 }
 
 /// Reads a matrix and writes the text of its rank.
-pub(crate) fn rank<R: Threads + Sync, S: Source, O: Sink>(
+pub(crate) fn rank<R: Threads + Sync, S: Source, O: Sink, G: Gate>(
     rt: &R,
     alloc: Global,
     input: &mut S,
     out: &mut O,
+    gate: &G,
 ) -> Result<(), Refusal>
     ensures { JobSays Rank (seen S.left S.faults input.old input.new) (seen O.taken O.faults out.old out.new) result }
 {
@@ -49,7 +50,7 @@ pub(crate) fn rank<R: Threads + Sync, S: Source, O: Sink>(
         Ok(triples) => triples,
         Err(refusal) => return Err(refusal),
     };
-    let Ok(answer) = rank_of(rt, alloc, triples) else {
+    let Ok(answer) = rank_of(rt, alloc, triples, gate) else {
         return Err(Refusal::OutOfMemory);
     };
     let Ok(mut buf) = TextBuf::new(alloc) else {
@@ -62,16 +63,17 @@ pub(crate) fn rank<R: Threads + Sync, S: Source, O: Sink>(
 }
 
 /// The rank and the horizontal part of the matrix of these entries, which are let go once the matrix stands.
-fn rank_of<R: Threads + Sync>(
+fn rank_of<R: Threads + Sync, G: Gate>(
     rt: &R,
     alloc: Global,
     triples: Triples,
+    gate: &G,
 ) -> Result<RankAnswer, OutOfMemory>
     ensures { IfOk result (λ s. IsRankOf triples s.pattern s.rank s.rows.items s.cols.items) }
 {
     let pattern = Pattern::build(rt, alloc, &triples)?;
     drop(triples);
-    let matching = maximum(alloc, &pattern)?;
+    let matching = solve(rt, alloc, &pattern, Engine::Pf, 1, gate)?;
     let rank = matching.size();
     let cols = horizontal_cols(alloc, &pattern, &matching)?;
     drop(matching);
@@ -82,16 +84,6 @@ fn rank_of<R: Threads + Sync>(
         rows,
         cols,
     })
-}
-
-/// A maximum matching: the start of Karp and Sipser, completed by the phases of Pothen and Fan.
-fn maximum(alloc: Global, pattern: &Pattern) -> Result<Matching, OutOfMemory>
-    ensures maximum { IfOk result (λ m. IsMaximum pattern.now m.pairs) }
-    ensures rows { IfOk result (λ m. m.rows ≡ pattern.now.rows) }
-    ensures cols { IfOk result (λ m. m.cols ≡ cols pattern.now) }
-{
-    let matching = start(alloc, pattern)?;
-    complete(alloc, pattern, matching)
 }
 
 /// The columns that some maximum matching misses.

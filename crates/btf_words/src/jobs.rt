@@ -1,5 +1,16 @@
 //! The jobs that the words of a command line name.
 
+/// How a maximum matching is searched for.
+#[derive(Clone, Copy, Debug, PartialEq, Eq)]
+pub enum Engine {
+    /// Augmenting paths one by one, from the empty matching.
+    Plain,
+    /// One search from each unmatched column (Duff 1981), from the Karp-Sipser start.
+    Mc21,
+    /// Phases of disjoint augmenting paths (Pothen and Fan 1990), from the Karp-Sipser start.
+    Pf,
+}
+
 /// What the program is asked to do.
 #[derive(Clone, Copy, Debug, PartialEq, Eq)]
 pub enum Job {

@@ -5,6 +5,6 @@ mod jobs;
 mod reading;
 mod usage;
 
-pub use jobs::{Job, WordsError};
+pub use jobs::{Engine, Job, WordsError};
 pub use reading::read_words;
 pub use usage::usage_line;

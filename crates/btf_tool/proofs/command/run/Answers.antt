@@ -1,4 +1,4 @@
-use Rattle.std.proofs.Common.{refl, ap, Err, ◌∙◌, string_bytes, map}
+use Rattle.std.proofs.Common.{refl, ap, Err, ◌∙◌}
 use Rattle.btf_tool.specs.Devices.{seen}
 use Rattle.btf_tool.specs.declared.refusals.Refusal.TheVariants.{Usage, OutOfMemory}
 use Rattle.btf_tool.proofs.Completing.{completes, job_done, job_not_done, named, refusal_says, untouched_tells}

@@ -1,4 +1,4 @@
-use Rattle.std.proofs.Common.{◌≡◌, ◌∙◌, sym, subst, ap, arith, get_or, ◌<◌, length, ℕ}
+use Rattle.std.proofs.Common.{◌≡◌, ◌∙◌, sym, subst, arith, get_or, ℕ}
 use Rattle.bip_defs.proofs.Sets.{among_at}
 use Rattle.bip_defs.specs.Lists.{Among}
 use Rattle.btf_tool.proofs.Touching.{adds_one}

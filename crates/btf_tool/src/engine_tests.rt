@@ -1,0 +1,64 @@
+//! Each engine on small matrices.
+
+use crate::{Engine, solve};
+use sp_ids::{Col, Field, Row, Triples};
+use sp_pattern::Pattern;
+use sp_ports::NoGate;
+use std::process::Abort;
+use std::test::Fail;
+use std::thread::Threads;
+
+/// The size of a maximum matching by each engine. Numbers count from 1.
+fn expect_size<R: Threads + Abort + AllocGlobal + Sync>(
+    rt: &R,
+    rows: u32,
+    cols: u32,
+    places: &[(u32, u32)],
+    size: u32,
+) -> Result<(), Fail> {
+    let alloc = rt.alloc();
+    let mut triples = Triples::new(alloc, rows, cols, Field::Pattern)?;
+    for place in places {
+        let (row, col) = *place;
+        assert!(rt; 0 < row && row <= triples.rows() && 0 < col && col <= triples.cols());
+        assert!(rt; triples.len() < 100 && triples.field() == Field::Pattern);
+        triples.push(Row(row - 1), Col(col - 1), 0)?;
+    }
+    let pattern = Pattern::build(rt, alloc, &triples)?;
+    let plain = solve(rt, alloc, &pattern, Engine::Plain, 1, &NoGate)?;
+    let mc21 = solve(rt, alloc, &pattern, Engine::Mc21, 2, &NoGate)?;
+    let pf = solve(rt, alloc, &pattern, Engine::Pf, 64, &NoGate)?;
+    assert_eq!(rt; (plain.size(), mc21.size(), pf.size()), (size, size, size));
+    Ok(())
+}
+
+// Columns 1 and 2 have row 1 alone, and rows 3 and 4 have column 4 alone.
+#[test]
+fn one_column_and_one_row_stay_unmatched(rt: HostRuntime) -> Result<(), Fail> {
+    let places = [(1, 1), (1, 2), (1, 3), (2, 3), (2, 4), (3, 4), (4, 4)];
+    expect_size(&rt, 4, 4, &places, 3)
+}
+
+// The start takes row 1 for column 1, which leaves row 2 alone to columns 3 and 4. A maximum matching has rows 3, 4, 1 and 2
+// for columns 1 to 4.
+#[test]
+fn the_start_is_not_maximum(rt: HostRuntime) -> Result<(), Fail> {
+    let places = [
+        (1, 1),
+        (3, 1),
+        (4, 1),
+        (3, 2),
+        (4, 2),
+        (1, 3),
+        (2, 3),
+        (1, 4),
+        (2, 4),
+    ];
+    expect_size(&rt, 4, 4, &places, 4)
+}
+
+#[test]
+fn no_entries(rt: HostRuntime) -> Result<(), Fail> {
+    expect_size(&rt, 0, 0, &[], 0)?;
+    expect_size(&rt, 3, 2, &[], 0)
+}

@@ -1,0 +1,49 @@
+//! The choice of the search that finds a maximum matching.
+
+ghost use Rattle.std.specs.Prelude.{◌≡◌, ◌≤◌, IfOk};
+ghost use Rattle.bip_defs.specs.Matching.{IsMaximum};
+ghost use Rattle.bip_defs.specs.Matrix.{cols};
+
+use bip_graph::Matching;
+use btf_words::Engine;
+use hall_witness::plain;
+use karp_sipser::start;
+use sp_ids::OutOfMemory;
+use sp_pattern::Pattern;
+use sp_ports::Gate;
+use std::alloc::Global;
+use std::thread::Threads;
+
+/// A maximum matching of a matrix's entries, by the engine that is asked for.
+///
+/// There may be 1 to 64 workers. The three engines search in the calling thread, so neither their number nor the gate
+/// has an effect on them. Answers `OutOfMemory` where the engine's tables can't be had.
+pub fn solve<R: Threads + Sync, G: Gate>(
+    _rt: &R,
+    alloc: Global,
+    pattern: &Pattern,
+    engine: Engine,
+    _workers: u32,
+    _gate: &G,
+) -> Result<Matching, OutOfMemory>
+    requires some { 1 ≤ _workers }
+    requires few { _workers ≤ 64 }
+    ensures maximum { IfOk result (λ m. IsMaximum pattern.now m.pairs) }
+    ensures rows { IfOk result (λ m. m.rows ≡ pattern.now.rows) }
+    ensures cols { IfOk result (λ m. m.cols ≡ cols pattern.now) }
+{
+    match engine {
+        Engine::Plain => {
+            let (matching, _columns) = plain(alloc, pattern)?;
+            Ok(matching)
+        }
+        Engine::Mc21 => {
+            let matching = start(alloc, pattern)?;
+            mc21_match::complete(alloc, pattern, matching)
+        }
+        Engine::Pf => {
+            let matching = start(alloc, pattern)?;
+            pothen_fan::complete(alloc, pattern, matching)
+        }
+    }
+}
