@@ -1,5 +1,7 @@
 //! The program over devices in memory.
 
+ghost use Rattle.std.specs.Prelude.{◌<◌};
+
 use crate::run;
 use sp_ids::Status;
 use sp_ports::{MemSink, MemSource, NoGate};

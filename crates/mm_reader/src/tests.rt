@@ -1,5 +1,7 @@
 //! Readings from a source in memory.
 
+ghost use Rattle.std.specs.Prelude.{◌<◌};
+
 use crate::{End, Input, Kind, ReadError, read_matrix, read_rest};
 use sp_ids::{Col, Field, Row, Triples};
 use sp_ports::MemSource;
