@@ -1,1 +1,1 @@
-mod OneWord
+pub mod TakenLemmas

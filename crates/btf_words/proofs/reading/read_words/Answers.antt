@@ -1,7 +1,34 @@
-use Rattle.std.proofs.Common.{codes, ◌∙◌, sym, string_bytes}
-use Rattle.std.proofs.lemmas.Slice.Eq.{bytes_eq-Decides}
-use Rattle.btf_words.proofs.OneWord.{one_word}
+use Rattle.std.proofs.Common.{string_bytes, map, ◌∙◌}
+use Rattle.clap.specs.Words.{app_of}
+use Rattle.btf_words.proofs.TakenLemmas.{HasRead, job_by, never_refused, refused, taken_by}
 use Rattle.btf_words.proofs.reading.read_words.Goals as goal
 
-pub returns-then-eq-clause-taken : goal.returns-then-eq-clause-taken
-returns-then-eq-clause-taken c = one_word _ _ c.index-words-0.result (codes "rank") c.if-words-ne1.false c.index-words-0.is (sym c.as_str.ensures.value ∙ (bytes_eq-Decides c.as_str.result.now (codes "rank")).0 (sym c.if-eq.ensures))
+has_read : (c : goal.Joined-matches) → HasRead (app_of c.in-Ok.program) (map string_bytes c.args.words.now) c.in-Ok-try_get_matches_from.matches c.job_in.result
+has_read c = record {
+  line = c.in-Ok.ensures;
+  no_fault = c.in-Ok-try_get_matches_from.ensures.kinds;
+  matches = c.in-Ok-try_get_matches_from.ensures.matches;
+  job = c.job_in.ensures;
+}
+
+pub returns-in-Ok-try_get_matches_from-clause-taken : goal.returns-in-Ok-try_get_matches_from-clause-taken
+returns-in-Ok-try_get_matches_from-clause-taken c =
+    taken_by (app_of c.in-Ok.program) (map string_bytes c.args.words.now) c.in-Ok-try_get_matches_from.matches c.job_in.result c.ok_or.result (has_read c)
+
+pub returns-in-Ok-try_get_matches_from-clause-job : goal.returns-in-Ok-try_get_matches_from-clause-job
+returns-in-Ok-try_get_matches_from-clause-job c =
+    job_by (app_of c.in-Ok.program) (map string_bytes c.args.words.now) c.in-Ok-try_get_matches_from.matches c.job_in.result c.ok_or.result (has_read c)
+    c.ok_or.ensures.ok_part
+
+pub returns-in-Ok-try_get_matches_from-clause-usage : goal.returns-in-Ok-try_get_matches_from-clause-usage
+returns-in-Ok-try_get_matches_from-clause-usage c = λ refusal taken.
+    never_refused (app_of c.in-Ok.program) (map string_bytes c.args.words.now) c.in-Ok-try_get_matches_from.matches c.job_in.result c.ok_or.result
+    (has_read c) c.ok_or.ensures.variant refusal
+
+pub returns : goal.returns
+returns c = record {
+  taken = tt;
+  job = tt;
+  usage = λ refusal taken. refused (app_of c.in-Ok.program) (map string_bytes c.args.words.now) c.in-Err.error c.in-Ok.ensures
+      c.in-Err.ensures.kinds (λ memory. c.in_default-kind.not-OutOfMemory (c.kind.ensures ∙ memory)) taken;
+}

@@ -1,0 +1,34 @@
+//! The commands of the program. Each joins the program by one function, and `command_line` lists those that are there.
+
+ghost use Rattle.std.specs.Prelude.{◌≡◌, [], IfOk};
+ghost use Rattle.clap.specs.Words.{app_of, with_subcommand};
+ghost use Rattle.btf_words.specs.Table.{btf, rank_command, program as program_shape};
+
+use clap::Command;
+use std::alloc::{AllocError, Global};
+
+/// The command line of the program.
+pub(crate) fn command_line<'a>(alloc: Global) -> Result<Command<'a>, AllocError>
+    ensures { IfOk result (λ c. app_of c ≡ btf) }
+{
+    let program = program(alloc);
+    let program = with_rank(alloc, program)?;
+    Ok(program)
+}
+
+/// The program with no command yet.
+fn program<'a>(alloc: Global) -> Command<'a>
+    ensures { app_of result ≡ record { top = program_shape; subs = [] } }
+{
+    Command::new(alloc, "btf")
+        .no_binary_name(true)
+        .disable_help_flag(true)
+        .disable_help_subcommand(true)
+        .subcommand_required(true)
+}
+
+fn with_rank<'a>(alloc: Global, program: Command<'a>) -> Result<Command<'a>, AllocError>
+    ensures { IfOk result (λ c. app_of c ≡ with_subcommand (app_of program.entry) rank_command) }
+{
+    program.subcommand(Command::new(alloc, "rank"))
+}
