@@ -1,13 +1,14 @@
 -- What a call on an input was given, and what its answers say.
-use Rattle.std.specs.Prelude.{◌≡◌, ℕ, Bool, true, false, not, ◌==◌, ◌&&◌, ◌-◌, ◌<◌, ◌≤◌, nat_le, List, [], ◌++◌, length, take, Option, Some, None, Result, Ok, Err, OnOk}
+use Rattle.std.specs.Prelude.{◌≡◌, ◌≢◌, ℕ, Bool, true, false, not, ◌==◌, ◌&&◌, ◌-◌, ◌<◌, ◌≤◌, nat_le, List, [], ◌++◌, length, take, Option, Some, None, Result, Ok, Err, OnOk}
 use Rattle.std.specs.Result.{IsErrOf}
 use Rattle.sp_ids.specs.Entries as entries
 use Rattle.mm_defs.specs.declared.answers.End.{End}
+use Rattle.mm_defs.specs.declared.answers.End.TheVariants.{File, LastEntry}
 use Rattle.mm_defs.specs.declared.answers.ReadError.{ReadError}
 use Rattle.mm_defs.specs.declared.answers.ReadError.TheVariants as errors
-use Rattle.mm_defs.specs.Words.{has_bytes}
+use Rattle.mm_defs.specs.Words.{has_bytes, lines}
 use Rattle.mm_defs.specs.Faults.{is_limit}
-use Rattle.mm_defs.specs.File.{Fault, Reads, first_fault, behind}
+use Rattle.mm_defs.specs.File.{Fault, Reads, first_fault, behind, missing}
 
 -- What contracts see of an input: how many bytes it may use in all, how many it took, those that are not used yet,
 -- whether a read gave none, how many LFs were used, and whether no call has failed.
@@ -66,6 +67,21 @@ IsAnswer end call rest (Err (errors.Limit line kind)) = (first_bad end call ≡ 
 IsAnswer end call rest (Err errors.TooLong) = (first_bad end call ≡ None) × (call.room < length (got call))
 IsAnswer end call rest (Err errors.ReadFault) = (first_bad end call ≡ None) × (call.failures_before < call.failures_after)
 IsAnswer end call rest (Err errors.OutOfMemory) = Unit {0}
+
+-- where the matrix ends with its last entry line: not all of its lines are among these
+abbrev pub LacksLines : End → List (List ℕ) → Type 0
+LacksLines File ls = Unit {0}
+LacksLines LastEntry ls = missing ls ≢ []
+
+-- Of a call that stopped at the limit, or at a read that failed: the matrix had not ended in what was given, and a read
+-- is only made while all that came is within the limit.
+abbrev pub FellShort : {T : Type 0} → End → Call → Result T ReadError → Type 0
+FellShort end call (Ok t) = Unit {0}
+FellShort end call (Err (errors.Malformed line kind)) = Unit {0}
+FellShort end call (Err (errors.Limit line kind)) = Unit {0}
+FellShort end call (Err errors.TooLong) = LacksLines end (lines false (given call))
+FellShort end call (Err errors.ReadFault) = LacksLines end (lines false (given call)) × (length (got call) ≤ call.room)
+FellShort end call (Err errors.OutOfMemory) = Unit {0}
 
 -- the answer to a bad line, where memory does not run out
 abbrev pub Tells : {T : Type 0} → Fault → Result T ReadError → Type 0
@@ -133,3 +149,12 @@ IsOkOrNoMemory (Err (errors.Limit line kind)) = ⊥
 IsOkOrNoMemory (Err errors.TooLong) = ⊥
 IsOkOrNoMemory (Err errors.ReadFault) = ⊥
 IsOkOrNoMemory (Err errors.OutOfMemory) = Unit {0}
+
+-- it refuses the bytes for their number, unless memory ran out
+abbrev pub IsTooLongOrNoMemory : {T : Type 0} → Result T ReadError → Type 0
+IsTooLongOrNoMemory (Ok t) = ⊥
+IsTooLongOrNoMemory (Err (errors.Malformed line kind)) = ⊥
+IsTooLongOrNoMemory (Err (errors.Limit line kind)) = ⊥
+IsTooLongOrNoMemory (Err errors.TooLong) = Unit {0}
+IsTooLongOrNoMemory (Err errors.ReadFault) = ⊥
+IsTooLongOrNoMemory (Err errors.OutOfMemory) = Unit {0}

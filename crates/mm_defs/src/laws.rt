@@ -1,12 +1,12 @@
 //! Laws on bad lines, good files and answers.
 
-ghost use Rattle.std.specs.Prelude.{◌≡◌, ◌≤◌, ℕ, Bool, List, [], ◌++◌, length, Result, true, false};
+ghost use Rattle.std.specs.Prelude.{◌≡◌, ◌≤◌, ◌<◌, ◌-◌, ℕ, Bool, List, [], ◌++◌, length, take, Result, true, false};
 ghost use Rattle.sp_ids.specs.Entries.{Entries};
 ghost use Rattle.mm_defs.specs.declared.answers.End.{End};
 ghost use Rattle.mm_defs.specs.declared.answers.ReadError.{ReadError};
 ghost use Rattle.mm_defs.specs.Words.{lines};
 ghost use Rattle.mm_defs.specs.File.{Fault, Reads, faults, first_fault};
-ghost use Rattle.mm_defs.specs.Reading.{Call, offered, first_bad, IsAnswer, Tells, IsRefusal, IsOkOrNoMemory};
+ghost use Rattle.mm_defs.specs.Reading.{Call, offered, first_bad, IsAnswer, FellShort, LacksLines, Tells, IsRefusal, IsOkOrNoMemory, IsTooLongOrNoMemory};
 
 /// The first bad line stays the first one, whatever follows, and whether the input ends there or not.
 pub fn bad_line_stays()
@@ -32,6 +32,22 @@ pub fn good_file_is_read()
         → length (offered call) ≤ call.room → call.failures_after ≡ call.failures_before → IsOkOrNoMemory result }
     ensures entries { (end : End) (call : Call) (rest : List ℕ) (t u : Entries) (follows : List ℕ)
         → IsAnswer end call rest (Ok u) → Reads (offered call) end t follows → (u ≡ t) × (rest ≡ follows) }
+{}
+
+/// A good matrix that ends within the limit is read, whatever follows it, where no read failed and memory did not run
+/// out.
+pub fn good_matrix_is_read()
+    ensures { (end : End) (call : Call) (rest : List ℕ) (result : Result Entries ReadError) (t : Entries) (follows : List ℕ)
+        → IsAnswer end call rest result → FellShort end call result → Reads (offered call) end t follows
+        → length (offered call) - length follows ≤ call.room → call.failures_after ≡ call.failures_before → IsOkOrNoMemory result }
+{}
+
+/// `TooLong` is answered where more bytes are offered than may be used, no line within the limit is bad and the matrix
+/// has not ended within it, where no read failed and memory did not run out.
+pub fn too_long_is_told()
+    ensures { (end : End) (call : Call) (rest : List ℕ) (result : Result Entries ReadError)
+        → IsAnswer end call rest result → call.room < length (offered call) → first_fault end false (take call.room (offered call)) ≡ None
+        → LacksLines end (lines false (take call.room (offered call))) → call.failures_after ≡ call.failures_before → IsTooLongOrNoMemory result }
 {}
 
 /// Other bytes are refused, where no read failed and memory did not run out.

@@ -15,5 +15,6 @@ pub use header::{Header, Size, Symmetry};
 pub use kinds::Kind;
 pub use laws::{
     bad_file_is_refused, bad_line_is_told, bad_line_stays, front_of_good_file, good_file_is_read,
+    good_matrix_is_read, too_long_is_told,
 };
 pub use worked::{worked_files, worked_fronts, worked_refusals, worked_rests};

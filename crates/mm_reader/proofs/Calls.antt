@@ -1,11 +1,11 @@
 -- From a reading within a window to a call on an input.
-use Rattle.std.proofs.Common.{◌≡◌, ℕ, ◌+◌, ◌-◌, ◌≤◌, List, ◌++◌, length, refl, sym, ap, subst, ◌∙◌, arith, Option, Some, None, Result}
+use Rattle.std.proofs.Common.{◌≡◌, ℕ, List, ◌++◌, ap, subst, ◌∙◌, arith, Option, Some, None, Result}
 use Rattle.sp_ids.specs.Entries as entries
 use Rattle.sp_ports.specs.Bytes.{WhereTold}
 use Rattle.mm_defs.specs.declared.answers.End.{End}
 use Rattle.mm_defs.specs.declared.answers.ReadError.{ReadError}
 use Rattle.mm_defs.specs.File.{Fault}
-use Rattle.mm_defs.specs.Reading.{Intake, Call, call_on, room, first_bad, IsAnswer, Tells}
+use Rattle.mm_defs.specs.Reading.{Intake, Call, call_on, room, first_bad, FellShort, IsAnswer, Tells}
 use Rattle.mm_defs.proofs.Answering.{bad_line_told}
 use Rattle.mm_reader.specs.declared.input.Input.TheInside.{Inside}
 use Rattle.mm_reader.specs.declared.window.Window.{Window}
@@ -32,3 +32,9 @@ module _ (end : End) (i : Inside) (is : IsInput i) (input : Intake) (view : inta
   bad_told (Some before) (Some after) result h =
       subst (λ (c : Call). (fault : Fault) → first_bad end c ≡ Some fault → Tells fault result) (call_same before after)
       (λ fault k. bad_line_told end (call_of i.window fb fa before after) (ahead_of w3 ++ after) result fault h.answer k)
+
+  pub short_told : (old new : Option (List ℕ)) (result : Result entries.Entries ReadError) → WhereTold old new (λ before after. Answers end (call_of i.window fb fa before after) i.window w3 result)
+      → WhereTold old new (λ before after. FellShort end (call_on input fb fa before after) result)
+  short_told None new result h = tt
+  short_told (Some before) None result h = h
+  short_told (Some before) (Some after) result h = subst (λ (c : Call). FellShort end c result) (call_same before after) h.short

@@ -1,15 +1,14 @@
 -- The matrix is read, and more follows.
-use Rattle.std.proofs.Common.{◌≡◌, ℕ, suc, ◌+◌, ◌-◌, ◌<◌, ◌≤◌, Bool, true, false, ◌==◌, nat_lt, List, [], ◌∷◌, ◌++◌, length, take, drop, refl, sym, ap, subst, ◌∙◌, arith, append-nil, append_assoc, length-append, take_all, take-append-drop, flat_map, le-ltb, eqb-true}
+use Rattle.std.proofs.Common.{◌≡◌, ℕ, ◌+◌, true, false, nat_lt, List, [], ◌∷◌, ◌++◌, length, take, refl, sym, ap, ◌∙◌, arith, le-ltb, eqb-true}
 use Rattle.std.proofs.Math.Seq.{take-append_seam}
-use Rattle.std.proofs.lemmas.List.{length-take-le, take-append-le}
 use Rattle.sp_ids.specs.Entries as entries
 use Rattle.mm_defs.specs.declared.answers.End.{End}
 use Rattle.mm_defs.specs.declared.answers.End.TheVariants.{File, LastEntry}
 use Rattle.mm_defs.specs.declared.header.Header.{Header}
 use Rattle.mm_defs.specs.declared.header.Size.{Size}
 use Rattle.mm_defs.specs.Words.{Line, lines, open_line, numbered, kept}
-use Rattle.mm_defs.specs.Header.{header, size}
-use Rattle.mm_defs.specs.File.{later_lines, line_faults, no_banner, missing, faults, entries_of, rest_of, behind, last_number, matrix_lines, Reads, triples}
+use Rattle.mm_defs.specs.Header.{size}
+use Rattle.mm_defs.specs.File.{later_lines, line_faults, no_banner, missing, faults, entries_of, rest_of, behind, last_number, matrix_lines, Reads}
 use Rattle.mm_defs.proofs.Behind.{behind-front}
 use Rattle.mm_defs.proofs.Lines.{lines-append}
 use Rattle.mm_defs.proofs.Roles.{later_lines-append, line_faults-past}

@@ -1,9 +1,9 @@
 -- How a reading ends, of a source that may tell its bytes.
-use Rattle.std.proofs.Common.{◌≡◌, ◌≢◌, ℕ, ◌+◌, ◌-◌, ◌*◌, ◌^◌, ◌<◌, ◌≤◌, min, Bool, true, false, ◌==◌, if◌then◌else◌, IsTrue, List, [], ◌∷◌, ◌++◌, length, take, drop, count_by, refl, sym, ap, subst, ◌∙◌, arith, append-nil, append_assoc, length-append, take-append-drop, length-take-le, length-drop, Option, Some, None, Result, Ok, Err, OnOk, IsErrOf, MatchResult, eq-eqb, ne_eqb}
+use Rattle.std.proofs.Common.{◌≡◌, ◌≢◌, ℕ, ◌+◌, ◌-◌, ◌*◌, ◌<◌, ◌≤◌, Bool, true, false, ◌==◌, if◌then◌else◌, List, [], ◌∷◌, ◌++◌, length, take, drop, count_by, refl, sym, ap, ◌∙◌, arith, append-nil, append_assoc, length-append, take-append-drop, length-take-le, length-drop, Option, Some, None, Result, Ok, Err, OnOk, MatchResult, eq-eqb, ne_eqb}
 use Rattle.std.proofs.lemmas.List.Sums.{sum_by-append}
 use Rattle.sp_ids.specs.Entries as entries
 use Rattle.sp_ports.specs.Bytes.{Gives, IsAtEnd, WhereTold}
-use Rattle.sp_ports.specs.Counts.{Rose, SourceRose}
+use Rattle.sp_ports.specs.Counts.{SourceRose}
 use Rattle.mm_defs.specs.declared.answers.End.{End}
 use Rattle.mm_defs.specs.declared.answers.ReadError.{ReadError}
 use Rattle.mm_defs.specs.declared.answers.ReadError.TheVariants as errors
@@ -15,7 +15,8 @@ use Rattle.mm_reader.specs.Machine.{is_complete}
 use Rattle.mm_reader.specs.Standing.{begun_lines, IsAfter, IsWhole}
 use Rattle.mm_reader.specs.Windows.{ahead_of, call_of, Answers, Consumes, Fed, HasCounted, IsWindow, Refuses, RefusesAtEnd}
 use Rattle.mm_reader.proofs.CompleteLaws.{complete_reads}
-use Rattle.mm_reader.proofs.StreamLaws.{refused_answer, fault_answer, end_refused, end_read, read_on}
+use Rattle.mm_reader.proofs.Lacking.{lacks_lines}
+use Rattle.mm_reader.proofs.StreamLaws.{refused_answer, fault_answer, fault_short, end_refused, end_read, read_on}
 use Rattle.mm_reader.proofs.WindowLaws.{length-ahead_of}
 
 -- ---- what the machine was given
@@ -103,17 +104,18 @@ module _ (end : End) (w0 w3 : Window) (lfs fb fa : ℕ) (m : Machine) (w : Windo
       let fits : length f.used ≤ w0.room = omega (arith, f.size) in
       let k : Refuses end f.used (ahead_of w) (w0.room - length f.used) error = rw e (h f.used f.stands) in
       let r = refused_answer end (ahead_of w0) before after f.gave f.used (ahead_of w) w0.room fb fa f.told f.split fits (ahead_of w3 ++ after) error small k in
-      record { answer = r.0; near = r.1; counts = tt }
+      record { answer = r.0; near = r.1; short = r.2; counts = tt }
 
-  pub exit_fault : (old now : Option (List ℕ)) → Fed end (ahead_of w0) old now w0.room lfs m w → ahead_of w ≡ [] → SourceRose old fb fa
+  pub exit_fault : (old now : Option (List ℕ)) → Fed end (ahead_of w0) old now w0.room lfs m w → ahead_of w ≡ [] → is_complete end m.phase ≡ false → SourceRose old fb fa
       → WhereTold old now (λ before after. Answers end (call_of w0 fb fa before after) w0 w3 (Err errors.ReadFault))
-  exit_fault None now f none h = tt
-  exit_fault (Some before) None f none h = absurd f.told
-  exit_fault (Some before) (Some after) f none h =
+  exit_fault None now f none open_now h = tt
+  exit_fault (Some before) None f none open_now h = absurd f.told
+  exit_fault (Some before) (Some after) f none open_now h =
       let fits : length f.used ≤ w0.room = omega (arith, f.size) in
       record {
         answer = fault_answer end (ahead_of w0) before after f.gave f.used (ahead_of w) w0.room fb fa f.told f.split fits (ahead_of w3 ++ after) none h f.stands.lines_are.good;
         near = tt;
+        short = fault_short end (ahead_of w0) before after f.gave f.used (ahead_of w) w0.room fb fa f.told f.split fits none (lacks_lines end m.phase m.triples (lines false f.used) f.stands.lines_are open_now);
         counts = tt;
       }
 
@@ -137,6 +139,7 @@ module _ (end : End) (w0 w3 : Window) (lfs fb fa : ℕ) (m : Machine) (w : Windo
         record {
           answer = read_on end (ahead_of w0) before after f.gave f.used (ahead_of w) w0.room fb fa f.told f.split fits t (ahead_of w3 ++ after) (ap (λ (x : List ℕ). x ++ after) same) (rw is r);
           near = tt;
+          short = tt;
           counts = counted w0 w3 w before after f.gave f.used f.told f.split f.size same room_same (omega (arith, f.lines_same));
         }
 
@@ -149,12 +152,13 @@ module _ (end : End) (w0 w3 : Window) (lfs fb fa : ℕ) (m : Machine) (w : Windo
         record {
           answer = end_read end (ahead_of w0) before after f.gave f.used (ahead_of w) w0.room fb fa f.told f.split fits none over steady t (ahead_of w3 ++ after) (rw (same, none, over) refl) h;
           near = tt;
+          short = tt;
           counts = counted w0 w3 w before after f.gave f.used f.told f.split f.size same room_same (omega (arith, f.lines_same));
         }
     exit_of before after f (Err error) none over steady counts h =
         let fits : length f.used ≤ w0.room = omega (arith, f.size) in
         let r = end_refused end (ahead_of w0) before after f.gave f.used (ahead_of w) w0.room fb fa f.told f.split fits none over steady (ahead_of w3 ++ after) error h in
-        record { answer = r.0; near = r.1; counts = tt }
+        record { answer = r.0; near = r.1; short = r.2; counts = tt }
 
     pub exit_end : (old now : Option (List ℕ)) (result : Result entries.Entries ReadError) → Fed end (ahead_of w0) old now w0.room lfs m w → ahead_of w ≡ [] → IsAtEnd now → fa ≡ fb
         → is_complete end m.phase ≡ false → OnOk result (w3.lines ≡ w.lines + m.number)
@@ -166,7 +170,7 @@ module _ (end : End) (w0 w3 : Window) (lfs fb fa : ℕ) (m : Machine) (w : Windo
 
 pub memory_told : (end : End) (w0 w3 : Window) (fb fa : ℕ) (o : Option (List ℕ)) → WhereTold o o (λ before after. Answers end (call_of w0 fb fa before after) w0 w3 (Err errors.OutOfMemory))
 memory_told end w0 w3 fb fa None = tt
-memory_told end w0 w3 fb fa (Some xs) = record { answer = tt; near = tt; counts = tt }
+memory_told end w0 w3 fb fa (Some xs) = record { answer = tt; near = tt; short = tt; counts = tt }
 
 pub number-le : (m : Machine) → m.number ≤ begun_lines m
 number-le m = omega arith

@@ -5,6 +5,7 @@ pub mod EndLaws
 pub mod Exits
 pub mod FeedLaws
 pub mod Judges
+pub mod Lacking
 pub mod LineSteps
 pub mod Lookups
 pub mod Numbers

@@ -1,5 +1,5 @@
 -- Reading all that follows, of a source that may tell its bytes.
-use Rattle.std.proofs.Common.{◌≡◌, ℕ, ◌+◌, ◌-◌, ◌<◌, ◌≤◌, IsTrue, List, [], ◌∷◌, ◌++◌, length, count_by, refl, sym, ap, subst, ◌∙◌, arith, append-nil, append_assoc, length-append, Option, Some, None, Result, Ok, Err}
+use Rattle.std.proofs.Common.{◌≡◌, ℕ, ◌+◌, ◌-◌, ◌<◌, ◌≤◌, List, [], ◌++◌, length, count_by, refl, sym, ap, ◌∙◌, arith, append-nil, append_assoc, length-append, Option, Some, None, Result, Err}
 use Rattle.std.proofs.lemmas.List.Sums.{sum_by-append}
 use Rattle.sp_ports.specs.Bytes.{Gives, IsAtEnd, WhereTold}
 use Rattle.sp_ports.specs.Counts.{SourceRose}
@@ -9,9 +9,9 @@ use Rattle.mm_defs.specs.declared.answers.ReadError.TheVariants as errors
 use Rattle.mm_defs.specs.Words.{is_lf}
 use Rattle.mm_defs.specs.Reading.{RefusesRest}
 use Rattle.mm_reader.specs.declared.window.Window.{Window}
-use Rattle.mm_reader.specs.Windows.{ahead_of, call_of, Filled, IsWindow, RefusesAhead, RestRead, TakesAhead}
+use Rattle.mm_reader.specs.Windows.{ahead_of, call_of, Filled, RefusesAhead, RestRead, TakesAhead}
 use Rattle.mm_reader.proofs.Exits.{gives_then, counted}
-use Rattle.mm_reader.proofs.StreamLaws.{got-is, past, offered-used}
+use Rattle.mm_reader.proofs.StreamLaws.{past, offered-used}
 
 pub filled_start : (w : Window) (left : Option (List ℕ)) → Filled (ahead_of w) left left w.room w.lines [] w
 filled_start w left = record {

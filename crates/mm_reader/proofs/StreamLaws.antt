@@ -1,21 +1,17 @@
 -- From what the machine was given to what the answers say.
-use Rattle.std.proofs.Common.{◌≡◌, ◌≢◌, ℕ, zero, suc, ◌+◌, ◌-◌, ◌<◌, ◌≤◌, Bool, true, false, not, ◌&&◌, ◌==◌, nat_le, IsTrue, List, [], ◌∷◌, ◌++◌, length, take, drop, count_by, refl, sym, ap, subst, ◌∙◌, arith, append-nil, append_assoc, length-append, take_all, Option, Some, None, Result, Ok, Err, OnOk, le-leb, ne_eqb, eq-eqb}
+use Rattle.std.proofs.Common.{◌≡◌, ℕ, zero, suc, ◌+◌, ◌-◌, ◌<◌, ◌≤◌, Bool, true, false, ◌&&◌, ◌==◌, nat_le, List, [], ◌∷◌, ◌++◌, length, take, refl, sym, ap, subst, ◌∙◌, arith, append-nil, append_assoc, length-append, take_all, Some, None, Ok, Err, le-leb, ne_eqb, eq-eqb}
 use Rattle.std.proofs.Math.Seq.{take-append_seam, take-append-add}
-use Rattle.std.proofs.lemmas.List.{take-append-le}
 use Rattle.std.proofs.lemmas.Bool.{lt-leb}
-use Rattle.std.proofs.lemmas.List.Sums.{sum_by-append}
 use Rattle.sp_ids.specs.Entries as entries
 use Rattle.mm_defs.specs.declared.answers.End.{End}
-use Rattle.mm_defs.specs.declared.answers.End.TheVariants.{File, LastEntry}
 use Rattle.mm_defs.specs.declared.answers.ReadError.{ReadError}
 use Rattle.mm_defs.specs.declared.answers.ReadError.TheVariants as errors
-use Rattle.mm_defs.specs.declared.kinds.Kind.{Kind}
-use Rattle.mm_defs.specs.Words.{Line, is_lf, has_bytes, lines, open_line}
+use Rattle.mm_defs.specs.Words.{lines}
 use Rattle.mm_defs.specs.File.{Fault, Reads, line_faults, first_fault, behind}
-use Rattle.mm_defs.specs.Reading.{Call, got, given, offered, ended, first_bad, IsAnswer, IsNear, ReadsAll}
-use Rattle.mm_defs.proofs.Behind.{behind-front, length-lines}
+use Rattle.mm_defs.specs.Reading.{Call, got, given, offered, ended, first_bad, FellShort, IsAnswer, IsNear, LacksLines}
+use Rattle.mm_defs.proofs.Behind.{behind-front}
 use Rattle.mm_defs.proofs.Fronts.{bad_stays}
-use Rattle.mm_reader.specs.Standing.{EndsBad, IsWhole}
+use Rattle.mm_reader.specs.Standing.{IsWhole}
 use Rattle.mm_reader.specs.Windows.{HasBadFront, Refuses, RefusesAtEnd}
 
 first_is : (end : End) (bytes : List ℕ) (x : Fault) → line_faults end (lines false bytes) ≡ x ∷ [] → first_fault end false bytes ≡ Some x
@@ -79,12 +75,13 @@ module _ (end : End) (ahead before after gave used rest : List ℕ) (room fb fa 
       let e = not-ended-past p in
       (rw (e, given-is) (first_none end (used ++ take (room - length used) rest) good), p)
 
-  pub refused_answer : (t : List ℕ) (error : ReadError) → length rest ≤ 65536 → Refuses end used rest (room - length used) error → IsAnswer end call t (Err error) × IsNear {T = entries.Entries} call (Err error)
-  refused_answer t (errors.Malformed line kind) small h = ((bad-first _ h.0, h.1), bad-near _ small h.0)
-  refused_answer t (errors.Limit line kind) small h = ((bad-first _ h.0, h.1), bad-near _ small h.0)
-  refused_answer t errors.TooLong small h = (too_long h.0 h.1, tt)
+  pub refused_answer : (t : List ℕ) (error : ReadError) → length rest ≤ 65536 → Refuses end used rest (room - length used) error
+      → IsAnswer end call t (Err error) × IsNear {T = entries.Entries} call (Err error) × FellShort {T = entries.Entries} end call (Err error)
+  refused_answer t (errors.Malformed line kind) small h = ((bad-first _ h.0, h.1), bad-near _ small h.0, tt)
+  refused_answer t (errors.Limit line kind) small h = ((bad-first _ h.0, h.1), bad-near _ small h.0, tt)
+  refused_answer t errors.TooLong small h = (too_long h.0 h.1, tt, rw given-is h.2)
   refused_answer t errors.ReadFault small h = absurd h
-  refused_answer t errors.OutOfMemory small h = (tt, tt)
+  refused_answer t errors.OutOfMemory small h = (tt, tt, tt)
 
   -- ---- a read failed
 
@@ -95,15 +92,24 @@ module _ (end : End) (ahead before after gave used rest : List ℕ) (room fb fa 
   not-ended-failed : fb < fa → ended call ≡ false
   not-ended-failed h = let e : (fb == fa) ≡ false = ne_eqb fb fa (omega arith) in rw e (both_false _)
 
+  append-nil-take : (n : ℕ) (xs : List ℕ) → xs ++ take n [] ≡ xs
+  append-nil-take zero xs = append-nil xs
+  append-nil-take (suc n) xs = append-nil xs
+
+  given-all : rest ≡ [] → given call ≡ used
+  given-all none = given-is ∙ rw none (append-nil-take (room - length used) used)
+
   pub fault_answer : (t : List ℕ) → rest ≡ [] → fb < fa → line_faults end (lines false used) ≡ [] → IsAnswer end call t (Err errors.ReadFault)
   fault_answer t none h good =
       let e = not-ended-failed h in
-      let k : given call ≡ used = given-is ∙ rw none (append-nil-take (room - length used) used) in
+      let k = given-all none in
       (rw (e, k) (first_none end used good), h)
-    where
-      append-nil-take : (n : ℕ) (xs : List ℕ) → xs ++ take n [] ≡ xs
-      append-nil-take zero xs = append-nil xs
-      append-nil-take (suc n) xs = append-nil xs
+
+  pub fault_short : rest ≡ [] → LacksLines end (lines false used) → FellShort {T = entries.Entries} end call (Err errors.ReadFault)
+  fault_short none lacks =
+      let k = given-all none in
+      let g : got call ≡ used = got-is ∙ rw none (append-nil used) in
+      (rw k lacks, rw g fits)
 
   -- ---- the input ended
 
@@ -120,12 +126,13 @@ module _ (end : End) (ahead before after gave used rest : List ℕ) (room fb fa 
         let c : (fb == fa) ≡ true = eq-eqb fb fa (sym steady) in
         rw (a, over, c) refl
 
-    pub end_refused : (t : List ℕ) (error : ReadError) → RefusesAtEnd end used error → IsAnswer end call t (Err error) × IsNear {T = entries.Entries} call (Err error)
-    end_refused t (errors.Malformed line kind) h = let e = has-ended in let k = given-used in let u = got-used in ((rw (e, k) h.0, h.2), rw (u, h.1) (omega arith))
-    end_refused t (errors.Limit line kind) h = let e = has-ended in let k = given-used in let u = got-used in ((rw (e, k) h.0, h.2), rw (u, h.1) (omega arith))
+    pub end_refused : (t : List ℕ) (error : ReadError) → RefusesAtEnd end used error
+        → IsAnswer end call t (Err error) × IsNear {T = entries.Entries} call (Err error) × FellShort {T = entries.Entries} end call (Err error)
+    end_refused t (errors.Malformed line kind) h = let e = has-ended in let k = given-used in let u = got-used in ((rw (e, k) h.0, h.2), rw (u, h.1) (omega arith), tt)
+    end_refused t (errors.Limit line kind) h = let e = has-ended in let k = given-used in let u = got-used in ((rw (e, k) h.0, h.2), rw (u, h.1) (omega arith), tt)
     end_refused t errors.TooLong h = absurd h
     end_refused t errors.ReadFault h = absurd h
-    end_refused t errors.OutOfMemory h = (tt, tt)
+    end_refused t errors.OutOfMemory h = (tt, tt, tt)
 
     pub offered-used : offered call ≡ used
     offered-used = offered-is ∙ rw (none, over) (append-nil used)

@@ -1,17 +1,16 @@
 -- Bytes ahead that are used, and refused.
-use Rattle.std.proofs.Common.{◌≡◌, ℕ, ◌+◌, ◌-◌, ◌<◌, ◌≤◌, Bool, true, false, if◌then◌else◌, List, [], ◌∷◌, ◌++◌, length, take, drop, refl, sym, ap, subst, ◌∙◌, arith, length-take-le, length-drop, drop-drop, append_assoc, length-append, length-take, drop_of_length-le, take-append-drop, take-take}
+use Rattle.std.proofs.Common.{◌≡◌, ℕ, ◌+◌, ◌-◌, ◌<◌, ◌≤◌, Bool, true, false, if◌then◌else◌, List, [], ◌++◌, length, take, drop, refl, sym, ap, subst, ◌∙◌, arith, length-take-le, length-drop, drop-drop, append_assoc, length-append, length-take, drop_of_length-le, take-append-drop, take-take}
 use Rattle.std.proofs.lemmas.List.{drop-take, take-append-le}
 use Rattle.mm_defs.specs.declared.answers.End.{End}
 use Rattle.mm_defs.specs.declared.answers.ReadError.TheVariants as errors
 use Rattle.mm_defs.specs.declared.kinds.Kind.{Kind}
 use Rattle.mm_defs.specs.Faults.{is_limit}
-use Rattle.mm_defs.specs.File.{Fault}
 use Rattle.mm_reader.specs.declared.machine.Stop.{Stop}
 use Rattle.mm_reader.specs.declared.machine.Stop.TheVariants as stops
 use Rattle.mm_reader.specs.declared.machine.Machine.{Machine}
 use Rattle.mm_reader.specs.declared.window.Window.{Window}
 use Rattle.mm_reader.specs.Machine.{IsReady, is_complete}
-use Rattle.mm_reader.specs.Standing.{begun_lines, IsAfter, StopsWithin, EndsBad}
+use Rattle.mm_reader.specs.Standing.{begun_lines, IsAfter, StopsWithin}
 use Rattle.mm_reader.specs.Windows.{ahead_of, IsWindow, Consumes, HasBadFront, Refuses, refusal_of}
 
 -- what stopped the machine within a front of the bytes ahead

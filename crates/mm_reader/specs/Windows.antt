@@ -9,7 +9,7 @@ use Rattle.mm_defs.specs.declared.answers.ReadError.TheVariants as errors
 use Rattle.mm_defs.specs.Words.{lines, is_lf}
 use Rattle.mm_defs.specs.Faults.{is_limit}
 use Rattle.mm_defs.specs.File.{Fault, line_faults, first_fault, behind}
-use Rattle.mm_defs.specs.Reading.{Call, IsAnswer, IsNear, IsRest}
+use Rattle.mm_defs.specs.Reading.{Call, FellShort, IsAnswer, IsNear, IsRest, LacksLines}
 use Rattle.mm_reader.specs.declared.machine.Machine.{Machine}
 use Rattle.mm_reader.specs.declared.machine.Stop.{Stop}
 use Rattle.mm_reader.specs.declared.machine.Stop.TheVariants as stops
@@ -59,7 +59,7 @@ pub record HasBadFront (end : End) (bytes ahead : List ℕ) (room : ℕ) (fault 
 abbrev pub Refuses : End → List ℕ → List ℕ → ℕ → ReadError → Type 0
 Refuses end bytes ahead room (errors.Malformed line kind) = HasBadFront end bytes ahead room (record { line = line; kind = kind }) × (is_limit kind ≡ false)
 Refuses end bytes ahead room (errors.Limit line kind) = HasBadFront end bytes ahead room (record { line = line; kind = kind }) × (is_limit kind ≡ true)
-Refuses end bytes ahead room errors.TooLong = (room < length ahead) × (line_faults end (lines false (bytes ++ take room ahead)) ≡ [])
+Refuses end bytes ahead room errors.TooLong = (room < length ahead) × (line_faults end (lines false (bytes ++ take room ahead)) ≡ []) × LacksLines end (lines false (bytes ++ take room ahead))
 Refuses end bytes ahead room errors.ReadFault = ⊥
 Refuses end bytes ahead room errors.OutOfMemory = Unit {0}
 
@@ -112,6 +112,7 @@ pub record KeepsWindow (old new : Window) : Type 0 where
 pub record Answers (end : End) (call : Call) (old new : Window) (result : Result entries.Entries ReadError) : Type 0 where
   pub answer : IsAnswer end call (ahead_of new ++ call.after) result
   pub near : IsNear call result
+  pub short : FellShort end call result
   pub counts : OnOk result (HasCounted old new call.before call.after)
 
 -- ---- the reading of all that follows

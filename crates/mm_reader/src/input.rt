@@ -6,7 +6,7 @@ ghost use Rattle.sp_ports.specs.Bytes.{IsAtEnd, WhereTold};
 ghost use Rattle.sp_ports.specs.Counts.{SourceRose};
 ghost use Rattle.mm_defs.specs.Words.{is_lf};
 ghost use Rattle.mm_defs.specs.File.{Fault};
-ghost use Rattle.mm_defs.specs.Reading.{call_on, first_bad, Causes, IsAnswer, IsNear, IsRest, RefusesRest, Tells};
+ghost use Rattle.mm_defs.specs.Reading.{call_on, first_bad, Causes, FellShort, IsAnswer, IsNear, IsRest, RefusesRest, Tells};
 
 use crate::reader::matrix;
 use crate::rest::rest;
@@ -88,8 +88,9 @@ impl Input {
 /// `End::File` reads to the end of the input. `End::LastEntry` ends with the line end of the last entry line, or of the
 /// size line where there are no entries, and leaves what follows. A line is judged when its end was given, and the first
 /// bad line is answered: `Malformed` or `Limit` with its number, counted from 1. A bad line that had ended before a read
-/// failed is answered in place of `ReadFault`, and one within the limit in place of `TooLong`. After an `Err` the input
-/// is not good. At `Malformed` and `Limit` at most 65,536 bytes past the end of the bad line were taken.
+/// failed is answered in place of `ReadFault`, and one within the limit in place of `TooLong`; so is a matrix that had
+/// ended in those bytes. After an `Err` the input is not good. At `Malformed` and `Limit` at most 65,536 bytes past the
+/// end of the bad line were taken.
 ///
 /// The work is linear in the bytes. Besides the input's buffer it keeps the triples alone.
 pub fn read_matrix<S: Source>(
@@ -110,6 +111,10 @@ pub fn read_matrix<S: Source>(
         first_bad end (call_on input.old (S.faults source.old) (S.faults source.new) before after) ≡ Some fault → Tells fault result) }
     ensures near { WhereTold (S.left source.old) (S.left source.new) (λ before after.
         IsNear (call_on input.old (S.faults source.old) (S.faults source.new) before after) result) }
+
+    // Where the bytes given did not do, the matrix had not ended in them.
+    ensures short { WhereTold (S.left source.old) (S.left source.new) (λ before after.
+        FellShort end (call_on input.old (S.faults source.old) (S.faults source.new) before after) result) }
 
     // A failed read is the one cause of `ReadFault`, and at Ok no read has failed.
     ensures cause { Causes (SourceRose (S.left source.old) (S.faults source.old) (S.faults source.new)) (S.faults source.old) (S.faults source.new) result }

@@ -1,4 +1,4 @@
-use Rattle.mm_reader.proofs.Calls.{answer_told, bad_told}
+use Rattle.mm_reader.proofs.Calls.{answer_told, bad_told, short_told}
 use Rattle.mm_reader.proofs.input.read_matrix.Goals as goal
 
 pub returns-in-Err-clause-answer : goal.returns-in-Err-clause-answer
@@ -9,3 +9,6 @@ returns-in-Err-clause-bad g c = bad_told c.args.end c.input.inside c.input.invar
 
 pub returns-in-Ok-clause-bad : goal.returns-in-Ok-clause-bad
 returns-in-Ok-clause-bad g c = bad_told c.args.end c.input.inside c.input.invariant c.args.input.now c.input.view_is c.matrix.new.window _ _ _ _ _ c.in-Ok.ensures.told
+
+pub returns-in-Err-clause-short : goal.returns-in-Err-clause-short
+returns-in-Err-clause-short g c = short_told c.args.end c.input.inside c.input.invariant c.args.input.now c.input.view_is c.matrix.new.window _ _ _ _ _ c.in-Err.ensures.told

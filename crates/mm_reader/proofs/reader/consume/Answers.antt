@@ -1,4 +1,4 @@
-use Rattle.std.proofs.Common.{◌≡◌, ◌≤◌, [], ◌++◌, length, sym, ap, subst, ◌∙◌, arith, append-nil}
+use Rattle.std.proofs.Common.{◌≤◌, [], length, sym, subst, ◌∙◌, arith, append-nil}
 use Rattle.mm_defs.specs.declared.answers.ReadError.{ReadError}
 use Rattle.mm_reader.specs.Windows.{ahead_of, Refuses}
 use Rattle.mm_reader.proofs.WindowLaws.{refuses, length-ahead_of, consumed}

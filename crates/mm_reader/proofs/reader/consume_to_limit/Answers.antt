@@ -1,4 +1,4 @@
-use Rattle.std.proofs.Common.{◌≡◌, ◌≤◌, ◌+◌, ◌-◌, [], ◌++◌, length, take, drop, sym, ap, subst, ◌∙◌, arith}
+use Rattle.std.proofs.Common.{drop, sym, subst, ◌∙◌}
 use Rattle.mm_defs.specs.declared.answers.ReadError.{ReadError}
 use Rattle.mm_reader.specs.Windows.{ahead_of, Refuses}
 use Rattle.mm_reader.proofs.WindowLaws.{refuses, limited, length-limited, consumed}

@@ -1,6 +1,5 @@
-use Rattle.std.proofs.Common.{◌≡◌, ◌≤◌, ◌<◌, ◌+◌, false, true, IsTrue, refl, sym, ap, ◌∙◌, arith, subst, Option, Some, None, List, ℕ}
-use Rattle.std.proofs.Common.{rules}
-use Rattle.mm_reader.specs.Windows.{ahead_of, Fed}
+use Rattle.std.proofs.Common.{◌<◌, refl, sym, ◌∙◌, arith, subst}
+use Rattle.mm_reader.specs.Windows.{ahead_of}
 use Rattle.mm_reader.proofs.Exits.{fed_start, fed_consumed, fed_refilled, rose_since, exit_refused, exit_fault, exit_done, exit_end, memory_told, number-le, on_ok, refused_no_fault, ended_no_fault, turn_smaller, all_used}
 use Rattle.sp_ports.specs.Counts.{SourceRose}
 use Rattle.mm_reader.proofs.reader.matrix.Goals as goal
@@ -66,7 +65,7 @@ returns-in-Err-refill g c =
     rose_since (g.S.Source.left c.args.source.now) (g.S.Source.left c.reading.source) i.fed.gave _ (g.S.Source.faults c.reading.source) _ i.fed.told i.steady r.cause.failed in
     record {
       told = rw r.kept (exit_fault c.args.end c.args.window.now c.refill.new.window c.args.window.now.lines (g.S.Source.faults c.args.source.now) (g.S.Source.faults c.refill.new.source) c.consume.new.m c.consume.new.window e.window
-          (g.S.Source.left c.args.source.now) (g.S.Source.left c.reading.source) f (e.ok.all c.if-done.false) s);
+          (g.S.Source.left c.args.source.now) (g.S.Source.left c.reading.source) f (e.ok.all c.if-done.false) (sym e.ok.done_is ∙ c.if-done.false) s);
       cause = record { later = omega (arith, i.steady, r.cause.later); steady = tt; failed = λ x. s };
       window = record { window = r.window; room = omega (arith, r.room, e.room, i.kept.room); counts = omega (arith, r.lines, r.room, e.room, e.lines, i.kept.counts) };
       at_end = λ t. rw r.kept (i.at_end (rw (← e.at_end, ← r.same) t));

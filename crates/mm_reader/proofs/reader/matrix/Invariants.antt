@@ -1,4 +1,4 @@
-use Rattle.std.proofs.Common.{◌≡◌, ◌≤◌, ◌<◌, ◌+◌, ◌*◌, ◌==◌, if◌then◌else◌, false, IsTrue}
+use Rattle.std.proofs.Common.{◌≡◌, ◌≤◌, ◌+◌, ◌*◌, ◌==◌, if◌then◌else◌, false, IsTrue}
 use Rattle.sp_ports.specs.Bytes.{IsAtEnd}
 use Rattle.mm_reader.specs.Machine.{IsReady, is_complete}
 use Rattle.mm_reader.specs.Standing.{begun_lines}

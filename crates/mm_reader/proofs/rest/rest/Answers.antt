@@ -1,4 +1,4 @@
-use Rattle.std.proofs.Common.{◌≡◌, List, ℕ, ◌<◌, ◌+◌, length, refl, sym, ap, subst, ◌∙◌, arith}
+use Rattle.std.proofs.Common.{List, ℕ, ◌<◌, refl, sym, subst, ◌∙◌, arith}
 use Rattle.sp_ports.specs.Counts.{SourceRose}
 use Rattle.mm_reader.specs.Windows.{ahead_of, Filled}
 use Rattle.mm_reader.proofs.Exits.{rose_since, turn_smaller}

@@ -1,0 +1,5 @@
+use Rattle.mm_defs.proofs.Answering.{good_matrix_answer}
+use Rattle.mm_defs.proofs.laws.good_matrix_is_read.Goals as goal
+
+pub returns : goal.returns
+returns c = good_matrix_answer

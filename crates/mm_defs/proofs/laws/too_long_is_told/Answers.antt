@@ -1,0 +1,5 @@
+use Rattle.mm_defs.proofs.Answering.{too_long_answer}
+use Rattle.mm_defs.proofs.laws.too_long_is_told.Goals as goal
+
+pub returns : goal.returns
+returns c = too_long_answer
