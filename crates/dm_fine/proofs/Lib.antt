@@ -1,0 +1,9 @@
+pub mod Sums
+pub mod Ordering
+pub mod Parting
+pub mod Grouping
+pub mod Mating
+pub mod Waiting
+pub mod Listing
+pub mod Gathered
+pub mod Blocking

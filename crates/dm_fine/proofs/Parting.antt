@@ -1,0 +1,103 @@
+-- Parts of a flat list that share nothing: their numbers taken together, and how many entries the rows of all components have.
+use Rattle.std.proofs.Common.{◌≡◌, ◌⊎◌, ◌∙◌, ℕ, ◌<◌, ◌≤◌, Bool, true, false, cond, List, [], ◌∷◌, filter, length, nat_eq, get_or, sum_by, refl, sym, ap, subst, inl, inr, arith, zero-le}
+use Rattle.std.specs.List.{flat_map, list_any}
+use Rattle.std.proofs.lemmas.Bool.Decides.{nat_tests}
+use Rattle.std.proofs.lemmas.List.Sums.{sum_by-append, sum_by-cons}
+use Rattle.bip_defs.specs.Lists.{Among, AreDistinct}
+use Rattle.bip_defs.specs.Matrix.{Matrix, cols, column, entry_count, row_list, upto}
+use Rattle.bip_defs.proofs.Sets.{among_either, among_test, few_distinct, filter_distinct, filter_sound, rising_distinct, upto_length, upto_lists}
+use Rattle.sp_pattern.specs.Stored.{piece}
+use Rattle.dm_fine.specs.Groups.{AreApart, AreGroups}
+use Rattle.dm_fine.specs.Waits.{row_waits, waits_at, waits_for}
+use Rattle.dm_fine.proofs.Sums.{distinct-append, sum_covered, sum_le, sum_places, sum_turned, sum_same}
+
+pub groups_apart : (numbers : List ℕ) (count : ℕ) (starts flat : List ℕ) → AreGroups numbers count starts flat → AreApart (length numbers) count starts flat
+groups_apart numbers count starts flat g = record {
+  long = g.long;
+  rising = λ k lt. (g.parts k lt).rising;
+  below = λ k i lt h. ((g.parts k lt).sound i h).0;
+  apart = λ k l i kt lt h m. sym ((g.parts k kt).sound i h).1 ∙ ((g.parts l lt).sound i m).1;
+}
+
+-- these parts one after another
+abbrev pub joined : List ℕ → List ℕ → List ℕ → List ℕ
+joined starts flat ks = flat_map (piece starts flat) ks
+
+joined_among : (starts flat ks : List ℕ) (i : ℕ) → Among i (joined starts flat ks) → (k : ℕ) × Among k ks × Among i (piece starts flat k)
+joined_among starts flat [] i h = elim h [ ]
+joined_among starts flat (k ∷ ks) i h = by (joined_among starts flat ks i) (among_either i (piece starts flat k) (joined starts flat ks) h)
+  where
+    by : (Among i (joined starts flat ks) → (j : ℕ) × Among j ks × Among i (piece starts flat j)) → Among i (piece starts flat k) ⊎ Among i (joined starts flat ks) → (j : ℕ) × Among j (k ∷ ks) × Among i (piece starts flat j)
+    by rest (inl g) = (k, inl refl, g)
+    by rest (inr g) = let (j, m, at) = rest g in (j, inr m, at)
+
+pub joined_distinct : (n count : ℕ) (starts flat ks : List ℕ) → AreApart n count starts flat → AreDistinct ks → ((k : ℕ) → Among k ks → k < count) → AreDistinct (joined starts flat ks)
+joined_distinct n count starts flat [] a d within = tt
+joined_distinct n count starts flat (k ∷ ks) a d within = distinct-append (piece starts flat k) (joined starts flat ks)
+    (rising_distinct (piece starts flat k) (a.rising k (within k (inl refl))))
+    (joined_distinct n count starts flat ks a d.1 (λ j h. within j (inr h)))
+    (λ i h m. let (j, on, at) = joined_among starts flat ks i m in d.0 (subst (λ l. Among l ks) (a.apart j k i (within j (inr on)) (within k (inl refl)) at h) on))
+
+pub joined_below : (n count : ℕ) (starts flat ks : List ℕ) → AreApart n count starts flat → ((k : ℕ) → Among k ks → k < count) → (i : ℕ) → Among i (joined starts flat ks) → i < n
+joined_below n count starts flat ks a within i h = let (k, on, at) = joined_among starts flat ks i h in a.below k i (within k on) at
+
+pub joined_few : (n count : ℕ) (starts flat ks : List ℕ) → AreApart n count starts flat → AreDistinct ks → ((k : ℕ) → Among k ks → k < count) → length (joined starts flat ks) ≤ n
+joined_few n count starts flat ks a d within =
+    let few = few_distinct (joined starts flat ks) (upto n) (joined_distinct n count starts flat ks a d within) (λ i h. (upto_lists n).complete i (joined_below n count starts flat ks a within i h)) in
+    let long = upto_length 0 n in
+    omega (arith, few, long)
+
+sum_joined : (f : ℕ → ℕ) (starts flat ks : List ℕ) → sum_by (λ k. sum_by f (piece starts flat k)) ks ≡ sum_by f (joined starts flat ks)
+sum_joined f starts flat [] = refl
+sum_joined f starts flat (k ∷ ks) =
+    let rest = sum_joined f starts flat ks in
+    let one = sum_by-cons (λ j. sum_by f (piece starts flat j)) k ks in
+    let two = sum_by-append f (piece starts flat k) (joined starts flat ks) in
+    omega (arith, rest, one, two)
+
+-- The entries of all rows are those of all columns.
+
+marked : (test : ℕ → Bool) (xs : List ℕ) → length (filter test xs) ≡ sum_by (λ x. cond (test x) 1 0) xs
+marked test [] = refl
+marked test (x ∷ xs) = by (test x) refl (marked test xs)
+  where
+    by : (b : Bool) → test x ≡ b → length (filter test xs) ≡ sum_by (λ y. cond (test y) 1 0) xs → length (cond b (x ∷ filter test xs) (filter test xs)) ≡ sum_by (λ y. cond (test y) 1 0) (x ∷ xs)
+    by true e rest = let one = sum_by-cons (λ y. cond (test y) 1 0) x xs in let here : cond (test x) 1 0 ≡ 1 = ap (λ b. cond {A = ℕ} b 1 0) e in omega (arith, rest, one, here)
+    by false e rest = let one = sum_by-cons (λ y. cond (test y) 1 0) x xs in let here : cond (test x) 1 0 ≡ 0 = ap (λ b. cond {A = ℕ} b 1 0) e in omega (arith, rest, one, here)
+
+rows_in_column : (a : Matrix) (c : ℕ) → sum_by (λ r. cond (list_any (nat_eq r) (column a c)) 1 0) (upto a.rows) ≤ length (column a c)
+rows_in_column a c =
+    let is = marked (λ r. list_any (nat_eq r) (column a c)) (upto a.rows) in
+    let few = few_distinct (filter (λ r. list_any (nat_eq r) (column a c)) (upto a.rows)) (column a c)
+    (filter_distinct (λ r. list_any (nat_eq r) (column a c)) (upto a.rows) (rising_distinct (upto a.rows) (upto_lists a.rows).rising))
+    (λ r h. (among_test r (column a c)).0 (filter_sound (λ r. list_any (nat_eq r) (column a c)) r (upto a.rows) h).1) in
+    omega (arith, is, few)
+
+pub rows_count : (a : Matrix) → sum_by (λ r. length (row_list a r)) (upto a.rows) ≤ entry_count a
+rows_count a =
+    let by_row = sum_same (λ r. length (row_list a r)) (λ r. sum_by (λ c. cond (list_any (nat_eq r) (column a c)) 1 0) (upto (cols a))) (upto a.rows) (λ r. marked (λ c. list_any (nat_eq r) (column a c)) (upto (cols a))) in
+    let turned = sum_turned (λ r c. cond {A = ℕ} (list_any (nat_eq r) (column a c)) 1 0) (upto a.rows) (upto (cols a)) in
+    let by_col = sum_le (λ c. sum_by (λ r. cond {A = ℕ} (list_any (nat_eq r) (column a c)) 1 0) (upto a.rows)) (λ c. length (column a c)) (upto (cols a)) (λ c h. rows_in_column a c) in
+    let all = sum_places length a.columns [] in
+    omega (arith, by_row, turned, by_col, all)
+
+-- What is waited for.
+
+waits_one : (own j x : ℕ) → waits_at own j x ≤ 1
+waits_one own j x = grind (arith, nat_tests)
+
+row_few : (numbers : List ℕ) (own j : ℕ) (cs : List ℕ) → row_waits numbers own j cs ≤ length cs
+row_few numbers own j [] = zero-le
+row_few numbers own j (c ∷ cs) = let rest = row_few numbers own j cs in let one = sum_by-cons (λ d. waits_at own j (get_or numbers d 0)) c cs in let here = waits_one own j (get_or numbers c 0) in omega (arith, rest, one, here)
+
+-- no more is waited for than there are entries
+pub waits_few : (a : Matrix) (numbers : List ℕ) (count : ℕ) (starts flat : List ℕ) (j : ℕ) → AreApart a.rows count starts flat → sum_by (waits_for (row_list a) numbers starts flat j) (upto count) ≤ entry_count a
+waits_few a numbers count starts flat j apart =
+    let each = sum_le (waits_for (row_list a) numbers starts flat j) (λ k. sum_by (λ r. length (row_list a r)) (piece starts flat k)) (upto count)
+    (λ k h. sum_le (λ r. row_waits numbers k j (row_list a r)) (λ r. length (row_list a r)) (piece starts flat k) (λ r m. row_few numbers k j (row_list a r))) in
+    let flat_sum = sum_joined (λ r. length (row_list a r)) starts flat (upto count) in
+    let within = sum_covered (λ r. length (row_list a r)) (joined starts flat (upto count)) (upto a.rows)
+    (joined_distinct a.rows count starts flat (upto count) apart (rising_distinct (upto count) (upto_lists count).rising) (λ k h. (upto_lists count).sound k h))
+    (λ r h. inl ((upto_lists a.rows).complete r (joined_below a.rows count starts flat (upto count) apart (λ k m. (upto_lists count).sound k m) r h))) in
+    let all = rows_count a in
+    omega (arith, each, flat_sum, within, all)

@@ -1,0 +1,144 @@
+-- Sums over lists that stand for sets.
+use Rattle.std.proofs.Common.{◌≡◌, ◌≢◌, ◌⊎◌, ◌∙◌, ℕ, zero, suc, ◌+◌, ◌<◌, ◌≤◌, List, [], ◌∷◌, ◌++◌, length, take, get_or, sum_by, refl, sym, ap, subst, inl, inr, ⊎_elim, arith, zero-le}
+use Rattle.std.proofs.lemmas.List.{take_all}
+use Rattle.std.proofs.lemmas.List.Sums.{sum_by-cons, sum_by_more, sum_by_push}
+use Rattle.bip_defs.specs.Lists.{Among, AreDistinct}
+use Rattle.bip_defs.specs.Matrix.{upto, upto_from}
+use Rattle.bip_defs.proofs.Sets.{Drops, among_at, among_last, drops_kept, here, later, number_same, rising_distinct, taken, upto_lists}
+
+-- Lists.
+
+pub among_take : {X : Type 0} (n : ℕ) (x : X) (xs : List X) → Among x (take n xs) → Among x xs
+among_take zero x xs h = elim h [ ]
+among_take (suc n) x [] h = elim h [ ]
+among_take (suc n) x (y ∷ xs) (inl e) = inl e
+among_take (suc n) x (y ∷ xs) (inr h) = inr (among_take n x xs h)
+
+pub distinct_take : {X : Type 0} (n : ℕ) (xs : List X) → AreDistinct xs → AreDistinct (take n xs)
+distinct_take zero xs d = tt
+distinct_take (suc n) [] d = tt
+distinct_take (suc n) (x ∷ xs) d = (λ h. d.0 (among_take n x xs h), distinct_take n xs d.1)
+
+-- the element at a place is not among those before it
+pub apart_from_front : {X : Type 0} (n : ℕ) (e : X) (xs : List X) → n < length xs → AreDistinct xs → ¬ Among (get_or xs n e) (take n xs)
+apart_from_front n e [] lt d h = absurd (omega arith)
+apart_from_front zero e (x ∷ xs) lt d h = elim h [ ]
+apart_from_front (suc n) e (x ∷ xs) lt d (inl f) = d.0 (subst (λ y. Among y xs) f (among_at xs n e (omega arith)))
+apart_from_front (suc n) e (x ∷ xs) lt d (inr h) = apart_from_front n e xs (omega arith) d.1 h
+
+-- one more at the end, which is not among those before
+pub distinct_last : {X : Type 0} (xs : List X) (y : X) → AreDistinct xs → ¬ Among y xs → AreDistinct (xs ++ y ∷ [])
+distinct_last [] y d n = (λ h. h, tt)
+distinct_last (x ∷ xs) y d n = (λ h. ⊎_elim (λ k. d.0 k) (λ (e : x ≡ y). n (inl (sym e))) (among_last x y xs h), distinct_last xs y d.1 (λ h. n (inr h)))
+
+pub distinct-append : {X : Type 0} (xs ys : List X) → AreDistinct xs → AreDistinct ys → ((x : X) → Among x xs → ¬ Among x ys) → AreDistinct (xs ++ ys)
+distinct-append [] ys d e f = e
+distinct-append (x ∷ xs) ys d e f = (λ h. ⊎_elim (λ k. d.0 k) (λ k. f x (inl refl) k) (among_parts x xs ys h), distinct-append xs ys d.1 e (λ y h. f y (inr h)))
+  where
+    among_parts : {X : Type 0} (x : X) (xs ys : List X) → Among x (xs ++ ys) → Among x xs ⊎ Among x ys
+    among_parts x [] ys h = inr h
+    among_parts x (y ∷ xs) ys (inl e) = inl (inl e)
+    among_parts x (y ∷ xs) ys (inr h) = ⊎_elim (λ g. inl (inr g)) (λ g. inr g) (among_parts x xs ys h)
+
+-- Sums.
+
+pub sum_none : {X : Type 0} (f : X → ℕ) (xs : List X) → ((x : X) → f x ≡ 0) → sum_by f xs ≡ 0
+sum_none f [] z = refl
+sum_none f (x ∷ xs) z = let rest = sum_none f xs z in let here = z x in let one = sum_by-cons f x xs in omega (arith, rest, here, one)
+
+pub sum_some : {X : Type 0} (f : X → ℕ) (xs : List X) (x : X) → Among x xs → f x ≤ sum_by f xs
+sum_some f [] x h = elim h [ ]
+sum_some f (y ∷ xs) x (inl e) = let same : f x ≡ f y = ap f e in let one = sum_by-cons f y xs in omega (arith, same, one)
+sum_some f (y ∷ xs) x (inr h) = let rest = sum_some f xs x h in let one = sum_by-cons f y xs in omega (arith, rest, one)
+
+-- a sum that is not 0 has a term that is not
+pub sum_from : {X : Type 0} (f : X → ℕ) (xs : List X) → sum_by f xs ≢ 0 → (x : X) × Among x xs × (f x ≢ 0)
+sum_from f [] ne = absurd (ne refl)
+sum_from {X = X} f (x ∷ xs) ne = by (sum_from f xs) (number_same (f x) 0)
+  where
+    by : (sum_by f xs ≢ 0 → (y : X) × Among y xs × (f y ≢ 0)) → (f x ≡ 0) ⊎ (f x ≢ 0) → (y : X) × Among y (x ∷ xs) × (f y ≢ 0)
+    by rest (inr some) = (x, inl refl, some)
+    by rest (inl none) = let one = sum_by-cons f x xs in let (y, h, some) = rest (λ e. ne (one ∙ (omega (arith, none, e)))) in (y, inr h, some)
+
+pub sum_le : {X : Type 0} (f g : X → ℕ) (xs : List X) → ((x : X) → Among x xs → f x ≤ g x) → sum_by f xs ≤ sum_by g xs
+sum_le f g [] h = zero-le
+sum_le f g (x ∷ xs) h = let rest = sum_le f g xs (λ y k. h y (inr k)) in let here = h x (inl refl) in let one = sum_by-cons f x xs in let two = sum_by-cons g x xs in omega (arith, rest, here, one, two)
+
+pub drops_sum : {X : Type 0} (f : X → ℕ) {x : X} {xs ys : List X} → Drops x xs ys → sum_by f xs ≡ f x + sum_by f ys
+drops_sum f {x = x} {ys = ys} here = sum_by-cons f x ys
+drops_sum f {x = x} (later {xs = xs} {ys = ys} y d) = let rest = drops_sum f d in let one = sum_by-cons f y xs in let two = sum_by-cons f y ys in omega (arith, rest, one, two)
+
+-- each of the distinct ys is among the xs, or has nothing to add
+pub sum_covered : {X : Type 0} (f : X → ℕ) (ys xs : List X) → AreDistinct ys → ((y : X) → Among y ys → Among y xs ⊎ (f y ≡ 0)) → sum_by f ys ≤ sum_by f xs
+sum_covered f [] xs d h = zero-le
+sum_covered {X = X} f (y ∷ ys) xs d h = by (λ zs g. sum_covered f ys zs d.1 g) (h y (inl refl))
+  where
+    by : ((zs : List X) → ((z : X) → Among z ys → Among z zs ⊎ (f z ≡ 0)) → sum_by f ys ≤ sum_by f zs) → Among y xs ⊎ (f y ≡ 0) → sum_by f (y ∷ ys) ≤ sum_by f xs
+    by rest (inl k) =
+        let (zs, out) = taken y xs k in
+        let le = rest zs (λ z m. ⊎_elim (λ g. ⊎_elim (λ (e : z ≡ y). absurd (d.0 (subst (λ v. Among v ys) e m))) (λ l. inl l) (drops_kept out z g)) (λ e. inr e) (h z (inr m))) in
+        let one = sum_by-cons f y ys in
+        let two = drops_sum f out in
+        omega (arith, le, one, two)
+    by rest (inr e) =
+        let le = rest xs (λ z m. h z (inr m)) in
+        let one = sum_by-cons f y ys in
+        omega (arith, le, one, e)
+
+-- The numbers below n.
+
+pub upto_more : (k n : ℕ) → upto_from k (n + 1) ≡ upto_from k n ++ (k + n) ∷ []
+upto_more k zero = let e : k ≡ k + 0 = omega arith in λ i. e i ∷ []
+upto_more k (suc n) =
+    let more : suc n + 1 ≡ suc (n + 1) = omega arith in
+    let last : suc k + n ≡ k + suc n = omega arith in
+    ap (upto_from k) more ∙ ap (λ xs. k ∷ xs) (upto_more (suc k) n ∙ ap (λ x. upto_from (suc k) n ++ x ∷ []) last)
+
+pub upto_next : (n : ℕ) → upto (n + 1) ≡ upto n ++ n ∷ []
+upto_next n = let e : 0 + n ≡ n = omega arith in upto_more 0 n ∙ ap (λ x. upto n ++ x ∷ []) e
+
+pub sum_upto_next : (f : ℕ → ℕ) (n : ℕ) → sum_by f (upto (n + 1)) ≡ sum_by f (upto n) + f n
+sum_upto_next f n = ap (sum_by f) (upto_next n) ∙ sum_by_push f (upto n) n
+
+pub sum_upto_le : (f : ℕ → ℕ) (m n : ℕ) → m ≤ n → sum_by f (upto m) ≤ sum_by f (upto n)
+sum_upto_le f m n le = sum_covered f (upto m) (upto n) (rising_distinct (upto m) (upto_lists m).rising) (λ i h. inl ((upto_lists n).complete i (let lt = (upto_lists m).sound i h in omega (arith, lt, le))))
+
+-- a sum over the places of a list is one over the list
+sum_places_front : {X : Type 0} (f : X → ℕ) (xs : List X) (d : X) (n : ℕ) → n ≤ length xs → sum_by (λ i. f (get_or xs i d)) (upto n) ≡ sum_by f (take n xs)
+sum_places_front f xs d zero le = refl
+sum_places_front f xs d (suc n) le =
+    let rest = sum_places_front f xs d n (omega arith) in
+    let one = sum_upto_next (λ i. f (get_or xs i d)) n in
+    let two = sum_by_more f xs n d (omega arith) in
+    let more : n + 1 ≡ suc n = omega arith in
+    let up : sum_by (λ i. f (get_or xs i d)) (upto (n + 1)) ≡ sum_by (λ i. f (get_or xs i d)) (upto (suc n)) = ap (λ j. sum_by (λ i. f (get_or xs i d)) (upto j)) more in
+    let front : sum_by f (take (n + 1) xs) ≡ sum_by f (take (suc n) xs) = ap (λ j. sum_by f (take j xs)) more in
+    omega (arith, rest, one, two, up, front)
+
+pub sum_places : {X : Type 0} (f : X → ℕ) (xs : List X) (d : X) → sum_by (λ i. f (get_or xs i d)) (upto (length xs)) ≡ sum_by f xs
+sum_places f xs d = sum_places_front f xs d (length xs) (omega arith) ∙ ap (sum_by f) (take_all (length xs) xs (omega arith))
+
+-- Sums of sums.
+
+sum_plus : {X : Type 0} (f g : X → ℕ) (xs : List X) → sum_by (λ x. f x + g x) xs ≡ sum_by f xs + sum_by g xs
+sum_plus f g [] = refl
+sum_plus f g (x ∷ xs) =
+    let rest = sum_plus f g xs in
+    let one = sum_by-cons f x xs in
+    let two = sum_by-cons g x xs in
+    let both = sum_by-cons (λ y. f y + g y) x xs in
+    omega (arith, rest, one, two, both)
+
+pub sum_same : {X : Type 0} (f g : X → ℕ) (xs : List X) → ((x : X) → f x ≡ g x) → sum_by f xs ≡ sum_by g xs
+sum_same f g [] e = refl
+sum_same f g (x ∷ xs) e = let rest = sum_same f g xs e in let here = e x in let one = sum_by-cons f x xs in let two = sum_by-cons g x xs in omega (arith, rest, here, one, two)
+
+-- in either order
+pub sum_turned : {X Y : Type 0} (f : X → Y → ℕ) (xs : List X) (ys : List Y) → sum_by (λ x. sum_by (f x) ys) xs ≡ sum_by (λ y. sum_by (λ x. f x y) xs) ys
+sum_turned f [] ys = sym (sum_none (λ y. 0) ys (λ y. refl))
+sum_turned f (x ∷ xs) ys =
+    let rest = sum_turned f xs ys in
+    let one = sum_by-cons (λ z. sum_by (f z) ys) x xs in
+    let two = sum_plus (f x) (λ y. sum_by (λ z. f z y) xs) ys in
+    let same = sum_same (λ y. sum_by (λ z. f z y) (x ∷ xs)) (λ y. f x y + sum_by (λ z. f z y) xs) ys (λ y. sum_by-cons (λ z. f z y) x xs) in
+    omega (arith, rest, one, two, same)

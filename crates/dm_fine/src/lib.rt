@@ -1,0 +1,57 @@
+//! The fine blocks of a matrix's square part, in their order.
+#![tactic(auto)]
+
+mod groups;
+mod listed;
+mod mates;
+mod order;
+mod waits;
+
+ghost use Rattle.std.specs.Prelude.{◌≡◌, IfOk};
+ghost use Rattle.bip_defs.specs.Blocks.{AreBlocksOf};
+ghost use Rattle.bip_defs.specs.Matching.{IsMaximum};
+ghost use Rattle.bip_defs.specs.Matrix.{cols};
+ghost use Rattle.bip_defs.specs.Parts.{ArePartsOf};
+ghost use Rattle.bip_graph.specs.Shown.{parts_of};
+
+use crate::groups::gather;
+use crate::listed::listed;
+use crate::mates::mates;
+use crate::order::order;
+use bip_graph::{Blocks, Matching, Parts};
+use sp_ids::OutOfMemory;
+use sp_pattern::Pattern;
+use square_components::strong_components;
+use std::alloc::Global;
+
+/// The fine blocks of a matrix, from a maximum matching and its coarse parts (Dulmage and Mendelsohn 1958; Pothen and
+/// Fan 1990): all of them, in the one order of blocks. At each place stands, of the blocks from there on whose columns have
+/// entries in the rows of no other of these, the one with the least column.
+///
+/// The blocks are the strong components of the square columns, each with the mates of its columns. They are put in order
+/// by a topological sort that takes the least source.
+///
+/// Answers `OutOfMemory` where it can't be had: 4 bytes a row and 24 a column for the components; then 12 bytes a row, 12
+/// a column and 24 a block at most. Work: each entry of the square part is looked at three times, and each row, column and
+/// block a fixed number of times, but that the set of least columns looks at a few words for each block.
+pub fn fine(
+    alloc: Global,
+    pattern: &Pattern,
+    matching: &Matching,
+    parts: &Parts,
+) -> Result<Blocks, OutOfMemory>
+    requires rows { matching.now.rows ≡ pattern.now.rows }
+    requires cols { matching.now.cols ≡ cols pattern.now }
+    requires maximum { IsMaximum pattern.now matching.now.pairs }
+    requires parts { ArePartsOf pattern.now (parts_of parts.now) }
+    ensures { IfOk result (λ b. AreBlocksOf pattern.now b) }
+{
+    pattern.is_pattern();
+    let components = strong_components(alloc, pattern, matching, parts)?;
+    let count = components.count;
+    let numbers = components.numbers.as_slice();
+    let rows = mates(alloc, matching, numbers, count)?;
+    let cols = gather(alloc, numbers, count)?;
+    let order = order(alloc, pattern, numbers, count, &rows, &cols)?;
+    listed(alloc, order.as_slice(), &rows, &cols)
+}

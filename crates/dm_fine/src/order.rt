@@ -1,0 +1,67 @@
+//! The order of the components.
+
+ghost use Rattle.std.specs.Prelude.{◌≡◌, [], length, IfOk};
+ghost use Rattle.bip_defs.specs.Matrix.{row_list};
+ghost use Rattle.dm_fine.specs.Following.{AreOrdered};
+ghost use Rattle.dm_fine.specs.Waits.{AreReady, HaveLeast, IsGathered, least_of, waits_for};
+
+use crate::groups::Groups;
+use crate::waits;
+use int_set::IntSet;
+use sp_ids::{Col, OutOfMemory, Row};
+use sp_pattern::Pattern;
+use std::alloc::Global;
+
+/// The components in order: each time, of those that have no entry in rows of another that is still to come, the one with
+/// the least column.
+///
+/// A topological sort that takes the least source (Kahn 1962), with a set of least columns for the sources. It takes 8
+/// bytes a component, and a bit and a little more a column. Work: two looks at each entry of the components' rows, and one
+/// insertion in the set and one removal a component.
+pub fn order(
+    alloc: Global,
+    pattern: &Pattern,
+    numbers: &[u32],
+    count: u32,
+    rows: &Groups<Row>,
+    cols: &Groups<Col>,
+) -> Result<Vec<u32>, OutOfMemory>
+    requires { IsGathered pattern.now numbers.now count rows.now.starts.items rows.now.places.items cols.now.starts.items cols.now.places.items }
+    ensures { IfOk result (λ v. AreOrdered count (waits_for (row_list pattern.now) numbers.now rows.now.starts.items rows.now.places.items) (least_of cols.now.starts.items cols.now.places.items) v.items) }
+{
+    pattern.is_pattern();
+    let mut waits = waits::count(alloc, pattern, numbers, rows, count)?;
+    let mut ready = first(alloc, pattern.cols(), count, waits.as_slice(), cols)?;
+    let mut order = Vec::with_capacity(alloc, count as usize)?;
+    while let Some(col) = ready.take_least() {
+        let own = numbers[col as usize];
+        order.push(own)?;
+        let own_rows = rows.of(own);
+        let left = waits.as_mut_slice();
+        waits::release(pattern, numbers, own, own_rows, cols, left, &mut ready);
+    }
+    Ok(order)
+}
+
+// The least columns of the components that wait for none.
+fn first(
+    alloc: Global,
+    bound: u32,
+    count: u32,
+    waits: &[u32],
+    cols: &Groups<Col>,
+) -> Result<IntSet, OutOfMemory>
+    requires long { length waits.now ≡ count }
+    requires least { HaveLeast count bound cols.now.starts.items cols.now.places.items }
+    ensures ready { IfOk result (λ s. AreReady count (least_of cols.now.starts.items cols.now.places.items) [] waits.now s.members) }
+    ensures bound { IfOk result (λ s. s.bound ≡ bound) }
+{
+    let mut ready = IntSet::new(alloc, bound)?;
+    for k in 0..count {
+        if waits[k as usize] == 0 {
+            let least = cols.of(k)[0];
+            ready.insert(least.0);
+        }
+    }
+    Ok(ready)
+}

@@ -1,0 +1,131 @@
+//! For each component, how many entries its columns have in rows of others.
+
+ghost use Rattle.std.specs.Prelude.{◌≡◌, ◌+◌, ◌<◌, ◌≤◌, ◌^◌, ℕ, length, slice_index, sum_by, IfOk};
+ghost use Rattle.bip_defs.specs.Lists.{Among};
+ghost use Rattle.bip_defs.specs.Matrix.{cols, row_list, upto};
+ghost use Rattle.dm_fine.specs.Waits.{Frees, HaveLeast, least_of, row_waits, waits_at, waits_for, waits_in};
+ghost use Rattle.dm_fine.specs.Groups.{AreApart};
+
+use crate::groups::Groups;
+use int_set::IntSet;
+use sp_ids::{Col, OutOfMemory, Row};
+use sp_pattern::Pattern;
+use std::alloc::Global;
+
+/// How many entries the columns of each component have in rows of others.
+pub fn count(
+    alloc: Global,
+    pattern: &Pattern,
+    numbers: &[u32],
+    rows: &Groups<Row>,
+    count: u32,
+) -> Result<Vec<u32>, OutOfMemory>
+    requires numbers { length numbers.now ≡ cols pattern.now }
+    requires rows { AreApart pattern.now.rows count rows.now.starts.items rows.now.places.items }
+    requires few { (j : ℕ) → j < count → sum_by (waits_for (row_list pattern.now) numbers.now rows.now.starts.items rows.now.places.items j) (upto count) < 2 ^ 32 }
+    ensures length { IfOk result (λ v. length v.items ≡ count) }
+    ensures waits { IfOk result (λ v. (j : ℕ) → j < count → slice_index v.items j ≡ sum_by (waits_for (row_list pattern.now) numbers.now rows.now.starts.items rows.now.places.items j) (upto count)) }
+{
+    let mut waits = vec![in alloc; 0; count as usize]?;
+    for own in 0..count {
+        count_rows(pattern, numbers, own, rows.of(own), waits.as_mut_slice());
+    }
+    Ok(waits)
+}
+
+// Counts the entries in these rows of one component.
+fn count_rows(pattern: &Pattern, numbers: &[u32], own: u32, rows: &[Row], waits: &mut [u32])
+    requires numbers { length numbers.now ≡ cols pattern.now }
+    requires rows { (r : ℕ) → Among r rows.now → r < pattern.now.rows }
+    requires few { (j : ℕ) → j < length waits.old → slice_index waits.old j + waits_in (row_list pattern.now) numbers.now own j rows.now < 2 ^ 32 }
+    ensures { (j : ℕ) → j < length waits.old → slice_index waits.new j ≡ slice_index waits.old j + waits_in (row_list pattern.now) numbers.now own j rows.now }
+{
+    for row in rows {
+        count_row(numbers, own, pattern.cols_of(*row), waits);
+    }
+}
+
+// Counts the entries in a row that has these columns.
+fn count_row(numbers: &[u32], own: u32, cols: &[Col], waits: &mut [u32])
+    requires cols { (c : ℕ) → Among c cols.now → c < length numbers.now }
+    requires few { (j : ℕ) → j < length waits.old → slice_index waits.old j + row_waits numbers.now own j cols.now < 2 ^ 32 }
+    ensures { (j : ℕ) → j < length waits.old → slice_index waits.new j ≡ slice_index waits.old j + row_waits numbers.now own j cols.now }
+{
+    for col in cols {
+        count_one(own, numbers[col.0 as usize], waits);
+    }
+}
+
+// Counts an entry, where it is in a column of another component.
+#[inline(always)]
+fn count_one(own: u32, number: u32, waits: &mut [u32])
+    requires { (j : ℕ) → j < length waits.old → slice_index waits.old j + waits_at own j number < 2 ^ 32 }
+    ensures { (j : ℕ) → j < length waits.old → slice_index waits.new j ≡ slice_index waits.old j + waits_at own j number }
+{
+    if number != own && (number as usize) < waits.len() {
+        waits[number as usize] += 1;
+    }
+}
+
+/// Takes the entries in these rows of one component off, and puts the least columns of those in that wait for no more.
+pub fn release(
+    pattern: &Pattern,
+    numbers: &[u32],
+    own: u32,
+    rows: &[Row],
+    least: &Groups<Col>,
+    waits: &mut [u32],
+    ready: &mut IntSet,
+)
+    requires numbers { length numbers.now ≡ cols pattern.now }
+    requires rows { (r : ℕ) → Among r rows.now → r < pattern.now.rows }
+    requires least { HaveLeast (length waits.old) ready.old.bound least.now.starts.items least.now.places.items }
+    requires counted { (j : ℕ) → j < length waits.old → waits_in (row_list pattern.now) numbers.now own j rows.now ≤ slice_index waits.old j }
+    ensures waits { (j : ℕ) → j < length waits.old → slice_index waits.old j ≡ slice_index waits.new j + waits_in (row_list pattern.now) numbers.now own j rows.now }
+    ensures frees { Frees (length waits.old) (least_of least.now.starts.items least.now.places.items) waits.old ready.old.members waits.new ready.new.members }
+    ensures bound { ready.new.bound ≡ ready.old.bound }
+{
+    for row in rows {
+        release_row(numbers, own, pattern.cols_of(*row), least, waits, ready);
+    }
+}
+
+fn release_row(
+    numbers: &[u32],
+    own: u32,
+    cols: &[Col],
+    least: &Groups<Col>,
+    waits: &mut [u32],
+    ready: &mut IntSet,
+)
+    requires cols { (c : ℕ) → Among c cols.now → c < length numbers.now }
+    requires least { HaveLeast (length waits.old) ready.old.bound least.now.starts.items least.now.places.items }
+    requires counted { (j : ℕ) → j < length waits.old → row_waits numbers.now own j cols.now ≤ slice_index waits.old j }
+    ensures waits { (j : ℕ) → j < length waits.old → slice_index waits.old j ≡ slice_index waits.new j + row_waits numbers.now own j cols.now }
+    ensures frees { Frees (length waits.old) (least_of least.now.starts.items least.now.places.items) waits.old ready.old.members waits.new ready.new.members }
+    ensures bound { ready.new.bound ≡ ready.old.bound }
+{
+    for col in cols {
+        release_one(own, numbers[col.0 as usize], least, waits, ready);
+    }
+}
+
+// Takes an entry off, where it is in a column of another component.
+#[inline(always)]
+fn release_one(own: u32, number: u32, least: &Groups<Col>, waits: &mut [u32], ready: &mut IntSet)
+    requires least { HaveLeast (length waits.old) ready.old.bound least.now.starts.items least.now.places.items }
+    requires counted { (j : ℕ) → j < length waits.old → waits_at own j number ≤ slice_index waits.old j }
+    ensures waits { (j : ℕ) → j < length waits.old → slice_index waits.old j ≡ slice_index waits.new j + waits_at own j number }
+    ensures frees { Frees (length waits.old) (least_of least.now.starts.items least.now.places.items) waits.old ready.old.members waits.new ready.new.members }
+    ensures bound { ready.new.bound ≡ ready.old.bound }
+{
+    if number == own || number as usize >= waits.len() {
+        return;
+    }
+    let left = waits[number as usize] - 1;
+    waits[number as usize] = left;
+    if left == 0 {
+        let first = least.of(number)[0];
+        ready.insert(first.0);
+    }
+}

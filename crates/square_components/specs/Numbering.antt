@@ -1,0 +1,31 @@
+-- Numbers of the strong components of the square part's columns.
+use Rattle.std.specs.Prelude.{◌≡◌, ℕ, ◌<◌, ◌≤◌, List, length, slice_index_or}
+use Rattle.bip_defs.specs.Blocks.{IsPerfect}
+use Rattle.bip_defs.specs.Components.{AreComponents}
+use Rattle.bip_defs.specs.Lists.{Among}
+use Rattle.bip_defs.specs.Matrix.{Matrix, Place, cols}
+use Rattle.bip_defs.specs.Parts.{IsSquareCol}
+
+-- stands for no number
+abbrev pub none : ℕ
+none = 4294967295
+
+-- the number of a column, or none
+abbrev pub look : List ℕ → ℕ → ℕ
+look numbers c = slice_index_or numbers c none
+
+-- the square part's pairs among those of a maximum matching, and for each column the number of its strong component, of
+-- so many
+pub record AreNumbered (a : Matrix) (pairs : List Place) (numbers : List ℕ) (count : ℕ) : Type 0 where
+  pub long : length numbers ≡ cols a
+  pub square : List Place
+  pub perfect : IsPerfect a square
+  -- they are the pairs whose column is square
+  pub are_pairs : (r c : ℕ) → Among (r, c) square → Among (r, c) pairs
+  pub all_pairs : (r c : ℕ) → Among (r, c) pairs → IsSquareCol a c → Among (r, c) square
+  pub components : AreComponents a square (look numbers)
+  -- the numbers of the square columns are those below the count, and others have none
+  pub below : (c : ℕ) → IsSquareCol a c → look numbers c < count
+  pub used : (k : ℕ) → k < count → (c : ℕ) × IsSquareCol a c × (look numbers c ≡ k)
+  pub outside : (c : ℕ) → ¬ IsSquareCol a c → look numbers c ≡ none
+  pub few : count ≤ cols a

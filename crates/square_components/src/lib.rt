@@ -1,0 +1,43 @@
+//! The strong components of the columns of a matrix's square part.
+#![tactic(auto)]
+
+ghost use Rattle.std.specs.Prelude.{◌≡◌, IfOk};
+ghost use Rattle.bip_defs.specs.Matching.{IsMaximum};
+ghost use Rattle.bip_defs.specs.Matrix.{cols};
+ghost use Rattle.bip_defs.specs.Parts.{ArePartsOf};
+ghost use Rattle.bip_graph.specs.Shown.{parts_of};
+ghost use Rattle.square_components.specs.Numbering.{AreNumbered};
+
+use bip_graph::{Matching, Parts};
+use sp_ids::OutOfMemory;
+use sp_pattern::Pattern;
+use std::alloc::Global;
+
+/// For each column the number of its strong component, or `u32::MAX` where it is not square, and how many components
+/// there are. The square columns have exactly the numbers below the count.
+#[derive(Drop)]
+pub struct Components {
+    pub numbers: Vec<u32>,
+    pub count: u32,
+}
+
+/// The strong components of the square part's columns, where a column leads over each of its entries to the mate of the
+/// entry's row. An entry leads to no greater number: components are numbered in the order in which they are finished.
+///
+/// One depth-first search with explicit stacks, which keeps the path of components that are not finished (Gabow 2000;
+/// Tarjan 1972). Answers `OutOfMemory` where 4 bytes a row and 24 a column can't be had. Work: each entry of a square
+/// column is looked at once, and each row and column a fixed number of times.
+pub fn strong_components(
+    alloc: Global,
+    pattern: &Pattern,
+    matching: &Matching,
+    parts: &Parts,
+) -> Result<Components, OutOfMemory>
+    requires rows { matching.now.rows ≡ pattern.now.rows }
+    requires cols { matching.now.cols ≡ cols pattern.now }
+    requires maximum { IsMaximum pattern.now matching.now.pairs }
+    requires parts { ArePartsOf pattern.now (parts_of parts.now) }
+    ensures { IfOk result (λ s. AreNumbered pattern.now matching.now.pairs s.numbers.items s.count) }
+{
+    Err(OutOfMemory)
+}
