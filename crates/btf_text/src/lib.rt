@@ -7,6 +7,8 @@ mod pairs;
 mod rank;
 mod report;
 #[cfg(test)]
+mod report_tests;
+#[cfg(test)]
 mod tests;
 
 pub use buffer::TextBuf;
