@@ -1,10 +1,30 @@
 //! The jobs that the words of a command line name.
 
+/// How a maximum matching is searched for.
+#[derive(Clone, Copy, Debug, PartialEq, Eq)]
+pub enum Engine {
+    /// Augmenting paths one by one, from the empty matching.
+    Plain,
+    /// One search from each unmatched column (Duff 1981), from the Karp-Sipser start.
+    Mc21,
+    /// Phases of disjoint augmenting paths (Pothen and Fan 1990), from the Karp-Sipser start.
+    Pf,
+}
+
 /// What the program is asked to do.
 #[derive(Clone, Copy, Debug, PartialEq, Eq)]
 pub enum Job {
     /// The structural rank, with the horizontal part that shows it.
     Rank,
+    /// The whole structural analysis.
+    Analyse {
+        /// Who searches.
+        engine: Engine,
+        /// Whether the two orders are written.
+        order: bool,
+        /// Whether the pairs of the matching are written.
+        pairs: bool,
+    },
 }
 
 /// Why words name no job.
