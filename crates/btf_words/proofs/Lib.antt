@@ -1,1 +1,3 @@
+mod EngineNames
+mod ReadAlike
 pub mod TakenLemmas

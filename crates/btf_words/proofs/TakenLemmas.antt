@@ -13,7 +13,8 @@ use Rattle.clap.specs.Words.{HasKind, HasMatchesOf, is_simple, is_simple_and_fre
 use Rattle.clap.specs.declared.error.Error.{Error}
 use Rattle.clap.specs.declared.error.kind.ErrorKind.TheVariants as kind
 use Rattle.clap.specs.declared.parser.matches.ArgMatches.{ArgMatches}
-use Rattle.btf_words.specs.Table.{btf}
+use Rattle.btf_words.specs.Table.{IsBtf, btf}
+use Rattle.btf_words.proofs.EngineNames.{read_alike}
 use Rattle.btf_words.specs.Words.{AreTaken, job_from, job_of}
 use Rattle.btf_words.specs.declared.jobs.Job.{Job}
 use Rattle.btf_words.specs.declared.jobs.WordsError.{WordsError}
@@ -64,7 +65,7 @@ has_job None = tt
 has_job (Some p) =
     mapped HasJob (λ (s : Shape). rows_at s p.1) _
     (found (λ (s : Shape). HasJob (rows_at s p.1)) (λ (s : Shape). answers_to p.0 (label_of s)) (built btf).subs
-    (refl, tt))
+    (refl, (refl, tt)))
 
 some_job : (o : Option (Text × List Row)) → is_some o ≡ true → MatchOption o ⊤ HasJob → is_some (option_and_then job_from o) ≡ true
 some_job None there has = cc
@@ -89,21 +90,31 @@ taken_names words taken = the_job (option_and_then job_from (subcommand_of btf w
 
 -- ---- the answers of a parse
 
+-- clap's definitions over the command line, wherever its names lie
+line_fault : (app : App) (words : List Text) → IsBtf app → fault_of app words ≡ fault_of btf words
+line_fault app words line = ap (λ (a : App). fault_of a words) line.2 ∙ (read_alike line.0 words line.1).0
+
+line_command : (app : App) (words : List Text) → IsBtf app → subcommand_of app words ≡ subcommand_of btf words
+line_command app words line = ap (λ (a : App). subcommand_of a words) line.2 ∙ (read_alike line.0 words line.1).1
+
+line_is_free : (app : App) → IsBtf app → is_simple_and_free app ≡ true
+line_is_free app line = ap is_simple_and_free line.2
+
 -- the matches of words with which clap finds no fault, and the job of the command that they entered
 pub record HasRead (app : App) (words : List Text) (m : ArgMatches) (o : Option Job) : Type 0 where
-  pub line : app ≡ btf
+  pub line : IsBtf app
   pub no_fault : is_simple_and_free app ≡ true → fault_of app words ≡ []
   pub matches : HasMatchesOf app words m
   pub job : o ≡ option_and_then job_from (subcommand_rows_of m)
 
-pub read_taken : (app : App) (words : List Text) (m : ArgMatches) (o : Option Job) → HasRead app words m o → AreTaken words
+read_taken : (app : App) (words : List Text) (m : ArgMatches) (o : Option Job) → HasRead app words m o → AreTaken words
 unfolding AreTaken
-read_taken app words m o h = ap (λ (a : App). fault_of a words) (sym h.line) ∙ h.no_fault (ap is_simple_and_free h.line)
+read_taken app words m o h = sym (line_fault app words h.line) ∙ h.no_fault (line_is_free app h.line)
 
-pub read_job : (app : App) (words : List Text) (m : ArgMatches) (o : Option Job) → HasRead app words m o → o ≡ job_of words
+read_job : (app : App) (words : List Text) (m : ArgMatches) (o : Option Job) → HasRead app words m o → o ≡ job_of words
 unfolding job_of
 read_job app words m o h =
-    h.job ∙ ap (option_and_then job_from) ((h.matches (ap is_simple h.line)).1 ∙ ap (λ (a : App). subcommand_of a words) h.line)
+    h.job ∙ ap (option_and_then job_from) ((h.matches (ap is_simple h.line.2)).1 ∙ line_command app words h.line)
 
 pub taken_by : (app : App) (words : List Text) (m : ArgMatches) (o : Option Job) (r : Result Job WordsError) → HasRead app words m o
     → IfOk r (λ job. AreTaken words)
@@ -124,9 +135,8 @@ never_refused app words m o (Err e) h same bad =
     cc
 
 -- words that clap refuses for another cause than memory are not taken
-pub refused : (app : App) (words : List Text) (e : Error) → app ≡ btf
+pub refused : (app : App) (words : List Text) (e : Error) → IsBtf app
     → (is_simple_and_free app ≡ true → HasKind (fault_of app words) e) → (kind_of e ≡ kind.OutOfMemory → ⊥) → AreTaken words → ⊥
 unfolding AreTaken
 refused app words e line kinds other taken =
-    let none : fault_of app words ≡ [] = ap (λ (a : App). fault_of a words) line ∙ taken in
-    elim (subst (λ (ks : Kinds). HasKind ks e) none (kinds (ap is_simple_and_free line))) [ inl h ↦ other h | inr h ↦ absurd h ]
+    elim (subst (λ (ks : Kinds). HasKind ks e) (line_fault app words line ∙ taken) (kinds (line_is_free app line))) [ inl h ↦ other h | inr h ↦ absurd h ]

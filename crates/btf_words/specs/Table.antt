@@ -1,7 +1,49 @@
--- The command line of `btf` as one simple command of clap: a required subcommand, and one level of them.
-use Rattle.std.specs.Prelude.{true, false, List, [], ◌∷◌, codes}
-use Rattle.clap.specs.Words.{App, Rule, Shape, Text}
+-- The command line of `btf` as one simple command of clap: a required subcommand, one level of them, and options
+-- that are flags or are set once. A command, and an option of a command, is one line of a list here.
+use Rattle.std.specs.Prelude.{◌≡◌, true, false, List, [], ◌∷◌, map, Some, codes}
+use Rattle.std.specs.Borrow.{Bor}
+use Rattle.clap.specs.Words.{App, Rule, Shape, Text, new_rule}
 use Rattle.clap.specs.Simple.{new_shape}
+use Rattle.clap.specs.declared.builder.action.ArgAction.TheVariants.{Set, SetTrue}
+use Rattle.clap.specs.declared.builder.value_parser.ValueParser.TheVariants as vp
+
+-- ---- the engines' names
+
+abbrev pub engine_names : List Text
+engine_names = codes "plain" ∷ codes "mc21" ∷ codes "pf" ∷ []
+
+abbrev pub default_engine : Text
+default_engine = codes "pf"
+
+-- names as clap's definitions hold them, behind references
+abbrev pub Names : Type 0
+Names = Bor (List (Bor Text))
+
+abbrev pub texts_of : Names → List Text
+texts_of names = map (λ name. name.now) names.now
+
+-- ---- options
+
+-- `--id VALUE`, at most once
+abbrev pub option_rule : Text → Rule
+option_rule id = record (new_rule id) { long = Some id; action = Some Set }
+
+-- `--id`, at most once
+abbrev pub flag_rule : Text → Rule
+flag_rule id = record (new_rule id) { long = Some id; action = Some SetTrue }
+
+-- `--engine E`, where E is one of these names
+abbrev pub engine_rule : Names → Rule
+engine_rule names = record (option_rule (codes "engine")) {
+  parser = Some (vp.Names names);
+  defaults = default_engine ∷ [];
+}
+
+abbrev pub order_rule : Rule
+order_rule = flag_rule (codes "order")
+
+abbrev pub pairs_rule : Rule
+pairs_rule = flag_rule (codes "pairs")
 
 -- ---- commands
 
@@ -11,9 +53,13 @@ command name rules = record (new_shape name) { rules = rules }
 abbrev pub rank_command : Shape
 rank_command = command (codes "rank") []
 
+abbrev pub analyse_command : Names → Shape
+analyse_command names =
+    command (codes "analyse") (engine_rule names ∷ order_rule ∷ pairs_rule ∷ [])
+
 -- the commands that the program has
-abbrev pub commands : List Shape
-commands = rank_command ∷ []
+abbrev pub commands : Names → List Shape
+commands names = rank_command ∷ analyse_command names ∷ []
 
 -- ---- the program
 
@@ -26,6 +72,18 @@ program = record (new_shape (codes "btf")) {
   subcommand_required = true;
 }
 
--- the command line
+-- the command line, where the names of the engines are these
+abbrev pub btf_over : Names → App
+btf_over names = record { top = record program { is_leaf = false }; subs = commands names }
+
+-- the command line, wherever the names of the engines lie
+abbrev pub IsBtf : App → Type 0
+IsBtf app = (names : Names) × (texts_of names ≡ engine_names) × (app ≡ btf_over names)
+
+-- a value behind a reference to one fixed place
+abbrev pub placed : {X : Type 0} → X → Bor X
+placed x = record { ref_ptr = (0, 0); now = x }
+
+-- the command line, with the names in one fixed place: where they lie makes no difference to any words
 abbrev pub btf : App
-btf = record { top = record program { is_leaf = false }; subs = commands }
+btf = btf_over (placed (map placed engine_names))

@@ -1,19 +1,48 @@
 -- Which words are taken, and the job that they name.
-use Rattle.std.specs.Prelude.{◌≡◌, List, [], Option, Some, None, codes, if◌then◌else◌, option_and_then}
+use Rattle.std.specs.Prelude.{◌≡◌, Bool, false, List, [], Option, Some, None, codes}
+use Rattle.std.specs.Prelude.{if◌then◌else◌, option_and_then, unwrap_or}
+use Rattle.std.specs.Option.{option_map_or}
 use Rattle.std.specs.Str.{bytes_eq}
-use Rattle.clap.specs.Words.{Row, Text, fault_of, subcommand_of}
-use Rattle.btf_words.specs.Table.{btf}
+use Rattle.clap.specs.Words.{Row, Text, fault_of, first_of, subcommand_of}
+use Rattle.btf_words.specs.Table.{Names, btf, btf_over, default_engine}
+use Rattle.btf_words.specs.declared.jobs.Engine.{Engine}
+use Rattle.btf_words.specs.declared.jobs.Engine.TheVariants.{Plain, Mc21, Pf}
 use Rattle.btf_words.specs.declared.jobs.Job.{Job}
-use Rattle.btf_words.specs.declared.jobs.Job.TheVariants.{Rank}
+use Rattle.btf_words.specs.declared.jobs.Job.TheVariants.{Rank, Analyse}
 
 -- clap's definitions find no fault with the words
 unfoldable pub AreTaken : List Text → Type 0
 AreTaken words = fault_of btf words ≡ []
 
--- the job of a command, by the command's name and what was found for its options
+-- ---- what was found for an option
+
+-- the engine of a name: clap takes no other name than these
+abbrev pub engine_named : Text → Engine
+engine_named name = if bytes_eq name (codes "plain") then Plain
+    else (if bytes_eq name (codes "mc21") then Mc21 else Pf)
+
+abbrev pub engine_in : List Row → Engine
+engine_in rows = engine_named (unwrap_or (first_of (codes "engine") rows) default_engine)
+
+-- the flag was given
+abbrev pub is_given : Text → List Row → Bool
+is_given id rows = option_map_or (λ value. bytes_eq value (codes "true")) (first_of id rows) false
+
+-- ---- the job
+
+-- the job of a command, by the command's name and what was found for its options, defaults included
 abbrev pub job_from : Text × List Row → Option Job
-job_from m = if bytes_eq m.0 (codes "rank") then Some Rank else None
+job_from m = if bytes_eq m.0 (codes "rank") then Some Rank
+    else (if bytes_eq m.0 (codes "analyse")
+    then Some (Analyse (engine_in m.1) (is_given (codes "order") m.1) (is_given (codes "pairs") m.1))
+    else None)
 
 -- the job that the words name: that of the command that they enter, by clap's definitions
 unfoldable pub job_of : List Text → Option Job
 job_of words = option_and_then job_from (subcommand_of btf words)
+
+-- Wherever the names of the engines lie, clap's definitions find the same faults in the words, and the same command
+-- with the same options.
+abbrev pub ReadsAlike : Names → List Text → Type 0
+ReadsAlike names words = (fault_of (btf_over names) words ≡ fault_of btf words)
+    × (subcommand_of (btf_over names) words ≡ subcommand_of btf words)

@@ -2,17 +2,22 @@
 
 ghost use Rattle.std.specs.Prelude.{◌≡◌, [], IfOk};
 ghost use Rattle.clap.specs.Words.{app_of, with_subcommand};
-ghost use Rattle.btf_words.specs.Table.{btf, rank_command, program as program_shape};
+ghost use Rattle.btf_words.specs.Table.{IsBtf, analyse_command, program as program_shape, rank_command};
 
+use crate::options::{engine, order, pairs};
 use clap::Command;
 use std::alloc::{AllocError, Global};
 
+static ENGINES: [&str; 3] = ["plain", "mc21", "pf"];
+
 /// The command line of the program.
 pub(crate) fn command_line<'a>(alloc: Global) -> Result<Command<'a>, AllocError>
-    ensures { IfOk result (λ c. app_of c ≡ btf) }
+    ensures { IfOk result (λ c. IsBtf (app_of c)) }
 {
+    let engines: &'a [&'a str] = ENGINES.as_slice();
     let program = program(alloc);
     let program = with_rank(alloc, program)?;
+    let program = with_analyse(alloc, engines, program)?;
     Ok(program)
 }
 
@@ -31,4 +36,19 @@ fn with_rank<'a>(alloc: Global, program: Command<'a>) -> Result<Command<'a>, All
     ensures { IfOk result (λ c. app_of c ≡ with_subcommand (app_of program.entry) rank_command) }
 {
     program.subcommand(Command::new(alloc, "rank"))
+}
+
+fn with_analyse<'a>(
+    alloc: Global,
+    engines: &'a [&'a str],
+    program: Command<'a>,
+) -> Result<Command<'a>, AllocError>
+    ensures { IfOk result (λ c. app_of c
+        ≡ with_subcommand (app_of program.entry) (analyse_command engines.entry)) }
+{
+    let analyse = Command::new(alloc, "analyse")
+        .arg(engine(alloc, engines))?
+        .arg(order(alloc))?
+        .arg(pairs(alloc))?;
+    program.subcommand(analyse)
 }

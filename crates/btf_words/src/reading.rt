@@ -1,12 +1,13 @@
 //! From words to a job.
 
-ghost use Rattle.std.specs.Prelude.{◌≡◌, List, IfOk, IsErrOf, Some, map, option_and_then, string_bytes};
-ghost use Rattle.clap.specs.Words.{Text, found_of, rows_of, subcommand_rows_of};
-ghost use Rattle.btf_words.specs.Words.{AreTaken, job_from, job_of};
+ghost use Rattle.std.specs.Prelude.{◌≡◌, List, IfOk, IsErrOf, Some, map, option_and_then, option_map, string_bytes};
+ghost use Rattle.clap.specs.Words.{Text, first_of, found_of, rows_of, subcommand_rows_of};
+ghost use Rattle.btf_words.specs.Table.{Names, engine_names, texts_of};
+ghost use Rattle.btf_words.specs.Words.{AreTaken, ReadsAlike, engine_in, engine_named as engine_of_name, is_given, job_from, job_of};
 ghost use Rattle.btf_words.specs.declared.jobs.Job.{Job as JobValue};
 
 use crate::commands::command_line;
-use crate::{Job, WordsError};
+use crate::{Engine, Job, WordsError};
 use clap::ArgMatches;
 use clap::error::ErrorKind;
 use std::alloc::Global;
@@ -38,6 +39,11 @@ pub fn taken_words_name_a_job()
     ensures { (words : List Text) → AreTaken words → (job : JobValue) × (job_of words ≡ Some job) }
 {}
 
+/// Where the names of the engines lie counts for nothing.
+pub fn names_lie_anywhere()
+    ensures { (names : Names) (words : List Text) → texts_of names ≡ engine_names → ReadsAlike names words }
+{}
+
 /// The job of the command that the words entered.
 fn job_in(matches: &ArgMatches<'_>) -> Option<Job>
     ensures { result ≡ option_and_then job_from (subcommand_rows_of matches.now) }
@@ -47,12 +53,55 @@ fn job_in(matches: &ArgMatches<'_>) -> Option<Job>
 }
 
 /// The job of a command, by the command's name and what was found for its options.
-fn job_named(name: &str, _options: &ArgMatches<'_>) -> Option<Job>
-    ensures { result ≡ job_from (name.now, rows_of (found_of _options.now)) }
+fn job_named(name: &str, options: &ArgMatches<'_>) -> Option<Job>
+    ensures { result ≡ job_from (name.now, rows_of (found_of options.now)) }
 {
     if name == "rank" {
         Some(Job::Rank)
+    } else if name == "analyse" {
+        Some(Job::Analyse {
+            engine: engine_of(options),
+            order: flag_of(options, "order"),
+            pairs: flag_of(options, "pairs"),
+        })
     } else {
         None
+    }
+}
+
+/// The first value of an option.
+fn value_of<'a>(options: &ArgMatches<'a>, name: &str) -> Option<&'a str>
+    ensures { option_map (λ s. s.now) result ≡ first_of name.now (rows_of (found_of options.now)) }
+{
+    options.get_str(name)
+}
+
+fn engine_of(options: &ArgMatches<'_>) -> Engine
+    ensures { result ≡ engine_in (rows_of (found_of options.now)) }
+{
+    match value_of(options, "engine") {
+        Some(name) => engine_named(name),
+        None => Engine::Pf,
+    }
+}
+
+fn engine_named(name: &str) -> Engine
+    ensures { result ≡ engine_of_name name.now }
+{
+    if name == "plain" {
+        Engine::Plain
+    } else if name == "mc21" {
+        Engine::Mc21
+    } else {
+        Engine::Pf
+    }
+}
+
+fn flag_of(options: &ArgMatches<'_>, name: &str) -> bool
+    ensures { result ≡ is_given name.now (rows_of (found_of options.now)) }
+{
+    match value_of(options, name) {
+        Some(value) => value == "true",
+        None => false,
     }
 }

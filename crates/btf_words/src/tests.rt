@@ -1,4 +1,4 @@
-use crate::{Job, WordsError, read_words};
+use crate::{Engine, Job, WordsError, read_words};
 use std::alloc::{AllocError, Global};
 use std::test::Fail;
 
@@ -11,41 +11,118 @@ fn words_of(alloc: Global, line: &str) -> Result<Vec<String>, AllocError> {
     Ok(words)
 }
 
+fn analyse(engine: Engine, order: bool, pairs: bool) -> Job {
+    Job::Analyse {
+        engine,
+        order,
+        pairs,
+    }
+}
+
 #[test]
-fn spellings_are_taken_or_refused(rt: HostRuntime) -> Result<(), Fail> {
+fn takes_each_spelling(rt: HostRuntime) -> Result<(), Fail> {
+    let alloc = rt.alloc();
+    let (plain, mc21, pf) = (Engine::Plain, Engine::Mc21, Engine::Pf);
+    let spellings = [
+        ("rank", Job::Rank),
+        ("rank --", Job::Rank),
+        ("analyse", analyse(pf, false, false)),
+        ("analyse --", analyse(pf, false, false)),
+        ("analyse --engine plain", analyse(plain, false, false)),
+        ("analyse --engine mc21", analyse(mc21, false, false)),
+        ("analyse --engine pf", analyse(pf, false, false)),
+        ("analyse --engine=plain", analyse(plain, false, false)),
+        ("analyse --engine=mc21", analyse(mc21, false, false)),
+        ("analyse --engine=pf", analyse(pf, false, false)),
+        ("analyse --order", analyse(pf, true, false)),
+        ("analyse --pairs", analyse(pf, false, true)),
+        ("analyse --order --pairs", analyse(pf, true, true)),
+        ("analyse --pairs --order", analyse(pf, true, true)),
+        ("analyse --order --engine mc21", analyse(mc21, true, false)),
+        (
+            "analyse --pairs --engine mc21 --order",
+            analyse(mc21, true, true),
+        ),
+        (
+            "analyse --order --engine=plain --pairs --",
+            analyse(plain, true, true),
+        ),
+    ];
+    for (line, job) in spellings {
+        let words = words_of(alloc, line)?;
+        assert_eq!(rt; read_words(alloc, words.as_slice()), Ok(job), "at {line}");
+    }
+    Ok(())
+}
+
+#[test]
+fn refuses_other_words(rt: HostRuntime) -> Result<(), Fail> {
     let alloc = rt.alloc();
     let none = Vec::new(alloc);
     assert_eq!(rt; read_words(alloc, none.as_slice()), Err(WordsError::Usage));
-    let refused = Err(WordsError::Usage);
-    let spellings = [
-        ("rank", Ok(Job::Rank)),
-        ("rank --", Ok(Job::Rank)),
-        ("", refused),
-        ("ran", refused),
-        ("Rank", refused),
-        ("rank rank", refused),
-        ("rank --order", refused),
-        ("rank -- rank", refused),
-        ("rank -- --", refused),
-        ("-- rank", refused),
-        ("--", refused),
-        ("btf rank", refused),
-        ("rank ", refused),
-        ("help", refused),
-        ("help rank", refused),
-        ("--help", refused),
-        ("-h", refused),
-        ("--version", refused),
-        ("-V", refused),
-        ("rank --help", refused),
-        ("rank -h", refused),
-        ("diagonal", refused),
-        ("analyse --engine fast", refused),
-        ("load --size 0 --seed 1", refused),
+    let lines = [
+        "",
+        "ran",
+        "Rank",
+        "rank rank",
+        "rank analyse",
+        "rank --order",
+        "rank -- rank",
+        "rank -- --",
+        "-- rank",
+        "--",
+        "btf rank",
+        "rank ",
+        "help",
+        "help rank",
+        "--help",
+        "-h",
+        "--version",
+        "-V",
+        "rank --help",
+        "rank -h",
+        "analyse --help",
+        "analyse -h",
+        "analyse help",
+        "analys",
+        "analyze",
+        "analyse --engine",
+        "analyse --engine ",
+        "analyse --engine=",
+        "analyse --engine --order",
+        "analyse --engine fast",
+        "analyse --engine=fast",
+        "analyse --engine PF",
+        "analyse --engine pf,mc21",
+        "analyse --engine pf mc21",
+        "analyse --engine pf --engine pf",
+        "analyse --engine=pf --engine mc21",
+        "analyse --eng pf",
+        "analyse -engine pf",
+        "analyse -e pf",
+        "analyse --order --order",
+        "analyse --order=1",
+        "analyse --order=true",
+        "analyse --order=",
+        "analyse --order true",
+        "analyse --ord",
+        "analyse --pairs --pairs",
+        "analyse --pairs=1",
+        "analyse pairs",
+        "analyse -- --order",
+        "analyse --workers 2",
+        "--order analyse",
+        "diagonal",
+        "check",
+        "load --size 1 --seed 1",
     ];
-    for (line, want) in spellings {
+    for line in lines {
         let words = words_of(alloc, line)?;
-        assert_eq!(rt; read_words(alloc, words.as_slice()), want, "at {line}");
+        assert_eq!(rt;
+            read_words(alloc, words.as_slice()),
+            Err(WordsError::Usage),
+            "at {line}"
+        );
     }
     Ok(())
 }
