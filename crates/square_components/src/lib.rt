@@ -1,6 +1,8 @@
 //! The strong components of the columns of a matrix's square part.
 #![tactic(auto)]
 
+mod search;
+
 ghost use Rattle.std.specs.Prelude.{◌≡◌, IfOk};
 ghost use Rattle.bip_defs.specs.Matching.{IsMaximum};
 ghost use Rattle.bip_defs.specs.Matrix.{cols};
