@@ -1,3 +1,6 @@
 pub mod Changes
 pub mod Stacking
 pub mod Finishing
+pub mod Searching
+pub mod Ending
+pub mod Scans

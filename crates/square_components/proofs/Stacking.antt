@@ -29,7 +29,7 @@ not_free : (q : ℕ) → q ≢ none → one_free q ≡ 0
 not_free q ne = ⊎_elim (λ h. absurd (ne h.1)) (λ h. ap (λ b. if b then 1 else 0) h.0) (eqb_tells q none)
 
 -- entering a column leaves one less free
-less_free : (place : List ℕ) (d at : ℕ) → look place d ≡ none → d < length place → at ≢ none → sum_by one_free (set place d at) + 1 ≡ sum_by one_free place
+pub less_free : (place : List ℕ) (d at : ℕ) → look place d ≡ none → d < length place → at ≢ none → sum_by one_free (set place d at) + 1 ≡ sum_by one_free place
 less_free place d at fresh lt ne =
     let e = sum_by-set one_free place d at none lt in
     let z = not_free at ne in

@@ -1,6 +1,7 @@
 //! The strong components of the columns of a matrix's square part.
 #![tactic(auto)]
 
+mod explore;
 mod search;
 
 ghost use Rattle.std.specs.Prelude.{◌≡◌, IfOk};
