@@ -9,12 +9,8 @@ use Rattle.bip_defs.proofs.Sets.{col_among, col_pair, number_same, one_row, plac
 use Rattle.square_components.specs.Numbering.{AreNumbered, look, none}
 use Rattle.square_components.specs.Stacks.{AreMatesOf, Falls, IsSearch, State, target}
 use Rattle.square_components.specs.Stacks as names
+use Rattle.square_components.specs.Steps.{ArePairs}
 
--- an array of mates that are pairs of a matching
-abbrev pub ArePairs : List Place → List ℕ → Type 0
-ArePairs pairs mates = (r : ℕ) → look mates r ≢ none → Among (r, look mates r) pairs
-
--- a place and what is there
 mate_among : (a : Matrix) (m pairs : List Place) (mates : List ℕ) (r c : ℕ) → AreMatesOf a m mates → ArePairs pairs mates → Among (r, c) m → Among (r, c) pairs
 mate_among a m pairs mates r c k are h =
     let e = k.complete r c h in

@@ -4,3 +4,4 @@ pub mod Finishing
 pub mod Searching
 pub mod Ending
 pub mod Scans
+pub mod Mating

@@ -71,6 +71,9 @@ scan_found a mates old s at col left l d k e leads some fresh = record {
 pub item_among : (xs : List ℕ) (k q r : ℕ) → q ≡ r → r ≡ get_or xs k r → k < length xs → Among q xs
 item_among xs k q r e f lt = subst (λ y. Among y xs) (sym (e ∙ f)) (among_at xs k r lt)
 
+pub item_at : (xs : List ℕ) (k q r : ℕ) → q ≡ r → r ≡ get_or xs k r → k < length xs → q ≡ get_or xs k 0
+item_at xs k q r e f lt = e ∙ f ∙ get_or_default xs k r 0 lt
+
 -- A row that was read at a place of a column's list.
 
 pub row_in : (a : Matrix) (mates rows : List ℕ) (s : State) (col x q r : ℕ) → IsSearch a mates s → Lists (λ t. IsEntry a t col) rows → x < length rows → q ≡ r → r ≡ get_or rows x r → q < length mates

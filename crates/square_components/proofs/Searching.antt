@@ -200,7 +200,7 @@ leaves a mates s t at k done (finishes todo starts number e f n same) = subst (I
 
 -- No column was entered.
 
-look_none : (n c : ℕ) → look (replicate n none) c ≡ none
+pub look_none : (n c : ℕ) → look (replicate n none) c ≡ none
 look_none n c = ⊎_elim (λ lt. get_or-replicate n c none none lt) (λ le. get_or_past (replicate n none) c none (let e = length-replicate n none in omega arith)) (less c n)
 
 free_all : (n : ℕ) → sum_by one_free (replicate n none) ≡ n

@@ -1,9 +1,13 @@
 -- What each step of the search changes.
 use Rattle.std.specs.Prelude.{◌≡◌, ◌≢◌, ℕ, ◌+◌, ◌<◌, ◌≤◌, List, [], ◌∷◌, ◌++◌, length, replicate, slice_index, slice_set, take}
 use Rattle.bip_defs.specs.Lists.{Among, IsRising}
-use Rattle.bip_defs.specs.Matrix.{Matrix}
+use Rattle.bip_defs.specs.Matrix.{Matrix, Place}
 use Rattle.square_components.specs.Numbering.{look, none}
 use Rattle.square_components.specs.Stacks.{State, degree, target}
+
+-- the mates of an array are pairs of a matching
+abbrev pub ArePairs : List Place → List ℕ → Type 0
+ArePairs pairs mates = (r : ℕ) → look mates r ≢ none → Among (r, look mates r) pairs
 
 -- no column was entered
 abbrev pub beginning : ℕ → State

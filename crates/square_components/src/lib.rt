@@ -2,6 +2,7 @@
 #![tactic(auto)]
 
 mod explore;
+mod mates;
 mod search;
 
 ghost use Rattle.std.specs.Prelude.{◌≡◌, IfOk};
@@ -11,6 +12,8 @@ ghost use Rattle.bip_defs.specs.Parts.{ArePartsOf};
 ghost use Rattle.bip_graph.specs.Shown.{parts_of};
 ghost use Rattle.square_components.specs.Numbering.{AreNumbered};
 
+use crate::mates::square_mates;
+use crate::search::Search;
 use bip_graph::{Matching, Parts};
 use sp_ids::OutOfMemory;
 use sp_pattern::Pattern;
@@ -42,5 +45,9 @@ pub fn strong_components(
     requires parts { ArePartsOf pattern.now (parts_of parts.now) }
     ensures { IfOk result (λ s. AreNumbered pattern.now matching.now.pairs s.numbers.items s.count) }
 {
-    Err(OutOfMemory)
+    let mates = square_mates(alloc, pattern, matching, parts.sr.as_slice())?;
+    let mut search = Search::new(alloc, pattern.cols())?;
+    search.explore_all(pattern, mates.as_slice(), parts.sc.as_slice());
+    let (numbers, count) = search.end();
+    Ok(Components { numbers, count })
 }
