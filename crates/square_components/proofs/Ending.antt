@@ -1,9 +1,8 @@
 -- What a search has found at its end.
-use Rattle.std.proofs.Common.{◌⊎◌, ◌≡◌, ◌≢◌, ◌∙◌, ℕ, ◌+◌, ◌<◌, ◌≤◌, List, [], ◌∷◌, length, get_or, sym, ap, subst, ⊎_elim, arith}
-use Rattle.bip_defs.specs.Components.{AreComponents}
-use Rattle.bip_defs.specs.Lists.{Among, Lists}
+use Rattle.std.proofs.Common.{◌≡◌, ◌≢◌, ◌∙◌, ℕ, ◌≤◌, List, [], length, ap, subst, ⊎_elim, arith}
+use Rattle.bip_defs.specs.Lists.{Among}
 use Rattle.bip_defs.specs.Matching.{IsMaximum}
-use Rattle.bip_defs.specs.Matrix.{IsEntry, Matrix, Place, cols, column}
+use Rattle.bip_defs.specs.Matrix.{IsEntry, Matrix, Place, column}
 use Rattle.bip_defs.specs.Parts.{IsSquareCol}
 use Rattle.bip_defs.proofs.Sets.{col_among, col_pair, number_same, one_row, place_among}
 use Rattle.square_components.specs.Numbering.{AreNumbered, look, none}
@@ -54,4 +53,4 @@ ends a pairs mates s max are k empty placed = record {
         let (x, lt, f) = place_among r 0 (column a c) e.1 in
         let g : target a mates c x ≡ d = ap (look mates) f ∙ k.mates_of.complete r d h in
         fall c d (λ z. let l = (k.mates_of.perfect.only_cols d (col_among r d k.pairs h)).0 in let w = k.mates_of.few in omega arith)
-            (subst (Falls s.number c) g (k.state.falling c x (has c square) lt))
+        (subst (Falls s.number c) g (k.state.falling c x (has c square) lt))

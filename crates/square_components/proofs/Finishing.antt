@@ -1,8 +1,6 @@
 -- The last component is finished.
-use Rattle.std.proofs.Common.{◌⊎◌, if◌then◌else◌, ◌≡◌, ◌≢◌, ◌∙◌, ℕ, zero, suc, ◌+◌, ◌<◌, ◌≤◌, List, [], ◌∷◌, ◌++◌, set, take, length, get_or, refl, sum_by, sym, ap, subst, inl, inr, ⊎_elim, arith, le_refl, length-append}
-use Rattle.std.proofs.lemmas.Bool.Decides.{eqb_tells}
+use Rattle.std.proofs.Common.{◌⊎◌, ◌≡◌, ◌≢◌, ◌∙◌, ℕ, ◌<◌, ◌≤◌, List, [], ◌∷◌, ◌++◌, take, length, get_or, refl, sym, ap, subst, inl, inr, ⊎_elim, arith, le_refl, length-append}
 use Rattle.std.proofs.lemmas.List.{get_or-take, length-take-le}
-use Rattle.std.proofs.lemmas.List.Sums.{sum_by-cons}
 use Rattle.bip_defs.specs.Lists.{Among, IsRising}
 use Rattle.bip_defs.specs.Matrix.{Matrix, Place, cols}
 use Rattle.bip_defs.specs.Parts.{IsSquareCol}
@@ -25,12 +23,12 @@ in_or_out : (a : Matrix) (m : List Place) (mates : List ℕ) (s : State) (b c : 
 in_or_out a m mates s b c k small = ⊎_elim
     (λ (lt : look s.place c < b). inr (λ i le li e. let p = place_at i li e in omega arith))
     (λ (ge : b ≤ look s.place c). ⊎_elim
-        (λ (f : look s.number c ≡ none). ⊎_elim
-            (λ (g : look s.place c ≡ none). inr (λ i le li e. let p = place_at i li e in omega arith))
-            (λ ne. let p = k.placed c ne f in inl (look s.place c, ge, p.0, p.1))
-            (number_same (look s.place c) none))
-        (λ ne. inr (λ i le li e. ne (subst (λ x. look s.number x ≡ none) e (k.on i li).number)))
-        (number_same (look s.number c) none))
+    (λ (f : look s.number c ≡ none). ⊎_elim
+    (λ (g : look s.place c ≡ none). inr (λ i le li e. let p = place_at i li e in omega arith))
+    (λ ne. let p = k.placed c ne f in inl (look s.place c, ge, p.0, p.1))
+    (number_same (look s.place c) none))
+    (λ ne. inr (λ i le li e. ne (subst (λ x. look s.number x ≡ none) e (k.on i li).number)))
+    (number_same (look s.number c) none))
     (less (look s.place c) b)
   where
     place_at : (i : ℕ) → i < length s.stack → get_or s.stack i 0 ≡ c → look s.place c ≡ i
@@ -103,9 +101,9 @@ emitted a m mates s b starts number k small few_cols split before numbered = rec
     placed c h e = ⊎_elim
         (λ y. absurd (let z = now y in omega (arith, e, count_small)))
         (λ o.
-            let p = k.placed c h (sym (numbered.others c o) ∙ e) in
-            let lt : look s.place c < b = ⊎_elim (λ w. w) (λ w. absurd (o (look s.place c) w p.0 p.1)) (less (look s.place c) b) in
-            (omega (arith, shorter, lt), stack_is (look s.place c) lt ∙ p.1))
+        let p = k.placed c h (sym (numbered.others c o) ∙ e) in
+        let lt : look s.place c < b = ⊎_elim (λ w. w) (λ w. absurd (o (look s.place c) w p.0 p.1)) (less (look s.place c) b) in
+        (omega (arith, shorter, lt), stack_is (look s.place c) lt ∙ p.1))
         (sides c)
 
     clear_old : (i j : ℕ) → i < b → Clear starts j i → Clear s.starts j i
@@ -143,11 +141,11 @@ emitted a m mates s b starts number k small few_cols split before numbered = rec
     new_falls i d le li (names.Settled.stacked z c) = ⊎_elim
         (λ y. let e = now y in names.Falls.falls (λ w. absurd (omega (arith, count_small))) (let f = numbered.given i le li in omega arith))
         (λ o. ⊎_elim
-            (λ (f : look s.number d ≡ none).
-                let p = k.placed d z f in
-                absurd (⊎_elim (λ (lt : look s.place d < b). let w = c b on_b lt in omega arith) (λ w. o (look s.place d) w p.0 p.1) (less (look s.place d) b)))
-            (λ ne. names.Falls.falls (stays d ne) (let e = numbered.given i le li in let f = numbered.others d o in let lt = k.below d ne in omega arith))
-            (number_same (look s.number d) none))
+        (λ (f : look s.number d ≡ none).
+        let p = k.placed d z f in
+        absurd (⊎_elim (λ (lt : look s.place d < b). let w = c b on_b lt in omega arith) (λ w. o (look s.place d) w p.0 p.1) (less (look s.place d) b)))
+        (λ ne. names.Falls.falls (stays d ne) (let e = numbered.given i le li in let f = numbered.others d o in let lt = k.below d ne in omega arith))
+        (number_same (look s.number d) none))
         (sides d)
 
     no_left : (i : ℕ) → b ≤ i → i < length s.stack → get_or s.left (get_or s.stack i 0) 0 ≡ 0
@@ -165,13 +163,13 @@ emitted a m mates s b starts number k small few_cols split before numbered = rec
     joined : (c d : ℕ) → look number c ≢ none → look number c ≡ look number d → Walk a m c d
     joined c d h e = ⊎_elim
         (λ y. ⊎_elim
-            (λ z. subst (λ w. Walk a m w d) y.3 (subst (λ w. Walk a m (get_or s.stack y.0 0) w) z.3 (k.walks y.0 z.0 y.2 z.2 (last y.0 z.0 z.1))))
-            (λ o. absurd (let f = now y in let g = numbered.others d o in let lt = k.below d (λ w. let v = count_small in absurd (omega arith)) in omega arith))
-            (sides d))
+        (λ z. subst (λ w. Walk a m w d) y.3 (subst (λ w. Walk a m (get_or s.stack y.0 0) w) z.3 (k.walks y.0 z.0 y.2 z.2 (last y.0 z.0 z.1))))
+        (λ o. absurd (let f = now y in let g = numbered.others d o in let lt = k.below d (λ w. let v = count_small in absurd (omega arith)) in omega arith))
+        (sides d))
         (λ o. let g = numbered.others c o in let ne : look s.number c ≢ none = λ z. h (g ∙ z) in ⊎_elim
-            (λ z. absurd (let f = now z in let lt = k.below c ne in omega arith))
-            (λ q. k.joined c d ne (sym g ∙ e ∙ numbered.others d q))
-            (sides d))
+        (λ z. absurd (let f = now z in let lt = k.below c ne in omega arith))
+        (λ q. k.joined c d ne (sym g ∙ e ∙ numbered.others d q))
+        (sides d))
         (sides c)
 
     waiting : (i : ℕ) → i < length (take b s.stack) → get_or s.left (get_or (take b s.stack) i 0) 0 ≢ 0 → Among i s.todo

@@ -1,5 +1,5 @@
 -- The mates of the square part's rows, written one after the other.
-use Rattle.std.proofs.Common.{◌⊎◌, ◌≡◌, ◌≢◌, ◌∙◌, ℕ, ◌+◌, ◌<◌, ◌≤◌, List, set, length, get_or, replicate, sym, ap, subst, ⊎_elim, arith, length-set, get_or-set_same, get_or-set_other}
+use Rattle.std.proofs.Common.{◌≡◌, ◌≢◌, ◌∙◌, ℕ, ◌+◌, ◌<◌, ◌≤◌, List, set, length, get_or, replicate, sym, ap, subst, ⊎_elim, arith, length-set, get_or-set_same, get_or-set_other}
 use Rattle.std.proofs.lemmas.List.{length-replicate}
 use Rattle.bip_defs.specs.Lists.{Among, Lists}
 use Rattle.bip_defs.specs.Matching.{IsMaximum}
@@ -9,7 +9,6 @@ use Rattle.bip_defs.proofs.Sets.{number_same, place_among}
 use Rattle.bip_defs.proofs.Square.{in_rows, in_rows_among, in_rows_back, square_pairs_perfect}
 use Rattle.square_components.specs.Numbering.{look, none}
 use Rattle.square_components.specs.Stacks.{AreMatesOf}
-use Rattle.square_components.specs.Steps.{ArePairs}
 use Rattle.square_components.proofs.Searching.{look_none}
 
 -- of the rows up to the place i the mates are known
@@ -41,13 +40,16 @@ known_more a pairs rows mates i r v k lt on at sound complete = record {
     other t ne = get_or-set_other mates r t v none ne
 
 pub known_all : (a : Matrix) (pairs : List Place) (rows mates : List ℕ) (i : ℕ) → IsMaximum a pairs → Lists (IsSquareRow a) rows → cols a ≤ none → length rows ≤ i → AreKnown a pairs rows i mates → (m : List Place) × AreMatesOf a m mates
-known_all a pairs rows mates i max square few all k = (in_rows rows pairs, record {
-  long = k.long;
-  sound = λ r ne. let (p, on) = k.sound r ne in in_rows_among rows pairs r (look mates r) p on;
-  complete = λ r d h.
-      let (p, on) = in_rows_back rows pairs r d h in
-      let (j, lt, e) = place_among r 0 rows on in
-      subst (λ x. look mates x ≡ d) e (k.given j (omega arith) d (subst (λ x. Among (x, d) pairs) (sym e) p));
-  perfect = square_pairs_perfect a pairs rows max square;
-  few = few;
-})
+known_all a pairs rows mates i max square few all k = (
+  in_rows rows pairs,
+  record {
+    long = k.long;
+    sound = λ r ne. let (p, on) = k.sound r ne in in_rows_among rows pairs r (look mates r) p on;
+    complete = λ r d h.
+        let (p, on) = in_rows_back rows pairs r d h in
+        let (j, lt, e) = place_among r 0 rows on in
+        subst (λ x. look mates x ≡ d) e (k.given j (omega arith) d (subst (λ x. Among (x, d) pairs) (sym e) p));
+    perfect = square_pairs_perfect a pairs rows max square;
+    few = few;
+  },
+)

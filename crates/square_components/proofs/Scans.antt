@@ -1,10 +1,10 @@
 -- A column's entries are looked at one after the other.
-use Rattle.std.proofs.Common.{◌⊎◌, ◌≡◌, ◌≢◌, ◌∙◌, ℕ, ◌+◌, ◌<◌, ◌≤◌, List, [], ◌∷◌, ◌++◌, set, length, get_or, refl, sym, ap, subst, ⊎_elim, arith, get_or-set_same}
+use Rattle.std.proofs.Common.{◌≡◌, ◌≢◌, ◌∙◌, ℕ, ◌+◌, ◌<◌, ◌≤◌, List, set, length, get_or, refl, sym, ap, subst, arith, get_or-set_same}
 use Rattle.std.proofs.lemmas.List.{get_or_default}
 use Rattle.bip_defs.specs.Lists.{Among, Lists}
 use Rattle.bip_defs.specs.Matrix.{IsEntry, Matrix, cols, column}
 use Rattle.bip_defs.specs.Parts.{IsSquareCol}
-use Rattle.bip_defs.proofs.Sets.{among_at, few_distinct, number_same, rising_distinct, upto_complete, upto_length}
+use Rattle.bip_defs.proofs.Sets.{among_at, few_distinct, rising_distinct, upto_complete, upto_length}
 use Rattle.bip_defs.specs.Matrix as matrices
 use Rattle.square_components.specs.Numbering.{look, none}
 use Rattle.square_components.specs.Stacks.{IsSearch, State, degree, target}

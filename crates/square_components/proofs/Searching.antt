@@ -1,5 +1,5 @@
 -- Each step takes a search to a search.
-use Rattle.std.proofs.Common.{◌⊎◌, ◌≡◌, ◌≢◌, ◌∙◌, ℕ, zero, suc, ◌+◌, ◌<◌, ◌≤◌, List, [], ◌∷◌, ◌++◌, set, take, length, get_or, replicate, refl, sum_by, sym, ap, subst, inl, inr, ⊎_elim, arith, length-append, length-set, get_or-set_same, get_or-set_other}
+use Rattle.std.proofs.Common.{◌≡◌, ◌≢◌, ◌∙◌, ℕ, suc, ◌+◌, ◌<◌, ◌≤◌, List, [], ◌∷◌, ◌++◌, set, length, get_or, replicate, refl, sum_by, sym, ap, subst, inl, ⊎_elim, arith, length-append, get_or-set_same, get_or-set_other}
 use Rattle.std.proofs.lemmas.List.{get_or-replicate, get_or_past, length-replicate}
 use Rattle.std.proofs.lemmas.List.Folds.{sum_by-replicate}
 use Rattle.bip_defs.specs.Lists.{Among, IsRising}
@@ -9,12 +9,12 @@ use Rattle.bip_defs.specs.Walks.{Walk, stay, step}
 use Rattle.bip_defs.proofs.Reaching.{walk_on}
 use Rattle.bip_defs.proofs.Sets.{among_at, among_last, among_left, among_right, col_among, number_same}
 use Rattle.square_components.specs.Numbering.{look, none}
-use Rattle.square_components.specs.Stacks.{AreMatesOf, Clear, IsOn, IsSearch, IsState, Settled, State, degree, finished, free, nowhere, one_free, stacked, target, work}
+use Rattle.square_components.specs.Stacks.{AreMatesOf, Clear, IsSearch, Settled, State, degree, finished, free, nowhere, one_free, stacked, target, work}
 use Rattle.square_components.specs.Steps.{AreUpTo, EndsWith, HasRoom, Leaves, LeadsOn, Numbers, Settles, StaysPlaced, advancing, beginning, entering, finishes, finishing, goes_back, leaving, merging}
 use Rattle.square_components.specs.Steps as steps
-use Rattle.square_components.proofs.Changes.{rising_end, rising_front, rising_most}
+use Rattle.square_components.proofs.Changes.{rising_end, rising_most}
 use Rattle.square_components.proofs.Finishing.{emitted}
-use Rattle.square_components.proofs.Stacking.{advanced, entered, left_off, less, less_free, merged, on_once, to_top}
+use Rattle.square_components.proofs.Stacking.{advanced, entered, left_off, less, less_free, merged, to_top}
 
 -- what the mates say of a column to which an entry leads
 pub target_pair : (a : Matrix) (m : List Place) (mates : List ℕ) (c x d : ℕ) → AreMatesOf a m mates → target a mates c x ≡ d → d ≢ none → Among (get_or (column a c) x 0, d) m

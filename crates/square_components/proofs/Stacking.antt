@@ -1,17 +1,17 @@
 -- Each step of the search keeps its state.
-use Rattle.std.proofs.Common.{◌⊎◌, if◌then◌else◌, ◌≡◌, ◌≢◌, ◌∙◌, ℕ, zero, suc, ◌+◌, ◌<◌, ◌≤◌, List, [], ◌∷◌, ◌++◌, set, take, length, get_or, refl, sum_by, nat_eq, true, false, sym, ap, subst, inl, inr, ⊎_elim, arith, length-append, length-set, get_or-set_same, get_or-set_other}
+use Rattle.std.proofs.Common.{◌⊎◌, if◌then◌else◌, ◌≡◌, ◌≢◌, ◌∙◌, ℕ, ◌+◌, ◌<◌, ◌≤◌, List, [], ◌∷◌, ◌++◌, set, length, get_or, refl, sum_by, sym, ap, subst, inl, inr, ⊎_elim, arith, length-append, length-set, get_or-set_same, get_or-set_other}
 use Rattle.std.proofs.Math.Decide.{dec_lt}
 use Rattle.std.proofs.lemmas.Bool.Decides.{eqb_tells}
 use Rattle.std.proofs.lemmas.List.{get_or_append_left, get_or_push, get_or_past}
 use Rattle.std.proofs.lemmas.List.Sums.{sum_by-set}
-use Rattle.bip_defs.specs.Lists.{Among, AreDistinct, IsRising}
-use Rattle.bip_defs.specs.Matrix.{IsEntry, Matrix, Place, cols, column}
+use Rattle.bip_defs.specs.Lists.{Among, IsRising}
+use Rattle.bip_defs.specs.Matrix.{Matrix, Place}
 use Rattle.bip_defs.specs.Parts.{IsSquareCol}
-use Rattle.bip_defs.specs.Walks.{Walk, stay, step}
-use Rattle.bip_defs.proofs.Reaching.{walk_join, walk_on}
-use Rattle.bip_defs.proofs.Sets.{among_last, among_left, among_right, below_each_from, below_each_sound, number_same, rising_last}
+use Rattle.bip_defs.specs.Walks.{Walk, stay}
+use Rattle.bip_defs.proofs.Reaching.{walk_join}
+use Rattle.bip_defs.proofs.Sets.{among_last, among_left, among_right, number_same, rising_last}
 use Rattle.square_components.specs.Numbering.{look, none}
-use Rattle.square_components.specs.Stacks.{AreMatesOf, Clear, Falls, IsOn, IsState, Settled, State, degree, finished, free, nowhere, one_free, stacked, target}
+use Rattle.square_components.specs.Stacks.{Clear, IsOn, IsState, Settled, State, degree, finished, free, nowhere, one_free, stacked, target}
 use Rattle.square_components.specs.Steps.{AreUpTo, advancing, entering, leaving, merging}
 use Rattle.square_components.proofs.Changes.{rising_front}
 
@@ -205,9 +205,9 @@ advanced a m mates s p l k lt e settled = record {
     scanned : (i x : ℕ) → i < length s.stack → get_or (set s.left (get_or s.stack p 0) l) (get_or s.stack i 0) 0 ≤ x → x < degree a (get_or s.stack i 0) → Settled (advancing s (get_or s.stack p 0) l) i (target a mates (get_or s.stack i 0) x)
     scanned i x li le below = ⊎_elim
         (λ (f : i ≡ p). ⊎_elim
-            (λ (g : x ≡ l). again i (target a mates (get_or s.stack i 0) x) (subst (λ z. Settled s i (target a mates (get_or s.stack i 0) z)) (sym g) (subst (λ z. Settled s z (target a mates (get_or s.stack z 0) l)) (sym f) settled)))
-            (λ ne. again i (target a mates (get_or s.stack i 0) x) (k.scanned i x li (let z : get_or (set s.left (get_or s.stack p 0) l) (get_or s.stack i 0) 0 ≡ l = ap (λ y. get_or (set s.left (get_or s.stack p 0) l) (get_or s.stack y 0) 0) f ∙ get_or-set_same s.left (get_or s.stack p 0) l 0 within in let w : get_or s.left (get_or s.stack i 0) 0 ≡ l + 1 = ap (λ y. get_or s.left (get_or s.stack y 0) 0) f ∙ e in omega (arith, z, w, ne)) below))
-            (number_same x l))
+        (λ (g : x ≡ l). again i (target a mates (get_or s.stack i 0) x) (subst (λ z. Settled s i (target a mates (get_or s.stack i 0) z)) (sym g) (subst (λ z. Settled s z (target a mates (get_or s.stack z 0) l)) (sym f) settled)))
+        (λ ne. again i (target a mates (get_or s.stack i 0) x) (k.scanned i x li (let z : get_or (set s.left (get_or s.stack p 0) l) (get_or s.stack i 0) 0 ≡ l = ap (λ y. get_or (set s.left (get_or s.stack p 0) l) (get_or s.stack y 0) 0) f ∙ get_or-set_same s.left (get_or s.stack p 0) l 0 within in let w : get_or s.left (get_or s.stack i 0) 0 ≡ l + 1 = ap (λ y. get_or s.left (get_or s.stack y 0) 0) f ∙ e in omega (arith, z, w, ne)) below))
+        (number_same x l))
         (λ ne. again i (target a mates (get_or s.stack i 0) x) (k.scanned i x li (let z = other i li ne in omega (arith, z)) below))
         (number_same i p)
 

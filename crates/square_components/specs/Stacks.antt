@@ -1,7 +1,7 @@
 -- The state of a depth-first search for strong components, which keeps the path of components that are not finished.
-use Rattle.std.specs.Prelude.{◌≡◌, ◌≢◌, ℕ, ◌+◌, ◌*◌, ◌<◌, ◌≤◌, List, length, slice_index, slice_index_or, sum_by, nat_eq, if◌then◌else◌}
+use Rattle.std.specs.Prelude.{◌≡◌, ◌≢◌, ℕ, ◌+◌, ◌<◌, ◌≤◌, List, length, slice_index, sum_by, nat_eq, if◌then◌else◌}
 use Rattle.bip_defs.specs.Blocks.{IsPerfect}
-use Rattle.bip_defs.specs.Lists.{Among, AreDistinct, IsRising}
+use Rattle.bip_defs.specs.Lists.{Among, IsRising}
 use Rattle.bip_defs.specs.Matrix.{Matrix, Place, cols, column}
 use Rattle.bip_defs.specs.Parts.{IsSquareCol}
 use Rattle.bip_defs.specs.Walks.{Walk}

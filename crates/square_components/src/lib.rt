@@ -4,6 +4,8 @@
 mod explore;
 mod mates;
 mod search;
+#[cfg(test)]
+mod tests;
 
 ghost use Rattle.std.specs.Prelude.{◌≡◌, IfOk};
 ghost use Rattle.bip_defs.specs.Matching.{IsMaximum};
@@ -32,7 +34,7 @@ pub struct Components {
 ///
 /// One depth-first search with explicit stacks, which keeps the path of components that are not finished (Gabow 2000;
 /// Tarjan 1972). Answers `OutOfMemory` where 4 bytes a row and 24 a column can't be had. Work: each entry of a square
-/// column is looked at once, and each row and column a fixed number of times.
+/// column is looked at twice at most, and each row and column a fixed number of times.
 pub fn strong_components(
     alloc: Global,
     pattern: &Pattern,

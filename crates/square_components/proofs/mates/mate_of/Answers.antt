@@ -1,5 +1,4 @@
-use Rattle.std.proofs.Common.{◌≡◌, ◌≢◌, ◌∙◌, ℕ, ◌+◌, ◌-◌, ◌<◌, ◌≤◌, [], ◌∷◌, ◌++◌, ap, arith, get_or, length, refl, set, sym, subst, rules}
-use Rattle.bip_defs.specs.Lists.{Among}
+use Rattle.std.proofs.Common.{◌∙◌}
 use Rattle.bip_defs.proofs.Sets.{one_col, row_among}
 use Rattle.square_components.proofs.mates.mate_of.Goals as goal
 

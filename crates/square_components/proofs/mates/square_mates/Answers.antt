@@ -1,6 +1,4 @@
-use Rattle.std.proofs.Common.{◌≡◌, ◌≢◌, ◌∙◌, ℕ, ◌+◌, ◌-◌, ◌<◌, ◌≤◌, [], ◌∷◌, ◌++◌, ap, arith, get_or, length, refl, set, sym, subst, rules}
-use Rattle.bip_defs.specs.Lists.{Among}
-use Rattle.bip_defs.specs.Parts.{IsSquareRow}
+use Rattle.std.proofs.Common.{arith}
 use Rattle.square_components.proofs.Mating.{known_all, known_more}
 use Rattle.square_components.proofs.Scans.{item_among, item_at}
 use Rattle.square_components.proofs.mates.square_mates.Goals as goal
@@ -23,8 +21,8 @@ pub loop-row-preserved : goal.loop-row-preserved
 loop-row-preserved c =
     let on = item_among _ _ _ _ c.row.view_is c.row-item.is c.loop-row-test.true in
     known_more _ _ _ _ _ _ _ c.loop-row.invariant (c.requires.square.sound c.row.inside.0 on).0 on (item_at _ _ _ _ c.row.view_is c.row-item.is c.loop-row-test.true)
-        c.mate_of.ensures.sound
-        (λ d h. c.mate_of.ensures.complete c.args.pattern.now d c.requires.maximum.matching h)
+    c.mate_of.ensures.sound
+    (λ d h. c.mate_of.ensures.complete c.args.pattern.now d c.requires.maximum.matching h)
 
 pub returns-clause-mates : goal.returns-clause-mates
 returns-clause-mates c = known_all _ _ _ _ _ c.requires.maximum c.requires.square (let f = c.is_pattern.ensures.few_cols in omega arith) c.loop-row-test.false c.loop-row.invariant

@@ -1,6 +1,6 @@
-use Rattle.std.proofs.Common.{◌≡◌, ◌≢◌, ◌∙◌, ℕ, ◌+◌, ◌<◌, ◌≤◌, [], ◌∷◌, ◌++◌, ap, arith, length, refl, sym, subst, rules}
-use Rattle.square_components.specs.Steps.{AreUpTo, EndsWith}
-use Rattle.square_components.proofs.Changes.{IsCut, cut_end, cut_more, cut_all}
+use Rattle.std.proofs.Common.{arith, sym, subst, rules}
+use Rattle.square_components.specs.Steps.{EndsWith}
+use Rattle.square_components.proofs.Changes.{IsCut, cut_end, cut_more}
 use Rattle.square_components.proofs.search.drop_above.Goals as goal
 
 pub returns-then-start-at-clause-starts : goal.returns-then-start-at-clause-starts

@@ -1,6 +1,6 @@
-use Rattle.std.proofs.Common.{◌≡◌, ◌≢◌, ◌∙◌, ℕ, ◌+◌, ◌-◌, ◌<◌, ◌≤◌, [], ◌∷◌, ◌++◌, ap, arith, get_or, length, refl, sym, subst, rules}
+use Rattle.std.proofs.Common.{◌≡◌, ◌<◌, ap, arith, sym, subst}
 use Rattle.square_components.specs.Stacks.{IsSearch, State, degree, work}
-use Rattle.square_components.specs.Steps.{EndsWith, LeadsOn, entering}
+use Rattle.square_components.specs.Steps.{EndsWith, entering}
 use Rattle.square_components.proofs.Searching.{count_few, entered_same, enters_next, has_room, has_start, leaves, less_entered, next_square, top_in}
 use Rattle.square_components.proofs.search.Search.advance.Goals as goal
 
@@ -45,7 +45,7 @@ returns-in-Some-clause-less c =
     let found = c.in-Some.ensures.found in
     let h : c.enter.new.self ≡ entering c.scan.new.self c.in-Some.next (degree c.args.pattern.now c.in-Some.next) = entered_same _ _ _ _ _ _ c.next.view_is c.entries_of.ensures c.enter.ensures in
     subst (λ s. work s < work c.args.self.now) (sym h)
-        (less_entered _ _ c.args.self.now _ _ (degree c.args.pattern.now c.in-Some.next) c.in-Some.ensures.search (next_square _ _ _ _ _ c.in-Some.ensures.search found) found.fresh c.in-Some.ensures.path)
+    (less_entered _ _ c.args.self.now _ _ (degree c.args.pattern.now c.in-Some.next) c.in-Some.ensures.search (next_square _ _ _ _ _ c.in-Some.ensures.search found) found.fresh c.in-Some.ensures.path)
 
 pub returns-in-None-clause-search : goal.returns-in-None-clause-search
 returns-in-None-clause-search c = leaves _ _ _ _ _ c.in-None.ensures.search c.in-None.ensures.none c.leave.ensures

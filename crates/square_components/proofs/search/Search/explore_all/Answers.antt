@@ -1,7 +1,5 @@
-use Rattle.std.proofs.Common.{◌≡◌, ◌≢◌, ◌∙◌, ℕ, ◌+◌, ◌-◌, ◌<◌, ◌≤◌, [], ◌∷◌, ◌++◌, ap, arith, get_or, length, refl, sym, subst, rules}
-use Rattle.bip_defs.specs.Lists.{Among}
-use Rattle.bip_defs.specs.Parts.{IsSquareCol}
-use Rattle.bip_defs.proofs.Sets.{among_at, place_among}
+use Rattle.std.proofs.Common.{◌≢◌, arith, subst}
+use Rattle.bip_defs.proofs.Sets.{place_among}
 use Rattle.square_components.specs.Numbering.{look, none}
 use Rattle.square_components.proofs.Scans.{item_among}
 use Rattle.square_components.proofs.search.Search.explore_all.Goals as goal

@@ -1,8 +1,6 @@
-use Rattle.std.proofs.Common.{◌≡◌, ◌≢◌, ◌∙◌, ℕ, ◌+◌, ◌-◌, ◌<◌, ◌≤◌, [], ◌∷◌, ◌++◌, ap, arith, get_or, length, refl, sym, subst, rules}
-use Rattle.square_components.specs.Numbering.{look, none}
-use Rattle.square_components.specs.Stacks.{target}
-use Rattle.square_components.specs.Steps.{LeadsOn, Settles}
-use Rattle.square_components.proofs.Scans.{IsScan, row_in, scan_begins, scan_col, scan_found, scan_left, scan_next, scan_range, target_read}
+use Rattle.std.proofs.Common.{◌-◌, ap, arith, get_or, length, sym, subst}
+use Rattle.square_components.specs.Steps.{LeadsOn}
+use Rattle.square_components.proofs.Scans.{IsScan, row_in, scan_begins, scan_found, scan_left, scan_next, scan_range, target_read}
 use Rattle.square_components.proofs.Searching.{top_in}
 use Rattle.square_components.proofs.search.Search.scan.Goals as goal
 
@@ -48,7 +46,7 @@ returns-then-not-settle-clause-found c =
     let leads = target_read _ _ _ _ _ _ _ _ k.search c.rows_of-rows.ensures.rows c.rows_of-rows.ensures.column (omega arith) c.row.view_is c.index-rows-left.is in
     let (same, some, fresh) = c.if-not-settle.ensures in
     subst (λ s. LeadsOn c.args.pattern.now c.args.mates.now s c.args.at (get_or c.args.mates.now c.row.inside.0 0)) (sym same)
-        (scan_found _ _ _ _ _ _ _ _ _ k (omega arith) leads some fresh)
+    (scan_found _ _ _ _ _ _ _ _ _ k (omega arith) leads some fresh)
 
 pub loop-left-preserved : goal.loop-left-preserved
 loop-left-preserved c =
@@ -57,4 +55,4 @@ loop-left-preserved c =
     let e = ap length c.rows_of-rows.ensures.column in
     let leads = target_read _ _ _ _ _ _ _ _ k.search c.rows_of-rows.ensures.rows c.rows_of-rows.ensures.column (omega arith) c.row.view_is c.index-rows-left.is in
     subst (λ s. IsScan c.args.pattern.now c.args.mates.now c.args.self.now s c.args.at c.col_at-col.result (c.loop-left.left - 1)) (sym c.set_left.ensures)
-        (scan_next _ _ _ _ _ _ _ _ _ _ k (omega arith) leads c.if-not-settle.ensures)
+    (scan_next _ _ _ _ _ _ _ _ _ _ k (omega arith) leads c.if-not-settle.ensures)

@@ -1,8 +1,7 @@
-use Rattle.std.proofs.Common.{◌≡◌, ◌≢◌, ◌∙◌, ℕ, ◌+◌, ◌<◌, ◌≤◌, [], ◌∷◌, ◌++◌, ap, arith, length, refl, sym, subst, rules}
-use Rattle.std.proofs.Common.{get_or}
+use Rattle.std.proofs.Common.{◌≡◌, ◌∙◌, ap, sym, subst, rules}
 use Rattle.square_components.specs.Numbering.{look}
 use Rattle.square_components.specs.Stacks.{State}
-use Rattle.square_components.specs.Steps.{AreUpTo, Settles, joined}
+use Rattle.square_components.specs.Steps.{AreUpTo, joined}
 use Rattle.square_components.proofs.Changes.{look_read}
 use Rattle.square_components.proofs.search.Search.settle.Goals as goal
 
