@@ -1,9 +1,9 @@
 -- What is written of a decomposition: its report, and its summary.
-use Rattle.std.specs.Prelude.{ℕ, Bool, List, [], ◌∷◌, length, Option, codes}
+use Rattle.std.specs.Prelude.{ℕ, Bool, List, [], ◌∷◌, ◌++◌, length, Option, codes}
 use Rattle.bip_defs.specs.Matrix.{Place}
 use Rattle.bip_graph.specs.Answers.{orders_of, where_asked}
 use Rattle.bip_graph.specs.Shown.{decomposition_of}
-use Rattle.bip_graph.specs.Texts.{Report, Sizes, TextLine, line, matrix_line, rank_line, square_line, text_of}
+use Rattle.bip_graph.specs.Texts.{Report, Sizes, TextLine, line, matrix_line, part, rank_line, square_line, square_lines, text_of}
 use Rattle.bip_graph.specs.declared.answers.Decomposition.{Decomposition}
 
 abbrev pub sizes_told : Decomposition → Sizes
@@ -22,6 +22,13 @@ reported d order pairs = record {
   orders = where_asked order (orders_of (decomposition_of d));
   pairs = pairs;
 }
+
+-- the lists of the parts and the blocks
+abbrev pub part_lines : Decomposition → List TextLine
+part_lines d =
+    part (codes "horizontal") d.parts.hr.items d.parts.hc.items
+    ++ square_lines d.blocks
+    ++ part (codes "vertical") d.parts.vr.items d.parts.vc.items
 
 -- the lengths of two lists
 abbrev pub lengths_line : List ℕ → List ℕ → List ℕ → TextLine

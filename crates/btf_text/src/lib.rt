@@ -3,6 +3,7 @@
 
 mod buffer;
 mod load;
+mod pairs;
 mod rank;
 mod report;
 #[cfg(test)]
@@ -10,4 +11,6 @@ mod tests;
 
 pub use buffer::TextBuf;
 pub use load::write_load;
+pub use pairs::write_pairs;
 pub use rank::write_rank;
+pub use report::write_report;

@@ -1,15 +1,22 @@
 //! The report of a decomposition.
 
 ghost use Rattle.std.specs.Prelude.{◌≡◌, ◌≤◌, ◌++◌, ◌∷◌, [], length, map, codes};
-ghost use Rattle.bip_graph.specs.Answers.{orders_of, where_asked};
-ghost use Rattle.bip_graph.specs.Shown.{decomposition_of};
-ghost use Rattle.bip_graph.specs.Texts.{block_lines, counted, line, lists, order_lines};
+ghost use Rattle.bip_defs.specs.Matrix.{Matrix};
+ghost use Rattle.bip_graph.specs.Answers.{orders_of, report_of, where_asked};
+ghost use Rattle.bip_graph.specs.Shown.{Decomposes, decomposition_of};
+ghost use Rattle.bip_graph.specs.Texts.{block_lines, counted, line, lists, order_lines, report_text};
 ghost use Rattle.btf_text.specs.Held.{PoursLines};
+ghost use Rattle.btf_text.specs.Reports.{part_lines, reported};
+ghost use Rattle.sp_ports.specs.Bytes.{Writes};
+ghost use Rattle.sp_ports.specs.Counts.{HasCause, Rose};
 
 use crate::TextBuf;
-use bip_graph::{Blocks, Decomposition};
+use crate::load::{put_head, put_square};
+use crate::pairs::put_pairs;
+use crate::rank::put_part;
+use bip_graph::{Blocks, Decomposition, Matching};
 use sp_ids::{Col, Id, Row};
-use sp_ports::Sink;
+use sp_ports::{Failed, Sink};
 
 /// Goes on with a block: its number and size, and its lists.
 fn put_block<K: Sink>(out: &mut K, buf: &mut TextBuf, number: u64, rows: &[Row], cols: &[Col])
@@ -72,4 +79,55 @@ pub(crate) fn put_orders<K: Sink>(out: &mut K, buf: &mut TextBuf, dec: &Decompos
         blocks.all_cols(),
         parts.vc.as_slice(),
     );
+}
+
+/// Goes on with the lists of the parts and the blocks.
+fn put_parts<K: Sink>(out: &mut K, buf: &mut TextBuf, dec: &Decomposition)
+    ensures { PoursLines (K.taken out.old) (K.faults out.old) buf.old (K.taken out.new) (K.faults out.new) buf.new (part_lines dec.now) }
+{
+    let parts = &dec.parts;
+    put_part(
+        out,
+        buf,
+        b"horizontal",
+        parts.hr.as_slice(),
+        parts.hc.as_slice(),
+    );
+    put_square(out, buf, &dec.blocks);
+    put_blocks(out, buf, &dec.blocks);
+    put_part(
+        out,
+        buf,
+        b"vertical",
+        parts.vr.as_slice(),
+        parts.vc.as_slice(),
+    );
+}
+
+/// Writes the report of a decomposition: the sizes of the matrix, its rank, and the lists of its parts and blocks; with
+/// `order` its rows and columns in the order of the block triangular form, and with `pairs` the pairs of the matching.
+///
+/// `Failed` comes only where a write failed, and then a front of the text was taken. It takes no memory. Work: one look
+/// at each number that is written, and with `pairs` one at each column.
+pub fn write_report<K: Sink>(
+    out: &mut K,
+    buf: &mut TextBuf,
+    dec: &Decomposition,
+    matching: &Matching,
+    order: bool,
+    pairs: bool,
+) -> Result<(), Failed>
+    // Written is what the answer tells; where it is the decomposition of a matrix, that is the matrix's report.
+    ensures bytes { Writes (K.taken out.old) (K.taken out.new) (report_text (reported dec.now order (where_asked pairs matching.now.pairs))) result }
+    ensures of_matrix { (a : Matrix) → Decomposes a dec.now → Writes (K.taken out.old) (K.taken out.new) (report_text (report_of a (decomposition_of dec.now) order (where_asked pairs matching.now.pairs))) result }
+    ensures cause { HasCause (Rose (K.faults out.old) (K.faults out.new)) (K.faults out.old) (K.faults out.new) result }
+{
+    buf.start();
+    buf.put_line(out, b"btf", &[1]);
+    put_head(out, buf, dec);
+    put_parts(out, buf, dec);
+    put_orders(out, buf, dec, order);
+    put_pairs(out, buf, matching, pairs);
+    buf.put_line(out, b"end", &[]);
+    buf.finish(out)
 }

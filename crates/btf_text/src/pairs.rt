@@ -1,0 +1,62 @@
+//! The pairs of a matching.
+
+ghost use Rattle.std.specs.Prelude.{◌≡◌, ◌≤◌, ◌∷◌, ◌<◌, [], length, Some};
+ghost use Rattle.bip_graph.specs.Answers.{where_asked};
+ghost use Rattle.bip_graph.specs.Texts.{pair_line, pair_lines, text_of};
+ghost use Rattle.btf_text.specs.Held.{PoursLines};
+ghost use Rattle.sp_ports.specs.Bytes.{Writes};
+ghost use Rattle.sp_ports.specs.Counts.{HasCause, Rose};
+
+use crate::TextBuf;
+use bip_graph::Matching;
+use itoa::Buffer;
+use sp_ids::{Col, Row};
+use sp_ports::{Failed, Sink};
+
+/// Goes on with the line of a pair.
+fn put_pair<K: Sink>(out: &mut K, buf: &mut TextBuf, row: Row, col: Col)
+    ensures { PoursLines (K.taken out.old) (K.faults out.old) buf.old (K.taken out.new) (K.faults out.new) buf.new (pair_line (row, col) ∷ []) }
+{
+    let mut digits = Buffer::new();
+    let word = digits.format(u64::from(row.0) + 1).as_bytes();
+    buf.put_line(out, word, &[u64::from(col.0) + 1]);
+}
+
+/// Goes on with the pairs, rising by column.
+fn put_list_of_pairs<K: Sink>(out: &mut K, buf: &mut TextBuf, matching: &Matching)
+    ensures { PoursLines (K.taken out.old) (K.faults out.old) buf.old (K.taken out.new) (K.faults out.new) buf.new (pair_lines (Some matching.now.pairs)) }
+{
+    buf.put_line(out, b"pairs", &[u64::from(matching.size())]);
+    for col in 0..matching.cols() {
+        if let Some(row) = matching.row_of(Col(col)) {
+            put_pair(out, buf, row, Col(col));
+        }
+    }
+}
+
+/// Goes on with the pairs, where they are asked for.
+pub(crate) fn put_pairs<K: Sink>(out: &mut K, buf: &mut TextBuf, matching: &Matching, pairs: bool)
+    ensures { PoursLines (K.taken out.old) (K.faults out.old) buf.old (K.taken out.new) (K.faults out.new) buf.new (pair_lines (where_asked pairs matching.now.pairs)) }
+{
+    if !pairs {
+        return;
+    }
+    put_list_of_pairs(out, buf, matching);
+}
+
+/// Writes the pairs of a matching: their number, and a line each of its row and its column, rising by column.
+///
+/// `Failed` comes only where a write failed, and then a front of the text was taken. It takes no memory. Work: one look
+/// at each column.
+pub fn write_pairs<K: Sink>(
+    out: &mut K,
+    buf: &mut TextBuf,
+    matching: &Matching,
+) -> Result<(), Failed>
+    ensures bytes { Writes (K.taken out.old) (K.taken out.new) (text_of (pair_lines (Some matching.now.pairs))) result }
+    ensures cause { HasCause (Rose (K.faults out.old) (K.faults out.new)) (K.faults out.old) (K.faults out.new) result }
+{
+    buf.start();
+    put_list_of_pairs(out, buf, matching);
+    buf.finish(out)
+}
