@@ -16,6 +16,15 @@ pub enum Engine {
 pub enum Job {
     /// The structural rank, with the horizontal part that shows it.
     Rank,
+    /// The whole structural analysis.
+    Analyse {
+        /// Who searches.
+        engine: Engine,
+        /// Whether the two orders are written.
+        order: bool,
+        /// Whether the pairs of the matching are written.
+        pairs: bool,
+    },
 }
 
 /// Why words name no job.

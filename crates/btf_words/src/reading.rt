@@ -3,7 +3,7 @@
 ghost use Rattle.std.specs.Prelude.{◌≡◌, IfOk, IsErrOf, string_bytes, map, Some};
 ghost use Rattle.btf_words.specs.Words.{AreTaken, job_of};
 
-use crate::{Job, WordsError};
+use crate::{Engine, Job, WordsError};
 use std::alloc::Global;
 
 /// The job that the words after the program's name name.
@@ -19,6 +19,12 @@ pub fn read_words(_alloc: Global, words: &[String]) -> Result<Job, WordsError>
     }
     if words[0].as_str() == "rank" {
         Ok(Job::Rank)
+    } else if words[0].as_str() == "analyse" {
+        Ok(Job::Analyse {
+            engine: Engine::Pf,
+            order: false,
+            pairs: false,
+        })
     } else {
         Err(WordsError::Usage)
     }
