@@ -46,6 +46,10 @@ part-empty word rows cols e = sym (ap (λ (n : ℕ). line word (length rows ∷ 
 differs : (n : ℕ) → n ≢ 0 → (n == 0) ≡ false
 differs n ne = elim (eqb_tells n 0) [ inl p ↦ absurd (ne p.1) | inr p ↦ p.0 ]
 
+-- a part of equal lists
+pub same_part : (word : List ℕ) {rows cols r c : List ℕ} → rows ≡ r → cols ≡ c → part word rows cols ≡ part word r c
+same_part word rows_are cols_are = ap₂ (λ (r c : List ℕ). part word r c) rows_are cols_are
+
 -- rows and columns stand for their numbers
 pub same_ids : (list : List ℕ) → map (λ (n : ℕ). n) list ≡ list
 same_ids list = map-id list

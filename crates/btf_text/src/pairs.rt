@@ -1,9 +1,10 @@
 //! The pairs of a matching.
 
-ghost use Rattle.std.specs.Prelude.{◌≡◌, ◌≤◌, ◌∷◌, ◌<◌, [], length, Some};
+ghost use Rattle.std.specs.Prelude.{◌≡◌, ◌≤◌, ◌∷◌, ◌<◌, [], length, map, Some};
 ghost use Rattle.bip_graph.specs.Answers.{where_asked};
 ghost use Rattle.bip_graph.specs.Texts.{pair_line, pair_lines, text_of};
 ghost use Rattle.btf_text.specs.Held.{PoursLines};
+ghost use Rattle.btf_text.specs.Columns.{pairs_at};
 ghost use Rattle.sp_ports.specs.Bytes.{Writes};
 ghost use Rattle.sp_ports.specs.Counts.{HasCause, Rose};
 
@@ -22,15 +23,26 @@ fn put_pair<K: Sink>(out: &mut K, buf: &mut TextBuf, row: Row, col: Col)
     buf.put_line(out, word, &[u64::from(col.0) + 1]);
 }
 
+/// Goes on with the line of a column's pair, if it has a mate.
+fn put_mate<K: Sink>(out: &mut K, buf: &mut TextBuf, matching: &Matching, col: Col)
+    requires { col < matching.now.cols }
+    ensures { PoursLines (K.taken out.old) (K.faults out.old) buf.old (K.taken out.new) (K.faults out.new) buf.new (map pair_line (pairs_at col matching.now.pairs)) }
+{
+    // `size` tells the proof that a column has one pair.
+    let _pairs = matching.size();
+    let Some(row) = matching.row_of(col) else {
+        return;
+    };
+    put_pair(out, buf, row, col);
+}
+
 /// Goes on with the pairs, rising by column.
 fn put_list_of_pairs<K: Sink>(out: &mut K, buf: &mut TextBuf, matching: &Matching)
     ensures { PoursLines (K.taken out.old) (K.faults out.old) buf.old (K.taken out.new) (K.faults out.new) buf.new (pair_lines (Some matching.now.pairs)) }
 {
     buf.put_line(out, b"pairs", &[u64::from(matching.size())]);
     for col in 0..matching.cols() {
-        if let Some(row) = matching.row_of(Col(col)) {
-            put_pair(out, buf, row, Col(col));
-        }
+        put_mate(out, buf, matching, Col(col));
     }
 }
 

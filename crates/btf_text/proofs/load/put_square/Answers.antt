@@ -1,6 +1,3 @@
-use Rattle.std.proofs.Common.{ap, ◌∙◌, length}
-use Rattle.std.proofs.lemmas.List.Concat.{length-flat_map}
-use Rattle.bip_defs.specs.Blocks.{Block}
 use Rattle.btf_text.proofs.Parts.{lines_as, same_square}
 use Rattle.btf_text.proofs.load.put_square.Goals as goal
 

@@ -1,4 +1,3 @@
-use Rattle.std.proofs.Common.{refl}
 use Rattle.btf_text.proofs.Lines.{line_alone, pours-as}
 use Rattle.btf_text.proofs.Orders.{three_ends}
 use Rattle.btf_text.proofs.Pouring.{pours-then}
