@@ -1,3 +1,4 @@
+mod Analyses
 mod Completing
 mod FileAnswers
 mod Jobs

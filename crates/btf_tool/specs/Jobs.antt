@@ -2,9 +2,9 @@
 use Rattle.std.specs.Prelude.{◌≡◌, ℕ, List, []}
 use Rattle.sp_ids.specs.Entries.{Entries, places}
 use Rattle.bip_defs.specs.Matrix.{Matrix, HasPlaces}
-use Rattle.bip_graph.specs.Answers.{IsRankText}
+use Rattle.bip_graph.specs.Answers.{IsAnalysis, IsRankText}
 use Rattle.btf_words.specs.declared.jobs.Job.{Job}
-use Rattle.btf_words.specs.declared.jobs.Job.TheVariants.{Rank}
+use Rattle.btf_words.specs.declared.jobs.Job.TheVariants.{Rank, Analyse}
 use Rattle.mm_defs.specs.Reading.{Call, ReadsAll}
 use Rattle.mm_defs.specs.declared.answers.End.TheVariants.{File}
 use Rattle.sp_ports.specs.Bytes.{WhereTold}
@@ -41,6 +41,7 @@ IsMatrixOf t a = HasPlaces t.rows t.cols (places t) a
 -- the text that a job answers, over the matrix of its input
 abbrev pub IsTextOf : Job → Matrix → List ℕ → Type 0
 IsTextOf Rank a text = IsRankText a text
+IsTextOf (Analyse engine order pairs) a text = IsAnalysis a order pairs text
 
 -- a good file was read to its end, and this is what the job answers
 pub record IsAnswer (job : Job) (call : Call) (text : List ℕ) : Type 0 where

@@ -1,3 +1,4 @@
+pub mod Analyses
 pub mod Devices
 pub mod Jobs
 pub mod Refusals

@@ -5,6 +5,7 @@ ghost use Rattle.btf_tool.specs.Devices.{seen};
 ghost use Rattle.btf_tool.specs.Runs.{Completes, JobSays, Says};
 
 use crate::Refusal;
+use crate::analyse::{Options, analyse};
 use crate::rank::rank;
 use crate::refusals::refuse;
 use btf_words::{Job, WordsError, read_words};
@@ -66,5 +67,17 @@ fn perform<R: Threads + Sync, S: Source, O: Sink, G: Gate>(
 {
     match job {
         Job::Rank => rank(rt, alloc, input, out, gate),
+        Job::Analyse {
+            engine,
+            order,
+            pairs,
+        } => {
+            let options = Options {
+                engine,
+                order,
+                pairs,
+            };
+            analyse(rt, alloc, options, input, out, gate)
+        }
     }
 }

@@ -1,6 +1,7 @@
 //! The whole program over devices that are handed in.
 #![tactic(auto)]
 
+mod analyse;
 mod command;
 mod engines;
 mod neighbours;
@@ -13,6 +14,8 @@ pub use command::run;
 pub use engines::solve;
 pub use refusals::Refusal;
 
+#[cfg(test)]
+mod analyse_tests;
 #[cfg(test)]
 mod engine_tests;
 #[cfg(test)]

@@ -11,23 +11,23 @@ use std::test::Fail;
 use std::thread::Threads;
 
 /// One entry, in 59 bytes.
-const SMALLEST: &[u8] = b"%%MatrixMarket matrix coordinate pattern general\n1 1 1\n1 1\n";
+pub(crate) const SMALLEST: &[u8] = b"%%MatrixMarket matrix coordinate pattern general\n1 1 1\n1 1\n";
 
 /// The text of its rank, in 40 bytes.
 const SMALLEST_TEXT: &[u8] = b"matrix 1 1 1\nrank 1\nhorizontal 0 0\nend\n";
 
 /// How the devices of a run behave: the input's piece and its failing calls, and those of the output.
 #[derive(Clone, Copy)]
-struct Devices<'a> {
-    piece: usize,
-    failing_reads: &'a [u64],
-    room: usize,
-    failing_writes: &'a [u64],
-    err_room: usize,
+pub(crate) struct Devices<'a> {
+    pub(crate) piece: usize,
+    pub(crate) failing_reads: &'a [u64],
+    pub(crate) room: usize,
+    pub(crate) failing_writes: &'a [u64],
+    pub(crate) err_room: usize,
 }
 
 /// Devices that do what is asked.
-const STEADY: Devices<'static> = Devices {
+pub(crate) const STEADY: Devices<'static> = Devices {
     piece: 10,
     failing_reads: &[],
     room: 4096,
@@ -36,7 +36,7 @@ const STEADY: Devices<'static> = Devices {
 };
 
 /// Runs the program on words and a file, and compares the status and what was written.
-fn expect<R: Threads + Abort + AllocGlobal + Sync>(
+pub(crate) fn expect<R: Threads + Abort + AllocGlobal + Sync>(
     rt: &R,
     words: &[&str],
     file: &[u8],
