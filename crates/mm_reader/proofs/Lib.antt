@@ -8,6 +8,8 @@ pub mod Judges
 pub mod LineSteps
 pub mod Lookups
 pub mod Numbers
+pub mod PlainLaws
+pub mod PlainSteps
 pub mod RestLaws
 pub mod StepLaws
 pub mod StreamLaws
