@@ -330,13 +330,11 @@ fn take_plain(m: &mut Machine, piece: &[u8], at: usize) -> Result<usize, Stop>
         None => return Ok(at),
         Some(plain) => plain,
     };
-    let number = m.number + 1;
-    let phase = match after_plain(header, size, done, plain, number, &mut m.triples) {
+    m.phase = match after_plain(header, size, done, plain, m.number + 1, &mut m.triples) {
         Err(stop) => return Err(stop),
         Ok(phase) => phase,
     };
-    m.phase = phase;
-    m.number = number;
+    m.number += 1;
     Ok(plain.next)
 }
 
