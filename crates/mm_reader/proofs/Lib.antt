@@ -9,6 +9,8 @@ pub mod Lacking
 pub mod LineSteps
 pub mod Lookups
 pub mod Numbers
+pub mod PlainLaws
+pub mod PlainSteps
 pub mod RestLaws
 pub mod StepLaws
 pub mod StreamLaws

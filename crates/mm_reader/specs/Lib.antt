@@ -6,3 +6,4 @@ pub mod Additions
 pub mod Standing
 pub mod Windows
 pub mod Inputs
+pub mod Plain

@@ -1,5 +1,5 @@
 -- What the machine stands for between two bytes.
-use Rattle.std.specs.Prelude.{◌≡◌, ◌+◌, ℕ, true, false, if◌then◌else◌, List, [], ◌∷◌, ◌++◌, length, max, slice_get, Some}
+use Rattle.std.specs.Prelude.{◌≡◌, ◌≤◌, ◌+◌, ◌-◌, ℕ, true, false, if◌then◌else◌, List, [], ◌∷◌, ◌++◌, length, take, drop, max, slice_get, Option, Some}
 use Rattle.sp_ids.specs.Entries as entries
 use Rattle.mm_defs.specs.declared.answers.End.{End}
 use Rattle.mm_defs.specs.declared.answers.End.TheVariants.{LastEntry}
@@ -10,7 +10,7 @@ use Rattle.mm_reader.specs.declared.machine.Phase.{Phase}
 use Rattle.mm_reader.specs.declared.machine.Stop.{Stop}
 use Rattle.mm_reader.specs.declared.machine.Stop.TheVariants as stops
 use Rattle.mm_reader.specs.Lines.{IsLine}
-use Rattle.mm_reader.specs.Machine.{HasLines, is_complete}
+use Rattle.mm_reader.specs.Machine.{HasLines, IsReady, is_complete}
 
 -- how many lines have begun
 abbrev pub begun_lines : Machine → ℕ
@@ -74,3 +74,16 @@ pub record IsWhole (end : End) (bytes : List ℕ) (t : entries.Entries) : Type 0
 abbrev pub StopsAtEnd : End → List ℕ → Stop → Type 0
 StopsAtEnd end bytes (stops.Bad line kind) = (first_fault end true bytes ≡ Some (record { line = line; kind = kind })) × (behind line bytes ≡ [])
 StopsAtEnd end bytes stops.Memory = Unit {0}
+
+-- The machine goes on from one place of a piece to another: it got the bytes between.
+pub record GoesOn (old new : Machine) (piece : List ℕ) (at next : ℕ) : Type 0 where
+  pub in_order : at ≤ next
+  pub within : next ≤ length piece
+  pub number : begun_lines new + at ≤ begun_lines old + next
+  pub ready : IsReady new.phase new.triples
+  pub closed : (end : End) → is_complete end old.phase ≡ false → is_complete end new.phase ≡ true → new.begun ≡ false
+  pub stands : (end : End) (bytes : List ℕ) → IsAfter end old bytes → is_complete end old.phase ≡ false → IsAfter end new (bytes ++ take (next - at) (drop at piece))
+
+-- the machine stops in what stands behind this place of a piece
+abbrev pub Halts : Machine → List ℕ → ℕ → Stop → Type 0
+Halts m piece at stop = (end : End) (bytes : List ℕ) → IsAfter end m bytes → is_complete end m.phase ≡ false → StopsWithin end bytes (drop at piece) stop

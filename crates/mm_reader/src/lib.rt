@@ -6,6 +6,7 @@ mod judge;
 mod line;
 mod machine;
 mod number;
+mod plain;
 mod reader;
 mod rest;
 mod text;

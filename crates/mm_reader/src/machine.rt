@@ -1,18 +1,20 @@
 //! The reader's machine: what each line is, by the lines before it.
 
-ghost use Rattle.std.specs.Prelude.{◌≡◌, ◌≤◌, ◌<◌, ◌+◌, ◌++◌, ℕ, nat_abs, pos, true, false, List, [], ◌∷◌, length, take, IfOk, OnOk, MatchResult, ◌-◌, ◌^◌};
+ghost use Rattle.std.specs.Prelude.{◌≡◌, ◌≤◌, ◌<◌, ◌+◌, ◌++◌, ℕ, nat_abs, pos, true, false, List, [], ◌∷◌, length, take, IfOk, IfErr, IfSome, OnOk, MatchResult, ◌-◌, ◌^◌};
 ghost use Rattle.sp_ids.specs.Entries.{Entries};
 ghost use Rattle.mm_defs.specs.Words.{words};
-ghost use Rattle.mm_defs.specs.Header.{is_general, is_integer_field};
+ghost use Rattle.mm_defs.specs.Header.{is_general, is_integer_field, value_words};
 ghost use Rattle.mm_defs.specs.File.{mirror, line_faults, later_lines};
 ghost use Rattle.mm_reader.specs.Lines.{IsLine};
 ghost use Rattle.mm_reader.specs.Judging.{triple_of};
 ghost use Rattle.mm_reader.specs.Machine.{HasBanner, HasEntries, HasLines, HasRoom, IsReady, Steps, is_complete};
-ghost use Rattle.mm_reader.specs.Standing.{begun_lines, IsBetween, IsAfter, IsAll, IsWhole, Lacks, StopsAt, StopsIn, StopsWithin, StopsAtEnd};
+ghost use Rattle.mm_reader.specs.Standing.{begun_lines, IsBetween, IsAfter, IsAll, IsWhole, GoesOn, Halts, Lacks, StopsAt, StopsIn, StopsWithin, StopsAtEnd};
 ghost use Rattle.mm_reader.specs.Additions.{with_entries};
+ghost use Rattle.mm_reader.specs.Plain.{AwaitsPlain, IsPlainLine};
 
-use crate::judge::{Entry, judge_banner, judge_entry, judge_size};
+use crate::judge::{Entry, judge_banner, judge_entry, judge_place, judge_size};
 use crate::line::LineSoFar;
+use crate::plain::{plain_line, PlainLine};
 use mm_defs::{End, Header, Kind, Size, Symmetry};
 use sp_ids::{Col, Field, OutOfMemory, Row, Triples};
 use std::alloc::Global;
@@ -256,6 +258,108 @@ pub fn take(alloc: Global, m: &mut Machine, byte: u8) -> Result<(), Stop>
     Ok(())
 }
 
+/// Where entries without values are to come and no line has begun, what the banner and the size line said, and how many
+/// entries have come.
+fn awaits_plain(m: &Machine) -> Option<(Header, Size, u32)>
+    ensures { IfSome result (λ x. AwaitsPlain m.now x.0 x.1 x.2) }
+{
+    if m.begun {
+        return None;
+    }
+    match m.phase {
+        Phase::Entries { header, size, done } => match header.field {
+            Field::Pattern => {
+                if done < size.count {
+                    Some((header, size, done))
+                } else {
+                    None
+                }
+            }
+            _ => None,
+        },
+        _ => None,
+    }
+}
+
+/// An entry line of the usual form has come.
+fn after_plain(
+    header: Header,
+    size: Size,
+    done: u32,
+    plain: PlainLine,
+    number: u64,
+    triples: &mut Triples,
+) -> Result<Phase, Stop>
+    requires room { HasRoom header size done triples.old }
+    requires low { done < size.count }
+    requires no_values { value_words header.field ≡ 0 }
+    ensures steps { (end : End) (ls : List (List ℕ)) (piece : List ℕ) (at : ℕ) (p : IsPlainLine piece at plain.row plain.col plain.next)
+        → HasBanner header ls → HasEntries header size done triples.old (later_lines ls) → line_faults end ls ≡ [] → number ≡ length ls + 1
+        → Steps end (ls ++ p.line ∷ []) triples.new result }
+    ensures ready { IfOk result (λ phase. IsReady phase triples.new) }
+{
+    let entry = match judge_place(header, size, plain.row, plain.col, None) {
+        Err(kind) => return Err(Stop::Bad { line: number, kind }),
+        Ok(entry) => entry,
+    };
+    match add(header.symmetry, entry, triples) {
+        Err(_) => Err(Stop::Memory),
+        Ok(()) => Ok(Phase::Entries {
+            header,
+            size,
+            done: done + 1,
+        }),
+    }
+}
+
+/// Takes the entry line of the usual form that begins here, if it does and lies whole in the piece; else nothing. It
+/// gives where the machine goes on.
+fn take_plain(m: &mut Machine, piece: &[u8], at: usize) -> Result<usize, Stop>
+    requires place { at ≤ length piece.now }
+    requires ready { IsReady m.old.phase m.old.triples }
+    requires room { begun_lines m.old < 2 ^ 64 - 1 }
+    ensures ok { IfOk result (GoesOn m.old m.new piece.now at) }
+    ensures same { IfOk result (λ next. next ≡ at → m.new ≡ m.old) }
+    ensures err { IfErr result (Halts m.old piece.now at) }
+{
+    let (header, size, done) = match awaits_plain(m) {
+        None => return Ok(at),
+        Some(entries) => entries,
+    };
+    let plain = match plain_line(piece, at) {
+        None => return Ok(at),
+        Some(plain) => plain,
+    };
+    m.phase = match after_plain(header, size, done, plain, m.number + 1, &mut m.triples) {
+        Err(stop) => return Err(stop),
+        Ok(phase) => phase,
+    };
+    m.number += 1;
+    Ok(plain.next)
+}
+
+/// Takes a line of the usual form, or a byte.
+fn step(alloc: Global, m: &mut Machine, piece: &[u8], at: usize) -> Result<usize, Stop>
+    requires place { at < length piece.now }
+    requires ready { IsReady m.old.phase m.old.triples }
+    requires room { begun_lines m.old < 2 ^ 64 - 1 }
+    ensures ok { IfOk result (GoesOn m.old m.new piece.now at) }
+    ensures more { IfOk result (λ next. at < next) }
+    ensures err { IfErr result (Halts m.old piece.now at) }
+{
+    let next = match take_plain(m, piece, at) {
+        Err(stop) => return Err(stop),
+        Ok(next) => next,
+    };
+    if next > at {
+        return Ok(next);
+    }
+    if let Err(stop) = take(alloc, m, piece[at]) {
+        return Err(stop);
+    }
+    Ok(at + 1)
+}
+
 /// A piece comes. It gives how many of its bytes were used: all, unless the matrix is read and what follows is not
 /// judged.
 pub fn feed(alloc: Global, m: &mut Machine, end: End, piece: &[u8]) -> Result<usize, Stop>
@@ -272,10 +376,10 @@ pub fn feed(alloc: Global, m: &mut Machine, end: End, piece: &[u8]) -> Result<us
 {
     let mut at = 0;
     while at < piece.len() {
-        if let Err(stop) = take(alloc, m, piece[at]) {
-            return Err(stop);
-        }
-        at += 1;
+        at = match step(alloc, m, piece, at) {
+            Err(stop) => return Err(stop),
+            Ok(next) => next,
+        };
         if is_complete(end, m.phase) {
             return Ok(at);
         }

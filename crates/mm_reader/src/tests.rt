@@ -69,9 +69,16 @@ fn filled(alloc: Global, byte: u8, count: usize) -> Result<Vec<u8>, AllocError> 
     Vec::from_elem(alloc, byte, count)
 }
 
+/// A pattern file of these lines.
+fn pattern_file(alloc: Global, lines: &[u8]) -> Result<Vec<u8>, AllocError> {
+    let mut bytes = b"%%MatrixMarket matrix coordinate pattern general\n".to_vec(alloc)?;
+    bytes.extend_from_slice(lines)?;
+    Ok(bytes)
+}
+
 /// A pattern file of one row and one column whose entry line is this.
 fn with_entry(alloc: Global, line: &[u8]) -> Result<Vec<u8>, AllocError> {
-    let mut bytes = b"%%MatrixMarket matrix coordinate pattern general\n1 1 1\n".to_vec(alloc)?;
+    let mut bytes = pattern_file(alloc, b"1 1 1\n")?;
     bytes.extend_from_slice(line)?;
     Ok(bytes)
 }
@@ -167,6 +174,26 @@ fn values_and_mirrors(rt: HostRuntime) -> Result<(), Fail> {
 }
 
 #[test]
+fn the_first_bad_line_is_told(rt: HostRuntime) -> Result<(), Fail> {
+    let alloc = rt.alloc();
+    let table = [
+        (b"1 1 1\n2 1\n".as_slice(), 3, Kind::RowRange),
+        (b"1 1 1\n1 1\n% c\n1 1\n1 x\n".as_slice(), 5, Kind::Trailing),
+        (b"1 1 1\n1\x001\n".as_slice(), 3, Kind::EntryWords),
+        (b"1 1 1\n\xff 1\n".as_slice(), 3, Kind::RowNumber),
+        (b"1 1 1\n1 1\x00\n".as_slice(), 3, Kind::ColumnNumber),
+        (b"1 1 134217728\n1 1\n".as_slice(), 3, Kind::MissingEntries),
+    ];
+    for (lines, line, kind) in table {
+        assert_eq!(rt;
+            refusal(read_all(alloc, &pattern_file(alloc, lines)?)),
+            Some(ReadError::Malformed { line, kind })
+        );
+    }
+    Ok(())
+}
+
+#[test]
 fn lines_may_be_longer_than_the_buffer(rt: HostRuntime) -> Result<(), Fail> {
     let alloc = rt.alloc();
     let mut blanks = with_entry(alloc, b"1")?;
@@ -185,14 +212,27 @@ fn lines_may_be_longer_than_the_buffer(rt: HostRuntime) -> Result<(), Fail> {
         read_all(alloc, &padded)?.places(),
         [(Row(0), Col(0))].as_slice()
     );
-    let mut nines = b"%%MatrixMarket matrix coordinate pattern general\n".to_vec(alloc)?;
-    nines.extend_from_slice(&filled(alloc, b'9', 400)?)?;
-    nines.extend_from_slice(b" 1 0\n")?;
-    let rows = ReadError::Limit {
+    Ok(())
+}
+
+#[test]
+fn numbers_may_have_any_count_of_digits(rt: HostRuntime) -> Result<(), Fail> {
+    let alloc = rt.alloc();
+    let nines = filled(alloc, b'9', 400)?;
+    let mut rows = pattern_file(alloc, &nines)?;
+    rows.extend_from_slice(b" 1 0\n")?;
+    let past_limit = ReadError::Limit {
         line: 2,
         kind: Kind::Rows,
     };
-    assert_eq!(rt; refusal(read_all(alloc, &nines)), Some(rows));
+    assert_eq!(rt; refusal(read_all(alloc, &rows)), Some(past_limit));
+    let mut row = with_entry(alloc, &nines)?;
+    row.extend_from_slice(b" 1\n")?;
+    let past_rows = ReadError::Malformed {
+        line: 3,
+        kind: Kind::RowRange,
+    };
+    assert_eq!(rt; refusal(read_all(alloc, &row)), Some(past_rows));
     Ok(())
 }
 

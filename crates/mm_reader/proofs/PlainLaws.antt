@@ -1,0 +1,285 @@
+-- Runs of bytes, and entry lines of the usual form.
+use Rattle.std.proofs.Common.{◌≡◌, ◌≢◌, ℕ, suc, ◌+◌, ◌-◌, ◌*◌, ◌<◌, ◌≤◌, Bool, true, false, not, ◌&&◌, ◌==◌, List, [], ◌∷◌, ◌++◌, length, take, drop, get_or, refl, sym, ap, subst, ◌∙◌, arith, append-nil, append_assoc, length-append, length-drop, take-append-drop, drop-drop, get_or-drop, take-add, filter, length-take-le, leb-true, eqb-true, ne_eqb, ◌^◌, ◌||◌}
+use Rattle.std.specs.List.{list_all}
+use Rattle.std.specs.Char.{is_ascii_digit}
+use Rattle.std.specs.Str.{all_ascii_digits}
+use Rattle.std.proofs.lemmas.List.{take_more}
+use Rattle.std.proofs.lemmas.List.Folds.{list_all-append}
+use Rattle.std.proofs.lemmas.Int.Digits.{digits_value_push}
+use Rattle.std.specs.List.{slice_split}
+use Rattle.sp_ids.specs.declared.triples.Field.{Field}
+use Rattle.sp_ids.specs.declared.triples.Field.TheVariants.{Real, Complex, Integer, Pattern}
+use Rattle.mm_defs.specs.Header.{value_words, is_integer_field}
+use Rattle.mm_defs.specs.Words.{is_lf, is_blank, has_bytes, words, lines, open_line, but_last, last_part, is_skipped}
+use Rattle.mm_defs.proofs.Splitting.{split-append, but_last-append, last_part-append}
+use Rattle.mm_defs.proofs.Lines.{lines-push_lf, open_line-push_lf}
+use Rattle.mm_defs.specs.Numbers.{value, unsigned, is_number, number}
+use Rattle.mm_reader.specs.Tokens.{capped}
+use Rattle.mm_reader.proofs.Words.{words-none}
+use Rattle.mm_reader.specs.Plain.{between, IsRun, IsDigits, IsPlainLine}
+use Rattle.mm_reader.proofs.Numbers.{all_ascii_digits-push, digit_at}
+
+and_left : (a b : Bool) → (a && b) ≡ true → a ≡ true
+and_left true b h = refl
+and_left false b h = h
+
+and_right : (a b : Bool) → (a && b) ≡ true → b ≡ true
+and_right true b h = h
+and_right false b h = absurd cc
+
+pub between-none : (bytes : List ℕ) (from : ℕ) → between bytes from from ≡ []
+between-none bytes from = let e : from - from ≡ 0 = omega arith in rw e refl
+
+pub between-push : (bytes : List ℕ) (from at : ℕ) → from ≤ at → at < length bytes → between bytes from (at + 1) ≡ between bytes from at ++ get_or bytes at 0 ∷ []
+between-push bytes from at h low =
+    let e : (at + 1) - from ≡ (at - from) + 1 = omega arith in
+    let n = length-drop from bytes in
+    let k : at - from < length (drop from bytes) = omega arith in
+    let g : get_or (drop from bytes) (at - from) 0 ≡ get_or bytes at 0 = get_or-drop from bytes (at - from) 0 ∙ ap (λ i. get_or bytes i 0) (omega arith) in
+    ap (λ i. take i (drop from bytes)) e ∙ take_more (drop from bytes) (at - from) 0 k ∙ ap (λ b. between bytes from at ++ b ∷ []) g
+
+pub run_none : (sort : ℕ → Bool) (bytes : List ℕ) (from : ℕ) → from ≤ length bytes → IsRun sort bytes from from
+run_none sort bytes from h = record { in_order = omega arith; within = h; all = rw (between-none bytes from) refl }
+
+both : (a b : Bool) → a ≡ true → b ≡ true → (a && (b && true)) ≡ true
+both true true x y = refl
+both true false x y = absurd cc
+both false b x y = absurd cc
+
+pub run_more : (sort : ℕ → Bool) (bytes : List ℕ) (from at : ℕ) → IsRun sort bytes from at → at < length bytes → sort (get_or bytes at 0) ≡ true → IsRun sort bytes from (at + 1)
+run_more sort bytes from at r low yes_it_is =
+    let e = between-push bytes from at r.in_order low in
+    let k = list_all-append sort (between bytes from at) (get_or bytes at 0 ∷ []) in
+    record {
+      in_order = omega (arith, r.in_order);
+      within = omega arith;
+      all = rw (e, k) (both (list_all sort (between bytes from at)) (sort (get_or bytes at 0)) r.all yes_it_is);
+    }
+
+pub digits_none : (bytes : List ℕ) (from : ℕ) → from ≤ length bytes → IsDigits bytes from from 0
+digits_none bytes from h = record { in_order = omega arith; within = h; all = rw (between-none bytes from) refl; value_is = rw (between-none bytes from) refl; small = omega arith }
+
+both_of : (a b : Bool) → a ≡ true → b ≡ true → (a && b) ≡ true
+both_of true true x y = refl
+both_of true false x y = absurd cc
+both_of false b x y = absurd cc
+
+pub digits_more : (bytes : List ℕ) (from at n : ℕ) → IsDigits bytes from at n → at < length bytes → n ≤ 100000000000000000 → is_ascii_digit (get_or bytes at 0) ≡ true
+    → IsDigits bytes from (at + 1) (n * 10 + (get_or bytes at 0 - 48))
+digits_more bytes from at n d low few yes_it_is =
+    let high : get_or bytes at 0 ≤ 57 = leb-true _ _ (and_right _ _ yes_it_is) in
+    let e = between-push bytes from at d.in_order low in
+    let k = all_ascii_digits-push (between bytes from at) (get_or bytes at 0) in
+    let v : value (between bytes from at ++ get_or bytes at 0 ∷ []) ≡ value (between bytes from at) * 10 + (get_or bytes at 0 - 48) =
+        digits_value_push 10 (between bytes from at) (get_or bytes at 0) ∙ rw (digit_at (get_or bytes at 0) yes_it_is) refl in
+    record {
+      in_order = omega (arith, d.in_order);
+      within = omega arith;
+      all = rw (e, k) (both_of (all_ascii_digits (between bytes from at)) (is_ascii_digit (get_or bytes at 0)) d.all yes_it_is);
+      value_is = rw (e, v) (ap (λ x. x * 10 + (get_or bytes at 0 - 48)) d.value_is);
+      small = omega arith;
+    }
+
+-- ---- bytes by their sorts
+
+between_join : (bytes : List ℕ) (from mid to : ℕ) → from ≤ mid → mid ≤ to → between bytes from to ≡ between bytes from mid ++ between bytes mid to
+between_join bytes from mid to h k =
+    let e : to - from ≡ (mid - from) + (to - mid) = omega arith in
+    let m : from + (mid - from) ≡ mid = omega arith in
+    ap (λ i. take i (drop from bytes)) e ∙ take-add (mid - from) (to - mid) (drop from bytes)
+    ∙ ap (λ (t : List ℕ). between bytes from mid ++ take (to - mid) t) (drop-drop (mid - from) from bytes ∙ ap (λ i. drop i bytes) m)
+
+pub split_at : (bytes : List ℕ) (from to : ℕ) → from ≤ to → drop from bytes ≡ between bytes from to ++ drop to bytes
+split_at bytes from to h =
+    let e : from + (to - from) ≡ to = omega arith in
+    sym (take-append-drop (to - from) (drop from bytes)) ∙ ap (λ (t : List ℕ). between bytes from to ++ t) (drop-drop (to - from) from bytes ∙ ap (λ k. drop k bytes) e)
+
+no_bytes : (bytes : List ℕ) (from to : ℕ) → from ≤ to → to ≤ length bytes → between bytes from to ≡ [] → from ≡ to
+no_bytes bytes from to h k e =
+    let n : length (between bytes from to) ≡ 0 = ap length e in
+    let d = length-drop from bytes in
+    let m : to - from ≤ length (drop from bytes) = omega arith in
+    let l = length-take-le (to - from) (drop from bytes) m in
+    omega arith
+
+-- neither blanks nor LFs; and no LFs
+abbrev visible : ℕ → Bool
+visible b = not (is_lf b) && not (is_blank b)
+
+abbrev no_lf : ℕ → Bool
+no_lf b = not (is_lf b)
+
+weaker : (p q : ℕ → Bool) → ((b : ℕ) → p b ≡ true → q b ≡ true) → (xs : List ℕ) → list_all p xs ≡ true → list_all q xs ≡ true
+weaker p q f [] h = refl
+weaker p q f (x ∷ xs) h = both_of (q x) (list_all q xs) (f x (and_left (p x) (list_all p xs) h)) (weaker p q f xs (and_right (p x) (list_all p xs) h))
+
+all_append : (p : ℕ → Bool) (xs ys : List ℕ) → list_all p xs ≡ true → list_all p ys ≡ true → list_all p (xs ++ ys) ≡ true
+all_append p xs ys a b = list_all-append p xs ys ∙ both_of (list_all p xs) (list_all p ys) a b
+
+digit_visible : (b : ℕ) → is_ascii_digit b ≡ true → visible b ≡ true
+digit_visible b h =
+    let low : 48 ≤ b = leb-true _ _ (and_left _ _ h) in
+    rw (ne_eqb b 10 (omega arith), ne_eqb b 32 (omega arith), ne_eqb b 9 (omega arith), ne_eqb b 13 (omega arith)) refl
+
+digits_visible : (xs : List ℕ) → all_ascii_digits xs ≡ true → list_all visible xs ≡ true
+digits_visible [] h = refl
+digits_visible (x ∷ xs) h = both_of (visible x) (list_all visible xs) (digit_visible x (and_left _ _ h)) (digits_visible xs (and_right _ _ h))
+
+not_true : (a : Bool) → not a ≡ true → a ≡ false
+not_true true h = absurd cc
+not_true false h = refl
+
+visible_no_lf : (b : ℕ) → visible b ≡ true → no_lf b ≡ true
+visible_no_lf b h = and_left (not (is_lf b)) (not (is_blank b)) h
+
+visible_no_blank : (b : ℕ) → visible b ≡ true → is_blank b ≡ false
+visible_no_blank b h = not_true (is_blank b) (and_right (not (is_lf b)) (not (is_blank b)) h)
+
+blank_no_lf : (b : ℕ) → is_blank b ≡ true → no_lf b ≡ true
+blank_no_lf b h = by (is_lf b) refl
+  where
+  by : (e : Bool) → is_lf b ≡ e → no_lf b ≡ true
+  by false e = rw e refl
+  by true e = let k : b ≡ 10 = eqb-true b 10 e in let n : is_blank 10 ≡ true = rw k at h in absurd cc
+
+-- ---- words from the front
+
+words-skip : (b : ℕ) (rest : List ℕ) → is_blank b ≡ true → words (b ∷ rest) ≡ words rest
+unfolding words
+words-skip b rest e = rw e refl
+
+words-skip_all : (blanks rest : List ℕ) → list_all is_blank blanks ≡ true → words (blanks ++ rest) ≡ words rest
+words-skip_all [] rest h = refl
+words-skip_all (b ∷ blanks) rest h = words-skip b (blanks ++ rest) (and_left _ _ h) ∙ words-skip_all blanks rest (and_right _ _ h)
+
+split_none : (p : ℕ → Bool) (xs : List ℕ) → list_all (λ b. not (p b)) xs ≡ true → slice_split p xs ≡ xs ∷ []
+split_none p [] h = refl
+split_none p (x ∷ xs) h =
+    let e : p x ≡ false = not_true (p x) (and_left _ _ h) in
+    let k = split_none p xs (and_right _ _ h) in
+    rw (e, k) refl
+
+split_first : (p : ℕ → Bool) (xs : List ℕ) (y : ℕ) (ys : List ℕ) → list_all (λ b. not (p b)) xs ≡ true → p y ≡ true → slice_split p (xs ++ y ∷ ys) ≡ xs ∷ slice_split p ys
+split_first p [] y ys h e = rw e refl
+split_first p (x ∷ xs) y ys h e =
+    let f : p x ≡ false = not_true (p x) (and_left _ _ h) in
+    let k = split_first p xs y ys (and_right _ _ h) e in
+    rw (f, k) refl
+
+no_blank_of : (b : ℕ) → visible b ≡ true → not (is_blank b) ≡ true
+no_blank_of b h = and_right (not (is_lf b)) (not (is_blank b)) h
+
+words-first : (a : ℕ) (w : List ℕ) (b : ℕ) (rest : List ℕ) → list_all visible (a ∷ w) ≡ true → is_blank b ≡ true → words ((a ∷ w) ++ b ∷ rest) ≡ (a ∷ w) ∷ words rest
+unfolding words
+words-first a w b rest h e = ap (filter has_bytes) (split_first is_blank (a ∷ w) b rest (weaker visible (λ x. not (is_blank x)) no_blank_of (a ∷ w) h) e)
+
+words-only : (a : ℕ) (w : List ℕ) → list_all visible (a ∷ w) ≡ true → words (a ∷ w) ≡ (a ∷ w) ∷ []
+unfolding words
+words-only a w h = ap (filter has_bytes) (split_none is_blank (a ∷ w) (weaker visible (λ x. not (is_blank x)) no_blank_of (a ∷ w) h))
+
+words-last : (a : ℕ) (w blanks : List ℕ) → list_all visible (a ∷ w) ≡ true → list_all is_blank blanks ≡ true → words ((a ∷ w) ++ blanks) ≡ (a ∷ w) ∷ []
+words-last a w [] h k = ap words (append-nil (a ∷ w)) ∙ words-only a w h
+words-last a w (b ∷ blanks) h k =
+    words-first a w b blanks h (and_left _ _ k)
+    ∙ ap (λ (t : List (List ℕ)). (a ∷ w) ∷ t) (sym (ap words (append-nil blanks)) ∙ words-skip_all blanks [] (and_right _ _ k) ∙ words-none)
+
+two_words : (w1 b1 w2 b2 : List ℕ) → has_bytes w1 ≡ true → has_bytes b1 ≡ true → has_bytes w2 ≡ true
+    → list_all visible w1 ≡ true → list_all is_blank b1 ≡ true → list_all visible w2 ≡ true → list_all is_blank b2 ≡ true → words (w1 ++ (b1 ++ (w2 ++ b2))) ≡ w1 ∷ w2 ∷ []
+two_words [] b1 w2 b2 h1 h2 h3 v1 v2 v3 v4 = absurd cc
+two_words (a ∷ w1) [] w2 b2 h1 h2 h3 v1 v2 v3 v4 = absurd cc
+two_words (a ∷ w1) (b ∷ b1) [] b2 h1 h2 h3 v1 v2 v3 v4 = absurd cc
+two_words (a ∷ w1) (b ∷ b1) (d ∷ w2) b2 h1 h2 h3 v1 v2 v3 v4 =
+    words-first a w1 b (b1 ++ ((d ∷ w2) ++ b2)) v1 (and_left _ _ v2)
+    ∙ ap (λ (t : List (List ℕ)). (a ∷ w1) ∷ t) (words-skip_all b1 ((d ∷ w2) ++ b2) (and_right _ _ v2) ∙ words-last d w2 b2 v3 v4)
+
+-- digits are a number without a sign
+unsigned_digits : (w : List ℕ) → all_ascii_digits w ≡ true → unsigned w ≡ w
+unsigned_digits [] h = refl
+unsigned_digits (b ∷ w) h =
+    let low : 48 ≤ b = leb-true _ _ (and_left _ _ (and_left _ _ h)) in
+    rw (ne_eqb b 43 (omega arith)) refl
+
+digits_number : (w : List ℕ) → has_bytes w ≡ true → all_ascii_digits w ≡ true → is_number w ≡ true
+digits_number w s h = rw (unsigned_digits w h) (both_of (has_bytes w) (all_ascii_digits w) s h)
+
+digits_value_is : (w : List ℕ) (n : ℕ) → all_ascii_digits w ≡ true → n ≡ value w → n < 2 ^ 63 → n ≡ capped (number w)
+digits_value_is w n h e small = let u = unsigned_digits w h in let k : n ≡ number w = e ∙ sym (ap value u) in omega arith
+
+some_bytes : (bytes : List ℕ) (from to : ℕ) → from ≤ to → to ≤ length bytes → to ≢ from → has_bytes (between bytes from to) ≡ true
+some_bytes bytes from to h k ne = by (between bytes from to) refl
+  where
+  by : (xs : List ℕ) → between bytes from to ≡ xs → has_bytes xs ≡ true
+  by [] e = absurd (ne (sym (no_bytes bytes from to h k e)))
+  by (x ∷ xs) e = refl
+
+-- the line that was found
+pub plain_found : (bytes : List ℕ) (from e1 s2 e2 end row col : ℕ) → IsDigits bytes from e1 row → e1 ≢ from → IsRun is_blank bytes e1 s2 → s2 ≢ e1
+    → IsDigits bytes s2 e2 col → e2 ≢ s2 → IsRun is_blank bytes e2 end → end < length bytes → get_or bytes end 0 ≡ 10 → IsPlainLine bytes from row col (end + 1)
+plain_found bytes from e1 s2 e2 end row col d1 n1 r1 n2 d2 n3 r2 low lf =
+    let w1 : List ℕ = between bytes from e1 in
+    let b1 : List ℕ = between bytes e1 s2 in
+    let w2 : List ℕ = between bytes s2 e2 in
+    let b2 : List ℕ = between bytes e2 end in
+    let h1 = some_bytes bytes from e1 d1.in_order d1.within n1 in
+    let h2 = some_bytes bytes e1 s2 r1.in_order r1.within n2 in
+    let h3 = some_bytes bytes s2 e2 d2.in_order d2.within n3 in
+    let v1 = digits_visible w1 d1.all in
+    let v3 = digits_visible w2 d2.all in
+    let line : List ℕ = w1 ++ (b1 ++ (w2 ++ b2)) in
+    let all_line : list_all no_lf line ≡ true =
+        all_append no_lf w1 (b1 ++ (w2 ++ b2)) (weaker visible no_lf visible_no_lf w1 v1)
+        (all_append no_lf b1 (w2 ++ b2) (weaker is_blank no_lf blank_no_lf b1 r1.all)
+        (all_append no_lf w2 b2 (weaker visible no_lf visible_no_lf w2 v3) (weaker is_blank no_lf blank_no_lf b2 r2.all))) in
+    let ordered : from ≤ end = omega (arith, d1.in_order, r1.in_order, d2.in_order, r2.in_order) in
+    let whole : between bytes from end ≡ line =
+        between_join bytes from e1 end d1.in_order (omega (arith, r1.in_order, d2.in_order, r2.in_order)) ∙ ap (λ (t : List ℕ). w1 ++ t)
+        (between_join bytes e1 s2 end r1.in_order (omega (arith, d2.in_order, r2.in_order)) ∙ ap (λ (t : List ℕ). b1 ++ t) (between_join bytes s2 e2 end d2.in_order r2.in_order)) in
+    record {
+      line = line;
+      first = w1;
+      second = w2;
+      in_order = omega arith;
+      within = omega arith;
+      line_is = between-push bytes from end ordered low ∙ ap (λ (t : List ℕ). t ++ get_or bytes end 0 ∷ []) whole ∙ ap (λ b. line ++ b ∷ []) lf;
+      no_lf = split_none is_lf line all_line;
+      words_are = two_words w1 b1 w2 b2 h1 h2 h3 v1 r1.all v3 r2.all;
+      first_is = digits_number w1 h1 d1.all;
+      second_is = digits_number w2 h3 d2.all;
+      row_is = digits_value_is w1 row d1.all d1.value_is d1.small;
+      col_is = digits_value_is w2 col d2.all d2.value_is d2.small;
+    }
+
+-- ---- what an entry line of the usual form does
+
+pub not_integer : (f : Field) → value_words f ≡ 0 → is_integer_field f ≡ true → ⊥
+not_integer Real h e = cc
+not_integer Complex h e = cc
+not_integer Integer h e = absurd (omega arith)
+not_integer Pattern h e = cc
+
+number_first : (b : ℕ) (bs : List ℕ) (c : Bool) → (b == 37) ≡ c → is_number (b ∷ bs) ≡ true → c ≡ false
+number_first b bs false e h = refl
+number_first b bs true e h =
+    let k : b ≡ 37 = eqb-true b 37 e in
+    let n : is_number (37 ∷ bs) ≡ true = rw k at h in
+    absurd cc
+
+pub number_kept : (w : List ℕ) (ws : List (List ℕ)) → is_number w ≡ true → is_skipped (w ∷ ws) ≡ false
+number_kept [] ws h = absurd cc
+number_kept (b ∷ bs) ws h = number_first b bs (b == 37) refl h
+
+pub plain_count : (f : Field) (a b : List ℕ) → value_words f ≡ 0 → (length (a ∷ b ∷ []) == 2 + value_words f) ≡ true
+plain_count f a b h = rw h refl
+
+-- a whole line behind lines that have ended
+pub whole_line : (bytes line : List ℕ) → open_line bytes ≡ [] → slice_split is_lf line ≡ line ∷ [] → lines false (bytes ++ (line ++ 10 ∷ [])) ≡ lines false bytes ++ line ∷ []
+unfolding lines open_line
+whole_line bytes line closed none =
+    let s : slice_split is_lf (bytes ++ line) ≡ but_last (slice_split is_lf bytes) ++ (last_part (slice_split is_lf bytes) ++ line) ∷ [] = split-append is_lf bytes line ∙ rw none refl in
+    let a : but_last (slice_split is_lf (bytes ++ line)) ≡ but_last (slice_split is_lf bytes) = ap but_last s ∙ but_last-append (but_last (slice_split is_lf bytes)) (last_part (slice_split is_lf bytes) ++ line) [] ∙ append-nil (but_last (slice_split is_lf bytes)) in
+    let o : last_part (slice_split is_lf (bytes ++ line)) ≡ line = ap last_part s ∙ last_part-append (but_last (slice_split is_lf bytes)) (last_part (slice_split is_lf bytes) ++ line) [] ∙ ap (λ (t : List ℕ). t ++ line) closed in
+    ap (λ (t : List ℕ). but_last (slice_split is_lf t)) (sym (append_assoc bytes line (10 ∷ []))) ∙ lines-push_lf (bytes ++ line) 10 refl
+    ∙ ap (λ (t : List (List ℕ)). t ++ last_part (slice_split is_lf (bytes ++ line)) ∷ []) a ∙ ap (λ (t : List ℕ). but_last (slice_split is_lf bytes) ++ t ∷ []) o
+
+pub whole_closed_line : (bytes line : List ℕ) → open_line (bytes ++ (line ++ 10 ∷ [])) ≡ []
+whole_closed_line bytes line = ap open_line (sym (append_assoc bytes line (10 ∷ []))) ∙ open_line-push_lf (bytes ++ line) 10 refl

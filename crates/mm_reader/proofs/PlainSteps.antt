@@ -1,0 +1,126 @@
+-- The machine, line by line of the usual form.
+use Rattle.std.proofs.Common.{◌≡◌, ℕ, ◌+◌, ◌-◌, ◌<◌, ◌≤◌, Bool, true, false, if◌then◌else◌, List, [], ◌∷◌, ◌++◌, length, take, drop, get_or, refl, sym, ap, subst, ◌∙◌, arith, append-nil, append_assoc, take-append-drop, drop-drop, take-add, length-append}
+use Rattle.mm_defs.specs.declared.answers.End.{End}
+use Rattle.mm_defs.specs.declared.header.Header.{Header}
+use Rattle.mm_defs.specs.declared.header.Size.{Size}
+use Rattle.mm_defs.specs.Words.{has_bytes, lines, open_line}
+use Rattle.mm_defs.specs.File.{later_lines, line_faults}
+use Rattle.sp_ids.specs.Entries as entries
+use Rattle.mm_reader.specs.declared.machine.Machine.{Machine}
+use Rattle.mm_reader.specs.declared.machine.Phase.{Phase}
+use Rattle.mm_reader.specs.declared.machine.Phase.TheVariants as phases
+use Rattle.mm_reader.specs.declared.machine.Stop.{Stop}
+use Rattle.mm_reader.specs.declared.machine.Stop.TheVariants as stops
+use Rattle.std.proofs.Common.{Result, Ok, Err}
+use Rattle.mm_reader.specs.Machine.{HasBanner, HasEntries, HasLines, IsReady, Steps, is_complete}
+use Rattle.mm_reader.specs.Plain.{AwaitsPlain, IsPlainLine}
+use Rattle.mm_reader.specs.Standing.{begun_lines, EndsBad, GoesOn, IsAfter, StopsIn, StopsWithin}
+use Rattle.mm_reader.proofs.PlainLaws.{whole_line, whole_closed_line, between-none, between-push, split_at}
+
+pub stays : (m : Machine) (piece : List ℕ) (at : ℕ) → at ≤ length piece → IsReady m.phase m.triples → GoesOn m m piece at at
+stays m piece at h ready = record {
+  in_order = omega arith;
+  within = h;
+  number = omega arith;
+  ready = ready;
+  closed = λ end out full. absurd cc;
+  stands = λ end bytes a out. rw (between-none piece at) (subst (λ (t : List ℕ). IsAfter end m t) (sym (append-nil bytes)) a);
+}
+
+empty_of : (w : List ℕ) → has_bytes w ≡ false → w ≡ []
+empty_of [] h = refl
+empty_of (a ∷ w) h = absurd cc
+
+module _ (m : Machine) (h : Header) (s : Size) (done : ℕ) (w : AwaitsPlain m h s done) (piece : List ℕ) (at row col next : ℕ) (p : IsPlainLine piece at row col next) (t : entries.Entries) where
+  abbrev Shown : Result Phase Stop → Type 0
+  Shown result = (end : End) (ls : List (List ℕ)) → HasBanner h ls → HasEntries h s done m.triples (later_lines ls) → line_faults end ls ≡ [] → m.number + 1 ≡ length ls + 1 → Steps end (ls ++ p.line ∷ []) t result
+
+  closed_is : (end : End) (bytes : List ℕ) → IsAfter end m bytes → open_line bytes ≡ []
+  closed_is end bytes a = empty_of (open_line bytes) (sym a.begun_is ∙ w.closed)
+
+  shown_at : (result : Result Phase Stop) → Shown result → (end : End) (bytes : List ℕ) → IsAfter end m bytes → Steps end (lines false bytes ++ p.line ∷ []) t result
+  shown_at result f end bytes a =
+      let k = rw w.phase_is at a.lines_are.phase_is in
+      f end (lines false bytes) k.0 k.1 a.lines_are.good (ap (λ n. n + 1) a.number_is)
+
+  pub plain_goes : (phase : Phase) → IsReady phase t → Shown (Ok phase) → GoesOn m (record { phase = phase; number = m.number + 1; triples = t; begun = m.begun; line = m.line }) piece at next
+  plain_goes phase ready f = record {
+    in_order = omega (arith, p.in_order);
+    within = p.within;
+    number = omega (arith, p.in_order);
+    ready = ready;
+    closed = λ end out full. w.closed;
+    stands = λ end bytes a out.
+        let o = closed_is end bytes a in
+        let r = shown_at (Ok phase) f end bytes a in
+        let l = whole_line bytes p.line o p.no_lf in
+        let c = whole_closed_line bytes p.line in
+        let n : m.number + 1 ≡ length (lines false bytes ++ p.line ∷ []) = ap (λ k. k + 1) a.number_is ∙ sym (length-append (lines false bytes) (p.line ∷ [])) in
+        subst (λ (x : List ℕ). IsAfter end (record { phase = phase; number = m.number + 1; triples = t; begun = m.begun; line = m.line }) (bytes ++ x)) (sym p.line_is)
+        (record {
+          lines_are = rw l r;
+          number_is = rw l n;
+          open_is = rw c (rw o at a.open_is);
+          begun_is = rw c w.closed;
+        });
+  }
+
+  halted : (stop : Stop) → Shown (Err stop) → (end : End) (bytes : List ℕ) → IsAfter end m bytes → StopsIn end (bytes ++ (p.line ++ 10 ∷ [])) stop
+  halted (stops.Bad line kind) f end bytes a =
+      let r = shown_at (Err (stops.Bad line kind)) f end bytes a in
+      let l = whole_line bytes p.line (closed_is end bytes a) p.no_lf in
+      record { bad = rw l r.0; number_is = rw l r.1; closed = whole_closed_line bytes p.line }
+  halted stops.Memory f end bytes a = tt
+
+  pub plain_halts : (stop : Stop) → Shown (Err stop) → (end : End) (bytes : List ℕ) → IsAfter end m bytes → is_complete end m.phase ≡ false → StopsWithin end bytes (drop at piece) stop
+  plain_halts stop f end bytes a out =
+      let ordered : at ≤ next = omega (arith, p.in_order) in
+      record {
+        front = p.line ++ 10 ∷ [];
+        rest = drop next piece;
+        piece_is = split_at piece at next ordered ∙ ap (λ (x : List ℕ). x ++ drop next piece) p.line_is;
+        stops = halted stop f end bytes a;
+      }
+
+-- one byte
+byte_at : (piece : List ℕ) (at : ℕ) → at < length piece → take ((at + 1) - at) (drop at piece) ≡ get_or piece at 0 ∷ []
+byte_at piece at h = between-push piece at at (omega arith) h ∙ ap (λ (x : List ℕ). x ++ get_or piece at 0 ∷ []) (between-none piece at)
+
+pub byte_goes : (m m2 : Machine) (piece : List ℕ) (at : ℕ) → at < length piece → begun_lines m2 ≤ begun_lines m + 1 → IsReady m2.phase m2.triples
+    → ((end : End) → is_complete end m.phase ≡ false → is_complete end m2.phase ≡ true → m2.begun ≡ false)
+    → ((end : End) (bytes : List ℕ) → IsAfter end m bytes → is_complete end m.phase ≡ false → IsAfter end m2 (bytes ++ get_or piece at 0 ∷ []))
+    → GoesOn m m2 piece at (at + 1)
+byte_goes m m2 piece at h number ready closed f = record {
+  in_order = omega arith;
+  within = omega arith;
+  number = omega arith;
+  ready = ready;
+  closed = closed;
+  stands = λ end bytes a out. subst (λ (x : List ℕ). IsAfter end m2 (bytes ++ x)) (sym (byte_at piece at h)) (f end bytes a out);
+}
+
+pub byte_halts : (m : Machine) (piece : List ℕ) (at : ℕ) (stop : Stop) → at < length piece
+    → ((end : End) (bytes : List ℕ) → IsAfter end m bytes → is_complete end m.phase ≡ false → StopsIn end (bytes ++ get_or piece at 0 ∷ []) stop)
+    → (end : End) (bytes : List ℕ) → IsAfter end m bytes → is_complete end m.phase ≡ false → StopsWithin end bytes (drop at piece) stop
+byte_halts m piece at stop h f end bytes a out = record {
+  front = get_or piece at 0 ∷ [];
+  rest = drop (at + 1) piece;
+  piece_is = split_at piece at (at + 1) (omega arith) ∙ ap (λ (x : List ℕ). x ++ drop (at + 1) piece) (byte_at piece at h);
+  stops = f end bytes a out;
+}
+
+-- from the start of the piece
+pub after_piece : (end : End) (m : Machine) (bytes piece : List ℕ) (at next : ℕ) → at ≤ next → IsAfter end m ((bytes ++ take at piece) ++ take (next - at) (drop at piece)) → IsAfter end m (bytes ++ take next piece)
+after_piece end m bytes piece at next h a =
+    let e : at + (next - at) ≡ next = omega arith in
+    let k : (bytes ++ take at piece) ++ take (next - at) (drop at piece) ≡ bytes ++ take next piece =
+        append_assoc bytes (take at piece) (take (next - at) (drop at piece)) ∙ ap (λ (x : List ℕ). bytes ++ x) (sym (take-add at (next - at) piece) ∙ ap (λ i. take i piece) e) in
+    subst (λ (x : List ℕ). IsAfter end m x) k a
+
+pub stops_piece : (end : End) (stop : Stop) (bytes piece : List ℕ) (at : ℕ) → StopsWithin end (bytes ++ take at piece) (drop at piece) stop → StopsWithin end bytes piece stop
+stops_piece end stop bytes piece at s = record {
+  front = take at piece ++ s.front;
+  rest = s.rest;
+  piece_is = sym (take-append-drop at piece) ∙ ap (λ (x : List ℕ). take at piece ++ x) s.piece_is ∙ sym (append_assoc (take at piece) s.front s.rest);
+  stops = subst (λ (x : List ℕ). StopsIn end x stop) (append_assoc bytes (take at piece) s.front) s.stops;
+}
