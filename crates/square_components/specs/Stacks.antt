@@ -8,7 +8,7 @@ use Rattle.bip_defs.specs.Walks.{Walk}
 use Rattle.square_components.specs.Numbering.{look, none}
 
 -- the columns that are not finished in the order in which they were entered; the places at which the components so far
--- start; the places whose columns have entries left to look at; for each column how many entries are left, its place, and
+-- start; the places of those that are not left yet; for each column how many of its entries are left to look at, its place, and
 -- its number once it is finished; and how many components are finished
 pub record State : Type 0 where
   pub stack : List ℕ

@@ -41,7 +41,7 @@ advancing s c n = record s { left = slice_set s.left c n }
 abbrev pub merging : State → List ℕ → State
 merging s starts = record s { starts = starts }
 
--- these places have entries left
+-- the columns at these places are not left yet
 abbrev pub leaving : State → List ℕ → State
 leaving s todo = record s { todo = todo }
 

@@ -60,7 +60,7 @@ impl Search {
         })
     }
 
-    /// The last place with entries left.
+    /// The last place that is not left yet.
     pub fn top(&self) -> Option<u32>
         ensures some { IfSome result (λ at. EndsWith self.now.todo at) }
         ensures none { IfNone result (self.now.todo ≡ []) }
