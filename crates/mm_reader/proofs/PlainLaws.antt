@@ -1,5 +1,5 @@
 -- Runs of bytes, and entry lines of the usual form.
-use Rattle.std.proofs.Common.{◌≡◌, ◌≢◌, ℕ, suc, ◌+◌, ◌-◌, ◌*◌, ◌<◌, ◌≤◌, Bool, true, false, not, ◌&&◌, ◌==◌, List, [], ◌∷◌, ◌++◌, length, take, drop, get_or, refl, sym, ap, subst, ◌∙◌, arith, append-nil, append_assoc, length-append, length-drop, take-append-drop, drop-drop, get_or-drop, take-add, filter, length-take-le, leb-true, eqb-true, ne_eqb, ◌^◌, ◌||◌}
+use Rattle.std.proofs.Common.{◌≡◌, ◌≢◌, ℕ, ◌+◌, ◌-◌, ◌*◌, ◌<◌, ◌≤◌, Bool, true, false, not, ◌&&◌, ◌==◌, List, [], ◌∷◌, ◌++◌, length, take, drop, get_or, refl, sym, ap, ◌∙◌, arith, append-nil, append_assoc, length-drop, take-append-drop, drop-drop, get_or-drop, take-add, filter, length-take-le, leb-true, eqb-true, ne_eqb, ◌^◌}
 use Rattle.std.specs.List.{list_all}
 use Rattle.std.specs.Char.{is_ascii_digit}
 use Rattle.std.specs.Str.{all_ascii_digits}
@@ -71,7 +71,7 @@ digits_more bytes from at n d low few yes_it_is =
     let e = between-push bytes from at d.in_order low in
     let k = all_ascii_digits-push (between bytes from at) (get_or bytes at 0) in
     let v : value (between bytes from at ++ get_or bytes at 0 ∷ []) ≡ value (between bytes from at) * 10 + (get_or bytes at 0 - 48) =
-        digits_value_push 10 (between bytes from at) (get_or bytes at 0) ∙ rw (digit_at (get_or bytes at 0) yes_it_is) refl in
+    digits_value_push 10 (between bytes from at) (get_or bytes at 0) ∙ rw (digit_at (get_or bytes at 0) yes_it_is) refl in
     record {
       in_order = omega (arith, d.in_order);
       within = omega arith;
@@ -138,9 +138,9 @@ visible_no_blank b h = not_true (is_blank b) (and_right (not (is_lf b)) (not (is
 blank_no_lf : (b : ℕ) → is_blank b ≡ true → no_lf b ≡ true
 blank_no_lf b h = by (is_lf b) refl
   where
-  by : (e : Bool) → is_lf b ≡ e → no_lf b ≡ true
-  by false e = rw e refl
-  by true e = let k : b ≡ 10 = eqb-true b 10 e in let n : is_blank 10 ≡ true = rw k at h in absurd cc
+    by : (e : Bool) → is_lf b ≡ e → no_lf b ≡ true
+    by false e = rw e refl
+    by true e = let k : b ≡ 10 = eqb-true b 10 e in let n : is_blank 10 ≡ true = rw k at h in absurd cc
 
 -- ---- words from the front
 
@@ -208,9 +208,9 @@ digits_value_is w n h e small = let u = unsigned_digits w h in let k : n ≡ num
 some_bytes : (bytes : List ℕ) (from to : ℕ) → from ≤ to → to ≤ length bytes → to ≢ from → has_bytes (between bytes from to) ≡ true
 some_bytes bytes from to h k ne = by (between bytes from to) refl
   where
-  by : (xs : List ℕ) → between bytes from to ≡ xs → has_bytes xs ≡ true
-  by [] e = absurd (ne (sym (no_bytes bytes from to h k e)))
-  by (x ∷ xs) e = refl
+    by : (xs : List ℕ) → between bytes from to ≡ xs → has_bytes xs ≡ true
+    by [] e = absurd (ne (sym (no_bytes bytes from to h k e)))
+    by (x ∷ xs) e = refl
 
 -- the line that was found
 pub plain_found : (bytes : List ℕ) (from e1 s2 e2 end row col : ℕ) → IsDigits bytes from e1 row → e1 ≢ from → IsRun is_blank bytes e1 s2 → s2 ≢ e1
@@ -227,13 +227,13 @@ plain_found bytes from e1 s2 e2 end row col d1 n1 r1 n2 d2 n3 r2 low lf =
     let v3 = digits_visible w2 d2.all in
     let line : List ℕ = w1 ++ (b1 ++ (w2 ++ b2)) in
     let all_line : list_all no_lf line ≡ true =
-        all_append no_lf w1 (b1 ++ (w2 ++ b2)) (weaker visible no_lf visible_no_lf w1 v1)
-        (all_append no_lf b1 (w2 ++ b2) (weaker is_blank no_lf blank_no_lf b1 r1.all)
-        (all_append no_lf w2 b2 (weaker visible no_lf visible_no_lf w2 v3) (weaker is_blank no_lf blank_no_lf b2 r2.all))) in
+    all_append no_lf w1 (b1 ++ (w2 ++ b2)) (weaker visible no_lf visible_no_lf w1 v1)
+    (all_append no_lf b1 (w2 ++ b2) (weaker is_blank no_lf blank_no_lf b1 r1.all)
+    (all_append no_lf w2 b2 (weaker visible no_lf visible_no_lf w2 v3) (weaker is_blank no_lf blank_no_lf b2 r2.all))) in
     let ordered : from ≤ end = omega (arith, d1.in_order, r1.in_order, d2.in_order, r2.in_order) in
     let whole : between bytes from end ≡ line =
-        between_join bytes from e1 end d1.in_order (omega (arith, r1.in_order, d2.in_order, r2.in_order)) ∙ ap (λ (t : List ℕ). w1 ++ t)
-        (between_join bytes e1 s2 end r1.in_order (omega (arith, d2.in_order, r2.in_order)) ∙ ap (λ (t : List ℕ). b1 ++ t) (between_join bytes s2 e2 end d2.in_order r2.in_order)) in
+    between_join bytes from e1 end d1.in_order (omega (arith, r1.in_order, d2.in_order, r2.in_order)) ∙ ap (λ (t : List ℕ). w1 ++ t)
+    (between_join bytes e1 s2 end r1.in_order (omega (arith, d2.in_order, r2.in_order)) ∙ ap (λ (t : List ℕ). b1 ++ t) (between_join bytes s2 e2 end d2.in_order r2.in_order)) in
     record {
       line = line;
       first = w1;

@@ -1,5 +1,5 @@
 -- The machine, line by line of the usual form.
-use Rattle.std.proofs.Common.{◌≡◌, ℕ, ◌+◌, ◌-◌, ◌<◌, ◌≤◌, Bool, true, false, if◌then◌else◌, List, [], ◌∷◌, ◌++◌, length, take, drop, get_or, refl, sym, ap, subst, ◌∙◌, arith, append-nil, append_assoc, take-append-drop, drop-drop, take-add, length-append}
+use Rattle.std.proofs.Common.{◌≡◌, ℕ, ◌+◌, ◌-◌, ◌<◌, ◌≤◌, true, false, List, [], ◌∷◌, ◌++◌, length, take, drop, get_or, refl, sym, ap, subst, ◌∙◌, arith, append-nil, append_assoc, take-append-drop, take-add, length-append}
 use Rattle.mm_defs.specs.declared.answers.End.{End}
 use Rattle.mm_defs.specs.declared.header.Header.{Header}
 use Rattle.mm_defs.specs.declared.header.Size.{Size}
@@ -8,13 +8,12 @@ use Rattle.mm_defs.specs.File.{later_lines, line_faults}
 use Rattle.sp_ids.specs.Entries as entries
 use Rattle.mm_reader.specs.declared.machine.Machine.{Machine}
 use Rattle.mm_reader.specs.declared.machine.Phase.{Phase}
-use Rattle.mm_reader.specs.declared.machine.Phase.TheVariants as phases
 use Rattle.mm_reader.specs.declared.machine.Stop.{Stop}
 use Rattle.mm_reader.specs.declared.machine.Stop.TheVariants as stops
 use Rattle.std.proofs.Common.{Result, Ok, Err}
-use Rattle.mm_reader.specs.Machine.{HasBanner, HasEntries, HasLines, IsReady, Steps, is_complete}
+use Rattle.mm_reader.specs.Machine.{HasBanner, HasEntries, IsReady, Steps, is_complete}
 use Rattle.mm_reader.specs.Plain.{AwaitsPlain, IsPlainLine}
-use Rattle.mm_reader.specs.Standing.{begun_lines, EndsBad, GoesOn, IsAfter, StopsIn, StopsWithin}
+use Rattle.mm_reader.specs.Standing.{begun_lines, GoesOn, IsAfter, StopsIn, StopsWithin}
 use Rattle.mm_reader.proofs.PlainLaws.{whole_line, whole_closed_line, between-none, between-push, split_at}
 
 pub stays : (m : Machine) (piece : List ℕ) (at : ℕ) → at ≤ length piece → IsReady m.phase m.triples → GoesOn m m piece at at
@@ -114,7 +113,7 @@ pub after_piece : (end : End) (m : Machine) (bytes piece : List ℕ) (at next : 
 after_piece end m bytes piece at next h a =
     let e : at + (next - at) ≡ next = omega arith in
     let k : (bytes ++ take at piece) ++ take (next - at) (drop at piece) ≡ bytes ++ take next piece =
-        append_assoc bytes (take at piece) (take (next - at) (drop at piece)) ∙ ap (λ (x : List ℕ). bytes ++ x) (sym (take-add at (next - at) piece) ∙ ap (λ i. take i piece) e) in
+    append_assoc bytes (take at piece) (take (next - at) (drop at piece)) ∙ ap (λ (x : List ℕ). bytes ++ x) (sym (take-add at (next - at) piece) ∙ ap (λ i. take i piece) e) in
     subst (λ (x : List ℕ). IsAfter end m x) k a
 
 pub stops_piece : (end : End) (stop : Stop) (bytes piece : List ℕ) (at : ℕ) → StopsWithin end (bytes ++ take at piece) (drop at piece) stop → StopsWithin end bytes piece stop

@@ -1,5 +1,5 @@
 -- What the machine stands for between two bytes.
-use Rattle.std.specs.Prelude.{◌≡◌, ◌≤◌, ◌+◌, ◌-◌, ℕ, true, false, if◌then◌else◌, List, [], ◌∷◌, ◌++◌, length, take, drop, max, slice_get, Option, Some}
+use Rattle.std.specs.Prelude.{◌≡◌, ◌≤◌, ◌+◌, ◌-◌, ℕ, true, false, if◌then◌else◌, List, [], ◌∷◌, ◌++◌, length, take, drop, max, slice_get, Some}
 use Rattle.sp_ids.specs.Entries as entries
 use Rattle.mm_defs.specs.declared.answers.End.{End}
 use Rattle.mm_defs.specs.declared.answers.End.TheVariants.{LastEntry}

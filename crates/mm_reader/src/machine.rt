@@ -14,7 +14,7 @@ ghost use Rattle.mm_reader.specs.Plain.{AwaitsPlain, IsPlainLine};
 
 use crate::judge::{Entry, judge_banner, judge_entry, judge_place, judge_size};
 use crate::line::LineSoFar;
-use crate::plain::{plain_line, PlainLine};
+use crate::plain::{PlainLine, plain_line};
 use mm_defs::{End, Header, Kind, Size, Symmetry};
 use sp_ids::{Col, Field, OutOfMemory, Row, Triples};
 use std::alloc::Global;

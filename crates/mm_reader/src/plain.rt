@@ -1,4 +1,4 @@
-//! Entry lines of the usual form, taken in one go from the buffer: two numbers without signs, and the value words.
+//! Entry lines of the usual form, taken in one go from the buffer: two numbers without signs, and no value words.
 
 ghost use Rattle.std.specs.Prelude.{◌≡◌, ◌≤◌, length, IfSome};
 ghost use Rattle.mm_reader.specs.Plain.{IsRun, IsDigits, IsPlainLine};

@@ -1,4 +1,4 @@
-use Rattle.std.proofs.Common.{◌*◌, ◌+◌, ◌∙◌, sym, subst, ap, arith, ℕ}
+use Rattle.std.proofs.Common.{◌*◌, ◌+◌, ◌∙◌, sym, subst, ℕ}
 use Rattle.mm_reader.specs.Plain.{IsDigits}
 use Rattle.mm_reader.proofs.PlainLaws.{digits_more}
 use Rattle.mm_reader.proofs.plain.digits.Goals as goal
