@@ -109,7 +109,14 @@ fn write_answer<O: Sink>(
 {
     let decomposition = &analysis.decomposition;
     let matching = &analysis.matching;
-    match write_report(out, buf, decomposition, matching, options.order, options.pairs) {
+    match write_report(
+        out,
+        buf,
+        decomposition,
+        matching,
+        options.order,
+        options.pairs,
+    ) {
         Ok(()) => out.flush(),
         Err(Failed) => Err(Failed),
     }

@@ -114,7 +114,8 @@ fn orders(rt: HostRuntime) -> Result<(), Fail> {
 // Each engine finds the same parts and blocks.
 #[test]
 fn engines(rt: HostRuntime) -> Result<(), Fail> {
-    let text = "btf 1\nmatrix 4 4 7\nrank 3\nhorizontal 1 2\nrows 1\ncolumns 1 2\nsquare 1 1\nblock 1 1\nrows 2\ncolumns 3\nvertical 2 1\nrows 3 4\ncolumns 4\nrow_order 1 2 3 4\ncolumn_order 1 2 3 4\nend\n";
+    let text =
+        "btf 1\nmatrix 4 4 7\nrank 3\nhorizontal 1 2\nrows 1\ncolumns 1 2\nsquare 1 1\nblock 1 1\nrows 2\ncolumns 3\nvertical 2 1\nrows 3 4\ncolumns 4\nrow_order 1 2 3 4\ncolumn_order 1 2 3 4\nend\n";
     for engine in ["plain", "mc21", "pf"] {
         let words = ["analyse", "--engine", engine, "--order"];
         reports(&rt, words.as_slice(), THREE_PARTS, text)?;

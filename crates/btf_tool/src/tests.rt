@@ -11,7 +11,8 @@ use std::test::Fail;
 use std::thread::Threads;
 
 /// One entry, in 59 bytes.
-pub(crate) const SMALLEST: &[u8] = b"%%MatrixMarket matrix coordinate pattern general\n1 1 1\n1 1\n";
+pub(crate) const SMALLEST: &[u8] =
+    b"%%MatrixMarket matrix coordinate pattern general\n1 1 1\n1 1\n";
 
 /// The text of its rank, in 40 bytes.
 const SMALLEST_TEXT: &[u8] = b"matrix 1 1 1\nrank 1\nhorizontal 0 0\nend\n";
