@@ -1,6 +1,12 @@
 //! The strong components of the columns of a matrix's square part.
 #![tactic(auto)]
 
+mod explore;
+mod mates;
+mod search;
+#[cfg(test)]
+mod tests;
+
 ghost use Rattle.std.specs.Prelude.{◌≡◌, IfOk};
 ghost use Rattle.bip_defs.specs.Matching.{IsMaximum};
 ghost use Rattle.bip_defs.specs.Matrix.{cols};
@@ -8,6 +14,8 @@ ghost use Rattle.bip_defs.specs.Parts.{ArePartsOf};
 ghost use Rattle.bip_graph.specs.Shown.{parts_of};
 ghost use Rattle.square_components.specs.Numbering.{AreNumbered};
 
+use crate::mates::square_mates;
+use crate::search::Search;
 use bip_graph::{Matching, Parts};
 use sp_ids::OutOfMemory;
 use sp_pattern::Pattern;
@@ -26,7 +34,7 @@ pub struct Components {
 ///
 /// One depth-first search with explicit stacks, which keeps the path of components that are not finished (Gabow 2000;
 /// Tarjan 1972). Answers `OutOfMemory` where 4 bytes a row and 24 a column can't be had. Work: each entry of a square
-/// column is looked at once, and each row and column a fixed number of times.
+/// column is looked at twice at most, and each row and column a fixed number of times.
 pub fn strong_components(
     alloc: Global,
     pattern: &Pattern,
@@ -39,5 +47,9 @@ pub fn strong_components(
     requires parts { ArePartsOf pattern.now (parts_of parts.now) }
     ensures { IfOk result (λ s. AreNumbered pattern.now matching.now.pairs s.numbers.items s.count) }
 {
-    Err(OutOfMemory)
+    let mates = square_mates(alloc, pattern, matching, parts.sr.as_slice())?;
+    let mut search = Search::new(alloc, pattern.cols())?;
+    search.explore_all(pattern, mates.as_slice(), parts.sc.as_slice());
+    let (numbers, count) = search.end();
+    Ok(Components { numbers, count })
 }

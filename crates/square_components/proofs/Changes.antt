@@ -1,0 +1,65 @@
+-- What single writes change.
+use Rattle.std.proofs.Common.{◌≡◌, ◌≢◌, ◌∙◌, ℕ, ◌+◌, ◌<◌, ◌≤◌, List, [], ◌∷◌, ◌++◌, set, length, get_or, refl, sym, ap, subst, inl, inr, ⊎_elim, arith, length-append, length-set, get_or-set_same, get_or-set_other}
+use Rattle.std.proofs.lemmas.List.{get_or_default}
+use Rattle.bip_defs.specs.Lists.{Among, IsRising}
+use Rattle.bip_defs.proofs.Sets.{among_last, among_left, below_each_from, below_each_sound, among_right, number_same}
+use Rattle.square_components.specs.Numbering.{look, none}
+use Rattle.square_components.specs.Steps.{AreUpTo, Numbers}
+
+-- what indexing read, as the clauses say it
+pub look_read : (xs : List ℕ) (i x : ℕ) → i < length xs → x ≡ get_or xs i x → look xs i ≡ x
+look_read xs i x lt e = get_or_default xs i none x lt ∙ sym e
+
+-- Numbers.
+
+pub numbers_none : (stack : List ℕ) (b e k : ℕ) (old : List ℕ) → e ≤ b → Numbers stack b e k old old
+numbers_none stack b e k old le = record { long = refl; given = λ i l lt. absurd (omega arith); others = λ c h. refl }
+
+pub numbers_more : (stack : List ℕ) (b e k : ℕ) (old new : List ℕ) → Numbers stack b e k old new → b ≤ e → get_or stack e 0 < length new → Numbers stack b (e + 1) k old (set new (get_or stack e 0) k)
+numbers_more stack b e k old new n le within = record {
+  long = length-set new (get_or stack e 0) k ∙ n.long;
+  given = λ i l lt. ⊎_elim
+      (λ (f : get_or stack i 0 ≡ get_or stack e 0). ap (look (set new (get_or stack e 0) k)) f ∙ get_or-set_same new (get_or stack e 0) k none within)
+      (λ ne. get_or-set_other new (get_or stack e 0) (get_or stack i 0) k none ne ∙ n.given i l (let x : i ≢ e = λ g. ne (ap (λ y. get_or stack y 0) g) in omega arith))
+      (number_same (get_or stack i 0) (get_or stack e 0));
+  others = λ c h. get_or-set_other new (get_or stack e 0) c k none (λ f. h e le (omega arith) (sym f)) ∙ n.others c (λ i l lt. h i l (omega arith));
+}
+
+-- Rising lists without their last.
+
+pub rising_front : (xs : List ℕ) (y : ℕ) → IsRising (xs ++ y ∷ []) → IsRising xs
+rising_front [] y h = tt
+rising_front (x ∷ xs) y h = (below_each_from x xs (λ z g. below_each_sound x z (xs ++ y ∷ []) h.0 (among_left z xs (y ∷ []) g)), rising_front xs y h.1)
+
+pub rising_end : (xs : List ℕ) (y x : ℕ) → IsRising (xs ++ y ∷ []) → Among x xs → x < y
+rising_end [] y x h g = elim g [ ]
+rising_end (z ∷ xs) y x h (inl e) = subst (λ w. w < y) (sym e) (below_each_sound z y (xs ++ y ∷ []) h.0 (among_right y xs (y ∷ []) (inl refl)))
+rising_end (z ∷ xs) y x h (inr g) = rising_end xs y x h.1 g
+
+-- no element is above the last
+pub rising_most : (xs front : List ℕ) (y x : ℕ) → IsRising xs → xs ≡ front ++ y ∷ [] → Among x xs → x ≤ y
+rising_most xs front y x h e g = ⊎_elim (λ k. let lt = rising_end front y x (subst IsRising e h) k in omega arith) (λ (f : x ≡ y). omega arith) (among_last x y front (subst (Among x) e g))
+
+-- what is left of starts of which those above t are taken off
+pub record IsCut (t : ℕ) (old new : List ℕ) : Type 0 where
+  pub kept : (b : ℕ) → Among b old → b ≤ t → Among b new
+  pub only : (b : ℕ) → Among b new → Among b old
+  pub rising : IsRising new
+  pub fewer : length new ≤ length old
+
+pub cut_none : (t : ℕ) (old : List ℕ) → IsRising old → IsCut t old old
+cut_none t old h = record { kept = λ b g le. g; only = λ b g. g; rising = h; fewer = omega arith }
+
+pub cut_more : (t : ℕ) (old new front : List ℕ) (y : ℕ) → IsCut t old new → new ≡ front ++ y ∷ [] → t < y → IsCut t old front
+cut_more t old new front y c e lt = record {
+  kept = λ b g le. ⊎_elim (λ h. h) (λ (f : b ≡ y). absurd (omega arith)) (among_last b y front (subst (Among b) e (c.kept b g le)));
+  only = λ b g. c.only b (subst (Among b) (sym e) (among_left b front (y ∷ []) g));
+  rising = rising_front front y (subst IsRising e c.rising);
+  fewer = let l = ap length e in let z = length-append front (y ∷ []) in let f = c.fewer in omega arith;
+}
+
+pub cut_end : (t : ℕ) (old new front : List ℕ) (y : ℕ) → IsCut t old new → new ≡ front ++ y ∷ [] → y ≤ t → AreUpTo t old new
+cut_end t old new front y c e le = record { kept = c.kept; only = λ b g. (c.only b g, let m = rising_most new front y b c.rising e g in omega arith); rising = c.rising; fewer = c.fewer }
+
+pub cut_all : (t : ℕ) (old new : List ℕ) → IsCut t old new → new ≡ [] → AreUpTo t old new
+cut_all t old new c e = record { kept = c.kept; only = λ b g. absurd (subst (Among b) e g); rising = c.rising; fewer = c.fewer }

@@ -1,0 +1,11 @@
+use Rattle.std.proofs.Common.{◌≡◌, ◌≢◌, ℕ, ◌<◌, [], slice_index}
+use Rattle.square_components.specs.Numbering.{look, none}
+use Rattle.square_components.specs.Stacks.{IsSearch}
+use Rattle.square_components.proofs.search.Search.explore_all.Given as goal
+
+abbrev pub invariant-loop-col : goal.invariant-loop-col
+invariant-loop-col l = record {
+  search : IsSearch l.pattern l.mates l.self;
+  empty : l.self.stack ≡ [];
+  placed : (k : ℕ) → k < l.col-index → look l.self.place (slice_index l.cols k) ≢ none;
+}
