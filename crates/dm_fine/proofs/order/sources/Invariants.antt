@@ -1,6 +1,6 @@
 use Rattle.std.proofs.Common.{◌≡◌, []}
 use Rattle.dm_fine.specs.Waits.{AreReady, least_of}
-use Rattle.dm_fine.proofs.order.first.Given as goal
+use Rattle.dm_fine.proofs.order.sources.Given as goal
 
 abbrev pub invariant-loop-k : goal.invariant-loop-k
 invariant-loop-k l = record {

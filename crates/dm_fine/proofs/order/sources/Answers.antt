@@ -1,18 +1,14 @@
-use Rattle.std.proofs.Common.{◌≡◌, ◌∙◌, [], get_or, ap, subst, arith}
-use Rattle.std.proofs.lemmas.List.{get_or_default}
-use Rattle.sp_pattern.specs.Stored.{piece}
+use Rattle.std.proofs.Common.{◌≡◌, ◌∙◌, [], subst, arith}
 use Rattle.dm_fine.specs.Waits.{AreReady, least_of}
 use Rattle.dm_fine.proofs.Ordering.{ready_in, ready_out}
-use Rattle.dm_fine.proofs.order.first.Goals as goal
-use Rattle.dm_fine.proofs.order.first.Goals.{then-waits-k-eq0, else-waits-k-eq0}
+use Rattle.dm_fine.proofs.order.sources.Goals as goal
+use Rattle.dm_fine.proofs.order.sources.Goals.{then-waits-k-eq0, else-waits-k-eq0}
 
 pub loop-k-preserved : goal.loop-k-preserved
 loop-k-preserved c =
     elim c.if-waits-k-eq0.branch [
       | then-waits-k-eq0 w ↦
-          let first : w.least.inside.0 ≡ least_of c.args.cols.now.starts.items c.args.cols.now.places.items c.loop-k.k =
-          w.least.view_is ∙ w.index-of-0.is ∙ ap (λ xs. get_or xs 0 w.index-of-0.result) w.of.ensures ∙ get_or_default (piece c.args.cols.now.starts.items c.args.cols.now.places.items c.loop-k.k) 0 w.index-of-0.result 0 (c.requires.least.some c.loop-k.k c.loop-k-test.true) in
-          let members = rw first at w.insert.ensures.members in
+          let members = rw w.first.ensures at w.insert.ensures.members in
           rw w.ready-is (record {
             set = ready_in _ _ _ c.loop-k.ready.members _ c.loop-k.invariant.set w.if-waits-k-eq0.true (λ x h. (members x).0 h) (λ x h. (members x).1 h);
             bound = w.insert.ensures.bound ∙ c.loop-k.invariant.bound;
