@@ -31,7 +31,7 @@ pub fn order(
 {
     pattern.is_pattern();
     let mut waits = waits::count(alloc, pattern, numbers, rows, count)?;
-    let mut ready = first(alloc, pattern.cols(), count, waits.as_slice(), cols)?;
+    let mut ready = sources(alloc, pattern.cols(), count, waits.as_slice(), cols)?;
     let mut order = Vec::with_capacity(alloc, count as usize)?;
     while let Some(col) = ready.take_least() {
         let own = numbers[col as usize];
@@ -44,7 +44,7 @@ pub fn order(
 }
 
 // The least columns of the components that wait for none.
-fn first(
+fn sources(
     alloc: Global,
     bound: u32,
     count: u32,
@@ -59,8 +59,7 @@ fn first(
     let mut ready = IntSet::new(alloc, bound)?;
     for k in 0..count {
         if waits[k as usize] == 0 {
-            let least = cols.of(k)[0];
-            ready.insert(least.0);
+            ready.insert(waits::first(cols, k));
         }
     }
     Ok(ready)

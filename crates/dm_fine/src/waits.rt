@@ -5,6 +5,7 @@ ghost use Rattle.bip_defs.specs.Lists.{Among};
 ghost use Rattle.bip_defs.specs.Matrix.{cols, row_list, upto};
 ghost use Rattle.dm_fine.specs.Waits.{Frees, HaveLeast, least_of, row_waits, waits_at, waits_for, waits_in};
 ghost use Rattle.dm_fine.specs.Groups.{AreApart};
+ghost use Rattle.sp_pattern.specs.Stored.{piece};
 
 use crate::groups::Groups;
 use int_set::IntSet;
@@ -125,7 +126,17 @@ fn release_one(own: u32, number: u32, least: &Groups<Col>, waits: &mut [u32], re
     let left = waits[number as usize] - 1;
     waits[number as usize] = left;
     if left == 0 {
-        let first = least.of(number)[0];
-        ready.insert(first.0);
+        ready.insert(first(least, number));
     }
+}
+
+/// The least column of a component.
+pub fn first(cols: &Groups<Col>, number: u32) -> u32
+    requires number { number + 1 < length cols.now.starts.items }
+    requires some { 0 < length (piece cols.now.starts.items cols.now.places.items number) }
+    ensures { result ≡ least_of cols.now.starts.items cols.now.places.items number }
+{
+    let own = cols.of(number);
+    let least = own[0];
+    least.0
 }

@@ -14,8 +14,8 @@ count-requires-clause-few c = λ j lt.
     let all = c.is_pattern.ensures.few_entries in
     omega (arith, few, all)
 
-pub first-requires-clause-least : goal.first-requires-clause-least
-first-requires-clause-least c = rw c.cols.ensures (gathered_least _ _ _ _ _ _ _ c.requires)
+pub sources-requires-clause-least : goal.sources-requires-clause-least
+sources-requires-clause-least c = rw c.cols.ensures (gathered_least _ _ _ _ _ _ _ c.requires)
 
 pub of-own_rows-requires : goal.of-own_rows-requires
 of-own_rows-requires c =
