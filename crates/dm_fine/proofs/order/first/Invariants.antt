@@ -1,9 +1,0 @@
-use Rattle.std.proofs.Common.{◌≡◌, []}
-use Rattle.dm_fine.specs.Waits.{AreReady, least_of}
-use Rattle.dm_fine.proofs.order.first.Given as goal
-
-abbrev pub invariant-loop-k : goal.invariant-loop-k
-invariant-loop-k l = record {
-  set : AreReady l.k (least_of l.cols.starts.items l.cols.places.items) [] l.waits l.ready.members;
-  bound : l.ready.bound ≡ l.bound;
-}
