@@ -33,9 +33,9 @@ use std::alloc::Global;
 /// The blocks are the strong components of the square columns, each with the mates of its columns. They are put in order
 /// by a topological sort that takes the least source.
 ///
-/// Answers `OutOfMemory` where it can't be had: 4 bytes a row and 24 a column for the components; then 12 bytes a row, 12
-/// a column and 24 a block at most. Work: each entry of the square part is looked at three times, and each row, column and
-/// block a fixed number of times, but that the set of least columns looks at a few words for each block.
+/// Answers `OutOfMemory` where 4 bytes a row and 24 a column can't be had for the components, or then 8 a row, 12 a column
+/// and 24 a block. Work: each entry of a square column is looked at once and each of a square row twice, and each row,
+/// column and block a fixed number of times, but that a block looks at some words of the set of least columns.
 pub fn fine(
     alloc: Global,
     pattern: &Pattern,
