@@ -11,7 +11,7 @@ returns-in-Err-clause-err c =
     let p = c.in-Some-plain_line.ensures in
     halts_then c.args.m.now c.loop-done.m c.args.piece.now c.args.at c.loop-done.next c.in-Err.stop i.goes
     (plain_halts c.loop-done.m _ _ _ i.awaits c.args.piece.now c.loop-done.next _ _ _ p c.after_plain.new.triples c.in-Err.stop
-      (λ end ls b has good n. c.in-Err.ensures.steps end ls c.args.piece.now c.loop-done.next p b has good n))
+    (λ end ls b has good n. c.in-Err.ensures.steps end ls c.args.piece.now c.loop-done.next p b has good n))
     (open_machine c.loop-done.m _ _ _ i.awaits c.loop-done-test.true)
 
 pub loop-done-init : goal.loop-done-init
@@ -29,7 +29,7 @@ loop-done-preserved c =
       awaits = record { phase_is = c.in-Ok.ensures.phase; closed = i.awaits.closed; no_values = i.awaits.no_values };
       goes = goes_then c.args.m.now c.loop-done.m _ c.args.piece.now c.args.at c.loop-done.next _ i.goes
           (plain_goes c.loop-done.m _ _ _ i.awaits c.args.piece.now c.loop-done.next _ _ _ p c.after_plain.new.triples c.in-Ok.phase c.in-Ok.ensures.ready
-            (λ end ls b has good n. c.in-Ok.ensures.steps end ls c.args.piece.now c.loop-done.next p b has good n))
+          (λ end ls b has good n. c.in-Ok.ensures.steps end ls c.args.piece.now c.loop-done.next p b has good n))
           (open_machine c.loop-done.m _ _ _ i.awaits c.loop-done-test.true);
       same = λ e. absurd (omega (arith, p.in_order, i.goes.in_order));
     }
