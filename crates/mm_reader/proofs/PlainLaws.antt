@@ -1,11 +1,12 @@
 -- Runs of bytes, and entry lines of the usual form.
-use Rattle.std.proofs.Common.{◌≡◌, ◌≢◌, ℕ, ◌+◌, ◌-◌, ◌*◌, ◌<◌, ◌≤◌, Bool, true, false, not, ◌&&◌, ◌==◌, List, [], ◌∷◌, ◌++◌, length, take, drop, get_or, refl, sym, ap, ◌∙◌, arith, append-nil, append_assoc, length-drop, take-append-drop, drop-drop, get_or-drop, take-add, filter, length-take-le, leb-true, eqb-true, ne_eqb, ◌^◌}
+use Rattle.std.proofs.Common.{◌≡◌, ◌≢◌, ℕ, ◌+◌, ◌-◌, ◌*◌, ◌<◌, ◌≤◌, Bool, true, false, not, ◌&&◌, ◌==◌, List, [], ◌∷◌, ◌++◌, length, take, drop, get_or, refl, sym, ap, ◌∙◌, arith, append-nil, append_assoc, length-drop, take-append-drop, drop-drop, get_or-drop, take-add, filter, length-take, length-take-le, leb-true, eqb-true, ne_eqb, ◌^◌}
 use Rattle.std.specs.List.{list_all}
 use Rattle.std.specs.Char.{is_ascii_digit}
 use Rattle.std.specs.Str.{all_ascii_digits}
 use Rattle.std.proofs.lemmas.List.{take_more}
 use Rattle.std.proofs.lemmas.List.Folds.{list_all-append}
 use Rattle.std.proofs.lemmas.Int.Digits.{digits_value_push}
+use Rattle.std.proofs.lemmas.Str.Parse.{digits_value_short, numerals_by_value, tells_all_ascii_digits}
 use Rattle.std.specs.List.{slice_split}
 use Rattle.sp_ids.specs.declared.triples.Field.{Field}
 use Rattle.sp_ids.specs.declared.triples.Field.TheVariants.{Real, Complex, Integer, Pattern}
@@ -64,9 +65,17 @@ both_of true true x y = refl
 both_of true false x y = absurd cc
 both_of false b x y = absurd cc
 
-pub digits_more : (bytes : List ℕ) (from at n : ℕ) → IsDigits bytes from at n → at < length bytes → n ≤ 100000000000000000 → is_ascii_digit (get_or bytes at 0) ≡ true
+-- so few digits are a small number
+pub few_digits : (bytes : List ℕ) (from at n : ℕ) → IsDigits bytes from at n → at < from + 18 → n < 100000000000000000
+few_digits bytes from at n d few =
+    let l : length (between bytes from at) ≤ 17 = rw (length-take (at - from) (drop from bytes)) (omega arith) in
+    let k : value (between bytes from at) < 10 ^ 17 = digits_value_short (numerals_by_value (λ (ds : List ℕ). all_ascii_digits ds ≡ true) tells_all_ascii_digits) (between bytes from at) 17 d.all l in
+    omega (arith, d.value_is)
+
+pub digits_more : (bytes : List ℕ) (from at n : ℕ) → IsDigits bytes from at n → at < length bytes → at < from + 18 → is_ascii_digit (get_or bytes at 0) ≡ true
     → IsDigits bytes from (at + 1) (n * 10 + (get_or bytes at 0 - 48))
 digits_more bytes from at n d low few yes_it_is =
+    let small = few_digits bytes from at n d few in
     let high : get_or bytes at 0 ≤ 57 = leb-true _ _ (and_right _ _ yes_it_is) in
     let e = between-push bytes from at d.in_order low in
     let k = all_ascii_digits-push (between bytes from at) (get_or bytes at 0) in
@@ -82,7 +91,7 @@ digits_more bytes from at n d low few yes_it_is =
 
 -- ---- bytes by their sorts
 
-between_join : (bytes : List ℕ) (from mid to : ℕ) → from ≤ mid → mid ≤ to → between bytes from to ≡ between bytes from mid ++ between bytes mid to
+pub between_join : (bytes : List ℕ) (from mid to : ℕ) → from ≤ mid → mid ≤ to → between bytes from to ≡ between bytes from mid ++ between bytes mid to
 between_join bytes from mid to h k =
     let e : to - from ≡ (mid - from) + (to - mid) = omega arith in
     let m : from + (mid - from) ≡ mid = omega arith in

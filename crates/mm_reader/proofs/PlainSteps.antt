@@ -1,6 +1,7 @@
 -- The machine, line by line of the usual form.
-use Rattle.std.proofs.Common.{◌≡◌, ℕ, ◌+◌, ◌-◌, ◌<◌, ◌≤◌, true, false, List, [], ◌∷◌, ◌++◌, length, take, drop, get_or, refl, sym, ap, subst, ◌∙◌, arith, append-nil, append_assoc, take-append-drop, take-add, length-append}
+use Rattle.std.proofs.Common.{◌≡◌, ℕ, ◌+◌, ◌-◌, ◌<◌, ◌≤◌, true, false, List, [], ◌∷◌, ◌++◌, length, take, drop, get_or, refl, sym, ap, subst, ◌∙◌, arith, append-nil, append_assoc, take-append-drop, take-add, length-append, drop-drop, ne_eqb}
 use Rattle.mm_defs.specs.declared.answers.End.{End}
+use Rattle.mm_defs.specs.declared.answers.End.TheVariants.{File, LastEntry}
 use Rattle.mm_defs.specs.declared.header.Header.{Header}
 use Rattle.mm_defs.specs.declared.header.Size.{Size}
 use Rattle.mm_defs.specs.Words.{has_bytes, lines, open_line}
@@ -8,13 +9,14 @@ use Rattle.mm_defs.specs.File.{later_lines, line_faults}
 use Rattle.sp_ids.specs.Entries as entries
 use Rattle.mm_reader.specs.declared.machine.Machine.{Machine}
 use Rattle.mm_reader.specs.declared.machine.Phase.{Phase}
+use Rattle.mm_reader.specs.declared.machine.Phase.TheVariants as phases
 use Rattle.mm_reader.specs.declared.machine.Stop.{Stop}
 use Rattle.mm_reader.specs.declared.machine.Stop.TheVariants as stops
 use Rattle.std.proofs.Common.{Result, Ok, Err}
 use Rattle.mm_reader.specs.Machine.{HasBanner, HasEntries, IsReady, Steps, is_complete}
-use Rattle.mm_reader.specs.Plain.{AwaitsPlain, IsPlainLine}
-use Rattle.mm_reader.specs.Standing.{begun_lines, GoesOn, IsAfter, StopsIn, StopsWithin}
-use Rattle.mm_reader.proofs.PlainLaws.{whole_line, whole_closed_line, between-none, between-push, split_at}
+use Rattle.mm_reader.specs.Plain.{AwaitsPlain, IsPlainLine, between}
+use Rattle.mm_reader.specs.Standing.{begun_lines, GoesOn, Halts, IsAfter, StopsIn, StopsWithin}
+use Rattle.mm_reader.proofs.PlainLaws.{whole_line, whole_closed_line, between_join, between-none, between-push, split_at}
 
 pub stays : (m : Machine) (piece : List ℕ) (at : ℕ) → at ≤ length piece → IsReady m.phase m.triples → GoesOn m m piece at at
 stays m piece at h ready = record {
@@ -123,3 +125,32 @@ stops_piece end stop bytes piece at s = record {
   piece_is = sym (take-append-drop at piece) ∙ ap (λ (x : List ℕ). take at piece ++ x) s.piece_is ∙ sym (append_assoc (take at piece) s.front s.rest);
   stops = subst (λ (x : List ℕ). StopsIn end x stop) (append_assoc bytes (take at piece) s.front) s.stops;
 }
+
+-- ---- line behind line
+
+pub open_entries : (end : End) (h : Header) (s : Size) (done : ℕ) → done < s.count → is_complete end (phases.Entries h s done) ≡ false
+open_entries File h s done low = refl
+open_entries LastEntry h s done low = ne_eqb done s.count (omega arith)
+
+pub open_machine : (m : Machine) (h : Header) (s : Size) (done : ℕ) → AwaitsPlain m h s done → done < s.count → (end : End) → is_complete end m.phase ≡ false
+open_machine m h s done w low end = ap (is_complete end) w.phase_is ∙ open_entries end h s done low
+
+pub goes_then : (a b c : Machine) (piece : List ℕ) (from mid to : ℕ) → GoesOn a b piece from mid → GoesOn b c piece mid to → ((end : End) → is_complete end b.phase ≡ false) → GoesOn a c piece from to
+goes_then a b c piece from mid to f g out = record {
+  in_order = omega (arith, f.in_order, g.in_order);
+  within = g.within;
+  number = omega (arith, f.number, g.number);
+  ready = g.ready;
+  closed = λ end was full. g.closed end (out end) full;
+  stands = λ end bytes h was.
+      let k : (bytes ++ between piece from mid) ++ between piece mid to ≡ bytes ++ between piece from to =
+      append_assoc bytes (between piece from mid) (between piece mid to) ∙ ap (λ (x : List ℕ). bytes ++ x) (sym (between_join piece from mid to f.in_order g.in_order)) in
+      subst (λ (x : List ℕ). IsAfter end c x) k (g.stands end (bytes ++ between piece from mid) (f.stands end bytes h was) (out end));
+}
+
+pub halts_then : (a b : Machine) (piece : List ℕ) (from mid : ℕ) (stop : Stop) → GoesOn a b piece from mid → Halts b piece mid stop → ((end : End) → is_complete end b.phase ≡ false) → Halts a piece from stop
+halts_then a b piece from mid stop f halts out end bytes h was =
+    let e : from + (mid - from) ≡ mid = omega (arith, f.in_order) in
+    let k : drop mid piece ≡ drop (mid - from) (drop from piece) = sym (drop-drop (mid - from) from piece ∙ ap (λ i. drop i piece) e) in
+    let s = halts end (bytes ++ between piece from mid) (f.stands end bytes h was) (out end) in
+    stops_piece end stop bytes (drop from piece) (mid - from) (subst (λ (x : List ℕ). StopsWithin end (bytes ++ between piece from mid) x stop) k s)

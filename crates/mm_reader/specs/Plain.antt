@@ -50,4 +50,3 @@ pub record AwaitsPlain (m : Machine) (h : Header) (s : Size) (done : ℕ) : Type
   pub phase_is : m.phase ≡ phases.Entries h s done
   pub closed : m.begun ≡ false
   pub no_values : value_words h.field ≡ 0
-  pub low : done < s.count

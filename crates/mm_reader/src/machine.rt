@@ -142,6 +142,7 @@ pub fn after_entry(
 }
 
 /// Adds an entry, and the place on the other side of the diagonal.
+#[inline(always)]
 pub fn add(symmetry: Symmetry, entry: Entry, triples: &mut Triples) -> Result<(), OutOfMemory>
     requires row { entry.row < triples.old.rows }
     requires col { entry.col < triples.old.cols }
@@ -268,13 +269,7 @@ fn awaits_plain(m: &Machine) -> Option<(Header, Size, u32)>
     }
     match m.phase {
         Phase::Entries { header, size, done } => match header.field {
-            Field::Pattern => {
-                if done < size.count {
-                    Some((header, size, done))
-                } else {
-                    None
-                }
-            }
+            Field::Pattern => Some((header, size, done)),
             _ => None,
         },
         _ => None,
@@ -297,6 +292,7 @@ fn after_plain(
         → HasBanner header ls → HasEntries header size done triples.old (later_lines ls) → line_faults end ls ≡ [] → number ≡ length ls + 1
         → Steps end (ls ++ p.line ∷ []) triples.new result }
     ensures ready { IfOk result (λ phase. IsReady phase triples.new) }
+    ensures phase { IfOk result (λ phase. phase ≡ Phase.Entries header size (done + 1)) }
 {
     let entry = match judge_place(header, size, plain.row, plain.col, None) {
         Err(kind) => return Err(Stop::Bad { line: number, kind }),
@@ -312,37 +308,43 @@ fn after_plain(
     }
 }
 
-/// Takes the entry line of the usual form that begins here, if it does and lies whole in the piece; else nothing. It
-/// gives where the machine goes on.
+/// Takes the entry lines of the usual form that begin here, one behind the other, as far as they lie whole in the piece.
+/// It gives where the machine goes on.
 fn take_plain(m: &mut Machine, piece: &[u8], at: usize) -> Result<usize, Stop>
     requires place { at ≤ length piece.now }
     requires ready { IsReady m.old.phase m.old.triples }
-    requires room { begun_lines m.old < 2 ^ 64 - 1 }
+    requires room { begun_lines m.old + (length piece.now - at) < 2 ^ 64 }
     ensures ok { IfOk result (GoesOn m.old m.new piece.now at) }
     ensures same { IfOk result (λ next. next ≡ at → m.new ≡ m.old) }
     ensures err { IfErr result (Halts m.old piece.now at) }
 {
-    let (header, size, done) = match awaits_plain(m) {
+    let (header, size, before) = match awaits_plain(m) {
         None => return Ok(at),
         Some(entries) => entries,
     };
-    let plain = match plain_line(piece, at) {
-        None => return Ok(at),
-        Some(plain) => plain,
-    };
-    m.phase = match after_plain(header, size, done, plain, m.number + 1, &mut m.triples) {
-        Err(stop) => return Err(stop),
-        Ok(phase) => phase,
-    };
-    m.number += 1;
-    Ok(plain.next)
+    let mut done = before;
+    let mut next = at;
+    while done < size.count {
+        let plain = match plain_line(piece, next) {
+            None => return Ok(next),
+            Some(plain) => plain,
+        };
+        m.phase = match after_plain(header, size, done, plain, m.number + 1, &mut m.triples) {
+            Err(stop) => return Err(stop),
+            Ok(phase) => phase,
+        };
+        m.number += 1;
+        done += 1;
+        next = plain.next;
+    }
+    Ok(next)
 }
 
-/// Takes a line of the usual form, or a byte.
+/// Takes lines of the usual form, or a byte.
 fn step(alloc: Global, m: &mut Machine, piece: &[u8], at: usize) -> Result<usize, Stop>
     requires place { at < length piece.now }
     requires ready { IsReady m.old.phase m.old.triples }
-    requires room { begun_lines m.old < 2 ^ 64 - 1 }
+    requires room { begun_lines m.old + (length piece.now - at) < 2 ^ 64 }
     ensures ok { IfOk result (GoesOn m.old m.new piece.now at) }
     ensures more { IfOk result (λ next. at < next) }
     ensures err { IfErr result (Halts m.old piece.now at) }

@@ -6,8 +6,8 @@ ghost use Rattle.mm_defs.specs.Words.{is_blank};
 
 use crate::line::is_blank;
 
-/// Numbers of the usual form are not greater than ten times this.
-const MOST: u64 = 100_000_000_000_000_000;
+/// Numbers of the usual form have no more digits: they fit, whatever the digits are.
+const MOST_DIGITS: usize = 18;
 
 /// An entry line of the usual form.
 #[derive(Clone, Copy, Debug, PartialEq, Eq)]
@@ -38,14 +38,12 @@ fn digits(bytes: &[u8], from: usize) -> (u64, usize)
     requires { from ≤ length bytes.now }
     ensures { IsDigits bytes.now from result.1 result.0 }
 {
+    let end = bytes.len().min(from + MOST_DIGITS);
     let mut value = 0;
     let mut at = from;
-    while at < bytes.len() {
+    while at < end {
         let byte = bytes[at];
         if !byte.is_ascii_digit() {
-            return (value, at);
-        }
-        if value > MOST {
             return (value, at);
         }
         value = value * 10 + u64::from(byte - b'0');

@@ -1,22 +1,35 @@
-use Rattle.mm_reader.proofs.PlainSteps.{stays, plain_goes, plain_halts}
+use Rattle.std.proofs.Common.{refl, arith}
+use Rattle.mm_reader.proofs.PlainSteps.{stays, plain_goes, plain_halts, open_machine, goes_then, halts_then}
 use Rattle.mm_reader.proofs.machine.take_plain.Goals as goal
 
 pub returns-in-None-clause-ok : goal.returns-in-None-clause-ok
 returns-in-None-clause-ok c = stays c.args.m.now c.args.piece.now c.args.at c.requires.place c.requires.ready
 
-pub returns-in-None-plain_line-clause-ok : goal.returns-in-None-plain_line-clause-ok
-returns-in-None-plain_line-clause-ok c = stays c.args.m.now c.args.piece.now c.args.at c.requires.place c.requires.ready
-
 pub returns-in-Err-clause-err : goal.returns-in-Err-clause-err
 returns-in-Err-clause-err c =
-    let w = c.in-Some.ensures in
+    let i = c.loop-done.invariant in
     let p = c.in-Some-plain_line.ensures in
-    plain_halts c.args.m.now _ _ _ w c.args.piece.now c.args.at _ _ _ p c.after_plain.new.triples c.in-Err.stop
-    (λ end ls b has good n. c.in-Err.ensures.steps end ls c.args.piece.now c.args.at p b has good n)
+    halts_then c.args.m.now c.loop-done.m c.args.piece.now c.args.at c.loop-done.next c.in-Err.stop i.goes
+    (plain_halts c.loop-done.m _ _ _ i.awaits c.args.piece.now c.loop-done.next _ _ _ p c.after_plain.new.triples c.in-Err.stop
+    (λ end ls b has good n. c.in-Err.ensures.steps end ls c.args.piece.now c.loop-done.next p b has good n))
+    (open_machine c.loop-done.m _ _ _ i.awaits c.loop-done-test.true)
 
-pub returns-clause-ok : goal.returns-clause-ok
-returns-clause-ok c =
-    let w = c.in-Some.ensures in
+pub loop-done-init : goal.loop-done-init
+loop-done-init c = record {
+  awaits = c.in-Some.ensures;
+  goes = stays c.args.m.now c.args.piece.now c.args.at c.requires.place c.requires.ready;
+  same = λ e. refl;
+}
+
+pub loop-done-preserved : goal.loop-done-preserved
+loop-done-preserved c =
+    let i = c.loop-done.invariant in
     let p = c.in-Some-plain_line.ensures in
-    plain_goes c.args.m.now _ _ _ w c.args.piece.now c.args.at _ _ _ p c.after_plain.new.triples c.in-Ok.phase c.in-Ok.ensures.ready
-    (λ end ls b has good n. c.in-Ok.ensures.steps end ls c.args.piece.now c.args.at p b has good n)
+    record {
+      awaits = record { phase_is = c.in-Ok.ensures.phase; closed = i.awaits.closed; no_values = i.awaits.no_values };
+      goes = goes_then c.args.m.now c.loop-done.m _ c.args.piece.now c.args.at c.loop-done.next _ i.goes
+          (plain_goes c.loop-done.m _ _ _ i.awaits c.args.piece.now c.loop-done.next _ _ _ p c.after_plain.new.triples c.in-Ok.phase c.in-Ok.ensures.ready
+          (λ end ls b has good n. c.in-Ok.ensures.steps end ls c.args.piece.now c.loop-done.next p b has good n))
+          (open_machine c.loop-done.m _ _ _ i.awaits c.loop-done-test.true);
+      same = λ e. absurd (omega (arith, p.in_order, i.goes.in_order));
+    }

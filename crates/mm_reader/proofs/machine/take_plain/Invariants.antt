@@ -1,0 +1,14 @@
+use Rattle.std.proofs.Common.{◌≡◌, ◌-◌}
+use Rattle.mm_reader.specs.Plain.{AwaitsPlain}
+use Rattle.mm_reader.specs.Standing.{GoesOn}
+use Rattle.mm_reader.proofs.machine.take_plain.Given as goal
+
+abbrev pub invariant-loop-done : goal.invariant-loop-done
+invariant-loop-done l = record {
+  awaits : AwaitsPlain l.m l.header l.size l.done;
+  goes : GoesOn l.fn.m l.m l.piece l.at l.next;
+  same : l.next ≡ l.at → l.m ≡ l.fn.m;
+}
+
+abbrev pub decreases-loop-done : goal.decreases-loop-done
+decreases-loop-done l = l.size.count - l.done
