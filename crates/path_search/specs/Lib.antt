@@ -1,3 +1,4 @@
 pub mod Advancing
+pub mod Forests
 pub mod Searching
 pub mod Trails

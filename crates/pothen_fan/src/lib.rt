@@ -1,11 +1,19 @@
-//! Maximum matchings by phases of vertex-disjoint depth-first searches, after Pothen and Fan (1990).
+//! Maximum matchings by phases of searches along vertex-disjoint paths.
 //!
-//! A phase searches once from each unmatched column, and goes to each row at most once, so it is one pass over the entries.
-//! Each column's list is looked through for an unmatched row before the search goes deeper, from where the last look-ahead
-//! ended: rows that were found matched stay matched. Phases turn the direction in which lists are read (Azad,
-//! Halappanavar, Rajamanickam, Boman, Khan and Pothen 2012).
+//! A depth-first phase, after Pothen and Fan (1990), searches once from each unmatched column, and goes to each row at most
+//! once, so it is one pass over the entries. Each column's list is looked through for an unmatched row before the search
+//! goes deeper, from where the last look-ahead ended: rows that were found matched stay matched. Phases turn the direction
+//! in which lists are read (Azad, Halappanavar, Rajamanickam, Boman, Khan and Pothen 2012).
+//!
+//! A breadth-first phase grows a tree from each unmatched column, all of them side by side and each until it finds an
+//! unmatched row (Azad, Buluç and Pothen 2017, whose trees are grafted between phases and here grow anew). Its paths are
+//! short, but unlike those of Hopcroft and Karp (1973) they need not be the shortest, nor as many as there can be.
+//!
+//! Depth-first phases are few where most of them find many paths, breadth-first phases where few columns are left whose
+//! paths are long. So after a phase that has matched less than half of the unmatched columns the next is of the other kind.
 #![tactic(auto)]
 
+mod kinds;
 mod sweep;
 #[cfg(test)]
 mod tests;
@@ -15,6 +23,7 @@ ghost use Rattle.bip_defs.specs.Lists.{Among};
 ghost use Rattle.bip_defs.specs.Matching.{IsMatching, IsMaximum, rows_of, cols_of};
 ghost use Rattle.bip_defs.specs.Matrix.{cols};
 
+use crate::kinds::Phases;
 use crate::sweep::{sweep, unmatched_cols};
 use bip_graph::Matching;
 use path_search::Search;
@@ -22,7 +31,7 @@ use sp_ids::OutOfMemory;
 use sp_pattern::Pattern;
 use std::alloc::Global;
 
-/// One phase of searches. Gives by how much the matching has grown: 0 exactly where it was maximum.
+/// One depth-first phase. Gives by how much the matching has grown: 0 exactly where it was maximum.
 ///
 /// The matching must be of the pattern's entries and sizes, and no row or column loses its mate without a new one. Answers
 /// `OutOfMemory` where there is no memory for 17 bytes a row, 4 a column and 4 an unmatched column; the matching is as
@@ -48,8 +57,8 @@ pub fn phase(alloc: Global, pattern: &Pattern, matching: &mut Matching) -> Resul
 
 /// A maximum matching, in which every row and column that was matched before is matched.
 ///
-/// The matching must be of the pattern's entries and sizes. Answers `OutOfMemory` where there is no memory for 17 bytes a
-/// row, 4 a column and 4 an unmatched column; the matching is dropped then. Work: one pass over the entries for each
+/// The matching must be of the pattern's entries and sizes. Answers `OutOfMemory` where there is no memory for 26 bytes a
+/// row, 16 a column and 4 an unmatched column; the matching is dropped then. Work: one pass over the entries for each
 /// phase, of which all but the last make the matching larger.
 pub fn complete(
     alloc: Global,
@@ -64,14 +73,11 @@ pub fn complete(
     ensures rows_stay { IfOk result (λ m. (r : ℕ) → Among r (rows_of matching.pairs) → Among r (rows_of m.pairs)) }
     ensures cols_stay { IfOk result (λ m. (c : ℕ) → Among c (cols_of matching.pairs) → Among c (cols_of m.pairs)) }
 {
-    let mut search = Search::new(alloc, pattern.rows(), pattern.cols())?;
-    let roots = unmatched_cols(alloc, pattern, &matching)?;
+    let mut phases = Phases::new(alloc, pattern, &matching)?;
     let mut grown = matching;
-    let mut turned = false;
     let mut grows = true;
     while grows {
-        grows = sweep(&mut search, pattern, &mut grown, roots.as_slice(), turned);
-        turned = !turned;
+        grows = phases.run(pattern, &mut grown);
     }
     Ok(grown)
 }

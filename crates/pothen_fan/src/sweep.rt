@@ -1,4 +1,4 @@
-//! One phase of searches.
+//! One depth-first phase.
 
 ghost use Rattle.std.specs.Prelude.{◌≡◌, ◌⊎◌, ℕ, ◌<◌, ◌↔◌, length, IfOk, IsTrue};
 ghost use Rattle.bip_defs.specs.Lists.{Among};

@@ -187,3 +187,31 @@ fn goes_on_after_searches_that_fail(rt: HostRuntime) -> Result<(), OutOfMemory> 
     completes(&rt, &matrix, &[(3, 5)], 4, &[(3, 6), (4, 5)])?;
     completes(&rt, &matrix, &[], 4, &[(3, 6), (4, 5)])
 }
+
+#[test]
+fn turns_to_the_other_kind(rt: HostRuntime) -> Result<(), OutOfMemory> {
+    // Columns 2 to 5 have row 2 alone, which column 1 passes on its way to row 4 by way of rows 1 and 3. Then one of them
+    // can still take row 2 from column 7, which takes row 1 from column 1, which takes row 5 from column 9.
+    let places = [
+        (1, 1),
+        (5, 1),
+        (2, 2),
+        (2, 3),
+        (2, 4),
+        (2, 5),
+        (1, 6),
+        (2, 6),
+        (3, 6),
+        (1, 7),
+        (2, 7),
+        (3, 8),
+        (4, 8),
+        (5, 9),
+        (6, 9),
+    ];
+    let matrix = triples(rt.alloc(), 6, 9, &places)?;
+    let pairs = [(1, 6), (2, 7), (3, 8), (5, 9)];
+    let sure = [(5, 1), (3, 6), (1, 7), (4, 8), (6, 9)];
+    grows(&rt, &matrix, &pairs, 1)?;
+    completes(&rt, &matrix, &pairs, 6, &sure)
+}

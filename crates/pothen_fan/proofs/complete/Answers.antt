@@ -1,19 +1,17 @@
-use Rattle.pothen_fan.proofs.Phases.{last_phase, phases_fall, unmatched_still}
+use Rattle.pothen_fan.proofs.Phases.{last_phase, phases_fall}
 use Rattle.pothen_fan.proofs.complete.Goals as goal
 
 pub loop-grows-smaller : goal.loop-grows-smaller
 loop-grows-smaller c =
-    let e = c.sweep-grows.ensures in
-    let old = c.loop-grows.grown.pairs in
-    rw c.loop-grows-test.true (phases_fall _ _ _ _ e.grown e.maximum e.fits.matching)
+    let e = c.run-grows.ensures in
+    rw c.loop-grows-test.true (phases_fall _ _ _ _ e.grown e.maximum e.ready.fits.matching)
 
 pub loop-grows-preserved : goal.loop-grows-preserved
 loop-grows-preserved c =
-    let e = c.sweep-grows.ensures in
+    let e = c.run-grows.ensures in
     let k = c.loop-grows.invariant in
     record {
-      fits = e.fits;
-      roots = unmatched_still _ _ _ _ e.cols_stay k.roots;
+      ready = e.ready;
       last = last_phase _ _ _ _ e.grown e.maximum;
       rows_stay = λ r h. e.rows_stay r (k.rows_stay r h);
       cols_stay = λ x h. e.cols_stay x (k.cols_stay x h);
