@@ -1,13 +1,11 @@
 //! Phases of breadth-first searches from all unmatched columns at once.
 
-ghost use Rattle.std.specs.Bool.{OnTrue, OnFalse};
-ghost use Rattle.std.specs.Prelude.{◌≡◌, ◌⊎◌, ◌↔◌, ℕ, suc, ◌+◌, ◌<◌, ◌≤◌, ◌^◌, ◌∷◌, ◌++◌, [], true, length, set, slice_index, reverse, IsTrue, IfOk, IfSome, IfNone};
+ghost use Rattle.std.specs.Prelude.{◌≡◌, ◌⊎◌, ◌↔◌, ℕ, suc, ◌<◌, ◌≤◌, ◌∷◌, ◌++◌, [], true, length, set, reverse, IsTrue, IfOk, IfSome, IfNone};
 ghost use Rattle.bip_defs.specs.Lists.{Among};
 ghost use Rattle.bip_defs.specs.Matching.{IsMatching, IsMaximum, rows_of, cols_of};
-ghost use Rattle.bip_defs.specs.Matrix.{AreEntries, IsEntry, Place, cols, column};
-ghost use Rattle.bip_defs.specs.Paths.{IsAugmenting};
+ghost use Rattle.bip_defs.specs.Matrix.{cols};
 ghost use Rattle.path_search.specs.Searching.{IsMarked, IsShut};
-ghost use Rattle.path_search.specs.Forests.{AreFruitless, GoesOn, HasGrown, IsForest, IsLeafOf, LeadOn, Spreads, Traces, Trees, Visits, reached_at};
+ghost use Rattle.path_search.specs.Forests.{AreFruitless, GoesOn, IsForest, IsLeafOf, LeadOn, Spreads, Traces, Visits, reached_at};
 
 use crate::columns::{put, unmark_all};
 use crate::reached::Reached;
@@ -18,6 +16,8 @@ use std::alloc::Global;
 use std::marker::Model;
 
 /// Trees of alternating paths that grow from all unmatched columns at once, each until it finds an unmatched row.
+///
+/// It keeps 9 bytes a row and 12 a column.
 #[derive(Drop)]
 pub struct Forest {
     cols: u32,
@@ -38,7 +38,7 @@ impl Model for Forest {
 }
 
 impl Forest {
-    /// For patterns of so many rows and columns.
+    /// For patterns of so many rows and columns. Answers `OutOfMemory` where the arrays can't be had.
     pub fn new(alloc: Global, rows: u32, cols: u32) -> Result<Forest, OutOfMemory>
         ensures cols { IfOk result (λ f. f.cols ≡ cols) }
         ensures rows { IfOk result (λ f. length f.marks ≡ rows) }
@@ -276,9 +276,10 @@ impl Forest {
 
     /// Searches breadth-first from all unmatched columns at once, and exchanges the augmenting paths that it finds.
     ///
-    /// From each unmatched column grows a tree of alternating paths, which ends at the first unmatched row that it comes to.
-    /// Each row is in one tree at most, so the paths have no vertex in common. Where there is none the matching was
-    /// maximum, else it has grown. Work: one look at each column, and at each of its entries once at most.
+    /// From each unmatched column grows a tree of alternating paths, which ends at the first unmatched row that it comes to
+    /// (Azad, Buluç and Pothen 2017). Each row is in one tree at most, so the paths have no vertex in common. Where there
+    /// is no path the matching was maximum. Takes no memory. Work: one look at each row and column, and at each entry once
+    /// at most.
     pub fn sweep(&mut self, pattern: &Pattern, matching: &mut Matching)
         requires rows { length self.old.marks ≡ pattern.now.rows }
         requires cols { self.old.cols ≡ cols pattern.now }
