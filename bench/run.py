@@ -1,14 +1,16 @@
 #!/usr/bin/env python3
-"""Runs `btf rank` and what Debian packages for the same job on the same files, interleaved, and prints a table.
+"""Runs `btf rank` or `btf analyse` and what Debian packages for the same job on the same files, interleaved, and prints
+a table.
 
     apt-get install g++ libsuitesparse-dev libigraph-dev python3-scipy
-    bench/run.py --btf crates/btf/out/btf [--work DIR] [--entries 100000,1000000] [--families er27,grid2d] [--repeats 3]
-                 [--peers cxsparse,suitesparse,igraph,scipy] [--limit SECONDS]
+    bench/run.py --btf crates/btf/out/btf [--job analyse] [--work DIR] [--entries 100000,1000000] [--families er27,grid2d]
+                 [--repeats 3] [--peers cxsparse,suitesparse,igraph,scipy] [--limit SECONDS] [--clock processor]
 
 Files, programs and outputs go to DIR (by default bench-work in the system's folder for temporary files). Times are those
-of whole processes, from a file in the page cache to a text in a file: the median of the repeats. Every program writes the
-same text as `btf rank`, and a difference is told and makes the exit status 1. Ratios of one run compare programs; single
-times compare nothing.
+of whole processes, from a file in the page cache to a text in a file: the median of the repeats, by the wall clock, or
+by processor seconds where the machine is busy. Every program writes the text of `btf rank`, or one with the numbers of
+`btf analyse`; a difference is told and makes the exit status 1. Ratios of one run compare programs; single times compare
+nothing.
 """
 import argparse
 import os
@@ -65,31 +67,48 @@ def scipy_python():
 
 
 def programs(options):
-    found = {"btf": [options.btf, "rank"]}
+    found = {"btf": [options.btf, options.job]}
     for peer in options.peers.split(","):
         if peer == "scipy":
             python = scipy_python()
-            if python:
+            if python and options.job == "rank":
                 found[peer] = [python, os.path.join(HERE, "scipy_rank.py")]
-        elif os.path.exists(os.path.join(options.work, "peers")):
-            found[peer] = [os.path.join(options.work, "peers"), peer]
+        elif os.path.exists(os.path.join(options.work, "peers")) and not (options.job == "analyse" and peer == "igraph"):
+            found[peer] = [os.path.join(options.work, "peers"), options.job, peer]
     return found
 
 
-def once(command, path, out, limit):
-    """Seconds and peak bytes of one run, or none where it took too long."""
+def counts(text):
+    """The lines of a report that say how many: they don't hang on the order of blocks and lists."""
+    words = (b"matrix", b"rank", b"horizontal", b"square", b"vertical")
+    return {line.split()[0]: line for line in text.splitlines() if line.startswith(words)}
+
+
+def agree(job, text, other):
+    """Whether a peer's text is the same, or for `analyse` each count that it tells."""
+    if job == "rank":
+        return text == other
+    mine = counts(text)
+    return all(mine.get(word) == line for word, line in counts(other).items())
+
+
+def once(command, path, out, limit, clock):
+    """Seconds and peak bytes of one run, or none where it took too long or has no answer."""
     with open(path, "rb") as file, open(out, "wb") as text:
         begin = time.monotonic()
         child = subprocess.Popen(command, stdin=file, stdout=text, stderr=subprocess.DEVNULL,
                                  preexec_fn=lambda: resource.setrlimit(resource.RLIMIT_CPU, (limit, limit)))
         _, status, usage = os.wait4(child.pid, 0)
         child.returncode = status
-        return (time.monotonic() - begin, usage.ru_maxrss * 1024) if status == 0 else None
+        seconds = time.monotonic() - begin if clock == "wall" else usage.ru_utime + usage.ru_stime
+        return (seconds, usage.ru_maxrss * 1024) if status == 0 else None
 
 
 def main():
     parser = argparse.ArgumentParser(description=__doc__, formatter_class=argparse.RawDescriptionHelpFormatter)
     parser.add_argument("--btf", required=True)
+    parser.add_argument("--job", choices=["rank", "analyse"], default="rank")
+    parser.add_argument("--clock", choices=["wall", "processor"], default="wall")
     parser.add_argument("--work", default=os.path.join(tempfile.gettempdir(), "bench-work"))
     parser.add_argument("--entries", default="100000,1000000")
     parser.add_argument("--families", default=",".join(COLUMNS))
@@ -115,7 +134,7 @@ def main():
                     if name in late:
                         continue
                     out = os.path.join(options.work, name + ".out")
-                    done = once(command, path, out, options.limit)
+                    done = once(command, path, out, options.limit, options.clock)
                     if done is None:
                         late.add(name)
                         continue
@@ -124,13 +143,13 @@ def main():
                     with open(out, "rb") as text:
                         texts[name] = text.read()
             for name, text in texts.items():
-                if text != texts.get("btf"):
+                if "btf" in texts and not agree(options.job, texts["btf"], text):
                     print(f"run.py: {name} and btf differ on {path}", file=sys.stderr)
                     differs = True
             median = {name: statistics.median(ts) for name, ts in times.items() if ts}
             others = [t for name, t in median.items() if name != "btf"]
             ratio = f"{median['btf'] / min(others):.2f}" if others and "btf" in median else "-"
-            cells = [f"{median[name] * 1e9 / entries:.0f}" if name in median else f"over {options.limit} s" for name in tools]
+            cells = [f"{median[name] * 1e9 / entries:.0f}" if name in median else "-" for name in tools]
             peak = f"{peaks['btf'] / entries:.0f}" if "btf" in peaks else "-"
             print(f"| {family} | {entries} | " + " | ".join(cells) + f" | {ratio} | {peak} |", flush=True)
     sys.exit(1 if differs else 0)
