@@ -16,12 +16,28 @@ fn summary<R: Threads + Abort + AllocGlobal + Sync>(
     seed: &str,
     text: &str,
 ) -> Result<(), Fail> {
-    let plain = ["load", "--size", size, "--seed", seed].as_slice();
     let text = text.as_bytes();
-    expect(rt, plain, b"no matrix", &STEADY, Status::Ok, text, b"")?;
+    let words = ["load", "--size", size, "--seed", seed];
+    expect(
+        rt,
+        words.as_slice(),
+        b"no matrix",
+        &STEADY,
+        Status::Ok,
+        text,
+        b"",
+    )?;
     for engine in ["plain", "mc21", "pf"] {
-        let words = ["load", "--seed", seed, "--engine", engine, "--size", size].as_slice();
-        expect(rt, words, b"no matrix", &STEADY, Status::Ok, text, b"")?;
+        let words = ["load", "--seed", seed, "--engine", engine, "--size", size];
+        expect(
+            rt,
+            words.as_slice(),
+            b"no matrix",
+            &STEADY,
+            Status::Ok,
+            text,
+            b"",
+        )?;
     }
     Ok(())
 }
@@ -102,8 +118,16 @@ fn sizes_out_of_range(rt: HostRuntime) -> Result<(), Fail> {
     let usage =
         b"btf: usage: btf rank | analyse [--engine E] [--workers W] [--order] [--pairs] | diagonal | check | load --size N --seed S [--engine E] [--workers W]\n";
     for size in ["0", "16777217"] {
-        let words = ["load", "--size", size, "--seed", "1"].as_slice();
-        expect(&rt, words, b"", &STEADY, Status::Usage, b"", usage)?;
+        let words = ["load", "--size", size, "--seed", "1"];
+        expect(
+            &rt,
+            words.as_slice(),
+            b"",
+            &STEADY,
+            Status::Usage,
+            b"",
+            usage,
+        )?;
     }
     Ok(())
 }
