@@ -4,3 +4,15 @@ pub mod Parts
 pub mod Orders
 pub mod Mates
 pub mod Whole
+pub mod Digits
+pub mod IdLists
+pub mod Spelled
+pub mod Fronts
+pub mod Risen
+pub mod PairLists
+pub mod BlockLists
+pub mod Rising
+pub mod ListLines
+pub mod Listed
+pub mod PairLines
+pub mod Reports

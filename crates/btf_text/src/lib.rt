@@ -2,17 +2,24 @@
 #![tactic(auto)]
 
 mod buffer;
+mod laws;
 mod load;
+mod numerals;
 mod pairs;
 mod rank;
+mod reader;
 mod report;
 #[cfg(test)]
 mod report_tests;
+mod sections;
+mod stop;
 #[cfg(test)]
 mod tests;
 
 pub use buffer::TextBuf;
+pub use laws::one_spelling;
 pub use load::write_load;
 pub use pairs::write_pairs;
 pub use rank::write_rank;
+pub use reader::{Report, read_report};
 pub use report::write_report;

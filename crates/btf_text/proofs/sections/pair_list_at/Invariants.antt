@@ -1,0 +1,7 @@
+use Rattle.std.proofs.Common.{◌≡◌, ◌-◌}
+use Rattle.btf_text.specs.Reading.{pair_list_at}
+use Rattle.btf_text.proofs.Fronts.{with_front}
+use Rattle.btf_text.proofs.sections.pair_list_at.Given as goal
+
+abbrev pub invariant-loop : goal.invariant-loop
+invariant-loop l = with_front l.pairs.items (pair_list_at (l.count - l.counter) l.rest) ≡ pair_list_at l.count l.bytes

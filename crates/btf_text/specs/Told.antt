@@ -1,0 +1,34 @@
+-- What a report that was read says.
+use Rattle.std.specs.Prelude.{ℕ, List, Option, Some, None}
+use Rattle.std.specs.Global.{Vec}
+use Rattle.std.specs.List.Sorted.{IsPermutation, IsSorted}
+use Rattle.std.specs.Ordering.{nat_cmp}
+use Rattle.bip_graph.specs.Stretches.{all_cols, all_rows}
+use Rattle.bip_graph.specs.Texts as texts
+use Rattle.sp_ids.specs.declared.ids.Col.{Col}
+use Rattle.sp_ids.specs.declared.ids.Row.{Row}
+use Rattle.btf_text.specs.declared.reader.Report.{Report}
+
+abbrev pub orders_told : Option (Vec Row × Vec Col) → Option (List ℕ × List ℕ)
+orders_told None = None
+orders_told (Some orders) = Some (orders.0.items, orders.1.items)
+
+abbrev pub told : Report → texts.Report
+told r = record {
+  sizes = record { rows = r.m; cols = r.n; entries = r.e };
+  rank = r.rank;
+  horizontal_rows = r.parts.hr.items;
+  horizontal_cols = r.parts.hc.items;
+  blocks = r.blocks;
+  vertical_rows = r.parts.vr.items;
+  vertical_cols = r.parts.vc.items;
+  orders = orders_told r.orders;
+  pairs = Some r.pairs.items;
+}
+
+-- the lists of the square part hold the rows and the columns of the blocks, in order
+pub record HasSquare (r : Report) : Type 0 where
+  pub rows : IsPermutation (all_rows r.blocks) r.parts.sr.items
+  pub cols : IsPermutation (all_cols r.blocks) r.parts.sc.items
+  pub rows_in_order : IsSorted nat_cmp r.parts.sr.items
+  pub cols_in_order : IsSorted nat_cmp r.parts.sc.items

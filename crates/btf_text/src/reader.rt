@@ -1,0 +1,141 @@
+//! Reports that are read.
+
+ghost use Rattle.std.specs.Prelude.{◌≡◌, IfOk, IfSome, IfNone};
+ghost use Rattle.std.specs.List.Sorted.{IsPermutation, IsSorted};
+ghost use Rattle.bip_graph.specs.Texts as texts;
+ghost use Rattle.bip_graph.specs.Texts.{report_text};
+ghost use Rattle.btf_text.specs.Readable.{IsReadable};
+ghost use Rattle.btf_text.specs.Reading.{Gives, head_at, report_at, sizes_at, tail_at};
+ghost use Rattle.btf_text.specs.Told.{HasSquare, orders_told, told};
+
+use crate::numerals::{field_at, line_end, one_at, word_at};
+use crate::sections::{orders_at, pairs_at, part_at, square_at};
+use crate::stop::Stop;
+use bip_graph::{Blocks, Parts};
+use sp_ids::{Col, Id, OutOfMemory, Row};
+use std::alloc::Global;
+
+/// What a report with pairs says.
+///
+/// Nothing ties its numbers and lists to a matrix, or to one another: rows and columns are below 2^32 - 1, the lists of
+/// parts and blocks rise, the pairs rise by column, and both lists of a block are of one length, which is at least 1. The
+/// lists of the square part are the rows and the columns of the blocks, in order of number.
+#[derive(Drop)]
+pub struct Report {
+    pub m: u32,
+    pub n: u32,
+    pub e: u32,
+    pub rank: u32,
+    pub parts: Parts,
+    pub blocks: Blocks,
+    pub pairs: Vec<(Row, Col)>,
+    pub orders: Option<(Vec<Row>, Vec<Col>)>,
+}
+
+/// The numbers of rows, columns and entries.
+#[tactic(auto, unfolding(crate::specs::Reading::sizes_at))]
+fn sizes_at(bytes: &[u8]) -> Result<((u32, u32, u32), &[u8]), Stop>
+    ensures { Gives (λ x. (record { rows = x.0.0; cols = x.0.1; entries = x.0.2 }, x.1.now)) result (sizes_at bytes.now) }
+{
+    let rest = word_at(bytes, b"matrix")?;
+    let (m, rest) = field_at(rest)?;
+    let (n, rest) = field_at(rest)?;
+    let (e, rest) = field_at(rest)?;
+    let rest = line_end(rest)?;
+    Ok(((m, n, e), rest))
+}
+
+/// What stands in front of the parts: the sizes of the matrix and its rank.
+#[tactic(auto, unfolding(crate::specs::Reading::head_at))]
+fn head_at(bytes: &[u8]) -> Result<(((u32, u32, u32), u32), &[u8]), Stop>
+    ensures { Gives (λ x. ((record { rows = x.0.0.0; cols = x.0.0.1; entries = x.0.0.2 }, x.0.1), x.1.now)) result (head_at bytes.now) }
+{
+    let rest = word_at(bytes, b"btf 1\n")?;
+    let (sizes, rest) = sizes_at(rest)?;
+    let (rank, rest) = one_at(rest, b"rank")?;
+    Ok(((sizes, rank), rest))
+}
+
+/// The orders and the pairs.
+#[derive(Drop)]
+struct Tail {
+    orders: Option<(Vec<Row>, Vec<Col>)>,
+    pairs: Vec<(Row, Col)>,
+}
+
+/// What stands behind the parts: orders and pairs, up to the end of the bytes.
+#[tactic(auto, unfolding(crate::specs::Reading::tail_at))]
+fn tail_at(alloc: Global, bytes: &[u8]) -> Result<Tail, Stop>
+    ensures { Gives (λ t. (orders_told t.orders, t.pairs.items)) result (tail_at bytes.now) }
+{
+    let (orders, rest) = orders_at(alloc, bytes)?;
+    let (pairs, rest) = pairs_at(alloc, rest)?;
+    let rest = word_at(rest, b"end\n")?;
+    if !rest.is_empty() {
+        return Err(Stop::Other);
+    }
+    Ok(Tail { orders, pairs })
+}
+
+/// The rows or columns of a list, in order of number.
+fn sorted<N: Id + Ord>(alloc: Global, list: &[N]) -> Result<Vec<N>, OutOfMemory>
+    ensures same { IfOk result (λ v. IsPermutation list.now v.items) }
+    ensures in_order { IfOk result (λ v. IsSorted N.cmp v.items) }
+{
+    let mut sorted = Vec::from_slice(alloc, list)?;
+    sorted.sort_unstable();
+    Ok(sorted)
+}
+
+/// The report that the bytes are.
+#[tactic(auto, unfolding(crate::specs::Reading::report_at))]
+fn report_at(alloc: Global, bytes: &[u8]) -> Result<Report, Stop>
+    ensures told { Gives told result (report_at bytes.now) }
+    ensures square { IfOk result HasSquare }
+{
+    let (((m, n, e), rank), rest) = head_at(bytes)?;
+    let ((hr, hc), rest) = part_at(alloc, rest, b"horizontal")?;
+    let (blocks, rest) = square_at(alloc, rest)?;
+    let ((vr, vc), rest) = part_at(alloc, rest, b"vertical")?;
+    let tail = tail_at(alloc, rest)?;
+    let sr = sorted(alloc, blocks.all_rows())?;
+    let sc = sorted(alloc, blocks.all_cols())?;
+    let parts = Parts {
+        hr,
+        hc,
+        sr,
+        sc,
+        vr,
+        vc,
+    };
+    Ok(Report {
+        m,
+        n,
+        e,
+        rank,
+        parts,
+        blocks,
+        pairs: tail.pairs,
+        orders: tail.orders,
+    })
+}
+
+/// Reads a report with pairs, with or without orders: all of the bytes, from `btf 1` to the end of the line `end`.
+///
+/// Answers `None` exactly where the bytes are not such a report, and `OutOfMemory` where its lists can't be had. No list
+/// is reserved by a number of the text: each grows as its numbers are read, to 4 bytes each, and 8 a pair. Work: one look
+/// at each byte.
+pub fn read_report(alloc: Global, bytes: &[u8]) -> Result<Option<Report>, OutOfMemory>
+    // What is read is spelled so, each byte of it.
+    ensures found { IfOk result (λ o. IfSome o (λ r. IsReadable (told r) × (bytes.now ≡ report_text (told r)))) }
+    // The lists of the square part are those of the blocks, in order.
+    ensures square { IfOk result (λ o. IfSome o HasSquare) }
+    // Where nothing is read, the bytes are no report.
+    ensures none { IfOk result (λ o. IfNone o ((r : texts.Report) → IsReadable r → ¬ (bytes.now ≡ report_text r))) }
+{
+    match report_at(alloc, bytes) {
+        Ok(report) => Ok(Some(report)),
+        Err(Stop::Other) => Ok(None),
+        Err(Stop::Memory) => Err(OutOfMemory),
+    }
+}
