@@ -10,10 +10,10 @@ use std::test::Fail;
 use std::thread::Threads;
 
 /// What is written for a size and a seed, by each engine. A file that is there is not looked at.
-fn summary<R: Threads + Abort + AllocGlobal + Sync>(
+fn summary<'a, R: Threads + Abort + AllocGlobal + Sync>(
     rt: &R,
-    size: &str,
-    seed: &str,
+    size: &'a str,
+    seed: &'a str,
     text: &str,
 ) -> Result<(), Fail> {
     let text = text.as_bytes();
