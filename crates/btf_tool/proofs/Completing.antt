@@ -8,6 +8,7 @@ use Rattle.sp_ports.specs.Counts.{SourceRose}
 use Rattle.btf_words.specs.Words.{AreTaken, job_of}
 use Rattle.btf_words.specs.declared.jobs.WordsError.{WordsError}
 use Rattle.btf_words.specs.declared.jobs.Job.{Job}
+use Rattle.btf_words.specs.declared.jobs.Job.TheVariants.{Rank, Analyse, Load}
 use Rattle.mm_defs.specs.Faults.{is_limit}
 use Rattle.mm_defs.specs.File.{Fault, Reads}
 use Rattle.mm_defs.specs.Reading.{Call, first_bad, ReadsAll}
@@ -18,9 +19,9 @@ use Rattle.mm_defs.proofs.Answering.{bad_line_told, good_file_answer}
 use Rattle.btf_tool.specs.declared.refusals.Refusal.{Refusal}
 use Rattle.btf_tool.specs.declared.refusals.Refusal.TheVariants.{Usage, Malformed, Limit, TooLong, ReadFault, WriteFault, OutOfMemory}
 use Rattle.btf_tool.specs.Devices.{Device, HasNotFallen, HasReadFault, HasWriteFault, IsUntouched, WasTold}
-use Rattle.btf_tool.specs.Jobs.{IsAnswer as IsJobAnswer, OfReading, WithAnswer, reading}
+use Rattle.btf_tool.specs.Jobs.{IsAnswer as IsJobAnswer, OfReading, ReadsFile, WithAnswer, WithFileAnswer, reading}
 use Rattle.btf_tool.specs.Refusals.{line_of, status_of}
-use Rattle.btf_tool.specs.Runs.{Completes, HasCause, IsOrNoMemory, JobSays, Names, Run, Says, TellsStill, status_of_fault}
+use Rattle.btf_tool.specs.Runs.{Completes, HasCause, IsOrNoMemory, JobSays, NameMaker, NameReader, Names, Run, Says, TellsStill, status_of_fault}
 
 -- what follows of what holds where bytes are told
 pub told : {P Q : List ℕ → List ℕ → Type 0} (before after : Option (List ℕ)) → WhereTold before after P
@@ -48,30 +49,52 @@ clash first fault none some = cc
 answer_read : (job : Job) (call : Call) (text : List ℕ) → IsJobAnswer job call text → (t : Entries) × ReadsAll File call t []
 answer_read job call text h = (h.entries, h.was_read.reads)
 
+-- words name one job
+one_job : (words : List (List ℕ)) (one two : Job) → Names words one → Names words two → one ≡ two
+one_job words one two h k =
+    let e : Some one ≡ Some two = sym h.job_is ∙ k.job_is in
+    cc
+
+-- words that name a job that reads a file name no other
+reads_named : (words : List (List ℕ)) (job : Job) → Names words job → NameReader words → ReadsFile job
+reads_named words job names reader = subst (λ (j : Job). ReadsFile j) (one_job words reader.0 job reader.1 names) reader.2
+
+-- words that name a job that makes its matrix name no other
+pub made_named : (words : List (List ℕ)) (job : Job) → Names words job → NameMaker words → ¬ ReadsFile job
+made_named words job names maker = subst (λ (j : Job). ¬ ReadsFile j) (one_job words maker.0 job maker.1 names) maker.2
+
+-- a job that reads a file answered over it
+over_file : (job : Job) (input : Device) (P : List ℕ → Type 0) → ReadsFile job → WithAnswer job input P → WithFileAnswer job input P
+over_file Rank input P reads h = h
+over_file (Analyse engine order pairs) input P reads h = h
+over_file (Load size seed engine) input P reads h = absurd reads
+
 -- the run was answered
-answered : (r : Run) (status wanted : Status) → status ≡ wanted → AreTaken r.words → (P : List ℕ → Type 0) (job : Job) → WithAnswer job r.input P
+answered : (r : Run) (status wanted : Status) → status ≡ wanted → (P : List ℕ → Type 0) (job : Job) → Names r.words job → WithAnswer job r.input P
     → (¬ HasWriteFault r.out → IsOrNoMemory status statuses.Ok) → Completes r status
-answered r status wanted is taken P job written ok = record {
-  usage = λ not. absurd (not taken);
-  bad_line = λ _. told r.input.before r.input.after written
+answered r status wanted is P job names written ok = record {
+  usage = λ not. absurd (not names.taken);
+  bad_line = λ reader. told r.input.before r.input.after (over_file job r.input P (reads_named r.words job names reader) written)
       (λ x y before h fault bad. absurd (bad_line_told File (reading r.input x y) [] (Ok (answer_read job (reading r.input x y) h.0 h.1).0) fault (answer_read job (reading r.input x y) h.0 h.1).1 bad));
-  good = λ _ no_read no_write. told r.input.before r.input.after written (λ x y before h t reads few. ok no_write);
-  not_good = λ _ no_read. told r.input.before r.input.after written
+  good = λ reader no_read no_write. told r.input.before r.input.after (over_file job r.input P (reads_named r.words job names reader) written) (λ x y before h t reads few. ok no_write);
+  not_good = λ reader no_read. told r.input.before r.input.after (over_file job r.input P (reads_named r.words job names reader) written)
       (λ x y before h none. let read = (answer_read job (reading r.input x y) h.0 h.1).1 in
       absurd (none (answer_read job (reading r.input x y) h.0 h.1).0 read.reads (omega (arith, read.within))));
+  made = λ maker no_write. ok no_write;
 }
 
 -- the run was refused for a bad line
 bad : (r : Run) (status : Status) (line : ℕ) (kind : Kind) (limit : Bool) → status ≡ (if limit then statuses.Limit else statuses.Malformed)
-    → AreTaken r.words → HasNotFallen r.input
+    → (job : Job) → Names r.words job → ReadsFile job → HasNotFallen r.input
     → OfReading r.input (λ call. (first_bad File call ≡ Some (record { line = line; kind = kind })) × (is_limit kind ≡ limit)) → Completes r status
-bad r status line kind limit said taken later first = record {
-  usage = λ not. absurd (not taken);
+bad r status line kind limit said job names reads later first = record {
+  usage = λ not. absurd (not names.taken);
   bad_line = λ _. told r.input.before r.input.after first
       (λ x y before h fault two. inl (said ∙ kind_status line kind fault (first_bad File (reading r.input x y)) limit h.0 h.1 two));
   good = λ _ no_read no_write. told r.input.before r.input.after first
       (λ x y before h t reads few. absurd (not_answered limit (reading r.input x y) t h.0 h.1 reads few (steady r.input x before later no_read)));
   not_good = λ _ no_read. told r.input.before r.input.after first (λ x y before h none. inl (either limit said));
+  made = λ maker. absurd (made_named r.words job names maker reads);
 }
   where
     not_answered : (limit : Bool) (call : Call) (t : Entries) → first_bad File call ≡ Some (record { line = line; kind = kind }) → is_limit kind ≡ limit
@@ -87,35 +110,39 @@ bad r status line kind limit said taken later first = record {
 refused : (r : Run) (status : Status) (refusal : Refusal) → status ≡ status_of refusal → HasCause r refusal → Completes r status
 refused r status Usage said c = record {
   usage = λ _. inl said;
-  bad_line = λ taken. absurd (c.0 taken);
-  good = λ taken. absurd (c.0 taken);
-  not_good = λ taken. absurd (c.0 taken);
+  bad_line = λ reader. absurd (c.0 reader.1.taken);
+  good = λ reader. absurd (c.0 reader.1.taken);
+  not_good = λ reader. absurd (c.0 reader.1.taken);
+  made = λ maker. absurd (c.0 maker.1.taken);
 }
-refused r status (Malformed line kind) said c = bad r status line kind false said c.1.taken c.2 c.3.0
-refused r status (Limit line kind) said c = bad r status line kind true said c.1.taken c.2 c.3.0
+refused r status (Malformed line kind) said c = bad r status line kind false said c.0 c.1 c.3.0 c.2 c.3.1
+refused r status (Limit line kind) said c = bad r status line kind true said c.0 c.1 c.3.0 c.2 c.3.1
 refused r status TooLong said c = record {
   usage = λ not. absurd (not c.1.taken);
-  bad_line = λ _. told r.input.before r.input.after c.3.0 (λ x y before h fault two. absurd (clash (first_bad File (reading r.input x y)) fault h.0 two));
-  good = λ _ no_read no_write. told r.input.before r.input.after c.3.0
+  bad_line = λ _. told r.input.before r.input.after c.3.1 (λ x y before h fault two. absurd (clash (first_bad File (reading r.input x y)) fault h.0 two));
+  good = λ _ no_read no_write. told r.input.before r.input.after c.3.1
       (λ x y before h t reads few. absurd (good_file_answer File (reading r.input x y) [] (Err errors.TooLong) t [] h reads few (steady r.input x before c.2 no_read)));
-  not_good = λ _ no_read. told r.input.before r.input.after c.3.0 (λ x y before h none. inl (inr said));
+  not_good = λ _ no_read. told r.input.before r.input.after c.3.1 (λ x y before h none. inl (inr said));
+  made = λ maker. absurd (made_named r.words c.0 c.1 maker c.3.0);
 }
 refused r status ReadFault said c = record {
   usage = λ not. absurd (not c.1.taken);
-  bad_line = λ _. told r.input.before r.input.after c.3.1 (λ x y before h fault two. absurd (clash (first_bad File (reading r.input x y)) fault h two));
-  good = λ _ no_read. absurd (no_read c.3.0);
-  not_good = λ _ no_read. absurd (no_read c.3.0);
+  bad_line = λ _. told r.input.before r.input.after c.3.2 (λ x y before h fault two. absurd (clash (first_bad File (reading r.input x y)) fault h two));
+  good = λ _ no_read. absurd (no_read c.3.1);
+  not_good = λ _ no_read. absurd (no_read c.3.1);
+  made = λ maker. absurd (made_named r.words c.0 c.1 maker c.3.0);
 }
-refused r status WriteFault said c = answered r status statuses.WriteFault said c.1.taken _ c.0 c.3.2 (λ no_write. absurd (no_write c.3.0))
+refused r status WriteFault said c = answered r status statuses.WriteFault said _ c.0 c.1 c.3.2 (λ no_write. absurd (no_write c.3.0))
 refused r status OutOfMemory said c = record {
   usage = λ _. inr said;
   bad_line = λ _. told r.input.before r.input.after c.0 (λ x y before h fault two. inr said);
   good = λ _ no_read no_write. told r.input.before r.input.after c.0 (λ x y before h t reads few. inr said);
   not_good = λ _ no_read. told r.input.before r.input.after c.0 (λ x y before h none. inr said);
+  made = λ maker no_write. inr said;
 }
 
 pub completes : (r : Run) (status : Status) → Says r status → Completes r status
-completes r statuses.Ok s = answered r statuses.Ok statuses.Ok refl s.names.taken _ s.job s.written (λ _. inl refl)
+completes r statuses.Ok s = answered r statuses.Ok statuses.Ok refl _ s.job s.names s.written (λ _. inl refl)
 completes r statuses.Negative s = refused r statuses.Negative s.refusal s.status_is s.cause
 completes r statuses.Usage s = refused r statuses.Usage s.refusal s.status_is s.cause
 completes r statuses.Malformed s = refused r statuses.Malformed s.refusal s.status_is s.cause

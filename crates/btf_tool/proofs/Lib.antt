@@ -2,4 +2,5 @@ mod Analyses
 mod Completing
 mod FileAnswers
 mod Jobs
+mod Loads
 mod Touching

@@ -1,14 +1,21 @@
--- What each job reads, and what it answers.
+-- What each job reads or makes, and what it answers.
 use Rattle.std.specs.Prelude.{◌≡◌, ℕ, List, []}
 use Rattle.sp_ids.specs.Entries.{Entries, places}
 use Rattle.bip_defs.specs.Matrix.{Matrix, HasPlaces}
 use Rattle.bip_graph.specs.Answers.{IsAnalysis, IsRankText}
 use Rattle.btf_words.specs.declared.jobs.Job.{Job}
-use Rattle.btf_words.specs.declared.jobs.Job.TheVariants.{Rank, Analyse}
+use Rattle.btf_words.specs.declared.jobs.Job.TheVariants.{Rank, Analyse, Load}
 use Rattle.mm_defs.specs.Reading.{Call, ReadsAll}
 use Rattle.mm_defs.specs.declared.answers.End.TheVariants.{File}
 use Rattle.sp_ports.specs.Bytes.{WhereTold}
 use Rattle.btf_tool.specs.Devices.{Device}
+use Rattle.btf_tool.specs.Summaries.{IsLoadMatrix, IsSummary}
+
+-- the job reads a matrix file; `load` makes its matrix and reads nothing
+abbrev pub ReadsFile : Job → Type 0
+ReadsFile Rank = Unit {0}
+ReadsFile (Analyse engine order pairs) = Unit {0}
+ReadsFile (Load size seed engine) = ⊥
 
 -- how many bytes an input may have
 abbrev pub input_limit : ℕ
@@ -38,10 +45,11 @@ pub record WasRead (call : Call) (t : Entries) : Type 0 where
 abbrev pub IsMatrixOf : Entries → Matrix → Type 0
 IsMatrixOf t a = HasPlaces t.rows t.cols (places t) a
 
--- the text that a job answers, over the matrix of its input
+-- the text that a job answers, over its matrix
 abbrev pub IsTextOf : Job → Matrix → List ℕ → Type 0
 IsTextOf Rank a text = IsRankText a text
 IsTextOf (Analyse engine order pairs) a text = IsAnalysis a order pairs text
+IsTextOf (Load size seed engine) a text = IsSummary a text
 
 -- a good file was read to its end, and this is what the job answers
 pub record IsAnswer (job : Job) (call : Call) (text : List ℕ) : Type 0 where
@@ -51,6 +59,17 @@ pub record IsAnswer (job : Job) (call : Call) (text : List ℕ) : Type 0 where
   pub is_matrix : IsMatrixOf entries matrix
   pub is_text : IsTextOf job matrix text
 
--- what was done with the job's answer, where the input tells its bytes
+-- a matrix was made, and this is its summary
+pub record IsLoadAnswer (size seed : ℕ) (text : List ℕ) : Type 0 where
+  pub matrix : Matrix
+  pub is_matrix : IsLoadMatrix size seed matrix
+  pub is_summary : IsSummary matrix text
+
+-- what was done with the answer over a file, where the input tells its bytes
+abbrev pub WithFileAnswer : Job → Device → (List ℕ → Type 0) → Type 0
+WithFileAnswer job input P = OfReading input (λ call. (text : List ℕ) × IsAnswer job call text × P text)
+
+-- what was done with the job's answer
 abbrev pub WithAnswer : Job → Device → (List ℕ → Type 0) → Type 0
-WithAnswer job input P = OfReading input (λ call. (text : List ℕ) × IsAnswer job call text × P text)
+WithAnswer (Load size seed engine) input P = (text : List ℕ) × IsLoadAnswer size seed text × P text
+WithAnswer job input P = WithFileAnswer job input P

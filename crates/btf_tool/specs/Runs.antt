@@ -13,7 +13,7 @@ use Rattle.sp_ports.specs.Bytes.{WhereTold}
 use Rattle.btf_tool.specs.declared.refusals.Refusal.{Refusal}
 use Rattle.btf_tool.specs.declared.refusals.Refusal.TheVariants.{Usage, Malformed, Limit, TooLong, ReadFault, WriteFault, OutOfMemory}
 use Rattle.btf_tool.specs.Devices.{Device, HasNotFallen, IsSteady, IsUntouched, HasReadFault, HasWriteFault, Took, TookFront, WasTold}
-use Rattle.btf_tool.specs.Jobs.{OfReading, WasRead, WithAnswer, input_limit}
+use Rattle.btf_tool.specs.Jobs.{OfReading, ReadsFile, WasRead, WithAnswer, input_limit}
 use Rattle.btf_tool.specs.Refusals.{status_of, line_of}
 
 -- a run: the words after the program's name, and what is seen of the devices
@@ -27,6 +27,14 @@ pub record Run : Type 0 where
 pub record Names (words : List (List ℕ)) (job : Job) : Type 0 where
   pub taken : AreTaken words
   pub job_is : job_of words ≡ Some job
+
+-- the words name a job that reads a matrix file
+abbrev pub NameReader : List (List ℕ) → Type 0
+NameReader words = (job : Job) × Names words job × ReadsFile job
+
+-- the words name a job that makes its matrix
+abbrev pub NameMaker : List (List ℕ) → Type 0
+NameMaker words = (job : Job) × Names words job × ¬ ReadsFile job
 
 -- ---- the answer
 
@@ -53,16 +61,16 @@ NoBadLine input = OfReading input (λ call. first_bad File call ≡ None)
 abbrev pub TellsStill : Device → Type 0
 TellsStill input = WhereTold input.before input.after (λ before after. Unit {0})
 
--- What a refusal of a job says of the input and of the output.
+-- What a refusal of a job says of the input and of the output. Only a job that reads a file is refused for what it read.
 abbrev pub IsCause : Job → Device → Device → Refusal → Type 0
 -- the first bad line is not of the file's form
-IsCause job input out (Malformed line kind) = IsBadLine input (record { line = line; kind = kind }) false × IsUntouched out
+IsCause job input out (Malformed line kind) = ReadsFile job × IsBadLine input (record { line = line; kind = kind }) false × IsUntouched out
 -- the first bad line passes a limit
-IsCause job input out (Limit line kind) = IsBadLine input (record { line = line; kind = kind }) true × IsUntouched out
+IsCause job input out (Limit line kind) = ReadsFile job × IsBadLine input (record { line = line; kind = kind }) true × IsUntouched out
 -- no line is bad, and the input gave more bytes than it may have
-IsCause job input out TooLong = OfReading input (λ call. (first_bad File call ≡ None) × (call.room < length (got call))) × IsUntouched out
+IsCause job input out TooLong = ReadsFile job × OfReading input (λ call. (first_bad File call ≡ None) × (call.room < length (got call))) × IsUntouched out
 -- a read failed, and no line that had ended is bad
-IsCause job input out ReadFault = HasReadFault input × NoBadLine input × IsUntouched out
+IsCause job input out ReadFault = ReadsFile job × HasReadFault input × NoBadLine input × IsUntouched out
 -- a write failed, and a front of the job's answer was taken
 IsCause job input out WriteFault = HasWriteFault out × IsSteady input × WithAnswer job input (TookFront out)
 -- nothing is said of why
@@ -119,10 +127,12 @@ pub record Completes (r : Run) (status : Status) : Type 0 where
   -- words that are not taken are refused
   pub usage : ¬ AreTaken r.words → IsOrNoMemory status statuses.Usage
   -- a bad line that the input gave is answered, whatever follows it
-  pub bad_line : AreTaken r.words → OfReading r.input (λ call. (fault : Fault) → first_bad File call ≡ Some fault → IsOrNoMemory status (status_of_fault fault))
+  pub bad_line : NameReader r.words → OfReading r.input (λ call. (fault : Fault) → first_bad File call ≡ Some fault → IsOrNoMemory status (status_of_fault fault))
   -- a good file within the limits is answered, where no device failed
-  pub good : AreTaken r.words → ¬ HasReadFault r.input → ¬ HasWriteFault r.out
+  pub good : NameReader r.words → ¬ HasReadFault r.input → ¬ HasWriteFault r.out
       → OfReading r.input (λ call. (t : Entries) → Reads call.before File t [] → length call.before ≤ input_limit → IsOrNoMemory status statuses.Ok)
   -- what is no good file within the limits is refused by its kind, where no read failed
-  pub not_good : AreTaken r.words → ¬ HasReadFault r.input
+  pub not_good : NameReader r.words → ¬ HasReadFault r.input
       → OfReading r.input (λ call. ((t : Entries) → Reads call.before File t [] → ¬ (length call.before ≤ input_limit)) → ((status ≡ statuses.Malformed) ⊎ (status ≡ statuses.Limit)) ⊎ (status ≡ statuses.OutOfMemory))
+  -- a matrix that is made is answered, whatever the input, where no write failed
+  pub made : NameMaker r.words → ¬ HasWriteFault r.out → IsOrNoMemory status statuses.Ok

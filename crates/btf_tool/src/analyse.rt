@@ -10,16 +10,14 @@ ghost use Rattle.sp_ports.specs.Bytes.{Writes};
 ghost use Rattle.sp_ports.specs.Counts.{HasCause, Rose};
 ghost use Rattle.btf_tool.specs.Analyses.{IsFoundIn};
 ghost use Rattle.btf_tool.specs.Devices.{seen};
+ghost use Rattle.btf_tool.specs.Jobs.{IsMatrixOf};
 ghost use Rattle.btf_tool.specs.Runs.{JobSays};
 
 use crate::Refusal;
-use crate::engines::solve;
+use crate::decompose::{Analysis, decompose};
 use crate::reading::read_file;
-use bip_graph::{Decomposition, Matching};
 use btf_text::{TextBuf, write_report};
 use btf_words::Engine;
-use dm_coarse::coarse;
-use dm_fine::fine;
 use sp_ids::{OutOfMemory, Triples};
 use sp_pattern::Pattern;
 use sp_ports::{Failed, Gate, Sink, Source};
@@ -32,13 +30,6 @@ pub(crate) struct Options {
     pub(crate) engine: Engine,
     pub(crate) order: bool,
     pub(crate) pairs: bool,
-}
-
-/// The decomposition of a matrix, and the maximum matching by which it was found.
-#[derive(Drop)]
-struct Analysis {
-    decomposition: Decomposition,
-    matching: Matching,
 }
 
 /// Reads a matrix and writes the report of its decomposition.
@@ -76,25 +67,11 @@ fn analysis_of<R: Threads + Sync, G: Gate>(
     engine: Engine,
     gate: &G,
 ) -> Result<Analysis, OutOfMemory>
-    ensures { IfOk result (λ s. (a : Matrix) × IsFoundIn triples a s.decomposition s.matching.pairs) }
+    ensures { IfOk result (λ s. (a : Matrix) × IsMatrixOf triples a × IsFoundIn a s.decomposition s.matching.pairs) }
 {
     let pattern = Pattern::build(rt, alloc, &triples)?;
     drop(triples);
-    let matching = solve(rt, alloc, &pattern, engine, 1, gate)?;
-    let parts = coarse(rt, alloc, &pattern, &matching)?;
-    let blocks = fine(alloc, &pattern, &matching, &parts)?;
-    let decomposition = Decomposition {
-        m: pattern.rows(),
-        n: pattern.cols(),
-        e: pattern.entries(),
-        rank: matching.size(),
-        parts,
-        blocks,
-    };
-    Ok(Analysis {
-        decomposition,
-        matching,
-    })
+    decompose(rt, alloc, &pattern, engine, gate)
 }
 
 /// Writes the report, and hands it on.

@@ -1,11 +1,14 @@
 //! The top call.
 
 ghost use Rattle.std.specs.Prelude.{map, string_bytes};
-ghost use Rattle.btf_tool.specs.Devices.{seen};
-ghost use Rattle.btf_tool.specs.Runs.{Completes, JobSays, Says};
+ghost use Rattle.btf_words.specs.Words.{HasSizeInRange};
+ghost use Rattle.btf_tool.specs.Devices.{IsUntouched, seen};
+ghost use Rattle.btf_tool.specs.Jobs.{ReadsFile};
+ghost use Rattle.btf_tool.specs.Runs.{Completes, JobSays, NameMaker, Says};
 
 use crate::Refusal;
 use crate::analyse::{Options, analyse};
+use crate::load::load;
 use crate::rank::rank;
 use crate::refusals::refuse;
 use btf_words::{Job, WordsError, read_words};
@@ -14,7 +17,8 @@ use sp_ports::{Gate, Sink, Source};
 use std::alloc::Global;
 use std::thread::Threads;
 
-/// Does what the words say: reads `input`, writes the answer to `out`, and where there is none tells on `err` why.
+/// Does what the words say: reads `input` or makes a matrix, writes the answer to `out`, and where there is none tells on
+/// `err` why.
 ///
 /// `words` are those after the program's name. The answer is the status with which the program ends. Nothing is written
 /// to `out` before all input is read and all memory is taken. No answer depends on `gate` or on the order in which
@@ -43,6 +47,9 @@ pub fn run<R: Threads + Sync, S: Source, O: Sink, E: Sink, G: Gate>(
       out = seen O.taken O.faults out.old out.new;
       err = seen E.taken E.faults err.old err.new;
     }) result }
+
+    // A matrix that is made is made without the input.
+    ensures unread { NameMaker (map string_bytes words.now) → IsUntouched (seen S.left S.faults input.old input.new) }
 {
     match read_words(alloc, words) {
         Err(WordsError::Usage) => refuse(err, Refusal::Usage),
@@ -54,7 +61,7 @@ pub fn run<R: Threads + Sync, S: Source, O: Sink, E: Sink, G: Gate>(
     }
 }
 
-/// Does a job: reads the input and writes the answer, or tells why there is none.
+/// Does a job: reads the input or makes a matrix, and writes the answer, or tells why there is none.
 fn perform<R: Threads + Sync, S: Source, O: Sink, G: Gate>(
     rt: &R,
     alloc: Global,
@@ -63,7 +70,9 @@ fn perform<R: Threads + Sync, S: Source, O: Sink, G: Gate>(
     out: &mut O,
     gate: &G,
 ) -> Result<(), Refusal>
-    ensures { JobSays job (seen S.left S.faults input.old input.new) (seen O.taken O.faults out.old out.new) result }
+    requires size { HasSizeInRange job }
+    ensures says { JobSays job (seen S.left S.faults input.old input.new) (seen O.taken O.faults out.old out.new) result }
+    ensures unread { ¬ ReadsFile job → IsUntouched (seen S.left S.faults input.old input.new) }
 {
     match job {
         Job::Rank => rank(rt, alloc, input, out, gate),
@@ -79,5 +88,6 @@ fn perform<R: Threads + Sync, S: Source, O: Sink, G: Gate>(
             };
             analyse(rt, alloc, options, input, out, gate)
         }
+        Job::Load { size, seed, engine } => load(rt, alloc, size, seed, engine, out, gate),
     }
 }

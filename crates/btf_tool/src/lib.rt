@@ -3,7 +3,9 @@
 
 mod analyse;
 mod command;
+mod decompose;
 mod engines;
+mod load;
 mod neighbours;
 mod rank;
 mod reading;
@@ -18,5 +20,7 @@ pub use refusals::Refusal;
 mod analyse_tests;
 #[cfg(test)]
 mod engine_tests;
+#[cfg(test)]
+mod load_tests;
 #[cfg(test)]
 mod tests;

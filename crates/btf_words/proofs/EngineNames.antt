@@ -1,5 +1,5 @@
 -- Where the names of the engines lie counts for nothing.
-use Rattle.std.proofs.Common.{◌≡◌, ◌∙◌, ◌||◌, Bool, false, List, [], ◌∷◌, Option, Some, None, length, not, ◌&&◌, refl, sym, ap, ap₂, if◌then◌else◌, codes, is_some}
+use Rattle.std.proofs.Common.{◌≡◌, ◌∙◌, ◌||◌, ◌++◌, Bool, false, List, [], ◌∷◌, Option, Some, None, length, not, ◌&&◌, refl, sym, ap, ap₂, if◌then◌else◌, codes, is_some}
 use Rattle.std.specs.Prelude.{find, slice_get, unwrap_or}
 use Rattle.std.specs.List.{list_any}
 use Rattle.std.specs.Str.{bytes_eq}
@@ -9,11 +9,11 @@ use Rattle.clap.specs.ValueTests.{accepts}
 use Rattle.clap.specs.Kinds.{Kinds, or_else, range_kinds, values_kinds}
 use Rattle.clap.specs.Walk.{answers_to, has_long, has_row, nothing_held, stop_after, used, with_default}
 use Rattle.clap.specs.Simple.{entered, filled, label_of, names_of}
-use Rattle.clap.specs.Faults.{defaults_fault, entered_fault, level_fault, repeat_fault, use_fault}
+use Rattle.clap.specs.Faults.{default_fault, defaults_fault, entered_fault, level_fault, repeat_fault, use_fault}
 use Rattle.clap.specs.declared.builder.value_parser.ValueParser.TheVariants as vp
 use Rattle.clap.specs.declared.error.kind.ErrorKind.TheVariants as kind
 use Rattle.clap.proofs.WalkLemmas.{list_any-map}
-use Rattle.btf_words.specs.Table.{Names, btf_over, default_engine, engine_names, engine_rule, order_rule, pairs_rule, rank_command, texts_of}
+use Rattle.btf_words.specs.Table.{Names, btf_over, default_engine, engine_names, engine_rule, order_rule, pairs_rule, rank_command, seed_rule, size_rule, texts_of}
 use Rattle.btf_words.specs.Words.{ReadsAlike}
 use Rattle.btf_words.proofs.ReadAlike.{Alike, AlikeRules, AlikeShapes, Both, fault_found, first_of_both, itself, itself_shape, over_rules, rows_found}
 
@@ -70,6 +70,40 @@ module _ (n m : Names) (same : texts_of n ≡ texts_of m) where
     wanted = λ rows. refl;
   }
 
+  -- ---- the options of `load`
+
+  abbrev size : Rule
+  size = filled size_rule
+
+  abbrev seed : Rule
+  seed = filled seed_rule
+
+  abbrev numbers : List Rule
+  numbers = size ∷ seed ∷ []
+
+  load_default : (rows : List Row) → defaults_fault rows (numbers ++ option n ∷ []) ≡ defaults_fault rows (numbers ++ option m ∷ [])
+  unfolding defaults_fault
+  load_default rows =
+      let sized : List Row = with_default rows size in
+      let seeded : List Row = with_default sized seed in
+      ap (λ (ks : Kinds). or_else (default_fault rows size) (or_else (default_fault sized seed) (or_else (if has_row (codes "engine") seeded || false then [] else ks) [])))
+      (values_fault (default_engine ∷ []))
+
+  load : AlikeRules (numbers ++ option n ∷ []) (numbers ++ option m ∷ [])
+  load = record {
+    by_id = λ id. first_of_both Alike (λ a. bytes_eq a.id id) (λ a. bytes_eq a.id id) (numbers ++ option n ∷ []) (numbers ++ option m ∷ [])
+        (itself _, refl, (itself _, refl, (engine, refl, tt)));
+    by_long = λ name. first_of_both Alike (λ a. not (is_some a.index) && has_long a name) (λ a. not (is_some a.index) && has_long a name)
+        (numbers ++ option n ∷ []) (numbers ++ option m ∷ []) (itself _, refl, (itself _, refl, (engine, refl, tt)));
+    no_short_c = λ x. refl;
+    no_short_d = λ x. refl;
+    no_place_c = λ i. refl;
+    no_place_d = λ i. refl;
+    ended = λ rows. refl;
+    defaults = load_default;
+    wanted = λ rows. refl;
+  }
+
   -- ---- the command line
 
   abbrev subs : Names → List Shape
@@ -77,8 +111,15 @@ module _ (n m : Names) (same : texts_of n ≡ texts_of m) where
 
   commands : (name : Text) → Both AlikeShapes (find (λ s. answers_to name (label_of s)) (subs n)) (find (λ s. answers_to name (label_of s)) (subs m))
   commands name =
-      first_of_both AlikeShapes (λ s. answers_to name (label_of s)) (λ s. answers_to name (label_of s)) (subs n) (subs m)
-      (itself_shape _, refl, (over_rules (unwrap_or (slice_get (subs m) 1) rank_command) (option n ∷ others) (option m ∷ others) analyse, refl, tt))
+      first_of_both AlikeShapes (λ s. answers_to name (label_of s)) (λ s. answers_to name (label_of s)) (subs n) (subs m) (
+        itself_shape _,
+        refl,
+        (
+          over_rules (unwrap_or (slice_get (subs m) 1) rank_command) (option n ∷ others) (option m ∷ others) analyse,
+          refl,
+          (over_rules (unwrap_or (slice_get (subs m) 2) rank_command) (numbers ++ option n ∷ []) (numbers ++ option m ∷ []) load, refl, tt),
+        ),
+      )
 
   same_entered : (stop : Option (Text × List Text)) → entered (built (btf_over n)) stop ≡ entered (built (btf_over m)) stop
   same_entered None = refl

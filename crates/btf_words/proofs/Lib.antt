@@ -1,3 +1,4 @@
 mod EngineNames
+pub mod NumberLemmas
 mod ReadAlike
 pub mod TakenLemmas

@@ -1,6 +1,6 @@
 -- The command line of `btf` as one simple command of clap: a required subcommand, one level of them, and options
 -- that are flags or are set once. A command, and an option of a command, is one line of a list here.
-use Rattle.std.specs.Prelude.{◌≡◌, true, false, List, [], ◌∷◌, map, Some, codes}
+use Rattle.std.specs.Prelude.{◌≡◌, ℕ, true, false, List, [], ◌∷◌, map, Some, codes}
 use Rattle.std.specs.Borrow.{Bor}
 use Rattle.clap.specs.Words.{App, Rule, Shape, Text, new_rule}
 use Rattle.clap.specs.Simple.{new_shape}
@@ -32,6 +32,11 @@ option_rule id = record (new_rule id) { long = Some id; action = Some Set }
 abbrev pub flag_rule : Text → Rule
 flag_rule id = record (new_rule id) { long = Some id; action = Some SetTrue }
 
+-- `--id NUMBER`, which must be there
+abbrev pub number_rule : Text → ℕ → ℕ → Rule
+number_rule id low high =
+    record (option_rule id) { required = true; parser = Some (vp.Unsigned low high) }
+
 -- `--engine E`, where E is one of these names
 abbrev pub engine_rule : Names → Rule
 engine_rule names = record (option_rule (codes "engine")) {
@@ -45,6 +50,19 @@ order_rule = flag_rule (codes "order")
 abbrev pub pairs_rule : Rule
 pairs_rule = flag_rule (codes "pairs")
 
+-- how large a matrix that is made from a number may be, and how large the number
+abbrev pub max_size : ℕ
+max_size = 16777216
+
+abbrev pub max_seed : ℕ
+max_seed = 18446744073709551615
+
+abbrev pub size_rule : Rule
+size_rule = number_rule (codes "size") 1 max_size
+
+abbrev pub seed_rule : Rule
+seed_rule = number_rule (codes "seed") 0 max_seed
+
 -- ---- commands
 
 abbrev pub command : Text → List Rule → Shape
@@ -57,9 +75,12 @@ abbrev pub analyse_command : Names → Shape
 analyse_command names =
     command (codes "analyse") (engine_rule names ∷ order_rule ∷ pairs_rule ∷ [])
 
+abbrev pub load_command : Names → Shape
+load_command names = command (codes "load") (size_rule ∷ seed_rule ∷ engine_rule names ∷ [])
+
 -- the commands that the program has
 abbrev pub commands : Names → List Shape
-commands names = rank_command ∷ analyse_command names ∷ []
+commands names = rank_command ∷ analyse_command names ∷ load_command names ∷ []
 
 -- ---- the program
 

@@ -1,14 +1,16 @@
 -- Which words are taken, and the job that they name.
-use Rattle.std.specs.Prelude.{◌≡◌, Bool, false, List, [], Option, Some, None, codes}
+use Rattle.std.specs.Prelude.{◌≡◌, ◌≤◌, ⊤, ℕ, Bool, false, List, [], Option, Some, None, codes}
 use Rattle.std.specs.Prelude.{if◌then◌else◌, option_and_then, unwrap_or}
 use Rattle.std.specs.Option.{option_map_or}
 use Rattle.std.specs.Str.{bytes_eq}
+use Rattle.std.specs.Str.Parse.{digits_value, without_leading_plus}
 use Rattle.clap.specs.Words.{Row, Text, fault_of, first_of, subcommand_of}
-use Rattle.btf_words.specs.Table.{Names, btf, btf_over, default_engine}
+use Rattle.clap.specs.ValueTests.{is_unsigned_in}
+use Rattle.btf_words.specs.Table.{Names, btf, btf_over, default_engine, max_seed, max_size}
 use Rattle.btf_words.specs.declared.jobs.Engine.{Engine}
 use Rattle.btf_words.specs.declared.jobs.Engine.TheVariants.{Plain, Mc21, Pf}
 use Rattle.btf_words.specs.declared.jobs.Job.{Job}
-use Rattle.btf_words.specs.declared.jobs.Job.TheVariants.{Rank, Analyse}
+use Rattle.btf_words.specs.declared.jobs.Job.TheVariants.{Rank, Analyse, Load}
 
 -- clap's definitions find no fault with the words
 unfoldable pub AreTaken : List Text → Type 0
@@ -28,6 +30,15 @@ engine_in rows = engine_named (unwrap_or (first_of (codes "engine") rows) defaul
 abbrev pub is_given : Text → List Row → Bool
 is_given id rows = option_map_or (λ value. bytes_eq value (codes "true")) (first_of id rows) false
 
+-- the number that a text spells, where it is one within the bounds; clap takes no other text, so the least number
+-- stands for none that was given
+abbrev pub number_within : ℕ → ℕ → Text → ℕ
+number_within low high text = if is_unsigned_in low high text
+    then digits_value 10 (without_leading_plus text) else low
+
+abbrev pub number_in : ℕ → ℕ → Text → List Row → ℕ
+number_in low high id rows = option_map_or (number_within low high) (first_of id rows) low
+
 -- ---- the job
 
 -- the job of a command, by the command's name and what was found for its options, defaults included
@@ -35,7 +46,10 @@ abbrev pub job_from : Text × List Row → Option Job
 job_from m = if bytes_eq m.0 (codes "rank") then Some Rank
     else (if bytes_eq m.0 (codes "analyse")
     then Some (Analyse (engine_in m.1) (is_given (codes "order") m.1) (is_given (codes "pairs") m.1))
-    else None)
+    else (if bytes_eq m.0 (codes "load")
+    then Some (Load (number_in 1 max_size (codes "size") m.1)
+    (number_in 0 max_seed (codes "seed") m.1) (engine_in m.1))
+    else None))
 
 -- the job that the words name: that of the command that they enter, by clap's definitions
 unfoldable pub job_of : List Text → Option Job
@@ -46,3 +60,8 @@ job_of words = option_and_then job_from (subcommand_of btf words)
 abbrev pub ReadsAlike : Names → List Text → Type 0
 ReadsAlike names words = (fault_of (btf_over names) words ≡ fault_of btf words)
     × (subcommand_of (btf_over names) words ≡ subcommand_of btf words)
+
+-- the matrix that a job makes is within the limits
+abbrev pub HasSizeInRange : Job → Type 0
+HasSizeInRange (Load size seed engine) = (1 ≤ size) × (size ≤ max_size)
+HasSizeInRange _ = ⊤

@@ -2,9 +2,9 @@
 
 ghost use Rattle.std.specs.Prelude.{◌≡◌, [], IfOk};
 ghost use Rattle.clap.specs.Words.{app_of, with_subcommand};
-ghost use Rattle.btf_words.specs.Table.{IsBtf, analyse_command, program as program_shape, rank_command};
+ghost use Rattle.btf_words.specs.Table.{IsBtf, analyse_command, load_command, program as program_shape, rank_command};
 
-use crate::options::{engine, order, pairs};
+use crate::options::{engine, order, pairs, seed, size};
 use clap::Command;
 use std::alloc::{AllocError, Global};
 
@@ -18,6 +18,7 @@ pub(crate) fn command_line<'a>(alloc: Global) -> Result<Command<'a>, AllocError>
     let program = program(alloc);
     let program = with_rank(alloc, program)?;
     let program = with_analyse(alloc, engines, program)?;
+    let program = with_load(alloc, engines, program)?;
     Ok(program)
 }
 
@@ -51,4 +52,19 @@ fn with_analyse<'a>(
         .arg(order(alloc))?
         .arg(pairs(alloc))?;
     program.subcommand(analyse)
+}
+
+fn with_load<'a>(
+    alloc: Global,
+    engines: &'a [&'a str],
+    program: Command<'a>,
+) -> Result<Command<'a>, AllocError>
+    ensures { IfOk result (λ c. app_of c
+        ≡ with_subcommand (app_of program.entry) (load_command engines.entry)) }
+{
+    let load = Command::new(alloc, "load")
+        .arg(size(alloc))?
+        .arg(seed(alloc))?
+        .arg(engine(alloc, engines))?;
+    program.subcommand(load)
 }

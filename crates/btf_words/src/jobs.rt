@@ -25,6 +25,15 @@ pub enum Job {
         /// Whether the pairs of the matching are written.
         pairs: bool,
     },
+    /// The analysis of a matrix that is made from a number.
+    Load {
+        /// How many rows and columns it has: 1 to 16,777,216.
+        size: u32,
+        /// The number that it is made from.
+        seed: u64,
+        /// Who searches.
+        engine: Engine,
+    },
 }
 
 /// Why words name no job.

@@ -1,10 +1,12 @@
 //! The options of the commands.
 
-ghost use Rattle.std.specs.Prelude.{◌≡◌, false};
+ghost use Rattle.std.specs.Prelude.{◌≡◌, false, true, codes};
 ghost use Rattle.clap.specs.Words.{rule_of};
-ghost use Rattle.btf_words.specs.Table.{engine_rule, flag_rule, order_rule, pairs_rule};
+ghost use Rattle.btf_words.specs.Table.{engine_rule, option_rule, flag_rule, number_rule, order_rule, pairs_rule, size_rule, seed_rule};
 
+use clap::builder::ValueParser;
 use clap::{Arg, ArgAction};
+use sp_ids::MAX_LOAD_SIZE;
 use std::alloc::Global;
 
 /// `--engine E`, where E is one of these names: `pf` where it is not given.
@@ -35,9 +37,36 @@ pub(crate) fn pairs<'a>(alloc: Global) -> Arg<'a>
     flag(alloc, "pairs")
 }
 
+/// `--size N`, which must be there.
+pub(crate) fn size<'a>(alloc: Global) -> Arg<'a>
+    ensures rule { rule_of result ≡ size_rule }
+    ensures local { result.global ≡ false }
+{
+    number(alloc, "size", 1, u64::from(MAX_LOAD_SIZE))
+}
+
+/// `--seed S`, which must be there.
+pub(crate) fn seed<'a>(alloc: Global) -> Arg<'a>
+    ensures rule { rule_of result ≡ seed_rule }
+    ensures local { result.global ≡ false }
+{
+    number(alloc, "seed", 0, u64::MAX)
+}
+
 fn flag<'a>(alloc: Global, name: &'a str) -> Arg<'a>
     ensures rule { rule_of result ≡ flag_rule name.entry.now }
     ensures local { result.global ≡ false }
 {
     Arg::new(alloc, name).long(name).action(ArgAction::SetTrue)
+}
+
+fn number<'a>(alloc: Global, name: &'a str, low: u64, high: u64) -> Arg<'a>
+    ensures rule { rule_of result ≡ number_rule name.entry.now low high }
+    ensures local { result.global ≡ false }
+{
+    Arg::new(alloc, name)
+        .long(name)
+        .action(ArgAction::Set)
+        .required(true)
+        .value_parser(ValueParser::unsigned(low, high))
 }

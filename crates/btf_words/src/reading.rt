@@ -1,25 +1,27 @@
 //! From words to a job.
 
-ghost use Rattle.std.specs.Prelude.{◌≡◌, List, IfOk, IsErrOf, Some, map, option_and_then, option_map, string_bytes};
+ghost use Rattle.std.specs.Prelude.{◌≡◌, ◌≤◌, List, IfOk, IfSome, IsErrOf, Some, codes, map, option_and_then, option_map, string_bytes};
 ghost use Rattle.clap.specs.Words.{Text, first_of, found_of, rows_of, subcommand_rows_of};
-ghost use Rattle.btf_words.specs.Table.{Names, engine_names, texts_of};
-ghost use Rattle.btf_words.specs.Words.{AreTaken, ReadsAlike, engine_in, engine_named as engine_of_name, is_given, job_from, job_of};
+ghost use Rattle.btf_words.specs.Table.{Names, engine_names, max_seed, max_size, texts_of};
+ghost use Rattle.btf_words.specs.Words.{AreTaken, HasSizeInRange, ReadsAlike, engine_in, engine_named as engine_of_name, is_given, job_from, job_of, number_in, number_within};
 ghost use Rattle.btf_words.specs.declared.jobs.Job.{Job as JobValue};
 
 use crate::commands::command_line;
 use crate::{Engine, Job, WordsError};
 use clap::ArgMatches;
 use clap::error::ErrorKind;
+use sp_ids::MAX_LOAD_SIZE;
 use std::alloc::Global;
 
 /// The job that the words after the program's name name.
 ///
 /// `Usage` is the answer where the words are not taken, and only there. Words that ask for help or the version are
-/// not. It takes memory for the command line and for what is found in the words, and `OutOfMemory` tells that there
-/// was not enough.
+/// not. Numbers are read as clap's parser of numbers reads them, so `007` and `+7` are 7. It takes memory for the
+/// command line and for what is found in the words, and `OutOfMemory` tells that there was not enough.
 pub fn read_words(alloc: Global, words: &[String]) -> Result<Job, WordsError>
     ensures taken { IfOk result (λ job. AreTaken (map string_bytes words.now)) }
     ensures job { IfOk result (λ job. job_of (map string_bytes words.now) ≡ Some job) }
+    ensures size { IfOk result HasSizeInRange }
     ensures usage { IsErrOf result WordsError.Usage → ¬ AreTaken (map string_bytes words.now) }
 {
     let Ok(program) = command_line(alloc) else {
@@ -46,7 +48,8 @@ pub fn names_lie_anywhere()
 
 /// The job of the command that the words entered.
 fn job_in(matches: &ArgMatches<'_>) -> Option<Job>
-    ensures { result ≡ option_and_then job_from (subcommand_rows_of matches.now) }
+    ensures job { result ≡ option_and_then job_from (subcommand_rows_of matches.now) }
+    ensures size { IfSome result HasSizeInRange }
 {
     let (name, options) = matches.subcommand()?;
     job_named(name, options)
@@ -54,7 +57,8 @@ fn job_in(matches: &ArgMatches<'_>) -> Option<Job>
 
 /// The job of a command, by the command's name and what was found for its options.
 fn job_named(name: &str, options: &ArgMatches<'_>) -> Option<Job>
-    ensures { result ≡ job_from (name.now, rows_of (found_of options.now)) }
+    ensures job { result ≡ job_from (name.now, rows_of (found_of options.now)) }
+    ensures size { IfSome result HasSizeInRange }
 {
     if name == "rank" {
         Some(Job::Rank)
@@ -63,6 +67,12 @@ fn job_named(name: &str, options: &ArgMatches<'_>) -> Option<Job>
             engine: engine_of(options),
             order: flag_of(options, "order"),
             pairs: flag_of(options, "pairs"),
+        })
+    } else if name == "load" {
+        Some(Job::Load {
+            size: size_of(options),
+            seed: seed_of(options),
+            engine: engine_of(options),
         })
     } else {
         None
@@ -103,5 +113,47 @@ fn flag_of(options: &ArgMatches<'_>, name: &str) -> bool
     match value_of(options, name) {
         Some(value) => value == "true",
         None => false,
+    }
+}
+
+fn size_of(options: &ArgMatches<'_>) -> u32
+    ensures number { result ≡ number_in 1 max_size (codes "size") (rows_of (found_of options.now)) }
+    ensures range { (1 ≤ result) × (result ≤ max_size) }
+{
+    number_of(options, "size", 1, u64::from(MAX_LOAD_SIZE)) as u32
+}
+
+fn seed_of(options: &ArgMatches<'_>) -> u64
+    ensures { result ≡ number_in 0 max_seed (codes "seed") (rows_of (found_of options.now)) }
+{
+    number_of(options, "seed", 0, u64::MAX)
+}
+
+/// The number of an option within its bounds.
+fn number_of(options: &ArgMatches<'_>, name: &str, low: u64, high: u64) -> u64
+    requires { low ≤ high }
+    ensures number { result ≡ number_in low high name.now (rows_of (found_of options.now)) }
+    ensures range { (low ≤ result) × (result ≤ high) }
+{
+    match value_of(options, name) {
+        Some(text) => bounded_number(text, low, high),
+        None => low,
+    }
+}
+
+fn bounded_number(text: &str, low: u64, high: u64) -> u64
+    requires { low ≤ high }
+    ensures number { result ≡ number_within low high text.now }
+    ensures range { (low ≤ result) × (result ≤ high) }
+{
+    match text.parse::<u64>() {
+        Ok(number) => {
+            if low <= number && number <= high {
+                number
+            } else {
+                low
+            }
+        }
+        Err(_) => low,
     }
 }

@@ -19,6 +19,10 @@ fn analyse(engine: Engine, order: bool, pairs: bool) -> Job {
     }
 }
 
+fn load(size: u32, seed: u64, engine: Engine) -> Job {
+    Job::Load { size, seed, engine }
+}
+
 #[test]
 fn takes_each_spelling(rt: HostRuntime) -> Result<(), Fail> {
     let alloc = rt.alloc();
@@ -46,6 +50,17 @@ fn takes_each_spelling(rt: HostRuntime) -> Result<(), Fail> {
         (
             "analyse --order --engine=plain --pairs --",
             analyse(plain, true, true),
+        ),
+        ("load --size 1 --seed 0", load(1, 0, pf)),
+        ("load --seed 0 --size 1 --", load(1, 0, pf)),
+        (
+            "load --seed=18446744073709551615 --size=16777216",
+            load(16_777_216, u64::MAX, pf),
+        ),
+        ("load --engine mc21 --seed 7 --size 30", load(30, 7, mc21)),
+        (
+            "load --size 007 --engine=plain --seed +4",
+            load(7, 4, plain),
         ),
     ];
     for (line, job) in spellings {
@@ -114,7 +129,24 @@ fn refuses_other_words(rt: HostRuntime) -> Result<(), Fail> {
         "--order analyse",
         "diagonal",
         "check",
-        "load --size 1 --seed 1",
+        "load",
+        "load --size 3",
+        "load --seed 3",
+        "load --size 0 --seed 1",
+        "load --size 16777217 --seed 1",
+        "load --size 1 --seed 18446744073709551616",
+        "load --size 1 --seed -1",
+        "load --size 1 --seed",
+        "load --size  --seed 1",
+        "load --size=1 --seed=",
+        "load --size 1.0 --seed 1",
+        "load --size 0x1 --seed 1",
+        "load --size 1 --size 1 --seed 1",
+        "load --size 1 --seed 1 --engine fast",
+        "load --size 1 --seed 1 --order",
+        "load --siz 1 --seed 1",
+        "load 1 1",
+        "analyse --size 3",
     ];
     for line in lines {
         let words = words_of(alloc, line)?;

@@ -1,7 +1,7 @@
 use Rattle.std.proofs.Common.{refl, ap, Err, ◌∙◌}
 use Rattle.btf_tool.specs.Devices.{seen}
 use Rattle.btf_tool.specs.declared.refusals.Refusal.TheVariants.{Usage, OutOfMemory}
-use Rattle.btf_tool.proofs.Completing.{completes, job_done, job_not_done, named, refusal_says, untouched_tells}
+use Rattle.btf_tool.proofs.Completing.{completes, job_done, job_not_done, made_named, named, refusal_says, untouched_tells}
 use Rattle.btf_tool.proofs.command.run.Goals as goal
 
 pub returns-in-Err-Usage-clause-says : goal.returns-in-Err-Usage-clause-says
@@ -22,15 +22,29 @@ returns-in-Err-OutOfMemory-clause-complete g c = completes _ _ (returns-in-Err-O
 
 pub returns-in-Ok-perform-clause-says : goal.returns-in-Ok-perform-clause-says
 returns-in-Ok-perform-clause-says g c =
-    job_done _ c.in-Ok.job _ c.in-Ok-perform.is (named _ _ _ c.in-Ok.is c.read_words.ensures.taken c.read_words.ensures.job) c.perform.ensures (refl, refl)
+    job_done _ c.in-Ok.job _ c.in-Ok-perform.is (named _ _ _ c.in-Ok.is c.read_words.ensures.taken c.read_words.ensures.job) c.perform.ensures.says (refl, refl)
 
 pub returns-in-Ok-perform-clause-complete : goal.returns-in-Ok-perform-clause-complete
 returns-in-Ok-perform-clause-complete g c = completes _ _ (returns-in-Ok-perform-clause-says g c)
 
 pub returns-in-Err-clause-says : goal.returns-in-Err-clause-says
 returns-in-Err-clause-says g c =
-    job_not_done _ c.in-Ok.job _ _ _ c.in-Err.is (named _ _ _ c.in-Ok.is c.read_words.ensures.taken c.read_words.ensures.job) c.perform.ensures
+    job_not_done _ c.in-Ok.job _ _ _ c.in-Err.is (named _ _ _ c.in-Ok.is c.read_words.ensures.taken c.read_words.ensures.job) c.perform.ensures.says
     c.refuse-in-Err.ensures.status c.refuse-in-Err.ensures.told
 
 pub returns-in-Err-clause-complete : goal.returns-in-Err-clause-complete
 returns-in-Err-clause-complete g c = completes _ _ (returns-in-Err-clause-says g c)
+
+pub returns-in-Err-Usage-clause-unread : goal.returns-in-Err-Usage-clause-unread
+returns-in-Err-Usage-clause-unread g c = λ maker. (refl, refl)
+
+pub returns-in-Err-OutOfMemory-clause-unread : goal.returns-in-Err-OutOfMemory-clause-unread
+returns-in-Err-OutOfMemory-clause-unread g c = λ maker. (refl, refl)
+
+pub returns-in-Ok-perform-clause-unread : goal.returns-in-Ok-perform-clause-unread
+returns-in-Ok-perform-clause-unread g c = λ maker.
+    c.perform.ensures.unread (made_named _ c.in-Ok.job (named _ _ _ c.in-Ok.is c.read_words.ensures.taken c.read_words.ensures.job) maker)
+
+pub returns-in-Err-clause-unread : goal.returns-in-Err-clause-unread
+returns-in-Err-clause-unread g c = λ maker.
+    c.perform.ensures.unread (made_named _ c.in-Ok.job (named _ _ _ c.in-Ok.is c.read_words.ensures.taken c.read_words.ensures.job) maker)

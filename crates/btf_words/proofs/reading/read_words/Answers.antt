@@ -8,7 +8,7 @@ has_read c = record {
   line = c.in-Ok.ensures;
   no_fault = c.in-Ok-try_get_matches_from.ensures.kinds;
   matches = c.in-Ok-try_get_matches_from.ensures.matches;
-  job = c.job_in.ensures;
+  job = c.job_in.ensures.job;
 }
 
 pub returns-in-Ok-try_get_matches_from-clause-taken : goal.returns-in-Ok-try_get_matches_from-clause-taken
@@ -29,6 +29,7 @@ pub returns : goal.returns
 returns c = record {
   taken = tt;
   job = tt;
+  size = tt;
   usage = λ refusal taken. refused (app_of c.in-Ok.program) (map string_bytes c.args.words.now) c.in-Err.error c.in-Ok.ensures
       c.in-Err.ensures.kinds (λ memory. c.in_default-kind.not-OutOfMemory (c.kind.ensures ∙ memory)) taken;
 }
