@@ -43,7 +43,8 @@ fn summary<'a, R: Threads + Abort + AllocGlobal + Sync>(
 }
 
 // Seed 0 and size 30: column j has the rows 2 j, 3 j and 5 j, so multiples of 2, 3 or 5, of which there are 22 below 30. Of
-// size 2 and seed 1, column 0 has the rows 1, 0 and 1, and column 1 the rows 1, 1 and 0. Of size 1 there is one place.
+// size 2 and seed 1, column 0 has the rows 1, 0 and 1, and column 1 the rows 1, 1 and 0. Of size 1 there is one place. That
+// size 10,001 and seed 7 make one block is what CXSparse and SuiteSparse BTF say of their matrix.
 #[test]
 fn summaries_by_each_engine(rt: HostRuntime) -> Result<(), Fail> {
     summary(
@@ -60,7 +61,13 @@ fn summaries_by_each_engine(rt: HostRuntime) -> Result<(), Fail> {
     )?;
     let one = "matrix 1 1 1\nrank 1\nhorizontal 0 0\nsquare 1 1\nvertical 0 0\n";
     summary(&rt, "1", "5", one)?;
-    summary(&rt, "1", "18446744073709551615", one)
+    summary(&rt, "1", "18446744073709551615", one)?;
+    summary(
+        &rt,
+        "10001",
+        "7",
+        "matrix 10001 10001 30000\nrank 10001\nhorizontal 0 0\nsquare 10001 1\nvertical 0 0\n",
+    )
 }
 
 // The next read of the input is still its first one, which fails, and then its bytes come from the front.
