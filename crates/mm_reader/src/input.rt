@@ -2,7 +2,7 @@
 
 ghost use Rattle.std.specs.Prelude.{◌≡◌, ◌≤◌, ◌<◌, ◌+◌, ◌++◌, ◌↔◌, ℕ, List, [], length, IfOk, MatchResult, OnOk, IsOk, IsTrue, true, false};
 ghost use Rattle.std.specs.List.{count_by};
-ghost use Rattle.sp_ports.specs.Bytes.{IsAtEnd, WhereTold};
+ghost use Rattle.sp_ports.specs.Bytes.{Gives, IsAtEnd, WhereTold};
 ghost use Rattle.sp_ports.specs.Counts.{SourceRose};
 ghost use Rattle.mm_defs.specs.Words.{is_lf};
 ghost use Rattle.mm_defs.specs.File.{Fault};
@@ -155,6 +155,9 @@ pub fn read_rest<S: Source>(
     ensures answer { WhereTold (S.left source.old) (S.left source.new) (λ before after.
         MatchResult result (λ v. IsRest (call_on input.old (S.faults source.old) (S.faults source.new) before after) (input.new.ahead ++ after) v.items)
         (RefusesRest (call_on input.old (S.faults source.old) (S.faults source.new) before after))) }
+
+    // What is left is the end of what there was.
+    ensures gave { (given : List ℕ) × Gives (S.left source.old) (S.left source.new) given }
 
     // A failed read is the one cause of `ReadFault`, and at Ok no read has failed.
     ensures cause { Causes (SourceRose (S.left source.old) (S.faults source.old) (S.faults source.new)) (S.faults source.old) (S.faults source.new) result }

@@ -11,6 +11,7 @@ returns-in-Err g c =
     let e = c.in-Err.ensures in
     record {
       told = rest_refused c.args.window.now c.take_ahead.new.window (g.S.Source.faults c.args.source.now) (g.S.Source.faults c.reading.source) c.args.window.now.lines c.reading.bytes.items c.reading.window _ _ c.in-Err.error i.filled e.err;
+      gave = (i.filled.gave, i.filled.told);
       cause = record { later = omega (arith, i.steady); steady = tt; failed = λ x. absurd (refused_no_rest_fault _ c.reading.window c.in-Err.error e.err x) };
       window = record { window = e.window.window; room = omega (arith, e.window.room, i.kept.room); counts = omega (arith, e.window.counts, i.kept.counts) };
       at_end = λ t. i.at_end (rw (← e.at_end) t);
@@ -25,6 +26,7 @@ returns-then-window g c =
     record {
       told = rest_read c.args.window.now c.take_ahead.new.window (g.S.Source.faults c.args.source.now) (g.S.Source.faults c.reading.source) c.args.window.now.lines c.take_ahead.new.bytes.items c.take_ahead.new.window _ _ f e.ok.ahead_is refl refl refl refl
           (i.at_end (rw (← e.at_end) c.if-window.true)) i.steady;
+      gave = (i.filled.gave, i.filled.told);
       cause = record { later = omega (arith, i.steady); steady = i.steady; failed = λ x. absurd cc };
       window = record { window = e.window.window; room = omega (arith, e.window.room, i.kept.room); counts = omega (arith, e.window.counts, i.kept.counts) };
       at_end = λ t. i.at_end (rw (← e.at_end) t);
@@ -42,6 +44,7 @@ returns-in-Err-refill g c =
     record {
       told = rw r.kept (rest_fault c.args.window.now c.refill.new.window (g.S.Source.faults c.args.source.now) (g.S.Source.faults c.refill.new.source) c.args.window.now.lines c.take_ahead.new.bytes.items c.take_ahead.new.window
           (g.S.Source.left c.args.source.now) (g.S.Source.left c.reading.source) f s);
+      gave = (i.filled.gave, rw r.kept i.filled.told);
       cause = record { later = omega (arith, i.steady, r.cause.later); steady = tt; failed = λ x. s };
       window = record { window = r.window; room = omega (arith, r.room, e.window.room, i.kept.room); counts = omega (arith, r.lines, r.room, e.window.counts, i.kept.counts) };
       at_end = λ t. rw r.kept (i.at_end (rw (← e.at_end, ← r.same) t));
