@@ -77,7 +77,7 @@ blocks_done size blocks count at room bytes total so_far ended =
 
 -- ---- as a text
 
-size_more : (b : Block) (bs : List Block) → square_size (b ∷ bs) ≡ length b.rows + square_size bs
+pub size_more : (b : Block) (bs : List Block) → square_size (b ∷ bs) ≡ length b.rows + square_size bs
 size_more b bs = sum_by-cons (λ (b : Block). length b.rows) b bs
 
 pub record AreBlocksOf (count number room : ℕ) (bytes : List ℕ) (x : List Block × List ℕ) : Type 0 where

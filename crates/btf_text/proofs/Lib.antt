@@ -1,4 +1,6 @@
 pub mod Pouring
+pub mod Weighed
+pub mod Touched
 pub mod Lines
 pub mod Parts
 pub mod Orders
@@ -16,3 +18,4 @@ pub mod ListLines
 pub mod Listed
 pub mod PairLines
 pub mod Reports
+pub mod Limits

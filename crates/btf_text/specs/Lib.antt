@@ -1,4 +1,5 @@
 pub mod Columns
+pub mod Diagonals
 pub mod Held
 pub mod Readable
 pub mod Reading

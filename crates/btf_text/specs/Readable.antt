@@ -4,7 +4,7 @@ use Rattle.std.specs.List.{AllByRecursion}
 use Rattle.bip_defs.specs.Blocks.{Block}
 use Rattle.bip_defs.specs.Lists.{IsRising}
 use Rattle.bip_defs.specs.Matching.{cols_of, rows_of}
-use Rattle.bip_defs.specs.Matrix.{Place}
+use Rattle.bip_defs.specs.Matrix.{Matrix, Place, cols, entry_count}
 use Rattle.bip_graph.specs.Texts.{Report, Sizes, square_size}
 
 -- a number of a text
@@ -61,3 +61,9 @@ pub record IsReadable (r : Report) : Type 0 where
   pub pairs : List Place
   pub with_pairs : r.pairs ≡ Some pairs
   pub are_pairs : ArePairsLike pairs
+
+-- a matrix whose numbers a text can hold
+pub record FitsText (a : Matrix) : Type 0 where
+  pub rows : IsNumber a.rows
+  pub columns : IsNumber (cols a)
+  pub entries : IsNumber (entry_count a)

@@ -1,9 +1,6 @@
 -- What a report that was read says.
-use Rattle.std.specs.Prelude.{ℕ, List, Option, Some, None}
+use Rattle.std.specs.Prelude.{◌≡◌, ℕ, List, [], Option, Some, None}
 use Rattle.std.specs.Global.{Vec}
-use Rattle.std.specs.List.Sorted.{IsPermutation, IsSorted}
-use Rattle.std.specs.Ordering.{nat_cmp}
-use Rattle.bip_graph.specs.Stretches.{all_cols, all_rows}
 use Rattle.bip_graph.specs.Texts as texts
 use Rattle.sp_ids.specs.declared.ids.Col.{Col}
 use Rattle.sp_ids.specs.declared.ids.Row.{Row}
@@ -26,9 +23,7 @@ told r = record {
   pairs = Some r.pairs.items;
 }
 
--- the lists of the square part hold the rows and the columns of the blocks, in order
-pub record HasSquare (r : Report) : Type 0 where
-  pub rows : IsPermutation (all_rows r.blocks) r.parts.sr.items
-  pub cols : IsPermutation (all_cols r.blocks) r.parts.sc.items
-  pub rows_in_order : IsSorted nat_cmp r.parts.sr.items
-  pub cols_in_order : IsSorted nat_cmp r.parts.sc.items
+-- the square part is given by the blocks alone: its lists are empty
+pub record GivesSquareByBlocks (r : Report) : Type 0 where
+  pub rows : r.parts.sr.items ≡ []
+  pub cols : r.parts.sc.items ≡ []

@@ -2,12 +2,17 @@
 #![tactic(auto)]
 
 mod buffer;
+mod diagonal;
+#[cfg(test)]
+mod diagonal_tests;
 mod laws;
 mod load;
 mod numerals;
 mod pairs;
 mod rank;
 mod reader;
+#[cfg(test)]
+mod reader_tests;
 mod report;
 #[cfg(test)]
 mod report_tests;
@@ -17,7 +22,8 @@ mod stop;
 mod tests;
 
 pub use buffer::TextBuf;
-pub use laws::one_spelling;
+pub use diagonal::write_diagonal;
+pub use laws::{one_spelling, reports_can_be_read};
 pub use load::write_load;
 pub use pairs::write_pairs;
 pub use rank::write_rank;

@@ -1,25 +1,25 @@
 //! Reports that are read.
 
 ghost use Rattle.std.specs.Prelude.{◌≡◌, IfOk, IfSome, IfNone};
-ghost use Rattle.std.specs.List.Sorted.{IsPermutation, IsSorted};
 ghost use Rattle.bip_graph.specs.Texts as texts;
 ghost use Rattle.bip_graph.specs.Texts.{report_text};
 ghost use Rattle.btf_text.specs.Readable.{IsReadable};
 ghost use Rattle.btf_text.specs.Reading.{Gives, head_at, report_at, sizes_at, tail_at};
-ghost use Rattle.btf_text.specs.Told.{HasSquare, orders_told, told};
+ghost use Rattle.btf_text.specs.Told.{GivesSquareByBlocks, orders_told, told};
 
 use crate::numerals::{field_at, line_end, one_at, word_at};
 use crate::sections::{orders_at, pairs_at, part_at, square_at};
 use crate::stop::Stop;
 use bip_graph::{Blocks, Parts};
-use sp_ids::{Col, Id, OutOfMemory, Row};
+use sp_ids::{Col, OutOfMemory, Row};
 use std::alloc::Global;
 
 /// What a report with pairs says.
 ///
 /// Nothing ties its numbers and lists to a matrix, or to one another: rows and columns are below 2^32 - 1, the lists of
-/// parts and blocks rise, the pairs rise by column, and both lists of a block are of one length, which is at least 1. The
-/// lists of the square part are the rows and the columns of the blocks, in order of number.
+/// parts and blocks rise, the pairs rise by column, and both lists of a block are of one length, which is at least 1.
+///
+/// A report gives the square part by its blocks alone, so `parts.sr` and `parts.sc` are empty, whatever the blocks hold.
 #[derive(Drop)]
 pub struct Report {
     pub m: u32,
@@ -77,34 +77,22 @@ fn tail_at(alloc: Global, bytes: &[u8]) -> Result<Tail, Stop>
     Ok(Tail { orders, pairs })
 }
 
-/// The rows or columns of a list, in order of number.
-fn sorted<N: Id + Ord>(alloc: Global, list: &[N]) -> Result<Vec<N>, OutOfMemory>
-    ensures same { IfOk result (λ v. IsPermutation list.now v.items) }
-    ensures in_order { IfOk result (λ v. IsSorted N.cmp v.items) }
-{
-    let mut sorted = Vec::from_slice(alloc, list)?;
-    sorted.sort_unstable();
-    Ok(sorted)
-}
-
 /// The report that the bytes are.
 #[tactic(auto, unfolding(crate::specs::Reading::report_at))]
 fn report_at(alloc: Global, bytes: &[u8]) -> Result<Report, Stop>
     ensures told { Gives told result (report_at bytes.now) }
-    ensures square { IfOk result HasSquare }
+    ensures square { IfOk result GivesSquareByBlocks }
 {
     let (((m, n, e), rank), rest) = head_at(bytes)?;
     let ((hr, hc), rest) = part_at(alloc, rest, b"horizontal")?;
     let (blocks, rest) = square_at(alloc, rest)?;
     let ((vr, vc), rest) = part_at(alloc, rest, b"vertical")?;
     let tail = tail_at(alloc, rest)?;
-    let sr = sorted(alloc, blocks.all_rows())?;
-    let sc = sorted(alloc, blocks.all_cols())?;
     let parts = Parts {
         hr,
         hc,
-        sr,
-        sc,
+        sr: Vec::new(alloc),
+        sc: Vec::new(alloc),
         vr,
         vc,
     };
@@ -128,8 +116,8 @@ fn report_at(alloc: Global, bytes: &[u8]) -> Result<Report, Stop>
 pub fn read_report(alloc: Global, bytes: &[u8]) -> Result<Option<Report>, OutOfMemory>
     // What is read is spelled so, each byte of it.
     ensures found { IfOk result (λ o. IfSome o (λ r. IsReadable (told r) × (bytes.now ≡ report_text (told r)))) }
-    // The lists of the square part are those of the blocks, in order.
-    ensures square { IfOk result (λ o. IfSome o HasSquare) }
+    // The square part is given by the blocks alone.
+    ensures square { IfOk result (λ o. IfSome o GivesSquareByBlocks) }
     // Where nothing is read, the bytes are no report.
     ensures none { IfOk result (λ o. IfNone o ((r : texts.Report) → IsReadable r → ¬ (bytes.now ≡ report_text r))) }
 {

@@ -1,0 +1,145 @@
+-- The report of a matrix within the limits of a text can be read.
+use Rattle.std.proofs.Common.{◌≡◌, ◌<◌, ◌≤◌, ◌^◌, ℕ, suc, Bool, true, false, List, [], ◌∷◌, ◌++◌, length, Some, IfSome, refl, sym, ap, subst, inl, inr, ⊎_elim, arith}
+use Rattle.std.specs.List.{AllByRecursion}
+use Rattle.bip_defs.specs.Blocks.{Block, Chain, ColAt, IsBlock, IsPerfect, RowAt}
+use Rattle.bip_defs.specs.Blocks.Chain.{by_col, by_row}
+use Rattle.bip_defs.specs.Decomposition.{Decomposition, IsDecompositionOf}
+use Rattle.bip_defs.specs.Lists.{Among, AreDistinct, IsRising, Lists}
+use Rattle.bip_defs.specs.Matching.{IsMaximum, cols_of, rows_of}
+use Rattle.bip_defs.specs.Matrix.{Matrix, Place, cols, upto}
+use Rattle.bip_defs.specs.Parts.{IsHorizontalCol, IsHorizontalRow, IsVerticalCol, IsVerticalRow}
+use Rattle.bip_defs.proofs.Counts.{distinct_append, horizontal_row_in_range, vertical_col_in_range}
+use Rattle.bip_defs.proofs.Sets.{among_either, col_pair, entry_col, few_distinct, one_col, one_row, pigeonhole, rising_distinct, row_pair, upto_length, upto_lists}
+use Rattle.bip_defs.proofs.Square.{square_pairs_perfect}
+use Rattle.bip_defs.proofs.Uniqueness.{block_has_col, chain_back, chain_join, chain_square, class_same, same_rank}
+use Rattle.bip_graph.specs.Answers.{orders_of, report_of, where_asked}
+use Rattle.bip_graph.specs.Stretches.{all_cols, all_rows}
+use Rattle.bip_graph.specs.Texts.{square_size}
+use Rattle.btf_text.specs.Readable.{AreBlocksLike, AreOrdersLike, FitsText, IsBlockLike, IsId, IsList, IsReadable}
+use Rattle.btf_text.proofs.BlockLists.{rows_of_blocks, size_more}
+
+-- ---- lists
+
+all_ids : (n : ℕ) (xs : List ℕ) → n < 2 ^ 32 → ((x : ℕ) → Among x xs → x < n) → AllByRecursion IsId xs
+all_ids n [] small within = tt
+all_ids n (x ∷ xs) small within = (omega (arith, small, within x (inl refl)), all_ids n xs small (λ y on. within y (inr on)))
+
+all_append : (xs ys : List ℕ) → AllByRecursion IsId xs → AllByRecursion IsId ys → AllByRecursion IsId (xs ++ ys)
+all_append [] ys a b = b
+all_append (x ∷ xs) ys a b = (a.0, all_append xs ys a.1 b)
+
+few_below : (n : ℕ) (xs : List ℕ) → AreDistinct xs → ((x : ℕ) → Among x xs → x < n) → length xs ≤ n
+few_below n xs apart within = omega (arith, few_distinct xs (upto n) apart (λ x on. (upto_lists n).complete x (within x on)), upto_length 0 n)
+
+list_fits : (P : ℕ → Type 0) (n : ℕ) (xs : List ℕ) → n < 2 ^ 32 → Lists P xs → ((x : ℕ) → P x → x < n) → IsList xs
+list_fits P n xs small l within = record {
+  ids_fit = all_ids n xs small (λ x on. within x (l.sound x on));
+  rising = l.rising;
+  few = omega (arith, small, few_below n xs (rising_distinct xs l.rising) (λ x on. within x (l.sound x on)));
+}
+
+some_among : {X : Type 0} (x : X) (xs : List X) → Among x xs → 0 < length xs
+some_among x [] on = elim on [ ]
+some_among x (y ∷ ys) on = omega arith
+
+-- ---- blocks
+
+module _ (a : Matrix) (m : List Place) (perfect : IsPerfect a m) where
+  block_rows_few : (b : Block) → IsBlock a b → length b.rows ≤ length b.cols
+  block_rows_few b x =
+      pigeonhole (λ (r c : ℕ). Among (r, c) m) (λ r s c p q. one_row m perfect.matching.cols_differ r s c p q) b.rows b.cols (rising_distinct b.rows x.1.rows.rising)
+      (λ r on. let (c, p) = row_pair r m (perfect.covers_row r (chain_square a x.1.square (x.1.rows.sound r on))) in (c, x.1.cols.complete c (by_row (x.1.rows.sound r on) (m, perfect, p)), p))
+
+  block_cols_few : (b : Block) → IsBlock a b → length b.cols ≤ length b.rows
+  block_cols_few b x =
+      pigeonhole (λ (c r : ℕ). Among (r, c) m) (λ c d r p q. one_col m perfect.matching.rows_differ r c d p q) b.cols b.rows (rising_distinct b.cols x.1.cols.rising)
+      (λ c on. let (r, p) = col_pair c m (perfect.covers_col c (chain_square a x.1.square (x.1.cols.sound c on))) in (r, x.1.rows.complete r (by_col (x.1.cols.sound c on) (m, perfect, p)), p))
+
+  block_like : (b : Block) → a.rows < 2 ^ 32 → cols a < 2 ^ 32 → IsBlock a b → IsBlockLike b
+  block_like b few_rows few_cols x =
+      let c = block_has_col a m b perfect x in
+      record {
+        rows = list_fits (λ r. Chain a x.0 (RowAt r)) a.rows b.rows few_rows x.1.rows (λ r chain. (chain_square a x.1.square chain).0);
+        cols = list_fits (λ c. Chain a x.0 (ColAt c)) (cols a) b.cols few_cols x.1.cols (λ c chain. (chain_square a x.1.square chain).0);
+        some = omega (arith, some_among c.0 b.cols c.1, block_cols_few b x);
+        same = omega (arith, block_rows_few b x, block_cols_few b x);
+      }
+
+  blocks_like : (bs : List Block) → a.rows < 2 ^ 32 → cols a < 2 ^ 32 → ((b : Block) → Among b bs → IsBlock a b) → AllByRecursion IsBlockLike bs
+  blocks_like [] few_rows few_cols are = tt
+  blocks_like (b ∷ bs) few_rows few_cols are = (block_like b few_rows few_cols (are b (inl refl)), blocks_like bs few_rows few_cols (λ d on. are d (inr on)))
+
+in_block : (r : ℕ) (bs : List Block) → Among r (all_rows bs) → (b : Block) × Among b bs × Among r b.rows
+in_block r [] on = elim on [ ]
+in_block r (b ∷ bs) on = ⊎_elim (λ here. (b, inl refl, here)) (λ later. let (d, d_on, r_on) = in_block r bs later in (d, inr d_on, r_on)) (among_either r b.rows (all_rows bs) on)
+
+col_in_block : (c : ℕ) (bs : List Block) → Among c (all_cols bs) → (b : Block) × Among b bs × Among c b.cols
+col_in_block c [] on = elim on [ ]
+col_in_block c (b ∷ bs) on = ⊎_elim (λ here. (b, inl refl, here)) (λ later. let (d, d_on, c_on) = col_in_block c bs later in (d, inr d_on, c_on)) (among_either c b.cols (all_cols bs) on)
+
+share_row : (a : Matrix) (b d : Block) (r : ℕ) → IsBlock a b → IsBlock a d → Among r b.rows → Among r d.rows → b ≡ d
+share_row a b d r x y h k = class_same a x.0 y.0 b d x.1 y.1 (chain_join a (x.1.rows.sound r h) (chain_back a (y.1.rows.sound r k)))
+
+rows_distinct : (a : Matrix) (bs : List Block) → ((b : Block) → Among b bs → IsBlock a b) → AreDistinct bs → AreDistinct (all_rows bs)
+rows_distinct a [] are apart = tt
+rows_distinct a (b ∷ bs) are apart =
+    distinct_append b.rows (all_rows bs) (rising_distinct b.rows (are b (inl refl)).1.rows.rising) (rows_distinct a bs (λ d on. are d (inr on)) apart.1)
+    (λ r here later. let (d, d_on, r_on) = in_block r bs later in apart.0 (subst (λ (e : Block). Among e bs) (sym (share_row a b d r (are b (inl refl)) (are d (inr d_on)) here r_on)) d_on))
+
+few_blocks : (bs : List Block) → AllByRecursion IsBlockLike bs → length bs ≤ square_size bs
+few_blocks [] like = omega arith
+few_blocks (b ∷ bs) like = omega (arith, like.0.some, few_blocks bs like.1, size_more b bs)
+
+row_below : (a : Matrix) (bs : List Block) → ((b : Block) → Among b bs → IsBlock a b) → (r : ℕ) → Among r (all_rows bs) → r < a.rows
+row_below a bs are r on = let (b, b_on, r_on) = in_block r bs on in (chain_square a (are b b_on).1.square ((are b b_on).1.rows.sound r r_on)).0
+
+col_below : (a : Matrix) (bs : List Block) → ((b : Block) → Among b bs → IsBlock a b) → (c : ℕ) → Among c (all_cols bs) → c < cols a
+col_below a bs are c on = let (b, b_on, c_on) = col_in_block c bs on in (chain_square a (are b b_on).1.square ((are b b_on).1.cols.sound c c_on)).0
+
+blocks_fit : (a : Matrix) (m : List Place) (bs : List Block) → IsPerfect a m → a.rows < 2 ^ 32 → cols a < 2 ^ 32 → ((b : Block) → Among b bs → IsBlock a b) → AreDistinct bs → AreBlocksLike bs
+blocks_fit a m bs perfect few_rows few_cols are apart =
+    let like = blocks_like a m perfect bs few_rows few_cols are in
+    let few : length (all_rows bs) ≤ a.rows = few_below a.rows (all_rows bs) (rows_distinct a bs are apart) (row_below a bs are) in
+    record {
+      each = like;
+      few = omega (arith, few_rows, few, few_blocks bs like, rows_of_blocks bs);
+      few_rows = omega (arith, few_rows, few, rows_of_blocks bs);
+    }
+
+-- ---- the whole
+
+asked_like : (order : Bool) (orders : List ℕ × List ℕ) → AreOrdersLike orders → IfSome (where_asked order orders) AreOrdersLike
+asked_like true orders like = like
+asked_like false orders like = tt
+
+as_many_rows : (m : List Place) → length (rows_of m) ≡ length m
+as_many_rows [] = refl
+as_many_rows (p ∷ m) = ap suc (as_many_rows m)
+
+pub can_be_read : (a : Matrix) (d : Decomposition) (order : Bool) (m : List Place) → FitsText a → IsDecompositionOf a d → IsMaximum a m → IsRising (cols_of m) → IsReadable (report_of a d order (Some m))
+can_be_read a d order m fits is max rising =
+    let parts = is.parts in
+    let perfect = square_pairs_perfect a m d.parts.square_rows max parts.square_rows in
+    let hr = list_fits (IsHorizontalRow a) a.rows d.parts.horizontal_rows fits.rows parts.horizontal_rows (horizontal_row_in_range a) in
+    let hc = list_fits (IsHorizontalCol a) (cols a) d.parts.horizontal_cols fits.columns parts.horizontal_cols (λ c x. x.0) in
+    let vr = list_fits (IsVerticalRow a) a.rows d.parts.vertical_rows fits.rows parts.vertical_rows (λ r x. x.0) in
+    let vc = list_fits (IsVerticalCol a) (cols a) d.parts.vertical_cols fits.columns parts.vertical_cols (vertical_col_in_range a) in
+    let row_in = λ (r : ℕ) (on : Among r (rows_of m)). let (c, p) = row_pair r m on in (max.matching.entries r c p).0 in
+    let col_in = λ (c : ℕ) (on : Among c (cols_of m)). let (r, p) = col_pair c m on in entry_col a r c (max.matching.entries r c p) in
+    let few : length m < 2 ^ 32 = omega (arith, fits.rows, few_below a.rows (rows_of m) max.matching.rows_differ row_in, as_many_rows m) in
+    record {
+      sizes = record { rows = fits.rows; cols = fits.columns; entries = fits.entries };
+      rank = omega (arith, few, same_rank a d.rank (length m) is.rank (m, max, refl));
+      horizontal_rows = hr;
+      horizontal_cols = hc;
+      blocks = blocks_fit a _ d.blocks perfect fits.rows fits.columns is.blocks.sound is.blocks.distinct;
+      vertical_rows = vr;
+      vertical_cols = vc;
+      orders = asked_like order (orders_of d) (
+        all_append (d.parts.horizontal_rows ++ all_rows d.blocks) d.parts.vertical_rows (all_append d.parts.horizontal_rows (all_rows d.blocks) hr.ids_fit (all_ids a.rows (all_rows d.blocks) fits.rows (row_below a d.blocks is.blocks.sound))) vr.ids_fit,
+        all_append (d.parts.horizontal_cols ++ all_cols d.blocks) d.parts.vertical_cols (all_append d.parts.horizontal_cols (all_cols d.blocks) hc.ids_fit (all_ids (cols a) (all_cols d.blocks) fits.columns (col_below a d.blocks is.blocks.sound))) vc.ids_fit,
+      );
+      pairs = m;
+      with_pairs = refl;
+      are_pairs = record { rows_fit = all_ids a.rows (rows_of m) fits.rows row_in; cols_fit = all_ids (cols a) (cols_of m) fits.columns col_in; rising = rising; few = few };
+    }

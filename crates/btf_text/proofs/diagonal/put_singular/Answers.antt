@@ -1,0 +1,10 @@
+use Rattle.std.proofs.Common.{◌∷◌, [], List, ℕ, codes, ap}
+use Rattle.bip_graph.specs.Texts.{counted, line}
+use Rattle.btf_text.proofs.Parts.{lines_as, lines_then, same_ids, same_number}
+use Rattle.btf_text.proofs.diagonal.put_singular.Goals as goal
+
+pub returns : goal.returns
+returns g c =
+    lines_then (lines_as (same_number (codes "singular") c.from.ensures) c.put_line.ensures)
+    (lines_then c.put_neighbours.ensures
+    (lines_then (lines_as (ap (λ (list : List ℕ). line (codes "columns") (counted list) ∷ []) (same_ids c.args.hall.now)) c.put_list.ensures) c.put_line-2.ensures))
