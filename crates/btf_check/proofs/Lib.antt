@@ -1,0 +1,5 @@
+mod Answered
+mod Marking
+mod Pairing
+mod Judging
+pub mod Verdicts

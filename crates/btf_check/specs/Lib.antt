@@ -1,0 +1,3 @@
+pub mod Comparing
+pub mod Reasons
+pub mod Verdicts

@@ -1,0 +1,15 @@
+//! The judge of reports: whether bytes are the report of a matrix, and if not, why.
+#![tactic(auto)]
+
+mod compare;
+mod laws;
+mod pairs;
+mod reasons;
+mod report;
+#[cfg(test)]
+mod tests;
+mod verdict;
+
+pub use laws::no_reason_applies;
+pub use report::judge;
+pub use verdict::Verdict;

@@ -1,0 +1,60 @@
+//! The pairs of a report.
+
+ghost use Rattle.std.specs.Prelude.{◌≡◌, ◌↔◌, IfNone, IfOk, IfSome, IsTrue};
+ghost use Rattle.bip_defs.specs.Lists.{IsRising};
+ghost use Rattle.bip_defs.specs.Matching.{IsMatching, IsMaximum, cols_of};
+ghost use Rattle.bip_defs.specs.Matrix.{cols};
+ghost use Rattle.btf_check.specs.Reasons.{ArePaired};
+
+use bip_graph::Matching;
+use hall_witness::{Reach, reach};
+use sp_ids::{Col, OutOfMemory, Row};
+use sp_pattern::Pattern;
+use std::alloc::Global;
+
+/// The matching of these pairs, unless one is no entry or two share a row.
+///
+/// Answers `OutOfMemory` where 4 bytes a row and 4 a column can't be had. Work: one search in a column for each pair.
+pub(crate) fn matching_of(
+    alloc: Global,
+    pattern: &Pattern,
+    pairs: &[(Row, Col)],
+) -> Result<Option<Matching>, OutOfMemory>
+    requires rising { IsRising (cols_of pairs.now) }
+    ensures pairs { IfOk result (λ o. IfSome o (λ m. m.pairs ≡ pairs.now)) }
+    ensures rows { IfOk result (λ o. IfSome o (λ m. m.rows ≡ pattern.now.rows)) }
+    ensures cols { IfOk result (λ o. IfSome o (λ m. m.cols ≡ cols pattern.now)) }
+    ensures paired { IfOk result (λ o. IfSome o (λ m. ArePaired pattern.now pairs.now)) }
+    ensures unpaired { IfOk result (λ o. IfNone o (¬ ArePaired pattern.now pairs.now)) }
+{
+    let mut matching = Matching::empty(alloc, pattern.rows(), pattern.cols())?;
+    for pair in pairs {
+        let (row, col) = *pair;
+        if !pattern.has(row, col) || matching.col_of(row).is_some() {
+            return Ok(None);
+        }
+        matching.pair(row, col);
+    }
+    // It tells the proof that the pairs rise by column.
+    let _size = matching.size();
+    Ok(Some(matching))
+}
+
+/// Whether no matching is longer.
+///
+/// Answers `OutOfMemory` where a search can't be had. Work: each column and each entry is looked at once at most.
+pub(crate) fn is_maximum(
+    alloc: Global,
+    pattern: &Pattern,
+    matching: &Matching,
+) -> Result<bool, OutOfMemory>
+    requires rows { matching.now.rows ≡ pattern.now.rows }
+    requires cols { matching.now.cols ≡ cols pattern.now }
+    requires matching { IsMatching pattern.now matching.now.pairs }
+    ensures { IfOk result (λ b. IsTrue b ↔ IsMaximum pattern.now matching.now.pairs) }
+{
+    match reach(alloc, pattern, matching)? {
+        Reach::Witness(_) => Ok(true),
+        Reach::Path(_) => Ok(false),
+    }
+}

@@ -1,0 +1,34 @@
+//! The judge.
+
+ghost use Rattle.std.specs.Prelude.{◌≡◌, IfOk};
+ghost use Rattle.btf_check.specs.Verdicts.{IsVerdict};
+
+use crate::Verdict;
+use crate::reasons::judge_report;
+use btf_text::read_report;
+use sp_ids::OutOfMemory;
+use sp_pattern::Pattern;
+use std::alloc::Global;
+use std::thread::Threads;
+
+/// Whether bytes are the report of a matrix with pairs, with orders or without, and if not, the first reason that
+/// applies (see [`Verdict`]).
+///
+/// The report is read, and judged by the matrix: by a search for an augmenting path from its pairs, and by the
+/// decomposition of the matrix anew.
+///
+/// Answers `OutOfMemory` where the report's lists or an analysis of the matrix can't be had. Work: one look at each byte,
+/// and an analysis of the matrix.
+pub fn judge<R: Threads + Sync>(
+    rt: &R,
+    alloc: Global,
+    pattern: &Pattern,
+    bytes: &[u8],
+) -> Result<Verdict, OutOfMemory>
+    ensures { IfOk result (IsVerdict pattern.now bytes.now) }
+{
+    match read_report(alloc, bytes)? {
+        Some(report) => judge_report(rt, alloc, pattern, &report),
+        None => Ok(Verdict::Invalid(1)),
+    }
+}
