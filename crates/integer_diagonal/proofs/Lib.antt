@@ -1,0 +1,14 @@
+pub mod Answering
+pub mod Bounds
+pub mod Cheap
+pub mod Duality
+pub mod Extending
+pub mod Growing
+pub mod Keeping
+pub mod Popped
+pub mod Raising
+pub mod Rising
+pub mod Scanning
+pub mod Starting
+pub mod Stuck
+pub mod Tracing

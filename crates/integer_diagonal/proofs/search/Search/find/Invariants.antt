@@ -1,0 +1,17 @@
+use Rattle.std.proofs.Common.{◌-◌, ◌+◌, ℕ, length}
+use Rattle.bip_defs.specs.Matrix.{cols}
+use Rattle.integer_diagonal.specs.Labels.{AreKnown, AreListed, IsBest, IsKept, labels_of, tree_of}
+use Rattle.integer_diagonal.specs.Outlays.{priced}
+use Rattle.integer_diagonal.specs.Searching.{IsGrown}
+use Rattle.integer_diagonal.proofs.search.Search.find.Given as goal
+
+abbrev pub invariant-loop-distance : goal.invariant-loop-distance
+invariant-loop-distance l = record {
+  grown : IsGrown (priced l.weights l.assignment) l.assignment.matching.pairs l.fn.root (tree_of l.self);
+  search : (level : ℕ) × IsKept (priced l.weights l.assignment) l.assignment.matching.pairs (tree_of l.self) (labels_of l.self) level × IsBest (priced l.weights l.assignment) l.assignment.matching.pairs (tree_of l.self) l.nearest level;
+  known : AreKnown (priced l.weights l.assignment) (tree_of l.self) (labels_of l.self) l.nearest.distance (length l.self.queue.items);
+  listed : AreListed (labels_of l.self) l.self.reached.items;
+}
+
+abbrev pub decreases-loop-distance : goal.decreases-loop-distance
+decreases-loop-distance l = cols l.pattern + 1 - length l.self.queue.items

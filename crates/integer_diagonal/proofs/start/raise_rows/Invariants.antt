@@ -1,0 +1,5 @@
+use Rattle.integer_diagonal.proofs.Starting.{AreRaisedIn}
+use Rattle.integer_diagonal.proofs.start.raise_rows.Given as goal
+
+abbrev pub invariant-loop-k : goal.invariant-loop-k
+invariant-loop-k l = AreRaisedIn l.fn.weights l.fn.col l.k l.outlay l.rows l.fn.prices l.prices

@@ -1,0 +1,18 @@
+//! The heaviest diagonal of a square matrix, with prices that show that none is heavier.
+//!
+//! Shortest augmenting paths over reduced costs, with prices that stay feasible throughout (Kuhn 1955; Munkres 1957), by
+//! searches in order of distance that end at the nearest unmatched row (Duff and Koster 2001, for sparse matrices).
+#![tactic(auto)]
+
+mod answer;
+mod assignment;
+mod frontier;
+mod laws;
+mod path;
+mod search;
+mod start;
+#[cfg(test)]
+mod tests;
+
+pub use answer::heaviest;
+pub use laws::{fair_prices_show_heaviest, full_matching_shows_rank};

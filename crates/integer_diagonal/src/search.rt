@@ -1,0 +1,271 @@
+//! The search for a nearest unmatched row.
+
+ghost use Rattle.std.specs.Prelude.{◌≡◌, ◌⊎◌, ◌↔◌, ℕ, ◌+◌, ◌-◌, ◌<◌, ◌≤◌, ◌^◌, ◌∷◌, ◌++◌, [], true, length, set, slice_index, IfOk, IfSome, IfNone, OnOk};
+ghost use Rattle.bip_defs.specs.Lists.{Among};
+ghost use Rattle.bip_defs.specs.Matching.{cols_of, rows_of};
+ghost use Rattle.bip_defs.specs.Matrix.{IsEntry, cols};
+ghost use Rattle.integer_diagonal.specs.Labels.{AreBeyond, AreKnown, AreListed, IsBest, IsClear, IsKept, Looks, Puts, Takes, distance_of, labels_of, tree_of};
+ghost use Rattle.integer_diagonal.specs.Outlays.{IsAssignment, priced};
+ghost use Rattle.integer_diagonal.specs.Searching.{IsGrown, IsNearest, IsSearched, IsStuck, Reaches, depth, far};
+
+use crate::assignment::{Assignment, TOP};
+use crate::frontier::Frontier;
+use bip_graph::Matching;
+use sp_ids::{Col, Id, OutOfMemory, Row};
+use sp_pattern::{Pattern, Weights};
+use std::alloc::{AllocError, Global};
+
+/// Stands for no distance: distances are less.
+pub const FAR: u128 = u128::MAX;
+
+/// What a search keeps. The queue has the columns that it has come to, each with the place of the one that it was led
+/// from, and their distances.
+#[derive(Drop)]
+pub struct Search {
+    pub distances: Vec<u128>,
+    pub parents: Vec<u32>,
+    pub settled: Vec<bool>,
+    pub reached: Vec<u32>,
+    pub queue: Vec<(u32, u32)>,
+    pub depths: Vec<u128>,
+    pub frontier: Frontier,
+}
+
+/// The nearest unmatched row so far, with its distance and the place of the column that it was reached from.
+#[derive(Clone, Copy)]
+pub struct Nearest {
+    pub row: u32,
+    pub distance: u128,
+    pub place: u32,
+}
+
+impl Search {
+    /// For so many rows.
+    pub fn new(alloc: Global, rows: u32) -> Result<Search, OutOfMemory>
+        ensures clear { IfOk result (λ s. IsClear rows (tree_of s) (labels_of s)) }
+        ensures listed { IfOk result (λ s. s.reached.items ≡ []) }
+    {
+        let rows = rows as usize;
+        let distances = vec![in alloc; FAR; rows]?;
+        let parents = vec![in alloc; 0u32; rows]?;
+        let settled = vec![in alloc; false; rows]?;
+        Ok(Search {
+            distances,
+            parents,
+            settled,
+            reached: Vec::new(alloc),
+            queue: Vec::new(alloc),
+            depths: Vec::new(alloc),
+            frontier: Frontier::new(alloc),
+        })
+    }
+
+    /// Makes ready for the next search. Work: linear in what the last one reached.
+    pub fn clear(&mut self)
+        requires listed { AreListed (labels_of self.old) self.old.reached.items }
+        requires settled { length self.old.settled.items ≡ length self.old.distances.items }
+        requires parents { length self.old.parents.items ≡ length self.old.distances.items }
+        ensures clear { IsClear (length self.old.distances.items) (tree_of self.new) (labels_of self.new) }
+        ensures listed { self.new.reached.items ≡ [] }
+    {
+        for k in 0..self.reached.len() {
+            let row = self.reached[k] as usize;
+            self.distances[row] = FAR;
+            self.settled[row] = false;
+        }
+        self.reached.clear();
+        self.queue.clear();
+        self.depths.clear();
+        self.frontier.clear();
+    }
+
+    /// Goes from an unmatched column to the columns that are nearest by reduced cost, until no unmatched row can be
+    /// nearer than the one that was found (Dijkstra 1959).
+    pub fn find(
+        &mut self,
+        pattern: &Pattern,
+        weights: &Weights,
+        assignment: &Assignment,
+        root: Col,
+    ) -> Result<Nearest, AllocError>
+        requires of { weights.now.matrix ≡ pattern.now }
+        requires assignment { IsAssignment weights.now assignment.now }
+        requires root { root < cols pattern.now }
+        requires free { ¬ Among root (cols_of assignment.now.matching.pairs) }
+        requires few { cols pattern.now < 2 ^ 32 }
+        requires clear { IsClear pattern.now.rows (tree_of self.old) (labels_of self.old) }
+        requires listed { self.old.reached.items ≡ [] }
+        ensures tree { OnOk result (IsGrown (priced weights.now assignment.now) assignment.now.matching.pairs root (tree_of self.new)) }
+        ensures found { IfOk result (λ n. n.distance < far → IsNearest (priced weights.now assignment.now) assignment.now.matching.pairs (tree_of self.new) n.row n.place n.distance × IsSearched (priced weights.now assignment.now) assignment.now.matching.pairs (tree_of self.new) n.distance) }
+        ensures stuck { IfOk result (λ n. n.distance ≡ far → IsStuck (priced weights.now assignment.now) assignment.now.matching.pairs (tree_of self.new)) }
+        ensures listed { OnOk result (AreListed (labels_of self.new) self.new.reached.items) }
+        ensures lengths { OnOk result ((length self.new.distances.items ≡ pattern.now.rows) × (length self.new.settled.items ≡ pattern.now.rows) × (length self.new.parents.items ≡ pattern.now.rows)) }
+    {
+        let mut nearest = Nearest {
+            row: 0,
+            distance: FAR,
+            place: 0,
+        };
+        self.enter(root, 0, 0)?;
+        self.scan(pattern, weights, assignment, 0, &mut nearest)?;
+        while let Some((distance, row)) = self.next(nearest.distance) {
+            let place = self.settle(&assignment.matching, row, distance)?;
+            self.scan(pattern, weights, assignment, place, &mut nearest)?;
+        }
+        Ok(nearest)
+    }
+
+    // Takes out the nearest row that is not settled, if it is nearer than the limit.
+    fn next(&mut self, limit: u128) -> Option<(u128, u32)>
+        requires { (e : ℕ × ℕ) → Among e self.old.frontier → e.1 < length self.old.settled.items }
+        ensures taken { IfSome result (λ e. Takes (labels_of self.old) (labels_of self.new) e.0 e.1 limit) }
+        ensures none { IfNone result (AreBeyond (labels_of self.old) limit × (labels_of self.new ≡ record (labels_of self.old) { waiting = self.new.frontier })) }
+        ensures tree { tree_of self.new ≡ tree_of self.old }
+        ensures listed { self.new.reached.items ≡ self.old.reached.items }
+    {
+        while let Some((distance, row)) = self.frontier.pop() {
+            if distance >= limit {
+                return None;
+            }
+            if !self.settled[row as usize] {
+                return Some((distance, row));
+            }
+        }
+        None
+    }
+
+    // Goes over a matched row to its mate, which it puts at the end of the queue. Gives its place.
+    fn settle(&mut self, matching: &Matching, row: u32, distance: u128) -> Result<u32, AllocError>
+        requires row { row < matching.now.rows }
+        requires marked { row < length self.old.settled.items }
+        requires parents { row < length self.old.parents.items }
+        requires matched { Among row (rows_of matching.now.pairs) }
+        requires few { length self.old.queue.items < 2 ^ 32 }
+        ensures place { IfOk result (λ place. place ≡ length self.old.queue.items) }
+        ensures tree { OnOk result ((c : ℕ) × Among (row, c) matching.now.pairs × (tree_of self.new ≡ record { queue = self.old.queue.items ++ (c, slice_index self.old.parents.items row) ∷ []; depths = self.old.depths.items ++ distance ∷ [] })) }
+        ensures labels { OnOk result (labels_of self.new ≡ record (labels_of self.old) { settled = set self.old.settled.items row true }) }
+        ensures listed { OnOk result (self.new.reached.items ≡ self.old.reached.items) }
+    {
+        let place = self.queue.len() as u32;
+        match matching.col_of(Row(row)) {
+            Some(col) => {
+                let parent = self.parents[row as usize];
+                self.settled[row as usize] = true;
+                self.enter(col, parent, distance)?;
+                Ok(place)
+            }
+            None => unreachable!(),
+        }
+    }
+
+    // Puts a column at the end of the queue.
+    fn enter(&mut self, col: Col, parent: u32, depth: u128) -> Result<(), AllocError>
+        ensures tree { OnOk result (tree_of self.new ≡ record { queue = self.old.queue.items ++ (col, parent) ∷ []; depths = self.old.depths.items ++ depth ∷ [] }) }
+        ensures labels { labels_of self.new ≡ labels_of self.old }
+        ensures listed { self.new.reached.items ≡ self.old.reached.items }
+    {
+        self.queue.push((col.0, parent))?;
+        self.depths.push(depth)?;
+        Ok(())
+    }
+
+    // Looks at the entries of the column at the place, the last of the queue.
+    fn scan(
+        &mut self,
+        pattern: &Pattern,
+        weights: &Weights,
+        assignment: &Assignment,
+        place: u32,
+        nearest: &mut Nearest,
+    ) -> Result<(), AllocError>
+        requires of { weights.now.matrix ≡ pattern.now }
+        requires assignment { IsAssignment weights.now assignment.now }
+        requires place { place < length self.old.queue.items }
+        requires root { (root : ℕ) × IsGrown (priced weights.now assignment.now) assignment.now.matching.pairs root (tree_of self.old) }
+        requires kept { IsKept (priced weights.now assignment.now) assignment.now.matching.pairs (tree_of self.old) (labels_of self.old) (depth (tree_of self.old) place) }
+        requires best { IsBest (priced weights.now assignment.now) assignment.now.matching.pairs (tree_of self.old) nearest.old (depth (tree_of self.old) place) }
+        requires known { AreKnown (priced weights.now assignment.now) (tree_of self.old) (labels_of self.old) nearest.old.distance place }
+        requires listed { AreListed (labels_of self.old) self.old.reached.items }
+        ensures tree { tree_of self.new ≡ tree_of self.old }
+        ensures kept { OnOk result (IsKept (priced weights.now assignment.now) assignment.now.matching.pairs (tree_of self.new) (labels_of self.new) (depth (tree_of self.new) place)) }
+        ensures best { OnOk result (IsBest (priced weights.now assignment.now) assignment.now.matching.pairs (tree_of self.new) nearest.new (depth (tree_of self.new) place)) }
+        ensures known { OnOk result (AreKnown (priced weights.now assignment.now) (tree_of self.new) (labels_of self.new) nearest.new.distance (place + 1)) }
+        ensures listed { OnOk result (AreListed (labels_of self.new) self.new.reached.items) }
+    {
+        let col = Col(self.queue[place as usize].0);
+        let depth = self.depths[place as usize];
+        let outlay = assignment.outlays[col.0 as usize];
+        let rows = pattern.rows_of(col);
+        let weights = weights.weights_of(col);
+        for k in 0..rows.len() {
+            let row = rows[k].number();
+            let price = assignment.prices[row as usize];
+            let distance = depth + (price + (TOP - weights[k]) as u128 - outlay);
+            self.look(&assignment.matching, row, distance, place, nearest)?;
+        }
+        Ok(())
+    }
+
+    // Looks at an entry that leads from the place to the row at this distance.
+    fn look(
+        &mut self,
+        matching: &Matching,
+        row: u32,
+        distance: u128,
+        place: u32,
+        nearest: &mut Nearest,
+    ) -> Result<(), AllocError>
+        requires row { row < matching.now.rows }
+        requires distances { row < length self.old.distances.items }
+        requires parents { row < length self.old.parents.items }
+        ensures looked { OnOk result (Looks matching.now.pairs row distance place (labels_of self.old) nearest.old (labels_of self.new) nearest.new) }
+        ensures tree { tree_of self.new ≡ tree_of self.old }
+        ensures listed { OnOk result (AreListed (labels_of self.old) self.old.reached.items → AreListed (labels_of self.new) self.new.reached.items) }
+    {
+        if distance >= nearest.distance || distance >= self.distances[row as usize] {
+            return Ok(());
+        }
+        match matching.col_of(Row(row)) {
+            Some(_) => self.reach(row, distance, place)?,
+            None => {
+                *nearest = Nearest {
+                    row,
+                    distance,
+                    place,
+                };
+            }
+        }
+        Ok(())
+    }
+
+    // Notes that a matched row is nearer than was known.
+    fn reach(&mut self, row: u32, distance: u128, place: u32) -> Result<(), AllocError>
+        requires distances { row < length self.old.distances.items }
+        requires parents { row < length self.old.parents.items }
+        requires nearer { distance < far }
+        ensures put { OnOk result (Puts (labels_of self.old) (labels_of self.new) row distance place) }
+        ensures tree { tree_of self.new ≡ tree_of self.old }
+        ensures listed { OnOk result (AreListed (labels_of self.old) self.old.reached.items → AreListed (labels_of self.new) self.new.reached.items) }
+    {
+        self.list(row)?;
+        let at = row as usize;
+        self.distances[at] = distance;
+        self.parents[at] = place;
+        self.frontier.push(distance, row)?;
+        Ok(())
+    }
+
+    // Lists a row that is to be given its first distance.
+    fn list(&mut self, row: u32) -> Result<(), AllocError>
+        requires { row < length self.old.distances.items }
+        ensures labels { labels_of self.new ≡ labels_of self.old }
+        ensures tree { tree_of self.new ≡ tree_of self.old }
+        ensures listed { OnOk result (AreListed (labels_of self.old) self.old.reached.items → AreListed (labels_of self.new) self.new.reached.items × Among row self.new.reached.items) }
+    {
+        if self.distances[row as usize] == FAR {
+            self.reached.push(row)?;
+            return Ok(());
+        }
+        Ok(())
+    }
+}
