@@ -1,5 +1,5 @@
--- The lines that tell a refusal.
-use Rattle.std.specs.Prelude.{ℕ, List, ◌++◌, codes, decimal}
+-- The lines that tell a verdict or a refusal.
+use Rattle.std.specs.Prelude.{ℕ, suc, List, ◌++◌, codes, decimal}
 use Rattle.mm_defs.specs.Names.{kind_name}
 use Rattle.mm_defs.specs.declared.kinds.Kind.{Kind}
 
@@ -16,6 +16,13 @@ limit_line line kind = fault_line (codes "btf: limit line ") line kind
 abbrev pub too_long_line : List ℕ
 too_long_line = codes "btf: limit: TooLong\n"
 
+-- a place counts from 1 where it is told
+abbrev pub sum_limit_line : ℕ → ℕ → List ℕ
+sum_limit_line row col = codes "btf: limit: sum at " ++ decimal (suc row) ++ codes " " ++ decimal (suc col) ++ codes "\n"
+
+abbrev pub needs_integer_line : List ℕ
+needs_integer_line = codes "btf: needs an integer file\n"
+
 abbrev pub read_fault_line : List ℕ
 read_fault_line = codes "btf: read fault\n"
 
@@ -24,3 +31,9 @@ write_fault_line = codes "btf: write fault\n"
 
 abbrev pub out_of_memory_line : List ℕ
 out_of_memory_line = codes "btf: out of memory\n"
+
+abbrev pub valid_line : List ℕ
+valid_line = codes "valid\n"
+
+abbrev pub invalid_line : ℕ → List ℕ
+invalid_line reason = codes "invalid " ++ decimal reason ++ codes "\n"

@@ -1,6 +1,6 @@
-//! The lines that tell a refusal, put together without memory.
+//! The lines that tell a verdict or a refusal, put together without memory.
 #![tactic(auto)]
 
 mod line;
 
-pub use line::{Line, limit_line, malformed_line};
+pub use line::{Line, invalid_line, limit_line, malformed_line, sum_limit_line};

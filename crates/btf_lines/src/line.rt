@@ -1,10 +1,11 @@
 //! A line in a buffer of its own.
 
 ghost use Rattle.std.specs.Prelude.{◌≡◌, ◌+◌, ◌≤◌, ◌++◌, ℕ, List, [], length, take, codes, decimal};
-ghost use Rattle.btf_lines.specs.Lines.{fault_line as line_of_fault, malformed_line as malformed, limit_line as limit};
+ghost use Rattle.btf_lines.specs.Lines.{fault_line as line_of_fault, invalid_line as invalid, malformed_line as malformed, limit_line as limit, sum_limit_line as sum_limit};
 
 use itoa::Buffer;
 use mm_defs::Kind;
+use sp_ids::{Col, Row};
 use std::marker::Model;
 
 /// How many bytes a line may have.
@@ -93,4 +94,30 @@ pub fn limit_line(line: u64, kind: Kind) -> Line
     ensures { result ≡ limit line kind }
 {
     fault_line(b"btf: limit line ", line, kind)
+}
+
+/// `invalid <reason>`, with a line end.
+pub fn invalid_line(reason: u32) -> Line
+    ensures { result ≡ invalid reason }
+{
+    let mut digits = Buffer::new();
+    let mut text = Line::new();
+    text.push(b"invalid ");
+    text.push(digits.format(reason).as_bytes());
+    text.push(b"\n");
+    text
+}
+
+/// `btf: limit: sum at <row> <column>`, counted from 1, with a line end.
+pub fn sum_limit_line(row: Row, col: Col) -> Line
+    ensures { result ≡ sum_limit row col }
+{
+    let mut digits = Buffer::new();
+    let mut text = Line::new();
+    text.push(b"btf: limit: sum at ");
+    text.push(digits.format(u64::from(row.0) + 1).as_bytes());
+    text.push(b" ");
+    text.push(digits.format(u64::from(col.0) + 1).as_bytes());
+    text.push(b"\n");
+    text
 }

@@ -1,5 +1,5 @@
 -- Which status has to come, from what each status says.
-use Rattle.std.proofs.Common.{IfOk, ◌≡◌, ◌≤◌, ◌<◌, ◌++◌, ◌⊎◌, ℕ, Bool, true, false, List, [], length, inl, inr, refl, sym, ap, ◌∙◌, subst, arith, Option, Some, None, Ok, Err, Result, if◌then◌else◌}
+use Rattle.std.proofs.Common.{IfOk, ◌≡◌, ◌≤◌, ◌<◌, ◌⊎◌, ℕ, Bool, true, false, List, [], length, inl, inr, refl, sym, ap, ◌∙◌, subst, arith, Option, Some, None, Ok, Err, Result, if◌then◌else◌}
 use Rattle.sp_ids.specs.Entries.{Entries}
 use Rattle.sp_ids.specs.declared.outcomes.Status.{Status}
 use Rattle.sp_ids.specs.declared.outcomes.Status.TheVariants as statuses
@@ -8,20 +8,28 @@ use Rattle.sp_ports.specs.Counts.{SourceRose}
 use Rattle.btf_words.specs.Words.{AreTaken, job_of}
 use Rattle.btf_words.specs.declared.jobs.WordsError.{WordsError}
 use Rattle.btf_words.specs.declared.jobs.Job.{Job}
-use Rattle.btf_words.specs.declared.jobs.Job.TheVariants.{Rank, Analyse, Load}
+use Rattle.btf_words.specs.declared.jobs.Job.TheVariants.{Rank, Analyse, Diagonal, Check, Load}
 use Rattle.mm_defs.specs.Faults.{is_limit}
 use Rattle.mm_defs.specs.File.{Fault, Reads}
-use Rattle.mm_defs.specs.Reading.{Call, first_bad, ReadsAll}
-use Rattle.mm_defs.specs.declared.answers.End.TheVariants.{File}
+use Rattle.mm_defs.specs.Reading.{Call, ReadsAll, first_bad, offered}
+use Rattle.mm_defs.specs.declared.answers.End.{End}
 use Rattle.mm_defs.specs.declared.answers.ReadError.TheVariants as errors
 use Rattle.mm_defs.specs.declared.kinds.Kind.{Kind}
 use Rattle.mm_defs.proofs.Answering.{bad_line_told, good_file_answer}
+use Rattle.bip_defs.specs.Matrix.{Matrix}
+use Rattle.bip_defs.proofs.Uniqueness.{same_matrix}
+use Rattle.btf_check.specs.Verdicts.{IsVerdict}
+use Rattle.btf_tool.specs.declared.answers.Answer.{Answer}
+use Rattle.btf_tool.specs.declared.answers.Answer.TheVariants.{Negative, Positive}
 use Rattle.btf_tool.specs.declared.refusals.Refusal.{Refusal}
-use Rattle.btf_tool.specs.declared.refusals.Refusal.TheVariants.{Usage, Malformed, Limit, TooLong, ReadFault, WriteFault, OutOfMemory}
+use Rattle.btf_tool.specs.declared.refusals.Refusal.TheVariants.{Usage, Malformed, Limit, TooLong, SumLimit, NeedsInteger, ReadFault, WriteFault, OutOfMemory}
 use Rattle.btf_tool.specs.Devices.{Device, HasNotFallen, HasReadFault, HasWriteFault, IsUntouched, WasTold}
-use Rattle.btf_tool.specs.Jobs.{IsAnswer as IsJobAnswer, OfReading, ReadsFile, WithAnswer, WithFileAnswer, reading}
-use Rattle.btf_tool.specs.Refusals.{line_of, status_of}
-use Rattle.btf_tool.specs.Runs.{Completes, HasCause, IsOrNoMemory, JobSays, NameMaker, NameReader, Names, Run, Says, TellsStill, status_of_fault}
+use Rattle.btf_tool.specs.Jobs.{IsAnswer as IsJobAnswer, IsMatrixOf, ReadsFile, WasRead, WithAnswer, WithFileAnswer, end_of, reading}
+use Rattle.btf_tool.specs.Judging.{answer_of}
+use Rattle.btf_tool.specs.Refusals.{line_of, status_of, status_of_answer}
+use Rattle.btf_tool.specs.Runs.{ComesToDiagonal, Completes, EndsWell, HasCause, IsBadLine, IsOrNoMemory, IsTooLong, JobSays, NameMaker, Names, NamesReader, NoBadLine, Run, Says, TellsStill, WithFile, status_of_fault}
+use Rattle.btf_tool.proofs.Diagonals.{comes_to_diagonal, needs_ends, no_diagonal_memory, past_ends}
+use Rattle.btf_tool.proofs.Judging.{one_verdict}
 
 -- what follows of what holds where bytes are told
 pub told : {P Q : List ℕ → List ℕ → Type 0} (before after : Option (List ℕ)) → WhereTold before after P
@@ -45,9 +53,10 @@ kind_status line kind fault first limit one is two =
 clash : (first : Option Fault) (fault : Fault) → first ≡ None → first ≡ Some fault → ⊥
 clash first fault none some = cc
 
--- a job's answer is of a file without a bad line, which is a good file within the limit
-answer_read : (job : Job) (call : Call) (text : List ℕ) → IsJobAnswer job call text → (t : Entries) × ReadsAll File call t []
-answer_read job call text h = (h.entries, h.was_read.reads)
+-- a job's answer is of a good file within the limit
+answer_read : (job : Job) (call : Call) (answer : Answer) (text : List ℕ) → IsJobAnswer job call answer text
+    → (t : Entries) × (rest : List ℕ) × ReadsAll (end_of job) call t rest
+answer_read job call answer text h = (h.entries, h.rest, record { reads = h.was_read.reads; within = let w = h.was_read.within in omega (arith, w) })
 
 -- words name one job
 one_job : (words : List (List ℕ)) (one two : Job) → Names words one → Names words two → one ≡ two
@@ -55,95 +64,181 @@ one_job words one two h k =
     let e : Some one ≡ Some two = sym h.job_is ∙ k.job_is in
     cc
 
--- words that name a job that reads a file name no other
-reads_named : (words : List (List ℕ)) (job : Job) → Names words job → NameReader words → ReadsFile job
-reads_named words job names reader = subst (λ (j : Job). ReadsFile j) (one_job words reader.0 job reader.1 names) reader.2
-
 -- words that name a job that makes its matrix name no other
 pub made_named : (words : List (List ℕ)) (job : Job) → Names words job → NameMaker words → ¬ ReadsFile job
 made_named words job names maker = subst (λ (j : Job). ¬ ReadsFile j) (one_job words maker.0 job maker.1 names) maker.2
 
 -- a job that reads a file answered over it
-over_file : (job : Job) (input : Device) (P : List ℕ → Type 0) → ReadsFile job → WithAnswer job input P → WithFileAnswer job input P
-over_file Rank input P reads h = h
-over_file (Analyse engine order pairs) input P reads h = h
-over_file (Load size seed engine) input P reads h = absurd reads
+over_file : (job : Job) (answer : Answer) (input : Device) (P : List ℕ → Type 0) → ReadsFile job → WithAnswer job answer input P → WithFileAnswer job answer input P
+over_file Rank answer input P reads h = h
+over_file (Analyse engine order pairs) answer input P reads h = h
+over_file Diagonal answer input P reads h = h
+over_file Check answer input P reads h = h
+over_file (Load size seed engine) answer input P reads h = absurd reads
+
+-- a matrix that was made was answered as was asked
+made_positive : (job : Job) (answer : Answer) (input : Device) (P : List ℕ → Type 0) → ¬ ReadsFile job → WithAnswer job answer input P → answer ≡ Positive
+made_positive Rank answer input P makes h = absurd (makes tt)
+made_positive (Analyse engine order pairs) answer input P makes h = absurd (makes tt)
+made_positive Diagonal answer input P makes h = absurd (makes tt)
+made_positive Check answer input P makes h = absurd (makes tt)
+made_positive (Load size seed engine) answer input P makes h = h.1.positive
+
+-- the answer over a good file is the one of that file
+ends_well : (job : Job) (call : Call) (answer : Answer) (text : List ℕ) (t : Entries) (rest : List ℕ) (status : Status) → ReadsFile job
+    → IsJobAnswer job call answer text → Reads (offered call) (end_of job) t rest → IsOrNoMemory status (status_of_answer answer) → EndsWell job t rest status
+ends_well Rank call answer text t rest status file h reads ends = subst (λ (x : Answer). IsOrNoMemory status (status_of_answer x)) h.is_text.0 ends
+ends_well (Analyse engine order pairs) call answer text t rest status file h reads ends = subst (λ (x : Answer). IsOrNoMemory status (status_of_answer x)) h.is_text.0 ends
+ends_well Diagonal call answer text t rest status file h reads ends =
+    let same : h.entries ≡ t = h.was_read.reads.entries ∙ sym reads.entries in
+    subst (λ (x : Entries). ComesToDiagonal x status) same (comes_to_diagonal h.entries h.matrix answer text status h.is_matrix h.is_text ends)
+ends_well Check call answer text t rest status file h reads ends = record {
+  comes = comes answer ends;
+  right = λ a verdict matrix is_verdict.
+      let same_t : h.entries ≡ t = h.was_read.reads.entries ∙ sym reads.entries in
+      let same_rest : h.rest ≡ rest = h.was_read.reads.follows ∙ sym reads.follows in
+      let mine : IsMatrixOf t h.matrix = subst (λ (x : Entries). IsMatrixOf x h.matrix) same_t h.is_matrix in
+      let same_a : h.matrix ≡ a = same_matrix _ _ _ h.matrix a mine matrix in
+      let v : IsVerdict h.matrix h.rest h.is_text.verdict = h.is_text.is_verdict in
+      let w : IsVerdict h.matrix h.rest verdict = subst (λ (bytes : List ℕ). IsVerdict h.matrix bytes verdict) (sym same_rest) (subst (λ (x : Matrix). IsVerdict x rest verdict) (sym same_a) is_verdict) in
+      let same_v : h.is_text.verdict ≡ verdict = one_verdict h.matrix h.rest h.is_text.verdict verdict h.is_text.fits v w in
+      subst (λ (x : Answer). IsOrNoMemory status (status_of_answer x)) (h.is_text.answer_is ∙ ap answer_of same_v) ends;
+}
+  where
+    comes : (answer : Answer) → IsOrNoMemory status (status_of_answer answer) → (status ≡ statuses.Negative) ⊎ IsOrNoMemory status statuses.Ok
+    comes Positive ends = inr ends
+    comes Negative (inl is) = inl is
+    comes Negative (inr none) = inr (inr none)
+ends_well (Load size seed engine) call answer text t rest status file h reads ends = absurd file
+
+-- the job that the words name, in place of another that they name
+abbrev in_place : (words : List (List ℕ)) (one two : Job) → Names words one → Names words two → (P : Job → Type 0) → P one → P two
+in_place words one two h k P p = subst P (one_job words one two h k) p
 
 -- the run was answered
-answered : (r : Run) (status wanted : Status) → status ≡ wanted → (P : List ℕ → Type 0) (job : Job) → Names r.words job → WithAnswer job r.input P
-    → (¬ HasWriteFault r.out → IsOrNoMemory status statuses.Ok) → Completes r status
-answered r status wanted is P job names written ok = record {
+answered : (r : Run) (status : Status) (P : List ℕ → Type 0) (answer : Answer) (job : Job) → Names r.words job → WithAnswer job answer r.input P
+    → (¬ HasWriteFault r.out → IsOrNoMemory status (status_of_answer answer)) → Completes r status
+answered r status P answer job names written ends = record {
   usage = λ not. absurd (not names.taken);
-  bad_line = λ reader. told r.input.before r.input.after (over_file job r.input P (reads_named r.words job names reader) written)
-      (λ x y before h fault bad. absurd (bad_line_told File (reading r.input x y) [] (Ok (answer_read job (reading r.input x y) h.0 h.1).0) fault (answer_read job (reading r.input x y) h.0 h.1).1 bad));
-  good = λ reader no_read no_write. told r.input.before r.input.after (over_file job r.input P (reads_named r.words job names reader) written) (λ x y before h t reads few. ok no_write);
-  not_good = λ reader no_read. told r.input.before r.input.after (over_file job r.input P (reads_named r.words job names reader) written)
-      (λ x y before h none. let read = (answer_read job (reading r.input x y) h.0 h.1).1 in
-      absurd (none (answer_read job (reading r.input x y) h.0 h.1).0 read.reads (omega (arith, read.within))));
-  made = λ maker no_write. ok no_write;
+  bad_line = λ other reader. told r.input.before r.input.after (over other reader)
+      (λ x y before h fault bad. let read = answer_read other (reading r.input x y) answer h.0 h.1 in
+      absurd (bad_line_told (end_of other) (reading r.input x y) read.1 (Ok read.0) fault read.2 bad));
+  good = λ other reader no_read no_write. told r.input.before r.input.after (over other reader)
+      (λ x y before h t rest reads few. ends_well other (reading r.input x y) answer h.0 t rest status reader.1 h.1 reads (ends no_write));
+  not_good = λ other reader no_read. told r.input.before r.input.after (over other reader)
+      (λ x y before h none. let read = answer_read other (reading r.input x y) answer h.0 h.1 in
+      absurd (none read.0 read.1 read.2.reads h.1.was_read.within));
+  made = λ maker no_write.
+      let positive : answer ≡ Positive = made_positive maker.0 answer r.input P maker.2 (in_place r.words job maker.0 names maker.1 (λ (j : Job). WithAnswer j answer r.input P) written) in
+      subst (λ (x : Answer). IsOrNoMemory status (status_of_answer x)) positive (ends no_write);
 }
+  where
+    over : (other : Job) → NamesReader r.words other → WithFileAnswer other answer r.input P
+    over other reader = over_file other answer r.input P reader.1 (in_place r.words job other names reader.0 (λ (j : Job). WithAnswer j answer r.input P) written)
 
 -- the run was refused for a bad line
 bad : (r : Run) (status : Status) (line : ℕ) (kind : Kind) (limit : Bool) → status ≡ (if limit then statuses.Limit else statuses.Malformed)
     → (job : Job) → Names r.words job → ReadsFile job → HasNotFallen r.input
-    → OfReading r.input (λ call. (first_bad File call ≡ Some (record { line = line; kind = kind })) × (is_limit kind ≡ limit)) → Completes r status
+    → IsBadLine (end_of job) r.input (record { line = line; kind = kind }) limit → Completes r status
 bad r status line kind limit said job names reads later first = record {
   usage = λ not. absurd (not names.taken);
-  bad_line = λ _. told r.input.before r.input.after first
-      (λ x y before h fault two. inl (said ∙ kind_status line kind fault (first_bad File (reading r.input x y)) limit h.0 h.1 two));
-  good = λ _ no_read no_write. told r.input.before r.input.after first
-      (λ x y before h t reads few. absurd (not_answered limit (reading r.input x y) t h.0 h.1 reads few (steady r.input x before later no_read)));
-  not_good = λ _ no_read. told r.input.before r.input.after first (λ x y before h none. inl (either limit said));
+  bad_line = λ other reader. told r.input.before r.input.after (of other reader)
+      (λ x y before h fault two. inl (said ∙ kind_status line kind fault (first_bad (end_of other) (reading r.input x y)) limit h.0 h.1 two));
+  good = λ other reader no_read no_write. told r.input.before r.input.after (of other reader)
+      (λ x y before h t rest reads few. absurd (not_answered (end_of other) limit (reading r.input x y) t rest h.0 h.1 reads few (steady r.input x before later no_read)));
+  not_good = λ other reader no_read. told r.input.before r.input.after (of other reader) (λ x y before h none. inl (either limit said));
   made = λ maker. absurd (made_named r.words job names maker reads);
 }
   where
-    not_answered : (limit : Bool) (call : Call) (t : Entries) → first_bad File call ≡ Some (record { line = line; kind = kind }) → is_limit kind ≡ limit
-        → Reads (call.ahead ++ call.before) File t [] → length (call.ahead ++ call.before) ≤ call.room → call.failures_after ≡ call.failures_before → ⊥
-    not_answered true call t h is reads few same = good_file_answer File call [] (Err (errors.Limit line kind)) t [] (h, is) reads few same
-    not_answered false call t h is reads few same = good_file_answer File call [] (Err (errors.Malformed line kind)) t [] (h, is) reads few same
+    of : (other : Job) → NamesReader r.words other → IsBadLine (end_of other) r.input (record { line = line; kind = kind }) limit
+    of other reader = in_place r.words job other names reader.0 (λ (j : Job). IsBadLine (end_of j) r.input (record { line = line; kind = kind }) limit) first
+
+    not_answered : (end : End) (limit : Bool) (call : Call) (t : Entries) (rest : List ℕ) → first_bad end call ≡ Some (record { line = line; kind = kind }) → is_limit kind ≡ limit
+        → Reads (offered call) end t rest → length (offered call) ≤ call.room → call.failures_after ≡ call.failures_before → ⊥
+    not_answered end true call t rest h is reads few same = good_file_answer end call [] (Err (errors.Limit line kind)) t rest (h, is) reads few same
+    not_answered end false call t rest h is reads few same = good_file_answer end call [] (Err (errors.Malformed line kind)) t rest (h, is) reads few same
 
     either : (limit : Bool) → status ≡ (if limit then statuses.Limit else statuses.Malformed) → (status ≡ statuses.Malformed) ⊎ (status ≡ statuses.Limit)
     either true said = inr said
     either false said = inl said
 
+-- a job that is out of memory ends as it may
+no_memory_ends : (job : Job) (t : Entries) (rest : List ℕ) (status : Status) → status ≡ statuses.OutOfMemory → EndsWell job t rest status
+no_memory_ends Rank t rest status said = inr said
+no_memory_ends (Analyse engine order pairs) t rest status said = inr said
+no_memory_ends Diagonal t rest status said = no_diagonal_memory t status said
+no_memory_ends Check t rest status said = record { comes = inr (inr said); right = λ a verdict matrix is_verdict. inr said }
+no_memory_ends (Load size seed engine) t rest status said = inr said
+
+-- the run was refused for its file's entries, by a job that adds up their values
+by_entries : (r : Run) (status : Status) (P : Entries → Type 0) (job : Job) → Names r.words job → job ≡ Diagonal → WithFile job r.input P
+    → ((t : Entries) → P t → ComesToDiagonal t status) → Completes r status
+by_entries r status P job names is file ends = record {
+  usage = λ not. absurd (not names.taken);
+  bad_line = λ other reader. told r.input.before r.input.after (of other reader)
+      (λ x y before h fault bad. absurd (bad_line_told (end_of other) (reading r.input x y) h.1 (Ok h.0) fault (all other (reading r.input x y) h.0 h.1 h.2) bad));
+  good = λ other reader no_read no_write. told r.input.before r.input.after (of other reader)
+      (λ x y before h t rest reads few. subst (λ (j : Job). EndsWell j t rest status) (one_job r.words Diagonal other diagonal reader.0)
+      (subst (λ (e : Entries). ComesToDiagonal e status) (h.2.reads.entries ∙ sym reads.entries) (ends h.0 h.3)));
+  not_good = λ other reader no_read. told r.input.before r.input.after (of other reader) (λ x y before h none. absurd (none h.0 h.1 h.2.reads h.2.within));
+  made = λ maker. absurd (made_named r.words Diagonal diagonal maker tt);
+}
+  where
+    diagonal : Names r.words Diagonal
+    diagonal = subst (λ (j : Job). Names r.words j) is names
+
+    of : (other : Job) → NamesReader r.words other → WithFile other r.input P
+    of other reader = in_place r.words job other names reader.0 (λ (j : Job). WithFile j r.input P) file
+
+    all : (other : Job) (call : Call) (t : Entries) (rest : List ℕ) → WasRead (end_of other) call t rest → ReadsAll (end_of other) call t rest
+    all other call t rest read = record { reads = read.reads; within = let w = read.within in omega (arith, w) }
+
 -- each refusal
 refused : (r : Run) (status : Status) (refusal : Refusal) → status ≡ status_of refusal → HasCause r refusal → Completes r status
 refused r status Usage said c = record {
   usage = λ _. inl said;
-  bad_line = λ reader. absurd (c.0 reader.1.taken);
-  good = λ reader. absurd (c.0 reader.1.taken);
-  not_good = λ reader. absurd (c.0 reader.1.taken);
+  bad_line = λ other reader. absurd (c.0 reader.0.taken);
+  good = λ other reader. absurd (c.0 reader.0.taken);
+  not_good = λ other reader. absurd (c.0 reader.0.taken);
   made = λ maker. absurd (c.0 maker.1.taken);
 }
 refused r status (Malformed line kind) said c = bad r status line kind false said c.0 c.1 c.3.0 c.2 c.3.1
 refused r status (Limit line kind) said c = bad r status line kind true said c.0 c.1 c.3.0 c.2 c.3.1
 refused r status TooLong said c = record {
   usage = λ not. absurd (not c.1.taken);
-  bad_line = λ _. told r.input.before r.input.after c.3.1 (λ x y before h fault two. absurd (clash (first_bad File (reading r.input x y)) fault h.0 two));
-  good = λ _ no_read no_write. told r.input.before r.input.after c.3.1
-      (λ x y before h t reads few. absurd (good_file_answer File (reading r.input x y) [] (Err errors.TooLong) t [] h reads few (steady r.input x before c.2 no_read)));
-  not_good = λ _ no_read. told r.input.before r.input.after c.3.1 (λ x y before h none. inl (inr said));
+  bad_line = λ other reader. told r.input.before r.input.after (of other reader) (λ x y before h fault two. absurd (clash (first_bad (end_of other) (reading r.input x y)) fault h.0 two));
+  good = λ other reader no_read no_write. told r.input.before r.input.after (of other reader)
+      (λ x y before h t rest reads few. absurd (good_file_answer (end_of other) (reading r.input x y) [] (Err errors.TooLong) t rest h reads few (steady r.input x before c.2 no_read)));
+  not_good = λ other reader no_read. told r.input.before r.input.after (of other reader) (λ x y before h none. inl (inr said));
   made = λ maker. absurd (made_named r.words c.0 c.1 maker c.3.0);
 }
+  where
+    of : (other : Job) → NamesReader r.words other → IsTooLong (end_of other) r.input
+    of other reader = in_place r.words c.0 other c.1 reader.0 (λ (j : Job). IsTooLong (end_of j) r.input) c.3.1
 refused r status ReadFault said c = record {
   usage = λ not. absurd (not c.1.taken);
-  bad_line = λ _. told r.input.before r.input.after c.3.2 (λ x y before h fault two. absurd (clash (first_bad File (reading r.input x y)) fault h two));
-  good = λ _ no_read. absurd (no_read c.3.1);
-  not_good = λ _ no_read. absurd (no_read c.3.1);
+  bad_line = λ other reader. told r.input.before r.input.after (of other reader) (λ x y before h fault two. absurd (clash (first_bad (end_of other) (reading r.input x y)) fault h two));
+  good = λ other reader no_read. absurd (no_read c.3.1);
+  not_good = λ other reader no_read. absurd (no_read c.3.1);
   made = λ maker. absurd (made_named r.words c.0 c.1 maker c.3.0);
 }
-refused r status WriteFault said c = answered r status statuses.WriteFault said _ c.0 c.1 c.3.2 (λ no_write. absurd (no_write c.3.0))
+  where
+    of : (other : Job) → NamesReader r.words other → NoBadLine (end_of other) r.input
+    of other reader = in_place r.words c.0 other c.1 reader.0 (λ (j : Job). NoBadLine (end_of j) r.input) c.3.2
+refused r status (SumLimit row col) said c = by_entries r status _ c.0 c.1 c.3.0 c.3.2 (λ t h. past_ends t row col status said h.0 h.1)
+refused r status NeedsInteger said c = by_entries r status _ c.0 c.1 c.3.0 c.3.2 (λ t not. needs_ends t status said not)
+refused r status WriteFault said c = answered r status _ c.3.2.0 c.0 c.1 c.3.2.1 (λ no_write. absurd (no_write c.3.0))
 refused r status OutOfMemory said c = record {
   usage = λ _. inr said;
-  bad_line = λ _. told r.input.before r.input.after c.0 (λ x y before h fault two. inr said);
-  good = λ _ no_read no_write. told r.input.before r.input.after c.0 (λ x y before h t reads few. inr said);
-  not_good = λ _ no_read. told r.input.before r.input.after c.0 (λ x y before h none. inr said);
+  bad_line = λ other reader. told r.input.before r.input.after c.0 (λ x y before h fault two. inr said);
+  good = λ other reader no_read no_write. told r.input.before r.input.after c.0 (λ x y before h t rest reads few. no_memory_ends other t rest status said);
+  not_good = λ other reader no_read. told r.input.before r.input.after c.0 (λ x y before h none. inr said);
   made = λ maker no_write. inr said;
 }
 
 pub completes : (r : Run) (status : Status) → Says r status → Completes r status
-completes r statuses.Ok s = answered r statuses.Ok statuses.Ok refl _ s.job s.names s.written (λ _. inl refl)
-completes r statuses.Negative s = refused r statuses.Negative s.refusal s.status_is s.cause
+completes r statuses.Ok s = answered r statuses.Ok _ Positive s.job s.names s.written (λ _. inl refl)
+completes r statuses.Negative s = answered r statuses.Negative _ Negative s.job s.names s.written (λ _. inl refl)
 completes r statuses.Usage s = refused r statuses.Usage s.refusal s.status_is s.cause
 completes r statuses.Malformed s = refused r statuses.Malformed s.refusal s.status_is s.cause
 completes r statuses.Limit s = refused r statuses.Limit s.refusal s.status_is s.cause
@@ -157,6 +252,8 @@ by_refusal r Usage told cause = record { refusal = Usage; status_is = refl; told
 by_refusal r (Malformed line kind) told cause = record { refusal = Malformed line kind; status_is = refl; told = told; cause = cause }
 by_refusal r (Limit line kind) told cause = record { refusal = Limit line kind; status_is = refl; told = told; cause = cause }
 by_refusal r TooLong told cause = record { refusal = TooLong; status_is = refl; told = told; cause = cause }
+by_refusal r (SumLimit row col) told cause = record { refusal = SumLimit row col; status_is = refl; told = told; cause = cause }
+by_refusal r NeedsInteger told cause = record { refusal = NeedsInteger; status_is = refl; told = told; cause = cause }
 by_refusal r ReadFault told cause = record { refusal = ReadFault; status_is = refl; told = told; cause = cause }
 by_refusal r WriteFault told cause = record { refusal = WriteFault; status_is = refl; told = told; cause = cause }
 by_refusal r OutOfMemory told cause = record { refusal = OutOfMemory; status_is = refl; told = told; cause = cause }
@@ -171,6 +268,8 @@ job_refused r job Usage names says = absurd says.1
 job_refused r job (Malformed line kind) names says = (job, names, says.0, says.1)
 job_refused r job (Limit line kind) names says = (job, names, says.0, says.1)
 job_refused r job TooLong names says = (job, names, says.0, says.1)
+job_refused r job (SumLimit row col) names says = (job, names, says.0, says.1)
+job_refused r job NeedsInteger names says = (job, names, says.0, says.1)
 job_refused r job ReadFault names says = (job, names, says.0, says.1)
 job_refused r job WriteFault names says = (job, names, says.0, says.1)
 job_refused r job OutOfMemory names says = says.1
@@ -193,16 +292,20 @@ named words result job is taken names = record {
   job_is = subst (λ (r : Result Job WordsError). IfOk r (λ j. job_of words ≡ Some j)) is names;
 }
 
+by_answer : (r : Run) (answer : Answer) (job : Job) → Names r.words job → JobSays job r.input r.out (Ok answer) → IsUntouched r.err → Says r (status_of_answer answer)
+by_answer r Positive job names done untouched = record { job = job; names = names; written = done.2; steady_input = done.0; steady_out = done.1; nothing_told = untouched }
+by_answer r Negative job names done untouched = record { job = job; names = names; written = done.2; steady_input = done.0; steady_out = done.1; nothing_told = untouched }
+
 -- the job was done
-pub job_done : (r : Run) (job : Job) (result : Result (Unit {0}) Refusal) → result ≡ Ok tt → Names r.words job
-    → JobSays job r.input r.out result → IsUntouched r.err → Says r statuses.Ok
-job_done r job result is names says untouched =
-    let done : JobSays job r.input r.out (Ok tt) = subst (λ (o : Result (Unit {0}) Refusal). JobSays job r.input r.out o) is says in
-    record { job = job; names = names; written = done.2; steady_input = done.0; steady_out = done.1; nothing_told = untouched }
+pub job_done : (r : Run) (job : Job) (result : Result Answer Refusal) (answer : Answer) (status : Status) → result ≡ Ok answer → Names r.words job
+    → JobSays job r.input r.out result → status ≡ status_of_answer answer → IsUntouched r.err → Says r status
+job_done r job result answer status is names says said untouched =
+    subst (λ (s : Status). Says r s) (sym said)
+    (by_answer r answer job names (subst (λ (o : Result Answer Refusal). JobSays job r.input r.out o) is says) untouched)
 
 -- the job was refused
-pub job_not_done : (r : Run) (job : Job) (result : Result (Unit {0}) Refusal) (refusal : Refusal) (status : Status) → result ≡ Err refusal → Names r.words job
+pub job_not_done : (r : Run) (job : Job) (result : Result Answer Refusal) (refusal : Refusal) (status : Status) → result ≡ Err refusal → Names r.words job
     → JobSays job r.input r.out result → status ≡ status_of refusal → WasTold r.err (line_of refusal) → Says r status
 job_not_done r job result refusal status is names says said told =
     refusal_says r status refusal said told
-    (job_refused r job refusal names (subst (λ (o : Result (Unit {0}) Refusal). JobSays job r.input r.out o) is says))
+    (job_refused r job refusal names (subst (λ (o : Result Answer Refusal). JobSays job r.input r.out o) is says))

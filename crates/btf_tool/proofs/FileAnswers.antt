@@ -1,42 +1,153 @@
 -- What the reading of a file says, from what the reader answers.
-use Rattle.std.proofs.Common.{◌≡◌, ◌++◌, ℕ, List, [], ◌∷◌, Ok, Err, refl, subst}
+use Rattle.std.proofs.Common.{◌≡◌, ◌+◌, ◌-◌, ◌<◌, ◌≤◌, ◌++◌, ◌∙◌, ℕ, List, [], ◌∷◌, Ok, Err, false, true, Option, Some, None, arith, ap, length, length-append, length-take, refl, subst, sym}
 use Rattle.sp_ids.specs.Entries.{Entries}
-use Rattle.sp_ports.specs.Bytes.{WhereTold}
-use Rattle.mm_defs.specs.File.{rest_of}
-use Rattle.mm_defs.specs.Reading.{Call, IsAnswer, ReadsAll}
-use Rattle.mm_defs.specs.declared.answers.End.TheVariants.{File}
+use Rattle.sp_ports.specs.Bytes.{Gives, WhereTold}
+use Rattle.sp_ports.specs.Counts.{SourceRose}
+use Rattle.mm_defs.specs.File.{Fault, Reads, rest_of}
+use Rattle.mm_defs.specs.Reading.{Call, Intake, IsAnswer, IsRest, ReadsAll, RefusesRest, call_on, first_bad, got, room}
+use Rattle.mm_defs.specs.declared.answers.End.{End}
+use Rattle.mm_defs.specs.declared.answers.End.TheVariants.{File, LastEntry}
 use Rattle.mm_defs.specs.declared.answers.ReadError.{ReadError}
 use Rattle.mm_defs.specs.declared.answers.ReadError.TheVariants as errors
+use Rattle.mm_defs.proofs.Answering.{bad_line_told}
+use Rattle.mm_defs.proofs.Behind.{length-behind}
 use Rattle.btf_tool.specs.Devices.{Device, HasReadFault}
 use Rattle.btf_tool.specs.Jobs.{WasRead, reading}
 use Rattle.btf_tool.specs.Refusals.{refusal_for}
-use Rattle.btf_tool.specs.Runs.{FileSays}
+use Rattle.btf_tool.specs.Runs.{IsReadAs, IsUnread}
 use Rattle.btf_tool.proofs.Completing.{told}
 
 second_empty : (xs ys : List ℕ) → xs ++ ys ≡ [] → ys ≡ []
 second_empty [] ys e = e
 second_empty (x ∷ xs) ys e = cc
 
+-- ---- a file alone
+
 -- a file that was read to its end
-was_read : (call : Call) (ahead : List ℕ) (t : Entries) → ReadsAll File call t (ahead ++ call.after) → WasRead call t
+was_read : (call : Call) (ahead : List ℕ) (t : Entries) → ReadsAll File call t (ahead ++ call.after) → WasRead File call t []
 unfolding rest_of
-was_read call ahead t h = record {
-  reads = subst (λ (rest : List ℕ). ReadsAll File call t rest) h.reads.follows h;
-  to_the_end = second_empty ahead call.after h.reads.follows;
-}
+was_read call ahead t h =
+    let all : ReadsAll File call t [] = subst (λ (rest : List ℕ). ReadsAll File call t rest) h.reads.follows h in
+    record { reads = all.reads; within = let w = all.within in omega (arith, w); to_the_end = second_empty ahead call.after h.reads.follows }
 
 -- the reader has read the file
 pub file_read : (input : Device) (ahead : List ℕ) (t : Entries)
     → WhereTold input.before input.after (λ before after. IsAnswer File (reading input before after) (ahead ++ after) (Ok t))
-    → input.failed_after ≡ input.failed_before → FileSays input (Ok t)
+    → input.failed_after ≡ input.failed_before → IsReadAs File input t []
 file_read input ahead t answer steady = (steady, told input.before input.after answer (λ x y before h. was_read (reading input x y) ahead t h))
 
 -- the reader has refused it
-pub file_not_read : (input : Device) (ahead : List ℕ) (e : ReadError)
-    → WhereTold input.before input.after (λ before after. IsAnswer File (reading input before after) (ahead ++ after) (Err e))
-    → (e ≡ errors.ReadFault → HasReadFault input) → FileSays input (Err (refusal_for e))
-file_not_read input ahead (errors.Malformed line kind) answer rose = told input.before input.after answer (λ x y before h. h)
-file_not_read input ahead (errors.Limit line kind) answer rose = told input.before input.after answer (λ x y before h. h)
-file_not_read input ahead errors.TooLong answer rose = told input.before input.after answer (λ x y before h. h)
-file_not_read input ahead errors.ReadFault answer rose = (rose refl, told input.before input.after answer (λ x y before h. h.0))
-file_not_read input ahead errors.OutOfMemory answer rose = told input.before input.after answer (λ x y before h. tt)
+pub file_not_read : (end : End) (input : Device) (ahead : List ℕ) (e : ReadError)
+    → WhereTold input.before input.after (λ before after. IsAnswer end (reading input before after) (ahead ++ after) (Err e))
+    → (e ≡ errors.ReadFault → HasReadFault input) → IsUnread end input (refusal_for e)
+file_not_read end input ahead (errors.Malformed line kind) answer rose = told input.before input.after answer (λ x y before h. h)
+file_not_read end input ahead (errors.Limit line kind) answer rose = told input.before input.after answer (λ x y before h. h)
+file_not_read end input ahead errors.TooLong answer rose = told input.before input.after answer (λ x y before h. h)
+file_not_read end input ahead errors.ReadFault answer rose = (rose refl, told input.before input.after answer (λ x y before h. h.0))
+file_not_read end input ahead errors.OutOfMemory answer rose = told input.before input.after answer (λ x y before h. tt)
+
+-- ---- a file and what follows it
+
+-- what holds of a source's bytes before two calls and after them
+over_both : {P Q R : List ℕ → List ℕ → Type 0} (old mid new : Option (List ℕ)) → WhereTold old mid P → WhereTold mid new Q
+    → ((x y z : List ℕ) → P x y → Q y z → R x z) → WhereTold old new R
+over_both None mid new first second f = tt
+over_both (Some x) None new first second f = absurd first
+over_both (Some x) (Some y) None first second f = absurd second
+over_both (Some x) (Some y) (Some z) first second f = f x y z first second
+
+-- two facts on one call
+both : (P Q : List ℕ → List ℕ → Type 0) (old new : Option (List ℕ)) → WhereTold old new P → WhereTold old new Q → WhereTold old new (λ x y. P x y × Q x y)
+both P Q None new p q = tt
+both P Q (Some x) None p q = absurd p
+both P Q (Some x) (Some y) p q = (p, q)
+
+given_told : (old new : Option (List ℕ)) (given : List ℕ) → Gives old new given → WhereTold old new (λ x y. x ≡ given ++ y)
+given_told None new given h = tt
+given_told (Some x) None given h = absurd h
+given_told (Some x) (Some y) given h = h
+
+-- a failure of a later call is one of both calls
+rose_before : (P : List ℕ → List ℕ → Type 0) (old mid : Option (List ℕ)) (first between last : ℕ) → WhereTold old mid P → between ≡ first → SourceRose mid between last → SourceRose old first last
+rose_before P None None first between last told same rose = subst (λ (n : ℕ). SourceRose None n last) same rose
+rose_before P None (Some y) first between last told same rose = omega (arith, same, rose)
+rose_before P (Some x) None first between last told same rose = absurd told
+rose_before P (Some x) (Some y) first between last told same rose = omega (arith, same, rose)
+
+-- what the first call has read of these bytes, and what it leaves to be used
+pub record HasRead (new : Intake) (t : Entries) (before between : List ℕ) : Type 0 where
+  pub reads : Reads before LastEntry t (new.ahead ++ between)
+  pub within : length before - length (new.ahead ++ between) ≤ 68719476736
+  pub taken : new.taken + length between ≡ length before
+
+-- a good file has no bad line, whatever is seen of the call
+no_bad : (input : Device) (new : Intake) (t : Entries) (x y z : List ℕ) → HasRead new t x y → first_bad LastEntry (reading input x z) ≡ None
+no_bad input new t x y z h = by (first_bad LastEntry (reading input x z)) refl
+  where
+    by : (o : Option Fault) → first_bad LastEntry (reading input x z) ≡ o → first_bad LastEntry (reading input x z) ≡ None
+    by None is = is
+    by (Some fault) is = absurd (bad_line_told LastEntry (reading input x z) (new.ahead ++ y) (Ok t) fault (record { reads = h.reads; within = h.within }) is)
+
+rest_read : (input : Device) (new : Intake) (f : ℕ) (t : Entries) (x y z bytes ahead : List ℕ) → new.limit ≡ 68719476736 → HasRead new t x y
+    → IsRest (call_on new f input.failed_after y z) (ahead ++ z) bytes → WasRead LastEntry (reading input x z) t bytes
+rest_read input new f t x y z bytes ahead limit h rest =
+    let n : length (new.ahead ++ y) ≡ length new.ahead + length y = length-append new.ahead y in
+    let w = h.within in
+    let fits = rest.within in
+    let taken = h.taken in
+    record {
+      reads = subst (λ (r : List ℕ). Reads x LastEntry t r) (sym rest.bytes_are) h.reads;
+      within = omega (arith, limit, taken, n, w, fits);
+      to_the_end = second_empty ahead z rest.nothing_left;
+    }
+
+-- what follows is no longer than all
+rest_short : (bytes rest : List ℕ) (t : Entries) → Reads bytes LastEntry t rest → length rest ≤ length bytes
+unfolding rest_of
+rest_short bytes rest t h = rw h.follows (length-behind _ bytes)
+
+too_long : (input : Device) (new : Intake) (f : ℕ) (t : Entries) (x y z given : List ℕ) → new.limit ≡ 68719476736 → HasRead new t x y → y ≡ given ++ z
+    → room new < length (got (call_on new f input.failed_after y z)) → 68719476736 < length (got (reading input x z))
+too_long input new f t x y z given limit h gave past =
+    let n : length (new.ahead ++ y) ≡ length new.ahead + length y = length-append new.ahead y in
+    let k : length y ≡ length given + length z = ap length gave ∙ length-append given z in
+    let w = h.within in
+    let s = rest_short x (new.ahead ++ y) t h.reads in
+    let taken = h.taken in
+    let g : length (got (call_on new f input.failed_after y z)) ≤ length new.ahead + (length y - length z) = simp (length-append, length-take) (omega arith) in
+    simp (length-take) (omega (arith, limit, taken, k, n, w, s, g, past))
+
+-- both were read
+pub followed_read : (input : Device) (mid : Option (List ℕ)) (new : Intake) (f : ℕ) (t : Entries) (bytes ahead : List ℕ) → new.limit ≡ 68719476736
+    → WhereTold input.before mid (λ x y. HasRead new t x y) → WhereTold mid input.after (λ y z. IsRest (call_on new f input.failed_after y z) (ahead ++ z) bytes)
+    → input.failed_after ≡ input.failed_before → IsReadAs LastEntry input t bytes
+followed_read input mid new f t bytes ahead limit first second steady =
+    (steady, over_both input.before mid input.after first second (λ x y z h rest. rest_read input new f t x y z bytes ahead limit h rest))
+
+-- what follows could not be read
+pub rest_not_read : (input : Device) (mid : Option (List ℕ)) (new : Intake) (f : ℕ) (t : Entries) (given : List ℕ) (e : ReadError) → new.limit ≡ 68719476736
+    → WhereTold input.before mid (λ x y. HasRead new t x y) → WhereTold mid input.after (λ y z. RefusesRest (call_on new f input.failed_after y z) e)
+    → Gives mid input.after given → f ≡ input.failed_before → (e ≡ errors.ReadFault → SourceRose mid f input.failed_after) → IsUnread LastEntry input (refusal_for e)
+rest_not_read input mid new f t given (errors.Malformed line kind) limit first second gave steady rose = over_both input.before mid input.after first second (λ x y z h none. absurd none)
+rest_not_read input mid new f t given (errors.Limit line kind) limit first second gave steady rose = over_both input.before mid input.after first second (λ x y z h none. absurd none)
+rest_not_read input mid new f t given errors.TooLong limit first second gave steady rose =
+    over_both input.before mid input.after first (both _ _ mid input.after second (given_told mid input.after given gave))
+    (λ x y z h past. (no_bad input new t x y z h, too_long input new f t x y z given limit h past.1 past.0))
+rest_not_read input mid new f t given errors.ReadFault limit first second gave steady rose = (
+  rose_before _ input.before mid input.failed_before f input.failed_after first steady (rose refl),
+  over_both input.before mid input.after first second (λ x y z h failed. no_bad input new t x y z h),
+)
+rest_not_read input mid new f t given errors.OutOfMemory limit first second gave steady rose = over_both input.before mid input.after first second (λ x y z h none. tt)
+
+-- an input before its first byte
+abbrev pub fresh : Intake
+fresh = record { limit = 68719476736; taken = 0; ahead = []; at_end = false; lines = 0; good = true }
+
+-- what the first call says of such an input
+pub has_read : (start new : Intake) (old mid : Option (List ℕ)) (f g : ℕ) (t : Entries) → start ≡ fresh
+    → WhereTold old mid (λ x y. IsAnswer LastEntry (call_on start f g x y) (new.ahead ++ y) (Ok t))
+    → WhereTold old mid (λ x y. new.taken + length y ≡ start.taken + length x) → WhereTold old mid (λ x y. HasRead new t x y)
+has_read start new old mid f g t is answer taken =
+    told old mid (both _ _ old mid (subst (λ (i : Intake). WhereTold old mid (λ x y. IsAnswer LastEntry (call_on i f g x y) (new.ahead ++ y) (Ok t))) is answer)
+    (subst (λ (i : Intake). WhereTold old mid (λ x y. new.taken + length y ≡ i.taken + length x)) is taken))
+    (λ x y before h. let taken : new.taken + length y ≡ 0 + length x = h.1 in record { reads = h.0.reads; within = h.0.within; taken = omega (arith, taken) })

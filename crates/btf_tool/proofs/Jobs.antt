@@ -8,50 +8,67 @@ use Rattle.btf_tool.specs.Ranks.{IsRankOf}
 use Rattle.sp_ports.specs.Bytes.{Takes, TakesFront, Writes}
 use Rattle.sp_ports.specs.Counts.{HasCause, Rose}
 use Rattle.btf_words.specs.declared.jobs.Job.{Job}
-use Rattle.btf_words.specs.declared.jobs.Job.TheVariants.{Rank, Analyse, Load}
+use Rattle.btf_words.specs.declared.jobs.Job.TheVariants.{Rank, Analyse, Diagonal, Check, Load}
+use Rattle.mm_defs.specs.declared.answers.End.TheVariants.{File}
+use Rattle.bip_graph.specs.declared.answers.Heaviest.{Heaviest}
+use Rattle.btf_text.specs.Diagonals.{diagonal_text}
+use Rattle.integer_diagonal.specs.Heaviest.{IsHeaviest}
+use Rattle.sp_ids.specs.declared.triples.Field.TheVariants.{Integer}
+use Rattle.sp_pattern.specs.Weighing.{AreWeightsOf, IsFirstPast, Weighing}
+use Rattle.btf_tool.specs.Diagonals.{IsDiagonalText, answer_on}
+use Rattle.btf_check.specs.Verdicts.{IsVerdict}
+use Rattle.btf_check.specs.declared.verdict.Verdict.{Verdict}
+use Rattle.sp_pattern.specs.Stored.{IsPattern}
+use Rattle.btf_tool.specs.declared.answers.Answer.{Answer}
 use Rattle.btf_tool.specs.declared.refusals.Refusal.{Refusal}
-use Rattle.btf_tool.specs.declared.refusals.Refusal.TheVariants.{Usage, Malformed, Limit, TooLong, ReadFault, WriteFault, OutOfMemory}
+use Rattle.btf_tool.specs.declared.refusals.Refusal.TheVariants.{Usage, Malformed, Limit, TooLong, SumLimit, NeedsInteger, ReadFault, WriteFault, OutOfMemory}
 use Rattle.btf_tool.specs.Devices.{Device, HasNotFallen, IsSteady, IsUntouched, Took, TookFront}
-use Rattle.btf_tool.specs.Jobs.{IsMatrixOf, IsTextOf, OfReading, ReadsFile, WasRead, WithAnswer, WithFileAnswer}
-use Rattle.btf_tool.specs.Runs.{FileSays, JobSays}
+use Rattle.btf_tool.specs.Jobs.{IsMatrixOf, IsTextOf, OfReading, ReadsFile, WasRead, WithAnswer, WithFileAnswer, end_of}
+use Rattle.btf_tool.specs.Judging.{IsVerdictText, answer_of, verdict_text}
+use Rattle.btf_tool.specs.Runs.{IsReadAs, IsUnread, JobSays}
 use Rattle.btf_tool.proofs.Completing.{told}
 
 -- the reading was refused, and nothing was written
-pub file_refused : (job : Job) (input out : Device) (refusal : Refusal) → ReadsFile job → FileSays input (Err refusal) → HasNotFallen input → IsUntouched out → JobSays job input out (Err refusal)
+pub file_refused : (job : Job) (input out : Device) (refusal : Refusal) → ReadsFile job → IsUnread (end_of job) input refusal → HasNotFallen input → IsUntouched out → JobSays job input out (Err refusal)
 file_refused job input out Usage reads says later same = absurd says
 file_refused job input out (Malformed line kind) reads says later same = (later, (reads, says, same))
 file_refused job input out (Limit line kind) reads says later same = (later, (reads, says, same))
 file_refused job input out TooLong reads says later same = (later, (reads, says, same))
 file_refused job input out ReadFault reads says later same = (later, (reads, says.0, says.1, same))
+file_refused job input out (SumLimit row col) reads says later same = absurd says
+file_refused job input out NeedsInteger reads says later same = absurd says
 file_refused job input out WriteFault reads says later same = absurd says
 file_refused job input out OutOfMemory reads says later same = (later, (says, same))
 
 -- memory ran out after the reading
-pub no_memory : (job : Job) (input out : Device) (t : Entries) → FileSays input (Ok t) → HasNotFallen input → IsUntouched out → JobSays job input out (Err OutOfMemory)
-no_memory job input out t says later same = (later, (told input.before input.after says.1 (λ x y before h. tt), same))
+pub no_memory : (job : Job) (input out : Device) (t : Entries) (rest : List ℕ) → IsReadAs (end_of job) input t rest → HasNotFallen input → IsUntouched out → JobSays job input out (Err OutOfMemory)
+no_memory job input out t rest says later same = (later, (told input.before input.after says.1 (λ x y before h. tt), same))
 
 -- a job that reads a file answers over it
-from_file : (job : Job) (input : Device) (P : List ℕ → Type 0) → ReadsFile job → WithFileAnswer job input P → WithAnswer job input P
-from_file Rank input P reads h = h
-from_file (Analyse engine order pairs) input P reads h = h
-from_file (Load size seed engine) input P reads h = absurd reads
+from_file : (job : Job) (answer : Answer) (input : Device) (P : List ℕ → Type 0) → ReadsFile job → WithFileAnswer job answer input P → WithAnswer job answer input P
+from_file Rank answer input P reads h = h
+from_file (Analyse engine order pairs) answer input P reads h = h
+from_file Diagonal answer input P reads h = h
+from_file Check answer input P reads h = h
+from_file (Load size seed engine) answer input P reads h = absurd reads
 
-with_answer : (job : Job) (input : Device) (P : List ℕ → Type 0) (text : List ℕ) (t : Entries) (a : Matrix) → ReadsFile job → OfReading input (λ call. WasRead call t)
-    → IsMatrixOf t a → IsTextOf job a text → P text → WithAnswer job input P
-with_answer job input P text t a reads read matrix is_text p =
-    from_file job input P reads (told input.before input.after read (λ x y before h. (text, record { entries = t; matrix = a; was_read = h; is_matrix = matrix; is_text = is_text }, p)))
+with_answer : (job : Job) (answer : Answer) (input : Device) (P : List ℕ → Type 0) (text : List ℕ) (t : Entries) (rest : List ℕ) (a : Matrix) → ReadsFile job → OfReading input (λ call. WasRead (end_of job) call t rest)
+    → IsMatrixOf t a → IsTextOf job t a rest answer text → P text → WithAnswer job answer input P
+with_answer job answer input P text t rest a reads read matrix is_text p =
+    from_file job answer input P reads
+    (told input.before input.after read (λ x y before h. (text, record { entries = t; rest = rest; matrix = a; was_read = h; is_matrix = matrix; is_text = is_text }, p)))
 
 -- the answer was written
-pub job_written : (job : Job) (input out : Device) (text : List ℕ) (t : Entries) (a : Matrix) → ReadsFile job → FileSays input (Ok t) → IsMatrixOf t a → IsTextOf job a text
-    → Takes out.before out.after text → IsSteady out → JobSays job input out (Ok tt)
-job_written job input out text t a reads says matrix is_text takes steady =
-    (says.0, steady, with_answer job input (Took out) text t a reads says.1 matrix is_text (record { bytes = takes; steady = steady }))
+pub job_written : (job : Job) (answer : Answer) (input out : Device) (text : List ℕ) (t : Entries) (rest : List ℕ) (a : Matrix) → ReadsFile job → IsReadAs (end_of job) input t rest → IsMatrixOf t a
+    → IsTextOf job t a rest answer text → Takes out.before out.after text → IsSteady out → JobSays job input out (Ok answer)
+job_written job answer input out text t rest a reads says matrix is_text takes steady =
+    (says.0, steady, with_answer job answer input (Took out) text t rest a reads says.1 matrix is_text (record { bytes = takes; steady = steady }))
 
 -- a write of the answer failed
-pub job_not_written : (job : Job) (input out : Device) (text : List ℕ) (t : Entries) (a : Matrix) → ReadsFile job → FileSays input (Ok t) → HasNotFallen input → IsMatrixOf t a → IsTextOf job a text
-    → TakesFront out.before out.after text → Rose out.failed_before out.failed_after → JobSays job input out (Err WriteFault)
-job_not_written job input out text t a reads says later matrix is_text front rose =
-    (later, (rose, says.0, with_answer job input (TookFront out) text t a reads says.1 matrix is_text (record { bytes = front; fault = rose })))
+pub job_not_written : (job : Job) (answer : Answer) (input out : Device) (text : List ℕ) (t : Entries) (rest : List ℕ) (a : Matrix) → ReadsFile job → IsReadAs (end_of job) input t rest → HasNotFallen input
+    → IsMatrixOf t a → IsTextOf job t a rest answer text → TakesFront out.before out.after text → Rose out.failed_before out.failed_after → JobSays job input out (Err WriteFault)
+job_not_written job answer input out text t rest a reads says later matrix is_text front rose =
+    (later, (rose, says.0, (answer, with_answer job answer input (TookFront out) text t rest a reads says.1 matrix is_text (record { bytes = front; fault = rose }))))
 
 -- a text that was written, and then a flush that changes no byte
 pub writes_flushed : {T E : Type 0} (old mid new : Option (List ℕ)) (text : List ℕ) (result : Result T E) → Takes old mid text → new ≡ mid → Writes old new text result
@@ -69,3 +86,23 @@ same_text Q s k rows others cols more one two q =
 -- what `rank` finds is what its text says
 pub rank_answers : (t : Entries) (a : Matrix) (rank : ℕ) (rows cols : List ℕ) → IsRankOf t a rank rows cols → IsRankText a (rank_text (sizes_of a) rank rows cols)
 rank_answers t a rank rows cols h = record { rank = rank; rows = rows; cols = cols; is_rank = h.is_rank; are_rows = h.are_rows; are_cols = h.are_cols; spelled = refl }
+
+-- the verdict is what its line says
+pub verdict_answers : (a : Matrix) (bytes : List ℕ) (verdict : Verdict) → IsPattern a → IsVerdict a bytes verdict → IsVerdictText a bytes (answer_of verdict) (verdict_text verdict)
+verdict_answers a bytes verdict fits is = record { fits = fits; verdict = verdict; is_verdict = is; answer_is = refl; spelled = refl }
+
+-- ---- `diagonal`
+
+-- the file is no integer file
+pub not_integer : (input out : Device) (t : Entries) → IsReadAs File input t [] → HasNotFallen input → ¬ (t.field ≡ Integer) → IsUntouched out → JobSays Diagonal input out (Err NeedsInteger)
+not_integer input out t says later not same = (later, (refl, says.0, told input.before input.after says.1 (λ x y before h. (t, [], h, not)), same))
+
+-- a sum passes the limit
+pub past_limit : (input out : Device) (t : Entries) (row col : ℕ) → IsReadAs File input t [] → HasNotFallen input → t.field ≡ Integer → IsFirstPast t row col → IsUntouched out
+    → JobSays Diagonal input out (Err (SumLimit row col))
+past_limit input out t row col says later integer first same = (later, (refl, says.0, told input.before input.after says.1 (λ x y before h. (t, [], h, (integer, first))), same))
+
+-- the text is that of the answer
+pub diagonal_answers : (t : Entries) (a : Matrix) (w : Weighing) (h : Heaviest) → t.field ≡ Integer → AreWeightsOf t a w → IsHeaviest w h → IsDiagonalText t a (answer_on h) (diagonal_text w h)
+diagonal_answers t a w h integer weights heaviest =
+    record { integer = integer; weighing = w; are_weights = weights; heaviest = h; is_heaviest = heaviest; answer_is = refl; spelled = refl }

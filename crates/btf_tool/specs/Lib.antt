@@ -1,6 +1,8 @@
 pub mod Analyses
 pub mod Devices
+pub mod Diagonals
 pub mod Jobs
+pub mod Judging
 pub mod Refusals
 pub mod Runs
 pub mod Summaries

@@ -1,19 +1,29 @@
--- Why a run is refused: the status and the line that tell it.
+-- How a run ends: the status of an answer, and the status and the line that tell a refusal.
 use Rattle.std.specs.Prelude.{ℕ, List}
 use Rattle.sp_ids.specs.declared.outcomes.Status.{Status}
 use Rattle.sp_ids.specs.declared.outcomes.Status.TheVariants as statuses
 use Rattle.mm_defs.specs.declared.answers.ReadError.{ReadError}
 use Rattle.mm_defs.specs.declared.answers.ReadError.TheVariants as errors
+use Rattle.sp_pattern.specs.declared.weights.WeightError.{WeightError}
+use Rattle.sp_pattern.specs.declared.weights.WeightError.TheVariants as weighings
 use Rattle.btf_words.specs.UsageLine.{usage_line}
-use Rattle.btf_lines.specs.Lines.{malformed_line, limit_line, too_long_line, read_fault_line, write_fault_line, out_of_memory_line}
+use Rattle.btf_lines.specs.Lines.{malformed_line, limit_line, needs_integer_line, sum_limit_line, too_long_line, read_fault_line, write_fault_line, out_of_memory_line}
+use Rattle.btf_tool.specs.declared.answers.Answer.{Answer}
+use Rattle.btf_tool.specs.declared.answers.Answer.TheVariants.{Negative, Positive}
 use Rattle.btf_tool.specs.declared.refusals.Refusal.{Refusal}
-use Rattle.btf_tool.specs.declared.refusals.Refusal.TheVariants.{Usage, Malformed, Limit, TooLong, ReadFault, WriteFault, OutOfMemory}
+use Rattle.btf_tool.specs.declared.refusals.Refusal.TheVariants.{Usage, Malformed, Limit, TooLong, SumLimit, NeedsInteger, ReadFault, WriteFault, OutOfMemory}
+
+abbrev pub status_of_answer : Answer → Status
+status_of_answer Positive = statuses.Ok
+status_of_answer Negative = statuses.Negative
 
 abbrev pub status_of : Refusal → Status
 status_of Usage = statuses.Usage
 status_of (Malformed line kind) = statuses.Malformed
 status_of (Limit line kind) = statuses.Limit
 status_of TooLong = statuses.Limit
+status_of (SumLimit row col) = statuses.Limit
+status_of NeedsInteger = statuses.NeedsInteger
 status_of ReadFault = statuses.ReadFault
 status_of WriteFault = statuses.WriteFault
 status_of OutOfMemory = statuses.OutOfMemory
@@ -24,6 +34,8 @@ line_of Usage = usage_line
 line_of (Malformed line kind) = malformed_line line kind
 line_of (Limit line kind) = limit_line line kind
 line_of TooLong = too_long_line
+line_of (SumLimit row col) = sum_limit_line row col
+line_of NeedsInteger = needs_integer_line
 line_of ReadFault = read_fault_line
 line_of WriteFault = write_fault_line
 line_of OutOfMemory = out_of_memory_line
@@ -35,3 +47,8 @@ refusal_for (errors.Limit line kind) = Limit line kind
 refusal_for errors.TooLong = TooLong
 refusal_for errors.ReadFault = ReadFault
 refusal_for errors.OutOfMemory = OutOfMemory
+
+-- the refusal of a run over a file that has no weights
+abbrev pub refusal_without_weights : WeightError → Refusal
+refusal_without_weights (weighings.SumLimit row col) = SumLimit row col
+refusal_without_weights weighings.OutOfMemory = OutOfMemory

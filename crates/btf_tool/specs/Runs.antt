@@ -1,20 +1,30 @@
 -- What a run was given, what came of it, and what each status says.
-use Rattle.std.specs.Prelude.{◌≡◌, ◌≤◌, ◌<◌, ◌⊎◌, ℕ, Bool, true, false, List, [], length, if◌then◌else◌, Some, None, Result, Ok, Err}
+use Rattle.std.specs.Prelude.{◌≡◌, ◌≤◌, ◌<◌, ◌⊎◌, ℕ, Bool, true, false, List, length, if◌then◌else◌, Some, None, Result, Ok, Err}
 use Rattle.sp_ids.specs.Entries.{Entries}
 use Rattle.sp_ids.specs.declared.outcomes.Status.{Status}
 use Rattle.sp_ids.specs.declared.outcomes.Status.TheVariants as statuses
 use Rattle.btf_words.specs.Words.{AreTaken, job_of}
 use Rattle.btf_words.specs.declared.jobs.Job.{Job}
+use Rattle.btf_words.specs.declared.jobs.Job.TheVariants.{Diagonal, Check}
+use Rattle.bip_defs.specs.Matching.{IsRank}
+use Rattle.bip_defs.specs.Matrix.{Matrix, cols}
+use Rattle.sp_ids.specs.declared.triples.Field.TheVariants.{Integer}
+use Rattle.sp_pattern.specs.Weighing.{IsFirstPast, weight_limit, weight_of}
+use Rattle.btf_check.specs.Verdicts.{IsVerdict}
+use Rattle.btf_check.specs.declared.verdict.Verdict.{Verdict}
 use Rattle.mm_defs.specs.Faults.{is_limit}
 use Rattle.mm_defs.specs.File.{Fault, Reads}
 use Rattle.mm_defs.specs.Reading.{first_bad, got}
-use Rattle.mm_defs.specs.declared.answers.End.TheVariants.{File}
+use Rattle.mm_defs.specs.declared.answers.End.{End}
 use Rattle.sp_ports.specs.Bytes.{WhereTold}
+use Rattle.btf_tool.specs.declared.answers.Answer.{Answer}
+use Rattle.btf_tool.specs.declared.answers.Answer.TheVariants.{Negative, Positive}
 use Rattle.btf_tool.specs.declared.refusals.Refusal.{Refusal}
-use Rattle.btf_tool.specs.declared.refusals.Refusal.TheVariants.{Usage, Malformed, Limit, TooLong, ReadFault, WriteFault, OutOfMemory}
+use Rattle.btf_tool.specs.declared.refusals.Refusal.TheVariants.{Usage, Malformed, Limit, TooLong, SumLimit, NeedsInteger, ReadFault, WriteFault, OutOfMemory}
 use Rattle.btf_tool.specs.Devices.{Device, HasNotFallen, IsSteady, IsUntouched, HasReadFault, HasWriteFault, Took, TookFront, WasTold}
-use Rattle.btf_tool.specs.Jobs.{OfReading, ReadsFile, WasRead, WithAnswer, input_limit}
-use Rattle.btf_tool.specs.Refusals.{status_of, line_of}
+use Rattle.btf_tool.specs.Jobs.{IsMatrixOf, OfReading, ReadsFile, WasRead, WithAnswer, end_of, input_limit}
+use Rattle.btf_tool.specs.Judging.{answer_of}
+use Rattle.btf_tool.specs.Refusals.{line_of, status_of, status_of_answer}
 
 -- a run: the words after the program's name, and what is seen of the devices
 pub record Run : Type 0 where
@@ -28,9 +38,9 @@ pub record Names (words : List (List ℕ)) (job : Job) : Type 0 where
   pub taken : AreTaken words
   pub job_is : job_of words ≡ Some job
 
--- the words name a job that reads a matrix file
-abbrev pub NameReader : List (List ℕ) → Type 0
-NameReader words = (job : Job) × Names words job × ReadsFile job
+-- the words name this job, which reads a matrix file
+abbrev pub NamesReader : List (List ℕ) → Job → Type 0
+NamesReader words job = Names words job × ReadsFile job
 
 -- the words name a job that makes its matrix
 abbrev pub NameMaker : List (List ℕ) → Type 0
@@ -38,11 +48,11 @@ NameMaker words = (job : Job) × Names words job × ¬ ReadsFile job
 
 -- ---- the answer
 
--- Ok: the words name a job, its answer was written, and nothing else.
-pub record Succeeds (r : Run) : Type 0 where
+-- The words name a job, its whole answer was written, and nothing else.
+pub record IsAnswered (r : Run) (answer : Answer) : Type 0 where
   pub job : Job
   pub names : Names r.words job
-  pub written : WithAnswer job r.input (Took r.out)
+  pub written : WithAnswer job answer r.input (Took r.out)
   pub steady_input : IsSteady r.input
   pub steady_out : IsSteady r.out
   pub nothing_told : IsUntouched r.err
@@ -50,48 +60,65 @@ pub record Succeeds (r : Run) : Type 0 where
 -- ---- refusals
 
 -- the first bad line of the input is this one, and whether it passes a limit
-abbrev pub IsBadLine : Device → Fault → Bool → Type 0
-IsBadLine input fault limit = OfReading input (λ call. (first_bad File call ≡ Some fault) × (is_limit fault.kind ≡ limit))
+abbrev pub IsBadLine : End → Device → Fault → Bool → Type 0
+IsBadLine end input fault limit = OfReading input (λ call. (first_bad end call ≡ Some fault) × (is_limit fault.kind ≡ limit))
 
 -- no line is bad of what the input gave
-abbrev pub NoBadLine : Device → Type 0
-NoBadLine input = OfReading input (λ call. first_bad File call ≡ None)
+abbrev pub NoBadLine : End → Device → Type 0
+NoBadLine end input = OfReading input (λ call. first_bad end call ≡ None)
+
+-- no line is bad of what the input gave, and it gave more bytes than it may have
+abbrev pub IsTooLong : End → Device → Type 0
+IsTooLong end input = OfReading input (λ call. (first_bad end call ≡ None) × (call.room < length (got call)))
 
 -- an input that told its bytes tells them still
 abbrev pub TellsStill : Device → Type 0
 TellsStill input = WhereTold input.before input.after (λ before after. Unit {0})
 
+-- the job's file was a good one and was read to its end, and this holds of its entries
+abbrev pub WithFile : Job → Device → (Entries → Type 0) → Type 0
+WithFile job input P = OfReading input (λ call. (t : Entries) × (rest : List ℕ) × WasRead (end_of job) call t rest × P t)
+
 -- What a refusal of a job says of the input and of the output. Only a job that reads a file is refused for what it read.
 abbrev pub IsCause : Job → Device → Device → Refusal → Type 0
 -- the first bad line is not of the file's form
-IsCause job input out (Malformed line kind) = ReadsFile job × IsBadLine input (record { line = line; kind = kind }) false × IsUntouched out
+IsCause job input out (Malformed line kind) = ReadsFile job × IsBadLine (end_of job) input (record { line = line; kind = kind }) false × IsUntouched out
 -- the first bad line passes a limit
-IsCause job input out (Limit line kind) = ReadsFile job × IsBadLine input (record { line = line; kind = kind }) true × IsUntouched out
+IsCause job input out (Limit line kind) = ReadsFile job × IsBadLine (end_of job) input (record { line = line; kind = kind }) true × IsUntouched out
 -- no line is bad, and the input gave more bytes than it may have
-IsCause job input out TooLong = ReadsFile job × OfReading input (λ call. (first_bad File call ≡ None) × (call.room < length (got call))) × IsUntouched out
+IsCause job input out TooLong = ReadsFile job × IsTooLong (end_of job) input × IsUntouched out
+-- the sum of a place's values passes the limit, in the integer file of a job that adds them up
+IsCause job input out (SumLimit row col) = (job ≡ Diagonal) × IsSteady input × WithFile job input (λ t. (t.field ≡ Integer) × IsFirstPast t row col) × IsUntouched out
+-- the file of such a job is no integer file
+IsCause job input out NeedsInteger = (job ≡ Diagonal) × IsSteady input × WithFile job input (λ t. ¬ (t.field ≡ Integer)) × IsUntouched out
 -- a read failed, and no line that had ended is bad
-IsCause job input out ReadFault = ReadsFile job × HasReadFault input × NoBadLine input × IsUntouched out
+IsCause job input out ReadFault = ReadsFile job × HasReadFault input × NoBadLine (end_of job) input × IsUntouched out
 -- a write failed, and a front of the job's answer was taken
-IsCause job input out WriteFault = HasWriteFault out × IsSteady input × WithAnswer job input (TookFront out)
+IsCause job input out WriteFault = HasWriteFault out × IsSteady input × ((answer : Answer) × WithAnswer job answer input (TookFront out))
 -- nothing is said of why
 IsCause job input out OutOfMemory = TellsStill input × IsUntouched out
 -- words that name a job are no cause
 IsCause job input out Usage = ⊥
 
--- What each outcome of the reading of a matrix file says of the input.
-abbrev pub FileSays : Device → Result Entries Refusal → Type 0
-FileSays input (Ok t) = IsSteady input × OfReading input (λ call. WasRead call t)
-FileSays input (Err (Malformed line kind)) = IsBadLine input (record { line = line; kind = kind }) false
-FileSays input (Err (Limit line kind)) = IsBadLine input (record { line = line; kind = kind }) true
-FileSays input (Err TooLong) = OfReading input (λ call. (first_bad File call ≡ None) × (call.room < length (got call)))
-FileSays input (Err ReadFault) = HasReadFault input × NoBadLine input
-FileSays input (Err OutOfMemory) = TellsStill input
-FileSays input (Err WriteFault) = ⊥
-FileSays input (Err Usage) = ⊥
+-- the input was a good file of these entries with this behind it, and no read of it failed
+abbrev pub IsReadAs : End → Device → Entries → List ℕ → Type 0
+IsReadAs end input t rest = IsSteady input × OfReading input (λ call. WasRead end call t rest)
+
+-- Why the input could not be read.
+abbrev pub IsUnread : End → Device → Refusal → Type 0
+IsUnread end input (Malformed line kind) = IsBadLine end input (record { line = line; kind = kind }) false
+IsUnread end input (Limit line kind) = IsBadLine end input (record { line = line; kind = kind }) true
+IsUnread end input TooLong = IsTooLong end input
+IsUnread end input ReadFault = HasReadFault input × NoBadLine end input
+IsUnread end input OutOfMemory = TellsStill input
+IsUnread end input (SumLimit row col) = ⊥
+IsUnread end input NeedsInteger = ⊥
+IsUnread end input WriteFault = ⊥
+IsUnread end input Usage = ⊥
 
 -- What the outcome of a job says of the input and of the output.
-abbrev pub JobSays : Job → Device → Device → Result (Unit {0}) Refusal → Type 0
-JobSays job input out (Ok u) = IsSteady input × IsSteady out × WithAnswer job input (Took out)
+abbrev pub JobSays : Job → Device → Device → Result Answer Refusal → Type 0
+JobSays job input out (Ok answer) = IsSteady input × IsSteady out × WithAnswer job answer input (Took out)
 JobSays job input out (Err refusal) = HasNotFallen input × IsCause job input out refusal
 
 -- What a refusal says of a run.
@@ -110,7 +137,8 @@ pub record IsRefused (r : Run) (status : Status) : Type 0 where
 
 -- what each status says
 abbrev pub Says : Run → Status → Type 0
-Says r statuses.Ok = Succeeds r
+Says r statuses.Ok = IsAnswered r Positive
+Says r statuses.Negative = IsAnswered r Negative
 Says r status = IsRefused r status
 
 -- ---- which status has to come
@@ -123,16 +151,40 @@ IsOrNoMemory status wanted = (status ≡ wanted) ⊎ (status ≡ statuses.OutOfM
 abbrev pub status_of_fault : Fault → Status
 status_of_fault fault = if is_limit fault.kind then statuses.Limit else statuses.Malformed
 
+-- the verdict on the bytes behind a good file comes, unless memory ran out
+pub record ComesToVerdict (t : Entries) (bytes : List ℕ) (status : Status) : Type 0 where
+  pub comes : (status ≡ statuses.Negative) ⊎ IsOrNoMemory status statuses.Ok
+  pub right : (a : Matrix) (verdict : Verdict) → IsMatrixOf t a → IsVerdict a bytes verdict → IsOrNoMemory status (status_of_answer (answer_of verdict))
+
+-- no place's sum passes the limit
+abbrev pub IsWithin : Entries → Type 0
+IsWithin t = (r c : ℕ) → weight_of t r c ≤ weight_limit
+
+-- the diagonal of a good file comes, or why there is none, unless memory ran out
+pub record ComesToDiagonal (t : Entries) (status : Status) : Type 0 where
+  pub needs_integer : ¬ (t.field ≡ Integer) → IsOrNoMemory status statuses.NeedsInteger
+  pub past : t.field ≡ Integer → (r c : ℕ) → weight_limit < weight_of t r c → IsOrNoMemory status statuses.Limit
+  pub rectangular : t.field ≡ Integer → IsWithin t → (a : Matrix) → IsMatrixOf t a → ¬ (a.rows ≡ cols a) → IsOrNoMemory status statuses.Negative
+  pub singular : t.field ≡ Integer → IsWithin t → (a : Matrix) (k : ℕ) → IsMatrixOf t a → IsRank a k → k < cols a → IsOrNoMemory status statuses.Negative
+  pub full : t.field ≡ Integer → IsWithin t → (a : Matrix) → IsMatrixOf t a → a.rows ≡ cols a → IsRank a (cols a) → IsOrNoMemory status statuses.Ok
+
+-- how a job ends over a good file, where no device failed
+abbrev pub EndsWell : Job → Entries → List ℕ → Status → Type 0
+EndsWell Diagonal t rest status = ComesToDiagonal t status
+EndsWell Check t rest status = ComesToVerdict t rest status
+EndsWell job t rest status = IsOrNoMemory status statuses.Ok
+
 pub record Completes (r : Run) (status : Status) : Type 0 where
   -- words that are not taken are refused
   pub usage : ¬ AreTaken r.words → IsOrNoMemory status statuses.Usage
   -- a bad line that the input gave is answered, whatever follows it
-  pub bad_line : NameReader r.words → OfReading r.input (λ call. (fault : Fault) → first_bad File call ≡ Some fault → IsOrNoMemory status (status_of_fault fault))
+  pub bad_line : (job : Job) → NamesReader r.words job
+      → OfReading r.input (λ call. (fault : Fault) → first_bad (end_of job) call ≡ Some fault → IsOrNoMemory status (status_of_fault fault))
   -- a good file within the limits is answered, where no device failed
-  pub good : NameReader r.words → ¬ HasReadFault r.input → ¬ HasWriteFault r.out
-      → OfReading r.input (λ call. (t : Entries) → Reads call.before File t [] → length call.before ≤ input_limit → IsOrNoMemory status statuses.Ok)
+  pub good : (job : Job) → NamesReader r.words job → ¬ HasReadFault r.input → ¬ HasWriteFault r.out
+      → OfReading r.input (λ call. (t : Entries) (rest : List ℕ) → Reads call.before (end_of job) t rest → length call.before ≤ input_limit → EndsWell job t rest status)
   -- what is no good file within the limits is refused by its kind, where no read failed
-  pub not_good : NameReader r.words → ¬ HasReadFault r.input
-      → OfReading r.input (λ call. ((t : Entries) → Reads call.before File t [] → ¬ (length call.before ≤ input_limit)) → ((status ≡ statuses.Malformed) ⊎ (status ≡ statuses.Limit)) ⊎ (status ≡ statuses.OutOfMemory))
+  pub not_good : (job : Job) → NamesReader r.words job → ¬ HasReadFault r.input
+      → OfReading r.input (λ call. ((t : Entries) (rest : List ℕ) → Reads call.before (end_of job) t rest → ¬ (length call.before ≤ input_limit)) → ((status ≡ statuses.Malformed) ⊎ (status ≡ statuses.Limit)) ⊎ (status ≡ statuses.OutOfMemory))
   -- a matrix that is made is answered, whatever the input, where no write failed
   pub made : NameMaker r.words → ¬ HasWriteFault r.out → IsOrNoMemory status statuses.Ok

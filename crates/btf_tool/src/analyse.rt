@@ -13,9 +13,9 @@ ghost use Rattle.btf_tool.specs.Devices.{seen};
 ghost use Rattle.btf_tool.specs.Jobs.{IsMatrixOf};
 ghost use Rattle.btf_tool.specs.Runs.{JobSays};
 
-use crate::Refusal;
 use crate::decompose::{Analysis, decompose};
 use crate::reading::read_file;
+use crate::{Answer, Refusal};
 use btf_text::{TextBuf, write_report};
 use btf_words::Engine;
 use sp_ids::{OutOfMemory, Triples};
@@ -40,7 +40,7 @@ pub(crate) fn analyse<R: Threads + Sync, S: Source, O: Sink, G: Gate>(
     input: &mut S,
     out: &mut O,
     gate: &G,
-) -> Result<(), Refusal>
+) -> Result<Answer, Refusal>
     ensures { JobSays (Analyse options.engine options.order options.pairs) (seen S.left S.faults input.old input.new) (seen O.taken O.faults out.old out.new) result }
 {
     let triples = match read_file(alloc, input) {
@@ -54,7 +54,7 @@ pub(crate) fn analyse<R: Threads + Sync, S: Source, O: Sink, G: Gate>(
         return Err(Refusal::OutOfMemory);
     };
     match write_answer(out, &mut buf, &analysis, options) {
-        Ok(()) => Ok(()),
+        Ok(()) => Ok(Answer::Positive),
         Err(Failed) => Err(Refusal::WriteFault),
     }
 }

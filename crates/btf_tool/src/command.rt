@@ -6,11 +6,13 @@ ghost use Rattle.btf_tool.specs.Devices.{IsUntouched, seen};
 ghost use Rattle.btf_tool.specs.Jobs.{ReadsFile};
 ghost use Rattle.btf_tool.specs.Runs.{Completes, JobSays, NameMaker, Says};
 
-use crate::Refusal;
 use crate::analyse::{Options, analyse};
+use crate::check::check;
+use crate::diagonal::diagonal;
 use crate::load::load;
 use crate::rank::rank;
 use crate::refusals::refuse;
+use crate::{Answer, Refusal};
 use btf_words::{Job, WordsError, read_words};
 use sp_ids::Status;
 use sp_ports::{Gate, Sink, Source};
@@ -52,11 +54,11 @@ pub fn run<R: Threads + Sync, S: Source, O: Sink, E: Sink, G: Gate>(
     ensures unread { NameMaker (map string_bytes words.now) → IsUntouched (seen S.left S.faults input.old input.new) }
 {
     match read_words(alloc, words) {
-        Err(WordsError::Usage) => refuse(err, Refusal::Usage),
-        Err(WordsError::OutOfMemory) => refuse(err, Refusal::OutOfMemory),
+        Err(WordsError::Usage) => refuse(err, &Refusal::Usage),
+        Err(WordsError::OutOfMemory) => refuse(err, &Refusal::OutOfMemory),
         Ok(job) => match perform(rt, alloc, job, input, out, gate) {
-            Ok(()) => Status::Ok,
-            Err(refusal) => refuse(err, refusal),
+            Ok(answer) => answer.status(),
+            Err(refusal) => refuse(err, &refusal),
         },
     }
 }
@@ -69,7 +71,7 @@ fn perform<R: Threads + Sync, S: Source, O: Sink, G: Gate>(
     input: &mut S,
     out: &mut O,
     gate: &G,
-) -> Result<(), Refusal>
+) -> Result<Answer, Refusal>
     requires size { HasSizeInRange job }
     ensures says { JobSays job (seen S.left S.faults input.old input.new) (seen O.taken O.faults out.old out.new) result }
     ensures unread { ¬ ReadsFile job → IsUntouched (seen S.left S.faults input.old input.new) }
@@ -88,6 +90,8 @@ fn perform<R: Threads + Sync, S: Source, O: Sink, G: Gate>(
             };
             analyse(rt, alloc, options, input, out, gate)
         }
+        Job::Diagonal => diagonal(rt, alloc, input, out),
+        Job::Check => check(rt, alloc, input, out),
         Job::Load { size, seed, engine } => load(rt, alloc, size, seed, engine, out, gate),
     }
 }

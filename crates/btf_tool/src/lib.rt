@@ -2,8 +2,11 @@
 #![tactic(auto)]
 
 mod analyse;
+mod answers;
+mod check;
 mod command;
 mod decompose;
+mod diagonal;
 mod engines;
 mod load;
 mod neighbours;
@@ -11,6 +14,7 @@ mod rank;
 mod reading;
 mod refusals;
 
+pub use answers::Answer;
 pub use btf_words::Engine;
 pub use command::run;
 pub use engines::solve;
@@ -18,6 +22,10 @@ pub use refusals::Refusal;
 
 #[cfg(test)]
 mod analyse_tests;
+#[cfg(test)]
+mod check_tests;
+#[cfg(test)]
+mod diagonal_tests;
 #[cfg(test)]
 mod engine_tests;
 #[cfg(test)]

@@ -11,8 +11,8 @@ ghost use Rattle.btf_tool.specs.Devices.{Device, IsUntouched, seen};
 ghost use Rattle.btf_tool.specs.Runs.{JobSays};
 ghost use Rattle.btf_tool.specs.Summaries.{IsLoadMatrix};
 
-use crate::Refusal;
 use crate::decompose::{Analysis, decompose};
+use crate::{Answer, Refusal};
 use bip_graph::Decomposition;
 use btf_text::{TextBuf, write_load};
 use btf_words::Engine;
@@ -31,7 +31,7 @@ pub(crate) fn load<R: Threads + Sync, O: Sink, G: Gate>(
     engine: Engine,
     out: &mut O,
     gate: &G,
-) -> Result<(), Refusal>
+) -> Result<Answer, Refusal>
     requires some { 1 ≤ size }
     requires few { size ≤ 16777216 }
     ensures { (input : Device) → IsUntouched input → JobSays (Load size seed engine) input (seen O.taken O.faults out.old out.new) result }
@@ -43,7 +43,7 @@ pub(crate) fn load<R: Threads + Sync, O: Sink, G: Gate>(
         return Err(Refusal::OutOfMemory);
     };
     match write_answer(out, &mut buf, &analysis.decomposition) {
-        Ok(()) => Ok(()),
+        Ok(()) => Ok(Answer::Positive),
         Err(Failed) => Err(Refusal::WriteFault),
     }
 }

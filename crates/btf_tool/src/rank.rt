@@ -13,10 +13,10 @@ ghost use Rattle.btf_tool.specs.Devices.{seen};
 ghost use Rattle.btf_tool.specs.Ranks.{IsRankOf};
 ghost use Rattle.btf_tool.specs.Runs.{JobSays};
 
-use crate::Refusal;
 use crate::engines::solve;
 use crate::neighbours::neighbours;
 use crate::reading::read_file;
+use crate::{Answer, Refusal};
 use bip_graph::Matching;
 use btf_text::{TextBuf, write_rank};
 use btf_words::Engine;
@@ -43,7 +43,7 @@ pub(crate) fn rank<R: Threads + Sync, S: Source, O: Sink, G: Gate>(
     input: &mut S,
     out: &mut O,
     gate: &G,
-) -> Result<(), Refusal>
+) -> Result<Answer, Refusal>
     ensures { JobSays Rank (seen S.left S.faults input.old input.new) (seen O.taken O.faults out.old out.new) result }
 {
     let triples = match read_file(alloc, input) {
@@ -57,7 +57,7 @@ pub(crate) fn rank<R: Threads + Sync, S: Source, O: Sink, G: Gate>(
         return Err(Refusal::OutOfMemory);
     };
     match write_answer(out, &mut buf, &answer) {
-        Ok(()) => Ok(()),
+        Ok(()) => Ok(Answer::Positive),
         Err(Failed) => Err(Refusal::WriteFault),
     }
 }

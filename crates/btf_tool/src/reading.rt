@@ -1,29 +1,65 @@
-//! The reading of the matrix.
+//! The reading of the matrix, and of what follows it.
 
-ghost use Rattle.std.specs.Prelude.{◌≡◌};
+ghost use Rattle.std.specs.Prelude.{◌≡◌, [], true, false, IfErr, IfOk};
+ghost use Rattle.mm_defs.specs.declared.answers.End.TheVariants.{File, LastEntry};
 ghost use Rattle.btf_tool.specs.Devices.{HasNotFallen, seen};
+ghost use Rattle.btf_tool.specs.Jobs.{input_limit};
 ghost use Rattle.btf_tool.specs.Refusals.{refusal_for};
-ghost use Rattle.btf_tool.specs.Runs.{FileSays};
+ghost use Rattle.btf_tool.specs.Runs.{IsReadAs, IsUnread};
 
 use crate::Refusal;
 use mm_defs::{End, ReadError};
-use mm_reader::{Input, read_matrix};
-use sp_ids::{MAX_INPUT_BYTES, Triples};
+use mm_reader::{Input, read_matrix, read_rest};
+use sp_ids::{MAX_INPUT_BYTES, OutOfMemory, Triples};
 use sp_ports::Source;
 use std::alloc::Global;
 
+/// A matrix file, and the bytes that follow it.
+#[derive(Drop)]
+pub(crate) struct Followed {
+    pub(crate) triples: Triples,
+    pub(crate) rest: Vec<u8>,
+}
+
 /// Reads the matrix file that the input is.
 pub(crate) fn read_file<S: Source>(alloc: Global, input: &mut S) -> Result<Triples, Refusal>
-    ensures says { FileSays (seen S.left S.faults input.old input.new) result }
+    ensures read { IfOk result (λ t. IsReadAs File (seen S.left S.faults input.old input.new) t []) }
+    ensures unread { IfErr result (IsUnread File (seen S.left S.faults input.old input.new)) }
     ensures later { HasNotFallen (seen S.left S.faults input.old input.new) }
 {
-    let Ok(mut bytes) = Input::new(alloc, MAX_INPUT_BYTES) else {
+    let Ok(mut bytes) = new_input(alloc) else {
         return Err(Refusal::OutOfMemory);
     };
     match read_matrix(alloc, &mut bytes, input, End::File) {
         Ok(triples) => Ok(triples),
         Err(error) => Err(refusal(error)),
     }
+}
+
+/// Reads the matrix file with which the input begins, up to its last entry line, and then all that follows.
+pub(crate) fn read_followed<S: Source>(alloc: Global, input: &mut S) -> Result<Followed, Refusal>
+    ensures read { IfOk result (λ f. IsReadAs LastEntry (seen S.left S.faults input.old input.new) f.triples f.rest.items) }
+    ensures unread { IfErr result (IsUnread LastEntry (seen S.left S.faults input.old input.new)) }
+    ensures later { HasNotFallen (seen S.left S.faults input.old input.new) }
+{
+    let Ok(mut bytes) = new_input(alloc) else {
+        return Err(Refusal::OutOfMemory);
+    };
+    let triples = match read_matrix(alloc, &mut bytes, input, End::LastEntry) {
+        Ok(triples) => triples,
+        Err(error) => return Err(refusal(error)),
+    };
+    match read_rest(alloc, &mut bytes, input) {
+        Ok(rest) => Ok(Followed { triples, rest }),
+        Err(error) => Err(refusal(error)),
+    }
+}
+
+/// An input before its first byte, with the limit on its bytes.
+fn new_input(alloc: Global) -> Result<Input, OutOfMemory>
+    ensures { IfOk result (λ input. input ≡ record { limit = input_limit; taken = 0; ahead = []; at_end = false; lines = 0; good = true }) }
+{
+    Input::new(alloc, MAX_INPUT_BYTES)
 }
 
 /// The refusal of a run whose input could not be read.

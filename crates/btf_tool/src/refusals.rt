@@ -4,10 +4,10 @@ ghost use Rattle.std.specs.Prelude.{◌≡◌};
 ghost use Rattle.btf_tool.specs.Refusals.{status_of, line_of};
 ghost use Rattle.btf_tool.specs.Devices.{WasTold, seen};
 
-use btf_lines::{limit_line, malformed_line};
+use btf_lines::{limit_line, malformed_line, sum_limit_line};
 use btf_words::usage_line;
 use mm_defs::Kind;
-use sp_ids::Status;
+use sp_ids::{Col, Row, Status};
 use sp_ports::{Failed, Sink, write_all};
 
 /// Why a run is refused.
@@ -21,6 +21,11 @@ pub enum Refusal {
     Limit { line: u64, kind: Kind },
     /// No line is bad, and the input has more bytes than it may have.
     TooLong,
+    /// The sum of the values that an integer file gives for this place is past the limit in magnitude. Of all such places
+    /// it has the least column, and in it the least row.
+    SumLimit { row: Row, col: Col },
+    /// The file is not an integer file.
+    NeedsInteger,
     /// A read of the input failed, and no line that had ended is bad.
     ReadFault,
     /// A write of the answer failed.
@@ -31,13 +36,14 @@ pub enum Refusal {
 
 impl Refusal {
     /// The status with which the run ends.
-    pub fn status(self) -> Status
-        ensures { result ≡ status_of self }
+    pub fn status(&self) -> Status
+        ensures { result ≡ status_of self.now }
     {
         match self {
             Refusal::Usage => Status::Usage,
             Refusal::Malformed { .. } => Status::Malformed,
-            Refusal::Limit { .. } | Refusal::TooLong => Status::Limit,
+            Refusal::Limit { .. } | Refusal::TooLong | Refusal::SumLimit { .. } => Status::Limit,
+            Refusal::NeedsInteger => Status::NeedsInteger,
             Refusal::ReadFault => Status::ReadFault,
             Refusal::WriteFault => Status::WriteFault,
             Refusal::OutOfMemory => Status::OutOfMemory,
@@ -45,14 +51,16 @@ impl Refusal {
     }
 
     /// Tells it by its one line. What the device does with the line changes nothing else.
-    pub(crate) fn tell<E: Sink>(self, err: &mut E)
-        ensures { WasTold (seen E.taken E.faults err.old err.new) (line_of self) }
+    pub(crate) fn tell<E: Sink>(&self, err: &mut E)
+        ensures { WasTold (seen E.taken E.faults err.old err.new) (line_of self.now) }
     {
         match self {
             Refusal::Usage => put(err, usage_line().as_bytes()),
-            Refusal::Malformed { line, kind } => put(err, malformed_line(line, kind).as_bytes()),
-            Refusal::Limit { line, kind } => put(err, limit_line(line, kind).as_bytes()),
+            Refusal::Malformed { line, kind } => put(err, malformed_line(*line, *kind).as_bytes()),
+            Refusal::Limit { line, kind } => put(err, limit_line(*line, *kind).as_bytes()),
             Refusal::TooLong => put(err, b"btf: limit: TooLong\n"),
+            Refusal::SumLimit { row, col } => put(err, sum_limit_line(*row, *col).as_bytes()),
+            Refusal::NeedsInteger => put(err, b"btf: needs an integer file\n"),
             Refusal::ReadFault => put(err, b"btf: read fault\n"),
             Refusal::WriteFault => put(err, b"btf: write fault\n"),
             Refusal::OutOfMemory => put(err, b"btf: out of memory\n"),
@@ -71,9 +79,9 @@ fn put<E: Sink>(err: &mut E, line: &[u8])
 }
 
 /// Tells a refusal, and gives its status.
-pub(crate) fn refuse<E: Sink>(err: &mut E, refusal: Refusal) -> Status
-    ensures status { result ≡ status_of refusal }
-    ensures told { WasTold (seen E.taken E.faults err.old err.new) (line_of refusal) }
+pub(crate) fn refuse<E: Sink>(err: &mut E, refusal: &Refusal) -> Status
+    ensures status { result ≡ status_of refusal.now }
+    ensures told { WasTold (seen E.taken E.faults err.old err.new) (line_of refusal.now) }
 {
     refusal.tell(err);
     refusal.status()

@@ -117,7 +117,15 @@ module _ (n m : Names) (same : texts_of n ≡ texts_of m) where
         (
           over_rules (unwrap_or (slice_get (subs m) 1) rank_command) (option n ∷ others) (option m ∷ others) analyse,
           refl,
-          (over_rules (unwrap_or (slice_get (subs m) 2) rank_command) (numbers ++ option n ∷ []) (numbers ++ option m ∷ []) load, refl, tt),
+          (
+            itself_shape _,
+            refl,
+            (
+              itself_shape _,
+              refl,
+              (over_rules (unwrap_or (slice_get (subs m) 4) rank_command) (numbers ++ option n ∷ []) (numbers ++ option m ∷ []) load, refl, tt),
+            ),
+          ),
         ),
       )
 

@@ -75,12 +75,18 @@ abbrev pub analyse_command : Names → Shape
 analyse_command names =
     command (codes "analyse") (engine_rule names ∷ order_rule ∷ pairs_rule ∷ [])
 
+abbrev pub diagonal_command : Shape
+diagonal_command = command (codes "diagonal") []
+
+abbrev pub check_command : Shape
+check_command = command (codes "check") []
+
 abbrev pub load_command : Names → Shape
 load_command names = command (codes "load") (size_rule ∷ seed_rule ∷ engine_rule names ∷ [])
 
 -- the commands that the program has
 abbrev pub commands : Names → List Shape
-commands names = rank_command ∷ analyse_command names ∷ load_command names ∷ []
+commands names = rank_command ∷ analyse_command names ∷ diagonal_command ∷ check_command ∷ load_command names ∷ []
 
 -- ---- the program
 

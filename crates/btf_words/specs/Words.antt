@@ -10,7 +10,7 @@ use Rattle.btf_words.specs.Table.{Names, btf, btf_over, default_engine, max_seed
 use Rattle.btf_words.specs.declared.jobs.Engine.{Engine}
 use Rattle.btf_words.specs.declared.jobs.Engine.TheVariants.{Plain, Mc21, Pf}
 use Rattle.btf_words.specs.declared.jobs.Job.{Job}
-use Rattle.btf_words.specs.declared.jobs.Job.TheVariants.{Rank, Analyse, Load}
+use Rattle.btf_words.specs.declared.jobs.Job.TheVariants.{Rank, Analyse, Diagonal, Check, Load}
 
 -- clap's definitions find no fault with the words
 unfoldable pub AreTaken : List Text → Type 0
@@ -46,10 +46,12 @@ abbrev pub job_from : Text × List Row → Option Job
 job_from m = if bytes_eq m.0 (codes "rank") then Some Rank
     else (if bytes_eq m.0 (codes "analyse")
     then Some (Analyse (engine_in m.1) (is_given (codes "order") m.1) (is_given (codes "pairs") m.1))
+    else (if bytes_eq m.0 (codes "diagonal") then Some Diagonal
+    else (if bytes_eq m.0 (codes "check") then Some Check
     else (if bytes_eq m.0 (codes "load")
     then Some (Load (number_in 1 max_size (codes "size") m.1)
     (number_in 0 max_seed (codes "seed") m.1) (engine_in m.1))
-    else None))
+    else None))))
 
 -- the job that the words name: that of the command that they enter, by clap's definitions
 unfoldable pub job_of : List Text → Option Job

@@ -2,7 +2,7 @@
 
 ghost use Rattle.std.specs.Prelude.{◌≡◌, [], IfOk};
 ghost use Rattle.clap.specs.Words.{app_of, with_subcommand};
-ghost use Rattle.btf_words.specs.Table.{IsBtf, analyse_command, load_command, program as program_shape, rank_command};
+ghost use Rattle.btf_words.specs.Table.{IsBtf, analyse_command, check_command, diagonal_command, load_command, program as program_shape, rank_command};
 
 use crate::options::{engine, order, pairs, seed, size};
 use clap::Command;
@@ -18,6 +18,8 @@ pub(crate) fn command_line<'a>(alloc: Global) -> Result<Command<'a>, AllocError>
     let program = program(alloc);
     let program = with_rank(alloc, program)?;
     let program = with_analyse(alloc, engines, program)?;
+    let program = with_diagonal(alloc, program)?;
+    let program = with_check(alloc, program)?;
     let program = with_load(alloc, engines, program)?;
     Ok(program)
 }
@@ -52,6 +54,18 @@ fn with_analyse<'a>(
         .arg(order(alloc))?
         .arg(pairs(alloc))?;
     program.subcommand(analyse)
+}
+
+fn with_diagonal<'a>(alloc: Global, program: Command<'a>) -> Result<Command<'a>, AllocError>
+    ensures { IfOk result (λ c. app_of c ≡ with_subcommand (app_of program.entry) diagonal_command) }
+{
+    program.subcommand(Command::new(alloc, "diagonal"))
+}
+
+fn with_check<'a>(alloc: Global, program: Command<'a>) -> Result<Command<'a>, AllocError>
+    ensures { IfOk result (λ c. app_of c ≡ with_subcommand (app_of program.entry) check_command) }
+{
+    program.subcommand(Command::new(alloc, "check"))
 }
 
 fn with_load<'a>(

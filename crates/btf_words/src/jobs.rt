@@ -25,6 +25,10 @@ pub enum Job {
         /// Whether the pairs of the matching are written.
         pairs: bool,
     },
+    /// The heaviest diagonal of an integer matrix.
+    Diagonal,
+    /// Whether a report that follows the matrix is right.
+    Check,
     /// The analysis of a matrix that is made from a number.
     Load {
         /// How many rows and columns it has: 1 to 16,777,216.

@@ -68,6 +68,10 @@ fn job_named(name: &str, options: &ArgMatches<'_>) -> Option<Job>
             order: flag_of(options, "order"),
             pairs: flag_of(options, "pairs"),
         })
+    } else if name == "diagonal" {
+        Some(Job::Diagonal)
+    } else if name == "check" {
+        Some(Job::Check)
     } else if name == "load" {
         Some(Job::Load {
             size: size_of(options),

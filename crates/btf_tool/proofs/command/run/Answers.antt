@@ -22,7 +22,7 @@ returns-in-Err-OutOfMemory-clause-complete g c = completes _ _ (returns-in-Err-O
 
 pub returns-in-Ok-perform-clause-says : goal.returns-in-Ok-perform-clause-says
 returns-in-Ok-perform-clause-says g c =
-    job_done _ c.in-Ok.job _ c.in-Ok-perform.is (named _ _ _ c.in-Ok.is c.read_words.ensures.taken c.read_words.ensures.job) c.perform.ensures.says (refl, refl)
+    job_done _ c.in-Ok.job _ _ _ c.in-Ok-perform.is (named _ _ _ c.in-Ok.is c.read_words.ensures.taken c.read_words.ensures.job) c.perform.ensures.says c.status.ensures (refl, refl)
 
 pub returns-in-Ok-perform-clause-complete : goal.returns-in-Ok-perform-clause-complete
 returns-in-Ok-perform-clause-complete g c = completes _ _ (returns-in-Ok-perform-clause-says g c)

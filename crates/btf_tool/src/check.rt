@@ -1,0 +1,92 @@
+//! The job `check`.
+
+ghost use Rattle.std.specs.Prelude.{◌≡◌, IfOk};
+ghost use Rattle.bip_defs.specs.Matrix.{Matrix};
+ghost use Rattle.btf_check.specs.Verdicts.{IsVerdict};
+ghost use Rattle.btf_words.specs.declared.jobs.Job.TheVariants.{Check};
+ghost use Rattle.sp_pattern.specs.Stored.{IsPattern};
+ghost use Rattle.sp_ports.specs.Bytes.{Writes};
+ghost use Rattle.sp_ports.specs.Counts.{HasCause, Rose};
+ghost use Rattle.btf_tool.specs.Devices.{seen};
+ghost use Rattle.btf_tool.specs.Jobs.{IsMatrixOf};
+ghost use Rattle.btf_tool.specs.Judging.{answer_of as answer_on, verdict_text};
+ghost use Rattle.btf_tool.specs.Runs.{JobSays};
+
+use crate::reading::{Followed, read_followed};
+use crate::{Answer, Refusal};
+use btf_check::{Verdict, judge};
+use btf_lines::invalid_line;
+use sp_ids::OutOfMemory;
+use sp_pattern::Pattern;
+use sp_ports::{Failed, Sink, Source, write_all};
+use std::alloc::Global;
+use std::thread::Threads;
+
+/// Reads a matrix and the bytes that follow it, and writes whether they are its report.
+pub(crate) fn check<R: Threads + Sync, S: Source, O: Sink>(
+    rt: &R,
+    alloc: Global,
+    input: &mut S,
+    out: &mut O,
+) -> Result<Answer, Refusal>
+    ensures { JobSays Check (seen S.left S.faults input.old input.new) (seen O.taken O.faults out.old out.new) result }
+{
+    let file = match read_followed(alloc, input) {
+        Ok(file) => file,
+        Err(refusal) => return Err(refusal),
+    };
+    let Ok(verdict) = verdict_on(rt, alloc, file) else {
+        return Err(Refusal::OutOfMemory);
+    };
+    match write_answer(out, verdict) {
+        Ok(()) => Ok(answer_of(verdict)),
+        Err(Failed) => Err(Refusal::WriteFault),
+    }
+}
+
+/// The verdict on what follows a matrix. The entries are let go once the matrix stands.
+fn verdict_on<R: Threads + Sync>(
+    rt: &R,
+    alloc: Global,
+    file: Followed,
+) -> Result<Verdict, OutOfMemory>
+    ensures { IfOk result (λ v. (a : Matrix) × IsMatrixOf file.triples a × IsPattern a × IsVerdict a file.rest.items v) }
+{
+    let Followed { triples, rest } = file;
+    let pattern = Pattern::build(rt, alloc, &triples)?;
+    drop(triples);
+    pattern.is_pattern();
+    judge(rt, alloc, &pattern, rest.as_slice())
+}
+
+/// Whether the report is the one that was asked for.
+fn answer_of(verdict: Verdict) -> Answer
+    ensures { result ≡ answer_on verdict }
+{
+    match verdict {
+        Verdict::Valid => Answer::Positive,
+        Verdict::Invalid(_) => Answer::Negative,
+    }
+}
+
+/// Writes the line of a verdict, and hands it on.
+fn write_answer<O: Sink>(out: &mut O, verdict: Verdict) -> Result<(), Failed>
+    ensures bytes { Writes (O.taken out.old) (O.taken out.new) (verdict_text verdict) result }
+    ensures cause { HasCause (Rose (O.faults out.old) (O.faults out.new)) (O.faults out.old) (O.faults out.new) result }
+{
+    match write_verdict(out, verdict) {
+        Ok(()) => out.flush(),
+        Err(Failed) => Err(Failed),
+    }
+}
+
+/// Writes the line of a verdict.
+fn write_verdict<O: Sink>(out: &mut O, verdict: Verdict) -> Result<(), Failed>
+    ensures bytes { Writes (O.taken out.old) (O.taken out.new) (verdict_text verdict) result }
+    ensures cause { HasCause (Rose (O.faults out.old) (O.faults out.new)) (O.faults out.old) (O.faults out.new) result }
+{
+    match verdict {
+        Verdict::Valid => write_all(out, b"valid\n"),
+        Verdict::Invalid(reason) => write_all(out, invalid_line(reason).as_bytes()),
+    }
+}
