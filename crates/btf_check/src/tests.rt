@@ -119,14 +119,20 @@ fn bytes_that_are_no_report(rt: HostRuntime) -> Result<(), Fail> {
 
 #[test]
 fn pairs_that_are_no_maximum_matching(rt: HostRuntime) -> Result<(), Fail> {
-    let changes: [(usize, usize, &[u8], u32); 6] = [
+    let changes: [(usize, usize, &[u8], u32); 7] = [
         // Row 4 has no entry there, row 9 is not in the matrix, and row 2 has two pairs.
         (16, 17, b"4 1\n", 2),
         (16, 17, b"9 1\n", 2),
         (18, 19, b"2 4\n", 2),
         (15, 19, b"pairs 2\n1 1\n2 3\n", 3),
-        // The first reason is told: the pairs are not maximum either, or the orders differ too.
+        // The first reason is told: the pairs are not maximum either, the rank differs too, or the orders do.
         (15, 19, b"pairs 2\n4 1\n2 3\n", 2),
+        (
+            2,
+            19,
+            b"rank 2\nhorizontal 1 2\nrows 1\ncolumns 1 2\nsquare 1 1\nblock 1 1\nrows 2\ncolumns 3\nvertical 2 1\nrows 3 4\ncolumns 4\npairs 3\n4 1\n2 3\n3 4\n",
+            2,
+        ),
         (13, 19, b"row_order\ncolumn_order\npairs 0\n", 3),
     ];
     for (from, to, others, reason) in changes {
@@ -185,13 +191,14 @@ fn blocks_that_differ(rt: HostRuntime) -> Result<(), Fail> {
         b"square 3 3\nblock 1 1\nrows 1\ncolumns 1\nblock 2 1\nrows 2\ncolumns 2\nblock 3 1\nrows 3\ncolumns 3\n";
     assert_eq!(rt; on_diagonal(&rt, rt.alloc(), own)?, Verdict::Valid);
 
-    let others: [(&[u8], u32); 4] = [
+    let others: [(&[u8], u32); 5] = [
         // Two blocks are exchanged.
         (
             b"square 3 3\nblock 1 1\nrows 2\ncolumns 2\nblock 2 1\nrows 1\ncolumns 1\nblock 3 1\nrows 3\ncolumns 3\n",
             5,
         ),
-        // Two blocks are made into one.
+        // All blocks are made into one, or two of them.
+        (b"square 3 1\nblock 1 3\nrows 1 2 3\ncolumns 1 2 3\n", 5),
         (
             b"square 3 2\nblock 1 2\nrows 1 2\ncolumns 1 2\nblock 2 1\nrows 3\ncolumns 3\n",
             5,
