@@ -2,8 +2,9 @@
 //
 //   generate FAMILY COLUMNS SEED [VALUES] > file.mtx
 //
-// With VALUES the file is an integer file with values from 1 to VALUES, else a pattern file. Entries stand by column, then
-// by row, each once. Rows and columns have random names where the family has a structure that names would give away.
+// With VALUES the file is an integer file with values from 1 to VALUES, else a pattern file; er12i, circuiti and bandi are
+// integer files also without it, and have a diagonal without a hole. Entries stand by column, then by row, each once.
+// Rows and columns have random names where the family has a structure that names would give away.
 #include <algorithm>
 #include <cstdint>
 #include <cstdio>
@@ -40,6 +41,14 @@ static Matrix uniform(u64 n, u64 tenths, Random &random) {
     u64 row = random.below(n), col = random.below(n);
     a.add(row, col);
   }
+  return a;
+}
+
+// Twelve random places a column on average, and a hidden diagonal.
+static Matrix uniform_with_diagonal(u64 n, Random &random) {
+  Matrix a = uniform(n, 120, random);
+  a.renamed = true;
+  for (u64 j = 0; j < n; j++) a.add(j, j);
   return a;
 }
 
@@ -190,6 +199,14 @@ static void write(const Matrix &a, u64 values, Random &random) {
   }
 }
 
+// The greatest value of the families of integer files.
+static u64 values_of(const std::string &family) {
+  if (family == "er12i") return 1000000;
+  if (family == "circuiti") return 1000;
+  if (family == "bandi") return 100;
+  return 0;
+}
+
 int main(int argc, char **argv) {
   if (argc < 4) {
     std::fprintf(stderr, "usage: generate FAMILY COLUMNS SEED [VALUES]\n");
@@ -197,20 +214,21 @@ int main(int argc, char **argv) {
   }
   std::string family = argv[1];
   u64 n = std::strtoull(argv[2], nullptr, 10), seed = std::strtoull(argv[3], nullptr, 10);
-  u64 values = argc > 4 ? std::strtoull(argv[4], nullptr, 10) : 0;
+  u64 values = argc > 4 ? std::strtoull(argv[4], nullptr, 10) : values_of(family);
   Random random{seed};
   Matrix a;
   if (family == "er27") a = uniform(n, 27, random);
   else if (family == "er10") a = uniform(n, 100, random);
   else if (family == "er12") a = uniform(n, 120, random);
+  else if (family == "er12i") a = uniform_with_diagonal(n, random);
   else if (family == "rmat") a = recursive(n, random);
   else if (family == "grid2d") a = grid(n);
-  else if (family == "circuit") a = circuit(n, random);
+  else if (family == "circuit" || family == "circuiti") a = circuit(n, random);
   else if (family == "hilo") a = staircase(n);
   else if (family == "fewg") a = ring(n, random);
   else if (family == "ksbad") a = deceptive(n, random);
   else if (family == "load") a = load(n, seed);
-  else if (family == "band") a = band(n);
+  else if (family == "band" || family == "bandi") a = band(n);
   else {
     std::fprintf(stderr, "generate: no such family\n");
     return 2;

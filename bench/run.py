@@ -1,16 +1,18 @@
 #!/usr/bin/env python3
-"""Runs `btf rank` or `btf analyse` and what Debian packages for the same job on the same files, interleaved, and prints
-a table.
+"""Runs `btf rank`, `btf analyse` or `btf diagonal` and what Debian packages for the same job on the same files,
+interleaved, and prints a table.
 
-    apt-get install g++ libsuitesparse-dev libigraph-dev python3-scipy
-    bench/run.py --btf crates/btf/out/btf [--job analyse] [--work DIR] [--entries 100000,1000000] [--families er27,grid2d]
-                 [--repeats 3] [--peers cxsparse,suitesparse,igraph,scipy] [--limit SECONDS] [--clock processor]
+    apt-get install g++ libsuitesparse-dev libigraph-dev libmumps-seq-dev python3-scipy
+    bench/run.py --btf crates/btf/out/btf [--job analyse|diagonal] [--work DIR] [--entries 100000,1000000]
+                 [--families er27,grid2d] [--repeats 3] [--peers cxsparse,suitesparse] [--limit SECONDS]
+                 [--clock processor]
 
-Files, programs and outputs go to DIR (by default bench-work in the system's folder for temporary files). Times are those
-of whole processes, from a file in the page cache to a text in a file: the median of the repeats, by the wall clock, or
-by processor seconds where the machine is busy. Every program writes the text of `btf rank`, or one with the numbers of
-`btf analyse`; a difference is told and makes the exit status 1. Ratios of one run compare programs; single times compare
-nothing.
+Families, sizes and peers are those of the job where none are named. A peer whose package is missing drops out. Files,
+programs and outputs go to DIR (by default bench-work in the system's folder for temporary files). Times are those of
+whole processes, from a file in the page cache to a text in a file: the median of the repeats, by the wall clock, or by
+processor seconds where the machine is busy. Every program writes the text of `btf rank`, or one with the numbers of
+`btf analyse`, or a diagonal with the sum of `btf diagonal`; a difference is told and makes the exit status 1. Ratios of
+one run compare programs; single times compare nothing.
 """
 import argparse
 import os
@@ -34,16 +36,35 @@ COLUMNS = {
     "fewg": 1 / 5,
     "load": 1 / 3,
     "ksbad": 1 / 11,
+    "er12i": 1 / 13,
+    "circuiti": 0.29,
+    "bandi": 1 / 11,
+}
+PATTERNS = "er27,er10,rmat,grid2d,circuit,hilo,fewg,load,ksbad"
+
+# job: its families, how many entries, and its peers
+JOBS = {
+    "rank": (PATTERNS, "100000,1000000", "cxsparse,suitesparse,igraph,scipy"),
+    "analyse": (PATTERNS, "100000,1000000", "cxsparse,suitesparse"),
+    "diagonal": ("er12i,circuiti,bandi", "20000,200000,2000000", "mumps,scipy"),
+}
+
+# program: what it is linked with
+COMPILED = {
+    "generate": [],
+    "peers": ["-lcxsparse", "-lbtf", "-ligraph"],
+    "mumps_diagonal": ["-ldmumps_seq"],
 }
 
 
-def build(work):
-    """The generator and the peers, compiled where they are older than their source."""
-    for name, libraries in (("generate", []), ("peers", ["-lcxsparse", "-lbtf", "-ligraph"])):
+def build(work, job):
+    """The generator and the job's peers, compiled where they are older than their source."""
+    for name in ["generate", "mumps_diagonal" if job == "diagonal" else "peers"]:
         program, source = os.path.join(work, name), os.path.join(HERE, name + ".cpp")
-        if os.path.exists(program) and os.path.getmtime(program) > os.path.getmtime(source):
+        newest = max(os.path.getmtime(path) for path in (source, os.path.join(HERE, "columns.hpp")))
+        if os.path.exists(program) and os.path.getmtime(program) > newest:
             continue
-        done = subprocess.run(["g++", "-O3", "-std=c++17", "-o", program, source] + libraries)
+        done = subprocess.run(["g++", "-O3", "-std=c++17", "-o", program, source] + COMPILED[name])
         if done.returncode != 0 and name == "generate":
             sys.exit("run.py: the generator does not compile")
 
@@ -66,15 +87,22 @@ def scipy_python():
     return None
 
 
+def peer_command(work, job, peer):
+    """How a peer does the job, or none where its package is missing."""
+    if peer == "scipy":
+        python = scipy_python()
+        return [python, os.path.join(HERE, f"scipy_{job}.py")] if python else None
+    command = [os.path.join(work, "mumps_diagonal")] if peer == "mumps" else [os.path.join(work, "peers"), job, peer]
+    return command if os.path.exists(command[0]) else None
+
+
 def programs(options):
     found = {"btf": [options.btf, options.job]}
+    known = JOBS[options.job][2].split(",")
     for peer in options.peers.split(","):
-        if peer == "scipy":
-            python = scipy_python()
-            if python and options.job == "rank":
-                found[peer] = [python, os.path.join(HERE, "scipy_rank.py")]
-        elif os.path.exists(os.path.join(options.work, "peers")) and not (options.job == "analyse" and peer == "igraph"):
-            found[peer] = [os.path.join(options.work, "peers"), options.job, peer]
+        command = peer_command(options.work, options.job, peer) if peer in known else None
+        if command:
+            found[peer] = command
     return found
 
 
@@ -85,9 +113,11 @@ def counts(text):
 
 
 def agree(job, text, other):
-    """Whether a peer's text is the same, or for `analyse` each count that it tells."""
+    """Whether a peer's text is the same, or each count of `analyse` that it tells, or the sum of `diagonal`."""
     if job == "rank":
         return text == other
+    if job == "diagonal":
+        return text.split(b"\n", 1)[0] == other.split(b"\n", 1)[0]
     mine = counts(text)
     return all(mine.get(word) == line for word, line in counts(other).items())
 
@@ -107,17 +137,21 @@ def once(command, path, out, limit, clock):
 def main():
     parser = argparse.ArgumentParser(description=__doc__, formatter_class=argparse.RawDescriptionHelpFormatter)
     parser.add_argument("--btf", required=True)
-    parser.add_argument("--job", choices=["rank", "analyse"], default="rank")
+    parser.add_argument("--job", choices=list(JOBS), default="rank")
     parser.add_argument("--clock", choices=["wall", "processor"], default="wall")
     parser.add_argument("--work", default=os.path.join(tempfile.gettempdir(), "bench-work"))
-    parser.add_argument("--entries", default="100000,1000000")
-    parser.add_argument("--families", default=",".join(COLUMNS))
-    parser.add_argument("--peers", default="cxsparse,suitesparse,igraph,scipy")
+    parser.add_argument("--entries")
+    parser.add_argument("--families")
+    parser.add_argument("--peers")
     parser.add_argument("--repeats", type=int, default=3)
     parser.add_argument("--limit", type=int, default=30)
     options = parser.parse_args()
+    families, entries, peers = JOBS[options.job]
+    options.families = options.families or families
+    options.entries = options.entries or entries
+    options.peers = options.peers or peers
     os.makedirs(options.work, exist_ok=True)
-    build(options.work)
+    build(options.work, options.job)
     tools = programs(options)
     print("| file | entries | " + " | ".join(f"{name} ns" for name in tools) + " | ratio to the best | btf bytes an entry |")
     print("|---|---|" + "---|" * (len(tools) + 2))
