@@ -2,8 +2,8 @@
 //
 //   generate FAMILY COLUMNS SEED [VALUES] > file.mtx
 //
-// With VALUES the file is an integer file with values from 1 to VALUES, else a pattern file; er12i, circuiti and bandi are
-// integer files also without it, and have a diagonal without a hole. Entries stand by column, then by row, each once.
+// With VALUES the file is an integer file with values from 1 to VALUES, else a pattern file; er12i, circuiti and bandi
+// are integer files also without it, and have a diagonal without a hole. Entries stand by column, then by row, each once.
 // Rows and columns have random names where the family has a structure that names would give away.
 #include <algorithm>
 #include <cstdint>

@@ -2,8 +2,8 @@
 //
 //   mumps_diagonal < file.mtx
 //
-// What is called is the step of MUMPS that permutes a matrix to the largest sum of magnitudes on its diagonal, after MC64
-// by Duff and Koster (2001). It computes in doubles, so the answer is exact while no sum comes to 2^53.
+// What is called is the step of MUMPS that permutes a matrix to the largest sum of magnitudes on its diagonal, after
+// MC64 by Duff and Koster (2001). It computes in doubles, so the answer is exact while no sum comes to 2^53.
 #include <algorithm>
 #include <cmath>
 #include <cstdint>
@@ -13,13 +13,14 @@
 
 #include "columns.hpp"
 
-// Costs are not negative. `row_col` gets each row's column, `pairs` how many; `row_price` and `col_price` add up to at most
-// the cost at each place, and to the cost at each pair. The first words of `by_col` and `row_price` say which of the
-// library's variants is wanted: all zero is the plain one. Places count from 1.
-extern "C" void dmumps_mtransw_(const int *rows, const int *cols, const int64_t *entries, const int64_t *start, int *row,
-                                double *cost, int *row_col, int *pairs, int64_t *by_col, int *heap_place, int64_t *tree,
-                                int64_t *path, int *heap, int64_t *best, double *row_price, double *col_price,
-                                double *infinity);
+// Costs are not negative. `row_col` gets each row's column, `pairs` how many; `row_price` and `col_price` add up to at
+// most the cost at each place, and to the cost at each pair. Before the call the first word of `by_col` says which of
+// the library's variants is wanted (0: the plain one), and the first two of `row_price` how far from the best the answer
+// may be (0: not at all) and what counts as no bound. Rows and columns count from 1.
+extern "C" void dmumps_mtransw_(const int *rows, const int *cols, const int64_t *entries, const int64_t *start,
+                                int *row, double *cost, int *row_col, int *pairs, int64_t *by_col, int *heap_place,
+                                int64_t *tree, int64_t *path, int *heap, int64_t *best, double *row_price,
+                                double *col_price, double *infinity);
 
 // The library wants the entries and their starts counted from 1, and costs to be minimised: by how much an entry is
 // lighter than its column's heaviest.

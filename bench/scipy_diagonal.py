@@ -1,6 +1,6 @@
-"""The heaviest diagonal of a square Matrix Market integer file by SciPy's sparse assignment (after Jonker and Volgenant),
-in the first lines that `btf diagonal` writes; SciPy tells no prices. NumPy reads the numbers, in a quarter of the time that
-SciPy's own reader takes, so the file may have comments only before its size line."""
+"""The heaviest diagonal of a square Matrix Market integer file by SciPy's sparse assignment (after Jonker and
+Volgenant), in the first lines that `btf diagonal` writes; SciPy tells no prices. NumPy reads the numbers, faster than
+SciPy's own reader, so the file may have comments only before its size line."""
 import sys
 
 import numpy
