@@ -5,6 +5,7 @@ pub mod Duality
 pub mod Extending
 pub mod Growing
 pub mod Keeping
+pub mod Levels
 pub mod Popped
 pub mod Raising
 pub mod Rising
