@@ -1,5 +1,5 @@
 -- How `diagonal` ends, from what it answers.
-use Rattle.std.proofs.Common.{◌≡◌, ◌∙◌, ◌<◌, ℕ, List, arith, inl, inr, refl, subst, sym}
+use Rattle.std.proofs.Common.{◌≡◌, ◌∙◌, ◌<◌, ◌⊎◌, ℕ, List, arith, inl, inr, refl, subst, sym}
 use Rattle.bip_defs.specs.Matching.{IsRank}
 use Rattle.bip_defs.specs.Matrix.{AreEntries, Matrix, cols}
 use Rattle.bip_defs.proofs.Uniqueness.{same_matrix, same_rank}
@@ -48,6 +48,7 @@ pub comes_to_diagonal : (t : Entries) (a : Matrix) (answer : Answer) (text : Lis
 comes_to_diagonal t a answer text status of h ends = record {
   needs_integer = λ not. absurd (not h.integer);
   past = λ integer r c past. let within = h.are_weights.within r c in absurd (omega (arith, within, past));
+  comes = λ integer within. either answer ends;
   rectangular = λ integer within b of_b not. ended Negative (none_rectangular h.weighing h.heaviest h.is_heaviest (λ e. not (subst (λ (x : Matrix). x.rows ≡ cols x) (same b of_b) e)));
   singular = λ integer within b k of_b rank below. ended Negative
       (none_singular h.weighing h.heaviest k h.is_heaviest (subst (λ (x : Matrix). IsRank x k) (sym (same b of_b)) rank) (subst (λ (x : Matrix). k < cols x) (sym (same b of_b)) below));
@@ -58,6 +59,11 @@ comes_to_diagonal t a answer text status of h ends = record {
     same : (b : Matrix) → IsMatrixOf t b → h.weighing.matrix ≡ b
     same b of_b = h.are_weights.matrix_is ∙ same_matrix _ _ _ a b of of_b
 
+    either : (x : Answer) → IsOrNoMemory status (status_of_answer x) → (status ≡ statuses.Negative) ⊎ IsOrNoMemory status statuses.Ok
+    either Positive e = inr e
+    either Negative (inl is) = inl is
+    either Negative (inr none) = inr (inr none)
+
     ended : (wanted : Answer) → answer_on h.heaviest ≡ wanted → IsOrNoMemory status (status_of_answer wanted)
     ended wanted is = subst (λ (x : Answer). IsOrNoMemory status (status_of_answer x)) (h.answer_is ∙ is) ends
 
@@ -66,6 +72,7 @@ pub no_diagonal_memory : (t : Entries) (status : Status) → status ≡ statuses
 no_diagonal_memory t status said = record {
   needs_integer = λ not. inr said;
   past = λ integer r c past. inr said;
+  comes = λ integer within. inr (inr said);
   rectangular = λ integer within a of not. inr said;
   singular = λ integer within a k of rank below. inr said;
   full = λ integer within a of square rank. inr said;
@@ -76,6 +83,7 @@ pub past_ends : (t : Entries) (r c : ℕ) (status : Status) → status ≡ statu
 past_ends t r c status said integer first = record {
   needs_integer = λ not. absurd (not integer);
   past = λ _ s d past. inl said;
+  comes = λ _ within. absurd (too_large within);
   rectangular = λ _ within a of not. absurd (too_large within);
   singular = λ _ within a k of rank below. absurd (too_large within);
   full = λ _ within a of square rank. absurd (too_large within);
@@ -89,6 +97,7 @@ pub needs_ends : (t : Entries) (status : Status) → status ≡ statuses.NeedsIn
 needs_ends t status said not = record {
   needs_integer = λ _. inl said;
   past = λ integer r c past. absurd (not integer);
+  comes = λ integer within. absurd (not integer);
   rectangular = λ integer within a of other. absurd (not integer);
   singular = λ integer within a k of rank below. absurd (not integer);
   full = λ integer within a of square rank. absurd (not integer);

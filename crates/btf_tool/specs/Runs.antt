@@ -164,6 +164,7 @@ IsWithin t = (r c : ℕ) → weight_of t r c ≤ weight_limit
 pub record ComesToDiagonal (t : Entries) (status : Status) : Type 0 where
   pub needs_integer : ¬ (t.field ≡ Integer) → IsOrNoMemory status statuses.NeedsInteger
   pub past : t.field ≡ Integer → (r c : ℕ) → weight_limit < weight_of t r c → IsOrNoMemory status statuses.Limit
+  pub comes : t.field ≡ Integer → IsWithin t → (status ≡ statuses.Negative) ⊎ IsOrNoMemory status statuses.Ok
   pub rectangular : t.field ≡ Integer → IsWithin t → (a : Matrix) → IsMatrixOf t a → ¬ (a.rows ≡ cols a) → IsOrNoMemory status statuses.Negative
   pub singular : t.field ≡ Integer → IsWithin t → (a : Matrix) (k : ℕ) → IsMatrixOf t a → IsRank a k → k < cols a → IsOrNoMemory status statuses.Negative
   pub full : t.field ≡ Integer → IsWithin t → (a : Matrix) → IsMatrixOf t a → a.rows ≡ cols a → IsRank a (cols a) → IsOrNoMemory status statuses.Ok
