@@ -5,14 +5,15 @@ interleaved, and prints a table.
     apt-get install g++ libsuitesparse-dev libigraph-dev libmumps-seq-dev python3-scipy
     bench/run.py --btf crates/btf/out/btf [--job analyse|diagonal] [--work DIR] [--entries 100000,1000000]
                  [--families er27,grid2d] [--repeats 3] [--peers cxsparse,suitesparse] [--limit SECONDS]
-                 [--clock processor]
+                 [--clock processor] [--other NAME=COMMAND]
 
-Families, sizes and peers are those of the job where none are named. A peer whose package is missing drops out. Files,
-programs and outputs go to DIR (by default bench-work in the system's folder for temporary files). Times are those of
-whole processes, from a file in the page cache to a text in a file: the median of the repeats, by the wall clock, or by
-processor seconds where the machine is busy. Every program writes the text of `btf rank`, or one with the numbers of
-`btf analyse`, or a diagonal with the sum of `btf diagonal`; a difference is told and makes the exit status 1. Ratios of
-one run compare programs; single times compare nothing.
+Families, sizes and peers are those of the job where none are named. A peer whose package is missing drops out; --other
+adds a program of your own, in whose COMMAND the word JOB stands for the job. Files, programs and outputs go to DIR (by
+default bench-work in the system's folder for temporary files). Times are those of whole processes, from a file in the
+page cache to a text in a file: the median of the repeats, by the wall clock, or by processor seconds where the machine
+is busy. Every program writes the text of `btf rank`, or one with the numbers of `btf analyse`, or a diagonal with the
+sum of `btf diagonal`; a difference is told and makes the exit status 1. Ratios of one run compare programs, and stand
+there against the fastest packaged peer; single times compare nothing.
 """
 import argparse
 import os
@@ -45,7 +46,7 @@ PATTERNS = "er27,er10,rmat,grid2d,circuit,hilo,fewg,load,ksbad"
 # job: its families, how many entries, and its peers
 JOBS = {
     "rank": (PATTERNS, "100000,1000000", "cxsparse,suitesparse,igraph,scipy"),
-    "analyse": (PATTERNS, "100000,1000000", "cxsparse,suitesparse"),
+    "analyse": (PATTERNS, "100000,1000000", "cxsparse,suitesparse,scipy"),
     "diagonal": ("er12i,circuiti,bandi", "20000,200000,2000000", "mumps,scipy"),
 }
 
@@ -91,7 +92,8 @@ def peer_command(work, job, peer):
     """How a peer does the job, or none where its package is missing."""
     if peer == "scipy":
         python = scipy_python()
-        return [python, os.path.join(HERE, f"scipy_{job}.py")] if python else None
+        script = ["scipy_diagonal.py"] if job == "diagonal" else ["scipy_pattern.py", job]
+        return [python, os.path.join(HERE, script[0])] + script[1:] if python else None
     command = [os.path.join(work, "mumps_diagonal")] if peer == "mumps" else [os.path.join(work, "peers"), job, peer]
     return command if os.path.exists(command[0]) else None
 
@@ -103,6 +105,9 @@ def programs(options):
         command = peer_command(options.work, options.job, peer) if peer in known else None
         if command:
             found[peer] = command
+    for other in options.other:
+        name, command = other.split("=", 1)
+        found[name] = [options.job if word == "JOB" else word for word in command.split()]
     return found
 
 
@@ -143,6 +148,7 @@ def main():
     parser.add_argument("--entries")
     parser.add_argument("--families")
     parser.add_argument("--peers")
+    parser.add_argument("--other", action="append", default=[])
     parser.add_argument("--repeats", type=int, default=3)
     parser.add_argument("--limit", type=int, default=30)
     options = parser.parse_args()
@@ -153,7 +159,7 @@ def main():
     os.makedirs(options.work, exist_ok=True)
     build(options.work, options.job)
     tools = programs(options)
-    print("| file | entries | " + " | ".join(f"{name} ns" for name in tools) + " | ratio to the best | btf bytes an entry |")
+    print("| file | entries | " + " | ".join(f"{name} ns" for name in tools) + " | ratio to the best peer | btf bytes an entry |")
     print("|---|---|" + "---|" * (len(tools) + 2))
     differs = False
     for family in options.families.split(","):
@@ -181,8 +187,8 @@ def main():
                     print(f"run.py: {name} and btf differ on {path}", file=sys.stderr)
                     differs = True
             median = {name: statistics.median(ts) for name, ts in times.items() if ts}
-            others = [t for name, t in median.items() if name != "btf"]
-            ratio = f"{median['btf'] / min(others):.2f}" if others and "btf" in median else "-"
+            packaged = [t for name, t in median.items() if name in JOBS[options.job][2].split(",")]
+            ratio = f"{median['btf'] / min(packaged):.2f}" if packaged and "btf" in median else "-"
             cells = [f"{median[name] * 1e9 / entries:.0f}" if name in median else "-" for name in tools]
             peak = f"{peaks['btf'] / entries:.0f}" if "btf" in peaks else "-"
             print(f"| {family} | {entries} | " + " | ".join(cells) + f" | {ratio} | {peak} |", flush=True)

@@ -1,8 +1,8 @@
 """The heaviest diagonal of a square Matrix Market integer file by SciPy's sparse assignment (after Jonker and
-Volgenant), in the first lines that `btf diagonal` writes; SciPy tells no prices. NumPy reads the numbers, faster than
-SciPy's own reader, so the file may have comments only before its size line."""
+Volgenant), in the first lines that `btf diagonal` writes; SciPy tells no prices."""
 import sys
 
+import matrix_market
 import numpy
 from scipy.sparse import coo_matrix
 from scipy.sparse.csgraph import min_weight_full_bipartite_matching
@@ -10,13 +10,9 @@ from scipy.sparse.csgraph import min_weight_full_bipartite_matching
 
 def read(stream):
     """The weights of a file: at each place the magnitude of the sum of its values."""
-    line = stream.readline()
-    while line.startswith(b"%"):
-        line = stream.readline()
-    rows, columns, count = (int(word) for word in line.split())
-    numbers = numpy.fromstring(stream.read(), dtype=numpy.int64, sep=" ").reshape(count, 3)
-    places = (numbers[:, 0].astype(numpy.int32) - 1, numbers[:, 1].astype(numpy.int32) - 1)
-    return abs(coo_matrix((numbers[:, 2], places), shape=(rows, columns)).tocsr())
+    shape, numbers = matrix_market.read(stream, 3)
+    rows, columns = numbers[:, :2].astype(numpy.int32).T
+    return abs(coo_matrix((numbers[:, 2], (rows, columns)), shape=shape).tocsr())
 
 
 weights = read(sys.stdin.buffer)
