@@ -32,7 +32,7 @@ pub struct Decomposition {
 pub enum Heaviest {
     /// The matrix has not as many rows as columns.
     Rectangular,
-    /// No perfect matching: the rank, and columns that have too few neighbours.
+    /// No perfect matching: the rank, and the columns that some maximum matching misses, rising.
     Singular {
         rank: u32,
         hall: Vec<Col>,

@@ -146,7 +146,7 @@ impl Matching {
     /// Exchanges an augmenting path, given in order from its unmatched column to its unmatched row: each listed pair is
     /// matched afterwards, the other rows keep their mates, and no vertex loses its mate without a new one.
     ///
-    /// Takes no memory. Work: four writes for each pair of the path.
+    /// Takes no memory. Work: three writes at most for each pair of the path.
     pub fn flip(&mut self, path: &[(Row, Col)])
         requires in_range { (r c : ℕ) → Among (r, c) path.now → (r < self.old.rows) × (c < self.old.cols) }
         requires path { IsAugmenting self.old.pairs path.now }

@@ -7,7 +7,7 @@ pub enum Engine {
     Plain,
     /// One search from each unmatched column (Duff 1981), from the Karp-Sipser start.
     Mc21,
-    /// Phases of disjoint augmenting paths (Pothen and Fan 1990), from the Karp-Sipser start.
+    /// Phases of searches from all unmatched columns (Pothen and Fan 1990), from the Karp-Sipser start.
     Pf,
 }
 

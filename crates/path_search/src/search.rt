@@ -230,7 +230,8 @@ impl Search {
 
     /// Searches from an unmatched column, and exchanges the augmenting path that it finds. Whether it found one.
     ///
-    /// The search is depth-first with look-ahead, through rows that are not marked, and marks each row that it goes to.
+    /// The search is depth-first with look-ahead, through rows that are not marked, and marks each row that it goes down
+    /// over. An unmatched row that look-ahead finds ends the path and is not marked.
     /// Where `turned` holds, each column's list is read from its end. Work: the entries of the columns that it comes to,
     /// and of all look-aheads together each entry once.
     pub fn augment(

@@ -79,7 +79,7 @@ impl Phases {
         self.turned = !self.turned;
     }
 
-    // Turns to the other kind after a phase that matched less than half of the unmatched columns.
+    // Turns to the other kind after a phase that matched less than half of the unmatched columns, rounded down.
     fn choose(&mut self, growth: u32, unmatched: u32)
         ensures { self.new ≡ record self.old { breadth_first = self.new.breadth_first } }
     {

@@ -1,16 +1,18 @@
-//! Maximum matchings by phases of searches along vertex-disjoint paths.
+//! Maximum matchings by phases of searches for augmenting paths.
 //!
-//! A depth-first phase, after Pothen and Fan (1990), searches once from each unmatched column, and goes to each row at most
-//! once, so it is one pass over the entries. Each column's list is looked through for an unmatched row before the search
-//! goes deeper, from where the last look-ahead ended: rows that were found matched stay matched. Phases turn the direction
-//! in which lists are read (Azad, Halappanavar, Rajamanickam, Boman, Khan and Pothen 2012).
+//! A depth-first phase, after Pothen and Fan (1990), searches once from each unmatched column, and goes down over each row
+//! at most once. Each column's list is looked through for an unmatched row before the search goes deeper, from where the
+//! last look-ahead ended: rows that were found matched stay matched. So a phase is at most two passes over the entries. A
+//! row that was found by look-ahead may be gone over by a later search of the phase, so unlike theirs the paths of a phase
+//! need not be disjoint. Phases turn the direction in which lists are read (Azad, Halappanavar, Rajamanickam, Boman, Khan
+//! and Pothen 2012).
 //!
 //! A breadth-first phase grows a tree from each unmatched column, all of them side by side and each until it finds an
 //! unmatched row (Azad, Buluç and Pothen 2017, whose trees are grafted between phases and here grow anew). Its paths are
 //! short, but unlike those of Hopcroft and Karp (1973) they need not be the shortest, nor as many as there can be.
 //!
 //! Depth-first phases are few where most of them find many paths, breadth-first phases where few columns are left whose
-//! paths are long. So after a phase that has matched less than half of the unmatched columns the next is of the other kind.
+//! paths are long. So after a phase that has matched less than half of the unmatched columns, rounded down, the next is of the other kind.
 #![tactic(auto)]
 
 mod kinds;
@@ -35,7 +37,7 @@ use std::alloc::Global;
 ///
 /// The matching must be of the pattern's entries and sizes, and no row or column loses its mate without a new one. Answers
 /// `OutOfMemory` where there is no memory for 17 bytes a row, 4 a column and 4 an unmatched column; the matching is as
-/// before then. Work: one pass over the entries.
+/// before then. Work: at most two passes over the entries, one of look-ahead and one of the searches.
 pub fn phase(alloc: Global, pattern: &Pattern, matching: &mut Matching) -> Result<u32, OutOfMemory>
     requires rows { matching.old.rows ≡ pattern.now.rows }
     requires cols { matching.old.cols ≡ cols pattern.now }
@@ -58,7 +60,7 @@ pub fn phase(alloc: Global, pattern: &Pattern, matching: &mut Matching) -> Resul
 /// A maximum matching, in which every row and column that was matched before is matched.
 ///
 /// The matching must be of the pattern's entries and sizes. Answers `OutOfMemory` where there is no memory for 26 bytes a
-/// row, 16 a column and 4 an unmatched column; the matching is dropped then. Work: one pass over the entries for each
+/// row, 16 a column and 4 an unmatched column; the matching is dropped then. Work: at most two passes over the entries for each
 /// phase, of which all but the last make the matching larger.
 pub fn complete(
     alloc: Global,
