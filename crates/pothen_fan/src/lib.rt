@@ -12,7 +12,8 @@
 //! short, but unlike those of Hopcroft and Karp (1973) they need not be the shortest, nor as many as there can be.
 //!
 //! Depth-first phases are few where most of them find many paths, breadth-first phases where few columns are left whose
-//! paths are long. So after a phase that has matched less than half of the unmatched columns, rounded down, the next is of the other kind.
+//! paths are long. So after a phase that has matched less than half of the unmatched columns, rounded down, the next is of
+//! the other kind.
 #![tactic(auto)]
 
 mod kinds;
@@ -60,8 +61,8 @@ pub fn phase(alloc: Global, pattern: &Pattern, matching: &mut Matching) -> Resul
 /// A maximum matching, in which every row and column that was matched before is matched.
 ///
 /// The matching must be of the pattern's entries and sizes. Answers `OutOfMemory` where there is no memory for 26 bytes a
-/// row, 16 a column and 4 an unmatched column; the matching is dropped then. Work: at most two passes over the entries for each
-/// phase, of which all but the last make the matching larger.
+/// row, 16 a column and 4 an unmatched column; the matching is dropped then. Work: at most two passes over the entries
+/// for each phase, of which all but the last make the matching larger.
 pub fn complete(
     alloc: Global,
     pattern: &Pattern,

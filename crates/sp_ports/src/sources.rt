@@ -31,8 +31,8 @@ impl Model for MemSource {
 }
 
 impl MemSource {
-    /// A source of these bytes that gives at most `piece` of them in a call, which must be 1 at least. The calls whose numbers, from 0, are in
-    /// `failing` fail. It takes no memory.
+    /// A source of these bytes that gives at most `piece` of them in a call, which must be 1 at least. The calls whose
+    /// numbers, from 0, are in `failing` fail. It takes no memory.
     pub fn new(bytes: Vec<u8>, piece: usize, failing: Vec<u64>) -> MemSource
         requires { 0 < piece }
         ensures { result ≡ record { left = bytes.items; piece = piece; failing = failing.items; next = 0; failed = 0 } }
@@ -109,7 +109,8 @@ impl Model for SteadySource {
 }
 
 impl SteadySource {
-    /// A source of these bytes that gives at most `piece` of them in a call, which must be 1 at least. It takes no memory.
+    /// A source of these bytes that gives at most `piece` of them in a call, which must be 1 at least. It takes no
+    /// memory.
     pub fn new(bytes: Vec<u8>, piece: usize) -> SteadySource
         requires { 0 < piece }
         ensures { result ≡ record { left = bytes.items; piece = piece } }
