@@ -1,6 +1,7 @@
 pub mod AfterLaws
 pub mod Calls
 pub mod CompleteLaws
+pub mod EightDigits
 pub mod EndLaws
 pub mod Exits
 pub mod FeedLaws
@@ -8,6 +9,7 @@ pub mod Judges
 pub mod Lacking
 pub mod LineSteps
 pub mod Lookups
+pub mod Masks
 pub mod Numbers
 pub mod PlainLaws
 pub mod PlainSteps

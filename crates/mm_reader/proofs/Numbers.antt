@@ -9,11 +9,11 @@ use Rattle.mm_defs.specs.Numbers.{value, bare}
 use Rattle.mm_reader.specs.declared.number.Number.{Number}
 use Rattle.mm_reader.specs.Tokens.{capped, number_facts, next_number}
 
-and_left : (a b : Bool) → (a && b) ≡ true → a ≡ true
+pub and_left : (a b : Bool) → (a && b) ≡ true → a ≡ true
 and_left true b h = refl
 and_left false b h = h
 
-and_right : (a b : Bool) → (a && b) ≡ true → b ≡ true
+pub and_right : (a b : Bool) → (a && b) ≡ true → b ≡ true
 and_right true b h = h
 and_right false b h = absurd cc
 

@@ -7,3 +7,4 @@ pub mod Standing
 pub mod Windows
 pub mod Inputs
 pub mod Plain
+pub mod Places

@@ -3,9 +3,11 @@
 
 mod input;
 mod judge;
+mod lanes;
 mod line;
 mod machine;
 mod number;
+mod places;
 mod plain;
 mod reader;
 mod rest;

@@ -1,9 +1,9 @@
-use Rattle.std.proofs.Common.{arith}
 use Rattle.mm_reader.proofs.PlainLaws.{plain_found}
 use Rattle.mm_reader.proofs.plain.plain_line.Goals as goal
 
 pub returns : goal.returns
 returns c =
-    plain_found c.args.bytes.now c.args.from c.digits-row.result.1 c.blanks-col_start.result c.digits-col.result.1 c.blanks-end.result c.digits-row.result.0 c.digits-col.result.0
-    c.digits-row.ensures c.if-row_end-from.false c.blanks-col_start.ensures c.if-col_start-row_end.false c.digits-col.ensures c.if-col_end-col_start.false c.blanks-end.ensures
-    (let w = c.blanks-end.ensures.within in omega (arith, c.if-end-bytes.false)) c.if-bytes-end-ne10.false
+    let p = c.in-Some.ensures in
+    let e = c.in-Some-line_end.ensures in
+    plain_found c.args.bytes.now c.args.from p.row_end p.col_start c.in-Some.place.end c.in-Some-line_end.end c.in-Some.place.row c.in-Some.place.col
+    p.row_digits p.row_some p.blanks p.apart p.col_digits p.col_some e.blanks e.within e.lf

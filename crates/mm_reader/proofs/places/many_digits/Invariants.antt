@@ -1,10 +1,9 @@
 use Rattle.std.proofs.Common.{◌-◌, length}
-use Rattle.mm_defs.specs.Words.{is_blank}
-use Rattle.mm_reader.specs.Plain.{IsRun}
-use Rattle.mm_reader.proofs.plain.blanks.Given as goal
+use Rattle.mm_reader.specs.Plain.{IsDigits}
+use Rattle.mm_reader.proofs.places.many_digits.Given as goal
 
 abbrev pub invariant-loop-at : goal.invariant-loop-at
-invariant-loop-at l = IsRun is_blank l.bytes l.from l.at
+invariant-loop-at l = IsDigits l.bytes l.from l.at l.value
 
 abbrev pub decreases-loop-at : goal.decreases-loop-at
 decreases-loop-at l = length l.bytes - l.at
