@@ -16,5 +16,6 @@ pub mod PlainSteps
 pub mod RestLaws
 pub mod StepLaws
 pub mod StreamLaws
+pub mod ValueWords
 pub mod WindowLaws
 pub mod Words

@@ -1,5 +1,5 @@
 -- Runs of bytes, and entry lines of the usual form.
-use Rattle.std.proofs.Common.{◌≡◌, ◌≢◌, ℕ, ◌+◌, ◌-◌, ◌*◌, ◌<◌, ◌≤◌, Bool, true, false, not, ◌&&◌, ◌==◌, List, [], ◌∷◌, ◌++◌, length, take, drop, get_or, refl, sym, ap, ◌∙◌, arith, append-nil, append_assoc, length-drop, take-append-drop, drop-drop, get_or-drop, take-add, filter, length-take, length-take-le, leb-true, eqb-true, ne_eqb, ◌^◌}
+use Rattle.std.proofs.Common.{◌≡◌, ◌≢◌, ℕ, ◌+◌, ◌-◌, ◌*◌, ◌<◌, ◌≤◌, Bool, true, false, not, ◌&&◌, ◌==◌, List, [], ◌∷◌, ◌++◌, length, take, drop, get_or, refl, sym, ap, ◌∙◌, arith, append-nil, append_assoc, length-drop, take-append-drop, drop-drop, get_or-drop, take-add, filter, length-take, length-take-le, leb-true, eqb-true, eq-eqb, ne_eqb, ◌^◌, Some, Result}
 use Rattle.std.specs.List.{list_all}
 use Rattle.std.specs.Char.{is_ascii_digit}
 use Rattle.std.specs.Str.{all_ascii_digits}
@@ -9,22 +9,31 @@ use Rattle.std.proofs.lemmas.Int.Digits.{digits_value_push}
 use Rattle.std.proofs.lemmas.Str.Parse.{digits_value_short, numerals_by_value, tells_all_ascii_digits}
 use Rattle.std.specs.List.{slice_split}
 use Rattle.sp_ids.specs.declared.triples.Field.{Field}
-use Rattle.sp_ids.specs.declared.triples.Field.TheVariants.{Real, Complex, Integer, Pattern}
+use Rattle.mm_defs.specs.declared.header.Header.{Header}
+use Rattle.mm_defs.specs.declared.header.Size.{Size}
+use Rattle.mm_defs.specs.declared.kinds.Kind.{Kind}
 use Rattle.mm_defs.specs.Header.{value_words, is_integer_field}
-use Rattle.mm_defs.specs.Words.{is_lf, is_blank, has_bytes, words, lines, open_line, but_last, last_part, is_skipped}
+use Rattle.mm_defs.specs.Faults.{place_rules, entry_rules}
+use Rattle.mm_defs.specs.File.{triple, triple_at}
+use Rattle.mm_defs.specs.Words.{Word, is_lf, is_blank, has_bytes, word, words, lines, open_line, but_last, last_part, is_skipped}
 use Rattle.mm_defs.proofs.Splitting.{split-append, but_last-append, last_part-append}
 use Rattle.mm_defs.proofs.Lines.{lines-push_lf, open_line-push_lf}
 use Rattle.mm_defs.specs.Numbers.{value, unsigned, is_number, number}
-use Rattle.mm_reader.specs.Tokens.{capped}
-use Rattle.mm_reader.proofs.Words.{words-none}
-use Rattle.mm_reader.specs.Plain.{between, IsRun, IsDigits, IsPlainLine}
+use Rattle.mm_reader.specs.declared.judge.Entry.{Entry}
+use Rattle.mm_reader.specs.declared.number.Integer.{Integer}
+use Rattle.mm_reader.specs.declared.plain.PlainLine.{PlainLine}
+use Rattle.mm_reader.specs.Judging.{JudgedEntry}
+use Rattle.mm_reader.specs.Tokens.{capped, ReadsInteger}
+use Rattle.mm_reader.specs.Plain.{between, is_inner, is_visible, stands_apart, IsRun, IsDigits, IsNextLine, HasValues, IsPlainLine}
+use Rattle.mm_reader.proofs.Judges.{entry_judged}
+use Rattle.mm_reader.proofs.Words.{words-none, words-blank}
 use Rattle.mm_reader.proofs.Numbers.{all_ascii_digits-push, digit_at}
 
-and_left : (a b : Bool) → (a && b) ≡ true → a ≡ true
+pub and_left : (a b : Bool) → (a && b) ≡ true → a ≡ true
 and_left true b h = refl
 and_left false b h = h
 
-and_right : (a b : Bool) → (a && b) ≡ true → b ≡ true
+pub and_right : (a b : Bool) → (a && b) ≡ true → b ≡ true
 and_right true b h = h
 and_right false b h = absurd cc
 
@@ -60,7 +69,7 @@ run_more sort bytes from at r low yes_it_is =
 pub digits_none : (bytes : List ℕ) (from : ℕ) → from ≤ length bytes → IsDigits bytes from from 0
 digits_none bytes from h = record { in_order = omega arith; within = h; all = rw (between-none bytes from) refl; value_is = rw (between-none bytes from) refl; small = omega arith }
 
-both_of : (a b : Bool) → a ≡ true → b ≡ true → (a && b) ≡ true
+pub both_of : (a b : Bool) → a ≡ true → b ≡ true → (a && b) ≡ true
 both_of true true x y = refl
 both_of true false x y = absurd cc
 both_of false b x y = absurd cc
@@ -111,43 +120,36 @@ no_bytes bytes from to h k e =
     let l = length-take-le (to - from) (drop from bytes) m in
     omega arith
 
--- neither blanks nor LFs; and no LFs
-abbrev visible : ℕ → Bool
-visible b = not (is_lf b) && not (is_blank b)
-
-abbrev no_lf : ℕ → Bool
-no_lf b = not (is_lf b)
-
-weaker : (p q : ℕ → Bool) → ((b : ℕ) → p b ≡ true → q b ≡ true) → (xs : List ℕ) → list_all p xs ≡ true → list_all q xs ≡ true
+pub weaker : (p q : ℕ → Bool) → ((b : ℕ) → p b ≡ true → q b ≡ true) → (xs : List ℕ) → list_all p xs ≡ true → list_all q xs ≡ true
 weaker p q f [] h = refl
 weaker p q f (x ∷ xs) h = both_of (q x) (list_all q xs) (f x (and_left (p x) (list_all p xs) h)) (weaker p q f xs (and_right (p x) (list_all p xs) h))
 
-all_append : (p : ℕ → Bool) (xs ys : List ℕ) → list_all p xs ≡ true → list_all p ys ≡ true → list_all p (xs ++ ys) ≡ true
+pub all_append : (p : ℕ → Bool) (xs ys : List ℕ) → list_all p xs ≡ true → list_all p ys ≡ true → list_all p (xs ++ ys) ≡ true
 all_append p xs ys a b = list_all-append p xs ys ∙ both_of (list_all p xs) (list_all p ys) a b
 
-digit_visible : (b : ℕ) → is_ascii_digit b ≡ true → visible b ≡ true
+digit_visible : (b : ℕ) → is_ascii_digit b ≡ true → is_visible b ≡ true
 digit_visible b h =
     let low : 48 ≤ b = leb-true _ _ (and_left _ _ h) in
     rw (ne_eqb b 10 (omega arith), ne_eqb b 32 (omega arith), ne_eqb b 9 (omega arith), ne_eqb b 13 (omega arith)) refl
 
-digits_visible : (xs : List ℕ) → all_ascii_digits xs ≡ true → list_all visible xs ≡ true
+pub digits_visible : (xs : List ℕ) → all_ascii_digits xs ≡ true → list_all is_visible xs ≡ true
 digits_visible [] h = refl
-digits_visible (x ∷ xs) h = both_of (visible x) (list_all visible xs) (digit_visible x (and_left _ _ h)) (digits_visible xs (and_right _ _ h))
+digits_visible (x ∷ xs) h = both_of (is_visible x) (list_all is_visible xs) (digit_visible x (and_left _ _ h)) (digits_visible xs (and_right _ _ h))
 
 not_true : (a : Bool) → not a ≡ true → a ≡ false
 not_true true h = absurd cc
 not_true false h = refl
 
-visible_no_lf : (b : ℕ) → visible b ≡ true → no_lf b ≡ true
-visible_no_lf b h = and_left (not (is_lf b)) (not (is_blank b)) h
+pub visible_inner : (b : ℕ) → is_visible b ≡ true → is_inner b ≡ true
+visible_inner b h = and_left (not (is_lf b)) (not (is_blank b)) h
 
-visible_no_blank : (b : ℕ) → visible b ≡ true → is_blank b ≡ false
+visible_no_blank : (b : ℕ) → is_visible b ≡ true → is_blank b ≡ false
 visible_no_blank b h = not_true (is_blank b) (and_right (not (is_lf b)) (not (is_blank b)) h)
 
-blank_no_lf : (b : ℕ) → is_blank b ≡ true → no_lf b ≡ true
-blank_no_lf b h = by (is_lf b) refl
+pub blank_inner : (b : ℕ) → is_blank b ≡ true → is_inner b ≡ true
+blank_inner b h = by (is_lf b) refl
   where
-    by : (e : Bool) → is_lf b ≡ e → no_lf b ≡ true
+    by : (e : Bool) → is_lf b ≡ e → is_inner b ≡ true
     by false e = rw e refl
     by true e = let k : b ≡ 10 = eqb-true b 10 e in let n : is_blank 10 ≡ true = rw k at h in absurd cc
 
@@ -175,31 +177,51 @@ split_first p (x ∷ xs) y ys h e =
     let k = split_first p xs y ys (and_right _ _ h) e in
     rw (f, k) refl
 
-no_blank_of : (b : ℕ) → visible b ≡ true → not (is_blank b) ≡ true
+no_blank_of : (b : ℕ) → is_visible b ≡ true → not (is_blank b) ≡ true
 no_blank_of b h = and_right (not (is_lf b)) (not (is_blank b)) h
 
-words-first : (a : ℕ) (w : List ℕ) (b : ℕ) (rest : List ℕ) → list_all visible (a ∷ w) ≡ true → is_blank b ≡ true → words ((a ∷ w) ++ b ∷ rest) ≡ (a ∷ w) ∷ words rest
+words-first : (a : ℕ) (w : List ℕ) (b : ℕ) (rest : List ℕ) → list_all is_visible (a ∷ w) ≡ true → is_blank b ≡ true → words ((a ∷ w) ++ b ∷ rest) ≡ (a ∷ w) ∷ words rest
 unfolding words
-words-first a w b rest h e = ap (filter has_bytes) (split_first is_blank (a ∷ w) b rest (weaker visible (λ x. not (is_blank x)) no_blank_of (a ∷ w) h) e)
+words-first a w b rest h e = ap (filter has_bytes) (split_first is_blank (a ∷ w) b rest (weaker is_visible (λ x. not (is_blank x)) no_blank_of (a ∷ w) h) e)
 
-words-only : (a : ℕ) (w : List ℕ) → list_all visible (a ∷ w) ≡ true → words (a ∷ w) ≡ (a ∷ w) ∷ []
+words-only : (a : ℕ) (w : List ℕ) → list_all is_visible (a ∷ w) ≡ true → words (a ∷ w) ≡ (a ∷ w) ∷ []
 unfolding words
-words-only a w h = ap (filter has_bytes) (split_none is_blank (a ∷ w) (weaker visible (λ x. not (is_blank x)) no_blank_of (a ∷ w) h))
+words-only a w h = ap (filter has_bytes) (split_none is_blank (a ∷ w) (weaker is_visible (λ x. not (is_blank x)) no_blank_of (a ∷ w) h))
 
-words-last : (a : ℕ) (w blanks : List ℕ) → list_all visible (a ∷ w) ≡ true → list_all is_blank blanks ≡ true → words ((a ∷ w) ++ blanks) ≡ (a ∷ w) ∷ []
-words-last a w [] h k = ap words (append-nil (a ∷ w)) ∙ words-only a w h
-words-last a w (b ∷ blanks) h k =
-    words-first a w b blanks h (and_left _ _ k)
-    ∙ ap (λ (t : List (List ℕ)). (a ∷ w) ∷ t) (sym (ap words (append-nil blanks)) ∙ words-skip_all blanks [] (and_right _ _ k) ∙ words-none)
+-- a word, and what stands apart from it
+words-word : (w rest : List ℕ) → has_bytes w ≡ true → list_all is_visible w ≡ true → stands_apart rest ≡ true → words (w ++ rest) ≡ w ∷ words rest
+words-word [] rest s v h = absurd cc
+words-word (a ∷ w) [] s v h = ap words (append-nil (a ∷ w)) ∙ words-only a w v ∙ ap (λ (t : List (List ℕ)). (a ∷ w) ∷ t) (sym words-none)
+words-word (a ∷ w) (b ∷ rest) s v h = words-first a w b rest v h ∙ ap (λ (t : List (List ℕ)). (a ∷ w) ∷ t) (sym (words-skip b rest h))
 
-two_words : (w1 b1 w2 b2 : List ℕ) → has_bytes w1 ≡ true → has_bytes b1 ≡ true → has_bytes w2 ≡ true
-    → list_all visible w1 ≡ true → list_all is_blank b1 ≡ true → list_all visible w2 ≡ true → list_all is_blank b2 ≡ true → words (w1 ++ (b1 ++ (w2 ++ b2))) ≡ w1 ∷ w2 ∷ []
-two_words [] b1 w2 b2 h1 h2 h3 v1 v2 v3 v4 = absurd cc
-two_words (a ∷ w1) [] w2 b2 h1 h2 h3 v1 v2 v3 v4 = absurd cc
-two_words (a ∷ w1) (b ∷ b1) [] b2 h1 h2 h3 v1 v2 v3 v4 = absurd cc
-two_words (a ∷ w1) (b ∷ b1) (d ∷ w2) b2 h1 h2 h3 v1 v2 v3 v4 =
-    words-first a w1 b (b1 ++ ((d ∷ w2) ++ b2)) v1 (and_left _ _ v2)
-    ∙ ap (λ (t : List (List ℕ)). (a ∷ w1) ∷ t) (words-skip_all b1 ((d ∷ w2) ++ b2) (and_right _ _ v2) ∙ words-last d w2 b2 v3 v4)
+-- blanks, a word, and what stands apart from it
+pub words-next : (blanks w rest : List ℕ) → list_all is_blank blanks ≡ true → has_bytes w ≡ true → list_all is_visible w ≡ true → stands_apart rest ≡ true
+    → words (blanks ++ (w ++ rest)) ≡ w ∷ words rest
+words-next blanks w rest k s v h = words-skip_all blanks (w ++ rest) k ∙ words-word w rest s v h
+
+-- blanks at the end
+words-blanks : (line blanks : List ℕ) → list_all is_blank blanks ≡ true → words (line ++ blanks) ≡ words line
+words-blanks line [] h = ap words (append-nil line)
+words-blanks line (b ∷ blanks) h =
+    ap words (sym (append_assoc line (b ∷ []) blanks)) ∙ words-blanks (line ++ b ∷ []) blanks (and_right _ _ h) ∙ words-blank line b (and_left _ _ h)
+
+pub blanks_apart : (blanks rest : List ℕ) → has_bytes blanks ≡ true → list_all is_blank blanks ≡ true → stands_apart (blanks ++ rest) ≡ true
+blanks_apart [] rest s h = absurd cc
+blanks_apart (b ∷ blanks) rest s h = and_left _ _ h
+
+apart_blanks : (xs blanks : List ℕ) → stands_apart xs ≡ true → list_all is_blank blanks ≡ true → stands_apart (xs ++ blanks) ≡ true
+apart_blanks [] [] h k = refl
+apart_blanks [] (b ∷ blanks) h k = and_left _ _ k
+apart_blanks (x ∷ xs) blanks h k = h
+
+-- the words of a whole line: two, and those behind them
+line_words : (w1 b1 w2 vs b2 : List ℕ) → has_bytes w1 ≡ true → has_bytes b1 ≡ true → has_bytes w2 ≡ true
+    → list_all is_visible w1 ≡ true → list_all is_blank b1 ≡ true → list_all is_visible w2 ≡ true → stands_apart vs ≡ true → list_all is_blank b2 ≡ true
+    → words (w1 ++ (b1 ++ (w2 ++ (vs ++ b2)))) ≡ w1 ∷ w2 ∷ words vs
+line_words w1 b1 w2 vs b2 h1 h2 h3 v1 v2 v3 apart v4 =
+    words-word w1 (b1 ++ (w2 ++ (vs ++ b2))) h1 v1 (blanks_apart b1 (w2 ++ (vs ++ b2)) h2 v2)
+    ∙ ap (λ (t : List (List ℕ)). w1 ∷ t) (words-next b1 w2 (vs ++ b2) v2 h3 v3 (apart_blanks vs b2 apart v4))
+    ∙ ap (λ (t : List (List ℕ)). w1 ∷ w2 ∷ t) (words-blanks vs b2 v4)
 
 -- digits are a number without a sign
 unsigned_digits : (w : List ℕ) → all_ascii_digits w ≡ true → unsigned w ≡ w
@@ -214,7 +236,7 @@ digits_number w s h = rw (unsigned_digits w h) (both_of (has_bytes w) (all_ascii
 digits_value_is : (w : List ℕ) (n : ℕ) → all_ascii_digits w ≡ true → n ≡ value w → n < 2 ^ 63 → n ≡ capped (number w)
 digits_value_is w n h e small = let u = unsigned_digits w h in let k : n ≡ number w = e ∙ sym (ap value u) in omega arith
 
-some_bytes : (bytes : List ℕ) (from to : ℕ) → from ≤ to → to ≤ length bytes → to ≢ from → has_bytes (between bytes from to) ≡ true
+pub some_bytes : (bytes : List ℕ) (from to : ℕ) → from ≤ to → to ≤ length bytes → to ≢ from → has_bytes (between bytes from to) ≡ true
 some_bytes bytes from to h k ne = by (between bytes from to) refl
   where
     by : (xs : List ℕ) → between bytes from to ≡ xs → has_bytes xs ≡ true
@@ -222,49 +244,56 @@ some_bytes bytes from to h k ne = by (between bytes from to) refl
     by (x ∷ xs) e = refl
 
 -- the line that was found
-pub plain_found : (bytes : List ℕ) (from e1 s2 e2 end row col : ℕ) → IsDigits bytes from e1 row → e1 ≢ from → IsRun is_blank bytes e1 s2 → s2 ≢ e1
-    → IsDigits bytes s2 e2 col → e2 ≢ s2 → IsRun is_blank bytes e2 end → end < length bytes → get_or bytes end 0 ≡ 10 → IsPlainLine bytes from row col (end + 1)
-plain_found bytes from e1 s2 e2 end row col d1 n1 r1 n2 d2 n3 r2 low lf =
+pub plain_found : (f : Field) (bytes : List ℕ) (from e1 s2 e2 e3 next row col : ℕ) (value : Integer) → IsDigits bytes from e1 row → e1 ≢ from
+    → IsRun is_blank bytes e1 s2 → s2 ≢ e1 → IsDigits bytes s2 e2 col → e2 ≢ s2 → HasValues f bytes e2 e3 value → IsNextLine bytes e3 next
+    → IsPlainLine f bytes from (record { row = row; col = col; value = value; next = next })
+plain_found f bytes from e1 s2 e2 e3 next row col value d1 n1 r1 n2 d2 n3 v n =
+    let end = n.end in
+    let r2 = n.blanks_are in
     let w1 : List ℕ = between bytes from e1 in
     let b1 : List ℕ = between bytes e1 s2 in
     let w2 : List ℕ = between bytes s2 e2 in
-    let b2 : List ℕ = between bytes e2 end in
+    let vs : List ℕ = between bytes e2 e3 in
+    let b2 : List ℕ = between bytes e3 end in
     let h1 = some_bytes bytes from e1 d1.in_order d1.within n1 in
     let h2 = some_bytes bytes e1 s2 r1.in_order r1.within n2 in
     let h3 = some_bytes bytes s2 e2 d2.in_order d2.within n3 in
     let v1 = digits_visible w1 d1.all in
     let v3 = digits_visible w2 d2.all in
-    let line : List ℕ = w1 ++ (b1 ++ (w2 ++ b2)) in
-    let all_line : list_all no_lf line ≡ true =
-    all_append no_lf w1 (b1 ++ (w2 ++ b2)) (weaker visible no_lf visible_no_lf w1 v1)
-    (all_append no_lf b1 (w2 ++ b2) (weaker is_blank no_lf blank_no_lf b1 r1.all)
-    (all_append no_lf w2 b2 (weaker visible no_lf visible_no_lf w2 v3) (weaker is_blank no_lf blank_no_lf b2 r2.all))) in
-    let ordered : from ≤ end = omega (arith, d1.in_order, r1.in_order, d2.in_order, r2.in_order) in
+    let line : List ℕ = w1 ++ (b1 ++ (w2 ++ (vs ++ b2))) in
+    let all_line : list_all is_inner line ≡ true =
+    all_append is_inner w1 (b1 ++ (w2 ++ (vs ++ b2))) (weaker is_visible is_inner visible_inner w1 v1)
+    (all_append is_inner b1 (w2 ++ (vs ++ b2)) (weaker is_blank is_inner blank_inner b1 r1.all)
+    (all_append is_inner w2 (vs ++ b2) (weaker is_visible is_inner visible_inner w2 v3)
+    (all_append is_inner vs b2 v.inner (weaker is_blank is_inner blank_inner b2 r2.all)))) in
+    let behind_second : s2 ≤ end = omega (arith, d2.in_order, v.in_order, r2.in_order) in
+    let behind_first : e1 ≤ end = omega (arith, r1.in_order) in
+    let ordered : from ≤ end = omega (arith, d1.in_order) in
     let whole : between bytes from end ≡ line =
-    between_join bytes from e1 end d1.in_order (omega (arith, r1.in_order, d2.in_order, r2.in_order)) ∙ ap (λ (t : List ℕ). w1 ++ t)
-    (between_join bytes e1 s2 end r1.in_order (omega (arith, d2.in_order, r2.in_order)) ∙ ap (λ (t : List ℕ). b1 ++ t) (between_join bytes s2 e2 end d2.in_order r2.in_order)) in
+    between_join bytes from e1 end d1.in_order behind_first ∙ ap (λ (t : List ℕ). w1 ++ t)
+    (between_join bytes e1 s2 end r1.in_order behind_second ∙ ap (λ (t : List ℕ). b1 ++ t)
+    (between_join bytes s2 e2 end d2.in_order (omega (arith, v.in_order, r2.in_order)) ∙ ap (λ (t : List ℕ). w2 ++ t)
+    (between_join bytes e2 e3 end v.in_order r2.in_order))) in
     record {
       line = line;
       first = w1;
       second = w2;
-      in_order = omega arith;
-      within = omega arith;
-      line_is = between-push bytes from end ordered low ∙ ap (λ (t : List ℕ). t ++ get_or bytes end 0 ∷ []) whole ∙ ap (λ b. line ++ b ∷ []) lf;
+      values = words vs;
+      in_order = omega (arith, n.to_is);
+      within = omega (arith, n.to_is, n.within);
+      line_is = ap (between bytes from) n.to_is ∙ between-push bytes from end ordered n.within
+          ∙ ap (λ (t : List ℕ). t ++ get_or bytes end 0 ∷ []) whole ∙ ap (λ b. line ++ b ∷ []) n.lf_is;
       no_lf = split_none is_lf line all_line;
-      words_are = two_words w1 b1 w2 b2 h1 h2 h3 v1 r1.all v3 r2.all;
+      words_are = line_words w1 b1 w2 vs b2 h1 h2 h3 v1 r1.all v3 v.apart r2.all;
+      count = v.count;
       first_is = digits_number w1 h1 d1.all;
       second_is = digits_number w2 h3 d2.all;
       row_is = digits_value_is w1 row d1.all d1.value_is d1.small;
       col_is = digits_value_is w2 col d2.all d2.value_is d2.small;
+      reads = v.reads;
     }
 
 -- ---- what an entry line of the usual form does
-
-pub not_integer : (f : Field) → value_words f ≡ 0 → is_integer_field f ≡ true → ⊥
-not_integer Real h e = cc
-not_integer Complex h e = cc
-not_integer Integer h e = absurd (omega arith)
-not_integer Pattern h e = cc
 
 number_first : (b : ℕ) (bs : List ℕ) (c : Bool) → (b == 37) ≡ c → is_number (b ∷ bs) ≡ true → c ≡ false
 number_first b bs false e h = refl
@@ -277,8 +306,27 @@ pub number_kept : (w : List ℕ) (ws : List (List ℕ)) → is_number w ≡ true
 number_kept [] ws h = absurd cc
 number_kept (b ∷ bs) ws h = number_first b bs (b == 37) refl h
 
-pub plain_count : (f : Field) (a b : List ℕ) → value_words f ≡ 0 → (length (a ∷ b ∷ []) == 2 + value_words f) ≡ true
-plain_count f a b h = rw h refl
+plain_count : (f : Field) (a b : List ℕ) (vs : List (List ℕ)) → length vs ≡ value_words f → (length (a ∷ b ∷ vs) == 2 + value_words f) ≡ true
+plain_count f a b vs h = eq-eqb (length (a ∷ b ∷ vs)) (2 + value_words f) (omega arith)
+
+module _ (h : Header) (piece : List ℕ) (at : ℕ) (l : PlainLine) (p : IsPlainLine h.field piece at l) where
+  pub plain_kept : is_skipped (words p.line) ≡ false
+  plain_kept = ap is_skipped p.words_are ∙ number_kept p.first (p.second ∷ p.values) p.first_is
+
+  -- what is judged of its place and value is judged of the line
+  pub plain_judged : (s : Size) (r : Result Entry Kind)
+      → ((i j : ℕ) (w : Word) → l.row ≡ capped i → l.col ≡ capped j → (is_integer_field h.field ≡ true → ReadsInteger w (Some l.value))
+      → JudgedEntry (place_rules h s i j w) (triple_at h.field i j w) r)
+      → JudgedEntry (entry_rules h s (words p.line)) (triple h (words p.line)) r
+  plain_judged s r judged =
+      let ws : List Word = words p.line in
+      let w0 : word ws 0 ≡ p.first = ap (λ (t : List Word). word t 0) p.words_are in
+      let w1 : word ws 1 ≡ p.second = ap (λ (t : List Word). word t 1) p.words_are in
+      let w2 : word ws 2 ≡ word p.values 0 = ap (λ (t : List Word). word t 2) p.words_are in
+      let n : (length ws == 2 + value_words h.field) ≡ true =
+      ap (λ (t : List Word). length t == 2 + value_words h.field) p.words_are ∙ plain_count h.field p.first p.second p.values p.count in
+      entry_judged h s ws r n (ap is_number w0 ∙ p.first_is) (ap is_number w1 ∙ p.second_is)
+      (judged (number (word ws 0)) (number (word ws 1)) (word ws 2) (rw w0 p.row_is) (rw w1 p.col_is) (λ i. rw w2 (p.reads i)))
 
 -- a whole line behind lines that have ended
 pub whole_line : (bytes line : List ℕ) → open_line bytes ≡ [] → slice_split is_lf line ≡ line ∷ [] → lines false (bytes ++ (line ++ 10 ∷ [])) ≡ lines false bytes ++ line ∷ []

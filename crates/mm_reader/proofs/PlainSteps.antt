@@ -7,6 +7,7 @@ use Rattle.mm_defs.specs.declared.header.Size.{Size}
 use Rattle.mm_defs.specs.Words.{has_bytes, lines, open_line}
 use Rattle.mm_defs.specs.File.{later_lines, line_faults}
 use Rattle.sp_ids.specs.Entries as entries
+use Rattle.mm_reader.specs.declared.plain.PlainLine.{PlainLine}
 use Rattle.mm_reader.specs.declared.machine.Machine.{Machine}
 use Rattle.mm_reader.specs.declared.machine.Phase.{Phase}
 use Rattle.mm_reader.specs.declared.machine.Phase.TheVariants as phases
@@ -32,7 +33,7 @@ empty_of : (w : List ℕ) → has_bytes w ≡ false → w ≡ []
 empty_of [] h = refl
 empty_of (a ∷ w) h = absurd cc
 
-module _ (m : Machine) (h : Header) (s : Size) (done : ℕ) (w : AwaitsPlain m h s done) (piece : List ℕ) (at row col next : ℕ) (p : IsPlainLine piece at row col next) (t : entries.Entries) where
+module _ (m : Machine) (h : Header) (s : Size) (done : ℕ) (w : AwaitsPlain m h s done) (piece : List ℕ) (at : ℕ) (l : PlainLine) (p : IsPlainLine h.field piece at l) (t : entries.Entries) where
   abbrev Shown : Result Phase Stop → Type 0
   Shown result = (end : End) (ls : List (List ℕ)) → HasBanner h ls → HasEntries h s done m.triples (later_lines ls) → line_faults end ls ≡ [] → m.number + 1 ≡ length ls + 1 → Steps end (ls ++ p.line ∷ []) t result
 
@@ -44,7 +45,7 @@ module _ (m : Machine) (h : Header) (s : Size) (done : ℕ) (w : AwaitsPlain m h
       let k = rw w.phase_is at a.lines_are.phase_is in
       f end (lines false bytes) k.0 k.1 a.lines_are.good (ap (λ n. n + 1) a.number_is)
 
-  pub plain_goes : (phase : Phase) → IsReady phase t → Shown (Ok phase) → GoesOn m (record { phase = phase; number = m.number + 1; triples = t; begun = m.begun; line = m.line }) piece at next
+  pub plain_goes : (phase : Phase) → IsReady phase t → Shown (Ok phase) → GoesOn m (record { phase = phase; number = m.number + 1; triples = t; begun = m.begun; line = m.line }) piece at l.next
   plain_goes phase ready f = record {
     in_order = omega (arith, p.in_order);
     within = p.within;
@@ -54,13 +55,13 @@ module _ (m : Machine) (h : Header) (s : Size) (done : ℕ) (w : AwaitsPlain m h
     stands = λ end bytes a out.
         let o = closed_is end bytes a in
         let r = shown_at (Ok phase) f end bytes a in
-        let l = whole_line bytes p.line o p.no_lf in
+        let e = whole_line bytes p.line o p.no_lf in
         let c = whole_closed_line bytes p.line in
         let n : m.number + 1 ≡ length (lines false bytes ++ p.line ∷ []) = ap (λ k. k + 1) a.number_is ∙ sym (length-append (lines false bytes) (p.line ∷ [])) in
         subst (λ (x : List ℕ). IsAfter end (record { phase = phase; number = m.number + 1; triples = t; begun = m.begun; line = m.line }) (bytes ++ x)) (sym p.line_is)
         (record {
-          lines_are = rw l r;
-          number_is = rw l n;
+          lines_are = rw e r;
+          number_is = rw e n;
           open_is = rw c (rw o at a.open_is);
           begun_is = rw c w.closed;
         });
@@ -69,17 +70,17 @@ module _ (m : Machine) (h : Header) (s : Size) (done : ℕ) (w : AwaitsPlain m h
   halted : (stop : Stop) → Shown (Err stop) → (end : End) (bytes : List ℕ) → IsAfter end m bytes → StopsIn end (bytes ++ (p.line ++ 10 ∷ [])) stop
   halted (stops.Bad line kind) f end bytes a =
       let r = shown_at (Err (stops.Bad line kind)) f end bytes a in
-      let l = whole_line bytes p.line (closed_is end bytes a) p.no_lf in
-      record { bad = rw l r.0; number_is = rw l r.1; closed = whole_closed_line bytes p.line }
+      let e = whole_line bytes p.line (closed_is end bytes a) p.no_lf in
+      record { bad = rw e r.0; number_is = rw e r.1; closed = whole_closed_line bytes p.line }
   halted stops.Memory f end bytes a = tt
 
   pub plain_halts : (stop : Stop) → Shown (Err stop) → (end : End) (bytes : List ℕ) → IsAfter end m bytes → is_complete end m.phase ≡ false → StopsWithin end bytes (drop at piece) stop
   plain_halts stop f end bytes a out =
-      let ordered : at ≤ next = omega (arith, p.in_order) in
+      let ordered : at ≤ l.next = omega (arith, p.in_order) in
       record {
         front = p.line ++ 10 ∷ [];
-        rest = drop next piece;
-        piece_is = split_at piece at next ordered ∙ ap (λ (x : List ℕ). x ++ drop next piece) p.line_is;
+        rest = drop l.next piece;
+        piece_is = split_at piece at l.next ordered ∙ ap (λ (x : List ℕ). x ++ drop l.next piece) p.line_is;
         stops = halted stop f end bytes a;
       }
 

@@ -1,5 +1,5 @@
 -- Two numbers behind each other, and masks of digits.
-use Rattle.std.specs.Prelude.{◌≡◌, ◌≢◌, ◌+◌, ◌<◌, ◌≤◌, ℕ, Bool, not, List, length, map, slice_index}
+use Rattle.std.specs.Prelude.{◌≡◌, ◌≢◌, ◌+◌, ◌<◌, ◌≤◌, ℕ, Bool, not, List, length, map}
 use Rattle.std.specs.Char.{is_ascii_digit}
 use Rattle.std.specs.Simd.Lanes.{chunk, mask_l}
 use Rattle.mm_defs.specs.Words.{is_blank}
@@ -31,9 +31,3 @@ pub record IsPlace (bytes : List ℕ) (from row col to : ℕ) : Type 0 where
   pub apart : col_start ≢ row_end
   pub col_digits : IsDigits bytes col_start to col
   pub col_some : to ≢ col_start
-
--- an LF, and nothing but blanks before it
-pub record IsLineEnd (bytes : List ℕ) (from to : ℕ) : Type 0 where
-  pub blanks : IsRun is_blank bytes from to
-  pub within : to < length bytes
-  pub lf : slice_index bytes to ≡ 10

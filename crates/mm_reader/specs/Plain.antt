@@ -1,16 +1,19 @@
 -- Entry lines of the usual form.
-use Rattle.std.specs.Prelude.{◌≡◌, ◌≤◌, ◌<◌, ◌-◌, ◌^◌, ℕ, Bool, true, false, List, [], ◌∷◌, ◌++◌, length, take, drop}
+use Rattle.std.specs.Prelude.{◌≡◌, ◌≤◌, ◌<◌, ◌+◌, ◌-◌, ◌^◌, ◌==◌, ◌&&◌, ◌||◌, not, ℕ, Bool, true, false, List, [], ◌∷◌, ◌++◌, length, take, drop, slice_index, Some}
 use Rattle.std.specs.List.{list_all}
 use Rattle.std.specs.Str.{all_ascii_digits}
 use Rattle.std.specs.List.{slice_split}
-use Rattle.mm_defs.specs.Numbers.{value, is_number, number}
-use Rattle.mm_defs.specs.Words.{is_lf, words}
+use Rattle.sp_ids.specs.declared.triples.Field.{Field}
+use Rattle.mm_defs.specs.Numbers.{value, is_number, number, is_negative}
+use Rattle.mm_defs.specs.Words.{Word, is_lf, is_blank, has_bytes, word, words}
 use Rattle.mm_defs.specs.declared.header.Header.{Header}
 use Rattle.mm_defs.specs.declared.header.Size.{Size}
-use Rattle.mm_defs.specs.Header.{value_words}
+use Rattle.mm_defs.specs.Header.{value_words, is_integer_field}
 use Rattle.mm_reader.specs.declared.machine.Machine.{Machine}
 use Rattle.mm_reader.specs.declared.machine.Phase.TheVariants as phases
-use Rattle.mm_reader.specs.Tokens.{capped}
+use Rattle.mm_reader.specs.declared.number.Integer.{Integer}
+use Rattle.mm_reader.specs.declared.plain.PlainLine.{PlainLine}
+use Rattle.mm_reader.specs.Tokens.{capped, ReadsInteger}
 
 -- the bytes between two places
 abbrev pub between : List ℕ → ℕ → ℕ → List ℕ
@@ -30,23 +33,81 @@ pub record IsDigits (bytes : List ℕ) (from to : ℕ) (n : ℕ) : Type 0 where
   pub value_is : n ≡ value (between bytes from to)
   pub small : n < 2 ^ 63
 
--- the line between these places, its LF counted, has two words, and they are numbers without signs
-pub record IsPlainLine (bytes : List ℕ) (from row col next : ℕ) : Type 0 where
+-- no LF
+abbrev pub is_inner : ℕ → Bool
+is_inner b = not (is_lf b)
+
+-- neither a blank nor an LF
+abbrev pub is_visible : ℕ → Bool
+is_visible b = is_inner b && not (is_blank b)
+
+-- a sign, or nothing
+abbrev pub is_sign : List ℕ → Bool
+is_sign [] = true
+is_sign (b ∷ bs) = ((b == 45) || (b == 43)) && not (has_bytes bs)
+
+-- the bytes between these places are a sign, if there are any
+pub record IsSign (bytes : List ℕ) (from to : ℕ) (minus : Bool) : Type 0 where
+  pub in_order : from ≤ to
+  pub within : to ≤ length bytes
+  pub all : is_sign (between bytes from to) ≡ true
+  pub minus_is : minus ≡ is_negative (between bytes from to)
+
+-- blanks lie between these places, and behind them a word
+pub record IsNextWord (bytes : List ℕ) (from to : ℕ) : Type 0 where
+  pub start : ℕ
+  pub some_blanks : from < start
+  pub some_bytes : start < to
+  pub blanks_are : IsRun is_blank bytes from start
+  pub word_is : IsRun is_visible bytes start to
+
+-- and the word is this integer
+pub record IsNextInteger (bytes : List ℕ) (from to : ℕ) (i : Integer) : Type 0 where
+  pub next : IsNextWord bytes from to
+  pub reads : ReadsInteger (between bytes next.start to) (Some i)
+
+-- nothing, or a blank in front
+abbrev pub stands_apart : List ℕ → Bool
+stands_apart [] = true
+stands_apart (b ∷ bs) = is_blank b
+
+-- The words between these places are the value words of an entry line. Where the field is integer, this is the value.
+pub record HasValues (f : Field) (bytes : List ℕ) (from to : ℕ) (value : Integer) : Type 0 where
+  pub in_order : from ≤ to
+  pub within : to ≤ length bytes
+  pub inner : list_all is_inner (between bytes from to) ≡ true
+  pub apart : stands_apart (between bytes from to) ≡ true
+  pub count : length (words (between bytes from to)) ≡ value_words f
+  pub reads : is_integer_field f ≡ true → ReadsInteger (word (words (between bytes from to)) 0) (Some value)
+
+-- blanks and behind them an LF lie between these places
+pub record IsNextLine (bytes : List ℕ) (from to : ℕ) : Type 0 where
+  pub end : ℕ
+  pub blanks_are : IsRun is_blank bytes from end
+  pub within : end < length bytes
+  pub lf_is : slice_index bytes end ≡ 10
+  pub to_is : to ≡ end + 1
+
+-- The line that begins here, its LF counted, has two numbers without signs and the value words of this field. Where the
+-- field is integer, the first of them is the value.
+pub record IsPlainLine (f : Field) (bytes : List ℕ) (from : ℕ) (p : PlainLine) : Type 0 where
   pub line : List ℕ
-  pub first : List ℕ
-  pub second : List ℕ
-  pub in_order : from < next
-  pub within : next ≤ length bytes
-  pub line_is : take (next - from) (drop from bytes) ≡ line ++ 10 ∷ []
+  pub first : Word
+  pub second : Word
+  pub values : List Word
+  pub in_order : from < p.next
+  pub within : p.next ≤ length bytes
+  pub line_is : take (p.next - from) (drop from bytes) ≡ line ++ 10 ∷ []
   pub no_lf : slice_split is_lf line ≡ line ∷ []
-  pub words_are : words line ≡ first ∷ second ∷ []
+  pub words_are : words line ≡ first ∷ second ∷ values
+  pub count : length values ≡ value_words f
   pub first_is : is_number first ≡ true
   pub second_is : is_number second ≡ true
-  pub row_is : row ≡ capped (number first)
-  pub col_is : col ≡ capped (number second)
+  pub row_is : p.row ≡ capped (number first)
+  pub col_is : p.col ≡ capped (number second)
+  pub reads : is_integer_field f ≡ true → ReadsInteger (word values 0) (Some p.value)
 
--- entries are to come, without values, and no line has begun
+-- entries are to come, and no line has begun
 pub record AwaitsPlain (m : Machine) (h : Header) (s : Size) (done : ℕ) : Type 0 where
   pub phase_is : m.phase ≡ phases.Entries h s done
   pub closed : m.begun ≡ false
-  pub no_values : value_words h.field ≡ 0

@@ -3,7 +3,7 @@
 ghost use Rattle.std.specs.Prelude.{◌≡◌, ◌≤◌, ◌<◌, ◌+◌, ◌++◌, ℕ, nat_abs, pos, true, false, List, [], ◌∷◌, length, take, IfOk, IfErr, IfSome, OnOk, MatchResult, ◌-◌, ◌^◌};
 ghost use Rattle.sp_ids.specs.Entries.{Entries};
 ghost use Rattle.mm_defs.specs.Words.{words};
-ghost use Rattle.mm_defs.specs.Header.{is_general, is_integer_field, value_words};
+ghost use Rattle.mm_defs.specs.Header.{is_general, is_integer_field};
 ghost use Rattle.mm_defs.specs.File.{mirror, line_faults, later_lines};
 ghost use Rattle.mm_reader.specs.Lines.{IsLine};
 ghost use Rattle.mm_reader.specs.Judging.{triple_of};
@@ -259,8 +259,8 @@ pub fn take(alloc: Global, m: &mut Machine, byte: u8) -> Result<(), Stop>
     Ok(())
 }
 
-/// Where entries without values are to come and no line has begun, what the banner and the size line said, and how many
-/// entries have come.
+/// Where entries are to come and no line has begun, what the banner and the size line said, and how many entries have
+/// come.
 fn awaits_plain(m: &Machine) -> Option<(Header, Size, u32)>
     ensures { IfSome result (λ x. AwaitsPlain m.now x.0 x.1 x.2) }
 {
@@ -268,10 +268,7 @@ fn awaits_plain(m: &Machine) -> Option<(Header, Size, u32)>
         return None;
     }
     match m.phase {
-        Phase::Entries { header, size, done } => match header.field {
-            Field::Pattern => Some((header, size, done)),
-            _ => None,
-        },
+        Phase::Entries { header, size, done } => Some((header, size, done)),
         _ => None,
     }
 }
@@ -287,14 +284,13 @@ fn after_plain(
 ) -> Result<Phase, Stop>
     requires room { HasRoom header size done triples.old }
     requires low { done < size.count }
-    requires no_values { value_words header.field ≡ 0 }
-    ensures steps { (end : End) (ls : List (List ℕ)) (piece : List ℕ) (at : ℕ) (p : IsPlainLine piece at plain.row plain.col plain.next)
+    ensures steps { (end : End) (ls : List (List ℕ)) (piece : List ℕ) (at : ℕ) (p : IsPlainLine header.field piece at plain)
         → HasBanner header ls → HasEntries header size done triples.old (later_lines ls) → line_faults end ls ≡ [] → number ≡ length ls + 1
         → Steps end (ls ++ p.line ∷ []) triples.new result }
     ensures ready { IfOk result (λ phase. IsReady phase triples.new) }
     ensures phase { IfOk result (λ phase. phase ≡ Phase.Entries header size (done + 1)) }
 {
-    let entry = match judge_place(header, size, plain.row, plain.col, None) {
+    let entry = match judge_place(header, size, plain.row, plain.col, Some(plain.value)) {
         Err(kind) => return Err(Stop::Bad { line: number, kind }),
         Ok(entry) => entry,
     };
@@ -324,12 +320,14 @@ fn take_plain(m: &mut Machine, piece: &[u8], at: usize) -> Result<usize, Stop>
     };
     let mut done = before;
     let mut next = at;
+    // The machine gets it once, and not line by line.
+    let mut phase = m.phase;
     while done < size.count {
-        let plain = match plain_line(piece, next) {
-            None => return Ok(next),
+        let plain = match plain_line(piece, next, header.field) {
+            None => break,
             Some(plain) => plain,
         };
-        m.phase = match after_plain(header, size, done, plain, m.number + 1, &mut m.triples) {
+        phase = match after_plain(header, size, done, plain, m.number + 1, &mut m.triples) {
             Err(stop) => return Err(stop),
             Ok(phase) => phase,
         };
@@ -337,6 +335,7 @@ fn take_plain(m: &mut Machine, piece: &[u8], at: usize) -> Result<usize, Stop>
         done += 1;
         next = plain.next;
     }
+    m.phase = phase;
     Ok(next)
 }
 

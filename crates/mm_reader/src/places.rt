@@ -3,7 +3,7 @@
 ghost use Rattle.std.specs.Prelude.{◌≤◌, length, IfSome};
 ghost use Rattle.mm_defs.specs.Words.{is_blank};
 ghost use Rattle.mm_reader.specs.Plain.{IsRun, IsDigits};
-ghost use Rattle.mm_reader.specs.Places.{IsPlace, IsLineEnd};
+ghost use Rattle.mm_reader.specs.Places.{IsPlace};
 
 use crate::lanes::{later_stops, short_number, stops};
 use crate::line::is_blank;
@@ -37,27 +37,6 @@ pub fn blanks(bytes: &[u8], from: usize) -> usize
         at += 1;
     }
     at
-}
-
-/// Where the line ends whose words end here: at its LF, with nothing but blanks before it.
-#[inline(always)]
-pub fn line_end(bytes: &[u8], from: usize) -> Option<usize>
-    requires { from ≤ length bytes.now }
-    ensures { IfSome result (IsLineEnd bytes.now from) }
-{
-    if from < bytes.len() {
-        if bytes[from] == b'\n' {
-            return Some(from);
-        }
-    }
-    let end = blanks(bytes, from);
-    if end == bytes.len() {
-        return None;
-    }
-    if bytes[end] != b'\n' {
-        return None;
-    }
-    Some(end)
 }
 
 /// The number of the digits here, as many as may be, and where they end.

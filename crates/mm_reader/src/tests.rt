@@ -174,6 +174,185 @@ fn values_and_mirrors(rt: HostRuntime) -> Result<(), Fail> {
 }
 
 #[test]
+fn real_entries(rt: HostRuntime) -> Result<(), Fail> {
+    let alloc = rt.alloc();
+    let mut bytes = b"%%MatrixMarket matrix coordinate real general\n9 7 12\n".to_vec(alloc)?;
+    bytes.extend_from_slice(b"1 2 0.5\n3 4 -1.25e-10\n+5 6 1\n7 +1 1\n0008 01 +4\n9 7 1 \t\n")?;
+    bytes.extend_from_slice(b"2\t3  NaN\r\n0000000000000000004 5 1\n6 00000000000000000007 1\n")?;
+    bytes.extend_from_slice(b" 1 1 2\n% 2 2 2\n\n8 6 x\n9 1 1")?;
+    for piece in [1, 2, 3, 7, 4096] {
+        let triples = read(alloc, &bytes, piece, &[], 1000)?;
+        assert_eq!(rt;
+            triples.places(),
+            [
+                (Row(0), Col(1)),
+                (Row(2), Col(3)),
+                (Row(4), Col(5)),
+                (Row(6), Col(0)),
+                (Row(7), Col(0)),
+                (Row(8), Col(6)),
+                (Row(1), Col(2)),
+                (Row(3), Col(4)),
+                (Row(5), Col(6)),
+                (Row(0), Col(0)),
+                (Row(7), Col(5)),
+                (Row(8), Col(0)),
+            ]
+            .as_slice()
+        );
+        assert_eq!(rt; triples.field(), Field::Real);
+    }
+    Ok(())
+}
+
+#[test]
+fn symmetric_and_hermitian_entries(rt: HostRuntime) -> Result<(), Fail> {
+    let alloc = rt.alloc();
+    let symmetric =
+        b"%%MatrixMarket matrix coordinate real symmetric\n3 3 4\n1 1 2.0\n2 1 -1\n3 02 -1.5 \r\n3 +1 7\n";
+    let hermitian =
+        b"%%MatrixMarket matrix coordinate complex hermitian\n3 3 4\n1 1 4 0\n2 1 0.5 -1e3\n3 2  -1\t+2 \r\n+3 1 1 1";
+    for piece in [1, 2, 3, 7, 4096] {
+        for file in [symmetric.as_slice(), hermitian.as_slice()] {
+            assert_eq!(rt;
+                read(alloc, file, piece, &[], 1000)?.places(),
+                [
+                    (Row(0), Col(0)),
+                    (Row(1), Col(0)),
+                    (Row(0), Col(1)),
+                    (Row(2), Col(1)),
+                    (Row(1), Col(2)),
+                    (Row(2), Col(0)),
+                    (Row(0), Col(2)),
+                ]
+                .as_slice()
+            );
+        }
+    }
+    Ok(())
+}
+
+#[test]
+fn integer_entries(rt: HostRuntime) -> Result<(), Fail> {
+    let alloc = rt.alloc();
+    let mut bytes = b"%%MatrixMarket matrix coordinate integer skew-symmetric\n6 6 10\n".to_vec(
+        alloc,
+    )?;
+    bytes.extend_from_slice(b"2 1 4\n3 1 -5\n4 1 +6\n5 1 007 \n6 1 -000000000000000008\r\n")?;
+    bytes.extend_from_slice(b"3 2 123456789012345678\n4 2 1234567890123456789\n")?;
+    bytes.extend_from_slice(b"5 2 -9223372036854775807\n6 2 00000000000000000009\n+6 03 -0")?;
+    for piece in [1, 2, 3, 7, 4096] {
+        let triples = read(alloc, &bytes, piece, &[], 1000)?;
+        assert_eq!(rt; triples.len(), 20);
+        assert_eq!(rt; triples.places()[0], (Row(1), Col(0)));
+        assert_eq!(rt; triples.places()[9], (Row(0), Col(5)));
+        assert_eq!(rt; triples.places()[18], (Row(5), Col(2)));
+        assert_eq!(rt;
+            values(&triples),
+            [
+                4,
+                -4,
+                -5,
+                5,
+                6,
+                -6,
+                7,
+                -7,
+                -8,
+                8,
+                123456789012345678,
+                -123456789012345678,
+                1234567890123456789,
+                -1234567890123456789,
+                -9223372036854775807,
+                9223372036854775807,
+                9,
+                -9,
+                0,
+                0,
+            ]
+            .as_slice()
+        );
+    }
+    Ok(())
+}
+
+/// How a file is refused, whose first entry line is good and whose second is this.
+fn refused_at(
+    alloc: Global,
+    banner: &[u8],
+    line: &[u8],
+    piece: usize,
+) -> Result<Option<ReadError>, AllocError>
+    requires { 0 < piece }
+{
+    let mut bytes = banner.to_vec(alloc)?;
+    bytes.extend_from_slice(line)?;
+    Ok(refusal(read(alloc, &bytes, piece, &[], 1000)))
+}
+
+#[test]
+fn bad_values_are_told(rt: HostRuntime) -> Result<(), Fail> {
+    let alloc = rt.alloc();
+    let real = b"%%MatrixMarket matrix coordinate real general\n9 9 9\n9 9 .5\n".as_slice();
+    let complex = b"%%MatrixMarket matrix coordinate complex general\n9 9 9\n9 9 1 0\n".as_slice();
+    let table = [
+        (real, b"2 2\n".as_slice(), Kind::EntryWords),
+        (real, b"2 2 \n".as_slice(), Kind::EntryWords),
+        (real, b"2 2 1 1\n".as_slice(), Kind::EntryWords),
+        (real, b"-2 2 1\n".as_slice(), Kind::RowNumber),
+        (real, b"2 2x 1\n".as_slice(), Kind::ColumnNumber),
+        (real, b"10 0 1\n".as_slice(), Kind::RowRange),
+        (real, b"9 0 1\n".as_slice(), Kind::ColumnRange),
+        (complex, b"2 2\n".as_slice(), Kind::EntryWords),
+        (complex, b"2 2 1\n".as_slice(), Kind::EntryWords),
+        (complex, b"2 2 1 1 1\n".as_slice(), Kind::EntryWords),
+    ];
+    for piece in [1, 2, 3, 7, 4096] {
+        for (banner, line, kind) in table {
+            assert_eq!(rt;
+                refused_at(alloc, banner, line, piece)?,
+                Some(ReadError::Malformed { line: 4, kind })
+            );
+        }
+    }
+    Ok(())
+}
+
+#[test]
+fn bad_integers_are_told(rt: HostRuntime) -> Result<(), Fail> {
+    let alloc = rt.alloc();
+    let integer = b"%%MatrixMarket matrix coordinate integer skew-symmetric\n9 9 9\n9 8 7\n";
+    let table = [
+        (b"2 1\n".as_slice(), Kind::EntryWords),
+        (b"2 1 1 1\n".as_slice(), Kind::EntryWords),
+        (b"2 1 1.5\n".as_slice(), Kind::ValueNumber),
+        (b"2 1 --5\n".as_slice(), Kind::ValueNumber),
+        (b"2 1 -\n".as_slice(), Kind::ValueNumber),
+        (b"2 1 -+5\n".as_slice(), Kind::ValueNumber),
+        (b"2 1 5x\n".as_slice(), Kind::ValueNumber),
+        (b"1 2 -5\n".as_slice(), Kind::UpperEntry),
+        (b"2 2 0\n".as_slice(), Kind::DiagonalEntry),
+    ];
+    for piece in [1, 2, 3, 7, 4096] {
+        for (line, kind) in table {
+            assert_eq!(rt;
+                refused_at(alloc, integer, line, piece)?,
+                Some(ReadError::Malformed { line: 4, kind })
+            );
+        }
+        assert_eq!(rt;
+            refused_at(alloc, integer, b"2 1 -9223372036854775808\n", piece)?,
+            Some(ReadError::Limit {
+                line: 4,
+                kind: Kind::Value
+            })
+        );
+    }
+    Ok(())
+}
+
+#[test]
 fn the_first_bad_line_is_told(rt: HostRuntime) -> Result<(), Fail> {
     let alloc = rt.alloc();
     let table = [

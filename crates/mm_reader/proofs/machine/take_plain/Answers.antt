@@ -1,4 +1,5 @@
 use Rattle.std.proofs.Common.{refl, arith}
+use Rattle.mm_reader.specs.declared.machine.Machine.{Machine}
 use Rattle.mm_reader.proofs.PlainSteps.{stays, plain_goes, plain_halts, open_machine, goes_then, halts_then}
 use Rattle.mm_reader.proofs.machine.take_plain.Goals as goal
 
@@ -9,10 +10,11 @@ pub returns-in-Err-clause-err : goal.returns-in-Err-clause-err
 returns-in-Err-clause-err c =
     let i = c.loop-done.invariant in
     let p = c.in-Some-plain_line.ensures in
-    halts_then c.args.m.now c.loop-done.m c.args.piece.now c.args.at c.loop-done.next c.in-Err.stop i.goes
-    (plain_halts c.loop-done.m _ _ _ i.awaits c.args.piece.now c.loop-done.next _ _ _ p c.after_plain.new.triples c.in-Err.stop
+    let m : Machine = record c.loop-done.m { phase = c.loop-done.phase } in
+    halts_then c.args.m.now m c.args.piece.now c.args.at c.loop-done.next c.in-Err.stop i.goes
+    (plain_halts m _ _ _ i.awaits c.args.piece.now c.loop-done.next _ p c.after_plain.new.triples c.in-Err.stop
     (λ end ls b has good n. c.in-Err.ensures.steps end ls c.args.piece.now c.loop-done.next p b has good n))
-    (open_machine c.loop-done.m _ _ _ i.awaits c.loop-done-test.true)
+    (open_machine m _ _ _ i.awaits c.loop-done-test.true)
 
 pub loop-done-init : goal.loop-done-init
 loop-done-init c = record {
@@ -25,11 +27,12 @@ pub loop-done-preserved : goal.loop-done-preserved
 loop-done-preserved c =
     let i = c.loop-done.invariant in
     let p = c.in-Some-plain_line.ensures in
+    let m : Machine = record c.loop-done.m { phase = c.loop-done.phase } in
     record {
-      awaits = record { phase_is = c.in-Ok.ensures.phase; closed = i.awaits.closed; no_values = i.awaits.no_values };
-      goes = goes_then c.args.m.now c.loop-done.m _ c.args.piece.now c.args.at c.loop-done.next _ i.goes
-          (plain_goes c.loop-done.m _ _ _ i.awaits c.args.piece.now c.loop-done.next _ _ _ p c.after_plain.new.triples c.in-Ok.phase c.in-Ok.ensures.ready
+      awaits = record { phase_is = c.in-Ok.ensures.phase; closed = i.awaits.closed };
+      goes = goes_then c.args.m.now m _ c.args.piece.now c.args.at c.loop-done.next _ i.goes
+          (plain_goes m _ _ _ i.awaits c.args.piece.now c.loop-done.next _ p c.after_plain.new.triples c.in-Ok.phase c.in-Ok.ensures.ready
           (λ end ls b has good n. c.in-Ok.ensures.steps end ls c.args.piece.now c.loop-done.next p b has good n))
-          (open_machine c.loop-done.m _ _ _ i.awaits c.loop-done-test.true);
+          (open_machine m _ _ _ i.awaits c.loop-done-test.true);
       same = λ e. absurd (omega (arith, p.in_order, i.goes.in_order));
     }

@@ -1,13 +1,14 @@
 use Rattle.std.proofs.Common.{◌≡◌, ◌-◌}
+use Rattle.mm_reader.specs.declared.machine.Machine.{Machine}
 use Rattle.mm_reader.specs.Plain.{AwaitsPlain}
 use Rattle.mm_reader.specs.Standing.{GoesOn}
 use Rattle.mm_reader.proofs.machine.take_plain.Given as goal
 
 abbrev pub invariant-loop-done : goal.invariant-loop-done
 invariant-loop-done l = record {
-  awaits : AwaitsPlain l.m l.header l.size l.done;
-  goes : GoesOn l.fn.m l.m l.piece l.at l.next;
-  same : l.next ≡ l.at → l.m ≡ l.fn.m;
+  awaits : AwaitsPlain (record l.m { phase = l.phase }) l.header l.size l.done;
+  goes : GoesOn l.fn.m (record l.m { phase = l.phase }) l.piece l.at l.next;
+  same : l.next ≡ l.at → ◌≡◌ {A = Machine} (record l.m { phase = l.phase }) l.fn.m;
 }
 
 abbrev pub decreases-loop-done : goal.decreases-loop-done
