@@ -45,33 +45,6 @@ pub fn digits(bytes: &[u8], from: usize) -> (u64, usize)
     requires { from ≤ length bytes.now }
     ensures { IsDigits bytes.now from result.1 result.0 }
 {
-    match few_digits(bytes, from) {
-        Some(number) => number,
-        None => many_digits(bytes, from),
-    }
-}
-
-/// The same of one to eight digits, where enough bytes are ahead.
-#[inline(always)]
-fn few_digits(bytes: &[u8], from: usize) -> Option<(u64, usize)>
-    requires { from ≤ length bytes.now }
-    ensures { IfSome result (λ p. IsDigits bytes.now from p.1 p.0) }
-{
-    if bytes.len() - from < AHEAD {
-        return None;
-    }
-    match short_number(bytes, from, stops(bytes, from)) {
-        None => None,
-        Some((number, count)) => Some((number, from + count)),
-    }
-}
-
-/// The same of any count of digits, byte by byte.
-#[inline(always)]
-fn many_digits(bytes: &[u8], from: usize) -> (u64, usize)
-    requires { from ≤ length bytes.now }
-    ensures { IsDigits bytes.now from result.1 result.0 }
-{
     let end = bytes.len().min(from + MOST_DIGITS);
     let mut value = 0;
     let mut at = from;

@@ -1,7 +1,7 @@
 use Rattle.std.proofs.Common.{◌*◌, ◌+◌, ◌∙◌, sym, subst, arith, ℕ}
 use Rattle.mm_reader.specs.Plain.{IsDigits}
 use Rattle.mm_reader.proofs.PlainLaws.{digits_more, few_digits}
-use Rattle.mm_reader.proofs.places.many_digits.Goals as goal
+use Rattle.mm_reader.proofs.places.digits.Goals as goal
 
 pub overflow_mul-value : goal.overflow_mul-value
 overflow_mul-value c =

@@ -1,6 +1,6 @@
 use Rattle.std.proofs.Common.{◌-◌, length}
 use Rattle.mm_reader.specs.Plain.{IsDigits}
-use Rattle.mm_reader.proofs.places.many_digits.Given as goal
+use Rattle.mm_reader.proofs.places.digits.Given as goal
 
 abbrev pub invariant-loop-at : goal.invariant-loop-at
 invariant-loop-at l = IsDigits l.bytes l.from l.at l.value
