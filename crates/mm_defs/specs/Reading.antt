@@ -1,5 +1,5 @@
 -- What a call on an input was given, and what its answers say.
-use Rattle.std.specs.Prelude.{◌≡◌, ◌≢◌, ℕ, Bool, true, false, not, ◌==◌, ◌&&◌, ◌-◌, ◌<◌, ◌≤◌, nat_le, List, [], ◌++◌, length, take, Option, Some, None, Result, Ok, Err, OnOk}
+use Rattle.std.specs.Prelude.{◌≡◌, ◌≢◌, ℕ, Bool, true, false, not, ◌==◌, ◌&&◌, ◌+◌, ◌-◌, ◌<◌, ◌≤◌, nat_le, List, [], ◌++◌, length, take, Option, Some, None, Result, Ok, Err, OnOk}
 use Rattle.std.specs.Result.{IsErrOf}
 use Rattle.sp_ids.specs.Entries as entries
 use Rattle.mm_defs.specs.declared.answers.End.{End}
@@ -107,13 +107,26 @@ pub record IsRest (call : Call) (left bytes : List ℕ) : Type 0 where
   pub nothing_left : left ≡ []
   pub within : length (offered call) ≤ call.room
 
--- Why what follows was not read, by the error: no line is judged.
+-- Why what follows was not read, by the error: no line is judged, and a read is only made while all that came is within
+-- the limit.
 abbrev pub RefusesRest : Call → ReadError → Type 0
 RefusesRest call (errors.Malformed line kind) = ⊥
 RefusesRest call (errors.Limit line kind) = ⊥
 RefusesRest call errors.TooLong = call.room < length (got call)
-RefusesRest call errors.ReadFault = call.failures_before < call.failures_after
+RefusesRest call errors.ReadFault = (call.failures_before < call.failures_after) × (length (got call) ≤ call.room)
 RefusesRest call errors.OutOfMemory = Unit {0}
+
+-- of the bytes that came, at most one is past what may be used
+abbrev pub TakesAtMostOnePast : Call → Type 0
+TakesAtMostOnePast call = length (got call) ≤ call.room + 1
+
+-- it is none of the errors that judge a line
+abbrev pub JudgesNoLine : ReadError → Type 0
+JudgesNoLine (errors.Malformed line kind) = ⊥
+JudgesNoLine (errors.Limit line kind) = ⊥
+JudgesNoLine errors.TooLong = Unit {0}
+JudgesNoLine errors.ReadFault = Unit {0}
+JudgesNoLine errors.OutOfMemory = Unit {0}
 
 -- the call on an input over a source that tells its bytes
 abbrev pub call_on : Intake → ℕ → ℕ → List ℕ → List ℕ → Call

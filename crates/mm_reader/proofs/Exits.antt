@@ -7,6 +7,8 @@ use Rattle.sp_ports.specs.Counts.{SourceRose}
 use Rattle.mm_defs.specs.declared.answers.End.{End}
 use Rattle.mm_defs.specs.declared.answers.ReadError.{ReadError}
 use Rattle.mm_defs.specs.declared.answers.ReadError.TheVariants as errors
+use Rattle.mm_defs.specs.declared.answers.End.TheVariants.{File}
+use Rattle.mm_defs.specs.Reading.{TakesAtMostOnePast, got}
 use Rattle.mm_defs.specs.Words.{is_lf, has_bytes, lines, open_line}
 use Rattle.mm_defs.proofs.Behind.{length-lines}
 use Rattle.mm_reader.specs.declared.machine.Machine.{Machine}
@@ -16,10 +18,14 @@ use Rattle.mm_reader.specs.Standing.{begun_lines, IsAfter, IsWhole}
 use Rattle.mm_reader.specs.Windows.{ahead_of, call_of, Answers, Consumes, Fed, HasCounted, IsWindow, Refuses, RefusesAtEnd}
 use Rattle.mm_reader.proofs.CompleteLaws.{complete_reads}
 use Rattle.mm_reader.proofs.Lacking.{lacks_lines}
-use Rattle.mm_reader.proofs.StreamLaws.{refused_answer, fault_answer, fault_short, end_refused, end_read, read_on}
+use Rattle.mm_reader.proofs.StreamLaws.{got-is, refused_answer, fault_answer, fault_short, end_refused, end_read, read_on}
 use Rattle.mm_reader.proofs.WindowLaws.{length-ahead_of}
 
 -- ---- what the machine was given
+
+pub gives_none : (o : Option (List ℕ)) → Gives o o []
+gives_none None = tt
+gives_none (Some xs) = refl
 
 pub fed_start : (end : End) (w : Window) (m : Machine) (left : Option (List ℕ)) → IsAfter end m [] → Fed end (ahead_of w) left left w.room w.lines m w
 fed_start end w m left a = record {
@@ -31,10 +37,6 @@ fed_start end w m left a = record {
   stands = a;
   lines_same = refl;
 }
-  where
-    gives_none : (o : Option (List ℕ)) → Gives o o []
-    gives_none None = tt
-    gives_none (Some xs) = refl
 
 pub fed_consumed : (end : End) (ahead : List ℕ) (old now : Option (List ℕ)) (room lfs : ℕ) (m m2 : Machine) (w w2 : Window) (done : Bool)
     → Fed end ahead old now room lfs m w → Consumes end w w2 m m2 done → Fed end ahead old now room lfs m2 w2
@@ -67,6 +69,20 @@ fed_refilled end ahead old now now2 room lfs m w w2 f none g r l = record {
   stands = f.stands;
   lines_same = l ∙ f.lines_same;
 }
+
+-- ---- how many bytes came
+
+-- where all that came was used or is ahead, at most one of its bytes is past what may be used
+pub most_told : (w0 w : Window) (fb fa : ℕ) (old now : Option (List ℕ)) (gave used : List ℕ) → Gives old now gave → ahead_of w0 ++ gave ≡ used ++ ahead_of w → length used + w.room ≡ w0.room → IsWindow w
+    → WhereTold old now (λ before after. TakesAtMostOnePast (call_of w0 fb fa before after))
+most_told w0 w fb fa None now gave used told split size win = tt
+most_told w0 w fb fa (Some before) None gave used told split size win = absurd told
+most_told w0 w fb fa (Some before) (Some after) gave used told split size win =
+    let n = length-ahead_of w win in
+    let fits : length used ≤ w0.room = omega (arith, size) in
+    let g : length (got (call_of w0 fb fa before after)) ≡ length used + length (ahead_of w) =
+    ap length (got-is File (ahead_of w0) before after gave used (ahead_of w) w0.room fb fa told split fits) ∙ length-append used (ahead_of w) in
+    omega (arith, size, g, n, win.asked)
 
 -- ---- the counts of failures
 

@@ -7,11 +7,11 @@ use Rattle.mm_defs.specs.declared.answers.End.TheVariants.{File}
 use Rattle.mm_defs.specs.declared.answers.ReadError.{ReadError}
 use Rattle.mm_defs.specs.declared.answers.ReadError.TheVariants as errors
 use Rattle.mm_defs.specs.Words.{is_lf}
-use Rattle.mm_defs.specs.Reading.{RefusesRest}
+use Rattle.mm_defs.specs.Reading.{JudgesNoLine, RefusesRest, got}
 use Rattle.mm_reader.specs.declared.window.Window.{Window}
 use Rattle.mm_reader.specs.Windows.{ahead_of, call_of, Filled, RefusesAhead, RestRead, TakesAhead}
-use Rattle.mm_reader.proofs.Exits.{gives_then, counted}
-use Rattle.mm_reader.proofs.StreamLaws.{past, offered-used}
+use Rattle.mm_reader.proofs.Exits.{gives_none, gives_then, counted}
+use Rattle.mm_reader.proofs.StreamLaws.{past, got-is, offered-used}
 
 pub filled_start : (w : Window) (left : Option (List ℕ)) → Filled (ahead_of w) left left w.room w.lines [] w
 filled_start w left = record {
@@ -21,10 +21,6 @@ filled_start w left = record {
   size = omega arith;
   lines_are = omega arith;
 }
-  where
-    gives_none : (o : Option (List ℕ)) → Gives o o []
-    gives_none None = tt
-    gives_none (Some xs) = refl
 
 pub filled_taken : (ahead : List ℕ) (old now : Option (List ℕ)) (room lfs : ℕ) (bytes bytes2 : List ℕ) (w w2 : Window)
     → Filled ahead old now room lfs bytes w → TakesAhead w w2 bytes bytes2 → Filled ahead old now room lfs bytes2 w2
@@ -66,11 +62,15 @@ module _ (w0 w3 : Window) (fb fa lfs : ℕ) (bytes : List ℕ) (w : Window) wher
   rest_refused (Some before) None error f h = absurd f.told
   rest_refused (Some before) (Some after) error f h = refused before after error f h
 
-  pub rest_fault : (old now : Option (List ℕ)) → Filled (ahead_of w0) old now w0.room lfs bytes w → SourceRose old fb fa
+  pub rest_fault : (old now : Option (List ℕ)) → Filled (ahead_of w0) old now w0.room lfs bytes w → ahead_of w ≡ [] → SourceRose old fb fa
       → WhereTold old now (λ before after. RefusesRest (call_of w0 fb fa before after) errors.ReadFault)
-  rest_fault None now f h = tt
-  rest_fault (Some before) None f h = absurd f.told
-  rest_fault (Some before) (Some after) f h = h
+  rest_fault None now f none h = tt
+  rest_fault (Some before) None f none h = absurd f.told
+  rest_fault (Some before) (Some after) f none h =
+      let fits : length bytes ≤ w0.room = omega (arith, f.size) in
+      let g : got (call_of w0 fb fa before after) ≡ bytes =
+      got-is File (ahead_of w0) before after f.gave bytes (ahead_of w) w0.room fb fa f.told f.split fits ∙ ap (λ (t : List ℕ). bytes ++ t) none ∙ append-nil bytes in
+      (h, rw g fits)
 
   pub rest_read : (old now : Option (List ℕ)) → Filled (ahead_of w0) old now w0.room lfs bytes w → ahead_of w ≡ [] → ahead_of w3 ≡ ahead_of w → w3.room ≡ w.room → w3.lines ≡ w.lines → lfs ≡ w0.lines
       → IsAtEnd now → fa ≡ fb → WhereTold old now (λ before after. RestRead (call_of w0 fb fa before after) w0 w3 bytes)
@@ -90,3 +90,10 @@ module _ (w0 w3 : Window) (fb fa lfs : ℕ) (bytes : List ℕ) (w : Window) wher
 
 pub refused_no_rest_fault : (V : Type 0) (w : Window) (error : ReadError) → RefusesAhead w error → ◌≡◌ {A = Result V ReadError} (Err error) (Err errors.ReadFault) → ⊥
 refused_no_rest_fault V w error h e = let k : error ≡ errors.ReadFault = cc in rw k at h
+
+pub unjudged : (w : Window) (error : ReadError) → RefusesAhead w error → JudgesNoLine error
+unjudged w (errors.Malformed line kind) h = absurd h
+unjudged w (errors.Limit line kind) h = absurd h
+unjudged w errors.TooLong h = tt
+unjudged w errors.ReadFault h = absurd h
+unjudged w errors.OutOfMemory h = tt

@@ -21,12 +21,13 @@ use Rattle.mm_reader.specs.Standing.{begun_lines, IsAfter, EndsBad}
 abbrev pub ahead_of : Window → List ℕ
 ahead_of w = take (w.to - w.from) (drop w.from w.buffer.items)
 
--- the buffer has its size, and the counts fit
+-- the buffer has its size, the counts fit, and at most one byte ahead is past what may be used
 pub record IsWindow (w : Window) : Type 0 where
   pub long : vec_len w.buffer ≡ 65536
   pub in_order : w.from ≤ w.to
   pub within : w.to ≤ 65536
   pub fits : w.lines + w.room < 2 ^ 64
+  pub asked : w.to ≤ w.from + w.room + 1
 
 -- so many of the bytes ahead were used
 pub record Uses (old new : Window) (n : ℕ) : Type 0 where
@@ -86,6 +87,10 @@ call_of w failures_before failures_after before after = record {
   failures_before = failures_before;
   failures_after = failures_after;
 }
+
+-- what a source has left is the end of what it had
+abbrev pub GivesFront : Option (List ℕ) → Option (List ℕ) → Type 0
+GivesFront old new = (front : List ℕ) × Gives old new front
 
 -- what was used was counted, its LFs too
 pub record HasCounted (old new : Window) (before after : List ℕ) : Type 0 where

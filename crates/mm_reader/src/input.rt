@@ -1,12 +1,13 @@
 //! Inputs: what callers see of the bytes ahead, and the calls that read them.
 
-ghost use Rattle.std.specs.Prelude.{◌≡◌, ◌≤◌, ◌<◌, ◌+◌, ◌++◌, ◌↔◌, ℕ, List, [], length, IfOk, MatchResult, OnOk, IsOk, IsTrue, true, false};
+ghost use Rattle.std.specs.Prelude.{◌≡◌, ◌≤◌, ◌<◌, ◌+◌, ◌++◌, ◌↔◌, [], length, IfErr, IfOk, MatchResult, OnOk, IsOk, IsTrue, true, false};
 ghost use Rattle.std.specs.List.{count_by};
-ghost use Rattle.sp_ports.specs.Bytes.{Gives, IsAtEnd, WhereTold};
+ghost use Rattle.sp_ports.specs.Bytes.{IsAtEnd, WhereTold};
 ghost use Rattle.sp_ports.specs.Counts.{SourceRose};
 ghost use Rattle.mm_defs.specs.Words.{is_lf};
 ghost use Rattle.mm_defs.specs.File.{Fault};
-ghost use Rattle.mm_defs.specs.Reading.{call_on, first_bad, Causes, FellShort, IsAnswer, IsNear, IsRest, RefusesRest, Tells};
+ghost use Rattle.mm_defs.specs.Reading.{call_on, first_bad, Causes, FellShort, IsAnswer, IsNear, IsRest, JudgesNoLine, RefusesRest, TakesAtMostOnePast, Tells};
+ghost use Rattle.mm_reader.specs.Windows.{GivesFront};
 
 use crate::reader::matrix;
 use crate::rest::rest;
@@ -40,7 +41,8 @@ impl Model for Input {
 }
 
 impl Input {
-    /// Nothing was taken. The input may use so many bytes of its source in all. It takes memory for its buffer.
+    /// Nothing was taken. The input may use so many bytes of its source in all, and takes at most one more, which shows
+    /// that there are more. It takes memory for its buffer.
     pub fn new(alloc: Global, limit: u64) -> Result<Input, OutOfMemory>
         ensures { IfOk result (λ input. input ≡ record { limit = limit; taken = 0; ahead = []; at_end = false; lines = 0; good = true }) }
     {
@@ -116,6 +118,12 @@ pub fn read_matrix<S: Source>(
     ensures short { WhereTold (S.left source.old) (S.left source.new) (λ before after.
         FellShort end (call_on input.old (S.faults source.old) (S.faults source.new) before after) result) }
 
+    // What is left is the end of what there was, and at most one byte was taken past the limit.
+    ensures gave { GivesFront (S.left source.old) (S.left source.new) }
+    ensures most { WhereTold (S.left source.old) (S.left source.new) (λ before after.
+        TakesAtMostOnePast (call_on input.old (S.faults source.old) (S.faults source.new) before after)) }
+    ensures most_taken { input.new.taken ≤ input.new.limit + 1 }
+
     // A failed read is the one cause of `ReadFault`, and at Ok no read has failed.
     ensures cause { Causes (SourceRose (S.left source.old) (S.faults source.old) (S.faults source.new)) (S.faults source.old) (S.faults source.new) result }
 
@@ -156,8 +164,14 @@ pub fn read_rest<S: Source>(
         MatchResult result (λ v. IsRest (call_on input.old (S.faults source.old) (S.faults source.new) before after) (input.new.ahead ++ after) v.items)
         (RefusesRest (call_on input.old (S.faults source.old) (S.faults source.new) before after))) }
 
-    // What is left is the end of what there was.
-    ensures gave { (given : List ℕ) × Gives (S.left source.old) (S.left source.new) given }
+    // No line is judged.
+    ensures unjudged { IfErr result JudgesNoLine }
+
+    // What is left is the end of what there was, and at most one byte was taken past the limit.
+    ensures gave { GivesFront (S.left source.old) (S.left source.new) }
+    ensures most { WhereTold (S.left source.old) (S.left source.new) (λ before after.
+        TakesAtMostOnePast (call_on input.old (S.faults source.old) (S.faults source.new) before after)) }
+    ensures most_taken { input.new.taken ≤ input.new.limit + 1 }
 
     // A failed read is the one cause of `ReadFault`, and at Ok no read has failed.
     ensures cause { Causes (SourceRose (S.left source.old) (S.faults source.old) (S.faults source.new)) (S.faults source.old) (S.faults source.new) result }

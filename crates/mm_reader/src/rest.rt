@@ -1,12 +1,12 @@
 //! Reading all that follows.
 
-ghost use Rattle.std.specs.Prelude.{◌≡◌, ◌≤◌, ◌<◌, ◌+◌, ℕ, List, length, IfErr, MatchResult, OnOk, IsTrue};
+ghost use Rattle.std.specs.Prelude.{◌≡◌, ◌≤◌, ◌<◌, ◌+◌, length, IfErr, MatchResult, OnOk, IsTrue};
 ghost use Rattle.std.specs.List.{count_by};
-ghost use Rattle.sp_ports.specs.Bytes.{Gives, IsAtEnd, WhereTold};
+ghost use Rattle.sp_ports.specs.Bytes.{IsAtEnd, WhereTold};
 ghost use Rattle.sp_ports.specs.Counts.{SourceRose};
 ghost use Rattle.mm_defs.specs.Words.{is_lf};
-ghost use Rattle.mm_defs.specs.Reading.{Causes, RefusesRest};
-ghost use Rattle.mm_reader.specs.Windows.{ahead_of, call_of, IsWindow, KeepsWindow, TakesAhead, RefusesAhead, RestRead};
+ghost use Rattle.mm_defs.specs.Reading.{Causes, JudgesNoLine, RefusesRest, TakesAtMostOnePast};
+ghost use Rattle.mm_reader.specs.Windows.{ahead_of, call_of, GivesFront, IsWindow, KeepsWindow, TakesAhead, RefusesAhead, RestRead};
 
 use crate::window::{Window, refill};
 use mm_defs::ReadError;
@@ -54,7 +54,10 @@ pub fn rest<S: Source>(
     ensures told { WhereTold (S.left source.old) (S.left source.new) (λ before after.
         MatchResult result (λ v. RestRead (call_of window.old (S.faults source.old) (S.faults source.new) before after) window.old window.new v.items)
         (RefusesRest (call_of window.old (S.faults source.old) (S.faults source.new) before after))) }
-    ensures gave { (given : List ℕ) × Gives (S.left source.old) (S.left source.new) given }
+    ensures unjudged { IfErr result JudgesNoLine }
+    ensures gave { GivesFront (S.left source.old) (S.left source.new) }
+    ensures most { WhereTold (S.left source.old) (S.left source.new) (λ before after.
+        TakesAtMostOnePast (call_of window.old (S.faults source.old) (S.faults source.new) before after)) }
     ensures cause { Causes (SourceRose (S.left source.old) (S.faults source.old) (S.faults source.new)) (S.faults source.old) (S.faults source.new) result }
     ensures window { KeepsWindow window.old window.new }
     ensures at_end { IsTrue window.new.at_end → IsAtEnd (S.left source.new) }

@@ -39,6 +39,7 @@ pub fn new_buffer(alloc: Global) -> Result<Vec<u8>, OutOfMemory>
 fn most_wanted(room: u64) -> usize
     ensures some { 0 < result }
     ensures fits { result ≤ BUFFER }
+    ensures one_past { result ≤ room + 1 }
 {
     if room < BUFFER as u64 {
         return room as usize + 1;

@@ -1,8 +1,8 @@
 use Rattle.std.proofs.Common.{List, ℕ, ◌<◌, refl, sym, subst, ◌∙◌, arith}
 use Rattle.sp_ports.specs.Counts.{SourceRose}
 use Rattle.mm_reader.specs.Windows.{ahead_of, Filled}
-use Rattle.mm_reader.proofs.Exits.{rose_since, turn_smaller}
-use Rattle.mm_reader.proofs.RestLaws.{filled_start, filled_taken, filled_refilled, rest_refused, rest_fault, rest_read, refused_no_rest_fault}
+use Rattle.mm_reader.proofs.Exits.{most_told, rose_since, turn_smaller}
+use Rattle.mm_reader.proofs.RestLaws.{filled_start, filled_taken, filled_refilled, rest_refused, rest_fault, rest_read, refused_no_rest_fault, unjudged}
 use Rattle.mm_reader.proofs.rest.rest.Goals as goal
 
 pub returns-in-Err : goal.returns-in-Err
@@ -11,7 +11,9 @@ returns-in-Err g c =
     let e = c.in-Err.ensures in
     record {
       told = rest_refused c.args.window.now c.take_ahead.new.window (g.S.Source.faults c.args.source.now) (g.S.Source.faults c.reading.source) c.args.window.now.lines c.reading.bytes.items c.reading.window _ _ c.in-Err.error i.filled e.err;
+      unjudged = unjudged c.reading.window c.in-Err.error e.err;
       gave = (i.filled.gave, i.filled.told);
+      most = most_told c.args.window.now c.reading.window (g.S.Source.faults c.args.source.now) (g.S.Source.faults c.reading.source) _ _ i.filled.gave _ i.filled.told i.filled.split i.filled.size i.kept.window;
       cause = record { later = omega (arith, i.steady); steady = tt; failed = λ x. absurd (refused_no_rest_fault _ c.reading.window c.in-Err.error e.err x) };
       window = record { window = e.window.window; room = omega (arith, e.window.room, i.kept.room); counts = omega (arith, e.window.counts, i.kept.counts) };
       at_end = λ t. i.at_end (rw (← e.at_end) t);
@@ -26,7 +28,9 @@ returns-then-window g c =
     record {
       told = rest_read c.args.window.now c.take_ahead.new.window (g.S.Source.faults c.args.source.now) (g.S.Source.faults c.reading.source) c.args.window.now.lines c.take_ahead.new.bytes.items c.take_ahead.new.window _ _ f e.ok.ahead_is refl refl refl refl
           (i.at_end (rw (← e.at_end) c.if-window.true)) i.steady;
+      unjudged = tt;
       gave = (i.filled.gave, i.filled.told);
+      most = most_told c.args.window.now c.reading.window (g.S.Source.faults c.args.source.now) (g.S.Source.faults c.reading.source) _ _ i.filled.gave _ i.filled.told i.filled.split i.filled.size i.kept.window;
       cause = record { later = omega (arith, i.steady); steady = i.steady; failed = λ x. absurd cc };
       window = record { window = e.window.window; room = omega (arith, e.window.room, i.kept.room); counts = omega (arith, e.window.counts, i.kept.counts) };
       at_end = λ t. i.at_end (rw (← e.at_end) t);
@@ -43,8 +47,10 @@ returns-in-Err-refill g c =
     rose_since (g.S.Source.left c.args.source.now) (g.S.Source.left c.reading.source) i.filled.gave _ (g.S.Source.faults c.reading.source) _ i.filled.told i.steady r.cause.failed in
     record {
       told = rw r.kept (rest_fault c.args.window.now c.refill.new.window (g.S.Source.faults c.args.source.now) (g.S.Source.faults c.refill.new.source) c.args.window.now.lines c.take_ahead.new.bytes.items c.take_ahead.new.window
-          (g.S.Source.left c.args.source.now) (g.S.Source.left c.reading.source) f s);
+          (g.S.Source.left c.args.source.now) (g.S.Source.left c.reading.source) f e.ok.ahead_is s);
+      unjudged = tt;
       gave = (i.filled.gave, rw r.kept i.filled.told);
+      most = rw r.kept (most_told c.args.window.now c.reading.window (g.S.Source.faults c.args.source.now) (g.S.Source.faults c.refill.new.source) _ _ i.filled.gave _ i.filled.told i.filled.split i.filled.size i.kept.window);
       cause = record { later = omega (arith, i.steady, r.cause.later); steady = tt; failed = λ x. s };
       window = record { window = r.window; room = omega (arith, r.room, e.window.room, i.kept.room); counts = omega (arith, r.lines, r.room, e.window.counts, i.kept.counts) };
       at_end = λ t. rw r.kept (i.at_end (rw (← e.at_end, ← r.same) t));
