@@ -17,7 +17,8 @@ use Rattle.sp_pattern.specs.Stored.{AreOrders, piece, pieces, stored}
 use Rattle.sp_pattern.proofs.Cuts.{get_or-pieces, length-pieces}
 use Rattle.sp_pattern.proofs.Orders.{length-inners}
 use Rattle.sp_pattern.proofs.Shape.{orders_columns}
-use Rattle.sp_pattern.proofs.Sides.{inners_lists, inners_of, order_piece, order_starts}
+use Rattle.sp_pattern.proofs.Sides.{inners_lists, inners_of, order_piece, order_starts, order_table}
+use Rattle.sp_pattern.proofs.Turning.{order_turned_length, turned_parts}
 
 -- an order of pairs, by its parts
 pub order_parts : (m n : ℕ) (ps : List Pair) (starts flat : List ℕ) → IsOrderOf m n ps starts flat → AreParts m (λ i j. Among (i, j) ps) starts flat
@@ -27,18 +28,6 @@ order_parts m n ps starts flat o = record {
   parts = λ i lt. subst (Lists (λ j. Among (i, j) ps)) (sym (order_piece m n starts flat o.order i lt))
       (lists_same (λ j. Among (i, j) o.order.pairs) (λ j. Among (i, j) ps) (inners_of i o.order.pairs)
       (λ j h. (o.same (i, j)).0 h) (λ j h. (o.same (i, j)).1 h) (inners_lists i o.order.pairs o.order.front.rising));
-}
-
--- turned round, the parts are of the same pairs
-pub turned_parts : (m n k : ℕ) (P : ℕ → ℕ → Type 0) (starts flat new_starts new_flat : List ℕ) → AreParts m P starts flat → ((i j : ℕ) → P i j → i < m) → k ≡ m
-    → AreParts n (λ j i. (i < k) × Among j (piece starts flat i)) new_starts new_flat → AreParts n (λ j i. P i j) new_starts new_flat
-turned_parts m n k P starts flat new_starts new_flat a inside same b = record {
-  long = b.long;
-  cut = b.cut;
-  parts = λ j lt. lists_same (λ i. (i < k) × Among j (piece starts flat i)) (λ i. P i j) (piece new_starts new_flat j)
-      (λ i h. (a.parts i (let l = h.0 in omega (arith, l, same))).sound j h.1)
-      (λ i h. let lt' = inside i j h in (omega (arith, lt', same), (a.parts i lt').complete j h))
-      (b.parts j lt);
 }
 
 module _ (rows cols : ℕ) (P : ℕ → ℕ → Type 0) (cs rs us vs : List ℕ) (by_col : AreParts cols (λ c r. P r c) cs rs) (by_row : AreParts rows P us vs) (inside : (r c : ℕ) → P r c → (r < rows) × (c < cols)) where
@@ -87,7 +76,8 @@ of_columns rows cols ps cs rs us vs o t few_rows few_cols few =
     let by_col = order_parts cols rows ps cs rs o in
     let long = by_col.long in
     let inside : AreInside cols rows ps = λ p h. o.order.inside p ((o.same p).1 h) in
-    let by_row = turned_parts cols rows (length cs - 1) (λ c r. Among (c, r) ps) cs rs us vs by_col (λ c r h. (inside (c, r) h).0) (omega (arith, long)) t.parts in
+    let same : length cs - 1 ≡ cols = omega (arith, long) in
+    let by_row = turned_parts cols rows ps cs rs us vs o (t o.order.pairs (rw same (order_table cols rows cs rs o.order))) in
     let within : (r c : ℕ) → Among (c, r) ps → (r < rows) × (c < cols) = λ r c h. ((inside (c, r) h).1, (inside (c, r) h).0) in
     let orders = both_orders rows cols (λ r c. Among (c, r) ps) cs rs us vs by_col by_row within few_rows few_cols few in
     (orders, both_places rows cols (λ r c. Among (c, r) ps) cs rs us vs by_col by_row within (turned ps) (λ r c h. turned_among c r ps h) (λ r c h. turned_back c r ps h) orders)
@@ -105,9 +95,12 @@ pub of_rows : (rows cols : ℕ) (ps : List Pair) (cs rs us vs : List ℕ) → Is
 of_rows rows cols ps cs rs us vs o t inside few_rows few_cols few =
     let by_row = order_parts rows cols ps us vs o in
     let long = by_row.long in
-    let by_col = turned_parts rows cols (length us - 1) (λ r c. Among (r, c) ps) us vs cs rs by_row (λ r c h. (inside (r, c) h).0) (omega (arith, long)) t.parts in
+    let same : length us - 1 ≡ rows = omega (arith, long) in
+    let turned_pairs = t o.order.pairs (rw same (order_table rows cols us vs o.order)) in
+    let by_col = turned_parts rows cols ps us vs cs rs o turned_pairs in
+    let same_length = order_turned_length rows cols us vs cs rs o.order turned_pairs in
     let within : (r c : ℕ) → Among (r, c) ps → (r < rows) × (c < cols) = λ r c h. inside (r, c) h in
-    let orders = both_orders rows cols (λ r c. Among (r, c) ps) cs rs us vs by_col by_row within few_rows few_cols (let f = o.few in let s = t.same_length in omega (arith, f, s, few)) in
+    let orders = both_orders rows cols (λ r c. Among (r, c) ps) cs rs us vs by_col by_row within few_rows few_cols (let f = o.few in omega (arith, f, same_length, few)) in
     (orders, both_places rows cols (λ r c. Among (r, c) ps) cs rs us vs by_col by_row within ps (λ r c h. h) (λ r c h. h) orders)
 
 -- The same, as the calls say it.

@@ -1,12 +1,15 @@
 pub mod Both
 pub mod Cuts
+pub mod Keeping
 pub mod Loading
 pub mod Numbers
 pub mod Orders
 pub mod Placing
 pub mod Shape
 pub mod Slices
+pub mod Splitting
 pub mod Sides
 pub mod Summing
 pub mod Tallies
+pub mod Turning
 pub mod Weighed

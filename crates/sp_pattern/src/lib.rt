@@ -2,10 +2,13 @@
 #![tactic(auto)]
 
 mod compress;
+mod group;
 mod load;
 mod pairs;
 mod pattern;
 mod pieces;
+mod split;
+mod spread;
 #[cfg(test)]
 mod tests;
 mod turn;

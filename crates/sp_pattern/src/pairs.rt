@@ -1,13 +1,10 @@
 //! Lists of pairs of an outer and an inner number.
 
-ghost use Rattle.std.specs.Prelude.{◌≡◌, ◌+◌, ◌<◌, ◌↔◌, IfOk, IsPermutation, IsTrue, ℕ, List, length};
+ghost use Rattle.std.specs.Prelude.{◌≡◌, ◌+◌, ◌<◌, ◌↔◌, IsTrue, ℕ, List, length, map};
 ghost use Rattle.bip_defs.specs.Matching.{turned};
-ghost use Rattle.sp_pattern.specs.Order.{AreSorted, pair_at};
+ghost use Rattle.sp_pattern.specs.Order.{AreSorted, in_blocks, pair_at, with_zero};
 
-use rayon::prelude::*;
-use sp_ids::{Col, OutOfMemory, Row};
-use std::alloc::Global;
-use std::thread::Threads;
+use sp_ids::{Col, Id, Row};
 
 /// A list of pairs.
 pub trait Pairs: Drop {
@@ -59,13 +56,53 @@ impl Pairs for ByRow<'_> {
     }
 }
 
-/// Pairs of a column and a row of their own.
-#[derive(Drop)]
-pub struct Sorted {
-    pub pairs: Vec<(Col, Row)>,
+/// Numbers, each as the inner one of a pair.
+#[derive(Clone, Copy)]
+pub struct Inners<'a, I> {
+    pub flat: &'a [I],
 }
 
-impl Pairs for Sorted {
+impl<I: Id> Pairs for Inners<'_, I> {
+    ghost pairs = { λ s. with_zero (map I.number s.flat.now) };
+
+    fn len(&self) -> usize {
+        self.flat.len()
+    }
+
+    fn at(&self, k: usize) -> (u32, u32) {
+        (0, self.flat[k].number())
+    }
+}
+
+/// How many inner numbers make a block.
+pub const BLOCK: u32 = 4096;
+
+/// The same pairs, with the block of the inner number in its place.
+#[derive(Clone, Copy)]
+pub struct Blocks<'a, P> {
+    pub pairs: &'a P,
+}
+
+impl<P: Pairs> Pairs for Blocks<'_, P> {
+    ghost pairs = { λ s. in_blocks (P.pairs s.pairs.now) };
+
+    fn len(&self) -> usize {
+        self.pairs.len()
+    }
+
+    fn at(&self, k: usize) -> (u32, u32) {
+        let (outer, inner) = self.pairs.at(k);
+        (outer, inner / BLOCK)
+    }
+}
+
+/// Pairs of their own.
+#[derive(Drop)]
+pub struct Split {
+    pub pairs: Vec<(u32, u32)>,
+}
+
+impl Pairs for Split {
     ghost pairs = { λ s. s.pairs.items };
 
     fn len(&self) -> usize {
@@ -73,8 +110,7 @@ impl Pairs for Sorted {
     }
 
     fn at(&self, k: usize) -> (u32, u32) {
-        let (col, row) = self.pairs[k];
-        (col.0, row.0)
+        self.pairs[k]
     }
 }
 
@@ -95,21 +131,4 @@ pub fn are_sorted<P: Pairs>(pairs: &P) -> bool
         last = next;
     }
     true
-}
-
-/// The places as pairs of a column and a row, in order.
-pub fn sorted_by_col<R: Threads + Sync>(
-    rt: &R,
-    alloc: Global,
-    places: &[(Row, Col)],
-) -> Result<Sorted, OutOfMemory>
-    ensures sorted { IfOk result (λ s. AreSorted s.pairs.items) }
-    ensures same { IfOk result (λ s. IsPermutation (turned places.now) s.pairs.items) }
-{
-    let mut pairs = Vec::with_capacity(alloc, places.len())?;
-    for (row, col) in places {
-        pairs.push((*col, *row))?;
-    }
-    par_sort_unstable(rt, pairs.as_mut_slice());
-    Ok(Sorted { pairs })
 }

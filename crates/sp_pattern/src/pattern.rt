@@ -10,7 +10,8 @@ ghost use Rattle.sp_pattern.specs.Stored.{IsPattern};
 ghost use Rattle.sp_pattern.specs.Weighing.{position, start_of};
 
 use crate::compress::compress;
-use crate::pairs::{ByCol, ByRow, Pairs, are_sorted, sorted_by_col};
+use crate::group::by_columns;
+use crate::pairs::{ByCol, ByRow, Pairs, are_sorted};
 use crate::pieces::part;
 use crate::turn::turn;
 use sp_ids::{Col, OutOfMemory, Row, Triples};
@@ -45,9 +46,9 @@ impl Model for Pattern {
 impl Pattern {
     /// The pattern of the places of these entries. A place that is given several times is one entry.
     ///
-    /// Answers `OutOfMemory` where there is no memory for the pattern, or for 8 bytes an entry beside it where the
-    /// entries stand neither by columns nor by rows. Work: linear in the entries, the rows and the columns, and in that
-    /// last case one sort of the entries.
+    /// It is made on the calling thread, by counting. Answers `OutOfMemory` where there is no memory for the pattern, or
+    /// for 8 bytes an entry beside it where entries that are given together lie far apart. Work: linear in the entries,
+    /// the rows and the columns, least where the entries stand by columns or by rows.
     pub fn build<R: Threads + Sync>(
         rt: &R,
         alloc: Global,
@@ -63,8 +64,8 @@ impl Pattern {
         if are_sorted(&ByRow { places }) {
             return Pattern::from_rows(alloc, rows, cols, ByRow { places });
         }
-        let sorted = sorted_by_col(rt, alloc, places)?;
-        Pattern::from_columns(alloc, rows, cols, sorted)
+        let (col_starts, col_rows) = by_columns(alloc, places, rows, cols)?;
+        Pattern::from_column_order(alloc, rows, cols, col_starts, col_rows)
     }
 
     // The pattern of pairs of a column and a row, in order. The pairs are let go as soon as they are compressed.

@@ -66,6 +66,69 @@ fn no_rows_and_no_entries(rt: HostRuntime) -> Result<(), Fail> {
     let bare = Pattern::build(&rt, rt.alloc(), &triples(rt.alloc(), 1, 2, &[])?)?;
     assert_eq!(rt; bare.cols(), 2);
     assert_eq!(rt; bare.entries(), 0);
+    let narrow = Pattern::build(&rt, rt.alloc(), &triples(rt.alloc(), 2, 0, &[])?)?;
+    assert_eq!(rt; narrow.rows(), 2);
+    assert_eq!(rt; narrow.cols(), 0);
+    let flat = Pattern::build(&rt, rt.alloc(), &triples(rt.alloc(), 0, 2, &[])?)?;
+    assert_eq!(rt; flat.rows(), 0);
+    assert_eq!(rt; flat.cols(), 2);
+    Ok(())
+}
+
+#[test]
+fn places_in_no_order_that_come_back(rt: HostRuntime) -> Result<(), Fail> {
+    let places = [(2, 1), (0, 1), (2, 1), (0, 0), (2, 1), (0, 1)];
+    let pattern = Pattern::build(&rt, rt.alloc(), &triples(rt.alloc(), 3, 2, &places)?)?;
+    assert_eq!(rt; pattern.entries(), 3);
+    assert_eq!(rt; pattern.rows_of(Col(0)), [Row(0)].as_slice());
+    assert_eq!(rt; pattern.rows_of(Col(1)), [Row(0), Row(2)].as_slice());
+    assert_eq!(rt; pattern.cols_of(Row(0)), [Col(0), Col(1)].as_slice());
+    assert_eq!(rt; pattern.cols_of(Row(1)).is_empty(), true);
+    assert_eq!(rt; pattern.cols_of(Row(2)), [Col(1)].as_slice());
+    Ok(())
+}
+
+#[test]
+fn places_and_their_mirror_images(rt: HostRuntime) -> Result<(), Fail> {
+    let places = [
+        (1, 0),
+        (0, 1),
+        (3, 0),
+        (0, 3),
+        (2, 2),
+        (3, 2),
+        (2, 3),
+        (3, 2),
+    ];
+    let pattern = Pattern::build(&rt, rt.alloc(), &triples(rt.alloc(), 4, 4, &places)?)?;
+    assert_eq!(rt; pattern.entries(), 7);
+    assert_eq!(rt; pattern.rows_of(Col(0)), [Row(1), Row(3)].as_slice());
+    assert_eq!(rt; pattern.rows_of(Col(1)), [Row(0)].as_slice());
+    assert_eq!(rt; pattern.rows_of(Col(2)), [Row(2), Row(3)].as_slice());
+    assert_eq!(rt; pattern.rows_of(Col(3)), [Row(0), Row(2)].as_slice());
+    assert_eq!(rt; pattern.cols_of(Row(0)), [Col(1), Col(3)].as_slice());
+    assert_eq!(rt; pattern.cols_of(Row(3)), [Col(0), Col(2)].as_slice());
+    Ok(())
+}
+
+// The row r has entries in the columns 513 r and 513 r + 1, modulo 131072. Since 513 times 511 is -1 modulo 131072, the
+// column 0 has one in the row 0 and one in the row 511.
+#[test]
+fn many_places_far_apart(rt: HostRuntime) -> Result<(), Fail> {
+    let mut triples = Triples::new(rt.alloc(), 131072, 131072, Field::Pattern)?;
+    for k in 0..262144u32 {
+        let row = k * 513 % 131072;
+        let col = (row * 513 + k / 131072) % 131072;
+        if row < triples.rows() && col < triples.cols() && triples.len() < 262144 {
+            triples.push(Row(row), Col(col), 0)?;
+        }
+    }
+    let pattern = Pattern::build(&rt, rt.alloc(), &triples)?;
+    assert_eq!(rt; pattern.entries(), 262144);
+    assert_eq!(rt; pattern.rows_of(Col(0)), [Row(0), Row(511)].as_slice());
+    assert_eq!(rt; pattern.rows_of(Col(513)), [Row(1), Row(512)].as_slice());
+    assert_eq!(rt; pattern.cols_of(Row(0)), [Col(0), Col(1)].as_slice());
+    assert_eq!(rt; pattern.cols_of(Row(511)), [Col(0), Col(131071)].as_slice());
     Ok(())
 }
 

@@ -1,10 +1,18 @@
-use Rattle.std.proofs.Common.{arith, length, map}
+use Rattle.std.proofs.Common.{arith}
 use Rattle.std.proofs.lemmas.List.{map-id}
 use Rattle.sp_pattern.proofs.Both.{lent_order, made_by_columns, order_itself}
+use Rattle.sp_pattern.proofs.Sides.{order_inside, order_table}
 use Rattle.sp_pattern.proofs.pattern.Pattern.from_column_order.Goals as goal
 
-pub turn-requires-clause-order : goal.turn-requires-clause-order
-turn-requires-clause-order c = lent_order c.args.cols c.args.rows _ _ _ _ c.requires.order c.as_slice.ensures.value c.as_slice-2.ensures.value
+pub turn-requires-clause-table : goal.turn-requires-clause-table
+turn-requires-clause-table c =
+    let o = lent_order c.args.cols c.args.rows _ _ _ _ c.requires.order c.as_slice.ensures.value c.as_slice-2.ensures.value in
+    (o.pairs, order_table _ _ _ _ o)
+
+pub turn-requires-clause-inside : goal.turn-requires-clause-inside
+turn-requires-clause-inside c =
+    let o = lent_order c.args.cols c.args.rows _ _ _ _ c.requires.order c.as_slice.ensures.value c.as_slice-2.ensures.value in
+    λ k lt. order_inside _ _ _ _ o k (rw map-id lt)
 
 pub invariant_of-result : goal.invariant_of-result
 invariant_of-result c = (made_by_columns c.args.rows c.args.cols _ _ _ _ _ _ _ (order_itself _ _ _ _ c.requires.order) c.as_slice.ensures.value c.as_slice-2.ensures.value c.in_ok-row_starts.ensures (let f = c.ranges.rows in omega (arith, f)) (let f = c.ranges.cols in omega (arith, f)) c.requires.few).0
