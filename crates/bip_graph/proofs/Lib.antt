@@ -5,5 +5,6 @@ pub mod Halfway
 pub mod Handing
 pub mod Mates
 pub mod Members
+pub mod Reports
 pub mod Seen
 pub mod Stretching

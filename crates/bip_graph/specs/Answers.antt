@@ -1,12 +1,12 @@
 -- What the texts of a matrix say: each is the text of its rank, parts and blocks as they are defined.
-use Rattle.std.specs.Prelude.{◌≡◌, ℕ, Bool, true, false, List, ◌++◌, Option, None, Some}
+use Rattle.std.specs.Prelude.{◌≡◌, ℕ, Bool, true, false, List, [], ◌∷◌, ◌++◌, Option, None, Some}
 use Rattle.bip_defs.specs.Decomposition.{Decomposition, IsDecompositionOf}
 use Rattle.bip_defs.specs.Lists.{IsRising, Lists}
 use Rattle.bip_defs.specs.Matching.{IsMaximum, IsRank, cols_of}
 use Rattle.bip_defs.specs.Matrix.{Matrix, Place}
 use Rattle.bip_defs.specs.Parts.{IsHorizontalCol, IsHorizontalRow}
 use Rattle.bip_graph.specs.Stretches.{all_cols, all_rows}
-use Rattle.bip_graph.specs.Texts.{Report, rank_text, report_text, sizes_of}
+use Rattle.bip_graph.specs.Texts.{Report, end_line, pair_lines, rank_text, report_text, sizes_of, text_of}
 
 -- the text over the rank and the rising lists of the horizontal part
 pub record IsRankText (a : Matrix) (text : List ℕ) : Type 0 where
@@ -40,12 +40,6 @@ report_of a d order pairs = record {
   pairs = pairs;
 }
 
--- the report of a matrix, without pairs
-pub record IsReport (a : Matrix) (order : Bool) (text : List ℕ) : Type 0 where
-  pub decomposition : Decomposition
-  pub is_decomposition : IsDecompositionOf a decomposition
-  pub spelled : text ≡ report_text (report_of a decomposition order None)
-
 -- pairs are listed where they are asked for, and then they are a maximum matching, rising by column
 abbrev pub ArePairs : Matrix → Bool → Option (List Place) → Type 0
 ArePairs a true (Some m) = IsMaximum a m × IsRising (cols_of m)
@@ -53,10 +47,19 @@ ArePairs a true None = ⊥
 ArePairs a false (Some m) = ⊥
 ArePairs a false None = Unit {0}
 
--- the report of a matrix; with pairs they stand before its end
+-- the report of a matrix, with pairs or without
 pub record IsAnalysis (a : Matrix) (order pairs : Bool) (text : List ℕ) : Type 0 where
   pub decomposition : Decomposition
   pub is_decomposition : IsDecompositionOf a decomposition
   pub matching : Option (List Place)
   pub are_pairs : ArePairs a pairs matching
   pub spelled : text ≡ report_text (report_of a decomposition order matching)
+
+-- the report without pairs, and before its end the lines of a maximum matching
+pub record IsWithPairs (a : Matrix) (order : Bool) (text : List ℕ) : Type 0 where
+  pub front : List ℕ
+  pub matching : List Place
+  pub is_maximum : IsMaximum a matching
+  pub is_rising : IsRising (cols_of matching)
+  pub is_report : IsAnalysis a order false (front ++ text_of (end_line ∷ []))
+  pub spelled : text ≡ front ++ text_of (pair_lines (Some matching)) ++ text_of (end_line ∷ [])

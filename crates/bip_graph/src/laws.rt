@@ -1,8 +1,8 @@
 //! Laws on the texts.
 
-ghost use Rattle.std.specs.Prelude.{◌≡◌, ℕ, Bool, List};
+ghost use Rattle.std.specs.Prelude.{◌≡◌, ◌↔◌, ℕ, Bool, true, false, List};
 ghost use Rattle.bip_defs.specs.Matrix.{Matrix};
-ghost use Rattle.bip_graph.specs.Answers.{IsRankText, IsReport};
+ghost use Rattle.bip_graph.specs.Answers.{IsAnalysis, IsRankText, IsWithPairs};
 
 /// A matrix has one text of its rank.
 pub fn one_rank_text()
@@ -11,5 +11,10 @@ pub fn one_rank_text()
 
 /// Two reports of one matrix under the same options, without pairs, are the same bytes.
 pub fn one_report()
-    ensures { (a : Matrix) (order : Bool) (s t : List ℕ) → IsReport a order s → IsReport a order t → s ≡ t }
+    ensures { (a : Matrix) (order : Bool) (s t : List ℕ) → IsAnalysis a order false s → IsAnalysis a order false t → s ≡ t }
+{}
+
+/// The reports with pairs are the one without them, with the lines of any maximum matching before its end.
+pub fn pairs_before_the_end()
+    ensures { (a : Matrix) (order : Bool) (t : List ℕ) → IsAnalysis a order true t ↔ IsWithPairs a order t }
 {}

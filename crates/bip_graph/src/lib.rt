@@ -8,5 +8,5 @@ mod matching;
 
 pub use answers::{Decomposition, Heaviest, Parts};
 pub use blocks::Blocks;
-pub use laws::{one_rank_text, one_report};
+pub use laws::{one_rank_text, one_report, pairs_before_the_end};
 pub use matching::Matching;

@@ -34,7 +34,8 @@ use sp_ids::OutOfMemory;
 use sp_pattern::Pattern;
 use std::alloc::Global;
 
-/// One depth-first phase. Gives by how much the matching has grown: 0 exactly where it was maximum.
+/// One depth-first phase. Gives by how much the matching has grown: 0 exactly where it was maximum, and then it stays as
+/// it was.
 ///
 /// The matching must be of the pattern's entries and sizes, and no row or column loses its mate without a new one. Answers
 /// `OutOfMemory` where there is no memory for 17 bytes a row, 4 a column and 4 an unmatched column; the matching is as
@@ -47,6 +48,7 @@ pub fn phase(alloc: Global, pattern: &Pattern, matching: &mut Matching) -> Resul
     ensures matching { IsMatching pattern.now matching.new.pairs }
     ensures growth { IfOk result (λ k. length matching.new.pairs ≡ length matching.old.pairs + k) }
     ensures maximum { IfOk result (λ k. (k ≡ 0) ↔ IsMaximum pattern.now matching.old.pairs) }
+    ensures same { IfOk result (λ k. k ≡ 0 → matching.new ≡ matching.old) }
     ensures rows_stay { (r : ℕ) → Among r (rows_of matching.old.pairs) → Among r (rows_of matching.new.pairs) }
     ensures cols_stay { (c : ℕ) → Among c (cols_of matching.old.pairs) → Among c (cols_of matching.new.pairs) }
     ensures refused { OnErr result (matching.new ≡ matching.old) }

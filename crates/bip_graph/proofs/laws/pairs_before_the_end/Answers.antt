@@ -1,0 +1,5 @@
+use Rattle.bip_graph.proofs.Reports.{with_pairs, without_pairs}
+use Rattle.bip_graph.proofs.laws.pairs_before_the_end.Goals as goal
+
+pub returns : goal.returns
+returns c a order t = (with_pairs a order t, without_pairs a order t)
