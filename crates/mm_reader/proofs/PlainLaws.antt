@@ -143,9 +143,6 @@ not_true false h = refl
 pub visible_inner : (b : ℕ) → is_visible b ≡ true → is_inner b ≡ true
 visible_inner b h = and_left (not (is_lf b)) (not (is_blank b)) h
 
-visible_no_blank : (b : ℕ) → is_visible b ≡ true → is_blank b ≡ false
-visible_no_blank b h = not_true (is_blank b) (and_right (not (is_lf b)) (not (is_blank b)) h)
-
 pub blank_inner : (b : ℕ) → is_blank b ≡ true → is_inner b ≡ true
 blank_inner b h = by (is_lf b) refl
   where
