@@ -1,8 +1,11 @@
 //! The real devices: standard input, standard output and standard error.
 //!
-//! Each counts its failures. What bytes the system really gave or took is told by none of them.
+//! Each counts its failures. What bytes the system really gave or took is told by none of them. Where a reader's or a
+//! writer's bytes are known, each call does with them what it answers.
 
-ghost use Rattle.std.specs.Prelude.{◌≡◌, ◌+◌, ◌-◌, ◌^◌, ◌≤◌, min, None};
+ghost use Rattle.std.specs.Prelude.{◌≡◌, ◌<◌, ◌+◌, ◌-◌, ◌^◌, ◌≤◌, min, length, IfOk, None};
+ghost use Rattle.std.specs.Io.KnownBytes.{Keeps, ReadConsumes, WriteAppends};
+ghost use Rattle.sp_ports.specs.Counts.{HasCause, Rose};
 
 use sp_ports::{Failed, Sink, Source};
 use std::io::{Read, Stderr, Stdin, Stdout, Write};
@@ -37,7 +40,12 @@ impl<R: Read> Source for Incoming<R> {
 
     ghost faults = { λ s. s.faults };
 
-    fn read(&mut self, buf: &mut [u8]) -> Result<usize, Failed> {
+    /// A reader that fails is not taken for one at its end.
+    fn read(&mut self, buf: &mut [u8]) -> Result<usize, Failed>
+        ensures bound { IfOk result (λ k. k ≤ length buf.old) }
+        ensures reader { ReadConsumes (R.remaining self.old.reader) (R.remaining self.new.reader) result buf.new }
+        ensures cause { HasCause (Rose self.old.faults self.new.faults) self.old.faults self.new.faults result }
+    {
         match self.reader.read(buf) {
             Ok(count) => Ok(count),
             Err(_) => Err(count_failure(&mut self.faults)),
@@ -67,7 +75,12 @@ impl<W: Write> Sink for Outgoing<W> {
     ghost faults = { λ s. s.faults };
 
     /// A writer that takes nothing of a piece that is not empty has failed.
-    fn write(&mut self, piece: &[u8]) -> Result<usize, Failed> {
+    fn write(&mut self, piece: &[u8]) -> Result<usize, Failed>
+        ensures bound { IfOk result (λ k. k ≤ length piece.now) }
+        ensures some { IfOk result (λ k. 0 < length piece.now → 0 < k) }
+        ensures writer { WriteAppends (W.contents self.old.writer) (W.contents self.new.writer) result piece.now }
+        ensures cause { HasCause (Rose self.old.faults self.new.faults) self.old.faults self.new.faults result }
+    {
         match self.writer.write(piece) {
             Ok(count) => {
                 if count == 0 && !piece.is_empty() {
@@ -79,7 +92,10 @@ impl<W: Write> Sink for Outgoing<W> {
         }
     }
 
-    fn flush(&mut self) -> Result<(), Failed> {
+    fn flush(&mut self) -> Result<(), Failed>
+        ensures writer { Keeps (W.contents self.old.writer) (W.contents self.new.writer) }
+        ensures cause { HasCause (Rose self.old.faults self.new.faults) self.old.faults self.new.faults result }
+    {
         match self.writer.flush() {
             Ok(()) => Ok(()),
             Err(_) => Err(count_failure(&mut self.faults)),
@@ -98,9 +114,88 @@ pub type StderrSink = Outgoing<Stderr>;
 
 #[cfg(test)]
 mod tests {
-    use super::{StderrSink, StdinSource, StdoutSink};
+    use super::{Incoming, Outgoing, StderrSink, StdinSource, StdoutSink};
     use sp_ports::{Failed, Sink, Source};
+    use std::io::{self, ErrorKind, Read, Write};
     use std::test::Fail;
+
+    /// Fails twice, and gives the same two bytes in each later call.
+    #[derive(Drop)]
+    struct FailingReader {
+        calls: u8,
+    }
+
+    impl Read for FailingReader {
+        fn read(&mut self, buf: &mut [u8]) -> io::Result<usize> {
+            self.calls = self.calls.saturating_add(1);
+            if self.calls <= 2 {
+                return Err(io::Error::from(ErrorKind::BrokenPipe));
+            }
+            let count = buf.len().min(2);
+            buf[..count].copy_from_slice(&b"ab"[..count]);
+            Ok(count)
+        }
+    }
+
+    /// Fails, takes nothing, and takes at most two bytes in each later call. No byte goes further.
+    #[derive(Drop)]
+    struct FailingWriter {
+        calls: u8,
+    }
+
+    impl Write for FailingWriter {
+        fn write(&mut self, buf: &[u8]) -> io::Result<usize> {
+            self.calls = self.calls.saturating_add(1);
+            match self.calls {
+                1 => Err(io::Error::from(ErrorKind::BrokenPipe)),
+                2 => Ok(0),
+                _ => Ok(buf.len().min(2)),
+            }
+        }
+
+        fn flush(&mut self) -> io::Result<()> {
+            Err(io::Error::from(ErrorKind::BrokenPipe))
+        }
+    }
+
+    #[test]
+    fn failed_reads_are_counted(rt: HostRuntime) -> Result<(), Fail> {
+        let mut source = Incoming::new(FailingReader { calls: 0 });
+        let mut buffer = [b'.'; 3];
+        let calls = [
+            (Err(Failed), b"...", 1),
+            (Err(Failed), b"...", 2),
+            (Ok(2), b"ab.", 2),
+        ];
+        for (answer, held, faults) in calls {
+            assert_eq!(rt; source.read(&mut buffer), answer);
+            assert_eq!(rt; buffer.as_slice(), held.as_slice());
+            assert_eq!(rt; source.faults, faults);
+        }
+        Ok(())
+    }
+
+    #[test]
+    fn failed_writes_are_counted(rt: HostRuntime) -> Result<(), Fail> {
+        let mut sink = Outgoing::new(FailingWriter { calls: 0 });
+        let pieces: [(&[u8], Result<usize, Failed>, u64); 5] = [
+            (b"abc", Err(Failed), 1),
+            // Nothing was taken of a piece that is not empty.
+            (b"abc", Err(Failed), 2),
+            (b"abc", Ok(2), 2),
+            (b"c", Ok(1), 2),
+            (b"", Ok(0), 2),
+        ];
+        for (piece, answer, faults) in pieces {
+            assert_eq!(rt; sink.write(piece), answer);
+            assert_eq!(rt; sink.faults, faults);
+        }
+        for faults in [3, 4] {
+            assert_eq!(rt; sink.flush(), Err(Failed));
+            assert_eq!(rt; sink.faults, faults);
+        }
+        Ok(())
+    }
 
     #[test]
     fn standard_input_is_read_to_its_end(rt: HostRuntime) -> Result<(), Fail> {
