@@ -70,7 +70,7 @@ fits a pattern = record { rows = pattern.few_rows; columns = pattern.few_cols; e
 pub met_by_valid : (a : Matrix) (bytes : List ℕ) → IsPattern a → IsValid a bytes → (k : ℕ) → IsMetBy a bytes k
 met_by_valid a bytes pattern (order, is) k =
     let (r, report, e) = analysed a bytes order is in
-    let this : Spells bytes r = record { readable = subst IsReadable (sym report.same) (can_be_read a report.decomposition report.order report.matching (fits a pattern) report.is_decomposition report.maximum report.rising); spelled = e } in
+    let this : Spells bytes r = record { readable = subst IsReadable (sym report.same) (can_be_read a report.decomposition report.order report.matching (fits a pattern) report.is_decomposition report.maximum.matching report.rising); spelled = e } in
     record { grammar = λ e. (r, this); report = λ s h. subst (λ x. IsMet a x k) (one_report bytes r s this h) (met_of_report a r report k) }
 
 -- What a report that was read leaves.

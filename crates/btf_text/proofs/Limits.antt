@@ -5,13 +5,13 @@ use Rattle.bip_defs.specs.Blocks.{Block, Chain, ColAt, IsBlock, IsPerfect, RowAt
 use Rattle.bip_defs.specs.Blocks.Chain.{by_col, by_row}
 use Rattle.bip_defs.specs.Decomposition.{Decomposition, IsDecompositionOf}
 use Rattle.bip_defs.specs.Lists.{Among, AreDistinct, IsRising, Lists}
-use Rattle.bip_defs.specs.Matching.{IsMaximum, cols_of, rows_of}
+use Rattle.bip_defs.specs.Matching.{IsMatching, cols_of, rows_of}
 use Rattle.bip_defs.specs.Matrix.{Matrix, Place, cols, upto}
 use Rattle.bip_defs.specs.Parts.{IsHorizontalCol, IsHorizontalRow, IsVerticalCol, IsVerticalRow}
 use Rattle.bip_defs.proofs.Counts.{distinct_append, horizontal_row_in_range, vertical_col_in_range}
 use Rattle.bip_defs.proofs.Sets.{among_either, col_pair, entry_col, few_distinct, one_col, one_row, pigeonhole, rising_distinct, row_pair, upto_length, upto_lists}
 use Rattle.bip_defs.proofs.Square.{square_pairs_perfect}
-use Rattle.bip_defs.proofs.Uniqueness.{block_has_col, chain_back, chain_join, chain_square, class_same, same_rank}
+use Rattle.bip_defs.proofs.Uniqueness.{block_has_col, chain_back, chain_join, chain_square, class_same}
 use Rattle.bip_graph.specs.Answers.{orders_of, report_of, where_asked}
 use Rattle.bip_graph.specs.Stretches.{all_cols, all_rows}
 use Rattle.bip_graph.specs.Texts.{square_size}
@@ -116,20 +116,25 @@ as_many_rows : (m : List Place) → length (rows_of m) ≡ length m
 as_many_rows [] = refl
 as_many_rows (p ∷ m) = ap suc (as_many_rows m)
 
-pub can_be_read : (a : Matrix) (d : Decomposition) (order : Bool) (m : List Place) → FitsText a → IsDecompositionOf a d → IsMaximum a m → IsRising (cols_of m) → IsReadable (report_of a d order (Some m))
-can_be_read a d order m fits is max rising =
+few_pairs : (a : Matrix) (m : List Place) → a.rows < 2 ^ 32 → IsMatching a m → length m < 2 ^ 32
+few_pairs a m few_rows paired =
+    let within = λ (r : ℕ) (on : Among r (rows_of m)). let (c, p) = row_pair r m on in (paired.entries r c p).0 in
+    omega (arith, few_rows, few_below a.rows (rows_of m) paired.rows_differ within, as_many_rows m)
+
+pub can_be_read : (a : Matrix) (d : Decomposition) (order : Bool) (m : List Place) → FitsText a → IsDecompositionOf a d → IsMatching a m → IsRising (cols_of m) → IsReadable (report_of a d order (Some m))
+can_be_read a d order m fits is paired rising =
+    let (best, max, size) = is.rank in
     let parts = is.parts in
-    let perfect = square_pairs_perfect a m d.parts.square_rows max parts.square_rows in
+    let perfect = square_pairs_perfect a best d.parts.square_rows max parts.square_rows in
     let hr = list_fits (IsHorizontalRow a) a.rows d.parts.horizontal_rows fits.rows parts.horizontal_rows (horizontal_row_in_range a) in
     let hc = list_fits (IsHorizontalCol a) (cols a) d.parts.horizontal_cols fits.columns parts.horizontal_cols (λ c x. x.0) in
     let vr = list_fits (IsVerticalRow a) a.rows d.parts.vertical_rows fits.rows parts.vertical_rows (λ r x. x.0) in
     let vc = list_fits (IsVerticalCol a) (cols a) d.parts.vertical_cols fits.columns parts.vertical_cols (vertical_col_in_range a) in
-    let row_in = λ (r : ℕ) (on : Among r (rows_of m)). let (c, p) = row_pair r m on in (max.matching.entries r c p).0 in
-    let col_in = λ (c : ℕ) (on : Among c (cols_of m)). let (r, p) = col_pair c m on in entry_col a r c (max.matching.entries r c p) in
-    let few : length m < 2 ^ 32 = omega (arith, fits.rows, few_below a.rows (rows_of m) max.matching.rows_differ row_in, as_many_rows m) in
+    let row_in = λ (r : ℕ) (on : Among r (rows_of m)). let (c, p) = row_pair r m on in (paired.entries r c p).0 in
+    let col_in = λ (c : ℕ) (on : Among c (cols_of m)). let (r, p) = col_pair c m on in entry_col a r c (paired.entries r c p) in
     record {
       sizes = record { rows = fits.rows; cols = fits.columns; entries = fits.entries };
-      rank = omega (arith, few, same_rank a d.rank (length m) is.rank (m, max, refl));
+      rank = omega (arith, few_pairs a best fits.rows max.matching, size);
       horizontal_rows = hr;
       horizontal_cols = hc;
       blocks = blocks_fit a _ d.blocks perfect fits.rows fits.columns is.blocks.sound is.blocks.distinct;
@@ -141,5 +146,5 @@ can_be_read a d order m fits is max rising =
       );
       pairs = m;
       with_pairs = refl;
-      are_pairs = record { rows_fit = all_ids a.rows (rows_of m) fits.rows row_in; cols_fit = all_ids (cols a) (cols_of m) fits.columns col_in; rising = rising; few = few };
+      are_pairs = record { rows_fit = all_ids a.rows (rows_of m) fits.rows row_in; cols_fit = all_ids (cols a) (cols_of m) fits.columns col_in; rising = rising; few = few_pairs a m fits.rows paired };
     }
