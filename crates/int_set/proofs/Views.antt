@@ -1,7 +1,5 @@
 -- What the calls say, of what contracts see of the words.
-use Rattle.std.proofs.Common.{◌≡◌, ◌≢◌, ◌⊎◌, ◌↔◌, ℕ, ◌+◌, ◌-◌, ◌*◌, ◌/◌, ◌%◌, ◌^◌, ◌<◌, ◌≤◌, IsTrue, List, ◌∷◌, ◌++◌, length, take, drop, slice_index, nat_eq, eqb-true, eq-eqb, arith}
-use Rattle.std.proofs.lemmas.Nat.Bits.{shr_and_one}
-use Rattle.std.specs.Int.Bits.{bit_and}
+use Rattle.std.proofs.Common.{◌≡◌, ◌≢◌, ◌⊎◌, ◌↔◌, ℕ, ◌+◌, ◌-◌, ◌*◌, ◌^◌, ◌<◌, ◌≤◌, List, ◌∷◌, ◌++◌, length, take, drop, arith}
 use Rattle.bip_defs.specs.Lists.{Among, IsRising}
 use Rattle.int_set.specs.Numbers.{Numbers}
 use Rattle.int_set.specs.Tree.{IsSetOf, members_of, NoneSet, numbers_of, start_of}
@@ -55,10 +53,3 @@ pub taken_view : (items words new : List ℕ) (len first bound number : ℕ) (va
 taken_view items words new len first bound number value seen same long clear others has least =
     least_first value.members _ number (rising_view items first bound value seen) (members_rising _ first bound) has least
     (removed_view items words new len first bound number value seen same long clear others)
-
-pub contains_view : (items words : List ℕ) (first bound number : ℕ) (value : Numbers) → numbers_of items first bound ≡ value → words ≡ items → number < value.bound
-    → IsTrue (nat_eq (bit_and (slice_index words ((first + number) / 64) / 2 ^ ((first + number) % 64)) 1) 1) ↔ Among number value.members
-unfolding bit
-contains_view items words first bound number value seen same lt =
-    let test : bit_and (slice_index words ((first + number) / 64) / 2 ^ ((first + number) % 64)) 1 ≡ bit items (first + number) = rw same (shr_and_one (slice_index items ((first + number) / 64)) ((first + number) % 64)) in
-    rw (test, ← seen) (λ h. set_member items first bound number (rw (← seen) at lt) (eqb-true _ _ h), λ h. eq-eqb _ _ (member_set items first bound number h).1)

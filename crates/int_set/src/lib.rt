@@ -1,13 +1,13 @@
 //! Sets of numbers below a bound that give their least member.
 //!
 //! A set is a tree of 64-bit words: the lowest words have a bit for each number, and each word above says which of the
-//! 64 words below it are not empty (after van Emde Boas 1975). A set of numbers below 64^k takes about an eighth of a byte
-//! a number; `insert`, `remove` and `least` look at k words at most, and `take_least` at 2 k.
+//! 64 words below it are not empty (after van Emde Boas 1975). It takes about an eighth of a byte for each number below the
+//! bound. Where the bound is below 64^k, `insert` and `least` look at k words at most, and `take_least` at 2 k.
 #![tactic(auto)]
 
 mod tree;
 
-ghost use Rattle.std.specs.Prelude.{◌≡◌, ◌⊎◌, ◌↔◌, ◌≢◌, ◌<◌, ◌≤◌, ◌∷◌, ℕ, [], length, IfOk, IfSome, IfNone, MatchOption, IsTrue};
+ghost use Rattle.std.specs.Prelude.{◌≡◌, ◌⊎◌, ◌↔◌, ◌<◌, ◌≤◌, ◌∷◌, ℕ, [], length, IfOk, IfSome, IfNone, MatchOption};
 ghost use Rattle.bip_defs.specs.Lists.{Among, IsRising};
 
 use sp_ids::OutOfMemory;
@@ -53,7 +53,7 @@ impl IntSet {
         })
     }
 
-    /// Puts a number in.
+    /// Puts a number in, which must be below the bound.
     pub fn insert(&mut self, number: u32)
         requires { number < self.old.bound }
         ensures members { (x : ℕ) → Among x self.new.members ↔ ((x ≡ number) ⊎ Among x self.old.members) }
@@ -63,27 +63,7 @@ impl IntSet {
         tree::mark(words, self.first, number);
     }
 
-    /// Takes a number out, if it is in.
-    pub fn remove(&mut self, number: u32)
-        requires { number < self.old.bound }
-        ensures members { (x : ℕ) → Among x self.new.members ↔ ((x ≢ number) × Among x self.old.members) }
-        ensures bound { self.new.bound ≡ self.old.bound }
-    {
-        let words = self.words.as_mut_slice();
-        tree::clear(words, self.first, number);
-    }
-
-    /// Whether a number is in.
-    pub fn contains(&self, number: u32) -> bool
-        requires { number < self.now.bound }
-        ensures { IsTrue result ↔ Among number self.now.members }
-    {
-        let bit = self.first + number as usize;
-        let words = self.words.as_slice();
-        words[bit / 64] >> (bit % 64) & 1 == 1
-    }
-
-    /// The least member.
+    /// The least member, which is below the bound. None where the set is empty.
     pub fn least(&self) -> Option<u32>
         ensures none { IfNone result (self.now.members ≡ []) }
         ensures least { IfSome result (λ x. Among x self.now.members × ((y : ℕ) → Among y self.now.members → x ≤ y)) }
@@ -98,7 +78,7 @@ impl IntSet {
         Some((bit - self.first) as u32)
     }
 
-    /// Takes the least member out.
+    /// Takes the least member out, which is below the bound. None where the set is empty.
     pub fn take_least(&mut self) -> Option<u32>
         ensures none { IfNone result ((self.old.members ≡ []) × (self.new.members ≡ [])) }
         ensures least { IfSome result (λ x. self.old.members ≡ x ∷ self.new.members) }
@@ -129,13 +109,11 @@ mod tests {
         set.insert(4_096);
         set.insert(63);
         set.insert(130);
-        set.remove(130);
-        set.remove(131);
-        assert!(rt; set.contains(64) && !set.contains(130) && !set.contains(65));
         assert_eq!(rt; set.least(), Some(0));
         assert_eq!(rt; set.take_least(), Some(0));
         assert_eq!(rt; set.take_least(), Some(63));
         assert_eq!(rt; set.take_least(), Some(64));
+        assert_eq!(rt; set.take_least(), Some(130));
         assert_eq!(rt; set.take_least(), Some(4_096));
         assert_eq!(rt; set.take_least(), Some(70_000));
         set.insert(5);
