@@ -230,9 +230,9 @@ refused r status NeedsInteger said c = by_entries r status _ c.0 c.1 c.3.0 c.3.2
 refused r status WriteFault said c = answered r status _ c.3.2.0 c.0 c.1 c.3.2.1 (λ no_write. absurd (no_write c.3.0))
 refused r status OutOfMemory said c = record {
   usage = λ _. inr said;
-  bad_line = λ other reader. told r.input.before r.input.after c.0 (λ x y before h fault two. inr said);
-  good = λ other reader no_read no_write. told r.input.before r.input.after c.0 (λ x y before h t rest reads few. no_memory_ends other t rest status said);
-  not_good = λ other reader no_read. told r.input.before r.input.after c.0 (λ x y before h none. inr said);
+  bad_line = λ other reader. told r.input.before r.input.after c.1 (λ x y before h fault two. inr said);
+  good = λ other reader no_read no_write. told r.input.before r.input.after c.1 (λ x y before h t rest reads few. no_memory_ends other t rest status said);
+  not_good = λ other reader no_read. told r.input.before r.input.after c.1 (λ x y before h none. inr said);
   made = λ maker no_write. inr said;
 }
 
@@ -272,7 +272,7 @@ job_refused r job (SumLimit row col) names says = (job, names, says.0, says.1)
 job_refused r job NeedsInteger names says = (job, names, says.0, says.1)
 job_refused r job ReadFault names says = (job, names, says.0, says.1)
 job_refused r job WriteFault names says = (job, names, says.0, says.1)
-job_refused r job OutOfMemory names says = says.1
+job_refused r job OutOfMemory names says = (says.0, says.1.0, says.1.1)
 
 -- an input that tells its bytes and was not used tells them still
 pub untouched_tells : (input : Device) → IsUntouched input → TellsStill input
@@ -281,6 +281,10 @@ untouched_tells input same = subst (λ (after : Option (List ℕ)). WhereTold in
     still : (bytes : Option (List ℕ)) → WhereTold bytes bytes (λ x y. Unit {0})
     still None = tt
     still (Some x) = tt
+
+-- nor has its count of failures fallen
+pub untouched_later : (input : Device) → IsUntouched input → HasNotFallen input
+untouched_later input same = omega (arith, same.1)
 
 -- ---- what `run` cites
 
@@ -293,8 +297,8 @@ named words result job is taken names = record {
 }
 
 by_answer : (r : Run) (answer : Answer) (job : Job) → Names r.words job → JobSays job r.input r.out (Ok answer) → IsUntouched r.err → Says r (status_of_answer answer)
-by_answer r Positive job names done untouched = record { job = job; names = names; written = done.2; steady_input = done.0; steady_out = done.1; nothing_told = untouched }
-by_answer r Negative job names done untouched = record { job = job; names = names; written = done.2; steady_input = done.0; steady_out = done.1; nothing_told = untouched }
+by_answer r Positive job names done untouched = record { job = job; names = names; may = done.0; written = done.3; steady_input = done.1; steady_out = done.2; nothing_told = untouched }
+by_answer r Negative job names done untouched = record { job = job; names = names; may = done.0; written = done.3; steady_input = done.1; steady_out = done.2; nothing_told = untouched }
 
 -- the job was done
 pub job_done : (r : Run) (job : Job) (result : Result Answer Refusal) (answer : Answer) (status : Status) → result ≡ Ok answer → Names r.words job

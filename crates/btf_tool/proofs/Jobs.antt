@@ -1,5 +1,5 @@
 -- What the steps of a job say together.
-use Rattle.std.proofs.Common.{◌≡◌, ℕ, List, [], Option, Ok, Err, refl, sym, subst, append-nil, Result}
+use Rattle.std.proofs.Common.{◌≡◌, ℕ, List, [], Option, Ok, Err, inl, inr, refl, sym, subst, append-nil, Result}
 use Rattle.sp_ids.specs.Entries.{Entries}
 use Rattle.bip_defs.specs.Matrix.{Matrix}
 use Rattle.bip_graph.specs.Answers.{IsRankText}
@@ -20,10 +20,11 @@ use Rattle.btf_check.specs.Verdicts.{IsVerdict}
 use Rattle.btf_check.specs.declared.verdict.Verdict.{Verdict}
 use Rattle.sp_pattern.specs.Stored.{IsPattern}
 use Rattle.btf_tool.specs.declared.answers.Answer.{Answer}
+use Rattle.btf_tool.specs.declared.answers.Answer.TheVariants.{Negative, Positive}
 use Rattle.btf_tool.specs.declared.refusals.Refusal.{Refusal}
 use Rattle.btf_tool.specs.declared.refusals.Refusal.TheVariants.{Usage, Malformed, Limit, TooLong, SumLimit, NeedsInteger, ReadFault, WriteFault, OutOfMemory}
 use Rattle.btf_tool.specs.Devices.{Device, HasNotFallen, IsSteady, IsUntouched, Took, TookFront}
-use Rattle.btf_tool.specs.Jobs.{IsMatrixOf, IsTextOf, OfReading, ReadsFile, WasRead, WithAnswer, WithFileAnswer, end_of}
+use Rattle.btf_tool.specs.Jobs.{IsMatrixOf, IsTextOf, MayAnswer, OfReading, ReadsFile, WasRead, WithAnswer, WithFileAnswer, end_of}
 use Rattle.btf_tool.specs.Judging.{IsVerdictText, answer_of, verdict_text}
 use Rattle.btf_tool.specs.Runs.{IsReadAs, IsUnread, JobSays}
 use Rattle.btf_tool.proofs.Completing.{told}
@@ -58,11 +59,21 @@ with_answer job answer input P text t rest a reads read matrix is_text p =
     from_file job answer input P reads
     (told input.before input.after read (λ x y before h. (text, record { entries = t; rest = rest; matrix = a; was_read = h; is_matrix = matrix; is_text = is_text }, p)))
 
+-- a text of the job's is one of an answer that it may give
+may_answer : (job : Job) (answer : Answer) (t : Entries) (a : Matrix) (rest text : List ℕ) → IsTextOf job t a rest answer text → MayAnswer job answer
+may_answer Rank answer t a rest text h = subst (λ (x : Answer). MayAnswer Rank x) (sym h.0) tt
+may_answer (Analyse engine order pairs) answer t a rest text h = subst (λ (x : Answer). MayAnswer (Analyse engine order pairs) x) (sym h.0) tt
+may_answer Diagonal Positive t a rest text h = tt
+may_answer Diagonal Negative t a rest text h = inl refl
+may_answer Check Positive t a rest text h = tt
+may_answer Check Negative t a rest text h = inr refl
+may_answer (Load size seed engine) answer t a rest text h = subst (λ (x : Answer). MayAnswer (Load size seed engine) x) (sym h.0) tt
+
 -- the answer was written
 pub job_written : (job : Job) (answer : Answer) (input out : Device) (text : List ℕ) (t : Entries) (rest : List ℕ) (a : Matrix) → ReadsFile job → IsReadAs (end_of job) input t rest → IsMatrixOf t a
     → IsTextOf job t a rest answer text → Takes out.before out.after text → IsSteady out → JobSays job input out (Ok answer)
 job_written job answer input out text t rest a reads says matrix is_text takes steady =
-    (says.0, steady, with_answer job answer input (Took out) text t rest a reads says.1 matrix is_text (record { bytes = takes; steady = steady }))
+    (may_answer job answer t a rest text is_text, says.0, steady, with_answer job answer input (Took out) text t rest a reads says.1 matrix is_text (record { bytes = takes; steady = steady }))
 
 -- a write of the answer failed
 pub job_not_written : (job : Job) (answer : Answer) (input out : Device) (text : List ℕ) (t : Entries) (rest : List ℕ) (a : Matrix) → ReadsFile job → IsReadAs (end_of job) input t rest → HasNotFallen input

@@ -1,5 +1,5 @@
 -- What the steps of `load` say together.
-use Rattle.std.proofs.Common.{ℕ, List, Ok, Err, arith, refl}
+use Rattle.std.proofs.Common.{ℕ, List, Ok, Err, refl}
 use Rattle.bip_defs.specs.Matrix.{Matrix}
 use Rattle.sp_ports.specs.Bytes.{Takes, TakesFront}
 use Rattle.sp_ports.specs.Counts.{Rose}
@@ -7,13 +7,10 @@ use Rattle.btf_words.specs.declared.jobs.Engine.{Engine}
 use Rattle.btf_words.specs.declared.jobs.Job.TheVariants.{Load}
 use Rattle.btf_tool.specs.declared.answers.Answer.TheVariants.{Positive}
 use Rattle.btf_tool.specs.declared.refusals.Refusal.TheVariants.{OutOfMemory, WriteFault}
-use Rattle.btf_tool.specs.Devices.{Device, HasNotFallen, IsSteady, IsUntouched}
+use Rattle.btf_tool.specs.Devices.{Device, IsSteady, IsUntouched}
 use Rattle.btf_tool.specs.Runs.{JobSays}
 use Rattle.btf_tool.specs.Summaries.{IsLoadMatrix, IsSummary}
-use Rattle.btf_tool.proofs.Completing.{untouched_tells}
-
-untouched_later : (input : Device) → IsUntouched input → HasNotFallen input
-untouched_later input same = omega (arith, same.1)
+use Rattle.btf_tool.proofs.Completing.{untouched_later, untouched_tells}
 
 -- memory ran out
 pub load_no_memory : (size seed : ℕ) (engine : Engine) (input out : Device) → IsUntouched input → IsUntouched out → JobSays (Load size seed engine) input out (Err OutOfMemory)
@@ -23,7 +20,7 @@ load_no_memory size seed engine input out same unwritten = (untouched_later inpu
 pub load_written : (size seed : ℕ) (engine : Engine) (input out : Device) (text : List ℕ) (a : Matrix) → IsUntouched input → IsLoadMatrix size seed a → IsSummary a text
     → Takes out.before out.after text → IsSteady out → JobSays (Load size seed engine) input out (Ok Positive)
 load_written size seed engine input out text a same matrix summary takes steady =
-    (same.1, steady, (text, record { matrix = a; is_matrix = matrix; is_summary = summary; positive = refl }, record { bytes = takes; steady = steady }))
+    (tt, same.1, steady, (text, record { matrix = a; is_matrix = matrix; is_summary = summary; positive = refl }, record { bytes = takes; steady = steady }))
 
 -- a write of it failed
 pub load_not_written : (size seed : ℕ) (engine : Engine) (input out : Device) (text : List ℕ) (a : Matrix) → IsUntouched input → IsLoadMatrix size seed a → IsSummary a text

@@ -1,5 +1,5 @@
 -- What each job reads or makes, and what it answers.
-use Rattle.std.specs.Prelude.{◌≡◌, ◌≤◌, ℕ, List, [], length}
+use Rattle.std.specs.Prelude.{◌≡◌, ◌≤◌, ◌⊎◌, ℕ, List, [], length}
 use Rattle.sp_ids.specs.Entries.{Entries, places}
 use Rattle.bip_defs.specs.Matrix.{Matrix, HasPlaces}
 use Rattle.bip_graph.specs.Answers.{IsAnalysis, IsRankText}
@@ -11,7 +11,7 @@ use Rattle.mm_defs.specs.declared.answers.End.{End}
 use Rattle.mm_defs.specs.declared.answers.End.TheVariants.{File, LastEntry}
 use Rattle.sp_ports.specs.Bytes.{WhereTold}
 use Rattle.btf_tool.specs.declared.answers.Answer.{Answer}
-use Rattle.btf_tool.specs.declared.answers.Answer.TheVariants.{Positive}
+use Rattle.btf_tool.specs.declared.answers.Answer.TheVariants.{Negative, Positive}
 use Rattle.btf_tool.specs.Devices.{Device}
 use Rattle.btf_tool.specs.Diagonals.{IsDiagonalText}
 use Rattle.btf_tool.specs.Judging.{IsVerdictText}
@@ -69,6 +69,11 @@ IsTextOf (Analyse engine order pairs) t a rest answer text = (answer ≡ Positiv
 IsTextOf Diagonal t a rest answer text = IsDiagonalText t a answer text
 IsTextOf Check t a rest answer text = IsVerdictText a rest answer text
 IsTextOf (Load size seed engine) t a rest answer text = (answer ≡ Positive) × IsSummary a text
+
+-- only `diagonal` and `check` may answer that there is no such thing
+abbrev pub MayAnswer : Job → Answer → Type 0
+MayAnswer job Positive = Unit {0}
+MayAnswer job Negative = (job ≡ Diagonal) ⊎ (job ≡ Check)
 
 -- a good file was read, with what follows it, and this is what the job answers
 pub record IsAnswer (job : Job) (call : Call) (answer : Answer) (text : List ℕ) : Type 0 where

@@ -22,7 +22,7 @@ use Rattle.btf_tool.specs.declared.answers.Answer.TheVariants.{Negative, Positiv
 use Rattle.btf_tool.specs.declared.refusals.Refusal.{Refusal}
 use Rattle.btf_tool.specs.declared.refusals.Refusal.TheVariants.{Usage, Malformed, Limit, TooLong, SumLimit, NeedsInteger, ReadFault, WriteFault, OutOfMemory}
 use Rattle.btf_tool.specs.Devices.{Device, HasNotFallen, IsSteady, IsUntouched, HasReadFault, HasWriteFault, Took, TookFront, WasTold}
-use Rattle.btf_tool.specs.Jobs.{IsMatrixOf, OfReading, ReadsFile, WasRead, WithAnswer, end_of, input_limit}
+use Rattle.btf_tool.specs.Jobs.{IsMatrixOf, MayAnswer, OfReading, ReadsFile, WasRead, WithAnswer, end_of, input_limit}
 use Rattle.btf_tool.specs.Judging.{answer_of}
 use Rattle.btf_tool.specs.Refusals.{line_of, status_of, status_of_answer}
 
@@ -48,10 +48,11 @@ NameMaker words = (job : Job) × Names words job × ¬ ReadsFile job
 
 -- ---- the answer
 
--- The words name a job, its whole answer was written, and nothing else.
+-- The words name a job that may answer so, its whole answer was written, and nothing else.
 pub record IsAnswered (r : Run) (answer : Answer) : Type 0 where
   pub job : Job
   pub names : Names r.words job
+  pub may : MayAnswer job answer
   pub written : WithAnswer job answer r.input (Took r.out)
   pub steady_input : IsSteady r.input
   pub steady_out : IsSteady r.out
@@ -118,14 +119,14 @@ IsUnread end input Usage = ⊥
 
 -- What the outcome of a job says of the input and of the output.
 abbrev pub JobSays : Job → Device → Device → Result Answer Refusal → Type 0
-JobSays job input out (Ok answer) = IsSteady input × IsSteady out × WithAnswer job answer input (Took out)
+JobSays job input out (Ok answer) = MayAnswer job answer × IsSteady input × IsSteady out × WithAnswer job answer input (Took out)
 JobSays job input out (Err refusal) = HasNotFallen input × IsCause job input out refusal
 
 -- What a refusal says of a run.
 abbrev pub HasCause : Run → Refusal → Type 0
 -- the words are not taken, and nothing was read or written
 HasCause r Usage = (¬ AreTaken r.words) × IsUntouched r.input × IsUntouched r.out
-HasCause r OutOfMemory = TellsStill r.input × IsUntouched r.out
+HasCause r OutOfMemory = HasNotFallen r.input × TellsStill r.input × IsUntouched r.out
 HasCause r refusal = (job : Job) × Names r.words job × HasNotFallen r.input × IsCause job r.input r.out refusal
 
 -- The run was refused: the status is the refusal's, its line was told, and it has its cause.
