@@ -27,7 +27,7 @@ use Rattle.btf_tool.specs.Devices.{Device, HasNotFallen, HasReadFault, HasWriteF
 use Rattle.btf_tool.specs.Jobs.{IsAnswer as IsJobAnswer, IsMatrixOf, ReadsFile, WasRead, WithAnswer, WithFileAnswer, end_of, reading}
 use Rattle.btf_tool.specs.Judging.{answer_of}
 use Rattle.btf_tool.specs.Refusals.{line_of, status_of, status_of_answer}
-use Rattle.btf_tool.specs.Runs.{ComesToDiagonal, Completes, EndsWell, HasCause, IsBadLine, IsOrNoMemory, IsTooLong, JobSays, NameMaker, Names, NamesReader, NoBadLine, Run, Says, TellsStill, WithFile, status_of_fault}
+use Rattle.btf_tool.specs.Runs.{ComesToDiagonal, Completes, EndsWell, HasCause, IsBadLine, IsGoodSoFar, IsOrNoMemory, IsTooLong, JobSays, NameMaker, Names, NamesReader, Run, Says, TellsStill, WithFile, status_of_fault}
 use Rattle.btf_tool.proofs.Diagonals.{comes_to_diagonal, needs_ends, no_diagonal_memory, past_ends}
 use Rattle.btf_tool.proofs.Judging.{one_verdict}
 
@@ -217,14 +217,14 @@ refused r status TooLong said c = record {
     of other reader = in_place r.words c.0 other c.1 reader.0 (λ (j : Job). IsTooLong (end_of j) r.input) c.3.1
 refused r status ReadFault said c = record {
   usage = λ not. absurd (not c.1.taken);
-  bad_line = λ other reader. told r.input.before r.input.after (of other reader) (λ x y before h fault two. absurd (clash (first_bad (end_of other) (reading r.input x y)) fault h two));
+  bad_line = λ other reader. told r.input.before r.input.after (of other reader) (λ x y before h fault two. absurd (clash (first_bad (end_of other) (reading r.input x y)) fault h.0 two));
   good = λ other reader no_read. absurd (no_read c.3.1);
   not_good = λ other reader no_read. absurd (no_read c.3.1);
   made = λ maker. absurd (made_named r.words c.0 c.1 maker c.3.0);
 }
   where
-    of : (other : Job) → NamesReader r.words other → NoBadLine (end_of other) r.input
-    of other reader = in_place r.words c.0 other c.1 reader.0 (λ (j : Job). NoBadLine (end_of j) r.input) c.3.2
+    of : (other : Job) → NamesReader r.words other → IsGoodSoFar (end_of other) r.input
+    of other reader = in_place r.words c.0 other c.1 reader.0 (λ (j : Job). IsGoodSoFar (end_of j) r.input) c.3.2
 refused r status (SumLimit row col) said c = by_entries r status _ c.0 c.1 c.3.0 c.3.2 (λ t h. past_ends t row col status said h.0 h.1)
 refused r status NeedsInteger said c = by_entries r status _ c.0 c.1 c.3.0 c.3.2 (λ t not. needs_ends t status said not)
 refused r status WriteFault said c = answered r status _ c.3.2.0 c.0 c.1 c.3.2.1 (λ no_write. absurd (no_write c.3.0))

@@ -4,7 +4,7 @@ use Rattle.sp_ids.specs.Entries.{Entries}
 use Rattle.sp_ports.specs.Bytes.{Gives, WhereTold}
 use Rattle.sp_ports.specs.Counts.{SourceRose}
 use Rattle.mm_defs.specs.File.{Fault, Reads, rest_of}
-use Rattle.mm_defs.specs.Reading.{Call, Intake, IsAnswer, IsRest, ReadsAll, RefusesRest, call_on, first_bad, got, room}
+use Rattle.mm_defs.specs.Reading.{Call, FellShort, Intake, IsAnswer, IsRest, ReadsAll, RefusesRest, call_on, first_bad, got, room}
 use Rattle.mm_defs.specs.declared.answers.End.{End}
 use Rattle.mm_defs.specs.declared.answers.End.TheVariants.{File, LastEntry}
 use Rattle.mm_defs.specs.declared.answers.ReadError.{ReadError}
@@ -20,6 +20,16 @@ use Rattle.btf_tool.proofs.Completing.{told}
 second_empty : (xs ys : List ℕ) → xs ++ ys ≡ [] → ys ≡ []
 second_empty [] ys e = e
 second_empty (x ∷ xs) ys e = cc
+
+-- two facts on one call
+both : (P Q : List ℕ → List ℕ → Type 0) (old new : Option (List ℕ)) → WhereTold old new P → WhereTold old new Q → WhereTold old new (λ x y. P x y × Q x y)
+both P Q None new p q = tt
+both P Q (Some x) None p q = absurd p
+both P Q (Some x) (Some y) p q = (p, q)
+
+-- an input before its first byte
+abbrev pub fresh : Intake
+fresh = record { limit = 68719476736; taken = 0; ahead = []; at_end = false; lines = 0; good = true }
 
 -- ---- a file alone
 
@@ -37,14 +47,25 @@ pub file_read : (input : Device) (ahead : List ℕ) (t : Entries)
 file_read input ahead t answer steady = (steady, told input.before input.after answer (λ x y before h. was_read (reading input x y) ahead t h))
 
 -- the reader has refused it
-pub file_not_read : (end : End) (input : Device) (ahead : List ℕ) (e : ReadError)
+not_read : (end : End) (input : Device) (ahead : List ℕ) (e : ReadError)
     → WhereTold input.before input.after (λ before after. IsAnswer end (reading input before after) (ahead ++ after) (Err e))
+    → WhereTold input.before input.after (λ before after. FellShort {T = Entries} end (reading input before after) (Err e))
     → (e ≡ errors.ReadFault → HasReadFault input) → IsUnread end input (refusal_for e)
-file_not_read end input ahead (errors.Malformed line kind) answer rose = told input.before input.after answer (λ x y before h. h)
-file_not_read end input ahead (errors.Limit line kind) answer rose = told input.before input.after answer (λ x y before h. h)
-file_not_read end input ahead errors.TooLong answer rose = told input.before input.after answer (λ x y before h. h)
-file_not_read end input ahead errors.ReadFault answer rose = (rose refl, told input.before input.after answer (λ x y before h. h.0))
-file_not_read end input ahead errors.OutOfMemory answer rose = told input.before input.after answer (λ x y before h. tt)
+not_read end input ahead (errors.Malformed line kind) answer short rose = told input.before input.after answer (λ x y before h. h)
+not_read end input ahead (errors.Limit line kind) answer short rose = told input.before input.after answer (λ x y before h. h)
+not_read end input ahead errors.TooLong answer short rose = told input.before input.after answer (λ x y before h. h)
+not_read end input ahead errors.ReadFault answer short rose = (rose refl, told input.before input.after (both _ _ input.before input.after answer short) (λ x y before h. (h.0.0, h.1.1)))
+not_read end input ahead errors.OutOfMemory answer short rose = told input.before input.after answer (λ x y before h. tt)
+
+pub file_not_read : (end : End) (input : Device) (start : Intake) (ahead : List ℕ) (e : ReadError) → start ≡ fresh
+    → WhereTold input.before input.after (λ before after. IsAnswer end (call_on start input.failed_before input.failed_after before after) (ahead ++ after) (Err e))
+    → WhereTold input.before input.after (λ before after. FellShort {T = Entries} end (call_on start input.failed_before input.failed_after before after) (Err e))
+    → (e ≡ errors.ReadFault → HasReadFault input) → IsUnread end input (refusal_for e)
+file_not_read end input start ahead e is answer short rose =
+    not_read end input ahead e
+    (subst (λ (i : Intake). WhereTold input.before input.after (λ before after. IsAnswer end (call_on i input.failed_before input.failed_after before after) (ahead ++ after) (Err e))) is answer)
+    (subst (λ (i : Intake). WhereTold input.before input.after (λ before after. FellShort {T = Entries} end (call_on i input.failed_before input.failed_after before after) (Err e))) is short)
+    rose
 
 -- ---- a file and what follows it
 
@@ -55,12 +76,6 @@ over_both None mid new first second f = tt
 over_both (Some x) None new first second f = absurd first
 over_both (Some x) (Some y) None first second f = absurd second
 over_both (Some x) (Some y) (Some z) first second f = f x y z first second
-
--- two facts on one call
-both : (P Q : List ℕ → List ℕ → Type 0) (old new : Option (List ℕ)) → WhereTold old new P → WhereTold old new Q → WhereTold old new (λ x y. P x y × Q x y)
-both P Q None new p q = tt
-both P Q (Some x) None p q = absurd p
-both P Q (Some x) (Some y) p q = (p, q)
 
 given_told : (old new : Option (List ℕ)) (given : List ℕ) → Gives old new given → WhereTold old new (λ x y. x ≡ given ++ y)
 given_told None new given h = tt
@@ -117,6 +132,17 @@ too_long input new f t x y z given limit h gave past =
     let g : length (got (call_on new f input.failed_after y z)) ≤ length new.ahead + (length y - length z) = simp (length-append, length-take) (omega arith) in
     simp (length-take) (omega (arith, limit, taken, k, n, w, s, g, past))
 
+within : (input : Device) (new : Intake) (f : ℕ) (t : Entries) (x y z given : List ℕ) → new.limit ≡ 68719476736 → HasRead new t x y → y ≡ given ++ z
+    → length (got (call_on new f input.failed_after y z)) ≤ room new → length (got (reading input x z)) ≤ 68719476736
+within input new f t x y z given limit h gave few =
+    let n : length (new.ahead ++ y) ≡ length new.ahead + length y = length-append new.ahead y in
+    let k : length y ≡ length given + length z = ap length gave ∙ length-append given z in
+    let w = h.within in
+    let s = rest_short x (new.ahead ++ y) t h.reads in
+    let taken = h.taken in
+    let g : length (got (call_on new f input.failed_after y z)) ≡ length new.ahead + (length y - length z) = simp (length-append, length-take) (omega arith) in
+    simp (length-take) (omega (arith, limit, taken, k, n, w, s, g, few))
+
 -- both were read
 pub followed_read : (input : Device) (mid : Option (List ℕ)) (new : Intake) (f : ℕ) (t : Entries) (bytes ahead : List ℕ) → new.limit ≡ 68719476736
     → WhereTold input.before mid (λ x y. HasRead new t x y) → WhereTold mid input.after (λ y z. IsRest (call_on new f input.failed_after y z) (ahead ++ z) bytes)
@@ -135,13 +161,10 @@ rest_not_read input mid new f t given errors.TooLong limit first second gave ste
     (λ x y z h past. (no_bad input new t x y z h, too_long input new f t x y z given limit h past.1 past.0))
 rest_not_read input mid new f t given errors.ReadFault limit first second gave steady rose = (
   rose_before _ input.before mid input.failed_before f input.failed_after first steady (rose refl),
-  over_both input.before mid input.after first second (λ x y z h failed. no_bad input new t x y z h),
+  over_both input.before mid input.after first (both _ _ mid input.after second (given_told mid input.after given gave))
+      (λ x y z h failed. (no_bad input new t x y z h, within input new f t x y z given limit h failed.1 failed.0.1)),
 )
 rest_not_read input mid new f t given errors.OutOfMemory limit first second gave steady rose = over_both input.before mid input.after first second (λ x y z h none. tt)
-
--- an input before its first byte
-abbrev pub fresh : Intake
-fresh = record { limit = 68719476736; taken = 0; ahead = []; at_end = false; lines = 0; good = true }
 
 -- what the first call says of such an input
 pub has_read : (start new : Intake) (old mid : Option (List ℕ)) (f g : ℕ) (t : Entries) → start ≡ fresh

@@ -64,9 +64,9 @@ pub record IsAnswered (r : Run) (answer : Answer) : Type 0 where
 abbrev pub IsBadLine : End → Device → Fault → Bool → Type 0
 IsBadLine end input fault limit = OfReading input (λ call. (first_bad end call ≡ Some fault) × (is_limit fault.kind ≡ limit))
 
--- no line is bad of what the input gave
-abbrev pub NoBadLine : End → Device → Type 0
-NoBadLine end input = OfReading input (λ call. first_bad end call ≡ None)
+-- no line is bad of what the input gave, and it gave no more bytes than it may have
+abbrev pub IsGoodSoFar : End → Device → Type 0
+IsGoodSoFar end input = OfReading input (λ call. (first_bad end call ≡ None) × (length (got call) ≤ call.room))
 
 -- no line is bad of what the input gave, and it gave more bytes than it may have
 abbrev pub IsTooLong : End → Device → Type 0
@@ -92,8 +92,8 @@ IsCause job input out TooLong = ReadsFile job × IsTooLong (end_of job) input ×
 IsCause job input out (SumLimit row col) = (job ≡ Diagonal) × IsSteady input × WithFile job input (λ t. (t.field ≡ Integer) × IsFirstPast t row col) × IsUntouched out
 -- the file of such a job is no integer file
 IsCause job input out NeedsInteger = (job ≡ Diagonal) × IsSteady input × WithFile job input (λ t. ¬ (t.field ≡ Integer)) × IsUntouched out
--- a read failed, and no line that had ended is bad
-IsCause job input out ReadFault = ReadsFile job × HasReadFault input × NoBadLine (end_of job) input × IsUntouched out
+-- a read failed, no line that had ended is bad, and no more bytes came than the input may have
+IsCause job input out ReadFault = ReadsFile job × HasReadFault input × IsGoodSoFar (end_of job) input × IsUntouched out
 -- a write failed, and a front of the job's answer was taken
 IsCause job input out WriteFault = HasWriteFault out × IsSteady input × ((answer : Answer) × WithAnswer job answer input (TookFront out))
 -- nothing is said of why
@@ -110,7 +110,7 @@ abbrev pub IsUnread : End → Device → Refusal → Type 0
 IsUnread end input (Malformed line kind) = IsBadLine end input (record { line = line; kind = kind }) false
 IsUnread end input (Limit line kind) = IsBadLine end input (record { line = line; kind = kind }) true
 IsUnread end input TooLong = IsTooLong end input
-IsUnread end input ReadFault = HasReadFault input × NoBadLine end input
+IsUnread end input ReadFault = HasReadFault input × IsGoodSoFar end input
 IsUnread end input OutOfMemory = TellsStill input
 IsUnread end input (SumLimit row col) = ⊥
 IsUnread end input NeedsInteger = ⊥

@@ -17,8 +17,5 @@ returns-in-Ok-read_matrix-clause-read g c =
 pub returns-clause-unread : goal.returns-clause-unread
 returns-clause-unread g c =
     rw c.refusal.ensures
-    (file_not_read File (seen g.S.Source.left g.S.Source.faults c.args.input.now c.read_matrix.new.source) c.read_matrix.new.input.ahead c.in-Err.error
-    (subst (λ (i : Intake). WhereTold (g.S.Source.left c.args.input.now) (g.S.Source.left c.read_matrix.new.source)
-    (λ before after. IsAnswer File (call_on i (g.S.Source.faults c.args.input.now) (g.S.Source.faults c.read_matrix.new.source) before after) (c.read_matrix.new.input.ahead ++ after) (Err c.in-Err.error)))
-    c.in-Ok.ensures c.in-Err.ensures.answer)
-    (λ e. c.in-Err.ensures.cause.failed (ap Err e)))
+    (file_not_read File (seen g.S.Source.left g.S.Source.faults c.args.input.now c.read_matrix.new.source) _ c.read_matrix.new.input.ahead c.in-Err.error c.in-Ok.ensures
+    c.in-Err.ensures.answer c.in-Err.ensures.short (λ e. c.in-Err.ensures.cause.failed (ap Err e)))

@@ -1,6 +1,5 @@
-use Rattle.std.proofs.Common.{◌++◌, ◌∙◌, ap, subst, Err}
-use Rattle.sp_ports.specs.Bytes.{WhereTold}
-use Rattle.mm_defs.specs.Reading.{Intake, IsAnswer, call_on}
+use Rattle.std.proofs.Common.{◌∙◌, ap, Err}
+use Rattle.mm_defs.specs.Reading.{Intake}
 use Rattle.mm_defs.specs.declared.answers.End.TheVariants.{LastEntry}
 use Rattle.btf_tool.specs.Devices.{seen}
 use Rattle.btf_tool.proofs.FileAnswers.{file_not_read, followed_read, has_read, rest_not_read}
@@ -9,11 +8,8 @@ use Rattle.btf_tool.proofs.reading.read_followed.Goals as goal
 pub returns-in-Err-clause-unread : goal.returns-in-Err-clause-unread
 returns-in-Err-clause-unread g c =
     rw c.refusal.ensures
-    (file_not_read LastEntry (seen g.S.Source.left g.S.Source.faults c.args.input.now c.read_matrix.new.source) c.read_matrix.new.input.ahead c.in-Err.error
-    (subst (λ (i : Intake). WhereTold (g.S.Source.left c.args.input.now) (g.S.Source.left c.read_matrix.new.source)
-    (λ before after. IsAnswer LastEntry (call_on i (g.S.Source.faults c.args.input.now) (g.S.Source.faults c.read_matrix.new.source) before after) (c.read_matrix.new.input.ahead ++ after) (Err c.in-Err.error)))
-    c.in-Ok.ensures c.in-Err.ensures.answer)
-    (λ e. c.in-Err.ensures.cause.failed (ap Err e)))
+    (file_not_read LastEntry (seen g.S.Source.left g.S.Source.faults c.args.input.now c.read_matrix.new.source) _ c.read_matrix.new.input.ahead c.in-Err.error c.in-Ok.ensures
+    c.in-Err.ensures.answer c.in-Err.ensures.short (λ e. c.in-Err.ensures.cause.failed (ap Err e)))
 
 pub returns-in-Ok-read_rest-clause-read : goal.returns-in-Ok-read_rest-clause-read
 returns-in-Ok-read_rest-clause-read g c =
