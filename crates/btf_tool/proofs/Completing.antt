@@ -138,20 +138,20 @@ answered r status P answer job names written ends = record {
 
 -- the run was refused for a bad line
 bad : (r : Run) (status : Status) (line : ℕ) (kind : Kind) (limit : Bool) → status ≡ (if limit then statuses.Limit else statuses.Malformed)
-    → (job : Job) → Names r.words job → ReadsFile job → HasNotFallen r.input
-    → IsBadLine (end_of job) r.input (record { line = line; kind = kind }) limit → Completes r status
-bad r status line kind limit said job names reads later first = record {
+    → (job : Job) → Names r.words job → ReadsFile job → HasNotFallen r.input → is_limit kind ≡ limit
+    → IsBadLine (end_of job) r.input (record { line = line; kind = kind }) → Completes r status
+bad r status line kind limit said job names reads later is first = record {
   usage = λ not. absurd (not names.taken);
   bad_line = λ other reader. told r.input.before r.input.after (of other reader)
-      (λ x y before h fault two. inl (said ∙ kind_status line kind fault (first_bad (end_of other) (reading r.input x y)) limit h.0 h.1 two));
+      (λ x y before h fault two. inl (said ∙ kind_status line kind fault (first_bad (end_of other) (reading r.input x y)) limit h is two));
   good = λ other reader no_read no_write. told r.input.before r.input.after (of other reader)
-      (λ x y before h t rest reads few. absurd (not_answered (end_of other) limit (reading r.input x y) t rest h.0 h.1 reads few (steady r.input x before later no_read)));
+      (λ x y before h t rest reads few. absurd (not_answered (end_of other) limit (reading r.input x y) t rest h is reads few (steady r.input x before later no_read)));
   not_good = λ other reader no_read. told r.input.before r.input.after (of other reader) (λ x y before h none. inl (either limit said));
   made = λ maker. absurd (made_named r.words job names maker reads);
 }
   where
-    of : (other : Job) → NamesReader r.words other → IsBadLine (end_of other) r.input (record { line = line; kind = kind }) limit
-    of other reader = in_place r.words job other names reader.0 (λ (j : Job). IsBadLine (end_of j) r.input (record { line = line; kind = kind }) limit) first
+    of : (other : Job) → NamesReader r.words other → IsBadLine (end_of other) r.input (record { line = line; kind = kind })
+    of other reader = in_place r.words job other names reader.0 (λ (j : Job). IsBadLine (end_of j) r.input (record { line = line; kind = kind })) first
 
     not_answered : (end : End) (limit : Bool) (call : Call) (t : Entries) (rest : List ℕ) → first_bad end call ≡ Some (record { line = line; kind = kind }) → is_limit kind ≡ limit
         → Reads (offered call) end t rest → length (offered call) ≤ call.room → call.failures_after ≡ call.failures_before → ⊥
@@ -202,8 +202,8 @@ refused r status Usage said c = record {
   not_good = λ other reader. absurd (c.0 reader.0.taken);
   made = λ maker. absurd (c.0 maker.1.taken);
 }
-refused r status (Malformed line kind) said c = bad r status line kind false said c.0 c.1 c.3.0 c.2 c.3.1
-refused r status (Limit line kind) said c = bad r status line kind true said c.0 c.1 c.3.0 c.2 c.3.1
+refused r status (Malformed line kind) said c = bad r status line kind false said c.0 c.1 c.3.0 c.2 c.3.1 c.3.2
+refused r status (Limit line kind) said c = bad r status line kind true said c.0 c.1 c.3.0 c.2 c.3.1 c.3.2
 refused r status TooLong said c = record {
   usage = λ not. absurd (not c.1.taken);
   bad_line = λ other reader. told r.input.before r.input.after (of other reader) (λ x y before h fault two. absurd (clash (first_bad (end_of other) (reading r.input x y)) fault h.0 two));

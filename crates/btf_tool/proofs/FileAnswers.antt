@@ -4,7 +4,7 @@ use Rattle.sp_ids.specs.Entries.{Entries}
 use Rattle.sp_ports.specs.Bytes.{Gives, WhereTold}
 use Rattle.sp_ports.specs.Counts.{SourceRose}
 use Rattle.mm_defs.specs.File.{Fault, Reads, rest_of}
-use Rattle.mm_defs.specs.Reading.{Call, FellShort, Intake, IsAnswer, IsRest, ReadsAll, RefusesRest, call_on, first_bad, got, room}
+use Rattle.mm_defs.specs.Reading.{Call, FellShort, HasItsKind, Intake, IsAnswer, IsRest, JudgesNoLine, ReadsAll, RefusesRest, call_on, first_bad, got, room}
 use Rattle.mm_defs.specs.declared.answers.End.{End}
 use Rattle.mm_defs.specs.declared.answers.End.TheVariants.{File, LastEntry}
 use Rattle.mm_defs.specs.declared.answers.ReadError.{ReadError}
@@ -50,22 +50,22 @@ file_read input ahead t answer steady = (steady, told input.before input.after a
 not_read : (end : End) (input : Device) (ahead : List ℕ) (e : ReadError)
     → WhereTold input.before input.after (λ before after. IsAnswer end (reading input before after) (ahead ++ after) (Err e))
     → WhereTold input.before input.after (λ before after. FellShort {T = Entries} end (reading input before after) (Err e))
-    → (e ≡ errors.ReadFault → HasReadFault input) → IsUnread end input (refusal_for e)
-not_read end input ahead (errors.Malformed line kind) answer short rose = told input.before input.after answer (λ x y before h. h)
-not_read end input ahead (errors.Limit line kind) answer short rose = told input.before input.after answer (λ x y before h. h)
-not_read end input ahead errors.TooLong answer short rose = told input.before input.after answer (λ x y before h. h)
-not_read end input ahead errors.ReadFault answer short rose = (rose refl, told input.before input.after (both _ _ input.before input.after answer short) (λ x y before h. (h.0.0, h.1.1)))
-not_read end input ahead errors.OutOfMemory answer short rose = told input.before input.after answer (λ x y before h. tt)
+    → HasItsKind {T = Entries} (Err e) → (e ≡ errors.ReadFault → HasReadFault input) → IsUnread end input (refusal_for e)
+not_read end input ahead (errors.Malformed line kind) answer short is rose = (is, told input.before input.after answer (λ x y before h. h.0))
+not_read end input ahead (errors.Limit line kind) answer short is rose = (is, told input.before input.after answer (λ x y before h. h.0))
+not_read end input ahead errors.TooLong answer short is rose = told input.before input.after answer (λ x y before h. h)
+not_read end input ahead errors.ReadFault answer short is rose = (rose refl, told input.before input.after (both _ _ input.before input.after answer short) (λ x y before h. (h.0.0, h.1.1)))
+not_read end input ahead errors.OutOfMemory answer short is rose = told input.before input.after answer (λ x y before h. tt)
 
 pub file_not_read : (end : End) (input : Device) (start : Intake) (ahead : List ℕ) (e : ReadError) → start ≡ fresh
     → WhereTold input.before input.after (λ before after. IsAnswer end (call_on start input.failed_before input.failed_after before after) (ahead ++ after) (Err e))
     → WhereTold input.before input.after (λ before after. FellShort {T = Entries} end (call_on start input.failed_before input.failed_after before after) (Err e))
-    → (e ≡ errors.ReadFault → HasReadFault input) → IsUnread end input (refusal_for e)
-file_not_read end input start ahead e is answer short rose =
+    → HasItsKind {T = Entries} (Err e) → (e ≡ errors.ReadFault → HasReadFault input) → IsUnread end input (refusal_for e)
+file_not_read end input start ahead e is answer short kind rose =
     not_read end input ahead e
     (subst (λ (i : Intake). WhereTold input.before input.after (λ before after. IsAnswer end (call_on i input.failed_before input.failed_after before after) (ahead ++ after) (Err e))) is answer)
     (subst (λ (i : Intake). WhereTold input.before input.after (λ before after. FellShort {T = Entries} end (call_on i input.failed_before input.failed_after before after) (Err e))) is short)
-    rose
+    kind rose
 
 -- ---- a file and what follows it
 
@@ -153,18 +153,18 @@ followed_read input mid new f t bytes ahead limit first second steady =
 -- what follows could not be read
 pub rest_not_read : (input : Device) (mid : Option (List ℕ)) (new : Intake) (f : ℕ) (t : Entries) (given : List ℕ) (e : ReadError) → new.limit ≡ 68719476736
     → WhereTold input.before mid (λ x y. HasRead new t x y) → WhereTold mid input.after (λ y z. RefusesRest (call_on new f input.failed_after y z) e)
-    → Gives mid input.after given → f ≡ input.failed_before → (e ≡ errors.ReadFault → SourceRose mid f input.failed_after) → IsUnread LastEntry input (refusal_for e)
-rest_not_read input mid new f t given (errors.Malformed line kind) limit first second gave steady rose = over_both input.before mid input.after first second (λ x y z h none. absurd none)
-rest_not_read input mid new f t given (errors.Limit line kind) limit first second gave steady rose = over_both input.before mid input.after first second (λ x y z h none. absurd none)
-rest_not_read input mid new f t given errors.TooLong limit first second gave steady rose =
+    → JudgesNoLine e → Gives mid input.after given → f ≡ input.failed_before → (e ≡ errors.ReadFault → SourceRose mid f input.failed_after) → IsUnread LastEntry input (refusal_for e)
+rest_not_read input mid new f t given (errors.Malformed line kind) limit first second unjudged gave steady rose = absurd unjudged
+rest_not_read input mid new f t given (errors.Limit line kind) limit first second unjudged gave steady rose = absurd unjudged
+rest_not_read input mid new f t given errors.TooLong limit first second unjudged gave steady rose =
     over_both input.before mid input.after first (both _ _ mid input.after second (given_told mid input.after given gave))
     (λ x y z h past. (no_bad input new t x y z h, too_long input new f t x y z given limit h past.1 past.0))
-rest_not_read input mid new f t given errors.ReadFault limit first second gave steady rose = (
+rest_not_read input mid new f t given errors.ReadFault limit first second unjudged gave steady rose = (
   rose_before _ input.before mid input.failed_before f input.failed_after first steady (rose refl),
   over_both input.before mid input.after first (both _ _ mid input.after second (given_told mid input.after given gave))
       (λ x y z h failed. (no_bad input new t x y z h, within input new f t x y z given limit h failed.1 failed.0.1)),
 )
-rest_not_read input mid new f t given errors.OutOfMemory limit first second gave steady rose = over_both input.before mid input.after first second (λ x y z h none. tt)
+rest_not_read input mid new f t given errors.OutOfMemory limit first second unjudged gave steady rose = over_both input.before mid input.after first second (λ x y z h none. tt)
 
 -- what the first call says of such an input
 pub has_read : (start new : Intake) (old mid : Option (List ℕ)) (f g : ℕ) (t : Entries) → start ≡ fresh

@@ -32,8 +32,8 @@ use Rattle.btf_tool.proofs.Completing.{told}
 -- the reading was refused, and nothing was written
 pub file_refused : (job : Job) (input out : Device) (refusal : Refusal) → ReadsFile job → IsUnread (end_of job) input refusal → HasNotFallen input → IsUntouched out → JobSays job input out (Err refusal)
 file_refused job input out Usage reads says later same = absurd says
-file_refused job input out (Malformed line kind) reads says later same = (later, (reads, says, same))
-file_refused job input out (Limit line kind) reads says later same = (later, (reads, says, same))
+file_refused job input out (Malformed line kind) reads says later same = (later, (reads, says.0, says.1, same))
+file_refused job input out (Limit line kind) reads says later same = (later, (reads, says.0, says.1, same))
 file_refused job input out TooLong reads says later same = (later, (reads, says, same))
 file_refused job input out ReadFault reads says later same = (later, (reads, says.0, says.1, same))
 file_refused job input out (SumLimit row col) reads says later same = absurd says

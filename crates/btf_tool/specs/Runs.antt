@@ -1,5 +1,5 @@
 -- What a run was given, what came of it, and what each status says.
-use Rattle.std.specs.Prelude.{◌≡◌, ◌≤◌, ◌<◌, ◌⊎◌, ℕ, Bool, true, false, List, length, if◌then◌else◌, Some, None, Result, Ok, Err}
+use Rattle.std.specs.Prelude.{◌≡◌, ◌≤◌, ◌<◌, ◌⊎◌, ℕ, true, false, List, length, if◌then◌else◌, Some, None, Result, Ok, Err}
 use Rattle.sp_ids.specs.Entries.{Entries}
 use Rattle.sp_ids.specs.declared.outcomes.Status.{Status}
 use Rattle.sp_ids.specs.declared.outcomes.Status.TheVariants as statuses
@@ -60,9 +60,9 @@ pub record IsAnswered (r : Run) (answer : Answer) : Type 0 where
 
 -- ---- refusals
 
--- the first bad line of the input is this one, and whether it passes a limit
-abbrev pub IsBadLine : End → Device → Fault → Bool → Type 0
-IsBadLine end input fault limit = OfReading input (λ call. (first_bad end call ≡ Some fault) × (is_limit fault.kind ≡ limit))
+-- the first bad line of the input is this one
+abbrev pub IsBadLine : End → Device → Fault → Type 0
+IsBadLine end input fault = OfReading input (λ call. first_bad end call ≡ Some fault)
 
 -- no line is bad of what the input gave, and it gave no more bytes than it may have
 abbrev pub IsGoodSoFar : End → Device → Type 0
@@ -83,9 +83,9 @@ WithFile job input P = OfReading input (λ call. (t : Entries) × (rest : List �
 -- What a refusal of a job says of the input and of the output. Only a job that reads a file is refused for what it read.
 abbrev pub IsCause : Job → Device → Device → Refusal → Type 0
 -- the first bad line is not of the file's form
-IsCause job input out (Malformed line kind) = ReadsFile job × IsBadLine (end_of job) input (record { line = line; kind = kind }) false × IsUntouched out
+IsCause job input out (Malformed line kind) = ReadsFile job × (is_limit kind ≡ false) × IsBadLine (end_of job) input (record { line = line; kind = kind }) × IsUntouched out
 -- the first bad line passes a limit
-IsCause job input out (Limit line kind) = ReadsFile job × IsBadLine (end_of job) input (record { line = line; kind = kind }) true × IsUntouched out
+IsCause job input out (Limit line kind) = ReadsFile job × (is_limit kind ≡ true) × IsBadLine (end_of job) input (record { line = line; kind = kind }) × IsUntouched out
 -- no line is bad, and the input gave more bytes than it may have
 IsCause job input out TooLong = ReadsFile job × IsTooLong (end_of job) input × IsUntouched out
 -- the sum of a place's values passes the limit, in the integer file of a job that adds them up
@@ -107,8 +107,8 @@ IsReadAs end input t rest = IsSteady input × OfReading input (λ call. WasRead 
 
 -- Why the input could not be read.
 abbrev pub IsUnread : End → Device → Refusal → Type 0
-IsUnread end input (Malformed line kind) = IsBadLine end input (record { line = line; kind = kind }) false
-IsUnread end input (Limit line kind) = IsBadLine end input (record { line = line; kind = kind }) true
+IsUnread end input (Malformed line kind) = (is_limit kind ≡ false) × IsBadLine end input (record { line = line; kind = kind })
+IsUnread end input (Limit line kind) = (is_limit kind ≡ true) × IsBadLine end input (record { line = line; kind = kind })
 IsUnread end input TooLong = IsTooLong end input
 IsUnread end input ReadFault = HasReadFault input × IsGoodSoFar end input
 IsUnread end input OutOfMemory = TellsStill input

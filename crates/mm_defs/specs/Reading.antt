@@ -92,6 +92,15 @@ Tells fault (Err errors.TooLong) = ⊥
 Tells fault (Err errors.ReadFault) = ⊥
 Tells fault (Err errors.OutOfMemory) = Unit {0}
 
+-- what is answered as Malformed passes no limit, and what is answered as Limit does
+abbrev pub HasItsKind : {T : Type 0} → Result T ReadError → Type 0
+HasItsKind (Ok t) = Unit {0}
+HasItsKind (Err (errors.Malformed line kind)) = is_limit kind ≡ false
+HasItsKind (Err (errors.Limit line kind)) = is_limit kind ≡ true
+HasItsKind (Err errors.TooLong) = Unit {0}
+HasItsKind (Err errors.ReadFault) = Unit {0}
+HasItsKind (Err errors.OutOfMemory) = Unit {0}
+
 -- at most one buffer of bytes was taken past the end of a bad line
 abbrev pub IsNear : {T : Type 0} → Call → Result T ReadError → Type 0
 IsNear call (Ok t) = Unit {0}

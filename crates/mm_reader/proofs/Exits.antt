@@ -8,7 +8,7 @@ use Rattle.mm_defs.specs.declared.answers.End.{End}
 use Rattle.mm_defs.specs.declared.answers.ReadError.{ReadError}
 use Rattle.mm_defs.specs.declared.answers.ReadError.TheVariants as errors
 use Rattle.mm_defs.specs.declared.answers.End.TheVariants.{File}
-use Rattle.mm_defs.specs.Reading.{TakesAtMostOnePast, got}
+use Rattle.mm_defs.specs.Reading.{HasItsKind, TakesAtMostOnePast, got}
 use Rattle.mm_defs.specs.Words.{is_lf, has_bytes, lines, open_line}
 use Rattle.mm_defs.proofs.Behind.{length-lines}
 use Rattle.mm_reader.specs.declared.machine.Machine.{Machine}
@@ -201,6 +201,21 @@ refused_no_fault end bytes ahead room error h e = let k : error ≡ errors.ReadF
 pub ended_no_fault : (P : entries.Entries → Type 0) (end : End) (bytes : List ℕ) (result : Result entries.Entries ReadError) → MatchResult result P (RefusesAtEnd end bytes) → result ≡ Err errors.ReadFault → ⊥
 ended_no_fault P end bytes (Ok t) h e = cc
 ended_no_fault P end bytes (Err error) h e = let k : error ≡ errors.ReadFault = cc in rw k at h
+
+pub refused_kind : (end : End) (bytes ahead : List ℕ) (room : ℕ) (error : ReadError) → Refuses end bytes ahead room error → HasItsKind {T = entries.Entries} (Err error)
+refused_kind end bytes ahead room (errors.Malformed line kind) h = h.1
+refused_kind end bytes ahead room (errors.Limit line kind) h = h.1
+refused_kind end bytes ahead room errors.TooLong h = tt
+refused_kind end bytes ahead room errors.ReadFault h = tt
+refused_kind end bytes ahead room errors.OutOfMemory h = tt
+
+pub ended_kind : (P : entries.Entries → Type 0) (end : End) (bytes : List ℕ) (result : Result entries.Entries ReadError) → MatchResult result P (RefusesAtEnd end bytes) → HasItsKind result
+ended_kind P end bytes (Ok t) h = tt
+ended_kind P end bytes (Err (errors.Malformed line kind)) h = h.2
+ended_kind P end bytes (Err (errors.Limit line kind)) h = h.2
+ended_kind P end bytes (Err errors.TooLong) h = tt
+ended_kind P end bytes (Err errors.ReadFault) h = tt
+ended_kind P end bytes (Err errors.OutOfMemory) h = tt
 
 -- ---- each turn takes bytes, or is the last
 

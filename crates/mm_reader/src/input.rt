@@ -6,7 +6,7 @@ ghost use Rattle.sp_ports.specs.Bytes.{IsAtEnd, WhereTold};
 ghost use Rattle.sp_ports.specs.Counts.{SourceRose};
 ghost use Rattle.mm_defs.specs.Words.{is_lf};
 ghost use Rattle.mm_defs.specs.File.{Fault};
-ghost use Rattle.mm_defs.specs.Reading.{call_on, first_bad, Causes, FellShort, IsAnswer, IsNear, IsRest, JudgesNoLine, RefusesRest, TakesAtMostOnePast, Tells};
+ghost use Rattle.mm_defs.specs.Reading.{call_on, first_bad, Causes, FellShort, HasItsKind, IsAnswer, IsNear, IsRest, JudgesNoLine, RefusesRest, TakesAtMostOnePast, Tells};
 ghost use Rattle.mm_reader.specs.Windows.{GivesFront};
 
 use crate::reader::matrix;
@@ -113,6 +113,9 @@ pub fn read_matrix<S: Source>(
         first_bad end (call_on input.old (S.faults source.old) (S.faults source.new) before after) ≡ Some fault → Tells fault result) }
     ensures near { WhereTold (S.left source.old) (S.left source.new) (λ before after.
         IsNear (call_on input.old (S.faults source.old) (S.faults source.new) before after) result) }
+
+    // `Limit` tells what passes a limit, and `Malformed` what does not.
+    ensures kind { HasItsKind result }
 
     // Where the bytes given did not do, the matrix had not ended in them.
     ensures short { WhereTold (S.left source.old) (S.left source.new) (λ before after.

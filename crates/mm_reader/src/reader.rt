@@ -3,7 +3,7 @@
 ghost use Rattle.std.specs.Prelude.{◌≡◌, ◌≤◌, ◌<◌, ◌+◌, ◌^◌, ℕ, List, false, length, IfOk, IfErr, MatchResult, OnOk, IsTrue};
 ghost use Rattle.sp_ports.specs.Bytes.{IsAtEnd, WhereTold};
 ghost use Rattle.sp_ports.specs.Counts.{SourceRose};
-ghost use Rattle.mm_defs.specs.Reading.{Causes, TakesAtMostOnePast};
+ghost use Rattle.mm_defs.specs.Reading.{Causes, HasItsKind, TakesAtMostOnePast};
 ghost use Rattle.mm_reader.specs.Machine.{IsReady, is_complete};
 ghost use Rattle.mm_reader.specs.Standing.{begun_lines, IsAfter, IsWhole};
 ghost use Rattle.mm_reader.specs.Windows.{ahead_of, call_of, Answers, GivesFront, IsWindow, KeepsWindow, Consumes, Refuses, RefusesAtEnd, refusal_of};
@@ -143,6 +143,7 @@ pub fn matrix<S: Source>(
     requires at_end { IsTrue window.old.at_end → IsAtEnd (S.left source.old) }
     ensures told { WhereTold (S.left source.old) (S.left source.new) (λ before after.
         Answers end (call_of window.old (S.faults source.old) (S.faults source.new) before after) window.old window.new result) }
+    ensures kind { HasItsKind result }
     ensures gave { GivesFront (S.left source.old) (S.left source.new) }
     ensures most { WhereTold (S.left source.old) (S.left source.new) (λ before after.
         TakesAtMostOnePast (call_of window.old (S.faults source.old) (S.faults source.new) before after)) }

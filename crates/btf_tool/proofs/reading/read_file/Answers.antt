@@ -18,4 +18,4 @@ pub returns-clause-unread : goal.returns-clause-unread
 returns-clause-unread g c =
     rw c.refusal.ensures
     (file_not_read File (seen g.S.Source.left g.S.Source.faults c.args.input.now c.read_matrix.new.source) _ c.read_matrix.new.input.ahead c.in-Err.error c.in-Ok.ensures
-    c.in-Err.ensures.answer c.in-Err.ensures.short (λ e. c.in-Err.ensures.cause.failed (ap Err e)))
+    c.in-Err.ensures.answer c.in-Err.ensures.short c.in-Err.ensures.kind (λ e. c.in-Err.ensures.cause.failed (ap Err e)))

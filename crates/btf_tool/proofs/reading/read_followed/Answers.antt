@@ -9,7 +9,7 @@ pub returns-in-Err-clause-unread : goal.returns-in-Err-clause-unread
 returns-in-Err-clause-unread g c =
     rw c.refusal.ensures
     (file_not_read LastEntry (seen g.S.Source.left g.S.Source.faults c.args.input.now c.read_matrix.new.source) _ c.read_matrix.new.input.ahead c.in-Err.error c.in-Ok.ensures
-    c.in-Err.ensures.answer c.in-Err.ensures.short (λ e. c.in-Err.ensures.cause.failed (ap Err e)))
+    c.in-Err.ensures.answer c.in-Err.ensures.short c.in-Err.ensures.kind (λ e. c.in-Err.ensures.cause.failed (ap Err e)))
 
 pub returns-in-Ok-read_rest-clause-read : goal.returns-in-Ok-read_rest-clause-read
 returns-in-Ok-read_rest-clause-read g c =
@@ -27,5 +27,5 @@ returns-clause-unread g c =
     (g.S.Source.faults c.read_matrix.new.source) c.in-Ok-read_matrix.triples c.in-Err-read_rest.ensures.gave.0 c.in-Err-read_rest.error
     (c.in-Ok-read_matrix.ensures.limit ∙ ap (λ (i : Intake). i.limit) c.in-Ok.ensures)
     (has_read _ _ _ _ _ _ _ c.in-Ok.ensures c.in-Ok-read_matrix.ensures.answer c.in-Ok-read_matrix.ensures.taken)
-    c.in-Err-read_rest.ensures.answer c.in-Err-read_rest.ensures.gave.1 c.in-Ok-read_matrix.ensures.cause.steady
+    c.in-Err-read_rest.ensures.answer c.in-Err-read_rest.ensures.unjudged c.in-Err-read_rest.ensures.gave.1 c.in-Ok-read_matrix.ensures.cause.steady
     (λ e. c.in-Err-read_rest.ensures.cause.failed (ap Err e)))

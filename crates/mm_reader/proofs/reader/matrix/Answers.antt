@@ -1,12 +1,13 @@
 use Rattle.std.proofs.Common.{◌<◌, [], append-nil, refl, sym, ◌∙◌, arith, subst}
 use Rattle.mm_reader.specs.Windows.{ahead_of}
-use Rattle.mm_reader.proofs.Exits.{gives_none, most_told, fed_start, fed_consumed, fed_refilled, rose_since, exit_refused, exit_fault, exit_done, exit_end, memory_told, number-le, on_ok, refused_no_fault, ended_no_fault, turn_smaller, all_used}
+use Rattle.mm_reader.proofs.Exits.{gives_none, most_told, fed_start, fed_consumed, fed_refilled, rose_since, exit_refused, exit_fault, exit_done, exit_end, memory_told, number-le, on_ok, refused_kind, refused_no_fault, ended_kind, ended_no_fault, turn_smaller, all_used}
 use Rattle.sp_ports.specs.Counts.{SourceRose}
 use Rattle.mm_reader.proofs.reader.matrix.Goals as goal
 
 pub returns-in-Err : goal.returns-in-Err
 returns-in-Err g c = record {
   told = memory_told c.args.end c.args.window.now c.args.window.now _ _ _;
+  kind = tt;
   gave = ([], gives_none (g.S.Source.left c.args.source.now));
   most = most_told c.args.window.now c.args.window.now (g.S.Source.faults c.args.source.now) (g.S.Source.faults c.args.source.now) _ _ [] [] (gives_none (g.S.Source.left c.args.source.now)) (append-nil (ahead_of c.args.window.now)) (omega arith) c.requires.window;
   cause = record { later = omega arith; steady = tt; failed = λ e. absurd cc };
@@ -21,6 +22,7 @@ returns-in-Err-consume g c =
     let e = c.in-Err-consume.ensures in
     record {
       told = exit_refused c.args.end c.args.window.now c.consume.new.window c.args.window.now.lines (g.S.Source.faults c.args.source.now) (g.S.Source.faults c.reading.source) c.reading.m c.reading.window i.kept.window _ _ c.in-Err-consume.error i.fed e.err;
+      kind = refused_kind _ _ _ _ _ (e.err i.fed.used i.fed.stands);
       gave = (i.fed.gave, i.fed.told);
       most = most_told c.args.window.now c.reading.window (g.S.Source.faults c.args.source.now) (g.S.Source.faults c.reading.source) _ _ i.fed.gave i.fed.used i.fed.told i.fed.split i.fed.size i.kept.window;
       cause = record { later = omega (arith, i.steady); steady = tt; failed = λ x. absurd (refused_no_fault _ _ _ _ _ (e.err i.fed.used i.fed.stands) x) };
@@ -38,6 +40,7 @@ returns-then-done g c =
     record {
       told = exit_done c.args.end c.args.window.now c.complete.new.window c.args.window.now.lines (g.S.Source.faults c.args.source.now) (g.S.Source.faults c.reading.source) c.consume.new.m c.consume.new.window e.window
           p.ahead p.room refl _ _ c.complete.result f (sym e.ok.done_is ∙ c.if-done.true) (e.ok.closed c.if-done.true) p.triples p.lines;
+      kind = tt;
       gave = (i.fed.gave, i.fed.told);
       most = most_told c.args.window.now c.reading.window (g.S.Source.faults c.args.source.now) (g.S.Source.faults c.reading.source) _ _ i.fed.gave i.fed.used i.fed.told i.fed.split i.fed.size i.kept.window;
       cause = record { later = omega (arith, i.steady); steady = i.steady; failed = λ x. absurd cc };
@@ -55,6 +58,7 @@ returns-then-window g c =
     record {
       told = exit_end c.args.end c.args.window.now c.conclude.new.window c.args.window.now.lines (g.S.Source.faults c.args.source.now) (g.S.Source.faults c.reading.source) c.consume.new.m c.consume.new.window e.window
           p.ahead p.room refl _ _ c.conclude.result f (e.ok.all c.if-done.false) (i.at_end (rw (← e.at_end) c.if-window.true)) i.steady (sym e.ok.done_is ∙ c.if-done.false) p.lines p.answer;
+      kind = ended_kind _ c.args.end f.used c.conclude.result (p.answer c.args.end f.used f.stands (sym e.ok.done_is ∙ c.if-done.false));
       gave = (i.fed.gave, i.fed.told);
       most = most_told c.args.window.now c.reading.window (g.S.Source.faults c.args.source.now) (g.S.Source.faults c.reading.source) _ _ i.fed.gave i.fed.used i.fed.told i.fed.split i.fed.size i.kept.window;
       cause = record { later = omega (arith, i.steady); steady = on_ok _ c.conclude.result i.steady; failed = λ x. absurd (ended_no_fault _ c.args.end f.used c.conclude.result (p.answer c.args.end f.used f.stands (sym e.ok.done_is ∙ c.if-done.false)) x) };
@@ -74,6 +78,7 @@ returns-in-Err-refill g c =
     record {
       told = rw r.kept (exit_fault c.args.end c.args.window.now c.refill.new.window c.args.window.now.lines (g.S.Source.faults c.args.source.now) (g.S.Source.faults c.refill.new.source) c.consume.new.m c.consume.new.window e.window
           (g.S.Source.left c.args.source.now) (g.S.Source.left c.reading.source) f (e.ok.all c.if-done.false) (sym e.ok.done_is ∙ c.if-done.false) s);
+      kind = tt;
       gave = (i.fed.gave, rw r.kept i.fed.told);
       most = rw r.kept (most_told c.args.window.now c.reading.window (g.S.Source.faults c.args.source.now) (g.S.Source.faults c.refill.new.source) _ _ i.fed.gave i.fed.used i.fed.told i.fed.split i.fed.size i.kept.window);
       cause = record { later = omega (arith, i.steady, r.cause.later); steady = tt; failed = λ x. s };
