@@ -24,7 +24,7 @@ use Rattle.btf_tool.specs.declared.answers.Answer.TheVariants.{Negative, Positiv
 use Rattle.btf_tool.specs.declared.refusals.Refusal.{Refusal}
 use Rattle.btf_tool.specs.declared.refusals.Refusal.TheVariants.{Usage, Malformed, Limit, TooLong, SumLimit, NeedsInteger, ReadFault, WriteFault, OutOfMemory}
 use Rattle.btf_tool.specs.Devices.{Device, HasNotFallen, HasReadFault, HasWriteFault, IsUntouched, WasTold}
-use Rattle.btf_tool.specs.Jobs.{IsAnswer as IsJobAnswer, IsMatrixOf, ReadsFile, WasRead, WithAnswer, WithFileAnswer, end_of, reading}
+use Rattle.btf_tool.specs.Jobs.{GaveFront, IsAnswer as IsJobAnswer, IsMatrixOf, OfReading, ReadsFile, WasRead, WithAnswer, WithFileAnswer, end_of, reading}
 use Rattle.btf_tool.specs.Judging.{answer_of}
 use Rattle.btf_tool.specs.Refusals.{line_of, status_of, status_of_answer}
 use Rattle.btf_tool.specs.Runs.{ComesToDiagonal, Completes, EndsWell, HasCause, IsBadLine, IsGoodSoFar, IsOrNoMemory, IsTooLong, JobSays, NameMaker, Names, NamesReader, Run, Says, TellsStill, WithFile, status_of_fault}
@@ -281,6 +281,15 @@ untouched_tells input same = subst (λ (after : Option (List ℕ)). WhereTold in
     still : (bytes : Option (List ℕ)) → WhereTold bytes bytes (λ x y. Unit {0})
     still None = tt
     still (Some x) = tt
+
+-- it gave nothing
+pub untouched_gave : (input : Device) → IsUntouched input → OfReading input GaveFront
+untouched_gave input same =
+    subst (λ (after : Option (List ℕ)). WhereTold input.before after (λ x y. GaveFront (reading input x y))) (sym same.0) (still input.before)
+  where
+    still : (bytes : Option (List ℕ)) → WhereTold bytes bytes (λ x y. GaveFront (reading input x y))
+    still None = tt
+    still (Some x) = record { gave = []; in_order = refl; few = omega arith }
 
 -- nor has its count of failures fallen
 pub untouched_later : (input : Device) → IsUntouched input → HasNotFallen input

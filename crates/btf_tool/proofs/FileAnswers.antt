@@ -1,18 +1,19 @@
 -- What the reading of a file says, from what the reader answers.
-use Rattle.std.proofs.Common.{◌≡◌, ◌+◌, ◌-◌, ◌<◌, ◌≤◌, ◌++◌, ◌∙◌, ℕ, List, [], ◌∷◌, Ok, Err, false, true, Option, Some, None, arith, ap, length, length-append, length-take, refl, subst, sym}
+use Rattle.std.proofs.Common.{◌≡◌, ◌+◌, ◌-◌, ◌<◌, ◌≤◌, ◌++◌, ◌∙◌, ℕ, List, [], ◌∷◌, Ok, Err, false, true, Option, Some, None, append_assoc, arith, ap, length, length-append, length-take, refl, subst, sym}
 use Rattle.sp_ids.specs.Entries.{Entries}
 use Rattle.sp_ports.specs.Bytes.{Gives, WhereTold}
 use Rattle.sp_ports.specs.Counts.{SourceRose}
 use Rattle.mm_defs.specs.File.{Fault, Reads, rest_of}
-use Rattle.mm_defs.specs.Reading.{Call, FellShort, HasItsKind, Intake, IsAnswer, IsRest, JudgesNoLine, ReadsAll, RefusesRest, call_on, first_bad, got, room}
+use Rattle.mm_defs.specs.Reading.{Call, FellShort, HasItsKind, Intake, IsAnswer, IsRest, JudgesNoLine, ReadsAll, RefusesRest, TakesAtMostOnePast, call_on, first_bad, got, room}
 use Rattle.mm_defs.specs.declared.answers.End.{End}
 use Rattle.mm_defs.specs.declared.answers.End.TheVariants.{File, LastEntry}
 use Rattle.mm_defs.specs.declared.answers.ReadError.{ReadError}
 use Rattle.mm_defs.specs.declared.answers.ReadError.TheVariants as errors
 use Rattle.mm_defs.proofs.Answering.{bad_line_told}
 use Rattle.mm_defs.proofs.Behind.{length-behind}
+use Rattle.mm_reader.specs.Windows.{GivesFront}
 use Rattle.btf_tool.specs.Devices.{Device, HasReadFault}
-use Rattle.btf_tool.specs.Jobs.{WasRead, reading}
+use Rattle.btf_tool.specs.Jobs.{GaveFront, OfReading, WasRead, reading}
 use Rattle.btf_tool.specs.Refusals.{refusal_for}
 use Rattle.btf_tool.specs.Runs.{IsReadAs, IsUnread}
 use Rattle.btf_tool.proofs.Completing.{told}
@@ -26,6 +27,11 @@ both : (P Q : List ℕ → List ℕ → Type 0) (old new : Option (List ℕ)) �
 both P Q None new p q = tt
 both P Q (Some x) None p q = absurd p
 both P Q (Some x) (Some y) p q = (p, q)
+
+given_told : (old new : Option (List ℕ)) (given : List ℕ) → Gives old new given → WhereTold old new (λ x y. x ≡ given ++ y)
+given_told None new given h = tt
+given_told (Some x) None given h = absurd h
+given_told (Some x) (Some y) given h = h
 
 -- an input before its first byte
 abbrev pub fresh : Intake
@@ -67,6 +73,19 @@ file_not_read end input start ahead e is answer short kind rose =
     (subst (λ (i : Intake). WhereTold input.before input.after (λ before after. FellShort {T = Entries} end (call_on i input.failed_before input.failed_after before after) (Err e))) is short)
     kind rose
 
+-- what the reader took of the input
+pub file_gave : (input : Device) (start : Intake) → start ≡ fresh → GivesFront input.before input.after
+    → WhereTold input.before input.after (λ before after. TakesAtMostOnePast (call_on start input.failed_before input.failed_after before after)) → OfReading input GaveFront
+file_gave input start is front most =
+    told input.before input.after
+    (both _ _ input.before input.after (given_told input.before input.after front.0 front.1)
+    (subst (λ (i : Intake). WhereTold input.before input.after (λ before after. TakesAtMostOnePast (call_on i input.failed_before input.failed_after before after))) is most))
+    (λ x y before h.
+    let k : length x ≡ length front.0 + length y = ap length h.0 ∙ length-append front.0 y in
+    let m : length (got (reading input x y)) ≤ 68719476736 + 1 = h.1 in
+    let g : length (got (reading input x y)) ≡ length front.0 = simp (length-take) (omega (arith, k)) in
+    record { gave = front.0; in_order = h.0; few = omega (arith, m, g) })
+
 -- ---- a file and what follows it
 
 -- what holds of a source's bytes before two calls and after them
@@ -76,11 +95,6 @@ over_both None mid new first second f = tt
 over_both (Some x) None new first second f = absurd first
 over_both (Some x) (Some y) None first second f = absurd second
 over_both (Some x) (Some y) (Some z) first second f = f x y z first second
-
-given_told : (old new : Option (List ℕ)) (given : List ℕ) → Gives old new given → WhereTold old new (λ x y. x ≡ given ++ y)
-given_told None new given h = tt
-given_told (Some x) None given h = absurd h
-given_told (Some x) (Some y) given h = h
 
 -- a failure of a later call is one of both calls
 rose_before : (P : List ℕ → List ℕ → Type 0) (old mid : Option (List ℕ)) (first between last : ℕ) → WhereTold old mid P → between ≡ first → SourceRose mid between last → SourceRose old first last
@@ -149,6 +163,32 @@ pub followed_read : (input : Device) (mid : Option (List ℕ)) (new : Intake) (f
     → input.failed_after ≡ input.failed_before → IsReadAs LastEntry input t bytes
 followed_read input mid new f t bytes ahead limit first second steady =
     (steady, over_both input.before mid input.after first second (λ x y z h rest. rest_read input new f t x y z bytes ahead limit h rest))
+
+both_few : (input : Device) (new : Intake) (f : ℕ) (t : Entries) (x y z one two : List ℕ) → new.limit ≡ 68719476736 → HasRead new t x y → x ≡ one ++ y → y ≡ two ++ z
+    → TakesAtMostOnePast (call_on new f input.failed_after y z) → length (one ++ two) ≤ 68719476736 + 1
+both_few input new f t x y z one two limit h first second most =
+    let n : length (new.ahead ++ y) ≡ length new.ahead + length y = length-append new.ahead y in
+    let j : length x ≡ length one + length y = ap length first ∙ length-append one y in
+    let k : length y ≡ length two + length z = ap length second ∙ length-append two z in
+    let l : length (one ++ two) ≡ length one + length two = length-append one two in
+    let w = h.within in
+    let s = rest_short x (new.ahead ++ y) t h.reads in
+    let taken = h.taken in
+    let m : length (got (call_on new f input.failed_after y z)) ≤ room new + 1 = most in
+    let g : length (got (call_on new f input.failed_after y z)) ≡ length new.ahead + (length y - length z) = simp (length-append, length-take) (omega arith) in
+    omega (arith, limit, taken, j, k, l, n, w, s, g, m)
+
+-- what both calls took of the input
+pub followed_gave : (input : Device) (mid : Option (List ℕ)) (new : Intake) (f : ℕ) (t : Entries) → new.limit ≡ 68719476736 → WhereTold input.before mid (λ x y. HasRead new t x y)
+    → GivesFront input.before mid → GivesFront mid input.after → WhereTold mid input.after (λ y z. TakesAtMostOnePast (call_on new f input.failed_after y z)) → OfReading input GaveFront
+followed_gave input mid new f t limit read one two most =
+    over_both input.before mid input.after
+    (both _ _ input.before mid read (given_told input.before mid one.0 one.1)) (both _ _ mid input.after most (given_told mid input.after two.0 two.1))
+    (λ x y z h k. record {
+      gave = one.0 ++ two.0;
+      in_order = h.1 ∙ ap (λ (r : List ℕ). one.0 ++ r) k.1 ∙ sym (append_assoc one.0 two.0 z);
+      few = both_few input new f t x y z one.0 two.0 limit h.0 h.1 k.1 k.0;
+    })
 
 -- what follows could not be read
 pub rest_not_read : (input : Device) (mid : Option (List ℕ)) (new : Intake) (f : ℕ) (t : Entries) (given : List ℕ) (e : ReadError) → new.limit ≡ 68719476736

@@ -1,5 +1,5 @@
 -- What each job reads or makes, and what it answers.
-use Rattle.std.specs.Prelude.{◌≡◌, ◌≤◌, ◌⊎◌, ℕ, List, [], length}
+use Rattle.std.specs.Prelude.{◌≡◌, ◌≤◌, ◌⊎◌, ◌+◌, ◌++◌, ℕ, List, [], length}
 use Rattle.sp_ids.specs.Entries.{Entries, places}
 use Rattle.bip_defs.specs.Matrix.{Matrix, HasPlaces}
 use Rattle.bip_graph.specs.Answers.{IsAnalysis, IsRankText}
@@ -51,6 +51,12 @@ reading input before after = record {
 -- what holds of the reading, where the input tells its bytes
 abbrev pub OfReading : Device → (Call → Type 0) → Type 0
 OfReading input P = WhereTold input.before input.after (λ before after. P (reading input before after))
+
+-- what is left is the end of what there was, and at most one byte past the limit was taken
+pub record GaveFront (call : Call) : Type 0 where
+  pub gave : List ℕ
+  pub in_order : call.before ≡ gave ++ call.after
+  pub few : length gave ≤ call.room + 1
 
 -- the input was a good file of these entries with this behind it, within the limit, and was read to its end
 pub record WasRead (end : End) (call : Call) (t : Entries) (rest : List ℕ) : Type 0 where

@@ -10,7 +10,7 @@ ghost use Rattle.sp_ports.specs.Bytes.{Writes};
 ghost use Rattle.sp_ports.specs.Counts.{HasCause, Rose};
 ghost use Rattle.btf_tool.specs.Analyses.{IsFoundIn};
 ghost use Rattle.btf_tool.specs.Devices.{seen};
-ghost use Rattle.btf_tool.specs.Jobs.{IsMatrixOf};
+ghost use Rattle.btf_tool.specs.Jobs.{GaveFront, IsMatrixOf, OfReading};
 ghost use Rattle.btf_tool.specs.Runs.{JobSays};
 
 use crate::decompose::{Analysis, decompose};
@@ -41,7 +41,8 @@ pub(crate) fn analyse<R: Threads + Sync, S: Source, O: Sink, G: Gate>(
     out: &mut O,
     gate: &G,
 ) -> Result<Answer, Refusal>
-    ensures { JobSays (Analyse options.engine options.order options.pairs) (seen S.left S.faults input.old input.new) (seen O.taken O.faults out.old out.new) result }
+    ensures says { JobSays (Analyse options.engine options.order options.pairs) (seen S.left S.faults input.old input.new) (seen O.taken O.faults out.old out.new) result }
+    ensures gave { OfReading (seen S.left S.faults input.old input.new) GaveFront }
 {
     let triples = match read_file(alloc, input) {
         Ok(triples) => triples,

@@ -8,7 +8,7 @@ ghost use Rattle.sp_pattern.specs.Stored.{IsPattern};
 ghost use Rattle.sp_ports.specs.Bytes.{Writes};
 ghost use Rattle.sp_ports.specs.Counts.{HasCause, Rose};
 ghost use Rattle.btf_tool.specs.Devices.{seen};
-ghost use Rattle.btf_tool.specs.Jobs.{IsMatrixOf};
+ghost use Rattle.btf_tool.specs.Jobs.{GaveFront, IsMatrixOf, OfReading};
 ghost use Rattle.btf_tool.specs.Judging.{answer_of as answer_on, verdict_text};
 ghost use Rattle.btf_tool.specs.Runs.{JobSays};
 
@@ -29,7 +29,8 @@ pub(crate) fn check<R: Threads + Sync, S: Source, O: Sink>(
     input: &mut S,
     out: &mut O,
 ) -> Result<Answer, Refusal>
-    ensures { JobSays Check (seen S.left S.faults input.old input.new) (seen O.taken O.faults out.old out.new) result }
+    ensures says { JobSays Check (seen S.left S.faults input.old input.new) (seen O.taken O.faults out.old out.new) result }
+    ensures gave { OfReading (seen S.left S.faults input.old input.new) GaveFront }
 {
     let file = match read_followed(alloc, input) {
         Ok(file) => file,

@@ -3,7 +3,7 @@
 ghost use Rattle.std.specs.Prelude.{map, string_bytes};
 ghost use Rattle.btf_words.specs.Words.{HasSizeInRange};
 ghost use Rattle.btf_tool.specs.Devices.{IsUntouched, seen};
-ghost use Rattle.btf_tool.specs.Jobs.{ReadsFile};
+ghost use Rattle.btf_tool.specs.Jobs.{GaveFront, OfReading, ReadsFile};
 ghost use Rattle.btf_tool.specs.Runs.{Completes, JobSays, NameMaker, Says};
 
 use crate::analyse::{Options, analyse};
@@ -50,6 +50,9 @@ pub fn run<R: Threads + Sync, S: Source, O: Sink, E: Sink, G: Gate>(
       err = seen E.taken E.faults err.old err.new;
     }) result }
 
+    // What the input has left is the end of what it had, and at most one byte past its limit was taken.
+    ensures gave { OfReading (seen S.left S.faults input.old input.new) GaveFront }
+
     // A matrix that is made is made without the input.
     ensures unread { NameMaker (map string_bytes words.now) → IsUntouched (seen S.left S.faults input.old input.new) }
 {
@@ -74,6 +77,7 @@ fn perform<R: Threads + Sync, S: Source, O: Sink, G: Gate>(
 ) -> Result<Answer, Refusal>
     requires size { HasSizeInRange job }
     ensures says { JobSays job (seen S.left S.faults input.old input.new) (seen O.taken O.faults out.old out.new) result }
+    ensures gave { OfReading (seen S.left S.faults input.old input.new) GaveFront }
     ensures unread { ¬ ReadsFile job → IsUntouched (seen S.left S.faults input.old input.new) }
 {
     match job {

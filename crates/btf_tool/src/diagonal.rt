@@ -8,6 +8,7 @@ ghost use Rattle.sp_ports.specs.Bytes.{Writes};
 ghost use Rattle.sp_ports.specs.Counts.{HasCause, Rose};
 ghost use Rattle.btf_tool.specs.Devices.{seen};
 ghost use Rattle.btf_tool.specs.Diagonals.{answer_on};
+ghost use Rattle.btf_tool.specs.Jobs.{GaveFront, OfReading};
 ghost use Rattle.btf_tool.specs.Refusals.{refusal_without_weights};
 ghost use Rattle.btf_tool.specs.Runs.{JobSays};
 
@@ -29,7 +30,8 @@ pub(crate) fn diagonal<R: Threads + Sync, S: Source, O: Sink>(
     input: &mut S,
     out: &mut O,
 ) -> Result<Answer, Refusal>
-    ensures { JobSays Diagonal (seen S.left S.faults input.old input.new) (seen O.taken O.faults out.old out.new) result }
+    ensures says { JobSays Diagonal (seen S.left S.faults input.old input.new) (seen O.taken O.faults out.old out.new) result }
+    ensures gave { OfReading (seen S.left S.faults input.old input.new) GaveFront }
 {
     let triples = match read_file(alloc, input) {
         Ok(triples) => triples,

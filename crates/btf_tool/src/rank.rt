@@ -10,6 +10,7 @@ ghost use Rattle.btf_words.specs.declared.jobs.Job.TheVariants.{Rank};
 ghost use Rattle.sp_ports.specs.Bytes.{Writes};
 ghost use Rattle.sp_ports.specs.Counts.{HasCause, Rose};
 ghost use Rattle.btf_tool.specs.Devices.{seen};
+ghost use Rattle.btf_tool.specs.Jobs.{GaveFront, OfReading};
 ghost use Rattle.btf_tool.specs.Ranks.{IsRankOf};
 ghost use Rattle.btf_tool.specs.Runs.{JobSays};
 
@@ -44,7 +45,8 @@ pub(crate) fn rank<R: Threads + Sync, S: Source, O: Sink, G: Gate>(
     out: &mut O,
     gate: &G,
 ) -> Result<Answer, Refusal>
-    ensures { JobSays Rank (seen S.left S.faults input.old input.new) (seen O.taken O.faults out.old out.new) result }
+    ensures says { JobSays Rank (seen S.left S.faults input.old input.new) (seen O.taken O.faults out.old out.new) result }
+    ensures gave { OfReading (seen S.left S.faults input.old input.new) GaveFront }
 {
     let triples = match read_file(alloc, input) {
         Ok(triples) => triples,

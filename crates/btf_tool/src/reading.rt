@@ -3,7 +3,7 @@
 ghost use Rattle.std.specs.Prelude.{◌≡◌, [], true, false, IfErr, IfOk};
 ghost use Rattle.mm_defs.specs.declared.answers.End.TheVariants.{File, LastEntry};
 ghost use Rattle.btf_tool.specs.Devices.{HasNotFallen, seen};
-ghost use Rattle.btf_tool.specs.Jobs.{input_limit};
+ghost use Rattle.btf_tool.specs.Jobs.{GaveFront, OfReading, input_limit};
 ghost use Rattle.btf_tool.specs.Refusals.{refusal_for};
 ghost use Rattle.btf_tool.specs.Runs.{IsReadAs, IsUnread};
 
@@ -26,6 +26,7 @@ pub(crate) fn read_file<S: Source>(alloc: Global, input: &mut S) -> Result<Tripl
     ensures read { IfOk result (λ t. IsReadAs File (seen S.left S.faults input.old input.new) t []) }
     ensures unread { IfErr result (IsUnread File (seen S.left S.faults input.old input.new)) }
     ensures later { HasNotFallen (seen S.left S.faults input.old input.new) }
+    ensures gave { OfReading (seen S.left S.faults input.old input.new) GaveFront }
 {
     let Ok(mut bytes) = new_input(alloc) else {
         return Err(Refusal::OutOfMemory);
@@ -41,6 +42,7 @@ pub(crate) fn read_followed<S: Source>(alloc: Global, input: &mut S) -> Result<F
     ensures read { IfOk result (λ f. IsReadAs LastEntry (seen S.left S.faults input.old input.new) f.triples f.rest.items) }
     ensures unread { IfErr result (IsUnread LastEntry (seen S.left S.faults input.old input.new)) }
     ensures later { HasNotFallen (seen S.left S.faults input.old input.new) }
+    ensures gave { OfReading (seen S.left S.faults input.old input.new) GaveFront }
 {
     let Ok(mut bytes) = new_input(alloc) else {
         return Err(Refusal::OutOfMemory);

@@ -1,7 +1,7 @@
 use Rattle.std.proofs.Common.{refl, ap, Err, ◌∙◌}
 use Rattle.btf_tool.specs.Devices.{seen}
 use Rattle.btf_tool.specs.declared.refusals.Refusal.TheVariants.{Usage, OutOfMemory}
-use Rattle.btf_tool.proofs.Completing.{completes, job_done, job_not_done, made_named, named, refusal_says, untouched_later, untouched_tells}
+use Rattle.btf_tool.proofs.Completing.{completes, job_done, job_not_done, made_named, named, refusal_says, untouched_gave, untouched_later, untouched_tells}
 use Rattle.btf_tool.proofs.command.run.Goals as goal
 
 pub returns-in-Err-Usage-clause-says : goal.returns-in-Err-Usage-clause-says
@@ -49,3 +49,9 @@ returns-in-Ok-perform-clause-unread g c = λ maker.
 pub returns-in-Err-clause-unread : goal.returns-in-Err-clause-unread
 returns-in-Err-clause-unread g c = λ maker.
     c.perform.ensures.unread (made_named _ c.in-Ok.job (named _ _ _ c.in-Ok.is c.read_words.ensures.taken c.read_words.ensures.job) maker)
+
+pub returns-in-Err-Usage-clause-gave : goal.returns-in-Err-Usage-clause-gave
+returns-in-Err-Usage-clause-gave g c = untouched_gave (seen g.S.Source.left g.S.Source.faults c.args.input.now c.args.input.now) (refl, refl)
+
+pub returns-in-Err-OutOfMemory-clause-gave : goal.returns-in-Err-OutOfMemory-clause-gave
+returns-in-Err-OutOfMemory-clause-gave g c = untouched_gave (seen g.S.Source.left g.S.Source.faults c.args.input.now c.args.input.now) (refl, refl)
