@@ -4,7 +4,7 @@ ghost use Rattle.std.specs.Prelude.{◌<◌};
 
 use crate::{End, Input, Kind, ReadError, read_matrix, read_rest};
 use sp_ids::{Col, Field, Row, Triples};
-use sp_ports::MemSource;
+use sp_ports::{Failed, MemSource, Source};
 use std::alloc::{AllocError, Global};
 use std::test::Fail;
 
@@ -138,6 +138,101 @@ fn the_limit_counts_bytes(rt: HostRuntime) -> Result<(), Fail> {
         assert_eq!(rt; input.is_good(), false);
     }
     assert_eq!(rt; read(alloc, SMALLEST, 10, &[], 59)?.len(), 1);
+    Ok(())
+}
+
+/// All that a source has left.
+fn left(alloc: Global, source: &mut MemSource) -> Result<Vec<u8>, ReadError> {
+    let mut input = match Input::new(alloc, 1_000_000) {
+        Err(_) => return Err(ReadError::OutOfMemory),
+        Ok(input) => input,
+    };
+    read_rest(alloc, &mut input, source)
+}
+
+/// What the source has left after a matrix that is longer than the limit.
+fn left_by_matrix(
+    alloc: Global,
+    bytes: &[u8],
+    piece: usize,
+    limit: u64,
+) -> Result<Vec<u8>, ReadError>
+    requires { 0 < piece }
+{
+    let mut source = MemSource::new(copied(alloc, bytes)?, piece, Vec::new(alloc));
+    let mut input = match Input::new(alloc, limit) {
+        Err(_) => return Err(ReadError::OutOfMemory),
+        Ok(input) => input,
+    };
+    match read_matrix(alloc, &mut input, &mut source, End::File) {
+        Err(ReadError::TooLong) => left(alloc, &mut source),
+        Err(error) => Err(error),
+        Ok(_) => Ok(Vec::new(alloc)),
+    }
+}
+
+/// The same after bytes of which no line is judged.
+fn left_by_rest(alloc: Global, bytes: &[u8], piece: usize, limit: u64) -> Result<Vec<u8>, ReadError>
+    requires { 0 < piece }
+{
+    let mut source = MemSource::new(copied(alloc, bytes)?, piece, Vec::new(alloc));
+    let mut input = match Input::new(alloc, limit) {
+        Err(_) => return Err(ReadError::OutOfMemory),
+        Ok(input) => input,
+    };
+    match read_rest(alloc, &mut input, &mut source) {
+        Err(ReadError::TooLong) => left(alloc, &mut source),
+        Err(error) => Err(error),
+        Ok(_) => Ok(Vec::new(alloc)),
+    }
+}
+
+#[test]
+fn one_byte_past_the_limit_is_taken(rt: HostRuntime) -> Result<(), Fail> {
+    let alloc = rt.alloc();
+    for piece in [1, 10, 59] {
+        let behind_matrix = left_by_matrix(alloc, SMALLEST, piece, 52)?;
+        assert_eq!(rt; behind_matrix.as_slice(), b"1\n1 1\n".as_slice());
+        let behind_rest = left_by_rest(alloc, b"% c\nbtf 1\n!", piece, 6)?;
+        assert_eq!(rt; behind_rest.as_slice(), b" 1\n!".as_slice());
+    }
+    Ok(())
+}
+
+#[test]
+fn a_file_may_be_many_buffers_past_the_limit(rt: HostRuntime) -> Result<(), Fail> {
+    let alloc = rt.alloc();
+    let mut bytes = pattern_file(alloc, b"%")?;
+    bytes.extend_from_slice(&filled(alloc, b'x', 300_000)?)?;
+    // Of 300,050 bytes 70,001 are taken.
+    assert_eq!(rt;
+        left_by_matrix(alloc, &bytes, 300_050, 70_000)?.len(),
+        230_049
+    );
+    assert_eq!(rt;
+        left_by_rest(alloc, &bytes, 300_050, 70_000)?.len(),
+        230_049
+    );
+    Ok(())
+}
+
+#[test]
+fn least_value(rt: HostRuntime) -> Result<(), Fail> {
+    let alloc = rt.alloc();
+    let least = read_all(
+        alloc,
+        b"%%MatrixMarket matrix coordinate integer general\n1 1 1\n1 1 -9223372036854775807\n",
+    )?;
+    assert_eq!(rt; values(&least), [-9223372036854775807].as_slice());
+    let less = read_all(
+        alloc,
+        b"%%MatrixMarket matrix coordinate integer general\n1 1 1\n1 1 -9223372036854775808\n",
+    );
+    let past_limit = ReadError::Limit {
+        line: 3,
+        kind: Kind::Value,
+    };
+    assert_eq!(rt; refusal(less), Some(past_limit));
     Ok(())
 }
 
@@ -461,5 +556,31 @@ fn the_rest_is_all_that_follows(rt: HostRuntime) -> Result<(), Fail> {
             Err(ReadError::TooLong)
         );
     }
+    Ok(())
+}
+
+#[test]
+fn the_rest_asks_no_more_at_the_end(rt: HostRuntime) -> Result<(), Fail> {
+    let alloc = rt.alloc();
+    // The second call gives no bytes, and the third would fail.
+    let mut source = MemSource::new(b"btf 1\n".to_vec(alloc)?, 100, [2].to_vec(alloc)?);
+    let mut input = Input::new(alloc, 6)?;
+    let bytes = read_rest(alloc, &mut input, &mut source)?;
+    assert_eq!(rt; bytes.as_slice(), b"btf 1\n".as_slice());
+    assert_eq!(rt; source.failed_calls(), 0);
+    assert_eq!(rt; source.read(&mut [0; 1]), Err(Failed));
+    Ok(())
+}
+
+#[test]
+fn the_rest_asks_no_more_past_the_limit(rt: HostRuntime) -> Result<(), Fail> {
+    let alloc = rt.alloc();
+    // The first call gives a byte past the limit, and the second would fail.
+    let mut source = MemSource::new(b"btf 1\n".to_vec(alloc)?, 100, [1].to_vec(alloc)?);
+    let mut input = Input::new(alloc, 4)?;
+    let answer = read_rest(alloc, &mut input, &mut source);
+    assert_eq!(rt; answer, Err(ReadError::TooLong));
+    assert_eq!(rt; source.failed_calls(), 0);
+    assert_eq!(rt; source.read(&mut [0; 1]), Err(Failed));
     Ok(())
 }
