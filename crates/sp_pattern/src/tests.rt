@@ -79,6 +79,8 @@ fn no_rows_and_no_entries(rt: HostRuntime) -> Result<(), Fail> {
 fn places_in_no_order_that_come_back(rt: HostRuntime) -> Result<(), Fail> {
     let places = [(2, 1), (0, 1), (2, 1), (0, 0), (2, 1), (0, 1)];
     let pattern = Pattern::build(&rt, rt.alloc(), &triples(rt.alloc(), 3, 2, &places)?)?;
+    assert_eq!(rt; pattern.rows(), 3);
+    assert_eq!(rt; pattern.cols(), 2);
     assert_eq!(rt; pattern.entries(), 3);
     assert_eq!(rt; pattern.rows_of(Col(0)), [Row(0)].as_slice());
     assert_eq!(rt; pattern.rows_of(Col(1)), [Row(0), Row(2)].as_slice());
@@ -101,6 +103,8 @@ fn places_and_their_mirror_images(rt: HostRuntime) -> Result<(), Fail> {
         (3, 2),
     ];
     let pattern = Pattern::build(&rt, rt.alloc(), &triples(rt.alloc(), 4, 4, &places)?)?;
+    assert_eq!(rt; pattern.rows(), 4);
+    assert_eq!(rt; pattern.cols(), 4);
     assert_eq!(rt; pattern.entries(), 7);
     assert_eq!(rt; pattern.rows_of(Col(0)), [Row(1), Row(3)].as_slice());
     assert_eq!(rt; pattern.rows_of(Col(1)), [Row(0)].as_slice());
@@ -111,24 +115,47 @@ fn places_and_their_mirror_images(rt: HostRuntime) -> Result<(), Fail> {
     Ok(())
 }
 
-// The row r has entries in the columns 513 r and 513 r + 1, modulo 131072. Since 513 times 511 is -1 modulo 131072, the
-// column 0 has one in the row 0 and one in the row 511.
-#[test]
-fn many_places_far_apart(rt: HostRuntime) -> Result<(), Fail> {
-    let mut triples = Triples::new(rt.alloc(), 131072, 131072, Field::Pattern)?;
-    for k in 0..262144u32 {
-        let row = k * 513 % 131072;
-        let col = (row * 513 + k / 131072) % 131072;
-        if row < triples.rows() && col < triples.cols() && triples.len() < 262144 {
+// The row r has entries in the columns 513 r, 513 r + 1 and so on, modulo the size.
+fn far_apart(alloc: Global, size: u32, count: u32) -> Result<Triples, OutOfMemory> {
+    let mut triples = Triples::new(alloc, size, size, Field::Pattern)?;
+    for k in 0..count {
+        let row = if size > 0 {
+            k.wrapping_mul(513) % size
+        } else {
+            0
+        };
+        let turn = if size > 0 { k / size } else { 0 };
+        let col = if size > 0 {
+            row.wrapping_mul(513).wrapping_add(turn) % size
+        } else {
+            0
+        };
+        if row < triples.rows() && col < triples.cols() && triples.len() < 4294967295 {
             triples.push(Row(row), Col(col), 0)?;
         }
     }
-    let pattern = Pattern::build(&rt, rt.alloc(), &triples)?;
-    assert_eq!(rt; pattern.entries(), 262144);
-    assert_eq!(rt; pattern.rows_of(Col(0)), [Row(0), Row(511)].as_slice());
-    assert_eq!(rt; pattern.rows_of(Col(513)), [Row(1), Row(512)].as_slice());
-    assert_eq!(rt; pattern.cols_of(Row(0)), [Col(0), Col(1)].as_slice());
-    assert_eq!(rt; pattern.cols_of(Row(511)), [Col(0), Col(131071)].as_slice());
+    Ok(triples)
+}
+
+// Since 513 times 511 is -1 modulo 131072, the column 0 has an entry in each row 511 t, for t from 0 to 15.
+#[test]
+fn many_places_far_apart(rt: HostRuntime) -> Result<(), Fail> {
+    let pattern = Pattern::build(&rt, rt.alloc(), &far_apart(rt.alloc(), 131072, 2097152)?)?;
+    assert_eq!(rt; pattern.rows(), 131072);
+    assert_eq!(rt; pattern.cols(), 131072);
+    assert_eq!(rt; pattern.entries(), 2097152);
+    let rows = pattern.rows_of(Col(0));
+    assert_eq!(rt; rows.len(), 16);
+    for t in 0..rows.len() {
+        let row = rows[t];
+        assert_eq!(rt; row.0 as usize, t.wrapping_mul(511));
+    }
+    let cols = pattern.cols_of(Row(1));
+    assert_eq!(rt; cols.len(), 16);
+    for t in 0..cols.len() {
+        let col = cols[t];
+        assert_eq!(rt; col.0 as usize, t.wrapping_add(513));
+    }
     Ok(())
 }
 
