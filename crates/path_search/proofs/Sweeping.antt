@@ -6,7 +6,7 @@ use Rattle.bip_defs.specs.Matching.{IsMatching, IsMaximum, cols_of}
 use Rattle.bip_defs.specs.Matrix.{Matrix, Place, cols}
 use Rattle.bip_defs.proofs.Sets.{among_at, among_either, number_same, place_among}
 use Rattle.bip_graph.specs.Pairing.{Pairing}
-use Rattle.path_search.specs.Forests.{AreFruitless, GoesOn, HasGrown, IsForest, LeadOn, Spreads, Trees, reached_at, reached_cols}
+use Rattle.path_search.specs.Forests.{AreFruitless, GoesOn, IsForest, LeadOn, Spreads, Trees, reached_at, reached_cols}
 use Rattle.path_search.specs.Searching.{AreLeftOut, IsShut}
 use Rattle.path_search.specs.declared.reached.Reached.{Reached}
 use Rattle.path_search.proofs.Closing.{left_out_maximum}
@@ -40,6 +40,10 @@ fruitless_maximum a m t place k f le = left_out_maximum a m t.marks k out (λ c 
 
     out : AreLeftOut a m t.marks
     out r h = let (d, pair, had) = f.leads_on r h in (d, pair, shut_reached d had)
+
+-- the matching is as at the start, and the columns before the place have been looked through, or it has grown
+abbrev pub HasGrown : Matrix → Pairing → Pairing → Trees → ℕ → Type 0
+HasGrown a start m t place = ((m ≡ start) × AreFruitless a m.pairs t place) ⊎ (length start.pairs < length m.pairs)
 
 pub grown_more : (a : Matrix) (start m n : Pairing) (old new : Trees) (place : ℕ) → HasGrown a start m old place → GoesOn a m n old new place → HasGrown a start n new (place + 1)
 grown_more a start m n old new place (inr grown) (inr more) = inr (omega arith)

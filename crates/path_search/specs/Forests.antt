@@ -77,7 +77,3 @@ pub record Traces (a : Matrix) (m : List Place) (q : List Reached) (root leaf : 
 -- the matching stays, and one column more has been looked through, or it grows
 abbrev pub GoesOn : Matrix → Pairing → Pairing → Trees → Trees → ℕ → Type 0
 GoesOn a m n old new place = ((n ≡ m) × (AreFruitless a m.pairs old place → AreFruitless a m.pairs new (suc place))) ⊎ (length m.pairs < length n.pairs)
-
--- the matching is as at the start, and the columns before the place have been looked through, or it has grown
-abbrev pub HasGrown : Matrix → Pairing → Pairing → Trees → ℕ → Type 0
-HasGrown a start m t place = ((m ≡ start) × AreFruitless a m.pairs t place) ⊎ (length start.pairs < length m.pairs)

@@ -6,7 +6,7 @@ use Rattle.bip_defs.specs.Matching.{IsMatching, IsMaximum, cols_of}
 use Rattle.bip_defs.specs.Matrix.{Matrix, Place}
 use Rattle.bip_defs.proofs.Sets.{among_last}
 use Rattle.bip_graph.specs.Pairing.{Pairing}
-use Rattle.pothen_fan.specs.Sweeping.{HoldUnmatched, Progress, Turns}
+use Rattle.pothen_fan.specs.Sweeping.{HoldUnmatched, Turns}
 use Rattle.path_search.specs.Searching.{AreLeftOut, Augments, Fails, IsMarked, IsShut, Marks}
 use Rattle.path_search.proofs.Closing.{left_out_maximum, left_out_more, marks_grow, no_marks_left_out}
 use Rattle.path_search.proofs.Counting.{matching_short}
@@ -20,6 +20,10 @@ turns_failed a m n seen old new root k same fails = inl (same, record { marked =
 
 pub turns_found : (a : Matrix) (m n : Pairing) (old new : List Bool) (root : ℕ) → Augments root old m.pairs n.pairs → Turns a m n old new root
 turns_found a m n old new root found = inr (let e = found.size in omega arith)
+
+-- the matching is as at the phase's start, and the rows that were marked are left out for good, or it has grown
+abbrev pub Progress : Matrix → Pairing → Pairing → List Bool → List ℕ → Type 0
+Progress a start m marks roots = ((m ≡ start) × AreLeftOut a m.pairs marks × ((c : ℕ) → Among c roots → ¬ Among c (cols_of m.pairs) → IsShut a marks c)) ⊎ (length start.pairs < length m.pairs)
 
 pub progress_starts : (a : Matrix) (m : Pairing) (marks : List Bool) → ((r : ℕ) → ¬ IsMarked marks r) → Progress a m m marks []
 progress_starts a m marks none = inl (refl, no_marks_left_out a m.pairs marks none, λ c h. absurd h)

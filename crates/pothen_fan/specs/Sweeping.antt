@@ -28,7 +28,3 @@ pub record Fruitless (a : Matrix) (m : List Place) (old new : List Bool) (root :
 -- the matching stayed, or it grew
 abbrev pub Turns : Matrix → Pairing → Pairing → List Bool → List Bool → ℕ → Type 0
 Turns a m n old new root = ((n ≡ m) × Fruitless a m.pairs old new root) ⊎ (length m.pairs < length n.pairs)
-
--- the matching is as at the phase's start, and the rows that were marked are left out for good, or it has grown
-abbrev pub Progress : Matrix → Pairing → Pairing → List Bool → List ℕ → Type 0
-Progress a start m marks roots = ((m ≡ start) × AreLeftOut a m.pairs marks × ((c : ℕ) → Among c roots → ¬ Among c (cols_of m.pairs) → IsShut a marks c)) ⊎ (length start.pairs < length m.pairs)

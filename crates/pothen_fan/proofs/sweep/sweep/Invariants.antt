@@ -1,7 +1,8 @@
 use Rattle.std.proofs.Common.{ℕ, take}
 use Rattle.bip_defs.specs.Lists.{Among}
 use Rattle.bip_defs.specs.Matching.{rows_of, cols_of}
-use Rattle.pothen_fan.specs.Sweeping.{Fits, Progress}
+use Rattle.pothen_fan.specs.Sweeping.{Fits}
+use Rattle.pothen_fan.proofs.Phases.{Progress}
 use Rattle.pothen_fan.proofs.sweep.sweep.Given as goal
 
 abbrev pub invariant-loop-root : goal.invariant-loop-root

@@ -2,7 +2,8 @@ use Rattle.std.proofs.Common.{◌≡◌, ◌-◌, ◌≤◌, ℕ, length}
 use Rattle.bip_defs.specs.Lists.{Among}
 use Rattle.bip_defs.specs.Matching.{IsMatching, cols_of, rows_of}
 use Rattle.bip_defs.specs.Matrix.{cols}
-use Rattle.path_search.specs.Forests.{HasGrown, IsForest}
+use Rattle.path_search.specs.Forests.{IsForest}
+use Rattle.path_search.proofs.Sweeping.{HasGrown}
 use Rattle.path_search.proofs.forest.Forest.sweep.Given as goal
 
 abbrev pub invariant-loop-place : goal.invariant-loop-place
