@@ -11,11 +11,11 @@ use Rattle.btf_words.specs.declared.jobs.Job.{Job}
 use Rattle.btf_words.specs.declared.jobs.Job.TheVariants.{Rank, Analyse, Diagonal, Check, Load}
 use Rattle.mm_defs.specs.Faults.{is_limit}
 use Rattle.mm_defs.specs.File.{Fault, Reads}
-use Rattle.mm_defs.specs.Reading.{Call, ReadsAll, first_bad, offered}
+use Rattle.mm_defs.specs.Reading.{Call, ReadsAll, first_bad, got, offered}
 use Rattle.mm_defs.specs.declared.answers.End.{End}
 use Rattle.mm_defs.specs.declared.answers.ReadError.TheVariants as errors
 use Rattle.mm_defs.specs.declared.kinds.Kind.{Kind}
-use Rattle.mm_defs.proofs.Answering.{bad_line_told, good_file_answer}
+use Rattle.mm_defs.proofs.Answering.{bad_line_told, good_file_answer, length_got, none_given}
 use Rattle.bip_defs.specs.Matrix.{Matrix}
 use Rattle.bip_defs.proofs.Uniqueness.{same_matrix}
 use Rattle.btf_check.specs.Verdicts.{IsVerdict}
@@ -57,6 +57,13 @@ clash first fault none some = cc
 answer_read : (job : Job) (call : Call) (answer : Answer) (text : List ℕ) → IsJobAnswer job call answer text
     → (t : Entries) × (rest : List ℕ) × ReadsAll (end_of job) call t rest
 answer_read job call answer text h = (h.entries, h.rest, record { reads = h.was_read.reads; within = let w = h.was_read.within in omega (arith, w) })
+
+-- a file within the limit gave no byte past it, and is not too long
+not_past : (call : Call) → length (offered call) ≤ call.room → call.room < length (got call) → ⊥
+not_past call within past = let n = length_got call in omega (arith, n, within, past)
+
+not_long : (bytes : List ℕ) → length bytes ≤ 68719476736 → 68719476736 < length bytes → ⊥
+not_long bytes within past = omega (arith, within, past)
 
 -- words name one job
 one_job : (words : List (List ℕ)) (one two : Job) → Names words one → Names words two → one ≡ two
@@ -128,6 +135,10 @@ answered r status P answer job names written ends = record {
   not_good = λ other reader no_read. told r.input.before r.input.after (over other reader)
       (λ x y before h none. let read = answer_read other (reading r.input x y) answer h.0 h.1 in
       absurd (none read.0 read.1 read.2.reads h.1.was_read.within));
+  too_many = λ other reader. told r.input.before r.input.after (over other reader)
+      (λ x y before h none past. absurd (not_past (reading r.input x y) h.1.was_read.within past));
+  too_long = λ other reader no_read. told r.input.before r.input.after (over other reader)
+      (λ x y before h past none. absurd (not_long x h.1.was_read.within past));
   made = λ maker no_write.
       let positive : answer ≡ Positive = made_positive maker.0 answer r.input P maker.2 (in_place r.words job maker.0 names maker.1 (λ (j : Job). WithAnswer j answer r.input P) written) in
       subst (λ (x : Answer). IsOrNoMemory status (status_of_answer x)) positive (ends no_write);
@@ -147,6 +158,10 @@ bad r status line kind limit said job names reads later is first = record {
   good = λ other reader no_read no_write. told r.input.before r.input.after (of other reader)
       (λ x y before h t rest reads few. absurd (not_answered (end_of other) limit (reading r.input x y) t rest h is reads few (steady r.input x before later no_read)));
   not_good = λ other reader no_read. told r.input.before r.input.after (of other reader) (λ x y before h none. inl (either limit said));
+  too_many = λ other reader. told r.input.before r.input.after (of other reader)
+      (λ x y before h none past. absurd (clash (first_bad (end_of other) (reading r.input x y)) _ none h));
+  too_long = λ other reader no_read. told r.input.before r.input.after (of other reader)
+      (λ x y before h past none. absurd (clash (first_bad (end_of other) (reading r.input x y)) _ (none_given (end_of other) (reading r.input x y) past none) h));
   made = λ maker. absurd (made_named r.words job names maker reads);
 }
   where
@@ -181,6 +196,8 @@ by_entries r status P job names is file ends = record {
       (λ x y before h t rest reads few. subst (λ (j : Job). EndsWell j t rest status) (one_job r.words Diagonal other diagonal reader.0)
       (subst (λ (e : Entries). ComesToDiagonal e status) (h.2.reads.entries ∙ sym reads.entries) (ends h.0 h.3)));
   not_good = λ other reader no_read. told r.input.before r.input.after (of other reader) (λ x y before h none. absurd (none h.0 h.1 h.2.reads h.2.within));
+  too_many = λ other reader. told r.input.before r.input.after (of other reader) (λ x y before h none past. absurd (not_past (reading r.input x y) h.2.within past));
+  too_long = λ other reader no_read. told r.input.before r.input.after (of other reader) (λ x y before h past none. absurd (not_long x h.2.within past));
   made = λ maker. absurd (made_named r.words Diagonal diagonal maker tt);
 }
   where
@@ -200,6 +217,8 @@ refused r status Usage said c = record {
   bad_line = λ other reader. absurd (c.0 reader.0.taken);
   good = λ other reader. absurd (c.0 reader.0.taken);
   not_good = λ other reader. absurd (c.0 reader.0.taken);
+  too_many = λ other reader. absurd (c.0 reader.0.taken);
+  too_long = λ other reader. absurd (c.0 reader.0.taken);
   made = λ maker. absurd (c.0 maker.1.taken);
 }
 refused r status (Malformed line kind) said c = bad r status line kind false said c.0 c.1 c.3.0 c.2 c.3.1 c.3.2
@@ -210,6 +229,8 @@ refused r status TooLong said c = record {
   good = λ other reader no_read no_write. told r.input.before r.input.after (of other reader)
       (λ x y before h t rest reads few. absurd (good_file_answer (end_of other) (reading r.input x y) [] (Err errors.TooLong) t rest h reads few (steady r.input x before c.2 no_read)));
   not_good = λ other reader no_read. told r.input.before r.input.after (of other reader) (λ x y before h none. inl (inr said));
+  too_many = λ other reader. told r.input.before r.input.after (of other reader) (λ x y before h none past. inl said);
+  too_long = λ other reader no_read. told r.input.before r.input.after (of other reader) (λ x y before h past none. inl said);
   made = λ maker. absurd (made_named r.words c.0 c.1 maker c.3.0);
 }
   where
@@ -220,6 +241,8 @@ refused r status ReadFault said c = record {
   bad_line = λ other reader. told r.input.before r.input.after (of other reader) (λ x y before h fault two. absurd (clash (first_bad (end_of other) (reading r.input x y)) fault h.0 two));
   good = λ other reader no_read. absurd (no_read c.3.1);
   not_good = λ other reader no_read. absurd (no_read c.3.1);
+  too_many = λ other reader. told r.input.before r.input.after (of other reader) (λ x y before h none past. let few = h.1 in absurd (omega (arith, few, past)));
+  too_long = λ other reader no_read. absurd (no_read c.3.1);
   made = λ maker. absurd (made_named r.words c.0 c.1 maker c.3.0);
 }
   where
@@ -233,6 +256,8 @@ refused r status OutOfMemory said c = record {
   bad_line = λ other reader. told r.input.before r.input.after c.1 (λ x y before h fault two. inr said);
   good = λ other reader no_read no_write. told r.input.before r.input.after c.1 (λ x y before h t rest reads few. no_memory_ends other t rest status said);
   not_good = λ other reader no_read. told r.input.before r.input.after c.1 (λ x y before h none. inr said);
+  too_many = λ other reader. told r.input.before r.input.after c.1 (λ x y before h none past. inr said);
+  too_long = λ other reader no_read. told r.input.before r.input.after c.1 (λ x y before h past none. inr said);
   made = λ maker no_write. inr said;
 }
 

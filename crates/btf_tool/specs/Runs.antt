@@ -1,5 +1,5 @@
 -- What a run was given, what came of it, and what each status says.
-use Rattle.std.specs.Prelude.{◌≡◌, ◌≤◌, ◌<◌, ◌⊎◌, ℕ, true, false, List, length, if◌then◌else◌, Some, None, Result, Ok, Err}
+use Rattle.std.specs.Prelude.{◌≡◌, ◌≤◌, ◌<◌, ◌⊎◌, ℕ, true, false, List, length, take, if◌then◌else◌, Some, None, Result, Ok, Err}
 use Rattle.sp_ids.specs.Entries.{Entries}
 use Rattle.sp_ids.specs.declared.outcomes.Status.{Status}
 use Rattle.sp_ids.specs.declared.outcomes.Status.TheVariants as statuses
@@ -13,7 +13,7 @@ use Rattle.sp_pattern.specs.Weighing.{IsFirstPast, weight_limit, weight_of}
 use Rattle.btf_check.specs.Verdicts.{IsVerdict}
 use Rattle.btf_check.specs.declared.verdict.Verdict.{Verdict}
 use Rattle.mm_defs.specs.Faults.{is_limit}
-use Rattle.mm_defs.specs.File.{Fault, Reads}
+use Rattle.mm_defs.specs.File.{Fault, Reads, first_fault}
 use Rattle.mm_defs.specs.Reading.{first_bad, got}
 use Rattle.mm_defs.specs.declared.answers.End.{End}
 use Rattle.sp_ports.specs.Bytes.{WhereTold}
@@ -188,5 +188,11 @@ pub record Completes (r : Run) (status : Status) : Type 0 where
   -- what is no good file within the limits is refused by its kind, where no read failed
   pub not_good : (job : Job) → NamesReader r.words job → ¬ HasReadFault r.input
       → OfReading r.input (λ call. ((t : Entries) (rest : List ℕ) → Reads call.before (end_of job) t rest → ¬ (length call.before ≤ input_limit)) → ((status ≡ statuses.Malformed) ⊎ (status ≡ statuses.Limit)) ⊎ (status ≡ statuses.OutOfMemory))
+  -- more bytes than the input may have are refused for their number, whatever failed, where no line that had ended is bad
+  pub too_many : (job : Job) → NamesReader r.words job
+      → OfReading r.input (λ call. first_bad (end_of job) call ≡ None → call.room < length (got call) → IsOrNoMemory status statuses.Limit)
+  -- so is an input that is too long, where no read failed and no line that ends within the limit is bad
+  pub too_long : (job : Job) → NamesReader r.words job → ¬ HasReadFault r.input
+      → OfReading r.input (λ call. input_limit < length call.before → first_fault (end_of job) false (take input_limit call.before) ≡ None → IsOrNoMemory status statuses.Limit)
   -- a matrix that is made is answered, whatever the input, where no write failed
   pub made : NameMaker r.words → ¬ HasWriteFault r.out → IsOrNoMemory status statuses.Ok

@@ -62,7 +62,8 @@ bad_line_told end call rest (Err errors.TooLong) fault h bad = cc
 bad_line_told end call rest (Err errors.ReadFault) fault h bad = cc
 bad_line_told end call rest (Err errors.OutOfMemory) fault h bad = tt
 
-length_got : (call : Call) → length (got call) ≤ length (offered call)
+-- what came is no longer than what was offered
+pub length_got : (call : Call) → length (got call) ≤ length (offered call)
 length_got call = simp (length-append, length-take) (omega arith)
 
 -- a good file within the limit is read, where no read failed
@@ -132,7 +133,7 @@ given_within call =
     (take (call.room - length (got call)) (drop n call.before), rw (← d) (take-append call.room (got call) (drop n call.before)))
 
 -- no line is bad, where none within the limit is
-none_given : (end : End) (call : Call) → call.room < length (offered call) → first_fault end false (take call.room (offered call)) ≡ None → first_bad end call ≡ None
+pub none_given : (end : End) (call : Call) → call.room < length (offered call) → first_fault end false (take call.room (offered call)) ≡ None → first_bad end call ≡ None
 none_given end call past good = by (ended call) refl
   where
     some_bad : (o : Option Fault) → first_fault end false (given call) ≡ o → first_fault end false (given call) ≡ None
