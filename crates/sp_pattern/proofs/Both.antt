@@ -1,18 +1,15 @@
 -- Both orders of the same places are a pattern.
-use Rattle.std.proofs.Common.{◌≡◌, ◌∙◌, ℕ, ◌-◌, ◌<◌, ◌^◌, List, [], length, map, sym, ap, arith, subst, ◌∷◌, ◌⊎◌, ◌≢◌, inl, inr, true, false, IsPermutation, is_lt, nat_cmp, tests, true≢false}
-use Rattle.std.specs.Ordering.{ordering_then}
+use Rattle.std.proofs.Common.{◌≡◌, ◌∙◌, ℕ, ◌-◌, ◌<◌, ◌^◌, List, [], length, map, sym, ap, arith, subst, ◌∷◌, inl, inr}
 use Rattle.std.specs.List.{AllByRecursion}
-use Rattle.std.proofs.lemmas.List.Sorted.{Contains-permutation, length_permutation, IsPermutation-sym}
-use Rattle.std.proofs.lemmas.Bool.Decides.{nat_tests}
 use Rattle.sp_ids.specs.Entries.{IsInside}
 use Rattle.std.proofs.Math.Decide.{dec_lt}
 use Rattle.std.proofs.lemmas.List.{get_or_past, map-id}
 use Rattle.bip_defs.specs.Lists.{Among, Lists}
 use Rattle.bip_defs.specs.Matching.{turned}
 use Rattle.bip_defs.specs.Matrix.{HasPlaces, IsEntry, Matrix, Place, cols}
-use Rattle.bip_defs.proofs.Sets.{among_from_contains, contains_from_among, lists_same, number_same}
-use Rattle.bip_defs.proofs.Turned.{turned_among, turned_back, turned_length, turned_twice}
-use Rattle.sp_pattern.specs.Order.{AreInside, AreParts, IsAtMost, IsOrder, IsOrderOf, IsTurned, Pair}
+use Rattle.bip_defs.proofs.Sets.{lists_same}
+use Rattle.bip_defs.proofs.Turned.{turned_among, turned_back, turned_twice}
+use Rattle.sp_pattern.specs.Order.{AreInside, AreParts, IsOrder, IsOrderOf, IsTurned, Pair}
 use Rattle.sp_pattern.specs.Stored.{AreOrders, piece, pieces, stored}
 use Rattle.sp_pattern.proofs.Cuts.{get_or-pieces, length-pieces}
 use Rattle.sp_pattern.proofs.Orders.{length-inners}
@@ -151,51 +148,5 @@ inside_places rows cols [] all p h = elim h [ ]
 inside_places rows cols (q ∷ ps) all p (inl e) = let first = ap (λ (z : Pair). z.0) e in let second = ap (λ (z : Pair). z.1) e in let a = all.0.0 in let b = all.0.1 in (omega (arith, first, a), omega (arith, second, b))
 inside_places rows cols (q ∷ ps) all p (inr h) = inside_places rows cols ps all.1 p h
 
--- only the members of the places matter
-pub places_same : (rows cols : ℕ) (ps qs : List Place) (a : Matrix) → ((p : Place) → Among p ps → Among p qs) → ((p : Place) → Among p qs → Among p ps) → HasPlaces rows cols ps a → HasPlaces rows cols qs a
-places_same rows cols ps qs a over back h = record {
-  rows_are = h.rows_are;
-  cols_are = h.cols_are;
-  entries = λ r c. ((λ e. over (r, c) ((h.entries r c).0 e)), λ m. (h.entries r c).1 (back (r, c) m));
-  columns = h.columns;
-}
-
-pub permuted : {X : Type 0} (xs ys : List X) → IsPermutation xs ys → (x : X) → Among x ys → Among x xs
-permuted xs ys p x h = among_from_contains x xs (Contains-permutation ys xs x (IsPermutation-sym xs ys p) (contains_from_among x ys h))
-
-pub permuted_back : {X : Type 0} (xs ys : List X) → IsPermutation xs ys → (x : X) → Among x xs → Among x ys
-permuted_back xs ys p x h = among_from_contains x ys (Contains-permutation xs ys x p (contains_from_among x xs h))
-
-pub turned_permuted : (rows cols : ℕ) (ps : List Place) (qs : List Pair) (a : Matrix) → IsPermutation (turned ps) qs → HasPlaces rows cols (turned qs) a → HasPlaces rows cols ps a
-turned_permuted rows cols ps qs a p h = places_same rows cols (turned qs) ps a
-    (λ z m. turned_back z.0 z.1 ps (permuted (turned ps) qs p (z.1, z.0) (turned_back z.1 z.0 qs m)))
-    (λ z m. turned_among z.1 z.0 qs (permuted_back (turned ps) qs p (z.1, z.0) (turned_among z.0 z.1 ps m)))
-    h
-
 pub from_turned_twice : (rows cols m n : ℕ) (ps qs : List Place) (a : Matrix) → m ≡ rows → n ≡ cols → ps ≡ qs → HasPlaces m n (turned (turned ps)) a → HasPlaces rows cols qs a
 from_turned_twice rows cols m n ps qs a em en same h = rw (← em, ← en, ← same) (subst (λ xs. HasPlaces m n xs a) (turned_twice ps) h)
-
-pub from_permuted : (rows cols m n : ℕ) (ps qs : List Place) (ss : List Pair) (a : Matrix) → m ≡ rows → n ≡ cols → ps ≡ qs → IsPermutation (turned ps) ss → HasPlaces m n (turned ss) a → HasPlaces rows cols qs a
-from_permuted rows cols m n ps qs ss a em en same p h = rw (← em, ← en, ← same) (turned_permuted m n ps ss a p h)
-
-pub inside_permuted : (rows cols m n : ℕ) (ps : List Place) (ss : List Pair) → m ≡ rows → n ≡ cols → AllByRecursion (IsInside rows cols) ps → IsPermutation (turned ps) ss → AreInside n m ss
-inside_permuted rows cols m n ps ss em en all p q h = rw (em, en) (inside_turned rows cols ps all q (permuted (turned ps) ss p q h))
-
-pub length_permuted : (ps : List Place) (ss : List Pair) → IsPermutation (turned ps) ss → length ss ≡ length ps
-length_permuted ps ss p = length_permutation (turned ps) ss p ∙ turned_length ps
-
--- What the order of pairs says.
-pub not_less : (a b : Pair) → is_lt (ordering_then (nat_cmp b.0 a.0) (nat_cmp b.1 a.1)) ≡ false → IsAtMost a b
-not_less a b h = by (number_same a.0 b.0) (dec_lt a.0 b.0) (dec_lt b.1 a.1)
-  where
-    by : (a.0 ≡ b.0) ⊎ (a.0 ≢ b.0) → Dec (a.0 < b.0) → Dec (b.1 < a.1) → IsAtMost a b
-    by e (yes lt) d = inl lt
-    by (inl e) (no nlt) (no d) = inr (e, omega arith)
-    by (inl e) (no nlt) (yes d) = absurd (true≢false (sym (less_second a b e d) ∙ h))
-      where
-        less_second : (a b : Pair) → a.0 ≡ b.0 → b.1 < a.1 → is_lt (ordering_then (nat_cmp b.0 a.0) (nat_cmp b.1 a.1)) ≡ true
-        less_second a b e d = grind (arith, nat_tests, tests)
-    by (inr ne) (no nlt) d = absurd (true≢false (sym (less_first a b (omega arith)) ∙ h))
-      where
-        less_first : (a b : Pair) → b.0 < a.0 → is_lt (ordering_then (nat_cmp b.0 a.0) (nat_cmp b.1 a.1)) ≡ true
-        less_first a b d = grind (arith, nat_tests, tests)

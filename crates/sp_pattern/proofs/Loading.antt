@@ -1,16 +1,15 @@
 -- The load matrix, column by column.
-use Rattle.std.proofs.Common.{◌≡◌, ◌≢◌, ◌⊎◌, ◌↔◌, ◌∙◌, ℕ, zero, suc, ◌+◌, ◌-◌, ◌*◌, ◌/◌, ◌%◌, ◌<◌, ◌≤◌, List, [], ◌∷◌, ◌++◌, length, map, nat_eq, if◌then◌else◌, refl, sym, ap, arith, subst, inl, inr, ⊎_elim, eq-eqb, append_assoc, append-nil, true, false, length-append}
+use Rattle.std.proofs.Common.{◌≡◌, ◌≢◌, ◌⊎◌, ◌↔◌, ◌∙◌, ℕ, zero, suc, ◌+◌, ◌*◌, ◌/◌, ◌%◌, ◌<◌, ◌≤◌, List, [], ◌∷◌, ◌++◌, length, map, nat_eq, if◌then◌else◌, refl, sym, ap, arith, subst, inl, inr, ⊎_elim, eq-eqb, append_assoc, append-nil, false, length-append}
 use Rattle.std.proofs.Math.Nat.{div-add-mod, add-mul-mod_self_left, mod-lt}
-use Rattle.std.proofs.lemmas.List.{length-map}
 use Rattle.std.proofs.lemmas.Bool.Decides.{nat_tests}
 use Rattle.std.specs.List.{flat_map}
-use Rattle.bip_defs.specs.Lists.{Among, IsBelowEach, IsRising}
+use Rattle.bip_defs.specs.Lists.{Among, IsRising}
 use Rattle.bip_defs.specs.Matching.{turned}
 use Rattle.bip_defs.specs.Matrix.{Place, upto, upto_from}
 use Rattle.bip_defs.proofs.Sets.{among_either, among_last, among_left, among_right, below_each_sound, number_same, upto_complete, upto_sound}
 use Rattle.bip_defs.proofs.Turned.{turned_among, turned_back, turned_length}
 use Rattle.sp_pattern.specs.Load.{IsOneOf, after_one, distinct_of, load_column, load_places}
-use Rattle.sp_pattern.specs.Order.{AreInside, IsBefore, IsFront, IsOrder, IsOrderOf, Pair}
+use Rattle.sp_pattern.specs.Order.{IsBefore, IsFront, IsOrderOf, Pair}
 use Rattle.sp_pattern.proofs.Orders.{front_empty, front_push}
 
 -- Remainders.

@@ -1,16 +1,16 @@
 -- Adding up the values of each place.
-use Rattle.std.proofs.Common.{◌≡◌, ◌≢◌, ◌⊎◌, ◌↔◌, ◌∙◌, ℕ, ℤ, pos, zero, suc, ◌+◌, ◌-◌, ◌*◌, ◌^◌, ◌+ℤ◌, ◌<◌, ◌≤◌, ◌&&◌, List, [], ◌∷◌, ◌++◌, length, get_or, set, take, drop, map, replicate, nat_eq, if◌then◌else◌, refl, sym, ap, arith, subst, inl, inr, ⊎_elim, eq-eqb, true, false, slice_index_or, get_or-set_same, get_or-set_other, FitsSigned, Bool}
+use Rattle.std.proofs.Common.{◌≡◌, ◌≢◌, ◌⊎◌, ◌∙◌, ℕ, ℤ, pos, ◌+◌, ◌*◌, ◌+ℤ◌, ◌<◌, ◌≤◌, ◌&&◌, List, [], ◌∷◌, ◌++◌, length, get_or, set, take, map, replicate, nat_eq, if◌then◌else◌, refl, sym, ap, arith, subst, inl, inr, eq-eqb, true, false, get_or-set_same, get_or-set_other, FitsSigned, Bool}
 use Rattle.std.specs.Int.RustNames.{unsigned_abs}
 use Rattle.std.specs.Int.{w64, w128}
 use Rattle.std.proofs.Math.Decide.{dec_lt}
-use Rattle.std.proofs.lemmas.List.{take_more, length-set, length-replicate, get_or-replicate, length-take-le, length-map, get_or-map, get_or_past}
+use Rattle.std.proofs.lemmas.List.{take_more, length-set, length-replicate, get_or-replicate, length-map, get_or-map, get_or_past}
 use Rattle.std.proofs.lemmas.Bool.Decides.{nat_tests}
 use Rattle.std.proofs.lemmas.Int.{ints, fits_signed_from_abs}
 use Rattle.bip_defs.specs.Lists.{Among, IsRising}
-use Rattle.bip_defs.specs.Matrix.{HasPlaces, IsEntry, Matrix, Place, column, cols, entry_count}
+use Rattle.bip_defs.specs.Matrix.{HasPlaces, IsEntry, Matrix, Place, column, entry_count}
 use Rattle.bip_defs.proofs.Sets.{among_at, is_among, number_same, place_same}
 use Rattle.sp_ids.specs.Entries.{Entries, Triple, place, places, values}
-use Rattle.sp_pattern.specs.Weighing.{AreSums, AreWeightsOf, IsFirstPast, Weighing, position, sum_of, weight_at, weight_limit, weight_of}
+use Rattle.sp_pattern.specs.Weighing.{AreSums, AreWeightsOf, IsFirstPast, position, sum_of, weight_limit, weight_of}
 use Rattle.sp_pattern.proofs.Weighed.{position_fits, position_injective, position_order, weight_read}
 
 -- what a triple adds to the sum of a place

@@ -1,19 +1,18 @@
 -- Where entries stand, and their weights.
-use Rattle.std.proofs.Common.{◌≡◌, ◌≢◌, ◌⊎◌, ◌↔◌, ◌∙◌, ℕ, ℤ, pos, zero, suc, ◌+◌, ◌-◌, ◌*◌, ◌<◌, ◌≤◌, ◌&&◌, List, [], ◌∷◌, ◌++◌, length, get_or, set, take, drop, map, nat_eq, if◌then◌else◌, refl, sym, ap, arith, subst, inl, inr, ⊎_elim, sum_by, eq-eqb, true, false, true≢false, Ok, Err, nat_cmp, slice_index_or}
+use Rattle.std.proofs.Common.{◌≡◌, ◌≢◌, ◌⊎◌, ◌∙◌, ℕ, zero, suc, ◌+◌, ◌-◌, ◌<◌, ◌≤◌, List, [], ◌∷◌, length, get_or, take, drop, nat_eq, if◌then◌else◌, refl, sym, ap, arith, subst, inl, inr, ⊎_elim, sum_by, eq-eqb, false, Ok, Err, nat_cmp, slice_index_or}
 use Rattle.std.proofs.Math.Decide.{dec_lt}
 use Rattle.std.proofs.Math.Numerals.{suc-eq-add-one}
 use Rattle.std.proofs.lemmas.List.{get_or-take, get_or-drop, get_or_default, length-take, take_all}
 use Rattle.std.proofs.lemmas.List.Sums.{sum_by_more, sum_by-take-le}
 use Rattle.std.proofs.lemmas.List.Sorted.{searched}
 use Rattle.std.proofs.lemmas.Bool.Decides.{nat_tests}
-use Rattle.std.specs.List.{slice_range}
 use Rattle.std.specs.List.Sorted.{IsBinarySearchResult}
 use Rattle.std.specs.declared.result.Result.{Result}
 use Rattle.std.specs.Result.{result_unwrap_or}
 use Rattle.bip_defs.specs.Lists.{Among, IsRising, Lists}
 use Rattle.bip_defs.specs.Matrix.{IsEntry, Matrix, column, cols, entry_count}
 use Rattle.bip_defs.proofs.Sets.{among_at, below_each_sound, entry_col, number_same, place_among}
-use Rattle.sp_pattern.specs.Stored.{AreStarts, IsPattern, piece, pieces}
+use Rattle.sp_pattern.specs.Stored.{AreStarts, pieces}
 use Rattle.sp_pattern.specs.Weighing.{Weighing, place_in, position, start_of, weight_at, weights_in}
 use Rattle.sp_pattern.proofs.Cuts.{get_or-pieces, length-pieces, length-slice_range, start_within}
 use Rattle.sp_pattern.proofs.Shape.{rising_step}

@@ -2,7 +2,7 @@
 use Rattle.std.specs.Int.RustNames.{unsigned_abs}
 use Rattle.std.specs.List.{slice_range}
 use Rattle.std.specs.Prelude.{◌≡◌, ◌⊎◌, ℕ, ℤ, pos, zero, suc, ◌+◌, ◌+ℤ◌, ◌<◌, ◌≤◌, ◌&&◌, List, [], ◌∷◌, length, take, nat_eq, if◌then◌else◌, slice_index, slice_index_or, sum_by}
-use Rattle.bip_defs.specs.Matrix.{IsEntry, Matrix, column, cols, entry_count}
+use Rattle.bip_defs.specs.Matrix.{IsEntry, Matrix, column, entry_count}
 use Rattle.sp_ids.specs.Entries.{Entries, Triple}
 
 -- the sum of the values that are given for a place

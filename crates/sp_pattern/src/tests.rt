@@ -146,15 +146,13 @@ fn many_places_far_apart(rt: HostRuntime) -> Result<(), Fail> {
     assert_eq!(rt; pattern.entries(), 2097152);
     let rows = pattern.rows_of(Col(0));
     assert_eq!(rt; rows.len(), 16);
-    for t in 0..rows.len() {
-        let row = rows[t];
-        assert_eq!(rt; row.0 as usize, t.wrapping_mul(511));
+    for t in 0..16u32 {
+        assert_eq!(rt; rows[t as usize], Row(t.wrapping_mul(511)));
     }
     let cols = pattern.cols_of(Row(1));
     assert_eq!(rt; cols.len(), 16);
-    for t in 0..cols.len() {
-        let col = cols[t];
-        assert_eq!(rt; col.0 as usize, t.wrapping_add(513));
+    for t in 0..16u32 {
+        assert_eq!(rt; cols[t as usize], Col(t.wrapping_add(513)));
     }
     Ok(())
 }

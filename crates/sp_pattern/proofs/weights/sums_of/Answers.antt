@@ -1,4 +1,4 @@
-use Rattle.std.proofs.Common.{arith, rules, ◌≡◌, ◌<◌, ◌+◌, ◌+ℤ◌, ◌∙◌, length, get_or, ap, ℕ, ℤ, FitsSigned, pos, map}
+use Rattle.std.proofs.Common.{arith, rules, ◌≡◌, ◌<◌, ◌+ℤ◌, ◌∙◌, length, get_or, FitsSigned, pos}
 use Rattle.std.specs.Int.{w64, w128}
 use Rattle.std.proofs.lemmas.List.{get_or_default}
 use Rattle.std.proofs.lemmas.Int.{to_z-of_z}

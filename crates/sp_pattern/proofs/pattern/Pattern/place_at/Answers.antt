@@ -1,5 +1,4 @@
-use Rattle.std.proofs.Common.{arith, ◌≡◌, ◌<◌, ◌∙◌, get_or, ap}
-use Rattle.sp_pattern.specs.Weighing.{start_of}
+use Rattle.std.proofs.Common.{arith}
 use Rattle.sp_pattern.proofs.Weighed.{at_place}
 use Rattle.sp_pattern.proofs.pattern.Pattern.place_at.Goals as goal
 

@@ -1,6 +1,6 @@
-use Rattle.std.proofs.Common.{◌≡◌, ◌∙◌, ◌+◌, ap, arith}
+use Rattle.std.proofs.Common.{◌∙◌, ◌+◌, ap, arith}
 use Rattle.bip_defs.specs.Matrix.{IsEntry}
-use Rattle.sp_pattern.specs.Weighing.{place_in, position}
+use Rattle.sp_pattern.specs.Weighing.{place_in}
 use Rattle.sp_pattern.proofs.Weighed.{found_place, position_fits}
 use Rattle.sp_pattern.proofs.pattern.Pattern.place_of.Goals as goal
 

@@ -1,4 +1,4 @@
-use Rattle.std.proofs.Common.{◌≡◌, ◌∙◌, ◌+◌, ◌<◌, length, get_or, arith, ap, sym}
+use Rattle.std.proofs.Common.{◌+◌, arith, sym}
 use Rattle.sp_pattern.proofs.Cuts.{start_within}
 use Rattle.sp_pattern.proofs.Shape.{col_fits, orders_columns, orders_entries}
 use Rattle.sp_pattern.proofs.Weighed.{sum_before}

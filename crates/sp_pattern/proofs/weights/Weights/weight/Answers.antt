@@ -1,4 +1,3 @@
-use Rattle.std.proofs.Common.{◌∙◌, ap, get_or}
 use Rattle.sp_pattern.proofs.Weighed.{weight_read}
 use Rattle.sp_pattern.proofs.weights.Weights.weight.Goals as goal
 

@@ -1,5 +1,4 @@
-use Rattle.std.proofs.Common.{◌≡◌, ◌<◌, ◌∙◌, ap, get_or, arith, length}
-use Rattle.bip_defs.specs.Matrix.{column}
+use Rattle.std.proofs.Common.{arith}
 use Rattle.sp_pattern.proofs.Weighed.{start_more, take_within, weight_each}
 use Rattle.sp_pattern.proofs.weights.Weights.weights_of.Goals as goal
 
