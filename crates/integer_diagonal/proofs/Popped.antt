@@ -5,11 +5,18 @@ use Rattle.std.specs.declared.cmp.Ordering.TheVariants.{Equal, Greater, Less}
 use Rattle.std.specs.declared.cmp.Reverse.{Reverse}
 use Rattle.std.specs.Ordering.{ordering_then}
 use Rattle.std.specs.BinaryHeap.{IsUpperBound}
-use Rattle.std.proofs.lemmas.List.Sorted.{IsPermutation-map}
+use Rattle.std.proofs.lemmas.List.Sorted.{Contains-permutation, IsPermutation-map, IsPermutation-sym}
 use Rattle.std.proofs.lemmas.Map.Keys.{ge_from_not_lt}
 use Rattle.bip_defs.specs.Lists.{Among}
-use Rattle.sp_pattern.proofs.Both.{permuted, permuted_back}
+use Rattle.bip_defs.proofs.Sets.{among_from_contains, contains_from_among}
 use Rattle.integer_diagonal.specs.Nearness.{by_nearness, unwrapped}
+
+-- a permutation has the same members
+permuted : {X : Type 0} (xs ys : List X) → IsPermutation xs ys → (x : X) → Among x ys → Among x xs
+permuted xs ys p x h = among_from_contains x xs (Contains-permutation ys xs x (IsPermutation-sym xs ys p) (contains_from_among x ys h))
+
+permuted_back : {X : Type 0} (xs ys : List X) → IsPermutation xs ys → (x : X) → Among x xs → Among x ys
+permuted_back xs ys p x h = among_from_contains x ys (Contains-permutation xs ys x p (contains_from_among x xs h))
 
 pub pushed : (x : Reverse (ℕ × ℕ)) (xs ys : List (Reverse (ℕ × ℕ))) → IsPermutation (x ∷ xs) ys → (e : ℕ × ℕ) → Among e (map unwrapped ys) ↔ ((e ≡ unwrapped x) ⊎ Among e (map unwrapped xs))
 pushed x xs ys p e = (λ h. permuted (map unwrapped (x ∷ xs)) (map unwrapped ys) (IsPermutation-map unwrapped (x ∷ xs) ys p) e h, λ h. permuted_back (map unwrapped (x ∷ xs)) (map unwrapped ys) (IsPermutation-map unwrapped (x ∷ xs) ys p) e h)
