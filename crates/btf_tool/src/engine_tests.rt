@@ -1,12 +1,35 @@
 //! Each engine on small matrices.
 
+ghost use Rattle.std.specs.Prelude.{◌≡◌, IfOk};
+ghost use Rattle.bip_defs.specs.Matching.{IsMatching};
+ghost use Rattle.bip_defs.specs.Matrix.{cols};
+
 use crate::{Engine, solve};
-use sp_ids::{Col, Field, Row, Triples};
+use bip_graph::Matching;
+use sp_ids::{Col, Field, OutOfMemory, Row, Triples};
 use sp_pattern::Pattern;
 use sp_ports::NoGate;
+use std::alloc::Global;
 use std::process::Abort;
 use std::test::Fail;
 use std::thread::Threads;
+
+/// The matrix with entries at these places, which count from 1.
+fn pattern_of<R: Threads + Abort + AllocGlobal + Sync>(
+    rt: &R,
+    rows: u32,
+    cols: u32,
+    places: &[(u32, u32)],
+) -> Result<Pattern, OutOfMemory> {
+    let mut triples = Triples::new(rt.alloc(), rows, cols, Field::Pattern)?;
+    for place in places {
+        let (row, col) = *place;
+        assert!(rt; 0 < row && row <= triples.rows() && 0 < col && col <= triples.cols());
+        assert!(rt; triples.len() < 100 && triples.field() == Field::Pattern);
+        triples.push(Row(row - 1), Col(col - 1), 0)?;
+    }
+    Pattern::build(rt, rt.alloc(), &triples)
+}
 
 /// The size of a maximum matching by each engine. Numbers count from 1.
 fn expect_size<R: Threads + Abort + AllocGlobal + Sync>(
@@ -17,14 +40,7 @@ fn expect_size<R: Threads + Abort + AllocGlobal + Sync>(
     size: u32,
 ) -> Result<(), Fail> {
     let alloc = rt.alloc();
-    let mut triples = Triples::new(alloc, rows, cols, Field::Pattern)?;
-    for place in places {
-        let (row, col) = *place;
-        assert!(rt; 0 < row && row <= triples.rows() && 0 < col && col <= triples.cols());
-        assert!(rt; triples.len() < 100 && triples.field() == Field::Pattern);
-        triples.push(Row(row - 1), Col(col - 1), 0)?;
-    }
-    let pattern = Pattern::build(rt, alloc, &triples)?;
+    let pattern = pattern_of(rt, rows, cols, places)?;
     let plain = solve(rt, alloc, &pattern, Engine::Plain, 1, &NoGate)?;
     let mc21 = solve(rt, alloc, &pattern, Engine::Mc21, 2, &NoGate)?;
     let pf = solve(rt, alloc, &pattern, Engine::Pf, 64, &NoGate)?;
@@ -32,11 +48,42 @@ fn expect_size<R: Threads + Abort + AllocGlobal + Sync>(
     Ok(())
 }
 
-// Columns 1 and 2 have row 1 alone, and rows 3 and 4 have column 4 alone.
+/// Columns 1 and 2 have row 1 alone, and rows 3 and 4 have column 4 alone.
+const THREE_PARTS: [(u32, u32); 7] = [(1, 1), (1, 2), (1, 3), (2, 3), (2, 4), (3, 4), (4, 4)];
+
 #[test]
 fn one_column_and_one_row_stay_unmatched(rt: HostRuntime) -> Result<(), Fail> {
-    let places = [(1, 1), (1, 2), (1, 3), (2, 3), (2, 4), (3, 4), (4, 4)];
-    expect_size(&rt, 4, 4, &places, 3)
+    expect_size(&rt, 4, 4, &THREE_PARTS, 3)
+}
+
+/// The matching of one pair, or of none where the place is no entry.
+fn one_pair(alloc: Global, pattern: &Pattern, row: Row, col: Col) -> Result<Matching, OutOfMemory>
+    ensures rows { IfOk result (λ m. m.rows ≡ pattern.now.rows) }
+    ensures cols { IfOk result (λ m. m.cols ≡ cols pattern.now) }
+    ensures matching { IfOk result (λ m. IsMatching pattern.now m.pairs) }
+{
+    let mut matching = Matching::empty(alloc, pattern.rows(), pattern.cols())?;
+    if !pattern.has(row, col) {
+        return Ok(matching);
+    }
+    matching.pair(row, col);
+    // It tells the proof that no row or column stands twice.
+    let _size = matching.size();
+    Ok(matching)
+}
+
+// Row 1 and column 2 are matched before, so column 1 gets no row.
+#[test]
+fn copies_of_one_matching_are_completed(rt: HostRuntime) -> Result<(), Fail> {
+    let alloc = rt.alloc();
+    let pattern = pattern_of(&rt, 4, 4, &THREE_PARTS)?;
+    let pair = one_pair(alloc, &pattern, Row(0), Col(1))?;
+    let mut mc21 = mc21_match::complete(alloc, &pattern, pair.copy(alloc)?)?;
+    let mut pf = pothen_fan::complete(alloc, &pattern, pair.copy(alloc)?)?;
+    assert_eq!(rt; (pair.size(), mc21.size(), pf.size()), (1, 3, 3));
+    assert_eq!(rt; pothen_fan::phase(alloc, &pattern, &mut mc21)?, 0);
+    assert_eq!(rt; pothen_fan::phase(alloc, &pattern, &mut pf)?, 0);
+    Ok(())
 }
 
 // The start takes row 1 for column 1, which leaves row 2 alone to columns 3 and 4. A maximum matching has rows 3, 4, 1 and 2

@@ -4,7 +4,7 @@ ghost use Rattle.std.specs.Prelude.{◌<◌};
 
 use crate::run;
 use sp_ids::Status;
-use sp_ports::{MemSink, MemSource, NoGate};
+use sp_ports::{MemSink, MemSource, NoGate, SteadySink, SteadySource};
 use std::alloc::AllocError;
 use std::process::Abort;
 use std::test::Fail;
@@ -14,7 +14,7 @@ use std::thread::Threads;
 pub(crate) const SMALLEST: &[u8] =
     b"%%MatrixMarket matrix coordinate pattern general\n1 1 1\n1 1\n";
 
-/// The text of its rank, in 40 bytes.
+/// The text of its rank, in 39 bytes.
 const SMALLEST_TEXT: &[u8] = b"matrix 1 1 1\nrank 1\nhorizontal 0 0\nend\n";
 
 /// How the devices of a run behave: the input's piece and its failing calls, and those of the output.
@@ -293,6 +293,69 @@ fn failing_devices(rt: HostRuntime) -> Result<(), Fail> {
         b"",
         b"btf: ",
     )
+}
+
+// Calls of 10 bytes write the 39 bytes of `rank` in 4, the 96 of `analyse` in 10, the 6 of `check` in 1, the 59 of `load` in 6
+// and the 16 of `diagonal` in 2. The one after them hands the text on, and is the last.
+#[test]
+fn a_text_is_handed_on_once(rt: HostRuntime) -> Result<(), Fail> {
+    let judged =
+        b"%%MatrixMarket matrix coordinate pattern general\n1 1 1\n1 1\nbtf 1\nmatrix 1 1 1\nrank 1\nhorizontal 0 0\nsquare 1 1\nblock 1 1\nrows 1\ncolumns 1\nvertical 0 0\npairs 1\n1 1\nend\n";
+    let tall = b"%%MatrixMarket matrix coordinate integer general\n2 1 1\n1 1 1\n";
+    let report =
+        b"btf 1\nmatrix 1 1 1\nrank 1\nhorizontal 0 0\nsquare 1 1\nblock 1 1\nrows 1\ncolumns 1\nvertical 0 0\nend\n";
+    let summary = b"matrix 1 1 1\nrank 1\nhorizontal 0 0\nsquare 1 1\nvertical 0 0\n";
+    let (yes, no) = (Status::Ok, Status::Negative);
+    let runs: [(&[&str], &[u8], &[u8], Status, u8); 5] = [
+        (&["rank"], SMALLEST, SMALLEST_TEXT, yes, 4),
+        (&["analyse"], SMALLEST, report, yes, 10),
+        (&["check"], judged, b"valid\n", yes, 1),
+        (
+            &["load", "--size", "1", "--seed", "5"],
+            b"",
+            summary,
+            yes,
+            6,
+        ),
+        (&["diagonal"], tall, b"rectangular 2 1\n", no, 2),
+    ];
+    for (words, file, text, status, writes) in runs {
+        let writes = u64::from(writes);
+        let flush = Devices {
+            failing_writes: &[writes],
+            ..STEADY
+        };
+        let lost = b"btf: write fault\n";
+        expect(&rt, words, file, &flush, Status::WriteFault, text, lost)?;
+        let later = Devices {
+            failing_writes: &[writes + 1],
+            ..STEADY
+        };
+        expect(&rt, words, file, &later, status, text, b"")?;
+    }
+    Ok(())
+}
+
+#[test]
+fn steady_devices(rt: HostRuntime) -> Result<(), Fail> {
+    let alloc = rt.alloc();
+    let words = [String::from_str(alloc, "rank")?];
+    let mut input = SteadySource::new(SMALLEST.to_vec(alloc)?, 10);
+    let mut out = SteadySink::new(alloc, 4096, 10).map_err(|_| AllocError)?;
+    let mut err = SteadySink::new(alloc, 4096, 10).map_err(|_| AllocError)?;
+    let status = run(
+        &rt,
+        alloc,
+        words.as_slice(),
+        &mut input,
+        &mut out,
+        &mut err,
+        &NoGate,
+    );
+    assert_eq!(rt; status, Status::Ok);
+    assert_eq!(rt; out.bytes(), SMALLEST_TEXT);
+    assert_eq!(rt; err.bytes(), b"".as_slice());
+    Ok(())
 }
 
 #[test]

@@ -1,0 +1,12 @@
+use Rattle.std.proofs.Common.{⊎_elim, sym, subst}
+use Rattle.bip_defs.specs.Matrix.{IsEntry, Place}
+use Rattle.bip_defs.specs.Lists.{Among}
+use Rattle.bip_defs.proofs.Sets.{rising_distinct}
+use Rattle.btf_tool.proofs.engine_tests.one_pair.Goals as goal
+
+pub returns-clause-matching : goal.returns-clause-matching
+returns-clause-matching c = record {
+  entries = λ r x h. ⊎_elim (λ e. subst (λ (q : Place). IsEntry c.args.pattern.now q.0 q.1) (sym e) (c.has.ensures.0 c.if-not-has.false)) (λ on. absurd (subst (λ m. Among (r, x) m.pairs) c.in_ok-matching.ensures on)) ((c.pair.ensures.added (r, x)).0 h);
+  rows_differ = c.size-size.ensures.rows_differ;
+  cols_differ = rising_distinct _ c.size-size.ensures.cols_rise;
+}
