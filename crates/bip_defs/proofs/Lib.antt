@@ -2,10 +2,14 @@ pub mod Counts
 pub mod Duality
 pub mod Exchange
 pub mod Fine
+pub mod Paired
 pub mod Reaching
 pub mod Searches
 pub mod Sets
 pub mod Small
+pub mod SmallForms
 pub mod Square
+pub mod Together
+pub mod Triangular
 pub mod Turned
 pub mod Uniqueness

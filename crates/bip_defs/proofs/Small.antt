@@ -137,13 +137,13 @@ full_perfect a m full = record {
   only_cols = λ c h. let (r, p) = col_pair c m h in full_square_col a m full c (entry_col a r c (full.matching.entries r c p));
 }
 
-one : (x y : ℕ) → Among x (y ∷ []) → x ≡ y
+pub one : (x y : ℕ) → Among x (y ∷ []) → x ≡ y
 one x y (inl e) = e
 one x y (inr h) = absurd h
 
 -- The lower triangle.
 
-below_diagonal : (r c : ℕ) → IsEntry lower_triangle r c → c ≤ r
+pub below_diagonal : (r c : ℕ) → IsEntry lower_triangle r c → c ≤ r
 below_diagonal r c e = by c e.1
   where
     by : (c : ℕ) → Among r (column lower_triangle c) → c ≤ r
@@ -155,7 +155,7 @@ below_diagonal r c e = by c e.1
     by (suc (suc zero)) (inr h) = absurd h
     by (suc (suc (suc c))) h = absurd h
 
-filled : (r c : ℕ) → c ≤ r → r < 3 → IsEntry lower_triangle r c
+pub filled : (r c : ℕ) → c ≤ r → r < 3 → IsEntry lower_triangle r c
 filled zero zero le lt = (lt, inl refl)
 filled (suc zero) zero le lt = (lt, inr (inl refl))
 filled (suc (suc zero)) zero le lt = (lt, inr (inr (inl refl)))

@@ -4,10 +4,12 @@ pub mod Decomposition
 pub mod Lists
 pub mod Matching
 pub mod Matrix
+pub mod Once
 pub mod Parts
 pub mod Paths
 pub mod Searches
 pub mod Small
 pub mod Start
+pub mod Triangular
 pub mod Walks
 pub mod Witness

@@ -19,5 +19,9 @@ lower_triangle = record { rows = 3; columns = (0 ∷ 1 ∷ 2 ∷ []) ∷ (1 ∷ 
 abbrev pub single : ℕ → Block
 single n = record { rows = n ∷ []; cols = n ∷ [] }
 
+-- all its rows and columns as one block, which is none of its fine blocks
+abbrev pub whole_triangle : Block
+whole_triangle = record { rows = 0 ∷ 1 ∷ 2 ∷ []; cols = 0 ∷ 1 ∷ 2 ∷ [] }
+
 abbrev pub lower_triangle_parts : Decomposition
 lower_triangle_parts = record { rank = 3; parts = record { horizontal_rows = []; horizontal_cols = []; square_rows = 0 ∷ 1 ∷ 2 ∷ []; square_cols = 0 ∷ 1 ∷ 2 ∷ []; vertical_rows = []; vertical_cols = [] }; blocks = single 2 ∷ single 1 ∷ single 0 ∷ [] }

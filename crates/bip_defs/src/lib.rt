@@ -17,6 +17,7 @@ ghost use Rattle.bip_defs.specs.Walks.{IsReached};
 ghost use Rattle.bip_defs.specs.Witness.{IsWitness};
 
 pub mod examples;
+pub mod triangular_form;
 
 /// A matching that has a Hall set is maximum.
 ///
