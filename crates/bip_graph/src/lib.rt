@@ -3,10 +3,14 @@
 
 mod answers;
 mod blocks;
+mod examples;
 mod laws;
 mod matching;
+mod orders;
 
 pub use answers::{Decomposition, Heaviest, Parts};
 pub use blocks::Blocks;
+pub use examples::lower_triangle_in_two_orders;
 pub use laws::{one_rank_text, one_report, pairs_before_the_end};
 pub use matching::Matching;
+pub use orders::{orders_are_block_upper_triangular, square_size_counts_the_square_part};
