@@ -4,12 +4,13 @@
 //! A law is a function with an empty body: its contract is the theorem.
 #![tactic(auto)]
 
-ghost use Rattle.std.specs.Prelude.{◌≡◌, ◌+◌, ◌↔◌, ℕ, suc, List, length};
+ghost use Rattle.std.specs.Prelude.{◌≡◌, ◌+◌, ◌<◌, ◌↔◌, ℕ, suc, List, length};
 ghost use Rattle.bip_defs.specs.Blocks.{Block, IsBlock, IsPerfect};
 ghost use Rattle.bip_defs.specs.Components.{AreComponents, IsComponent};
 ghost use Rattle.bip_defs.specs.Decomposition.{Decomposition, IsDecompositionOf};
+ghost use Rattle.bip_defs.specs.Lists.{Among, Lists};
 ghost use Rattle.bip_defs.specs.Matching.{IsHallSet, IsMatching, IsMaximum, IsRank, turned};
-ghost use Rattle.bip_defs.specs.Matrix.{AreEntries, HasPlaces, IsTransposeOf, Matrix, Place, cols, transpose};
+ghost use Rattle.bip_defs.specs.Matrix.{AreEntries, HasPlaces, IsEntry, IsTransposeOf, Matrix, Place, cols, neighbours, row_list, transpose};
 ghost use Rattle.bip_defs.specs.Parts.{ArePartsOf, IsHorizontalCol, IsHorizontalRow, IsSquareCol, IsVerticalCol, IsVerticalRow, Parts};
 ghost use Rattle.bip_defs.specs.Paths.{IsAugmenting};
 ghost use Rattle.bip_defs.specs.Searches.{AreReadOff};
@@ -48,6 +49,13 @@ pub fn transpose_turns_parts()
     ensures maximum { (a b : Matrix) (m : List Place) → IsTransposeOf a b → IsMaximum a m → IsMaximum b (turned m) }
     ensures rows { (a b : Matrix) (r : ℕ) → IsTransposeOf a b → IsVerticalRow a r ↔ IsHorizontalCol b r }
     ensures cols { (a b : Matrix) (c : ℕ) → IsTransposeOf a b → IsVerticalCol a c ↔ IsHorizontalRow b c }
+{}
+
+/// What is computed from the columns' lists follows the entries: the list of a row's columns, and the neighbours of some
+/// columns.
+pub fn lists_follow_the_entries()
+    ensures of_row { (a : Matrix) (r : ℕ) → r < a.rows → Lists (λ c. IsEntry a r c) (row_list a r) }
+    ensures of_columns { (a : Matrix) (w : List ℕ) → Lists (λ r. (c : ℕ) × Among c w × IsEntry a r c) (neighbours a w) }
 {}
 
 /// The horizontal and the vertical part share no row and no column.
