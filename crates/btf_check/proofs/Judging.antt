@@ -5,6 +5,7 @@ use Rattle.bip_defs.specs.Blocks.{AreBlocksOf, Block}
 use Rattle.bip_defs.specs.Lists.{Lists}
 use Rattle.bip_defs.specs.Matching.{IsMaximum}
 use Rattle.bip_defs.specs.Matrix.{Matrix, Place}
+use Rattle.bip_defs.specs.Once.{ListsOnce}
 use Rattle.bip_defs.specs.Parts.{ArePartsOf, IsHorizontalCol, IsHorizontalRow, IsSquareCol, IsSquareRow, IsVerticalCol, IsVerticalRow, Parts}
 use Rattle.bip_defs.proofs.Sets.{lists_unique}
 use Rattle.bip_defs.proofs.Square.{in_rows, square_pairs_perfect}
@@ -12,7 +13,7 @@ use Rattle.bip_defs.proofs.Uniqueness.{one_blocks, same_rank}
 use Rattle.bip_graph.specs.Stretches.{all_cols, all_rows}
 use Rattle.bip_graph.specs.Texts.{Report}
 use Rattle.btf_check.specs.Comparing.{AreOnce, HasOuterParts, HasParts, HasSizes}
-use Rattle.btf_check.specs.Reasons.{AreOrdersOf, ArePaired, IsMet, ListsOnce, TellsBlocks, TellsParts}
+use Rattle.btf_check.specs.Reasons.{AreOrdersOf, ArePaired, IsMet, TellsBlocks, TellsParts}
 use Rattle.btf_check.specs.Verdicts.{IsFirst}
 
 -- Numbers in any order.

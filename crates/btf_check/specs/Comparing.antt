@@ -2,10 +2,10 @@
 use Rattle.std.specs.Prelude.{◌≡◌, ℕ, List, length}
 use Rattle.bip_defs.specs.Lists.{Among}
 use Rattle.bip_defs.specs.Matrix.{Matrix, Place}
+use Rattle.bip_defs.specs.Once.{ListsOnce}
 use Rattle.bip_defs.specs.Parts.{Parts}
 use Rattle.bip_graph.specs.Stretches.{all_cols, all_rows}
 use Rattle.bip_graph.specs.Texts.{Report, sizes_of}
-use Rattle.btf_check.specs.Reasons.{ListsOnce}
 
 -- the first lines are those of a matrix with this maximum matching
 pub record HasSizes (a : Matrix) (m : List Place) (r : Report) : Type 0 where
