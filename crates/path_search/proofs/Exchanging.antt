@@ -17,9 +17,9 @@ path_marked a m t root leaf col path f l s r h = ⊎_elim (λ (e : r ≡ leaf). 
 path_apart : (a : Matrix) (m : List Place) (t : Trees) (root leaf col : ℕ) (path : List Place) (i r : ℕ) → IsMatching a m → IsForest a m t → IsLeafOf a m t col leaf → Traces a m t.queue root leaf path → i < length t.queue → (reached_at t.queue i).root ≢ root → Among (r, (reached_at t.queue i).col) m → ¬ Among r (rows_of path)
 path_apart a m t root leaf col path i r k f l s within other pair h = ⊎_elim (λ (e : r ≡ leaf). l.unmatched (subst (λ x. Among x (rows_of m)) e (row_among r (reached_at t.queue i).col m pair))) (λ (j, in_j, tree, mate). other (ap (λ n. (reached_at t.queue n).root) (one_place t.queue i j f.cols_differ within in_j (one_col m k.rows_differ r (reached_at t.queue i).col (reached_at t.queue j).col pair mate)) ∙ tree)) (s.in_tree r h)
 
--- the tree of the path is done with, and the others go on
-pub forest_exchanged : (a : Matrix) (m new : List Place) (t : Trees) (root leaf col : ℕ) (path : List Place) → IsMatching a m → IsForest a m t → IsLeafOf a m t col leaf → Traces a m t.queue root leaf path → Exchanges path m new → ((c : ℕ) → Among c (cols_of m) → Among c (cols_of new)) → IsForest a new (record t { path = path })
-forest_exchanged a m new t root leaf col path k f l s x stay = record {
+-- the tree of the path is done with, and the others go on, whatever stands in the path's place
+pub forest_exchanged : (a : Matrix) (m new : List Place) (t : Trees) (root leaf col : ℕ) (path after : List Place) → IsMatching a m → IsForest a m t → IsLeafOf a m t col leaf → Traces a m t.queue root leaf path → Exchanges path m new → ((c : ℕ) → Among c (cols_of m) → Among c (cols_of new)) → IsForest a new (record t { path = after })
+forest_exchanged a m new t root leaf col path after k f l s x stay = record {
   rows_are = f.rows_are;
   cols_are = f.cols_are;
   in_range = f.in_range;

@@ -1,3 +1,4 @@
+mod Backwards
 mod Climbing
 pub mod Closing
 pub mod Counting

@@ -1,4 +1,5 @@
 pub mod Advancing
 pub mod Forests
 pub mod Searching
+pub mod Sides
 pub mod Trails

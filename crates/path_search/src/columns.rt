@@ -1,13 +1,15 @@
 //! One column's list.
 
-ghost use Rattle.std.specs.Prelude.{◌≡◌, ◌⊎◌, ℕ, ◌+◌, ◌<◌, ◌≤◌, ◌^◌, length, slice_index, All, IfSome, vec_len, vec_capacity, ◌∷◌, ◌++◌, []};
+ghost use Rattle.std.specs.Prelude.{◌≡◌, ◌⊎◌, ℕ, ◌+◌, ◌<◌, ◌≤◌, ◌^◌, length, map, slice_index, All, IfSome, vec_len, vec_capacity, ◌∷◌, ◌++◌, []};
 ghost use Rattle.bip_defs.specs.Lists.{Among};
 ghost use Rattle.bip_defs.specs.Matching.{rows_of};
+ghost use Rattle.bip_graph.specs.Pairing.{Pairing};
 ghost use Rattle.path_search.specs.Searching.{IsMarked, Unmarks};
 ghost use Rattle.path_search.specs.Trails.{Passed, turn};
 
+use crate::sides::Side;
 use bip_graph::Matching;
-use sp_ids::Row;
+use sp_ids::{Id, Row};
 
 // The place at which a list is read as its k-th, from its front or from its end.
 pub fn turn(turned: bool, len: usize, k: usize) -> usize
@@ -18,16 +20,25 @@ pub fn turn(turned: bool, len: usize, k: usize) -> usize
     if turned { len - 1 - k } else { k }
 }
 
+/// The row that is read as the list's k-th, from its front or from its end.
+pub fn row_at<F: Id>(rows: &[F], k: usize, turned: bool) -> Row
+    requires { k < length rows.now }
+    ensures among { Among result (map F.number rows.now) }
+    ensures at { result ≡ slice_index (map F.number rows.now) (turn turned (length (map F.number rows.now)) k) }
+{
+    Row(rows[turn(turned, rows.len(), k)].number())
+}
+
 /// The first place, from `place` on, of an unmarked row, or one past the end.
-pub fn next_unmarked(rows: &[Row], marks: &[bool], place: usize, turned: bool) -> usize
-    requires in_range { (r : ℕ) → Among r rows.now → r < length marks.now }
-    requires passed { Passed turned marks.now rows.now place }
-    ensures passed { Passed turned marks.now rows.now result }
-    ensures unmarked { result < length rows.now → ¬ IsMarked marks.now (slice_index rows.now (turn turned (length rows.now) result)) }
+pub fn next_unmarked<F: Id>(rows: &[F], marks: &[bool], place: usize, turned: bool) -> usize
+    requires in_range { (r : ℕ) → Among r (map F.number rows.now) → r < length marks.now }
+    requires passed { Passed turned marks.now (map F.number rows.now) place }
+    ensures passed { Passed turned marks.now (map F.number rows.now) result }
+    ensures unmarked { result < length rows.now → ¬ IsMarked marks.now (slice_index (map F.number rows.now) (turn turned (length (map F.number rows.now)) result)) }
 {
     let mut at = place;
     while at < rows.len() {
-        let row = rows[turn(turned, rows.len(), at)];
+        let row = row_at(rows, at, turned);
         if !marks[row.0 as usize] {
             return at;
         }
@@ -37,16 +48,21 @@ pub fn next_unmarked(rows: &[Row], marks: &[bool], place: usize, turned: bool) -
 }
 
 /// An unmatched row of the list, from `look` on, which moves past all that were looked at: matched rows stay matched.
-pub fn unmatched_row(rows: &[Row], matching: &Matching, look: &mut u32) -> Option<Row>
-    requires in_range { (r : ℕ) → Among r rows.now → r < matching.now.rows }
+pub fn unmatched_row<F: Id, S: Side<F>>(
+    side: &S,
+    rows: &[F],
+    matching: &Matching,
+    look: &mut u32,
+) -> Option<Row>
+    requires in_range { (r : ℕ) → Among r (map F.number rows.now) → r < (S.seen matching.now).rows }
     requires few { length rows.now < 2 ^ 32 }
-    ensures { IfSome result (λ r. Among r rows.now × (¬ Among r (rows_of matching.now.pairs))) }
+    ensures { IfSome result (λ r. Among r (map F.number rows.now) × (¬ Among r (rows_of (S.seen matching.now).pairs))) }
 {
     let mut at = *look as usize;
     while at < rows.len() {
-        let row = rows[at];
+        let row = row_at(rows, at, false);
         at += 1;
-        match matching.col_of(row) {
+        match side.col_of(matching, row) {
             Some(_) => {}
             None => {
                 *look = at as u32;

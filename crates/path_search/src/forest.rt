@@ -3,15 +3,17 @@
 ghost use Rattle.std.specs.Prelude.{◌≡◌, ◌⊎◌, ◌↔◌, ℕ, suc, ◌<◌, ◌≤◌, ◌∷◌, ◌++◌, [], true, length, set, reverse, IsTrue, IfOk, IfSome, IfNone};
 ghost use Rattle.bip_defs.specs.Lists.{Among};
 ghost use Rattle.bip_defs.specs.Matching.{IsMatching, IsMaximum, rows_of, cols_of};
-ghost use Rattle.bip_defs.specs.Matrix.{cols};
+ghost use Rattle.bip_defs.specs.Matrix.{AreEntries, Matrix, cols};
+ghost use Rattle.bip_defs.specs.Paths.{Exchanges, IsAugmenting};
+ghost use Rattle.bip_graph.specs.Pairing.{Pairing};
 ghost use Rattle.path_search.specs.Searching.{IsMarked, IsShut};
 ghost use Rattle.path_search.specs.Forests.{AreFruitless, GoesOn, IsForest, IsLeafOf, LeadOn, Spreads, Traces, Visits, reached_at};
 
 use crate::columns::{put, unmark_all};
 use crate::reached::Reached;
+use crate::sides::Side;
 use bip_graph::Matching;
-use sp_ids::{Col, OutOfMemory, Row};
-use sp_pattern::Pattern;
+use sp_ids::{Col, Id, OutOfMemory, Row};
 use std::alloc::Global;
 use std::marker::Model;
 
@@ -119,24 +121,36 @@ impl Forest {
         self.path.as_mut_slice().reverse();
     }
 
-    fn path(&self) -> &[(Row, Col)]
-        ensures { result.now ≡ self.now.path }
+    // Exchanges the path, and leaves something else in its place.
+    fn flip<F: Id, S: Side<F>>(&mut self, side: &S, matching: &mut Matching)
+        requires rows { (S.seen matching.old).rows ≡ (S.matrix side.now).rows }
+        requires cols { (S.seen matching.old).cols ≡ cols (S.matrix side.now) }
+        requires matching { IsMatching (S.matrix side.now) (S.seen matching.old).pairs }
+        requires entries { AreEntries (S.matrix side.now) self.old.path }
+        requires path { IsAugmenting (S.seen matching.old).pairs self.old.path }
+        ensures same { self.new ≡ record self.old { path = self.new.path } }
+        ensures pairs { Exchanges self.old.path (S.seen matching.old).pairs (S.seen matching.new).pairs }
+        ensures size { length (S.seen matching.new).pairs ≡ suc (length (S.seen matching.old).pairs) }
+        ensures sizes { ((S.seen matching.new).rows ≡ (S.seen matching.old).rows) × ((S.seen matching.new).cols ≡ (S.seen matching.old).cols) }
+        ensures matching { IsMatching (S.matrix side.now) (S.seen matching.new).pairs }
+        ensures rows_stay { (r : ℕ) → Among r (rows_of (S.seen matching.old).pairs) → Among r (rows_of (S.seen matching.new).pairs) }
+        ensures cols_stay { (c : ℕ) → Among c (cols_of (S.seen matching.old).pairs) → Among c (cols_of (S.seen matching.new).pairs) }
     {
-        self.path.as_slice()
+        side.exchange(matching, self.path.as_mut_slice());
     }
 
     // Starts a tree from each unmatched column.
-    fn plant(&mut self, pattern: &Pattern, matching: &Matching)
-        requires rows { length self.old.marks ≡ pattern.now.rows }
-        requires cols { self.old.cols ≡ cols pattern.now }
-        requires matching_cols { matching.now.cols ≡ cols pattern.now }
-        ensures forest { IsForest pattern.now matching.now.pairs self.new }
-        ensures fruitless { AreFruitless pattern.now matching.now.pairs self.new 0 }
+    fn plant<F: Id, S: Side<F>>(&mut self, side: &S, matching: &Matching)
+        requires rows { length self.old.marks ≡ (S.matrix side.now).rows }
+        requires cols { self.old.cols ≡ cols (S.matrix side.now) }
+        requires matching_cols { (S.seen matching.now).cols ≡ cols (S.matrix side.now) }
+        ensures forest { IsForest (S.matrix side.now) (S.seen matching.now).pairs self.new }
+        ensures fruitless { AreFruitless (S.matrix side.now) (S.seen matching.now).pairs self.new 0 }
     {
         self.clear();
-        for number in 0..pattern.cols() {
+        for number in 0..side.cols() {
             let col = Col(number);
-            match matching.row_of(col) {
+            match side.row_of(matching, col) {
                 Some(_) => {}
                 None => self.reach(Reached {
                     col,
@@ -148,17 +162,24 @@ impl Forest {
     }
 
     // Marks a row in which the column at a place has an entry, and reaches the row's mate. Whether it has none.
-    fn visit(&mut self, matching: &Matching, row: Row, place: u32, root: Col) -> bool
+    fn visit<F: Id, S: Side<F>>(
+        &mut self,
+        side: &S,
+        matching: &Matching,
+        row: Row,
+        place: u32,
+        root: Col,
+    ) -> bool
         requires row { row < length self.old.marks }
-        requires matching_rows { matching.now.rows ≡ length self.old.marks }
-        requires room { (d : ℕ) → Among (row, d) matching.now.pairs → ¬ IsMarked self.old.marks row → length self.old.queue < self.old.cols }
-        ensures { Visits matching.now.pairs row place root self.old self.new result }
+        requires matching_rows { (S.seen matching.now).rows ≡ length self.old.marks }
+        requires room { (d : ℕ) → Among (row, d) (S.seen matching.now).pairs → ¬ IsMarked self.old.marks row → length self.old.queue < self.old.cols }
+        ensures { Visits (S.seen matching.now).pairs row place root self.old self.new result }
     {
         if self.is_marked(row) {
             return false;
         }
         self.mark(row);
-        match matching.col_of(row) {
+        match side.col_of(matching, row) {
             Some(col) => {
                 self.reach(Reached {
                     col,
@@ -172,52 +193,53 @@ impl Forest {
     }
 
     // Looks through the list of the column at a place, until an unmatched row is found.
-    fn scan(
+    fn scan<F: Id, S: Side<F>>(
         &mut self,
-        pattern: &Pattern,
+        side: &S,
         matching: &Matching,
         place: u32,
         col: Col,
         root: Col,
     ) -> Option<Row>
-        requires matching_rows { matching.now.rows ≡ pattern.now.rows }
-        requires matching { IsMatching pattern.now matching.now.pairs }
-        requires forest { IsForest pattern.now matching.now.pairs self.old }
+        requires matching_rows { (S.seen matching.now).rows ≡ (S.matrix side.now).rows }
+        requires matching { IsMatching (S.matrix side.now) (S.seen matching.now).pairs }
+        requires forest { IsForest (S.matrix side.now) (S.seen matching.now).pairs self.old }
         requires place { place < length self.old.queue }
         requires col { (reached_at self.old.queue place).col ≡ col }
         requires root { (reached_at self.old.queue place).root ≡ root }
-        ensures forest { IsForest pattern.now matching.now.pairs self.new }
+        ensures forest { IsForest (S.matrix side.now) (S.seen matching.now).pairs self.new }
         ensures spreads { Spreads root self.old self.new }
-        ensures found { IfSome result (IsLeafOf pattern.now matching.now.pairs self.new col) }
-        ensures shut { IfNone result (IsShut pattern.now self.new.marks col) }
-        ensures lead_on { IfNone result (LeadOn matching.now.pairs self.old self.new) }
+        ensures found { IfSome result (IsLeafOf (S.matrix side.now) (S.seen matching.now).pairs self.new col) }
+        ensures shut { IfNone result (IsShut (S.matrix side.now) self.new.marks col) }
+        ensures lead_on { IfNone result (LeadOn (S.seen matching.now).pairs self.old self.new) }
     {
-        let rows = pattern.rows_of(col);
-        for row in rows {
-            if self.visit(matching, *row, place, root) {
-                return Some(*row);
+        let rows = side.rows_of(col);
+        for far in rows {
+            let row = Row(far.number());
+            if self.visit(side, matching, row, place, root) {
+                return Some(row);
             }
         }
         None
     }
 
     // Follows a tree back from an unmatched row in which the column at a place has an entry, and keeps the path.
-    fn trace(&mut self, pattern: &Pattern, matching: &Matching, row: Row, place: u32)
-        requires matching_cols { matching.now.cols ≡ cols pattern.now }
-        requires matching { IsMatching pattern.now matching.now.pairs }
-        requires forest { IsForest pattern.now matching.now.pairs self.old }
+    fn trace<F: Id, S: Side<F>>(&mut self, side: &S, matching: &Matching, row: Row, place: u32)
+        requires matching_cols { (S.seen matching.now).cols ≡ cols (S.matrix side.now) }
+        requires matching { IsMatching (S.matrix side.now) (S.seen matching.now).pairs }
+        requires forest { IsForest (S.matrix side.now) (S.seen matching.now).pairs self.old }
         requires place { place < length self.old.queue }
-        requires leaf { IsLeafOf pattern.now matching.now.pairs self.old (reached_at self.old.queue place).col row }
-        requires unmatched { ¬ Among (reached_at self.old.queue place).root (cols_of matching.now.pairs) }
+        requires leaf { IsLeafOf (S.matrix side.now) (S.seen matching.now).pairs self.old (reached_at self.old.queue place).col row }
+        requires unmatched { ¬ Among (reached_at self.old.queue place).root (cols_of (S.seen matching.now).pairs) }
         ensures same { self.new ≡ record self.old { path = self.new.path } }
-        ensures path { Traces pattern.now matching.now.pairs self.old.queue (reached_at self.old.queue place).root row self.new.path }
+        ensures path { Traces (S.matrix side.now) (S.seen matching.now).pairs self.old.queue (reached_at self.old.queue place).root row self.new.path }
     {
-        pattern.is_pattern();
+        side.is_pattern();
         self.start_path();
         let mut at = place;
         let mut column = self.at(at);
         self.step(row, column.col);
-        while let Some(back) = matching.row_of(column.col) {
+        while let Some(back) = side.row_of(matching, column.col) {
             at = column.from;
             column = self.at(at);
             self.step(back, column.col);
@@ -226,49 +248,54 @@ impl Forest {
     }
 
     // Exchanges the path that a tree has found to an unmatched row in which the column at a place has an entry.
-    fn exchange(&mut self, pattern: &Pattern, matching: &mut Matching, row: Row, place: u32)
-        requires matching_rows { matching.old.rows ≡ pattern.now.rows }
-        requires matching_cols { matching.old.cols ≡ cols pattern.now }
-        requires matching { IsMatching pattern.now matching.old.pairs }
-        requires forest { IsForest pattern.now matching.old.pairs self.old }
+    fn exchange<F: Id, S: Side<F>>(
+        &mut self,
+        side: &S,
+        matching: &mut Matching,
+        row: Row,
+        place: u32,
+    )
+        requires matching_rows { (S.seen matching.old).rows ≡ (S.matrix side.now).rows }
+        requires matching_cols { (S.seen matching.old).cols ≡ cols (S.matrix side.now) }
+        requires matching { IsMatching (S.matrix side.now) (S.seen matching.old).pairs }
+        requires forest { IsForest (S.matrix side.now) (S.seen matching.old).pairs self.old }
         requires place { place < length self.old.queue }
-        requires leaf { IsLeafOf pattern.now matching.old.pairs self.old (reached_at self.old.queue place).col row }
-        requires unmatched { ¬ Among (reached_at self.old.queue place).root (cols_of matching.old.pairs) }
+        requires leaf { IsLeafOf (S.matrix side.now) (S.seen matching.old).pairs self.old (reached_at self.old.queue place).col row }
+        requires unmatched { ¬ Among (reached_at self.old.queue place).root (cols_of (S.seen matching.old).pairs) }
         ensures queue { self.new.queue ≡ self.old.queue }
-        ensures forest { IsForest pattern.now matching.new.pairs self.new }
-        ensures sizes { (matching.new.rows ≡ matching.old.rows) × (matching.new.cols ≡ matching.old.cols) }
-        ensures matching { IsMatching pattern.now matching.new.pairs }
-        ensures rows_stay { (r : ℕ) → Among r (rows_of matching.old.pairs) → Among r (rows_of matching.new.pairs) }
-        ensures cols_stay { (c : ℕ) → Among c (cols_of matching.old.pairs) → Among c (cols_of matching.new.pairs) }
-        ensures size { length matching.new.pairs ≡ suc (length matching.old.pairs) }
+        ensures forest { IsForest (S.matrix side.now) (S.seen matching.new).pairs self.new }
+        ensures sizes { ((S.seen matching.new).rows ≡ (S.seen matching.old).rows) × ((S.seen matching.new).cols ≡ (S.seen matching.old).cols) }
+        ensures matching { IsMatching (S.matrix side.now) (S.seen matching.new).pairs }
+        ensures rows_stay { (r : ℕ) → Among r (rows_of (S.seen matching.old).pairs) → Among r (rows_of (S.seen matching.new).pairs) }
+        ensures cols_stay { (c : ℕ) → Among c (cols_of (S.seen matching.old).pairs) → Among c (cols_of (S.seen matching.new).pairs) }
+        ensures size { length (S.seen matching.new).pairs ≡ suc (length (S.seen matching.old).pairs) }
     {
-        self.trace(pattern, matching, row, place);
-        let path = self.path();
-        matching.flip(path);
+        self.trace(side, matching, row, place);
+        self.flip(side, matching);
     }
 
     // Looks through the list of the column at a place, unless its tree is done with, and exchanges a path that ends there.
-    fn grow(&mut self, pattern: &Pattern, matching: &mut Matching, place: u32)
-        requires matching_rows { matching.old.rows ≡ pattern.now.rows }
-        requires matching_cols { matching.old.cols ≡ cols pattern.now }
-        requires matching { IsMatching pattern.now matching.old.pairs }
-        requires forest { IsForest pattern.now matching.old.pairs self.old }
+    fn grow<F: Id, S: Side<F>>(&mut self, side: &S, matching: &mut Matching, place: u32)
+        requires matching_rows { (S.seen matching.old).rows ≡ (S.matrix side.now).rows }
+        requires matching_cols { (S.seen matching.old).cols ≡ cols (S.matrix side.now) }
+        requires matching { IsMatching (S.matrix side.now) (S.seen matching.old).pairs }
+        requires forest { IsForest (S.matrix side.now) (S.seen matching.old).pairs self.old }
         requires place { place < length self.old.queue }
-        ensures forest { IsForest pattern.now matching.new.pairs self.new }
+        ensures forest { IsForest (S.matrix side.now) (S.seen matching.new).pairs self.new }
         ensures queue { length self.old.queue ≤ length self.new.queue }
-        ensures sizes { (matching.new.rows ≡ matching.old.rows) × (matching.new.cols ≡ matching.old.cols) }
-        ensures matching { IsMatching pattern.now matching.new.pairs }
-        ensures rows_stay { (r : ℕ) → Among r (rows_of matching.old.pairs) → Among r (rows_of matching.new.pairs) }
-        ensures cols_stay { (c : ℕ) → Among c (cols_of matching.old.pairs) → Among c (cols_of matching.new.pairs) }
-        ensures goes_on { GoesOn pattern.now matching.old matching.new self.old self.new place }
+        ensures sizes { ((S.seen matching.new).rows ≡ (S.seen matching.old).rows) × ((S.seen matching.new).cols ≡ (S.seen matching.old).cols) }
+        ensures matching { IsMatching (S.matrix side.now) (S.seen matching.new).pairs }
+        ensures rows_stay { (r : ℕ) → Among r (rows_of (S.seen matching.old).pairs) → Among r (rows_of (S.seen matching.new).pairs) }
+        ensures cols_stay { (c : ℕ) → Among c (cols_of (S.seen matching.old).pairs) → Among c (cols_of (S.seen matching.new).pairs) }
+        ensures goes_on { GoesOn (S.matrix side.now) (S.seen matching.old) (S.seen matching.new) self.old self.new place }
     {
         let column = self.at(place);
-        match matching.row_of(column.root) {
+        match side.row_of(matching, column.root) {
             Some(_) => {}
             None => {
-                let found = self.scan(pattern, matching, place, column.col, column.root);
+                let found = self.scan(side, matching, place, column.col, column.root);
                 if let Some(row) = found {
-                    self.exchange(pattern, matching, row, place);
+                    self.exchange(side, matching, row, place);
                 }
             }
         }
@@ -280,27 +307,27 @@ impl Forest {
     /// (Azad, Buluç and Pothen 2017). Each row is in one tree at most, so the paths have no vertex in common. Where there
     /// is no path the matching was maximum. Takes no memory. Work: one look at each row and column, and at each entry once
     /// at most.
-    pub fn sweep(&mut self, pattern: &Pattern, matching: &mut Matching)
-        requires rows { length self.old.marks ≡ pattern.now.rows }
-        requires cols { self.old.cols ≡ cols pattern.now }
-        requires matching_rows { matching.old.rows ≡ pattern.now.rows }
-        requires matching_cols { matching.old.cols ≡ cols pattern.now }
-        requires matching { IsMatching pattern.now matching.old.pairs }
+    pub fn sweep<F: Id, S: Side<F>>(&mut self, side: &S, matching: &mut Matching)
+        requires rows { length self.old.marks ≡ (S.matrix side.now).rows }
+        requires cols { self.old.cols ≡ cols (S.matrix side.now) }
+        requires matching_rows { (S.seen matching.old).rows ≡ (S.matrix side.now).rows }
+        requires matching_cols { (S.seen matching.old).cols ≡ cols (S.matrix side.now) }
+        requires matching { IsMatching (S.matrix side.now) (S.seen matching.old).pairs }
         ensures rows { length self.new.marks ≡ length self.old.marks }
         ensures cols { self.new.cols ≡ self.old.cols }
-        ensures sizes { (matching.new.rows ≡ matching.old.rows) × (matching.new.cols ≡ matching.old.cols) }
-        ensures matching { IsMatching pattern.now matching.new.pairs }
-        ensures rows_stay { (r : ℕ) → Among r (rows_of matching.old.pairs) → Among r (rows_of matching.new.pairs) }
-        ensures cols_stay { (c : ℕ) → Among c (cols_of matching.old.pairs) → Among c (cols_of matching.new.pairs) }
+        ensures sizes { ((S.seen matching.new).rows ≡ (S.seen matching.old).rows) × ((S.seen matching.new).cols ≡ (S.seen matching.old).cols) }
+        ensures matching { IsMatching (S.matrix side.now) (S.seen matching.new).pairs }
+        ensures rows_stay { (r : ℕ) → Among r (rows_of (S.seen matching.old).pairs) → Among r (rows_of (S.seen matching.new).pairs) }
+        ensures cols_stay { (c : ℕ) → Among c (cols_of (S.seen matching.old).pairs) → Among c (cols_of (S.seen matching.new).pairs) }
 
         // Where the matching hasn't grown it was maximum.
-        ensures maximum { ((matching.new ≡ matching.old) × IsMaximum pattern.now matching.old.pairs) ⊎ (length matching.old.pairs < length matching.new.pairs) }
+        ensures maximum { ((S.seen matching.new ≡ S.seen matching.old) × IsMaximum (S.matrix side.now) (S.seen matching.old).pairs) ⊎ (length (S.seen matching.old).pairs < length (S.seen matching.new).pairs) }
     {
-        pattern.is_pattern();
-        self.plant(pattern, matching);
+        side.is_pattern();
+        self.plant(side, matching);
         let mut place: u32 = 0;
         while (place as usize) < self.reached() {
-            self.grow(pattern, matching, place);
+            self.grow(side, matching, place);
             place += 1;
         }
     }

@@ -1,11 +1,15 @@
 //! Searches for augmenting paths: depth-first from one column, and breadth-first from all unmatched columns.
+//!
+//! They see a pattern from its columns, or from its rows as its transpose.
 #![tactic(auto)]
 
 mod columns;
 mod forest;
 mod reached;
 mod search;
+mod sides;
 mod step;
 
 pub use forest::Forest;
 pub use search::Search;
+pub use sides::{FromRows, Side};

@@ -1,19 +1,21 @@
 //! Searches, and what one keeps for the next.
 
 ghost use Rattle.std.specs.Bool.{OnTrue, OnFalse};
-ghost use Rattle.std.specs.Prelude.{◌≡◌, ◌⊎◌, ℕ, suc, ◌+◌, ◌<◌, ◌≤◌, ◌^◌, ◌∷◌, ◌++◌, [], true, length, set, slice_index, IfOk, IfSome, IfNone};
+ghost use Rattle.std.specs.Prelude.{◌≡◌, ◌⊎◌, ℕ, suc, ◌+◌, ◌<◌, ◌≤◌, ◌^◌, ◌∷◌, ◌++◌, [], true, length, map, set, slice_index, IfOk, IfSome, IfNone};
 ghost use Rattle.bip_defs.specs.Lists.{Among};
 ghost use Rattle.bip_defs.specs.Matching.{IsMatching, rows_of, cols_of};
-ghost use Rattle.bip_defs.specs.Matrix.{IsEntry, Place, cols, column};
+ghost use Rattle.bip_defs.specs.Matrix.{AreEntries, IsEntry, Matrix, Place, cols, column};
+ghost use Rattle.bip_defs.specs.Paths.{Exchanges, IsAugmenting};
+ghost use Rattle.bip_graph.specs.Pairing.{Pairing};
 ghost use Rattle.path_search.specs.Searching.{IsMarked, Augments, Marks, Unmarks, Finds, Fails};
 ghost use Rattle.path_search.specs.Advancing.{Advances, Visits};
 ghost use Rattle.path_search.specs.Trails.{IsSearch, Passed, turn};
 
-use crate::columns::{next_unmarked, put, turn, unmark, unmark_all, unmatched_row};
+use crate::columns::{next_unmarked, put, row_at, unmark, unmark_all, unmatched_row};
+use crate::sides::Side;
 use crate::step::{Stand, Step};
 use bip_graph::Matching;
-use sp_ids::{Col, OutOfMemory, Row};
-use sp_pattern::Pattern;
+use sp_ids::{Col, Id, OutOfMemory, Row};
 use std::alloc::Global;
 use std::marker::Model;
 
@@ -113,44 +115,55 @@ impl Search {
     }
 
     // An unmatched row of a column, where one was not passed yet.
-    fn look_ahead(&mut self, pattern: &Pattern, matching: &Matching, col: Col) -> Option<Row>
-        requires rows { matching.now.rows ≡ pattern.now.rows }
-        requires cols { self.old.cols ≡ cols pattern.now }
-        requires col { col < cols pattern.now }
+    fn look_ahead<F: Id, S: Side<F>>(
+        &mut self,
+        side: &S,
+        matching: &Matching,
+        col: Col,
+    ) -> Option<Row>
+        requires rows { (S.seen matching.now).rows ≡ (S.matrix side.now).rows }
+        requires cols { self.old.cols ≡ cols (S.matrix side.now) }
+        requires col { col < cols (S.matrix side.now) }
         ensures same { self.new ≡ self.old }
-        ensures found { IfSome result (λ r. IsEntry pattern.now r col × (¬ Among r (rows_of matching.now.pairs))) }
+        ensures found { IfSome result (λ r. IsEntry (S.matrix side.now) r col × (¬ Among r (rows_of (S.seen matching.now).pairs))) }
     {
-        pattern.is_pattern();
-        let rows = pattern.rows_of(col);
+        side.is_pattern();
+        let rows = side.rows_of(col);
         let look = &mut self.look[col.0 as usize];
-        unmatched_row(rows, matching, look)
+        unmatched_row(side, rows, matching, look)
     }
 
     // The first place of an unmarked row, from `place` on, or one past the end.
-    fn next_place(&self, rows: &[Row], place: u32, turned: bool) -> usize
-        requires in_range { (r : ℕ) → Among r rows.now → r < length self.now.marks }
-        requires passed { Passed turned self.now.marks rows.now place }
-        ensures passed { Passed turned self.now.marks rows.now result }
-        ensures unmarked { result < length rows.now → ¬ IsMarked self.now.marks (slice_index rows.now (turn turned (length rows.now) result)) }
+    fn next_place<F: Id>(&self, rows: &[F], place: u32, turned: bool) -> usize
+        requires in_range { (r : ℕ) → Among r (map F.number rows.now) → r < length self.now.marks }
+        requires passed { Passed turned self.now.marks (map F.number rows.now) place }
+        ensures passed { Passed turned self.now.marks (map F.number rows.now) result }
+        ensures unmarked { result < length rows.now → ¬ IsMarked self.now.marks (slice_index (map F.number rows.now) (turn turned (length (map F.number rows.now)) result)) }
     {
         next_unmarked(rows, self.marks.as_slice(), place as usize, turned)
     }
 
     // Goes down by the first unmarked row of a column, if there is one.
-    fn descend(&mut self, pattern: &Pattern, matching: &Matching, at: Stand, turned: bool) -> Step
-        requires rows { matching.now.rows ≡ pattern.now.rows }
-        requires matching { IsMatching pattern.now matching.now.pairs }
-        requires search { IsSearch pattern.now matching.now.pairs turned self.old at.col at.place }
-        ensures { Visits pattern.now matching.now.pairs turned self.old self.new at.col result }
+    fn descend<F: Id, S: Side<F>>(
+        &mut self,
+        side: &S,
+        matching: &Matching,
+        at: Stand,
+        turned: bool,
+    ) -> Step
+        requires rows { (S.seen matching.now).rows ≡ (S.matrix side.now).rows }
+        requires matching { IsMatching (S.matrix side.now) (S.seen matching.now).pairs }
+        requires search { IsSearch (S.matrix side.now) (S.seen matching.now).pairs turned self.old at.col at.place }
+        ensures { Visits (S.matrix side.now) (S.seen matching.now).pairs turned self.old self.new at.col result }
     {
-        let rows = pattern.rows_of(at.col);
+        let rows = side.rows_of(at.col);
         let place = self.next_place(rows, at.place, turned);
         if place >= rows.len() {
             return Step::Stuck;
         }
-        let row = rows[turn(turned, rows.len(), place)];
+        let row = row_at(rows, place, turned);
         self.enter(row, at.col);
-        match matching.col_of(row) {
+        match side.col_of(matching, row) {
             None => Step::Found,
             Some(next) => {
                 self.note(place as u32 + 1);
@@ -163,29 +176,41 @@ impl Search {
     }
 
     // At a column's first visit looks ahead, and goes down.
-    fn visit(&mut self, pattern: &Pattern, matching: &Matching, at: Stand, turned: bool) -> Step
-        requires rows { matching.now.rows ≡ pattern.now.rows }
-        requires matching { IsMatching pattern.now matching.now.pairs }
-        requires search { IsSearch pattern.now matching.now.pairs turned self.old at.col at.place }
-        ensures { Visits pattern.now matching.now.pairs turned self.old self.new at.col result }
+    fn visit<F: Id, S: Side<F>>(
+        &mut self,
+        side: &S,
+        matching: &Matching,
+        at: Stand,
+        turned: bool,
+    ) -> Step
+        requires rows { (S.seen matching.now).rows ≡ (S.matrix side.now).rows }
+        requires matching { IsMatching (S.matrix side.now) (S.seen matching.now).pairs }
+        requires search { IsSearch (S.matrix side.now) (S.seen matching.now).pairs turned self.old at.col at.place }
+        ensures { Visits (S.matrix side.now) (S.seen matching.now).pairs turned self.old self.new at.col result }
     {
         if at.place == 0 {
-            if let Some(row) = self.look_ahead(pattern, matching, at.col) {
+            if let Some(row) = self.look_ahead(side, matching, at.col) {
                 self.end(row, at.col);
                 return Step::Found;
             }
         }
-        self.descend(pattern, matching, at, turned)
+        self.descend(side, matching, at, turned)
     }
 
     // Goes down, or back where that isn't possible.
-    fn advance(&mut self, pattern: &Pattern, matching: &Matching, at: Stand, turned: bool) -> Step
-        requires rows { matching.now.rows ≡ pattern.now.rows }
-        requires matching { IsMatching pattern.now matching.now.pairs }
-        requires search { IsSearch pattern.now matching.now.pairs turned self.old at.col at.place }
-        ensures { Advances pattern.now matching.now.pairs turned self.old self.new result }
+    fn advance<F: Id, S: Side<F>>(
+        &mut self,
+        side: &S,
+        matching: &Matching,
+        at: Stand,
+        turned: bool,
+    ) -> Step
+        requires rows { (S.seen matching.now).rows ≡ (S.matrix side.now).rows }
+        requires matching { IsMatching (S.matrix side.now) (S.seen matching.now).pairs }
+        requires search { IsSearch (S.matrix side.now) (S.seen matching.now).pairs turned self.old at.col at.place }
+        ensures { Advances (S.matrix side.now) (S.seen matching.now).pairs turned self.old self.new result }
     {
-        match self.visit(pattern, matching, at, turned) {
+        match self.visit(side, matching, at, turned) {
             Step::Stuck => match self.back() {
                 Some(before) => Step::On(before),
                 None => Step::Stuck,
@@ -195,26 +220,32 @@ impl Search {
     }
 
     // Searches from an unmatched column for an augmenting path through rows that are not marked.
-    fn find(&mut self, pattern: &Pattern, matching: &Matching, root: Col, turned: bool) -> bool
-        requires rows { length self.old.marks ≡ pattern.now.rows }
-        requires cols { self.old.cols ≡ cols pattern.now }
-        requires matching_rows { matching.now.rows ≡ pattern.now.rows }
-        requires matching { IsMatching pattern.now matching.now.pairs }
-        requires root { root < cols pattern.now }
-        requires unmatched { ¬ Among root (cols_of matching.now.pairs) }
+    fn find<F: Id, S: Side<F>>(
+        &mut self,
+        side: &S,
+        matching: &Matching,
+        root: Col,
+        turned: bool,
+    ) -> bool
+        requires rows { length self.old.marks ≡ (S.matrix side.now).rows }
+        requires cols { self.old.cols ≡ cols (S.matrix side.now) }
+        requires matching_rows { (S.seen matching.now).rows ≡ (S.matrix side.now).rows }
+        requires matching { IsMatching (S.matrix side.now) (S.seen matching.now).pairs }
+        requires root { root < cols (S.matrix side.now) }
+        requires unmatched { ¬ Among root (cols_of (S.seen matching.now).pairs) }
         ensures cols { self.new.cols ≡ self.old.cols }
         ensures marks { Marks self.new.seen self.old.marks self.new.marks }
-        ensures found { OnTrue result (Finds pattern.now matching.now.pairs self.old.marks root self.new.path) }
-        ensures failed { OnFalse result (Fails pattern.now matching.now.pairs self.new.marks self.new.seen root) }
+        ensures found { OnTrue result (Finds (S.matrix side.now) (S.seen matching.now).pairs self.old.marks root self.new.path) }
+        ensures failed { OnFalse result (Fails (S.matrix side.now) (S.seen matching.now).pairs self.new.marks self.new.seen root) }
     {
-        pattern.is_pattern();
+        side.is_pattern();
         self.start(root);
         let mut at = Stand {
             col: root,
             place: 0,
         };
         loop {
-            match self.advance(pattern, matching, at, turned) {
+            match self.advance(side, matching, at, turned) {
                 Step::Found => return true,
                 Step::Stuck => return false,
                 Step::On(next) => at = next,
@@ -222,10 +253,22 @@ impl Search {
         }
     }
 
-    fn path(&self) -> &[(Row, Col)]
-        ensures { result.now ≡ self.now.path }
+    // Exchanges the path, and leaves something else in its place.
+    fn flip<F: Id, S: Side<F>>(&mut self, side: &S, matching: &mut Matching)
+        requires rows { (S.seen matching.old).rows ≡ (S.matrix side.now).rows }
+        requires cols { (S.seen matching.old).cols ≡ cols (S.matrix side.now) }
+        requires matching { IsMatching (S.matrix side.now) (S.seen matching.old).pairs }
+        requires entries { AreEntries (S.matrix side.now) self.old.path }
+        requires path { IsAugmenting (S.seen matching.old).pairs self.old.path }
+        ensures same { self.new ≡ record self.old { path = self.new.path } }
+        ensures pairs { Exchanges self.old.path (S.seen matching.old).pairs (S.seen matching.new).pairs }
+        ensures size { length (S.seen matching.new).pairs ≡ suc (length (S.seen matching.old).pairs) }
+        ensures sizes { ((S.seen matching.new).rows ≡ (S.seen matching.old).rows) × ((S.seen matching.new).cols ≡ (S.seen matching.old).cols) }
+        ensures matching { IsMatching (S.matrix side.now) (S.seen matching.new).pairs }
+        ensures rows_stay { (r : ℕ) → Among r (rows_of (S.seen matching.old).pairs) → Among r (rows_of (S.seen matching.new).pairs) }
+        ensures cols_stay { (c : ℕ) → Among c (cols_of (S.seen matching.old).pairs) → Among c (cols_of (S.seen matching.new).pairs) }
     {
-        self.path.as_slice()
+        side.exchange(matching, self.path.as_mut_slice());
     }
 
     /// Searches from an unmatched column, and exchanges the augmenting path that it finds. Whether it found one.
@@ -234,36 +277,35 @@ impl Search {
     /// over. An unmatched row that look-ahead finds ends the path and is not marked.
     /// Where `turned` holds, each column's list is read from its end. Work: the entries of the columns that it comes to,
     /// and of all look-aheads together each entry once.
-    pub fn augment(
+    pub fn augment<F: Id, S: Side<F>>(
         &mut self,
-        pattern: &Pattern,
+        side: &S,
         matching: &mut Matching,
         root: Col,
         turned: bool,
     ) -> bool
-        requires rows { length self.old.marks ≡ pattern.now.rows }
-        requires cols { self.old.cols ≡ cols pattern.now }
-        requires matching_rows { matching.old.rows ≡ pattern.now.rows }
-        requires matching_cols { matching.old.cols ≡ cols pattern.now }
-        requires matching { IsMatching pattern.now matching.old.pairs }
-        requires root { root < cols pattern.now }
-        requires unmatched { ¬ Among root (cols_of matching.old.pairs) }
+        requires rows { length self.old.marks ≡ (S.matrix side.now).rows }
+        requires cols { self.old.cols ≡ cols (S.matrix side.now) }
+        requires matching_rows { (S.seen matching.old).rows ≡ (S.matrix side.now).rows }
+        requires matching_cols { (S.seen matching.old).cols ≡ cols (S.matrix side.now) }
+        requires matching { IsMatching (S.matrix side.now) (S.seen matching.old).pairs }
+        requires root { root < cols (S.matrix side.now) }
+        requires unmatched { ¬ Among root (cols_of (S.seen matching.old).pairs) }
         ensures cols { self.new.cols ≡ self.old.cols }
         ensures marks { Marks self.new.seen self.old.marks self.new.marks }
-        ensures sizes { (matching.new.rows ≡ matching.old.rows) × (matching.new.cols ≡ matching.old.cols) }
-        ensures matching { IsMatching pattern.now matching.new.pairs }
-        ensures rows_stay { (r : ℕ) → Among r (rows_of matching.old.pairs) → Among r (rows_of matching.new.pairs) }
-        ensures cols_stay { (c : ℕ) → Among c (cols_of matching.old.pairs) → Among c (cols_of matching.new.pairs) }
-        ensures found { OnTrue result (Augments root self.old.marks matching.old.pairs matching.new.pairs) }
+        ensures sizes { ((S.seen matching.new).rows ≡ (S.seen matching.old).rows) × ((S.seen matching.new).cols ≡ (S.seen matching.old).cols) }
+        ensures matching { IsMatching (S.matrix side.now) (S.seen matching.new).pairs }
+        ensures rows_stay { (r : ℕ) → Among r (rows_of (S.seen matching.old).pairs) → Among r (rows_of (S.seen matching.new).pairs) }
+        ensures cols_stay { (c : ℕ) → Among c (cols_of (S.seen matching.old).pairs) → Among c (cols_of (S.seen matching.new).pairs) }
+        ensures found { OnTrue result (Augments root self.old.marks (S.seen matching.old).pairs (S.seen matching.new).pairs) }
 
         // Without a path the matching stays, and the rows that were marked are of no use to any other path.
-        ensures failed { OnFalse result ((matching.new ≡ matching.old) × Fails pattern.now matching.old.pairs self.new.marks self.new.seen root) }
+        ensures failed { OnFalse result ((S.seen matching.new ≡ S.seen matching.old) × Fails (S.matrix side.now) (S.seen matching.old).pairs self.new.marks self.new.seen root) }
     {
-        if !self.find(pattern, matching, root, turned) {
+        if !self.find(side, matching, root, turned) {
             return false;
         }
-        let path = self.path();
-        matching.flip(path);
+        self.flip(side, matching);
         true
     }
 

@@ -1,8 +1,7 @@
-use Rattle.path_search.proofs.Places.{read_among}
 use Rattle.path_search.proofs.columns.unmatched_row.Goals as goal
 
 pub col_of-requires : goal.col_of-requires
-col_of-requires c = c.requires.in_range _ (read_among _ c.args.rows.now _ c.loop-at-test.true c.index-rows-at.is)
+col_of-requires g c = c.requires.in_range _ c.row_at-row.ensures.among
 
 pub returns-in-None : goal.returns-in-None
-returns-in-None c = (read_among _ c.args.rows.now _ c.loop-at-test.true c.index-rows-at.is, c.in-None.ensures.none)
+returns-in-None g c = (c.row_at-row.ensures.among, c.in-None.ensures.none)

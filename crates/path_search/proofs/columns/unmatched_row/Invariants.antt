@@ -2,7 +2,7 @@ use Rattle.std.proofs.Common.{length, ◌-◌, ◌<◌, ◌^◌}
 use Rattle.path_search.proofs.columns.unmatched_row.Given as goal
 
 abbrev pub invariant-loop-at : goal.invariant-loop-at
-invariant-loop-at l = l.at < 2 ^ 32
+invariant-loop-at g l = l.at < 2 ^ 32
 
 abbrev pub decreases-loop-at : goal.decreases-loop-at
-decreases-loop-at l = length l.rows - l.at
+decreases-loop-at g l = length l.rows - l.at

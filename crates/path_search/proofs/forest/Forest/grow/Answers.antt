@@ -9,7 +9,7 @@ use Rattle.path_search.proofs.forest.Forest.grow.Goals as goal
 
 -- the tree of the column is done with
 pub returns-in-Some-clause-goes_on : goal.returns-in-Some-clause-goes_on
-returns-in-Some-clause-goes_on c = inl (refl, λ f. absurd (f.roots_unmatched c.args.place c.requires.place (subst (λ (x : Reached). Among x.root (cols_of c.args.matching.now.pairs)) c.at-column.ensures (col_among c.in-Some.field-0 c.at-column.result.root c.args.matching.now.pairs c.in-Some.ensures.found))))
+returns-in-Some-clause-goes_on g c = inl (refl, λ f. absurd (f.roots_unmatched c.args.place c.requires.place (subst (λ (x : Reached). Among x.root (cols_of (g.S.Side.seen c.args.matching.now).pairs)) c.at-column.ensures (col_among c.in-Some.field-0 c.at-column.result.root (g.S.Side.seen c.args.matching.now).pairs c.in-Some.ensures.found))))
 
 pub returns-in_default-clause-goes_on : goal.returns-in_default-clause-goes_on
-returns-in_default-clause-goes_on c = inl (refl, λ f. fruitless_more _ _ c.at-column.result.root _ _ c.args.place f c.requires.place c.in-None.ensures.none c.scan-found.ensures.spreads c.in_default.ensures.lead_on (subst (λ (x : Reached). IsShut c.args.pattern.now c.scan-found.new.self.marks x.col) c.at-column.ensures c.in_default.ensures.shut))
+returns-in_default-clause-goes_on g c = inl (refl, λ f. fruitless_more _ _ c.at-column.result.root _ _ c.args.place f c.requires.place c.in-None.ensures.none c.scan-found.ensures.spreads c.in_default.ensures.lead_on (subst (λ (x : Reached). IsShut (g.S.Side.matrix c.args.side.now) c.scan-found.new.self.marks x.col) c.at-column.ensures c.in_default.ensures.shut))

@@ -6,20 +6,20 @@ use Rattle.path_search.proofs.forest.Forest.plant.Goals.{in-Some, in-None}
 use Rattle.path_search.proofs.forest.Forest.plant.Goals as goal
 
 pub reach-requires : goal.reach-requires
-reach-requires c = planted_room _ _ _ _ c.loop-number.invariant (let end = c.cols-number-end.ensures in let below = c.loop-number-test.true in omega arith)
+reach-requires g c = planted_room _ _ _ _ c.loop-number.invariant (let end = c.cols-number-end.ensures in let below = c.loop-number-test.true in omega arith)
 
 pub loop-number-preserved : goal.loop-number-preserved
-loop-number-preserved c = elim c.match-row_of.branch [
-  | in-Some w ↦ rw w.self-is (planted_matched _ _ _ _ c.loop-number.invariant (col_among _ c.loop-number.number c.args.matching.now.pairs w.in-Some.ensures.found))
+loop-number-preserved g c = elim c.match-row_of.branch [
+  | in-Some w ↦ rw w.self-is (planted_matched _ _ _ _ c.loop-number.invariant (col_among _ c.loop-number.number (g.S.Side.seen c.args.matching.now).pairs w.in-Some.ensures.found))
   | in-None w ↦ rw (w.self-is, w.reach.ensures) (planted_more _ _ _ _ c.loop-number.invariant w.in-None.ensures.none)
 ]
 
 pub returns-clause-forest : goal.returns-clause-forest
-returns-clause-forest c =
-    let end : c.loop-number.number ≡ cols c.args.pattern.now = omega (arith, c.cols-number-end.ensures, c.loop-number-test.false, c.loop-number.auto.number-end) in
+returns-clause-forest g c =
+    let end : c.loop-number.number ≡ cols (g.S.Side.matrix c.args.side.now) = omega (arith, c.cols-number-end.ensures, c.loop-number-test.false, c.loop-number.auto.number-end) in
     planted_forest _ _ _ _ end c.loop-number.invariant
 
 pub returns-clause-fruitless : goal.returns-clause-fruitless
-returns-clause-fruitless c =
-    let end : c.loop-number.number ≡ cols c.args.pattern.now = omega (arith, c.cols-number-end.ensures, c.loop-number-test.false, c.loop-number.auto.number-end) in
+returns-clause-fruitless g c =
+    let end : c.loop-number.number ≡ cols (g.S.Side.matrix c.args.side.now) = omega (arith, c.cols-number-end.ensures, c.loop-number-test.false, c.loop-number.auto.number-end) in
     planted_fruitless _ _ _ _ end c.loop-number.invariant

@@ -1,6 +1,6 @@
-use Rattle.std.proofs.Common.{take}
+use Rattle.std.proofs.Common.{map, take}
 use Rattle.path_search.proofs.Spreading.{IsScanning}
 use Rattle.path_search.proofs.forest.Forest.scan.Given as goal
 
-abbrev pub invariant-loop-row : goal.invariant-loop-row
-invariant-loop-row l = IsScanning l.pattern l.matching.pairs l.root l.fn.self l.self (take l.row-index l.rows)
+abbrev pub invariant-loop-far : goal.invariant-loop-far
+invariant-loop-far g l = IsScanning (g.S.Side.matrix l.side) (g.S.Side.seen l.matching).pairs l.root l.fn.self l.self (take l.far-index (map g.F.Id.number l.rows))

@@ -3,13 +3,13 @@ use Rattle.path_search.proofs.Sweeping.{forest_short, grown_end, grown_more}
 use Rattle.path_search.proofs.forest.Forest.sweep.Goals as goal
 
 pub overflow_add-place : goal.overflow_add-place
-overflow_add-place c = let short = forest_short _ _ _ c.loop-place.invariant.forest in let few = c.is_pattern.ensures.few_cols in omega arith
+overflow_add-place g c = let short = forest_short _ _ _ c.loop-place.invariant.forest in let few = c.is_pattern.ensures.few_cols in omega arith
 
 pub loop-place-smaller : goal.loop-place-smaller
-loop-place-smaller c = let short = forest_short _ _ _ c.loop-place.invariant.forest in omega arith
+loop-place-smaller g c = let short = forest_short _ _ _ c.loop-place.invariant.forest in omega arith
 
 pub loop-place-preserved : goal.loop-place-preserved
-loop-place-preserved c =
+loop-place-preserved g c =
     let k = c.loop-place.invariant in
     let e = c.grow.ensures in
     record {
@@ -24,4 +24,4 @@ loop-place-preserved c =
     }
 
 pub returns-clause-maximum : goal.returns-clause-maximum
-returns-clause-maximum c = grown_end _ _ _ _ _ c.loop-place.invariant.grown c.loop-place.invariant.matching (omega arith)
+returns-clause-maximum g c = grown_end _ _ _ _ _ c.loop-place.invariant.grown c.loop-place.invariant.matching (omega arith)

@@ -3,7 +3,7 @@ use Rattle.path_search.proofs.Steps.{reaches_end, seen_room, unmatched_unseen}
 use Rattle.path_search.proofs.search.Search.visit.Goals as goal
 
 pub end-requires : goal.end-requires
-end-requires c = record {
+end-requires g c = record {
   room =
       let f = c.requires.search in
       let free = c.in-Some.ensures.found in
@@ -14,6 +14,6 @@ end-requires c = record {
 }
 
 pub returns-in-Some : goal.returns-in-Some
-returns-in-Some c =
+returns-in-Some g c =
     let free = c.in-Some.ensures.found in
     rw (c.end.ensures, c.look_ahead.ensures.same) (record { cols_stay = refl; root_stays = refl; marks = λ start k. k }, reaches_end _ _ _ _ _ _ _ c.requires.search free.0 free.1)
