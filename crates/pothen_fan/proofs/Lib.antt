@@ -1,1 +1,2 @@
 mod Phases
+mod Roots

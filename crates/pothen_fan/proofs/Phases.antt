@@ -6,7 +6,7 @@ use Rattle.bip_defs.specs.Matching.{IsMatching, IsMaximum, cols_of}
 use Rattle.bip_defs.specs.Matrix.{Matrix, Place}
 use Rattle.bip_defs.proofs.Sets.{among_last}
 use Rattle.bip_graph.specs.Pairing.{Pairing}
-use Rattle.pothen_fan.specs.Sweeping.{HoldUnmatched, Turns}
+use Rattle.pothen_fan.specs.Sweeping.{HoldRoots, Turns}
 use Rattle.path_search.specs.Searching.{AreLeftOut, Augments, Fails, IsMarked, IsShut, Marks}
 use Rattle.path_search.proofs.Closing.{left_out_maximum, left_out_more, marks_grow, no_marks_left_out}
 use Rattle.path_search.proofs.Counting.{matching_short}
@@ -34,14 +34,14 @@ progress_more a start m n old new roots root (inr grown) (inl same) = inr (subst
 progress_more a start m n old new roots root (inl stays) (inr more) = inr (subst (λ (p : Pairing). length p.pairs < length n.pairs) stays.0 more)
 progress_more a start m n old new roots root (inl stays) (inl same) = inl (same.0 ∙ stays.0, subst (λ (p : Pairing). AreLeftOut a p.pairs new) (sym same.0) (same.1.left_out stays.1), λ c h. subst (λ (p : Pairing). ¬ Among c (cols_of p.pairs) → IsShut a new c) (sym same.0) (λ free. ⊎_elim (λ g. shut_grows a old new c same.1.marked (stays.2 c g free)) (λ (e : c ≡ root). subst (λ x. IsShut a new x) (sym e) (same.1.of_root (subst (λ x. ¬ Among x (cols_of m.pairs)) e free))) (among_last c root roots h)))
 
-pub progress_ends : (a : Matrix) (start m : Pairing) (marks : List Bool) (roots : List ℕ) → Progress a start m marks roots → HoldUnmatched a start.pairs roots → IsMatching a m.pairs → ((m ≡ start) × IsMaximum a start.pairs) ⊎ (length start.pairs < length m.pairs)
+pub progress_ends : (a : Matrix) (start m : Pairing) (marks : List Bool) (roots : List ℕ) → Progress a start m marks roots → HoldRoots a start.pairs roots → IsMatching a m.pairs → ((m ≡ start) × IsMaximum a start.pairs) ⊎ (length start.pairs < length m.pairs)
 progress_ends a start m marks roots (inr grown) hold k = inr grown
-progress_ends a start m marks roots (inl stays) hold k = inl (stays.0, subst (λ (p : Pairing). IsMaximum a p.pairs) stays.0 (left_out_maximum a m.pairs marks k stays.1 (λ c lt free. stays.2 c (hold.complete c lt (subst (λ (p : Pairing). ¬ Among c (cols_of p.pairs)) stays.0 free)) free)))
+progress_ends a start m marks roots (inl stays) hold k = inl (stays.0, subst (λ (p : Pairing). IsMaximum a p.pairs) stays.0 (left_out_maximum a m.pairs marks k stays.1 (λ c lt free r e. stays.2 c (hold.complete c (record { unmatched = subst (λ (p : Pairing). ¬ Among c (cols_of p.pairs)) stays.0 free; entry = (r, e) })) free r e)))
 
--- Lists of unmatched columns.
+-- Lists of roots.
 
-pub unmatched_still : (a : Matrix) (m n : List Place) (roots : List ℕ) → ((c : ℕ) → Among c (cols_of m) → Among c (cols_of n)) → HoldUnmatched a m roots → HoldUnmatched a n roots
-unmatched_still a m n roots stay hold = record { in_range = hold.in_range; complete = λ c lt free. hold.complete c lt (λ on. free (stay c on)) }
+pub roots_still : (a : Matrix) (m n : List Place) (roots : List ℕ) → ((c : ℕ) → Among c (cols_of m) → Among c (cols_of n)) → HoldRoots a m roots → HoldRoots a n roots
+roots_still a m n roots stay hold = record { in_range = hold.in_range; complete = λ c root. hold.complete c (record { unmatched = λ on. root.unmatched (stay c on); entry = root.entry }) }
 
 pub turns_either : (a : Matrix) (m n : Pairing) (seen : List ℕ) (old new : List Bool) (root : ℕ) (b : Bool) → Marks seen old new → OnTrue b (Augments root old m.pairs n.pairs) → OnFalse b ((n ≡ m) × Fails a m.pairs new seen root) → Turns a m n old new root
 turns_either a m n seen old new root true k found failed = turns_found a m n old new root found

@@ -2,7 +2,7 @@
 use Rattle.std.specs.Prelude.{◌≡◌, ◌⊎◌, ℕ, ◌<◌, Bool, List, length}
 use Rattle.bip_defs.specs.Lists.{Among}
 use Rattle.bip_defs.specs.Matching.{IsMatching, cols_of}
-use Rattle.bip_defs.specs.Matrix.{Matrix, Place, cols}
+use Rattle.bip_defs.specs.Matrix.{IsEntry, Matrix, Place, cols}
 use Rattle.bip_graph.specs.Pairing.{Pairing}
 use Rattle.path_search.specs.Searching.{AreLeftOut, IsMarked, IsShut, Searching}
 
@@ -14,10 +14,15 @@ pub record Fits (a : Matrix) (m : Pairing) (s : Searching) : Type 0 where
   pub cols_are : m.cols ≡ cols a
   pub matching : IsMatching a m.pairs
 
--- columns of the matrix, among them each unmatched one
-pub record HoldUnmatched (a : Matrix) (m : List Place) (roots : List ℕ) : Type 0 where
+-- an unmatched column that has an entry
+pub record IsRoot (a : Matrix) (m : List Place) (c : ℕ) : Type 0 where
+  pub unmatched : ¬ Among c (cols_of m)
+  pub entry : (r : ℕ) × IsEntry a r c
+
+-- columns of the matrix, among them each unmatched one that has an entry
+pub record HoldRoots (a : Matrix) (m : List Place) (roots : List ℕ) : Type 0 where
   pub in_range : (c : ℕ) → Among c roots → c < cols a
-  pub complete : (c : ℕ) → c < cols a → ¬ Among c (cols_of m) → Among c roots
+  pub complete : (c : ℕ) → IsRoot a m c → Among c roots
 
 -- a search from the root failed, or was not needed: marks stay, and no augmenting path leads through more marked rows
 pub record Fruitless (a : Matrix) (m : List Place) (old new : List Bool) (root : ℕ) : Type 0 where

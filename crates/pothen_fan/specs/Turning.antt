@@ -2,12 +2,12 @@
 use Rattle.std.specs.Prelude.{◌≡◌, length}
 use Rattle.bip_defs.specs.Matrix.{Matrix, cols}
 use Rattle.bip_graph.specs.Pairing.{Pairing}
-use Rattle.pothen_fan.specs.Sweeping.{Fits, HoldUnmatched}
+use Rattle.pothen_fan.specs.Sweeping.{Fits, HoldRoots}
 use Rattle.pothen_fan.specs.declared.kinds.Phases.{Phases}
 
--- a matching of the matrix's entries, searches of its sizes, and its unmatched columns among the roots
+-- a matching of the matrix's entries, searches of its sizes, and its unmatched columns with entries among the roots
 pub record AreReady (a : Matrix) (m : Pairing) (p : Phases) : Type 0 where
   pub fits : Fits a m p.search
   pub forest_rows : length p.forest.marks ≡ a.rows
   pub forest_cols : p.forest.cols ≡ cols a
-  pub roots : HoldUnmatched a m.pairs p.roots.items
+  pub roots : HoldRoots a m.pairs p.roots.items

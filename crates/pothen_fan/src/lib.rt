@@ -1,5 +1,10 @@
 //! Maximum matchings by phases of searches for augmenting paths.
 //!
+//! Phases search from the columns or from the rows: from the side on which fewer unmatched ones have entries, since most
+//! searches from the other side are bound to fail, and such a search looks at all that it reaches (Davis 2006 compares the
+//! sides of the matrix, before any is matched). What follows is said of columns; from the rows it is the same for the
+//! transpose.
+//!
 //! A depth-first phase, after Pothen and Fan (1990), searches once from each unmatched column, and goes down over each row
 //! at most once. Each column's list is looked through for an unmatched row before the search goes deeper, from where the
 //! last look-ahead ended: rows that were found matched stay matched. So a phase is at most two passes over the entries. A
@@ -12,8 +17,8 @@
 //! short, but unlike those of Hopcroft and Karp (1973) they need not be the shortest, nor as many as there can be.
 //!
 //! Depth-first phases are few where most of them find many paths, breadth-first phases where few columns are left whose
-//! paths are long. So after a phase that has matched less than half of the unmatched columns, rounded down, the next is of
-//! the other kind.
+//! paths are long. So after a phase that has matched less than half of the unmatched columns that have entries, rounded
+//! down, the next is of the other kind.
 #![tactic(auto)]
 
 mod kinds;
@@ -26,20 +31,20 @@ ghost use Rattle.bip_defs.specs.Lists.{Among};
 ghost use Rattle.bip_defs.specs.Matching.{IsMatching, IsMaximum, rows_of, cols_of};
 ghost use Rattle.bip_defs.specs.Matrix.{cols};
 
-use crate::kinds::Phases;
-use crate::sweep::{sweep, unmatched_cols};
+use crate::kinds::complete_from;
+use crate::sweep::{count_roots, roots, sweep};
 use bip_graph::Matching;
-use path_search::Search;
+use path_search::{FromRows, Search};
 use sp_ids::OutOfMemory;
 use sp_pattern::Pattern;
 use std::alloc::Global;
 
-/// One depth-first phase. Gives by how much the matching has grown: 0 exactly where it was maximum, and then it stays as
-/// it was.
+/// One depth-first phase from the columns. Gives by how much the matching has grown: 0 exactly where it was maximum, and
+/// then it stays as it was.
 ///
 /// The matching must be of the pattern's entries and sizes, and no row or column loses its mate without a new one. Answers
-/// `OutOfMemory` where there is no memory for 17 bytes a row, 4 a column and 4 an unmatched column; the matching is as
-/// before then. Work: at most two passes over the entries, one of look-ahead and one of the searches.
+/// `OutOfMemory` where there is no memory for 17 bytes a row, 4 a column and 4 an unmatched column that has entries; the
+/// matching is as before then. Work: at most two passes over the entries, one of look-ahead and one of the searches.
 pub fn phase(alloc: Global, pattern: &Pattern, matching: &mut Matching) -> Result<u32, OutOfMemory>
     requires rows { matching.old.rows ≡ pattern.now.rows }
     requires cols { matching.old.cols ≡ cols pattern.now }
@@ -54,7 +59,7 @@ pub fn phase(alloc: Global, pattern: &Pattern, matching: &mut Matching) -> Resul
     ensures refused { OnErr result (matching.new ≡ matching.old) }
 {
     let mut search = Search::new(alloc, pattern.rows(), pattern.cols())?;
-    let roots = unmatched_cols(alloc, pattern, matching)?;
+    let roots = roots(alloc, pattern, matching)?;
     let before = matching.size();
     let _grows = sweep(&mut search, pattern, matching, roots.as_slice(), false);
     Ok(matching.size() - before)
@@ -62,9 +67,11 @@ pub fn phase(alloc: Global, pattern: &Pattern, matching: &mut Matching) -> Resul
 
 /// A maximum matching, in which every row and column that was matched before is matched.
 ///
-/// The matching must be of the pattern's entries and sizes. Answers `OutOfMemory` where there is no memory for 26 bytes a
-/// row, 16 a column and 4 an unmatched column; the matching is dropped then. Work: at most two passes over the entries
-/// for each phase, of which all but the last make the matching larger.
+/// Phases search from the side on which fewer unmatched rows or columns have entries, and from the columns where they are
+/// as many. The matching must be of the pattern's entries and sizes. Answers `OutOfMemory` where there is no memory for
+/// 16 bytes a vertex of the side that is searched from, 4 more where it is unmatched and has entries, and 26 a vertex of
+/// the other side; the matching is dropped then. Work: one look at each row and column, and at most two passes over the
+/// entries for each phase, of which all but the last make the matching larger.
 pub fn complete(
     alloc: Global,
     pattern: &Pattern,
@@ -78,11 +85,10 @@ pub fn complete(
     ensures rows_stay { IfOk result (λ m. (r : ℕ) → Among r (rows_of matching.pairs) → Among r (rows_of m.pairs)) }
     ensures cols_stay { IfOk result (λ m. (c : ℕ) → Among c (cols_of matching.pairs) → Among c (cols_of m.pairs)) }
 {
-    let mut phases = Phases::new(alloc, pattern, &matching)?;
-    let mut grown = matching;
-    let mut grows = true;
-    while grows {
-        grows = phases.run(pattern, &mut grown);
+    let from_rows = FromRows { pattern };
+    if count_roots(&from_rows, &matching) < count_roots(pattern, &matching) {
+        complete_from(alloc, &from_rows, matching)
+    } else {
+        complete_from(alloc, pattern, matching)
     }
-    Ok(grown)
 }

@@ -101,6 +101,34 @@ fn completes<R: Abort + AllocGlobal + Threads + Sync>(
     Ok(())
 }
 
+// Rows for columns.
+fn swapped(alloc: Global, places: &[(u32, u32)]) -> Result<Vec<(u32, u32)>, OutOfMemory> {
+    let mut swapped = Vec::new(alloc);
+    for (row, col) in places {
+        swapped.push((*col, *row))?;
+    }
+    Ok(swapped)
+}
+
+// Completes the matching of these pairs in the matrix and in its transpose, of which one is searched from its rows and the
+// other from its columns, unless as many unmatched rows as unmatched columns have entries.
+fn completes_both_ways<R: Abort + AllocGlobal + Threads + Sync>(
+    rt: &R,
+    sizes: (u32, u32),
+    places: &[(u32, u32)],
+    pairs: &[(u32, u32)],
+    size: u32,
+    sure: &[(u32, u32)],
+) -> Result<(), OutOfMemory> {
+    let matrix = triples(rt.alloc(), sizes.0, sizes.1, places)?;
+    completes(rt, &matrix, pairs, size, sure)?;
+    let places = swapped(rt.alloc(), places)?;
+    let pairs = swapped(rt.alloc(), pairs)?;
+    let sure = swapped(rt.alloc(), sure)?;
+    let matrix = triples(rt.alloc(), sizes.1, sizes.0, places.as_slice())?;
+    completes(rt, &matrix, pairs.as_slice(), size, sure.as_slice())
+}
+
 // One phase from the matching of these pairs gives this growth.
 fn grows<R: Abort + AllocGlobal + Threads + Sync>(
     rt: &R,
@@ -169,7 +197,8 @@ fn flat_narrow_and_empty_ones(rt: HostRuntime) -> Result<(), OutOfMemory> {
 
 #[test]
 fn goes_on_after_searches_that_fail(rt: HostRuntime) -> Result<(), OutOfMemory> {
-    // Columns 1 to 4 have two rows for the four of them, columns 5 and 6 the other two rows, one by way of row 3.
+    // Columns 1 to 4 have two rows for the four of them, columns 5 and 6 the other two rows, one by way of row 3. More rows
+    // than columns are unmatched, since rows 5 to 8 have column 7 alone.
     let places = [
         (1, 1),
         (2, 1),
@@ -182,16 +211,56 @@ fn goes_on_after_searches_that_fail(rt: HostRuntime) -> Result<(), OutOfMemory> 
         (4, 5),
         (2, 6),
         (3, 6),
+        (5, 7),
+        (6, 7),
+        (7, 7),
+        (8, 7),
     ];
-    let matrix = triples(rt.alloc(), 4, 6, &places)?;
-    completes(&rt, &matrix, &[(3, 5)], 4, &[(3, 6), (4, 5)])?;
-    completes(&rt, &matrix, &[], 4, &[(3, 6), (4, 5)])
+    completes_both_ways(
+        &rt,
+        (8, 7),
+        &places,
+        &[(3, 5), (5, 7)],
+        5,
+        &[(3, 6), (4, 5), (5, 7)],
+    )?;
+    completes_both_ways(&rt, (8, 7), &places, &[], 5, &[(3, 6), (4, 5)])
+}
+
+#[test]
+fn a_wide_matrix_and_a_tall_one(rt: HostRuntime) -> Result<(), OutOfMemory> {
+    // Row 3 has column 2 alone, so row 1 must leave it for column 1. Row 2 keeps column 3, which was matched before and is
+    // in no other row. Of the unmatched rows one has entries, of the unmatched columns four.
+    let places = [
+        (1, 1),
+        (1, 2),
+        (2, 2),
+        (2, 3),
+        (2, 4),
+        (2, 5),
+        (2, 6),
+        (3, 2),
+    ];
+    let sure = [(1, 1), (2, 3), (3, 2)];
+    completes_both_ways(&rt, (3, 6), &places, &[(1, 2), (2, 3)], 3, &sure)
+}
+
+#[test]
+fn rows_and_columns_without_entries(rt: HostRuntime) -> Result<(), OutOfMemory> {
+    // Columns 1 to 3 have row 1 alone, and rows 2 and 6 column 4 alone, which row 3 has to leave for column 5. Rows 4, 5 and
+    // 7 and column 6 are empty. So five rows and four columns are unmatched, but two of the rows and three of the columns
+    // have entries.
+    let places = [(1, 1), (1, 2), (1, 3), (2, 4), (3, 4), (3, 5), (6, 4)];
+    let pairs = [(1, 1), (3, 4)];
+    let sure = [(1, 1), (3, 5)];
+    completes_both_ways(&rt, (7, 6), &places, &pairs, 3, &sure)
 }
 
 #[test]
 fn turns_to_the_other_kind(rt: HostRuntime) -> Result<(), OutOfMemory> {
     // Columns 2 to 5 have row 2 alone, which column 1 passes on its way to row 4 by way of rows 1 and 3. Then one of them
-    // can still take row 2 from column 7, which takes row 1 from column 1, which takes row 5 from column 9.
+    // can still take row 2 from column 7, which takes row 1 from column 1, which takes row 5 from column 9. More rows than
+    // columns are unmatched, since rows 7 to 11 have column 10 alone.
     let places = [
         (1, 1),
         (5, 1),
@@ -208,10 +277,15 @@ fn turns_to_the_other_kind(rt: HostRuntime) -> Result<(), OutOfMemory> {
         (4, 8),
         (5, 9),
         (6, 9),
+        (7, 10),
+        (8, 10),
+        (9, 10),
+        (10, 10),
+        (11, 10),
     ];
-    let matrix = triples(rt.alloc(), 6, 9, &places)?;
-    let pairs = [(1, 6), (2, 7), (3, 8), (5, 9)];
-    let sure = [(5, 1), (3, 6), (1, 7), (4, 8), (6, 9)];
+    let matrix = triples(rt.alloc(), 11, 10, &places)?;
+    let pairs = [(1, 6), (2, 7), (3, 8), (5, 9), (7, 10)];
+    let sure = [(5, 1), (3, 6), (1, 7), (4, 8), (6, 9), (7, 10)];
     grows(&rt, &matrix, &pairs, 1)?;
-    completes(&rt, &matrix, &pairs, 6, &sure)
+    completes_both_ways(&rt, (11, 10), &places, &pairs, 7, &sure)
 }

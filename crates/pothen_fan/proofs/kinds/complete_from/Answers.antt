@@ -1,13 +1,13 @@
 use Rattle.pothen_fan.proofs.Phases.{last_phase, phases_fall}
-use Rattle.pothen_fan.proofs.complete.Goals as goal
+use Rattle.pothen_fan.proofs.kinds.complete_from.Goals as goal
 
 pub loop-grows-smaller : goal.loop-grows-smaller
-loop-grows-smaller c =
+loop-grows-smaller g c =
     let e = c.run-grows.ensures in
     rw c.loop-grows-test.true (phases_fall _ _ _ _ e.grown e.maximum e.ready.fits.matching)
 
 pub loop-grows-preserved : goal.loop-grows-preserved
-loop-grows-preserved c =
+loop-grows-preserved g c =
     let e = c.run-grows.ensures in
     let k = c.loop-grows.invariant in
     record {

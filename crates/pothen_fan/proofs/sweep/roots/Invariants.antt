@@ -1,10 +1,7 @@
-use Rattle.std.proofs.Common.{ℕ, ◌<◌}
-use Rattle.bip_defs.specs.Lists.{Among}
-use Rattle.bip_defs.specs.Matching.{cols_of}
-use Rattle.pothen_fan.proofs.sweep.unmatched_cols.Given as goal
+use Rattle.std.proofs.Common.{◌<◌}
+use Rattle.bip_defs.specs.Lists.{Lists}
+use Rattle.pothen_fan.specs.Sweeping.{IsRoot}
+use Rattle.pothen_fan.proofs.sweep.roots.Given as goal
 
 abbrev pub invariant-loop-number : goal.invariant-loop-number
-invariant-loop-number l = record {
-  in_range : (c : ℕ) → Among c l.roots.items → c < l.number;
-  complete : (c : ℕ) → c < l.number → ¬ Among c (cols_of l.matching.pairs) → Among c l.roots.items;
-}
+invariant-loop-number g l = Lists (λ c. (c < l.number) × IsRoot (g.S.Side.matrix l.side) (g.S.Side.seen l.matching).pairs c) l.roots.items

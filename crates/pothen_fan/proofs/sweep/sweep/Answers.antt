@@ -6,10 +6,10 @@ use Rattle.path_search.proofs.Places.{read_among, read_at}
 use Rattle.pothen_fan.proofs.sweep.sweep.Goals as goal
 
 pub extend-requires-clause-root : goal.extend-requires-clause-root
-extend-requires-clause-root c = c.requires.roots.in_range _ (read_among _ c.args.roots.now _ c.loop-root-test.true c.root-item.is)
+extend-requires-clause-root g c = c.requires.roots.in_range _ (read_among _ c.args.roots.now _ c.loop-root-test.true c.root-item.is)
 
 pub loop-root-preserved : goal.loop-root-preserved
-loop-root-preserved c =
+loop-root-preserved g c =
     let roots = c.args.roots.now in
     let at = read_at _ 0 roots _ c.loop-root-test.true c.root-item.is in
     record {
@@ -20,7 +20,7 @@ loop-root-preserved c =
     }
 
 pub returns-clause-maximum : goal.returns-clause-maximum
-returns-clause-maximum c =
+returns-clause-maximum g c =
     let roots = c.args.roots.now in
     let all : take c.loop-root.root-index roots ≡ roots = (let e : c.loop-root.root-index ≡ length roots = (let to = c.loop-root.auto.root-index-end in let past = c.loop-root-test.false in omega arith) in ap (λ k. take k roots) e ∙ take-length roots) in
-    progress_ends _ _ _ _ roots (subst (λ xs. Progress c.args.pattern.now c.args.matching.now c.loop-root.matching c.loop-root.search.marks xs) all c.loop-root.invariant.progress) c.requires.roots c.loop-root.invariant.fits.matching
+    progress_ends _ _ _ _ roots (subst (λ xs. Progress (g.S.Side.matrix c.args.side.now) (g.S.Side.seen c.args.matching.now) (g.S.Side.seen c.loop-root.matching) c.loop-root.search.marks xs) all c.loop-root.invariant.progress) c.requires.roots c.loop-root.invariant.fits.matching
