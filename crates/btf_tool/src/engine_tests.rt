@@ -72,7 +72,7 @@ fn one_pair(alloc: Global, pattern: &Pattern, row: Row, col: Col) -> Result<Matc
     Ok(matching)
 }
 
-// Row 1 and column 2 are matched before, so column 1 gets no row.
+// Row 1 and column 2 stay matched, and column 2 has no other row. So column 1 gets none, and column 3 gets row 2.
 #[test]
 fn copies_of_one_matching_are_completed(rt: HostRuntime) -> Result<(), Fail> {
     let alloc = rt.alloc();
@@ -81,8 +81,23 @@ fn copies_of_one_matching_are_completed(rt: HostRuntime) -> Result<(), Fail> {
     let mut mc21 = mc21_match::complete(alloc, &pattern, pair.copy(alloc)?)?;
     let mut pf = pothen_fan::complete(alloc, &pattern, pair.copy(alloc)?)?;
     assert_eq!(rt; (pair.size(), mc21.size(), pf.size()), (1, 3, 3));
+    for matching in [&mc21, &pf] {
+        assert_eq!(rt; matching.cols(), 4);
+        assert_eq!(rt; matching.row_of(Col(1)), Some(Row(0)));
+        assert_eq!(rt; matching.row_of(Col(2)), Some(Row(1)));
+    }
     assert_eq!(rt; pothen_fan::phase(alloc, &pattern, &mut mc21)?, 0);
     assert_eq!(rt; pothen_fan::phase(alloc, &pattern, &mut pf)?, 0);
+    Ok(())
+}
+
+#[test]
+fn a_start_that_is_maximum_does_not_grow(rt: HostRuntime) -> Result<(), Fail> {
+    let alloc = rt.alloc();
+    let pattern = pattern_of(&rt, 4, 4, &THREE_PARTS)?;
+    let mut matching = karp_sipser::start(alloc, &pattern)?;
+    assert_eq!(rt; matching.size(), 3);
+    assert_eq!(rt; pothen_fan::phase(alloc, &pattern, &mut matching)?, 0);
     Ok(())
 }
 

@@ -18,7 +18,7 @@ pub use answers::Answer;
 pub use btf_words::Engine;
 pub use command::run;
 pub use engines::solve;
-pub use refusals::Refusal;
+pub use refusals::{Refusal, refuse};
 
 #[cfg(test)]
 mod analyse_tests;
@@ -30,5 +30,9 @@ mod diagonal_tests;
 mod engine_tests;
 #[cfg(test)]
 mod load_tests;
+#[cfg(test)]
+mod rank_tests;
+#[cfg(test)]
+mod test_runs;
 #[cfg(test)]
 mod tests;

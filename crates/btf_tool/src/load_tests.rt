@@ -1,10 +1,8 @@
 //! `load` on small sizes, with texts worked out by hand.
 
-use crate::run;
-use crate::tests::{Devices, STEADY, expect};
+use crate::test_runs::{Devices, STEADY, expect, outcome_of};
 use sp_ids::Status;
-use sp_ports::{Failed, MemSink, MemSource, NoGate, Source};
-use std::alloc::AllocError;
+use sp_ports::{Failed, Source};
 use std::process::Abort;
 use std::test::Fail;
 use std::thread::Threads;
@@ -16,28 +14,12 @@ fn summary<'a, R: Threads + Abort + AllocGlobal + Sync>(
     seed: &'a str,
     text: &str,
 ) -> Result<(), Fail> {
-    let text = text.as_bytes();
+    let file = "no matrix";
     let words = ["load", "--size", size, "--seed", seed];
-    expect(
-        rt,
-        words.as_slice(),
-        b"no matrix",
-        &STEADY,
-        Status::Ok,
-        text,
-        b"",
-    )?;
+    expect(rt, &words, file, &STEADY, Status::Ok, text, "")?;
     for engine in ["plain", "mc21", "pf"] {
         let words = ["load", "--seed", seed, "--engine", engine, "--size", size];
-        expect(
-            rt,
-            words.as_slice(),
-            b"no matrix",
-            &STEADY,
-            Status::Ok,
-            text,
-            b"",
-        )?;
+        expect(rt, &words, file, &STEADY, Status::Ok, text, "")?;
     }
     Ok(())
 }
@@ -47,94 +29,61 @@ fn summary<'a, R: Threads + Abort + AllocGlobal + Sync>(
 // size 10,001 and seed 7 make one block is what CXSparse and SuiteSparse BTF say of their matrix.
 #[test]
 fn summaries_by_each_engine(rt: HostRuntime) -> Result<(), Fail> {
-    summary(
-        &rt,
-        "30",
-        "0",
-        "matrix 30 30 85\nrank 22\nhorizontal 22 30\nsquare 0 0\nvertical 8 0\n",
-    )?;
-    summary(
-        &rt,
-        "2",
-        "1",
-        "matrix 2 2 4\nrank 2\nhorizontal 0 0\nsquare 2 1\nvertical 0 0\n",
-    )?;
     let one = "matrix 1 1 1\nrank 1\nhorizontal 0 0\nsquare 1 1\nvertical 0 0\n";
-    summary(&rt, "1", "5", one)?;
-    summary(&rt, "1", "18446744073709551615", one)?;
-    summary(
-        &rt,
-        "10001",
-        "7",
-        "matrix 10001 10001 30000\nrank 10001\nhorizontal 0 0\nsquare 10001 1\nvertical 0 0\n",
-    )
+    let texts = [
+        (
+            "30",
+            "0",
+            "matrix 30 30 85\nrank 22\nhorizontal 22 30\nsquare 0 0\nvertical 8 0\n",
+        ),
+        (
+            "2",
+            "1",
+            "matrix 2 2 4\nrank 2\nhorizontal 0 0\nsquare 2 1\nvertical 0 0\n",
+        ),
+        ("1", "5", one),
+        ("1", "18446744073709551615", one),
+        (
+            "10001",
+            "7",
+            "matrix 10001 10001 30000\nrank 10001\nhorizontal 0 0\nsquare 10001 1\nvertical 0 0\n",
+        ),
+    ];
+    for (size, seed, text) in texts {
+        summary(&rt, size, seed, text)?;
+    }
+    Ok(())
 }
 
 // The next read of the input is still its first one, which fails, and then its bytes come from the front.
 #[test]
 fn the_input_is_left_alone(rt: HostRuntime) -> Result<(), Fail> {
-    let alloc = rt.alloc();
-    let mut words = Vec::new(alloc);
-    for word in ["load", "--size", "1", "--seed", "5"] {
-        words.push(String::from_str(alloc, word)?)?;
-    }
-    let mut input = MemSource::new(b"no matrix".to_vec(alloc)?, 4, [0u64].to_vec(alloc)?);
-    let mut out = MemSink::new(alloc, 4096, 10, Vec::new(alloc)).map_err(|_| AllocError)?;
-    let mut err = MemSink::new(alloc, 4096, 10, Vec::new(alloc)).map_err(|_| AllocError)?;
-    let status = run(
-        &rt,
-        alloc,
-        words.as_slice(),
-        &mut input,
-        &mut out,
-        &mut err,
-        &NoGate,
-    );
-    assert_eq!(rt; status, Status::Ok);
-    assert_eq!(rt; input.failed_calls(), 0);
+    let devices = Devices {
+        piece: 4,
+        failing_reads: &[0],
+        ..STEADY
+    };
+    let words = ["load", "--size", "1", "--seed", "5"];
+    let mut found = outcome_of(&rt, &words, b"no matrix", &devices)?;
+    assert_eq!(rt; found.status, Status::Ok);
+    assert_eq!(rt; found.input.failed_calls(), 0);
     let mut buffer = [0u8; 16];
-    assert_eq!(rt; input.read(&mut buffer), Err(Failed));
-    assert_eq!(rt; input.read(&mut buffer), Ok(4));
+    assert_eq!(rt; found.input.read(&mut buffer), Err(Failed));
+    assert_eq!(rt; found.input.read(&mut buffer), Ok(4));
     assert!(rt; buffer.starts_with(b"no m"));
     Ok(())
 }
 
 #[test]
 fn load_on_failing_devices(rt: HostRuntime) -> Result<(), Fail> {
-    let words = ["load", "--size", "1", "--seed", "5"].as_slice();
-    let lost = b"btf: write fault\n";
+    let words = ["load", "--size", "1", "--seed", "5"];
+    let lost = "btf: write fault\n";
     let write = Devices {
         failing_writes: &[0],
         ..STEADY
     };
-    expect(&rt, words, b"", &write, Status::WriteFault, b"", lost)?;
+    expect(&rt, &words, "", &write, Status::WriteFault, "", lost)?;
     let small = Devices { room: 20, ..STEADY };
-    expect(
-        &rt,
-        words,
-        b"",
-        &small,
-        Status::WriteFault,
-        b"matrix 1 1 1\nrank 1\n",
-        lost,
-    )
-}
-
-#[test]
-fn sizes_out_of_range(rt: HostRuntime) -> Result<(), Fail> {
-    let usage =
-        b"btf: usage: btf rank | analyse [--engine E] [--workers W] [--order] [--pairs] | diagonal | check | load --size N --seed S [--engine E] [--workers W]\n";
-    for size in ["0", "16777217"] {
-        let words = ["load", "--size", size, "--seed", "1"];
-        expect(
-            &rt,
-            words.as_slice(),
-            b"",
-            &STEADY,
-            Status::Usage,
-            b"",
-            usage,
-        )?;
-    }
-    Ok(())
+    let front = "matrix 1 1 1\nrank 1\n";
+    expect(&rt, &words, "", &small, Status::WriteFault, front, lost)
 }

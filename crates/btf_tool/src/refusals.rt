@@ -78,8 +78,10 @@ fn put<E: Sink>(err: &mut E, line: &[u8])
     }
 }
 
-/// Tells a refusal, and gives its status.
-pub(crate) fn refuse<E: Sink>(err: &mut E, refusal: &Refusal) -> Status
+/// Tells a refusal by its one line, and gives the status with which the run ends.
+///
+/// What the device does with the line changes nothing else. It takes no memory.
+pub fn refuse<E: Sink>(err: &mut E, refusal: &Refusal) -> Status
     ensures status { result ≡ status_of refusal.now }
     ensures told { WasTold (seen E.taken E.faults err.old err.new) (line_of refusal.now) }
 {

@@ -1,0 +1,136 @@
+//! Runs of the program over devices in memory, for the tests of every job.
+
+use crate::run;
+use sp_ids::Status;
+use sp_ports::{MemSink, MemSource, NoGate, Sink, Source};
+use std::alloc::AllocError;
+use std::process::Abort;
+use std::test::Fail;
+use std::thread::Threads;
+
+/// The first line of a file of places alone.
+pub(crate) const BANNER: &str = "%%MatrixMarket matrix coordinate pattern general\n";
+
+/// One entry, in 59 bytes.
+pub(crate) const SMALLEST: &str = "%%MatrixMarket matrix coordinate pattern general\n1 1 1\n1 1\n";
+
+/// The text of its rank, in 39 bytes.
+pub(crate) const SMALLEST_RANK: &str = "matrix 1 1 1\nrank 1\nhorizontal 0 0\nend\n";
+
+/// Its report, in 96 bytes.
+pub(crate) const SMALLEST_REPORT: &str =
+    "btf 1\nmatrix 1 1 1\nrank 1\nhorizontal 0 0\nsquare 1 1\nblock 1 1\nrows 1\ncolumns 1\nvertical 0 0\nend\n";
+
+/// Four rows and columns with all three parts: size line and entry lines.
+pub(crate) const THREE_PARTS: &str = "4 4 7\n1 1\n1 2\n1 3\n2 3\n2 4\n3 4\n4 4\n";
+
+/// The same matrix with a comment before its sizes, as the example file has it.
+pub(crate) const THREE_PARTS_EXAMPLE: &str =
+    "% one row sees three columns, and two rows see one column only\n4 4 7\n1 1\n1 2\n1 3\n2 3\n2 4\n3 4\n4 4\n";
+
+/// The line for words that are not taken.
+pub(crate) const USAGE: &str =
+    "btf: usage: btf rank | analyse [--engine E] [--workers W] [--order] [--pairs] | diagonal | check | load --size N --seed S [--engine E] [--workers W]\n";
+
+/// How the devices of a run behave: the input's piece and its failing calls, the output's room and failing calls, and the room
+/// for the line of a refusal.
+#[derive(Clone, Copy)]
+pub(crate) struct Devices<'a> {
+    pub(crate) piece: usize,
+    pub(crate) failing_reads: &'a [u64],
+    pub(crate) room: usize,
+    pub(crate) failing_writes: &'a [u64],
+    pub(crate) err_room: usize,
+}
+
+/// Devices that do what is asked.
+pub(crate) const STEADY: Devices<'static> = Devices {
+    piece: 10,
+    failing_reads: &[],
+    room: 4096,
+    failing_writes: &[],
+    err_room: 4096,
+};
+
+/// What came of a run, and the devices behind it.
+#[derive(Drop)]
+pub(crate) struct Outcome {
+    pub(crate) status: Status,
+    pub(crate) input: MemSource,
+    pub(crate) out: MemSink,
+    pub(crate) err: MemSink,
+}
+
+/// The file of places alone with these lines behind its first.
+pub(crate) fn file_of<R: AllocGlobal>(rt: &R, lines: &str) -> Result<String, AllocError> {
+    let mut file = String::from_str(rt.alloc(), BANNER)?;
+    file.push_str(lines)?;
+    Ok(file)
+}
+
+/// Runs the program on words over any devices.
+pub(crate) fn run_over<R: Threads + AllocGlobal + Sync, S: Source, O: Sink, E: Sink>(
+    rt: &R,
+    words: &[&str],
+    input: &mut S,
+    out: &mut O,
+    err: &mut E,
+) -> Result<Status, AllocError> {
+    let alloc = rt.alloc();
+    let mut list = Vec::new(alloc);
+    for word in words {
+        list.push(String::from_str(alloc, word)?)?;
+    }
+    Ok(run(rt, alloc, list.as_slice(), input, out, err, &NoGate))
+}
+
+/// Runs the program on words and a file.
+pub(crate) fn outcome_of<R: Threads + Abort + AllocGlobal + Sync>(
+    rt: &R,
+    words: &[&str],
+    file: &[u8],
+    devices: &Devices<'_>,
+) -> Result<Outcome, Fail> {
+    let alloc = rt.alloc();
+    assert!(rt; 0 < devices.piece);
+    let failing_reads = devices.failing_reads.to_vec(alloc)?;
+    let mut input = MemSource::new(file.to_vec(alloc)?, devices.piece, failing_reads);
+    let failing_writes = devices.failing_writes.to_vec(alloc)?;
+    let mut out = MemSink::new(alloc, devices.room, 10, failing_writes)?;
+    let mut err = MemSink::new(alloc, devices.err_room, 10, Vec::new(alloc))?;
+    let status = run_over(rt, words, &mut input, &mut out, &mut err)?;
+    Ok(Outcome {
+        status,
+        input,
+        out,
+        err,
+    })
+}
+
+/// Runs the program on words and a file, and compares the status and what was written.
+pub(crate) fn expect<R: Threads + Abort + AllocGlobal + Sync>(
+    rt: &R,
+    words: &[&str],
+    file: &str,
+    devices: &Devices<'_>,
+    status: Status,
+    out: &str,
+    err: &str,
+) -> Result<(), Fail> {
+    let found = outcome_of(rt, words, file.as_bytes(), devices)?;
+    assert_eq!(rt; found.status, status, "{words:?} on {file:?}");
+    assert_eq!(rt; found.out.bytes(), out.as_bytes(), "{words:?} on {file:?}");
+    assert_eq!(rt; found.err.bytes(), err.as_bytes(), "{words:?} on {file:?}");
+    Ok(())
+}
+
+/// The status and the text of a command that has an answer on a file, by devices that do what is asked.
+pub(crate) fn answer<R: Threads + Abort + AllocGlobal + Sync>(
+    rt: &R,
+    words: &[&str],
+    file: &[u8],
+) -> Result<(Status, Vec<u8>), Fail> {
+    let found = outcome_of(rt, words, file, &STEADY)?;
+    assert_eq!(rt; found.err.bytes(), b"".as_slice(), "{words:?}");
+    Ok((found.status, found.out.bytes().to_vec(rt.alloc())?))
+}
