@@ -1,5 +1,5 @@
 -- A failure that is counted.
-use Rattle.std.proofs.Common.{◌≡◌, ◌≤◌, ◌<◌, ◌+◌, ◌-◌, ◌^◌, min, ℕ, Result, Err, arith, subst, sym}
+use Rattle.std.proofs.Common.{◌≡◌, ◌≤◌, ◌+◌, ◌-◌, ◌^◌, min, ℕ, Err, arith}
 use Rattle.sp_ports.specs.Counts.{HasCause, Rose}
 
 pub failed_once : {T E : Type 0} (before now : ℕ) (e : E) → now ≡ min (before + 1) (2 ^ 64 - 1)

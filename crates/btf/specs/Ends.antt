@@ -1,17 +1,34 @@
 -- The number that a run's process ends with.
 use Rattle.std.specs.Prelude.{◌≡◌, ◌⊎◌, ℕ}
-use Rattle.btf_tool.specs.Runs.{Completes, Run, Says}
+use Rattle.btf_tool.specs.Devices.{Device, IsUntouched, WasTold}
+use Rattle.btf_tool.specs.Jobs.{GaveFront, OfReading}
+use Rattle.btf_tool.specs.Refusals.{line_of, status_of}
+use Rattle.btf_tool.specs.Runs.{Completes, NameMaker, Run, Says}
+use Rattle.btf_tool.specs.declared.refusals.Refusal.{Refusal}
+use Rattle.btf_tool.specs.declared.refusals.Refusal.TheVariants.{OutOfMemory, Usage}
 use Rattle.sp_ids.specs.Exit.{exit_code}
 use Rattle.sp_ids.specs.declared.outcomes.Status.{Status}
-use Rattle.sp_ids.specs.declared.outcomes.Status.TheVariants as statuses
 
 -- the number of a status that tells what came of the run
 pub record EndsWith (r : Run) (number : ℕ) : Type 0 where
   pub status : Status
   pub says : Says r status
   pub complete : Completes r status
+  -- what the input has left is the end of what it had, and at most one byte past its limit was taken
+  pub gave : OfReading r.input GaveFront
+  -- a matrix that is made is made without the input
+  pub unread : NameMaker r.words → IsUntouched r.input
   pub number_is : number ≡ exit_code status
 
--- the number of a run that has no words: memory ran out, or no command takes them
-abbrev pub EndsWithoutWords : ℕ → Type 0
-EndsWithoutWords number = (number ≡ exit_code statuses.OutOfMemory) ⊎ (number ≡ exit_code statuses.Usage)
+-- why there are no words: memory ran out, or no command takes them
+abbrev pub IsWantOfWords : Refusal → Type 0
+IsWantOfWords refusal = (refusal ≡ OutOfMemory) ⊎ (refusal ≡ Usage)
+
+-- the number of a run that has no words: it is refused, and only tells so
+pub record EndsWithoutWords (input out err : Device) (number : ℕ) : Type 0 where
+  pub refusal : Refusal
+  pub cause : IsWantOfWords refusal
+  pub told : WasTold err (line_of refusal)
+  pub not_read : IsUntouched input
+  pub nothing_written : IsUntouched out
+  pub number_is : number ≡ exit_code (status_of refusal)

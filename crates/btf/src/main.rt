@@ -1,19 +1,16 @@
 //! `btf`: the structural analysis of a sparse matrix.
 #![tactic(auto)]
 
-ghost use Rattle.std.specs.Prelude.{◌≡◌, ◌⊎◌, map, string_bytes, IfOk, OnErr};
+ghost use Rattle.std.specs.Prelude.{map, string_bytes, IfOk, OnErr};
 ghost use Rattle.std.specs.Process.{exit_status};
-ghost use Rattle.btf.specs.Ends.{EndsWith, EndsWithoutWords};
+ghost use Rattle.btf.specs.Ends.{EndsWith, EndsWithoutWords, IsWantOfWords};
 ghost use Rattle.btf_tool.specs.Devices.{seen};
-ghost use Rattle.sp_ids.specs.declared.outcomes.Status.TheVariants.{OutOfMemory, Usage};
 
 mod devices;
 
-use btf_tool::run;
-use btf_words::usage_line;
+use btf_tool::{Refusal, refuse, run};
 use devices::{StderrSink, StdinSource, StdoutSink};
-use sp_ids::Status;
-use sp_ports::{NoGate, Sink, Source, write_all};
+use sp_ports::{NoGate, Sink, Source};
 use std::process::ExitCode;
 use std::thread::Threads;
 use std::{env, io};
@@ -39,14 +36,18 @@ fn exit_code_of<R: Threads + AllocGlobal + Sync, S: Source, O: Sink, E: Sink>(
       out = seen O.taken O.faults out.old out.new;
       err = seen E.taken E.faults err.old err.new;
     }) (exit_status result)) }
-    ensures without_words { OnErr words (EndsWithoutWords (exit_status result)) }
+    ensures without_words { OnErr words (EndsWithoutWords
+        (seen S.left S.faults input.old input.new)
+        (seen O.taken O.faults out.old out.new)
+        (seen E.taken E.faults err.old err.new)
+        (exit_status result)) }
 {
     match words {
         Ok(words) => {
             let status = run(rt, rt.alloc(), words.as_slice(), input, out, err, &NoGate);
             ExitCode::from(status.code())
         }
-        Err(error) => ExitCode::from(refuse(err, &error).code()),
+        Err(error) => ExitCode::from(refuse(err, &want_of_words(&error)).code()),
     }
 }
 
@@ -59,16 +60,12 @@ fn words(rt: &HostRuntime) -> io::Result<Vec<String>> {
     Ok(words)
 }
 
-/// Tells why there are no words: memory ran out, or one of them is not UTF-8, which no command takes.
-fn refuse<E: Sink>(err: &mut E, error: &io::Error) -> Status
-    ensures { (result ≡ OutOfMemory) ⊎ (result ≡ Usage) }
+/// Why there are no words: memory ran out, or one of them is not UTF-8, which no command takes.
+fn want_of_words(error: &io::Error) -> Refusal
+    ensures { IsWantOfWords result }
 {
-    let (status, line) = match error.kind() {
-        io::ErrorKind::OutOfMemory => (Status::OutOfMemory, "btf: out of memory\n"),
-        _ => (Status::Usage, usage_line()),
-    };
-    match write_all(err, line.as_bytes()) {
-        Ok(()) | Err(_) => {}
+    match error.kind() {
+        io::ErrorKind::OutOfMemory => Refusal::OutOfMemory,
+        _ => Refusal::Usage,
     }
-    status
 }
