@@ -1,6 +1,95 @@
 use crate::{Engine, Job, WordsError, read_words};
 use std::alloc::{AllocError, Global};
+use std::process::Abort;
 use std::test::Fail;
+
+/// Words of no command, and words behind a command that takes none.
+const OTHER_COMMANDS: [&str; 29] = [
+    "",
+    "ran",
+    "Rank",
+    "rank rank",
+    "rank analyse",
+    "rank --order",
+    "rank -- rank",
+    "rank -- --",
+    "-- rank",
+    "--",
+    "btf rank",
+    "rank ",
+    "help",
+    "help rank",
+    "--help",
+    "-h",
+    "--version",
+    "-V",
+    "rank --help",
+    "rank -h",
+    "analys",
+    "analyze",
+    "diagonal --pairs",
+    "diagonal diagonal",
+    "diag",
+    "check report",
+    "check --order",
+    "check rank",
+    "rank --engine fast",
+];
+
+/// Words that ask for no analysis.
+const OTHER_ANALYSES: [&str; 30] = [
+    "analyse --help",
+    "analyse -h",
+    "analyse help",
+    "analyse --engine",
+    "analyse --engine ",
+    "analyse --engine=",
+    "analyse --engine --order",
+    "analyse --engine fast",
+    "analyse --engine=fast",
+    "analyse --engine PF",
+    "analyse --engine pf,mc21",
+    "analyse --engine pf mc21",
+    "analyse --engine pf --engine pf",
+    "analyse --engine=pf --engine mc21",
+    "analyse --eng pf",
+    "analyse -engine pf",
+    "analyse -e pf",
+    "analyse --order --order",
+    "analyse --order=1",
+    "analyse --order=true",
+    "analyse --order=",
+    "analyse --order true",
+    "analyse --ord",
+    "analyse --pairs --pairs",
+    "analyse --pairs=1",
+    "analyse pairs",
+    "analyse -- --order",
+    "analyse --workers 2",
+    "--order analyse",
+    "analyse --size 3",
+];
+
+/// Words that name no matrix.
+const OTHER_LOADS: [&str; 17] = [
+    "load",
+    "load --size 3",
+    "load --seed 3",
+    "load --size 0 --seed 1",
+    "load --size 16777217 --seed 1",
+    "load --size 1 --seed 18446744073709551616",
+    "load --size 1 --seed -1",
+    "load --size 1 --seed",
+    "load --size  --seed 1",
+    "load --size=1 --seed=",
+    "load --size 1.0 --seed 1",
+    "load --size 0x1 --seed 1",
+    "load --size 1 --size 1 --seed 1",
+    "load --size 1 --seed 1 --engine fast",
+    "load --size 1 --seed 1 --order",
+    "load --siz 1 --seed 1",
+    "load 1 1",
+];
 
 /// The words of a line, which one space parts: two spaces side by side hold an empty word.
 fn words_of(alloc: Global, line: &str) -> Result<Vec<String>, AllocError> {
@@ -23,10 +112,32 @@ fn load(size: u32, seed: u64, engine: Engine) -> Job {
     Job::Load { size, seed, engine }
 }
 
-#[test]
-fn takes_each_spelling(rt: HostRuntime) -> Result<(), Fail> {
+/// Reads words that are taken, a line each, and compares their job.
+fn taken<R: Abort + AllocGlobal>(rt: &R, spellings: &[(&str, Job)]) -> Result<(), Fail> {
     let alloc = rt.alloc();
-    let (plain, mc21, pf) = (Engine::Plain, Engine::Mc21, Engine::Pf);
+    for (line, job) in spellings {
+        let words = words_of(alloc, line)?;
+        assert_eq!(rt; read_words(alloc, words.as_slice()), Ok(*job), "at {line}");
+    }
+    Ok(())
+}
+
+/// Reads words that are refused, a line each.
+fn refused<R: Abort + AllocGlobal>(rt: &R, lines: &[&str]) -> Result<(), Fail> {
+    let alloc = rt.alloc();
+    for line in lines {
+        let words = words_of(alloc, line)?;
+        assert_eq!(rt;
+            read_words(alloc, words.as_slice()),
+            Err(WordsError::Usage),
+            "at {line}"
+        );
+    }
+    Ok(())
+}
+
+#[test]
+fn takes_commands_without_options(rt: HostRuntime) -> Result<(), Fail> {
     let spellings = [
         ("rank", Job::Rank),
         ("rank --", Job::Rank),
@@ -34,8 +145,16 @@ fn takes_each_spelling(rt: HostRuntime) -> Result<(), Fail> {
         ("diagonal --", Job::Diagonal),
         ("check", Job::Check),
         ("check --", Job::Check),
-        ("analyse", analyse(pf, false, false)),
-        ("analyse --", analyse(pf, false, false)),
+        ("analyse", analyse(Engine::Pf, false, false)),
+        ("analyse --", analyse(Engine::Pf, false, false)),
+    ];
+    taken(&rt, &spellings)
+}
+
+#[test]
+fn takes_options_of_an_analysis(rt: HostRuntime) -> Result<(), Fail> {
+    let (plain, mc21, pf) = (Engine::Plain, Engine::Mc21, Engine::Pf);
+    let spellings = [
         ("analyse --engine plain", analyse(plain, false, false)),
         ("analyse --engine mc21", analyse(mc21, false, false)),
         ("analyse --engine pf", analyse(pf, false, false)),
@@ -55,6 +174,14 @@ fn takes_each_spelling(rt: HostRuntime) -> Result<(), Fail> {
             "analyse --order --engine=plain --pairs --",
             analyse(plain, true, true),
         ),
+    ];
+    taken(&rt, &spellings)
+}
+
+#[test]
+fn takes_options_of_a_load(rt: HostRuntime) -> Result<(), Fail> {
+    let (plain, mc21, pf) = (Engine::Plain, Engine::Mc21, Engine::Pf);
+    let spellings = [
         ("load --size 1 --seed 0", load(1, 0, pf)),
         ("load --seed 0 --size 1 --", load(1, 0, pf)),
         (
@@ -67,102 +194,23 @@ fn takes_each_spelling(rt: HostRuntime) -> Result<(), Fail> {
             load(7, 4, plain),
         ),
     ];
-    for (line, job) in spellings {
-        let words = words_of(alloc, line)?;
-        assert_eq!(rt; read_words(alloc, words.as_slice()), Ok(job), "at {line}");
-    }
-    Ok(())
+    taken(&rt, &spellings)
 }
 
 #[test]
-fn refuses_other_words(rt: HostRuntime) -> Result<(), Fail> {
+fn refuses_other_commands(rt: HostRuntime) -> Result<(), Fail> {
     let alloc = rt.alloc();
     let none = Vec::new(alloc);
     assert_eq!(rt; read_words(alloc, none.as_slice()), Err(WordsError::Usage));
-    let lines = [
-        "",
-        "ran",
-        "Rank",
-        "rank rank",
-        "rank analyse",
-        "rank --order",
-        "rank -- rank",
-        "rank -- --",
-        "-- rank",
-        "--",
-        "btf rank",
-        "rank ",
-        "help",
-        "help rank",
-        "--help",
-        "-h",
-        "--version",
-        "-V",
-        "rank --help",
-        "rank -h",
-        "analyse --help",
-        "analyse -h",
-        "analyse help",
-        "analys",
-        "analyze",
-        "analyse --engine",
-        "analyse --engine ",
-        "analyse --engine=",
-        "analyse --engine --order",
-        "analyse --engine fast",
-        "analyse --engine=fast",
-        "analyse --engine PF",
-        "analyse --engine pf,mc21",
-        "analyse --engine pf mc21",
-        "analyse --engine pf --engine pf",
-        "analyse --engine=pf --engine mc21",
-        "analyse --eng pf",
-        "analyse -engine pf",
-        "analyse -e pf",
-        "analyse --order --order",
-        "analyse --order=1",
-        "analyse --order=true",
-        "analyse --order=",
-        "analyse --order true",
-        "analyse --ord",
-        "analyse --pairs --pairs",
-        "analyse --pairs=1",
-        "analyse pairs",
-        "analyse -- --order",
-        "analyse --workers 2",
-        "--order analyse",
-        "diagonal --pairs",
-        "diagonal diagonal",
-        "diag",
-        "check report",
-        "check --order",
-        "check rank",
-        "load",
-        "load --size 3",
-        "load --seed 3",
-        "load --size 0 --seed 1",
-        "load --size 16777217 --seed 1",
-        "load --size 1 --seed 18446744073709551616",
-        "load --size 1 --seed -1",
-        "load --size 1 --seed",
-        "load --size  --seed 1",
-        "load --size=1 --seed=",
-        "load --size 1.0 --seed 1",
-        "load --size 0x1 --seed 1",
-        "load --size 1 --size 1 --seed 1",
-        "load --size 1 --seed 1 --engine fast",
-        "load --size 1 --seed 1 --order",
-        "load --siz 1 --seed 1",
-        "load 1 1",
-        "analyse --size 3",
-    ];
-    for line in lines {
-        let words = words_of(alloc, line)?;
-        assert_eq!(rt;
-            read_words(alloc, words.as_slice()),
-            Err(WordsError::Usage),
-            "at {line}"
-        );
-    }
-    Ok(())
+    refused(&rt, &OTHER_COMMANDS)
+}
+
+#[test]
+fn refuses_other_options_of_an_analysis(rt: HostRuntime) -> Result<(), Fail> {
+    refused(&rt, &OTHER_ANALYSES)
+}
+
+#[test]
+fn refuses_other_options_of_a_load(rt: HostRuntime) -> Result<(), Fail> {
+    refused(&rt, &OTHER_LOADS)
 }
