@@ -11,11 +11,11 @@ use Rattle.mm_defs.specs.Reading.{Call, offered, got, given, ended, first_bad, I
 use Rattle.mm_defs.proofs.Enough.{front_lacks_none}
 use Rattle.mm_defs.proofs.Fronts.{bad_stays, good_front, good_file}
 
-and_left : (a b : Bool) → (a && b) ≡ true → a ≡ true
+pub and_left : (a b : Bool) → (a && b) ≡ true → a ≡ true
 and_left true b h = refl
 and_left false b h = h
 
-and_right : (a b : Bool) → (a && b) ≡ true → b ≡ true
+pub and_right : (a b : Bool) → (a && b) ≡ true → b ≡ true
 and_right true b h = h
 and_right false b h = absurd cc
 

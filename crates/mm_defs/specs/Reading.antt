@@ -6,7 +6,7 @@ use Rattle.mm_defs.specs.declared.answers.End.{End}
 use Rattle.mm_defs.specs.declared.answers.End.TheVariants.{File, LastEntry}
 use Rattle.mm_defs.specs.declared.answers.ReadError.{ReadError}
 use Rattle.mm_defs.specs.declared.answers.ReadError.TheVariants as errors
-use Rattle.mm_defs.specs.Words.{has_bytes, lines}
+use Rattle.mm_defs.specs.Words.{has_bytes, lines, open_line}
 use Rattle.mm_defs.specs.Faults.{is_limit}
 use Rattle.mm_defs.specs.File.{Fault, Reads, first_fault, behind, missing}
 
@@ -54,6 +54,14 @@ ended call = nat_le (length (got call)) call.room && not (has_bytes call.after) 
 abbrev pub first_bad : End → Call → Option Fault
 first_bad end call = first_fault end (ended call) (given call)
 
+-- what was used of these bytes, where this is left
+abbrev pub used : List ℕ → List ℕ → List ℕ
+used bytes left = take (length bytes - length left) bytes
+
+-- the last line of what was used has no LF
+abbrev pub LacksLf : List ℕ → List ℕ → Type 0
+LacksLf bytes left = open_line (used bytes left) ≢ []
+
 -- all that the call could use is a good file within the limit, and what follows it is left
 pub record ReadsAll (end : End) (call : Call) (t : entries.Entries) (rest : List ℕ) : Type 0 where
   pub reads : Reads (offered call) end t rest
@@ -73,8 +81,8 @@ abbrev pub LacksLines : End → List (List ℕ) → Type 0
 LacksLines File ls = Unit {0}
 LacksLines LastEntry ls = missing ls ≢ []
 
--- Of a call that stopped at the limit, or at a read that failed: the matrix had not ended in what was given, and a read
--- is only made while all that came is within the limit.
+-- Of a call that stopped at the limit, or at a read that failed: a matrix that ends with its last entry line had not
+-- ended in what was given, and a read is only made while all that came is within the limit.
 abbrev pub FellShort : {T : Type 0} → End → Call → Result T ReadError → Type 0
 FellShort end call (Ok t) = Unit {0}
 FellShort end call (Err (errors.Malformed line kind)) = Unit {0}

@@ -14,6 +14,7 @@ use Rattle.mm_reader.specs.declared.machine.Stop.TheVariants as stops
 use Rattle.mm_reader.specs.Lines.{IsLine}
 use Rattle.mm_reader.specs.Machine.{is_complete}
 use Rattle.mm_reader.specs.Standing.{IsBetween, IsAfter, StopsAt, StopsIn}
+use Rattle.mm_reader.proofs.Words.{has_bytes-push}
 
 pub map_result : {T E : Type 0} (P Q : T → Type 0) (F G : E → Type 0) (r : Result T E) → ((x : T) → P x → Q x) → ((e : E) → F e → G e) → MatchResult r P F → MatchResult r Q G
 map_result P Q F G (Ok x) f g h = f x h
@@ -58,10 +59,6 @@ lf_stops end bytes b (stops.Bad line kind) e h =
       closed = open_line-push_lf bytes b (lf b e);
     }
 lf_stops end bytes b stops.Memory e h = tt
-
-has_bytes-push : (w : List ℕ) (b : ℕ) → has_bytes (w ++ b ∷ []) ≡ true
-has_bytes-push [] b = refl
-has_bytes-push (a ∷ w) b = refl
 
 -- another byte
 pub byte_comes : (end : End) (m : Machine) (l : LineSoFar) (bytes : List ℕ) (b : ℕ) → b ≢ 10 → IsAfter end m bytes → IsLine l.tokens l.count l.inside (open_line bytes ++ b ∷ [])

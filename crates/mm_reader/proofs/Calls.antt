@@ -1,11 +1,11 @@
 -- From a reading within a window to a call on an input.
-use Rattle.std.proofs.Common.{◌≡◌, ℕ, List, ◌++◌, ap, subst, ◌∙◌, arith, Option, Some, None, Result}
+use Rattle.std.proofs.Common.{◌≡◌, ℕ, List, ◌++◌, ap, subst, ◌∙◌, arith, Option, Some, None, Result, IsTrue}
 use Rattle.sp_ids.specs.Entries as entries
 use Rattle.sp_ports.specs.Bytes.{WhereTold}
 use Rattle.mm_defs.specs.declared.answers.End.{End}
 use Rattle.mm_defs.specs.declared.answers.ReadError.{ReadError}
 use Rattle.mm_defs.specs.File.{Fault}
-use Rattle.mm_defs.specs.Reading.{Intake, Call, call_on, room, first_bad, FellShort, IsAnswer, Tells}
+use Rattle.mm_defs.specs.Reading.{Intake, Call, call_on, room, first_bad, FellShort, IsAnswer, LacksLf, Tells}
 use Rattle.mm_defs.proofs.Answering.{bad_line_told}
 use Rattle.mm_reader.specs.declared.input.Input.TheInside.{Inside}
 use Rattle.mm_reader.specs.declared.window.Window.{Window}
@@ -19,13 +19,13 @@ module _ (end : End) (i : Inside) (is : IsInput i) (input : Intake) (view : inta
       ap (λ (k : ℕ). record { room = k; ahead = ahead_of i.window; before = before; after = after; failures_before = fb; failures_after = fa }) e
       ∙ ap (λ (x : Intake). call_on x fb fa before after) view
 
-  pub answer_told : (old new : Option (List ℕ)) (result : Result entries.Entries ReadError) → WhereTold old new (λ before after. Answers end (call_of i.window fb fa before after) i.window w3 result)
+  pub answer_told : (old new : Option (List ℕ)) (result : Result entries.Entries ReadError) → WhereTold old new (λ before after. Answers end (call_of i.window fb fa before after) w3 result)
       → WhereTold old new (λ before after. IsAnswer end (call_on input fb fa before after) (ahead_of w3 ++ after) result)
   answer_told None new result h = tt
   answer_told (Some before) None result h = h
   answer_told (Some before) (Some after) result h = subst (λ (c : Call). IsAnswer end c (ahead_of w3 ++ after) result) (call_same before after) h.answer
 
-  pub bad_told : (old new : Option (List ℕ)) (result : Result entries.Entries ReadError) → WhereTold old new (λ before after. Answers end (call_of i.window fb fa before after) i.window w3 result)
+  pub bad_told : (old new : Option (List ℕ)) (result : Result entries.Entries ReadError) → WhereTold old new (λ before after. Answers end (call_of i.window fb fa before after) w3 result)
       → WhereTold old new (λ before after. (fault : Fault) → first_bad end (call_on input fb fa before after) ≡ Some fault → Tells fault result)
   bad_told None new result h = tt
   bad_told (Some before) None result h = h
@@ -33,8 +33,13 @@ module _ (end : End) (i : Inside) (is : IsInput i) (input : Intake) (view : inta
       subst (λ (c : Call). (fault : Fault) → first_bad end c ≡ Some fault → Tells fault result) (call_same before after)
       (λ fault k. bad_line_told end (call_of i.window fb fa before after) (ahead_of w3 ++ after) result fault h.answer k)
 
-  pub short_told : (old new : Option (List ℕ)) (result : Result entries.Entries ReadError) → WhereTold old new (λ before after. Answers end (call_of i.window fb fa before after) i.window w3 result)
+  pub short_told : (old new : Option (List ℕ)) (result : Result entries.Entries ReadError) → WhereTold old new (λ before after. Answers end (call_of i.window fb fa before after) w3 result)
       → WhereTold old new (λ before after. FellShort end (call_on input fb fa before after) result)
   short_told None new result h = tt
   short_told (Some before) None result h = h
   short_told (Some before) (Some after) result h = subst (λ (c : Call). FellShort end c result) (call_same before after) h.short
+
+  pub last_line_told : (old new : Option (List ℕ)) → WhereTold old new (λ before after. LacksLf (ahead_of i.window ++ before) (ahead_of w3 ++ after) → IsTrue w3.at_end)
+      → WhereTold old new (λ before after. LacksLf (input.ahead ++ before) (ahead_of w3 ++ after) → IsTrue w3.at_end)
+  last_line_told old new h =
+      subst (λ (a : List ℕ). WhereTold old new (λ before after. LacksLf (a ++ before) (ahead_of w3 ++ after) → IsTrue w3.at_end)) (ap (λ (x : Intake). x.ahead) view) h

@@ -18,6 +18,7 @@ use Rattle.mm_reader.specs.declared.machine.Stop.{Stop}
 use Rattle.mm_reader.specs.declared.machine.Stop.TheVariants as stops
 use Rattle.mm_reader.specs.Machine.{HasBanner, HasEntries, HasLines, is_complete}
 use Rattle.mm_reader.specs.Standing.{IsAll, Lacks, IsWhole, StopsAt, StopsAtEnd}
+use Rattle.mm_reader.proofs.Words.{empty_of}
 
 -- ---- all lines have come
 
@@ -76,10 +77,6 @@ module _ (end : End) (bytes : List ℕ) where
 
   past_last : (n : ℕ) → n ≡ length (lines false bytes ++ open_line bytes ∷ []) → behind n bytes ≡ []
   past_last n e = behind-past n bytes (omega (arith, lf_count, length-append (lines false bytes) (open_line bytes ∷ [])))
-
-  empty_of : (w : List ℕ) → has_bytes w ≡ false → w ≡ []
-  empty_of [] h = refl
-  empty_of (a ∷ w) h = absurd cc
 
   rest_begun : (e : End) (n : ℕ) → (e ≡ LastEntry → last_number (matrix_lines (lines true bytes)) ≡ n) → n ≡ length (lines false bytes ++ open_line bytes ∷ []) → rest_of e bytes ≡ []
   unfolding rest_of

@@ -13,6 +13,7 @@ pub mod Masks
 pub mod Numbers
 pub mod PlainLaws
 pub mod PlainSteps
+pub mod Progress
 pub mod RestLaws
 pub mod StepLaws
 pub mod StreamLaws

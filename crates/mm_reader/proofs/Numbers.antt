@@ -6,16 +6,10 @@ use Rattle.std.proofs.lemmas.Str.{digit_value_digit}
 use Rattle.std.proofs.lemmas.Int.Digits.{digits_value_push}
 use Rattle.mm_defs.specs.Words.{has_bytes}
 use Rattle.mm_defs.specs.Numbers.{value, bare}
+use Rattle.mm_defs.proofs.Answering.{and_left, and_right}
 use Rattle.mm_reader.specs.declared.number.Number.{Number}
 use Rattle.mm_reader.specs.Tokens.{capped, number_facts, next_number}
-
-pub and_left : (a b : Bool) → (a && b) ≡ true → a ≡ true
-and_left true b h = refl
-and_left false b h = h
-
-pub and_right : (a b : Bool) → (a && b) ≡ true → b ≡ true
-and_right true b h = h
-and_right false b h = absurd cc
+use Rattle.mm_reader.proofs.Words.{has_bytes-push}
 
 -- by the sign, and the bytes behind it
 abbrev facts : Bool → List ℕ → Number
@@ -44,10 +38,6 @@ digit_at c h =
     let high : c ≤ 57 = leb-true _ _ (and_right _ _ h) in
     let e = digit_value_digit c (low, high) in
     omega arith
-
-has_bytes-push : (ds : List ℕ) (c : ℕ) → has_bytes (ds ++ c ∷ []) ≡ true
-has_bytes-push [] c = refl
-has_bytes-push (d ∷ ds) c = refl
 
 cap_step : (v d : ℕ) → capped (capped (capped v * 10) + d) ≡ capped (v * 10 + d)
 cap_step v d = omega arith

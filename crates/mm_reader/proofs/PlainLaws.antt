@@ -16,6 +16,7 @@ use Rattle.mm_defs.specs.Header.{value_words, is_integer_field}
 use Rattle.mm_defs.specs.Faults.{place_rules, entry_rules}
 use Rattle.mm_defs.specs.File.{triple, triple_at}
 use Rattle.mm_defs.specs.Words.{Word, is_lf, is_blank, has_bytes, word, words, lines, open_line, but_last, last_part, is_skipped}
+use Rattle.mm_defs.proofs.Answering.{and_left, and_right}
 use Rattle.mm_defs.proofs.Splitting.{split-append, but_last-append, last_part-append}
 use Rattle.mm_defs.proofs.Lines.{lines-push_lf, open_line-push_lf}
 use Rattle.mm_defs.specs.Numbers.{value, unsigned, is_number, number}
@@ -28,14 +29,6 @@ use Rattle.mm_reader.specs.Plain.{between, is_inner, is_visible, stands_apart, I
 use Rattle.mm_reader.proofs.Judges.{entry_judged}
 use Rattle.mm_reader.proofs.Words.{words-none, words-blank}
 use Rattle.mm_reader.proofs.Numbers.{all_ascii_digits-push, digit_at}
-
-pub and_left : (a b : Bool) → (a && b) ≡ true → a ≡ true
-and_left true b h = refl
-and_left false b h = h
-
-pub and_right : (a b : Bool) → (a && b) ≡ true → b ≡ true
-and_right true b h = h
-and_right false b h = absurd cc
 
 pub between-none : (bytes : List ℕ) (from : ℕ) → between bytes from from ≡ []
 between-none bytes from = let e : from - from ≡ 0 = omega arith in rw e refl

@@ -18,6 +18,7 @@ use Rattle.mm_reader.specs.Machine.{HasBanner, HasEntries, IsReady, Steps, is_co
 use Rattle.mm_reader.specs.Plain.{AwaitsPlain, IsPlainLine, between}
 use Rattle.mm_reader.specs.Standing.{begun_lines, GoesOn, Halts, IsAfter, StopsIn, StopsWithin}
 use Rattle.mm_reader.proofs.PlainLaws.{whole_line, whole_closed_line, between_join, between-none, between-push, split_at}
+use Rattle.mm_reader.proofs.Words.{empty_of}
 
 pub stays : (m : Machine) (piece : List ℕ) (at : ℕ) → at ≤ length piece → IsReady m.phase m.triples → GoesOn m m piece at at
 stays m piece at h ready = record {
@@ -28,10 +29,6 @@ stays m piece at h ready = record {
   closed = λ end out full. absurd cc;
   stands = λ end bytes a out. rw (between-none piece at) (subst (λ (t : List ℕ). IsAfter end m t) (sym (append-nil bytes)) a);
 }
-
-empty_of : (w : List ℕ) → has_bytes w ≡ false → w ≡ []
-empty_of [] h = refl
-empty_of (a ∷ w) h = absurd cc
 
 module _ (m : Machine) (h : Header) (s : Size) (done : ℕ) (w : AwaitsPlain m h s done) (piece : List ℕ) (at : ℕ) (l : PlainLine) (p : IsPlainLine h.field piece at l) (t : entries.Entries) where
   abbrev Shown : Result Phase Stop → Type 0

@@ -39,7 +39,7 @@ in_word-blank line b e = rw (split-push_yes is_blank line b e) (ap has_bytes (la
 open_word-push : (line : List ℕ) (b : ℕ) → is_blank b ≡ false → open_word (line ++ b ∷ []) ≡ open_word line ++ b ∷ []
 open_word-push line b e = rw (split-push_no is_blank line b e) (last_part-append (but_last (slice_split is_blank line)) (open_word line ++ b ∷ []) [])
 
-has_bytes-push : (w : List ℕ) (b : ℕ) → has_bytes (w ++ b ∷ []) ≡ true
+pub has_bytes-push : (w : List ℕ) (b : ℕ) → has_bytes (w ++ b ∷ []) ≡ true
 has_bytes-push [] b = refl
 has_bytes-push (a ∷ w) b = refl
 
@@ -57,7 +57,7 @@ words-push line b e =
 pub in_word-push : (line : List ℕ) (b : ℕ) → is_blank b ≡ false → in_word (line ++ b ∷ []) ≡ true
 in_word-push line b e = ap has_bytes (open_word-push line b e) ∙ has_bytes-push (open_word line) b
 
-empty_of : (w : List ℕ) → has_bytes w ≡ false → w ≡ []
+pub empty_of : (w : List ℕ) → has_bytes w ≡ false → w ≡ []
 empty_of [] h = refl
 empty_of (a ∷ w) h = absurd cc
 

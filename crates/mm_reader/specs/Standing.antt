@@ -30,6 +30,10 @@ pub record IsAfter (end : End) (m : Machine) (bytes : List ℕ) : Type 0 where
   pub open_is : IsLine m.line.tokens m.line.count m.line.inside (open_line bytes)
   pub begun_is : m.begun ≡ has_bytes (open_line bytes)
 
+-- some bytes have come
+abbrev pub StandsSomewhere : End → Machine → Type 0
+StandsSomewhere end m = (bytes : List ℕ) × IsAfter end m bytes
+
 -- the last of these lines is the one bad line
 abbrev pub StopsAt : End → List (List ℕ) → Stop → Type 0
 StopsAt end ls (stops.Bad line kind) = (line_faults end ls ≡ record { line = line; kind = kind } ∷ []) × (line ≡ length ls)

@@ -29,13 +29,21 @@ pub record IsWindow (w : Window) : Type 0 where
   pub fits : w.lines + w.room < 2 ^ 64
   pub asked : w.to ≤ w.from + w.room + 1
 
--- so many of the bytes ahead were used
+-- so many of the bytes ahead were used, and their LFs counted
 pub record Uses (old new : Window) (n : ℕ) : Type 0 where
   pub some : n ≤ length (ahead_of old)
   pub ahead_is : ahead_of new ≡ drop n (ahead_of old)
   pub room_is : new.room + n ≡ old.room
-  pub lines_same : new.lines ≡ old.lines
+  pub lines_are : new.lines ≡ old.lines + count_by is_lf (take n (ahead_of old))
   pub at_end_same : new.at_end ≡ old.at_end
+
+-- some of the bytes ahead were used, or none
+abbrev pub UsesSome : Window → Window → Type 0
+UsesSome old new = (n : ℕ) × Uses old new n
+
+-- the bytes ahead are one more than may be used
+abbrev pub IsOnePast : Window → Type 0
+IsOnePast w = length (ahead_of w) ≡ w.room + 1
 
 -- the machine got the front of the bytes ahead, and is ready for more or has its matrix
 pub record Consumes (end : End) (old new : Window) (before after : Machine) (done : Bool) : Type 0 where
@@ -88,24 +96,10 @@ call_of w failures_before failures_after before after = record {
   failures_after = failures_after;
 }
 
--- what a source has left is the end of what it had
-abbrev pub GivesFront : Option (List ℕ) → Option (List ℕ) → Type 0
-GivesFront old new = (front : List ℕ) × Gives old new front
-
--- what was used was counted, its LFs too
+-- what was used was counted, and so were its LFs
 pub record HasCounted (old new : Window) (before after : List ℕ) : Type 0 where
   pub bytes : new.room + length (ahead_of old ++ before) ≡ old.room + length (ahead_of new ++ after)
   pub lfs : new.lines + count_by is_lf (ahead_of new ++ after) ≡ old.lines + count_by is_lf (ahead_of old ++ before)
-
--- what the machine was given so far
-pub record Fed (end : End) (ahead : List ℕ) (old now : Option (List ℕ)) (room lfs : ℕ) (m : Machine) (w : Window) : Type 0 where
-  pub used : List ℕ
-  pub gave : List ℕ
-  pub told : Gives old now gave
-  pub split : ahead ++ gave ≡ used ++ ahead_of w
-  pub size : length used + w.room ≡ room
-  pub stands : IsAfter end m used
-  pub lines_same : w.lines ≡ lfs
 
 -- what a reading leaves of a window, whatever it answers
 pub record KeepsWindow (old new : Window) : Type 0 where
@@ -114,11 +108,10 @@ pub record KeepsWindow (old new : Window) : Type 0 where
   pub counts : new.lines + new.room ≤ old.lines + old.room
 
 -- what a reading of a matrix answers, of a source that tells its bytes
-pub record Answers (end : End) (call : Call) (old new : Window) (result : Result entries.Entries ReadError) : Type 0 where
+pub record Answers (end : End) (call : Call) (new : Window) (result : Result entries.Entries ReadError) : Type 0 where
   pub answer : IsAnswer end call (ahead_of new ++ call.after) result
   pub near : IsNear call result
   pub short : FellShort end call result
-  pub counts : OnOk result (HasCounted old new call.before call.after)
 
 -- ---- the reading of all that follows
 
@@ -136,16 +129,3 @@ RefusesAhead w (errors.Limit line kind) = ⊥
 RefusesAhead w errors.TooLong = w.room < length (ahead_of w)
 RefusesAhead w errors.ReadFault = ⊥
 RefusesAhead w errors.OutOfMemory = Unit {0}
-
--- what was read so far
-pub record Filled (ahead : List ℕ) (old now : Option (List ℕ)) (room lfs : ℕ) (bytes : List ℕ) (w : Window) : Type 0 where
-  pub gave : List ℕ
-  pub told : Gives old now gave
-  pub split : ahead ++ gave ≡ bytes ++ ahead_of w
-  pub size : length bytes + w.room ≡ room
-  pub lines_are : w.lines ≡ lfs + count_by is_lf bytes
-
--- all was read and counted
-pub record RestRead (call : Call) (old new : Window) (bytes : List ℕ) : Type 0 where
-  pub rest : IsRest call (ahead_of new ++ call.after) bytes
-  pub counts : HasCounted old new call.before call.after

@@ -2,12 +2,12 @@
 
 ghost use Rattle.std.specs.Prelude.{◌≡◌, ◌≤◌, ◌<◌, ◌+◌, ◌++◌, ◌↔◌, [], length, IfErr, IfOk, MatchResult, OnOk, IsOk, IsTrue, true, false};
 ghost use Rattle.std.specs.List.{count_by};
-ghost use Rattle.sp_ports.specs.Bytes.{IsAtEnd, WhereTold};
+ghost use Rattle.std.specs.Result.{IsErrOf};
+ghost use Rattle.sp_ports.specs.Bytes.{GivesFront, IsAtEnd, WhereTold};
 ghost use Rattle.sp_ports.specs.Counts.{SourceRose};
 ghost use Rattle.mm_defs.specs.Words.{is_lf};
 ghost use Rattle.mm_defs.specs.File.{Fault};
-ghost use Rattle.mm_defs.specs.Reading.{call_on, first_bad, Causes, FellShort, HasItsKind, IsAnswer, IsNear, IsRest, JudgesNoLine, RefusesRest, TakesAtMostOnePast, Tells};
-ghost use Rattle.mm_reader.specs.Windows.{GivesFront};
+ghost use Rattle.mm_defs.specs.Reading.{call_on, first_bad, Causes, FellShort, HasItsKind, IsAnswer, IsNear, IsRest, JudgesNoLine, LacksLf, RefusesRest, TakesAtMostOnePast, Tells};
 
 use crate::reader::matrix;
 use crate::rest::rest;
@@ -61,7 +61,7 @@ impl Input {
         })
     }
 
-    /// The number of LFs among the bytes used.
+    /// The number of LFs among the bytes used, that is, taken and no longer ahead.
     pub fn lines(&self) -> u64
         ensures { result ≡ self.now.lines }
     {
@@ -90,9 +90,9 @@ impl Input {
 /// `End::File` reads to the end of the input. `End::LastEntry` ends with the line end of the last entry line, or of the
 /// size line where there are no entries, and leaves what follows. A line is judged when its end was given, and the first
 /// bad line is answered: `Malformed` or `Limit` with its number, counted from 1. A bad line that had ended before a read
-/// failed is answered in place of `ReadFault`, and one within the limit in place of `TooLong`; so is a matrix that had
-/// ended in those bytes. After an `Err` the input is not good. At `Malformed` and `Limit` at most 65,536 bytes past the
-/// end of the bad line were taken.
+/// failed is answered in place of `ReadFault`, and one that had ended within the limit in place of `TooLong`; so is, with
+/// `End::LastEntry`, a matrix that had ended in those bytes. After an `Err` the input is not good. At `Malformed` and
+/// `Limit` at most 65,536 bytes past the end of the bad line were taken.
 ///
 /// The work is linear in the bytes. Besides the input's buffer it keeps the triples alone.
 pub fn read_matrix<S: Source>(
@@ -117,15 +117,16 @@ pub fn read_matrix<S: Source>(
     // `Limit` tells what passes a limit, and `Malformed` what does not.
     ensures kind { HasItsKind result }
 
-    // Where the bytes given did not do, the matrix had not ended in them.
+    // Where the bytes given did not do, a matrix that ends with its last entry line had not ended in them.
     ensures short { WhereTold (S.left source.old) (S.left source.new) (λ before after.
         FellShort end (call_on input.old (S.faults source.old) (S.faults source.new) before after) result) }
 
-    // What is left is the end of what there was, and at most one byte was taken past the limit.
+    // What is left is the end of what there was. At most one byte was taken past the limit, and at `TooLong` it was.
     ensures gave { GivesFront (S.left source.old) (S.left source.new) }
     ensures most { WhereTold (S.left source.old) (S.left source.new) (λ before after.
         TakesAtMostOnePast (call_on input.old (S.faults source.old) (S.faults source.new) before after)) }
     ensures most_taken { input.new.taken ≤ input.new.limit + 1 }
+    ensures past { IsErrOf result ReadError.TooLong → input.new.taken ≡ input.new.limit + 1 }
 
     // A failed read is the one cause of `ReadFault`, and at Ok no read has failed.
     ensures cause { Causes (SourceRose (S.left source.old) (S.faults source.old) (S.faults source.new)) (S.faults source.old) (S.faults source.new) result }
@@ -133,13 +134,19 @@ pub fn read_matrix<S: Source>(
     // Where a read has given no bytes, the source is not asked again.
     ensures at_end { IsTrue input.new.at_end → IsAtEnd (S.left source.new) }
     ensures unasked { IsTrue input.old.at_end → source.new ≡ source.old }
+    ensures stays { IsTrue input.old.at_end → IsTrue input.new.at_end }
+    ensures ended { OnOk result (end ≡ End.File → IsTrue input.new.at_end) }
+    ensures last_line { OnOk result (WhereTold (S.left source.old) (S.left source.new) (λ before after.
+        LacksLf (input.old.ahead ++ before) (input.new.ahead ++ after) → IsTrue input.new.at_end)) }
+
+    // Whatever the answer, what was used was counted, and what was taken.
+    ensures lines { WhereTold (S.left source.old) (S.left source.new) (λ before after.
+        input.new.lines + count_by is_lf (input.new.ahead ++ after) ≡ input.old.lines + count_by is_lf (input.old.ahead ++ before)) }
+    ensures taken { WhereTold (S.left source.old) (S.left source.new) (λ before after.
+        input.new.taken + length after ≡ input.old.taken + length before) }
 
     ensures good { IsTrue input.new.good ↔ IsOk result }
     ensures limit { input.new.limit ≡ input.old.limit }
-    ensures lines { OnOk result (WhereTold (S.left source.old) (S.left source.new) (λ before after.
-        input.new.lines + count_by is_lf (input.new.ahead ++ after) ≡ input.old.lines + count_by is_lf (input.old.ahead ++ before))) }
-    ensures taken { OnOk result (WhereTold (S.left source.old) (S.left source.new) (λ before after.
-        input.new.taken + length after ≡ input.old.taken + length before)) }
 {
     match matrix(alloc, &mut input.window, source, end) {
         Err(error) => {
@@ -170,11 +177,12 @@ pub fn read_rest<S: Source>(
     // No line is judged.
     ensures unjudged { IfErr result JudgesNoLine }
 
-    // What is left is the end of what there was, and at most one byte was taken past the limit.
+    // What is left is the end of what there was. At most one byte was taken past the limit, and at `TooLong` it was.
     ensures gave { GivesFront (S.left source.old) (S.left source.new) }
     ensures most { WhereTold (S.left source.old) (S.left source.new) (λ before after.
         TakesAtMostOnePast (call_on input.old (S.faults source.old) (S.faults source.new) before after)) }
     ensures most_taken { input.new.taken ≤ input.new.limit + 1 }
+    ensures past { IsErrOf result ReadError.TooLong → input.new.taken ≡ input.new.limit + 1 }
 
     // A failed read is the one cause of `ReadFault`, and at Ok no read has failed.
     ensures cause { Causes (SourceRose (S.left source.old) (S.faults source.old) (S.faults source.new)) (S.faults source.old) (S.faults source.new) result }
@@ -182,13 +190,17 @@ pub fn read_rest<S: Source>(
     // Where a read has given no bytes, the source is not asked again.
     ensures at_end { IsTrue input.new.at_end → IsAtEnd (S.left source.new) }
     ensures unasked { IsTrue input.old.at_end → source.new ≡ source.old }
+    ensures stays { IsTrue input.old.at_end → IsTrue input.new.at_end }
+    ensures ended { OnOk result (IsTrue input.new.at_end) }
+
+    // Whatever the answer, what was used was counted, and what was taken.
+    ensures lines { WhereTold (S.left source.old) (S.left source.new) (λ before after.
+        input.new.lines + count_by is_lf (input.new.ahead ++ after) ≡ input.old.lines + count_by is_lf (input.old.ahead ++ before)) }
+    ensures taken { WhereTold (S.left source.old) (S.left source.new) (λ before after.
+        input.new.taken + length after ≡ input.old.taken + length before) }
 
     ensures good { IsTrue input.new.good ↔ IsOk result }
     ensures limit { input.new.limit ≡ input.old.limit }
-    ensures lines { OnOk result (WhereTold (S.left source.old) (S.left source.new) (λ before after.
-        input.new.lines + count_by is_lf (input.new.ahead ++ after) ≡ input.old.lines + count_by is_lf (input.old.ahead ++ before))) }
-    ensures taken { OnOk result (WhereTold (S.left source.old) (S.left source.new) (λ before after.
-        input.new.taken + length after ≡ input.old.taken + length before)) }
 {
     match rest(alloc, &mut input.window, source) {
         Err(error) => {

@@ -60,7 +60,7 @@ pub fn is_complete(end: End, phase: Phase) -> bool
 }
 
 /// Line 1 has come.
-pub fn after_banner(line: &LineSoFar) -> Result<Phase, Stop>
+fn after_banner(line: &LineSoFar) -> Result<Phase, Stop>
     ensures steps { (end : End) (bytes : List ℕ) (t : Entries) → IsLine line.now.tokens line.now.count line.now.inside bytes
         → Steps end (bytes ∷ []) t result }
     ensures ready { (t : Entries) → IfOk result (λ phase. IsReady phase t) }
@@ -72,7 +72,7 @@ pub fn after_banner(line: &LineSoFar) -> Result<Phase, Stop>
 }
 
 /// A later line has come, and no size line before it.
-pub fn after_size(
+fn after_size(
     alloc: Global,
     header: Header,
     line: &LineSoFar,
@@ -103,7 +103,7 @@ pub fn after_size(
 }
 
 /// A line behind the size line has come.
-pub fn after_entry(
+fn after_entry(
     header: Header,
     size: Size,
     done: u32,
@@ -143,7 +143,7 @@ pub fn after_entry(
 
 /// Adds an entry, and the place on the other side of the diagonal.
 #[inline(always)]
-pub fn add(symmetry: Symmetry, entry: Entry, triples: &mut Triples) -> Result<(), OutOfMemory>
+fn add(symmetry: Symmetry, entry: Entry, triples: &mut Triples) -> Result<(), OutOfMemory>
     requires row { entry.row < triples.old.rows }
     requires col { entry.col < triples.old.cols }
     requires square { is_general symmetry ≡ false → triples.old.rows ≡ triples.old.cols }
@@ -242,7 +242,7 @@ fn end_line(alloc: Global, m: &mut Machine) -> Result<(), Stop>
 }
 
 /// One more byte comes.
-pub fn take(alloc: Global, m: &mut Machine, byte: u8) -> Result<(), Stop>
+fn take(alloc: Global, m: &mut Machine, byte: u8) -> Result<(), Stop>
     requires ready { IsReady m.old.phase m.old.triples }
     requires room { begun_lines m.old < 2 ^ 64 - 1 }
     ensures ready { OnOk result (IsReady m.new.phase m.new.triples) }

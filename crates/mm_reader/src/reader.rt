@@ -1,15 +1,16 @@
 //! Reading a matrix from the bytes ahead and from a source.
 
-ghost use Rattle.std.specs.Prelude.{◌≡◌, ◌≤◌, ◌<◌, ◌+◌, ◌^◌, ℕ, List, false, length, IfOk, IfErr, MatchResult, OnOk, IsTrue};
-ghost use Rattle.sp_ports.specs.Bytes.{IsAtEnd, WhereTold};
+ghost use Rattle.std.specs.Prelude.{◌≡◌, ◌<◌, ◌+◌, ◌++◌, ◌^◌, ℕ, List, false, length, IfOk, IfErr, MatchResult, OnOk, IsTrue};
+ghost use Rattle.std.specs.Result.{IsErrOf};
+ghost use Rattle.sp_ports.specs.Bytes.{GivesFront, IsAtEnd, WhereTold};
 ghost use Rattle.sp_ports.specs.Counts.{SourceRose};
-ghost use Rattle.mm_defs.specs.Reading.{Causes, HasItsKind, TakesAtMostOnePast};
+ghost use Rattle.mm_defs.specs.Reading.{Causes, HasItsKind, LacksLf, TakesAtMostOnePast};
 ghost use Rattle.mm_reader.specs.Machine.{IsReady, is_complete};
-ghost use Rattle.mm_reader.specs.Standing.{begun_lines, IsAfter, IsWhole};
-ghost use Rattle.mm_reader.specs.Windows.{ahead_of, call_of, Answers, GivesFront, IsWindow, KeepsWindow, Consumes, Refuses, RefusesAtEnd, refusal_of};
+ghost use Rattle.mm_reader.specs.Standing.{begun_lines, IsAfter, IsWhole, StandsSomewhere};
+ghost use Rattle.mm_reader.specs.Windows.{ahead_of, call_of, Answers, HasCounted, IsOnePast, IsWindow, KeepsWindow, Consumes, Refuses, RefusesAtEnd, refusal_of, UsesSome};
 
 use crate::machine::{Machine, Stop, feed, finish, is_complete, start};
-use crate::window::{Window, refill};
+use crate::window::{Window, advance, refill};
 use mm_defs::{End, ReadError};
 use sp_ids::Triples;
 use sp_ports::Source;
@@ -38,22 +39,23 @@ fn consume(alloc: Global, m: &mut Machine, end: End, window: &mut Window) -> Res
     requires ready { IsReady m.old.phase m.old.triples }
     requires open { is_complete end m.old.phase ≡ false }
     requires number { begun_lines m.old + window.old.room < 2 ^ 64 }
+    requires stands { StandsSomewhere end m.old }
     ensures window { IsWindow window.new }
     ensures ok { IfOk result (Consumes end window.old window.new m.old m.new) }
-    ensures room { window.new.room ≤ window.old.room }
-    ensures lines { window.new.lines ≡ window.old.lines }
-    ensures at_end { window.new.at_end ≡ window.old.at_end }
+    ensures used { UsesSome window.old window.new }
+    ensures past { IsErrOf result ReadError.TooLong → IsOnePast window.new }
     ensures err { (bytes : List ℕ) → IsAfter end m.old bytes → IfErr result (Refuses end bytes (ahead_of window.old) window.old.room) }
 {
     if (window.to - window.from) as u64 > window.room {
         return consume_to_limit(alloc, m, end, window);
     }
+    let before = m.number;
     let used = match feed(alloc, m, end, &window.buffer[window.from..window.to]) {
         Err(stop) => return Err(refusal(stop)),
         Ok(used) => used,
     };
-    window.from += used;
-    window.room -= used as u64;
+    let lfs = m.number - before;
+    advance(window, used, lfs);
     Ok(is_complete(end, m.phase))
 }
 
@@ -68,68 +70,48 @@ fn consume_to_limit(
     requires ready { IsReady m.old.phase m.old.triples }
     requires open { is_complete end m.old.phase ≡ false }
     requires number { begun_lines m.old + window.old.room < 2 ^ 64 }
+    requires stands { StandsSomewhere end m.old }
     requires over { window.old.room < length (ahead_of window.old) }
     ensures window { IsWindow window.new }
     ensures ok { IfOk result (Consumes end window.old window.new m.old m.new) }
-    ensures room { window.new.room ≤ window.old.room }
-    ensures lines { window.new.lines ≡ window.old.lines }
-    ensures at_end { window.new.at_end ≡ window.old.at_end }
+    ensures used { UsesSome window.old window.new }
+    ensures past { IsErrOf result ReadError.TooLong → IsOnePast window.new }
     ensures err { (bytes : List ℕ) → IsAfter end m.old bytes → IfErr result (Refuses end bytes (ahead_of window.old) window.old.room) }
 {
     let to = window.from + window.room as usize;
+    let before = m.number;
     let used = match feed(alloc, m, end, &window.buffer[window.from..to]) {
         Err(stop) => return Err(refusal(stop)),
         Ok(used) => used,
     };
-    window.from += used;
-    window.room -= used as u64;
+    let lfs = m.number - before;
+    advance(window, used, lfs);
     if is_complete(end, m.phase) {
         return Ok(true);
     }
     Err(ReadError::TooLong)
 }
 
-/// The matrix is read, and what follows stays ahead.
-fn complete(m: Machine, window: &mut Window) -> Triples
-    requires window { IsWindow window.old }
-    requires number { window.old.lines + m.number + window.old.room < 2 ^ 64 }
-    ensures triples { result ≡ m.triples }
-    ensures window { IsWindow window.new }
-    ensures ahead { ahead_of window.new ≡ ahead_of window.old }
-    ensures room { window.new.room ≡ window.old.room }
-    ensures lines { window.new.lines ≡ window.old.lines + m.number }
-    ensures at_end { window.new.at_end ≡ window.old.at_end }
-{
-    window.lines += m.number;
-    let Machine { triples, .. } = m;
-    triples
-}
-
 /// The input has ended.
-fn conclude(alloc: Global, m: Machine, window: &mut Window) -> Result<Triples, ReadError>
-    requires window { IsWindow window.old }
+fn conclude(alloc: Global, m: Machine) -> Result<Triples, ReadError>
     requires ready { IsReady m.phase m.triples }
-    requires number { window.old.lines + m.number + window.old.room < 2 ^ 64 }
     requires room { begun_lines m < 2 ^ 64 }
-    ensures answer { (end : End) (bytes : List ℕ) → IsAfter end m bytes → is_complete end m.phase ≡ false
+    ensures { (end : End) (bytes : List ℕ) → IsAfter end m bytes → is_complete end m.phase ≡ false
         → MatchResult result (λ t. IsWhole end bytes t) (RefusesAtEnd end bytes) }
-    ensures window { IsWindow window.new }
-    ensures ahead { ahead_of window.new ≡ ahead_of window.old }
-    ensures room { window.new.room ≡ window.old.room }
-    ensures lines { OnOk result (window.new.lines ≡ window.old.lines + m.number) }
-    ensures bound { window.new.lines ≤ window.old.lines + m.number }
-    ensures at_end { window.new.at_end ≡ window.old.at_end }
 {
     let mut m = m;
-    let ended = m.number;
     match finish(alloc, &mut m) {
         Err(stop) => Err(refusal(stop)),
-        Ok(()) => {
-            window.lines += ended;
-            let Machine { triples, .. } = m;
-            Ok(triples)
-        }
+        Ok(()) => Ok(triples_of(m)),
     }
+}
+
+/// What the machine has read.
+fn triples_of(m: Machine) -> Triples
+    ensures { result ≡ m.triples }
+{
+    let Machine { triples, .. } = m;
+    triples
 }
 
 /// Reads a matrix from the bytes ahead and from the source, within the window's room.
@@ -142,15 +124,21 @@ pub fn matrix<S: Source>(
     requires window { IsWindow window.old }
     requires at_end { IsTrue window.old.at_end → IsAtEnd (S.left source.old) }
     ensures told { WhereTold (S.left source.old) (S.left source.new) (λ before after.
-        Answers end (call_of window.old (S.faults source.old) (S.faults source.new) before after) window.old window.new result) }
+        Answers end (call_of window.old (S.faults source.old) (S.faults source.new) before after) window.new result) }
     ensures kind { HasItsKind result }
     ensures gave { GivesFront (S.left source.old) (S.left source.new) }
     ensures most { WhereTold (S.left source.old) (S.left source.new) (λ before after.
         TakesAtMostOnePast (call_of window.old (S.faults source.old) (S.faults source.new) before after)) }
     ensures cause { Causes (SourceRose (S.left source.old) (S.faults source.old) (S.faults source.new)) (S.faults source.old) (S.faults source.new) result }
+    ensures counted { WhereTold (S.left source.old) (S.left source.new) (λ before after. HasCounted window.old window.new before after) }
+    ensures past { IsErrOf result ReadError.TooLong → IsOnePast window.new }
     ensures window { KeepsWindow window.old window.new }
     ensures at_end { IsTrue window.new.at_end → IsAtEnd (S.left source.new) }
     ensures unasked { IsTrue window.old.at_end → source.new ≡ source.old }
+    ensures stays { IsTrue window.old.at_end → IsTrue window.new.at_end }
+    ensures ended { OnOk result (end ≡ End.File → IsTrue window.new.at_end) }
+    ensures last_line { OnOk result (WhereTold (S.left source.old) (S.left source.new) (λ before after.
+        LacksLf (ahead_of window.old ++ before) (ahead_of window.new ++ after) → IsTrue window.new.at_end)) }
 {
     let mut m = match start(alloc) {
         Err(_) => return Err(ReadError::OutOfMemory),
@@ -162,10 +150,10 @@ pub fn matrix<S: Source>(
             Ok(done) => done,
         };
         if done {
-            return Ok(complete(m, window));
+            return Ok(triples_of(m));
         }
         if window.at_end {
-            return conclude(alloc, m, window);
+            return conclude(alloc, m);
         }
         if let Err(_) = refill(window, source) {
             return Err(ReadError::ReadFault);

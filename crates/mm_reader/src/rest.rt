@@ -1,12 +1,13 @@
 //! Reading all that follows.
 
-ghost use Rattle.std.specs.Prelude.{◌≡◌, ◌≤◌, ◌<◌, ◌+◌, length, IfErr, MatchResult, OnOk, IsTrue};
+ghost use Rattle.std.specs.Prelude.{◌≡◌, ◌≤◌, ◌<◌, ◌+◌, ◌++◌, length, IfErr, MatchResult, OnErr, OnOk, IsTrue};
 ghost use Rattle.std.specs.List.{count_by};
-ghost use Rattle.sp_ports.specs.Bytes.{IsAtEnd, WhereTold};
+ghost use Rattle.std.specs.Result.{IsErrOf};
+ghost use Rattle.sp_ports.specs.Bytes.{GivesFront, IsAtEnd, WhereTold};
 ghost use Rattle.sp_ports.specs.Counts.{SourceRose};
 ghost use Rattle.mm_defs.specs.Words.{is_lf};
-ghost use Rattle.mm_defs.specs.Reading.{Causes, JudgesNoLine, RefusesRest, TakesAtMostOnePast};
-ghost use Rattle.mm_reader.specs.Windows.{ahead_of, call_of, GivesFront, IsWindow, KeepsWindow, TakesAhead, RefusesAhead, RestRead};
+ghost use Rattle.mm_defs.specs.Reading.{Causes, IsRest, JudgesNoLine, RefusesRest, TakesAtMostOnePast};
+ghost use Rattle.mm_reader.specs.Windows.{ahead_of, call_of, HasCounted, IsOnePast, IsWindow, KeepsWindow, TakesAhead, RefusesAhead};
 
 use crate::window::{Window, refill};
 use mm_defs::ReadError;
@@ -26,6 +27,7 @@ fn take_ahead(bytes: &mut Vec<u8>, window: &mut Window) -> Result<(), ReadError>
     ensures window { KeepsWindow window.old window.new }
     ensures ok { OnOk result (TakesAhead window.old window.new bytes.old.items bytes.new.items) }
     ensures err { IfErr result (RefusesAhead window.old) }
+    ensures same { OnErr result (window.new ≡ window.old) }
     ensures at_end { window.new.at_end ≡ window.old.at_end }
 {
     let count = window.to - window.from;
@@ -52,16 +54,20 @@ pub fn rest<S: Source>(
     requires window { IsWindow window.old }
     requires at_end { IsTrue window.old.at_end → IsAtEnd (S.left source.old) }
     ensures told { WhereTold (S.left source.old) (S.left source.new) (λ before after.
-        MatchResult result (λ v. RestRead (call_of window.old (S.faults source.old) (S.faults source.new) before after) window.old window.new v.items)
+        MatchResult result (λ v. IsRest (call_of window.old (S.faults source.old) (S.faults source.new) before after) (ahead_of window.new ++ after) v.items)
         (RefusesRest (call_of window.old (S.faults source.old) (S.faults source.new) before after))) }
     ensures unjudged { IfErr result JudgesNoLine }
     ensures gave { GivesFront (S.left source.old) (S.left source.new) }
     ensures most { WhereTold (S.left source.old) (S.left source.new) (λ before after.
         TakesAtMostOnePast (call_of window.old (S.faults source.old) (S.faults source.new) before after)) }
     ensures cause { Causes (SourceRose (S.left source.old) (S.faults source.old) (S.faults source.new)) (S.faults source.old) (S.faults source.new) result }
+    ensures counted { WhereTold (S.left source.old) (S.left source.new) (λ before after. HasCounted window.old window.new before after) }
+    ensures past { IsErrOf result ReadError.TooLong → IsOnePast window.new }
     ensures window { KeepsWindow window.old window.new }
     ensures at_end { IsTrue window.new.at_end → IsAtEnd (S.left source.new) }
     ensures unasked { IsTrue window.old.at_end → source.new ≡ source.old }
+    ensures stays { IsTrue window.old.at_end → IsTrue window.new.at_end }
+    ensures ended { OnOk result (IsTrue window.new.at_end) }
 {
     let mut bytes = Vec::new(alloc);
     'reading: loop {

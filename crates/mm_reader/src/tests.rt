@@ -560,6 +560,56 @@ fn the_rest_is_all_that_follows(rt: HostRuntime) -> Result<(), Fail> {
 }
 
 #[test]
+fn lines_are_counted_at_a_failed_read(rt: HostRuntime) -> Result<(), Fail> {
+    let alloc = rt.alloc();
+    // The first 50 bytes have one LF, and the second call fails.
+    for whole in [true, false] {
+        let mut source = MemSource::new(SMALLEST.to_vec(alloc)?, 50, [1].to_vec(alloc)?);
+        let mut input = Input::new(alloc, 1000)?;
+        let refused = if whole {
+            refusal(read_matrix(alloc, &mut input, &mut source, End::File))
+        } else {
+            read_rest(alloc, &mut input, &mut source).err()
+        };
+        assert_eq!(rt; refused, Some(ReadError::ReadFault));
+        assert_eq!(rt; (input.lines(), input.ahead()), (1, 0));
+    }
+    Ok(())
+}
+
+#[test]
+fn lines_are_counted_at_the_limit(rt: HostRuntime) -> Result<(), Fail> {
+    let alloc = rt.alloc();
+    // Of 59 bytes 56 may be used, and one more is taken.
+    for piece in [10, 59] {
+        let mut source = MemSource::new(SMALLEST.to_vec(alloc)?, piece, Vec::new(alloc));
+        let mut input = Input::new(alloc, 56)?;
+        let answer = read_matrix(alloc, &mut input, &mut source, End::File);
+        assert_eq!(rt; refusal(answer), Some(ReadError::TooLong));
+        assert_eq!(rt; (input.lines(), input.ahead()), (2, 1));
+    }
+    Ok(())
+}
+
+#[test]
+fn nothing_is_asked_behind_the_end(rt: HostRuntime) -> Result<(), Fail> {
+    let alloc = rt.alloc();
+    // The second call gives no bytes, and the third would fail. The last line has an LF or none.
+    for (end, length) in [(End::File, 59), (End::File, 58), (End::LastEntry, 58)] {
+        let bytes = SMALLEST[..length].to_vec(alloc)?;
+        let mut source = MemSource::new(bytes, 100, [2].to_vec(alloc)?);
+        let mut input = Input::new(alloc, 1000)?;
+        let triples = read_matrix(alloc, &mut input, &mut source, end)?;
+        assert_eq!(rt; triples.places(), [(Row(0), Col(0))].as_slice());
+        assert_eq!(rt; read_rest(alloc, &mut input, &mut source)?.len(), 0);
+        assert_eq!(rt; read_rest(alloc, &mut input, &mut source)?.len(), 0);
+        assert_eq!(rt; source.failed_calls(), 0);
+        assert_eq!(rt; source.read(&mut [0; 1]), Err(Failed));
+    }
+    Ok(())
+}
+
+#[test]
 fn the_rest_asks_no_more_at_the_end(rt: HostRuntime) -> Result<(), Fail> {
     let alloc = rt.alloc();
     // The second call gives no bytes, and the third would fail.

@@ -1,9 +1,11 @@
 //! The bytes that were taken from a source and are not used yet.
 
-ghost use Rattle.std.specs.Prelude.{◌≡◌, ◌≤◌, ◌<◌, ◌+◌, ◌^◌, take, length, vec_len, IfOk, OnErr, IsTrue, IsFalse};
+ghost use Rattle.std.specs.Prelude.{◌≡◌, ◌≤◌, ◌<◌, ◌+◌, ◌^◌, [], take, length, vec_len, IfOk, OnErr, IsTrue, IsFalse};
+ghost use Rattle.std.specs.List.{count_by};
 ghost use Rattle.sp_ports.specs.Bytes.{Gives, IsAtEnd};
 ghost use Rattle.sp_ports.specs.Counts.{HasCause, SourceRose};
-ghost use Rattle.mm_reader.specs.Windows.{ahead_of, IsWindow};
+ghost use Rattle.mm_defs.specs.Words.{is_lf};
+ghost use Rattle.mm_reader.specs.Windows.{ahead_of, IsWindow, Uses};
 
 use sp_ids::OutOfMemory;
 use sp_ports::{Failed, Source};
@@ -33,6 +35,20 @@ pub fn new_buffer(alloc: Global) -> Result<Vec<u8>, OutOfMemory>
     ensures { IfOk result (λ buffer. vec_len buffer ≡ BUFFER) }
 {
     Ok(Vec::from_elem(alloc, 0u8, BUFFER)?)
+}
+
+/// So many of the bytes ahead were used, and so many of them are LFs.
+pub fn advance(window: &mut Window, used: usize, lfs: u64)
+    requires window { IsWindow window.old }
+    requires some { used ≤ length (ahead_of window.old) }
+    requires room { used ≤ window.old.room }
+    requires lfs { lfs ≡ count_by is_lf (take used (ahead_of window.old)) }
+    ensures window { IsWindow window.new }
+    ensures used { Uses window.old window.new used }
+{
+    window.from += used;
+    window.room -= used as u64;
+    window.lines += lfs;
 }
 
 /// How many bytes are asked for: one more than may be used, as far as they have room.
@@ -70,6 +86,7 @@ pub fn refill<S: Source>(window: &mut Window, source: &mut S) -> Result<usize, F
     ensures end { IfOk result (λ k. IsTrue window.new.at_end → IsAtEnd (S.left source.new)) }
     ensures kept { OnErr result (S.left source.new ≡ S.left source.old) }
     ensures same { OnErr result (window.new.at_end ≡ window.old.at_end) }
+    ensures none { OnErr result (ahead_of window.new ≡ []) }
     ensures cause { HasCause (SourceRose (S.left source.old) (S.faults source.old) (S.faults source.new)) (S.faults source.old) (S.faults source.new) result }
     ensures room { window.new.room ≡ window.old.room }
     ensures lines { window.new.lines ≡ window.old.lines }

@@ -7,6 +7,10 @@ Gives None new given = Unit {0}
 Gives (Some left) None given = ⊥
 Gives (Some left) (Some rest) given = left ≡ given ++ rest
 
+-- what a source has left is the end of what it had
+abbrev pub GivesFront : Option (List ℕ) → Option (List ℕ) → Type 0
+GivesFront old new = (front : List ℕ) × Gives old new front
+
 -- nothing is left, where that is told
 abbrev pub IsAtEnd : Option (List ℕ) → Type 0
 IsAtEnd None = Unit {0}

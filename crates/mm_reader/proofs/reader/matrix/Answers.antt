@@ -1,97 +1,138 @@
-use Rattle.std.proofs.Common.{◌<◌, [], append-nil, refl, sym, ◌∙◌, arith, subst}
-use Rattle.mm_reader.specs.Windows.{ahead_of}
-use Rattle.mm_reader.proofs.Exits.{gives_none, most_told, fed_start, fed_consumed, fed_refilled, rose_since, exit_refused, exit_fault, exit_done, exit_end, memory_told, number-le, on_ok, refused_kind, refused_no_fault, ended_kind, ended_no_fault, turn_smaller, all_used}
+use Rattle.std.proofs.Common.{◌<◌, ◌++◌, [], take, refl, sym, ◌∙◌, arith, subst}
 use Rattle.sp_ports.specs.Counts.{SourceRose}
+use Rattle.mm_defs.specs.declared.answers.ReadError.TheVariants as errors
+use Rattle.mm_reader.specs.Windows.{ahead_of}
+use Rattle.mm_reader.proofs.Exits.{rose_since, exit_refused, exit_fault, exit_done, exit_end, memory_told, closed_used, file_open, on_ok, refused_kind, refused_no_fault, ended_kind, ended_no_fault, ended_in_room, same_error, turn_smaller, all_used}
+use Rattle.mm_reader.proofs.Progress.{fed_start, fed_consumed, fed_refilled, none_used, more_used, not_refilled, keeps, counted_told, most_told, closed_told, at_end_told}
 use Rattle.mm_reader.proofs.reader.matrix.Goals as goal
 
 pub returns-in-Err : goal.returns-in-Err
-returns-in-Err g c = record {
-  told = memory_told c.args.end c.args.window.now c.args.window.now _ _ _;
-  kind = tt;
-  gave = ([], gives_none (g.S.Source.left c.args.source.now));
-  most = most_told c.args.window.now c.args.window.now (g.S.Source.faults c.args.source.now) (g.S.Source.faults c.args.source.now) _ _ [] [] (gives_none (g.S.Source.left c.args.source.now)) (append-nil (ahead_of c.args.window.now)) (omega arith) c.requires.window;
-  cause = record { later = omega arith; steady = tt; failed = λ e. absurd cc };
-  window = record { window = c.requires.window; room = omega arith; counts = omega arith };
-  at_end = c.requires.at_end;
-  unasked = λ e. refl;
-}
+returns-in-Err g c =
+    let h = none_used c.args.window.now (g.S.Source.left c.args.source.now) in
+    record {
+      told = memory_told c.args.end c.args.window.now c.args.window.now _ _ _;
+      kind = tt;
+      gave = (h.gave, h.told);
+      most = most_told c.args.window.now c.args.window.now [] (g.S.Source.faults c.args.source.now) (g.S.Source.faults c.args.source.now) _ _ h c.requires.window;
+      cause = record { later = omega arith; steady = tt; failed = λ e. absurd cc };
+      counted = counted_told c.args.window.now c.args.window.now [] _ _ h;
+      past = λ e. absurd cc;
+      window = keeps c.args.window.now c.args.window.now [] _ _ h c.requires.window;
+      at_end = c.requires.at_end;
+      unasked = λ e. refl;
+      stays = λ e. e;
+      ended = tt;
+      last_line = tt;
+    }
+
+pub consume-requires-clause-stands : goal.consume-requires-clause-stands
+consume-requires-clause-stands g c = (c.reading.invariant.fed.used, c.reading.invariant.fed.stands)
 
 pub returns-in-Err-consume : goal.returns-in-Err-consume
 returns-in-Err-consume g c =
     let i = c.reading.invariant in
     let e = c.in-Err-consume.ensures in
+    let u = e.used.1 in
+    let h = more_used c.args.window.now c.reading.window c.consume.new.window (g.S.Source.left c.args.source.now) (g.S.Source.left c.reading.source) i.fed.used i.fed.so_far e.used.0 u in
     record {
-      told = exit_refused c.args.end c.args.window.now c.consume.new.window c.args.window.now.lines (g.S.Source.faults c.args.source.now) (g.S.Source.faults c.reading.source) c.reading.m c.reading.window i.kept.window _ _ c.in-Err-consume.error i.fed e.err;
+      told = exit_refused c.args.end c.args.window.now (g.S.Source.faults c.args.source.now) (g.S.Source.faults c.reading.source) c.reading.m c.reading.window i.window c.consume.new.window _ _ c.in-Err-consume.error i.fed e.err;
       kind = refused_kind _ _ _ _ _ (e.err i.fed.used i.fed.stands);
-      gave = (i.fed.gave, i.fed.told);
-      most = most_told c.args.window.now c.reading.window (g.S.Source.faults c.args.source.now) (g.S.Source.faults c.reading.source) _ _ i.fed.gave i.fed.used i.fed.told i.fed.split i.fed.size i.kept.window;
+      gave = (h.gave, h.told);
+      most = most_told c.args.window.now c.consume.new.window _ (g.S.Source.faults c.args.source.now) (g.S.Source.faults c.reading.source) _ _ h e.window;
       cause = record { later = omega (arith, i.steady); steady = tt; failed = λ x. absurd (refused_no_fault _ _ _ _ _ (e.err i.fed.used i.fed.stands) x) };
-      window = record { window = e.window; room = omega (arith, e.room, i.kept.room); counts = omega (arith, e.room, e.lines, i.kept.counts) };
-      at_end = λ t. i.at_end (rw (← e.at_end) t);
+      counted = counted_told c.args.window.now c.consume.new.window _ _ _ h;
+      past = λ x. e.past (same_error c.in-Err-consume.error errors.TooLong x);
+      window = keeps c.args.window.now c.consume.new.window _ _ _ h e.window;
+      at_end = λ t. i.at_end (rw (← u.at_end_same) t);
       unasked = λ t. (i.unasked t).1;
+      stays = λ t. rw u.at_end_same ((i.unasked t).0);
+      ended = tt;
+      last_line = tt;
     }
 
 pub returns-then-done : goal.returns-then-done
 returns-then-done g c =
     let i = c.reading.invariant in
     let e = c.in-Ok-consume.ensures in
-    let f = fed_consumed c.args.end (ahead_of c.args.window.now) _ _ c.args.window.now.room c.args.window.now.lines c.reading.m c.consume.new.m c.reading.window c.consume.new.window c.in-Ok-consume.done i.fed e.ok in
-    let p = c.complete.ensures in
+    let u = e.ok.uses in
+    let f = fed_consumed c.args.end c.args.window.now c.reading.window c.consume.new.window (g.S.Source.left c.args.source.now) (g.S.Source.left c.reading.source) c.reading.m c.consume.new.m c.in-Ok-consume.done i.fed e.ok in
+    let closed = closed_used c.args.end c.consume.new.m f.used f.stands (e.ok.closed c.if-done.true) in
+    let h = f.so_far in
     record {
-      told = exit_done c.args.end c.args.window.now c.complete.new.window c.args.window.now.lines (g.S.Source.faults c.args.source.now) (g.S.Source.faults c.reading.source) c.consume.new.m c.consume.new.window e.window
-          p.ahead p.room refl _ _ c.complete.result f (sym e.ok.done_is ∙ c.if-done.true) (e.ok.closed c.if-done.true) p.triples p.lines;
+      told = exit_done c.args.end c.args.window.now (g.S.Source.faults c.args.source.now) (g.S.Source.faults c.reading.source) c.consume.new.m c.consume.new.window e.window
+          _ _ c.triples_of.result f (sym e.ok.done_is ∙ c.if-done.true) closed c.triples_of.ensures;
       kind = tt;
-      gave = (i.fed.gave, i.fed.told);
-      most = most_told c.args.window.now c.reading.window (g.S.Source.faults c.args.source.now) (g.S.Source.faults c.reading.source) _ _ i.fed.gave i.fed.used i.fed.told i.fed.split i.fed.size i.kept.window;
+      gave = (h.gave, h.told);
+      most = most_told c.args.window.now c.consume.new.window f.used (g.S.Source.faults c.args.source.now) (g.S.Source.faults c.reading.source) _ _ h e.window;
       cause = record { later = omega (arith, i.steady); steady = i.steady; failed = λ x. absurd cc };
-      window = record { window = p.window; room = omega (arith, p.room, e.room, i.kept.room); counts = omega (arith, p.lines, p.room, f.lines_same, e.ok.number, e.ok.uses.room_is, i.number, number-le c.consume.new.m) };
-      at_end = λ t. i.at_end (rw (← e.at_end, ← p.at_end) t);
+      counted = counted_told c.args.window.now c.consume.new.window f.used _ _ h;
+      past = λ x. absurd cc;
+      window = keeps c.args.window.now c.consume.new.window f.used _ _ h e.window;
+      at_end = λ t. i.at_end (rw (← u.at_end_same) t);
       unasked = λ t. (i.unasked t).1;
+      stays = λ t. rw u.at_end_same ((i.unasked t).0);
+      ended = λ x. absurd (file_open c.args.end c.consume.new.m.phase x (sym e.ok.done_is ∙ c.if-done.true));
+      last_line = closed_told c.args.window.now c.consume.new.window f.used _ _ h closed;
     }
 
 pub returns-then-window : goal.returns-then-window
 returns-then-window g c =
     let i = c.reading.invariant in
     let e = c.in-Ok-consume.ensures in
-    let f = fed_consumed c.args.end (ahead_of c.args.window.now) _ _ c.args.window.now.room c.args.window.now.lines c.reading.m c.consume.new.m c.reading.window c.consume.new.window c.in-Ok-consume.done i.fed e.ok in
-    let p = c.conclude.ensures in
+    let u = e.ok.uses in
+    let f = fed_consumed c.args.end c.args.window.now c.reading.window c.consume.new.window (g.S.Source.left c.args.source.now) (g.S.Source.left c.reading.source) c.reading.m c.consume.new.m c.in-Ok-consume.done i.fed e.ok in
+    let h = f.so_far in
+    let answer = c.conclude.ensures c.args.end f.used f.stands (sym e.ok.done_is ∙ c.if-done.false) in
     record {
-      told = exit_end c.args.end c.args.window.now c.conclude.new.window c.args.window.now.lines (g.S.Source.faults c.args.source.now) (g.S.Source.faults c.reading.source) c.consume.new.m c.consume.new.window e.window
-          p.ahead p.room refl _ _ c.conclude.result f (e.ok.all c.if-done.false) (i.at_end (rw (← e.at_end) c.if-window.true)) i.steady (sym e.ok.done_is ∙ c.if-done.false) p.lines p.answer;
-      kind = ended_kind _ c.args.end f.used c.conclude.result (p.answer c.args.end f.used f.stands (sym e.ok.done_is ∙ c.if-done.false));
-      gave = (i.fed.gave, i.fed.told);
-      most = most_told c.args.window.now c.reading.window (g.S.Source.faults c.args.source.now) (g.S.Source.faults c.reading.source) _ _ i.fed.gave i.fed.used i.fed.told i.fed.split i.fed.size i.kept.window;
-      cause = record { later = omega (arith, i.steady); steady = on_ok _ c.conclude.result i.steady; failed = λ x. absurd (ended_no_fault _ c.args.end f.used c.conclude.result (p.answer c.args.end f.used f.stands (sym e.ok.done_is ∙ c.if-done.false)) x) };
-      window = record { window = p.window; room = omega (arith, p.room, e.room, i.kept.room); counts = omega (arith, p.bound, p.room, f.lines_same, e.ok.number, e.ok.uses.room_is, i.number, number-le c.consume.new.m) };
-      at_end = λ t. i.at_end (rw (← e.at_end, ← p.at_end) t);
+      told = exit_end c.args.end c.args.window.now (g.S.Source.faults c.args.source.now) (g.S.Source.faults c.reading.source) c.consume.new.m c.consume.new.window e.window
+          _ _ c.conclude.result f (e.ok.all c.if-done.false) (i.at_end (rw (← u.at_end_same) c.if-window.true)) i.steady (sym e.ok.done_is ∙ c.if-done.false) c.conclude.ensures;
+      kind = ended_kind _ c.args.end f.used c.conclude.result answer;
+      gave = (h.gave, h.told);
+      most = most_told c.args.window.now c.consume.new.window f.used (g.S.Source.faults c.args.source.now) (g.S.Source.faults c.reading.source) _ _ h e.window;
+      cause = record { later = omega (arith, i.steady); steady = on_ok _ c.conclude.result i.steady; failed = λ x. absurd (ended_no_fault _ c.args.end f.used c.conclude.result answer x) };
+      counted = counted_told c.args.window.now c.consume.new.window f.used _ _ h;
+      past = λ x. absurd (ended_in_room _ c.args.end f.used c.conclude.result answer x);
+      window = keeps c.args.window.now c.consume.new.window f.used _ _ h e.window;
+      at_end = λ t. i.at_end (rw (← u.at_end_same) t);
       unasked = λ t. (i.unasked t).1;
+      stays = λ t. c.if-window.true;
+      ended = on_ok _ c.conclude.result (λ x. c.if-window.true);
+      last_line = on_ok _ c.conclude.result (at_end_told c.args.window.now c.consume.new.window f.used _ _ h c.if-window.true);
     }
 
 pub returns-in-Err-refill : goal.returns-in-Err-refill
 returns-in-Err-refill g c =
     let i = c.reading.invariant in
     let e = c.in-Ok-consume.ensures in
-    let f = fed_consumed c.args.end (ahead_of c.args.window.now) _ _ c.args.window.now.room c.args.window.now.lines c.reading.m c.consume.new.m c.reading.window c.consume.new.window c.in-Ok-consume.done i.fed e.ok in
+    let u = e.ok.uses in
+    let f = fed_consumed c.args.end c.args.window.now c.reading.window c.consume.new.window (g.S.Source.left c.args.source.now) (g.S.Source.left c.reading.source) c.reading.m c.consume.new.m c.in-Ok-consume.done i.fed e.ok in
     let r = c.in-Err-refill.ensures in
+    let none = e.ok.all c.if-done.false in
+    let h = not_refilled c.args.window.now c.consume.new.window c.refill.new.window (g.S.Source.left c.args.source.now) (g.S.Source.left c.reading.source) f.used f.so_far (g.S.Source.left c.refill.new.source) none r.kept r.none r.room r.lines in
     let s : SourceRose (g.S.Source.left c.args.source.now) (g.S.Source.faults c.args.source.now) (g.S.Source.faults c.refill.new.source) =
-    rose_since (g.S.Source.left c.args.source.now) (g.S.Source.left c.reading.source) i.fed.gave _ (g.S.Source.faults c.reading.source) _ i.fed.told i.steady r.cause.failed in
+    rose_since (g.S.Source.left c.args.source.now) (g.S.Source.left c.reading.source) i.fed.so_far.gave _ (g.S.Source.faults c.reading.source) _ i.fed.so_far.told i.steady r.cause.failed in
     record {
-      told = rw r.kept (exit_fault c.args.end c.args.window.now c.refill.new.window c.args.window.now.lines (g.S.Source.faults c.args.source.now) (g.S.Source.faults c.refill.new.source) c.consume.new.m c.consume.new.window e.window
-          (g.S.Source.left c.args.source.now) (g.S.Source.left c.reading.source) f (e.ok.all c.if-done.false) (sym e.ok.done_is ∙ c.if-done.false) s);
+      told = rw r.kept (exit_fault c.args.end c.args.window.now (g.S.Source.faults c.args.source.now) (g.S.Source.faults c.refill.new.source) c.consume.new.m c.consume.new.window e.window c.refill.new.window
+          (g.S.Source.left c.args.source.now) (g.S.Source.left c.reading.source) f none (sym e.ok.done_is ∙ c.if-done.false) s);
       kind = tt;
-      gave = (i.fed.gave, rw r.kept i.fed.told);
-      most = rw r.kept (most_told c.args.window.now c.reading.window (g.S.Source.faults c.args.source.now) (g.S.Source.faults c.refill.new.source) _ _ i.fed.gave i.fed.used i.fed.told i.fed.split i.fed.size i.kept.window);
+      gave = (h.gave, h.told);
+      most = most_told c.args.window.now c.refill.new.window f.used (g.S.Source.faults c.args.source.now) (g.S.Source.faults c.refill.new.source) _ _ h r.window;
       cause = record { later = omega (arith, i.steady, r.cause.later); steady = tt; failed = λ x. s };
-      window = record { window = r.window; room = omega (arith, r.room, e.room, i.kept.room); counts = omega (arith, r.lines, r.room, e.room, e.lines, i.kept.counts) };
-      at_end = λ t. rw r.kept (i.at_end (rw (← e.at_end, ← r.same) t));
-      unasked = λ t. let a = (i.unasked t).0 in let b = e.at_end in let d = c.if-window.false in absurd cc;
+      counted = counted_told c.args.window.now c.refill.new.window f.used _ _ h;
+      past = λ x. absurd cc;
+      window = keeps c.args.window.now c.refill.new.window f.used _ _ h r.window;
+      at_end = λ t. rw r.kept (i.at_end (rw (← u.at_end_same, ← r.same) t));
+      unasked = λ t. let a = (i.unasked t).0 in let b = u.at_end_same in let d = c.if-window.false in absurd cc;
+      stays = λ t. let a = (i.unasked t).0 in let b = u.at_end_same in let d = c.if-window.false in absurd cc;
+      ended = tt;
+      last_line = tt;
     }
 
 pub reading-init : goal.reading-init
 reading-init g c =
     let s = c.in-Ok.ensures in
     record {
-      kept = record { window = c.requires.window; room = omega arith; counts = omega arith };
+      window = c.requires.window;
       ready = s.ready;
       open_now = s.open c.args.end;
       number = omega (arith, s.none);
@@ -105,17 +146,18 @@ pub reading-preserved : goal.reading-preserved
 reading-preserved g c =
     let i = c.reading.invariant in
     let e = c.in-Ok-consume.ensures in
-    let f = fed_consumed c.args.end (ahead_of c.args.window.now) _ _ c.args.window.now.room c.args.window.now.lines c.reading.m c.consume.new.m c.reading.window c.consume.new.window c.in-Ok-consume.done i.fed e.ok in
+    let u = e.ok.uses in
+    let f = fed_consumed c.args.end c.args.window.now c.reading.window c.consume.new.window (g.S.Source.left c.args.source.now) (g.S.Source.left c.reading.source) c.reading.m c.consume.new.m c.in-Ok-consume.done i.fed e.ok in
     let r = c.in_default.ensures in
     record {
-      kept = record { window = r.window; room = omega (arith, r.room, e.room, i.kept.room); counts = omega (arith, r.lines, r.room, e.room, e.lines, i.kept.counts) };
+      window = r.window;
       ready = e.ok.ready;
       open_now = sym e.ok.done_is ∙ c.if-done.false;
       number = omega (arith, r.room, e.ok.number, e.ok.uses.room_is, i.number);
       at_end = r.end;
-      unasked = λ t. let a = (i.unasked t).0 in let b = e.at_end in let d = c.if-window.false in absurd cc;
+      unasked = λ t. let a = (i.unasked t).0 in let b = u.at_end_same in let d = c.if-window.false in absurd cc;
       steady = r.cause.steady ∙ i.steady;
-      fed = fed_refilled c.args.end (ahead_of c.args.window.now) _ _ _ c.args.window.now.room c.args.window.now.lines c.consume.new.m c.consume.new.window c.refill.new.window f (e.ok.all c.if-done.false) r.bytes r.room r.lines;
+      fed = fed_refilled c.args.end c.args.window.now c.consume.new.window c.refill.new.window _ _ _ c.consume.new.m f (e.ok.all c.if-done.false) r.bytes r.room r.lines;
     }
 
 pub reading-smaller : goal.reading-smaller
@@ -123,6 +165,6 @@ reading-smaller g c =
     let i = c.reading.invariant in
     let e = c.in-Ok-consume.ensures in
     let r = c.in_default.ensures in
-    turn_smaller c.reading.window c.consume.new.window c.refill.new.window e.ok.count i.kept.window r.window e.ok.uses.room_is
+    turn_smaller c.reading.window c.consume.new.window c.refill.new.window e.ok.count i.window r.window e.ok.uses.room_is
     (all_used (ahead_of c.reading.window) (ahead_of c.consume.new.window) e.ok.count e.ok.uses.some e.ok.uses.ahead_is (e.ok.all c.if-done.false))
-    (sym e.at_end ∙ c.if-window.false) r.room (λ x. subst (λ k. 0 < k) r.count (r.some x))
+    (sym e.ok.uses.at_end_same ∙ c.if-window.false) r.room (λ x. subst (λ k. 0 < k) r.count (r.some x))

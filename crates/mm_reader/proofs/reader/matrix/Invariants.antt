@@ -2,19 +2,20 @@ use Rattle.std.proofs.Common.{◌≡◌, ◌≤◌, ◌+◌, ◌*◌, ◌==◌, 
 use Rattle.sp_ports.specs.Bytes.{IsAtEnd}
 use Rattle.mm_reader.specs.Machine.{IsReady, is_complete}
 use Rattle.mm_reader.specs.Standing.{begun_lines}
-use Rattle.mm_reader.specs.Windows.{ahead_of, Fed, KeepsWindow}
+use Rattle.mm_reader.specs.Windows.{IsWindow}
+use Rattle.mm_reader.proofs.Progress.{Fed}
 use Rattle.mm_reader.proofs.reader.matrix.Given as goal
 
 abbrev pub invariant-reading : goal.invariant-reading
 invariant-reading g l = record {
-  kept : KeepsWindow l.fn.window l.window;
+  window : IsWindow l.window;
   ready : IsReady l.m.phase l.m.triples;
   open_now : is_complete l.end l.m.phase ≡ false;
   number : begun_lines l.m + l.window.room ≤ l.fn.window.room;
   at_end : IsTrue l.window.at_end → IsAtEnd (g.S.Source.left l.source);
   unasked : IsTrue l.fn.window.at_end → IsTrue l.window.at_end × (l.source ≡ l.fn.source);
   steady : g.S.Source.faults l.source ≡ g.S.Source.faults l.fn.source;
-  fed : Fed l.end (ahead_of l.fn.window) (g.S.Source.left l.fn.source) (g.S.Source.left l.source) l.fn.window.room l.fn.window.lines l.m l.window;
+  fed : Fed l.end l.fn.window l.window (g.S.Source.left l.fn.source) (g.S.Source.left l.source) l.m;
 }
 
 abbrev pub decreases-reading : goal.decreases-reading
