@@ -135,11 +135,13 @@ pub fn read_matrix<S: Source>(
     ensures at_end { IsTrue input.new.at_end → IsAtEnd (S.left source.new) }
     ensures unasked { IsTrue input.old.at_end → source.new ≡ source.old }
     ensures stays { IsTrue input.old.at_end → IsTrue input.new.at_end }
+
+    // A read has given none where the file was read to its end, and where the last line used has no LF.
     ensures ended { OnOk result (end ≡ End.File → IsTrue input.new.at_end) }
     ensures last_line { OnOk result (WhereTold (S.left source.old) (S.left source.new) (λ before after.
         LacksLf (input.old.ahead ++ before) (input.new.ahead ++ after) → IsTrue input.new.at_end)) }
 
-    // Whatever the answer, what was used was counted, and what was taken.
+    // Whatever the answer is, the LFs of what was used were counted, and the bytes that were taken.
     ensures lines { WhereTold (S.left source.old) (S.left source.new) (λ before after.
         input.new.lines + count_by is_lf (input.new.ahead ++ after) ≡ input.old.lines + count_by is_lf (input.old.ahead ++ before)) }
     ensures taken { WhereTold (S.left source.old) (S.left source.new) (λ before after.
@@ -191,9 +193,11 @@ pub fn read_rest<S: Source>(
     ensures at_end { IsTrue input.new.at_end → IsAtEnd (S.left source.new) }
     ensures unasked { IsTrue input.old.at_end → source.new ≡ source.old }
     ensures stays { IsTrue input.old.at_end → IsTrue input.new.at_end }
+
+    // All that follows was read where a read has given none.
     ensures ended { OnOk result (IsTrue input.new.at_end) }
 
-    // Whatever the answer, what was used was counted, and what was taken.
+    // Whatever the answer is, the LFs of what was used were counted, and the bytes that were taken.
     ensures lines { WhereTold (S.left source.old) (S.left source.new) (λ before after.
         input.new.lines + count_by is_lf (input.new.ahead ++ after) ≡ input.old.lines + count_by is_lf (input.old.ahead ++ before)) }
     ensures taken { WhereTold (S.left source.old) (S.left source.new) (λ before after.
