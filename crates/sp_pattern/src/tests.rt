@@ -2,20 +2,21 @@
 
 use crate::{Pattern, WeightError, Weights, load_matrix};
 use sp_ids::{Col, Field, OutOfMemory, Row, Triples};
-use std::alloc::Global;
+use std::process::Abort;
 use std::test::Fail;
 
-fn triples(
-    alloc: Global,
+// Ends the test where a place is out of range.
+fn triples<R: Abort + AllocGlobal>(
+    rt: &R,
     rows: u32,
     cols: u32,
     places: &[(u32, u32)],
 ) -> Result<Triples, OutOfMemory> {
-    let mut triples = Triples::new(alloc, rows, cols, Field::Pattern)?;
+    let mut triples = Triples::new(rt.alloc(), rows, cols, Field::Pattern)?;
     for (row, col) in places {
-        if *row < triples.rows() && *col < triples.cols() && triples.len() < 100 {
-            triples.push(Row(*row), Col(*col), 0)?;
-        }
+        let in_range = *row < triples.rows() && *col < triples.cols() && triples.len() < 100;
+        assert!(rt; in_range, "no place for row {row} and column {col}");
+        triples.push(Row(*row), Col(*col), 0)?;
     }
     Ok(triples)
 }
@@ -23,7 +24,7 @@ fn triples(
 #[test]
 fn places_in_no_order_and_one_of_them_twice(rt: HostRuntime) -> Result<(), Fail> {
     let places = [(2, 1), (0, 0), (2, 1), (1, 3), (0, 1), (2, 0)];
-    let pattern = Pattern::build(&rt, rt.alloc(), &triples(rt.alloc(), 3, 4, &places)?)?;
+    let pattern = Pattern::build(&rt, rt.alloc(), &triples(&rt, 3, 4, &places)?)?;
     assert_eq!(rt; pattern.rows(), 3);
     assert_eq!(rt; pattern.cols(), 4);
     assert_eq!(rt; pattern.entries(), 5);
@@ -39,7 +40,7 @@ fn places_in_no_order_and_one_of_them_twice(rt: HostRuntime) -> Result<(), Fail>
 #[test]
 fn places_by_columns(rt: HostRuntime) -> Result<(), Fail> {
     let places = [(0, 0), (2, 0), (2, 0), (1, 2)];
-    let pattern = Pattern::build(&rt, rt.alloc(), &triples(rt.alloc(), 3, 3, &places)?)?;
+    let pattern = Pattern::build(&rt, rt.alloc(), &triples(&rt, 3, 3, &places)?)?;
     assert_eq!(rt; pattern.entries(), 3);
     assert_eq!(rt; pattern.cols(), 3);
     assert_eq!(rt; pattern.rows_of(Col(0)), [Row(0), Row(2)].as_slice());
@@ -49,7 +50,7 @@ fn places_by_columns(rt: HostRuntime) -> Result<(), Fail> {
 #[test]
 fn places_by_rows(rt: HostRuntime) -> Result<(), Fail> {
     let places = [(0, 0), (1, 2), (2, 0), (2, 0)];
-    let pattern = Pattern::build(&rt, rt.alloc(), &triples(rt.alloc(), 3, 3, &places)?)?;
+    let pattern = Pattern::build(&rt, rt.alloc(), &triples(&rt, 3, 3, &places)?)?;
     assert_eq!(rt; pattern.entries(), 3);
     assert_eq!(rt; pattern.rows(), 3);
     assert_eq!(rt; pattern.cols_of(Row(1)), [Col(2)].as_slice());
@@ -58,18 +59,18 @@ fn places_by_rows(rt: HostRuntime) -> Result<(), Fail> {
 
 #[test]
 fn no_rows_and_no_entries(rt: HostRuntime) -> Result<(), Fail> {
-    let empty = Pattern::build(&rt, rt.alloc(), &triples(rt.alloc(), 0, 0, &[])?)?;
+    let empty = Pattern::build(&rt, rt.alloc(), &triples(&rt, 0, 0, &[])?)?;
     assert_eq!(rt; empty.rows(), 0);
     assert_eq!(rt; empty.cols(), 0);
     assert_eq!(rt; empty.entries(), 0);
     assert_eq!(rt; empty.has(Row(0), Col(0)), false);
-    let bare = Pattern::build(&rt, rt.alloc(), &triples(rt.alloc(), 1, 2, &[])?)?;
+    let bare = Pattern::build(&rt, rt.alloc(), &triples(&rt, 1, 2, &[])?)?;
     assert_eq!(rt; bare.cols(), 2);
     assert_eq!(rt; bare.entries(), 0);
-    let narrow = Pattern::build(&rt, rt.alloc(), &triples(rt.alloc(), 2, 0, &[])?)?;
+    let narrow = Pattern::build(&rt, rt.alloc(), &triples(&rt, 2, 0, &[])?)?;
     assert_eq!(rt; narrow.rows(), 2);
     assert_eq!(rt; narrow.cols(), 0);
-    let flat = Pattern::build(&rt, rt.alloc(), &triples(rt.alloc(), 0, 2, &[])?)?;
+    let flat = Pattern::build(&rt, rt.alloc(), &triples(&rt, 0, 2, &[])?)?;
     assert_eq!(rt; flat.rows(), 0);
     assert_eq!(rt; flat.cols(), 2);
     Ok(())
@@ -78,7 +79,7 @@ fn no_rows_and_no_entries(rt: HostRuntime) -> Result<(), Fail> {
 #[test]
 fn places_in_no_order_that_come_back(rt: HostRuntime) -> Result<(), Fail> {
     let places = [(2, 1), (0, 1), (2, 1), (0, 0), (2, 1), (0, 1)];
-    let pattern = Pattern::build(&rt, rt.alloc(), &triples(rt.alloc(), 3, 2, &places)?)?;
+    let pattern = Pattern::build(&rt, rt.alloc(), &triples(&rt, 3, 2, &places)?)?;
     assert_eq!(rt; pattern.rows(), 3);
     assert_eq!(rt; pattern.cols(), 2);
     assert_eq!(rt; pattern.entries(), 3);
@@ -102,7 +103,7 @@ fn places_and_their_mirror_images(rt: HostRuntime) -> Result<(), Fail> {
         (2, 3),
         (3, 2),
     ];
-    let pattern = Pattern::build(&rt, rt.alloc(), &triples(rt.alloc(), 4, 4, &places)?)?;
+    let pattern = Pattern::build(&rt, rt.alloc(), &triples(&rt, 4, 4, &places)?)?;
     assert_eq!(rt; pattern.rows(), 4);
     assert_eq!(rt; pattern.cols(), 4);
     assert_eq!(rt; pattern.entries(), 7);
@@ -116,23 +117,19 @@ fn places_and_their_mirror_images(rt: HostRuntime) -> Result<(), Fail> {
 }
 
 // The row r has entries in the columns 513 r, 513 r + 1 and so on, modulo the size.
-fn far_apart(alloc: Global, size: u32, count: u32) -> Result<Triples, OutOfMemory> {
-    let mut triples = Triples::new(alloc, size, size, Field::Pattern)?;
+fn far_apart<R: Abort + AllocGlobal>(
+    rt: &R,
+    size: u32,
+    count: u32,
+) -> Result<Triples, OutOfMemory> {
+    assert!(rt; size > 0);
+    let mut triples = Triples::new(rt.alloc(), size, size, Field::Pattern)?;
     for k in 0..count {
-        let row = if size > 0 {
-            k.wrapping_mul(513) % size
-        } else {
-            0
-        };
-        let turn = if size > 0 { k / size } else { 0 };
-        let col = if size > 0 {
-            row.wrapping_mul(513).wrapping_add(turn) % size
-        } else {
-            0
-        };
-        if row < triples.rows() && col < triples.cols() && triples.len() < 4294967295 {
-            triples.push(Row(row), Col(col), 0)?;
-        }
+        let row = k.wrapping_mul(513) % size;
+        let col = row.wrapping_mul(513).wrapping_add(k / size) % size;
+        let in_range = row < triples.rows() && col < triples.cols() && triples.len() < 4294967295;
+        assert!(rt; in_range, "no place for row {row} and column {col}");
+        triples.push(Row(row), Col(col), 0)?;
     }
     Ok(triples)
 }
@@ -140,7 +137,7 @@ fn far_apart(alloc: Global, size: u32, count: u32) -> Result<Triples, OutOfMemor
 // Since 513 times 511 is -1 modulo 131072, the column 0 has an entry in each row 511 t, for t from 0 to 15.
 #[test]
 fn many_places_far_apart(rt: HostRuntime) -> Result<(), Fail> {
-    let pattern = Pattern::build(&rt, rt.alloc(), &far_apart(rt.alloc(), 131072, 2097152)?)?;
+    let pattern = Pattern::build(&rt, rt.alloc(), &far_apart(&rt, 131072, 2097152)?)?;
     assert_eq!(rt; pattern.rows(), 131072);
     assert_eq!(rt; pattern.cols(), 131072);
     assert_eq!(rt; pattern.entries(), 2097152);
@@ -175,12 +172,10 @@ fn weights_of_a_place_given_twice(rt: HostRuntime) -> Result<(), Fail> {
     triples.push(Row(1), Col(0), -9)?;
     let pattern = Pattern::build(&rt, rt.alloc(), &triples)?;
     let weights = Weights::build(rt.alloc(), &pattern, &triples)?;
-    if pattern.cols() > 0 {
-        assert_eq!(rt; weights.weights_of(Col(0)), [7, 8].as_slice());
-    }
-    if pattern.has(Row(1), Col(0)) {
-        assert_eq!(rt; weights.weight(Row(1), Col(0)), 8);
-    }
+    assert_eq!(rt; pattern.cols(), 1);
+    assert_eq!(rt; weights.weights_of(Col(0)), [7, 8].as_slice());
+    assert_eq!(rt; pattern.has(Row(1), Col(0)), true);
+    assert_eq!(rt; weights.weight(Row(1), Col(0)), 8);
     Ok(())
 }
 
