@@ -1,5 +1,5 @@
 use Rattle.std.proofs.Common.{arith}
-use Rattle.rayon.proofs.ListFacts.{IfOk-then}
+use Rattle.std.proofs.lemmas.Result.{IfOk-weaker}
 use Rattle.sp_pattern.proofs.Both.{order_numbers}
 use Rattle.sp_pattern.proofs.pattern.Pattern.from_columns.Goals as goal
 
@@ -10,4 +10,4 @@ pub from_column_order-requires-clause-few : goal.from_column_order-requires-clau
 from_column_order-requires-clause-few g c = let few = c.requires.few in let f = (order_numbers _ _ _ _ _ c.in_ok-col_starts.ensures).few in omega (arith, few, f)
 
 pub returns : goal.returns
-returns g c = IfOk-then c.from_column_order.result _ _ c.from_column_order.ensures (λ a h. h (g.P.Pairs.pairs c.args.pairs) (order_numbers _ _ _ _ _ c.in_ok-col_starts.ensures))
+returns g c = IfOk-weaker c.from_column_order.result _ _ (λ a h. h (g.P.Pairs.pairs c.args.pairs) (order_numbers _ _ _ _ _ c.in_ok-col_starts.ensures)) c.from_column_order.ensures
