@@ -6,16 +6,17 @@ use Rattle.std.proofs.lemmas.List.{get_or-take, get_or-drop, get_or_default, len
 use Rattle.std.proofs.lemmas.List.Sums.{sum_by_more, sum_by-take-le}
 use Rattle.std.proofs.lemmas.List.Sorted.{searched}
 use Rattle.std.proofs.lemmas.Bool.Decides.{nat_tests}
+use Rattle.std.specs.List.{slice_range}
 use Rattle.std.specs.List.Sorted.{IsBinarySearchResult}
 use Rattle.std.specs.declared.result.Result.{Result}
 use Rattle.std.specs.Result.{result_unwrap_or}
 use Rattle.bip_defs.specs.Lists.{Among, IsRising, Lists}
 use Rattle.bip_defs.specs.Matrix.{IsEntry, Matrix, column, cols, entry_count}
 use Rattle.bip_defs.proofs.Sets.{among_at, below_each_sound, entry_col, number_same, place_among}
-use Rattle.sp_pattern.specs.Stored.{AreStarts, pieces}
+use Rattle.sp_pattern.specs.Stored.{AreOrders, AreStarts, pieces, stored}
 use Rattle.sp_pattern.specs.Weighing.{Weighing, place_in, position, start_of, weight_at, weights_in}
 use Rattle.sp_pattern.proofs.Cuts.{get_or-pieces, length-pieces, length-slice_range, start_within}
-use Rattle.sp_pattern.proofs.Shape.{rising_step}
+use Rattle.sp_pattern.proofs.Shape.{col_fits, orders_columns, piece_column, rising_step}
 
 -- The starts are the numbers of entries before each column.
 
@@ -79,6 +80,22 @@ found_place P xs x (Err i) l p h =
 
 pub start_more : (a : Matrix) (c : ℕ) → c < cols a → start_of a (c + 1) ≡ start_of a c + length (column a c)
 start_more a c lt = sum_by_more length a.columns c [] lt
+
+-- a column's part of the flat list begins and ends where its entries do
+pub span_column : (cs rs us vs : List ℕ) (a : Matrix) (c : ℕ) → AreOrders cs rs us vs → stored cs rs us ≡ a → c < cols a → slice_range rs (start_of a c) (start_of a (c + 1)) ≡ column a c
+span_column cs rs us vs a c o is lt =
+    let within = rw (← is) at lt in
+    let fits = col_fits cs rs us c within in
+    rw (← is)
+    ((λ i. slice_range rs (sum_before cs rs o.by_col c (omega (arith, fits)) i) (sum_before cs rs o.by_col (c + 1) fits i)) ∙ piece_column cs rs us c within)
+
+-- looking for an entry there
+pub found_in_span : (cs rs us vs : List ℕ) (a : Matrix) (r c from to : ℕ) (found : Result ℕ ℕ) → AreOrders cs rs us vs → stored cs rs us ≡ a → IsEntry a r c → from ≡ start_of a c → to ≡ start_of a (c + 1)
+    → IsBinarySearchResult (λ y. nat_cmp y r) (slice_range rs from to) found → result_unwrap_or found 0 ≡ place_in r (column a c)
+found_in_span cs rs us vs a r c from to found o is e begins ends h =
+    let listed : Lists (λ s. IsEntry a s c) (column a c) = rw (← is) (orders_columns cs rs us vs o c) in
+    let rows : slice_range rs from to ≡ column a c = rw (begins, ends) (span_column cs rs us vs a c o is (entry_col a r c e)) in
+    found_place (λ s. IsEntry a s c) (column a c) r found listed e (subst (λ xs. IsBinarySearchResult (λ y. nat_cmp y r) xs found) rows h)
 
 pub start_le : (a : Matrix) (c : ℕ) → start_of a c ≤ entry_count a
 start_le a c = sum_by-take-le length a.columns c

@@ -207,8 +207,9 @@ impl Pattern {
         ensures place { result ≡ position self.now row col }
         ensures within { result < entry_count self.now }
     {
-        let (from, _) = self.span(col);
-        from + self.rows_of(col).binary_search(&row).unwrap_or(0)
+        let (from, to) = self.span(col);
+        let rows = &self.col_rows.as_slice()[from..to];
+        from + rows.binary_search(&row).unwrap_or(0)
     }
 
     /// The entry that stands there, in the order of all columns. Work: one look at each column up to its own.
