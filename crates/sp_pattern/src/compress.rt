@@ -1,7 +1,7 @@
 //! Pairs in order, compressed: a start for each outer number, and one flat list of inner numbers.
 
-ghost use Rattle.std.specs.Prelude.{◌≡◌, ◌+◌, ◌<◌, ◌≤◌, ◌^◌, ℕ, List, length, map, IfOk, MatchBool, OnOk};
-ghost use Rattle.sp_pattern.specs.Order.{AreInside, AreSorted, IsAgain, IsFront, IsNew, IsOrderOf, Pair};
+ghost use Rattle.std.specs.Prelude.{◌≡◌, ◌+◌, ◌<◌, ◌≤◌, ◌^◌, ℕ, List, length, map, IfOk, OnOk};
+ghost use Rattle.sp_pattern.specs.Order.{AreInside, AreSorted, IsFront, IsOrderOf, Pair};
 
 use crate::pairs::Pairs;
 use sp_ids::{Id, OutOfMemory};
@@ -19,14 +19,6 @@ pub fn open(starts: &mut Vec<u32>, outer: u32, end: u32) -> Result<(), OutOfMemo
     Ok(())
 }
 
-// Whether the pair at `k` is not the one before it.
-fn is_new<P: Pairs>(pairs: &P, k: usize) -> bool
-    requires { k < length (P.pairs pairs.now) }
-    ensures { MatchBool result (IsNew (P.pairs pairs.now) k) (IsAgain (P.pairs pairs.now) k) }
-{
-    k == 0 || pairs.at(k - 1) != pairs.at(k)
-}
-
 /// The pairs, each of them once. Work: one look at each pair, and one write for each that differs and each outer number.
 pub fn compress<P: Pairs, I: Id>(
     alloc: Global,
@@ -42,11 +34,13 @@ pub fn compress<P: Pairs, I: Id>(
     let len = pairs.len();
     let mut starts = Vec::with_capacity(alloc, outer as usize + 1)?;
     let mut flat = Vec::with_capacity(alloc, len)?;
+    let mut last = None;
     for k in 0..len {
-        let (i, j) = pairs.at(k);
-        open(&mut starts, i, flat.len() as u32)?;
-        if is_new(pairs, k) {
-            flat.push(I::of(j))?;
+        let pair = pairs.at(k);
+        open(&mut starts, pair.0, flat.len() as u32)?;
+        if last != Some(pair) {
+            flat.push(I::of(pair.1))?;
+            last = Some(pair);
         }
     }
     open(&mut starts, outer, flat.len() as u32)?;
