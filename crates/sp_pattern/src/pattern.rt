@@ -22,7 +22,8 @@ use std::thread::Threads;
 /// Which places of a matrix have entries, each of them once, by columns and by rows.
 ///
 /// Compressed sparse columns and compressed sparse rows side by side (Duff, Erisman and Reid 1986). It keeps 8 bytes an
-/// entry and 4 bytes a row and a column.
+/// entry and 4 bytes a row and a column, and at most 4 bytes more each time that a place was given again: of the two
+/// lists, the one that is made first keeps its room for all that was given.
 #[derive(Drop)]
 pub struct Pattern {
     col_starts: Vec<u32>,
