@@ -11,7 +11,7 @@ mod split;
 mod spread;
 #[cfg(test)]
 mod tests;
-mod turn;
+mod transpose;
 mod weights;
 
 pub use load::load_matrix;

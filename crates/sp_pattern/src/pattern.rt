@@ -13,7 +13,7 @@ use crate::compress::compress;
 use crate::group::by_columns;
 use crate::pairs::{ByCol, ByRow, Pairs, are_sorted};
 use crate::pieces::part;
-use crate::turn::turn;
+use crate::transpose::transpose;
 use sp_ids::{Col, OutOfMemory, Row, Triples};
 use std::alloc::Global;
 use std::marker::Model;
@@ -98,7 +98,7 @@ impl Pattern {
         requires few { length col_rows.items < 2 ^ 32 }
         ensures { IfOk result (λ a. (ps : List Pair) → IsOrderOf cols rows ps col_starts.items col_rows.items → HasPlaces rows cols (turned ps) a) }
     {
-        let (row_starts, row_cols) = turn::<Col, Row>(
+        let (row_starts, row_cols) = transpose::<Col, Row>(
             alloc,
             col_starts.as_slice(),
             col_rows.as_slice(),
@@ -126,7 +126,7 @@ impl Pattern {
     {
         let (row_starts, row_cols) = compress::<P, Col>(alloc, &pairs, rows, cols)?;
         drop(pairs);
-        let (col_starts, col_rows) = turn::<Row, Col>(
+        let (col_starts, col_rows) = transpose::<Row, Col>(
             alloc,
             row_starts.as_slice(),
             row_cols.as_slice(),

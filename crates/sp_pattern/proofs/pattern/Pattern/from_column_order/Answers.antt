@@ -4,13 +4,13 @@ use Rattle.sp_pattern.proofs.Both.{lent_order, made_by_columns, order_itself}
 use Rattle.sp_pattern.proofs.Sides.{order_inside, order_table}
 use Rattle.sp_pattern.proofs.pattern.Pattern.from_column_order.Goals as goal
 
-pub turn-requires-clause-table : goal.turn-requires-clause-table
-turn-requires-clause-table c =
+pub transpose-requires-clause-table : goal.transpose-requires-clause-table
+transpose-requires-clause-table c =
     let o = lent_order c.args.cols c.args.rows _ _ _ _ c.requires.order c.as_slice.ensures.value c.as_slice-2.ensures.value in
     (o.pairs, order_table _ _ _ _ o)
 
-pub turn-requires-clause-inside : goal.turn-requires-clause-inside
-turn-requires-clause-inside c =
+pub transpose-requires-clause-inside : goal.transpose-requires-clause-inside
+transpose-requires-clause-inside c =
     let o = lent_order c.args.cols c.args.rows _ _ _ _ c.requires.order c.as_slice.ensures.value c.as_slice-2.ensures.value in
     λ k lt. order_inside _ _ _ _ o k (rw map-id lt)
 

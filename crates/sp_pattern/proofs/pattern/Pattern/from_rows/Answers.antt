@@ -4,13 +4,13 @@ use Rattle.sp_pattern.proofs.Both.{lent_order, made_by_rows, order_numbers}
 use Rattle.sp_pattern.proofs.Sides.{order_inside, order_table}
 use Rattle.sp_pattern.proofs.pattern.Pattern.from_rows.Goals as goal
 
-pub turn-requires-clause-table : goal.turn-requires-clause-table
-turn-requires-clause-table g c =
+pub transpose-requires-clause-table : goal.transpose-requires-clause-table
+transpose-requires-clause-table g c =
     let o = lent_order c.args.rows c.args.cols _ _ _ _ (order_numbers _ _ _ _ _ c.in_ok-row_starts.ensures).order c.as_slice.ensures.value c.as_slice-2.ensures.value in
     (o.pairs, order_table _ _ _ _ o)
 
-pub turn-requires-clause-inside : goal.turn-requires-clause-inside
-turn-requires-clause-inside g c =
+pub transpose-requires-clause-inside : goal.transpose-requires-clause-inside
+transpose-requires-clause-inside g c =
     let o = lent_order c.args.rows c.args.cols _ _ _ _ (order_numbers _ _ _ _ _ c.in_ok-row_starts.ensures).order c.as_slice.ensures.value c.as_slice-2.ensures.value in
     λ k lt. order_inside _ _ _ _ o k (rw map-id lt)
 
