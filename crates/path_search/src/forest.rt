@@ -40,7 +40,9 @@ impl Model for Forest {
 }
 
 impl Forest {
-    /// For patterns of so many rows and columns. Answers `OutOfMemory` where the arrays can't be had.
+    /// For matrices of so many rows and columns, as a side sees them.
+    ///
+    /// Answers `OutOfMemory` where the arrays can't be had.
     pub fn new(alloc: Global, rows: u32, cols: u32) -> Result<Forest, OutOfMemory>
         ensures cols { IfOk result (λ f. f.cols ≡ cols) }
         ensures rows { IfOk result (λ f. length f.marks ≡ rows) }
@@ -234,7 +236,7 @@ impl Forest {
         ensures same { self.new ≡ record self.old { path = self.new.path } }
         ensures path { Traces (S.matrix side.now) (S.seen matching.now).pairs self.old.queue (reached_at self.old.queue place).root row self.new.path }
     {
-        side.is_pattern();
+        side.sizes_fit();
         self.start_path();
         let mut at = place;
         let mut column = self.at(at);
@@ -323,7 +325,7 @@ impl Forest {
         // Where the matching hasn't grown it was maximum.
         ensures maximum { ((S.seen matching.new ≡ S.seen matching.old) × IsMaximum (S.matrix side.now) (S.seen matching.old).pairs) ⊎ (length (S.seen matching.old).pairs < length (S.seen matching.new).pairs) }
     {
-        side.is_pattern();
+        side.sizes_fit();
         self.plant(side, matching);
         let mut place: u32 = 0;
         while (place as usize) < self.reached() {

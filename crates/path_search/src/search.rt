@@ -43,7 +43,7 @@ impl Model for Search {
 }
 
 impl Search {
-    /// For patterns of so many rows and columns, with no row marked.
+    /// For matrices of so many rows and columns, as a side sees them, with no row marked.
     pub fn new(alloc: Global, rows: u32, cols: u32) -> Result<Search, OutOfMemory>
         ensures cols { IfOk result (λ s. s.cols ≡ cols) }
         ensures rows { IfOk result (λ s. length s.marks ≡ rows) }
@@ -127,7 +127,7 @@ impl Search {
         ensures same { self.new ≡ self.old }
         ensures found { IfSome result (λ r. IsEntry (S.matrix side.now) r col × (¬ Among r (rows_of (S.seen matching.now).pairs))) }
     {
-        side.is_pattern();
+        side.sizes_fit();
         let rows = side.rows_of(col);
         let look = &mut self.look[col.0 as usize];
         unmatched_row(side, rows, matching, look)
@@ -238,7 +238,7 @@ impl Search {
         ensures found { OnTrue result (Finds (S.matrix side.now) (S.seen matching.now).pairs self.old.marks root self.new.path) }
         ensures failed { OnFalse result (Fails (S.matrix side.now) (S.seen matching.now).pairs self.new.marks self.new.seen root) }
     {
-        side.is_pattern();
+        side.sizes_fit();
         self.start(root);
         let mut at = Stand {
             col: root,

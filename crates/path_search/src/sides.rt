@@ -12,10 +12,11 @@ use bip_graph::Matching;
 use sp_ids::{Col, Id, Row};
 use sp_pattern::Pattern;
 
-/// A pattern seen from one side: searches begin at the columns of the matrix that is seen.
+/// A pattern seen from one side. Searches begin at the columns of the matrix that is seen.
 ///
-/// A pattern itself is seen from its columns, as the matrix that it is, and [`FromRows`] sees the transpose. Rows, columns
-/// and pairs are those of the matrix that is seen; `Far` is how the pattern lists the rows of a column of it.
+/// A pattern itself is seen from its columns, as the matrix that it is; [`FromRows`] sees its transpose. In all methods rows,
+/// columns and pairs are those of the matrix that is seen. `Far` is what the pattern's lists of a column's rows hold: `Row`
+/// from the columns, `Col` from the rows.
 pub trait Side<Far: Id> {
     /// The matrix that is seen.
     ghost matrix: { Self → Matrix };
@@ -56,7 +57,7 @@ pub trait Side<Far: Id> {
     /// Exchanges an augmenting path, given in order from its unmatched column to its unmatched row. What stands in `path`
     /// afterwards is of no use.
     ///
-    /// Takes no memory. Work: some writes for each pair of the path.
+    /// Takes no memory. Work: two reads and five writes at most for each pair of the path.
     fn exchange(&self, matching: &mut Matching, path: &mut [(Row, Col)])
         requires rows { (seen matching.old).rows ≡ Matrix.rows (matrix self.now) }
         requires cols { (seen matching.old).cols ≡ cols (matrix self.now) }
@@ -70,8 +71,8 @@ pub trait Side<Far: Id> {
         ensures rows_stay { (r : ℕ) → Among r (rows_of (seen matching.old).pairs) → Among r (rows_of (seen matching.new).pairs) }
         ensures cols_stay { (c : ℕ) → Among c (cols_of (seen matching.old).pairs) → Among c (cols_of (seen matching.new).pairs) };
 
-    /// Its sizes fit 32 bits, and each column's list is the rising one of its entries: a fact for proofs, at no cost.
-    fn is_pattern(&self)
+    /// Its sizes fit 32 bits: a fact for proofs, at no cost.
+    fn sizes_fit(&self)
         ensures few_rows { Matrix.rows (matrix self.now) < 2 ^ 32 }
         ensures few_cols { cols (matrix self.now) < 2 ^ 32 };
 }
@@ -109,8 +110,8 @@ impl Side<Row> for Pattern {
         matching.flip(path);
     }
 
-    fn is_pattern(&self) {
-        Pattern::is_pattern(self);
+    fn sizes_fit(&self) {
+        self.is_pattern();
     }
 }
 
@@ -161,7 +162,7 @@ impl Side<Col> for FromRows<'_> {
         matching.flip(path);
     }
 
-    fn is_pattern(&self) {
+    fn sizes_fit(&self) {
         self.pattern.is_pattern();
     }
 }

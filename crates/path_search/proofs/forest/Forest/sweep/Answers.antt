@@ -3,7 +3,7 @@ use Rattle.path_search.proofs.Sweeping.{forest_short, grown_end, grown_more}
 use Rattle.path_search.proofs.forest.Forest.sweep.Goals as goal
 
 pub overflow_add-place : goal.overflow_add-place
-overflow_add-place g c = let short = forest_short _ _ _ c.loop-place.invariant.forest in let few = c.is_pattern.ensures.few_cols in omega arith
+overflow_add-place g c = let short = forest_short _ _ _ c.loop-place.invariant.forest in let few = c.sizes_fit.ensures.few_cols in omega arith
 
 pub loop-place-smaller : goal.loop-place-smaller
 loop-place-smaller g c = let short = forest_short _ _ _ c.loop-place.invariant.forest in omega arith
