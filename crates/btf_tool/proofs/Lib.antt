@@ -5,4 +5,5 @@ mod FileAnswers
 mod Jobs
 mod Judging
 mod Loads
+mod Summaries
 mod Touching

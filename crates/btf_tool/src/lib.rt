@@ -8,6 +8,7 @@ mod command;
 mod decompose;
 mod diagonal;
 mod engines;
+mod laws;
 mod load;
 mod neighbours;
 mod rank;
@@ -18,6 +19,7 @@ pub use answers::Answer;
 pub use btf_words::Engine;
 pub use command::run;
 pub use engines::solve;
+pub use laws::one_summary;
 pub use refusals::{Refusal, refuse};
 
 #[cfg(test)]
