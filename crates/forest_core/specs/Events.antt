@@ -1,0 +1,62 @@
+-- Events: where each is legal, and what it leaves.
+use Rattle.std.specs.Prelude.{◌≡◌, ℕ, suc, List, [], ◌∷◌, ◌++◌}
+use Rattle.bip_defs.specs.Lists.{Among}
+use Rattle.bip_defs.specs.Matching.{cols_of, rows_of}
+use Rattle.bip_defs.specs.Matrix.{IsEntry, Place}
+use Rattle.forest_core.specs.Current.{IsCurrent}
+use Rattle.forest_core.specs.State.{InForest, IsRootOfRow, IsWon, State, roots_of}
+use Rattle.sp_ids.specs.declared.events.Event.{Event}
+use Rattle.sp_ids.specs.declared.events.Event.TheVariants.{Claim, Win, Flip, Graft, Rebuild, Done}
+
+-- every root with a leaf is flipped
+abbrev pub AreFlipped : State → Type 0
+AreFlipped s = (x : ℕ) → Among x (roots_of s.leaves) → Among x s.flipped
+
+-- each entry of a column in the forest has a claimed row
+abbrev pub IsClosed : State → Type 0
+IsClosed s = (r c : ℕ) → InForest s c → IsEntry s.matrix r c → Among r (rows_of s.claims)
+
+abbrev pub IsLegal : State → Event → Type 0
+IsLegal s (Claim r c) = (¬ Among r (rows_of s.claims)) × IsEntry s.matrix r c × InForest s c
+IsLegal s (Win x r) = (¬ Among x (cols_of s.base)) × (¬ Among x (roots_of s.leaves)) × (¬ Among r (rows_of s.base)) × IsRootOfRow s.base s.claims x r
+IsLegal s (Flip x) = Among x (roots_of s.leaves) × (¬ Among x s.flipped)
+IsLegal s Graft = AreFlipped s
+IsLegal s Rebuild = AreFlipped s
+IsLegal s Done = (s.leaves ≡ []) × IsClosed s
+
+-- the claims whose root has no leaf, in their order
+pub data AreKept (s : State) : List Place → List Place → Type 0 where
+  none : AreKept s [] []
+  keeps : {ps qs : List Place} (p : Place) → (¬ IsWon s p.0) → AreKept s ps qs → AreKept s (p ∷ ps) (p ∷ qs)
+  drops : {ps qs : List Place} (p : Place) → IsWon s p.0 → AreKept s ps qs → AreKept s (p ∷ ps) qs
+
+-- the current matching becomes the base, with these claims, and no leaves and flipped roots
+pub record IsRenewed (s t : State) : Type 0 where
+  pub matrix : t.matrix ≡ s.matrix
+  pub base : IsCurrent s t.base
+  pub leaves : t.leaves ≡ []
+  pub flipped : t.flipped ≡ []
+
+-- what an event leaves
+abbrev pub Leaves : State → Event → State → Type 0
+Leaves s (Claim r c) t = t ≡ record s { claims = s.claims ++ (r, c) ∷ [] }
+Leaves s (Win x r) t = t ≡ record s { leaves = s.leaves ++ (x, r) ∷ [] }
+Leaves s (Flip x) t = t ≡ record s { flipped = s.flipped ++ x ∷ [] }
+Leaves s Graft t = IsRenewed s t × AreKept s s.claims t.claims
+Leaves s Rebuild t = IsRenewed s t × (t.claims ≡ [])
+Leaves s Done t = t ≡ s
+
+-- each event is legal in its turn, and this is what they leave
+abbrev pub Runs : State → List Event → State → Type 0
+Runs s [] t = t ≡ s
+Runs s (e ∷ es) t = IsLegal s e × (u : State) × Leaves s e u × Runs u es t
+
+-- how many roots the events flip
+abbrev pub flips : List Event → ℕ
+flips [] = 0
+flips (Flip x ∷ es) = suc (flips es)
+flips (Claim r c ∷ es) = flips es
+flips (Win x r ∷ es) = flips es
+flips (Graft ∷ es) = flips es
+flips (Rebuild ∷ es) = flips es
+flips (Done ∷ es) = flips es

@@ -1,0 +1,4 @@
+pub mod Current
+pub mod Events
+pub mod Sound
+pub mod State

@@ -1,0 +1,10 @@
+//! The forest of alternating trees in which many workers search for augmenting paths at once, as a machine of events: each
+//! event is one step of one worker.
+//!
+//! The trees are those of Azad, Buluç and Pothen, Computing maximum cardinality matchings in parallel on bipartite graphs via
+//! tree-grafting, 2017.
+#![tactic(auto)]
+
+mod laws;
+
+pub use laws::{current_is_a_matching, done_is_maximum, events_keep_sound};
