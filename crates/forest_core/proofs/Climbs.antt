@@ -6,6 +6,7 @@ use Rattle.bip_defs.specs.Matrix.{Place}
 use Rattle.bip_defs.specs.Paths.{Alternates, BeginsUnmatched}
 use Rattle.bip_defs.proofs.Sets.{col_among, one_col, one_row, row_among, row_pair}
 use Rattle.forest_core.specs.Current.{OnPath, leaf, up}
+use Rattle.forest_core.specs.Exchanging.{IsPath}
 use Rattle.forest_core.specs.Sound.{IsSound}
 use Rattle.forest_core.specs.State.{RootOf, State, above, itself}
 use Rattle.forest_core.proofs.Roots.{earlier, one_claim, rank, root_above, root_of_claimer}
@@ -27,15 +28,6 @@ pub record IsClimb (s : State) (x r c : ℕ) (path : List Place) : Type 0 where
   pub rows_differ : AreDistinct (rows_of path)
   pub has_leaf : (q : ℕ) → Among (x, q) s.leaves → Among q (rows_of path)
   pub closed : (q d t : ℕ) → Among (q, d) path → Among (t, d) s.base → (d ≡ c) ⊎ Among t (rows_of path)
-
--- the whole path of a root, from the root
-pub record IsPath (s : State) (x : ℕ) (path : List Place) : Type 0 where
-  pub begins : BeginsUnmatched s.base path
-  pub alternates : Alternates s.base path
-  pub claimed : (p : Place) → Among p path → Among p s.claims
-  pub on_path : (q : ℕ) → Among q (rows_of path) → OnPath s.base s.claims s.leaves x q
-  pub complete : (q : ℕ) → OnPath s.base s.claims s.leaves x q → Among q (rows_of path)
-  pub rows_differ : AreDistinct (rows_of path)
 
 -- the leaf of a root
 one_leaf : (s : State) → IsSound s → (x q r : ℕ) → Among (x, q) s.leaves → Among (x, r) s.leaves → q ≡ r
@@ -59,7 +51,7 @@ alternates_more : (m : List Place) (q d r c : ℕ) (path : List Place) → Start
 alternates_more m q d r c [] s h alt = absurd s
 alternates_more m q d r c (p ∷ path) s h alt = (subst (λ (z : Place). Among {X = Place} (q, z.1) m) (sym s) h, alt)
 
-starts_among : (p : Place) (path : List Place) → Starts p path → Among p path
+pub starts_among : (p : Place) (path : List Place) → Starts p path → Among p path
 starts_among p [] s = absurd s
 starts_among p (q ∷ path) s = inl (sym s)
 

@@ -7,15 +7,12 @@ use Rattle.bip_defs.specs.Paths.{Alternates, BeginsUnmatched, Exchanges, Gives, 
 use Rattle.bip_defs.proofs.Exchange.{adds_pair, drops_gives, drops_pair, exchange_one, exchange_rest, rest_augments}
 use Rattle.bip_defs.proofs.Sets.{col_among, col_pair, distinct_pairs, drops_gone, drops_length, drops_only, drops_rows, row_among, row_pair, taken}
 use Rattle.forest_core.specs.Current.{IsCurrent, IsRematched, OnPath}
+use Rattle.forest_core.specs.Exchanging.{IsPath, with_flipped}
 use Rattle.forest_core.specs.Sound.{IsSound}
 use Rattle.forest_core.specs.State.{RootOf, State, roots_of}
-use Rattle.forest_core.proofs.Climbs.{IsPath, has_path}
+use Rattle.forest_core.proofs.Climbs.{has_path}
 use Rattle.forest_core.proofs.Members.{same_length, same_matching}
 use Rattle.forest_core.proofs.Roots.{claims_entries, one_claim, one_path, one_root, path_root, root_of_claimer}
-
--- the same forest with these roots flipped
-abbrev pub with_flipped : State → List ℕ → State
-with_flipped s xs = record { matrix = s.matrix; base = s.base; claims = s.claims; leaves = s.leaves; flipped = xs }
 
 -- What stays on the path of a root that is not flipped.
 
@@ -94,7 +91,7 @@ exchanged a (p ∷ q ∷ path) m k e aug =
 
 -- The current matching.
 
-none_flipped : (s : State) → IsSound s → (xs : List ℕ) → xs ≡ [] → IsCurrent (with_flipped s xs) s.base
+pub none_flipped : (s : State) → IsSound s → (xs : List ℕ) → xs ≡ [] → IsCurrent (with_flipped s xs) s.base
 none_flipped s k xs e = record {
   pairs = λ p. (λ h. inr (h, λ (y, f, w). subst (Among y) e f), λ h. ⊎_elim (λ (g, (y, f, w)). absurd (subst (Among y) e f)) (λ (g, n). g) h);
   once = distinct_pairs s.base k.base.rows_differ;

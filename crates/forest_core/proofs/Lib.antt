@@ -2,6 +2,11 @@ pub mod Climbs
 pub mod Currents
 pub mod Ends
 pub mod Grafts
+pub mod Keeping
 pub mod Members
+pub mod Renewals
 pub mod Roots
 pub mod Sounds
+pub mod Storing
+pub mod Tabling
+pub mod Tracing

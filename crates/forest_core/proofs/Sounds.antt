@@ -1,5 +1,5 @@
 -- Each event keeps a forest sound, and how the current matching grows.
-use Rattle.std.proofs.Common.{◌≡◌, ◌⊎◌, ◌∙◌, ℕ, ◌+◌, List, [], ◌∷◌, ◌++◌, length, sym, ap, subst, inl, inr, ⊎_elim, arith, length-append}
+use Rattle.std.proofs.Common.{◌≡◌, ◌⊎◌, ◌∙◌, ℕ, ◌+◌, List, [], ◌∷◌, ◌++◌, length, refl, sym, ap, subst, inl, inr, ⊎_elim, arith, length-append}
 use Rattle.bip_defs.specs.Lists.{Among, AreDistinct}
 use Rattle.bip_defs.specs.Matching.{IsMatching, cols_of, rows_of}
 use Rattle.bip_defs.specs.Matrix.{IsEntry, Matrix, Place}
@@ -10,7 +10,7 @@ use Rattle.forest_core.specs.Sound.{AreClaims, IsLeaf, IsSound}
 use Rattle.forest_core.specs.State.{IsRootOfRow, State, planted, roots_of}
 use Rattle.sp_ids.specs.declared.events.Event.{Event}
 use Rattle.sp_ids.specs.declared.events.Event.TheVariants.{Claim, Win, Flip, Graft, Rebuild, Done}
-use Rattle.forest_core.proofs.Currents.{current_grown}
+use Rattle.forest_core.proofs.Currents.{current_grown, current_some}
 use Rattle.forest_core.proofs.Grafts.{kept_claims}
 use Rattle.forest_core.proofs.Members.{distinct_last, map_last}
 use Rattle.forest_core.proofs.Roots.{root_more}
@@ -119,3 +119,28 @@ run_grown a m n es s k h cur =
     let g = (current_grown s n (run_sound (planted a m) s es first h) cur).size in
     let w = run_weight (planted a m) s es first h in
     omega (arith, g, w)
+
+-- Runs.
+
+event_matrix : (s t : State) (e : Event) → Leaves s e t → t.matrix ≡ s.matrix
+event_matrix s t (Claim r c) h = ap (λ (u : State). u.matrix) h
+event_matrix s t (Win x r) h = ap (λ (u : State). u.matrix) h
+event_matrix s t (Flip x) h = ap (λ (u : State). u.matrix) h
+event_matrix s t Graft (n, kept) = n.matrix
+event_matrix s t Rebuild (n, gone) = n.matrix
+event_matrix s t Done h = ap (λ (u : State). u.matrix) h
+
+run_matrix : (s t : State) (es : List Event) → Runs s es t → t.matrix ≡ s.matrix
+run_matrix s t [] h = ap (λ (u : State). u.matrix) h
+run_matrix s t (e ∷ es) (l, u, h, rest) = run_matrix u t es rest ∙ event_matrix s u e h
+
+-- one event more
+pub run_last : (s t u : State) (es : List Event) (e : Event) → Runs s es t → IsLegal t e → Leaves t e u → Runs s (es ++ e ∷ []) u
+run_last s t u [] e h l k = (subst (λ (v : State). IsLegal v e) h l, u, subst (λ (v : State). Leaves v e u) h k, refl)
+run_last s t u (d ∷ es) e (l, v, h, rest) m k = (l, v, h, run_last v t u es e rest m k)
+
+-- a current matching after a run
+pub run_current : (a : Matrix) (m : List Place) (es : List Event) (s : State) → IsMatching a m → Runs (planted a m) es s → (n : List Place) × IsCurrent s n × IsMatching a n × (length n ≡ length m + flips es)
+run_current a m es s k h =
+    let (n, g) = current_some s (run_sound (planted a m) s es (planted_sound a m k) h) in
+    (n, g.current, subst (λ b. IsMatching b n) (run_matrix (planted a m) s es h) g.matching, run_grown a m n es s k h g.current)

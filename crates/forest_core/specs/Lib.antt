@@ -1,4 +1,9 @@
 pub mod Current
 pub mod Events
+pub mod Exchanging
+pub mod Fields
+pub mod Renewing
 pub mod Sound
 pub mod State
+pub mod Stored
+pub mod Tables

@@ -5,6 +5,14 @@
 //! tree-grafting, 2017.
 #![tactic(auto)]
 
+mod forest;
 mod laws;
+mod paths;
+mod put;
+mod renew;
+mod runs;
+mod table;
 
+pub use forest::Forest;
 pub use laws::{current_is_a_matching, done_is_maximum, events_keep_sound};
+pub use runs::every_run;

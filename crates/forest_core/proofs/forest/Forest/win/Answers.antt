@@ -1,0 +1,36 @@
+use Rattle.std.proofs.Common.{◌<◌, ◌∙◌, Some, ap, arith, length, rules, set, subst, sym, ℕ}
+use Rattle.bip_defs.specs.Matrix.{cols}
+use Rattle.sp_ids.specs.declared.events.Event.TheVariants.{Win}
+use Rattle.forest_core.specs.Events.{IsLegal}
+use Rattle.forest_core.specs.Fields.{state_of}
+use Rattle.forest_core.specs.State.{State}
+use Rattle.forest_core.proofs.Storing.{claim_in_range, root_in_range, stored_win_at, win_room}
+use Rattle.forest_core.proofs.forest.Forest.win.Goals as goal
+
+pub put-requires-clause-within : goal.put-requires-clause-within
+put-requires-clause-within c =
+    let legal = subst (λ (s : State). IsLegal s (Win c.args.root c.args.leaf)) (sym c.self.view_is) c.requires in
+    let lt : c.args.root < cols (state_of c.self.inside).matrix = root_in_range (state_of c.self.inside) c.self.invariant.0.sound c.args.root c.args.leaf legal.3 in
+    omega (arith, lt, c.self.invariant.0.leaves_long, c.number.ensures)
+
+pub put-requires-clause-value : goal.put-requires-clause-value
+put-requires-clause-value c =
+    let legal = subst (λ (s : State). IsLegal s (Win c.args.root c.args.leaf)) (sym c.self.view_is) c.requires in
+    let lt : c.args.leaf < (state_of c.self.inside).matrix.rows = (claim_in_range (state_of c.self.inside) c.self.invariant.0.sound c.args.leaf legal.3.0 legal.3.1).0 in
+    omega (arith, lt, c.is_pattern.ensures.few_rows, c.number-2.ensures)
+
+pub put-requires-2 : goal.put-requires-2
+put-requires-2 c =
+    let legal = subst (λ (s : State). IsLegal s (Win c.args.root c.args.leaf)) (sym c.self.view_is) c.requires in
+    let lt : length c.self.inside.leaves.items < cols (state_of c.self.inside).matrix = win_room (state_of c.self.inside) c.args.root c.args.leaf c.self.invariant.0.sound legal in
+    let room = c.self.invariant.1.leaves in
+    search rules
+
+pub invariant_of-self : goal.invariant_of-self
+invariant_of-self c =
+    let legal = subst (λ (s : State). IsLegal s (Win c.args.root c.args.leaf)) (sym c.self.view_is) c.requires in
+    let room = c.self.invariant.1 in (
+      stored_win_at (state_of c.self.inside) _ _ _ _ _ _ c.args.root c.args.leaf _ c.self.invariant.0 legal c.put-2.ensures.items
+          (c.put.ensures ∙ ap (λ (i : ℕ). set c.self.inside.leaf_of i (Some c.number-2.result)) c.number.ensures ∙ ap (λ (x : ℕ). set c.self.inside.leaf_of c.args.root (Some x)) c.number-2.ensures),
+      record { claims = room.claims; path = room.path; leaves = (let le = room.leaves in let more = c.put-2.ensures.capacity in omega (arith, le, more)); flipped = room.flipped },
+    )

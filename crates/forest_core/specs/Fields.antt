@@ -1,0 +1,19 @@
+-- What contracts see of a forest, and what holds of its fields.
+use Rattle.std.specs.Prelude.{◌≤◌, vec_capacity}
+use Rattle.bip_defs.specs.Matrix.{cols}
+use Rattle.forest_core.specs.State.{State}
+use Rattle.forest_core.specs.Stored.{IsStored}
+use Rattle.forest_core.specs.declared.forest.Forest.TheInside.{Inside}
+
+-- room for as many claims and leaves as there can be
+pub record HasRoom (f : Inside) : Type 0 where
+  pub claims : f.pattern.now.rows ≤ vec_capacity f.claims
+  pub path : f.pattern.now.rows ≤ vec_capacity f.path
+  pub leaves : cols f.pattern.now ≤ vec_capacity f.leaves
+  pub flipped : cols f.pattern.now ≤ vec_capacity f.flipped
+
+abbrev pub state_of : Inside → State
+state_of f = record { matrix = f.pattern.now; base = f.base.pairs; claims = f.claims.items; leaves = f.leaves.items; flipped = f.flipped.items }
+
+abbrev pub IsForest : Inside → Type 0
+IsForest f = IsStored (state_of f) f.base f.holders f.roots f.leaf_of f.marks.items × HasRoom f

@@ -1,0 +1,15 @@
+-- Tables, and the lists of pairs that they have.
+use Rattle.std.specs.Prelude.{◌≡◌, ◌↔◌, ℕ, ◌==◌, if◌then◌else◌, List, Option, None, Some, slice_index_or}
+use Rattle.bip_defs.specs.Lists.{Among}
+
+-- the greatest number of 32 bits stands for none
+abbrev pub read : ℕ → Option ℕ
+read n = if n == 4294967295 then None else Some n
+
+-- what a table has beside a number
+abbrev pub beside : List (Option ℕ) → ℕ → Option ℕ
+beside table k = slice_index_or table k None
+
+-- beside the first of each pair stands the second, and beside no other number any
+abbrev pub IsTableOf : List (ℕ × ℕ) → List (Option ℕ) → Type 0
+IsTableOf pairs table = (k v : ℕ) → (beside table k ≡ Some v) ↔ Among (k, v) pairs

@@ -1,0 +1,466 @@
+//! Forests: what is in them, which events are legal, and the events that let trees grow.
+
+ghost use Rattle.std.specs.Prelude.{◌≡◌, ◌↔◌, ℕ, ◌+◌, ◌<◌, length, ◌∷◌, ◌++◌, [], IsTrue, IfOk, IfSome, IfNone};
+ghost use Rattle.bip_defs.specs.Lists.{Among};
+ghost use Rattle.bip_defs.specs.Matching.{IsMatching, rows_of, cols_of};
+ghost use Rattle.bip_defs.specs.Matrix.{IsEntry, cols};
+ghost use Rattle.forest_core.specs.Current.{IsCurrent};
+ghost use Rattle.forest_core.specs.Events.{AreFlipped, AreKept, IsClosed, IsLegal, IsRenewed};
+ghost use Rattle.forest_core.specs.Sound.{IsSound};
+ghost use Rattle.forest_core.specs.State.{InForest, IsRootOfRow, RootOf, planted, roots_of};
+ghost use Rattle.sp_ids.specs.declared.events.Event.TheVariants.{Claim, Win, Flip, Graft, Rebuild, Done};
+
+use crate::paths::exchange;
+use crate::put::put;
+use crate::renew::{keep, release, uproot};
+use crate::table::Table;
+use bip_graph::Matching;
+use sp_ids::{Col, Event, Id, OutOfMemory, Row};
+use sp_pattern::Pattern;
+use std::alloc::Global;
+use std::marker::Model;
+
+/// Alternating trees that grow from the columns that are unmatched in a base matching.
+///
+/// A column of the forest claims rows in which it has entries, and with a row comes its base mate. A root wins a claimed row
+/// that is unmatched, its leaf; its path from there is then exchanged, at the latest when the base matching is renewed.
+///
+/// It takes all its memory when it is made: 28 bytes a row and 21 a column, beside the matching.
+#[derive(Drop)]
+pub struct Forest<'p> {
+    pattern: &'p Pattern,
+    base: Matching,
+    // By row the column that claimed it, and the row's root.
+    holders: Table,
+    roots: Table,
+    // By root its leaf, and whether it is flipped.
+    leaf_of: Table,
+    marks: Vec<bool>,
+    claims: Vec<(Row, Col)>,
+    leaves: Vec<(Col, Row)>,
+    flipped: Vec<Col>,
+    // The path of one root.
+    path: Vec<(Row, Col)>,
+}
+
+impl<'p> Model for Forest<'p> {
+    ghost use Rattle.forest_core.specs.State.{State};
+
+    ghost Value = { State };
+
+    ghost use Rattle.forest_core.specs.Fields.{IsForest, state_of};
+
+    ghost view = { state_of };
+
+    ghost invariant = { IsForest };
+}
+
+impl<'p> Forest<'p> {
+    /// The forest over a matching of entries of the pattern: no row is claimed.
+    ///
+    /// Answers `OutOfMemory` where the room for all later claims and leaves can't be had. Work: one write for each row and
+    /// column.
+    pub fn new(
+        alloc: Global,
+        pattern: &'p Pattern,
+        matching: Matching,
+    ) -> Result<Forest<'p>, OutOfMemory>
+        requires rows { matching.rows ≡ pattern.now.rows }
+        requires cols { matching.cols ≡ cols pattern.now }
+        requires matching { IsMatching pattern.now matching.pairs }
+        ensures { IfOk result (λ f. f ≡ planted pattern.entry.now matching.pairs) }
+    {
+        let (rows, cols) = (pattern.rows(), pattern.cols());
+        let (row_room, col_room) = (rows as usize, cols as usize);
+        Ok(Forest {
+            pattern,
+            base: matching,
+            holders: Table::new(alloc, rows)?,
+            roots: Table::new(alloc, rows)?,
+            leaf_of: Table::new(alloc, cols)?,
+            marks: vec![in alloc; false; col_room]?,
+            claims: Vec::with_capacity(alloc, row_room)?,
+            leaves: Vec::with_capacity(alloc, col_room)?,
+            flipped: Vec::with_capacity(alloc, col_room)?,
+            path: Vec::with_capacity(alloc, row_room)?,
+        })
+    }
+
+    /// The pattern.
+    pub fn pattern(&self) -> &'p Pattern
+        ensures { result.now ≡ self.now.matrix }
+    {
+        self.pattern
+    }
+
+    /// The base matching. Flips don't change it; a graft or a rebuild renews it.
+    pub fn base(&self) -> &Matching
+        ensures { result.now ≡ record { rows = self.now.matrix.rows; cols = cols self.now.matrix; pairs = self.now.base } }
+    {
+        &self.base
+    }
+
+    /// The claims that stand, in the order in which they were made.
+    pub fn claims(&self) -> &[(Row, Col)]
+        ensures { result.now ≡ self.now.claims }
+    {
+        self.claims.as_slice()
+    }
+
+    /// The roots with a leaf, each with its leaf, in the order in which these were won.
+    pub fn leaves(&self) -> &[(Col, Row)]
+        ensures { result.now ≡ self.now.leaves }
+    {
+        self.leaves.as_slice()
+    }
+
+    /// What holds of every forest: a fact for proofs, at no cost.
+    pub fn is_sound(&self)
+        ensures { IsSound self.now }
+    {
+        let _claims = &self.claims;
+    }
+
+    /// The row that a column is matched with in the base matching.
+    pub fn base_row(&self, col: Col) -> Option<Row>
+        requires { col < cols self.now.matrix }
+        ensures found { IfSome result (λ row. Among (row, col) self.now.base) }
+        ensures none { IfNone result (¬ Among col (cols_of self.now.base)) }
+    {
+        self.base.row_of(col)
+    }
+
+    /// The column that a row is matched with in the base matching.
+    pub fn base_col(&self, row: Row) -> Option<Col>
+        requires { row < self.now.matrix.rows }
+        ensures found { IfSome result (λ col. Among (row, col) self.now.base) }
+        ensures none { IfNone result (¬ Among row (rows_of self.now.base)) }
+    {
+        self.base.col_of(row)
+    }
+
+    /// The column that claimed a row, where the row is claimed.
+    pub fn holder(&self, row: Row) -> Option<Col>
+        requires { row < self.now.matrix.rows }
+        ensures found { IfSome result (λ col. Among (row, col) self.now.claims) }
+        ensures none { IfNone result (¬ Among row (rows_of self.now.claims)) }
+    {
+        match self.holders.get(row.number()) {
+            Some(col) => Some(Col(col)),
+            None => None,
+        }
+    }
+
+    /// The root of a column's tree, where the column is in the forest.
+    pub fn root_of(&self, col: Col) -> Option<Col>
+        requires { col < cols self.now.matrix }
+        ensures found { IfSome result (λ root. RootOf self.now.base self.now.claims root col) }
+        ensures in_forest { IfSome result (λ _. InForest self.now col) }
+        ensures none { IfNone result (¬ InForest self.now col) }
+    {
+        self.is_sound();
+        match self.base_row(col) {
+            Some(row) => self.root_of_row(row),
+            None => Some(col),
+        }
+    }
+
+    // The root of a row, where the row is claimed.
+    fn root_of_row(&self, row: Row) -> Option<Col>
+        requires { row < self.now.matrix.rows }
+        ensures found { IfSome result (λ root. IsRootOfRow self.now.base self.now.claims root row) }
+        ensures none { IfNone result (¬ Among row (rows_of self.now.claims)) }
+    {
+        match self.holder(row) {
+            Some(_) => Some(Col(self.roots.at(row.number()))),
+            None => None,
+        }
+    }
+
+    /// The leaf of a root, where it has one.
+    pub fn leaf(&self, root: Col) -> Option<Row>
+        requires { root < cols self.now.matrix }
+        ensures found { IfSome result (λ row. Among (root, row) self.now.leaves) }
+        ensures none { IfNone result (¬ Among root (roots_of self.now.leaves)) }
+    {
+        match self.leaf_of.get(root.number()) {
+            Some(row) => Some(Row(row)),
+            None => None,
+        }
+    }
+
+    /// Whether a root is flipped.
+    pub fn flipped(&self, root: Col) -> bool
+        requires { root < cols self.now.matrix }
+        ensures { IsTrue result ↔ Among root self.now.flipped }
+    {
+        self.marks[root.number() as usize]
+    }
+
+    /// Whether an event is legal. Any row and column may be asked for.
+    ///
+    /// Work: for `Graft` and `Rebuild` one look at each leaf, for `Done` at most one at each entry; for a `Claim` the look-up
+    /// of an entry; constant for the others.
+    pub fn may(&self, event: Event) -> bool
+        ensures { IsTrue result ↔ IsLegal self.now event }
+    {
+        match event {
+            Event::Claim { row, col } => self.may_claim(row, col),
+            Event::Win { root, leaf } => self.may_win(root, leaf),
+            Event::Flip { root } => self.may_flip(root),
+            Event::Graft => self.are_flipped(),
+            Event::Rebuild => self.are_flipped(),
+            Event::Done => self.done(),
+        }
+    }
+
+    fn may_claim(&self, row: Row, col: Col) -> bool
+        ensures { IsTrue result ↔ IsLegal self.now (Claim row col) }
+    {
+        self.pattern().has(row, col) && !self.is_claimed(row) && self.is_inside(col)
+    }
+
+    fn may_win(&self, root: Col, leaf: Row) -> bool
+        ensures { IsTrue result ↔ IsLegal self.now (Win root leaf) }
+    {
+        self.is_in_tree(root, leaf) && !self.has_leaf(root) && !self.is_matched(leaf)
+    }
+
+    fn may_flip(&self, root: Col) -> bool
+        ensures { IsTrue result ↔ IsLegal self.now (Flip root) }
+    {
+        self.has_leaf(root) && !self.flipped(root)
+    }
+
+    // Whether a column is in the forest.
+    fn is_inside(&self, col: Col) -> bool
+        ensures { IsTrue result ↔ InForest self.now col }
+    {
+        if col.number() >= self.pattern().cols() {
+            return false;
+        }
+        match self.root_of(col) {
+            Some(_) => true,
+            None => false,
+        }
+    }
+
+    // Whether a row is claimed.
+    fn is_claimed(&self, row: Row) -> bool
+        requires { row < self.now.matrix.rows }
+        ensures { IsTrue result ↔ Among row (rows_of self.now.claims) }
+    {
+        match self.holder(row) {
+            Some(_) => true,
+            None => false,
+        }
+    }
+
+    // Whether a row has a mate in the base matching.
+    fn is_matched(&self, row: Row) -> bool
+        requires { row < self.now.matrix.rows }
+        ensures { IsTrue result ↔ Among row (rows_of self.now.base) }
+    {
+        match self.base_col(row) {
+            Some(_) => true,
+            None => false,
+        }
+    }
+
+    // Whether a row is claimed in the tree of this root.
+    fn is_in_tree(&self, root: Col, row: Row) -> bool
+        ensures tree { IsTrue result ↔ IsRootOfRow self.now.base self.now.claims root row }
+        ensures row { IsTrue result → row < self.now.matrix.rows }
+    {
+        self.is_sound();
+        if row.number() >= self.pattern().rows() {
+            return false;
+        }
+        match self.root_of_row(row) {
+            Some(of) => of == root,
+            None => false,
+        }
+    }
+
+    // Whether a root has a leaf.
+    fn has_leaf(&self, root: Col) -> bool
+        ensures leaf { IsTrue result ↔ Among root (roots_of self.now.leaves) }
+        ensures root { IsTrue result → root < cols self.now.matrix }
+    {
+        self.is_sound();
+        if root.number() >= self.pattern().cols() {
+            return false;
+        }
+        match self.leaf(root) {
+            Some(_) => true,
+            None => false,
+        }
+    }
+
+    // Whether each root with a leaf is flipped.
+    fn are_flipped(&self) -> bool
+        ensures { IsTrue result ↔ AreFlipped self.now }
+    {
+        self.is_sound();
+        let leaves = self.leaves();
+        for (root, _) in leaves {
+            if !self.flipped(*root) {
+                return false;
+            }
+        }
+        true
+    }
+
+    /// Whether nothing is left to be claimed: there are no leaves, and each entry of a column in the forest has a claimed row.
+    ///
+    /// Work: at most one look at each entry.
+    pub fn done(&self) -> bool
+        ensures { IsTrue result ↔ IsLegal self.now Done }
+    {
+        self.leaves().is_empty() && self.is_closed()
+    }
+
+    // Whether each entry of a column in the forest has a claimed row.
+    fn is_closed(&self) -> bool
+        ensures { IsTrue result ↔ IsClosed self.now }
+    {
+        for number in 0..self.pattern().cols() {
+            let col = Col(number);
+            if self.is_inside(col) && !self.is_covered(col) {
+                return false;
+            }
+        }
+        true
+    }
+
+    // Whether each entry of a column has a claimed row.
+    fn is_covered(&self, col: Col) -> bool
+        requires { col < cols self.now.matrix }
+        ensures { IsTrue result ↔ ((r : ℕ) → IsEntry self.now.matrix r col → Among r (rows_of self.now.claims)) }
+    {
+        let rows = self.pattern().rows_of(col);
+        for row in rows {
+            if !self.is_claimed(*row) {
+                return false;
+            }
+        }
+        true
+    }
+
+    // The root of a column of the forest.
+    fn root(&self, col: Col) -> Col
+        requires { InForest self.now col }
+        ensures { RootOf self.now.base self.now.claims result col }
+    {
+        self.root_of(col).unwrap_or(col)
+    }
+
+    /// A column of the forest claims a row in which it has an entry. Takes no memory. Work: constant.
+    pub fn claim(&mut self, row: Row, col: Col)
+        requires { IsLegal self.old (Claim row col) }
+        ensures { self.new ≡ record self.old { claims = self.old.claims ++ (row, col) ∷ [] } }
+    {
+        let root = self.root(col);
+        self.pattern.is_pattern();
+        self.holders.put(row.number(), col.number());
+        self.roots.put(row.number(), root.number());
+        put(&mut self.claims, (row, col));
+    }
+
+    /// A root takes a claimed row of its tree, which has no base mate, as its leaf. Takes no memory. Work: constant.
+    pub fn win(&mut self, root: Col, leaf: Row)
+        requires { IsLegal self.old (Win root leaf) }
+        ensures { self.new ≡ record self.old { leaves = self.old.leaves ++ (root, leaf) ∷ [] } }
+    {
+        self.pattern.is_pattern();
+        self.leaf_of.put(root.number(), leaf.number());
+        put(&mut self.leaves, (root, leaf));
+    }
+
+    /// Exchanges the path of a root with a leaf: it belongs to the current matching from now on. The base matching stays.
+    /// Takes no memory. Work: constant; the matching itself is written when it is asked for.
+    pub fn flip(&mut self, root: Col)
+        requires { IsLegal self.old (Flip root) }
+        ensures { self.new ≡ record self.old { flipped = self.old.flipped ++ root ∷ [] } }
+    {
+        self.marks[root.number() as usize] = true;
+        put(&mut self.flipped, root);
+    }
+
+    /// The current matching becomes the base, and the claims of trees without a leaf stay: the others, the leaves and the
+    /// flipped roots are gone.
+    ///
+    /// Takes no memory. Work: one look at each claim and each leaf, and three writes at most for each pair of a path.
+    pub fn graft(&mut self)
+        requires { IsLegal self.old Graft }
+        ensures renewed { IsRenewed self.old self.new }
+        ensures claims { AreKept self.old self.old.claims self.new.claims }
+    {
+        let roots = self.flipped.as_slice();
+        exchange(
+            &mut self.base,
+            &self.holders,
+            &self.leaf_of,
+            roots,
+            &mut self.path,
+        );
+        let claims = self.claims.as_mut_slice();
+        let kept = keep(claims, &mut self.holders, &self.roots, &self.leaf_of);
+        self.claims.truncate(kept);
+        uproot(
+            self.leaves.as_slice(),
+            &mut self.leaf_of,
+            self.marks.as_mut_slice(),
+        );
+        self.leaves.clear();
+        self.flipped.clear();
+    }
+
+    /// The current matching becomes the base, and nothing stays claimed.
+    ///
+    /// Takes no memory. Work: as for `graft`.
+    pub fn rebuild(&mut self)
+        requires { IsLegal self.old Rebuild }
+        ensures renewed { IsRenewed self.old self.new }
+        ensures claims { self.new.claims ≡ [] }
+    {
+        let roots = self.flipped.as_slice();
+        exchange(
+            &mut self.base,
+            &self.holders,
+            &self.leaf_of,
+            roots,
+            &mut self.path,
+        );
+        release(self.claims.as_slice(), &mut self.holders);
+        self.claims.clear();
+        uproot(
+            self.leaves.as_slice(),
+            &mut self.leaf_of,
+            self.marks.as_mut_slice(),
+        );
+        self.leaves.clear();
+        self.flipped.clear();
+    }
+
+    /// The current matching: the base matching with the paths of the flipped roots exchanged.
+    ///
+    /// Takes no memory. Work: three writes at most for each pair of the path of a flipped root.
+    pub fn into_matching(self) -> Matching
+        ensures current { IsCurrent self.entry result.pairs }
+        ensures sizes { (result.rows ≡ self.entry.matrix.rows) × (result.cols ≡ cols self.entry.matrix) }
+        ensures matching { IsMatching self.entry.matrix result.pairs }
+        ensures size { length result.pairs ≡ length self.entry.base + length self.entry.flipped }
+    {
+        let Forest {
+            mut base,
+            holders,
+            leaf_of,
+            flipped,
+            mut path,
+            ..
+        } = self;
+        exchange(&mut base, &holders, &leaf_of, flipped.as_slice(), &mut path);
+        base
+    }
+}

@@ -1,0 +1,60 @@
+//! Runs of events.
+
+ghost use Rattle.std.specs.Prelude.{◌≡◌, ℕ, ◌+◌, ◌<◌, ◌≤◌, List, length, take, slice_index_or, IfOk};
+ghost use Rattle.bip_defs.specs.Matching.{IsMatching};
+ghost use Rattle.bip_defs.specs.Matrix.{Place, cols};
+ghost use Rattle.forest_core.specs.Current.{IsCurrent};
+ghost use Rattle.forest_core.specs.Events.{IsLegal, Leaves, Runs, flips};
+ghost use Rattle.forest_core.specs.Sound.{IsSound};
+ghost use Rattle.forest_core.specs.State.{planted};
+ghost use Rattle.sp_ids.specs.declared.events.Event.TheVariants.{Done};
+
+use crate::forest::Forest;
+use bip_graph::Matching;
+use sp_ids::{Event, OutOfMemory};
+use sp_pattern::Pattern;
+use std::alloc::Global;
+
+// Makes a legal event.
+fn make(forest: &mut Forest, event: Event)
+    requires { IsLegal forest.old event }
+    ensures { Leaves forest.old event forest.new }
+{
+    match event {
+        Event::Claim { row, col } => forest.claim(row, col),
+        Event::Win { root, leaf } => forest.win(root, leaf),
+        Event::Flip { root } => forest.flip(root),
+        Event::Graft => forest.graft(),
+        Event::Rebuild => forest.rebuild(),
+        Event::Done => {}
+    }
+}
+
+/// Makes events on a new forest, up to the first that is not legal. The forest that they leave, and how many were made.
+///
+/// Answers `OutOfMemory` where the forest can't be had. Work: as of `may` and of the events.
+pub fn every_run<'p>(
+    alloc: Global,
+    pattern: &'p Pattern,
+    matching: Matching,
+    events: &[Event],
+) -> Result<(Forest<'p>, usize), OutOfMemory>
+    requires rows { matching.rows ≡ pattern.now.rows }
+    requires cols { matching.cols ≡ cols pattern.now }
+    requires matching { IsMatching pattern.now matching.pairs }
+    ensures made { IfOk result (λ o. Runs (planted pattern.entry.now matching.pairs) (take o.1 events.now) o.0) }
+    ensures longest { IfOk result (λ o. (o.1 ≤ length events.now) × (o.1 < length events.now → ¬ IsLegal o.0 (slice_index_or events.now o.1 Done))) }
+    ensures sound { IfOk result (λ o. IsSound o.0) }
+
+    // The current matching is one of entries, larger than the first by the number of flips.
+    ensures current { IfOk result (λ o. (m : List Place) × IsCurrent o.0 m × IsMatching pattern.entry.now m × (length m ≡ length matching.pairs + flips (take o.1 events.now))) }
+{
+    let mut forest = Forest::new(alloc, pattern, matching)?;
+    for (made, event) in events.iter().enumerate() {
+        if !forest.may(*event) {
+            return Ok((forest, made));
+        }
+        make(&mut forest, *event);
+    }
+    Ok((forest, events.len()))
+}
