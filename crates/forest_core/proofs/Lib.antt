@@ -6,6 +6,7 @@ pub mod Keeping
 pub mod Members
 pub mod Renewals
 pub mod Roots
+pub mod Settling
 pub mod Sounds
 pub mod Storing
 pub mod Tabling

@@ -5,7 +5,7 @@ use Rattle.bip_defs.specs.Matching.{IsMatching, cols_of, rows_of}
 use Rattle.bip_defs.specs.Matrix.{IsEntry, Matrix, Place}
 use Rattle.bip_defs.proofs.Sets.{among_last, among_left, among_right}
 use Rattle.forest_core.specs.Current.{IsCurrent}
-use Rattle.forest_core.specs.Events.{IsLegal, IsRenewed, Leaves, Runs, flips}
+use Rattle.forest_core.specs.Events.{IsLegal, IsRenewed, Becomes, Runs, flips}
 use Rattle.forest_core.specs.Sound.{AreClaims, IsLeaf, IsSound}
 use Rattle.forest_core.specs.State.{IsRootOfRow, State, planted, roots_of}
 use Rattle.sp_ids.specs.declared.events.Event.{Event}
@@ -81,7 +81,7 @@ renewed_sound s t k n c = record {
   flipped = λ x h. absurd (subst (Among x) n.flipped h);
 }
 
-pub event_sound : (s t : State) (e : Event) → IsSound s → IsLegal s e → Leaves s e t → IsSound t
+pub event_sound : (s t : State) (e : Event) → IsSound s → IsLegal s e → Becomes s e t → IsSound t
 event_sound s t (Claim r c) k l h = subst IsSound (sym h) (claimed_sound s r c k l)
 event_sound s t (Win x r) k l h = subst IsSound (sym h) (won_sound s x r k l)
 event_sound s t (Flip x) k l h = subst IsSound (sym h) (flipped_sound s x k l)
@@ -101,7 +101,7 @@ weight s = length s.base + length s.flipped
 renewed_weight : (s t : State) → IsSound s → IsRenewed s t → weight t ≡ weight s
 renewed_weight s t k n = let g = (current_grown s t.base k n.base).size in let none = ap length n.flipped in omega (arith, g, none)
 
-event_weight : (s t : State) (e : Event) (es : List Event) → IsSound s → IsLegal s e → Leaves s e t → weight t + flips es ≡ weight s + flips (e ∷ es)
+event_weight : (s t : State) (e : Event) (es : List Event) → IsSound s → IsLegal s e → Becomes s e t → weight t + flips es ≡ weight s + flips (e ∷ es)
 event_weight s t (Claim r c) es k l h = ap (λ u. weight u + flips es) h
 event_weight s t (Win x r) es k l h = ap (λ u. weight u + flips es) h
 event_weight s t (Flip x) es k l h = ap (λ u. weight u + flips es) h ∙ omega (arith, length-append s.flipped (x ∷ []))
@@ -122,7 +122,7 @@ run_grown a m n es s k h cur =
 
 -- Runs.
 
-event_matrix : (s t : State) (e : Event) → Leaves s e t → t.matrix ≡ s.matrix
+event_matrix : (s t : State) (e : Event) → Becomes s e t → t.matrix ≡ s.matrix
 event_matrix s t (Claim r c) h = ap (λ (u : State). u.matrix) h
 event_matrix s t (Win x r) h = ap (λ (u : State). u.matrix) h
 event_matrix s t (Flip x) h = ap (λ (u : State). u.matrix) h
@@ -130,13 +130,13 @@ event_matrix s t Graft (n, kept) = n.matrix
 event_matrix s t Rebuild (n, gone) = n.matrix
 event_matrix s t Done h = ap (λ (u : State). u.matrix) h
 
-run_matrix : (s t : State) (es : List Event) → Runs s es t → t.matrix ≡ s.matrix
+pub run_matrix : (s t : State) (es : List Event) → Runs s es t → t.matrix ≡ s.matrix
 run_matrix s t [] h = ap (λ (u : State). u.matrix) h
 run_matrix s t (e ∷ es) (l, u, h, rest) = run_matrix u t es rest ∙ event_matrix s u e h
 
 -- one event more
-pub run_last : (s t u : State) (es : List Event) (e : Event) → Runs s es t → IsLegal t e → Leaves t e u → Runs s (es ++ e ∷ []) u
-run_last s t u [] e h l k = (subst (λ (v : State). IsLegal v e) h l, u, subst (λ (v : State). Leaves v e u) h k, refl)
+pub run_last : (s t u : State) (es : List Event) (e : Event) → Runs s es t → IsLegal t e → Becomes t e u → Runs s (es ++ e ∷ []) u
+run_last s t u [] e h l k = (subst (λ (v : State). IsLegal v e) h l, u, subst (λ (v : State). Becomes v e u) h k, refl)
 run_last s t u (d ∷ es) e (l, v, h, rest) m k = (l, v, h, run_last v t u es e rest m k)
 
 -- a current matching after a run

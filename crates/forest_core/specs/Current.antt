@@ -13,7 +13,8 @@ pub data OnPath (base claims leaves : List Place) (x : ℕ) : ℕ → Type 0 whe
 abbrev pub IsRematched : State → ℕ → Type 0
 IsRematched s r = (x : ℕ) × Among x s.flipped × OnPath s.base s.claims s.leaves x r
 
--- rows on the paths of flipped roots go to the columns that claimed them, and the other rows keep their base mates; each pair is listed once
+-- rows on the paths of flipped roots go to the columns that claimed them, and the other rows keep their base mates; each
+-- pair is listed once
 pub record IsCurrent (s : State) (m : List Place) : Type 0 where
   pub pairs : (p : Place) → Among p m ↔ ((Among p s.claims × IsRematched s p.0) ⊎ (Among p s.base × (¬ IsRematched s p.0)))
   pub once : AreDistinct m

@@ -1,4 +1,4 @@
--- Events: where each is legal, and what it leaves.
+-- Events: where each is legal, and what the forest is after it.
 use Rattle.std.specs.Prelude.{◌≡◌, ℕ, suc, List, [], ◌∷◌, ◌++◌}
 use Rattle.bip_defs.specs.Lists.{Among}
 use Rattle.bip_defs.specs.Matching.{cols_of, rows_of}
@@ -37,19 +37,19 @@ pub record IsRenewed (s t : State) : Type 0 where
   pub leaves : t.leaves ≡ []
   pub flipped : t.flipped ≡ []
 
--- what an event leaves
-abbrev pub Leaves : State → Event → State → Type 0
-Leaves s (Claim r c) t = t ≡ record s { claims = s.claims ++ (r, c) ∷ [] }
-Leaves s (Win x r) t = t ≡ record s { leaves = s.leaves ++ (x, r) ∷ [] }
-Leaves s (Flip x) t = t ≡ record s { flipped = s.flipped ++ x ∷ [] }
-Leaves s Graft t = IsRenewed s t × AreKept s s.claims t.claims
-Leaves s Rebuild t = IsRenewed s t × (t.claims ≡ [])
-Leaves s Done t = t ≡ s
+-- what the forest is after an event
+abbrev pub Becomes : State → Event → State → Type 0
+Becomes s (Claim r c) t = t ≡ record s { claims = s.claims ++ (r, c) ∷ [] }
+Becomes s (Win x r) t = t ≡ record s { leaves = s.leaves ++ (x, r) ∷ [] }
+Becomes s (Flip x) t = t ≡ record s { flipped = s.flipped ++ x ∷ [] }
+Becomes s Graft t = IsRenewed s t × AreKept s s.claims t.claims
+Becomes s Rebuild t = IsRenewed s t × (t.claims ≡ [])
+Becomes s Done t = t ≡ s
 
--- each event is legal in its turn, and this is what they leave
+-- each event is legal in its turn, and this is the forest after them
 abbrev pub Runs : State → List Event → State → Type 0
 Runs s [] t = t ≡ s
-Runs s (e ∷ es) t = IsLegal s e × (u : State) × Leaves s e u × Runs u es t
+Runs s (e ∷ es) t = IsLegal s e × (u : State) × Becomes s e u × Runs u es t
 
 -- how many roots the events flip
 abbrev pub flips : List Event → ℕ

@@ -4,7 +4,8 @@ use Rattle.bip_defs.specs.Lists.{Among}
 use Rattle.bip_defs.specs.Matching.{cols_of, rows_of}
 use Rattle.bip_defs.specs.Matrix.{Matrix, Place, cols}
 
--- the matrix, the base matching, the claims in order, the leaves in order (each with its root before it), and the roots whose paths were exchanged
+-- the matrix, the base matching, the claims in order, the leaves in order (each with its root before it), and the roots whose
+-- paths were exchanged
 pub record State : Type 0 where
   pub matrix : Matrix
   pub base : List Place
@@ -23,7 +24,8 @@ roots_of leaves = map (λ (p : ℕ × ℕ). p.0) leaves
 abbrev pub InForest : State → ℕ → Type 0
 InForest s c = (c < cols s.matrix) × ((¬ Among c (cols_of s.base)) ⊎ ((r : ℕ) × Among (r, c) s.base × Among r (rows_of s.claims)))
 
--- the root of a column that is unmatched in the base is the column; of any other it is the root of the column that claimed its base row
+-- the root of a column that is unmatched in the base is the column; of any other it is the root of the column that claimed
+-- its base row
 pub data RootOf (base claims : List Place) (x : ℕ) : ℕ → Type 0 where
   itself : (¬ Among x (cols_of base)) → RootOf base claims x x
   above : {c d : ℕ} (r : ℕ) → Among (r, c) base → Among (r, d) claims → RootOf base claims x d → RootOf base claims x c

@@ -12,7 +12,12 @@ mod put;
 mod renew;
 mod runs;
 mod table;
+#[cfg(test)]
+mod tests;
 
 pub use forest::Forest;
-pub use laws::{current_is_a_matching, done_is_maximum, events_keep_sound};
+pub use laws::{
+    current_is_a_matching, done_is_maximum, events_keep_sound, forests_are_rested,
+    settled_without_wins,
+};
 pub use runs::every_run;

@@ -4,7 +4,7 @@ ghost use Rattle.std.specs.Prelude.{◌≡◌, ℕ, ◌+◌, ◌<◌, ◌≤◌,
 ghost use Rattle.bip_defs.specs.Matching.{IsMatching};
 ghost use Rattle.bip_defs.specs.Matrix.{Place, cols};
 ghost use Rattle.forest_core.specs.Current.{IsCurrent};
-ghost use Rattle.forest_core.specs.Events.{IsLegal, Leaves, Runs, flips};
+ghost use Rattle.forest_core.specs.Events.{IsLegal, Becomes, Runs, flips};
 ghost use Rattle.forest_core.specs.Sound.{IsSound};
 ghost use Rattle.forest_core.specs.State.{planted};
 ghost use Rattle.sp_ids.specs.declared.events.Event.TheVariants.{Done};
@@ -18,7 +18,7 @@ use std::alloc::Global;
 // Makes a legal event.
 fn make(forest: &mut Forest, event: Event)
     requires { IsLegal forest.old event }
-    ensures { Leaves forest.old event forest.new }
+    ensures { Becomes forest.old event forest.new }
 {
     match event {
         Event::Claim { row, col } => forest.claim(row, col),
@@ -44,6 +44,7 @@ pub fn every_run<'p>(
     requires matching { IsMatching pattern.now matching.pairs }
     ensures made { IfOk result (λ o. Runs (planted pattern.entry.now matching.pairs) (take o.1 events.now) o.0) }
     ensures longest { IfOk result (λ o. (o.1 ≤ length events.now) × (o.1 < length events.now → ¬ IsLegal o.0 (slice_index_or events.now o.1 Done))) }
+    ensures pattern { IfOk result (λ o. o.0.matrix ≡ pattern.entry.now) }
     ensures sound { IfOk result (λ o. IsSound o.0) }
 
     // The current matching is one of entries, larger than the first by the number of flips.

@@ -3,7 +3,7 @@ use Rattle.std.proofs.lemmas.List.{take_all, take_more}
 use Rattle.sp_ids.specs.declared.events.Event.{Event}
 use Rattle.forest_core.specs.Events.{Runs}
 use Rattle.forest_core.specs.State.{planted}
-use Rattle.forest_core.proofs.Sounds.{planted_sound, run_current, run_last, run_sound}
+use Rattle.forest_core.proofs.Sounds.{planted_sound, run_current, run_last, run_matrix, run_sound}
 use Rattle.forest_core.proofs.runs.every_run.Goals as goal
 
 pub loop-made-init : goal.loop-made-init
@@ -11,6 +11,9 @@ loop-made-init c = c.in_ok-forest.ensures
 
 pub returns-then-not-may-clause-made : goal.returns-then-not-may-clause-made
 returns-then-not-may-clause-made c = c.loop-made.invariant
+
+pub returns-then-not-may-clause-pattern : goal.returns-then-not-may-clause-pattern
+returns-then-not-may-clause-pattern c = run_matrix _ _ _ c.loop-made.invariant
 
 pub returns-then-not-may-clause-sound : goal.returns-then-not-may-clause-sound
 returns-then-not-may-clause-sound c = run_sound _ _ _ (planted_sound _ _ c.requires.matching) c.loop-made.invariant
@@ -32,6 +35,9 @@ all_made c =
 
 pub returns-clause-made : goal.returns-clause-made
 returns-clause-made c = all_made c
+
+pub returns-clause-pattern : goal.returns-clause-pattern
+returns-clause-pattern c = run_matrix _ _ _ c.loop-made.invariant
 
 pub returns-clause-sound : goal.returns-clause-sound
 returns-clause-sound c = run_sound _ _ _ (planted_sound _ _ c.requires.matching) (all_made c)

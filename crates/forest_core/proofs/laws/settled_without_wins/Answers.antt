@@ -1,0 +1,5 @@
+use Rattle.forest_core.proofs.Settling as settling
+use Rattle.forest_core.proofs.laws.settled_without_wins.Goals as goal
+
+pub returns : goal.returns
+returns c = settling.settled_without_wins
