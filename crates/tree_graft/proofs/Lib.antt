@@ -1,0 +1,4 @@
+mod Augmenting
+mod Leading
+mod Phasing
+mod Searching

@@ -1,0 +1,102 @@
+//! The search of a phase, level by level.
+
+ghost use Rattle.std.specs.Prelude.{◌≡◌, ◌⊎◌, ℕ, List, ◌++◌, false, IsTrue, IfOk, OnOk};
+ghost use Rattle.bip_defs.specs.Lists.{Among, Lists};
+ghost use Rattle.bip_defs.specs.Matching.{rows_of};
+ghost use Rattle.forest_core.specs.Events.{IsLegal};
+ghost use Rattle.forest_core.specs.State.{InForest, IsRested, IsSettled, RootOf, roots_of};
+ghost use Rattle.sp_ids.specs.declared.events.Event.TheVariants.{Claim};
+ghost use Rattle.tree_graft.specs.Searching.{Grows, IsScanned, IsSearch};
+
+use forest_core::Forest;
+use sp_ids::{Col, OutOfMemory, Row};
+use std::alloc::Global;
+
+/// Lets the trees grow until each has a leaf or has nothing left to claim.
+///
+/// The first level is all columns in the forest, each further one the base mates of the rows that were claimed by the level
+/// before it. Answers `OutOfMemory` where 4 bytes a column can't be had.
+pub fn grow(alloc: Global, forest: &mut Forest) -> Result<(), OutOfMemory>
+    requires { IsRested forest.old }
+    ensures grown { Grows forest.old forest.new }
+    ensures settled { OnOk result (IsSettled forest.new) }
+    ensures scanned { OnOk result ((c : ℕ) → InForest forest.new c → IsScanned forest.new c) }
+{
+    forest.is_sound();
+    // The levels one after the other.
+    let mut frontier = first_level(alloc, forest)?;
+    let mut at: usize = 0;
+    while at < frontier.len() {
+        let col = frontier[at];
+        scan(forest, &mut frontier, col)?;
+        at += 1;
+    }
+    Ok(())
+}
+
+// All columns in the forest, with room for those that may still come into it.
+fn first_level(alloc: Global, forest: &Forest) -> Result<Vec<Col>, OutOfMemory>
+    ensures { IfOk result (λ level. Lists (InForest forest.now) level.items) }
+{
+    let cols = forest.pattern().cols();
+    let mut level = Vec::with_capacity(alloc, cols as usize)?;
+    for number in 0..cols {
+        if forest.root_of(Col(number)).is_some() {
+            level.push(Col(number))?;
+        }
+    }
+    Ok(level)
+}
+
+// A column claims the unclaimed rows in which it has entries, until its root has a leaf.
+fn scan(forest: &mut Forest, frontier: &mut Vec<Col>, col: Col) -> Result<(), OutOfMemory>
+    requires search { IsSearch forest.old frontier.old.items }
+    requires inside { InForest forest.old col }
+    ensures grown { Grows forest.old forest.new }
+    ensures search { OnOk result (IsSearch forest.new frontier.new.items) }
+    ensures scanned { OnOk result (IsScanned forest.new col) }
+    ensures further { OnOk result ((cs : List ℕ) × (frontier.new.items ≡ frontier.old.items ++ cs)) }
+{
+    let root = forest.root_of(col).unwrap_or(col);
+    if forest.leaf(root).is_some() {
+        return Ok(());
+    }
+    let rows = forest.pattern().rows_of(col);
+    for row in rows {
+        if forest.holder(*row).is_none() && wins(forest, frontier, root, *row, col)? {
+            return Ok(());
+        }
+    }
+    Ok(())
+}
+
+// A column claims an unclaimed row. Whether the row is now its root's leaf; else its base mate is in the forest.
+fn wins(
+    forest: &mut Forest,
+    frontier: &mut Vec<Col>,
+    root: Col,
+    row: Row,
+    col: Col,
+) -> Result<bool, OutOfMemory>
+    requires search { IsSearch forest.old frontier.old.items }
+    requires claim { IsLegal forest.old (Claim row col) }
+    requires root { RootOf forest.old.base forest.old.claims root col }
+    requires no_leaf { ¬ Among root (roots_of forest.old.leaves) }
+    ensures grown { Grows forest.old forest.new }
+    ensures search { OnOk result (IsSearch forest.new frontier.new.items) }
+    ensures claimed { OnOk result (Among row (rows_of forest.new.claims)) }
+    ensures won { IfOk result (λ won. (IsTrue won × Among root (roots_of forest.new.leaves)) ⊎ ((won ≡ false) × (forest.new.leaves ≡ forest.old.leaves))) }
+    ensures further { OnOk result ((cs : List ℕ) × (frontier.new.items ≡ frontier.old.items ++ cs)) }
+{
+    forest.claim(row, col);
+    match forest.base_col(row) {
+        Some(mate) => {
+            frontier.push(mate)?;
+            Ok(false)
+        }
+        None => {
+            forest.win(root, row);
+            Ok(true)
+        }
+    }
+}
