@@ -1,12 +1,24 @@
 -- What contracts see of a matching, and how two flat arrays store it.
 use Rattle.std.specs.Prelude.{◌≡◌, ◌≢◌, ℕ, zero, suc, ◌<◌, ◌^◌, ◌==◌, if◌then◌else◌, List, [], ◌∷◌, length, slice_index}
-use Rattle.bip_defs.specs.Matrix.{Place}
+use Rattle.bip_defs.specs.Matching.{IsMatching, IsMaximum}
+use Rattle.bip_defs.specs.Matrix.{Matrix, Place, cols}
 
 -- the numbers of rows and columns, and the pairs, rising by column
 pub record Pairing : Type 0 where
   pub rows : ℕ
   pub cols : ℕ
   pub pairs : List Place
+
+-- a matching of the matrix's entries, over its rows and columns
+pub record IsMatchingOf (a : Matrix) (m : Pairing) : Type 0 where
+  pub rows : m.rows ≡ a.rows
+  pub cols : m.cols ≡ cols a
+  pub matching : IsMatching a m.pairs
+
+-- and none of its matchings is longer
+pub record IsMaximumOf (a : Matrix) (m : Pairing) : Type 0 where
+  pub matching : IsMatchingOf a m
+  pub maximum : IsMaximum a m.pairs
 
 -- stands for no mate
 abbrev pub none : ℕ

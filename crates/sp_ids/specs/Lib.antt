@@ -1,3 +1,4 @@
 pub mod Exit
 pub mod Entries
+pub mod Limits
 pub mod Stored
