@@ -1,5 +1,10 @@
 //! Gates that workers pass.
 
+use sp_ids::{MAX_WORKERS, OutOfMemory};
+use std::alloc::Global;
+use std::sync::atomic::{AtomicBool, AtomicU64, Ordering};
+use std::thread;
+
 /// Where workers may be made to wait for each other. It changes no answer.
 pub trait Gate: Sync {
     /// A worker has come to its share. Each worker calls it once in each search that the workers share.
@@ -14,9 +19,73 @@ impl Gate for NoGate {
     fn arrive(&self, _worker: u32) {}
 }
 
+// How often worker 0 looks whether worker 1 has come.
+const MAX_TURNS: u32 = 50_000_000;
+
+/// Makes two workers meet: the k-th time that worker 0 arrives it waits until worker 1 has arrived k times.
+///
+/// It is for tests. Between two looks worker 0 lets other threads run, and after 50,000,000 looks in one arrival it goes on,
+/// so `arrive` returns whatever the other workers do. It counts the arrivals of workers 0 to 63, and keeps 8 bytes for each.
+#[derive(Drop)]
+pub struct MeetGate {
+    arrivals: Vec<AtomicU64>,
+    ran_out: AtomicBool,
+}
+
+impl MeetGate {
+    /// A gate at which nobody has arrived. Answers `OutOfMemory` where the counts can't be had.
+    pub fn new(alloc: Global) -> Result<MeetGate, OutOfMemory> {
+        let mut arrivals = Vec::with_capacity(alloc, MAX_WORKERS as usize)?;
+        for _worker in 0..MAX_WORKERS {
+            arrivals.push(AtomicU64::new(0))?;
+        }
+        Ok(MeetGate {
+            arrivals,
+            ran_out: AtomicBool::new(false),
+        })
+    }
+
+    /// How often a worker has arrived: 0 for workers past 63.
+    pub fn arrivals(&self, worker: u32) -> u64 {
+        match self.arrivals.as_slice().get(worker as usize) {
+            Some(count) => count.load(Ordering::SeqCst),
+            None => 0,
+        }
+    }
+
+    /// Whether worker 0 ever went on before worker 1 had come.
+    pub fn ran_out(&self) -> bool {
+        self.ran_out.load(Ordering::SeqCst)
+    }
+
+    // Waits until worker 1 has arrived so many times, or all turns are used.
+    fn meet(&self, times: u64) {
+        for _turn in 0..MAX_TURNS {
+            if self.arrivals(1) >= times {
+                return;
+            }
+            thread::yield_now();
+        }
+        self.ran_out.store(true, Ordering::SeqCst);
+    }
+}
+
+impl Gate for MeetGate {
+    fn arrive(&self, worker: u32) {
+        let Some(count) = self.arrivals.as_slice().get(worker as usize) else {
+            return;
+        };
+        let before = count.fetch_add(1, Ordering::SeqCst);
+        if worker == 0 {
+            self.meet(before.saturating_add(1));
+        }
+    }
+}
+
 #[cfg(test)]
 mod tests {
     use super::*;
+    use std::thread::{Threads, join};
 
     fn pass<G: Gate>(gate: &G) -> u32 {
         gate.arrive(0);
@@ -27,5 +96,31 @@ mod tests {
     #[test]
     fn no_gate_returns(rt: HostRuntime) {
         assert_eq!(rt; pass(&NoGate), 2);
+    }
+
+    fn arrive_often<G: Gate>(gate: &G, worker: u32, times: u32) -> u32 {
+        for _ in 0..times {
+            gate.arrive(worker);
+        }
+        times
+    }
+
+    // Each worker passes a hundred times, worker 0 never before worker 1.
+    fn pass_together<R: Threads + Sync, G: Gate>(rt: &R, gate: &G) -> (u32, u32) {
+        join(
+            rt,
+            || -> u32 { arrive_often(gate, 0, 100) },
+            || -> u32 { arrive_often(gate, 1, 100) },
+        )
+    }
+
+    #[test]
+    fn two_workers_meet(rt: HostRuntime) -> Result<(), OutOfMemory> {
+        let gate = MeetGate::new(rt.alloc())?;
+        let _both = pass_together(&rt, &gate);
+        assert_eq!(rt; (gate.arrivals(0), gate.arrivals(1)), (100, 100));
+        assert_eq!(rt; (gate.arrivals(2), gate.arrivals(64)), (0, 0));
+        assert!(rt; !gate.ran_out());
+        Ok(())
     }
 }

@@ -7,7 +7,7 @@ mod ports;
 mod sinks;
 mod sources;
 
-pub use gates::{Gate, NoGate};
+pub use gates::{Gate, MeetGate, NoGate};
 pub use ports::{Failed, Sink, Source, write_all};
 pub use sinks::{MemSink, SteadySink};
 pub use sources::{MemSource, SteadySource};
