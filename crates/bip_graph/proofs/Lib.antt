@@ -9,3 +9,4 @@ pub mod Members
 pub mod Reports
 pub mod Seen
 pub mod Stretching
+pub mod Traced
