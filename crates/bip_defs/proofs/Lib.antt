@@ -4,6 +4,7 @@ pub mod Exchange
 pub mod Fine
 pub mod Paired
 pub mod Reaching
+pub mod Queues
 pub mod Searches
 pub mod Sets
 pub mod Small

@@ -1,12 +1,14 @@
 //! Augmenting paths, followed back from their ends.
 
-ghost use Rattle.std.specs.Prelude.{◌≡◌, ℕ, ◌<◌, ◌≤◌, ◌∷◌, ◌++◌, [], List, length, vec_len, vec_capacity, IfSome, IfNone};
+ghost use Rattle.std.specs.Prelude.{◌≡◌, ◌⊎◌, ℕ, ◌<◌, ◌≤◌, ◌∷◌, ◌++◌, [], List, length, vec_len, vec_capacity, IfSome, IfNone};
 ghost use Rattle.bip_defs.specs.Lists.{Among};
 ghost use Rattle.bip_defs.specs.Matching.{cols_of, rows_of};
 ghost use Rattle.bip_defs.specs.Matrix.{Place};
 ghost use Rattle.bip_defs.specs.Paths.{IsAugmenting};
-ghost use Rattle.bip_graph.specs.Parents.{AreTrees, HasDepth, IsTraced};
+ghost use Rattle.bip_defs.specs.Queues.{at};
+ghost use Rattle.bip_graph.specs.Parents.{AreTrees, HasDepth, IsQueue, IsReachedIn, IsTraced};
 
+use crate::matching::Matching;
 use sp_ids::{Col, Row};
 
 /// Alternating trees that a search has grown from unmatched columns.
@@ -74,4 +76,54 @@ fn put(path: &mut Vec<(Row, Col)>, pair: (Row, Col))
     ensures room { vec_capacity path.old ≤ vec_capacity path.new }
 {
     let _room = path.push(pair).is_ok();
+}
+
+/// The columns that a search has reached, each with the place of its parent, and the matching.
+#[derive(Clone, Copy)]
+pub struct Queue<'s> {
+    pub matching: &'s Matching,
+    pub columns: &'s [(u32, u32)],
+}
+
+impl Parents for Queue<'_> {
+    type Reached = (u32, u32);
+
+    ghost pairs = { λ q. q.matching.now.pairs };
+
+    ghost reached = { λ q. IsReachedIn q.matching.now.pairs q.columns.now };
+
+    ghost kept = { λ q x. IsQueue q.matching.now q.columns.now × Among x q.columns.now };
+
+    ghost column = { λ x. x.0 };
+
+    fn col(&self, at: (u32, u32)) -> Col {
+        Col(at.0)
+    }
+
+    fn parent(&self, at: (u32, u32)) -> Option<(Row, (u32, u32))> {
+        match self.matching.row_of(Col(at.0)) {
+            Some(row) => Some((row, self.columns[at.1 as usize])),
+            None => None,
+        }
+    }
+}
+
+impl Queue<'_> {
+    /// Writes the augmenting path that leads over the column at a place to an unmatched row, in order from the root of
+    /// the tree.
+    ///
+    /// Allocates nothing: the list has room for each augmenting path of the matching. Work: one step a pair of the path.
+    pub fn path_to(&self, leaf: Row, place: u32, path: &mut Vec<(Row, Col)>)
+        requires queue { IsQueue self.now.matching.now self.now.columns.now }
+        requires place { place < length self.now.columns.now }
+        requires leaf { ¬ Among leaf (rows_of self.now.matching.now.pairs) }
+        requires room { length self.now.matching.now.pairs < vec_capacity path.old }
+        ensures path { IsAugmenting self.now.matching.now.pairs path.new.items }
+        ensures pairs { (p : Place) → Among p path.new.items → (p ≡ (leaf, (at self.now.columns.now place).0)) ⊎ IsReachedIn self.now.matching.now.pairs self.now.columns.now p.0 p.1 }
+        ensures room { vec_capacity path.old ≤ vec_capacity path.new }
+    {
+        // `size` tells the proof that rows and columns differ.
+        let _size = self.matching.size();
+        trace_back(self, leaf, self.columns[place as usize], path);
+    }
 }
