@@ -2,7 +2,9 @@ pub mod Counts
 pub mod Duality
 pub mod Exchange
 pub mod Fine
+pub mod Full
 pub mod Paired
+pub mod Queues
 pub mod Reaching
 pub mod Searches
 pub mod Sets

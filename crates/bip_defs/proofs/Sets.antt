@@ -1,10 +1,10 @@
 -- Lists that stand for sets: members, what is left without one of them, pigeonholes, rising lists.
-use Rattle.std.proofs.Common.{◌≡◌, ◌≢◌, ◌⊎◌, ◌↔◌, ◌∙◌, ℕ, zero, suc, ◌+◌, ◌<◌, ◌≤◌, Bool, true, false, cond, not, List, [], ◌∷◌, ◌++◌, map, filter, length, nat_eq, refl, sym, ap, subst, inl, inr, ⊎_elim, arith, zero-le, suc-le-suc, le_of_suc-le-suc, lt_irrefl, ap₂, not-suc-le-zero, ◌||◌, Contains, slice_index_or, eq-eqb, eqb-true, true≢false}
+use Rattle.std.proofs.Common.{◌≡◌, ◌≢◌, ◌⊎◌, ◌↔◌, ◌∙◌, ℕ, zero, suc, ◌+◌, ◌<◌, ◌≤◌, Bool, true, false, cond, not, List, [], ◌∷◌, ◌++◌, map, filter, length, nat_eq, refl, sym, ap, subst, inl, inr, ⊎_elim, arith, zero-le, suc-le-suc, le_of_suc-le-suc, lt_irrefl, ap₂, not-suc-le-zero, ◌||◌, Contains, slice_index_or, eq-eqb, eqb-true, true≢false, set, get_or, get_or-set_same, get_or-set_other}
 use Rattle.std.proofs.Math.Decide.{dec_lt, ℕ_discrete}
 use Rattle.std.proofs.lemmas.List.{get_or_past}
 use Rattle.std.proofs.lemmas.List.Filters.{length-filter_both}
 use Rattle.std.specs.List.{list_any}
-use Rattle.bip_defs.specs.Lists.{Among, AreDistinct, IsBelowEach, IsRising, Lists}
+use Rattle.bip_defs.specs.Lists.{Among, AreDistinct, IsBelowEach, IsMarked, IsRising, Lists}
 use Rattle.bip_defs.specs.Matching.{cols_of, rows_of}
 use Rattle.bip_defs.specs.Matrix.{IsEntry, Matrix, Place, column, cols, neighbours, touches, upto, upto_from}
 
@@ -38,6 +38,11 @@ among_either x (y ∷ xs) ys (inr h) = ⊎_elim (λ g. inl (inr g)) (λ g. inr g
 pub among_last : {X : Type 0} (x y : X) (xs : List X) → Among x (xs ++ y ∷ []) → Among x xs ⊎ (x ≡ y)
 among_last x y xs h = ⊎_elim (λ g. inl g) (λ (g : Among x (y ∷ [])). elim g [ inl e ↦ inr e | inr k ↦ absurd k ]) (among_either x xs (y ∷ []) h)
 
+-- one more at the end, which was not there
+pub distinct_last : {X : Type 0} (xs : List X) (x : X) → AreDistinct xs → ¬ Among x xs → AreDistinct (xs ++ x ∷ [])
+distinct_last [] x a new = (λ h. h, tt)
+distinct_last (y ∷ xs) x a new = (λ h. ⊎_elim a.0 (λ (e : y ≡ x). new (inl (sym e))) (among_last y x xs h), distinct_last xs x a.1 (λ h. new (inr h)))
+
 pub number_same : (x y : ℕ) → (x ≡ y) ⊎ (x ≢ y)
 number_same x y = elim (ℕ_discrete x y) [ yes e ↦ inl e | no ne ↦ inr ne ]
 
@@ -61,6 +66,11 @@ is_among same x (y ∷ ys) = by (same x y) (is_among same x ys)
 -- a number is on the list or not
 pub number_among : (x : ℕ) (xs : List ℕ) → Among x xs ⊎ (¬ Among x xs)
 number_among x xs = is_among number_same x xs
+
+-- Marks.
+
+pub marked_more : (marks : List Bool) (d c : ℕ) → d < length marks → IsMarked marks c → IsMarked (set marks d true) c
+marked_more marks d c lt h = ⊎_elim (λ (e : c ≡ d). ap (λ x. get_or (set marks d true) x false) e ∙ get_or-set_same marks d true false lt) (λ ne. get_or-set_other marks d c true false ne ∙ h) (number_same c d)
 
 -- What std's words say of members.
 
@@ -310,6 +320,17 @@ upto_length k (suc n) = ap suc (upto_length (suc k) n)
 pub upto_rising : (k n : ℕ) → IsRising (upto_from k n)
 upto_rising k zero = tt
 upto_rising k (suc n) = (below_each_from k (upto_from (suc k) n) (λ y h. (upto_sound (suc k) n y h).0), upto_rising (suc k) n)
+
+up_more : (k n : ℕ) → upto_from k (n + 1) ≡ upto_from k n ++ (k + n) ∷ []
+up_more k zero = let e : k ≡ k + 0 = omega arith in ap (λ x. x ∷ []) e
+up_more k (suc n) =
+    let more : suc n + 1 ≡ suc (n + 1) = omega arith in
+    let last : suc k + n ≡ k + suc n = omega arith in
+    ap (upto_from k) more ∙ ap (λ xs. k ∷ xs) (up_more (suc k) n ∙ ap (λ x. upto_from (suc k) n ++ x ∷ []) last)
+
+-- one number more
+pub upto_more : (n : ℕ) → upto (n + 1) ≡ upto n ++ n ∷ []
+upto_more n = let e : 0 + n ≡ n = omega arith in up_more 0 n ∙ ap (λ x. upto n ++ x ∷ []) e
 
 pub upto_lists : (n : ℕ) → Lists (λ x. x < n) (upto n)
 upto_lists n = record { rising = upto_rising 0 n; sound = λ x h. omega (arith, (upto_sound 0 n x h).1); complete = λ x lt. upto_complete 0 n x zero-le (omega arith) }

@@ -4,17 +4,17 @@ use Rattle.bip_defs.specs.Blocks.{AreBlocksOf, AreInOrder, Block, ColAt, IsBlock
 use Rattle.bip_defs.specs.Components.{AreComponents, IsComponent}
 use Rattle.bip_defs.specs.Walks.{IsLed, IsReached, Walk, stay, step}
 use Rattle.bip_defs.proofs.Fine.{block_is_component, component_is_block}
+use Rattle.bip_defs.proofs.Full.{all_cols, all_rows, full_maximum}
 use Rattle.bip_defs.proofs.Reaching.{reached_maximum}
 use Rattle.bip_defs.proofs.Searches.{parts_from_searches}
 use Rattle.bip_defs.specs.Decomposition.{IsDecompositionOf}
 use Rattle.bip_defs.specs.Lists.{Among, AreDistinct, Lists}
-use Rattle.bip_defs.specs.Matching.{IsMatching, IsMaximum, cols_of, rows_of, turned}
+use Rattle.bip_defs.specs.Matching.{IsMatching, IsMaximum, cols_of, turned}
 use Rattle.bip_defs.specs.Matrix.{HasPlaces, IsEntry, Matrix, Place, column, cols, transpose, upto}
 use Rattle.bip_defs.specs.Searches.{AreReadOff}
 use Rattle.bip_defs.specs.Small.{lower_triangle, lower_triangle_parts, single, wide_row, wide_row_parts}
-use Rattle.std.proofs.lemmas.List.{length-map}
 use Rattle.bip_defs.specs.Parts.{ArePartsOf, IsHorizontalCol, IsHorizontalRow, IsSquareCol, IsSquareRow, IsVerticalCol, IsVerticalRow}
-use Rattle.bip_defs.proofs.Sets.{col_pair, entry_col, few_distinct, lists_same, lists_unique, number_among, number_same, rising_distinct, row_pair, upto_length, upto_rising, upto_lists}
+use Rattle.bip_defs.proofs.Sets.{col_pair, entry_col, lists_same, lists_unique, number_same, rising_distinct, row_pair, upto_rising, upto_lists}
 
 -- Places.
 
@@ -83,28 +83,11 @@ no_entries a bare = record {
 
 -- A matching of all rows and columns.
 
--- distinct numbers below n, as many as n, are all of them
-pub all_below : (n : ℕ) (xs : List ℕ) → AreDistinct xs → ((x : ℕ) → Among x xs → x < n) → n ≤ length xs → (x : ℕ) → x < n → Among x xs
-all_below n xs differ below many x lt = ⊎_elim (λ h. h) (λ out. absurd (too_many out)) (number_among x xs)
-  where
-    too_many : ¬ Among x xs → ⊥
-    too_many out = omega (arith, upto_length 0 n, few_distinct (x ∷ xs) (upto n) (out, differ) (λ y h. (upto_lists n).complete y (⊎_elim (λ (e : y ≡ x). subst (λ z. z < n) (sym e) lt) (λ k. below y k) h)))
-
 -- a matching of all rows and columns leaves no row or column out of the square part
 pub record IsFull (a : Matrix) (m : List Place) : Type 0 where
   pub matching : IsMatching a m
   pub rows : length m ≡ a.rows
   pub cols : length m ≡ cols a
-
--- as long as there are columns, a matching has them all
-all_cols : (a : Matrix) (m : List Place) → IsMatching a m → cols a ≤ length m → (c : ℕ) → c < cols a → Among c (cols_of m)
-all_cols a m k many c lt = all_below (cols a) (cols_of m) k.cols_differ (λ x h. let (r, p) = col_pair x m h in entry_col a r x (k.entries r x p)) (rw length-map many) c lt
-
-all_rows : (a : Matrix) (m : List Place) → IsMatching a m → a.rows ≤ length m → (r : ℕ) → r < a.rows → Among r (rows_of m)
-all_rows a m k many r lt = all_below a.rows (rows_of m) k.rows_differ (λ x h. let (c, p) = row_pair x m h in (k.entries x c p).0) (rw length-map many) r lt
-
-full_maximum : (a : Matrix) (m : List Place) → IsFull a m → IsMaximum a m
-full_maximum a m full = record { matching = full.matching; longest = λ o k. omega (arith, full.cols, upto_length 0 (cols a), length-map o (λ (p : Place). p.1), few_distinct (cols_of o) (upto (cols a)) k.cols_differ (λ c h. let (r, p) = col_pair c o h in (upto_lists (cols a)).complete c (entry_col a r c (k.entries r c p)))) }
 
 full_no_horizontal : (a : Matrix) (m : List Place) → IsFull a m → (c : ℕ) → ¬ IsHorizontalCol a c
 full_no_horizontal a m full c h = h.3 (all_cols a h.1 h.2.matching (omega (arith, full.cols, h.2.longest m full.matching)) c h.0)
@@ -281,7 +264,7 @@ lower_blocks = record {
 pub lower_triangle_is : IsDecompositionOf lower_triangle lower_triangle_parts
 unfolding diagonal
 lower_triangle_is = record {
-  rank = (diagonal, full_maximum lower_triangle diagonal diagonal_full, refl);
+  rank = (diagonal, full_maximum lower_triangle diagonal diagonal_full.matching diagonal_full.cols, refl);
   parts = full_parts lower_triangle diagonal diagonal_full;
   blocks = lower_blocks;
 }

@@ -7,6 +7,7 @@ pub mod Matrix
 pub mod Once
 pub mod Parts
 pub mod Paths
+pub mod Queues
 pub mod Searches
 pub mod Small
 pub mod Start

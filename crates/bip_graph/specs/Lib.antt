@@ -1,5 +1,6 @@
 pub mod Answers
 pub mod Pairing
+pub mod Parents
 pub mod Permuted
 pub mod Shown
 pub mod Stretches
