@@ -4,8 +4,9 @@ pub mod Empty
 pub mod Ends
 pub mod Halfway
 pub mod Handing
-pub mod Mates
+pub mod MateArrays
 pub mod Members
+pub mod Mutual
 pub mod Reports
 pub mod Seen
 pub mod Stretching
