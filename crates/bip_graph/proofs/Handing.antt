@@ -7,7 +7,7 @@ use Rattle.bip_defs.specs.Paths.{Gives}
 use Rattle.bip_defs.proofs.Sets.{number_same, row_among}
 use Rattle.bip_graph.specs.Pairing.{AreMates, LeadsBack, none, pairs_of}
 use Rattle.bip_graph.proofs.Arrays.{one_more_from, one_less_from, few_pairs, read, stored}
-use Rattle.bip_graph.proofs.Mates.{not_none}
+use Rattle.bip_graph.proofs.MateArrays.{not_none}
 
 -- new is old with the row at the column, and at no other
 pub record IsHanded (old new : List ℕ) (r c : ℕ) : Type 0 where

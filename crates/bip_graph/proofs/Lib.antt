@@ -4,9 +4,10 @@ pub mod Empty
 pub mod Ends
 pub mod Halfway
 pub mod Handing
-pub mod Mates
+pub mod MateArrays
 pub mod Members
 pub mod Queued
+pub mod Mutual
 pub mod Reports
 pub mod Seen
 pub mod Stretching

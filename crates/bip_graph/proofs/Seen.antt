@@ -7,7 +7,7 @@ use Rattle.bip_defs.specs.Paths.{Gives}
 use Rattle.bip_defs.proofs.Sets.{row_pair}
 use Rattle.bip_graph.specs.Pairing.{AreMates, Pairing, none, pairs_of}
 use Rattle.bip_graph.proofs.Arrays.{cols_rising, missed, read, stored, unread}
-use Rattle.bip_graph.proofs.Mates.{back, row_missed, row_stored, row_unread, rows_differ}
+use Rattle.bip_graph.proofs.MateArrays.{back, row_missed, row_stored, row_unread, rows_differ}
 use Rattle.bip_graph.proofs.Handing.{AreFree, IsTaken, IsHanded, handed_gives}
 
 -- what two arrays show

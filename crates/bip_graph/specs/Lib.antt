@@ -1,4 +1,5 @@
 pub mod Answers
+pub mod Mates
 pub mod Pairing
 pub mod Parents
 pub mod Permuted

@@ -1,12 +1,14 @@
 //! Matchings: pairs of a row and a column, in which no row and no column stands twice.
 
-ghost use Rattle.std.specs.Prelude.{◌≡◌, ◌≢◌, ◌↔◌, ◌⊎◌, ℕ, suc, ◌<◌, [], length, IfOk, IfSome, IfNone};
+ghost use Rattle.std.specs.Prelude.{◌≡◌, ◌≢◌, ◌↔◌, ◌⊎◌, ℕ, suc, ◌<◌, ◌^◌, [], length, Some, IfOk, IfSome, IfNone};
 ghost use Rattle.bip_defs.specs.Lists.{Among, AreDistinct, IsRising};
 ghost use Rattle.bip_defs.specs.Matching.{IsMatching, rows_of, cols_of};
 ghost use Rattle.bip_defs.specs.Matrix.{AreEntries, Matrix, Place};
 ghost use Rattle.bip_defs.specs.Paths.{Exchanges, Gives, IsAugmenting};
-ghost use Rattle.bip_graph.specs.Pairing.{Pairing};
+ghost use Rattle.bip_graph.specs.Mates.{AreMutual, mate_in};
+ghost use Rattle.bip_graph.specs.Pairing.{Pairing, pairs_of};
 
+use crate::mates::Mates;
 use sp_ids::{Col, OutOfMemory, Row};
 use std::alloc::Global;
 use std::marker::Model;
@@ -62,6 +64,24 @@ impl Matching {
             col_of_row,
             size: self.size,
         })
+    }
+
+    /// The matching that the mates are, where they lead back to one another.
+    ///
+    /// Takes no memory: it keeps both arrays. Work: one read for each column.
+    pub fn of(mates: Mates) -> Self
+        requires mutual { AreMutual mates }
+        ensures rows { result.rows ≡ length mates.rows }
+        ensures cols { result.cols ≡ length mates.cols }
+        ensures pairs { (r c : ℕ) → Among (r, c) result.pairs ↔ (mate_in mates.cols c ≡ Some r) }
+    {
+        let (row_of_col, col_of_row) = mates.into_arrays();
+        let size = count_mates(row_of_col.as_slice());
+        Matching {
+            row_of_col,
+            col_of_row,
+            size,
+        }
     }
 
     /// The number of rows, matched or not. Each row of a pair is below it.
@@ -172,6 +192,20 @@ impl Matching {
         self.pair(step.0, step.1);
         let _after = self.size();
     }
+}
+
+// How many columns have a mate.
+fn count_mates(row_of_col: &[u32]) -> u32
+    requires { length row_of_col.now < 2 ^ 32 }
+    ensures { result ≡ length (pairs_of row_of_col.now) }
+{
+    let mut count = 0;
+    for row in row_of_col {
+        if *row != NONE {
+            count += 1;
+        }
+    }
+    count
 }
 
 #[cfg(test)]
