@@ -1,9 +1,9 @@
 pub mod Both
 pub mod Cuts
-pub mod Keeping
 pub mod Loading
 pub mod Numbers
 pub mod Orders
+pub mod Packed
 pub mod Placing
 pub mod Shape
 pub mod Slices

@@ -2,11 +2,11 @@
 #![tactic(auto)]
 
 mod compress;
-mod group;
 mod load;
 mod pairs;
 mod pattern;
 mod pieces;
+mod sort;
 mod split;
 mod spread;
 #[cfg(test)]

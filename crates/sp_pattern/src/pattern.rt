@@ -10,9 +10,9 @@ ghost use Rattle.sp_pattern.specs.Stored.{IsPattern};
 ghost use Rattle.sp_pattern.specs.Weighing.{position, start_of};
 
 use crate::compress::compress;
-use crate::group::by_columns;
 use crate::pairs::{ByCol, ByRow, Pairs, are_sorted};
 use crate::pieces::part;
+use crate::sort::sorted;
 use crate::transpose::transpose;
 use sp_ids::{Col, OutOfMemory, Row, Triples};
 use std::alloc::Global;
@@ -65,8 +65,8 @@ impl Pattern {
         if are_sorted(&ByRow { places }) {
             return Pattern::from_rows(alloc, rows, cols, ByRow { places });
         }
-        let (col_starts, col_rows) = by_columns(alloc, places, rows, cols)?;
-        Pattern::from_column_order(alloc, rows, cols, col_starts, col_rows)
+        let sorted = sorted(rt, alloc, places)?;
+        Pattern::from_columns(alloc, rows, cols, sorted)
     }
 
     // The pattern of pairs of a column and a row, in order. The pairs are let go as soon as they are compressed.
