@@ -4,6 +4,7 @@ use Rattle.std.specs.List.{slice_range}
 use Rattle.std.specs.Prelude.{◌≡◌, ◌⊎◌, ℕ, ℤ, pos, zero, suc, ◌+◌, ◌+ℤ◌, ◌<◌, ◌≤◌, ◌&&◌, List, [], ◌∷◌, length, take, nat_eq, if◌then◌else◌, slice_index, slice_index_or, sum_by}
 use Rattle.bip_defs.specs.Matrix.{IsEntry, Matrix, column, entry_count}
 use Rattle.sp_ids.specs.Entries.{Entries, Triple}
+use Rattle.sp_ids.specs.Limits.{max_value}
 
 -- the sum of the values that are given for a place
 abbrev pub sum_of : List Triple → ℕ → ℕ → ℤ
@@ -16,7 +17,7 @@ weight_of t r c = unsigned_abs (sum_of t.items r c)
 
 -- the greatest weight
 abbrev pub weight_limit : ℕ
-weight_limit = 9223372036854775807
+weight_limit = max_value
 
 -- the matrix, and its entries' weights, column by column, each column's in the order of its rows
 pub record Weighing : Type 0 where

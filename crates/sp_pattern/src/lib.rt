@@ -2,18 +2,21 @@
 #![tactic(auto)]
 
 mod compress;
+mod ends;
+mod laws;
 mod load;
 mod pairs;
 mod pattern;
 mod pieces;
 mod sort;
 mod split;
-mod spread;
 #[cfg(test)]
 mod tests;
 mod transpose;
 mod weights;
 
+pub use laws::search_finds_members;
 pub use load::load_matrix;
 pub use pattern::Pattern;
+pub use pieces::part;
 pub use weights::{WeightError, Weights};

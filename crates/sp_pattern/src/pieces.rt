@@ -3,7 +3,7 @@
 ghost use Rattle.std.specs.Prelude.{◌≡◌, ◌+◌, ◌<◌, length};
 ghost use Rattle.sp_pattern.specs.Stored.{AreStarts, piece};
 
-/// The part of a flat list from one start to the next.
+/// The part of a flat list from one start to the next, lent without copying.
 pub fn part<'a, T>(starts: &[u32], flat: &'a [T], at: usize) -> &'a [T]
     requires at { at + 1 < length starts.now }
     requires starts { AreStarts starts.now flat.now }
