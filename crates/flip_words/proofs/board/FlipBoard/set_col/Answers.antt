@@ -1,0 +1,11 @@
+use Rattle.std.proofs.Common.{◌∙◌, ◌+◌, sym, ap}
+use Rattle.flip_words.specs.Board.{Board}
+use Rattle.flip_words.specs.Seat.{Seat}
+use Rattle.flip_words.proofs.Righting.{rightful_set}
+use Rattle.flip_words.proofs.board.FlipBoard.set_col.Goals as goal
+
+pub invariant_of-seat : goal.invariant_of-seat
+invariant_of-seat c = (
+  c.seat.invariant.0 ∙ sym (ap (λ (s : Seat). s.number) c.store.ensures),
+  rightful_set (c.args.self.now.rows + c.args.col) _ _ c.seat.view_is c.store.ensures (λ i. (sym c.self.invariant.rows_told ∙ ap (λ (b : Board). b.rows) c.self.view_is) i + c.number.ensures i) c.requires.seat c.requires.tree c.requires.took c.seat.invariant.1,
+)

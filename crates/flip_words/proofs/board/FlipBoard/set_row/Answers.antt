@@ -1,0 +1,10 @@
+use Rattle.std.proofs.Common.{◌∙◌, sym, ap}
+use Rattle.flip_words.specs.Seat.{Seat}
+use Rattle.flip_words.proofs.Righting.{rightful_set}
+use Rattle.flip_words.proofs.board.FlipBoard.set_row.Goals as goal
+
+pub invariant_of-seat : goal.invariant_of-seat
+invariant_of-seat c = (
+  c.seat.invariant.0 ∙ sym (ap (λ (s : Seat). s.number) c.store.ensures),
+  rightful_set c.args.row _ _ c.seat.view_is c.store.ensures c.number-vertex.ensures c.requires.seat c.requires.tree c.requires.took c.seat.invariant.1,
+)

@@ -1,0 +1,9 @@
+pub mod Accounts
+pub mod Board
+pub mod Coding
+pub mod Listed
+pub mod Rule
+pub mod Seat
+pub mod Steps
+pub mod Stored
+pub mod Taken

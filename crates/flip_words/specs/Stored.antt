@@ -1,0 +1,28 @@
+-- How a board and a seat are stored.
+use Rattle.std.specs.Prelude.{◌≡◌, ℕ, ◌+◌, ◌<◌, ◌^◌, List, [], Option, Some, length}
+use Rattle.atomic_table.specs.Seated.{TableId}
+use Rattle.atomic_table.specs.Table.{Me}
+use Rattle.flip_words.specs.Board.{Board}
+use Rattle.flip_words.specs.Rule.{Known, Opened, known}
+use Rattle.flip_words.specs.Seat.{Seat}
+
+-- a board in this table
+abbrev pub board_in : TableId → Opened → Board
+board_in id o = record { id = id; rows = o.rows; cols = o.cols; mates = o.mates; trees = o.trees }
+
+-- what a seat of this table shows
+abbrev pub shown : TableId → Known → Seat
+shown id k = record { board = board_in id k.opened; number = k.number; seats = k.seats; listed = k.listed }
+
+-- a seat that was not joined to another, and holds no slot
+abbrev pub IsOpen : {S : Type 0} → Me S (Option Known) → Type 0
+IsOpen me = (me.0 ≡ Some (known me.0)) × (me.1 ≡ [])
+
+-- The table has the words with which it was opened: the spare word, those of so many trees, and those of so many rows and columns
+pub record IsLaid (id : TableId) (rows cols told_rows told_cols : ℕ) (opened : List ℕ) : Type 0 where
+  pub all : id.words ≡ length opened
+  pub many : length opened ≡ 1 + told_cols + (told_rows + told_cols)
+  pub few_rows : rows < 2 ^ 32
+  pub few_cols : cols < 2 ^ 32
+  pub rows_told : told_rows ≡ rows
+  pub cols_told : told_cols ≡ cols

@@ -1,0 +1,24 @@
+//! What a seat knows, and what a board's table is told when it is opened. Both are read by proofs alone.
+
+use std::marker::Model;
+use std::snapshot::Snapshot;
+
+// What a seat knows of its board. No value of it is made.
+pub struct View;
+
+impl Model for View {
+    ghost use Rattle.std.specs.Prelude.{Option, None};
+    ghost use Rattle.flip_words.specs.Rule.{Known};
+
+    ghost Value = { Option Known };
+
+    ghost view = { λ _. None };
+}
+
+// The words with which a board is opened, and its numbers of rows and columns.
+#[derive(Drop)]
+pub struct Opening {
+    pub words: Snapshot<Vec<u64>>,
+    pub rows: usize,
+    pub cols: usize,
+}

@@ -1,0 +1,32 @@
+//! How the words of a board are coded.
+
+ghost use Rattle.std.specs.Prelude.{◌≡◌, ◌+◌, ◌<◌, ◌≤◌, IfSome, Some};
+ghost use Rattle.flip_words.specs.Coding.{half, mate_of, value_of, vertex_word};
+
+// One more than the largest number of half a word.
+pub(crate) const HALF: u64 = 1 << 32;
+
+// What a tree's word holds.
+pub(crate) fn taker(word: u64) -> Option<u32>
+    requires { word ≤ half }
+    ensures { result ≡ value_of word }
+{
+    if word == 0 {
+        None
+    } else {
+        Some((word - 1) as u32)
+    }
+}
+
+// The mate in a vertex's word.
+pub(crate) fn mate(word: u64) -> Option<u32>
+    ensures mate { result ≡ mate_of word }
+    ensures fits { IfSome result (λ mate. mate + 1 < half) }
+{
+    let low = word % HALF;
+    if low == 0 {
+        None
+    } else {
+        Some((low - 1) as u32)
+    }
+}
