@@ -28,6 +28,12 @@ pub record Store : Type 0 where
   pub next : ℕ
   pub failed : ℕ
 
+abbrev pub bytes_of : Store → Option (List ℕ)
+bytes_of s = Some s.taken
+
+abbrev pub failures_of : Store → ℕ
+failures_of s = s.failed
+
 -- A source that never fails.
 pub record SteadyFeed : Type 0 where
   pub left : List ℕ
