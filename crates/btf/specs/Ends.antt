@@ -1,6 +1,8 @@
 -- The number that a run's process ends with.
-use Rattle.std.specs.Prelude.{◌≡◌, ◌⊎◌, ℕ}
-use Rattle.btf_tool.specs.Devices.{Device, IsUntouched, WasTold}
+use Rattle.std.specs.Prelude.{◌≡◌, ℕ}
+use Rattle.std.specs.declared.io.ErrorKind.{ErrorKind}
+use Rattle.std.specs.declared.io.ErrorKind.TheVariants as kinds
+use Rattle.sp_ports.specs.Device.{Device, IsUntouched, WroteAsFar}
 use Rattle.btf_tool.specs.Jobs.{GaveFront, OfReading}
 use Rattle.btf_tool.specs.Refusals.{line_of, status_of}
 use Rattle.btf_tool.specs.Runs.{Completes, NameMaker, Run, Says}
@@ -21,14 +23,13 @@ pub record EndsWith (r : Run) (number : ℕ) : Type 0 where
   pub number_is : number ≡ exit_code status
 
 -- why there are no words: memory ran out, or no command takes them
-abbrev pub IsWantOfWords : Refusal → Type 0
-IsWantOfWords refusal = (refusal ≡ OutOfMemory) ⊎ (refusal ≡ Usage)
+abbrev pub want_of_words : ErrorKind → Refusal
+want_of_words kinds.OutOfMemory = OutOfMemory
+want_of_words _ = Usage
 
--- the number of a run that has no words: it is refused, and only tells so
-pub record EndsWithoutWords (input out err : Device) (number : ℕ) : Type 0 where
-  pub refusal : Refusal
-  pub cause : IsWantOfWords refusal
-  pub told : WasTold err (line_of refusal)
+-- the number of a run that has no words: it is refused for that, and only tells so
+pub record EndsWithoutWords (kind : ErrorKind) (input out err : Device) (number : ℕ) : Type 0 where
+  pub told : WroteAsFar err (line_of (want_of_words kind))
   pub not_read : IsUntouched input
   pub nothing_written : IsUntouched out
-  pub number_is : number ≡ exit_code (status_of refusal)
+  pub number_is : number ≡ exit_code (status_of (want_of_words kind))

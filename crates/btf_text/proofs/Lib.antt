@@ -1,4 +1,4 @@
-pub mod Pouring
+pub mod BufferLaws
 pub mod Weighed
 pub mod Touched
 pub mod Lines

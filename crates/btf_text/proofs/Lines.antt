@@ -1,15 +1,10 @@
 -- Lines that grow number by number.
-use Rattle.std.proofs.Common.{◌≡◌, ◌<◌, ◌+◌, ℕ, suc, List, [], ◌∷◌, ◌++◌, length, take, map, get_or, decimal, append_assoc, append-nil, sym, ap, ◌∙◌, subst, Option}
+use Rattle.std.proofs.Common.{◌≡◌, ◌<◌, ◌+◌, ℕ, suc, List, [], ◌∷◌, ◌++◌, length, take, map, get_or, decimal, append_assoc, append-nil, sym, ap, ◌∙◌, Option}
 use Rattle.std.proofs.lemmas.List.{take_more, map-append}
 use Rattle.std.proofs.lemmas.Grind.{flat_map-append}
 use Rattle.bip_graph.specs.Texts.{TextLine, counted, line, spaced, spelled, text_of}
-use Rattle.btf_text.specs.Held.{Held, Poured, Pours}
-
--- the same bytes
-pub pours-as : {taken last : Option (List ℕ)} {faults now : ℕ} {held after : Held} (first second : List ℕ)
-    → first ≡ second → Pours taken faults held last now after first → Pours taken faults held last now after second
-pours-as {taken = taken} {last = last} {faults = faults} {now = now} {held = held} {after = after} first second e p =
-    subst (λ (t : List ℕ). Pours taken faults held last now after t) e p
+use Rattle.btf_text.specs.Buffered.{Appends, Buffered, since}
+use Rattle.btf_text.proofs.BufferLaws.{appends_as}
 
 pub spaced-more : (numbers : List ℕ) (n : ℕ) → spaced (numbers ++ n ∷ []) ≡ spaced numbers ++ 32 ∷ decimal n
 spaced-more numbers n = flat_map-append (λ (m : ℕ). 32 ∷ decimal m) numbers (n ∷ []) ∙ ap (λ (t : List ℕ). spaced numbers ++ 32 ∷ t) (append-nil (decimal n))
@@ -30,15 +25,11 @@ ids_go_on number list i d n inside is =
     ∙ spaced-more (counted (map number (take i list))) (suc (number (get_or list i d)))
     ∙ ap (λ (m : ℕ). spaced (counted (map number (take i list))) ++ 32 ∷ decimal m) (sym is))
 
--- nothing yet
-pub pours_none : (taken : Option (List ℕ)) (faults : ℕ) (held : Held) → Pours taken faults held taken faults held []
-pours_none taken faults held start text p = subst (λ (t : List ℕ). Poured start taken faults held t) (sym (append-nil text)) p
-
 -- the line ends
 pub line_ends : (word numbers front : List ℕ) → front ≡ numbers → (word ++ spaced front) ++ 10 ∷ [] ≡ spelled (line word numbers)
 line_ends word numbers front e = ap (λ (t : List ℕ). word ++ spaced t ++ 10 ∷ []) e
 
 -- a line alone
-pub line_alone : {taken last : Option (List ℕ)} {faults now : ℕ} {held after : Held} (l : TextLine)
-    → Pours taken faults held last now after (spelled l) → Pours taken faults held last now after (text_of (l ∷ []))
-line_alone l p = pours-as (spelled l) (text_of (l ∷ [])) (sym (append-nil (spelled l))) p
+pub line_alone : {t0 t1 : Option (List ℕ)} {f0 f1 : ℕ} {buf after : Buffered} (l : TextLine)
+    → Appends (since t0 f0 t1 f1) buf after (spelled l) → Appends (since t0 f0 t1 f1) buf after (text_of (l ∷ []))
+line_alone l p = appends_as (spelled l) (text_of (l ∷ [])) (sym (append-nil (spelled l))) p

@@ -6,13 +6,13 @@ use Rattle.bip_defs.specs.Blocks.{Block}
 use Rattle.bip_graph.specs.Answers.{where_asked}
 use Rattle.bip_graph.specs.Stretches.{block_at, no_block}
 use Rattle.bip_graph.specs.Texts.{TextLine, block_lines, counted, line, lists, order_lines, spaced, spelled}
-use Rattle.btf_text.specs.Held.{Held, PoursLines}
-use Rattle.btf_text.proofs.Lines.{pours_none}
+use Rattle.btf_text.specs.Buffered.{AppendsLines, Buffered, since}
+use Rattle.btf_text.proofs.BufferLaws.{appends_none}
 use Rattle.btf_text.proofs.Parts.{same_ids}
 
 -- no lines
-pub lines_none : (taken : Option (List ℕ)) (faults : ℕ) (held : Held) → PoursLines taken faults held taken faults held []
-lines_none taken faults held = record { pours = pours_none taken faults held }
+pub lines_none : (taken : Option (List ℕ)) (faults : ℕ) (buf : Buffered) → AppendsLines (since taken faults taken faults) buf buf []
+lines_none taken faults buf = record { appends = appends_none taken faults buf }
 
 blocks_more : (k n : ℕ) (bs : List Block) (b : Block) → n ≡ k + length bs
     → block_lines k (bs ++ b ∷ []) ≡ block_lines k bs ++ (line (codes "block") (n ∷ length b.rows ∷ []) ∷ lists b.rows b.cols)

@@ -1,44 +1,29 @@
+use Rattle.btf_text.proofs.BufferLaws.{appends_as, appends_then}
 -- Texts of several lines, and parts.
-use Rattle.std.proofs.Common.{codes, arith, inl, inr, map, ◌≡◌, ◌≢◌, ◌+◌, ◌==◌, if◌then◌else◌, ℕ, Bool, false, List, [], ◌∷◌, ◌++◌, length, append-nil, refl, sym, ap, ap₂, ◌∙◌, subst, Option, None, Some}
+use Rattle.std.proofs.Common.{codes, inl, inr, map, ◌≡◌, ◌≢◌, ◌+◌, ◌==◌, if◌then◌else◌, ℕ, Bool, false, List, [], ◌∷◌, ◌++◌, length, sym, ap, ap₂, ◌∙◌, subst, Option}
 use Rattle.std.proofs.lemmas.List.{map-id}
 use Rattle.std.proofs.lemmas.Grind.{flat_map-append}
 use Rattle.std.proofs.lemmas.Bool.Decides.{eqb_tells}
-use Rattle.sp_ports.specs.Bytes.{Takes}
 use Rattle.std.proofs.lemmas.List.Concat.{length-flat_map}
 use Rattle.bip_defs.specs.Blocks.{Block}
 use Rattle.bip_graph.specs.Stretches.{all_rows}
 use Rattle.bip_graph.specs.Texts.{TextLine, line, lists, part, spelled, square_line, text_of}
 use Rattle.btf_text.specs.Reports.{lengths_line}
-use Rattle.btf_text.specs.Held.{Held, Poured, PoursLines}
-use Rattle.btf_text.proofs.Pouring.{pours-then}
-use Rattle.btf_text.proofs.Lines.{pours-as}
+use Rattle.sp_ports.specs.Device.{Device}
+use Rattle.btf_text.specs.Buffered.{AppendsLines, Buffered, since}
 
 -- some lines, and then others
-pub lines_then : {taken mid last : Option (List ℕ)} {faults between now : ℕ} {held room after : Held} {first second : List TextLine}
-    → PoursLines taken faults held mid between room first → PoursLines mid between room last now after second
-    → PoursLines taken faults held last now after (first ++ second)
+pub lines_then : {t0 t1 t2 : Option (List ℕ)} {f0 f1 f2 : ℕ} {buf mid after : Buffered} {first second : List TextLine}
+    → AppendsLines (since t0 f0 t1 f1) buf mid first → AppendsLines (since t1 f1 t2 f2) mid after second
+    → AppendsLines (since t0 f0 t2 f2) buf after (first ++ second)
 lines_then {first = first} {second = second} one two = record {
-  pours = pours-as _ (text_of (first ++ second)) (sym (flat_map-append spelled first second)) (pours-then (text_of first) (text_of second) one.pours two.pours);
+  appends = appends_as _ (text_of (first ++ second)) (sym (flat_map-append spelled first second)) (appends_then (text_of first) (text_of second) one.appends two.appends);
 }
 
 -- the same lines
-pub lines_as : {taken last : Option (List ℕ)} {faults now : ℕ} {held after : Held} {first second : List TextLine}
-    → first ≡ second → PoursLines taken faults held last now after first → PoursLines taken faults held last now after second
-lines_as {taken = taken} {last = last} {faults = faults} {now = now} {held = held} {after = after} e p =
-    subst (λ (ls : List TextLine). PoursLines taken faults held last now after ls) e p
-
-takes_nothing : (taken : Option (List ℕ)) → Takes taken taken []
-takes_nothing None = tt
-takes_nothing (Some bytes) = sym (append-nil bytes)
-
--- lines that begin a text
-pub begun : {taken last : Option (List ℕ)} {faults now : ℕ} {after held : Held} {ls : List TextLine}
-    → held ≡ record { bytes = []; failed = false } → PoursLines taken faults held last now after ls
-    → Poured (record { taken = taken; faults = faults }) last now after (text_of ls)
-begun {taken = taken} {last = last} {faults = faults} {now = now} {after = after} {held = held} {ls = ls} fresh p =
-    p.pours (record { taken = taken; faults = faults }) []
-    (subst (λ (h : Held). Poured (record { taken = taken; faults = faults }) taken faults h []) (sym fresh)
-    (record { bytes = ([], refl, takes_nothing taken); later = omega arith; cause = refl }))
+pub lines_as : {d : Device} {buf after : Buffered} {first second : List TextLine}
+    → first ≡ second → AppendsLines d buf after first → AppendsLines d buf after second
+lines_as {d = d} {buf = buf} {after = after} e p = subst (λ (ls : List TextLine). AppendsLines d buf after ls) e p
 
 pub part-empty : (word rows cols : List ℕ) → length rows + length cols ≡ 0 → line word (length rows ∷ length cols ∷ []) ∷ [] ≡ part word rows cols
 part-empty word rows cols e = sym (ap (λ (n : ℕ). line word (length rows ∷ length cols ∷ []) ∷ (if n == 0 then [] else lists rows cols)) e)

@@ -1,6 +1,6 @@
 pub mod Columns
 pub mod Diagonals
-pub mod Held
+pub mod Buffered
 pub mod Readable
 pub mod Reading
 pub mod Reports

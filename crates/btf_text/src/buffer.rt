@@ -3,13 +3,12 @@
 ghost use Rattle.std.specs.Prelude.{◌≡◌, OnOk, OnErr, true, ◌∷◌, ◌++◌, ◌+◌, ◌≤◌, ◌<◌, ℕ, List, [], false, Bool, length, map, suc, codes, decimal, IfOk};
 ghost use Rattle.std.specs.List.{flat_map};
 ghost use Rattle.bip_graph.specs.Texts.{counted, line, spaced, spelled};
-ghost use Rattle.btf_text.specs.Held.{Finishes, Pours, PoursLines, Poured, Start};
-ghost use Rattle.sp_ports.specs.Bytes.{Writes};
-ghost use Rattle.sp_ports.specs.Counts.{HasCause, Rose};
+ghost use Rattle.btf_text.specs.Buffered.{Appends, AppendsLines, Ends};
+ghost use Rattle.sp_ports.specs.Device.{Writes, seen};
 
 use itoa::Buffer;
 use sp_ids::{Id, OutOfMemory};
-use sp_ports::{Failed, Sink, write_all};
+use sp_ports::{Failed, Sink, taken_in_turn, write_all};
 use std::alloc::Global;
 use std::marker::Model;
 
@@ -28,9 +27,9 @@ pub struct TextBuf {
 impl Model for TextBuf {
     ghost use Rattle.std.specs.Prelude.{◌≤◌};
     ghost use Rattle.std.specs.Vec.{vec_len, vec_capacity};
-    ghost use Rattle.btf_text.specs.Held.{Held};
+    ghost use Rattle.btf_text.specs.Buffered.{Buffered};
 
-    ghost Value = { Held };
+    ghost Value = { Buffered };
 
     ghost view = { λ b. record { bytes = b.bytes.items; failed = b.failed } };
 
@@ -38,14 +37,14 @@ impl Model for TextBuf {
 }
 
 /// Hands the bytes on, unless a write has failed before: whether one has failed by now.
-fn pour<K: Sink>(out: &mut K, bytes: &[u8], failed: bool) -> bool
-    ensures { (start : Start) (text : List ℕ)
-        → Poured start (K.taken out.old) (K.faults out.old) (record { bytes = bytes.now; failed = failed }) text
-        → Poured start (K.taken out.new) (K.faults out.new) (record { bytes = []; failed = result }) text }
+fn write_kept<K: Sink>(out: &mut K, bytes: &[u8], failed: bool) -> bool
+    ensures { Appends (seen K.taken K.faults out.old out.new)
+        (record { bytes = bytes.now; failed = failed }) (record { bytes = []; failed = result }) [] }
 {
     if failed {
         return true;
     }
+    taken_in_turn();
     match write_all(out, bytes) {
         Ok(()) => false,
         Err(Failed) => true,
@@ -79,16 +78,16 @@ impl TextBuf {
         self.failed = false;
     }
 
-    /// Hands on what is held.
+    /// Hands on what is kept.
     fn hand_on<K: Sink>(&mut self, out: &mut K)
         ensures empty { self.new.bytes ≡ [] }
-        ensures same { Pours (K.taken out.old) (K.faults out.old) self.old (K.taken out.new) (K.faults out.new) self.new [] }
+        ensures same { Appends (seen K.taken K.faults out.old out.new) self.old self.new [] }
     {
-        self.failed = pour(out, self.bytes.as_slice(), self.failed);
+        self.failed = write_kept(out, self.bytes.as_slice(), self.failed);
         self.bytes.clear();
     }
 
-    /// Adds bytes to what is held, for which there is room.
+    /// Adds bytes to what is kept, for which there is room.
     fn add(&mut self, piece: &[u8])
         requires { length self.old.bytes + length piece.now ≤ 65536 }
         ensures bytes { self.new.bytes ≡ self.old.bytes ++ piece.now }
@@ -104,7 +103,7 @@ impl TextBuf {
     fn make_room<K: Sink>(&mut self, out: &mut K, count: usize)
         requires { count ≤ 65536 }
         ensures room { length self.new.bytes + count ≤ 65536 }
-        ensures same { Pours (K.taken out.old) (K.faults out.old) self.old (K.taken out.new) (K.faults out.new) self.new [] }
+        ensures same { Appends (seen K.taken K.faults out.old out.new) self.old self.new [] }
     {
         if self.bytes.len() <= CAPACITY - count {
             return;
@@ -115,7 +114,7 @@ impl TextBuf {
     /// Goes on with these bytes.
     pub fn put<K: Sink>(&mut self, out: &mut K, piece: &[u8])
         requires { length piece.now ≤ 65536 }
-        ensures { Pours (K.taken out.old) (K.faults out.old) self.old (K.taken out.new) (K.faults out.new) self.new piece.now }
+        ensures { Appends (seen K.taken K.faults out.old out.new) self.old self.new piece.now }
     {
         self.make_room(out, piece.len());
         self.add(piece);
@@ -123,7 +122,7 @@ impl TextBuf {
 
     /// Goes on with a space and a number.
     pub fn put_number<K: Sink>(&mut self, out: &mut K, number: u64)
-        ensures { Pours (K.taken out.old) (K.faults out.old) self.old (K.taken out.new) (K.faults out.new) self.new (32 ∷ decimal number) }
+        ensures { Appends (seen K.taken K.faults out.old out.new) self.old self.new (32 ∷ decimal number) }
     {
         let mut digits = Buffer::new();
         let text = digits.format(number).as_bytes();
@@ -131,10 +130,11 @@ impl TextBuf {
         self.add(b" ");
         self.add(text);
     }
+
     /// Goes on with a line: a word, and a space and a number each.
     pub fn put_line<K: Sink>(&mut self, out: &mut K, word: &[u8], numbers: &[u64])
         requires { length word.now ≤ 65536 }
-        ensures { PoursLines (K.taken out.old) (K.faults out.old) self.old (K.taken out.new) (K.faults out.new) self.new (line word.now numbers.now ∷ []) }
+        ensures { AppendsLines (seen K.taken K.faults out.old out.new) self.old self.new (line word.now numbers.now ∷ []) }
     {
         self.put(out, word);
         for number in numbers {
@@ -146,7 +146,7 @@ impl TextBuf {
     /// Goes on with a list line: a word, and a space and a number each, which count from 1.
     pub fn put_list<K: Sink, N: Id>(&mut self, out: &mut K, word: &[u8], list: &[N])
         requires { length word.now ≤ 65536 }
-        ensures { PoursLines (K.taken out.old) (K.faults out.old) self.old (K.taken out.new) (K.faults out.new) self.new (line word.now (counted (map N.number list.now)) ∷ []) }
+        ensures { AppendsLines (seen K.taken K.faults out.old out.new) self.old self.new (line word.now (counted (map N.number list.now)) ∷ []) }
     {
         self.put(out, word);
         self.put_ids(out, list);
@@ -155,17 +155,16 @@ impl TextBuf {
 
     /// Goes on with a space and a number each, which count from 1.
     pub(crate) fn put_ids<K: Sink, N: Id>(&mut self, out: &mut K, list: &[N])
-        ensures { Pours (K.taken out.old) (K.faults out.old) self.old (K.taken out.new) (K.faults out.new) self.new (spaced (counted (map N.number list.now))) }
+        ensures { Appends (seen K.taken K.faults out.old out.new) self.old self.new (spaced (counted (map N.number list.now))) }
     {
         for id in list {
             self.put_number(out, u64::from(id.number()) + 1);
         }
     }
 
-    /// Ends the text: hands on what is held, and tells whether a write has failed since the text began.
+    /// Ends the text: hands on what is kept, and tells whether a write has failed since the text began.
     pub fn finish<K: Sink>(&mut self, out: &mut K) -> Result<(), Failed>
-        ensures { (start : Start) (text : List ℕ) → Poured start (K.taken out.old) (K.faults out.old) self.old text
-            → Finishes start (K.taken out.new) (K.faults out.new) text result }
+        ensures { Ends (seen K.taken K.faults out.old out.new) self.old result }
     {
         self.hand_on(out);
         outcome(self.failed)

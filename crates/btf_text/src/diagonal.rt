@@ -6,9 +6,8 @@ ghost use Rattle.bip_defs.specs.Lists.{Among, IsRising};
 ghost use Rattle.bip_defs.specs.Matrix.{AreEntries, IsEntry, neighbours, touches};
 ghost use Rattle.bip_graph.specs.Texts.{counted, line, spaced};
 ghost use Rattle.btf_text.specs.Diagonals.{HasEntries, diagonal_lines, diagonal_text, entry_line, signed_line, singular_lines, weighed_lines};
-ghost use Rattle.btf_text.specs.Held.{Pours, PoursLines};
-ghost use Rattle.sp_ports.specs.Bytes.{Writes};
-ghost use Rattle.sp_ports.specs.Counts.{HasCause, Rose};
+ghost use Rattle.btf_text.specs.Buffered.{Appends, AppendsLines};
+ghost use Rattle.sp_ports.specs.Device.{Writes, seen};
 
 use crate::TextBuf;
 use crate::numerals::rises;
@@ -20,7 +19,7 @@ use sp_ports::{Failed, Sink};
 
 /// Goes on with a space and a number that may be below zero.
 fn put_signed<K: Sink>(out: &mut K, buf: &mut TextBuf, number: i128)
-    ensures { Pours (K.taken out.old) (K.faults out.old) buf.old (K.taken out.new) (K.faults out.new) buf.new (32 ∷ signed_decimal number) }
+    ensures { Appends (seen K.taken K.faults out.old out.new) buf.old buf.new (32 ∷ signed_decimal number) }
 {
     let mut digits = Buffer::new();
     let text = digits.format(number).as_bytes();
@@ -31,7 +30,7 @@ fn put_signed<K: Sink>(out: &mut K, buf: &mut TextBuf, number: i128)
 /// Goes on with a line: a word, and a space and a number each, which may be below zero.
 fn put_signed_line<K: Sink>(out: &mut K, buf: &mut TextBuf, word: &[u8], numbers: &[i128])
     requires { length word.now ≤ 65536 }
-    ensures { PoursLines (K.taken out.old) (K.faults out.old) buf.old (K.taken out.new) (K.faults out.new) buf.new (signed_line word.now numbers.now ∷ []) }
+    ensures { AppendsLines (seen K.taken K.faults out.old out.new) buf.old buf.new (signed_line word.now numbers.now ∷ []) }
 {
     buf.put(out, word);
     for number in numbers {
@@ -43,7 +42,7 @@ fn put_signed_line<K: Sink>(out: &mut K, buf: &mut TextBuf, word: &[u8], numbers
 /// Goes on with the line of an entry: its row, its column and its weight.
 fn put_entry<K: Sink>(out: &mut K, buf: &mut TextBuf, weights: &Weights, row: Row, col: Col)
     requires { IsEntry weights.now.matrix row col }
-    ensures { PoursLines (K.taken out.old) (K.faults out.old) buf.old (K.taken out.new) (K.faults out.new) buf.new (entry_line weights.now (row, col) ∷ []) }
+    ensures { AppendsLines (seen K.taken K.faults out.old out.new) buf.old buf.new (entry_line weights.now (row, col) ∷ []) }
 {
     let mut digits = Buffer::new();
     let word = digits.format(u64::from(row.0) + 1).as_bytes();
@@ -54,7 +53,7 @@ fn put_entry<K: Sink>(out: &mut K, buf: &mut TextBuf, weights: &Weights, row: Ro
 /// Goes on with the lines of entries, in the order given.
 fn put_entries<K: Sink>(out: &mut K, buf: &mut TextBuf, weights: &Weights, pairs: &[(Row, Col)])
     requires { AreEntries weights.now.matrix pairs.now }
-    ensures { PoursLines (K.taken out.old) (K.faults out.old) buf.old (K.taken out.new) (K.faults out.new) buf.new (map (entry_line weights.now) pairs.now) }
+    ensures { AppendsLines (seen K.taken K.faults out.old out.new) buf.old buf.new (map (entry_line weights.now) pairs.now) }
 {
     for pair in pairs {
         put_entry(out, buf, weights, pair.0, pair.1);
@@ -72,7 +71,7 @@ fn put_weighed<K: Sink>(
     sum: i128,
 )
     requires { AreEntries weights.now.matrix pairs.now }
-    ensures { PoursLines (K.taken out.old) (K.faults out.old) buf.old (K.taken out.new) (K.faults out.new) buf.new (weighed_lines weights.now pairs.now u.now v.now sum) }
+    ensures { AppendsLines (seen K.taken K.faults out.old out.new) buf.old buf.new (weighed_lines weights.now pairs.now u.now v.now sum) }
 {
     put_signed_line(out, buf, b"diagonal", &[pairs.len() as i128, sum]);
     put_entries(out, buf, weights, pairs);
@@ -119,7 +118,7 @@ fn put_where_touched<K: Sink>(
 )
     requires row { row < pattern.now.rows }
     requires rising { rising ≡ true → IsRising hall.now }
-    ensures { Pours (K.taken out.old) (K.faults out.old) buf.old (K.taken out.new) (K.faults out.new) buf.new (spaced (counted (filter (touches pattern.now hall.now) (row ∷ [])))) }
+    ensures { Appends (seen K.taken K.faults out.old out.new) buf.old buf.new (spaced (counted (filter (touches pattern.now hall.now) (row ∷ [])))) }
 {
     if !touches(pattern, hall, rising, row) {
         return;
@@ -129,7 +128,7 @@ fn put_where_touched<K: Sink>(
 
 /// Goes on with the list line of the rows with an entry in one of these columns.
 fn put_neighbours<K: Sink>(out: &mut K, buf: &mut TextBuf, pattern: &Pattern, hall: &[Col])
-    ensures { PoursLines (K.taken out.old) (K.faults out.old) buf.old (K.taken out.new) (K.faults out.new) buf.new (line (codes "rows") (counted (neighbours pattern.now hall.now)) ∷ []) }
+    ensures { AppendsLines (seen K.taken K.faults out.old out.new) buf.old buf.new (line (codes "rows") (counted (neighbours pattern.now hall.now)) ∷ []) }
 {
     let rising = rises(hall);
     buf.put(out, b"rows");
@@ -141,7 +140,7 @@ fn put_neighbours<K: Sink>(out: &mut K, buf: &mut TextBuf, pattern: &Pattern, ha
 
 /// Goes on with the rank, the rows with an entry in one of these columns, and these columns.
 fn put_singular<K: Sink>(out: &mut K, buf: &mut TextBuf, pattern: &Pattern, rank: u32, hall: &[Col])
-    ensures { PoursLines (K.taken out.old) (K.faults out.old) buf.old (K.taken out.new) (K.faults out.new) buf.new (singular_lines pattern.now rank hall.now) }
+    ensures { AppendsLines (seen K.taken K.faults out.old out.new) buf.old buf.new (singular_lines pattern.now rank hall.now) }
 {
     buf.put_line(out, b"singular", &[u64::from(rank)]);
     put_neighbours(out, buf, pattern, hall);
@@ -159,7 +158,7 @@ fn put_answer<K: Sink>(
 )
     requires weights { weights.now.matrix ≡ pattern.now }
     requires entries { HasEntries pattern.now answer.now }
-    ensures { PoursLines (K.taken out.old) (K.faults out.old) buf.old (K.taken out.new) (K.faults out.new) buf.new (diagonal_lines weights.now answer.now) }
+    ensures { AppendsLines (seen K.taken K.faults out.old out.new) buf.old buf.new (diagonal_lines weights.now answer.now) }
 {
     match answer {
         Heaviest::Rectangular => {
@@ -196,8 +195,7 @@ pub fn write_diagonal<K: Sink>(
 ) -> Result<(), Failed>
     requires weights { weights.now.matrix ≡ pattern.now }
     requires entries { HasEntries pattern.now answer.now }
-    ensures bytes { Writes (K.taken out.old) (K.taken out.new) (diagonal_text weights.now answer.now) result }
-    ensures cause { HasCause (Rose (K.faults out.old) (K.faults out.new)) (K.faults out.old) (K.faults out.new) result }
+    ensures { Writes (seen K.taken K.faults out.old out.new) (diagonal_text weights.now answer.now) result }
 {
     buf.start();
     put_answer(out, buf, answer, pattern, weights);

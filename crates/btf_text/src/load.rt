@@ -2,10 +2,9 @@
 
 ghost use Rattle.std.specs.Prelude.{◌≡◌, ◌≤◌, ◌∷◌, [], length, codes};
 ghost use Rattle.bip_graph.specs.Texts.{matrix_line, rank_line, square_line};
-ghost use Rattle.btf_text.specs.Held.{PoursLines};
+ghost use Rattle.btf_text.specs.Buffered.{AppendsLines};
 ghost use Rattle.btf_text.specs.Reports.{lengths_line, sizes_told, summary_text};
-ghost use Rattle.sp_ports.specs.Bytes.{Writes};
-ghost use Rattle.sp_ports.specs.Counts.{HasCause, Rose};
+ghost use Rattle.sp_ports.specs.Device.{Writes, seen};
 
 use crate::TextBuf;
 use bip_graph::{Blocks, Decomposition};
@@ -14,7 +13,7 @@ use sp_ports::{Failed, Sink};
 
 /// Goes on with the sizes of the matrix and its rank.
 pub(crate) fn put_head<K: Sink>(out: &mut K, buf: &mut TextBuf, dec: &Decomposition)
-    ensures { PoursLines (K.taken out.old) (K.faults out.old) buf.old (K.taken out.new) (K.faults out.new) buf.new (matrix_line (sizes_told dec.now) ∷ rank_line dec.now.rank ∷ []) }
+    ensures { AppendsLines (seen K.taken K.faults out.old out.new) buf.old buf.new (matrix_line (sizes_told dec.now) ∷ rank_line dec.now.rank ∷ []) }
 {
     buf.put_line(
         out,
@@ -27,14 +26,14 @@ pub(crate) fn put_head<K: Sink>(out: &mut K, buf: &mut TextBuf, dec: &Decomposit
 /// Goes on with the lengths of two lists.
 fn put_lengths<K: Sink>(out: &mut K, buf: &mut TextBuf, word: &[u8], rows: &[Row], cols: &[Col])
     requires { length word.now ≤ 65536 }
-    ensures { PoursLines (K.taken out.old) (K.faults out.old) buf.old (K.taken out.new) (K.faults out.new) buf.new (lengths_line word.now rows.now cols.now ∷ []) }
+    ensures { AppendsLines (seen K.taken K.faults out.old out.new) buf.old buf.new (lengths_line word.now rows.now cols.now ∷ []) }
 {
     buf.put_line(out, word, &[rows.len() as u64, cols.len() as u64]);
 }
 
 /// Goes on with the number of rows in blocks, and the number of blocks.
 pub(crate) fn put_square<K: Sink>(out: &mut K, buf: &mut TextBuf, blocks: &Blocks)
-    ensures { PoursLines (K.taken out.old) (K.faults out.old) buf.old (K.taken out.new) (K.faults out.new) buf.new (square_line blocks.now ∷ []) }
+    ensures { AppendsLines (seen K.taken K.faults out.old out.new) buf.old buf.new (square_line blocks.now ∷ []) }
 {
     let rows = blocks.all_rows();
     buf.put_line(out, b"square", &[rows.len() as u64, blocks.len() as u64]);
@@ -48,8 +47,7 @@ pub fn write_load<K: Sink>(
     buf: &mut TextBuf,
     dec: &Decomposition,
 ) -> Result<(), Failed>
-    ensures bytes { Writes (K.taken out.old) (K.taken out.new) (summary_text dec.now) result }
-    ensures cause { HasCause (Rose (K.faults out.old) (K.faults out.new)) (K.faults out.old) (K.faults out.new) result }
+    ensures { Writes (seen K.taken K.faults out.old out.new) (summary_text dec.now) result }
 {
     buf.start();
     put_head(out, buf, dec);

@@ -3,10 +3,9 @@
 ghost use Rattle.std.specs.Prelude.{◌≡◌, ◌≤◌, ◌∷◌, ◌<◌, [], length, map, Some};
 ghost use Rattle.bip_graph.specs.Answers.{where_asked};
 ghost use Rattle.bip_graph.specs.Texts.{pair_line, pair_lines, text_of};
-ghost use Rattle.btf_text.specs.Held.{PoursLines};
+ghost use Rattle.btf_text.specs.Buffered.{AppendsLines};
 ghost use Rattle.btf_text.specs.Columns.{pairs_at};
-ghost use Rattle.sp_ports.specs.Bytes.{Writes};
-ghost use Rattle.sp_ports.specs.Counts.{HasCause, Rose};
+ghost use Rattle.sp_ports.specs.Device.{Writes, seen};
 
 use crate::TextBuf;
 use bip_graph::Matching;
@@ -16,7 +15,7 @@ use sp_ports::{Failed, Sink};
 
 /// Goes on with the line of a pair.
 fn put_pair<K: Sink>(out: &mut K, buf: &mut TextBuf, row: Row, col: Col)
-    ensures { PoursLines (K.taken out.old) (K.faults out.old) buf.old (K.taken out.new) (K.faults out.new) buf.new (pair_line (row, col) ∷ []) }
+    ensures { AppendsLines (seen K.taken K.faults out.old out.new) buf.old buf.new (pair_line (row, col) ∷ []) }
 {
     let mut digits = Buffer::new();
     let word = digits.format(u64::from(row.0) + 1).as_bytes();
@@ -26,7 +25,7 @@ fn put_pair<K: Sink>(out: &mut K, buf: &mut TextBuf, row: Row, col: Col)
 /// Goes on with the line of a column's pair, if it has a mate.
 fn put_mate<K: Sink>(out: &mut K, buf: &mut TextBuf, matching: &Matching, col: Col)
     requires { col < matching.now.cols }
-    ensures { PoursLines (K.taken out.old) (K.faults out.old) buf.old (K.taken out.new) (K.faults out.new) buf.new (map pair_line (pairs_at col matching.now.pairs)) }
+    ensures { AppendsLines (seen K.taken K.faults out.old out.new) buf.old buf.new (map pair_line (pairs_at col matching.now.pairs)) }
 {
     // `size` tells the proof that a column has one pair.
     let _pairs = matching.size();
@@ -38,7 +37,7 @@ fn put_mate<K: Sink>(out: &mut K, buf: &mut TextBuf, matching: &Matching, col: C
 
 /// Goes on with the pairs, rising by column.
 fn put_list_of_pairs<K: Sink>(out: &mut K, buf: &mut TextBuf, matching: &Matching)
-    ensures { PoursLines (K.taken out.old) (K.faults out.old) buf.old (K.taken out.new) (K.faults out.new) buf.new (pair_lines (Some matching.now.pairs)) }
+    ensures { AppendsLines (seen K.taken K.faults out.old out.new) buf.old buf.new (pair_lines (Some matching.now.pairs)) }
 {
     buf.put_line(out, b"pairs", &[u64::from(matching.size())]);
     for col in 0..matching.cols() {
@@ -48,7 +47,7 @@ fn put_list_of_pairs<K: Sink>(out: &mut K, buf: &mut TextBuf, matching: &Matchin
 
 /// Goes on with the pairs, where they are asked for.
 pub(crate) fn put_pairs<K: Sink>(out: &mut K, buf: &mut TextBuf, matching: &Matching, pairs: bool)
-    ensures { PoursLines (K.taken out.old) (K.faults out.old) buf.old (K.taken out.new) (K.faults out.new) buf.new (pair_lines (where_asked pairs matching.now.pairs)) }
+    ensures { AppendsLines (seen K.taken K.faults out.old out.new) buf.old buf.new (pair_lines (where_asked pairs matching.now.pairs)) }
 {
     if !pairs {
         return;
@@ -65,8 +64,7 @@ pub fn write_pairs<K: Sink>(
     buf: &mut TextBuf,
     matching: &Matching,
 ) -> Result<(), Failed>
-    ensures bytes { Writes (K.taken out.old) (K.taken out.new) (text_of (pair_lines (Some matching.now.pairs))) result }
-    ensures cause { HasCause (Rose (K.faults out.old) (K.faults out.new)) (K.faults out.old) (K.faults out.new) result }
+    ensures { Writes (seen K.taken K.faults out.old out.new) (text_of (pair_lines (Some matching.now.pairs))) result }
 {
     buf.start();
     put_list_of_pairs(out, buf, matching);

@@ -2,9 +2,8 @@
 
 ghost use Rattle.std.specs.Prelude.{◌≡◌, ◌≤◌, length};
 ghost use Rattle.bip_graph.specs.Texts.{part, rank_text, sizes_of};
-ghost use Rattle.btf_text.specs.Held.{PoursLines};
-ghost use Rattle.sp_ports.specs.Bytes.{Writes};
-ghost use Rattle.sp_ports.specs.Counts.{HasCause, Rose};
+ghost use Rattle.btf_text.specs.Buffered.{AppendsLines};
+ghost use Rattle.sp_ports.specs.Device.{Writes, seen};
 
 use crate::TextBuf;
 use sp_ids::{Col, Row};
@@ -20,7 +19,7 @@ pub(crate) fn put_part<K: Sink>(
     cols: &[Col],
 )
     requires { length word.now ≤ 65536 }
-    ensures { PoursLines (K.taken out.old) (K.faults out.old) buf.old (K.taken out.new) (K.faults out.new) buf.new (part word.now rows.now cols.now) }
+    ensures { AppendsLines (seen K.taken K.faults out.old out.new) buf.old buf.new (part word.now rows.now cols.now) }
 {
     buf.put_line(out, word, &[rows.len() as u64, cols.len() as u64]);
     if rows.len() + cols.len() == 0 {
@@ -41,8 +40,7 @@ pub fn write_rank<K: Sink>(
     hr: &[Row],
     hc: &[Col],
 ) -> Result<(), Failed>
-    ensures bytes { Writes (K.taken out.old) (K.taken out.new) (rank_text (sizes_of pattern.now) rank hr.now hc.now) result }
-    ensures cause { HasCause (Rose (K.faults out.old) (K.faults out.new)) (K.faults out.old) (K.faults out.new) result }
+    ensures { Writes (seen K.taken K.faults out.old out.new) (rank_text (sizes_of pattern.now) rank hr.now hc.now) result }
 {
     let sizes = (pattern.rows(), pattern.cols(), pattern.entries());
     write_sized(out, buf, sizes, rank, hr, hc)
@@ -57,8 +55,7 @@ fn write_sized<K: Sink>(
     rows: &[Row],
     cols: &[Col],
 ) -> Result<(), Failed>
-    ensures bytes { Writes (K.taken out.old) (K.taken out.new) (rank_text (record { rows = sizes.0; cols = sizes.1; entries = sizes.2 }) rank rows.now cols.now) result }
-    ensures cause { HasCause (Rose (K.faults out.old) (K.faults out.new)) (K.faults out.old) (K.faults out.new) result }
+    ensures { Writes (seen K.taken K.faults out.old out.new) (rank_text (record { rows = sizes.0; cols = sizes.1; entries = sizes.2 }) rank rows.now cols.now) result }
 {
     buf.start();
     let (m, n, e) = sizes;

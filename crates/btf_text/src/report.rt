@@ -5,10 +5,9 @@ ghost use Rattle.bip_defs.specs.Matrix.{Matrix};
 ghost use Rattle.bip_graph.specs.Answers.{orders_of, report_of, where_asked};
 ghost use Rattle.bip_graph.specs.Shown.{Decomposes, decomposition_of};
 ghost use Rattle.bip_graph.specs.Texts.{block_lines, counted, line, lists, order_lines, report_text};
-ghost use Rattle.btf_text.specs.Held.{PoursLines};
+ghost use Rattle.btf_text.specs.Buffered.{AppendsLines};
 ghost use Rattle.btf_text.specs.Reports.{part_lines, reported};
-ghost use Rattle.sp_ports.specs.Bytes.{Writes};
-ghost use Rattle.sp_ports.specs.Counts.{HasCause, Rose};
+ghost use Rattle.sp_ports.specs.Device.{Writes, seen};
 
 use crate::TextBuf;
 use crate::load::{put_head, put_square};
@@ -20,7 +19,7 @@ use sp_ports::{Failed, Sink};
 
 /// Goes on with a block: its number and size, and its lists.
 fn put_block<K: Sink>(out: &mut K, buf: &mut TextBuf, number: u64, rows: &[Row], cols: &[Col])
-    ensures { PoursLines (K.taken out.old) (K.faults out.old) buf.old (K.taken out.new) (K.faults out.new) buf.new (line (codes "block") (number ∷ length rows.now ∷ []) ∷ lists rows.now cols.now) }
+    ensures { AppendsLines (seen K.taken K.faults out.old out.new) buf.old buf.new (line (codes "block") (number ∷ length rows.now ∷ []) ∷ lists rows.now cols.now) }
 {
     buf.put_line(out, b"block", &[number, rows.len() as u64]);
     buf.put_list(out, b"rows", rows);
@@ -29,7 +28,7 @@ fn put_block<K: Sink>(out: &mut K, buf: &mut TextBuf, number: u64, rows: &[Row],
 
 /// Goes on with the blocks in their order, numbered from 1.
 pub(crate) fn put_blocks<K: Sink>(out: &mut K, buf: &mut TextBuf, blocks: &Blocks)
-    ensures { PoursLines (K.taken out.old) (K.faults out.old) buf.old (K.taken out.new) (K.faults out.new) buf.new (block_lines 1 blocks.now) }
+    ensures { AppendsLines (seen K.taken K.faults out.old out.new) buf.old buf.new (block_lines 1 blocks.now) }
 {
     for i in 0..blocks.len() {
         put_block(out, buf, i as u64 + 1, blocks.rows(i), blocks.cols(i));
@@ -46,7 +45,7 @@ fn put_order<K: Sink, N: Id>(
     last: &[N],
 )
     requires { length word.now ≤ 65536 }
-    ensures { PoursLines (K.taken out.old) (K.faults out.old) buf.old (K.taken out.new) (K.faults out.new) buf.new (line word.now (counted (map N.number (first.now ++ middle.now ++ last.now))) ∷ []) }
+    ensures { AppendsLines (seen K.taken K.faults out.old out.new) buf.old buf.new (line word.now (counted (map N.number (first.now ++ middle.now ++ last.now))) ∷ []) }
 {
     buf.put(out, word);
     buf.put_ids(out, first);
@@ -57,7 +56,7 @@ fn put_order<K: Sink, N: Id>(
 
 /// Goes on with the rows and the columns in the order of the block triangular form, where they are asked for.
 pub(crate) fn put_orders<K: Sink>(out: &mut K, buf: &mut TextBuf, dec: &Decomposition, order: bool)
-    ensures { PoursLines (K.taken out.old) (K.faults out.old) buf.old (K.taken out.new) (K.faults out.new) buf.new (order_lines (where_asked order (orders_of (decomposition_of dec.now)))) }
+    ensures { AppendsLines (seen K.taken K.faults out.old out.new) buf.old buf.new (order_lines (where_asked order (orders_of (decomposition_of dec.now)))) }
 {
     if !order {
         return;
@@ -83,7 +82,7 @@ pub(crate) fn put_orders<K: Sink>(out: &mut K, buf: &mut TextBuf, dec: &Decompos
 
 /// Goes on with the lists of the parts and the blocks.
 fn put_parts<K: Sink>(out: &mut K, buf: &mut TextBuf, dec: &Decomposition)
-    ensures { PoursLines (K.taken out.old) (K.faults out.old) buf.old (K.taken out.new) (K.faults out.new) buf.new (part_lines dec.now) }
+    ensures { AppendsLines (seen K.taken K.faults out.old out.new) buf.old buf.new (part_lines dec.now) }
 {
     let parts = &dec.parts;
     put_part(
@@ -118,9 +117,8 @@ pub fn write_report<K: Sink>(
     pairs: bool,
 ) -> Result<(), Failed>
     // Written is what the answer tells; where it is the decomposition of a matrix, that is the matrix's report.
-    ensures bytes { Writes (K.taken out.old) (K.taken out.new) (report_text (reported dec.now order (where_asked pairs matching.now.pairs))) result }
-    ensures of_matrix { (a : Matrix) → Decomposes a dec.now → Writes (K.taken out.old) (K.taken out.new) (report_text (report_of a (decomposition_of dec.now) order (where_asked pairs matching.now.pairs))) result }
-    ensures cause { HasCause (Rose (K.faults out.old) (K.faults out.new)) (K.faults out.old) (K.faults out.new) result }
+    ensures written { Writes (seen K.taken K.faults out.old out.new) (report_text (reported dec.now order (where_asked pairs matching.now.pairs))) result }
+    ensures of_matrix { (a : Matrix) → Decomposes a dec.now → Writes (seen K.taken K.faults out.old out.new) (report_text (report_of a (decomposition_of dec.now) order (where_asked pairs matching.now.pairs))) result }
 {
     buf.start();
     buf.put_line(out, b"btf", &[1]);

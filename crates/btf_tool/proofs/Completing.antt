@@ -4,7 +4,7 @@ use Rattle.sp_ids.specs.Entries.{Entries}
 use Rattle.sp_ids.specs.declared.outcomes.Status.{Status}
 use Rattle.sp_ids.specs.declared.outcomes.Status.TheVariants as statuses
 use Rattle.sp_ports.specs.Bytes.{WhereTold}
-use Rattle.sp_ports.specs.Counts.{SourceRose}
+use Rattle.sp_ports.specs.Device.{SourceRose}
 use Rattle.btf_words.specs.Words.{AreTaken, job_of}
 use Rattle.btf_words.specs.declared.jobs.WordsError.{WordsError}
 use Rattle.btf_words.specs.declared.jobs.Job.{Job}
@@ -23,12 +23,12 @@ use Rattle.btf_tool.specs.declared.answers.Answer.{Answer}
 use Rattle.btf_tool.specs.declared.answers.Answer.TheVariants.{Negative, Positive}
 use Rattle.btf_tool.specs.declared.refusals.Refusal.{Refusal}
 use Rattle.btf_tool.specs.declared.refusals.Refusal.TheVariants.{Usage, Malformed, Limit, TooLong, SumLimit, NeedsInteger, ReadFault, WriteFault, OutOfMemory}
-use Rattle.btf_tool.specs.Devices.{Device, HasNotFallen, HasReadFault, HasWriteFault, IsUntouched, WasTold}
-use Rattle.btf_tool.specs.Jobs.{GaveFront, IsAnswer as IsJobAnswer, IsMatrixOf, OfReading, ReadsFile, WasRead, WithAnswer, WithFileAnswer, end_of, reading}
+use Rattle.sp_ports.specs.Device.{Device, FailsOnceAtMost, HasReadFault, HasWriteFault, IsUntouched, WroteAsFar}
+use Rattle.btf_tool.specs.Jobs.{GaveFront, IsAnswer as IsJobAnswer, IsMatrixOf, OfReading, ReadsFile, WasRead, Weighs, WithAnswer, WithFileAnswer, end_of, reading}
 use Rattle.btf_tool.specs.Judging.{answer_of}
 use Rattle.btf_tool.specs.Refusals.{line_of, status_of, status_of_answer}
-use Rattle.btf_tool.specs.Runs.{ComesToDiagonal, Completes, EndsWell, HasCause, IsBadLine, IsGoodSoFar, IsOrNoMemory, IsTooLong, JobSays, NameMaker, Names, NamesReader, Run, Says, TellsStill, WithFile, status_of_fault}
-use Rattle.btf_tool.proofs.Diagonals.{comes_to_diagonal, needs_ends, no_diagonal_memory, past_ends}
+use Rattle.btf_tool.specs.Runs.{ComesToDiagonal, ComesToNoWeights, Completes, EndsWell, HasCause, IsBadLine, IsGoodSoFar, IsOrNoMemory, IsTooLong, JobSays, NameMaker, Names, NamesReader, Run, Says, TellsStill, WithFile, status_of_fault}
+use Rattle.btf_tool.proofs.Diagonals.{comes_to_diagonal, has_weights, needs_ends, no_diagonal_memory, no_memory_for_weights, not_integer_refused, past_ends, past_refused}
 use Rattle.btf_tool.proofs.Judging.{one_verdict}
 
 -- what follows of what holds where bytes are told
@@ -39,9 +39,9 @@ told (Some x) None h f = absurd h
 told (Some x) (Some y) h f = f x y refl h
 
 -- an input that tells its bytes and did not fail counts as before
-steady : (input : Device) (x : List ℕ) → input.before ≡ Some x → HasNotFallen input → ¬ HasReadFault input → input.failed_after ≡ input.failed_before
-steady input x tells later no_fault =
-    omega (arith, later, λ (rose : input.failed_before < input.failed_after). no_fault (subst (λ (b : Option (List ℕ)). SourceRose b input.failed_before input.failed_after) (sym tells) rose))
+steady : (input : Device) (x : List ℕ) → input.before ≡ Some x → FailsOnceAtMost input → ¬ HasReadFault input → input.failed_after ≡ input.failed_before
+steady input x tells counts no_fault =
+    omega (arith, counts.later, λ (rose : input.failed_before < input.failed_after). no_fault (subst (λ (b : Option (List ℕ)). SourceRose b input.failed_before input.failed_after) (sym tells) rose))
 
 -- the status of the first bad line
 kind_status : (line : ℕ) (kind : Kind) (fault : Fault) (first : Option Fault) (limit : Bool) → first ≡ Some (record { line = line; kind = kind }) → is_limit kind ≡ limit → first ≡ Some fault
@@ -118,6 +118,16 @@ ends_well Check call answer text t rest status file h reads ends = record {
     comes Negative (inr none) = inr (inr none)
 ends_well (Load size seed engine) call answer text t rest status file h reads ends = absurd file
 
+-- the file of a job that needs weights, and answered over it, has them
+answer_weighed : (job : Job) (call : Call) (answer : Answer) (text : List ℕ) (t : Entries) (rest : List ℕ) (status : Status)
+    → Weighs job → IsJobAnswer job call answer text → Reads (offered call) (end_of job) t rest → ComesToNoWeights t status
+answer_weighed Rank call answer text t rest status weighs h reads = absurd weighs
+answer_weighed (Analyse engine order pairs) call answer text t rest status weighs h reads = absurd weighs
+answer_weighed Diagonal call answer text t rest status weighs h reads =
+    subst (λ (x : Entries). ComesToNoWeights x status) (h.was_read.reads.entries ∙ sym reads.entries) (has_weights h.entries h.matrix answer text status h.is_text)
+answer_weighed Check call answer text t rest status weighs h reads = absurd weighs
+answer_weighed (Load size seed engine) call answer text t rest status weighs h reads = absurd weighs
+
 -- the job that the words name, in place of another that they name
 abbrev in_place : (words : List (List ℕ)) (one two : Job) → Names words one → Names words two → (P : Job → Type 0) → P one → P two
 in_place words one two h k P p = subst P (one_job words one two h k) p
@@ -132,6 +142,8 @@ answered r status P answer job names written ends = record {
       absurd (bad_line_told (end_of other) (reading r.input x y) read.1 (Ok read.0) fault read.2 bad));
   good = λ other reader no_read no_write. told r.input.before r.input.after (over other reader)
       (λ x y before h t rest reads few. ends_well other (reading r.input x y) answer h.0 t rest status reader.1 h.1 reads (ends no_write));
+  unweighed = λ other reader weighs no_read. told r.input.before r.input.after (over other reader)
+      (λ x y before h t rest reads few. answer_weighed other (reading r.input x y) answer h.0 t rest status weighs h.1 reads);
   not_good = λ other reader no_read. told r.input.before r.input.after (over other reader)
       (λ x y before h none. let read = answer_read other (reading r.input x y) answer h.0 h.1 in
       absurd (none read.0 read.1 read.2.reads h.1.was_read.within));
@@ -149,13 +161,15 @@ answered r status P answer job names written ends = record {
 
 -- the run was refused for a bad line
 bad : (r : Run) (status : Status) (line : ℕ) (kind : Kind) (limit : Bool) → status ≡ (if limit then statuses.Limit else statuses.Malformed)
-    → (job : Job) → Names r.words job → ReadsFile job → HasNotFallen r.input → is_limit kind ≡ limit
+    → (job : Job) → Names r.words job → ReadsFile job → FailsOnceAtMost r.input → is_limit kind ≡ limit
     → IsBadLine (end_of job) r.input (record { line = line; kind = kind }) → Completes r status
 bad r status line kind limit said job names reads later is first = record {
   usage = λ not. absurd (not names.taken);
   bad_line = λ other reader. told r.input.before r.input.after (of other reader)
       (λ x y before h fault two. inl (said ∙ kind_status line kind fault (first_bad (end_of other) (reading r.input x y)) limit h is two));
   good = λ other reader no_read no_write. told r.input.before r.input.after (of other reader)
+      (λ x y before h t rest reads few. absurd (not_answered (end_of other) limit (reading r.input x y) t rest h is reads few (steady r.input x before later no_read)));
+  unweighed = λ other reader weighs no_read. told r.input.before r.input.after (of other reader)
       (λ x y before h t rest reads few. absurd (not_answered (end_of other) limit (reading r.input x y) t rest h is reads few (steady r.input x before later no_read)));
   not_good = λ other reader no_read. told r.input.before r.input.after (of other reader) (λ x y before h none. inl (either limit said));
   too_many = λ other reader. told r.input.before r.input.after (of other reader)
@@ -185,24 +199,41 @@ no_memory_ends Diagonal t rest status said = no_diagonal_memory t status said
 no_memory_ends Check t rest status said = record { comes = inr (inr said); right = λ a verdict matrix is_verdict. inr said }
 no_memory_ends (Load size seed engine) t rest status said = inr said
 
--- the run was refused for its file's entries, by a job that adds up their values
-by_entries : (r : Run) (status : Status) (P : Entries → Type 0) (job : Job) → Names r.words job → job ≡ Diagonal → WithFile job r.input P
-    → ((t : Entries) → P t → ComesToDiagonal t status) → Completes r status
-by_entries r status P job names is file ends = record {
+-- a job that needs weights reads a file, and ends over it as one that has a diagonal
+weighs_reads : (job : Job) → Weighs job → ReadsFile job
+weighs_reads Rank weighs = absurd weighs
+weighs_reads (Analyse engine order pairs) weighs = absurd weighs
+weighs_reads Diagonal weighs = tt
+weighs_reads Check weighs = absurd weighs
+weighs_reads (Load size seed engine) weighs = absurd weighs
+
+weighs_ends : (job : Job) (t : Entries) (rest : List ℕ) (status : Status) → Weighs job → ComesToDiagonal t status → EndsWell job t rest status
+weighs_ends Rank t rest status weighs comes = absurd weighs
+weighs_ends (Analyse engine order pairs) t rest status weighs comes = absurd weighs
+weighs_ends Diagonal t rest status weighs comes = comes
+weighs_ends Check t rest status weighs comes = absurd weighs
+weighs_ends (Load size seed engine) t rest status weighs comes = absurd weighs
+
+-- the run was refused since its file has no weights, by a job that needs them
+by_entries : (r : Run) (status : Status) (P : Entries → Type 0) (job : Job) → Names r.words job → Weighs job → WithFile job r.input P
+    → ((t : Entries) → P t → ComesToDiagonal t status) → ((t : Entries) → P t → ComesToNoWeights t status) → Completes r status
+by_entries r status P job names is file ends refuses = record {
   usage = λ not. absurd (not names.taken);
   bad_line = λ other reader. told r.input.before r.input.after (of other reader)
       (λ x y before h fault bad. absurd (bad_line_told (end_of other) (reading r.input x y) h.1 (Ok h.0) fault (all other (reading r.input x y) h.0 h.1 h.2) bad));
   good = λ other reader no_read no_write. told r.input.before r.input.after (of other reader)
-      (λ x y before h t rest reads few. subst (λ (j : Job). EndsWell j t rest status) (one_job r.words Diagonal other diagonal reader.0)
+      (λ x y before h t rest reads few. weighs_ends other t rest status (weighs other reader)
       (subst (λ (e : Entries). ComesToDiagonal e status) (h.2.reads.entries ∙ sym reads.entries) (ends h.0 h.3)));
+  unweighed = λ other reader _ no_read. told r.input.before r.input.after (of other reader)
+      (λ x y before h t rest reads few. subst (λ (e : Entries). ComesToNoWeights e status) (h.2.reads.entries ∙ sym reads.entries) (refuses h.0 h.3));
   not_good = λ other reader no_read. told r.input.before r.input.after (of other reader) (λ x y before h none. absurd (none h.0 h.1 h.2.reads h.2.within));
   too_many = λ other reader. told r.input.before r.input.after (of other reader) (λ x y before h none past. absurd (not_past (reading r.input x y) h.2.within past));
   too_long = λ other reader no_read. told r.input.before r.input.after (of other reader) (λ x y before h past none. absurd (not_long x h.2.within past));
-  made = λ maker. absurd (made_named r.words Diagonal diagonal maker tt);
+  made = λ maker. absurd (made_named r.words job names maker (weighs_reads job is));
 }
   where
-    diagonal : Names r.words Diagonal
-    diagonal = subst (λ (j : Job). Names r.words j) is names
+    weighs : (other : Job) → NamesReader r.words other → Weighs other
+    weighs other reader = in_place r.words job other names reader.0 Weighs is
 
     of : (other : Job) → NamesReader r.words other → WithFile other r.input P
     of other reader = in_place r.words job other names reader.0 (λ (j : Job). WithFile j r.input P) file
@@ -216,6 +247,7 @@ refused r status Usage said c = record {
   usage = λ _. inl said;
   bad_line = λ other reader. absurd (c.0 reader.0.taken);
   good = λ other reader. absurd (c.0 reader.0.taken);
+  unweighed = λ other reader. absurd (c.0 reader.0.taken);
   not_good = λ other reader. absurd (c.0 reader.0.taken);
   too_many = λ other reader. absurd (c.0 reader.0.taken);
   too_long = λ other reader. absurd (c.0 reader.0.taken);
@@ -227,6 +259,8 @@ refused r status TooLong said c = record {
   usage = λ not. absurd (not c.1.taken);
   bad_line = λ other reader. told r.input.before r.input.after (of other reader) (λ x y before h fault two. absurd (clash (first_bad (end_of other) (reading r.input x y)) fault h.0 two));
   good = λ other reader no_read no_write. told r.input.before r.input.after (of other reader)
+      (λ x y before h t rest reads few. absurd (good_file_answer (end_of other) (reading r.input x y) [] (Err errors.TooLong) t rest h reads few (steady r.input x before c.2 no_read)));
+  unweighed = λ other reader weighs no_read. told r.input.before r.input.after (of other reader)
       (λ x y before h t rest reads few. absurd (good_file_answer (end_of other) (reading r.input x y) [] (Err errors.TooLong) t rest h reads few (steady r.input x before c.2 no_read)));
   not_good = λ other reader no_read. told r.input.before r.input.after (of other reader) (λ x y before h none. inl (inr said));
   too_many = λ other reader. told r.input.before r.input.after (of other reader) (λ x y before h none past. inl said);
@@ -240,6 +274,7 @@ refused r status ReadFault said c = record {
   usage = λ not. absurd (not c.1.taken);
   bad_line = λ other reader. told r.input.before r.input.after (of other reader) (λ x y before h fault two. absurd (clash (first_bad (end_of other) (reading r.input x y)) fault h.0 two));
   good = λ other reader no_read. absurd (no_read c.3.1);
+  unweighed = λ other reader weighs no_read. absurd (no_read c.3.1);
   not_good = λ other reader no_read. absurd (no_read c.3.1);
   too_many = λ other reader. told r.input.before r.input.after (of other reader) (λ x y before h none past. let few = h.1 in absurd (omega (arith, few, past)));
   too_long = λ other reader no_read. absurd (no_read c.3.1);
@@ -248,13 +283,14 @@ refused r status ReadFault said c = record {
   where
     of : (other : Job) → NamesReader r.words other → IsGoodSoFar (end_of other) r.input
     of other reader = in_place r.words c.0 other c.1 reader.0 (λ (j : Job). IsGoodSoFar (end_of j) r.input) c.3.2
-refused r status (SumLimit row col) said c = by_entries r status _ c.0 c.1 c.3.0 c.3.2 (λ t h. past_ends t row col status said h.0 h.1)
-refused r status NeedsInteger said c = by_entries r status _ c.0 c.1 c.3.0 c.3.2 (λ t not. needs_ends t status said not)
+refused r status (SumLimit row col) said c = by_entries r status _ c.0 c.1 c.3.0 c.3.2 (λ t h. past_ends t row col status h.1) (λ t h. past_refused t status said h.0)
+refused r status NeedsInteger said c = by_entries r status _ c.0 c.1 c.3.0 c.3.2 (λ t not. needs_ends t status not) (λ t not. not_integer_refused t status said not)
 refused r status WriteFault said c = answered r status _ c.3.2.0 c.0 c.1 c.3.2.1 (λ no_write. absurd (no_write c.3.0))
 refused r status OutOfMemory said c = record {
   usage = λ _. inr said;
   bad_line = λ other reader. told r.input.before r.input.after c.1 (λ x y before h fault two. inr said);
   good = λ other reader no_read no_write. told r.input.before r.input.after c.1 (λ x y before h t rest reads few. no_memory_ends other t rest status said);
+  unweighed = λ other reader weighs no_read. told r.input.before r.input.after c.1 (λ x y before h t rest reads few. no_memory_for_weights t status said);
   not_good = λ other reader no_read. told r.input.before r.input.after c.1 (λ x y before h none. inr said);
   too_many = λ other reader. told r.input.before r.input.after c.1 (λ x y before h none past. inr said);
   too_long = λ other reader no_read. told r.input.before r.input.after c.1 (λ x y before h past none. inr said);
@@ -272,7 +308,7 @@ completes r statuses.WriteFault s = refused r statuses.WriteFault s.refusal s.st
 completes r statuses.OutOfMemory s = refused r statuses.OutOfMemory s.refusal s.status_is s.cause
 completes r statuses.NeedsInteger s = refused r statuses.NeedsInteger s.refusal s.status_is s.cause
 
-by_refusal : (r : Run) (refusal : Refusal) → WasTold r.err (line_of refusal) → HasCause r refusal → Says r (status_of refusal)
+by_refusal : (r : Run) (refusal : Refusal) → WroteAsFar r.err (line_of refusal) → HasCause r refusal → Says r (status_of refusal)
 by_refusal r Usage told cause = record { refusal = Usage; status_is = refl; told = told; cause = cause }
 by_refusal r (Malformed line kind) told cause = record { refusal = Malformed line kind; status_is = refl; told = told; cause = cause }
 by_refusal r (Limit line kind) told cause = record { refusal = Limit line kind; status_is = refl; told = told; cause = cause }
@@ -284,7 +320,7 @@ by_refusal r WriteFault told cause = record { refusal = WriteFault; status_is = 
 by_refusal r OutOfMemory told cause = record { refusal = OutOfMemory; status_is = refl; told = told; cause = cause }
 
 -- a refusal that was told, with its cause
-pub refusal_says : (r : Run) (status : Status) (refusal : Refusal) → status ≡ status_of refusal → WasTold r.err (line_of refusal) → HasCause r refusal → Says r status
+pub refusal_says : (r : Run) (status : Status) (refusal : Refusal) → status ≡ status_of refusal → WroteAsFar r.err (line_of refusal) → HasCause r refusal → Says r status
 refusal_says r status refusal said told cause = subst (λ (s : Status). Says r s) (sym said) (by_refusal r refusal told cause)
 
 -- the refusal of a job
@@ -316,9 +352,9 @@ untouched_gave input same =
     still None = tt
     still (Some x) = record { gave = []; in_order = refl; few = omega arith }
 
--- nor has its count of failures fallen
-pub untouched_later : (input : Device) → IsUntouched input → HasNotFallen input
-untouched_later input same = omega (arith, same.1)
+-- no call of it has failed
+pub untouched_counts : (d : Device) → IsUntouched d → FailsOnceAtMost d
+untouched_counts d same = record { later = omega (arith, same.1); once = omega (arith, same.1) }
 
 -- ---- what `run` cites
 
@@ -343,7 +379,7 @@ job_done r job result answer status is names says said untouched =
 
 -- the job was refused
 pub job_not_done : (r : Run) (job : Job) (result : Result Answer Refusal) (refusal : Refusal) (status : Status) → result ≡ Err refusal → Names r.words job
-    → JobSays job r.input r.out result → status ≡ status_of refusal → WasTold r.err (line_of refusal) → Says r status
+    → JobSays job r.input r.out result → status ≡ status_of refusal → WroteAsFar r.err (line_of refusal) → Says r status
 job_not_done r job result refusal status is names says said told =
     refusal_says r status refusal said told
     (job_refused r job refusal names (subst (λ (o : Result Answer Refusal). JobSays job r.input r.out o) is says))

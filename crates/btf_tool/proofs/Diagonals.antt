@@ -11,7 +11,7 @@ use Rattle.btf_tool.specs.declared.answers.Answer.TheVariants.{Negative, Positiv
 use Rattle.btf_tool.specs.Diagonals.{IsDiagonalText, answer_on}
 use Rattle.btf_tool.specs.Jobs.{IsMatrixOf}
 use Rattle.btf_tool.specs.Refusals.{status_of_answer}
-use Rattle.btf_tool.specs.Runs.{ComesToDiagonal, IsOrNoMemory, IsWithin}
+use Rattle.btf_tool.specs.Runs.{ComesToDiagonal, ComesToNoWeights, IsOrNoMemory, IsWithin}
 use Rattle.integer_diagonal.specs.Heaviest.{IsHeaviest}
 use Rattle.integer_diagonal.proofs.Duality.{full_rank}
 use Rattle.sp_ids.specs.Entries.{Entries}
@@ -46,8 +46,6 @@ some_full w (Diagonal pairs u v sum) is square rank = refl
 pub comes_to_diagonal : (t : Entries) (a : Matrix) (answer : Answer) (text : List ℕ) (status : Status) → IsMatrixOf t a → IsDiagonalText t a answer text
     → IsOrNoMemory status (status_of_answer answer) → ComesToDiagonal t status
 comes_to_diagonal t a answer text status of h ends = record {
-  needs_integer = λ not. absurd (not h.integer);
-  past = λ integer r c past. let within = h.are_weights.within r c in absurd (omega (arith, within, past));
   comes = λ integer within. either answer ends;
   rectangular = λ integer within b of_b not. ended Negative (none_rectangular h.weighing h.heaviest h.is_heaviest (λ e. not (subst (λ (x : Matrix). x.rows ≡ cols x) (same b of_b) e)));
   singular = λ integer within b k of_b rank below. ended Negative
@@ -67,11 +65,25 @@ comes_to_diagonal t a answer text status of h ends = record {
     ended : (wanted : Answer) → answer_on h.heaviest ≡ wanted → IsOrNoMemory status (status_of_answer wanted)
     ended wanted is = subst (λ (x : Answer). IsOrNoMemory status (status_of_answer x)) (h.answer_is ∙ is) ends
 
+-- a file whose values were added up has weights
+pub has_weights : (t : Entries) (a : Matrix) (answer : Answer) (text : List ℕ) (status : Status) → IsDiagonalText t a answer text → ComesToNoWeights t status
+has_weights t a answer text status h = record {
+  needs_integer = λ not. absurd (not h.integer);
+  past = λ integer r c past. let within = h.are_weights.within r c in absurd (omega (arith, within, past));
+}
+
+pub no_memory_for_weights : (t : Entries) (status : Status) → status ≡ statuses.OutOfMemory → ComesToNoWeights t status
+no_memory_for_weights t status said = record { needs_integer = λ not. inr said; past = λ integer r c past. inr said }
+
+pub past_refused : (t : Entries) (status : Status) → status ≡ statuses.Limit → t.field ≡ Integer → ComesToNoWeights t status
+past_refused t status said integer = record { needs_integer = λ not. absurd (not integer); past = λ _ r c past. inl said }
+
+pub not_integer_refused : (t : Entries) (status : Status) → status ≡ statuses.NeedsInteger → ¬ (t.field ≡ Integer) → ComesToNoWeights t status
+not_integer_refused t status said not = record { needs_integer = λ _. inl said; past = λ integer r c past. absurd (not integer) }
+
 -- where memory ran out
 pub no_diagonal_memory : (t : Entries) (status : Status) → status ≡ statuses.OutOfMemory → ComesToDiagonal t status
 no_diagonal_memory t status said = record {
-  needs_integer = λ not. inr said;
-  past = λ integer r c past. inr said;
   comes = λ integer within. inr (inr said);
   rectangular = λ integer within a of not. inr said;
   singular = λ integer within a k of rank below. inr said;
@@ -79,10 +91,8 @@ no_diagonal_memory t status said = record {
 }
 
 -- where a sum passes the limit
-pub past_ends : (t : Entries) (r c : ℕ) (status : Status) → status ≡ statuses.Limit → t.field ≡ Integer → IsFirstPast t r c → ComesToDiagonal t status
-past_ends t r c status said integer first = record {
-  needs_integer = λ not. absurd (not integer);
-  past = λ _ s d past. inl said;
+pub past_ends : (t : Entries) (r c : ℕ) (status : Status) → IsFirstPast t r c → ComesToDiagonal t status
+past_ends t r c status first = record {
   comes = λ _ within. absurd (too_large within);
   rectangular = λ _ within a of not. absurd (too_large within);
   singular = λ _ within a k of rank below. absurd (too_large within);
@@ -93,10 +103,8 @@ past_ends t r c status said integer first = record {
     too_large within = let small = within r c in let past = first.past in omega (arith, small, past)
 
 -- where the file is no integer file
-pub needs_ends : (t : Entries) (status : Status) → status ≡ statuses.NeedsInteger → ¬ (t.field ≡ Integer) → ComesToDiagonal t status
-needs_ends t status said not = record {
-  needs_integer = λ _. inl said;
-  past = λ integer r c past. absurd (not integer);
+pub needs_ends : (t : Entries) (status : Status) → ¬ (t.field ≡ Integer) → ComesToDiagonal t status
+needs_ends t status not = record {
   comes = λ integer within. absurd (not integer);
   rectangular = λ integer within a of other. absurd (not integer);
   singular = λ integer within a k of rank below. absurd (not integer);

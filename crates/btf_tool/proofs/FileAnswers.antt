@@ -2,7 +2,7 @@
 use Rattle.std.proofs.Common.{◌≡◌, ◌+◌, ◌-◌, ◌<◌, ◌≤◌, ◌++◌, ◌∙◌, ℕ, List, [], ◌∷◌, Ok, Err, false, true, Option, Some, None, append_assoc, arith, ap, length, length-append, length-take, refl, subst, sym}
 use Rattle.sp_ids.specs.Entries.{Entries}
 use Rattle.sp_ports.specs.Bytes.{Gives, GivesFront, WhereTold}
-use Rattle.sp_ports.specs.Counts.{SourceRose}
+use Rattle.sp_ports.specs.Device.{SourceRose}
 use Rattle.mm_defs.specs.File.{Fault, Reads, rest_of}
 use Rattle.mm_defs.specs.Reading.{Call, FellShort, HasItsKind, Intake, IsAnswer, IsRest, JudgesNoLine, ReadsAll, RefusesRest, TakesAtMostOnePast, call_on, first_bad, got, room}
 use Rattle.mm_defs.specs.declared.answers.End.{End}
@@ -11,7 +11,7 @@ use Rattle.mm_defs.specs.declared.answers.ReadError.{ReadError}
 use Rattle.mm_defs.specs.declared.answers.ReadError.TheVariants as errors
 use Rattle.mm_defs.proofs.Answering.{bad_line_told}
 use Rattle.mm_defs.proofs.Behind.{length-behind}
-use Rattle.btf_tool.specs.Devices.{Device, HasReadFault}
+use Rattle.sp_ports.specs.Device.{Device, HasReadFault}
 use Rattle.btf_tool.specs.Jobs.{GaveFront, OfReading, WasRead, reading}
 use Rattle.btf_tool.specs.Refusals.{refusal_for}
 use Rattle.btf_tool.specs.Runs.{IsReadAs, IsUnread}

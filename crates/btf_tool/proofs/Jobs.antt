@@ -1,12 +1,11 @@
 -- What the steps of a job say together.
-use Rattle.std.proofs.Common.{◌≡◌, ℕ, List, [], Option, Ok, Err, inl, inr, refl, sym, subst, append-nil, Result}
+use Rattle.std.proofs.Common.{◌≡◌, ℕ, List, [], Ok, Err, refl, sym, subst, Result}
+use Rattle.std.specs.Result.{IsErrAnd}
 use Rattle.sp_ids.specs.Entries.{Entries}
 use Rattle.bip_defs.specs.Matrix.{Matrix}
 use Rattle.bip_graph.specs.Answers.{IsRankText}
 use Rattle.bip_graph.specs.Texts.{Sizes, rank_text, sizes_of}
 use Rattle.btf_tool.specs.Ranks.{IsRankOf}
-use Rattle.sp_ports.specs.Bytes.{Takes, TakesFront, Writes}
-use Rattle.sp_ports.specs.Counts.{HasCause, Rose}
 use Rattle.btf_words.specs.declared.jobs.Job.{Job}
 use Rattle.btf_words.specs.declared.jobs.Job.TheVariants.{Rank, Analyse, Diagonal, Check, Load}
 use Rattle.mm_defs.specs.declared.answers.End.TheVariants.{File}
@@ -23,14 +22,20 @@ use Rattle.btf_tool.specs.declared.answers.Answer.{Answer}
 use Rattle.btf_tool.specs.declared.answers.Answer.TheVariants.{Negative, Positive}
 use Rattle.btf_tool.specs.declared.refusals.Refusal.{Refusal}
 use Rattle.btf_tool.specs.declared.refusals.Refusal.TheVariants.{Usage, Malformed, Limit, TooLong, SumLimit, NeedsInteger, ReadFault, WriteFault, OutOfMemory}
-use Rattle.btf_tool.specs.Devices.{Device, HasNotFallen, IsSteady, IsUntouched, Took, TookFront}
+use Rattle.sp_ports.specs.Device.{Device, FailsOnceAtMost, IsUntouched, Took, TookFront}
 use Rattle.btf_tool.specs.Jobs.{IsMatrixOf, IsTextOf, MayAnswer, OfReading, ReadsFile, WasRead, WithAnswer, WithFileAnswer, end_of}
 use Rattle.btf_tool.specs.Judging.{IsVerdictText, answer_of, verdict_text}
 use Rattle.btf_tool.specs.Runs.{IsReadAs, IsUnread, JobSays}
 use Rattle.btf_tool.proofs.Completing.{told}
 
+-- what holds of this refusal holds of a result that is it
+pub as_refusal : {T : Type 0} (result : Result T Refusal) (refusal : Refusal) (Q : Result T Refusal → Type 0)
+    → IsErrAnd result (λ e. e ≡ refusal) → Q (Err refusal) → Q result
+as_refusal (Ok v) refusal Q is q = absurd is
+as_refusal (Err e) refusal Q is q = subst (λ (r : Refusal). Q (Err r)) (sym is) q
+
 -- the reading was refused, and nothing was written
-pub file_refused : (job : Job) (input out : Device) (refusal : Refusal) → ReadsFile job → IsUnread (end_of job) input refusal → HasNotFallen input → IsUntouched out → JobSays job input out (Err refusal)
+pub file_refused : (job : Job) (input out : Device) (refusal : Refusal) → ReadsFile job → IsUnread (end_of job) input refusal → FailsOnceAtMost input → IsUntouched out → JobSays job input out (Err refusal)
 file_refused job input out Usage reads says later same = absurd says
 file_refused job input out (Malformed line kind) reads says later same = (later, (reads, says.0, says.1, same))
 file_refused job input out (Limit line kind) reads says later same = (later, (reads, says.0, says.1, same))
@@ -42,7 +47,7 @@ file_refused job input out WriteFault reads says later same = absurd says
 file_refused job input out OutOfMemory reads says later same = (later, (says, same))
 
 -- memory ran out after the reading
-pub no_memory : (job : Job) (input out : Device) (t : Entries) (rest : List ℕ) → IsReadAs (end_of job) input t rest → HasNotFallen input → IsUntouched out → JobSays job input out (Err OutOfMemory)
+pub no_memory : (job : Job) (input out : Device) (t : Entries) (rest : List ℕ) → IsReadAs (end_of job) input t rest → FailsOnceAtMost input → IsUntouched out → JobSays job input out (Err OutOfMemory)
 no_memory job input out t rest says later same = (later, (told input.before input.after says.1 (λ x y before h. tt), same))
 
 -- a job that reads a file answers over it
@@ -64,30 +69,21 @@ may_answer : (job : Job) (answer : Answer) (t : Entries) (a : Matrix) (rest text
 may_answer Rank answer t a rest text h = subst (λ (x : Answer). MayAnswer Rank x) (sym h.0) tt
 may_answer (Analyse engine order pairs) answer t a rest text h = subst (λ (x : Answer). MayAnswer (Analyse engine order pairs) x) (sym h.0) tt
 may_answer Diagonal Positive t a rest text h = tt
-may_answer Diagonal Negative t a rest text h = inl refl
+may_answer Diagonal Negative t a rest text h = tt
 may_answer Check Positive t a rest text h = tt
-may_answer Check Negative t a rest text h = inr refl
+may_answer Check Negative t a rest text h = tt
 may_answer (Load size seed engine) answer t a rest text h = subst (λ (x : Answer). MayAnswer (Load size seed engine) x) (sym h.0) tt
 
--- the answer was written
+-- the answer was written, or a write of it failed
 pub job_written : (job : Job) (answer : Answer) (input out : Device) (text : List ℕ) (t : Entries) (rest : List ℕ) (a : Matrix) → ReadsFile job → IsReadAs (end_of job) input t rest → IsMatrixOf t a
-    → IsTextOf job t a rest answer text → Takes out.before out.after text → IsSteady out → JobSays job input out (Ok answer)
-job_written job answer input out text t rest a reads says matrix is_text takes steady =
-    (may_answer job answer t a rest text is_text, says.0, steady, with_answer job answer input (Took out) text t rest a reads says.1 matrix is_text (record { bytes = takes; steady = steady }))
+    → IsTextOf job t a rest answer text → Took out text → JobSays job input out (Ok answer)
+job_written job answer input out text t rest a reads says matrix is_text took =
+    (may_answer job answer t a rest text is_text, says.0, took.steady, with_answer job answer input (Took out) text t rest a reads says.1 matrix is_text took)
 
--- a write of the answer failed
-pub job_not_written : (job : Job) (answer : Answer) (input out : Device) (text : List ℕ) (t : Entries) (rest : List ℕ) (a : Matrix) → ReadsFile job → IsReadAs (end_of job) input t rest → HasNotFallen input
-    → IsMatrixOf t a → IsTextOf job t a rest answer text → TakesFront out.before out.after text → Rose out.failed_before out.failed_after → JobSays job input out (Err WriteFault)
-job_not_written job answer input out text t rest a reads says later matrix is_text front rose =
-    (later, (rose, says.0, (answer, with_answer job answer input (TookFront out) text t rest a reads says.1 matrix is_text (record { bytes = front; fault = rose }))))
-
--- a text that was written, and then a flush that changes no byte
-pub writes_flushed : {T E : Type 0} (old mid new : Option (List ℕ)) (text : List ℕ) (result : Result T E) → Takes old mid text → new ≡ mid → Writes old new text result
-writes_flushed old mid new text (Ok v) takes same = subst (λ (taken : Option (List ℕ)). Takes old taken text) (sym same) takes
-writes_flushed old mid new text (Err e) takes same = (text, [], sym (append-nil text), subst (λ (taken : Option (List ℕ)). Takes old taken text) (sym same) takes)
-
-pub cause_later : {T E : Type 0} (old mid new : ℕ) (result : Result T E) → mid ≡ old → HasCause (Rose mid new) mid new result → HasCause (Rose old new) old new result
-cause_later old mid new result same cause = subst (λ (n : ℕ). HasCause (Rose n new) n new result) same cause
+pub job_not_written : (job : Job) (answer : Answer) (input out : Device) (text : List ℕ) (t : Entries) (rest : List ℕ) (a : Matrix) → ReadsFile job → IsReadAs (end_of job) input t rest → FailsOnceAtMost input
+    → IsMatrixOf t a → IsTextOf job t a rest answer text → TookFront out text → JobSays job input out (Err WriteFault)
+job_not_written job answer input out text t rest a reads says counts matrix is_text front =
+    (counts, (front.fault, says.0, (answer, with_answer job answer input (TookFront out) text t rest a reads says.1 matrix is_text front)))
 
 -- the text of the same lists
 pub same_text : (Q : List ℕ → Type 0) (s : Sizes) (k : ℕ) (rows others cols more : List ℕ) → rows ≡ others → cols ≡ more → Q (rank_text s k rows cols) → Q (rank_text s k others more)
@@ -105,13 +101,13 @@ verdict_answers a bytes verdict fits is = record { fits = fits; verdict = verdic
 -- ---- `diagonal`
 
 -- the file is no integer file
-pub not_integer : (input out : Device) (t : Entries) → IsReadAs File input t [] → HasNotFallen input → ¬ (t.field ≡ Integer) → IsUntouched out → JobSays Diagonal input out (Err NeedsInteger)
-not_integer input out t says later not same = (later, (refl, says.0, told input.before input.after says.1 (λ x y before h. (t, [], h, not)), same))
+pub not_integer : (input out : Device) (t : Entries) → IsReadAs File input t [] → FailsOnceAtMost input → ¬ (t.field ≡ Integer) → IsUntouched out → JobSays Diagonal input out (Err NeedsInteger)
+not_integer input out t says later not same = (later, (tt, says.0, told input.before input.after says.1 (λ x y before h. (t, [], h, not)), same))
 
 -- a sum passes the limit
-pub past_limit : (input out : Device) (t : Entries) (row col : ℕ) → IsReadAs File input t [] → HasNotFallen input → t.field ≡ Integer → IsFirstPast t row col → IsUntouched out
+pub past_limit : (input out : Device) (t : Entries) (row col : ℕ) → IsReadAs File input t [] → FailsOnceAtMost input → t.field ≡ Integer → IsFirstPast t row col → IsUntouched out
     → JobSays Diagonal input out (Err (SumLimit row col))
-past_limit input out t row col says later integer first same = (later, (refl, says.0, told input.before input.after says.1 (λ x y before h. (t, [], h, (integer, first))), same))
+past_limit input out t row col says later integer first same = (later, (tt, says.0, told input.before input.after says.1 (λ x y before h. (t, [], h, (integer, first))), same))
 
 -- the text is that of the answer
 pub diagonal_answers : (t : Entries) (a : Matrix) (w : Weighing) (h : Heaviest) → t.field ≡ Integer → AreWeightsOf t a w → IsHeaviest w h → IsDiagonalText t a (answer_on h) (diagonal_text w h)

@@ -1,6 +1,7 @@
 -- What each job reads or makes, and what it answers.
-use Rattle.std.specs.Prelude.{◌≡◌, ◌≤◌, ◌⊎◌, ◌+◌, ◌++◌, ℕ, List, [], length}
+use Rattle.std.specs.Prelude.{◌≡◌, ◌≤◌, ◌+◌, ◌++◌, ℕ, Bool, true, false, List, [], length}
 use Rattle.sp_ids.specs.Entries.{Entries, places}
+use Rattle.sp_ids.specs.Limits.{max_input_bytes}
 use Rattle.bip_defs.specs.Matrix.{Matrix, HasPlaces}
 use Rattle.bip_graph.specs.Answers.{IsAnalysis, IsRankText}
 use Rattle.btf_words.specs.declared.jobs.Job.{Job}
@@ -12,35 +13,50 @@ use Rattle.mm_defs.specs.declared.answers.End.TheVariants.{File, LastEntry}
 use Rattle.sp_ports.specs.Bytes.{WhereTold}
 use Rattle.btf_tool.specs.declared.answers.Answer.{Answer}
 use Rattle.btf_tool.specs.declared.answers.Answer.TheVariants.{Negative, Positive}
-use Rattle.btf_tool.specs.Devices.{Device}
+use Rattle.sp_ports.specs.Device.{Device}
 use Rattle.btf_tool.specs.Diagonals.{IsDiagonalText}
 use Rattle.btf_tool.specs.Judging.{IsVerdictText}
 use Rattle.btf_tool.specs.Summaries.{IsLoadMatrix, IsSummary}
 
--- the job reads a matrix file; `load` makes its matrix and reads nothing
+-- What a job is, but for the text that it answers.
+pub record Traits : Type 0 where
+  -- it reads a matrix file, and else makes its matrix
+  pub reads : Bool
+  -- where the file ends: with the input, or with the last entry line, which a report follows
+  pub end : End
+  -- it adds up the values of an integer file, and takes no other
+  pub weighs : Bool
+  -- it may answer that there is no such thing
+  pub denies : Bool
+
+abbrev pub traits_of : Job → Traits
+traits_of Rank = record { reads = true; end = File; weighs = false; denies = false }
+traits_of (Analyse engine order pairs) = record { reads = true; end = File; weighs = false; denies = false }
+traits_of Diagonal = record { reads = true; end = File; weighs = true; denies = true }
+traits_of Check = record { reads = true; end = LastEntry; weighs = false; denies = true }
+traits_of (Load size seed engine) = record { reads = false; end = File; weighs = false; denies = false }
+
+abbrev pub Holds : Bool → Type 0
+Holds true = Unit {0}
+Holds false = ⊥
+
 abbrev pub ReadsFile : Job → Type 0
-ReadsFile Rank = Unit {0}
-ReadsFile (Analyse engine order pairs) = Unit {0}
-ReadsFile Diagonal = Unit {0}
-ReadsFile Check = Unit {0}
-ReadsFile (Load size seed engine) = ⊥
+ReadsFile job = Holds (traits_of job).reads
 
--- where a job's matrix file ends: with the input, or for `check` with the last entry line, which a report follows
 abbrev pub end_of : Job → End
-end_of Rank = File
-end_of (Analyse engine order pairs) = File
-end_of Diagonal = File
-end_of Check = LastEntry
-end_of (Load size seed engine) = File
+end_of job = (traits_of job).end
 
--- how many bytes an input may have
-abbrev pub input_limit : ℕ
-input_limit = 68719476736
+abbrev pub Weighs : Job → Type 0
+Weighs job = Holds (traits_of job).weighs
+
+abbrev pub MayAnswer : Job → Answer → Type 0
+MayAnswer job Positive = Unit {0}
+MayAnswer job Negative = Holds (traits_of job).denies
 
 -- the reading of an input that told these bytes before and has these left
 abbrev pub reading : Device → List ℕ → List ℕ → Call
 reading input before after = record {
-  room = input_limit;
+  room = max_input_bytes;
   ahead = [];
   before = before;
   after = after;
@@ -75,11 +91,6 @@ IsTextOf (Analyse engine order pairs) t a rest answer text = (answer ≡ Positiv
 IsTextOf Diagonal t a rest answer text = IsDiagonalText t a answer text
 IsTextOf Check t a rest answer text = IsVerdictText a rest answer text
 IsTextOf (Load size seed engine) t a rest answer text = (answer ≡ Positive) × IsSummary a text
-
--- only `diagonal` and `check` may answer that there is no such thing
-abbrev pub MayAnswer : Job → Answer → Type 0
-MayAnswer job Positive = Unit {0}
-MayAnswer job Negative = (job ≡ Diagonal) ⊎ (job ≡ Check)
 
 -- a good file was read, with what follows it, and this is what the job answers
 pub record IsAnswer (job : Job) (call : Call) (answer : Answer) (text : List ℕ) : Type 0 where

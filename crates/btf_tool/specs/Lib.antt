@@ -1,5 +1,4 @@
 pub mod Analyses
-pub mod Devices
 pub mod Diagonals
 pub mod Jobs
 pub mod Judging

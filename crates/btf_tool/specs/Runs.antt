@@ -1,6 +1,7 @@
 -- What a run was given, what came of it, and what each status says.
 use Rattle.std.specs.Prelude.{◌≡◌, ◌≤◌, ◌<◌, ◌⊎◌, ℕ, true, false, List, length, take, if◌then◌else◌, Some, None, Result, Ok, Err}
 use Rattle.sp_ids.specs.Entries.{Entries}
+use Rattle.sp_ids.specs.Limits.{max_input_bytes}
 use Rattle.sp_ids.specs.declared.outcomes.Status.{Status}
 use Rattle.sp_ids.specs.declared.outcomes.Status.TheVariants as statuses
 use Rattle.btf_words.specs.Words.{AreTaken, job_of}
@@ -21,8 +22,8 @@ use Rattle.btf_tool.specs.declared.answers.Answer.{Answer}
 use Rattle.btf_tool.specs.declared.answers.Answer.TheVariants.{Negative, Positive}
 use Rattle.btf_tool.specs.declared.refusals.Refusal.{Refusal}
 use Rattle.btf_tool.specs.declared.refusals.Refusal.TheVariants.{Usage, Malformed, Limit, TooLong, SumLimit, NeedsInteger, ReadFault, WriteFault, OutOfMemory}
-use Rattle.btf_tool.specs.Devices.{Device, HasNotFallen, IsSteady, IsUntouched, HasReadFault, HasWriteFault, Took, TookFront, WasTold}
-use Rattle.btf_tool.specs.Jobs.{IsMatrixOf, MayAnswer, OfReading, ReadsFile, WasRead, WithAnswer, end_of, input_limit}
+use Rattle.sp_ports.specs.Device.{Device, FailsOnceAtMost, IsSteady, IsUntouched, HasReadFault, HasWriteFault, Took, TookFront, WroteAsFar}
+use Rattle.btf_tool.specs.Jobs.{IsMatrixOf, MayAnswer, OfReading, ReadsFile, WasRead, Weighs, WithAnswer, end_of}
 use Rattle.btf_tool.specs.Judging.{answer_of}
 use Rattle.btf_tool.specs.Refusals.{line_of, status_of, status_of_answer}
 
@@ -89,9 +90,9 @@ IsCause job input out (Limit line kind) = ReadsFile job × (is_limit kind ≡ tr
 -- no line is bad, and the input gave more bytes than it may have
 IsCause job input out TooLong = ReadsFile job × IsTooLong (end_of job) input × IsUntouched out
 -- the sum of a place's values passes the limit, in the integer file of a job that adds them up
-IsCause job input out (SumLimit row col) = (job ≡ Diagonal) × IsSteady input × WithFile job input (λ t. (t.field ≡ Integer) × IsFirstPast t row col) × IsUntouched out
+IsCause job input out (SumLimit row col) = Weighs job × IsSteady input × WithFile job input (λ t. (t.field ≡ Integer) × IsFirstPast t row col) × IsUntouched out
 -- the file of such a job is no integer file
-IsCause job input out NeedsInteger = (job ≡ Diagonal) × IsSteady input × WithFile job input (λ t. ¬ (t.field ≡ Integer)) × IsUntouched out
+IsCause job input out NeedsInteger = Weighs job × IsSteady input × WithFile job input (λ t. ¬ (t.field ≡ Integer)) × IsUntouched out
 -- a read failed, no line that had ended is bad, and no more bytes came than the input may have
 IsCause job input out ReadFault = ReadsFile job × HasReadFault input × IsGoodSoFar (end_of job) input × IsUntouched out
 -- a write failed, and a front of the job's answer was taken
@@ -120,20 +121,20 @@ IsUnread end input Usage = ⊥
 -- What the outcome of a job says of the input and of the output.
 abbrev pub JobSays : Job → Device → Device → Result Answer Refusal → Type 0
 JobSays job input out (Ok answer) = MayAnswer job answer × IsSteady input × IsSteady out × WithAnswer job answer input (Took out)
-JobSays job input out (Err refusal) = HasNotFallen input × IsCause job input out refusal
+JobSays job input out (Err refusal) = FailsOnceAtMost input × IsCause job input out refusal
 
 -- What a refusal says of a run.
 abbrev pub HasCause : Run → Refusal → Type 0
 -- the words are not taken, and nothing was read or written
 HasCause r Usage = (¬ AreTaken r.words) × IsUntouched r.input × IsUntouched r.out
-HasCause r OutOfMemory = HasNotFallen r.input × TellsStill r.input × IsUntouched r.out
-HasCause r refusal = (job : Job) × Names r.words job × HasNotFallen r.input × IsCause job r.input r.out refusal
+HasCause r OutOfMemory = FailsOnceAtMost r.input × TellsStill r.input × IsUntouched r.out
+HasCause r refusal = (job : Job) × Names r.words job × FailsOnceAtMost r.input × IsCause job r.input r.out refusal
 
 -- The run was refused: the status is the refusal's, its line was told, and it has its cause.
 pub record IsRefused (r : Run) (status : Status) : Type 0 where
   pub refusal : Refusal
   pub status_is : status ≡ status_of refusal
-  pub told : WasTold r.err (line_of refusal)
+  pub told : WroteAsFar r.err (line_of refusal)
   pub cause : HasCause r refusal
 
 -- what each status says
@@ -161,10 +162,13 @@ pub record ComesToVerdict (t : Entries) (bytes : List ℕ) (status : Status) : T
 abbrev pub IsWithin : Entries → Type 0
 IsWithin t = (r c : ℕ) → weight_of t r c ≤ weight_limit
 
--- the diagonal of a good file comes, or why there is none, unless memory ran out
-pub record ComesToDiagonal (t : Entries) (status : Status) : Type 0 where
+-- a file that has no weights is refused for that, unless memory ran out
+pub record ComesToNoWeights (t : Entries) (status : Status) : Type 0 where
   pub needs_integer : ¬ (t.field ≡ Integer) → IsOrNoMemory status statuses.NeedsInteger
   pub past : t.field ≡ Integer → (r c : ℕ) → weight_limit < weight_of t r c → IsOrNoMemory status statuses.Limit
+
+-- the diagonal of a good file comes, or why there is none, unless memory ran out
+pub record ComesToDiagonal (t : Entries) (status : Status) : Type 0 where
   pub comes : t.field ≡ Integer → IsWithin t → (status ≡ statuses.Negative) ⊎ IsOrNoMemory status statuses.Ok
   pub rectangular : t.field ≡ Integer → IsWithin t → (a : Matrix) → IsMatrixOf t a → ¬ (a.rows ≡ cols a) → IsOrNoMemory status statuses.Negative
   pub singular : t.field ≡ Integer → IsWithin t → (a : Matrix) (k : ℕ) → IsMatrixOf t a → IsRank a k → k < cols a → IsOrNoMemory status statuses.Negative
@@ -184,15 +188,18 @@ pub record Completes (r : Run) (status : Status) : Type 0 where
       → OfReading r.input (λ call. (fault : Fault) → first_bad (end_of job) call ≡ Some fault → IsOrNoMemory status (status_of_fault fault))
   -- a good file within the limits is answered, where no device failed
   pub good : (job : Job) → NamesReader r.words job → ¬ HasReadFault r.input → ¬ HasWriteFault r.out
-      → OfReading r.input (λ call. (t : Entries) (rest : List ℕ) → Reads call.before (end_of job) t rest → length call.before ≤ input_limit → EndsWell job t rest status)
+      → OfReading r.input (λ call. (t : Entries) (rest : List ℕ) → Reads call.before (end_of job) t rest → length call.before ≤ max_input_bytes → EndsWell job t rest status)
+  -- a good file without weights is refused for that by a job that needs them, whatever comes of writes
+  pub unweighed : (job : Job) → NamesReader r.words job → Weighs job → ¬ HasReadFault r.input
+      → OfReading r.input (λ call. (t : Entries) (rest : List ℕ) → Reads call.before (end_of job) t rest → length call.before ≤ max_input_bytes → ComesToNoWeights t status)
   -- what is no good file within the limits is refused by its kind, where no read failed
   pub not_good : (job : Job) → NamesReader r.words job → ¬ HasReadFault r.input
-      → OfReading r.input (λ call. ((t : Entries) (rest : List ℕ) → Reads call.before (end_of job) t rest → ¬ (length call.before ≤ input_limit)) → ((status ≡ statuses.Malformed) ⊎ (status ≡ statuses.Limit)) ⊎ (status ≡ statuses.OutOfMemory))
+      → OfReading r.input (λ call. ((t : Entries) (rest : List ℕ) → Reads call.before (end_of job) t rest → ¬ (length call.before ≤ max_input_bytes)) → ((status ≡ statuses.Malformed) ⊎ (status ≡ statuses.Limit)) ⊎ (status ≡ statuses.OutOfMemory))
   -- more bytes than the input may have are refused for their number, whatever failed, where no line that had ended is bad
   pub too_many : (job : Job) → NamesReader r.words job
       → OfReading r.input (λ call. first_bad (end_of job) call ≡ None → call.room < length (got call) → IsOrNoMemory status statuses.Limit)
   -- so is an input that is too long, where no read failed and no line that ends within the limit is bad
   pub too_long : (job : Job) → NamesReader r.words job → ¬ HasReadFault r.input
-      → OfReading r.input (λ call. input_limit < length call.before → first_fault (end_of job) false (take input_limit call.before) ≡ None → IsOrNoMemory status statuses.Limit)
+      → OfReading r.input (λ call. max_input_bytes < length call.before → first_fault (end_of job) false (take max_input_bytes call.before) ≡ None → IsOrNoMemory status statuses.Limit)
   -- a matrix that is made is answered, whatever the input, where no write failed
   pub made : NameMaker r.words → ¬ HasWriteFault r.out → IsOrNoMemory status statuses.Ok

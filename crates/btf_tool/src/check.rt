@@ -5,14 +5,13 @@ ghost use Rattle.bip_defs.specs.Matrix.{Matrix};
 ghost use Rattle.btf_check.specs.Verdicts.{IsVerdict};
 ghost use Rattle.btf_words.specs.declared.jobs.Job.TheVariants.{Check};
 ghost use Rattle.sp_pattern.specs.Stored.{IsPattern};
-ghost use Rattle.sp_ports.specs.Bytes.{Writes};
-ghost use Rattle.sp_ports.specs.Counts.{HasCause, Rose};
-ghost use Rattle.btf_tool.specs.Devices.{seen};
+ghost use Rattle.sp_ports.specs.Device.{Writes, seen};
 ghost use Rattle.btf_tool.specs.Jobs.{GaveFront, IsMatrixOf, OfReading};
 ghost use Rattle.btf_tool.specs.Judging.{answer_of as answer_on, verdict_text};
 ghost use Rattle.btf_tool.specs.Runs.{JobSays};
 
 use crate::reading::{Followed, read_followed};
+use crate::writing::hand_on;
 use crate::{Answer, Refusal};
 use btf_check::{Verdict, judge};
 use btf_lines::invalid_line;
@@ -32,17 +31,11 @@ pub(crate) fn check<R: Threads + Sync, S: Source, O: Sink>(
     ensures says { JobSays Check (seen S.left S.faults input.old input.new) (seen O.taken O.faults out.old out.new) result }
     ensures gave { OfReading (seen S.left S.faults input.old input.new) GaveFront }
 {
-    let file = match read_followed(alloc, input) {
-        Ok(file) => file,
-        Err(refusal) => return Err(refusal),
-    };
-    let Ok(verdict) = verdict_on(rt, alloc, file) else {
-        return Err(Refusal::OutOfMemory);
-    };
-    match write_answer(out, verdict) {
-        Ok(()) => Ok(answer_of(verdict)),
-        Err(Failed) => Err(Refusal::WriteFault),
-    }
+    let file = read_followed(alloc, input)?;
+    let verdict = verdict_on(rt, alloc, file)?;
+    let written = write_verdict(out, verdict);
+    hand_on(out, written)?;
+    Ok(answer_of(verdict))
 }
 
 /// The verdict on what follows a matrix. The entries are let go once the matrix stands.
@@ -70,21 +63,9 @@ fn answer_of(verdict: Verdict) -> Answer
     }
 }
 
-/// Writes the line of a verdict, and hands it on.
-fn write_answer<O: Sink>(out: &mut O, verdict: Verdict) -> Result<(), Failed>
-    ensures bytes { Writes (O.taken out.old) (O.taken out.new) (verdict_text verdict) result }
-    ensures cause { HasCause (Rose (O.faults out.old) (O.faults out.new)) (O.faults out.old) (O.faults out.new) result }
-{
-    match write_verdict(out, verdict) {
-        Ok(()) => out.flush(),
-        Err(Failed) => Err(Failed),
-    }
-}
-
 /// Writes the line of a verdict.
 fn write_verdict<O: Sink>(out: &mut O, verdict: Verdict) -> Result<(), Failed>
-    ensures bytes { Writes (O.taken out.old) (O.taken out.new) (verdict_text verdict) result }
-    ensures cause { HasCause (Rose (O.faults out.old) (O.faults out.new)) (O.faults out.old) (O.faults out.new) result }
+    ensures { Writes (seen O.taken O.faults out.old out.new) (verdict_text verdict) result }
 {
     match verdict {
         Verdict::Valid => write_all(out, b"valid\n"),

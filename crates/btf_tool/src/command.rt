@@ -2,7 +2,7 @@
 
 ghost use Rattle.std.specs.Prelude.{map, string_bytes};
 ghost use Rattle.btf_words.specs.Words.{HasSizeInRange};
-ghost use Rattle.btf_tool.specs.Devices.{IsUntouched, seen};
+ghost use Rattle.sp_ports.specs.Device.{IsUntouched, seen};
 ghost use Rattle.btf_tool.specs.Jobs.{GaveFront, OfReading, ReadsFile};
 ghost use Rattle.btf_tool.specs.Runs.{Completes, JobSays, NameMaker, Says};
 

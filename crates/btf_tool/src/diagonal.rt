@@ -1,25 +1,22 @@
 //! The job `diagonal`.
 
 ghost use Rattle.std.specs.Prelude.{◌≡◌};
-ghost use Rattle.btf_text.specs.Diagonals.{diagonal_text};
 ghost use Rattle.btf_words.specs.declared.jobs.Job.TheVariants.{Diagonal};
-ghost use Rattle.integer_diagonal.specs.Heaviest.{IsHeaviest};
-ghost use Rattle.sp_ports.specs.Bytes.{Writes};
-ghost use Rattle.sp_ports.specs.Counts.{HasCause, Rose};
-ghost use Rattle.btf_tool.specs.Devices.{seen};
+ghost use Rattle.sp_ports.specs.Device.{seen};
 ghost use Rattle.btf_tool.specs.Diagonals.{answer_on};
 ghost use Rattle.btf_tool.specs.Jobs.{GaveFront, OfReading};
 ghost use Rattle.btf_tool.specs.Refusals.{refusal_without_weights};
 ghost use Rattle.btf_tool.specs.Runs.{JobSays};
 
 use crate::reading::read_file;
+use crate::writing::hand_on;
 use crate::{Answer, Refusal};
 use bip_graph::Heaviest;
 use btf_text::{TextBuf, write_diagonal};
 use integer_diagonal::heaviest;
 use sp_ids::Field;
 use sp_pattern::{Pattern, WeightError, Weights};
-use sp_ports::{Failed, Sink, Source};
+use sp_ports::{Sink, Source};
 use std::alloc::Global;
 use std::thread::Threads;
 
@@ -33,40 +30,28 @@ pub(crate) fn diagonal<R: Threads + Sync, S: Source, O: Sink>(
     ensures says { JobSays Diagonal (seen S.left S.faults input.old input.new) (seen O.taken O.faults out.old out.new) result }
     ensures gave { OfReading (seen S.left S.faults input.old input.new) GaveFront }
 {
-    let triples = match read_file(alloc, input) {
-        Ok(triples) => triples,
-        Err(refusal) => return Err(refusal),
-    };
+    let triples = read_file(alloc, input)?;
     let Field::Integer = triples.field() else {
         return Err(Refusal::NeedsInteger);
     };
-    let Ok(pattern) = Pattern::build(rt, alloc, &triples) else {
-        return Err(Refusal::OutOfMemory);
-    };
-    let weights = match Weights::build(alloc, &pattern, &triples) {
-        Ok(weights) => weights,
-        Err(error) => return Err(refusal_of(error)),
-    };
+    let pattern = Pattern::build(rt, alloc, &triples)?;
+    let weights = Weights::build(alloc, &pattern, &triples)?;
     drop(triples);
-    let Ok(answer) = heaviest(alloc, &pattern, &weights) else {
-        return Err(Refusal::OutOfMemory);
-    };
-    let Ok(mut buf) = TextBuf::new(alloc) else {
-        return Err(Refusal::OutOfMemory);
-    };
-    match write_answer(out, &mut buf, &answer, &pattern, &weights) {
-        Ok(()) => Ok(answer_of(&answer)),
-        Err(Failed) => Err(Refusal::WriteFault),
-    }
+    let answer = heaviest(alloc, &pattern, &weights)?;
+    let mut buf = TextBuf::new(alloc)?;
+    let written = write_diagonal(out, &mut buf, &answer, &pattern, &weights);
+    hand_on(out, written)?;
+    Ok(answer_of(&answer))
 }
 
-/// The refusal of a run over a file that has no weights.
-fn refusal_of(error: WeightError) -> Refusal
-    ensures { result ≡ refusal_without_weights error }
-{
-    match error {
-        WeightError::SumLimit { row, col } => Refusal::SumLimit { row, col },
-        WeightError::OutOfMemory => Refusal::OutOfMemory,
+impl From<WeightError> for Refusal {
+    ghost from_gives = { λ error refusal. refusal ≡ refusal_without_weights error };
+
+    fn from(error: WeightError) -> Refusal {
+        match error {
+            WeightError::SumLimit { row, col } => Refusal::SumLimit { row, col },
+            WeightError::OutOfMemory => Refusal::OutOfMemory,
+        }
     }
 }
 
@@ -77,24 +62,5 @@ fn answer_of(heaviest: &Heaviest) -> Answer
     match heaviest {
         Heaviest::Diagonal { .. } => Answer::Positive,
         Heaviest::Rectangular | Heaviest::Singular { .. } => Answer::Negative,
-    }
-}
-
-/// Writes the text of the answer, and hands it on.
-fn write_answer<O: Sink>(
-    out: &mut O,
-    buf: &mut TextBuf,
-    answer: &Heaviest,
-    pattern: &Pattern,
-    weights: &Weights,
-) -> Result<(), Failed>
-    requires of { weights.now.matrix ≡ pattern.now }
-    requires heaviest { IsHeaviest weights.now answer.now }
-    ensures bytes { Writes (O.taken out.old) (O.taken out.new) (diagonal_text weights.now answer.now) result }
-    ensures cause { HasCause (Rose (O.faults out.old) (O.faults out.new)) (O.faults out.old) (O.faults out.new) result }
-{
-    match write_diagonal(out, buf, answer, pattern, weights) {
-        Ok(()) => out.flush(),
-        Err(Failed) => Err(Failed),
     }
 }

@@ -1,8 +1,8 @@
 //! The choice of the search that finds a maximum matching.
 
-ghost use Rattle.std.specs.Prelude.{◌≡◌, ◌≤◌, IfOk};
-ghost use Rattle.bip_defs.specs.Matching.{IsMaximum};
-ghost use Rattle.bip_defs.specs.Matrix.{cols};
+ghost use Rattle.std.specs.Prelude.{◌≤◌, IfOk};
+ghost use Rattle.bip_graph.specs.Pairing.{IsMaximumOf};
+ghost use Rattle.sp_ids.specs.Limits.{max_workers};
 
 use bip_graph::Matching;
 use btf_words::Engine;
@@ -27,10 +27,8 @@ pub fn solve<R: Threads + Sync, G: Gate>(
     _gate: &G,
 ) -> Result<Matching, OutOfMemory>
     requires some { 1 ≤ _workers }
-    requires few { _workers ≤ 64 }
-    ensures maximum { IfOk result (λ m. IsMaximum pattern.now m.pairs) }
-    ensures rows { IfOk result (λ m. m.rows ≡ pattern.now.rows) }
-    ensures cols { IfOk result (λ m. m.cols ≡ cols pattern.now) }
+    requires few { _workers ≤ max_workers }
+    ensures maximum { IfOk result (λ m. IsMaximumOf pattern.now m) }
 {
     match engine {
         Engine::Plain => {

@@ -14,6 +14,7 @@ mod neighbours;
 mod rank;
 mod reading;
 mod refusals;
+mod writing;
 
 pub use answers::Answer;
 pub use btf_words::Engine;

@@ -1,15 +1,11 @@
 //! The job `rank`.
 
-ghost use Rattle.std.specs.Prelude.{◌≡◌, IfOk};
+ghost use Rattle.std.specs.Prelude.{IfOk};
 ghost use Rattle.bip_defs.specs.Lists.{Lists};
-ghost use Rattle.bip_defs.specs.Matching.{IsMaximum};
-ghost use Rattle.bip_defs.specs.Matrix.{cols};
 ghost use Rattle.bip_defs.specs.Parts.{IsHorizontalCol};
-ghost use Rattle.bip_graph.specs.Texts.{rank_text, sizes_of};
+ghost use Rattle.bip_graph.specs.Pairing.{IsMaximumOf};
 ghost use Rattle.btf_words.specs.declared.jobs.Job.TheVariants.{Rank};
-ghost use Rattle.sp_ports.specs.Bytes.{Writes};
-ghost use Rattle.sp_ports.specs.Counts.{HasCause, Rose};
-ghost use Rattle.btf_tool.specs.Devices.{seen};
+ghost use Rattle.sp_ports.specs.Device.{seen};
 ghost use Rattle.btf_tool.specs.Jobs.{GaveFront, OfReading};
 ghost use Rattle.btf_tool.specs.Ranks.{IsRankOf};
 ghost use Rattle.btf_tool.specs.Runs.{JobSays};
@@ -17,6 +13,7 @@ ghost use Rattle.btf_tool.specs.Runs.{JobSays};
 use crate::engines::solve;
 use crate::neighbours::neighbours;
 use crate::reading::read_file;
+use crate::writing::hand_on;
 use crate::{Answer, Refusal};
 use bip_graph::Matching;
 use btf_text::{TextBuf, write_rank};
@@ -24,7 +21,7 @@ use btf_words::Engine;
 use hall_witness::{Reach, reach};
 use sp_ids::{Col, OutOfMemory, Row, Triples};
 use sp_pattern::Pattern;
-use sp_ports::{Failed, Gate, Sink, Source};
+use sp_ports::{Gate, Sink, Source};
 use std::alloc::Global;
 use std::thread::Threads;
 
@@ -48,20 +45,13 @@ pub(crate) fn rank<R: Threads + Sync, S: Source, O: Sink, G: Gate>(
     ensures says { JobSays Rank (seen S.left S.faults input.old input.new) (seen O.taken O.faults out.old out.new) result }
     ensures gave { OfReading (seen S.left S.faults input.old input.new) GaveFront }
 {
-    let triples = match read_file(alloc, input) {
-        Ok(triples) => triples,
-        Err(refusal) => return Err(refusal),
-    };
-    let Ok(answer) = rank_of(rt, alloc, triples, gate) else {
-        return Err(Refusal::OutOfMemory);
-    };
-    let Ok(mut buf) = TextBuf::new(alloc) else {
-        return Err(Refusal::OutOfMemory);
-    };
-    match write_answer(out, &mut buf, &answer) {
-        Ok(()) => Ok(Answer::Positive),
-        Err(Failed) => Err(Refusal::WriteFault),
-    }
+    let triples = read_file(alloc, input)?;
+    let answer = rank_of(rt, alloc, triples, gate)?;
+    let mut buf = TextBuf::new(alloc)?;
+    let (rows, cols) = (answer.rows.as_slice(), answer.cols.as_slice());
+    let written = write_rank(out, &mut buf, &answer.pattern, answer.rank, rows, cols);
+    hand_on(out, written)?;
+    Ok(Answer::Positive)
 }
 
 /// The rank and the horizontal part of the matrix of these entries, which are let go once the matrix stands.
@@ -94,27 +84,11 @@ fn horizontal_cols(
     pattern: &Pattern,
     matching: &Matching,
 ) -> Result<Vec<Col>, OutOfMemory>
-    requires rows { matching.now.rows ≡ pattern.now.rows }
-    requires cols { matching.now.cols ≡ cols pattern.now }
-    requires maximum { IsMaximum pattern.now matching.now.pairs }
+    requires { IsMaximumOf pattern.now matching.now }
     ensures { IfOk result (λ w. Lists (IsHorizontalCol pattern.now) w.items) }
 {
-    match reach(alloc, pattern, matching) {
-        Ok(Reach::Witness(cols)) => Ok(cols),
-        Ok(Reach::Path(_)) => unreachable!(),
-        Err(OutOfMemory) => Err(OutOfMemory),
-    }
-}
-
-/// Writes the text of the answer, and hands it on.
-fn write_answer<O: Sink>(out: &mut O, buf: &mut TextBuf, answer: &RankAnswer) -> Result<(), Failed>
-    ensures bytes { Writes (O.taken out.old) (O.taken out.new) (rank_text (sizes_of answer.now.pattern) answer.now.rank answer.now.rows.items answer.now.cols.items) result }
-    ensures cause { HasCause (Rose (O.faults out.old) (O.faults out.new)) (O.faults out.old) (O.faults out.new) result }
-{
-    let rows = answer.rows.as_slice();
-    let cols = answer.cols.as_slice();
-    match write_rank(out, buf, &answer.pattern, answer.rank, rows, cols) {
-        Ok(()) => out.flush(),
-        Err(Failed) => Err(Failed),
+    match reach(alloc, pattern, matching)? {
+        Reach::Witness(cols) => Ok(cols),
+        Reach::Path(_) => unreachable!(),
     }
 }

@@ -2,8 +2,9 @@
 
 ghost use Rattle.std.specs.Prelude.{◌≡◌, [], true, false, IfErr, IfOk};
 ghost use Rattle.mm_defs.specs.declared.answers.End.TheVariants.{File, LastEntry};
-ghost use Rattle.btf_tool.specs.Devices.{HasNotFallen, seen};
-ghost use Rattle.btf_tool.specs.Jobs.{GaveFront, OfReading, input_limit};
+ghost use Rattle.sp_ids.specs.Limits.{max_input_bytes};
+ghost use Rattle.sp_ports.specs.Device.{FailsOnceAtMost, seen};
+ghost use Rattle.btf_tool.specs.Jobs.{GaveFront, OfReading};
 ghost use Rattle.btf_tool.specs.Refusals.{refusal_for};
 ghost use Rattle.btf_tool.specs.Runs.{IsReadAs, IsUnread};
 
@@ -25,54 +26,44 @@ pub(crate) struct Followed {
 pub(crate) fn read_file<S: Source>(alloc: Global, input: &mut S) -> Result<Triples, Refusal>
     ensures read { IfOk result (λ t. IsReadAs File (seen S.left S.faults input.old input.new) t []) }
     ensures unread { IfErr result (IsUnread File (seen S.left S.faults input.old input.new)) }
-    ensures later { HasNotFallen (seen S.left S.faults input.old input.new) }
+    ensures counts { FailsOnceAtMost (seen S.left S.faults input.old input.new) }
     ensures gave { OfReading (seen S.left S.faults input.old input.new) GaveFront }
 {
-    let Ok(mut bytes) = new_input(alloc) else {
-        return Err(Refusal::OutOfMemory);
-    };
-    match read_matrix(alloc, &mut bytes, input, End::File) {
-        Ok(triples) => Ok(triples),
-        Err(error) => Err(refusal(error)),
-    }
+    let mut bytes = new_input(alloc)?;
+    Ok(read_matrix(alloc, &mut bytes, input, End::File)?)
 }
 
 /// Reads the matrix file with which the input begins, up to its last entry line, and then all that follows.
 pub(crate) fn read_followed<S: Source>(alloc: Global, input: &mut S) -> Result<Followed, Refusal>
     ensures read { IfOk result (λ f. IsReadAs LastEntry (seen S.left S.faults input.old input.new) f.triples f.rest.items) }
     ensures unread { IfErr result (IsUnread LastEntry (seen S.left S.faults input.old input.new)) }
-    ensures later { HasNotFallen (seen S.left S.faults input.old input.new) }
+    ensures counts { FailsOnceAtMost (seen S.left S.faults input.old input.new) }
     ensures gave { OfReading (seen S.left S.faults input.old input.new) GaveFront }
 {
-    let Ok(mut bytes) = new_input(alloc) else {
-        return Err(Refusal::OutOfMemory);
-    };
-    let triples = match read_matrix(alloc, &mut bytes, input, End::LastEntry) {
-        Ok(triples) => triples,
-        Err(error) => return Err(refusal(error)),
-    };
-    match read_rest(alloc, &mut bytes, input) {
-        Ok(rest) => Ok(Followed { triples, rest }),
-        Err(error) => Err(refusal(error)),
-    }
+    let mut bytes = new_input(alloc)?;
+    let triples = read_matrix(alloc, &mut bytes, input, End::LastEntry)?;
+    let rest = read_rest(alloc, &mut bytes, input)?;
+    Ok(Followed { triples, rest })
 }
 
 /// An input before its first byte, with the limit on its bytes.
 fn new_input(alloc: Global) -> Result<Input, OutOfMemory>
-    ensures { IfOk result (λ input. input ≡ record { limit = input_limit; taken = 0; ahead = []; at_end = false; lines = 0; good = true }) }
+    ensures { IfOk result (λ input. input ≡ record { limit = max_input_bytes; taken = 0; ahead = []; at_end = false; lines = 0; good = true }) }
 {
     Input::new(alloc, MAX_INPUT_BYTES)
 }
 
-/// The refusal of a run whose input could not be read.
-fn refusal(error: ReadError) -> Refusal
-    ensures { result ≡ refusal_for error }
-{
-    match error {
-        ReadError::Malformed { line, kind } => Refusal::Malformed { line, kind },
-        ReadError::Limit { line, kind } => Refusal::Limit { line, kind },
-        ReadError::TooLong => Refusal::TooLong,
-        ReadError::ReadFault => Refusal::ReadFault,
-        ReadError::OutOfMemory => Refusal::OutOfMemory,
+impl From<ReadError> for Refusal {
+    ghost from_gives = { λ error refusal. refusal ≡ refusal_for error };
+
+    /// Where an input could not be read.
+    fn from(error: ReadError) -> Refusal {
+        match error {
+            ReadError::Malformed { line, kind } => Refusal::Malformed { line, kind },
+            ReadError::Limit { line, kind } => Refusal::Limit { line, kind },
+            ReadError::TooLong => Refusal::TooLong,
+            ReadError::ReadFault => Refusal::ReadFault,
+            ReadError::OutOfMemory => Refusal::OutOfMemory,
+        }
     }
 }

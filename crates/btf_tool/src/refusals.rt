@@ -1,13 +1,14 @@
 //! Why a run is refused, and how that is told.
 
 ghost use Rattle.std.specs.Prelude.{◌≡◌};
+ghost use Rattle.btf_tool.specs.declared.refusals.Refusal.TheVariants.{OutOfMemory as NoMemory, WriteFault};
 ghost use Rattle.btf_tool.specs.Refusals.{status_of, line_of};
-ghost use Rattle.btf_tool.specs.Devices.{WasTold, seen};
+ghost use Rattle.sp_ports.specs.Device.{WroteAsFar, seen};
 
 use btf_lines::{limit_line, malformed_line, sum_limit_line};
 use btf_words::usage_line;
 use mm_defs::Kind;
-use sp_ids::{Col, Row, Status};
+use sp_ids::{Col, OutOfMemory, Row, Status};
 use sp_ports::{Failed, Sink, write_all};
 
 /// Why a run is refused.
@@ -34,6 +35,23 @@ pub enum Refusal {
     OutOfMemory,
 }
 
+impl From<OutOfMemory> for Refusal {
+    ghost from_gives = { λ _ refusal. refusal ≡ NoMemory };
+
+    fn from(_refused: OutOfMemory) -> Refusal {
+        Refusal::OutOfMemory
+    }
+}
+
+impl From<Failed> for Refusal {
+    ghost from_gives = { λ _ refusal. refusal ≡ WriteFault };
+
+    /// Where an answer is written.
+    fn from(_failed: Failed) -> Refusal {
+        Refusal::WriteFault
+    }
+}
+
 impl Refusal {
     /// The status with which the run ends.
     pub fn status(&self) -> Status
@@ -52,7 +70,7 @@ impl Refusal {
 
     /// Tells it by its one line. What the device does with the line changes nothing else.
     pub(crate) fn tell<E: Sink>(&self, err: &mut E)
-        ensures { WasTold (seen E.taken E.faults err.old err.new) (line_of self.now) }
+        ensures { WroteAsFar (seen E.taken E.faults err.old err.new) (line_of self.now) }
     {
         match self {
             Refusal::Usage => put(err, usage_line().as_bytes()),
@@ -70,7 +88,7 @@ impl Refusal {
 
 /// Writes a line, or as much of it as the device takes.
 fn put<E: Sink>(err: &mut E, line: &[u8])
-    ensures { WasTold (seen E.taken E.faults err.old err.new) line.now }
+    ensures { WroteAsFar (seen E.taken E.faults err.old err.new) line.now }
 {
     match write_all(err, line) {
         Ok(()) => {}
@@ -83,7 +101,7 @@ fn put<E: Sink>(err: &mut E, line: &[u8])
 /// What the device does with the line changes nothing else. It takes no memory.
 pub fn refuse<E: Sink>(err: &mut E, refusal: &Refusal) -> Status
     ensures status { result ≡ status_of refusal.now }
-    ensures told { WasTold (seen E.taken E.faults err.old err.new) (line_of refusal.now) }
+    ensures told { WroteAsFar (seen E.taken E.faults err.old err.new) (line_of refusal.now) }
 {
     refusal.tell(err);
     refusal.status()

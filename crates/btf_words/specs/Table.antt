@@ -6,6 +6,7 @@ use Rattle.clap.specs.Words.{App, Rule, Shape, Text, new_rule}
 use Rattle.clap.specs.Simple.{new_shape}
 use Rattle.clap.specs.declared.builder.action.ArgAction.TheVariants.{Set, SetTrue}
 use Rattle.clap.specs.declared.builder.value_parser.ValueParser.TheVariants as vp
+use Rattle.sp_ids.specs.Limits.{max_load_seed, max_load_size}
 
 -- ---- the engines' names
 
@@ -50,18 +51,11 @@ order_rule = flag_rule (codes "order")
 abbrev pub pairs_rule : Rule
 pairs_rule = flag_rule (codes "pairs")
 
--- how large a matrix that is made from a number may be, and how large the number
-abbrev pub max_size : ℕ
-max_size = 16777216
-
-abbrev pub max_seed : ℕ
-max_seed = 18446744073709551615
-
 abbrev pub size_rule : Rule
-size_rule = number_rule (codes "size") 1 max_size
+size_rule = number_rule (codes "size") 1 max_load_size
 
 abbrev pub seed_rule : Rule
-seed_rule = number_rule (codes "seed") 0 max_seed
+seed_rule = number_rule (codes "seed") 0 max_load_seed
 
 -- ---- commands
 

@@ -6,7 +6,8 @@ use Rattle.std.specs.Str.{bytes_eq}
 use Rattle.std.specs.Str.Parse.{digits_value, without_leading_plus}
 use Rattle.clap.specs.Words.{Row, Text, fault_of, first_of, subcommand_of}
 use Rattle.clap.specs.ValueTests.{is_unsigned_in}
-use Rattle.btf_words.specs.Table.{Names, btf, btf_over, default_engine, max_seed, max_size}
+use Rattle.sp_ids.specs.Limits.{max_load_seed, max_load_size}
+use Rattle.btf_words.specs.Table.{Names, btf, btf_over, default_engine}
 use Rattle.btf_words.specs.declared.jobs.Engine.{Engine}
 use Rattle.btf_words.specs.declared.jobs.Engine.TheVariants.{Plain, Mc21, Pf}
 use Rattle.btf_words.specs.declared.jobs.Job.{Job}
@@ -49,8 +50,8 @@ job_from m = if bytes_eq m.0 (codes "rank") then Some Rank
     else (if bytes_eq m.0 (codes "diagonal") then Some Diagonal
     else (if bytes_eq m.0 (codes "check") then Some Check
     else (if bytes_eq m.0 (codes "load")
-    then Some (Load (number_in 1 max_size (codes "size") m.1)
-    (number_in 0 max_seed (codes "seed") m.1) (engine_in m.1))
+    then Some (Load (number_in 1 max_load_size (codes "size") m.1)
+    (number_in 0 max_load_seed (codes "seed") m.1) (engine_in m.1))
     else None))))
 
 -- the job that the words name: that of the command that they enter, by clap's definitions
@@ -65,5 +66,5 @@ ReadsAlike names words = (fault_of (btf_over names) words ≡ fault_of btf words
 
 -- the matrix that a job makes is within the limits
 abbrev pub HasSizeInRange : Job → Type 0
-HasSizeInRange (Load size seed engine) = (1 ≤ size) × (size ≤ max_size)
+HasSizeInRange (Load size seed engine) = (1 ≤ size) × (size ≤ max_load_size)
 HasSizeInRange _ = ⊤

@@ -2,7 +2,8 @@
 
 ghost use Rattle.std.specs.Prelude.{◌≡◌, ◌≤◌, List, IfOk, IfSome, IsErrOf, Some, codes, map, option_and_then, option_map, string_bytes};
 ghost use Rattle.clap.specs.Words.{Text, first_of, found_of, rows_of, subcommand_rows_of};
-ghost use Rattle.btf_words.specs.Table.{Names, engine_names, max_seed, max_size, texts_of};
+ghost use Rattle.sp_ids.specs.Limits.{max_load_seed, max_load_size};
+ghost use Rattle.btf_words.specs.Table.{Names, engine_names, texts_of};
 ghost use Rattle.btf_words.specs.Words.{AreTaken, HasSizeInRange, ReadsAlike, engine_in, engine_named as engine_of_name, is_given, job_from, job_of, number_in, number_within};
 ghost use Rattle.btf_words.specs.declared.jobs.Job.{Job as JobValue};
 
@@ -121,14 +122,14 @@ fn flag_of(options: &ArgMatches<'_>, name: &str) -> bool
 }
 
 fn size_of(options: &ArgMatches<'_>) -> u32
-    ensures number { result ≡ number_in 1 max_size (codes "size") (rows_of (found_of options.now)) }
-    ensures range { (1 ≤ result) × (result ≤ max_size) }
+    ensures number { result ≡ number_in 1 max_load_size (codes "size") (rows_of (found_of options.now)) }
+    ensures range { (1 ≤ result) × (result ≤ max_load_size) }
 {
     number_of(options, "size", 1, u64::from(MAX_LOAD_SIZE)) as u32
 }
 
 fn seed_of(options: &ArgMatches<'_>) -> u64
-    ensures { result ≡ number_in 0 max_seed (codes "seed") (rows_of (found_of options.now)) }
+    ensures { result ≡ number_in 0 max_load_seed (codes "seed") (rows_of (found_of options.now)) }
 {
     number_of(options, "seed", 0, u64::MAX)
 }

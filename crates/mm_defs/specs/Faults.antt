@@ -1,6 +1,7 @@
 -- The kinds of faults, line by line, each list in the order in which the kinds are tried.
 use Rattle.std.specs.Prelude.{ℕ, Bool, true, false, if◌then◌else◌, ◌==◌, ◌+◌, ◌&&◌, ◌||◌, not, nat_lt, List, [], ◌∷◌, ◌++◌, length, codes, Option, Some, None, is_none}
 use Rattle.std.specs.Str.{bytes_eq}
+use Rattle.sp_ids.specs.Limits.{max_cols, max_entry_lines, max_rows, max_value}
 use Rattle.sp_ids.specs.declared.triples.Field as field
 use Rattle.mm_defs.specs.declared.header.Header.{Header}
 use Rattle.mm_defs.specs.declared.header.Size.{Size}
@@ -36,9 +37,9 @@ banner_rules ws =
 
 abbrev pub size_limits : Header → Size → List Rule
 size_limits h s =
-    (Rows, nat_lt 16777216 s.rows)
-    ∷ (Columns, nat_lt 16777216 s.cols)
-    ∷ (Entries, nat_lt 134217728 s.count)
+    (Rows, nat_lt max_rows s.rows)
+    ∷ (Columns, nat_lt max_cols s.cols)
+    ∷ (Entries, nat_lt max_entry_lines s.count)
     ∷ (NotSquare, not (is_general h.symmetry) && not (s.rows == s.cols))
     ∷ []
 
@@ -54,7 +55,7 @@ is_outside limit n = (n == 0) || nat_lt limit n
 abbrev pub value_rules : field.Field → Word → List Rule
 value_rules f w =
     (ValueNumber, is_integer_field f && not (is_integer w))
-    ∷ (Value, is_integer_field f && nat_lt 9223372036854775807 (magnitude w))
+    ∷ (Value, is_integer_field f && nat_lt max_value (magnitude w))
     ∷ []
 
 abbrev pub triangle_rules : symmetry.Symmetry → ℕ → ℕ → List Rule

@@ -1,6 +1,5 @@
 -- What a call on an input was given, and what its answers say.
-use Rattle.std.specs.Prelude.{◌≡◌, ◌≢◌, ℕ, Bool, true, false, not, ◌==◌, ◌&&◌, ◌+◌, ◌-◌, ◌<◌, ◌≤◌, nat_le, List, [], ◌++◌, length, take, Option, Some, None, Result, Ok, Err, OnOk}
-use Rattle.std.specs.Result.{IsErrOf}
+use Rattle.std.specs.Prelude.{◌≡◌, ◌≢◌, ℕ, Bool, true, false, not, ◌==◌, ◌&&◌, ◌+◌, ◌-◌, ◌<◌, ◌≤◌, nat_le, List, [], ◌++◌, length, take, Option, Some, None, Result, Ok, Err}
 use Rattle.sp_ids.specs.Entries as entries
 use Rattle.mm_defs.specs.declared.answers.End.{End}
 use Rattle.mm_defs.specs.declared.answers.End.TheVariants.{File, LastEntry}
@@ -155,12 +154,6 @@ call_on input failures_before failures_after before after = record {
   failures_before = failures_before;
   failures_after = failures_after;
 }
-
--- The count of failures never falls. Ok leaves it as it was, and ReadFault is answered only where it rose.
-pub record Causes {T : Type 0} (rose : Type 0) (before now : ℕ) (result : Result T ReadError) : Type 0 where
-  pub later : before ≤ now
-  pub steady : OnOk result (now ≡ before)
-  pub failed : IsErrOf result errors.ReadFault → rose
 
 -- it refuses the bytes for what they are
 abbrev pub IsRefusal : {T : Type 0} → Result T ReadError → Type 0

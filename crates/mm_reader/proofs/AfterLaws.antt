@@ -3,7 +3,7 @@ use Rattle.std.proofs.Common.{◌≡◌, ◌≢◌, ℕ, true, false, List, [], 
 use Rattle.sp_ids.specs.Entries as entries
 use Rattle.mm_defs.specs.declared.answers.End.{End}
 use Rattle.mm_defs.specs.declared.answers.End.TheVariants.{File, LastEntry}
-use Rattle.mm_defs.specs.Words.{is_lf, lines, open_line, has_bytes}
+use Rattle.mm_defs.specs.Words.{is_lf, lines, open_line}
 use Rattle.mm_defs.proofs.Lines.{lines-none, open_line-none, lines-push_lf, open_line-push_lf, lines-push, open_line-push}
 use Rattle.mm_defs.proofs.Roles.{line_faults-none}
 use Rattle.mm_reader.specs.declared.line.LineSoFar.{LineSoFar}

@@ -1,21 +1,19 @@
 -- How a reading ends, of a source that may tell its bytes.
-use Rattle.std.proofs.Common.{◌≡◌, ◌≢◌, ℕ, ◌+◌, ◌-◌, ◌*◌, ◌<◌, ◌≤◌, Bool, true, false, ◌==◌, if◌then◌else◌, List, [], ◌∷◌, ◌++◌, length, take, drop, count_by, refl, sym, ap, ◌∙◌, arith, append-nil, append_assoc, length-append, take-append-drop, length-take-le, length-drop, Option, Some, None, Result, Ok, Err, OnOk, MatchResult, eq-eqb, ne_eqb}
-use Rattle.std.proofs.lemmas.List.Sums.{sum_by-append}
+use Rattle.std.proofs.Common.{◌≡◌, ◌≢◌, ℕ, ◌+◌, ◌-◌, ◌*◌, ◌<◌, ◌≤◌, Bool, true, false, ◌==◌, if◌then◌else◌, List, [], ◌++◌, length, drop, refl, sym, ap, ◌∙◌, arith, length-drop, Option, Some, None, Result, Ok, Err, OnOk, MatchResult, eq-eqb, ne_eqb}
 use Rattle.sp_ids.specs.Entries as entries
 use Rattle.sp_ports.specs.Bytes.{Gives, IsAtEnd, WhereTold}
-use Rattle.sp_ports.specs.Counts.{SourceRose}
+use Rattle.sp_ports.specs.Device.{SourceRose}
 use Rattle.mm_defs.specs.declared.answers.End.{End}
 use Rattle.mm_defs.specs.declared.answers.ReadError.{ReadError}
 use Rattle.mm_defs.specs.declared.answers.ReadError.TheVariants as errors
 use Rattle.mm_defs.specs.declared.answers.End.TheVariants.{File, LastEntry}
-use Rattle.mm_defs.specs.Reading.{HasItsKind, TakesAtMostOnePast, got}
-use Rattle.mm_defs.specs.Words.{is_lf, has_bytes, lines, open_line}
-use Rattle.mm_defs.proofs.Behind.{length-lines}
+use Rattle.mm_defs.specs.Reading.{HasItsKind}
+use Rattle.mm_defs.specs.Words.{lines, open_line}
 use Rattle.mm_reader.specs.declared.machine.Machine.{Machine}
 use Rattle.mm_reader.specs.declared.machine.Phase.{Phase}
 use Rattle.mm_reader.specs.declared.window.Window.{Window}
 use Rattle.mm_reader.specs.Machine.{is_complete}
-use Rattle.mm_reader.specs.Standing.{begun_lines, IsAfter, IsWhole}
+use Rattle.mm_reader.specs.Standing.{IsAfter, IsWhole}
 use Rattle.mm_reader.specs.Windows.{ahead_of, call_of, Answers, IsWindow, Refuses, RefusesAtEnd}
 use Rattle.mm_reader.proofs.CompleteLaws.{complete_reads}
 use Rattle.mm_reader.proofs.Lacking.{lacks_lines}

@@ -1,5 +1,5 @@
 -- From what is kept of a line to the rules on it.
-use Rattle.std.proofs.Common.{◌≡◌, ◌≢◌, ℕ, ℤ, ◌+◌, ◌-◌, ◌≤◌, Bool, true, false, ◌==◌, List, [], ◌∷◌, ◌++◌, length, refl, ◌∙◌, arith, Some, None, Result, Ok, Err, ne_eqb, le-ltb}
+use Rattle.std.proofs.Common.{◌^◌, ◌<◌, ◌≡◌, ◌≢◌, ℕ, ℤ, ◌+◌, ◌-◌, ◌≤◌, Bool, true, false, ◌==◌, List, [], ◌∷◌, ◌++◌, length, refl, ◌∙◌, arith, Some, None, Result, Ok, Err, ne_eqb, le-ltb}
 use Rattle.sp_ids.specs.Entries.{Triple}
 use Rattle.mm_defs.specs.declared.header.Header.{Header}
 use Rattle.mm_defs.specs.declared.header.Size.{Size}
@@ -41,7 +41,7 @@ first_some : (front bs : List Rule) (x : Kind) → first_kind front ≡ Some x �
 first_some [] bs x h = absurd cc
 first_some ((k, b) ∷ front) bs x h = some_then k b front bs x (first_some front bs x) h
 
-inside : (limit n row : ℕ) → row ≡ capped n → row ≢ 0 → row ≤ limit → limit ≤ 16777216 → is_outside limit n ≡ false
+inside : (limit n row : ℕ) → row ≡ capped n → row ≢ 0 → row ≤ limit → limit < 2 ^ 63 → is_outside limit n ≡ false
 inside limit n row e some low small =
     let a : n ≢ 0 = omega arith in
     let b : n ≤ limit = omega arith in
@@ -53,12 +53,12 @@ module _ (h : Header) (s : Size) (within : IsWithin h s) (row col i j : ℕ) (w 
   placed : (r : Result Entry Kind) → JudgedEntry (value_rules h.field w ++ triangle_rules h.symmetry i j) (triple_at h.field i j w) r
       → JudgedEntry (place_rules h s i j w) (triple_at h.field i j w) r
   placed (Ok e) k =
-      let a = inside s.rows i row row_is row_some row_low within.rows in
-      let b = inside s.cols j col col_is col_some col_low within.cols in
+      let a = inside s.rows i row row_is row_some row_low (omega (arith, within.rows)) in
+      let b = inside s.cols j col col_is col_some col_low (omega (arith, within.cols)) in
       (rw (a, b) k.0, k.1)
   placed (Err kind) k =
-      let a = inside s.rows i row row_is row_some row_low within.rows in
-      let b = inside s.cols j col col_is col_some col_low within.cols in
+      let a = inside s.rows i row row_is row_some row_low (omega (arith, within.rows)) in
+      let b = inside s.cols j col col_is col_some col_low (omega (arith, within.cols)) in
       rw (a, b) k
 
   pub numbers : (row ≡ i) × (col ≡ j)

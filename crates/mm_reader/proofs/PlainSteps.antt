@@ -4,7 +4,7 @@ use Rattle.mm_defs.specs.declared.answers.End.{End}
 use Rattle.mm_defs.specs.declared.answers.End.TheVariants.{File, LastEntry}
 use Rattle.mm_defs.specs.declared.header.Header.{Header}
 use Rattle.mm_defs.specs.declared.header.Size.{Size}
-use Rattle.mm_defs.specs.Words.{has_bytes, lines, open_line}
+use Rattle.mm_defs.specs.Words.{lines, open_line}
 use Rattle.mm_defs.specs.File.{later_lines, line_faults}
 use Rattle.sp_ids.specs.Entries as entries
 use Rattle.mm_reader.specs.declared.plain.PlainLine.{PlainLine}

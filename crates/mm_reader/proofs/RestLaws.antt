@@ -1,7 +1,7 @@
 -- Reading all that follows, of a source that may tell its bytes.
 use Rattle.std.proofs.Common.{◌≡◌, ℕ, ◌-◌, ◌<◌, ◌≤◌, List, [], ◌++◌, length, refl, sym, ap, ◌∙◌, arith, append-nil, Option, Some, None, Result, Err}
 use Rattle.sp_ports.specs.Bytes.{IsAtEnd, WhereTold}
-use Rattle.sp_ports.specs.Counts.{SourceRose}
+use Rattle.sp_ports.specs.Device.{SourceRose}
 use Rattle.mm_defs.specs.declared.answers.End.TheVariants.{File}
 use Rattle.mm_defs.specs.declared.answers.ReadError.{ReadError}
 use Rattle.mm_defs.specs.declared.answers.ReadError.TheVariants as errors

@@ -1,6 +1,11 @@
 -- What callers see of an input.
-use Rattle.std.specs.Prelude.{◌≤◌, ◌+◌, ◌-◌, length}
-use Rattle.mm_defs.specs.Reading.{Intake}
+use Rattle.std.specs.Prelude.{◌≤◌, ◌+◌, ◌-◌, length, Result, OnOk}
+use Rattle.std.specs.Result.{IsErrOf}
+use Rattle.sp_ports.specs.Bytes.{WhereTold}
+use Rattle.sp_ports.specs.Device.{Device, FailsOnceAtMost, HasReadFault, IsSteady}
+use Rattle.mm_defs.specs.declared.answers.ReadError.{ReadError}
+use Rattle.mm_defs.specs.declared.answers.ReadError.TheVariants.{ReadFault}
+use Rattle.mm_defs.specs.Reading.{Call, Intake, call_on}
 use Rattle.mm_reader.specs.declared.input.Input.TheInside.{Inside}
 use Rattle.mm_reader.specs.Windows.{ahead_of, IsWindow}
 
@@ -19,3 +24,14 @@ pub record IsInput (i : Inside) : Type 0 where
   pub window : IsWindow i.window
   pub room : i.window.room ≤ i.limit
   pub lines : i.window.lines + i.window.room ≤ i.limit
+
+-- what holds of a call on an input, where its source tells its bytes
+abbrev pub OnCall : Intake → Device → (Call → Type 0) → Type 0
+OnCall input source P = WhereTold source.before source.after
+    (λ before after. P (call_on input source.failed_before source.failed_after before after))
+
+-- At Ok no read of the source has failed, and ReadFault is answered only where one has. None is made after it.
+pub record FailsByReadFault {T : Type 0} (source : Device) (result : Result T ReadError) : Type 0 where
+  pub counts : FailsOnceAtMost source
+  pub steady : OnOk result (IsSteady source)
+  pub failed : IsErrOf result ReadFault → HasReadFault source

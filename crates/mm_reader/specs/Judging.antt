@@ -1,6 +1,7 @@
 -- What a line is found to be.
 use Rattle.std.specs.Prelude.{◌≡◌, ◌≤◌, false, List, Option, Some, None, Result, Ok, Err}
 use Rattle.sp_ids.specs.Entries.{Triple}
+use Rattle.sp_ids.specs.Limits.{max_cols, max_entry_lines, max_rows}
 use Rattle.mm_defs.specs.declared.kinds.Kind.{Kind}
 use Rattle.mm_defs.specs.declared.header.Header.{Header}
 use Rattle.mm_defs.specs.declared.header.Size.{Size}
@@ -27,7 +28,7 @@ Passes rules found = first_kind rules ≡ found
 
 -- the sizes are within the limits, and equal where a mirror may come
 pub record IsWithin (h : Header) (s : Size) : Type 0 where
-  pub rows : s.rows ≤ 16777216
-  pub cols : s.cols ≤ 16777216
-  pub count : s.count ≤ 134217728
+  pub rows : s.rows ≤ max_rows
+  pub cols : s.cols ≤ max_cols
+  pub count : s.count ≤ max_entry_lines
   pub square : is_general h.symmetry ≡ false → s.rows ≡ s.cols

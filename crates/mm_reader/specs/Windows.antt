@@ -1,15 +1,16 @@
 -- The bytes of a source that were taken and are not used yet.
-use Rattle.std.specs.Prelude.{◌≡◌, ◌≤◌, ◌<◌, ◌+◌, ◌-◌, ◌^◌, ℕ, Bool, true, false, List, [], ◌++◌, length, take, drop, vec_len, if◌then◌else◌, Option, Some, Result, OnOk}
+use Rattle.std.specs.Prelude.{◌≡◌, ◌≤◌, ◌<◌, ◌+◌, ◌-◌, ◌^◌, ℕ, Bool, true, false, List, [], ◌++◌, length, take, drop, vec_len, if◌then◌else◌, Some, Result}
 use Rattle.std.specs.List.{count_by}
 use Rattle.sp_ids.specs.Entries as entries
-use Rattle.sp_ports.specs.Bytes.{Gives}
+use Rattle.sp_ports.specs.Bytes.{WhereTold}
+use Rattle.sp_ports.specs.Device.{Device}
 use Rattle.mm_defs.specs.declared.answers.End.{End}
 use Rattle.mm_defs.specs.declared.answers.ReadError.{ReadError}
 use Rattle.mm_defs.specs.declared.answers.ReadError.TheVariants as errors
 use Rattle.mm_defs.specs.Words.{lines, is_lf}
 use Rattle.mm_defs.specs.Faults.{is_limit}
 use Rattle.mm_defs.specs.File.{Fault, line_faults, first_fault, behind}
-use Rattle.mm_defs.specs.Reading.{Call, FellShort, IsAnswer, IsNear, IsRest, LacksLines}
+use Rattle.mm_defs.specs.Reading.{Call, FellShort, IsAnswer, IsNear, LacksLines}
 use Rattle.mm_reader.specs.declared.machine.Machine.{Machine}
 use Rattle.mm_reader.specs.declared.machine.Stop.{Stop}
 use Rattle.mm_reader.specs.declared.machine.Stop.TheVariants as stops
@@ -95,6 +96,11 @@ call_of w failures_before failures_after before after = record {
   failures_before = failures_before;
   failures_after = failures_after;
 }
+
+-- what holds of the call, where the source tells its bytes
+abbrev pub OnCallOf : Window → Device → (Call → Type 0) → Type 0
+OnCallOf w source P = WhereTold source.before source.after
+    (λ before after. P (call_of w source.failed_before source.failed_after before after))
 
 -- what was used was counted, and so were its LFs
 pub record HasCounted (old new : Window) (before after : List ℕ) : Type 0 where

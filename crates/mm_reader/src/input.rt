@@ -4,10 +4,11 @@ ghost use Rattle.std.specs.Prelude.{◌≡◌, ◌≤◌, ◌<◌, ◌+◌, ◌+
 ghost use Rattle.std.specs.List.{count_by};
 ghost use Rattle.std.specs.Result.{IsErrOf};
 ghost use Rattle.sp_ports.specs.Bytes.{GivesFront, IsAtEnd, WhereTold};
-ghost use Rattle.sp_ports.specs.Counts.{SourceRose};
+ghost use Rattle.sp_ports.specs.Device.{seen};
 ghost use Rattle.mm_defs.specs.Words.{is_lf};
+ghost use Rattle.mm_reader.specs.Inputs.{FailsByReadFault, OnCall};
 ghost use Rattle.mm_defs.specs.File.{Fault};
-ghost use Rattle.mm_defs.specs.Reading.{call_on, first_bad, Causes, FellShort, HasItsKind, IsAnswer, IsNear, IsRest, JudgesNoLine, LacksLf, RefusesRest, TakesAtMostOnePast, Tells};
+ghost use Rattle.mm_defs.specs.Reading.{first_bad, FellShort, HasItsKind, IsAnswer, IsNear, IsRest, JudgesNoLine, LacksLf, RefusesRest, TakesAtMostOnePast, Tells};
 
 use crate::reader::matrix;
 use crate::rest::rest;
@@ -105,31 +106,30 @@ pub fn read_matrix<S: Source>(
     requires at_end { IsTrue input.old.at_end → IsAtEnd (S.left source.old) }
 
     // What each answer says of the bytes.
-    ensures answer { WhereTold (S.left source.old) (S.left source.new) (λ before after.
-        IsAnswer end (call_on input.old (S.faults source.old) (S.faults source.new) before after) (input.new.ahead ++ after) result) }
+    ensures answer { OnCall input.old (seen S.left S.faults source.old source.new) (λ call.
+        IsAnswer end call (input.new.ahead ++ call.after) result) }
 
     // A bad line is answered, and the first one.
-    ensures bad { WhereTold (S.left source.old) (S.left source.new) (λ before after. (fault : Fault) →
-        first_bad end (call_on input.old (S.faults source.old) (S.faults source.new) before after) ≡ Some fault → Tells fault result) }
-    ensures near { WhereTold (S.left source.old) (S.left source.new) (λ before after.
-        IsNear (call_on input.old (S.faults source.old) (S.faults source.new) before after) result) }
+    ensures bad { OnCall input.old (seen S.left S.faults source.old source.new) (λ call. (fault : Fault) →
+        first_bad end call ≡ Some fault → Tells fault result) }
+    ensures near { OnCall input.old (seen S.left S.faults source.old source.new) (λ call.
+        IsNear call result) }
 
     // `Limit` tells what passes a limit, and `Malformed` what does not.
     ensures kind { HasItsKind result }
 
     // Where the bytes given did not do, a matrix that ends with its last entry line had not ended in them.
-    ensures short { WhereTold (S.left source.old) (S.left source.new) (λ before after.
-        FellShort end (call_on input.old (S.faults source.old) (S.faults source.new) before after) result) }
+    ensures short { OnCall input.old (seen S.left S.faults source.old source.new) (λ call.
+        FellShort end call result) }
 
     // What is left is the end of what there was. At most one byte was taken past the limit, and at `TooLong` it was.
     ensures gave { GivesFront (S.left source.old) (S.left source.new) }
-    ensures most { WhereTold (S.left source.old) (S.left source.new) (λ before after.
-        TakesAtMostOnePast (call_on input.old (S.faults source.old) (S.faults source.new) before after)) }
+    ensures most { OnCall input.old (seen S.left S.faults source.old source.new) TakesAtMostOnePast }
     ensures most_taken { input.new.taken ≤ input.new.limit + 1 }
     ensures past { IsErrOf result ReadError.TooLong → input.new.taken ≡ input.new.limit + 1 }
 
     // A failed read is the one cause of `ReadFault`, and at Ok no read has failed.
-    ensures cause { Causes (SourceRose (S.left source.old) (S.faults source.old) (S.faults source.new)) (S.faults source.old) (S.faults source.new) result }
+    ensures cause { FailsByReadFault (seen S.left S.faults source.old source.new) result }
 
     // Where a read has given no bytes, the source is not asked again.
     ensures at_end { IsTrue input.new.at_end → IsAtEnd (S.left source.new) }
@@ -172,22 +172,20 @@ pub fn read_rest<S: Source>(
     requires at_end { IsTrue input.old.at_end → IsAtEnd (S.left source.old) }
 
     // What each answer says of the bytes.
-    ensures answer { WhereTold (S.left source.old) (S.left source.new) (λ before after.
-        MatchResult result (λ v. IsRest (call_on input.old (S.faults source.old) (S.faults source.new) before after) (input.new.ahead ++ after) v.items)
-        (RefusesRest (call_on input.old (S.faults source.old) (S.faults source.new) before after))) }
+    ensures answer { OnCall input.old (seen S.left S.faults source.old source.new) (λ call.
+        MatchResult result (λ v. IsRest call (input.new.ahead ++ call.after) v.items) (RefusesRest call)) }
 
     // No line is judged.
     ensures unjudged { IfErr result JudgesNoLine }
 
     // What is left is the end of what there was. At most one byte was taken past the limit, and at `TooLong` it was.
     ensures gave { GivesFront (S.left source.old) (S.left source.new) }
-    ensures most { WhereTold (S.left source.old) (S.left source.new) (λ before after.
-        TakesAtMostOnePast (call_on input.old (S.faults source.old) (S.faults source.new) before after)) }
+    ensures most { OnCall input.old (seen S.left S.faults source.old source.new) TakesAtMostOnePast }
     ensures most_taken { input.new.taken ≤ input.new.limit + 1 }
     ensures past { IsErrOf result ReadError.TooLong → input.new.taken ≡ input.new.limit + 1 }
 
     // A failed read is the one cause of `ReadFault`, and at Ok no read has failed.
-    ensures cause { Causes (SourceRose (S.left source.old) (S.faults source.old) (S.faults source.new)) (S.faults source.old) (S.faults source.new) result }
+    ensures cause { FailsByReadFault (seen S.left S.faults source.old source.new) result }
 
     // Where a read has given no bytes, the source is not asked again.
     ensures at_end { IsTrue input.new.at_end → IsAtEnd (S.left source.new) }

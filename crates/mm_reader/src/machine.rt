@@ -2,6 +2,7 @@
 
 ghost use Rattle.std.specs.Prelude.{◌≡◌, ◌≤◌, ◌<◌, ◌+◌, ◌++◌, ℕ, nat_abs, pos, true, false, List, [], ◌∷◌, length, take, IfOk, IfErr, IfSome, OnOk, MatchResult, ◌-◌, ◌^◌};
 ghost use Rattle.sp_ids.specs.Entries.{Entries};
+ghost use Rattle.sp_ids.specs.Limits.{max_value};
 ghost use Rattle.mm_defs.specs.Words.{words};
 ghost use Rattle.mm_defs.specs.Header.{is_general, is_integer_field};
 ghost use Rattle.mm_defs.specs.File.{mirror, line_faults, later_lines};
@@ -149,7 +150,7 @@ fn add(symmetry: Symmetry, entry: Entry, triples: &mut Triples) -> Result<(), Ou
     requires square { is_general symmetry ≡ false → triples.old.rows ≡ triples.old.cols }
     requires few { length triples.old.items < 4294967290 }
     requires value { is_integer_field triples.old.field ≡ false → entry.value ≡ pos 0 }
-    requires small { nat_abs entry.value ≤ 9223372036854775807 }
+    requires small { nat_abs entry.value ≤ max_value }
     ensures { OnOk result (triples.new ≡ with_entries triples.old (triple_of entry ∷ mirror symmetry (triple_of entry))) }
 {
     let Entry { row, col, value } = entry;

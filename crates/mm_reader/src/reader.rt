@@ -3,11 +3,12 @@
 ghost use Rattle.std.specs.Prelude.{◌≡◌, ◌<◌, ◌+◌, ◌++◌, ◌^◌, ℕ, List, false, length, IfOk, IfErr, MatchResult, OnOk, IsTrue};
 ghost use Rattle.std.specs.Result.{IsErrOf};
 ghost use Rattle.sp_ports.specs.Bytes.{GivesFront, IsAtEnd, WhereTold};
-ghost use Rattle.sp_ports.specs.Counts.{SourceRose};
-ghost use Rattle.mm_defs.specs.Reading.{Causes, HasItsKind, LacksLf, TakesAtMostOnePast};
+ghost use Rattle.sp_ports.specs.Device.{seen};
+ghost use Rattle.mm_defs.specs.Reading.{HasItsKind, LacksLf, TakesAtMostOnePast};
+ghost use Rattle.mm_reader.specs.Inputs.{FailsByReadFault};
 ghost use Rattle.mm_reader.specs.Machine.{IsReady, is_complete};
 ghost use Rattle.mm_reader.specs.Standing.{begun_lines, IsAfter, IsWhole, StandsSomewhere};
-ghost use Rattle.mm_reader.specs.Windows.{ahead_of, call_of, Answers, HasCounted, IsOnePast, IsWindow, KeepsWindow, Consumes, Refuses, RefusesAtEnd, refusal_of, UsesSome};
+ghost use Rattle.mm_reader.specs.Windows.{ahead_of, OnCallOf, Answers, HasCounted, IsOnePast, IsWindow, KeepsWindow, Consumes, Refuses, RefusesAtEnd, refusal_of, UsesSome};
 
 use crate::machine::{Machine, Stop, feed, finish, is_complete, start};
 use crate::window::{Window, advance, refill};
@@ -123,13 +124,12 @@ pub fn matrix<S: Source>(
 ) -> Result<Triples, ReadError>
     requires window { IsWindow window.old }
     requires at_end { IsTrue window.old.at_end → IsAtEnd (S.left source.old) }
-    ensures told { WhereTold (S.left source.old) (S.left source.new) (λ before after.
-        Answers end (call_of window.old (S.faults source.old) (S.faults source.new) before after) window.new result) }
+    ensures told { OnCallOf window.old (seen S.left S.faults source.old source.new) (λ call.
+        Answers end call window.new result) }
     ensures kind { HasItsKind result }
     ensures gave { GivesFront (S.left source.old) (S.left source.new) }
-    ensures most { WhereTold (S.left source.old) (S.left source.new) (λ before after.
-        TakesAtMostOnePast (call_of window.old (S.faults source.old) (S.faults source.new) before after)) }
-    ensures cause { Causes (SourceRose (S.left source.old) (S.faults source.old) (S.faults source.new)) (S.faults source.old) (S.faults source.new) result }
+    ensures most { OnCallOf window.old (seen S.left S.faults source.old source.new) TakesAtMostOnePast }
+    ensures cause { FailsByReadFault (seen S.left S.faults source.old source.new) result }
     ensures counted { WhereTold (S.left source.old) (S.left source.new) (λ before after. HasCounted window.old window.new before after) }
     ensures past { IsErrOf result ReadError.TooLong → IsOnePast window.new }
     ensures window { KeepsWindow window.old window.new }

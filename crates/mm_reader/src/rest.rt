@@ -4,10 +4,11 @@ ghost use Rattle.std.specs.Prelude.{◌≡◌, ◌≤◌, ◌<◌, ◌+◌, ◌+
 ghost use Rattle.std.specs.List.{count_by};
 ghost use Rattle.std.specs.Result.{IsErrOf};
 ghost use Rattle.sp_ports.specs.Bytes.{GivesFront, IsAtEnd, WhereTold};
-ghost use Rattle.sp_ports.specs.Counts.{SourceRose};
+ghost use Rattle.sp_ports.specs.Device.{seen};
 ghost use Rattle.mm_defs.specs.Words.{is_lf};
-ghost use Rattle.mm_defs.specs.Reading.{Causes, IsRest, JudgesNoLine, RefusesRest, TakesAtMostOnePast};
-ghost use Rattle.mm_reader.specs.Windows.{ahead_of, call_of, HasCounted, IsOnePast, IsWindow, KeepsWindow, TakesAhead, RefusesAhead};
+ghost use Rattle.mm_defs.specs.Reading.{IsRest, JudgesNoLine, RefusesRest, TakesAtMostOnePast};
+ghost use Rattle.mm_reader.specs.Inputs.{FailsByReadFault};
+ghost use Rattle.mm_reader.specs.Windows.{ahead_of, OnCallOf, HasCounted, IsOnePast, IsWindow, KeepsWindow, TakesAhead, RefusesAhead};
 
 use crate::window::{Window, refill};
 use mm_defs::ReadError;
@@ -53,14 +54,12 @@ pub fn rest<S: Source>(
 ) -> Result<Vec<u8>, ReadError>
     requires window { IsWindow window.old }
     requires at_end { IsTrue window.old.at_end → IsAtEnd (S.left source.old) }
-    ensures told { WhereTold (S.left source.old) (S.left source.new) (λ before after.
-        MatchResult result (λ v. IsRest (call_of window.old (S.faults source.old) (S.faults source.new) before after) (ahead_of window.new ++ after) v.items)
-        (RefusesRest (call_of window.old (S.faults source.old) (S.faults source.new) before after))) }
+    ensures told { OnCallOf window.old (seen S.left S.faults source.old source.new) (λ call.
+        MatchResult result (λ v. IsRest call (ahead_of window.new ++ call.after) v.items) (RefusesRest call)) }
     ensures unjudged { IfErr result JudgesNoLine }
     ensures gave { GivesFront (S.left source.old) (S.left source.new) }
-    ensures most { WhereTold (S.left source.old) (S.left source.new) (λ before after.
-        TakesAtMostOnePast (call_of window.old (S.faults source.old) (S.faults source.new) before after)) }
-    ensures cause { Causes (SourceRose (S.left source.old) (S.faults source.old) (S.faults source.new)) (S.faults source.old) (S.faults source.new) result }
+    ensures most { OnCallOf window.old (seen S.left S.faults source.old source.new) TakesAtMostOnePast }
+    ensures cause { FailsByReadFault (seen S.left S.faults source.old source.new) result }
     ensures counted { WhereTold (S.left source.old) (S.left source.new) (λ before after. HasCounted window.old window.new before after) }
     ensures past { IsErrOf result ReadError.TooLong → IsOnePast window.new }
     ensures window { KeepsWindow window.old window.new }

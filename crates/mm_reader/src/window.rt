@@ -3,7 +3,7 @@
 ghost use Rattle.std.specs.Prelude.{◌≡◌, ◌≤◌, ◌<◌, ◌+◌, ◌^◌, [], take, length, vec_len, IfOk, OnErr, IsTrue, IsFalse};
 ghost use Rattle.std.specs.List.{count_by};
 ghost use Rattle.sp_ports.specs.Bytes.{Gives, IsAtEnd};
-ghost use Rattle.sp_ports.specs.Counts.{HasCause, SourceRose};
+ghost use Rattle.sp_ports.specs.Device.{FailsByReads, seen};
 ghost use Rattle.mm_defs.specs.Words.{is_lf};
 ghost use Rattle.mm_reader.specs.Windows.{ahead_of, IsWindow, Uses};
 
@@ -71,7 +71,7 @@ fn read_some<S: Source>(source: &mut S, buffer: &mut [u8], most: usize) -> Resul
     ensures bytes { IfOk result (λ k. Gives (S.left source.old) (S.left source.new) (take k buffer.new)) }
     ensures end { IfOk result (λ k. k ≡ 0 → IsAtEnd (S.left source.new)) }
     ensures kept { OnErr result (S.left source.new ≡ S.left source.old) }
-    ensures cause { HasCause (SourceRose (S.left source.old) (S.faults source.old) (S.faults source.new)) (S.faults source.old) (S.faults source.new) result }
+    ensures cause { FailsByReads (seen S.left S.faults source.old source.new) result }
 {
     source.read(&mut buffer[..most])
 }
@@ -87,7 +87,7 @@ pub fn refill<S: Source>(window: &mut Window, source: &mut S) -> Result<usize, F
     ensures kept { OnErr result (S.left source.new ≡ S.left source.old) }
     ensures same { OnErr result (window.new.at_end ≡ window.old.at_end) }
     ensures none { OnErr result (ahead_of window.new ≡ []) }
-    ensures cause { HasCause (SourceRose (S.left source.old) (S.faults source.old) (S.faults source.new)) (S.faults source.old) (S.faults source.new) result }
+    ensures cause { FailsByReads (seen S.left S.faults source.old source.new) result }
     ensures room { window.new.room ≡ window.old.room }
     ensures lines { window.new.lines ≡ window.old.lines }
 {

@@ -4,7 +4,7 @@ use Rattle.std.specs.List.{Contains}
 use Rattle.std.proofs.lemmas.List.Sums.{sum_by-cons, sum_by-le-sum_by}
 use Rattle.std.proofs.lemmas.Bool.Decides.{leb_tells}
 use Rattle.sp_ports.specs.Kept.{still_to_fail}
-use Rattle.sp_ports.specs.Devices.{number_after}
+use Rattle.sp_ports.specs.InMemory.{number_after}
 
 -- whether one listed call has the number or a later one
 abbrev counts : ℕ → ℕ → ℕ

@@ -1,5 +1,5 @@
 -- What a source has left and what a sink has taken, where they tell it.
-use Rattle.std.specs.Prelude.{ℕ, List, [], ◌++◌, ◌≡◌, Option, None, Some, Result, Ok, Err}
+use Rattle.std.specs.Prelude.{ℕ, List, [], ◌++◌, ◌≡◌, Option, None, Some}
 
 -- A source that tells its bytes gave these from their front, and tells the others.
 abbrev pub Gives : Option (List ℕ) → Option (List ℕ) → List ℕ → Type 0
@@ -25,11 +25,6 @@ Takes (Some before) (Some taken) piece = taken ≡ before ++ piece
 -- the sink took a front of the text
 abbrev pub TakesFront : Option (List ℕ) → Option (List ℕ) → List ℕ → Type 0
 TakesFront old new text = (front rest : List ℕ) × (text ≡ front ++ rest) × Takes old new front
-
--- what was to be written: all of it at Ok, and a front of it at Err
-abbrev pub Writes : {T E : Type 0} → Option (List ℕ) → Option (List ℕ) → List ℕ → Result T E → Type 0
-Writes old new text (Ok v) = Takes old new text
-Writes old new text (Err e) = TakesFront old new text
 
 -- what holds of the bytes that a source has left before a call and after it, where it tells them
 abbrev pub WhereTold : Option (List ℕ) → Option (List ℕ) → (List ℕ → List ℕ → Type 0) → Type 0

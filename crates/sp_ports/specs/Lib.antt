@@ -1,4 +1,4 @@
 pub mod Bytes
-pub mod Counts
-pub mod Devices
+pub mod Device
+pub mod InMemory
 pub mod Kept

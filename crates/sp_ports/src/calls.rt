@@ -1,7 +1,7 @@
 //! The numbers of a device's calls.
 
 ghost use Rattle.std.specs.Prelude.{◌≡◌, ◌<◌, ◌≤◌, ◌↔◌, ◌^◌, IsTrue, Contains};
-ghost use Rattle.sp_ports.specs.Devices.{number_after};
+ghost use Rattle.sp_ports.specs.InMemory.{number_after};
 
 use std::marker::Model;
 
@@ -15,7 +15,7 @@ pub(crate) struct Numbers {
 
 impl Model for Numbers {
     ghost use Rattle.std.specs.Prelude.{◌≤◌, ◌^◌};
-    ghost use Rattle.sp_ports.specs.Devices.{Calls};
+    ghost use Rattle.sp_ports.specs.InMemory.{Calls};
 
     ghost Value = { Calls };
 

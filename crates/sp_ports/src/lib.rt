@@ -8,6 +8,6 @@ mod sinks;
 mod sources;
 
 pub use gates::{Gate, MeetGate, NoGate};
-pub use ports::{Failed, Sink, Source, write_all};
+pub use ports::{Failed, Sink, Source, taken_in_turn, write_all};
 pub use sinks::{MemSink, SteadySink};
 pub use sources::{MemSource, SteadySource};

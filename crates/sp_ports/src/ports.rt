@@ -1,8 +1,8 @@
 //! Sources and sinks of bytes.
 
-ghost use Rattle.std.specs.Prelude.{◌≡◌, ◌<◌, ◌≤◌, ℕ, List, Option, length, take, IfOk, OnErr};
-ghost use Rattle.sp_ports.specs.Bytes.{Gives, IsAtEnd, Takes, Writes};
-ghost use Rattle.sp_ports.specs.Counts.{HasCause, Rose, SourceRose};
+ghost use Rattle.std.specs.Prelude.{◌≡◌, ◌<◌, ◌≤◌, ◌++◌, ℕ, List, Option, length, take, IfOk, OnErr};
+ghost use Rattle.sp_ports.specs.Bytes.{Gives, IsAtEnd, Takes};
+ghost use Rattle.sp_ports.specs.Device.{Device, FailsByReads, FailsByWrites, IsNext, Took, TookFront, Writes, both, seen};
 
 /// A device did not do what it was asked.
 #[derive(Clone, Copy, Debug, PartialEq, Eq)]
@@ -17,14 +17,15 @@ pub trait Source {
     ghost faults: { Self → ℕ };
 
     /// Moves bytes from the front of what is left into the buffer, and tells how many. 0 for a buffer that is not empty
-    /// comes only at the end. `Failed` comes only where the count of faults rose, and then nothing was moved.
+    /// comes only at the end. `Failed` comes only where the count of faults rose, and then nothing was moved. A call counts
+    /// one fault at most.
     fn read(&mut self, buf: &mut [u8]) -> Result<usize, Failed>
         ensures bound { IfOk result (λ k. k ≤ length buf.old) }
         ensures bytes { IfOk result (λ k. Gives (left self.old) (left self.new) (take k buf.new)) }
         // No bytes come only at the end, or into no room.
         ensures end { IfOk result (λ k. k ≡ 0 → 0 < length buf.old → IsAtEnd (left self.new)) }
         ensures kept { OnErr result (left self.new ≡ left self.old) }
-        ensures cause { HasCause (SourceRose (left self.old) (faults self.old) (faults self.new)) (faults self.old) (faults self.new) result };
+        ensures cause { FailsByReads (seen left faults self.old self.new) result };
 }
 
 /// Where bytes go.
@@ -42,19 +43,18 @@ pub trait Sink {
         ensures some { IfOk result (λ k. 0 < length piece.now → 0 < k) }
         ensures bytes { IfOk result (λ k. Takes (taken self.old) (taken self.new) (take k piece.now)) }
         ensures kept { OnErr result (taken self.new ≡ taken self.old) }
-        ensures cause { HasCause (Rose (faults self.old) (faults self.new)) (faults self.old) (faults self.new) result };
+        ensures cause { FailsByWrites (seen taken faults self.old self.new) result };
 
     /// Hands on what was taken. `Failed` comes only where the count of faults rose.
     fn flush(&mut self) -> Result<(), Failed>
         ensures kept { taken self.new ≡ taken self.old }
-        ensures cause { HasCause (Rose (faults self.old) (faults self.new)) (faults self.old) (faults self.new) result };
+        ensures cause { FailsByWrites (seen taken faults self.old self.new) result };
 }
 
-/// Writes all of the bytes, in as many calls as the sink asks. After `Failed`, which is the answer of the first call that
-/// fails, a front of them was taken. It takes no memory.
+/// Writes all of the bytes, in as many calls as the sink asks. After `Failed`, which comes only where a call failed, a
+/// front of them was taken, and no call was made after the one that failed. It takes no memory.
 pub fn write_all<K: Sink>(out: &mut K, bytes: &[u8]) -> Result<(), Failed>
-    ensures bytes { Writes (K.taken out.old) (K.taken out.new) bytes.now result }
-    ensures cause { HasCause (Rose (K.faults out.old) (K.faults out.new)) (K.faults out.old) (K.faults out.new) result }
+    ensures { Writes (seen K.taken K.faults out.old out.new) bytes.now result }
 {
     let mut rest = bytes;
     while !rest.is_empty() {
@@ -63,6 +63,16 @@ pub fn write_all<K: Sink>(out: &mut K, bytes: &[u8]) -> Result<(), Failed>
     }
     Ok(())
 }
+
+/// What a sink takes in one call after another.
+pub fn taken_in_turn()
+    // Both texts, where no call failed.
+    ensures both { (d e : Device) (first second : List ℕ) → IsNext d e
+        → Took d first → Took e second → Took (both d e) (first ++ second) }
+    // The first, and a front of the other, where its call failed.
+    ensures front { (d e : Device) (first second : List ℕ) → IsNext d e
+        → Took d first → TookFront e second → TookFront (both d e) (first ++ second) }
+{}
 
 #[cfg(test)]
 mod tests {

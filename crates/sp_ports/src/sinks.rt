@@ -3,8 +3,8 @@
 ghost use Rattle.std.specs.Prelude.{◌≡◌, ◌<◌, ◌≤◌, ◌+◌, ◌-◌, ◌^◌, ◌++◌, ◌↔◌, ◌⊎◌, [], min, take, length, nat_lt, true, false, Some, ◌||◌, IsOk, IsErr, IfOk, OnOk, OnErr, Contains};
 ghost use Rattle.std.specs.Vec.{vec_capacity};
 ghost use Rattle.sp_ports.specs.Bytes.{Takes};
-ghost use Rattle.sp_ports.specs.Counts.{HasCause, Rose};
-ghost use Rattle.sp_ports.specs.Devices.{number_after, told};
+ghost use Rattle.sp_ports.specs.Device.{FailsByWrites, seen};
+ghost use Rattle.sp_ports.specs.InMemory.{bytes_of, failures_of, number_after, told};
 
 use crate::calls::Numbers;
 use crate::{Failed, Sink};
@@ -23,7 +23,7 @@ pub struct MemSink {
 }
 
 impl Model for MemSink {
-    ghost use Rattle.sp_ports.specs.Devices.{Store};
+    ghost use Rattle.sp_ports.specs.InMemory.{Store};
 
     ghost Value = { Store };
 
@@ -71,9 +71,9 @@ impl MemSink {
 }
 
 impl Sink for MemSink {
-    ghost taken = { λ s. Some s.taken };
+    ghost taken = { bytes_of };
 
-    ghost faults = { λ s. s.failed };
+    ghost faults = { failures_of };
 
     /// Takes as many bytes as it has room for, but at most a piece. Exactly the listed calls fail, and those for which no
     /// room is left.
@@ -83,7 +83,7 @@ impl Sink for MemSink {
         ensures some { IfOk result (λ k. 0 < length piece.now → 0 < k) }
         ensures ok { IfOk result (λ k. self.new ≡ record self.old { taken = self.old.taken ++ take k piece.now; next = number_after self.old.next }) }
         ensures err { OnErr result (self.new ≡ record self.old { next = number_after self.old.next; failed = min (self.old.failed + 1) (2 ^ 64 - 1) }) }
-        ensures cause { HasCause (Rose self.old.failed self.new.failed) self.old.failed self.new.failed result }
+        ensures cause { FailsByWrites (seen bytes_of failures_of self.old self.new) result }
     {
         if self.calls.fails_next() {
             self.failed = self.failed.saturating_add(1);
@@ -101,7 +101,7 @@ impl Sink for MemSink {
         ensures fails { IsErr result ↔ Contains self.old.failing self.old.next }
         ensures ok { OnOk result (self.new ≡ record self.old { next = number_after self.old.next }) }
         ensures err { OnErr result (self.new ≡ record self.old { next = number_after self.old.next; failed = min (self.old.failed + 1) (2 ^ 64 - 1) }) }
-        ensures cause { HasCause (Rose self.old.failed self.new.failed) self.old.failed self.new.failed result }
+        ensures cause { FailsByWrites (seen bytes_of failures_of self.old self.new) result }
     {
         if self.calls.fails_next() {
             self.failed = self.failed.saturating_add(1);
@@ -135,7 +135,7 @@ pub struct SteadySink {
 }
 
 impl Model for SteadySink {
-    ghost use Rattle.sp_ports.specs.Devices.{SteadyStore};
+    ghost use Rattle.sp_ports.specs.InMemory.{SteadyStore};
 
     ghost Value = { SteadyStore };
 

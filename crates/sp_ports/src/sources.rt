@@ -1,7 +1,7 @@
 //! Sources in memory.
 
 ghost use Rattle.std.specs.Prelude.{◌≡◌, ◌<◌, ◌≤◌, ◌+◌, ◌++◌, ◌↔◌, [], min, take, drop, length, Some, IsOk, IsErr, IfOk, OnOk, OnErr, Contains};
-ghost use Rattle.sp_ports.specs.Devices.{number_after};
+ghost use Rattle.sp_ports.specs.InMemory.{number_after};
 
 use crate::calls::Numbers;
 use crate::{Failed, Source};
@@ -19,7 +19,7 @@ pub struct MemSource {
 
 impl Model for MemSource {
     ghost use Rattle.std.specs.Prelude.{drop};
-    ghost use Rattle.sp_ports.specs.Devices.{Feed};
+    ghost use Rattle.sp_ports.specs.InMemory.{Feed};
 
     ghost Value = { Feed };
 
@@ -99,7 +99,7 @@ pub struct SteadySource {
 
 impl Model for SteadySource {
     ghost use Rattle.std.specs.Prelude.{◌<◌, ◌≤◌, drop, length};
-    ghost use Rattle.sp_ports.specs.Devices.{SteadyFeed};
+    ghost use Rattle.sp_ports.specs.InMemory.{SteadyFeed};
 
     ghost Value = { SteadyFeed };
 

@@ -1,20 +1,27 @@
+use Rattle.sp_ports.specs.Device.{seen}
 use Rattle.btf_words.specs.declared.jobs.Job.TheVariants.{Check}
-use Rattle.btf_tool.specs.Devices.{seen}
 use Rattle.btf_tool.specs.Judging.{answer_of}
-use Rattle.btf_tool.proofs.Jobs.{job_not_written, job_written, verdict_answers}
+use Rattle.btf_tool.specs.Runs.{JobSays}
+use Rattle.btf_tool.specs.declared.refusals.Refusal.TheVariants.{WriteFault}
+use Rattle.btf_tool.proofs.Jobs.{as_refusal, job_not_written, job_written, verdict_answers}
 use Rattle.btf_tool.proofs.check.check.Goals as goal
 
-pub returns-in-Ok-write_answer-clause-says : goal.returns-in-Ok-write_answer-clause-says
-returns-in-Ok-write_answer-clause-says g c =
-    let found = c.in-Ok-verdict_on.ensures in
-    rw c.answer_of.ensures
-    (job_written Check (answer_of c.in-Ok-verdict_on.verdict) (seen g.S.Source.left g.S.Source.faults c.args.input.now c.read_followed.new.input)
-    (seen g.O.Sink.taken g.O.Sink.faults c.args.out.now c.write_answer.new.out) _ c.in-Ok.file.triples c.in-Ok.file.rest.items found.0 tt c.in-Ok.ensures.read found.1
-    (verdict_answers found.0 c.in-Ok.file.rest.items c.in-Ok-verdict_on.verdict found.2 found.3) c.in-Ok-write_answer.ensures.bytes c.in-Ok-write_answer.ensures.cause.steady)
+pub returns-in_err-hand_on-clause-says : goal.returns-in_err-hand_on-clause-says
+returns-in_err-hand_on-clause-says g c =
+    let input = seen g.S.Source.left g.S.Source.faults c.args.input.now c.read_followed.new.input in
+    let out = seen g.O.Sink.taken g.O.Sink.faults c.args.out.now c.hand_on.new.out in
+    let (a, matrix, fits, is) = c.in_ok-verdict.ensures in
+    as_refusal _ WriteFault (JobSays Check input out) c.from_residual-in_err-hand_on.ensures.1
+    (job_not_written Check (answer_of c.in_ok-verdict.verdict) input out _ c.in_ok-file.file.triples c.in_ok-file.file.rest.items a tt
+    c.in_ok-file.ensures.read c.in_ok-file.ensures.counts matrix (verdict_answers a c.in_ok-file.file.rest.items c.in_ok-verdict.verdict fits is)
+    (c.in_err-hand_on.ensures _ _ _ c.write_verdict-written.ensures))
 
-pub returns-in-Err-write_answer-clause-says : goal.returns-in-Err-write_answer-clause-says
-returns-in-Err-write_answer-clause-says g c =
-    let found = c.in-Ok-verdict_on.ensures in
-    job_not_written Check (answer_of c.in-Ok-verdict_on.verdict) (seen g.S.Source.left g.S.Source.faults c.args.input.now c.read_followed.new.input)
-    (seen g.O.Sink.taken g.O.Sink.faults c.args.out.now c.write_answer.new.out) _ c.in-Ok.file.triples c.in-Ok.file.rest.items found.0 tt c.in-Ok.ensures.read c.read_followed.ensures.later found.1
-    (verdict_answers found.0 c.in-Ok.file.rest.items c.in-Ok-verdict_on.verdict found.2 found.3) c.in-Err-write_answer.ensures.bytes c.in-Err-write_answer.ensures.cause.failed
+pub returns-clause-says : goal.returns-clause-says
+returns-clause-says g c =
+    let input = seen g.S.Source.left g.S.Source.faults c.args.input.now c.read_followed.new.input in
+    let out = seen g.O.Sink.taken g.O.Sink.faults c.args.out.now c.hand_on.new.out in
+    let (a, matrix, fits, is) = c.in_ok-verdict.ensures in
+    rw c.answer_of.ensures
+    (job_written Check (answer_of c.in_ok-verdict.verdict) input out _ c.in_ok-file.file.triples c.in_ok-file.file.rest.items a tt
+    c.in_ok-file.ensures.read matrix (verdict_answers a c.in_ok-file.file.rest.items c.in_ok-verdict.verdict fits is)
+    (c.in_ok-hand_on.ensures _ _ _ c.write_verdict-written.ensures))

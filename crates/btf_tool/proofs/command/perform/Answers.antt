@@ -1,5 +1,5 @@
 use Rattle.std.proofs.Common.{refl}
-use Rattle.btf_tool.specs.Devices.{seen}
+use Rattle.sp_ports.specs.Device.{seen}
 use Rattle.btf_tool.proofs.Completing.{untouched_gave}
 use Rattle.btf_tool.proofs.command.perform.Goals as goal
 

@@ -1,7 +1,7 @@
 use Rattle.std.proofs.Common.{refl, ap, Err, ◌∙◌}
-use Rattle.btf_tool.specs.Devices.{seen}
+use Rattle.sp_ports.specs.Device.{seen}
 use Rattle.btf_tool.specs.declared.refusals.Refusal.TheVariants.{Usage, OutOfMemory}
-use Rattle.btf_tool.proofs.Completing.{completes, job_done, job_not_done, made_named, named, refusal_says, untouched_gave, untouched_later, untouched_tells}
+use Rattle.btf_tool.proofs.Completing.{completes, job_done, job_not_done, made_named, named, refusal_says, untouched_gave, untouched_counts, untouched_tells}
 use Rattle.btf_tool.proofs.command.run.Goals as goal
 
 pub returns-in-Err-Usage-clause-says : goal.returns-in-Err-Usage-clause-says
@@ -16,7 +16,7 @@ pub returns-in-Err-OutOfMemory-clause-says : goal.returns-in-Err-OutOfMemory-cla
 returns-in-Err-OutOfMemory-clause-says g c =
     let unused = seen g.S.Source.left g.S.Source.faults c.args.input.now c.args.input.now in
     refusal_says _ _ OutOfMemory c.refuse-in-Err-OutOfMemory.ensures.status c.refuse-in-Err-OutOfMemory.ensures.told
-    (untouched_later unused (refl, refl), untouched_tells unused (refl, refl), (refl, refl))
+    (untouched_counts unused (refl, refl), untouched_tells unused (refl, refl), (refl, refl))
 
 pub returns-in-Err-OutOfMemory-clause-complete : goal.returns-in-Err-OutOfMemory-clause-complete
 returns-in-Err-OutOfMemory-clause-complete g c = completes _ _ (returns-in-Err-OutOfMemory-clause-says g c)

@@ -1,14 +1,23 @@
-use Rattle.btf_tool.specs.Devices.{seen}
+use Rattle.sp_ports.specs.Device.{seen}
+use Rattle.btf_words.specs.declared.jobs.Job.TheVariants.{Load}
+use Rattle.btf_tool.specs.Runs.{JobSays}
+use Rattle.btf_tool.specs.declared.refusals.Refusal.TheVariants.{WriteFault}
 use Rattle.btf_tool.proofs.Analyses.{summary_answers}
+use Rattle.btf_tool.proofs.Jobs.{as_refusal}
 use Rattle.btf_tool.proofs.Loads.{load_not_written, load_written}
 use Rattle.btf_tool.proofs.load.load.Goals as goal
 
-pub returns-in-Ok-write_answer : goal.returns-in-Ok-write_answer
-returns-in-Ok-write_answer g c = λ input same.
-    load_written c.args.size c.args.seed c.args.engine input (seen g.O.Sink.taken g.O.Sink.faults c.args.out.now c.write_answer.new.out)
-    _ _ same c.in-Ok.ensures.1 (summary_answers _ _ c.in-Ok.ensures.2.decomposes) c.in-Ok-write_answer.ensures.bytes c.in-Ok-write_answer.ensures.cause.steady
+pub returns-in_err-hand_on : goal.returns-in_err-hand_on
+returns-in_err-hand_on g c input same =
+    let out = seen g.O.Sink.taken g.O.Sink.faults c.args.out.now c.hand_on.new.out in
+    let (a, matrix, found) = c.in_ok-analysis.ensures in
+    as_refusal _ WriteFault (JobSays (Load c.args.size c.args.seed c.args.engine) input out) c.from_residual-in_err-hand_on.ensures.1
+    (load_not_written c.args.size c.args.seed c.args.engine input out _ a same matrix (summary_answers _ _ found.decomposes)
+    (c.in_err-hand_on.ensures _ _ _ c.write_load-written.ensures))
 
 pub returns : goal.returns
-returns g c = λ input same.
-    load_not_written c.args.size c.args.seed c.args.engine input (seen g.O.Sink.taken g.O.Sink.faults c.args.out.now c.write_answer.new.out)
-    _ _ same c.in-Ok.ensures.1 (summary_answers _ _ c.in-Ok.ensures.2.decomposes) c.in-Err.ensures.bytes c.in-Err.ensures.cause.failed
+returns g c input same =
+    let out = seen g.O.Sink.taken g.O.Sink.faults c.args.out.now c.hand_on.new.out in
+    let (a, matrix, found) = c.in_ok-analysis.ensures in
+    load_written c.args.size c.args.seed c.args.engine input out _ a same matrix (summary_answers _ _ found.decomposes)
+    (c.in_ok-hand_on.ensures _ _ _ c.write_load-written.ensures)

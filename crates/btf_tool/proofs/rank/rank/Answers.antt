@@ -1,18 +1,27 @@
-use Rattle.std.proofs.Common.{[], refl}
-use Rattle.btf_tool.specs.declared.answers.Answer.TheVariants.{Positive}
+use Rattle.std.proofs.Common.{List, ℕ, [], refl}
+use Rattle.sp_ports.specs.Device.{Took, TookFront, seen}
 use Rattle.btf_words.specs.declared.jobs.Job.TheVariants.{Rank}
-use Rattle.btf_tool.specs.Devices.{seen}
-use Rattle.btf_tool.proofs.Jobs.{job_not_written, job_written, rank_answers}
+use Rattle.btf_tool.specs.Runs.{JobSays}
+use Rattle.btf_tool.specs.declared.answers.Answer.TheVariants.{Positive}
+use Rattle.btf_tool.specs.declared.refusals.Refusal.TheVariants.{WriteFault}
+use Rattle.btf_tool.proofs.Jobs.{as_refusal, job_not_written, job_written, rank_answers, same_text}
 use Rattle.btf_tool.proofs.rank.rank.Goals as goal
+
+pub returns-in_err-hand_on-clause-says : goal.returns-in_err-hand_on-clause-says
+returns-in_err-hand_on-clause-says g c =
+    let input = seen g.S.Source.left g.S.Source.faults c.args.input.now c.read_file.new.input in
+    let out = seen g.O.Sink.taken g.O.Sink.faults c.args.out.now c.hand_on.new.out in
+    as_refusal _ WriteFault (JobSays Rank input out) c.from_residual-in_err-hand_on.ensures.1
+    (job_not_written Rank Positive input out _ c.in_ok-triples.triples [] _ tt c.in_ok-triples.ensures.read c.in_ok-triples.ensures.counts
+    c.in_ok-answer.ensures.matrix (refl, rank_answers _ _ _ _ _ c.in_ok-answer.ensures)
+    (same_text (λ (t : List ℕ). TookFront out t) _ _ _ _ _ _ c.as_slice-rows.ensures.value c.as_slice-cols.ensures.value
+    (c.in_err-hand_on.ensures _ _ _ c.write_rank-written.ensures)))
 
 pub returns-clause-says : goal.returns-clause-says
 returns-clause-says g c =
-    job_not_written Rank Positive (seen g.S.Source.left g.S.Source.faults c.args.input.now c.read_file.new.input) (seen g.O.Sink.taken g.O.Sink.faults c.args.out.now c.write_answer.new.out)
-    _ c.in-Ok.triples [] _ tt c.in-Ok.ensures.read c.read_file.ensures.later c.in-Ok-rank_of.ensures.matrix (refl, rank_answers _ _ _ _ _ c.in-Ok-rank_of.ensures)
-    c.in-Err-write_answer.ensures.bytes c.in-Err-write_answer.ensures.cause.failed
-
-pub returns-in-Ok-write_answer-clause-says : goal.returns-in-Ok-write_answer-clause-says
-returns-in-Ok-write_answer-clause-says g c =
-    job_written Rank Positive (seen g.S.Source.left g.S.Source.faults c.args.input.now c.read_file.new.input) (seen g.O.Sink.taken g.O.Sink.faults c.args.out.now c.write_answer.new.out)
-    _ c.in-Ok.triples [] _ tt c.in-Ok.ensures.read c.in-Ok-rank_of.ensures.matrix (refl, rank_answers _ _ _ _ _ c.in-Ok-rank_of.ensures)
-    c.in-Ok-write_answer.ensures.bytes c.in-Ok-write_answer.ensures.cause.steady
+    let input = seen g.S.Source.left g.S.Source.faults c.args.input.now c.read_file.new.input in
+    let out = seen g.O.Sink.taken g.O.Sink.faults c.args.out.now c.hand_on.new.out in
+    job_written Rank Positive input out _ c.in_ok-triples.triples [] _ tt c.in_ok-triples.ensures.read
+    c.in_ok-answer.ensures.matrix (refl, rank_answers _ _ _ _ _ c.in_ok-answer.ensures)
+    (same_text (λ (t : List ℕ). Took out t) _ _ _ _ _ _ c.as_slice-rows.ensures.value c.as_slice-cols.ensures.value
+    (c.in_ok-hand_on.ensures _ _ _ c.write_rank-written.ensures))

@@ -1,29 +1,27 @@
-use Rattle.std.proofs.Common.{◌++◌, ap, subst, Ok, Err}
+use Rattle.std.proofs.Common.{◌++◌, ap, subst, IfErr, Ok, Err}
 use Rattle.sp_ports.specs.Bytes.{WhereTold}
+use Rattle.sp_ports.specs.Device.{seen}
 use Rattle.mm_defs.specs.Reading.{Intake, IsAnswer, call_on}
 use Rattle.mm_defs.specs.declared.answers.End.TheVariants.{File}
-use Rattle.btf_tool.specs.Devices.{seen}
-use Rattle.btf_tool.proofs.FileAnswers.{file_gave, file_not_read, file_read}
+use Rattle.btf_tool.specs.Refusals.{refusal_for}
+use Rattle.btf_tool.specs.Runs.{IsUnread}
+use Rattle.btf_tool.proofs.FileAnswers.{file_not_read, file_read}
+use Rattle.btf_tool.proofs.Jobs.{as_refusal}
 use Rattle.btf_tool.proofs.reading.read_file.Goals as goal
 
-pub returns-in-Ok-read_matrix-clause-read : goal.returns-in-Ok-read_matrix-clause-read
-returns-in-Ok-read_matrix-clause-read g c =
-    file_read (seen g.S.Source.left g.S.Source.faults c.args.input.now c.read_matrix.new.source) c.read_matrix.new.input.ahead c.in-Ok-read_matrix.triples
+pub returns-clause-read : goal.returns-clause-read
+returns-clause-read g c =
+    let e = c.in_ok-read_matrix.ensures in
+    file_read (seen g.S.Source.left g.S.Source.faults c.args.input.now c.read_matrix.new.source) c.read_matrix.new.input.ahead c.in_ok-read_matrix.field-0
     (subst (λ (i : Intake). WhereTold (g.S.Source.left c.args.input.now) (g.S.Source.left c.read_matrix.new.source)
-    (λ before after. IsAnswer File (call_on i (g.S.Source.faults c.args.input.now) (g.S.Source.faults c.read_matrix.new.source) before after) (c.read_matrix.new.input.ahead ++ after) (Ok c.in-Ok-read_matrix.triples)))
-    c.in-Ok.ensures c.in-Ok-read_matrix.ensures.answer)
-    c.in-Ok-read_matrix.ensures.cause.steady
+    (λ before after. IsAnswer File (call_on i (g.S.Source.faults c.args.input.now) (g.S.Source.faults c.read_matrix.new.source) before after) (c.read_matrix.new.input.ahead ++ after) (Ok c.in_ok-read_matrix.field-0)))
+    c.in_ok-bytes.ensures e.answer)
+    e.cause.steady
 
-pub returns-clause-unread : goal.returns-clause-unread
-returns-clause-unread g c =
-    rw c.refusal.ensures
-    (file_not_read File (seen g.S.Source.left g.S.Source.faults c.args.input.now c.read_matrix.new.source) _ c.read_matrix.new.input.ahead c.in-Err.error c.in-Ok.ensures
-    c.in-Err.ensures.answer c.in-Err.ensures.short c.in-Err.ensures.kind (λ e. c.in-Err.ensures.cause.failed (ap Err e)))
-
-pub returns-in-Ok-read_matrix-clause-gave : goal.returns-in-Ok-read_matrix-clause-gave
-returns-in-Ok-read_matrix-clause-gave g c =
-    file_gave (seen g.S.Source.left g.S.Source.faults c.args.input.now c.read_matrix.new.source) _ c.in-Ok.ensures c.in-Ok-read_matrix.ensures.gave c.in-Ok-read_matrix.ensures.most
-
-pub returns-clause-gave : goal.returns-clause-gave
-returns-clause-gave g c =
-    file_gave (seen g.S.Source.left g.S.Source.faults c.args.input.now c.read_matrix.new.source) _ c.in-Ok.ensures c.in-Err.ensures.gave c.in-Err.ensures.most
+pub returns-in_err-read_matrix-clause-unread : goal.returns-in_err-read_matrix-clause-unread
+returns-in_err-read_matrix-clause-unread g c =
+    let e = c.in_err-read_matrix.ensures in
+    let input = seen g.S.Source.left g.S.Source.faults c.args.input.now c.read_matrix.new.source in
+    as_refusal c.from_residual-in_err-read_matrix.result (refusal_for c.in_err-read_matrix.field-0.0) (λ r. IfErr r (IsUnread File input)) c.from_residual-in_err-read_matrix.ensures.1
+    (file_not_read File input _ c.read_matrix.new.input.ahead c.in_err-read_matrix.field-0.0 c.in_ok-bytes.ensures
+    e.answer e.short e.kind (λ x. e.cause.failed (ap Err x)))

@@ -1,5 +1,5 @@
-use Rattle.std.proofs.Common.{◌<◌, ◌++◌, [], take, refl, sym, ◌∙◌, arith, subst}
-use Rattle.sp_ports.specs.Counts.{SourceRose}
+use Rattle.std.proofs.Common.{◌<◌, [], refl, sym, ◌∙◌, arith, subst}
+use Rattle.sp_ports.specs.Device.{SourceRose}
 use Rattle.mm_defs.specs.declared.answers.ReadError.TheVariants as errors
 use Rattle.mm_reader.specs.Windows.{ahead_of}
 use Rattle.mm_reader.proofs.Exits.{rose_since, exit_refused, exit_fault, exit_done, exit_end, memory_told, closed_used, file_open, on_ok, refused_kind, refused_no_fault, ended_kind, ended_no_fault, ended_in_room, same_error, turn_smaller, all_used}
@@ -14,7 +14,7 @@ returns-in-Err g c =
       kind = tt;
       gave = (h.gave, h.told);
       most = most_told c.args.window.now c.args.window.now [] (g.S.Source.faults c.args.source.now) (g.S.Source.faults c.args.source.now) _ _ h c.requires.window;
-      cause = record { later = omega arith; steady = tt; failed = λ e. absurd cc };
+      cause = record { counts = record { later = omega arith; once = omega arith }; steady = tt; failed = λ e. absurd cc };
       counted = counted_told c.args.window.now c.args.window.now [] _ _ h;
       past = λ e. absurd cc;
       window = keeps c.args.window.now c.args.window.now [] _ _ h c.requires.window;
@@ -39,7 +39,7 @@ returns-in-Err-consume g c =
       kind = refused_kind _ _ _ _ _ (e.err i.fed.used i.fed.stands);
       gave = (h.gave, h.told);
       most = most_told c.args.window.now c.consume.new.window _ (g.S.Source.faults c.args.source.now) (g.S.Source.faults c.reading.source) _ _ h e.window;
-      cause = record { later = omega (arith, i.steady); steady = tt; failed = λ x. absurd (refused_no_fault _ _ _ _ _ (e.err i.fed.used i.fed.stands) x) };
+      cause = record { counts = record { later = omega (arith, i.steady); once = omega (arith, i.steady) }; steady = tt; failed = λ x. absurd (refused_no_fault _ _ _ _ _ (e.err i.fed.used i.fed.stands) x) };
       counted = counted_told c.args.window.now c.consume.new.window _ _ _ h;
       past = λ x. e.past (same_error c.in-Err-consume.error errors.TooLong x);
       window = keeps c.args.window.now c.consume.new.window _ _ _ h e.window;
@@ -64,7 +64,7 @@ returns-then-done g c =
       kind = tt;
       gave = (h.gave, h.told);
       most = most_told c.args.window.now c.consume.new.window f.used (g.S.Source.faults c.args.source.now) (g.S.Source.faults c.reading.source) _ _ h e.window;
-      cause = record { later = omega (arith, i.steady); steady = i.steady; failed = λ x. absurd cc };
+      cause = record { counts = record { later = omega (arith, i.steady); once = omega (arith, i.steady) }; steady = i.steady; failed = λ x. absurd cc };
       counted = counted_told c.args.window.now c.consume.new.window f.used _ _ h;
       past = λ x. absurd cc;
       window = keeps c.args.window.now c.consume.new.window f.used _ _ h e.window;
@@ -89,7 +89,7 @@ returns-then-window g c =
       kind = ended_kind _ c.args.end f.used c.conclude.result answer;
       gave = (h.gave, h.told);
       most = most_told c.args.window.now c.consume.new.window f.used (g.S.Source.faults c.args.source.now) (g.S.Source.faults c.reading.source) _ _ h e.window;
-      cause = record { later = omega (arith, i.steady); steady = on_ok _ c.conclude.result i.steady; failed = λ x. absurd (ended_no_fault _ c.args.end f.used c.conclude.result answer x) };
+      cause = record { counts = record { later = omega (arith, i.steady); once = omega (arith, i.steady) }; steady = on_ok _ c.conclude.result i.steady; failed = λ x. absurd (ended_no_fault _ c.args.end f.used c.conclude.result answer x) };
       counted = counted_told c.args.window.now c.consume.new.window f.used _ _ h;
       past = λ x. absurd (ended_in_room _ c.args.end f.used c.conclude.result answer x);
       window = keeps c.args.window.now c.consume.new.window f.used _ _ h e.window;
@@ -117,7 +117,7 @@ returns-in-Err-refill g c =
       kind = tt;
       gave = (h.gave, h.told);
       most = most_told c.args.window.now c.refill.new.window f.used (g.S.Source.faults c.args.source.now) (g.S.Source.faults c.refill.new.source) _ _ h r.window;
-      cause = record { later = omega (arith, i.steady, r.cause.later); steady = tt; failed = λ x. s };
+      cause = record { counts = record { later = omega (arith, i.steady, r.cause.counts.later); once = omega (arith, i.steady, r.cause.counts.once) }; steady = tt; failed = λ x. s };
       counted = counted_told c.args.window.now c.refill.new.window f.used _ _ h;
       past = λ x. absurd cc;
       window = keeps c.args.window.now c.refill.new.window f.used _ _ h r.window;

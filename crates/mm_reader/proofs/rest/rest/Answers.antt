@@ -1,5 +1,5 @@
 use Rattle.std.proofs.Common.{List, ℕ, ◌<◌, refl, sym, subst, ◌∙◌, arith}
-use Rattle.sp_ports.specs.Counts.{SourceRose}
+use Rattle.sp_ports.specs.Device.{SourceRose}
 use Rattle.mm_reader.specs.declared.window.Window.{Window}
 use Rattle.mm_reader.proofs.Exits.{rose_since, turn_smaller}
 use Rattle.mm_reader.proofs.Progress.{HasUsed, none_used, all_taken, refilled, not_refilled, keeps, counted_told, most_told}
@@ -16,7 +16,7 @@ returns-in-Err g c =
       unjudged = unjudged c.reading.window c.in-Err.error e.err;
       gave = (h.gave, h.told);
       most = most_told c.args.window.now c.take_ahead.new.window c.reading.bytes.items (g.S.Source.faults c.args.source.now) (g.S.Source.faults c.reading.source) _ _ h e.window.window;
-      cause = record { later = omega (arith, i.steady); steady = tt; failed = λ x. absurd (refused_no_rest_fault _ c.reading.window c.in-Err.error e.err x) };
+      cause = record { counts = record { later = omega (arith, i.steady); once = omega (arith, i.steady) }; steady = tt; failed = λ x. absurd (refused_no_rest_fault _ c.reading.window c.in-Err.error e.err x) };
       counted = counted_told c.args.window.now c.take_ahead.new.window c.reading.bytes.items _ _ h;
       past = λ x. rw e.same (past_ahead _ c.reading.window i.window c.in-Err.error e.err x);
       window = keeps c.args.window.now c.take_ahead.new.window c.reading.bytes.items _ _ h e.window.window;
@@ -36,7 +36,7 @@ returns-then-window g c =
       unjudged = tt;
       gave = (h.gave, h.told);
       most = most_told c.args.window.now c.take_ahead.new.window c.take_ahead.new.bytes.items (g.S.Source.faults c.args.source.now) (g.S.Source.faults c.reading.source) _ _ h e.window.window;
-      cause = record { later = omega (arith, i.steady); steady = i.steady; failed = λ x. absurd cc };
+      cause = record { counts = record { later = omega (arith, i.steady); once = omega (arith, i.steady) }; steady = i.steady; failed = λ x. absurd cc };
       counted = counted_told c.args.window.now c.take_ahead.new.window c.take_ahead.new.bytes.items _ _ h;
       past = λ x. absurd cc;
       window = keeps c.args.window.now c.take_ahead.new.window c.take_ahead.new.bytes.items _ _ h e.window.window;
@@ -60,7 +60,7 @@ returns-in-Err-refill g c =
       unjudged = tt;
       gave = (h.gave, h.told);
       most = most_told c.args.window.now c.refill.new.window c.take_ahead.new.bytes.items (g.S.Source.faults c.args.source.now) (g.S.Source.faults c.refill.new.source) _ _ h r.window;
-      cause = record { later = omega (arith, i.steady, r.cause.later); steady = tt; failed = λ x. s };
+      cause = record { counts = record { later = omega (arith, i.steady, r.cause.counts.later); once = omega (arith, i.steady, r.cause.counts.once) }; steady = tt; failed = λ x. s };
       counted = counted_told c.args.window.now c.refill.new.window c.take_ahead.new.bytes.items _ _ h;
       past = λ x. absurd cc;
       window = keeps c.args.window.now c.refill.new.window c.take_ahead.new.bytes.items _ _ h r.window;

@@ -1,12 +1,12 @@
-use Rattle.std.proofs.Common.{◌∙◌}
-use Rattle.sp_ports.proofs.Fronts.{front_then}
+use Rattle.std.proofs.Common.{◌++◌, ◌∙◌, List, ℕ, append_assoc, ap, refl, sym}
+use Rattle.sp_ports.proofs.InTurn.{split_at, took_both}
 use Rattle.sp_ports.proofs.ports.write_all.Goals as goal
 
 pub loop-rest-preserved : goal.loop-rest-preserved
 loop-rest-preserved g c =
-    let kept = c.loop-rest.invariant in (
-      front_then c.args.bytes.now kept.0.0 c.loop-rest.rest.now c.in_ok-count.count
-          (g.K.Sink.taken c.args.out.now) (g.K.Sink.taken c.loop-rest.out) (g.K.Sink.taken c.write.new.self)
-          kept.0.1 kept.0.2 c.in_ok-count.ensures.bytes,
-      c.in_ok-count.ensures.cause.steady ∙ kept.1,
+    let (front, is, took) = c.loop-rest.invariant in
+    let wrote = c.in_ok-count.ensures in (
+      _,
+      is ∙ ap (λ (r : List ℕ). front ++ r) (split_at c.in_ok-count.count c.loop-rest.rest.now) ∙ sym (append_assoc front _ _),
+      took_both _ _ _ _ (refl, refl) took (record { bytes = wrote.bytes; steady = wrote.cause.steady }),
     )

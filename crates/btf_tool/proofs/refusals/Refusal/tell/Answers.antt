@@ -1,23 +1,23 @@
 use Rattle.std.proofs.Common.{subst, ◌∙◌, List, ℕ}
-use Rattle.btf_tool.specs.Devices.{WasTold, seen}
+use Rattle.sp_ports.specs.Device.{WroteAsFar, seen}
 use Rattle.btf_tool.proofs.refusals.Refusal.tell.Goals as goal
 
 pub returns-in-Malformed : goal.returns-in-Malformed
 returns-in-Malformed g c =
     rw c.in-Malformed.is
-    (subst (λ (line : List ℕ). WasTold (seen g.E.Sink.taken g.E.Sink.faults c.args.err.now c.put-in-Malformed.new.err) line)
+    (subst (λ (line : List ℕ). WroteAsFar (seen g.E.Sink.taken g.E.Sink.faults c.args.err.now c.put-in-Malformed.new.err) line)
     (c.as_bytes-in-Malformed.ensures ∙ c.malformed_line.ensures) c.put-in-Malformed.ensures)
 
 pub returns-in-Limit : goal.returns-in-Limit
 returns-in-Limit g c =
     rw c.in-Limit.is
-    (subst (λ (line : List ℕ). WasTold (seen g.E.Sink.taken g.E.Sink.faults c.args.err.now c.put-in-Limit.new.err) line)
+    (subst (λ (line : List ℕ). WroteAsFar (seen g.E.Sink.taken g.E.Sink.faults c.args.err.now c.put-in-Limit.new.err) line)
     (c.as_bytes-in-Limit.ensures ∙ c.limit_line.ensures) c.put-in-Limit.ensures)
 
 pub returns-in-SumLimit : goal.returns-in-SumLimit
 returns-in-SumLimit g c =
     rw c.in-SumLimit.is
-    (subst (λ (line : List ℕ). WasTold (seen g.E.Sink.taken g.E.Sink.faults c.args.err.now c.put-in-SumLimit.new.err) line)
+    (subst (λ (line : List ℕ). WroteAsFar (seen g.E.Sink.taken g.E.Sink.faults c.args.err.now c.put-in-SumLimit.new.err) line)
     (c.as_bytes-in-SumLimit.ensures ∙ c.sum_limit_line.ensures) c.put-in-SumLimit.ensures)
 
 pub returns-in-NeedsInteger : goal.returns-in-NeedsInteger

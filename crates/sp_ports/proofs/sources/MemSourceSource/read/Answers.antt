@@ -1,7 +1,7 @@
 use Rattle.std.proofs.Common.{arith, ◌≤◌, ◌+◌, refl}
 use Rattle.std.proofs.lemmas.Grind.{common_steps}
 use Rattle.sp_ports.specs.Kept.{still_to_fail}
-use Rattle.sp_ports.specs.Devices.{number_after}
+use Rattle.sp_ports.specs.InMemory.{number_after}
 use Rattle.sp_ports.proofs.Listed.{fewer_or_same_after, fewer_after}
 use Rattle.sp_ports.proofs.sources.MemSourceSource.read.Goals as goal
 

@@ -1,5 +1,0 @@
-use Rattle.btf_tool.proofs.Jobs.{writes_flushed}
-use Rattle.btf_tool.proofs.analyse.write_answer.Goals as goal
-
-pub returns-in-Ok-clause-bytes : goal.returns-in-Ok-clause-bytes
-returns-in-Ok-clause-bytes g c a h = writes_flushed _ _ _ _ _ (c.in-Ok.ensures.of_matrix a h) c.flush.ensures.kept
