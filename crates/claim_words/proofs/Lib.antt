@@ -1,0 +1,13 @@
+mod Accounting
+mod Allowing
+mod Boards
+mod Closing
+mod Decoding
+mod Flat
+mod Gathering
+mod Keeps
+mod Openings
+mod Renewing
+mod Seating
+mod Settling
+mod Shown

@@ -1,0 +1,36 @@
+-- How lists of claims, or of wins, account for words: each entry of a list is a word and the value that it got.
+use Rattle.std.specs.Prelude.{◌≡◌, ℕ, ◌+◌, ◌==◌, if◌then◌else◌, List, [], ◌∷◌, Option, None, Some, length}
+use Rattle.bip_defs.specs.Lists.{Among}
+use Rattle.claim_words.specs.Board.{held}
+
+-- how often a word is listed
+abbrev pub times : ℕ → List (ℕ × ℕ) → ℕ
+times i [] = 0
+times i (p ∷ ps) = (if p.0 == i then 1 else 0) + times i ps
+
+-- 1 where a word that was opened empty holds a value, and else 0
+abbrev pub is_added : Option ℕ → Option ℕ → ℕ
+is_added None None = 0
+is_added None (Some x) = 1
+is_added (Some y) now = 0
+
+-- A word that was opened with a value holds it, and is not listed. A word that was opened empty is empty and not listed, or
+-- holds the value that is listed for it, once
+pub record Accounts (opened now : List (Option ℕ)) (listed : List (ℕ × ℕ)) : Type 0 where
+  pub as_many : length now ≡ length opened
+  pub stays : (i x : ℕ) → held opened i ≡ Some x → held now i ≡ Some x
+  pub stands : (i x : ℕ) → Among (i, x) listed → held now i ≡ Some x
+  pub once : (i : ℕ) → times i listed ≡ is_added (held opened i) (held now i)
+
+-- the value that is first listed for a word
+abbrev pub first_listed : ℕ → List (ℕ × ℕ) → Option ℕ
+first_listed i [] = None
+first_listed i (p ∷ ps) = if p.0 == i then Some p.1 else first_listed i ps
+
+abbrev pub value_or : Option ℕ → Option ℕ → Option ℕ
+value_or None other = other
+value_or (Some x) other = Some x
+
+-- what the lists tell of a word: the value with which it was opened, or else the one that is listed for it
+abbrev pub listed_word : List (Option ℕ) → List (ℕ × ℕ) → ℕ → Option ℕ
+listed_word opened listed i = value_or (held opened i) (first_listed i listed)

@@ -1,0 +1,30 @@
+-- How a board's words are kept: the spare word first, then the words of the rows, then those of the roots. A word is 0 where it is empty, and else 1 more than its value.
+use Rattle.std.specs.Prelude.{ℕ, zero, suc, ◌+◌, List, Option, None, Some, map, take, drop, ◌≤◌, ◌∷◌, ◌++◌, slice_index}
+use Rattle.claim_words.specs.Board.{Words}
+
+abbrev pub value_of : ℕ → Option ℕ
+value_of zero = None
+value_of (suc x) = Some x
+
+-- the word that holds a value, which has this number
+abbrev pub code_by : {X : Type 0} → (X → ℕ) → Option X → ℕ
+code_by number None = 0
+code_by number (Some x) = 1 + number x
+
+-- the spare word, then the words that hold these values
+abbrev pub words_for : List (Option ℕ) → List (Option ℕ) → List ℕ
+words_for rows roots = (0 ∷ map (code_by (λ (x : ℕ). x)) rows) ++ map (code_by (λ (x : ℕ). x)) roots
+
+-- each word is empty or holds a number of 32 bits
+abbrev pub AllFit : List ℕ → Type 0
+AllFit words = (i : ℕ) → slice_index words i ≤ 4294967296
+
+abbrev pub rows_in : ℕ → List ℕ → List (Option ℕ)
+rows_in rows words = map value_of (take rows (drop 1 words))
+
+abbrev pub roots_in : ℕ → List ℕ → List (Option ℕ)
+roots_in rows words = map value_of (drop (1 + rows) words)
+
+-- what the words hold, of which so many are the rows'
+abbrev pub decoded : ℕ → List ℕ → Words
+decoded rows words = record { rows = rows_in rows words; roots = roots_in rows words }

@@ -1,0 +1,11 @@
+pub mod Accounts
+pub mod Answers
+pub mod Board
+pub mod Coding
+pub mod Listed
+pub mod Rule
+pub mod Seat
+pub mod Settles
+pub mod Steps
+pub mod Stored
+pub mod WorkerState
