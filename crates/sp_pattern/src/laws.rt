@@ -12,5 +12,4 @@ pub fn search_finds_members(list: &[Col], col: Col, found: Result<usize, usize>)
     requires rising { IsRising list.now }
     requires found { IsBinarySearchResult (λ y. nat_cmp y col) list.now found }
     ensures { IsTrue (is_ok found) ↔ Among col list.now }
-{
-}
+{}
