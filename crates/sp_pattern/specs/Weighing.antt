@@ -19,6 +19,10 @@ weight_of t r c = unsigned_abs (sum_of t.items r c)
 abbrev pub weight_limit : ℕ
 weight_limit = max_value
 
+-- each of the first `count` sums is within it
+abbrev pub AreWithin : ℕ → List ℤ → Type 0
+AreWithin count sums = (i : ℕ) → i < count → unsigned_abs (slice_index_or sums i (pos 0)) ≤ weight_limit
+
 -- the matrix, and its entries' weights, column by column, each column's in the order of its rows
 pub record Weighing : Type 0 where
   pub matrix : Matrix

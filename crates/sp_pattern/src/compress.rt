@@ -11,7 +11,8 @@ use std::alloc::Global;
 pub fn open(starts: &mut Vec<u32>, outer: u32, end: u32) -> Result<(), OutOfMemory>
     requires { length starts.old.items ≤ outer + 1 }
     ensures opened { OnOk result (length starts.new.items ≡ outer + 1) }
-    ensures front { OnOk result ((ds : List Pair) (flat : List ℕ) → length flat ≡ end → IsFront ds starts.old.items flat → IsFront ds starts.new.items flat) }
+    ensures front { OnOk result ((ds : List Pair) (flat : List ℕ) → length flat ≡ end
+        → IsFront ds starts.old.items flat → IsFront ds starts.new.items flat) }
 {
     while starts.len() <= outer as usize {
         starts.push(end)?;

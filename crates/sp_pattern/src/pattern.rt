@@ -47,9 +47,12 @@ impl Model for Pattern {
 impl Pattern {
     /// The pattern of the places of these entries. A place that is given several times is one entry.
     ///
-    /// It is made on the calling thread, by counting. Answers `OutOfMemory` where there is no memory for the pattern, or
-    /// for 8 bytes an entry beside it where entries that are given together lie far apart. Work: linear in the entries,
-    /// the rows and the columns, least where the entries stand by columns or by rows.
+    /// Entries that stand neither by columns nor by rows are sorted by as many threads as `rt` has processors; where it
+    /// starts none, the calling thread sorts them, and the pattern is the same. Beside the pattern it takes at most 8 bytes
+    /// an entry, those that are given several times and the mirror images of a symmetric file counted too: while they are
+    /// sorted, or else while the second order is derived from the first, and then 4 bytes more for each 4,096 rows or
+    /// columns. Answers `OutOfMemory` where there is no memory for that or for the pattern. Work: linear in the entries,
+    /// the rows and the columns, and the sort.
     pub fn build<R: Threads + Sync>(
         rt: &R,
         alloc: Global,
@@ -96,7 +99,9 @@ impl Pattern {
     ) -> Result<Pattern, OutOfMemory>
         requires order { IsOrder cols rows col_starts.items col_rows.items }
         requires few { length col_rows.items < 2 ^ 32 }
-        ensures { IfOk result (λ a. (ps : List Pair) → IsOrderOf cols rows ps col_starts.items col_rows.items → HasPlaces rows cols (turned ps) a) }
+        ensures { IfOk result (λ a. (ps : List Pair)
+            → IsOrderOf cols rows ps col_starts.items col_rows.items
+            → HasPlaces rows cols (turned ps) a) }
     {
         let (row_starts, row_cols) = transpose::<Col, Row>(
             alloc,

@@ -6,7 +6,7 @@ ghost use Rattle.std.specs.Int.RustNames.{unsigned_abs};
 ghost use Rattle.bip_defs.specs.Matrix.{HasPlaces, IsEntry, cols, column, entry_count};
 ghost use Rattle.sp_ids.specs.Entries.{places};
 ghost use Rattle.sp_ids.specs.declared.triples.Field.TheVariants.{Integer};
-ghost use Rattle.sp_pattern.specs.Weighing.{AreSums, AreWeightsOf, weight_at, weight_limit, weights_in};
+ghost use Rattle.sp_pattern.specs.Weighing.{AreSums, AreWeightsOf, AreWithin, weight_at, weight_limit, weights_in};
 
 use crate::Pattern;
 use sp_ids::{Col, MAX_VALUE, OutOfMemory, Row, Triples};
@@ -50,7 +50,9 @@ impl<'p> Weights<'p> {
         requires { col < cols self.now.matrix }
         ensures weights { result.now ≡ weights_in self.now col }
         ensures length { length result.now ≡ length (column self.now.matrix col) }
-        ensures each { (k : ℕ) → k < length result.now → slice_index result.now k ≡ weight_at self.now (slice_index (column self.now.matrix col) k) col }
+        ensures each { (k : ℕ) → k < length result.now
+            → slice_index result.now k
+            ≡ weight_at self.now (slice_index (column self.now.matrix col) k) col }
     {
         let (from, to) = self.pattern.span(col);
         &self.weights.as_slice()[from..to]
@@ -127,9 +129,10 @@ fn zeros(alloc: Global, count: u32) -> Result<Vec<i128>, OutOfMemory>
 
 // Where the first sum stands that passes the limit.
 fn first_large(sums: &[i128]) -> Option<usize>
-    ensures found { IfSome result (λ k. (k < length sums.now) × (weight_limit < unsigned_abs (slice_index_or sums.now k (pos 0)))) }
-    ensures first { IfSome result (λ k. (i : ℕ) → i < k → unsigned_abs (slice_index_or sums.now i (pos 0)) ≤ weight_limit) }
-    ensures none { IfNone result ((i : ℕ) → i < length sums.now → unsigned_abs (slice_index_or sums.now i (pos 0)) ≤ weight_limit) }
+    ensures found { IfSome result (λ k. (k < length sums.now)
+        × (weight_limit < unsigned_abs (slice_index_or sums.now k (pos 0)))) }
+    ensures first { IfSome result (λ k. AreWithin k sums.now) }
+    ensures none { IfNone result (AreWithin (length sums.now) sums.now) }
 {
     for k in 0..sums.len() {
         if sums[k].unsigned_abs() > MAX_VALUE as u128 {
@@ -141,7 +144,7 @@ fn first_large(sums: &[i128]) -> Option<usize>
 
 // The magnitudes of sums that are within the limit.
 fn magnitudes(alloc: Global, sums: &[i128]) -> Result<Vec<u64>, OutOfMemory>
-    requires { (i : ℕ) → i < length sums.now → unsigned_abs (slice_index_or sums.now i (pos 0)) ≤ weight_limit }
+    requires { AreWithin (length sums.now) sums.now }
     ensures { IfOk result (λ w. w.items ≡ map unsigned_abs sums.now) }
 {
     let mut weights = Vec::with_capacity(alloc, sums.len())?;
