@@ -7,6 +7,7 @@ mod examples;
 mod laws;
 mod matching;
 mod orders;
+mod surplus;
 
 pub use answers::{Decomposition, Heaviest, Parts};
 pub use blocks::Blocks;
@@ -14,3 +15,4 @@ pub use examples::lower_triangle_in_two_orders;
 pub use laws::{one_rank_text, one_report, pairs_before_the_end};
 pub use matching::Matching;
 pub use orders::{orders_are_block_upper_triangular, square_size_counts_the_square_part};
+pub use surplus::surplus_is_unmatched;
