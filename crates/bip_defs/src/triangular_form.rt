@@ -36,8 +36,7 @@ pub fn fine_blocks_have_zero_free_diagonals()
     ensures pairs { (a : Matrix) (d : Decomposition) (m : List Place) (b : Block) → IsDecompositionOf a d → IsMaximum a m → Among b d.blocks → PairUp m b }
 {}
 
-/// Some columns of a fine block, but not all, have entries in more rows of the block than they are: so no order of its
-/// rows and columns makes two diagonal blocks of it.
+/// Some columns of a fine block, but not all, have entries in more rows of the block than they are.
 ///
 /// The strong Hall property of an irreducible block (Pothen and Fan 1990).
 pub fn fine_blocks_are_irreducible()

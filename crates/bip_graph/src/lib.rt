@@ -8,6 +8,7 @@ mod laws;
 mod matching;
 mod mates;
 mod orders;
+mod surplus;
 mod trace;
 
 pub use answers::{Decomposition, Heaviest, Parts};
@@ -17,4 +18,5 @@ pub use laws::{one_rank_text, one_report, pairs_before_the_end};
 pub use matching::Matching;
 pub use mates::Mates;
 pub use orders::{orders_are_block_upper_triangular, square_size_counts_the_square_part};
+pub use surplus::surplus_is_unmatched;
 pub use trace::{Parents, Queue, trace_back};

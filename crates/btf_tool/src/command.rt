@@ -23,8 +23,8 @@ use std::thread::Threads;
 /// `err` why.
 ///
 /// `words` are those after the program's name. The answer is the status with which the program ends. Nothing is written
-/// to `out` before all input is read and all memory is taken. No answer depends on `gate` or on the order in which
-/// threads run.
+/// to `out` before all input is read and all memory is taken. What is said here holds whatever `gate` does, and in
+/// whatever order threads run.
 pub fn run<R: Threads + Sync, S: Source, O: Sink, E: Sink, G: Gate>(
     rt: &R,
     alloc: Global,

@@ -8,7 +8,7 @@ use Rattle.mm_defs.specs.declared.header.Header.{Header}
 use Rattle.mm_defs.specs.declared.header.Size.{Size}
 use Rattle.mm_defs.specs.Words.{Line, is_lf, lines, open_line, has_bytes}
 use Rattle.mm_defs.specs.Header.{size}
-use Rattle.mm_defs.specs.File.{Fault, later_lines, line_faults, no_banner, missing, faults, first_fault, entries_of, rest_of, behind, last_number, matrix_lines}
+use Rattle.mm_defs.specs.File.{Fault, later_lines, line_faults, no_banner, missing, faults, first_fault, entries_of, rest_of, behind, last_number, matrix_lines, Reads}
 use Rattle.mm_defs.proofs.Behind.{length-lines, behind-front, behind-past}
 use Rattle.mm_defs.proofs.Fronts.{fault_stays}
 use Rattle.mm_defs.proofs.Lines.{lines-ended}
@@ -16,8 +16,8 @@ use Rattle.mm_reader.specs.declared.machine.Phase.{Phase}
 use Rattle.mm_reader.specs.declared.machine.Phase.TheVariants as phases
 use Rattle.mm_reader.specs.declared.machine.Stop.{Stop}
 use Rattle.mm_reader.specs.declared.machine.Stop.TheVariants as stops
-use Rattle.mm_reader.specs.Machine.{HasBanner, HasEntries, HasLines, is_complete}
-use Rattle.mm_reader.specs.Standing.{IsAll, Lacks, IsWhole, StopsAt, StopsAtEnd}
+use Rattle.mm_reader.specs.Machine.{HasBanner, HasEntries, HasLines, is_complete, StopsAt}
+use Rattle.mm_reader.specs.Standing.{IsAll, Lacks, StopsAtEnd}
 use Rattle.mm_reader.proofs.Words.{empty_of}
 
 -- ---- all lines have come
@@ -83,13 +83,13 @@ module _ (end : End) (bytes : List ℕ) where
   rest_begun File n h k = refl
   rest_begun LastEntry n h k = rw (h refl) (past_last n k)
 
-  pub whole_begun : (phase : Phase) (t : entries.Entries) → has_bytes (open_line bytes) ≡ true → IsAll end phase t (lines false bytes ++ open_line bytes ∷ []) → IsWhole end bytes t
+  pub whole_begun : (phase : Phase) (t : entries.Entries) → has_bytes (open_line bytes) ≡ true → IsAll end phase t (lines false bytes ++ open_line bytes ∷ []) → Reads bytes end t []
   whole_begun phase t e h =
       let k = begun_lines_are e in
       record {
         good = rw k h.good;
         entries = rw k h.entries;
-        rest = rest_begun end _ (λ last. rw k (h.last last)) refl;
+        follows = sym (rest_begun end _ (λ last. rw k (h.last last)) refl);
       }
 
   rest_closed : (e : End) (phase : Phase) → is_complete LastEntry phase ≡ true → is_complete e phase ≡ false → rest_of e bytes ≡ []
@@ -97,13 +97,13 @@ module _ (end : End) (bytes : List ℕ) where
   rest_closed File phase y n = refl
   rest_closed LastEntry phase y n = absurd cc
 
-  pub whole_closed : (phase : Phase) (t : entries.Entries) → has_bytes (open_line bytes) ≡ false → is_complete end phase ≡ false → IsAll end phase t (lines false bytes) → IsWhole end bytes t
+  pub whole_closed : (phase : Phase) (t : entries.Entries) → has_bytes (open_line bytes) ≡ false → is_complete end phase ≡ false → IsAll end phase t (lines false bytes) → Reads bytes end t []
   whole_closed phase t e out h =
       let k = closed_lines_are e in
       record {
         good = rw k h.good;
         entries = rw k h.entries;
-        rest = rest_closed end phase h.complete out;
+        follows = sym (rest_closed end phase h.complete out);
       }
 
   -- ---- the last line is bad, or something is missing

@@ -3,6 +3,7 @@ use Rattle.std.proofs.Common.{◌≡◌, ◌≢◌, ℕ, ◌+◌, ◌-◌, ◌*�
 use Rattle.sp_ids.specs.Entries as entries
 use Rattle.sp_ports.specs.Bytes.{Gives, IsAtEnd, WhereTold}
 use Rattle.sp_ports.specs.Device.{SourceRose}
+use Rattle.mm_defs.specs.File.{Reads}
 use Rattle.mm_defs.specs.declared.answers.End.{End}
 use Rattle.mm_defs.specs.declared.answers.ReadError.{ReadError}
 use Rattle.mm_defs.specs.declared.answers.ReadError.TheVariants as errors
@@ -13,7 +14,7 @@ use Rattle.mm_reader.specs.declared.machine.Machine.{Machine}
 use Rattle.mm_reader.specs.declared.machine.Phase.{Phase}
 use Rattle.mm_reader.specs.declared.window.Window.{Window}
 use Rattle.mm_reader.specs.Machine.{is_complete}
-use Rattle.mm_reader.specs.Standing.{IsAfter, IsWhole}
+use Rattle.mm_reader.specs.Standing.{IsAfter}
 use Rattle.mm_reader.specs.Windows.{ahead_of, call_of, Answers, IsWindow, Refuses, RefusesAtEnd}
 use Rattle.mm_reader.proofs.CompleteLaws.{complete_reads}
 use Rattle.mm_reader.proofs.Lacking.{lacks_lines}
@@ -74,7 +75,7 @@ module _ (end : End) (w0 : Window) (fb fa : ℕ) (m : Machine) (w : Window) (win
       }
 
   exit_of : (before after : List ℕ) (f : Fed end w0 w (Some before) (Some after) m) (result : Result entries.Entries ReadError) → ahead_of w ≡ [] → after ≡ [] → fa ≡ fb
-      → MatchResult result (λ t. IsWhole end f.used t) (RefusesAtEnd end f.used) → Answers end (call_of w0 fb fa before after) w result
+      → MatchResult result (λ t. Reads f.used end t []) (RefusesAtEnd end f.used) → Answers end (call_of w0 fb fa before after) w result
   exit_of before after f (Ok t) none over steady h =
       let fits : length f.used ≤ w0.room = omega (arith, f.so_far.size) in
       record {
@@ -88,7 +89,7 @@ module _ (end : End) (w0 : Window) (fb fa : ℕ) (m : Machine) (w : Window) (win
       record { answer = r.0; near = r.1; short = r.2 }
 
   pub exit_end : (old now : Option (List ℕ)) (result : Result entries.Entries ReadError) → Fed end w0 w old now m → ahead_of w ≡ [] → IsAtEnd now → fa ≡ fb → is_complete end m.phase ≡ false
-      → ((e : End) (bytes : List ℕ) → IsAfter e m bytes → is_complete e m.phase ≡ false → MatchResult result (λ t. IsWhole e bytes t) (RefusesAtEnd e bytes))
+      → ((e : End) (bytes : List ℕ) → IsAfter e m bytes → is_complete e m.phase ≡ false → MatchResult result (λ t. Reads bytes e t []) (RefusesAtEnd e bytes))
       → WhereTold old now (λ before after. Answers end (call_of w0 fb fa before after) w result)
   exit_end None now result f none over steady out h = tt
   exit_end (Some before) None result f none over steady out h = absurd f.so_far.told

@@ -11,7 +11,6 @@ use Rattle.mm_defs.specs.File.{Fault, Reads, line_faults, first_fault, behind}
 use Rattle.mm_defs.specs.Reading.{Call, got, given, offered, ended, first_bad, FellShort, IsAnswer, IsNear, LacksLines}
 use Rattle.mm_defs.proofs.Behind.{behind-front}
 use Rattle.mm_defs.proofs.Fronts.{bad_stays}
-use Rattle.mm_reader.specs.Standing.{IsWhole}
 use Rattle.mm_reader.specs.Windows.{HasBadFront, Refuses, RefusesAtEnd}
 
 first_is : (end : End) (bytes : List ℕ) (x : Fault) → line_faults end (lines false bytes) ≡ x ∷ [] → first_fault end false bytes ≡ Some x
@@ -137,11 +136,11 @@ module _ (end : End) (ahead before after gave used rest : List ℕ) (room fb fa 
     pub offered-used : offered call ≡ used
     offered-used = offered-is ∙ rw (none, over) (append-nil used)
 
-    pub end_read : (t : entries.Entries) (r : List ℕ) → r ≡ [] → IsWhole end used t → IsAnswer end call r (Ok t)
+    pub end_read : (t : entries.Entries) (r : List ℕ) → r ≡ [] → Reads used end t [] → IsAnswer end call r (Ok t)
     end_read t r e h =
         let o = offered-used in
         record {
-          reads = record { good = rw o h.good; entries = rw o h.entries; follows = rw o (e ∙ sym h.rest) };
+          reads = record { good = rw o h.good; entries = rw o h.entries; follows = rw o (e ∙ h.follows) };
           within = rw (o, e) (omega arith);
         }
 

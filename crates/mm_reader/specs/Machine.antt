@@ -55,11 +55,15 @@ pub record HasLines (end : End) (phase : Phase) (t : entries.Entries) (ls : List
   pub good : line_faults end ls ≡ []
   pub last : is_complete end phase ≡ true → last_number (later_lines ls) ≡ length ls
 
--- The phase after one more line, or its fault, which is the only one.
+-- the last of these lines is the one bad line
+abbrev pub StopsAt : End → List (List ℕ) → Stop → Type 0
+StopsAt end ls (stops.Bad line kind) = (line_faults end ls ≡ record { line = line; kind = kind } ∷ []) × (line ≡ length ls)
+StopsAt end ls stops.Memory = Unit {0}
+
+-- the phase after one more line, or its fault, which is the only one
 abbrev pub Steps : End → List (List ℕ) → entries.Entries → Result Phase Stop → Type 0
 Steps end ls t (Ok phase) = HasLines end phase t ls
-Steps end ls t (Err (stops.Bad line kind)) = (line_faults end ls ≡ record { line = line; kind = kind } ∷ []) × (line ≡ length ls)
-Steps end ls t (Err stops.Memory) = Unit {0}
+Steps end ls t (Err stop) = StopsAt end ls stop
 
 -- ---- what the code keeps of its own, whatever the lines were
 

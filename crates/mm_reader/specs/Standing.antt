@@ -4,7 +4,7 @@ use Rattle.sp_ids.specs.Entries as entries
 use Rattle.mm_defs.specs.declared.answers.End.{End}
 use Rattle.mm_defs.specs.declared.answers.End.TheVariants.{LastEntry}
 use Rattle.mm_defs.specs.Words.{lines, open_line, has_bytes}
-use Rattle.mm_defs.specs.File.{Fault, line_faults, faults, first_fault, entries_of, rest_of, behind, last_number, matrix_lines}
+use Rattle.mm_defs.specs.File.{Fault, line_faults, faults, first_fault, entries_of, behind, last_number, matrix_lines}
 use Rattle.mm_reader.specs.declared.machine.Machine.{Machine}
 use Rattle.mm_reader.specs.declared.machine.Phase.{Phase}
 use Rattle.mm_reader.specs.declared.machine.Stop.{Stop}
@@ -34,11 +34,6 @@ pub record IsAfter (end : End) (m : Machine) (bytes : List ℕ) : Type 0 where
 abbrev pub StandsSomewhere : End → Machine → Type 0
 StandsSomewhere end m = (bytes : List ℕ) × IsAfter end m bytes
 
--- the last of these lines is the one bad line
-abbrev pub StopsAt : End → List (List ℕ) → Stop → Type 0
-StopsAt end ls (stops.Bad line kind) = (line_faults end ls ≡ record { line = line; kind = kind } ∷ []) × (line ≡ length ls)
-StopsAt end ls stops.Memory = Unit {0}
-
 -- the bytes end with the one bad line
 pub record EndsBad (end : End) (fault : Fault) (bytes : List ℕ) : Type 0 where
   pub bad : line_faults end (lines false bytes) ≡ fault ∷ []
@@ -67,12 +62,6 @@ pub record IsAll (end : End) (phase : Phase) (t : entries.Entries) (ls : List (L
 abbrev pub Lacks : End → List (List ℕ) → Stop → Type 0
 Lacks end ls (stops.Bad line kind) = (slice_get (faults end true ls) 0 ≡ Some (record { line = line; kind = kind })) × (line ≡ max (length ls) 1)
 Lacks end ls stops.Memory = Unit {0}
-
--- The input ended with these bytes: they are a good file, and nothing follows it.
-pub record IsWhole (end : End) (bytes : List ℕ) (t : entries.Entries) : Type 0 where
-  pub good : faults end true (lines true bytes) ≡ []
-  pub entries : t ≡ entries_of (lines true bytes)
-  pub rest : rest_of end bytes ≡ []
 
 -- the input ended with these bytes, and this is its first fault
 abbrev pub StopsAtEnd : End → List ℕ → Stop → Type 0

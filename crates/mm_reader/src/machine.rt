@@ -5,11 +5,11 @@ ghost use Rattle.sp_ids.specs.Entries.{Entries};
 ghost use Rattle.sp_ids.specs.Limits.{max_value};
 ghost use Rattle.mm_defs.specs.Words.{words};
 ghost use Rattle.mm_defs.specs.Header.{is_general, is_integer_field};
-ghost use Rattle.mm_defs.specs.File.{mirror, line_faults, later_lines};
+ghost use Rattle.mm_defs.specs.File.{Reads, mirror, line_faults, later_lines};
 ghost use Rattle.mm_reader.specs.Lines.{IsLine};
 ghost use Rattle.mm_reader.specs.Judging.{triple_of};
-ghost use Rattle.mm_reader.specs.Machine.{HasBanner, HasEntries, HasLines, HasRoom, IsReady, Steps, is_complete};
-ghost use Rattle.mm_reader.specs.Standing.{begun_lines, IsBetween, IsAfter, IsAll, IsWhole, GoesOn, Halts, Lacks, StopsAt, StopsIn, StopsWithin, StopsAtEnd};
+ghost use Rattle.mm_reader.specs.Machine.{HasBanner, HasEntries, HasLines, HasRoom, IsReady, Steps, StopsAt, is_complete};
+ghost use Rattle.mm_reader.specs.Standing.{begun_lines, IsBetween, IsAfter, IsAll, GoesOn, Halts, Lacks, StopsIn, StopsWithin, StopsAtEnd};
 ghost use Rattle.mm_reader.specs.Additions.{with_entries};
 ghost use Rattle.mm_reader.specs.Plain.{AwaitsPlain, IsPlainLine};
 
@@ -394,7 +394,7 @@ pub fn finish(alloc: Global, m: &mut Machine) -> Result<(), Stop>
     requires ready { IsReady m.old.phase m.old.triples }
     requires room { begun_lines m.old < 2 ^ 64 }
     ensures { (end : End) (bytes : List ℕ) → IsAfter end m.old bytes → is_complete end m.old.phase ≡ false
-        → MatchResult result (λ _. IsWhole end bytes m.new.triples) (StopsAtEnd end bytes) }
+        → MatchResult result (λ _. Reads bytes end m.new.triples []) (StopsAtEnd end bytes) }
 {
     if !m.begun {
         return missing(m.phase, m.number);

@@ -1,13 +1,14 @@
 //! Reading a matrix from the bytes ahead and from a source.
 
-ghost use Rattle.std.specs.Prelude.{◌≡◌, ◌<◌, ◌+◌, ◌++◌, ◌^◌, ℕ, List, false, length, IfOk, IfErr, MatchResult, OnOk, IsTrue};
+ghost use Rattle.std.specs.Prelude.{◌≡◌, ◌<◌, ◌+◌, ◌++◌, ◌^◌, ℕ, List, false, length, IfOk, IfErr, MatchResult, OnOk, IsTrue, []};
 ghost use Rattle.std.specs.Result.{IsErrOf};
 ghost use Rattle.sp_ports.specs.Bytes.{GivesFront, IsAtEnd, WhereTold};
 ghost use Rattle.sp_ports.specs.Device.{seen};
+ghost use Rattle.mm_defs.specs.File.{Reads};
 ghost use Rattle.mm_defs.specs.Reading.{HasItsKind, LacksLf, TakesAtMostOnePast};
 ghost use Rattle.mm_reader.specs.Inputs.{FailsByReadFault};
 ghost use Rattle.mm_reader.specs.Machine.{IsReady, is_complete};
-ghost use Rattle.mm_reader.specs.Standing.{begun_lines, IsAfter, IsWhole, StandsSomewhere};
+ghost use Rattle.mm_reader.specs.Standing.{begun_lines, IsAfter, StandsSomewhere};
 ghost use Rattle.mm_reader.specs.Windows.{ahead_of, OnCallOf, Answers, HasCounted, IsOnePast, IsWindow, KeepsWindow, Consumes, Refuses, RefusesAtEnd, refusal_of, UsesSome};
 
 use crate::machine::{Machine, Stop, feed, finish, is_complete, start};
@@ -98,7 +99,7 @@ fn conclude(alloc: Global, m: Machine) -> Result<Triples, ReadError>
     requires ready { IsReady m.phase m.triples }
     requires room { begun_lines m < 2 ^ 64 }
     ensures { (end : End) (bytes : List ℕ) → IsAfter end m bytes → is_complete end m.phase ≡ false
-        → MatchResult result (λ t. IsWhole end bytes t) (RefusesAtEnd end bytes) }
+        → MatchResult result (λ t. Reads bytes end t []) (RefusesAtEnd end bytes) }
 {
     let mut m = m;
     match finish(alloc, &mut m) {

@@ -1,6 +1,7 @@
 use Rattle.std.proofs.Common.{◌≡◌, ◌++◌, ◌∷◌, [], true, false, sym, ◌∙◌}
+use Rattle.mm_defs.specs.File.{Reads}
 use Rattle.mm_defs.specs.Words.{lines, open_line, has_bytes}
-use Rattle.mm_reader.specs.Standing.{IsAll, Lacks, IsWhole, StopsAtEnd}
+use Rattle.mm_reader.specs.Standing.{IsAll, Lacks, StopsAtEnd}
 use Rattle.mm_reader.proofs.AfterLaws.{map_result}
 use Rattle.mm_reader.proofs.EndLaws.{whole_begun, whole_closed, stop_begun, lacks_begun, lacks_closed}
 use Rattle.mm_reader.proofs.machine.finish.Goals as goal
@@ -8,7 +9,7 @@ use Rattle.mm_reader.proofs.machine.finish.Goals as goal
 pub returns-then-not-m : goal.returns-then-not-m
 returns-then-not-m c end bytes h out =
     let closed : has_bytes (open_line bytes) ≡ false = sym h.begun_is ∙ c.if-not-m.true in
-    map_result (λ _. IsAll end c.args.m.now.phase c.args.m.now.triples (lines false bytes)) (λ _. IsWhole end bytes c.args.m.now.triples)
+    map_result (λ _. IsAll end c.args.m.now.phase c.args.m.now.triples (lines false bytes)) (λ _. Reads bytes end c.args.m.now.triples [])
     (Lacks end (lines false bytes)) (StopsAtEnd end bytes) c.missing.result
     (λ _ k. whole_closed end bytes c.args.m.now.phase c.args.m.now.triples closed out k)
     (λ stop k. lacks_closed end bytes stop closed k)
@@ -23,7 +24,7 @@ pub returns : goal.returns
 returns c end bytes h out =
     let begun : has_bytes (open_line bytes) ≡ true = sym h.begun_is ∙ c.if-not-m.false in
     let b = c.in_default.ensures.steps end (lines false bytes) (open_line bytes) h.open_is h.lines_are h.number_is out in
-    map_result (λ _. IsAll end c.end_line.new.m.phase c.end_line.new.m.triples (lines false bytes ++ open_line bytes ∷ [])) (λ _. IsWhole end bytes c.end_line.new.m.triples)
+    map_result (λ _. IsAll end c.end_line.new.m.phase c.end_line.new.m.triples (lines false bytes ++ open_line bytes ∷ [])) (λ _. Reads bytes end c.end_line.new.m.triples [])
     (Lacks end (lines false bytes ++ open_line bytes ∷ [])) (StopsAtEnd end bytes) c.missing-2.result
     (λ _ k. whole_begun end bytes c.end_line.new.m.phase c.end_line.new.m.triples begun k)
     (λ stop k. lacks_begun end bytes stop begun k)
