@@ -6,8 +6,8 @@ pub mod Halfway
 pub mod Handing
 pub mod Mates
 pub mod Members
+pub mod Offsets
 pub mod Queued
 pub mod Reports
 pub mod Seen
-pub mod Stretching
 pub mod Traced

@@ -1,7 +1,7 @@
 pub mod Answers
+pub mod Blocks
 pub mod Pairing
 pub mod Parents
 pub mod Permuted
 pub mod Shown
-pub mod Stretches
 pub mod Texts
