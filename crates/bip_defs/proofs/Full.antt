@@ -26,8 +26,8 @@ pub full_maximum : (a : Matrix) (m : List Place) → IsMatching a m → length m
 full_maximum a m k full = record { matching = k; longest = λ o l. omega (arith, full, matching_few a o l) }
 
 -- and has all columns
-pub all_cols : (a : Matrix) (m : List Place) → IsMatching a m → cols a ≤ length m → (c : ℕ) → c < cols a → Among c (cols_of m)
-all_cols a m k many c lt = all_below (cols a) (cols_of m) k.cols_differ (λ x h. let (r, p) = col_pair x m h in entry_col a r x (k.entries r x p)) (rw length-map many) c lt
+pub has_all_cols : (a : Matrix) (m : List Place) → IsMatching a m → cols a ≤ length m → (c : ℕ) → c < cols a → Among c (cols_of m)
+has_all_cols a m k many c lt = all_below (cols a) (cols_of m) k.cols_differ (λ x h. let (r, p) = col_pair x m h in entry_col a r x (k.entries r x p)) (rw length-map many) c lt
 
-pub all_rows : (a : Matrix) (m : List Place) → IsMatching a m → a.rows ≤ length m → (r : ℕ) → r < a.rows → Among r (rows_of m)
-all_rows a m k many r lt = all_below a.rows (rows_of m) k.rows_differ (λ x h. let (c, p) = row_pair x m h in (k.entries x c p).0) (rw length-map many) r lt
+pub has_all_rows : (a : Matrix) (m : List Place) → IsMatching a m → a.rows ≤ length m → (r : ℕ) → r < a.rows → Among r (rows_of m)
+has_all_rows a m k many r lt = all_below a.rows (rows_of m) k.rows_differ (λ x h. let (c, p) = row_pair x m h in (k.entries x c p).0) (rw length-map many) r lt

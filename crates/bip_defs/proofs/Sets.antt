@@ -1,7 +1,8 @@
 -- Lists that stand for sets: members, what is left without one of them, pigeonholes, rising lists.
-use Rattle.std.proofs.Common.{◌≡◌, ◌≢◌, ◌⊎◌, ◌↔◌, ◌∙◌, ℕ, zero, suc, ◌+◌, ◌<◌, ◌≤◌, Bool, true, false, cond, not, List, [], ◌∷◌, ◌++◌, map, filter, length, nat_eq, refl, sym, ap, subst, inl, inr, ⊎_elim, arith, zero-le, suc-le-suc, le_of_suc-le-suc, lt_irrefl, ap₂, not-suc-le-zero, ◌||◌, Contains, slice_index_or, eq-eqb, eqb-true, true≢false, set, get_or, get_or-set_same, get_or-set_other}
+use Rattle.std.proofs.Common.{◌≡◌, ◌≢◌, ◌⊎◌, ◌↔◌, ◌∙◌, ℕ, zero, suc, ◌+◌, ◌<◌, ◌≤◌, Bool, true, false, cond, not, List, [], ◌∷◌, ◌++◌, map, filter, length, nat_eq, refl, sym, ap, subst, inl, inr, ⊎_elim, arith, zero-le, suc-le-suc, le_of_suc-le-suc, lt_irrefl, ap₂, not-suc-le-zero, ◌||◌, Contains, slice_index_or, eq-eqb, eqb-true, true≢false, take, drop, set, get_or, get_or-set_same, get_or-set_other}
 use Rattle.std.proofs.Math.Decide.{dec_lt, ℕ_discrete}
-use Rattle.std.proofs.lemmas.List.{get_or_past}
+use Rattle.std.proofs.lemmas.List.{get_or-map, get_or_past}
+use Rattle.std.proofs.Math.Seq.{take-append_seam}
 use Rattle.std.proofs.lemmas.List.Filters.{length-filter_both}
 use Rattle.std.specs.List.{list_any}
 use Rattle.bip_defs.specs.Lists.{Among, AreDistinct, IsBelowEach, IsMarked, IsRising, Lists}
@@ -72,6 +73,18 @@ number_among x xs = is_among number_same x xs
 pub marked_more : (marks : List Bool) (d c : ℕ) → d < length marks → IsMarked marks c → IsMarked (set marks d true) c
 marked_more marks d c lt h = ⊎_elim (λ (e : c ≡ d). ap (λ x. get_or (set marks d true) x false) e ∙ get_or-set_same marks d true false lt) (λ ne. get_or-set_other marks d c true false ne ∙ h) (number_same c d)
 
+-- Prefixes.
+
+pub among_take : {X : Type 0} (n : ℕ) (x : X) (xs : List X) → Among x (take n xs) → Among x xs
+among_take zero x xs h = elim h [ ]
+among_take (suc n) x [] h = elim h [ ]
+among_take (suc n) x (y ∷ xs) (inl e) = inl e
+among_take (suc n) x (y ∷ xs) (inr h) = inr (among_take n x xs h)
+
+-- a list that was written over another one
+pub written_over : {X : Type 0} (new old : List X) (n : ℕ) → length new ≡ length old → n ≡ length old → take n (new ++ drop (length new) old) ≡ new
+written_over new old n same all = ap (λ k. take k (new ++ drop (length new) old)) (all ∙ sym same) ∙ take-append_seam new (drop (length new) old)
+
 -- What std's words say of members.
 
 pub contains_from_among : {X : Type 0} (x : X) (xs : List X) → Among x xs → Contains xs x
@@ -92,6 +105,17 @@ pub among_at : {X : Type 0} (xs : List X) (k : ℕ) (d : X) → k < length xs �
 among_at [] k d lt = absurd (not-suc-le-zero lt)
 among_at (x ∷ xs) zero d lt = inl refl
 among_at (x ∷ xs) (suc k) d lt = inr (among_at xs k d (le_of_suc-le-suc lt))
+
+-- it is not among those before it
+pub apart_from_front : {X : Type 0} (n : ℕ) (e : X) (xs : List X) → n < length xs → AreDistinct xs → ¬ Among (slice_index_or xs n e) (take n xs)
+apart_from_front n e [] lt d h = absurd (omega arith)
+apart_from_front zero e (x ∷ xs) lt d h = elim h [ ]
+apart_from_front (suc n) e (x ∷ xs) lt d (inl f) = d.0 (subst (λ y. Among y xs) f (among_at xs n e (omega arith)))
+apart_from_front (suc n) e (x ∷ xs) lt d (inr h) = apart_from_front n e xs (omega arith) d.1 h
+
+-- the number of what was read at a place
+pub number_at : {X : Type 0} (f : X → ℕ) (xs : List X) (k : ℕ) (x : X) → x ≡ slice_index_or xs k x → k < length xs → slice_index_or (map f xs) k 0 ≡ f x
+number_at f xs k x e lt = get_or-map f xs k x 0 lt ∙ ap f (sym e)
 
 -- the place of an element
 pub place_among : {X : Type 0} (x d : X) (xs : List X) → Among x xs → (k : ℕ) × (k < length xs) × (slice_index_or xs k d ≡ x)

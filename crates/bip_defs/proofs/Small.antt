@@ -1,10 +1,10 @@
 -- What the definitions say of small matrices, and of places given twice or out of range.
 use Rattle.std.proofs.Common.{◌≡◌, ◌≢◌, ◌⊎◌, ◌↔◌, ℕ, zero, suc, ◌-◌, ◌<◌, ◌≤◌, List, [], ◌∷◌, length, refl, sym, ap, subst, inl, inr, ⊎_elim, arith, zero-le}
-use Rattle.bip_defs.specs.Blocks.{AreBlocksOf, AreInOrder, Block, ColAt, IsBlock, IsFree, IsPerfect, IsSquareVertex, RowAt, Vertex, least_col}
+use Rattle.bip_defs.specs.Blocks.{AreBlocksOf, AreInOrder, Block, ColAt, IsBlock, MeetsNoOther, IsPerfect, IsSquareVertex, RowAt, Vertex, least_col}
 use Rattle.bip_defs.specs.Components.{AreComponents, IsComponent}
 use Rattle.bip_defs.specs.Walks.{IsLed, IsReached, Walk, stay, step}
 use Rattle.bip_defs.proofs.Fine.{block_is_component, component_is_block}
-use Rattle.bip_defs.proofs.Full.{all_cols, all_rows, full_maximum}
+use Rattle.bip_defs.proofs.Full.{has_all_cols, has_all_rows, full_maximum}
 use Rattle.bip_defs.proofs.Reaching.{reached_maximum}
 use Rattle.bip_defs.proofs.Searches.{parts_from_searches}
 use Rattle.bip_defs.specs.Decomposition.{IsDecompositionOf}
@@ -90,10 +90,10 @@ pub record IsFull (a : Matrix) (m : List Place) : Type 0 where
   pub cols : length m ≡ cols a
 
 full_no_horizontal : (a : Matrix) (m : List Place) → IsFull a m → (c : ℕ) → ¬ IsHorizontalCol a c
-full_no_horizontal a m full c h = h.3 (all_cols a h.1 h.2.matching (omega (arith, full.cols, h.2.longest m full.matching)) c h.0)
+full_no_horizontal a m full c h = h.3 (has_all_cols a h.1 h.2.matching (omega (arith, full.cols, h.2.longest m full.matching)) c h.0)
 
 full_no_vertical : (a : Matrix) (m : List Place) → IsFull a m → (r : ℕ) → ¬ IsVerticalRow a r
-full_no_vertical a m full r v = v.3 (all_rows a v.1 v.2.matching (omega (arith, full.rows, v.2.longest m full.matching)) r v.0)
+full_no_vertical a m full r v = v.3 (has_all_rows a v.1 v.2.matching (omega (arith, full.rows, v.2.longest m full.matching)) r v.0)
 
 full_square_row : (a : Matrix) (m : List Place) → IsFull a m → (r : ℕ) → r < a.rows → IsSquareRow a r
 full_square_row a m full r lt = (lt, λ h. full_no_horizontal a m full h.0 h.1, full_no_vertical a m full r)
@@ -114,8 +114,8 @@ full_parts a m full = record {
 full_perfect : (a : Matrix) (m : List Place) → IsFull a m → IsPerfect a m
 full_perfect a m full = record {
   matching = full.matching;
-  covers_row = λ r s. all_rows a m full.matching (omega (arith, full.rows)) r s.0;
-  covers_col = λ c s. all_cols a m full.matching (omega (arith, full.cols)) c s.0;
+  covers_row = λ r s. has_all_rows a m full.matching (omega (arith, full.rows)) r s.0;
+  covers_col = λ c s. has_all_cols a m full.matching (omega (arith, full.cols)) c s.0;
   only_rows = λ r h. let (c, p) = row_pair r m h in full_square_row a m full r (full.matching.entries r c p).0;
   only_cols = λ c h. let (r, p) = col_pair c m h in full_square_col a m full c (entry_col a r c (full.matching.entries r c p));
 }
@@ -233,14 +233,14 @@ down_in_order (suc k) le = (free, least, down_in_order k (omega arith))
     apart : (n r c : ℕ) → n < k → Among r (n ∷ []) → Among c (k ∷ []) → ¬ IsEntry lower_triangle r c
     apart n r c lt hr hc e = let er : r ≡ n = one r n hr in let ec : c ≡ k = one c k hc in let le : c ≤ r = below_diagonal r c e in absurd (omega arith)
 
-    free : IsFree lower_triangle (down (suc k)) (single k)
+    free : MeetsNoOther lower_triangle (down (suc k)) (single k)
     free d h other r c hr hc = ⊎_elim (λ (e : d ≡ single k). absurd (other e)) (λ g. let (n, lt, e) = among_down k d g in apart n r c lt (subst (λ (b : Block). Among r b.rows) e hr) hc) h
 
-    least : (d : Block) → Among d (down (suc k)) → IsFree lower_triangle (down (suc k)) d → least_col (single k) ≤ least_col d
+    least : (d : Block) → Among d (down (suc k)) → MeetsNoOther lower_triangle (down (suc k)) d → least_col (single k) ≤ least_col d
     least d (inl e) f = let g : least_col d ≡ k = ap least_col e in omega arith
     least d (inr h) f =
         let (n, lt, e) = among_down k d h in
-        let free_n = subst (IsFree lower_triangle (down (suc k))) e f in
+        let free_n = subst (MeetsNoOther lower_triangle (down (suc k))) e f in
         absurd (free_n (single k) (inl refl) (λ g. let same : k ≡ n = ap least_col g in absurd (omega arith)) k n (inl refl) (inl refl) (filled k n (omega arith) (omega arith)))
 
 one_component : (b d : Block) (k : ℕ) → IsComponent lower_triangle diagonal fall k b → IsComponent lower_triangle diagonal fall k d → b ≡ d

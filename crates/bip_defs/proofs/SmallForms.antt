@@ -1,11 +1,11 @@
 -- Block upper triangular forms of small matrices.
 use Rattle.std.proofs.Common.{◌≡◌, ℕ, zero, suc, ◌+◌, ◌<◌, ◌≤◌, List, [], ◌∷◌, refl, sym, subst, inl, inr, arith}
-use Rattle.bip_defs.specs.Blocks.{Block}
+use Rattle.bip_defs.specs.Blocks.{Block, block_at}
 use Rattle.bip_defs.specs.Lists.{Among, Lists}
 use Rattle.bip_defs.specs.Matrix.{IsEntry}
 use Rattle.bip_defs.specs.Once.{ListsOnce}
 use Rattle.bip_defs.specs.Small.{lower_triangle, single, whole_triangle, wide_row, wide_row_parts}
-use Rattle.bip_defs.specs.Triangular.{IsBlockUpperTriangular, IsProperPart, IsRowOver, block_at, diagonal_blocks}
+use Rattle.bip_defs.specs.Triangular.{IsBlockUpperTriangular, IsProperPart, IsRowOver, diagonal_blocks}
 use Rattle.bip_defs.proofs.Small.{below_diagonal, filled, one, wide_row_is}
 use Rattle.bip_defs.proofs.Triangular.{upper_triangular}
 

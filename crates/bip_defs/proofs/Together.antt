@@ -1,12 +1,11 @@
 -- The blocks together have each row and each column of the square part once.
 use Rattle.std.proofs.Common.{◌≡◌, ℕ, List, [], ◌∷◌, refl, sym, subst, inl, inr, ⊎_elim}
 use Rattle.std.specs.List.{flat_map}
-use Rattle.bip_defs.specs.Blocks.{AreBlocksOf, Block, Chain, ColAt, IsBlock, IsClassOf, IsSquareVertex, RowAt, Vertex, itself}
+use Rattle.bip_defs.specs.Blocks.{AreBlocksOf, Block, Chain, ColAt, IsBlock, IsClassOf, IsSquareVertex, RowAt, Vertex, itself, all_cols, all_rows}
 use Rattle.bip_defs.specs.Lists.{Among, AreDistinct}
 use Rattle.bip_defs.specs.Matrix.{Matrix, cols}
 use Rattle.bip_defs.specs.Once.{ListsOnce}
 use Rattle.bip_defs.specs.Parts.{IsSquareCol, IsSquareRow}
-use Rattle.bip_defs.specs.Triangular.{cols_in_turn, rows_in_turn}
 use Rattle.bip_defs.proofs.Counts.{distinct_append}
 use Rattle.bip_defs.proofs.Sets.{among_either, among_left, among_right, listed, number_among, rising_distinct}
 use Rattle.bip_defs.proofs.Uniqueness.{blocks_share_col, chain_back, chain_join, chain_square, class_same}
@@ -47,16 +46,16 @@ in_block a v bs blocks square none = listed (λ r. Chain a v (RowAt r)) a.rows (
     let class : IsClassOf a v (record { rows = rows.0; cols = columns.0 }) = record { square = square; rows = rows.1; cols = columns.1 } in
     none (record { rows = rows.0; cols = columns.0 }, blocks.complete _ (v, class), class)))
 
-pub square_rows_once : (a : Matrix) (bs : List Block) → AreBlocksOf a bs → ListsOnce (IsSquareRow a) (rows_in_turn bs)
+pub square_rows_once : (a : Matrix) (bs : List Block) → AreBlocksOf a bs → ListsOnce (IsSquareRow a) (all_rows bs)
 square_rows_once a bs blocks = record {
   distinct = flat_distinct (λ (b : Block). b.rows) bs blocks.distinct (λ b h. rising_distinct b.rows (blocks.sound b h).1.rows.rising) (λ b d r h k x y. blocks_share_row a b d r (blocks.sound b h) (blocks.sound d k) x y);
   sound = λ r h. let (b, k, g) = flat_among (λ (b : Block). b.rows) bs r h in block_row_square a b r (blocks.sound b k) g;
-  complete = λ r s. ⊎_elim (λ h. h) (λ (ne : ¬ Among r (rows_in_turn bs)). absurd (in_block a (RowAt r) bs blocks s (λ x. ne (among_flat (λ (b : Block). b.rows) bs x.0 r x.1 (x.2.rows.complete r itself))))) (number_among r (rows_in_turn bs));
+  complete = λ r s. ⊎_elim (λ h. h) (λ (ne : ¬ Among r (all_rows bs)). absurd (in_block a (RowAt r) bs blocks s (λ x. ne (among_flat (λ (b : Block). b.rows) bs x.0 r x.1 (x.2.rows.complete r itself))))) (number_among r (all_rows bs));
 }
 
-pub square_cols_once : (a : Matrix) (bs : List Block) → AreBlocksOf a bs → ListsOnce (IsSquareCol a) (cols_in_turn bs)
+pub square_cols_once : (a : Matrix) (bs : List Block) → AreBlocksOf a bs → ListsOnce (IsSquareCol a) (all_cols bs)
 square_cols_once a bs blocks = record {
   distinct = flat_distinct (λ (b : Block). b.cols) bs blocks.distinct (λ b h. rising_distinct b.cols (blocks.sound b h).1.cols.rising) (λ b d c h k x y. blocks_share_col a b d c (blocks.sound b h) (blocks.sound d k) x y);
   sound = λ c h. let (b, k, g) = flat_among (λ (b : Block). b.cols) bs c h in block_col_square a b c (blocks.sound b k) g;
-  complete = λ c s. ⊎_elim (λ h. h) (λ (ne : ¬ Among c (cols_in_turn bs)). absurd (in_block a (ColAt c) bs blocks s (λ x. ne (among_flat (λ (b : Block). b.cols) bs x.0 c x.1 (x.2.cols.complete c itself))))) (number_among c (cols_in_turn bs));
+  complete = λ c s. ⊎_elim (λ h. h) (λ (ne : ¬ Among c (all_cols bs)). absurd (in_block a (ColAt c) bs blocks s (λ x. ne (among_flat (λ (b : Block). b.cols) bs x.0 c x.1 (x.2.cols.complete c itself))))) (number_among c (all_cols bs));
 }

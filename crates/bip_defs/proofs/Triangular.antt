@@ -2,13 +2,13 @@
 use Rattle.std.proofs.Common.{◌≡◌, ◌∙◌, ℕ, zero, suc, ◌<◌, ◌≤◌, List, [], ◌∷◌, ◌++◌, refl, sym, ap, subst, inl, inr, ⊎_elim, append-nil, suc-le-suc, zero-le}
 use Rattle.std.proofs.lemmas.Grind.{flat_map-append}
 use Rattle.std.specs.List.{flat_map}
-use Rattle.bip_defs.specs.Blocks.{AreInOrder, Block, IsBlock}
+use Rattle.bip_defs.specs.Blocks.{AreInOrder, Block, IsBlock, all_cols, all_rows, block_at}
 use Rattle.bip_defs.specs.Decomposition.{Decomposition, IsDecompositionOf}
 use Rattle.bip_defs.specs.Lists.{Among, AreDistinct, Lists}
 use Rattle.bip_defs.specs.Matrix.{IsEntry, Matrix, cols}
 use Rattle.bip_defs.specs.Once.{ListsOnce}
 use Rattle.bip_defs.specs.Parts.{IsHorizontalCol, IsHorizontalRow, IsSquareCol, IsSquareRow, IsVerticalCol, IsVerticalRow}
-use Rattle.bip_defs.specs.Triangular.{IsBlockUpperTriangular, block_at, cols_in_turn, diagonal_blocks, rows_in_turn}
+use Rattle.bip_defs.specs.Triangular.{IsBlockUpperTriangular, diagonal_blocks}
 use Rattle.bip_defs.proofs.Counts.{distinct_append, horizontal_row_in_range, vertical_col_in_range}
 use Rattle.bip_defs.proofs.Sets.{among_either, among_last, among_left, among_right, number_among, rising_distinct}
 use Rattle.bip_defs.proofs.Square.{cols_apart, rows_apart}
@@ -32,17 +32,17 @@ flat_last : {X : Type 0} (f : X → List ℕ) (xs : List X) (y : X) → flat_map
 flat_last f xs y = flat_map-append f xs (y ∷ []) ∙ ap (λ (ys : List ℕ). flat_map f xs ++ ys) (append-nil (f y))
 
 -- the rows of the horizontal part, of the blocks and of the vertical part
-pub rows_in_parts : (d : Decomposition) → rows_in_turn (diagonal_blocks d) ≡ d.parts.horizontal_rows ++ (rows_in_turn d.blocks ++ d.parts.vertical_rows)
+pub rows_in_parts : (d : Decomposition) → all_rows (diagonal_blocks d) ≡ d.parts.horizontal_rows ++ (all_rows d.blocks ++ d.parts.vertical_rows)
 rows_in_parts d = ap (λ (ys : List ℕ). d.parts.horizontal_rows ++ ys) (flat_last (λ (b : Block). b.rows) d.blocks (record { rows = d.parts.vertical_rows; cols = d.parts.vertical_cols }))
 
-pub cols_in_parts : (d : Decomposition) → cols_in_turn (diagonal_blocks d) ≡ d.parts.horizontal_cols ++ (cols_in_turn d.blocks ++ d.parts.vertical_cols)
+pub cols_in_parts : (d : Decomposition) → all_cols (diagonal_blocks d) ≡ d.parts.horizontal_cols ++ (all_cols d.blocks ++ d.parts.vertical_cols)
 cols_in_parts d = ap (λ (ys : List ℕ). d.parts.horizontal_cols ++ ys) (flat_last (λ (b : Block). b.cols) d.blocks (record { rows = d.parts.vertical_rows; cols = d.parts.vertical_cols }))
 
-pub rows_once : (a : Matrix) (d : Decomposition) → IsDecompositionOf a d → ListsOnce (λ r. r < a.rows) (d.parts.horizontal_rows ++ (rows_in_turn d.blocks ++ d.parts.vertical_rows))
-rows_once a d is = once_together (IsHorizontalRow a) (IsSquareRow a) (IsVerticalRow a) a.rows d.parts.horizontal_rows (rows_in_turn d.blocks) d.parts.vertical_rows (lists_once (IsHorizontalRow a) d.parts.horizontal_rows is.parts.horizontal_rows) (square_rows_once a d.blocks is.blocks) (lists_once (IsVerticalRow a) d.parts.vertical_rows is.parts.vertical_rows) (λ r k s. s.1 k) (rows_apart a) (λ r s v. s.2 v) (horizontal_row_in_range a) (λ r s. s.0) (λ r v. v.0) (λ r lt nh nv. (lt, nh, nv))
+pub rows_once : (a : Matrix) (d : Decomposition) → IsDecompositionOf a d → ListsOnce (λ r. r < a.rows) (d.parts.horizontal_rows ++ (all_rows d.blocks ++ d.parts.vertical_rows))
+rows_once a d is = once_together (IsHorizontalRow a) (IsSquareRow a) (IsVerticalRow a) a.rows d.parts.horizontal_rows (all_rows d.blocks) d.parts.vertical_rows (lists_once (IsHorizontalRow a) d.parts.horizontal_rows is.parts.horizontal_rows) (square_rows_once a d.blocks is.blocks) (lists_once (IsVerticalRow a) d.parts.vertical_rows is.parts.vertical_rows) (λ r k s. s.1 k) (rows_apart a) (λ r s v. s.2 v) (horizontal_row_in_range a) (λ r s. s.0) (λ r v. v.0) (λ r lt nh nv. (lt, nh, nv))
 
-pub cols_once : (a : Matrix) (d : Decomposition) → IsDecompositionOf a d → ListsOnce (λ c. c < cols a) (d.parts.horizontal_cols ++ (cols_in_turn d.blocks ++ d.parts.vertical_cols))
-cols_once a d is = once_together (IsHorizontalCol a) (IsSquareCol a) (IsVerticalCol a) (cols a) d.parts.horizontal_cols (cols_in_turn d.blocks) d.parts.vertical_cols (lists_once (IsHorizontalCol a) d.parts.horizontal_cols is.parts.horizontal_cols) (square_cols_once a d.blocks is.blocks) (lists_once (IsVerticalCol a) d.parts.vertical_cols is.parts.vertical_cols) (λ c k s. s.1 k) (cols_apart a) (λ c s v. s.2 v) (λ c k. k.0) (λ c s. s.0) (vertical_col_in_range a) (λ c lt nh nv. (lt, nh, nv))
+pub cols_once : (a : Matrix) (d : Decomposition) → IsDecompositionOf a d → ListsOnce (λ c. c < cols a) (d.parts.horizontal_cols ++ (all_cols d.blocks ++ d.parts.vertical_cols))
+cols_once a d is = once_together (IsHorizontalCol a) (IsSquareCol a) (IsVerticalCol a) (cols a) d.parts.horizontal_cols (all_cols d.blocks) d.parts.vertical_cols (lists_once (IsHorizontalCol a) d.parts.horizontal_cols is.parts.horizontal_cols) (square_cols_once a d.blocks is.blocks) (lists_once (IsVerticalCol a) d.parts.vertical_cols is.parts.vertical_cols) (λ c k s. s.1 k) (cols_apart a) (λ c s v. s.2 v) (λ c k. k.0) (λ c s. s.0) (vertical_col_in_range a) (λ c lt nh nv. (lt, nh, nv))
 
 -- No entry below the diagonal blocks.
 

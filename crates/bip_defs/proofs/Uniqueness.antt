@@ -1,7 +1,7 @@
 -- A matrix is determined by its places, and its decomposition by the matrix.
 use Rattle.std.proofs.Common.{◌≡◌, ◌∙◌, ℕ, List, [], ◌∷◌, slice_index, refl, sym, ap₂, subst, inl, inr, ⊎_elim, arith, le_antisymm}
 use Rattle.std.proofs.lemmas.List.{ext_get_or}
-use Rattle.bip_defs.specs.Blocks.{AreBlocksOf, AreInOrder, Block, Chain, ColAt, IsBlock, IsClassOf, IsFree, IsPerfect, IsSquareVertex, RowAt, Vertex, by_col, by_row, itself, least_col}
+use Rattle.bip_defs.specs.Blocks.{AreBlocksOf, AreInOrder, Block, Chain, ColAt, IsBlock, IsClassOf, MeetsNoOther, IsPerfect, IsSquareVertex, RowAt, Vertex, by_col, by_row, itself, least_col}
 use Rattle.bip_defs.specs.Decomposition.{Decomposition, IsDecompositionOf}
 use Rattle.bip_defs.specs.Lists.{Among, AreDistinct}
 use Rattle.bip_defs.specs.Matching.{IsRank}
@@ -66,7 +66,7 @@ least_among (x ∷ xs) h = inl refl
 
 -- The order of the blocks.
 
-free_same : (a : Matrix) (bs ds : List Block) (b : Block) → ((d : Block) → Among d ds → Among d bs) → IsFree a bs b → IsFree a ds b
+free_same : (a : Matrix) (bs ds : List Block) (b : Block) → ((d : Block) → Among d ds → Among d bs) → MeetsNoOther a bs b → MeetsNoOther a ds b
 free_same a bs ds b within free d h = free d (within d h)
 
 -- blocks that have columns of their own stand in one order

@@ -1,5 +1,6 @@
 -- The fine blocks of the square part, and their order.
-use Rattle.std.specs.Prelude.{◌≢◌, ℕ, ◌≤◌, List, [], ◌∷◌, slice_index}
+use Rattle.std.specs.List.{flat_map}
+use Rattle.std.specs.Prelude.{◌≢◌, ℕ, ◌≤◌, List, [], ◌∷◌, slice_index, slice_index_or}
 use Rattle.bip_defs.specs.Lists.{Among, AreDistinct, Lists}
 use Rattle.bip_defs.specs.Matching.{IsMatching, cols_of, rows_of}
 use Rattle.bip_defs.specs.Matrix.{IsEntry, Matrix, Place}
@@ -32,6 +33,20 @@ pub record Block : Type 0 where
   pub rows : List ℕ
   pub cols : List ℕ
 
+abbrev pub no_block : Block
+no_block = record { rows = []; cols = [] }
+
+-- the block at a position, counted from 0; past the last one stands a block of no rows and no columns
+abbrev pub block_at : List Block → ℕ → Block
+block_at bs i = slice_index_or bs i no_block
+
+-- the rows of all blocks, block by block
+abbrev pub all_rows : List Block → List ℕ
+all_rows bs = flat_map (λ (b : Block). b.rows) bs
+
+abbrev pub all_cols : List Block → List ℕ
+all_cols bs = flat_map (λ (b : Block). b.cols) bs
+
 abbrev pub IsSquareVertex : Matrix → Vertex → Type 0
 IsSquareVertex a (RowAt r) = IsSquareRow a r
 IsSquareVertex a (ColAt c) = IsSquareCol a c
@@ -50,17 +65,17 @@ abbrev pub NoEntryIn : Matrix → Block → Block → Type 0
 NoEntryIn a d b = (r c : ℕ) → Among r d.rows → Among c b.cols → ¬ IsEntry a r c
 
 -- b's columns have entries in the rows of no other of these blocks
-abbrev pub IsFree : Matrix → List Block → Block → Type 0
-IsFree a blocks b = (d : Block) → Among d blocks → d ≢ b → NoEntryIn a d b
+abbrev pub MeetsNoOther : Matrix → List Block → Block → Type 0
+MeetsNoOther a blocks b = (d : Block) → Among d blocks → d ≢ b → NoEntryIn a d b
 
 -- the least column of a block
 abbrev pub least_col : Block → ℕ
 least_col b = slice_index b.cols 0
 
--- at each position stands, of the free blocks among those from there on, the one with the least column
+-- at each position stands, of the blocks from there on that meet no other of them, the one with the least column
 abbrev pub AreInOrder : Matrix → List Block → Type 0
 AreInOrder a [] = Unit {0}
-AreInOrder a (b ∷ bs) = IsFree a (b ∷ bs) b × ((d : Block) → Among d (b ∷ bs) → IsFree a (b ∷ bs) d → least_col b ≤ least_col d) × AreInOrder a bs
+AreInOrder a (b ∷ bs) = MeetsNoOther a (b ∷ bs) b × ((d : Block) → Among d (b ∷ bs) → MeetsNoOther a (b ∷ bs) d → least_col b ≤ least_col d) × AreInOrder a bs
 
 -- all blocks, each once, in order
 pub record AreBlocksOf (a : Matrix) (bs : List Block) : Type 0 where

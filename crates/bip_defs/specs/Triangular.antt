@@ -1,7 +1,6 @@
 -- The block upper triangular form, and what is said of its diagonal blocks.
-use Rattle.std.specs.List.{flat_map}
-use Rattle.std.specs.Prelude.{ℕ, ◌<◌, ◌≤◌, List, [], ◌∷◌, ◌++◌, length, slice_index_or}
-use Rattle.bip_defs.specs.Blocks.{Block}
+use Rattle.std.specs.Prelude.{ℕ, ◌<◌, ◌≤◌, List, [], ◌∷◌, ◌++◌, length}
+use Rattle.bip_defs.specs.Blocks.{Block, all_cols, all_rows, block_at}
 use Rattle.bip_defs.specs.Decomposition.{Decomposition}
 use Rattle.bip_defs.specs.Lists.{Among, AreDistinct}
 use Rattle.bip_defs.specs.Matrix.{IsEntry, Matrix, Place, cols}
@@ -11,21 +10,10 @@ use Rattle.bip_defs.specs.Once.{ListsOnce}
 abbrev pub diagonal_blocks : Decomposition → List Block
 diagonal_blocks d = record { rows = d.parts.horizontal_rows; cols = d.parts.horizontal_cols } ∷ d.blocks ++ record { rows = d.parts.vertical_rows; cols = d.parts.vertical_cols } ∷ []
 
--- the rows of all blocks, block by block
-abbrev pub rows_in_turn : List Block → List ℕ
-rows_in_turn bs = flat_map (λ (b : Block). b.rows) bs
-
-abbrev pub cols_in_turn : List Block → List ℕ
-cols_in_turn bs = flat_map (λ (b : Block). b.cols) bs
-
--- the block at a position, counted from 0; past the last one stands a block of no rows and no columns
-abbrev pub block_at : List Block → ℕ → Block
-block_at bs i = slice_index_or bs i (record { rows = []; cols = [] })
-
 -- each row and each column is in one block, and no entry's row is in a later block than its column
 pub record IsBlockUpperTriangular (a : Matrix) (bs : List Block) : Type 0 where
-  pub rows : ListsOnce (λ r. r < a.rows) (rows_in_turn bs)
-  pub cols : ListsOnce (λ c. c < cols a) (cols_in_turn bs)
+  pub rows : ListsOnce (λ r. r < a.rows) (all_rows bs)
+  pub cols : ListsOnce (λ c. c < cols a) (all_cols bs)
   pub entries : (r c i j : ℕ) → IsEntry a r c → Among r (block_at bs i).rows → Among c (block_at bs j).cols → i ≤ j
 
 -- the pairs lead from each row of the block to a column of it, and from each column to a row

@@ -1,14 +1,14 @@
 //! The block upper triangular form that a decomposition gives, and its diagonal blocks.
 
 ghost use Rattle.std.specs.Prelude.{◌≡◌, ◌<◌, ℕ, List, length};
-ghost use Rattle.bip_defs.specs.Blocks.{Block};
+ghost use Rattle.bip_defs.specs.Blocks.{Block, all_cols, all_rows};
 ghost use Rattle.bip_defs.specs.Decomposition.{Decomposition, IsDecompositionOf};
 ghost use Rattle.bip_defs.specs.Lists.{Among, Lists};
 ghost use Rattle.bip_defs.specs.Matching.{IsMaximum};
 ghost use Rattle.bip_defs.specs.Matrix.{Matrix, Place};
 ghost use Rattle.bip_defs.specs.Once.{ListsOnce};
 ghost use Rattle.bip_defs.specs.Parts.{IsSquareCol, IsSquareRow};
-ghost use Rattle.bip_defs.specs.Triangular.{IsBlockUpperTriangular, IsProperPart, IsRowOver, PairUp, cols_in_turn, diagonal_blocks, rows_in_turn};
+ghost use Rattle.bip_defs.specs.Triangular.{IsBlockUpperTriangular, IsProperPart, IsRowOver, PairUp, diagonal_blocks};
 
 /// The horizontal part, the fine blocks in their order and the vertical part are a block upper triangular form: each row
 /// and each column is in just one of them, and no entry's row is in a later one than its column.
@@ -24,8 +24,8 @@ pub fn decomposition_is_block_upper_triangular()
 /// The pairs of a maximum matching in the square part stay inside the blocks (Pothen and Fan 1990).
 pub fn fine_blocks_are_square()
     ensures square { (a : Matrix) (d : Decomposition) (b : Block) → IsDecompositionOf a d → Among b d.blocks → length b.rows ≡ length b.cols }
-    ensures rows { (a : Matrix) (d : Decomposition) → IsDecompositionOf a d → ListsOnce (IsSquareRow a) (rows_in_turn d.blocks) }
-    ensures cols { (a : Matrix) (d : Decomposition) → IsDecompositionOf a d → ListsOnce (IsSquareCol a) (cols_in_turn d.blocks) }
+    ensures rows { (a : Matrix) (d : Decomposition) → IsDecompositionOf a d → ListsOnce (IsSquareRow a) (all_rows d.blocks) }
+    ensures cols { (a : Matrix) (d : Decomposition) → IsDecompositionOf a d → ListsOnce (IsSquareCol a) (all_cols d.blocks) }
 {}
 
 /// Each maximum matching pairs the rows of each fine block with its columns: where each row is put in the place of the

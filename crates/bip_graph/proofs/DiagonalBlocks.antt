@@ -4,14 +4,14 @@ use Rattle.std.proofs.Math.Decide.{dec_lt}
 use Rattle.std.proofs.lemmas.List.{append_assoc, get_or-append_right, get_or_append_left}
 use Rattle.std.proofs.lemmas.List.Concat.{length-flat_map}
 use Rattle.std.specs.List.{flat_map}
-use Rattle.bip_defs.specs.Blocks.{Block}
+use Rattle.bip_defs.specs.Blocks.{Block, all_cols, all_rows, block_at}
 use Rattle.bip_defs.specs.Decomposition.{Decomposition, IsDecompositionOf}
 use Rattle.bip_defs.specs.Lists.{Among}
 use Rattle.bip_defs.specs.Matrix.{IsEntry, Matrix, cols, upto}
 use Rattle.bip_defs.specs.Once.{ListsOnce}
 use Rattle.bip_defs.specs.Parts.{IsSquareRow}
 use Rattle.bip_defs.specs.Small.{lower_triangle, lower_triangle_parts, single}
-use Rattle.bip_defs.specs.Triangular.{block_at, cols_in_turn, diagonal_blocks, rows_in_turn}
+use Rattle.bip_defs.specs.Triangular.{diagonal_blocks}
 use Rattle.bip_defs.proofs.Counts.{square_count}
 use Rattle.bip_defs.proofs.Sets.{among_at, few_distinct, rising_distinct, upto_length, upto_lists}
 use Rattle.bip_defs.proofs.Small.{filled, lower_triangle_is}
@@ -21,11 +21,11 @@ use Rattle.bip_graph.specs.Answers.{orders_of}
 use Rattle.bip_graph.specs.Permuted.{IsZeroBelow}
 use Rattle.bip_graph.specs.Texts.{square_size}
 
-pub rows_go : (d : Decomposition) → (orders_of d).0 ≡ rows_in_turn (diagonal_blocks d)
-rows_go d = append_assoc d.parts.horizontal_rows (rows_in_turn d.blocks) d.parts.vertical_rows ∙ sym (rows_in_parts d)
+pub rows_go : (d : Decomposition) → (orders_of d).0 ≡ all_rows (diagonal_blocks d)
+rows_go d = append_assoc d.parts.horizontal_rows (all_rows d.blocks) d.parts.vertical_rows ∙ sym (rows_in_parts d)
 
-pub cols_go : (d : Decomposition) → (orders_of d).1 ≡ cols_in_turn (diagonal_blocks d)
-cols_go d = append_assoc d.parts.horizontal_cols (cols_in_turn d.blocks) d.parts.vertical_cols ∙ sym (cols_in_parts d)
+pub cols_go : (d : Decomposition) → (orders_of d).1 ≡ all_cols (diagonal_blocks d)
+cols_go d = append_assoc d.parts.horizontal_cols (all_cols d.blocks) d.parts.vertical_cols ∙ sym (cols_in_parts d)
 
 pub rows_once : (a : Matrix) (d : Decomposition) → IsDecompositionOf a d → ListsOnce (λ r. r < a.rows) (orders_of d).0
 rows_once a d is = subst (ListsOnce (λ r. r < a.rows)) (sym (rows_go d)) (upper_triangular a d is).rows
@@ -35,10 +35,10 @@ cols_once a d is = subst (ListsOnce (λ c. c < cols a)) (sym (cols_go d)) (upper
 
 pub square_rows_counted : (a : Matrix) (d : Decomposition) → IsDecompositionOf a d → square_size d.blocks ≡ length d.parts.square_rows
 square_rows_counted a d is = sym (length-flat_map (λ (b : Block). b.rows) d.blocks) ∙ le_antisymm
-    (few_distinct (rows_in_turn d.blocks) d.parts.square_rows once.distinct (λ r h. is.parts.square_rows.complete r (once.sound r h)))
-    (few_distinct d.parts.square_rows (rows_in_turn d.blocks) (rising_distinct d.parts.square_rows is.parts.square_rows.rising) (λ r h. once.complete r (is.parts.square_rows.sound r h)))
+    (few_distinct (all_rows d.blocks) d.parts.square_rows once.distinct (λ r h. is.parts.square_rows.complete r (once.sound r h)))
+    (few_distinct d.parts.square_rows (all_rows d.blocks) (rising_distinct d.parts.square_rows is.parts.square_rows.rising) (λ r h. once.complete r (is.parts.square_rows.sound r h)))
   where
-    once : ListsOnce (IsSquareRow a) (rows_in_turn d.blocks)
+    once : ListsOnce (IsSquareRow a) (all_rows d.blocks)
     once = square_rows_once a d.blocks is.blocks
 
 pub square_cols_counted : (a : Matrix) (d : Decomposition) → IsDecompositionOf a d → square_size d.blocks ≡ length d.parts.square_cols
@@ -79,10 +79,10 @@ all_rows_long a rs once = omega (arith, upto_length 0 a.rows, few_distinct (upto
 pub zero_below : (a : Matrix) (d : Decomposition) → IsDecompositionOf a d → IsZeroBelow a (diagonal_blocks d) (orders_of d)
 zero_below a d is i x y from lt before e =
     let form = upper_triangular a d is in
-    let many = all_rows_long a (rows_in_turn (diagonal_blocks d)) form.rows in
+    let many = all_rows_long a (all_rows (diagonal_blocks d)) form.rows in
     let (j, late, r) = from_start (λ (b : Block). b.rows) (diagonal_blocks d) i x from (omega (arith, many, lt)) in
     let (k, early, c) = before_start (λ (b : Block). b.cols) (diagonal_blocks d) i y before in
-    let entry : IsEntry a (get_or (rows_in_turn (diagonal_blocks d)) x 0) (get_or (cols_in_turn (diagonal_blocks d)) y 0) =
+    let entry : IsEntry a (get_or (all_rows (diagonal_blocks d)) x 0) (get_or (all_cols (diagonal_blocks d)) y 0) =
     subst (λ (both : List ℕ × List ℕ). IsEntry a (get_or both.0 x 0) (get_or both.1 y 0)) (λ t. (rows_go d t, cols_go d t)) e in
     absurd (omega (arith, late, early, form.entries _ _ j k entry r c))
 

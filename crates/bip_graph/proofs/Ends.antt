@@ -2,7 +2,8 @@
 use Rattle.std.proofs.Common.{◌≡◌, ◌∙◌, ◌-◌, ℕ, zero, suc, ◌+◌, ◌<◌, ◌≤◌, List, [], ◌∷◌, ◌++◌, length, get_or, take, drop, refl, sym, ap, arith, length-drop}
 use Rattle.std.proofs.lemmas.List.{drop-append-le, drop_all, take-append-le, take_all, drop_at, take-append-drop}
 use Rattle.std.specs.List.{slice_range}
-use Rattle.bip_graph.specs.Stretches.{AreEnds, all_cols, all_rows, block_at, blocks_from, start_at}
+use Rattle.bip_defs.specs.Blocks.{all_cols, all_rows, block_at}
+use Rattle.bip_graph.specs.Blocks.{AreEnds, blocks_from, start_at}
 
 pub start_before : (i : ℕ) (ends : List ℕ) (at : ℕ) → suc at < length ends → start_at i ends (suc at) ≡ get_or ends at 0
 start_before i [] at lt = absurd (omega arith)

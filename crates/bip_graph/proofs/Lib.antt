@@ -6,9 +6,9 @@ pub mod Halfway
 pub mod Handing
 pub mod MateArrays
 pub mod Members
+pub mod Offsets
 pub mod Queued
 pub mod Mutual
 pub mod Reports
 pub mod Seen
-pub mod Stretching
 pub mod Traced

@@ -1,11 +1,11 @@
 -- An augmenting path that is followed back from its end.
-use Rattle.std.proofs.Common.{◌≡◌, ◌⊎◌, ◌∙◌, ℕ, zero, suc, ◌<◌, ◌≤◌, List, [], ◌∷◌, ◌++◌, take, drop, drop_of_length-le, length, length-append, reverse, refl, sym, ap, subst, inl, inr, ⊎_elim, arith}
-use Rattle.std.proofs.lemmas.List.{append-nil, length-map, length-reverse, reverse-append, take_all}
+use Rattle.std.proofs.Common.{◌≡◌, ◌⊎◌, ◌∙◌, ℕ, zero, suc, ◌<◌, ◌≤◌, List, [], ◌∷◌, ◌++◌, take, drop, length, length-append, reverse, refl, sym, ap, subst, inl, inr, ⊎_elim, arith}
+use Rattle.std.proofs.lemmas.List.{length-map, length-reverse, reverse-append}
 use Rattle.bip_defs.specs.Lists.{Among, AreDistinct}
 use Rattle.bip_defs.specs.Matching.{cols_of, rows_of}
 use Rattle.bip_defs.specs.Matrix.{Place}
 use Rattle.bip_defs.specs.Paths.{Alternates, BeginsUnmatched, IsAugmenting}
-use Rattle.bip_defs.proofs.Sets.{col_among, few_distinct, one_col, one_row, row_among}
+use Rattle.bip_defs.proofs.Sets.{col_among, few_distinct, one_col, one_row, row_among, written_over}
 use Rattle.bip_graph.specs.Parents.{AreTrees, HasDepth, IsAncestor, IsTraced, child, itself, parent, root}
 
 -- a column has one depth
@@ -115,6 +115,4 @@ tracing_end m reached leaf from c kept b free = record { begins = begins m c (re
 
 -- the list that was written over the kept one by turning it round
 pub turned_round : (kept new : List Place) (n : ℕ) → n ≡ length kept → new ≡ reverse kept → take n (new ++ drop (length new) kept) ≡ reverse kept
-turned_round kept new n long e =
-    let same : length new ≡ length kept = ap length e ∙ length-reverse kept in
-    ap (λ zs. take n (new ++ zs)) (drop_of_length-le kept (let le : length kept ≤ length new = omega arith in le)) ∙ ap (take n) (append-nil new) ∙ take_all n new (omega arith) ∙ e
+turned_round kept new n long e = written_over new kept n (ap length e ∙ length-reverse kept) long ∙ e

@@ -5,7 +5,7 @@ use Rattle.bip_defs.specs.Lists.{IsRising, Lists}
 use Rattle.bip_defs.specs.Matching.{IsMaximum, IsRank, cols_of}
 use Rattle.bip_defs.specs.Matrix.{Matrix, Place}
 use Rattle.bip_defs.specs.Parts.{IsHorizontalCol, IsHorizontalRow}
-use Rattle.bip_graph.specs.Stretches.{all_cols, all_rows}
+use Rattle.bip_defs.specs.Blocks.{all_cols, all_rows}
 use Rattle.bip_graph.specs.Texts.{Report, end_line, pair_lines, rank_text, report_text, sizes_of, text_of}
 
 -- the text over the rank and the rising lists of the horizontal part

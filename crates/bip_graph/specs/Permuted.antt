@@ -1,8 +1,7 @@
 -- The matrix with its rows and columns in the orders of a report.
 use Rattle.std.specs.Prelude.{ℕ, ◌<◌, ◌≤◌, List, length, slice_index, take}
-use Rattle.bip_defs.specs.Blocks.{Block}
+use Rattle.bip_defs.specs.Blocks.{Block, all_cols, all_rows}
 use Rattle.bip_defs.specs.Matrix.{IsEntry, Matrix}
-use Rattle.bip_graph.specs.Stretches.{all_cols, all_rows}
 
 -- how many rows stand before the block at a position
 abbrev pub rows_before : List Block → ℕ → ℕ

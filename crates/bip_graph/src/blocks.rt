@@ -1,7 +1,8 @@
 //! The fine blocks of a square part, in their order.
 
 ghost use Rattle.std.specs.Prelude.{◌≡◌, ◌↔◌, ◌+◌, ◌<◌, ◌≤◌, ◌^◌, ◌++◌, [], ◌∷◌, length, slice_index, slice_range, IfOk, IsTrue, OnErr, OnOk};
-ghost use Rattle.bip_graph.specs.Stretches.{AreEnds, all_cols, all_rows, block_at, start_at};
+ghost use Rattle.bip_defs.specs.Blocks.{all_cols, all_rows, block_at};
+ghost use Rattle.bip_graph.specs.Blocks.{AreEnds, start_at};
 
 use sp_ids::{Col, OutOfMemory, Row};
 use std::alloc::Global;
@@ -22,13 +23,13 @@ pub struct Blocks {
 impl Model for Blocks {
     ghost use Rattle.std.specs.Prelude.{List};
     ghost use Rattle.bip_defs.specs.Blocks.{Block};
-    ghost use Rattle.bip_graph.specs.Stretches.{AreStretches, blocks_from};
+    ghost use Rattle.bip_graph.specs.Blocks.{AreOffsets, blocks_from};
 
     ghost Value = { List Block };
 
     ghost view = { λ b. blocks_from 0 0 b.row_ends.items b.col_ends.items b.rows.items b.cols.items };
 
-    ghost invariant = { λ b. AreStretches b.row_ends.items b.col_ends.items b.rows.items b.cols.items };
+    ghost invariant = { λ b. AreOffsets b.row_ends.items b.col_ends.items b.rows.items b.cols.items };
 }
 
 impl Blocks {

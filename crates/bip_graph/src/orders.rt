@@ -4,7 +4,8 @@ ghost use Rattle.std.specs.Prelude.{◌≡◌, ◌<◌, ℕ, length};
 ghost use Rattle.bip_defs.specs.Decomposition.{Decomposition, IsDecompositionOf};
 ghost use Rattle.bip_defs.specs.Matrix.{Matrix, cols};
 ghost use Rattle.bip_defs.specs.Once.{ListsOnce};
-ghost use Rattle.bip_defs.specs.Triangular.{cols_in_turn, diagonal_blocks, rows_in_turn};
+ghost use Rattle.bip_defs.specs.Triangular.{diagonal_blocks};
+ghost use Rattle.bip_defs.specs.Blocks.{all_cols, all_rows};
 ghost use Rattle.bip_graph.specs.Answers.{orders_of};
 ghost use Rattle.bip_graph.specs.Permuted.{IsZeroBelow};
 ghost use Rattle.bip_graph.specs.Texts.{square_size};
@@ -15,8 +16,8 @@ ghost use Rattle.bip_graph.specs.Texts.{square_size};
 ///
 /// The block triangular form of Pothen and Fan (1990), over the parts of Dulmage and Mendelsohn (1958).
 pub fn orders_are_block_upper_triangular()
-    ensures rows_go { (d : Decomposition) → (orders_of d).0 ≡ rows_in_turn (diagonal_blocks d) }
-    ensures cols_go { (d : Decomposition) → (orders_of d).1 ≡ cols_in_turn (diagonal_blocks d) }
+    ensures rows_go { (d : Decomposition) → (orders_of d).0 ≡ all_rows (diagonal_blocks d) }
+    ensures cols_go { (d : Decomposition) → (orders_of d).1 ≡ all_cols (diagonal_blocks d) }
     ensures rows_once { (a : Matrix) (d : Decomposition) → IsDecompositionOf a d → ListsOnce (λ r. r < a.rows) (orders_of d).0 }
     ensures cols_once { (a : Matrix) (d : Decomposition) → IsDecompositionOf a d → ListsOnce (λ c. c < cols a) (orders_of d).1 }
     ensures below { (a : Matrix) (d : Decomposition) → IsDecompositionOf a d → IsZeroBelow a (diagonal_blocks d) (orders_of d) }

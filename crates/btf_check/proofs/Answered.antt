@@ -2,7 +2,7 @@
 use Rattle.std.proofs.Common.{◌≡◌, ◌∙◌, ℕ, ◌<◌, Bool, true, false, List, ◌++◌, Option, Some, None, filter, nat_eq, refl, sym, subst}
 use Rattle.std.specs.List.{list_any}
 use Rattle.std.specs.Prelude.{IfSome}
-use Rattle.bip_defs.specs.Blocks.{AreBlocksOf}
+use Rattle.bip_defs.specs.Blocks.{AreBlocksOf, all_cols, all_rows}
 use Rattle.bip_defs.specs.Decomposition.{Decomposition, IsDecompositionOf}
 use Rattle.bip_defs.specs.Lists.{IsRising, Lists}
 use Rattle.bip_defs.specs.Matching.{IsMaximum, cols_of}
@@ -12,7 +12,6 @@ use Rattle.bip_defs.specs.Parts.{IsSquareCol, IsSquareRow}
 use Rattle.bip_defs.proofs.Sets.{among_test, filter_lists, lists_same}
 use Rattle.bip_defs.proofs.Together.{square_cols_once, square_rows_once}
 use Rattle.bip_graph.specs.Answers.{orders_of, report_of, where_asked}
-use Rattle.bip_graph.specs.Stretches.{all_cols, all_rows}
 use Rattle.bip_graph.specs.Texts.{Report}
 use Rattle.btf_check.specs.Reasons.{AreOrdersOf, IsMet, TellsParts}
 use Rattle.btf_check.specs.Verdicts.{IsReportOf}

@@ -1,7 +1,7 @@
 -- What the comparisons show of a report.
 use Rattle.std.proofs.Common.{◌≡◌, ℕ, List, Some, Result, Ok, Err, IfOk, length, refl, sym, subst, arith}
 use Rattle.std.specs.Prelude.{IfSome}
-use Rattle.bip_defs.specs.Blocks.{AreBlocksOf, Block}
+use Rattle.bip_defs.specs.Blocks.{AreBlocksOf, Block, all_cols, all_rows}
 use Rattle.bip_defs.specs.Lists.{Lists}
 use Rattle.bip_defs.specs.Matching.{IsMaximum}
 use Rattle.bip_defs.specs.Matrix.{Matrix, Place}
@@ -10,7 +10,6 @@ use Rattle.bip_defs.specs.Parts.{ArePartsOf, IsHorizontalCol, IsHorizontalRow, I
 use Rattle.bip_defs.proofs.Sets.{lists_unique}
 use Rattle.bip_defs.proofs.Square.{in_rows, square_pairs_perfect}
 use Rattle.bip_defs.proofs.Uniqueness.{one_blocks, same_rank}
-use Rattle.bip_graph.specs.Stretches.{all_cols, all_rows}
 use Rattle.bip_graph.specs.Texts.{Report}
 use Rattle.btf_check.specs.Comparing.{AreOnce, HasOuterParts, HasParts, HasSizes}
 use Rattle.btf_check.specs.Reasons.{AreOrdersOf, ArePaired, IsMet, TellsBlocks, TellsParts}

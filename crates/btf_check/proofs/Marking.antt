@@ -2,8 +2,7 @@
 use Rattle.std.proofs.Common.{◌≡◌, ◌≢◌, ◌∙◌, ℕ, zero, suc, ◌+◌, ◌<◌, ◌≤◌, Bool, true, false, List, [], ◌∷◌, ◌++◌, length, get_or, set, take, take_all, length-set, sym, ap, subst, inl, ⊎_elim, arith, true≢false}
 use Rattle.std.proofs.lemmas.List.{get_or-set_other, get_or-set_same, take_more}
 use Rattle.bip_defs.specs.Lists.{Among, AreDistinct}
-use Rattle.bip_defs.proofs.Sets.{among_at, among_last, among_left, among_right, drops_kept, drops_length, few_distinct, number_among, number_same, taken}
-use Rattle.dm_fine.proofs.Sums.{among_take, apart_from_front, distinct_last}
+use Rattle.bip_defs.proofs.Sets.{among_at, among_last, among_left, among_right, drops_kept, drops_length, few_distinct, number_among, number_same, taken, among_take, apart_from_front, distinct_last}
 use Rattle.hall_witness.specs.Search.{IsMarked}
 use Rattle.btf_check.specs.Comparing.{AreOnce}
 

@@ -6,9 +6,8 @@ use Rattle.std.proofs.lemmas.List.{map-append, take_more}
 use Rattle.bip_defs.specs.Lists.{Among, AreDistinct, IsBelowEach, IsRising}
 use Rattle.bip_defs.specs.Matching.{IsMatching, cols_of, rows_of}
 use Rattle.bip_defs.specs.Matrix.{IsEntry, Matrix, Place, cols}
-use Rattle.bip_defs.proofs.Sets.{among_at, among_last, among_left, among_map, among_right, below_each_sound, col_among, col_pair, rising_distinct, row_among, row_pair}
+use Rattle.bip_defs.proofs.Sets.{among_at, among_last, among_left, among_map, among_right, below_each_sound, col_among, col_pair, rising_distinct, row_among, row_pair, distinct_last}
 use Rattle.bip_graph.specs.Pairing.{Pairing}
-use Rattle.dm_fine.proofs.Sums.{distinct_last}
 use Rattle.btf_check.specs.Reasons.{ArePaired}
 
 -- what stands at a place is not at an earlier one

@@ -4,7 +4,7 @@ use Rattle.bip_defs.specs.Lists.{Among}
 use Rattle.bip_defs.specs.Matrix.{Matrix, Place}
 use Rattle.bip_defs.specs.Once.{ListsOnce}
 use Rattle.bip_defs.specs.Parts.{Parts}
-use Rattle.bip_graph.specs.Stretches.{all_cols, all_rows}
+use Rattle.bip_defs.specs.Blocks.{all_cols, all_rows}
 use Rattle.bip_graph.specs.Texts.{Report, sizes_of}
 
 -- the first lines are those of a matrix with this maximum matching

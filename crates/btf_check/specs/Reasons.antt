@@ -1,13 +1,12 @@
 -- What is asked of a report of a matrix, in the order in which it is judged.
 use Rattle.std.specs.Prelude.{◌≡◌, ℕ, List, ◌++◌, IfSome}
-use Rattle.bip_defs.specs.Blocks.{AreBlocksOf}
+use Rattle.bip_defs.specs.Blocks.{AreBlocksOf, all_cols, all_rows}
 use Rattle.bip_defs.specs.Lists.{AreDistinct, Lists}
 use Rattle.bip_defs.specs.Matching.{IsMaximum, IsRank, rows_of}
 use Rattle.bip_defs.specs.Matrix.{AreEntries, Matrix, Place}
 use Rattle.bip_defs.specs.Once.{ListsOnce}
 use Rattle.bip_defs.specs.Parts.{IsHorizontalCol, IsHorizontalRow, IsSquareCol, IsSquareRow, IsVerticalCol, IsVerticalRow}
 use Rattle.bip_graph.specs.Texts.{Report, sizes_of}
-use Rattle.bip_graph.specs.Stretches.{all_cols, all_rows}
 
 -- each pair is an entry, and no two pairs share a row
 pub record ArePaired (a : Matrix) (pairs : List Place) : Type 0 where

@@ -2,8 +2,9 @@
 
 ghost use Rattle.std.specs.Prelude.{◌≡◌, ◌↔◌, IfNone, IfOk, IfSome, IsTrue};
 ghost use Rattle.bip_defs.specs.Lists.{IsRising};
-ghost use Rattle.bip_defs.specs.Matching.{IsMatching, IsMaximum, cols_of};
+ghost use Rattle.bip_defs.specs.Matching.{IsMaximum, cols_of};
 ghost use Rattle.bip_defs.specs.Matrix.{cols};
+ghost use Rattle.bip_graph.specs.Pairing.{IsMatchingOf};
 ghost use Rattle.btf_check.specs.Reasons.{ArePaired};
 
 use bip_graph::Matching;
@@ -48,9 +49,7 @@ pub(crate) fn is_maximum(
     pattern: &Pattern,
     matching: &Matching,
 ) -> Result<bool, OutOfMemory>
-    requires rows { matching.now.rows ≡ pattern.now.rows }
-    requires cols { matching.now.cols ≡ cols pattern.now }
-    requires matching { IsMatching pattern.now matching.now.pairs }
+    requires matching { IsMatchingOf pattern.now matching.now }
     ensures { IfOk result (λ b. IsTrue b ↔ IsMaximum pattern.now matching.now.pairs) }
 {
     match reach(alloc, pattern, matching)? {

@@ -4,8 +4,7 @@ use Rattle.std.specs.List.{AllByRecursion}
 use Rattle.std.proofs.lemmas.Grind.{flat_map-append}
 use Rattle.std.proofs.lemmas.List.Concat.{length-flat_map}
 use Rattle.std.proofs.lemmas.List.Sums.{sum_by-cons}
-use Rattle.bip_defs.specs.Blocks.{Block}
-use Rattle.bip_graph.specs.Stretches.{all_cols, all_rows}
+use Rattle.bip_defs.specs.Blocks.{Block, all_cols, all_rows}
 use Rattle.bip_graph.specs.Texts.{block_lines, line, lists, spelled, square_line, square_lines, square_size, text_of}
 use Rattle.btf_text.specs.declared.stop.Stop.{Stop}
 use Rattle.btf_text.specs.Readable.{AreBlocksLike, IsBlockLike}

@@ -1,7 +1,7 @@
 -- The report of a matrix within the limits of a text can be read.
 use Rattle.std.proofs.Common.{◌≡◌, ◌<◌, ◌≤◌, ◌^◌, ℕ, suc, Bool, true, false, List, [], ◌∷◌, ◌++◌, length, Some, IfSome, refl, sym, ap, subst, inl, inr, ⊎_elim, arith}
 use Rattle.std.specs.List.{AllByRecursion}
-use Rattle.bip_defs.specs.Blocks.{Block, Chain, ColAt, IsBlock, IsPerfect, RowAt}
+use Rattle.bip_defs.specs.Blocks.{Block, Chain, ColAt, IsBlock, IsPerfect, RowAt, all_cols, all_rows}
 use Rattle.bip_defs.specs.Blocks.Chain.{by_col, by_row}
 use Rattle.bip_defs.specs.Decomposition.{Decomposition, IsDecompositionOf}
 use Rattle.bip_defs.specs.Lists.{Among, AreDistinct, IsRising, Lists}
@@ -13,7 +13,6 @@ use Rattle.bip_defs.proofs.Sets.{among_either, col_pair, entry_col, few_distinct
 use Rattle.bip_defs.proofs.Square.{square_pairs_perfect}
 use Rattle.bip_defs.proofs.Uniqueness.{block_has_col, chain_back, chain_join, chain_square, class_same}
 use Rattle.bip_graph.specs.Answers.{orders_of, report_of, where_asked}
-use Rattle.bip_graph.specs.Stretches.{all_cols, all_rows}
 use Rattle.bip_graph.specs.Texts.{square_size}
 use Rattle.btf_text.specs.Readable.{AreBlocksLike, AreOrdersLike, FitsText, IsBlockLike, IsId, IsList, IsReadable}
 use Rattle.btf_text.proofs.BlockLists.{rows_of_blocks, size_more}

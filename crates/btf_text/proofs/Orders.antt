@@ -2,9 +2,8 @@
 use Rattle.std.proofs.Common.{Bool, true, false, arith, codes, decimal, map, ◌≡◌, ◌<◌, ◌+◌, ℕ, suc, List, [], ◌∷◌, ◌++◌, length, take, append_assoc, sym, ap, ap₂, ◌∙◌, Option}
 use Rattle.std.proofs.lemmas.List.{length-take-le, map-append, take_more}
 use Rattle.std.proofs.lemmas.Grind.{flat_map-append}
-use Rattle.bip_defs.specs.Blocks.{Block}
+use Rattle.bip_defs.specs.Blocks.{Block, block_at, no_block}
 use Rattle.bip_graph.specs.Answers.{where_asked}
-use Rattle.bip_graph.specs.Stretches.{block_at, no_block}
 use Rattle.bip_graph.specs.Texts.{TextLine, block_lines, counted, line, lists, order_lines, spaced, spelled}
 use Rattle.btf_text.specs.Buffered.{AppendsLines, Buffered, since}
 use Rattle.btf_text.proofs.BufferLaws.{appends_none}

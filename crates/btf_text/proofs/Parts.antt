@@ -5,8 +5,7 @@ use Rattle.std.proofs.lemmas.List.{map-id}
 use Rattle.std.proofs.lemmas.Grind.{flat_map-append}
 use Rattle.std.proofs.lemmas.Bool.Decides.{eqb_tells}
 use Rattle.std.proofs.lemmas.List.Concat.{length-flat_map}
-use Rattle.bip_defs.specs.Blocks.{Block}
-use Rattle.bip_graph.specs.Stretches.{all_rows}
+use Rattle.bip_defs.specs.Blocks.{Block, all_rows}
 use Rattle.bip_graph.specs.Texts.{TextLine, line, lists, part, spelled, square_line, text_of}
 use Rattle.btf_text.specs.Reports.{lengths_line}
 use Rattle.sp_ports.specs.Device.{Device}

@@ -2,10 +2,9 @@
 use Rattle.std.specs.Prelude.{◌≡◌, ℕ, zero, suc, ◌+◌, ◌-◌, ◌*◌, ◌==◌, nat_lt, nat_eq, if◌then◌else◌, Bool, true, false, ◌&&◌, List, [], ◌∷◌, ◌++◌, length, drop, Option, Some, None, Result, Ok, Err, codes}
 use Rattle.std.specs.Char.{is_ascii_digit}
 use Rattle.std.specs.List.{starts_with}
-use Rattle.bip_defs.specs.Blocks.{Block}
+use Rattle.bip_defs.specs.Blocks.{Block, all_rows}
 use Rattle.bip_defs.specs.Matching.{cols_of}
 use Rattle.bip_defs.specs.Matrix.{Place}
-use Rattle.bip_graph.specs.Stretches.{all_rows}
 use Rattle.bip_graph.specs.Texts.{Report, Sizes}
 use Rattle.btf_text.specs.declared.stop.Stop.{Stop}
 use Rattle.btf_text.specs.declared.stop.Stop.TheVariants.{Memory, Other}

@@ -7,9 +7,9 @@ mod split;
 mod tests;
 
 ghost use Rattle.std.specs.Prelude.{◌≡◌, IfOk};
-ghost use Rattle.bip_defs.specs.Matching.{IsMaximum};
 ghost use Rattle.bip_defs.specs.Matrix.{cols};
 ghost use Rattle.bip_defs.specs.Parts.{ArePartsOf};
+ghost use Rattle.bip_graph.specs.Pairing.{IsMaximumOf};
 ghost use Rattle.bip_graph.specs.Shown.{parts_of};
 
 use crate::maximum::Maximum;
@@ -33,9 +33,7 @@ pub fn coarse<R: Threads + Sync>(
     pattern: &Pattern,
     matching: &Matching,
 ) -> Result<Parts, OutOfMemory>
-    requires rows { matching.now.rows ≡ pattern.now.rows }
-    requires cols { matching.now.cols ≡ cols pattern.now }
-    requires maximum { IsMaximum pattern.now matching.now.pairs }
+    requires maximum { IsMaximumOf pattern.now matching.now }
     ensures { IfOk result (λ p. ArePartsOf pattern.now (parts_of p)) }
 {
     let known = Maximum { pattern, matching };

@@ -2,7 +2,7 @@
 use Rattle.std.proofs.Common.{◌≡◌, ◌≢◌, ◌⊎◌, ◌∙◌, ℕ, ◌^◌, ◌<◌, ◌≤◌, List, [], ◌∷◌, ◌++◌, map, length, nat_eq, get_or, refl, sym, ap, subst, inl, inr, ⊎_elim, arith}
 use Rattle.std.specs.List.{list_any}
 use Rattle.std.proofs.lemmas.List.{get_or_default}
-use Rattle.bip_defs.specs.Blocks.{AreBlocksOf, AreInOrder, Block, IsBlock, IsFree, least_col}
+use Rattle.bip_defs.specs.Blocks.{AreBlocksOf, AreInOrder, Block, IsBlock, MeetsNoOther, least_col}
 use Rattle.bip_defs.specs.Components.{IsComponent}
 use Rattle.bip_defs.specs.Lists.{Among, AreDistinct, Lists}
 use Rattle.bip_defs.specs.Matching.{IsMatching}
@@ -14,12 +14,12 @@ use Rattle.sp_pattern.specs.Stored.{piece}
 use Rattle.square_components.specs.Numbering.{AreNumbered, look, none}
 use Rattle.dm_fine.specs.Following.{AreOrdered, Follow}
 use Rattle.dm_fine.specs.Groups.{AreApart, AreGroups, AreRowGroups, StandsAt, block_of}
-use Rattle.dm_fine.specs.Waits.{IsGathered, least_of, row_waits, waits_at, waits_for}
+use Rattle.dm_fine.specs.InDegrees.{IsGathered, least_of, row_edges, edges_at, edges_into}
 use Rattle.dm_fine.proofs.Gathered.{least_stands}
 use Rattle.dm_fine.proofs.Ordering.{follow_distinct, follow_fresh, follow_range}
 use Rattle.dm_fine.proofs.Parting.{groups_apart, joined, joined_few}
 use Rattle.dm_fine.proofs.Sums.{sum_from, sum_some}
-use Rattle.dm_fine.proofs.Waiting.{waits_hit, waits_miss, waits_own_j}
+use Rattle.dm_fine.proofs.InDegrees.{edges_hit, edges_miss, edges_own_j}
 
 -- The numbers.
 
@@ -77,16 +77,16 @@ in_row a r c e = filter_complete (λ d. list_any (nat_eq r) (column a d)) c (upt
 from_row : (a : Matrix) (r c : ℕ) → r < a.rows → Among c (row_list a r) → IsEntry a r c
 from_row a r c lt h = (lt, (among_test r (column a c)).0 (filter_sound (λ d. list_any (nat_eq r) (column a d)) c (upto (cols a)) h).1)
 
--- an entry of a column of j in a row of another is waited for
-entry_waits : (a : Matrix) (numbers rs r : List ℕ) (j k x c : ℕ) → j ≢ k → Among x (piece rs r k) → get_or numbers c 0 ≡ j → IsEntry a x c → waits_for (row_list a) numbers rs r j k ≢ 0
-entry_waits a numbers rs r j k x c ne h is e nil =
-    let hit = waits_hit k j (get_or numbers c 0) is (λ f. ne (sym is ∙ f)) in
-    let inner = sum_some (λ d. waits_at k j (get_or numbers d 0)) (row_list a x) c (in_row a x c e) in
-    let outer = sum_some (λ y. row_waits numbers k j (row_list a y)) (piece rs r k) x h in
+-- an entry of a column of j in a row of another is an edge
+entry_edges : (a : Matrix) (numbers rs r : List ℕ) (j k x c : ℕ) → j ≢ k → Among x (piece rs r k) → get_or numbers c 0 ≡ j → IsEntry a x c → edges_into (row_list a) numbers rs r j k ≢ 0
+entry_edges a numbers rs r j k x c ne h is e nil =
+    let hit = edges_hit k j (get_or numbers c 0) is (λ f. ne (sym is ∙ f)) in
+    let inner = sum_some (λ d. edges_at k j (get_or numbers d 0)) (row_list a x) c (in_row a x c e) in
+    let outer = sum_some (λ y. row_edges numbers k j (row_list a y)) (piece rs r k) x h in
     absurd (omega (arith, hit, inner, outer, nil))
 
--- what is waited for is such an entry
-record IsWaitedFor (a : Matrix) (numbers rs r : List ℕ) (j k : ℕ) : Type 0 where
+-- an edge is such an entry
+record IsEdge (a : Matrix) (numbers rs r : List ℕ) (j k : ℕ) : Type 0 where
   row : ℕ
   col : ℕ
   other : j ≢ k
@@ -94,16 +94,16 @@ record IsWaitedFor (a : Matrix) (numbers rs r : List ℕ) (j k : ℕ) : Type 0 w
   is : get_or numbers col 0 ≡ j
   entry : IsEntry a row col
 
-waits_entry : (a : Matrix) (numbers rs r : List ℕ) (j k : ℕ) → ((x : ℕ) → Among x (piece rs r k) → x < a.rows) → waits_for (row_list a) numbers rs r j k ≢ 0 → IsWaitedFor a numbers rs r j k
-waits_entry a numbers rs r j k within ne =
-    let (x, on, some) = sum_from (λ y. row_waits numbers k j (row_list a y)) (piece rs r k) ne in
-    let (c, at, one) = sum_from (λ d. waits_at k j (get_or numbers d 0)) (row_list a x) some in
+edges_entry : (a : Matrix) (numbers rs r : List ℕ) (j k : ℕ) → ((x : ℕ) → Among x (piece rs r k) → x < a.rows) → edges_into (row_list a) numbers rs r j k ≢ 0 → IsEdge a numbers rs r j k
+edges_entry a numbers rs r j k within ne =
+    let (x, on, some) = sum_from (λ y. row_edges numbers k j (row_list a y)) (piece rs r k) ne in
+    let (c, at, one) = sum_from (λ d. edges_at k j (get_or numbers d 0)) (row_list a x) some in
     record {
       row = x;
       col = c;
-      other = λ e. one (waits_own_j k j (get_or numbers c 0) e);
+      other = λ e. one (edges_own_j k j (get_or numbers c 0) e);
       on = on;
-      is = ⊎_elim (λ e. e) (λ off. absurd (one (waits_miss k j (get_or numbers c 0) off))) (number_same (get_or numbers c 0) j);
+      is = ⊎_elim (λ e. e) (λ off. absurd (one (edges_miss k j (get_or numbers c 0) off))) (number_same (get_or numbers c 0) j);
       entry = from_row a x c (within x on) at;
     }
 
@@ -114,7 +114,7 @@ gathered a m numbers n rs r cs c small matching s g h = record {
   by_col = h;
   some = λ k lt. let (x, square, is) = s.used k lt in some_at x (piece cs c k) ((cols_component a m numbers n cs c k small s h lt).complete x (square, is));
   falls = λ j k lt kt ne.
-      let w = waits_entry a numbers rs r j k (λ x on. let l = ((g.groups.parts k kt).sound x on).0 in let long = g.mates.long in omega (arith, l, long)) ne in
+      let w = edges_entry a numbers rs r j k (λ x on. let l = ((g.groups.parts k kt).sound x on).0 in let long = g.mates.long in omega (arith, l, long)) ne in
       let within = entry_col a w.row w.col w.entry in
       let is : look numbers w.col ≡ j = sym (looked a m numbers n w.col s within) ∙ w.is in
       let (d, p, e) = (rows_component a m numbers n rs r k small matching s g kt).sound w.row w.on in
@@ -172,21 +172,21 @@ follow_order a n w least f before (k ∷ ks) seen at follow all = (free, first, 
     fresh : (j : ℕ) → Among j (k ∷ ks) → ¬ Among j before
     fresh j h = follow_fresh n w least before (k ∷ ks) j follow h
 
-    free : IsFree a (map f (k ∷ ks)) (f k)
+    free : MeetsNoOther a (map f (k ∷ ks)) (f k)
     free d h ne r c on in_col entry =
         let (p, there, e) = among_map_back f d (k ∷ ks) h in
         let other : k ≢ p = λ same. ne (sym e ∙ ap f (sym same)) in
         fresh p there (follow.0.free p (range p there) (seen.over k p r c kt (range p there) other (subst (λ (b : Block). Among r b.rows) (sym e) on) in_col entry))
 
-    first : (d : Block) → Among d (map f (k ∷ ks)) → IsFree a (map f (k ∷ ks)) d → least_col (f k) ≤ least_col d
+    first : (d : Block) → Among d (map f (k ∷ ks)) → MeetsNoOther a (map f (k ∷ ks)) d → least_col (f k) ≤ least_col d
     first d h is_free =
         let (j, there, e) = among_map_back f d (k ∷ ks) h in
-        let le = follow.0.first j (range j there) (fresh j there) (λ p pt ne. gone j there (subst (IsFree a (map f (k ∷ ks))) (sym e) is_free) p pt ne) in
+        let le = follow.0.first j (range j there) (fresh j there) (λ p pt ne. gone j there (subst (MeetsNoOther a (map f (k ∷ ks))) (sym e) is_free) p pt ne) in
         let here = at k in
         let that : least_col d ≡ least j = ap least_col (sym e) ∙ at j in
         omega (arith, le, here, that)
       where
-        gone : (j : ℕ) → Among j (k ∷ ks) → IsFree a (map f (k ∷ ks)) (f j) → (p : ℕ) → p < n → w j p ≢ 0 → Among p before
+        gone : (j : ℕ) → Among j (k ∷ ks) → MeetsNoOther a (map f (k ∷ ks)) (f j) → (p : ℕ) → p < n → w j p ≢ 0 → Among p before
         gone j there is_free p pt ne = ⊎_elim (λ g. g) (λ later.
             let (other, r, c, on, in_col, entry) = seen.back j p (range j there) pt ne in
             absurd (is_free (f p) (among_map f p (k ∷ ks) later) (λ same. other (sym (seen.own p j pt (range j there) same))) r c on in_col entry)) (all p pt)
@@ -198,7 +198,7 @@ follow_order a n w least f before (k ∷ ks) seen at follow all = (free, first, 
 
 -- The whole.
 
-pub are_blocks : (a : Matrix) (m : List Place) (numbers : List ℕ) (n : ℕ) (rs r cs c ks : List ℕ) → cols a < 2 ^ 32 → IsMatching a m → AreNumbered a m numbers n → AreRowGroups m numbers a.rows n rs r → AreGroups numbers n cs c → AreOrdered n (waits_for (row_list a) numbers rs r) (least_of cs c) ks → AreBlocksOf a (map (block_of rs r cs c) ks)
+pub are_blocks : (a : Matrix) (m : List Place) (numbers : List ℕ) (n : ℕ) (rs r cs c ks : List ℕ) → cols a < 2 ^ 32 → IsMatching a m → AreNumbered a m numbers n → AreRowGroups m numbers a.rows n rs r → AreGroups numbers n cs c → AreOrdered n (edges_into (row_list a) numbers rs r) (least_of cs c) ks → AreBlocksOf a (map (block_of rs r cs c) ks)
 are_blocks a m numbers n rs r cs c ks small matching s g h ordered = record {
   sound = λ b on.
       let (k, there, e) = among_map_back f b ks on in
@@ -216,7 +216,7 @@ are_blocks a m numbers n rs r cs c ks small matching s g h ordered = record {
     f k = block_of rs r cs c k
 
     w : ℕ → ℕ → ℕ
-    w j k = waits_for (row_list a) numbers rs r j k
+    w j k = edges_into (row_list a) numbers rs r j k
 
     least : ℕ → ℕ
     least k = least_of cs c k
@@ -236,9 +236,9 @@ are_blocks a m numbers n rs r cs c ks small matching s g h ordered = record {
     seen : AreApartAndSeen a n w f
     seen = record {
       own = own;
-      over = λ j k x d jt kt ne on in_col entry. entry_waits a numbers rs r j k x d ne on ((h.parts j jt).sound d in_col).1 entry;
+      over = λ j k x d jt kt ne on in_col entry. entry_edges a numbers rs r j k x d ne on ((h.parts j jt).sound d in_col).1 entry;
       back = λ j k jt kt ne.
-          let q = waits_entry a numbers rs r j k (λ x on. all_gathered.by_row.below k x kt on) ne in
+          let q = edges_entry a numbers rs r j k (λ x on. all_gathered.by_row.below k x kt on) ne in
           let within = entry_col a q.row q.col q.entry in
           let long = s.long in
           (q.other, q.row, q.col, q.on, (h.parts j jt).complete q.col (omega (arith, within, long), q.is), q.entry);

@@ -1,9 +1,9 @@
-pub mod Sums
+pub mod Blocking
+pub mod Gathered
+pub mod Grouping
+pub mod InDegrees
+pub mod Listing
+pub mod Mating
 pub mod Ordering
 pub mod Parting
-pub mod Grouping
-pub mod Mating
-pub mod Waiting
-pub mod Listing
-pub mod Gathered
-pub mod Blocking
+pub mod Sums

@@ -2,7 +2,7 @@
 use Rattle.std.proofs.Common.{◌≡◌, ℕ, ◌+◌, ◌<◌, ◌≤◌, List, [], ◌∷◌, ◌++◌, map, length, get_or, take, refl, ap, arith}
 use Rattle.std.proofs.lemmas.List.Concat.{length-flat_map}
 use Rattle.std.proofs.lemmas.List.Sums.{sum_by_more_le}
-use Rattle.bip_graph.specs.Stretches.{all_cols, all_rows}
+use Rattle.bip_defs.specs.Blocks.{all_cols, all_rows}
 use Rattle.sp_pattern.specs.Stored.{piece}
 use Rattle.dm_fine.specs.Groups.{block_of}
 use Rattle.dm_fine.proofs.Parting.{joined}

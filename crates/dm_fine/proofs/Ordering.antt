@@ -6,7 +6,7 @@ use Rattle.bip_defs.specs.Lists.{Among, AreDistinct, IsRising}
 use Rattle.bip_defs.specs.Matrix.{upto}
 use Rattle.bip_defs.proofs.Sets.{among_last, among_left, among_right, below_each_sound, few_distinct, number_among, number_same, rising_distinct, upto_length, upto_lists}
 use Rattle.dm_fine.specs.Following.{Follow, IsNext}
-use Rattle.dm_fine.specs.Waits.{AreReady, Frees}
+use Rattle.dm_fine.specs.InDegrees.{AreReady, MoreSources}
 use Rattle.dm_fine.proofs.Sums.{sum_covered}
 
 -- Followers.
@@ -36,15 +36,15 @@ follow_few n w least ks f =
     let long = upto_length 0 n in
     omega (arith, few, long)
 
--- What is still waited for.
+-- In-degrees.
 
--- the counts are what is waited for, less what the components that are gone had
+-- the edges from all components, without those from the components that are gone
 abbrev pub AreLeft : ℕ → (ℕ → ℕ → ℕ) → List ℕ → List ℕ → Type 0
-AreLeft n w gone waits = (j : ℕ) → j < n → get_or waits j 0 + sum_by (w j) gone ≡ sum_by (w j) (upto n)
+AreLeft n w gone in_degrees = (j : ℕ) → j < n → get_or in_degrees j 0 + sum_by (w j) gone ≡ sum_by (w j) (upto n)
 
 -- what a component that is not gone has is still counted
-pub still_counted : (n : ℕ) (w : ℕ → ℕ → ℕ) (gone waits : List ℕ) (j p : ℕ) → AreLeft n w gone waits → AreDistinct gone → ((k : ℕ) → Among k gone → k < n) → j < n → p < n → ¬ Among p gone → w j p ≤ get_or waits j 0
-still_counted n w gone waits j p left d within lt pt fresh =
+pub still_counted : (n : ℕ) (w : ℕ → ℕ → ℕ) (gone in_degrees : List ℕ) (j p : ℕ) → AreLeft n w gone in_degrees → AreDistinct gone → ((k : ℕ) → Among k gone → k < n) → j < n → p < n → ¬ Among p gone → w j p ≤ get_or in_degrees j 0
+still_counted n w gone in_degrees j p left d within lt pt fresh =
     let le = sum_covered (w j) (p ∷ gone) (upto n) (fresh, d) (λ k h. inl ((upto_lists n).complete k (below k h))) in
     let is = left j lt in
     let one = sum_by-cons (w j) p gone in
@@ -54,9 +54,9 @@ still_counted n w gone waits j p left d within lt pt fresh =
     below k (inl e) = subst (λ i. i < n) (sym e) pt
     below k (inr h) = within k h
 
--- nothing is counted where all that is waited for is gone
-pub none_counted : (n : ℕ) (w : ℕ → ℕ → ℕ) (gone waits : List ℕ) (j : ℕ) → AreLeft n w gone waits → j < n → ((p : ℕ) → p < n → w j p ≢ 0 → Among p gone) → get_or waits j 0 ≡ 0
-none_counted n w gone waits j left lt all =
+-- the in-degree is 0 where the edges are from components that are gone
+pub none_counted : (n : ℕ) (w : ℕ → ℕ → ℕ) (gone in_degrees : List ℕ) (j : ℕ) → AreLeft n w gone in_degrees → j < n → ((p : ℕ) → p < n → w j p ≢ 0 → Among p gone) → get_or in_degrees j 0 ≡ 0
+none_counted n w gone in_degrees j left lt all =
     let le = sum_covered (w j) (upto n) gone (rising_distinct (upto n) (upto_lists n).rising) each in
     let is = left j lt in
     omega (arith, le, is)
@@ -64,38 +64,38 @@ none_counted n w gone waits j left lt all =
     each : (p : ℕ) → Among p (upto n) → Among p gone ⊎ (w j p ≡ 0)
     each p h = ⊎_elim (λ (e : w j p ≡ 0). inr e) (λ ne. inl (all p ((upto_lists n).sound p h) ne)) (number_same (w j p) 0)
 
-pub left_next : (n : ℕ) (w : ℕ → ℕ → ℕ) (gone waits waits2 : List ℕ) (k : ℕ) → AreLeft n w gone waits → ((j : ℕ) → j < n → get_or waits j 0 ≡ get_or waits2 j 0 + w j k) → AreLeft n w (gone ++ k ∷ []) waits2
-left_next n w gone waits waits2 k left fell j lt = let is = left j lt in let less = fell j lt in let one = sum_by_push (w j) gone k in omega (arith, is, less, one)
+pub left_next : (n : ℕ) (w : ℕ → ℕ → ℕ) (gone in_degrees in_degrees2 : List ℕ) (k : ℕ) → AreLeft n w gone in_degrees → ((j : ℕ) → j < n → get_or in_degrees j 0 ≡ get_or in_degrees2 j 0 + w j k) → AreLeft n w (gone ++ k ∷ []) in_degrees2
+left_next n w gone in_degrees in_degrees2 k left fell j lt = let is = left j lt in let less = fell j lt in let one = sum_by_push (w j) gone k in omega (arith, is, less, one)
 
--- The set of those that wait for none.
+-- The set of those of in-degree 0.
 
 -- what holds of the component of a column that is taken out of the set as its least
-pub record IsTaken (n : ℕ) (w : ℕ → ℕ → ℕ) (least : ℕ → ℕ) (gone waits ready : List ℕ) (k : ℕ) : Type 0 where
+pub record IsTaken (n : ℕ) (w : ℕ → ℕ → ℕ) (least : ℕ → ℕ) (gone in_degrees ready : List ℕ) (k : ℕ) : Type 0 where
   pub next : IsNext n w least gone k
-  pub set : AreReady n least (gone ++ k ∷ []) waits ready
+  pub set : AreReady n least (gone ++ k ∷ []) in_degrees ready
 
-pub taken_next : (n : ℕ) (w : ℕ → ℕ → ℕ) (least number : ℕ → ℕ) (gone waits members ready : List ℕ) (x k : ℕ) → ((j : ℕ) → j < n → number (least j) ≡ j) → AreLeft n w gone waits → Follow n w least [] gone → AreReady n least gone waits members → IsRising members → members ≡ x ∷ ready → k ≡ number x → IsTaken n w least gone waits ready k
-taken_next n w least number gone waits members ready x k named left follow all_set all_rising are is = record {
+pub taken_next : (n : ℕ) (w : ℕ → ℕ → ℕ) (least number : ℕ → ℕ) (gone in_degrees members ready : List ℕ) (x k : ℕ) → ((j : ℕ) → j < n → number (least j) ≡ j) → AreLeft n w gone in_degrees → Follow n w least [] gone → AreReady n least gone in_degrees members → IsRising members → members ≡ x ∷ ready → k ≡ number x → IsTaken n w least gone in_degrees ready k
+taken_next n w least number gone in_degrees members ready x k named left follow all_set all_rising are is = record {
   next = record {
     in_range = in_range;
     fresh = fresh;
-    free = λ p lt ne. ⊎_elim (λ h. h) (λ nh. absurd (ne (let le = still_counted n w gone waits k p left distinct within in_range lt nh in omega (arith, le, none)))) (number_among p gone);
-    first = λ j lt nh all. smallest (least j) (set.complete j lt (none_counted n w gone waits j left lt all) nh);
+    free = λ p lt ne. ⊎_elim (λ h. h) (λ nh. absurd (ne (let le = still_counted n w gone in_degrees k p left distinct within in_range lt nh in omega (arith, le, none)))) (number_among p gone);
+    first = λ j lt nh all. smallest (least j) (set.complete j lt (none_counted n w gone in_degrees j left lt all) nh);
   };
   set = record {
     sound = λ y h. let (j, lt, nil, nh, e) = set.sound y (inr h) in (j, lt, nil, (λ g. ⊎_elim (λ g. nh g) (λ (same : j ≡ k). above y h (e ∙ ap least same ∙ sym at)) (among_last j k gone g)), e);
     complete = λ j lt nil nh. ⊎_elim (λ (e : least j ≡ x). absurd (nh (among_right j gone (k ∷ []) (inl (sym (named j lt) ∙ ap number e ∙ sym is))))) (λ h. h) (set.complete j lt nil (λ g. nh (among_left j gone (k ∷ []) g)));
-    gone_done = λ j h. ⊎_elim (λ g. set.gone_done j g) (λ (e : j ≡ k). ap (λ i. get_or waits i 0) e ∙ none) (among_last j k gone h);
+    gone_done = λ j h. ⊎_elim (λ g. set.gone_done j g) (λ (e : j ≡ k). ap (λ i. get_or in_degrees i 0) e ∙ none) (among_last j k gone h);
   };
 }
   where
-    set : AreReady n least gone waits (x ∷ ready)
-    set = subst (AreReady n least gone waits) are all_set
+    set : AreReady n least gone in_degrees (x ∷ ready)
+    set = subst (AreReady n least gone in_degrees) are all_set
 
     rising : IsRising (x ∷ ready)
     rising = subst IsRising are all_rising
 
-    one : (j : ℕ) × (j < n) × (get_or waits j 0 ≡ 0) × (¬ Among j gone) × (x ≡ least j)
+    one : (j : ℕ) × (j < n) × (get_or in_degrees j 0 ≡ 0) × (¬ Among j gone) × (x ≡ least j)
     one = set.sound x (inl refl)
 
     same : k ≡ one.0
@@ -104,8 +104,8 @@ taken_next n w least number gone waits members ready x k named left follow all_s
     in_range : k < n
     in_range = subst (λ i. i < n) (sym same) one.1
 
-    none : get_or waits k 0 ≡ 0
-    none = ap (λ i. get_or waits i 0) same ∙ one.2
+    none : get_or in_degrees k 0 ≡ 0
+    none = ap (λ i. get_or in_degrees i 0) same ∙ one.2
 
     fresh : ¬ Among k gone
     fresh h = one.3 (subst (λ i. Among i gone) same h)
@@ -126,38 +126,38 @@ taken_next n w least number gone waits members ready x k named left follow all_s
     above : (y : ℕ) → Among y ready → y ≢ x
     above y h e = lt_irrefl x (subst (λ z. x < z) e (below_each_sound x y ready rising.0 h))
 
--- after some have come to wait for none
-pub ready_after : (n : ℕ) (least : ℕ → ℕ) (gone waits ready waits2 ready2 : List ℕ) → ((k : ℕ) → Among k gone → k < n) → AreReady n least gone waits ready → Frees n least waits ready waits2 ready2 → AreReady n least gone waits2 ready2
-ready_after n least gone waits ready waits2 ready2 within set frees = record {
-  sound = λ x h. by x (frees.sound x h);
-  complete = λ j lt nil nh. ⊎_elim (λ (e : get_or waits j 0 ≡ 0). frees.stays (least j) (set.complete j lt e nh)) (λ ne. frees.complete j lt ne nil) (number_same (get_or waits j 0) 0);
-  gone_done = λ j h. let e = set.gone_done j h in let le = frees.falls j (within j h) in omega (arith, e, le);
+-- after some have come to in-degree 0
+pub ready_after : (n : ℕ) (least : ℕ → ℕ) (gone in_degrees ready in_degrees2 ready2 : List ℕ) → ((k : ℕ) → Among k gone → k < n) → AreReady n least gone in_degrees ready → MoreSources n least in_degrees ready in_degrees2 ready2 → AreReady n least gone in_degrees2 ready2
+ready_after n least gone in_degrees ready in_degrees2 ready2 within set more = record {
+  sound = λ x h. by x (more.sound x h);
+  complete = λ j lt nil nh. ⊎_elim (λ (e : get_or in_degrees j 0 ≡ 0). more.stays (least j) (set.complete j lt e nh)) (λ ne. more.complete j lt ne nil) (number_same (get_or in_degrees j 0) 0);
+  gone_done = λ j h. let e = set.gone_done j h in let le = more.falls j (within j h) in omega (arith, e, le);
 }
   where
-    by : (x : ℕ) → Among x ready ⊎ ((j : ℕ) × (j < n) × (get_or waits j 0 ≢ 0) × (get_or waits2 j 0 ≡ 0) × (x ≡ least j)) → (j : ℕ) × (j < n) × (get_or waits2 j 0 ≡ 0) × (¬ Among j gone) × (x ≡ least j)
-    by x (inl h) = let (j, lt, nil, nh, e) = set.sound x h in (j, lt, (let le = frees.falls j lt in omega (arith, le, nil)), nh, e)
+    by : (x : ℕ) → Among x ready ⊎ ((j : ℕ) × (j < n) × (get_or in_degrees j 0 ≢ 0) × (get_or in_degrees2 j 0 ≡ 0) × (x ≡ least j)) → (j : ℕ) × (j < n) × (get_or in_degrees2 j 0 ≡ 0) × (¬ Among j gone) × (x ≡ least j)
+    by x (inl h) = let (j, lt, nil, nh, e) = set.sound x h in (j, lt, (let le = more.falls j lt in omega (arith, le, nil)), nh, e)
     by x (inr h) = let (j, lt, ne, nil, e) = h in (j, lt, nil, (λ g. ne (set.gone_done j g)), e)
 
--- Where the set is empty, all are gone: the least of the others would wait for none.
-pub all_gone : (n : ℕ) (w : ℕ → ℕ → ℕ) (least : ℕ → ℕ) (gone waits : List ℕ) → ((j p : ℕ) → j < n → p < n → w j p ≢ 0 → p < j) → AreLeft n w gone waits → AreReady n least gone waits [] → (k : ℕ) → k < n → Among k gone
-all_gone n w least gone waits falls left set k lt = up_to (suc k) k (omega arith) lt
+-- Where the set is empty, all are gone: the least of the others would have in-degree 0.
+pub all_gone : (n : ℕ) (w : ℕ → ℕ → ℕ) (least : ℕ → ℕ) (gone in_degrees : List ℕ) → ((j p : ℕ) → j < n → p < n → w j p ≢ 0 → p < j) → AreLeft n w gone in_degrees → AreReady n least gone in_degrees [] → (k : ℕ) → k < n → Among k gone
+all_gone n w least gone in_degrees falls left set k lt = up_to (suc k) k (omega arith) lt
   where
     up_to : (m k : ℕ) → k < m → k < n → Among k gone
     up_to zero k lt kt = absurd (omega arith)
-    up_to (suc m) k lt kt = ⊎_elim (λ h. h) (λ nh. absurd (set.complete k kt (none_counted n w gone waits k left kt (λ p pt ne. up_to m p (let less = falls k p kt pt ne in omega (arith, less, lt)) pt)) nh)) (number_among k gone)
+    up_to (suc m) k lt kt = ⊎_elim (λ h. h) (λ nh. absurd (set.complete k kt (none_counted n w gone in_degrees k left kt (λ p pt ne. up_to m p (let less = falls k p kt pt ne in omega (arith, less, lt)) pt)) nh)) (number_among k gone)
 
 -- The first set, component by component.
 
-pub ready_in : (k : ℕ) (least : ℕ → ℕ) (waits ready ready2 : List ℕ) → AreReady k least [] waits ready → get_or waits k 0 ≡ 0 → ((x : ℕ) → Among x ready2 → (x ≡ least k) ⊎ Among x ready) → ((x : ℕ) → (x ≡ least k) ⊎ Among x ready → Among x ready2) → AreReady (k + 1) least [] waits ready2
-ready_in k least waits ready ready2 set nil over back = record {
+pub ready_in : (k : ℕ) (least : ℕ → ℕ) (in_degrees ready ready2 : List ℕ) → AreReady k least [] in_degrees ready → get_or in_degrees k 0 ≡ 0 → ((x : ℕ) → Among x ready2 → (x ≡ least k) ⊎ Among x ready) → ((x : ℕ) → (x ≡ least k) ⊎ Among x ready → Among x ready2) → AreReady (k + 1) least [] in_degrees ready2
+ready_in k least in_degrees ready ready2 set nil over back = record {
   sound = λ x h. ⊎_elim (λ (e : x ≡ least k). (k, omega arith, nil, (λ g. g), e)) (λ g. let (j, lt, z, nh, e) = set.sound x g in (j, omega (arith, lt), z, nh, e)) (over x h);
   complete = λ j lt z nh. ⊎_elim (λ (e : j ≡ k). back (least j) (inl (ap least e))) (λ ne. back (least j) (inr (set.complete j (omega (arith, lt, ne)) z nh))) (number_same j k);
   gone_done = λ j h. elim h [ ];
 }
 
-pub ready_out : (k : ℕ) (least : ℕ → ℕ) (waits ready : List ℕ) → AreReady k least [] waits ready → get_or waits k 0 ≢ 0 → AreReady (k + 1) least [] waits ready
-ready_out k least waits ready set some = record {
+pub ready_out : (k : ℕ) (least : ℕ → ℕ) (in_degrees ready : List ℕ) → AreReady k least [] in_degrees ready → get_or in_degrees k 0 ≢ 0 → AreReady (k + 1) least [] in_degrees ready
+ready_out k least in_degrees ready set some = record {
   sound = λ x h. let (j, lt, z, nh, e) = set.sound x h in (j, omega (arith, lt), z, nh, e);
-  complete = λ j lt z nh. ⊎_elim (λ (e : j ≡ k). absurd (some (ap (λ i. get_or waits i 0) (sym e) ∙ z))) (λ ne. set.complete j (omega (arith, lt, ne)) z nh) (number_same j k);
+  complete = λ j lt z nh. ⊎_elim (λ (e : j ≡ k). absurd (some (ap (λ i. get_or in_degrees i 0) (sym e) ∙ z))) (λ ne. set.complete j (omega (arith, lt, ne)) z nh) (number_same j k);
   gone_done = λ j h. elim h [ ];
 }

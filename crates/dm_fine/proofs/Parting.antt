@@ -6,10 +6,11 @@ use Rattle.std.proofs.lemmas.List.Sums.{sum_by-append, sum_by-cons}
 use Rattle.bip_defs.specs.Lists.{Among, AreDistinct}
 use Rattle.bip_defs.specs.Matrix.{Matrix, cols, column, entry_count, row_list, upto}
 use Rattle.bip_defs.proofs.Sets.{among_either, among_test, few_distinct, filter_distinct, filter_sound, rising_distinct, upto_length, upto_lists}
+use Rattle.bip_defs.proofs.Counts.{distinct_append}
 use Rattle.sp_pattern.specs.Stored.{piece}
 use Rattle.dm_fine.specs.Groups.{AreApart, AreGroups}
-use Rattle.dm_fine.specs.Waits.{row_waits, waits_at, waits_for}
-use Rattle.dm_fine.proofs.Sums.{distinct-append, sum_covered, sum_le, sum_places, sum_turned, sum_same}
+use Rattle.dm_fine.specs.InDegrees.{row_edges, edges_at, edges_into}
+use Rattle.dm_fine.proofs.Sums.{sum_covered, sum_le, sum_places, sum_swapped, sum_same}
 
 pub groups_apart : (numbers : List ℕ) (count : ℕ) (starts flat : List ℕ) → AreGroups numbers count starts flat → AreApart (length numbers) count starts flat
 groups_apart numbers count starts flat g = record {
@@ -33,7 +34,7 @@ joined_among starts flat (k ∷ ks) i h = by (joined_among starts flat ks i) (am
 
 pub joined_distinct : (n count : ℕ) (starts flat ks : List ℕ) → AreApart n count starts flat → AreDistinct ks → ((k : ℕ) → Among k ks → k < count) → AreDistinct (joined starts flat ks)
 joined_distinct n count starts flat [] a d within = tt
-joined_distinct n count starts flat (k ∷ ks) a d within = distinct-append (piece starts flat k) (joined starts flat ks)
+joined_distinct n count starts flat (k ∷ ks) a d within = distinct_append (piece starts flat k) (joined starts flat ks)
     (rising_distinct (piece starts flat k) (a.rising k (within k (inl refl))))
     (joined_distinct n count starts flat ks a d.1 (λ j h. within j (inr h)))
     (λ i h m. let (j, on, at) = joined_among starts flat ks i m in d.0 (subst (λ l. Among l ks) (a.apart j k i (within j (inr on)) (within k (inl refl)) at h) on))
@@ -76,25 +77,25 @@ rows_in_column a c =
 pub rows_count : (a : Matrix) → sum_by (λ r. length (row_list a r)) (upto a.rows) ≤ entry_count a
 rows_count a =
     let by_row = sum_same (λ r. length (row_list a r)) (λ r. sum_by (λ c. cond (list_any (nat_eq r) (column a c)) 1 0) (upto (cols a))) (upto a.rows) (λ r. marked (λ c. list_any (nat_eq r) (column a c)) (upto (cols a))) in
-    let turned = sum_turned (λ r c. cond {A = ℕ} (list_any (nat_eq r) (column a c)) 1 0) (upto a.rows) (upto (cols a)) in
+    let swapped = sum_swapped (λ r c. cond {A = ℕ} (list_any (nat_eq r) (column a c)) 1 0) (upto a.rows) (upto (cols a)) in
     let by_col = sum_le (λ c. sum_by (λ r. cond {A = ℕ} (list_any (nat_eq r) (column a c)) 1 0) (upto a.rows)) (λ c. length (column a c)) (upto (cols a)) (λ c h. rows_in_column a c) in
     let all = sum_places length a.columns [] in
-    omega (arith, by_row, turned, by_col, all)
+    omega (arith, by_row, swapped, by_col, all)
 
--- What is waited for.
+-- Edges.
 
-waits_one : (own j x : ℕ) → waits_at own j x ≤ 1
-waits_one own j x = grind (arith, nat_tests)
+edges_one : (own j x : ℕ) → edges_at own j x ≤ 1
+edges_one own j x = grind (arith, nat_tests)
 
-row_few : (numbers : List ℕ) (own j : ℕ) (cs : List ℕ) → row_waits numbers own j cs ≤ length cs
+row_few : (numbers : List ℕ) (own j : ℕ) (cs : List ℕ) → row_edges numbers own j cs ≤ length cs
 row_few numbers own j [] = zero-le
-row_few numbers own j (c ∷ cs) = let rest = row_few numbers own j cs in let one = sum_by-cons (λ d. waits_at own j (get_or numbers d 0)) c cs in let here = waits_one own j (get_or numbers c 0) in omega (arith, rest, one, here)
+row_few numbers own j (c ∷ cs) = let rest = row_few numbers own j cs in let one = sum_by-cons (λ d. edges_at own j (get_or numbers d 0)) c cs in let here = edges_one own j (get_or numbers c 0) in omega (arith, rest, one, here)
 
--- no more is waited for than there are entries
-pub waits_few : (a : Matrix) (numbers : List ℕ) (count : ℕ) (starts flat : List ℕ) (j : ℕ) → AreApart a.rows count starts flat → sum_by (waits_for (row_list a) numbers starts flat j) (upto count) ≤ entry_count a
-waits_few a numbers count starts flat j apart =
-    let each = sum_le (waits_for (row_list a) numbers starts flat j) (λ k. sum_by (λ r. length (row_list a r)) (piece starts flat k)) (upto count)
-    (λ k h. sum_le (λ r. row_waits numbers k j (row_list a r)) (λ r. length (row_list a r)) (piece starts flat k) (λ r m. row_few numbers k j (row_list a r))) in
+-- no more edges than entries
+pub edges_few : (a : Matrix) (numbers : List ℕ) (count : ℕ) (starts flat : List ℕ) (j : ℕ) → AreApart a.rows count starts flat → sum_by (edges_into (row_list a) numbers starts flat j) (upto count) ≤ entry_count a
+edges_few a numbers count starts flat j apart =
+    let each = sum_le (edges_into (row_list a) numbers starts flat j) (λ k. sum_by (λ r. length (row_list a r)) (piece starts flat k)) (upto count)
+    (λ k h. sum_le (λ r. row_edges numbers k j (row_list a r)) (λ r. length (row_list a r)) (piece starts flat k) (λ r m. row_few numbers k j (row_list a r))) in
     let flat_sum = sum_joined (λ r. length (row_list a r)) starts flat (upto count) in
     let within = sum_covered (λ r. length (row_list a r)) (joined starts flat (upto count)) (upto a.rows)
     (joined_distinct a.rows count starts flat (upto count) apart (rising_distinct (upto count) (upto_lists count).rising) (λ k h. (upto_lists count).sound k h))

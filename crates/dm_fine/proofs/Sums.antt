@@ -4,41 +4,14 @@ use Rattle.std.proofs.lemmas.List.{take_all}
 use Rattle.std.proofs.lemmas.List.Sums.{sum_by-cons, sum_by_more, sum_by_push}
 use Rattle.bip_defs.specs.Lists.{Among, AreDistinct}
 use Rattle.bip_defs.specs.Matrix.{upto, upto_from}
-use Rattle.bip_defs.proofs.Sets.{Drops, among_at, among_last, drops_kept, here, later, number_same, rising_distinct, taken, upto_lists}
+use Rattle.bip_defs.proofs.Sets.{Drops, among_at, among_last, drops_kept, here, later, number_same, rising_distinct, taken, upto_lists, among_take, upto_more}
 
 -- Lists.
-
-pub among_take : {X : Type 0} (n : ℕ) (x : X) (xs : List X) → Among x (take n xs) → Among x xs
-among_take zero x xs h = elim h [ ]
-among_take (suc n) x [] h = elim h [ ]
-among_take (suc n) x (y ∷ xs) (inl e) = inl e
-among_take (suc n) x (y ∷ xs) (inr h) = inr (among_take n x xs h)
 
 pub distinct_take : {X : Type 0} (n : ℕ) (xs : List X) → AreDistinct xs → AreDistinct (take n xs)
 distinct_take zero xs d = tt
 distinct_take (suc n) [] d = tt
 distinct_take (suc n) (x ∷ xs) d = (λ h. d.0 (among_take n x xs h), distinct_take n xs d.1)
-
--- the element at a place is not among those before it
-pub apart_from_front : {X : Type 0} (n : ℕ) (e : X) (xs : List X) → n < length xs → AreDistinct xs → ¬ Among (get_or xs n e) (take n xs)
-apart_from_front n e [] lt d h = absurd (omega arith)
-apart_from_front zero e (x ∷ xs) lt d h = elim h [ ]
-apart_from_front (suc n) e (x ∷ xs) lt d (inl f) = d.0 (subst (λ y. Among y xs) f (among_at xs n e (omega arith)))
-apart_from_front (suc n) e (x ∷ xs) lt d (inr h) = apart_from_front n e xs (omega arith) d.1 h
-
--- one more at the end, which is not among those before
-pub distinct_last : {X : Type 0} (xs : List X) (y : X) → AreDistinct xs → ¬ Among y xs → AreDistinct (xs ++ y ∷ [])
-distinct_last [] y d n = (λ h. h, tt)
-distinct_last (x ∷ xs) y d n = (λ h. ⊎_elim (λ k. d.0 k) (λ (e : x ≡ y). n (inl (sym e))) (among_last x y xs h), distinct_last xs y d.1 (λ h. n (inr h)))
-
-pub distinct-append : {X : Type 0} (xs ys : List X) → AreDistinct xs → AreDistinct ys → ((x : X) → Among x xs → ¬ Among x ys) → AreDistinct (xs ++ ys)
-distinct-append [] ys d e f = e
-distinct-append (x ∷ xs) ys d e f = (λ h. ⊎_elim (λ k. d.0 k) (λ k. f x (inl refl) k) (among_parts x xs ys h), distinct-append xs ys d.1 e (λ y h. f y (inr h)))
-  where
-    among_parts : {X : Type 0} (x : X) (xs ys : List X) → Among x (xs ++ ys) → Among x xs ⊎ Among x ys
-    among_parts x [] ys h = inr h
-    among_parts x (y ∷ xs) ys (inl e) = inl (inl e)
-    among_parts x (y ∷ xs) ys (inr h) = ⊎_elim (λ g. inl (inr g)) (λ g. inr g) (among_parts x xs ys h)
 
 -- Sums.
 
@@ -87,18 +60,8 @@ sum_covered {X = X} f (y ∷ ys) xs d h = by (λ zs g. sum_covered f ys zs d.1 g
 
 -- The numbers below n.
 
-pub upto_more : (k n : ℕ) → upto_from k (n + 1) ≡ upto_from k n ++ (k + n) ∷ []
-upto_more k zero = let e : k ≡ k + 0 = omega arith in λ i. e i ∷ []
-upto_more k (suc n) =
-    let more : suc n + 1 ≡ suc (n + 1) = omega arith in
-    let last : suc k + n ≡ k + suc n = omega arith in
-    ap (upto_from k) more ∙ ap (λ xs. k ∷ xs) (upto_more (suc k) n ∙ ap (λ x. upto_from (suc k) n ++ x ∷ []) last)
-
-pub upto_next : (n : ℕ) → upto (n + 1) ≡ upto n ++ n ∷ []
-upto_next n = let e : 0 + n ≡ n = omega arith in upto_more 0 n ∙ ap (λ x. upto n ++ x ∷ []) e
-
 pub sum_upto_next : (f : ℕ → ℕ) (n : ℕ) → sum_by f (upto (n + 1)) ≡ sum_by f (upto n) + f n
-sum_upto_next f n = ap (sum_by f) (upto_next n) ∙ sum_by_push f (upto n) n
+sum_upto_next f n = ap (sum_by f) (upto_more n) ∙ sum_by_push f (upto n) n
 
 pub sum_upto_le : (f : ℕ → ℕ) (m n : ℕ) → m ≤ n → sum_by f (upto m) ≤ sum_by f (upto n)
 sum_upto_le f m n le = sum_covered f (upto m) (upto n) (rising_distinct (upto m) (upto_lists m).rising) (λ i h. inl ((upto_lists n).complete i (let lt = (upto_lists m).sound i h in omega (arith, lt, le))))
@@ -134,10 +97,10 @@ sum_same f g [] e = refl
 sum_same f g (x ∷ xs) e = let rest = sum_same f g xs e in let here = e x in let one = sum_by-cons f x xs in let two = sum_by-cons g x xs in omega (arith, rest, here, one, two)
 
 -- in either order
-pub sum_turned : {X Y : Type 0} (f : X → Y → ℕ) (xs : List X) (ys : List Y) → sum_by (λ x. sum_by (f x) ys) xs ≡ sum_by (λ y. sum_by (λ x. f x y) xs) ys
-sum_turned f [] ys = sym (sum_none (λ y. 0) ys (λ y. refl))
-sum_turned f (x ∷ xs) ys =
-    let rest = sum_turned f xs ys in
+pub sum_swapped : {X Y : Type 0} (f : X → Y → ℕ) (xs : List X) (ys : List Y) → sum_by (λ x. sum_by (f x) ys) xs ≡ sum_by (λ y. sum_by (λ x. f x y) xs) ys
+sum_swapped f [] ys = sym (sum_none (λ y. 0) ys (λ y. refl))
+sum_swapped f (x ∷ xs) ys =
+    let rest = sum_swapped f xs ys in
     let one = sum_by-cons (λ z. sum_by (f z) ys) x xs in
     let two = sum_plus (f x) (λ y. sum_by (λ z. f z y) xs) ys in
     let same = sum_same (λ y. sum_by (λ z. f z y) (x ∷ xs)) (λ y. f x y + sum_by (λ z. f z y) xs) ys (λ y. sum_by-cons (λ z. f z y) x xs) in

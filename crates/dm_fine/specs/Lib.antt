@@ -1,3 +1,3 @@
-pub mod Groups
-pub mod Waits
 pub mod Following
+pub mod Groups
+pub mod InDegrees

@@ -7,13 +7,13 @@ mod mates;
 mod order;
 #[cfg(test)]
 mod tests;
-mod waits;
+mod in_degrees;
 
 ghost use Rattle.std.specs.Prelude.{◌≡◌, IfOk};
 ghost use Rattle.bip_defs.specs.Blocks.{AreBlocksOf};
-ghost use Rattle.bip_defs.specs.Matching.{IsMaximum};
 ghost use Rattle.bip_defs.specs.Matrix.{cols};
 ghost use Rattle.bip_defs.specs.Parts.{ArePartsOf};
+ghost use Rattle.bip_graph.specs.Pairing.{IsMaximumOf};
 ghost use Rattle.bip_graph.specs.Shown.{parts_of};
 
 use crate::groups::gather;
@@ -42,9 +42,7 @@ pub fn fine(
     matching: &Matching,
     parts: &Parts,
 ) -> Result<Blocks, OutOfMemory>
-    requires rows { matching.now.rows ≡ pattern.now.rows }
-    requires cols { matching.now.cols ≡ cols pattern.now }
-    requires maximum { IsMaximum pattern.now matching.now.pairs }
+    requires maximum { IsMaximumOf pattern.now matching.now }
     requires parts { ArePartsOf pattern.now (parts_of parts.now) }
     ensures { IfOk result (λ b. AreBlocksOf pattern.now b) }
 {

@@ -1,55 +1,27 @@
 -- Full matchings and their prices, as they are answered.
-use Rattle.std.proofs.Common.{◌≡◌, ◌≢◌, ◌∙◌, ℕ, ℤ, pos, ◌-ℤ◌, zero, suc, slice_index, ◌+◌, ◌<◌, ◌≤◌, List, [], ◌∷◌, ◌++◌, length, map, refl, sym, ap, subst, inl, inr, ⊎_elim, arith, below_more}
+use Rattle.std.proofs.Common.{◌≡◌, ◌≢◌, ◌∙◌, ℕ, ℤ, pos, ◌-ℤ◌, slice_index, ◌+◌, ◌<◌, ◌≤◌, List, [], ◌∷◌, ◌++◌, length, map, refl, sym, ap, subst, inl, inr, ⊎_elim, arith, below_more}
 use Rattle.std.proofs.lemmas.Int.{ints}
 use Rattle.std.proofs.lemmas.List.{get_or-map, length-map}
 use Rattle.bip_defs.specs.Lists.{Among, AreDistinct, Lists}
-use Rattle.bip_defs.specs.Matching.{IsMatching, IsMaximum, cols_of, rows_of}
-use Rattle.bip_defs.specs.Matrix.{IsEntry, Matrix, Place, cols, upto, upto_from}
+use Rattle.bip_defs.specs.Matching.{Covers, IsMatching, IsMaximum, cols_of, rows_of}
+use Rattle.bip_defs.specs.Matrix.{IsEntry, Matrix, Place, cols, upto}
 use Rattle.bip_defs.specs.Parts.{IsHorizontalCol}
-use Rattle.bip_defs.proofs.Sets.{among_last, col_among, col_pair, entry_col, few_distinct, number_among, number_same, one_col, row_pair, upto_length, upto_lists, upto_rising, rising_distinct}
+use Rattle.bip_defs.proofs.Full.{has_all_cols, has_all_rows, matching_few}
+use Rattle.bip_defs.proofs.Sets.{among_last, upto_more, col_among, entry_col, number_same, one_col, row_pair, upto_length, upto_rising, rising_distinct}
+use Rattle.bip_graph.specs.Pairing.{IsMatchingOf, Pairing}
 use Rattle.integer_diagonal.proofs.Bounds.{pair_cheap}
 use Rattle.integer_diagonal.proofs.Cheap.{cheap_entry}
-use Rattle.integer_diagonal.proofs.Duality.{matching_few}
 use Rattle.integer_diagonal.specs.declared.assignment.Assignment.{Assignment}
 use Rattle.integer_diagonal.specs.declared.search.Search.{Search}
 use Rattle.integer_diagonal.specs.Heaviest.{IsSingular}
 use Rattle.integer_diagonal.specs.Labels.{IsClear, labels_of, tree_of}
-use Rattle.integer_diagonal.specs.Outlays.{IsAssignment, IsFeasible, Priced, cheap, outlay, top}
+use Rattle.integer_diagonal.specs.Duals.{IsAssigned, IsAssignment, IsFeasible, Priced, cheap, dual, top}
 use Rattle.integer_diagonal.specs.Prices.{AreFair, IsFull, price}
 use Rattle.sp_pattern.specs.Weighing.{Weighing}
 
--- one number more
-up_more : (k n : ℕ) → upto_from k (n + 1) ≡ upto_from k n ++ (k + n) ∷ []
-up_more k zero = let e : k ≡ k + 0 = omega arith in ap (λ x. x ∷ []) e
-up_more k (suc n) =
-    let more : suc n + 1 ≡ suc (n + 1) = omega arith in
-    let last : suc k + n ≡ k + suc n = omega arith in
-    ap (upto_from k) more ∙ ap (λ xs. k ∷ xs) (up_more (suc k) n ∙ ap (λ x. upto_from (suc k) n ++ x ∷ []) last)
-
-pub upto_more : (n : ℕ) → upto (n + 1) ≡ upto n ++ n ∷ []
-upto_more n = let e : 0 + n ≡ n = omega arith in up_more 0 n ∙ ap (λ x. upto n ++ x ∷ []) e
-
--- n distinct numbers below n are all of them
-all_below : (xs : List ℕ) (n x : ℕ) → AreDistinct xs → ((y : ℕ) → Among y xs → y < n) → n ≤ length xs → x < n → Among x xs
-all_below xs n x differ below many lt = ⊎_elim (λ (h : Among x xs). h) (λ (off : ¬ Among x xs). absurd (too_many off)) (number_among x xs)
-  where
-    inside : (y : ℕ) → Among y (x ∷ xs) → Among y (upto n)
-    inside y (inl e) = (upto_lists n).complete y (subst (λ z. z < n) (sym e) lt)
-    inside y (inr h) = (upto_lists n).complete y (below y h)
-
-    too_many : ¬ Among x xs → ⊥
-    too_many off =
-        let few = few_distinct (x ∷ xs) (upto n) (off, differ) inside in
-        let long = upto_length 0 n in
-        omega (arith, few, long, many)
-
 -- a matching of a square matrix with as many pairs as columns is full
 pub long_full : (a : Matrix) (m : List Place) → a.rows ≡ cols a → IsMatching a m → cols a ≤ length m → IsFull a m
-long_full a m square k long = record {
-  matching = k;
-  all_rows = λ r lt. all_below (rows_of m) a.rows r k.rows_differ (λ s h. let (c, g) = row_pair s m h in (k.entries s c g).0) (let same = length-map m (λ (p : Place). p.0) in omega (arith, same, long, square)) lt;
-  all_cols = λ c lt. all_below (cols_of m) (cols a) c k.cols_differ (λ d h. let (r, g) = col_pair d m h in entry_col a r d (k.entries r d g)) (let same = length-map m (λ (p : Place). p.1) in omega (arith, same, long)) lt;
-}
+long_full a m square k long = record { matching = k; all_rows = has_all_rows a m k (omega (arith, long, square)); all_cols = has_all_cols a m k long }
 
 pub cheap_matching : (x : Priced) (m : List Place) → IsMatching (cheap x) m → IsMatching x.weighing.matrix m
 cheap_matching x m k = record {
@@ -57,6 +29,9 @@ cheap_matching x m k = record {
   rows_differ = k.rows_differ;
   cols_differ = k.cols_differ;
 }
+
+pub matching_of : (x : Priced) (m : Pairing) → IsAssigned x m → IsMatchingOf x.weighing.matrix m
+matching_of x m a = record { rows = a.rows_are; cols = a.cols_are; matching = cheap_matching x m.pairs a.matching }
 
 -- some pairs of a matching, with distinct columns, have distinct rows
 part_rows_differ : (m n : List Place) → AreDistinct (rows_of m) → AreDistinct (cols_of n) → ((r c : ℕ) → Among (r, c) n → Among (r, c) m) → AreDistinct (rows_of n)
@@ -92,19 +67,19 @@ module _ (x : Priced) (u v : List ℤ) where
   row_price : u ≡ map (λ p. pos p -ℤ pos top) x.prices → (r : ℕ) → r < length x.prices → price u r ≡ pos (slice_index x.prices r) -ℤ pos top
   row_price e r lt = ap (λ (z : List ℤ). price z r) e ∙ get_or-map (λ p. pos p -ℤ pos top) x.prices r 0 (pos 0) lt
 
-  col_price : v ≡ map (λ o. pos (top + top) -ℤ pos o) x.outlays → (c : ℕ) → c < length x.outlays → price v c ≡ pos (top + top) -ℤ pos (outlay x c)
-  col_price e c lt = ap (λ (z : List ℤ). price z c) e ∙ get_or-map (λ o. pos (top + top) -ℤ pos o) x.outlays c 0 (pos 0) lt
+  col_price : v ≡ map (λ o. pos (top + top) -ℤ pos o) x.duals → (c : ℕ) → c < length x.duals → price v c ≡ pos (top + top) -ℤ pos (dual x c)
+  col_price e c lt = ap (λ (z : List ℤ). price z c) e ∙ get_or-map (λ o. pos (top + top) -ℤ pos o) x.duals c 0 (pos 0) lt
 
-  pub fair_prices : (m n : List Place) → IsFeasible x → IsMatching (cheap x) m → ((r c : ℕ) → Among (r, c) n → Among (r, c) m) → u ≡ map (λ p. pos p -ℤ pos top) x.prices → v ≡ map (λ o. pos (top + top) -ℤ pos o) x.outlays → AreFair x.weighing n u v
+  pub fair_prices : (m n : List Place) → IsFeasible x → IsMatching (cheap x) m → ((r c : ℕ) → Among (r, c) n → Among (r, c) m) → u ≡ map (λ p. pos p -ℤ pos top) x.prices → v ≡ map (λ o. pos (top + top) -ℤ pos o) x.duals → AreFair x.weighing n u v
   fair_prices m n f k part eu ev = record {
     by_row = ap (λ (z : List ℤ). length z) eu ∙ length-map x.prices (λ p. pos p -ℤ pos top) ∙ f.prices_are;
-    by_col = ap (λ (z : List ℤ). length z) ev ∙ length-map x.outlays (λ o. pos (top + top) -ℤ pos o) ∙ f.outlays_are;
+    by_col = ap (λ (z : List ℤ). length z) ev ∙ length-map x.duals (λ o. pos (top + top) -ℤ pos o) ∙ f.duals_are;
     covers = λ r c e. (let (eru, ecv) = both r c e in let low = f.covers r c e in let small = f.small r c e in omega (arith, ints, eru, ecv, low, small));
     meets = λ r c h. (let on = part r c h in let e = (cheap_entry x r c (k.entries r c on)).0 in let met = pair_cheap x m r c k on in let (eru, ecv) = both r c e in let small = f.small r c e in omega (arith, ints, eru, ecv, met, small));
   }
     where
-      both : (r c : ℕ) → IsEntry x.weighing.matrix r c → (price u r ≡ pos (slice_index x.prices r) -ℤ pos top) × (price v c ≡ pos (top + top) -ℤ pos (outlay x c))
-      both r c e = (row_price eu r (let in_rows = e.0 in let long = f.prices_are in omega (arith, in_rows, long)), col_price ev c (let in_cols = entry_col x.weighing.matrix r c e in let long = f.outlays_are in omega (arith, in_cols, long)))
+      both : (r c : ℕ) → IsEntry x.weighing.matrix r c → (price u r ≡ pos (slice_index x.prices r) -ℤ pos top) × (price v c ≡ pos (top + top) -ℤ pos (dual x c))
+      both r c e = (row_price eu r (let in_rows = e.0 in let long = f.prices_are in omega (arith, in_rows, long)), col_price ev c (let in_cols = entry_col x.weighing.matrix r c e in let long = f.duals_are in omega (arith, in_cols, long)))
 
 -- the next pair is listed
 cols_grown : (m : List Place) (r c : ℕ) → cols_of (m ++ (r, c) ∷ []) ≡ cols_of m ++ c ∷ []
@@ -127,5 +102,5 @@ pub record AreMated (w : Weighing) (rows : ℕ) (a : Assignment) (s : Search) (n
 pub mated_same : (w : Weighing) (rows : ℕ) (a : Assignment) (s : Search) (n : ℕ) → AreMated w rows a s n → Among n (cols_of a.matching.pairs) → AreMated w rows a s (n + 1)
 mated_same w rows a s n m on = record { assignment = m.assignment; clear = m.clear; listed = m.listed; done = below_more (λ c. Among c (cols_of a.matching.pairs)) n m.done on }
 
-pub mated_next : (w : Weighing) (rows : ℕ) (a b : Assignment) (s t : Search) (n : ℕ) → AreMated w rows a s n → IsAssignment w b → ((c : ℕ) → Among c (cols_of a.matching.pairs) → Among c (cols_of b.matching.pairs)) → Among n (cols_of b.matching.pairs) × IsClear rows (tree_of t) (labels_of t) × (t.reached.items ≡ []) → AreMated w rows b t (n + 1)
-mated_next w rows a b s t n m assignment stay found = record { assignment = assignment; clear = found.1; listed = found.2; done = below_more (λ c. Among c (cols_of b.matching.pairs)) n (λ c lt. stay c (m.done c lt)) found.0 }
+pub mated_next : (w : Weighing) (rows : ℕ) (a b : Assignment) (s t : Search) (n : ℕ) → AreMated w rows a s n → IsAssignment w b → Covers a.matching.pairs b.matching.pairs → Among n (cols_of b.matching.pairs) × IsClear rows (tree_of t) (labels_of t) × (t.reached.items ≡ []) → AreMated w rows b t (n + 1)
+mated_next w rows a b s t n m assignment covered found = record { assignment = assignment; clear = found.1; listed = found.2; done = below_more (λ c. Among c (cols_of b.matching.pairs)) n (λ c lt. covered.cols c (m.done c lt)) found.0 }

@@ -5,21 +5,21 @@ use Rattle.bip_defs.specs.Lists.{Among}
 use Rattle.bip_defs.specs.Matching.{IsMatching}
 use Rattle.bip_defs.specs.Matrix.{Place, cols, upto}
 use Rattle.bip_defs.proofs.Sets.{few_distinct, upto_length, upto_lists}
-use Rattle.hall_witness.specs.Search.{at, heads}
 use Rattle.integer_diagonal.proofs.Cheap.{cheap_entry}
-use Rattle.integer_diagonal.specs.Outlays.{Priced, cheap, cost, outlay, paid, top}
+use Rattle.integer_diagonal.specs.Duals.{Priced, cheap, cost, dual, paid, top}
 use Rattle.integer_diagonal.specs.Searching.{IsGrown, IsLedTo, Reaches, Tree, depth, stop}
+use Rattle.bip_defs.specs.Queues.{at, heads}
 
--- the depth of the column at a place, and its outlay, against each other
+-- the depth of the column at a place, and its dual variable, against each other
 pub record IsWithin (x : Priced) (t : Tree) (i : ℕ) : Type 0 where
-  pub near : depth t i ≤ outlay x (stop t i) + i * top
-  pub low : outlay x (stop t i) ≤ depth t i + (outlay x (stop t 0) + i * top)
+  pub near : depth t i ≤ dual x (stop t i) + i * top
+  pub low : dual x (stop t i) ≤ depth t i + (dual x (stop t 0) + i * top)
 
 within_first : (x : Priced) (m : List Place) (root : ℕ) (t : Tree) → IsGrown x m root t → IsWithin x t 0
 within_first x m root t g = record { near = omega (arith, g.begins); low = omega (arith, g.begins) }
 
--- a pair costs as much as its column's outlay
-pub pair_cheap : (x : Priced) (m : List Place) (r c : ℕ) → IsMatching (cheap x) m → Among (r, c) m → paid x r c ≡ outlay x c
+-- a pair costs as much as its column's dual variable
+pub pair_cheap : (x : Priced) (m : List Place) (r c : ℕ) → IsMatching (cheap x) m → Among (r, c) m → paid x r c ≡ dual x c
 pair_cheap x m r c k h = (cheap_entry x r c (k.entries r c h)).1
 
 within_step : (x : Priced) (m : List Place) (t : Tree) (i : ℕ) → IsMatching (cheap x) m → IsLedTo x m t i → IsWithin x t (at t.queue i).1 → IsWithin x t i

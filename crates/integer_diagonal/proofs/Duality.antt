@@ -5,8 +5,9 @@ use Rattle.std.proofs.lemmas.Int.{ints}
 use Rattle.std.proofs.lemmas.List.{length-map}
 use Rattle.std.proofs.lemmas.List.Sums.{sum_by-cons}
 use Rattle.bip_defs.specs.Lists.{Among, AreDistinct}
-use Rattle.bip_defs.specs.Matching.{IsMatching, IsMaximum, IsRank, cols_of, rows_of}
+use Rattle.bip_defs.specs.Matching.{IsRank, cols_of, rows_of}
 use Rattle.bip_defs.specs.Matrix.{Matrix, Place, cols, upto}
+use Rattle.bip_defs.proofs.Full.{full_maximum}
 use Rattle.bip_defs.proofs.Sets.{Drops, here, later, drops_distinct, drops_gone, drops_kept, drops_only, entry_col, few_distinct, taken, row_pair, col_pair, upto_length, upto_lists, rising_distinct}
 use Rattle.integer_diagonal.specs.Prices.{AreFair, IsFull, price, total}
 use Rattle.sp_pattern.specs.Weighing.{Weighing, weight_at}
@@ -82,16 +83,5 @@ full_rows a m k = sym (length-map m (λ (p : Place). p.0)) ∙ same_count a.rows
 pub full_cols : (a : Matrix) (m : List Place) → IsFull a m → length m ≡ cols a
 full_cols a m k = sym (length-map m (λ (p : Place). p.1)) ∙ same_count (cols a) (cols_of m) k.matching.cols_differ (λ c h. full_col a m c k h) k.all_cols
 
--- a matching has no more pairs than columns
-pub matching_few : (a : Matrix) (m : List Place) → IsMatching a m → length m ≤ cols a
-matching_few a m k =
-    let few = few_distinct (cols_of m) (upto (cols a)) k.cols_differ (λ c h. let (r, g) = col_pair c m h in (upto_lists (cols a)).complete c (entry_col a r c (k.entries r c g))) in
-    let long = upto_length 0 (cols a) in
-    let pairs = length-map m (λ (p : Place). p.1) in
-    omega (arith, few, long, pairs)
-
-pub full_maximum : (a : Matrix) (m : List Place) → IsFull a m → IsMaximum a m
-full_maximum a m k = record { matching = k.matching; longest = λ other o. let few = matching_few a other o in let all = full_cols a m k in omega (arith, few, all) }
-
 pub full_rank : (a : Matrix) (m : List Place) → IsFull a m → IsRank a (cols a)
-full_rank a m k = (m, full_maximum a m k, full_cols a m k)
+full_rank a m k = (m, full_maximum a m k.matching (full_cols a m k), full_cols a m k)

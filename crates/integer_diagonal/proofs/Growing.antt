@@ -2,20 +2,20 @@
 use Rattle.std.proofs.Common.{◌≡◌, ◌≢◌, ◌⊎◌, ◌∙◌, ℕ, zero, suc, slice_index, ◌+◌, ◌^◌, ◌<◌, ◌≤◌, true, false, List, [], ◌∷◌, ◌++◌, length, set, get_or, refl, sym, ap, subst, inl, inr, ⊎_elim, arith, length-append, length-set, get_or-set_same, get_or-set_other}
 use Rattle.std.proofs.Math.Decide.{dec_lt}
 use Rattle.std.proofs.lemmas.List.{get_or_append_left, get_or_past, get_or_push}
-use Rattle.bip_defs.specs.Lists.{Among, AreDistinct}
+use Rattle.bip_defs.specs.Lists.{Among, AreDistinct, IsMarked}
 use Rattle.bip_defs.specs.Matching.{IsMatching, cols_of}
 use Rattle.bip_defs.specs.Matrix.{IsEntry, Place, cols}
 use Rattle.bip_defs.proofs.Counts.{distinct_append}
-use Rattle.bip_defs.proofs.Sets.{among_last, col_among, entry_col, number_same, one_row}
-use Rattle.hall_witness.specs.Search.{IsMarked, at, heads}
-use Rattle.hall_witness.proofs.Searching.{grown_at, heads_push, marked_set, place_of}
+use Rattle.bip_defs.proofs.Sets.{among_last, col_among, entry_col, marked_more, number_same, one_row}
 use Rattle.integer_diagonal.proofs.Bounds.{queue_short, within_all}
 use Rattle.integer_diagonal.proofs.Cheap.{cheap_entry}
 use Rattle.integer_diagonal.proofs.Keeping.{listed_same, listed_settled}
 use Rattle.integer_diagonal.specs.declared.search.Nearest.{Nearest}
 use Rattle.integer_diagonal.specs.Labels.{AreBeyond, AreKnown, AreListed, IsBest, IsClear, IsKept, IsKnown, Labels, Takes, distance_of}
-use Rattle.integer_diagonal.specs.Outlays.{IsBounded, Priced, cheap, cost, outlay, paid, top}
+use Rattle.integer_diagonal.specs.Duals.{IsBounded, Priced, cheap, cost, dual, paid, top}
 use Rattle.integer_diagonal.specs.Searching.{IsGrown, IsLedTo, IsSearched, IsStuck, IsTaken, Reaches, Tree, depth, far, stop}
+use Rattle.bip_defs.specs.Queues.{at, heads}
+use Rattle.bip_defs.proofs.Queues.{at_push, heads_push, place_of}
 
 -- a column more, at the end
 abbrev pub more : Tree → ℕ → ℕ → ℕ → Tree
@@ -25,7 +25,7 @@ more_long : (t : Tree) (c p d : ℕ) → length (more t c p d).queue ≡ length 
 more_long t c p d = length-append t.queue ((c, p) ∷ [])
 
 more_at : (t : Tree) (c p d i : ℕ) → i < length t.queue → at (more t c p d).queue i ≡ at t.queue i
-more_at t c p d i lt = grown_at t.queue (t.queue ++ (c, p) ∷ []) i ((c, p) ∷ [], refl) lt
+more_at t c p d i lt = at_push t.queue (c, p) i lt
 
 more_stop : (t : Tree) (c p d i : ℕ) → i < length t.queue → stop (more t c p d) i ≡ stop t i
 more_stop t c p d i lt = ap (λ (q : ℕ × ℕ). q.0) (more_at t c p d i lt)
@@ -46,7 +46,7 @@ reaches_more x t c p d r s e long reaches =
     record {
       within = (let l = more_long t c p d in let w = reaches.within in omega (arith, l, w));
       entry = subst (IsEntry x.weighing.matrix r) (sym stops) reaches.entry;
-      long = (let was = reaches.long in let one = ap (outlay x) stops in let two = ap (paid x r) stops in omega (arith, was, one, two, depths));
+      long = (let was = reaches.long in let one = ap (dual x) stops in let two = ap (paid x r) stops in omega (arith, was, one, two, depths));
     }
 
 pub grown_more : (x : Priced) (m : List Place) (root : ℕ) (t : Tree) (c r p d : ℕ) → IsGrown x m root t → ¬ Among c (heads t.queue) → c < cols x.weighing.matrix → Among (r, c) m → Reaches x t r p d → IsGrown x m root (more t c p d)
@@ -105,7 +105,7 @@ kept_more x m root t l k level d r c p limit match kept g takes lt pair = subst 
   matched = kept.matched;
   settled = λ s mark. settled s mark (number_same s r);
   entered = λ i s above within on. entered i s above within on (dec_lt i (length t.queue));
-  waiting = λ s near. ⊎_elim (λ mark. inl (marked_set l.settled r s inside mark)) (λ h. waiting s (takes.keeps (distance_of l s, s) h)) (kept.waiting s near);
+  waiting = λ s near. ⊎_elim (λ mark. inl (marked_more l.settled r s inside mark)) (λ h. waiting s (takes.keeps (distance_of l s, s) h)) (kept.waiting s near);
   waits = λ e s h. let was = takes.holds (e, s) h in let low = kept.waits e s was.0 in (was.1, low.1, low.2);
   depths = λ i within. depths i within (dec_lt i (length t.queue));
 })
@@ -134,7 +134,7 @@ kept_more x m root t l k level d r c p limit match kept g takes lt pair = subst 
         )
 
     entered : (i s : ℕ) → 0 < i → i < length (more t c p d).queue → Among (s, stop (more t c p d) i) m → Dec (i < length t.queue) → IsMarked (set l.settled r true) s
-    entered i s above within on (yes old) = marked_set l.settled r s inside (kept.entered i s above old (subst (λ z. Among {X = Place} (s, z) m) (more_stop t c p d i old) on))
+    entered i s above within on (yes old) = marked_more l.settled r s inside (kept.entered i s above old (subst (λ z. Among {X = Place} (s, z) m) (more_stop t c p d i old) on))
     entered i s above within on (no nold) =
         let long = more_long t c p d in
         let is : i ≡ length t.queue = omega (arith, long, within, nold) in
@@ -144,7 +144,7 @@ kept_more x m root t l k level d r c p limit match kept g takes lt pair = subst 
 
     waiting : (s : ℕ) → (◌≡◌ {A = ℕ × ℕ} (distance_of l s, s) (d, r)) ⊎ (IsMarked l.settled s ⊎ Among {X = ℕ × ℕ} (distance_of l s, s) takes.heap) → IsMarked (set l.settled r true) s ⊎ Among {X = ℕ × ℕ} (distance_of l s, s) takes.heap
     waiting s (inl is) = inl (ap (λ z. get_or (set l.settled r true) z false) (ap (λ (z : ℕ × ℕ). z.1) is) ∙ get_or-set_same l.settled r true false inside)
-    waiting s (inr (inl mark)) = inl (marked_set l.settled r s inside mark)
+    waiting s (inr (inl mark)) = inl (marked_more l.settled r s inside mark)
     waiting s (inr (inr on)) = inr on
 
     depths : (i : ℕ) → i < length (more t c p d).queue → Dec (i < length t.queue) → depth (more t c p d) i ≤ d
@@ -166,7 +166,7 @@ pub known_more : (x : Priced) (t : Tree) (l : Labels) (limit c p d r : ℕ) → 
 known_more x t l limit c p d r long known i s lt entry =
     let stops = more_stop t c p d i lt in
     let depths = more_depth t c p d i long lt in
-    let one = ap (outlay x) stops in
+    let one = ap (dual x) stops in
     let two = ap (paid x s) stops in
     ⊎_elim (λ h. inl (h.0, (let le = h.1 in omega (arith, le, one, two, depths)))) (λ le. inr (omega (arith, le, one, two, depths))) (known i s lt (subst (IsEntry x.weighing.matrix s) stops entry))
 
@@ -216,10 +216,10 @@ searched x m t l n level kept best known beyond = record {
   closed = λ i r lt entry. closed i r (known i r lt entry);
 }
   where
-    taken : (i r : ℕ) → IsMarked l.settled r → distance_of l r + outlay x (stop t i) ≤ depth t i + paid x r (stop t i) → IsTaken x m t i r
+    taken : (i r : ℕ) → IsMarked l.settled r → distance_of l r + dual x (stop t i) ≤ depth t i + paid x r (stop t i) → IsTaken x m t i r
     taken i r mark le = let (j, above, within, pair, e) = kept.settled r mark in (j, above, within, pair, omega (arith, le, e))
 
-    closed : (i r : ℕ) → IsKnown x t l n.distance i r → IsTaken x m t i r ⊎ (n.distance + outlay x (stop t i) ≤ depth t i + paid x r (stop t i))
+    closed : (i r : ℕ) → IsKnown x t l n.distance i r → IsTaken x m t i r ⊎ (n.distance + dual x (stop t i) ≤ depth t i + paid x r (stop t i))
     closed i r (inr le) = inr le
     closed i r (inl (near, le)) = ⊎_elim (λ mark. inl (taken i r mark le)) (λ h. ⊎_elim (λ mark. inl (taken i r mark le)) (λ low. inr (omega (arith, low, le))) (beyond (distance_of l r, r) h)) (kept.waiting r near)
 
@@ -227,7 +227,7 @@ searched x m t l n level kept best known beyond = record {
 pub search_stuck : (x : Priced) (m : List Place) (root : ℕ) (t : Tree) (l : Labels) (n : Nearest) (level : ℕ) → IsMatching (cheap x) m → IsBounded x m → cols x.weighing.matrix < 2 ^ 32 → IsGrown x m root t → IsKept x m t l level → IsBest x m t n level → AreKnown x t l n.distance (length t.queue) → AreBeyond l n.distance → n.distance ≡ far → IsStuck x m t
 search_stuck x m root t l n level match bounded few g kept best known beyond none i r lt entry = by ((searched x m t l n level kept best known beyond).closed i r lt entry)
   where
-    by : IsTaken x m t i r ⊎ (n.distance + outlay x (stop t i) ≤ depth t i + paid x r (stop t i)) → (j : ℕ) × (0 < j) × (j < length t.queue) × Among (r, stop t j) m
+    by : IsTaken x m t i r ⊎ (n.distance + dual x (stop t i) ≤ depth t i + paid x r (stop t i)) → (j : ℕ) × (0 < j) × (j < length t.queue) × Among (r, stop t j) m
     by (inl (j, above, within, pair, le)) = (j, above, within, pair)
     by (inr le) =
         let near = (within_all x m root t match g i lt).near in

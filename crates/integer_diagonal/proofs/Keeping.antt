@@ -1,14 +1,13 @@
 -- What each step of a search keeps.
 use Rattle.std.proofs.Common.{◌≡◌, ◌≢◌, ◌⊎◌, ◌↔◌, ◌∙◌, ℕ, suc, slice_index, drop, ◌+◌, ◌<◌, ◌≤◌, Bool, true, false, true≢false, List, [], ◌∷◌, ◌++◌, length, set, get_or, refl, sym, ap, subst, inl, inr, ⊎_elim, arith, drop-cons, length-set, get_or-set_same, get_or-set_other}
 use Rattle.std.proofs.lemmas.List.{get_or_read}
-use Rattle.bip_defs.specs.Lists.{Among}
+use Rattle.bip_defs.specs.Lists.{Among, IsMarked}
 use Rattle.bip_defs.specs.Matching.{rows_of}
 use Rattle.bip_defs.specs.Matrix.{Place}
 use Rattle.bip_defs.proofs.Sets.{among_last, among_left, is_among, number_same}
-use Rattle.hall_witness.specs.Search.{IsMarked}
 use Rattle.integer_diagonal.specs.declared.search.Nearest.{Nearest}
 use Rattle.integer_diagonal.specs.Labels.{AreBeyond, AreListed, IsBest, IsClear, IsKept, IsKnown, Labels, Looks, Puts, Takes, distance_of, put}
-use Rattle.integer_diagonal.specs.Outlays.{Priced}
+use Rattle.integer_diagonal.specs.Duals.{Priced}
 use Rattle.integer_diagonal.specs.Searching.{Reaches, Tree, far}
 
 -- A row is given a distance.

@@ -1,5 +1,5 @@
 -- What is known of rows at one level and of others behind them.
-use Rattle.std.proofs.Common.{◌≡◌, ◌⊎◌, ◌↔◌, ℕ, ◌<◌, ◌≤◌, List, [], ◌∷◌, ◌++◌, arith, inl, inr, length, map, refl, subst, sym}
+use Rattle.std.proofs.Common.{◌≡◌, ◌⊎◌, ◌↔◌, ℕ, ◌≤◌, List, [], ◌∷◌, ◌++◌, arith, inl, inr, length, subst, sym}
 use Rattle.std.proofs.lemmas.List.{map-append}
 use Rattle.bip_defs.specs.Lists.{Among}
 use Rattle.bip_defs.proofs.Sets.{among_either, among_last, among_left, among_right}

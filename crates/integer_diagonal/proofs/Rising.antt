@@ -1,17 +1,16 @@
--- Outlays and prices that rise at one column of a search after another.
+-- Dual variables and prices that rise at one column of a search after another.
 use Rattle.std.proofs.Common.{◌≡◌, ◌≢◌, ◌⊎◌, ◌∙◌, ℕ, ◌+◌, ◌<◌, ◌≤◌, List, length, set, slice_index, refl, sym, ap, subst, inl, inr, arith, length-set, get_or-set_same, get_or-set_other}
 use Rattle.bip_defs.specs.Lists.{Among, AreDistinct}
 use Rattle.bip_defs.specs.Matching.{cols_of, rows_of}
 use Rattle.bip_defs.specs.Matrix.{Place}
 use Rattle.bip_defs.proofs.Sets.{col_among, number_same, one_col, one_row}
-use Rattle.hall_witness.specs.Search.{Queue, at, heads}
-use Rattle.hall_witness.proofs.Backwards.{places_differ}
-use Rattle.hall_witness.proofs.Searching.{head_at}
 use Rattle.integer_diagonal.specs.Searching.{IsRaised}
 use Rattle.sp_pattern.specs.Weighing.{Weighing}
+use Rattle.bip_defs.specs.Queues.{Queue, at, heads}
+use Rattle.bip_defs.proofs.Queues.{head_at, places_differ}
 
--- the outlays of the first k columns have risen, and the others stand
-pub record OutlaysRise (q : Queue) (depths : List ℕ) (distance k : ℕ) (old new : List ℕ) : Type 0 where
+-- the dual variables of the first k columns have risen, and the others stand
+pub record DualsRise (q : Queue) (depths : List ℕ) (distance k : ℕ) (old new : List ℕ) : Type 0 where
   pub long : length new ≡ length old
   pub up : (i : ℕ) → i < k → slice_index new (at q i).0 + slice_index depths i ≡ slice_index old (at q i).0 + distance
   pub stay : (c : ℕ) → ((i : ℕ) → i < k → (at q i).0 ≢ c) → slice_index new c ≡ slice_index old c
@@ -23,29 +22,29 @@ pub record PricesRise (m : List Place) (q : Queue) (depths : List ℕ) (distance
   pub stay : (r : ℕ) → ((i : ℕ) → i < k → ¬ Among (r, (at q i).0) m) → slice_index new r ≡ slice_index old r
   pub rise : (r : ℕ) → slice_index old r ≤ slice_index new r
 
-pub outlays_start : (q : Queue) (depths : List ℕ) (distance : ℕ) (old : List ℕ) → OutlaysRise q depths distance 0 old old
-outlays_start q depths distance old = record { long = refl; up = λ i lt. absurd (omega arith); stay = λ c none. refl }
+pub duals_start : (q : Queue) (depths : List ℕ) (distance : ℕ) (old : List ℕ) → DualsRise q depths distance 0 old old
+duals_start q depths distance old = record { long = refl; up = λ i lt. absurd (omega arith); stay = λ c none. refl }
 
 pub prices_start : (m : List Place) (q : Queue) (depths : List ℕ) (distance : ℕ) (old : List ℕ) → PricesRise m q depths distance 0 old old
 prices_start m q depths distance old = record { long = refl; up = λ i r lt. absurd (omega arith); stay = λ r none. refl; rise = λ r. omega arith }
 
--- the next column's outlay stands so far
-pub outlay_next : (q : Queue) (depths : List ℕ) (distance k : ℕ) (old new : List ℕ) (c : ℕ) → AreDistinct (heads q) → k < length q → c ≡ (at q k).0 → OutlaysRise q depths distance k old new → slice_index new c ≡ slice_index old c
-outlay_next q depths distance k old new c distinct within is h = h.stay c (λ i lt e. places_differ q i k distinct lt within (e ∙ is))
+-- the next column's dual variable stands so far
+pub dual_next : (q : Queue) (depths : List ℕ) (distance k : ℕ) (old new : List ℕ) (c : ℕ) → AreDistinct (heads q) → k < length q → c ≡ (at q k).0 → DualsRise q depths distance k old new → slice_index new c ≡ slice_index old c
+dual_next q depths distance k old new c distinct within is h = h.stay c (λ i lt e. places_differ q i k distinct lt within (e ∙ is))
 
 -- and so does its mate's price
 pub price_next : (m : List Place) (q : Queue) (depths : List ℕ) (distance k : ℕ) (old new : List ℕ) (r c : ℕ) → AreDistinct (rows_of m) → AreDistinct (heads q) → k < length q → c ≡ (at q k).0 → Among (r, c) m → PricesRise m q depths distance k old new → slice_index new r ≡ slice_index old r
 price_next m q depths distance k old new r c rows distinct within is mate h = h.stay r (λ i lt pair. places_differ q i k distinct lt within (one_col m rows r (at q i).0 c pair mate ∙ is))
 
-pub outlays_more : (q : Queue) (depths : List ℕ) (distance k : ℕ) (old new : List ℕ) (c v : ℕ) → AreDistinct (heads q) → k < length q → c ≡ (at q k).0 → c < length new → v + slice_index depths k ≡ slice_index new c + distance → OutlaysRise q depths distance k old new → OutlaysRise q depths distance (k + 1) old (set new c v)
-outlays_more q depths distance k old new c v distinct within is inside rise h = record {
+pub duals_more : (q : Queue) (depths : List ℕ) (distance k : ℕ) (old new : List ℕ) (c v : ℕ) → AreDistinct (heads q) → k < length q → c ≡ (at q k).0 → c < length new → v + slice_index depths k ≡ slice_index new c + distance → DualsRise q depths distance k old new → DualsRise q depths distance (k + 1) old (set new c v)
+duals_more q depths distance k old new c v distinct within is inside rise h = record {
   long = length-set new c v ∙ h.long;
   up = λ i lt. up i lt (number_same i k);
   stay = λ d none. get_or-set_other new c d v 0 (λ e. none k (omega arith) (sym is ∙ sym e)) ∙ h.stay d (λ i lt. none i (omega arith));
 }
   where
     next : slice_index new c ≡ slice_index old c
-    next = outlay_next q depths distance k old new c distinct within is h
+    next = dual_next q depths distance k old new c distinct within is h
 
     here : slice_index (set new c v) c + slice_index depths k ≡ slice_index old c + distance
     here =
@@ -116,11 +115,11 @@ prices_keep m q depths distance k old new c is free h = record {
     up i r lt pair (inr ne) = h.up i r (omega arith) pair
 
 -- all have risen
-pub all_raised : (w : Weighing) (prices outlays prices2 outlays2 : List ℕ) (m : List Place) (q : Queue) (depths : List ℕ) (distance k : ℕ) → k ≡ length q → OutlaysRise q depths distance k outlays outlays2 → PricesRise m q depths distance k prices prices2 → IsRaised (record { weighing = w; prices = prices; outlays = outlays }) (record { weighing = w; prices = prices2; outlays = outlays2 }) m (record { queue = q; depths = depths }) distance
-all_raised w prices outlays prices2 outlays2 m q depths distance k all o p = record {
+pub all_raised : (w : Weighing) (prices duals prices2 duals2 : List ℕ) (m : List Place) (q : Queue) (depths : List ℕ) (distance k : ℕ) → k ≡ length q → DualsRise q depths distance k duals duals2 → PricesRise m q depths distance k prices prices2 → IsRaised (record { weighing = w; prices = prices; duals = duals }) (record { weighing = w; prices = prices2; duals = duals2 }) m (record { queue = q; depths = depths }) distance
+all_raised w prices duals prices2 duals2 m q depths distance k all o p = record {
   same = refl;
   prices_are = p.long;
-  outlays_are = o.long;
+  duals_are = o.long;
   cols_up = λ i lt. o.up i (omega arith);
   rows_up = λ i r lt pair. p.up i r (omega arith) pair;
   cols_stay = λ c off. o.stay c (λ i lt e. off (subst (λ d. Among d (heads q)) e (head_at q i (omega arith))));

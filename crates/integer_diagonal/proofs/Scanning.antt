@@ -5,12 +5,12 @@ use Rattle.bip_defs.specs.Lists.{Among, Lists}
 use Rattle.bip_defs.specs.Matching.{IsMatching}
 use Rattle.bip_defs.specs.Matrix.{IsEntry, Matrix, Place, cols, column}
 use Rattle.bip_defs.proofs.Sets.{among_at, number_same, place_among}
-use Rattle.hall_witness.proofs.Searching.{head_at}
 use Rattle.integer_diagonal.proofs.Bounds.{within_all}
 use Rattle.integer_diagonal.specs.Labels.{AreKnown, IsKnown, Labels}
-use Rattle.integer_diagonal.specs.Outlays.{IsBounded, IsFeasible, Priced, cheap, outlay, paid, top}
+use Rattle.integer_diagonal.specs.Duals.{IsBounded, IsFeasible, Priced, cheap, dual, paid, top}
 use Rattle.integer_diagonal.specs.Searching.{IsGrown, Reaches, Tree, depth, stop}
 use Rattle.sp_pattern.specs.Weighing.{weight_at}
+use Rattle.bip_defs.proofs.Queues.{head_at}
 
 -- the column that is read at a place
 pub place_col : (x : Priced) (m : List Place) (root : ℕ) (t : Tree) (place : ℕ) (q : ℕ × ℕ) → IsGrown x m root t → place < length t.queue → q ≡ get_or t.queue place q → (q.0 ≡ stop t place) × (q.0 < cols x.weighing.matrix)
@@ -26,10 +26,10 @@ pub record IsScan (x : Priced) (t : Tree) (place row price weight out dep : ℕ)
   pub entry : IsEntry x.weighing.matrix row (stop t place)
   pub price_is : price ≡ slice_index x.prices row
   pub weight_is : weight ≡ weight_at x.weighing row (stop t place)
-  pub out_is : out ≡ outlay x (stop t place)
+  pub out_is : out ≡ dual x (stop t place)
   pub dep_is : dep ≡ depth t place
 
-pub make_scan : (x : Priced) (m : List Place) (root : ℕ) (t : Tree) (place k : ℕ) (rows weights : List ℕ) (q : ℕ × ℕ) (dep out price r row : ℕ) → IsFeasible x → IsGrown x m root t → place < length t.queue → q ≡ get_or t.queue place q → dep ≡ get_or t.depths place dep → out ≡ get_or x.outlays q.0 out → rows ≡ column x.weighing.matrix q.0 → k < length rows → r ≡ get_or rows k r → row ≡ r → IsEntry x.weighing.matrix row q.0 → price ≡ get_or x.prices row price → ((j : ℕ) → j < length weights → slice_index weights j ≡ weight_at x.weighing (slice_index (column x.weighing.matrix q.0) j) q.0) → length weights ≡ length (column x.weighing.matrix q.0) → IsScan x t place row price (slice_index weights k) out dep
+pub make_scan : (x : Priced) (m : List Place) (root : ℕ) (t : Tree) (place k : ℕ) (rows weights : List ℕ) (q : ℕ × ℕ) (dep out price r row : ℕ) → IsFeasible x → IsGrown x m root t → place < length t.queue → q ≡ get_or t.queue place q → dep ≡ get_or t.depths place dep → out ≡ get_or x.duals q.0 out → rows ≡ column x.weighing.matrix q.0 → k < length rows → r ≡ get_or rows k r → row ≡ r → IsEntry x.weighing.matrix row q.0 → price ≡ get_or x.prices row price → ((j : ℕ) → j < length weights → slice_index weights j ≡ weight_at x.weighing (slice_index (column x.weighing.matrix q.0) j) q.0) → length weights ≡ length (column x.weighing.matrix q.0) → IsScan x t place row price (slice_index weights k) out dep
 make_scan x m root t place k rows weights q dep out price r row f g lt qe de oe rows_are within re same entry pe each long =
     let col = place_col x m root t place q g lt qe in
     let read = same ∙ get_or_read rows k r within re 0 ∙ ap (λ (z : List ℕ). get_or z k 0) rows_are in
@@ -38,7 +38,7 @@ make_scan x m root t place k rows weights q dep out price r row f g lt qe de oe 
       entry = subst (IsEntry x.weighing.matrix row) col.0 entry;
       price_is = get_or_read x.prices row price (let l = f.prices_are in let in_rows = entry.0 in omega (arith, l, in_rows)) pe 0;
       weight_is = each k inside ∙ ap (λ z. weight_at x.weighing z q.0) (sym read) ∙ ap (weight_at x.weighing row) col.0;
-      out_is = get_or_read x.outlays q.0 out (let l = f.outlays_are in let c = col.1 in omega (arith, l, c)) oe 0 ∙ ap (outlay x) col.0;
+      out_is = get_or_read x.duals q.0 out (let l = f.duals_are in let c = col.1 in omega (arith, l, c)) oe 0 ∙ ap (dual x) col.0;
       dep_is = get_or_read t.depths place dep (let l = g.long in omega (arith, l, lt)) de 0;
     }
 

@@ -1,4 +1,4 @@
--- The first outlays, prices and pairs.
+-- The first dual variables, prices and pairs.
 use Rattle.std.proofs.Common.{◌≡◌, ◌≢◌, ◌⊎◌, ◌↔◌, ◌∙◌, ℕ, slice_index, ◌+◌, ◌-◌, ◌<◌, ◌≤◌, List, [], ◌∷◌, ◌++◌, true, false, true≢false, length, replicate, refl, sym, ap, subst, inl, inr, ⊎_elim, arith, below_more, length-append}
 use Rattle.std.specs.Option.{is_some, IfNone, IfSome}
 use Rattle.std.specs.Prelude.{Option, None, Some}
@@ -11,15 +11,15 @@ use Rattle.bip_defs.specs.Matrix.{AreEntries, IsEntry, Matrix, Place, cols, colu
 use Rattle.bip_defs.proofs.Sets.{among_at, col_among, col_pair, entry_col, number_same, place_among, rising_distinct}
 use Rattle.bip_graph.specs.Pairing.{Pairing}
 use Rattle.integer_diagonal.proofs.Cheap.{entry_cheap}
-use Rattle.integer_diagonal.specs.Outlays.{IsAssigned, Priced, cheap, cost, outlay, paid, top}
-use Rattle.integer_diagonal.specs.Starting.{AreFirstOutlays, AreFirstPrices, IsMet}
+use Rattle.integer_diagonal.specs.Duals.{IsAssigned, Priced, cheap, cost, dual, paid, top}
+use Rattle.integer_diagonal.specs.Starting.{AreFirstDuals, AreFirstPrices, IsMet}
 use Rattle.sp_pattern.specs.Weighing.{Weighing, weight_at}
 
--- The outlays.
+-- The dual variables.
 
-pub outlays_none : (w : Weighing) → AreFirstOutlays w 0 []
-outlays_none w = record {
-  outlays_are = refl;
+pub duals_none : (w : Weighing) → AreFirstDuals w 0 []
+duals_none w = record {
+  duals_are = refl;
   low = λ c. omega arith;
   high = λ c lt. absurd (omega arith);
   small = λ r c lt e. absurd (omega arith);
@@ -60,8 +60,8 @@ weight_below w n most weights r k on =
     let below = k.bound j inside in
     omega (arith, is, below)
 
-outlay_met : (w : Weighing) (n most : ℕ) (weights : List ℕ) → AreColumn w n weights most → IsMet w n (top + (top - most))
-outlay_met w n most weights k = by k.met
+dual_met : (w : Weighing) (n most : ℕ) (weights : List ℕ) → AreColumn w n weights most → IsMet w n (top + (top - most))
+dual_met w n most weights k = by k.met
   where
     by : (most ≡ 0) ⊎ Among most weights → IsMet w n (top + (top - most))
     by (inl zero_is) = inl (omega (arith, zero_is))
@@ -71,25 +71,25 @@ outlay_met w n most weights k = by k.met
         let is = sym (k.each j within) ∙ at in
         inr (slice_index (column w.matrix n) j, among_at (column w.matrix n) j 0 inside, ap (λ z. top + (top - z)) is)
 
-pub outlays_more : (w : Weighing) (n most : ℕ) (os weights : List ℕ) → AreFirstOutlays w n os → AreColumn w n weights most → AreFirstOutlays w (n + 1) (os ++ (top + (top - most)) ∷ [])
-outlays_more w n most os weights l k = record {
-  outlays_are = (let longer = length-append os (last ∷ []) in let long = l.outlays_are in omega (arith, longer, long));
-  low = λ c. read_low os last n c (top + top) l.outlays_are (omega arith) l.low;
+pub duals_more : (w : Weighing) (n most : ℕ) (os weights : List ℕ) → AreFirstDuals w n os → AreColumn w n weights most → AreFirstDuals w (n + 1) (os ++ (top + (top - most)) ∷ [])
+duals_more w n most os weights l k = record {
+  duals_are = (let longer = length-append os (last ∷ []) in let long = l.duals_are in omega (arith, longer, long));
+  low = λ c. read_low os last n c (top + top) l.duals_are (omega arith) l.low;
   high = λ c lt. at_each (λ c o. top ≤ o) (omega arith) l.high c lt (number_same c n);
   small = λ r c lt e. small r c lt e (number_same c n);
   covers = λ r c lt. at_each (λ c o. IsEntry w.matrix r c → o ≤ top + cost w r c) (λ e. let low = weight_below w n most weights r k e.1 in omega (arith, low)) (λ c below. l.covers r c below) c lt (number_same c n);
-  met = λ c lt. at_each (IsMet w) (outlay_met w n most weights k) l.met c lt (number_same c n);
+  met = λ c lt. at_each (IsMet w) (dual_met w n most weights k) l.met c lt (number_same c n);
 }
   where
     last : ℕ
     last = top + (top - most)
 
-    -- what holds of the old outlays and of the last
+    -- what holds of the old dual variables and of the last
     at_each : (P : ℕ → ℕ → Type 0) → P n last → ((c : ℕ) → c < n → P c (slice_index os c)) → (c : ℕ) → c < n + 1 → (c ≡ n) ⊎ (c ≢ n) → P c (slice_index (os ++ last ∷ []) c)
-    at_each P here before c lt (inl is) = subst (P c) (sym (read_new os last n c l.outlays_are is)) (subst (λ z. P z last) (sym is) here)
+    at_each P here before c lt (inl is) = subst (P c) (sym (read_new os last n c l.duals_are is)) (subst (λ z. P z last) (sym is) here)
     at_each P here before c lt (inr ne) =
         let below : c < n = omega arith in
-        subst (P c) (sym (read_old os last n c l.outlays_are below)) (before c below)
+        subst (P c) (sym (read_old os last n c l.duals_are below)) (before c below)
 
     small : (r c : ℕ) → c < n + 1 → IsEntry w.matrix r c → (c ≡ n) ⊎ (c ≢ n) → weight_at w r c ≤ top
     small r c lt e (inl is) =
@@ -107,22 +107,22 @@ unpriced n r = by (dec_lt r n)
     by (yes lt) = get_or-replicate n r 0 0 lt
     by (no ge) = let long = length-replicate {A = ℕ} n 0 in get_or_past (replicate n 0) r 0 (omega (arith, long))
 
-pub prices_none : (w : Weighing) (outlays prices : List ℕ) → prices ≡ replicate w.matrix.rows 0 → AreFirstPrices w 0 outlays prices
-prices_none w outlays prices free = record {
+pub prices_none : (w : Weighing) (duals prices : List ℕ) → prices ≡ replicate w.matrix.rows 0 → AreFirstPrices w 0 duals prices
+prices_none w duals prices free = record {
   prices_are = ap (λ (z : List ℕ). length z) free ∙ length-replicate {A = ℕ} w.matrix.rows 0;
   low = λ r. (let zero_is = ap (λ (z : List ℕ). slice_index z r) free ∙ unpriced w.matrix.rows r in omega (arith, zero_is));
   covers = λ r c lt e. absurd (omega arith);
 }
 
-pub prices_more : (w : Weighing) (n : ℕ) (outlays old new : List ℕ) → AreFirstPrices w n outlays old → length new ≡ length old → ((r : ℕ) → slice_index new r ≤ top) → ((r : ℕ) → slice_index old r ≤ slice_index new r) → ((r : ℕ) → IsEntry w.matrix r n → slice_index outlays n ≤ slice_index new r + cost w r n) → AreFirstPrices w (n + 1) outlays new
-prices_more w n outlays old new f long low rise covers = record {
+pub prices_more : (w : Weighing) (n : ℕ) (duals old new : List ℕ) → AreFirstPrices w n duals old → length new ≡ length old → ((r : ℕ) → slice_index new r ≤ top) → ((r : ℕ) → slice_index old r ≤ slice_index new r) → ((r : ℕ) → IsEntry w.matrix r n → slice_index duals n ≤ slice_index new r + cost w r n) → AreFirstPrices w (n + 1) duals new
+prices_more w n duals old new f long low rise covers = record {
   prices_are = long ∙ f.prices_are;
   low = low;
   covers = λ r c lt e. by r c lt e (number_same c n);
 }
   where
-    by : (r c : ℕ) → c < n + 1 → IsEntry w.matrix r c → (c ≡ n) ⊎ (c ≢ n) → slice_index outlays c ≤ slice_index new r + cost w r c
-    by r c lt e (inl is) = subst (λ z. slice_index outlays z ≤ slice_index new r + cost w r z) (sym is) (covers r (subst (IsEntry w.matrix r) is e))
+    by : (r c : ℕ) → c < n + 1 → IsEntry w.matrix r c → (c ≡ n) ⊎ (c ≢ n) → slice_index duals c ≤ slice_index new r + cost w r c
+    by r c lt e (inl is) = subst (λ z. slice_index duals z ≤ slice_index new r + cost w r z) (sym is) (covers r (subst (IsEntry w.matrix r) is e))
     by r c lt e (inr ne) = let was = f.covers r c (omega arith) e in let more = rise r in omega (arith, was, more)
 
 -- a row's price is raised to this
@@ -132,11 +132,11 @@ pub record IsRaisedTo (old new : List ℕ) (row least : ℕ) : Type 0 where
   pub rise : (r : ℕ) → slice_index old r ≤ slice_index new r
 
 -- the prices at the place k of a column that is being raised
-pub record AreRaisedIn (w : Weighing) (col k outlay_is : ℕ) (rows old new : List ℕ) : Type 0 where
+pub record AreRaisedIn (w : Weighing) (col k dual_is : ℕ) (rows old new : List ℕ) : Type 0 where
   pub long : length new ≡ length old
   pub low : (r : ℕ) → slice_index new r ≤ top
   pub rise : (r : ℕ) → slice_index old r ≤ slice_index new r
-  pub part : (j : ℕ) → j < k → outlay_is ≤ slice_index new (slice_index rows j) + cost w (slice_index rows j) col
+  pub part : (j : ℕ) → j < k → dual_is ≤ slice_index new (slice_index rows j) + cost w (slice_index rows j) col
 
 pub raising_none : (w : Weighing) (col o : ℕ) (rows old : List ℕ) → ((r : ℕ) → slice_index old r ≤ top) → AreRaisedIn w col 0 o rows old old
 raising_none w col o rows old low = record { long = refl; low = low; rise = λ r. omega arith; part = λ j lt. absurd (omega arith) }
@@ -149,14 +149,14 @@ raising_more w col k o row weight rows old now new i long read costs small up = 
   part = below_more (λ j. o ≤ slice_index new (slice_index rows j) + cost w (slice_index rows j) col) k (λ j lt. let was = i.part j lt in let more = up.rise (slice_index rows j) in omega (arith, was, more)) (subst (λ z. o ≤ slice_index new z + cost w z col) read (let met = up.met in omega (arith, met, costs)));
 }
 
-pub raising_all : (w : Weighing) (a : Matrix) (col k o : ℕ) (rows old new outlays : List ℕ) → AreRaisedIn w col k o rows old new → o ≡ slice_index outlays col → rows ≡ column a col → length rows ≤ k → (r : ℕ) → IsEntry a r col → slice_index outlays col ≤ slice_index new r + cost w r col
-raising_all w a col k o rows old new outlays i is rows_are long r e =
+pub raising_all : (w : Weighing) (a : Matrix) (col k o : ℕ) (rows old new duals : List ℕ) → AreRaisedIn w col k o rows old new → o ≡ slice_index duals col → rows ≡ column a col → length rows ≤ k → (r : ℕ) → IsEntry a r col → slice_index duals col ≤ slice_index new r + cost w r col
+raising_all w a col k o rows old new duals i is rows_are long r e =
     let (j, within, at) = place_among r 0 rows (subst (λ (z : List ℕ). Among r z) (sym rows_are) e.1) in
-    subst (λ z. slice_index outlays col ≤ slice_index new z + cost w z col) at (let low = i.part j (omega (arith, within, long)) in omega (arith, low, is))
+    subst (λ z. slice_index duals col ≤ slice_index new z + cost w z col) at (let low = i.part j (omega (arith, within, long)) in omega (arith, low, is))
 
 -- The first pairs.
 
--- pairs of entries that cost no more than the outlays, in the columns below n
+-- pairs of entries that cost no more than the dual variables, in the columns below n
 pub record AreFirst (x : Priced) (n : ℕ) (m : Pairing) : Type 0 where
   pub rows_are : m.rows ≡ x.weighing.matrix.rows
   pub cols_are : m.cols ≡ cols x.weighing.matrix
@@ -164,7 +164,7 @@ pub record AreFirst (x : Priced) (n : ℕ) (m : Pairing) : Type 0 where
   pub below : (c : ℕ) → Among c (cols_of m.pairs) → c < n
 
 abbrev pub begun : Weighing → List ℕ → List ℕ → Priced
-begun w prices outlays = record { weighing = w; prices = prices; outlays = outlays }
+begun w prices duals = record { weighing = w; prices = prices; duals = duals }
 
 module _ (x : Priced) where
   pub first_none : (m : Pairing) → m.rows ≡ x.weighing.matrix.rows → m.cols ≡ cols x.weighing.matrix → m.pairs ≡ [] → AreFirst x 0 m
@@ -178,7 +178,7 @@ module _ (x : Priced) where
   pub first_same : (n : ℕ) (m : Pairing) → AreFirst x n m → AreFirst x (n + 1) m
   first_same n m f = record { rows_are = f.rows_are; cols_are = f.cols_are; entries = f.entries; below = λ c h. (let low = f.below c h in omega (arith, low)) }
 
-  pub first_pair : (row n : ℕ) (m g : Pairing) → AreFirst x n m → IsEntry x.weighing.matrix row n → paid x row n ≡ outlay x n → ((p : Place) → Among p g.pairs ↔ ((p ≡ (row, n)) ⊎ Among p m.pairs)) → (g.rows ≡ m.rows) × (g.cols ≡ m.cols) → AreFirst x (n + 1) g
+  pub first_pair : (row n : ℕ) (m g : Pairing) → AreFirst x n m → IsEntry x.weighing.matrix row n → paid x row n ≡ dual x n → ((p : Place) → Among p g.pairs ↔ ((p ≡ (row, n)) ⊎ Among p m.pairs)) → (g.rows ≡ m.rows) × (g.cols ≡ m.cols) → AreFirst x (n + 1) g
   first_pair row n m g f e met added sizes = record {
     rows_are = sizes.0 ∙ f.rows_are;
     cols_are = sizes.1 ∙ f.cols_are;
@@ -186,20 +186,20 @@ module _ (x : Priced) where
     below = λ c h. (let (r, k) = col_pair c g.pairs h in ⊎_elim (λ (same : (r, c) ≡ (row, n)). let one = ap (λ (p : Place). p.1) same in omega (arith, one)) (λ k. let low = f.below c (col_among r c m.pairs k) in omega (arith, low)) ((added (r, c)).0 k));
   }
 
-  pub start_assigned : (n : ℕ) (m : Pairing) → AreFirst x n m → AreFirstOutlays x.weighing (cols x.weighing.matrix) x.outlays → AreFirstPrices x.weighing (cols x.weighing.matrix) x.outlays x.prices → AreDistinct (rows_of m.pairs) → IsRising (cols_of m.pairs) → IsAssigned x m
-  start_assigned n m f outlays prices rows_differ rising = record {
+  pub start_assigned : (n : ℕ) (m : Pairing) → AreFirst x n m → AreFirstDuals x.weighing (cols x.weighing.matrix) x.duals → AreFirstPrices x.weighing (cols x.weighing.matrix) x.duals x.prices → AreDistinct (rows_of m.pairs) → IsRising (cols_of m.pairs) → IsAssigned x m
+  start_assigned n m f duals prices rows_differ rising = record {
     rows_are = f.rows_are;
     cols_are = f.cols_are;
     feasible = record {
       prices_are = prices.prices_are;
-      outlays_are = outlays.outlays_are;
-      small = λ r c e. outlays.small r c (entry_col x.weighing.matrix r c e) e;
+      duals_are = duals.duals_are;
+      small = λ r c e. duals.small r c (entry_col x.weighing.matrix r c e) e;
       covers = λ r c e. prices.covers r c (entry_col x.weighing.matrix r c e) e;
     };
     matching = record { entries = f.entries; rows_differ = rows_differ; cols_differ = rising_distinct (cols_of m.pairs) rising };
     bounded = record {
       free_rows = λ r off. prices.low r;
-      free_cols = λ c off. outlays.low c;
+      free_cols = λ c off. duals.low c;
       prices = λ r. (let low = prices.low r in omega (arith, low));
     };
   }
@@ -226,7 +226,7 @@ cost_here w a col k r rows weights same rows_are long each lt is =
     ap (λ z. top - z) (ap (λ z. weight_at w z col) read ∙ sym (each k inside))
 
 -- all places of the column have been looked at
-pub all_matched : (x : Priced) (a : Matrix) (col n : ℕ) (rows taken : List ℕ) → rows ≡ column a col → length rows ≤ n → ((j : ℕ) → j < n → paid x (slice_index rows j) col ≡ outlay x col → Among (slice_index rows j) taken) → (r : ℕ) → IsEntry a r col → paid x r col ≡ outlay x col → Among r taken
+pub all_matched : (x : Priced) (a : Matrix) (col n : ℕ) (rows taken : List ℕ) → rows ≡ column a col → length rows ≤ n → ((j : ℕ) → j < n → paid x (slice_index rows j) col ≡ dual x col → Among (slice_index rows j) taken) → (r : ℕ) → IsEntry a r col → paid x r col ≡ dual x col → Among r taken
 all_matched x a col n rows taken rows_are long looked r e is =
     let (j, within, at) = place_among r 0 rows (subst (λ (z : List ℕ). Among r z) (sym rows_are) e.1) in
     subst (λ z. Among z taken) at (looked j (omega (arith, within, long)) (ap (λ z. paid x z col) at ∙ is))

@@ -4,11 +4,11 @@ use Rattle.bip_defs.specs.Lists.{Among, AreDistinct}
 use Rattle.bip_defs.specs.Matching.{cols_of, rows_of}
 use Rattle.bip_defs.specs.Matrix.{IsEntry, Place}
 use Rattle.bip_defs.proofs.Sets.{Drops, col_among, col_pair, drops_kept, drops_length, one_col, one_row, pigeonhole, taken}
-use Rattle.hall_witness.specs.Search.{heads}
-use Rattle.hall_witness.proofs.Searching.{head_at, place_of}
-use Rattle.integer_diagonal.specs.Outlays.{Priced}
+use Rattle.integer_diagonal.specs.Duals.{Priced}
 use Rattle.integer_diagonal.specs.Prices.{IsFull}
 use Rattle.integer_diagonal.specs.Searching.{IsGrown, IsStuck, Tree, stop}
+use Rattle.bip_defs.specs.Queues.{heads}
+use Rattle.bip_defs.proofs.Queues.{head_at, place_of}
 
 -- the columns have fewer neighbours than they are
 pub stuck_not_full : (x : Priced) (m other : List Place) (root : ℕ) (t : Tree) → AreDistinct (rows_of m) → AreDistinct (cols_of m) → IsGrown x m root t → IsStuck x m t → IsFull x.weighing.matrix other → ⊥

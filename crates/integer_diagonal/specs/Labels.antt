@@ -1,12 +1,11 @@
 -- What a search keeps of the rows: their distances so far, and from where.
 use Rattle.std.specs.Prelude.{◌≡◌, ◌⊎◌, ℕ, ◌+◌, ◌<◌, ◌≤◌, Bool, List, [], length, set, slice_index, slice_index_or}
-use Rattle.bip_defs.specs.Lists.{Among}
+use Rattle.bip_defs.specs.Lists.{Among, IsMarked}
 use Rattle.bip_defs.specs.Matching.{rows_of}
 use Rattle.bip_defs.specs.Matrix.{IsEntry, Place}
-use Rattle.hall_witness.specs.Search.{IsMarked}
 use Rattle.integer_diagonal.specs.declared.search.Nearest.{Nearest}
 use Rattle.integer_diagonal.specs.declared.search.Search.{Search}
-use Rattle.integer_diagonal.specs.Outlays.{Priced, outlay, paid}
+use Rattle.integer_diagonal.specs.Duals.{Priced, dual, paid}
 use Rattle.integer_diagonal.specs.Searching.{IsNearest, Reaches, Tree, depth, far, stop}
 
 pub record Labels : Type 0 where
@@ -41,7 +40,7 @@ pub record IsKept (x : Priced) (m : List Place) (t : Tree) (l : Labels) (level :
 
 -- an entry of the column at the place does not lead nearer to its row than is known, or not nearer than the limit
 abbrev pub IsKnown : Priced → Tree → Labels → ℕ → ℕ → ℕ → Type 0
-IsKnown x t l limit i r = ((distance_of l r < far) × (distance_of l r + outlay x (stop t i) ≤ depth t i + paid x r (stop t i))) ⊎ (limit + outlay x (stop t i) ≤ depth t i + paid x r (stop t i))
+IsKnown x t l limit i r = ((distance_of l r < far) × (distance_of l r + dual x (stop t i) ≤ depth t i + paid x r (stop t i))) ⊎ (limit + dual x (stop t i) ≤ depth t i + paid x r (stop t i))
 
 -- the entries of the first k columns
 abbrev pub AreKnown : Priced → Tree → Labels → ℕ → ℕ → Type 0

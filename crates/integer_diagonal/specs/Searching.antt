@@ -3,8 +3,8 @@ use Rattle.std.specs.Prelude.{◌≡◌, ◌⊎◌, ℕ, ◌+◌, ◌<◌, ◌�
 use Rattle.bip_defs.specs.Lists.{Among, AreDistinct}
 use Rattle.bip_defs.specs.Matching.{cols_of, rows_of}
 use Rattle.bip_defs.specs.Matrix.{IsEntry, Place, cols}
-use Rattle.hall_witness.specs.Search.{Queue, at, heads}
-use Rattle.integer_diagonal.specs.Outlays.{Priced, outlay, paid}
+use Rattle.integer_diagonal.specs.Duals.{Priced, dual, paid}
+use Rattle.bip_defs.specs.Queues.{Queue, at, heads}
 
 -- stands for no distance
 abbrev pub far : ℕ
@@ -26,7 +26,7 @@ depth t i = slice_index t.depths i
 pub record Reaches (x : Priced) (t : Tree) (r p d : ℕ) : Type 0 where
   pub within : p < length t.queue
   pub entry : IsEntry x.weighing.matrix r (stop t p)
-  pub long : d + outlay x (stop t p) ≡ depth t p + paid x r (stop t p)
+  pub long : d + dual x (stop t p) ≡ depth t p + paid x r (stop t p)
 
 -- the column at the place is the mate of a row that an earlier one reaches, at the same distance
 abbrev pub IsLedTo : Priced → List Place → Tree → ℕ → Type 0
@@ -45,12 +45,12 @@ pub record IsGrown (x : Priced) (m : List Place) (root : ℕ) (t : Tree) : Type 
 
 -- the row's mate is one of the columns, at a place with at most this much to pay
 abbrev pub IsTaken : Priced → List Place → Tree → ℕ → ℕ → Type 0
-IsTaken x m t i r = (j : ℕ) × (0 < j) × (j < length t.queue) × Among (r, stop t j) m × (depth t j + outlay x (stop t i) ≤ depth t i + paid x r (stop t i))
+IsTaken x m t i r = (j : ℕ) × (0 < j) × (j < length t.queue) × Among (r, stop t j) m × (depth t j + dual x (stop t i) ≤ depth t i + paid x r (stop t i))
 
 -- no row is nearer than this but those whose mates are among the columns
 pub record IsSearched (x : Priced) (m : List Place) (t : Tree) (distance : ℕ) : Type 0 where
   pub depths : (i : ℕ) → i < length t.queue → depth t i ≤ distance
-  pub closed : (i r : ℕ) → i < length t.queue → IsEntry x.weighing.matrix r (stop t i) → IsTaken x m t i r ⊎ (distance + outlay x (stop t i) ≤ depth t i + paid x r (stop t i))
+  pub closed : (i r : ℕ) → i < length t.queue → IsEntry x.weighing.matrix r (stop t i) → IsTaken x m t i r ⊎ (distance + dual x (stop t i) ≤ depth t i + paid x r (stop t i))
 
 -- an unmatched row at this distance
 pub record IsNearest (x : Priced) (m : List Place) (t : Tree) (r p d : ℕ) : Type 0 where
@@ -61,13 +61,13 @@ pub record IsNearest (x : Priced) (m : List Place) (t : Tree) (r p d : ℕ) : Ty
 abbrev pub IsStuck : Priced → List Place → Tree → Type 0
 IsStuck x m t = (i r : ℕ) → i < length t.queue → IsEntry x.weighing.matrix r (stop t i) → (j : ℕ) × (0 < j) × (j < length t.queue) × Among (r, stop t j) m
 
--- the outlays of the columns, and the prices of their mates, have risen by how much nearer they are than the distance
+-- the dual variables of the columns, and the prices of their mates, have risen by how much nearer they are than the distance
 pub record IsRaised (x y : Priced) (m : List Place) (t : Tree) (distance : ℕ) : Type 0 where
   pub same : y.weighing ≡ x.weighing
   pub prices_are : length y.prices ≡ length x.prices
-  pub outlays_are : length y.outlays ≡ length x.outlays
-  pub cols_up : (i : ℕ) → i < length t.queue → outlay y (stop t i) + depth t i ≡ outlay x (stop t i) + distance
+  pub duals_are : length y.duals ≡ length x.duals
+  pub cols_up : (i : ℕ) → i < length t.queue → dual y (stop t i) + depth t i ≡ dual x (stop t i) + distance
   pub rows_up : (i r : ℕ) → i < length t.queue → Among (r, stop t i) m → slice_index y.prices r + depth t i ≡ slice_index x.prices r + distance
-  pub cols_stay : (c : ℕ) → ¬ Among c (heads t.queue) → outlay y c ≡ outlay x c
+  pub cols_stay : (c : ℕ) → ¬ Among c (heads t.queue) → dual y c ≡ dual x c
   pub rows_stay : (r : ℕ) → ((i : ℕ) → i < length t.queue → ¬ Among (r, stop t i) m) → slice_index y.prices r ≡ slice_index x.prices r
   pub rows_rise : (r : ℕ) → slice_index x.prices r ≤ slice_index y.prices r

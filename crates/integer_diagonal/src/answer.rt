@@ -1,11 +1,12 @@
 //! The three cases.
 
-ghost use Rattle.std.specs.Prelude.{◌≡◌, ℕ, pos, ◌+◌, ◌-ℤ◌, ◌^◌, ◌<◌, ◌≤◌, List, length, map, slice_index, IfOk};
+ghost use Rattle.std.specs.Prelude.{◌≡◌, ℕ, pos, ◌+◌, ◌-ℤ◌, ◌^◌, ◌<◌, ◌≤◌, List, length, map, slice_index, true, false, IfOk, OnOk};
 ghost use Rattle.bip_defs.specs.Lists.{Among};
-ghost use Rattle.bip_defs.specs.Matching.{IsMatching, cols_of};
+ghost use Rattle.bip_defs.specs.Matching.{cols_of};
 ghost use Rattle.bip_defs.specs.Matrix.{AreEntries, Place, cols, upto};
+ghost use Rattle.bip_graph.specs.Pairing.{IsMatchingOf};
 ghost use Rattle.integer_diagonal.specs.Heaviest.{IsHeaviest};
-ghost use Rattle.integer_diagonal.specs.Outlays.{IsAssignment, top};
+ghost use Rattle.integer_diagonal.specs.Duals.{IsAssignment, top};
 ghost use Rattle.integer_diagonal.specs.Prices.{IsFull, total};
 ghost use Rattle.sp_pattern.specs.Weighing.{Weighing};
 
@@ -26,7 +27,7 @@ use std::alloc::Global;
 ///
 /// The weights must be those of the pattern. `Rectangular` exactly where the matrix has not as many rows as columns;
 /// `Singular` exactly where it has, and its rank is less, with the columns that some maximum matching misses. Answers
-/// `OutOfMemory` where there is no memory for 90 bytes a row or column and the heap of a search. Work: at most one search
+/// `OutOfMemory` where there is no memory for 97 bytes a row or column and the heap of a search. Work: at most one search
 /// for each column, each of which looks at each entry once at most and keeps what it reaches in a heap (Kuhn 1955; Munkres
 /// 1957; Duff and Koster 2001); where it ends with no diagonal, the phases of a maximum matching and one search more.
 pub fn heaviest(
@@ -41,32 +42,47 @@ pub fn heaviest(
         return Ok(Heaviest::Rectangular);
     }
     let mut assignment = start(alloc, pattern, weights)?;
+    if match_all(alloc, pattern, weights, &mut assignment)? {
+        diagonal(alloc, pattern, weights, &assignment)
+    } else {
+        singular(alloc, pattern, assignment.matching)
+    }
+}
+
+// Gives each column a mate, one after another. Whether that went: where it did not, the matrix has no full matching.
+//
+// What the searches keep is given back at the end.
+fn match_all(
+    alloc: Global,
+    pattern: &Pattern,
+    weights: &Weights,
+    assignment: &mut Assignment,
+) -> Result<bool, OutOfMemory>
+    requires of { weights.now.matrix ≡ pattern.now }
+    requires assignment { IsAssignment weights.now assignment.old }
+    requires square { pattern.now.rows ≡ cols pattern.now }
+    requires few { cols pattern.now < 2 ^ 32 }
+    ensures assignment { OnOk result (IsAssignment weights.now assignment.new) }
+    ensures all { IfOk result (λ b. b ≡ true → (c : ℕ) → c < cols pattern.now → Among c (cols_of assignment.new.matching.pairs)) }
+    ensures stuck { IfOk result (λ b. b ≡ false → (other : List Place) → ¬ IsFull pattern.now other) }
+{
     let mut search = Search::new(alloc, pattern.rows())?;
-    let mut path: Vec<(Row, Col)> = Vec::new(alloc);
+    let mut path: Vec<(Row, Col)> = Vec::with_capacity(alloc, pattern.cols() as usize)?;
     for col in 0..pattern.cols() {
         let root = Col(col);
         if assignment.matching.row_of(root).is_none() {
-            let found = extend(
-                pattern,
-                weights,
-                &mut assignment,
-                &mut search,
-                &mut path,
-                root,
-            )?;
+            let found = extend(pattern, weights, assignment, &mut search, &mut path, root)?;
             if !found {
-                return singular(alloc, pattern, assignment.matching);
+                return Ok(false);
             }
         }
     }
-    diagonal(alloc, pattern, weights, &assignment)
+    Ok(true)
 }
 
 // The answer where the matrix has no diagonal.
 fn singular(alloc: Global, pattern: &Pattern, matching: Matching) -> Result<Heaviest, OutOfMemory>
-    requires rows { matching.rows ≡ pattern.now.rows }
-    requires cols { matching.cols ≡ cols pattern.now }
-    requires matching { IsMatching pattern.now matching.pairs }
+    requires matching { IsMatchingOf pattern.now matching }
     requires square { pattern.now.rows ≡ cols pattern.now }
     requires none { (other : List Place) → ¬ IsFull pattern.now other }
     ensures { IfOk result (λ h. (w : Weighing) → w.matrix ≡ pattern.now → IsHeaviest w h) }
@@ -98,7 +114,7 @@ fn diagonal(
     let pairs = pairs_of(alloc, &assignment.matching)?;
     let sum = sum_of(weights, pairs.as_slice());
     let u = row_prices(alloc, assignment.prices.as_slice())?;
-    let v = col_prices(alloc, assignment.outlays.as_slice())?;
+    let v = col_prices(alloc, assignment.duals.as_slice())?;
     Ok(Heaviest::Diagonal { pairs, u, v, sum })
 }
 
@@ -144,14 +160,14 @@ fn row_prices(alloc: Global, prices: &[u128]) -> Result<Vec<i128>, OutOfMemory>
     Ok(u)
 }
 
-// The prices of the columns: how much less than twice that their outlays are.
-fn col_prices(alloc: Global, outlays: &[u128]) -> Result<Vec<i128>, OutOfMemory>
-    requires { (i : ℕ) → slice_index outlays.now i ≤ 2 ^ 98 + top }
-    ensures { IfOk result (λ v. v.items ≡ map (λ o. pos (top + top) -ℤ pos o) outlays.now) }
+// The prices of the columns: how much less than twice that their dual variables are.
+fn col_prices(alloc: Global, duals: &[u128]) -> Result<Vec<i128>, OutOfMemory>
+    requires { (i : ℕ) → slice_index duals.now i ≤ 2 ^ 98 + top }
+    ensures { IfOk result (λ v. v.items ≡ map (λ o. pos (top + top) -ℤ pos o) duals.now) }
 {
-    let mut v = Vec::with_capacity(alloc, outlays.len())?;
-    for i in 0..outlays.len() {
-        v.push(2 * TOP as i128 - outlays[i] as i128)?;
+    let mut v = Vec::with_capacity(alloc, duals.len())?;
+    for i in 0..duals.len() {
+        v.push(2 * TOP as i128 - duals[i] as i128)?;
     }
     Ok(v)
 }

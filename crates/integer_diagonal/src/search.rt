@@ -5,7 +5,7 @@ ghost use Rattle.bip_defs.specs.Lists.{Among};
 ghost use Rattle.bip_defs.specs.Matching.{cols_of, rows_of};
 ghost use Rattle.bip_defs.specs.Matrix.{IsEntry, cols};
 ghost use Rattle.integer_diagonal.specs.Labels.{AreBeyond, AreKnown, AreListed, IsBest, IsClear, IsKept, Looks, Puts, Takes, distance_of, labels_of, tree_of};
-ghost use Rattle.integer_diagonal.specs.Outlays.{IsAssignment, priced};
+ghost use Rattle.integer_diagonal.specs.Duals.{IsAssignment, priced};
 ghost use Rattle.integer_diagonal.specs.Searching.{IsGrown, IsNearest, IsSearched, IsStuck, Reaches, depth, far};
 
 use crate::assignment::{Assignment, TOP};
@@ -40,7 +40,7 @@ pub struct Nearest {
 }
 
 impl Search {
-    /// For so many rows.
+    /// For a matrix of so many rows, and as many columns.
     pub fn new(alloc: Global, rows: u32) -> Result<Search, OutOfMemory>
         ensures clear { IfOk result (λ s. IsClear rows (tree_of s) (labels_of s)) }
         ensures listed { IfOk result (λ s. s.reached.items ≡ []) }
@@ -53,9 +53,9 @@ impl Search {
             distances,
             parents,
             settled,
-            reached: Vec::new(alloc),
-            queue: Vec::new(alloc),
-            depths: Vec::new(alloc),
+            reached: Vec::with_capacity(alloc, rows)?,
+            queue: Vec::with_capacity(alloc, rows)?,
+            depths: Vec::with_capacity(alloc, rows)?,
             frontier: Frontier::new(alloc),
         })
     }
@@ -194,13 +194,13 @@ impl Search {
     {
         let col = Col(self.queue[place as usize].0);
         let depth = self.depths[place as usize];
-        let outlay = assignment.outlays[col.0 as usize];
+        let dual = assignment.duals[col.0 as usize];
         let rows = pattern.rows_of(col);
         let weights = weights.weights_of(col);
         for k in 0..rows.len() {
             let row = rows[k].number();
             let price = assignment.prices[row as usize];
-            let distance = depth + (price + (TOP - weights[k]) as u128 - outlay);
+            let distance = depth + (price + (TOP - weights[k]) as u128 - dual);
             self.look(&assignment.matching, row, distance, place, nearest)?;
         }
         Ok(())

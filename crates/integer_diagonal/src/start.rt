@@ -4,8 +4,8 @@ ghost use Rattle.std.specs.Prelude.{◌≡◌, ◌⊎◌, ℕ, ◌+◌, ◌<◌,
 ghost use Rattle.bip_defs.specs.Lists.{Among};
 ghost use Rattle.bip_defs.specs.Matching.{rows_of};
 ghost use Rattle.bip_defs.specs.Matrix.{IsEntry, cols};
-ghost use Rattle.integer_diagonal.specs.Outlays.{IsAssignment, cost, top};
-ghost use Rattle.integer_diagonal.specs.Starting.{AreFirstOutlays, AreFirstPrices};
+ghost use Rattle.integer_diagonal.specs.Duals.{IsAssignment, cost, top};
+ghost use Rattle.integer_diagonal.specs.Starting.{AreFirstDuals, AreFirstPrices};
 
 use crate::assignment::{Assignment, TOP};
 use bip_graph::Matching;
@@ -21,12 +21,12 @@ pub fn start(alloc: Global, pattern: &Pattern, weights: &Weights) -> Result<Assi
     requires { weights.now.matrix ≡ pattern.now }
     ensures { IfOk result (IsAssignment weights.now) }
 {
-    let outlays = first_outlays(alloc, pattern, weights)?;
-    let prices = first_prices(alloc, pattern, weights, outlays.as_slice())?;
+    let duals = first_duals(alloc, pattern, weights)?;
+    let prices = first_prices(alloc, pattern, weights, duals.as_slice())?;
     let mut matching = Matching::empty(alloc, pattern.rows(), pattern.cols())?;
     for col in 0..pattern.cols() {
-        let (prices, outlays) = (prices.as_slice(), outlays.as_slice());
-        if let Some(row) = cheap_row(pattern, weights, prices, outlays, &matching, Col(col)) {
+        let (prices, duals) = (prices.as_slice(), duals.as_slice());
+        if let Some(row) = cheap_row(pattern, weights, prices, duals, &matching, Col(col)) {
             matching.pair(row, Col(col));
         }
     }
@@ -34,27 +34,27 @@ pub fn start(alloc: Global, pattern: &Pattern, weights: &Weights) -> Result<Assi
     let _size = matching.size();
     Ok(Assignment {
         prices,
-        outlays,
+        duals,
         matching,
     })
 }
 
 // Each column's least cost, or the greatest of all costs where it has no entry, and that greatest once more: so the rows'
 // prices are not below 0.
-fn first_outlays(
+fn first_duals(
     alloc: Global,
     pattern: &Pattern,
     weights: &Weights,
 ) -> Result<Vec<u128>, OutOfMemory>
     requires { weights.now.matrix ≡ pattern.now }
-    ensures { IfOk result (λ outlays. AreFirstOutlays weights.now (cols pattern.now) outlays.items) }
+    ensures { IfOk result (λ duals. AreFirstDuals weights.now (cols pattern.now) duals.items) }
 {
-    let mut outlays = Vec::with_capacity(alloc, pattern.cols() as usize)?;
+    let mut duals = Vec::with_capacity(alloc, pattern.cols() as usize)?;
     for col in 0..pattern.cols() {
         let least = TOP - greatest(weights.weights_of(Col(col)));
-        outlays.push(TOP as u128 + least as u128)?;
+        duals.push(TOP as u128 + least as u128)?;
     }
-    Ok(outlays)
+    Ok(duals)
 }
 
 // The greatest of these, or 0.
@@ -71,40 +71,40 @@ fn greatest(weights: &[u64]) -> u64
     most
 }
 
-// Each row's least price at which none of its entries costs less than its column's outlay.
+// Each row's least price at which none of its entries costs less than its column's dual variable.
 fn first_prices(
     alloc: Global,
     pattern: &Pattern,
     weights: &Weights,
-    outlays: &[u128],
+    duals: &[u128],
 ) -> Result<Vec<u128>, OutOfMemory>
     requires of { weights.now.matrix ≡ pattern.now }
-    requires outlays { AreFirstOutlays weights.now (cols pattern.now) outlays.now }
-    ensures { IfOk result (λ prices. AreFirstPrices weights.now (cols pattern.now) outlays.now prices.items) }
+    requires duals { AreFirstDuals weights.now (cols pattern.now) duals.now }
+    ensures { IfOk result (λ prices. AreFirstPrices weights.now (cols pattern.now) duals.now prices.items) }
 {
     let mut prices = vec![in alloc; 0u128; pattern.rows() as usize]?;
     for col in 0..pattern.cols() {
-        raise_rows(pattern, weights, outlays, prices.as_mut_slice(), Col(col));
+        raise_rows(pattern, weights, duals, prices.as_mut_slice(), Col(col));
     }
     Ok(prices)
 }
 
-// Raises the prices of the rows of a column's entries to what its outlay asks of them.
-fn raise_rows(pattern: &Pattern, weights: &Weights, outlays: &[u128], prices: &mut [u128], col: Col)
+// Raises the prices of the rows of a column's entries to what its dual variable asks of them.
+fn raise_rows(pattern: &Pattern, weights: &Weights, duals: &[u128], prices: &mut [u128], col: Col)
     requires of { weights.now.matrix ≡ pattern.now }
-    requires outlays { AreFirstOutlays weights.now (cols pattern.now) outlays.now }
+    requires duals { AreFirstDuals weights.now (cols pattern.now) duals.now }
     requires rows { length prices.old ≡ pattern.now.rows }
     requires col { col < cols pattern.now }
     requires low { (r : ℕ) → slice_index prices.old r ≤ top }
     ensures low { (r : ℕ) → slice_index prices.new r ≤ top }
     ensures rise { (r : ℕ) → slice_index prices.old r ≤ slice_index prices.new r }
-    ensures covers { (r : ℕ) → IsEntry pattern.now r col → slice_index outlays.now col ≤ slice_index prices.new r + cost weights.now r col }
+    ensures covers { (r : ℕ) → IsEntry pattern.now r col → slice_index duals.now col ≤ slice_index prices.new r + cost weights.now r col }
 {
     let rows = pattern.rows_of(col);
     let weights = weights.weights_of(col);
-    let outlay = outlays[col.0 as usize];
+    let dual = duals[col.0 as usize];
     for k in 0..rows.len() {
-        raise_row(prices, rows[k], outlay - (TOP - weights[k]) as u128);
+        raise_row(prices, rows[k], dual - (TOP - weights[k]) as u128);
     }
 }
 
@@ -120,30 +120,30 @@ fn raise_row(prices: &mut [u128], row: Row, least: u128)
     }
 }
 
-// An unmatched row in which the column has an entry that costs as much as its outlay.
+// An unmatched row in which the column has an entry that costs as much as its dual variable.
 fn cheap_row(
     pattern: &Pattern,
     weights: &Weights,
     prices: &[u128],
-    outlays: &[u128],
+    duals: &[u128],
     matching: &Matching,
     col: Col,
 ) -> Option<Row>
     requires of { weights.now.matrix ≡ pattern.now }
     requires rows { matching.now.rows ≡ pattern.now.rows }
     requires col { col < cols pattern.now }
-    requires prices { AreFirstPrices weights.now (cols pattern.now) outlays.now prices.now }
-    requires outlays { length outlays.now ≡ cols pattern.now }
-    ensures found { IfSome result (λ row. IsEntry pattern.now row col × (slice_index prices.now row + cost weights.now row col ≡ slice_index outlays.now col) × (¬ Among row (rows_of matching.now.pairs))) }
-    ensures none { IfNone result ((r : ℕ) → IsEntry pattern.now r col → slice_index prices.now r + cost weights.now r col ≡ slice_index outlays.now col → Among r (rows_of matching.now.pairs)) }
+    requires prices { AreFirstPrices weights.now (cols pattern.now) duals.now prices.now }
+    requires duals { length duals.now ≡ cols pattern.now }
+    ensures found { IfSome result (λ row. IsEntry pattern.now row col × (slice_index prices.now row + cost weights.now row col ≡ slice_index duals.now col) × (¬ Among row (rows_of matching.now.pairs))) }
+    ensures none { IfNone result ((r : ℕ) → IsEntry pattern.now r col → slice_index prices.now r + cost weights.now r col ≡ slice_index duals.now col → Among r (rows_of matching.now.pairs)) }
 {
     let rows = pattern.rows_of(col);
     let weights = weights.weights_of(col);
-    let outlay = outlays[col.0 as usize];
+    let dual = duals[col.0 as usize];
     for k in 0..rows.len() {
         let row = rows[k];
         let paid = prices[row.0 as usize] + (TOP - weights[k]) as u128;
-        if paid == outlay && matching.col_of(row).is_none() {
+        if paid == dual && matching.col_of(row).is_none() {
             return Some(row);
         }
     }

@@ -2,12 +2,14 @@
 #![tactic(auto)]
 
 mod degrees;
+mod laws;
 mod rest;
 
-ghost use Rattle.std.specs.Prelude.{◌≡◌, ℕ, IfOk};
-ghost use Rattle.bip_defs.specs.Matching.{IsMatching};
-ghost use Rattle.bip_defs.specs.Matrix.{cols};
+ghost use Rattle.std.specs.Prelude.{ℕ, IfOk};
 ghost use Rattle.bip_defs.specs.Start.{IsFree, IsStart};
+ghost use Rattle.bip_graph.specs.Pairing.{IsMatchingOf};
+
+pub use crate::laws::only_neighbours_lose_nothing;
 
 use crate::rest::Rest;
 use bip_graph::Matching;
@@ -19,17 +21,16 @@ use std::alloc::Global;
 ///
 /// Of the unmatched rest it takes again and again: the least column with exactly one unmatched neighbour, with that row;
 /// else the least row with exactly one unmatched neighbour, with that column; else the least column that has an unmatched
-/// neighbour, with the least such row. A pair of the first two kinds is in some maximum matching of what was left, so the
-/// start is often maximum or nearly so.
+/// neighbour, with the least such row. A pair of the first two kinds is in some maximum matching of what was left
+/// ([`only_neighbours_lose_nothing`]), so the start is often maximum or nearly so.
 ///
 /// Answers `OutOfMemory` where its tables can't be had: 8 bytes a row and 8 a column for the matching and the degrees, and
 /// an eighth of a byte each for the waiting ones. Work: each entry is looked at four times at most, and each row and column
 /// goes in and out of a set once at most.
 pub fn start(alloc: Global, pattern: &Pattern) -> Result<Matching, OutOfMemory>
     ensures start { IfOk result (λ m. IsStart pattern.now m.pairs) }
-    ensures matching { IfOk result (λ m. IsMatching pattern.now m.pairs) }
+    ensures matching { IfOk result (IsMatchingOf pattern.now) }
     ensures maximal { IfOk result (λ m. (r c : ℕ) → ¬ IsFree pattern.now m.pairs r c) }
-    ensures sizes { IfOk result (λ m. (m.rows ≡ pattern.now.rows) × (m.cols ≡ cols pattern.now)) }
 {
     let mut rest = Rest::new(alloc, pattern)?;
     while let Some((row, col)) = rest.choose(pattern) {

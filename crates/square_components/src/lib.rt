@@ -8,9 +8,9 @@ mod search;
 mod tests;
 
 ghost use Rattle.std.specs.Prelude.{◌≡◌, IfOk};
-ghost use Rattle.bip_defs.specs.Matching.{IsMaximum};
 ghost use Rattle.bip_defs.specs.Matrix.{cols};
 ghost use Rattle.bip_defs.specs.Parts.{ArePartsOf};
+ghost use Rattle.bip_graph.specs.Pairing.{IsMaximumOf};
 ghost use Rattle.bip_graph.specs.Shown.{parts_of};
 ghost use Rattle.square_components.specs.Numbering.{AreNumbered};
 
@@ -41,9 +41,7 @@ pub fn strong_components(
     matching: &Matching,
     parts: &Parts,
 ) -> Result<Components, OutOfMemory>
-    requires rows { matching.now.rows ≡ pattern.now.rows }
-    requires cols { matching.now.cols ≡ cols pattern.now }
-    requires maximum { IsMaximum pattern.now matching.now.pairs }
+    requires maximum { IsMaximumOf pattern.now matching.now }
     requires parts { ArePartsOf pattern.now (parts_of parts.now) }
     ensures { IfOk result (λ s. AreNumbered pattern.now matching.now.pairs s.numbers.items s.count) }
 {

@@ -2,9 +2,10 @@
 
 ghost use Rattle.std.specs.Prelude.{◌≡◌, ◌≢◌, ℕ, ◌<◌, List, IfOk};
 ghost use Rattle.bip_defs.specs.Lists.{Among, Lists};
-ghost use Rattle.bip_defs.specs.Matching.{IsMatching, IsMaximum};
+ghost use Rattle.bip_defs.specs.Matching.{IsMatching};
 ghost use Rattle.bip_defs.specs.Matrix.{Matrix, Place};
 ghost use Rattle.bip_defs.specs.Parts.{IsSquareRow};
+ghost use Rattle.bip_graph.specs.Pairing.{IsMaximumOf};
 ghost use Rattle.square_components.specs.Numbering.{look, none};
 ghost use Rattle.square_components.specs.Stacks.{AreMatesOf};
 ghost use Rattle.square_components.specs.Steps.{ArePairs};
@@ -22,8 +23,7 @@ pub fn square_mates(
     matching: &Matching,
     rows: &[Row],
 ) -> Result<Vec<u32>, OutOfMemory>
-    requires rows { matching.now.rows ≡ pattern.now.rows }
-    requires maximum { IsMaximum pattern.now matching.now.pairs }
+    requires maximum { IsMaximumOf pattern.now matching.now }
     requires square { Lists (IsSquareRow pattern.now) rows.now }
     ensures mates { IfOk result (λ v. (m : List Place) × AreMatesOf pattern.now m v.items) }
     ensures pairs { IfOk result (λ v. ArePairs matching.now.pairs v.items) }

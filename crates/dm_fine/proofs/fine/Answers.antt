@@ -10,9 +10,9 @@ use Rattle.dm_fine.proofs.fine.Goals as goal
 pub order-requires : goal.order-requires
 order-requires c =
     let value = c.as_slice-numbers.ensures.value in
-    let by_row = rw (value, c.requires.rows) at c.in_ok-rows.ensures in
+    let by_row = rw (value, c.requires.maximum.matching.rows) at c.in_ok-rows.ensures in
     let by_col = rw (value, map-id) at c.in_ok-cols.ensures in
-    rw value (gathered _ _ _ _ _ _ _ _ c.is_pattern.ensures.few_cols c.requires.maximum.matching c.in_ok-components.ensures by_row by_col)
+    rw value (gathered _ _ _ _ _ _ _ _ c.is_pattern.ensures.few_cols c.requires.maximum.maximum.matching c.in_ok-components.ensures by_row by_col)
 
 pub listed-requires-clause-rows : goal.listed-requires-clause-rows
 listed-requires-clause-rows c =
@@ -26,7 +26,7 @@ listed-requires-clause-cols c =
 
 pub listed-requires-clause-few_rows : goal.listed-requires-clause-few_rows
 listed-requires-clause-few_rows c =
-    let by_row = rw c.requires.rows at c.in_ok-rows.ensures in
+    let by_row = rw c.requires.maximum.matching.rows at c.in_ok-rows.ensures in
     let small = c.is_pattern.ensures.few_rows in
     rw c.as_slice.ensures.value (all_few _ _ (2 ^ 32) _ _ _ _ _ (let long = by_row.mates.long in omega (arith, long, small)) (groups_apart by_row.of_rows _ _ _ by_row.groups) c.in_ok-order.ensures)
 
@@ -40,8 +40,8 @@ listed-requires-clause-few_cols c =
 pub returns : goal.returns
 returns c =
     let value = c.as_slice-numbers.ensures.value in
-    let by_row = rw (value, c.requires.rows) at c.in_ok-rows.ensures in
+    let by_row = rw (value, c.requires.maximum.matching.rows) at c.in_ok-rows.ensures in
     let by_col = rw (value, map-id) at c.in_ok-cols.ensures in
     let ordered = rw value at c.in_ok-order.ensures in
-    let blocks = are_blocks _ _ _ _ _ _ _ _ _ c.is_pattern.ensures.few_cols c.requires.maximum.matching c.in_ok-components.ensures by_row by_col ordered in
+    let blocks = are_blocks _ _ _ _ _ _ _ _ _ c.is_pattern.ensures.few_cols c.requires.maximum.maximum.matching c.in_ok-components.ensures by_row by_col ordered in
     IfOk-weaker c.listed.result _ _ (λ b e. subst (AreBlocksOf c.args.pattern.now) (sym (rw c.as_slice.ensures.value at e)) blocks) c.listed.ensures

@@ -25,8 +25,11 @@ pub returns-clause-start : goal.returns-clause-start
 returns-clause-start c = rw c.choose.ensures.matching (way_ends c.args.pattern.now c.loop-row.rest.matching.pairs c.loop-row.invariant.2 c.in_default.ensures.none)
 
 pub returns-clause-matching : goal.returns-clause-matching
-returns-clause-matching c =
-    rw c.choose.ensures.matching (way_matching c.args.pattern.now c.loop-row.rest.matching.pairs c.loop-row.invariant.2 (rw c.choose.ensures.matching at c.size-size.ensures.rows_differ) (rw c.choose.ensures.matching at c.size-size.ensures.cols_rise))
+returns-clause-matching c = record {
+  rows = c.choose.ensures.rest.same_rows;
+  cols = c.choose.ensures.rest.same_cols;
+  matching = rw c.choose.ensures.matching (way_matching c.args.pattern.now c.loop-row.rest.matching.pairs c.loop-row.invariant.2 (rw c.choose.ensures.matching at c.size-size.ensures.rows_differ) (rw c.choose.ensures.matching at c.size-size.ensures.cols_rise));
+}
 
 pub returns-clause-maximal : goal.returns-clause-maximal
 returns-clause-maximal c = rw c.choose.ensures.matching c.in_default.ensures.none

@@ -23,5 +23,5 @@ returns c =
     let a = c.args.pattern.now in
     let s = c.explore_all.new.self in
     let pairs : ArePairs c.args.matching.now.pairs c.as_slice-2.result.now = subst (ArePairs c.args.matching.now.pairs) (sym c.as_slice-2.ensures.value) c.in_ok-mates.ensures.pairs in
-    let h = ends a c.args.matching.now.pairs _ s c.requires.maximum pairs c.explore_all.ensures.search c.explore_all.ensures.empty (λ col square. c.explore_all.ensures.placed col (subst (Among col) (sym c.as_slice-3.ensures.value) (c.requires.parts.square_cols.complete col square))) in
+    let h = ends a c.args.matching.now.pairs _ s c.requires.maximum.maximum pairs c.explore_all.ensures.search c.explore_all.ensures.empty (λ col square. c.explore_all.ensures.placed col (subst (Among col) (sym c.as_slice-3.ensures.value) (c.requires.parts.square_cols.complete col square))) in
     subst (AreNumbered a c.args.matching.now.pairs _) (sym c.end-numbers.ensures.count) (subst (λ xs. AreNumbered a c.args.matching.now.pairs xs s.count) (sym c.end-numbers.ensures.numbers) h)

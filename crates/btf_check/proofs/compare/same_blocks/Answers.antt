@@ -1,6 +1,6 @@
 use Rattle.std.proofs.Common.{refl, arith}
 use Rattle.std.proofs.lemmas.List.{ext_get_or}
-use Rattle.bip_graph.specs.Stretches.{no_block}
+use Rattle.bip_defs.specs.Blocks.{no_block}
 use Rattle.btf_check.proofs.compare.same_blocks.Goals as goal
 
 pub returns : goal.returns

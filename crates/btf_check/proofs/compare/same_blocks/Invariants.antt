@@ -1,5 +1,5 @@
 use Rattle.std.proofs.Common.{◌≡◌, ℕ, ◌<◌}
-use Rattle.bip_graph.specs.Stretches.{block_at}
+use Rattle.bip_defs.specs.Blocks.{block_at}
 use Rattle.btf_check.proofs.compare.same_blocks.Given as goal
 
 abbrev pub invariant-loop-at : goal.invariant-loop-at

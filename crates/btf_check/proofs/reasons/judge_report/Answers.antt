@@ -1,5 +1,6 @@
 use Rattle.std.proofs.Common.{◌≡◌, ◌∙◌, rules, refl, sym, subst, true≢false}
 use Rattle.bip_defs.specs.Matching.{IsMaximum}
+use Rattle.bip_graph.specs.Pairing.{IsMatchingOf}
 use Rattle.bip_graph.specs.Shown.{parts_of}
 use Rattle.btf_check.specs.Reasons.{ArePaired, TellsBlocks}
 use Rattle.btf_text.specs.Told.{told}
@@ -9,11 +10,16 @@ use Rattle.btf_check.proofs.Pairing.{paired_matching}
 use Rattle.btf_check.proofs.reasons.judge_report.Goals as goal
 use Rattle.btf_check.proofs.reasons.judge_report.Goals.{then-not-same_blocks-via-then-not-same_blocks, then-not-same_blocks-via-else-not-same_blocks+then-not-has_orders}
 
-pub is_maximum-requires-clause-matching : goal.is_maximum-requires-clause-matching
-is_maximum-requires-clause-matching g c =
+pub is_maximum-requires : goal.is_maximum-requires
+is_maximum-requires g c =
     let same : c.in-Some.matching.pairs ≡ c.as_slice.result.now = search rules in
     let paired : ArePaired c.args.pattern.now c.as_slice.result.now = search rules in
-    paired_matching c.args.pattern.now c.in-Some.matching.pairs c.args.report.now.pairs.items (same ∙ c.as_slice.ensures.value) c.requires.rising (subst (ArePaired c.args.pattern.now) c.as_slice.ensures.value paired)
+    let k : IsMatchingOf c.args.pattern.now c.in-Some.matching = record {
+      rows = search rules;
+      cols = search rules;
+      matching = paired_matching c.args.pattern.now c.in-Some.matching.pairs c.args.report.now.pairs.items (same ∙ c.as_slice.ensures.value) c.requires.rising (subst (ArePaired c.args.pattern.now) c.as_slice.ensures.value paired);
+    } in
+    record { matching = k }
 
 pub returns-then-not-same_blocks : goal.returns-then-not-same_blocks
 returns-then-not-same_blocks g c =

@@ -3,8 +3,8 @@ use Rattle.std.proofs.lemmas.List.{map-id}
 use Rattle.std.specs.Prelude.{◌↔◌}
 use Rattle.bip_defs.specs.Lists.{Among, AreDistinct}
 use Rattle.bip_defs.proofs.Sets.{rising_distinct}
+use Rattle.bip_defs.specs.Blocks.{all_cols, all_rows}
 use Rattle.bip_graph.specs.Shown.{parts_of}
-use Rattle.bip_graph.specs.Stretches.{all_cols, all_rows}
 use Rattle.btf_check.specs.Comparing.{HasOuterParts, HasSizes}
 use Rattle.btf_check.specs.Reasons.{TellsParts}
 use Rattle.btf_text.specs.Told.{told}

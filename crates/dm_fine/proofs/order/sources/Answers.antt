@@ -1,22 +1,22 @@
 use Rattle.std.proofs.Common.{◌≡◌, ◌∙◌, [], subst, arith}
-use Rattle.dm_fine.specs.Waits.{AreReady, least_of}
+use Rattle.dm_fine.specs.InDegrees.{AreReady, least_of}
 use Rattle.dm_fine.proofs.Ordering.{ready_in, ready_out}
 use Rattle.dm_fine.proofs.order.sources.Goals as goal
-use Rattle.dm_fine.proofs.order.sources.Goals.{then-waits-k-eq0, else-waits-k-eq0}
+use Rattle.dm_fine.proofs.order.sources.Goals.{then-in_degrees-k-eq0, else-in_degrees-k-eq0}
 
 pub loop-k-preserved : goal.loop-k-preserved
 loop-k-preserved c =
-    elim c.if-waits-k-eq0.branch [
-      | then-waits-k-eq0 w ↦
+    elim c.if-in_degrees-k-eq0.branch [
+      | then-in_degrees-k-eq0 w ↦
           let members = rw w.first.ensures at w.insert.ensures.members in
           rw w.ready-is (record {
-            set = ready_in _ _ _ c.loop-k.ready.members _ c.loop-k.invariant.set w.if-waits-k-eq0.true (λ x h. (members x).0 h) (λ x h. (members x).1 h);
+            set = ready_in _ _ _ c.loop-k.ready.members _ c.loop-k.invariant.set w.if-in_degrees-k-eq0.true (λ x h. (members x).0 h) (λ x h. (members x).1 h);
             bound = w.insert.ensures.bound ∙ c.loop-k.invariant.bound;
           })
-      | else-waits-k-eq0 w ↦ rw w.ready-is (record { set = ready_out _ _ _ _ c.loop-k.invariant.set w.if-waits-k-eq0.false; bound = c.loop-k.invariant.bound })
+      | else-in_degrees-k-eq0 w ↦ rw w.ready-is (record { set = ready_out _ _ _ _ c.loop-k.invariant.set w.if-in_degrees-k-eq0.false; bound = c.loop-k.invariant.bound })
     ]
 
 pub returns-clause-ready : goal.returns-clause-ready
 returns-clause-ready c =
     let end : c.loop-k.k ≡ c.args.count = let past = c.loop-k-test.false in let within = c.loop-k.auto.k-end in omega (arith, past, within) in
-    subst (λ n. AreReady n (least_of c.args.cols.now.starts.items c.args.cols.now.places.items) [] c.args.waits.now c.loop-k.ready.members) end c.loop-k.invariant.set
+    subst (λ n. AreReady n (least_of c.args.cols.now.starts.items c.args.cols.now.places.items) [] c.args.in_degrees.now c.loop-k.ready.members) end c.loop-k.invariant.set

@@ -1,9 +1,9 @@
 use Rattle.std.proofs.Common.{◌≡◌, []}
-use Rattle.dm_fine.specs.Waits.{AreReady, least_of}
+use Rattle.dm_fine.specs.InDegrees.{AreReady, least_of}
 use Rattle.dm_fine.proofs.order.sources.Given as goal
 
 abbrev pub invariant-loop-k : goal.invariant-loop-k
 invariant-loop-k l = record {
-  set : AreReady l.k (least_of l.cols.starts.items l.cols.places.items) [] l.waits l.ready.members;
+  set : AreReady l.k (least_of l.cols.starts.items l.cols.places.items) [] l.in_degrees l.ready.members;
   bound : l.ready.bound ≡ l.bound;
 }

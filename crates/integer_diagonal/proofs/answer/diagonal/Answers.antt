@@ -7,8 +7,8 @@ use Rattle.bip_defs.specs.Matching.{cols_of}
 use Rattle.bip_defs.specs.Matrix.{Matrix, Place, cols, upto}
 use Rattle.bip_defs.proofs.Sets.{upto_length, upto_rising}
 use Rattle.integer_diagonal.proofs.Answering.{cheap_matching, fair_prices, part_full}
-use Rattle.integer_diagonal.proofs.Extending.{outlay_small}
-use Rattle.integer_diagonal.specs.Outlays.{priced, top}
+use Rattle.integer_diagonal.proofs.Extending.{dual_small}
+use Rattle.integer_diagonal.specs.Duals.{priced, top}
 use Rattle.integer_diagonal.specs.Prices.{total}
 use Rattle.integer_diagonal.proofs.answer.diagonal.Goals as goal
 
@@ -35,7 +35,7 @@ pub col_prices-requires : goal.col_prices-requires
 col_prices-requires c i =
     let x = priced c.args.weights.now c.args.assignment.now in
     let m = c.args.assignment.now.matching.pairs in
-    let low = outlay_small x m i c.requires.assignment.matching c.requires.assignment.bounded in
+    let low = dual_small x m i c.requires.assignment.matching c.requires.assignment.bounded in
     let read = ap (λ (z : List ℕ). slice_index z i) c.as_slice-3.ensures.value in
     omega (arith, low, read)
 
@@ -49,7 +49,7 @@ returns c =
     let square : w.matrix.rows ≡ cols w.matrix = subst (λ (z : Matrix). z.rows ≡ cols z) (sym c.requires.of) c.requires.square in
     let all : cols_of n ≡ upto (cols w.matrix) = c.in_ok-pairs.ensures.cols ∙ ap upto c.requires.assignment.cols_are in
     let eu : c.in_ok-u.u.items ≡ map (λ p. pos p -ℤ pos top) c.args.assignment.now.prices.items = c.in_ok-u.ensures ∙ ap (λ (z : List ℕ). map (λ p. pos p -ℤ pos top) z) c.as_slice-2.ensures.value in
-    let ev : c.in_ok-v.v.items ≡ map (λ o. pos (top + top) -ℤ pos o) c.args.assignment.now.outlays.items = c.in_ok-v.ensures ∙ ap (λ (z : List ℕ). map (λ o. pos (top + top) -ℤ pos o) z) c.as_slice-3.ensures.value in
+    let ev : c.in_ok-v.v.items ≡ map (λ o. pos (top + top) -ℤ pos o) c.args.assignment.now.duals.items = c.in_ok-v.ensures ∙ ap (λ (z : List ℕ). map (λ o. pos (top + top) -ℤ pos o) z) c.as_slice-3.ensures.value in
     let fits : FitsSigned w128 c.sum_of-sum.result = search rules in
     let lent : pos (total w c.as_slice.result.now) ≡ pos (total w n) = ap (λ (z : List Place). pos (total w z)) c.as_slice.ensures.value in
     record {

@@ -1,5 +1,5 @@
 use Rattle.std.proofs.Common.{◌≡◌, ◌-ℤ◌, map, pos, take}
-use Rattle.integer_diagonal.specs.Outlays.{top}
+use Rattle.integer_diagonal.specs.Duals.{top}
 use Rattle.integer_diagonal.proofs.answer.row_prices.Given as goal
 
 abbrev pub invariant-loop-i : goal.invariant-loop-i

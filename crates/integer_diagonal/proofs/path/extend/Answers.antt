@@ -1,14 +1,14 @@
-use Rattle.std.proofs.Common.{◌^◌, ◌<◌, sym, subst, arith, rules}
+use Rattle.std.proofs.Common.{◌^◌, ◌<◌, ap, sym, subst, arith, rules}
 use Rattle.bip_defs.specs.Matrix.{AreEntries, Matrix, cols}
-use Rattle.hall_witness.specs.Search.{heads}
-use Rattle.hall_witness.proofs.Searching.{head_at}
 use Rattle.integer_diagonal.proofs.Stuck.{stuck_not_full}
-use Rattle.integer_diagonal.proofs.Tracing.{HasRoot, IsFlipped, extended, found_near, outlay_fits, price_fits, way, way_range}
+use Rattle.integer_diagonal.proofs.Tracing.{HasRoot, IsFlipped, extended, found_near, dual_fits, pairs_fewer, price_fits, way, way_entries, way_range, way_root}
 use Rattle.integer_diagonal.specs.Labels.{IsClear, labels_of, tree_of}
-use Rattle.integer_diagonal.specs.Outlays.{cheap, priced}
+use Rattle.integer_diagonal.specs.Duals.{cheap, priced}
 use Rattle.integer_diagonal.specs.Prices.{IsFull}
 use Rattle.integer_diagonal.specs.Searching.{Tree, far}
 use Rattle.integer_diagonal.proofs.path.extend.Goals as goal
+use Rattle.bip_defs.specs.Queues.{heads}
+use Rattle.bip_defs.proofs.Queues.{head_at}
 
 pub returns-then-nearest-clause-stuck : goal.returns-then-nearest-clause-stuck
 returns-then-nearest-clause-stuck c = λ e other full.
@@ -21,19 +21,19 @@ raise-requires-clause-in_range c =
     let t : Tree = record { queue = c.as_slice-queue.result.now; depths = c.as_slice.result.now } in
     let near : c.in_ok-nearest.nearest.distance < far = omega (arith, c.if-nearest.false) in
     let f = found_near _ _ _ _ t _ _ _ c.as_slice-queue.ensures.value c.as_slice.ensures.value c.in_ok-nearest.ensures.tree c.in_ok-nearest.ensures.found near in
-    λ i lt. (let within = f.grown.in_range _ (head_at t.queue i lt) in let long = c.requires.assignment.feasible.outlays_are in omega (arith, within, long))
+    λ i lt. (let within = f.grown.in_range _ (head_at t.queue i lt) in let long = c.requires.assignment.feasible.duals_are in omega (arith, within, long))
 
 pub raise-requires-clause-rows_in_range : goal.raise-requires-clause-rows_in_range
 raise-requires-clause-rows_in_range c =
     λ r d pair. (let within = (c.requires.assignment.matching.entries r d pair).0 in let long = c.requires.assignment.feasible.prices_are in omega (arith, within, long))
 
-pub raise-requires-clause-outlays_fit : goal.raise-requires-clause-outlays_fit
-raise-requires-clause-outlays_fit c =
+pub raise-requires-clause-duals_fit : goal.raise-requires-clause-duals_fit
+raise-requires-clause-duals_fit c =
     let t : Tree = record { queue = c.as_slice-queue.result.now; depths = c.as_slice.result.now } in
     let near : c.in_ok-nearest.nearest.distance < far = omega (arith, c.if-nearest.false) in
     let f = found_near _ _ _ _ t _ _ _ c.as_slice-queue.ensures.value c.as_slice.ensures.value c.in_ok-nearest.ensures.tree c.in_ok-nearest.ensures.found near in
     let few = subst (λ (z : Matrix). cols z < 2 ^ 32) (sym c.requires.of) c.requires.few in
-    λ d. outlay_fits _ _ _ _ _ _ _ d c.requires.assignment.matching c.requires.assignment.bounded few f
+    λ d. dual_fits _ _ _ _ _ _ _ d c.requires.assignment.matching c.requires.assignment.bounded few f
 
 pub raise-requires-clause-prices_fit : goal.raise-requires-clause-prices_fit
 raise-requires-clause-prices_fit c =
@@ -43,52 +43,73 @@ raise-requires-clause-prices_fit c =
     let few = subst (λ (z : Matrix). cols z < 2 ^ 32) (sym c.requires.of) c.requires.few in
     λ r. price_fits _ _ _ _ _ _ _ r c.requires.assignment.matching c.requires.assignment.bounded few f
 
-pub trace-requires-clause-tree : goal.trace-requires-clause-tree
-trace-requires-clause-tree c =
+pub path_to-requires-clause-queue : goal.path_to-requires-clause-queue
+path_to-requires-clause-queue c =
     let t : Tree = record { queue = c.as_slice-queue.result.now; depths = c.as_slice.result.now } in
     let near : c.in_ok-nearest.nearest.distance < far = omega (arith, c.if-nearest.false) in
     let f = found_near _ _ _ _ t _ _ _ c.as_slice-queue.ensures.value c.as_slice.ensures.value c.in_ok-nearest.ensures.tree c.in_ok-nearest.ensures.found near in
-    let a : Matrix = cheap (priced c.args.weights.now c.raise.new.assignment) in
     let u = c.raise.ensures.raised c.args.weights.now in
     let on = way _ _ _ _ _ _ _ _ _ _ _ _ c.raise.ensures.matching c.requires.assignment f u in
-    (a, on.cols_are, on.matching, on.searched, on.end)
+    on.queue
+
+pub path_to-requires-clause-place : goal.path_to-requires-clause-place
+path_to-requires-clause-place c =
+    let t : Tree = record { queue = c.as_slice-queue.result.now; depths = c.as_slice.result.now } in
+    let near : c.in_ok-nearest.nearest.distance < far = omega (arith, c.if-nearest.false) in
+    let f = found_near _ _ _ _ t _ _ _ c.as_slice-queue.ensures.value c.as_slice.ensures.value c.in_ok-nearest.ensures.tree c.in_ok-nearest.ensures.found near in
+    let u = c.raise.ensures.raised c.args.weights.now in
+    let on = way _ _ _ _ _ _ _ _ _ _ _ _ c.raise.ensures.matching c.requires.assignment f u in
+    on.within
+
+pub path_to-requires-clause-leaf : goal.path_to-requires-clause-leaf
+path_to-requires-clause-leaf c =
+    let t : Tree = record { queue = c.as_slice-queue.result.now; depths = c.as_slice.result.now } in
+    let near : c.in_ok-nearest.nearest.distance < far = omega (arith, c.if-nearest.false) in
+    let f = found_near _ _ _ _ t _ _ _ c.as_slice-queue.ensures.value c.as_slice.ensures.value c.in_ok-nearest.ensures.tree c.in_ok-nearest.ensures.found near in
+    let u = c.raise.ensures.raised c.args.weights.now in
+    let on = way _ _ _ _ _ _ _ _ _ _ _ _ c.raise.ensures.matching c.requires.assignment f u in
+    on.free
+
+pub path_to-requires-clause-room : goal.path_to-requires-clause-room
+path_to-requires-clause-room c =
+    let few = pairs_fewer _ _ _ _ c.raise.ensures.matching c.requires.assignment (subst (λ (z : Matrix). c.args.root < cols z) (sym c.requires.of) c.requires.root) c.requires.free in
+    let same = ap cols c.requires.of in
+    omega (arith, few, same, c.requires.room)
 
 pub flip-requires-clause-in_range : goal.flip-requires-clause-in_range
 flip-requires-clause-in_range c =
     let t : Tree = record { queue = c.as_slice-queue.result.now; depths = c.as_slice.result.now } in
     let near : c.in_ok-nearest.nearest.distance < far = omega (arith, c.if-nearest.false) in
     let f = found_near _ _ _ _ t _ _ _ c.as_slice-queue.ensures.value c.as_slice.ensures.value c.in_ok-nearest.ensures.tree c.in_ok-nearest.ensures.found near in
-    let a : Matrix = cheap (priced c.args.weights.now c.raise.new.assignment) in
     let u = c.raise.ensures.raised c.args.weights.now in
     let on = way _ _ _ _ _ _ _ _ _ _ _ _ c.raise.ensures.matching c.requires.assignment f u in
     let is = c.as_slice-2.ensures.value in
-    let entries = subst (AreEntries a) (sym is) (c.in_ok-trace.ensures.entries a on.matching on.searched on.end) in
-    λ r d pair. way_range _ _ _ _ _ _ r d on entries pair
+    let entries = way_entries _ _ _ _ _ _ on c.path_to.ensures.pairs in
+    λ r d pair. way_range _ _ _ _ _ _ r d on (subst (AreEntries _) (sym is) entries) pair
 
 pub returns : goal.returns
 returns c =
     let t : Tree = record { queue = c.as_slice-queue.result.now; depths = c.as_slice.result.now } in
     let near : c.in_ok-nearest.nearest.distance < far = omega (arith, c.if-nearest.false) in
     let f = found_near _ _ _ _ t _ _ _ c.as_slice-queue.ensures.value c.as_slice.ensures.value c.in_ok-nearest.ensures.tree c.in_ok-nearest.ensures.found near in
-    let few = subst (λ (z : Matrix). cols z < 2 ^ 32) (sym c.requires.of) c.requires.few in
-    let a : Matrix = cheap (priced c.args.weights.now c.raise.new.assignment) in
     let u = c.raise.ensures.raised c.args.weights.now in
     let on = way _ _ _ _ _ _ _ _ _ _ _ _ c.raise.ensures.matching c.requires.assignment f u in
+    let few = subst (λ (z : Matrix). cols z < 2 ^ 32) (sym c.requires.of) c.requires.few in
+    let a : Matrix = cheap (priced c.args.weights.now c.raise.new.assignment) in
     let is = c.as_slice-2.ensures.value in
-    let entries = subst (AreEntries a) (sym is) (c.in_ok-trace.ensures.entries a on.matching on.searched on.end) in
+    let entries = subst (AreEntries a) (sym is) (way_entries _ _ _ _ _ _ on c.path_to.ensures.pairs) in
     let flipped : IsFlipped a c.raise.new.assignment.matching c.flip.new.self t.queue c.as_slice-2.result.now = record {
       sizes = c.flip.ensures.sizes;
       matching = c.flip.ensures.entries a on.matching entries;
-      rows_stay = c.flip.ensures.rows_stay;
-      cols_stay = c.flip.ensures.cols_stay;
+      covered = record { rows = c.flip.ensures.rows_stay; cols = c.flip.ensures.cols_stay };
       swaps = c.flip.ensures.pairs;
-      root = subst (HasRoot c.raise.new.assignment.matching.pairs (heads t.queue)) (sym is) c.in_ok-trace.ensures.root;
+      root = subst (HasRoot c.raise.new.assignment.matching.pairs (heads t.queue)) (sym is) (way_root _ _ _ _ _ _ on c.path_to.ensures.pairs c.path_to.ensures.path);
     } in
     let e = extended _ _ _ _ _ _ _ _ _ _ _ _ _ _ c.raise.ensures.matching c.requires.assignment few f u flipped in
     record {
+      room = (let start = c.requires.room in let kept = c.path_to.ensures.room in omega (arith, start, kept));
       assignment = e.assigned;
-      rows_stay = e.rows_stay;
-      cols_stay = e.cols_stay;
+      covered = e.covered;
       found = λ yes. (e.mated, subst (λ n. IsClear n (tree_of c.clear.new.self) (labels_of c.clear.new.self)) c.in_ok-nearest.ensures.lengths.0 c.clear.ensures.clear, c.clear.ensures.listed);
       stuck = search rules;
     }

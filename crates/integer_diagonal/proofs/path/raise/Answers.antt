@@ -4,10 +4,10 @@ use Rattle.bip_defs.specs.Lists.{Among}
 use Rattle.bip_defs.specs.Matching.{cols_of}
 use Rattle.bip_defs.specs.Matrix.{Place}
 use Rattle.bip_graph.specs.Pairing.{Pairing}
-use Rattle.hall_witness.specs.Search.{at}
-use Rattle.integer_diagonal.proofs.Rising.{PricesRise, all_raised, outlay_next, outlays_more, price_next, prices_keep, prices_more}
+use Rattle.integer_diagonal.proofs.Rising.{PricesRise, all_raised, dual_next, duals_more, price_next, prices_keep, prices_more}
 use Rattle.integer_diagonal.proofs.path.raise.Goals.{in-Some, in-None}
 use Rattle.integer_diagonal.proofs.path.raise.Goals as goal
+use Rattle.bip_defs.specs.Queues.{at}
 
 pub overflow_add-index_mut : goal.overflow_add-index_mut
 overflow_add-index_mut c =
@@ -15,10 +15,10 @@ overflow_add-index_mut c =
     let k = c.loop-place.place in
     let col : ℕ = (at c.args.queue.now k).0 in
     let lt : k < length c.args.queue.now = c.loop-place-test.true in
-    let inside : col < length c.loop-place.assignment.outlays.items = (let range = c.requires.in_range k lt in let long = i.outlays.long in omega (arith, range, long)) in
-    let read = get_or_read c.loop-place.assignment.outlays.items col c.index_mut.result.now inside c.index_mut.ensures.value 0 in
-    let was = outlay_next _ _ _ k _ _ col c.requires.distinct lt refl i.outlays in
-    let fits = c.requires.outlays_fit col in
+    let inside : col < length c.loop-place.assignment.duals.items = (let range = c.requires.in_range k lt in let long = i.duals.long in omega (arith, range, long)) in
+    let read = get_or_read c.loop-place.assignment.duals.items col c.index_mut.result.now inside c.index_mut.ensures.value 0 in
+    let was = dual_next _ _ _ k _ _ col c.requires.distinct lt refl i.duals in
+    let fits = c.requires.duals_fit col in
     omega (arith, read, was, fits)
 
 pub raise_price-requires-clause-row : goal.raise_price-requires-clause-row
@@ -44,10 +44,10 @@ loop-place-preserved c =
     let col : ℕ = (at c.args.queue.now k).0 in
     let lt : k < length c.args.queue.now = c.loop-place-test.true in
     let near = c.requires.depths k lt in
-    let inside : col < length c.loop-place.assignment.outlays.items = (let range = c.requires.in_range k lt in let long = i.outlays.long in omega (arith, range, long)) in
-    let read = get_or_read c.loop-place.assignment.outlays.items col c.index_mut.result.now inside c.index_mut.ensures.value 0 in
+    let inside : col < length c.loop-place.assignment.duals.items = (let range = c.requires.in_range k lt in let long = i.duals.long in omega (arith, range, long)) in
+    let read = get_or_read c.loop-place.assignment.duals.items col c.index_mut.result.now inside c.index_mut.ensures.value 0 in
     let rise : ℕ = c.args.distance - slice_index c.args.depths.now k in
-    let outlays = outlays_more _ _ _ k _ _ col (c.index_mut.result.now + rise) c.requires.distinct lt refl inside (omega (arith, near, read)) i.outlays in
+    let duals = duals_more _ _ _ k _ _ col (c.index_mut.result.now + rise) c.requires.distinct lt refl inside (omega (arith, near, read)) i.duals in
     elim c.match-row_of.branch [
       | in-Some w ↦
           let mate = subst (λ (z : Pairing). Among {X = Place} (w.in-Some.row, col) z.pairs) i.matching w.in-Some.ensures.found in
@@ -55,13 +55,13 @@ loop-place-preserved c =
           let long = i.prices.long in
           let prices = prices_more _ _ _ _ k _ _ w.in-Some.row col (slice_index c.loop-place.assignment.prices.items w.in-Some.row + rise) c.requires.rows_differ c.requires.cols_differ c.requires.distinct lt refl mate (omega (arith, in_rows, long)) (omega (arith, near)) near i.prices in
           rw w.assignment-is (record {
-            outlays = outlays;
+            duals = duals;
             prices = subst (λ z. PricesRise c.args.assignment.now.matching.pairs c.args.queue.now c.args.depths.now c.args.distance (k + 1) c.args.assignment.now.prices.items z) (sym w.raise_price.ensures) prices;
             matching = i.matching;
           })
       | in-None w ↦
           let free = subst (λ (z : Pairing). ¬ Among col (cols_of z.pairs)) i.matching w.in-None.ensures.none in
-          rw w.assignment-is (record { outlays = outlays; prices = prices_keep _ _ _ _ _ _ _ col refl free i.prices; matching = i.matching })
+          rw w.assignment-is (record { duals = duals; prices = prices_keep _ _ _ _ _ _ _ col refl free i.prices; matching = i.matching })
     ]
 
 pub returns-clause-raised : goal.returns-clause-raised
@@ -69,4 +69,4 @@ returns-clause-raised c = λ w.
     let i = c.loop-place.invariant in
     let past = c.loop-place-test.false in
     let end = c.loop-place.auto.place-end in
-    all_raised w _ _ _ _ _ _ _ _ c.loop-place.place (omega (arith, past, end)) i.outlays i.prices
+    all_raised w _ _ _ _ _ _ _ _ c.loop-place.place (omega (arith, past, end)) i.duals i.prices

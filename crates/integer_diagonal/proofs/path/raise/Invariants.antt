@@ -1,10 +1,10 @@
 use Rattle.std.proofs.Common.{◌≡◌}
-use Rattle.integer_diagonal.proofs.Rising.{OutlaysRise, PricesRise}
+use Rattle.integer_diagonal.proofs.Rising.{DualsRise, PricesRise}
 use Rattle.integer_diagonal.proofs.path.raise.Given as goal
 
 abbrev pub invariant-loop-place : goal.invariant-loop-place
 invariant-loop-place l = record {
-  outlays : OutlaysRise l.queue l.depths l.distance l.place l.fn.assignment.outlays.items l.assignment.outlays.items;
+  duals : DualsRise l.queue l.depths l.distance l.place l.fn.assignment.duals.items l.assignment.duals.items;
   prices : PricesRise l.fn.assignment.matching.pairs l.queue l.depths l.distance l.place l.fn.assignment.prices.items l.assignment.prices.items;
   matching : l.assignment.matching ≡ l.fn.assignment.matching;
 }

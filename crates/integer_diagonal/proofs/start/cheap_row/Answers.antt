@@ -6,8 +6,8 @@ use Rattle.bip_defs.specs.Matrix.{Place}
 use Rattle.bip_defs.proofs.Sets.{row_among}
 use Rattle.integer_diagonal.proofs.Scanning.{row_entry}
 use Rattle.integer_diagonal.proofs.Starting.{all_matched, begun, cost_here, none_holds, some_holds}
-use Rattle.integer_diagonal.specs.Outlays.{cost, outlay, paid, top}
-use Rattle.integer_diagonal.proofs.start.cheap_row.Goals.{else-paid-outlay-via-then-paid-outlay+else-is_none, else-paid-outlay-via-else-paid-outlay}
+use Rattle.integer_diagonal.specs.Duals.{cost, dual, paid, top}
+use Rattle.integer_diagonal.proofs.start.cheap_row.Goals.{else-paid-dual-via-then-paid-dual+else-is_none, else-paid-dual-via-else-paid-dual}
 use Rattle.integer_diagonal.proofs.start.cheap_row.Goals as goal
 
 pub bounds-prices-row-inside : goal.bounds-prices-row-inside
@@ -33,7 +33,7 @@ returns-then-is_none-clause-found c =
     let read : r ≡ slice_index rows k = get_or_read rows k r c.loop-k-test.true c.index-rows-k.is 0 in
     let costs = cost_here w c.args.pattern.now c.args.col k r rows c.weights_of-weights.result.now c.requires.of c.rows_of-rows.ensures.column c.weights_of-weights.ensures.length c.weights_of-weights.ensures.each c.loop-k-test.true read in
     let off = none_holds c.col_of.result (¬ Among r (rows_of c.args.matching.now.pairs)) (c.is_none.ensures ∙ ap not c.if-is_none.true) c.col_of.ensures.none in
-    (entry, ap (λ z. slice_index prices r + z) costs ∙ ap (λ z. slice_index prices z + (top - slice_index c.weights_of-weights.result.now k)) (sym c.row.view_is) ∙ c.if-paid-outlay.true ∙ ap (λ z. slice_index c.args.outlays.now z) c.col.view_is, off)
+    (entry, ap (λ z. slice_index prices r + z) costs ∙ ap (λ z. slice_index prices z + (top - slice_index c.weights_of-weights.result.now k)) (sym c.row.view_is) ∙ c.if-paid-dual.true ∙ ap (λ z. slice_index c.args.duals.now z) c.col.view_is, off)
 
 pub loop-k-preserved : goal.loop-k-preserved
 loop-k-preserved c =
@@ -43,14 +43,14 @@ loop-k-preserved c =
     let k = c.loop-k.k in
     let m = c.args.matching.now.pairs in
     let r = c.index-rows-k.result in
-    let least = slice_index c.args.outlays.now c.col.inside.0 in
+    let least = slice_index c.args.duals.now c.col.inside.0 in
     let read : r ≡ slice_index rows k = get_or_read rows k r c.loop-k-test.true c.index-rows-k.is 0 in
     let costs = cost_here w c.args.pattern.now c.args.col k r rows c.weights_of-weights.result.now c.requires.of c.rows_of-rows.ensures.column c.weights_of-weights.ensures.length c.weights_of-weights.ensures.each c.loop-k-test.true read in
     let paid_is : slice_index prices r + cost w r c.args.col ≡ slice_index prices c.row.inside.0 + (top - slice_index c.weights_of-weights.result.now k) = ap (λ z. slice_index prices r + z) costs ∙ ap (λ z. slice_index prices z + (top - slice_index c.weights_of-weights.result.now k)) (sym c.row.view_is) in
     let here : slice_index prices r + cost w r c.args.col ≡ least → Among r (rows_of m) =
-    elim c.else-paid-outlay.branch [
-      | else-paid-outlay-via-then-paid-outlay+else-is_none b ↦ λ is. (let (d, pair) = some_holds b.col_of.result (λ d. Among {X = Place} (r, d) m) (b.is_none.ensures ∙ ap not b.if-is_none.false) b.col_of.ensures.found in row_among r d m pair)
-      | else-paid-outlay-via-else-paid-outlay b ↦ λ is. absurd (b.if-paid-outlay.false (sym paid_is ∙ is))
+    elim c.else-paid-dual.branch [
+      | else-paid-dual-via-then-paid-dual+else-is_none b ↦ λ is. (let (d, pair) = some_holds b.col_of.result (λ d. Among {X = Place} (r, d) m) (b.is_none.ensures ∙ ap not b.if-is_none.false) b.col_of.ensures.found in row_among r d m pair)
+      | else-paid-dual-via-else-paid-dual b ↦ λ is. absurd (b.if-paid-dual.false (sym paid_is ∙ is))
     ]
     in
     below_more (λ j. slice_index prices (slice_index rows j) + cost w (slice_index rows j) c.args.col ≡ least → Among (slice_index rows j) (rows_of m)) k c.loop-k.invariant
@@ -59,6 +59,6 @@ loop-k-preserved c =
 pub returns-clause-none : goal.returns-clause-none
 returns-clause-none c r e is =
     let rows = c.rows_of-rows.result.now in
-    let x = begun c.args.weights.now c.args.prices.now c.args.outlays.now in
+    let x = begun c.args.weights.now c.args.prices.now c.args.duals.now in
     let m = c.args.matching.now.pairs in
-    all_matched x c.args.pattern.now c.args.col c.loop-k.k rows (rows_of m) c.rows_of-rows.ensures.column (let all = c.loop-k-test.false in omega (arith, all)) (subst (λ z. (j : ℕ) → j < c.loop-k.k → paid x (slice_index rows j) c.args.col ≡ outlay x z → Among (slice_index rows j) (rows_of m)) c.col.view_is c.loop-k.invariant) r e is
+    all_matched x c.args.pattern.now c.args.col c.loop-k.k rows (rows_of m) c.rows_of-rows.ensures.column (let all = c.loop-k-test.false in omega (arith, all)) (subst (λ z. (j : ℕ) → j < c.loop-k.k → paid x (slice_index rows j) c.args.col ≡ dual x z → Among (slice_index rows j) (rows_of m)) c.col.view_is c.loop-k.invariant) r e is

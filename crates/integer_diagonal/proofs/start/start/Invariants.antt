@@ -2,4 +2,4 @@ use Rattle.integer_diagonal.proofs.Starting.{AreFirst, begun}
 use Rattle.integer_diagonal.proofs.start.start.Given as goal
 
 abbrev pub invariant-loop-col : goal.invariant-loop-col
-invariant-loop-col l = AreFirst (begun l.weights l.prices.items l.outlays.items) l.col l.matching
+invariant-loop-col l = AreFirst (begun l.weights l.prices.items l.duals.items) l.col l.matching

@@ -7,7 +7,7 @@ pub mate_of-requires : goal.mate_of-requires
 mate_of-requires c = record {
   row =
       let lt = (c.requires.square.sound c.row.inside.0 (item_among _ _ _ _ c.row.view_is c.row-item.is c.loop-row-test.true)).0 in
-      let e = c.requires.rows in
+      let e = c.requires.maximum.matching.rows in
       omega arith;
 }
 
@@ -22,7 +22,7 @@ loop-row-preserved c =
     let on = item_among _ _ _ _ c.row.view_is c.row-item.is c.loop-row-test.true in
     known_more _ _ _ _ _ _ _ c.loop-row.invariant (c.requires.square.sound c.row.inside.0 on).0 on (item_at _ _ _ _ c.row.view_is c.row-item.is c.loop-row-test.true)
     c.mate_of.ensures.sound
-    (λ d h. c.mate_of.ensures.complete c.args.pattern.now d c.requires.maximum.matching h)
+    (λ d h. c.mate_of.ensures.complete c.args.pattern.now d c.requires.maximum.maximum.matching h)
 
 pub returns-clause-mates : goal.returns-clause-mates
-returns-clause-mates c = known_all _ _ _ _ _ c.requires.maximum c.requires.square (let f = c.is_pattern.ensures.few_cols in omega arith) c.loop-row-test.false c.loop-row.invariant
+returns-clause-mates c = known_all _ _ _ _ _ c.requires.maximum.maximum c.requires.square (let f = c.is_pattern.ensures.few_cols in omega arith) c.loop-row-test.false c.loop-row.invariant

@@ -1,5 +1,5 @@
 use Rattle.std.proofs.Common.{◌∙◌}
-use Rattle.bip_graph.proofs.Stretching.{seen_all_cols}
+use Rattle.bip_graph.proofs.Offsets.{seen_all_cols}
 use Rattle.bip_graph.proofs.blocks.Blocks.all_cols.Goals as goal
 
 pub returns : goal.returns

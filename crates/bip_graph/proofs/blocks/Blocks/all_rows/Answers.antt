@@ -1,5 +1,5 @@
 use Rattle.std.proofs.Common.{◌∙◌}
-use Rattle.bip_graph.proofs.Stretching.{seen_all_rows}
+use Rattle.bip_graph.proofs.Offsets.{seen_all_rows}
 use Rattle.bip_graph.proofs.blocks.Blocks.all_rows.Goals as goal
 
 pub returns : goal.returns

@@ -1,6 +1,6 @@
 use Rattle.std.proofs.Common.{◌≡◌, ap, arith, length, rules, vec_len}
 use Rattle.std.proofs.lemmas.List.{nil_from_length}
-use Rattle.bip_graph.proofs.Stretching.{seen_count}
+use Rattle.bip_graph.proofs.Offsets.{seen_count}
 use Rattle.bip_graph.proofs.blocks.Blocks.is_empty.Goals as goal
 
 pub returns : goal.returns

@@ -1,5 +1,5 @@
 use Rattle.std.proofs.Common.{◌≡◌, ◌∙◌, length, rules, vec_len}
-use Rattle.bip_graph.proofs.Stretching.{seen_count}
+use Rattle.bip_graph.proofs.Offsets.{seen_count}
 use Rattle.bip_graph.proofs.blocks.Blocks.len.Goals as goal
 
 pub returns : goal.returns

@@ -1,6 +1,6 @@
 use Rattle.std.proofs.Common.{◌<◌, ◌∙◌, ap, arith, get_or, length}
-use Rattle.bip_graph.proofs.Stretching.{seen_count, seen_rows}
-use Rattle.bip_graph.specs.Stretches.{start_at}
+use Rattle.bip_graph.proofs.Offsets.{seen_count, seen_rows}
+use Rattle.bip_graph.specs.Blocks.{start_at}
 use Rattle.std.specs.List.{slice_range}
 use Rattle.bip_graph.proofs.blocks.Blocks.rows.Goals as goal
 

@@ -4,7 +4,7 @@ use Rattle.integer_diagonal.proofs.Bounds.{queue_short}
 use Rattle.integer_diagonal.proofs.Growing.{near_in, search_stuck, searched, stepped}
 use Rattle.integer_diagonal.proofs.Keeping.{listed_same}
 use Rattle.integer_diagonal.specs.Labels.{AreKnown, AreListed, IsBest, IsKept, Labels, labels_of, tree_of}
-use Rattle.integer_diagonal.specs.Outlays.{priced}
+use Rattle.integer_diagonal.specs.Duals.{priced}
 use Rattle.integer_diagonal.specs.Searching.{IsGrown, IsNearest, IsSearched, IsStuck, Tree, depth}
 use Rattle.integer_diagonal.proofs.search.Search.find.Goals as goal
 

@@ -1,6 +1,5 @@
 use Rattle.std.proofs.Common.{◌≡◌, ◌⊎◌, ℕ, length}
-use Rattle.bip_defs.specs.Lists.{Among}
-use Rattle.hall_witness.specs.Search.{IsMarked}
+use Rattle.bip_defs.specs.Lists.{Among, IsMarked}
 use Rattle.integer_diagonal.specs.Labels.{labels_of, tree_of}
 use Rattle.integer_diagonal.proofs.search.Search.next.Given as goal
 

@@ -5,13 +5,13 @@ use Rattle.integer_diagonal.proofs.Keeping.{best_look, kept_look, known_look, lo
 use Rattle.std.proofs.lemmas.List.{get_or_read}
 use Rattle.integer_diagonal.specs.Labels.{AreKnown, IsKnown, labels_of, tree_of}
 use Rattle.integer_diagonal.specs.Searching.{Tree, far}
-use Rattle.integer_diagonal.specs.Outlays.{priced, top}
+use Rattle.integer_diagonal.specs.Duals.{priced, top}
 use Rattle.integer_diagonal.proofs.search.Search.scan.Goals as goal
 
-pub index-outlay-requires : goal.index-outlay-requires
-index-outlay-requires c =
+pub index-dual-requires : goal.index-dual-requires
+index-dual-requires c =
     let a = place_col (priced c.args.weights.now c.args.assignment.now) _ _ (tree_of c.args.self.now) c.args.place _ c.requires.root.1 c.requires.place c.index.ensures in
-    omega (arith, a.1, c.requires.assignment.feasible.outlays_are, c.args.assignment.now.outlays.ok.0)
+    omega (arith, a.1, c.requires.assignment.feasible.duals_are, c.args.assignment.now.duals.ok.0)
 
 pub rows_of-rows-requires : goal.rows_of-rows-requires
 rows_of-rows-requires c =
@@ -33,8 +33,8 @@ overflow_add-distance c =
     let f = c.requires.assignment.feasible in
     let g = c.requires.root.1 in
     let entry = row_entry c.args.pattern.now c.args.weights.now.matrix c.index.result.now.0 c.rows_of-rows.result.now c.loop-k.k _ _ c.requires.of c.rows_of-rows.ensures.rows c.loop-k-test.true c.index-rows-k.is c.number-row.ensures in
-    let s = make_scan x _ _ t c.args.place c.loop-k.k c.rows_of-rows.result.now c.weights_of-weights.result.now c.index.result.now c.index-depth.result.now c.index-outlay.result.now c.index-price.result.now _ c.number-row.result f g c.requires.place c.index.ensures c.index-depth.ensures c.index-outlay.ensures (c.rows_of-rows.ensures.column ∙ ap (λ (z : Matrix). column z c.index.result.now.0) (sym c.requires.of)) c.loop-k-test.true c.index-rows-k.is c.number-row.ensures entry c.index-price.ensures c.weights_of-weights.ensures.each c.weights_of-weights.ensures.length in
-    let fits = scan_fits_price x t c.args.place c.number-row.result c.index-price.result.now (slice_index c.weights_of-weights.result.now c.loop-k.k) c.index-outlay.result.now c.index-depth.result.now _ c.requires.assignment.bounded s.price_is in
+    let s = make_scan x _ _ t c.args.place c.loop-k.k c.rows_of-rows.result.now c.weights_of-weights.result.now c.index.result.now c.index-depth.result.now c.index-dual.result.now c.index-price.result.now _ c.number-row.result f g c.requires.place c.index.ensures c.index-depth.ensures c.index-dual.ensures (c.rows_of-rows.ensures.column ∙ ap (λ (z : Matrix). column z c.index.result.now.0) (sym c.requires.of)) c.loop-k-test.true c.index-rows-k.is c.number-row.ensures entry c.index-price.ensures c.weights_of-weights.ensures.each c.weights_of-weights.ensures.length in
+    let fits = scan_fits_price x t c.args.place c.number-row.result c.index-price.result.now (slice_index c.weights_of-weights.result.now c.loop-k.k) c.index-dual.result.now c.index-depth.result.now _ c.requires.assignment.bounded s.price_is in
     omega (arith, fits)
 
 pub overflow_sub-distance-in-loop-k : goal.overflow_sub-distance-in-loop-k
@@ -44,8 +44,8 @@ overflow_sub-distance-in-loop-k c =
     let f = c.requires.assignment.feasible in
     let g = c.requires.root.1 in
     let entry = row_entry c.args.pattern.now c.args.weights.now.matrix c.index.result.now.0 c.rows_of-rows.result.now c.loop-k.k _ _ c.requires.of c.rows_of-rows.ensures.rows c.loop-k-test.true c.index-rows-k.is c.number-row.ensures in
-    let s = make_scan x _ _ t c.args.place c.loop-k.k c.rows_of-rows.result.now c.weights_of-weights.result.now c.index.result.now c.index-depth.result.now c.index-outlay.result.now c.index-price.result.now _ c.number-row.result f g c.requires.place c.index.ensures c.index-depth.ensures c.index-outlay.ensures (c.rows_of-rows.ensures.column ∙ ap (λ (z : Matrix). column z c.index.result.now.0) (sym c.requires.of)) c.loop-k-test.true c.index-rows-k.is c.number-row.ensures entry c.index-price.ensures c.weights_of-weights.ensures.each c.weights_of-weights.ensures.length in
-    scan_covers x t c.args.place c.number-row.result c.index-price.result.now (slice_index c.weights_of-weights.result.now c.loop-k.k) c.index-outlay.result.now c.index-depth.result.now f s
+    let s = make_scan x _ _ t c.args.place c.loop-k.k c.rows_of-rows.result.now c.weights_of-weights.result.now c.index.result.now c.index-depth.result.now c.index-dual.result.now c.index-price.result.now _ c.number-row.result f g c.requires.place c.index.ensures c.index-depth.ensures c.index-dual.ensures (c.rows_of-rows.ensures.column ∙ ap (λ (z : Matrix). column z c.index.result.now.0) (sym c.requires.of)) c.loop-k-test.true c.index-rows-k.is c.number-row.ensures entry c.index-price.ensures c.weights_of-weights.ensures.each c.weights_of-weights.ensures.length in
+    scan_covers x t c.args.place c.number-row.result c.index-price.result.now (slice_index c.weights_of-weights.result.now c.loop-k.k) c.index-dual.result.now c.index-depth.result.now f s
 
 pub overflow_add-distance-in-loop-k : goal.overflow_add-distance-in-loop-k
 overflow_add-distance-in-loop-k c =
@@ -54,8 +54,8 @@ overflow_add-distance-in-loop-k c =
     let f = c.requires.assignment.feasible in
     let g = c.requires.root.1 in
     let entry = row_entry c.args.pattern.now c.args.weights.now.matrix c.index.result.now.0 c.rows_of-rows.result.now c.loop-k.k _ _ c.requires.of c.rows_of-rows.ensures.rows c.loop-k-test.true c.index-rows-k.is c.number-row.ensures in
-    let s = make_scan x _ _ t c.args.place c.loop-k.k c.rows_of-rows.result.now c.weights_of-weights.result.now c.index.result.now c.index-depth.result.now c.index-outlay.result.now c.index-price.result.now _ c.number-row.result f g c.requires.place c.index.ensures c.index-depth.ensures c.index-outlay.ensures (c.rows_of-rows.ensures.column ∙ ap (λ (z : Matrix). column z c.index.result.now.0) (sym c.requires.of)) c.loop-k-test.true c.index-rows-k.is c.number-row.ensures entry c.index-price.ensures c.weights_of-weights.ensures.each c.weights_of-weights.ensures.length in
-    let fits = scan_fits x t c.args.place c.number-row.result c.index-price.result.now (slice_index c.weights_of-weights.result.now c.loop-k.k) c.index-outlay.result.now c.index-depth.result.now _ _ f c.requires.assignment.matching c.requires.assignment.bounded g c.requires.place (omega (arith, c.ranges.place)) s in
+    let s = make_scan x _ _ t c.args.place c.loop-k.k c.rows_of-rows.result.now c.weights_of-weights.result.now c.index.result.now c.index-depth.result.now c.index-dual.result.now c.index-price.result.now _ c.number-row.result f g c.requires.place c.index.ensures c.index-depth.ensures c.index-dual.ensures (c.rows_of-rows.ensures.column ∙ ap (λ (z : Matrix). column z c.index.result.now.0) (sym c.requires.of)) c.loop-k-test.true c.index-rows-k.is c.number-row.ensures entry c.index-price.ensures c.weights_of-weights.ensures.each c.weights_of-weights.ensures.length in
+    let fits = scan_fits x t c.args.place c.number-row.result c.index-price.result.now (slice_index c.weights_of-weights.result.now c.loop-k.k) c.index-dual.result.now c.index-depth.result.now _ _ f c.requires.assignment.matching c.requires.assignment.bounded g c.requires.place (omega (arith, c.ranges.place)) s in
     omega (arith, fits)
 
 pub look-requires-clause-row : goal.look-requires-clause-row
@@ -92,14 +92,14 @@ loop-k-preserved c =
     let f = c.requires.assignment.feasible in
     let g = c.requires.root.1 in
     let entry = row_entry c.args.pattern.now c.args.weights.now.matrix c.index.result.now.0 c.rows_of-rows.result.now c.loop-k.k _ _ c.requires.of c.rows_of-rows.ensures.rows c.loop-k-test.true c.index-rows-k.is c.number-row.ensures in
-    let s = make_scan x _ _ t c.args.place c.loop-k.k c.rows_of-rows.result.now c.weights_of-weights.result.now c.index.result.now c.index-depth.result.now c.index-outlay.result.now c.index-price.result.now _ c.number-row.result f g c.requires.place c.index.ensures c.index-depth.ensures c.index-outlay.ensures (c.rows_of-rows.ensures.column ∙ ap (λ (z : Matrix). column z c.index.result.now.0) (sym c.requires.of)) c.loop-k-test.true c.index-rows-k.is c.number-row.ensures entry c.index-price.ensures c.weights_of-weights.ensures.each c.weights_of-weights.ensures.length in
-    let fits = scan_fits x t c.args.place c.number-row.result c.index-price.result.now (slice_index c.weights_of-weights.result.now c.loop-k.k) c.index-outlay.result.now c.index-depth.result.now _ _ f c.requires.assignment.matching c.requires.assignment.bounded g c.requires.place (omega (arith, c.ranges.place)) s in
+    let s = make_scan x _ _ t c.args.place c.loop-k.k c.rows_of-rows.result.now c.weights_of-weights.result.now c.index.result.now c.index-depth.result.now c.index-dual.result.now c.index-price.result.now _ c.number-row.result f g c.requires.place c.index.ensures c.index-depth.ensures c.index-dual.ensures (c.rows_of-rows.ensures.column ∙ ap (λ (z : Matrix). column z c.index.result.now.0) (sym c.requires.of)) c.loop-k-test.true c.index-rows-k.is c.number-row.ensures entry c.index-price.ensures c.weights_of-weights.ensures.each c.weights_of-weights.ensures.length in
+    let fits = scan_fits x t c.args.place c.number-row.result c.index-price.result.now (slice_index c.weights_of-weights.result.now c.loop-k.k) c.index-dual.result.now c.index-depth.result.now _ _ f c.requires.assignment.matching c.requires.assignment.bounded g c.requires.place (omega (arith, c.ranges.place)) s in
     let i = c.loop-k.invariant in
     let looked = c.in_ok-look.ensures.looked in
-    let reaches = scan_reaches x t c.args.place c.number-row.result c.index-price.result.now (slice_index c.weights_of-weights.result.now c.loop-k.k) c.index-outlay.result.now c.index-depth.result.now f c.requires.place s in
+    let reaches = scan_reaches x t c.args.place c.number-row.result c.index-price.result.now (slice_index c.weights_of-weights.result.now c.loop-k.k) c.index-dual.result.now c.index-depth.result.now f c.requires.place s in
     let dep_is = s.dep_is in
     let inside : c.number-row.result < length c.loop-k.self.distances.items = (let long = i.kept.distances_are in let lt = entry.0 in omega (arith, long, lt)) in
-    let near : c.index-depth.result.now + (c.index-price.result.now + (top - slice_index c.weights_of-weights.result.now c.loop-k.k) - c.index-outlay.result.now) < far = omega (arith, fits) in
+    let near : c.index-depth.result.now + (c.index-price.result.now + (top - slice_index c.weights_of-weights.result.now c.loop-k.k) - c.index-dual.result.now) < far = omega (arith, fits) in
     record {
       tree = c.in_ok-look.ensures.tree ∙ i.tree;
       kept = kept_look x _ t _ _ _ _ _ _ _ _ i.kept looked entry.0 reaches (omega (arith, dep_is)) near;

@@ -1,6 +1,6 @@
 use Rattle.std.proofs.Common.{◌≡◌, ℕ, ◌<◌, get_or}
 use Rattle.integer_diagonal.specs.Labels.{AreKnown, AreListed, IsBest, IsKept, IsKnown, labels_of, tree_of}
-use Rattle.integer_diagonal.specs.Outlays.{priced}
+use Rattle.integer_diagonal.specs.Duals.{priced}
 use Rattle.integer_diagonal.specs.Searching.{depth}
 use Rattle.integer_diagonal.proofs.search.Search.scan.Given as goal
 

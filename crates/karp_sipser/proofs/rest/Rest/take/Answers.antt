@@ -1,9 +1,8 @@
 use Rattle.std.proofs.Common.{rules, drop, take, ◌++◌, ◌≡◌, ◌∙◌, ℕ, List, map, length, ap, subst, arith}
 use Rattle.std.proofs.lemmas.List.{map-id}
-use Rattle.bip_defs.proofs.Sets.{entry_col}
+use Rattle.bip_defs.proofs.Sets.{written_over, entry_col}
 use Rattle.bip_defs.specs.Lists.{Lists}
 use Rattle.bip_defs.specs.Matrix.{IsEntry}
-use Rattle.int_set.proofs.Members.{written_back}
 use Rattle.karp_sipser.proofs.Choices.{alone_col, alone_row}
 use Rattle.karp_sipser.proofs.Free.{AreLowered, degrees_after, still_none}
 use Rattle.karp_sipser.proofs.rest.Rest.take.Goals as goal
@@ -22,8 +21,8 @@ pub returns-clause-rest : goal.returns-clause-rest
 returns-clause-rest c =
     let a = c.args.pattern.now in
     let s = c.args.self.now in
-    let back_c : take s.col_degrees.len (c.leave_out-2.new.degrees ++ drop (length c.leave_out-2.new.degrees) s.col_degrees.items) ≡ c.leave_out-2.new.degrees = written_back s.col_degrees.items c.leave_out-2.new.degrees s.col_degrees.len (omega arith) in
-    let back_r : take s.row_degrees.len (c.leave_out.new.degrees ++ drop (length c.leave_out.new.degrees) s.row_degrees.items) ≡ c.leave_out.new.degrees = written_back s.row_degrees.items c.leave_out.new.degrees s.row_degrees.len (omega arith) in
+    let back_c : take s.col_degrees.len (c.leave_out-2.new.degrees ++ drop (length c.leave_out-2.new.degrees) s.col_degrees.items) ≡ c.leave_out-2.new.degrees = written_over c.leave_out-2.new.degrees s.col_degrees.items s.col_degrees.len (omega arith) (omega arith) in
+    let back_r : take s.row_degrees.len (c.leave_out.new.degrees ++ drop (length c.leave_out.new.degrees) s.row_degrees.items) ≡ c.leave_out.new.degrees = written_over c.leave_out.new.degrees s.row_degrees.items s.row_degrees.len (omega arith) (omega arith) in
     let rows : Lists (λ r. IsEntry a r c.args.col) (map (λ (x : ℕ). x) c.rows_of.result.now) = rw map-id c.rows_of.ensures.rows in
     let columns : Lists (λ b. IsEntry a c.args.row b) (map (λ (x : ℕ). x) c.cols_of.result.now) = rw map-id c.cols_of.ensures.cols in
     let lr : AreLowered (map (λ (x : ℕ). x) c.rows_of.result.now) c.args.row s.row_degrees.items c.leave_out.new.degrees =
@@ -45,8 +44,8 @@ returns-clause-rest c =
 pub returns-clause-ones : goal.returns-clause-ones
 returns-clause-ones c =
     let s = c.args.self.now in
-    let back_c : take s.col_degrees.len (c.leave_out-2.new.degrees ++ drop (length c.leave_out-2.new.degrees) s.col_degrees.items) ≡ c.leave_out-2.new.degrees = written_back s.col_degrees.items c.leave_out-2.new.degrees s.col_degrees.len (omega arith) in
-    let back_r : take s.row_degrees.len (c.leave_out.new.degrees ++ drop (length c.leave_out.new.degrees) s.row_degrees.items) ≡ c.leave_out.new.degrees = written_back s.row_degrees.items c.leave_out.new.degrees s.row_degrees.len (omega arith) in
+    let back_c : take s.col_degrees.len (c.leave_out-2.new.degrees ++ drop (length c.leave_out-2.new.degrees) s.col_degrees.items) ≡ c.leave_out-2.new.degrees = written_over c.leave_out-2.new.degrees s.col_degrees.items s.col_degrees.len (omega arith) (omega arith) in
+    let back_r : take s.row_degrees.len (c.leave_out.new.degrees ++ drop (length c.leave_out.new.degrees) s.row_degrees.items) ≡ c.leave_out.new.degrees = written_over c.leave_out.new.degrees s.row_degrees.items s.row_degrees.len (omega arith) (omega arith) in
     record { of_cols = rw back_c c.leave_out-2.ensures.ones; of_rows = rw back_r c.leave_out.ensures.ones }
 
 pub leave_out-requires-clause-alone : goal.leave_out-requires-clause-alone

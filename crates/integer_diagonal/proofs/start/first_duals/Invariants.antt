@@ -1,0 +1,5 @@
+use Rattle.integer_diagonal.specs.Starting.{AreFirstDuals}
+use Rattle.integer_diagonal.proofs.start.first_duals.Given as goal
+
+abbrev pub invariant-loop-col : goal.invariant-loop-col
+invariant-loop-col l = AreFirstDuals l.weights l.col l.duals.items
