@@ -2,7 +2,10 @@ pub mod Accounting
 pub mod Allowing
 pub mod Boards
 pub mod Decoding
+pub mod Finished
 pub mod Flat
 pub mod Keeps
+pub mod Laying
+pub mod Opened
 pub mod Righting
 pub mod Seating

@@ -2,6 +2,7 @@ pub mod Accounts
 pub mod Board
 pub mod Coding
 pub mod Listed
+pub mod Opening
 pub mod Rule
 pub mod Seat
 pub mod Steps

@@ -4,7 +4,7 @@ use Rattle.bip_defs.specs.Lists.{Among}
 use Rattle.bip_graph.specs.Mates.{Mated}
 use Rattle.flip_words.specs.Accounts.{Settles}
 use Rattle.flip_words.specs.Board.{Board, held}
-use Rattle.flip_words.specs.Listed.{Listed, all_listed, looked, nothing, put, took}
+use Rattle.flip_words.specs.Listed.{Listed, all_listed, followed_by, looked, nothing, put, took}
 
 -- its board, its number, how many seats the board has (which the seat 0 alone keeps), and what it lists
 pub record Seat : Type 0 where
@@ -83,6 +83,11 @@ AreAllSeats b (s ∷ others) = (s.board ≡ b) × (s.number ≡ 0) × (s.seats �
 
 abbrev pub lists_of : List Seat → List Listed
 lists_of ss = map (λ (s : Seat). s.listed) ss
+
+-- what the seat 0 lists once it has taken in all others, the one with the highest number first
+abbrev pub gathered : List Seat → Listed
+gathered [] = nothing
+gathered (s ∷ others) = followed_by (all_listed (lists_of others)) s.listed
 
 -- The mates are those with which the board was opened, changed by what all these seats have set, each vertex by one seat at most, once, which took its tree.
 -- There are takers of the trees, each tree taken by one seat at most, once, and each taker that was seen is one of them

@@ -6,6 +6,8 @@
 #![tactic(auto)]
 
 mod board;
+mod closing;
+mod opening;
 mod plays;
 mod seat;
 mod taken;
