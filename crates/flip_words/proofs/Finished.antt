@@ -14,7 +14,8 @@ use Rattle.flip_words.specs.Board.{Board, held}
 use Rattle.flip_words.specs.Coding.{mate_of, mates_in, takers_in}
 use Rattle.flip_words.specs.Listed.{Listed, all_listed, followed_by}
 use Rattle.flip_words.specs.Rule.{Kept, Known, known, opened_in}
-use Rattle.flip_words.specs.Seat.{AreAllSeats, AreNumbered, IsRightful, Seat, SettlesAll, first_seat, gathered, lists_of}
+use Rattle.flip_words.specs.Closing.{gathered, SettlesAll}
+use Rattle.flip_words.specs.Seat.{AreAllSeats, AreNumbered, IsRightful, Seat, first_seat, lists_of}
 use Rattle.flip_words.specs.Stored.{AreLeft, AreSized, board_in}
 use Rattle.flip_words.proofs.Accounting.{sets_moved, takes_moved}
 use Rattle.flip_words.proofs.Decoding.{mate_read, vertices_long}

@@ -8,4 +8,5 @@ pub mod Keeps
 pub mod Laying
 pub mod Opened
 pub mod Righting
+pub mod SeatLaws
 pub mod Seating

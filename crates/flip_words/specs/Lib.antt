@@ -1,5 +1,6 @@
 pub mod Accounts
 pub mod Board
+pub mod Closing
 pub mod Coding
 pub mod Listed
 pub mod Opening

@@ -4,12 +4,13 @@ ghost use Rattle.std.specs.Prelude.{◌≡◌, ℕ, ◌+◌, ◌<◌, ◌≤◌,
 ghost use Rattle.std.specs.Mem.Slots.{IsFull, slots_items, slots_len};
 ghost use Rattle.bip_defs.specs.Lists.{Among};
 ghost use Rattle.sp_ids.specs.Limits.{max_workers};
-ghost use Rattle.flip_words.specs.Board.{AreTrees, IsOpenedFrom, held};
+ghost use Rattle.flip_words.specs.Board.{AreTrees, IsOpenedFrom, col_vertex, held};
+ghost use Rattle.flip_words.specs.Closing.{SettlesAll, gathered};
 ghost use Rattle.flip_words.specs.Coding.{half};
 ghost use Rattle.flip_words.specs.Listed.{followed_by, nothing};
 ghost use Rattle.flip_words.specs.Opening.{AreOpening};
 ghost use Rattle.flip_words.specs.Rule.{opened_in};
-ghost use Rattle.flip_words.specs.Seat.{AreAllSeats, HasSet, IsRightful, KnowsTaker, Seat, SettlesAll, Took, TookTreeOf, after_look, after_set, after_take, first_seat, gathered, new_seat, new_seats};
+ghost use Rattle.flip_words.specs.Seat.{AreAllSeats, HasSet, HasSetTo, IsRightful, KnowsTaker, LeavesUnset, Seat, Took, after_look, after_set, after_take, first_seat, new_seat, new_seats};
 ghost use Rattle.flip_words.specs.Stored.{AreLeft, board_in};
 ghost use Rattle.flip_words.specs.Taken.{taker_before};
 
@@ -208,9 +209,9 @@ impl FlipBoard {
         requires seat { seat.old.board ≡ self.now }
         requires range { (root < self.now.cols) × (col < self.now.cols) × (row < self.now.rows) }
         requires took { Took seat.old root }
-        requires tree { held self.now.trees (self.now.rows + col) ≡ Some root }
-        requires unset { ¬ HasSet seat.old (self.now.rows + col) }
-        ensures { seat.new ≡ after_set seat.old (self.now.rows + col) row }
+        requires tree { held self.now.trees (col_vertex self.now col) ≡ Some root }
+        requires unset { ¬ HasSet seat.old (col_vertex self.now col) }
+        ensures { seat.new ≡ after_set seat.old (col_vertex self.now col) row }
     {
         self.has_all_vertices();
         let vertex = self.rows + col.number() as usize;
@@ -224,8 +225,8 @@ impl FlipBoard {
         ensures seat { seat.new ≡ after_look seat.old row result }
 
         // The taker of the row's tree gets what it set, or the opened mate where it set none.
-        ensures set { (x : ℕ) → Among (row, x) seat.old.listed.sets → result ≡ Some x }
-        ensures unset { TookTreeOf seat.old row → ¬ HasSet seat.old row → result ≡ held self.now.mates row }
+        ensures set { (x : ℕ) → HasSetTo seat.old row x → result ≡ Some x }
+        ensures unset { LeavesUnset seat.old row → result ≡ held self.now.mates row }
     {
         self.has_all_vertices();
         words::as_col(self.load(&mut seat.place, row.number() as usize))
@@ -235,11 +236,11 @@ impl FlipBoard {
     pub fn look_col(&self, seat: &mut FlipSeat, col: Col) -> Option<Row>
         requires seat { seat.old.board ≡ self.now }
         requires col { col < self.now.cols }
-        ensures seat { seat.new ≡ after_look seat.old (self.now.rows + col) result }
+        ensures seat { seat.new ≡ after_look seat.old (col_vertex self.now col) result }
 
         // The taker of the column's tree gets what it set, or the opened mate where it set none.
-        ensures set { (x : ℕ) → Among (self.now.rows + col, x) seat.old.listed.sets → result ≡ Some x }
-        ensures unset { TookTreeOf seat.old (self.now.rows + col) → ¬ HasSet seat.old (self.now.rows + col) → result ≡ held self.now.mates (self.now.rows + col) }
+        ensures set { (x : ℕ) → HasSetTo seat.old (col_vertex self.now col) x → result ≡ Some x }
+        ensures unset { LeavesUnset seat.old (col_vertex self.now col) → result ≡ held self.now.mates (col_vertex self.now col) }
     {
         self.has_all_vertices();
         words::as_row(self.load(&mut seat.place, self.rows + col.number() as usize))
@@ -319,8 +320,8 @@ impl FlipBoard {
         requires seat { seat.old.board ≡ self.now }
         requires vertex { vertex < length self.now.mates }
         ensures seat { seat.new ≡ after_look seat.old vertex result }
-        ensures set { (x : ℕ) → Among (vertex, x) seat.old.listed.sets → result ≡ Some x }
-        ensures unset { TookTreeOf seat.old vertex → ¬ HasSet seat.old vertex → result ≡ held self.now.mates vertex }
+        ensures set { (x : ℕ) → HasSetTo seat.old vertex x → result ≡ Some x }
+        ensures unset { LeavesUnset seat.old vertex → result ≡ held self.now.mates vertex }
     {
         let word = 1 + self.cols + vertex;
         words::mate(self.table.shared.load::<VertexLook>(&mut seat.seat, word))

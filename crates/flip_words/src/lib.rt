@@ -7,6 +7,7 @@
 
 mod board;
 mod closing;
+mod laws;
 mod opening;
 mod plays;
 mod seat;
@@ -16,5 +17,6 @@ mod words;
 
 pub use bip_graph::Mates;
 pub use board::FlipBoard;
+pub use laws::{each_tree_has_one_taker, mates_are_those_set, new_seats_are_all, seats_stay_all};
 pub use seat::FlipSeat;
 pub use taken::Taken;
