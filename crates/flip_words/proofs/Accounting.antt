@@ -67,10 +67,10 @@ module _ (opened now : List (Option ℕ)) (listed more : List (ℕ × ℕ)) (i x
 
 -- The same entries in another order.
 
-takes_moved : (trees : ℕ) (now : List (Option ℕ)) (listed moved : List (ℕ × ℕ)) → Takes trees now listed → ((i : ℕ) → times i moved ≡ times i listed) → ((p : ℕ × ℕ) → Among p moved → Among p listed) → Takes trees now moved
+pub takes_moved : (trees : ℕ) (now : List (Option ℕ)) (listed moved : List (ℕ × ℕ)) → Takes trees now listed → ((i : ℕ) → times i moved ≡ times i listed) → ((p : ℕ × ℕ) → Among p moved → Among p listed) → Takes trees now moved
 takes_moved trees now listed moved a count from = record { as_many = a.as_many; stands = λ i x h. a.stands i x (from (i, x) h); once = λ i. count i ∙ a.once i }
 
-sets_moved : (opened now : List (Option ℕ)) (listed moved : List (ℕ × ℕ)) → Sets opened now listed → ((i : ℕ) → times i moved ≡ times i listed) → ((p : ℕ × ℕ) → Among p moved → Among p listed) → Sets opened now moved
+pub sets_moved : (opened now : List (Option ℕ)) (listed moved : List (ℕ × ℕ)) → Sets opened now listed → ((i : ℕ) → times i moved ≡ times i listed) → ((p : ℕ × ℕ) → Among p moved → Among p listed) → Sets opened now moved
 sets_moved opened now listed moved a count from = record { as_many = a.as_many; stands = λ i x h. a.stands i x (from (i, x) h); stays = λ i e. a.stays i (sym (count i) ∙ e); once = λ i. subst (λ n. n ≤ 1) (sym (count i)) (a.once i) }
 
 -- The lists of all seats, after each kind of step.

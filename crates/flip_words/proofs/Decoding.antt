@@ -1,5 +1,5 @@
 -- Words as numbers, and what they hold.
-use Rattle.std.proofs.Common.{◌≡◌, ◌∙◌, ℕ, ◌+◌, ◌-◌, ◌%◌, ◌<◌, List, Option, None, Some, map, take, drop, set, length, get_or, refl, sym, ap, subst, arith, add_assoc, one-add}
+use Rattle.std.proofs.Common.{◌≡◌, ◌∙◌, ℕ, ◌+◌, ◌-◌, ◌%◌, ◌<◌, ◌≤◌, List, Option, None, Some, map, take, drop, set, length, get_or, refl, sym, ap, subst, arith, add_assoc, one-add}
 use Rattle.std.proofs.lemmas.List.{drop-set-add, drop-set-lt, take-set-le, length-map, length-take, length-drop, map-set, get_or-map, get_or-take, get_or-drop}
 use Rattle.std.proofs.lemmas.Grind.{get_or_after_one}
 use Rattle.std.proofs.lemmas.Nat.{div-mul-add, mod-mul-add}
@@ -71,3 +71,10 @@ tree_coded tree mate lt = ap value_of (div-mul-add (code_of tree) half (code_of 
 -- the lower half of a word tells the mate
 pub mate_told : (tree : Option ℕ) (mate : ℕ) → 1 + mate < half → vertex_word tree (Some mate) % half - 1 ≡ mate
 mate_told tree mate lt = ap (λ n. n - 1) (mod-mul-add (code_of tree) half (1 + mate) lt) ∙ (let e : 1 + mate - 1 ≡ mate = omega arith in e)
+
+pub takers_long : (cols : ℕ) (ws : List ℕ) → 1 + cols ≤ length ws → length (takers_in cols ws) ≡ cols
+takers_long cols ws le =
+    let a = length-map (take cols (drop 1 ws)) value_of in
+    let b = length-take cols (drop 1 ws) in
+    let c = length-drop 1 ws in
+    omega (arith, a, b, c, le)

@@ -2,7 +2,11 @@ pub mod Accounting
 pub mod Allowing
 pub mod Boards
 pub mod Decoding
+pub mod Finished
 pub mod Flat
 pub mod Keeps
+pub mod Laying
+pub mod Opened
 pub mod Righting
+pub mod SeatLaws
 pub mod Seating

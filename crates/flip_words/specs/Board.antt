@@ -17,6 +17,10 @@ pub record Board : Type 0 where
 abbrev pub held : List (Option ℕ) → ℕ → Option ℕ
 held words i = slice_index_or words i None
 
+-- the vertex that is the column
+abbrev pub col_vertex : Board → ℕ → ℕ
+col_vertex b c = b.rows + c
+
 -- for so many vertices the root of each one's tree, which is one of so many columns
 pub record AreTrees (vertices cols : ℕ) (trees : List (Option ℕ)) : Type 0 where
   pub as_many : length trees ≡ vertices

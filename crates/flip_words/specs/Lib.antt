@@ -1,7 +1,9 @@
 pub mod Accounts
 pub mod Board
+pub mod Closing
 pub mod Coding
 pub mod Listed
+pub mod Opening
 pub mod Rule
 pub mod Seat
 pub mod Steps

@@ -1,10 +1,8 @@
 -- A seat at a board: what one thread has done with the words, and what it knows of them.
-use Rattle.std.specs.Prelude.{◌≡◌, ◌⊎◌, ℕ, zero, suc, ◌+◌, List, [], ◌∷◌, ◌++◌, Option, Some, length, map}
+use Rattle.std.specs.Prelude.{◌≡◌, ◌⊎◌, ℕ, zero, suc, ◌+◌, List, [], ◌∷◌, Option, Some, length, map}
 use Rattle.bip_defs.specs.Lists.{Among}
-use Rattle.bip_graph.specs.Mates.{Mated}
-use Rattle.flip_words.specs.Accounts.{Settles}
 use Rattle.flip_words.specs.Board.{Board, held}
-use Rattle.flip_words.specs.Listed.{Listed, all_listed, looked, nothing, put, took}
+use Rattle.flip_words.specs.Listed.{Listed, looked, nothing, put, took}
 
 -- its board, its number, how many seats the board has (which the seat 0 alone keeps), and what it lists
 pub record Seat : Type 0 where
@@ -34,22 +32,33 @@ after_look s vertex mate = with_listed s (looked s.listed vertex mate)
 abbrev pub Took : Seat → ℕ → Type 0
 Took s root = Among (root, s.number) s.listed.taken
 
--- it set the vertex
+-- it set the vertex to this mate, or to some
+abbrev pub HasSetTo : Seat → ℕ → ℕ → Type 0
+HasSetTo s vertex mate = Among (vertex, mate) s.listed.sets
+
 abbrev pub HasSet : Seat → ℕ → Type 0
-HasSet s vertex = (mate : ℕ) × Among (vertex, mate) s.listed.sets
+HasSet s vertex = (mate : ℕ) × HasSetTo s vertex mate
 
 -- it took the tree of the vertex
 abbrev pub TookTreeOf : Seat → ℕ → Type 0
 TookTreeOf s vertex = (root : ℕ) × (held s.board.trees vertex ≡ Some root) × Took s root
 
--- it took the tree, or has seen this taker of it
+-- it took the tree of the vertex, and did not set the vertex
+abbrev pub LeavesUnset : Seat → ℕ → Type 0
+LeavesUnset s vertex = TookTreeOf s vertex × (¬ HasSet s vertex)
+
+-- it has seen this taker of the tree
+abbrev pub HasSeen : Seat → ℕ → ℕ → Type 0
+HasSeen s root number = Among (root, number) s.listed.seen
+
+-- it knows this taker of the tree: itself, or one that it has seen
 abbrev pub KnowsTaker : Seat → ℕ → ℕ → Type 0
-KnowsTaker s root number = Among (root, number) s.listed.taken ⊎ Among (root, number) s.listed.seen
+KnowsTaker s root number = Among (root, number) s.listed.taken ⊎ HasSeen s root number
 
 -- Each tree that it lists as taken it took itself, and each vertex that it set is of such a tree
 pub record IsRightful (s : Seat) : Type 0 where
   pub taken : (root number : ℕ) → Among (root, number) s.listed.taken → number ≡ s.number
-  pub sets : (vertex mate : ℕ) → Among (vertex, mate) s.listed.sets → TookTreeOf s vertex
+  pub sets : (vertex mate : ℕ) → HasSetTo s vertex mate → TookTreeOf s vertex
 
 -- All seats of a board.
 
@@ -81,14 +90,11 @@ abbrev pub AreAllSeats : Board → List Seat → Type 0
 AreAllSeats b [] = ⊥
 AreAllSeats b (s ∷ others) = (s.board ≡ b) × (s.number ≡ 0) × (s.seats ≡ 1 + length others) × AreNumbered b 1 others
 
+-- the same seat, whatever it lists
+pub record IsSameSeat (s t : Seat) : Type 0 where
+  pub board : t.board ≡ s.board
+  pub number : t.number ≡ s.number
+  pub seats : t.seats ≡ s.seats
+
 abbrev pub lists_of : List Seat → List Listed
 lists_of ss = map (λ (s : Seat). s.listed) ss
-
--- The mates are those with which the board was opened, changed by what all these seats have set, each vertex by one seat at most, once, which took its tree.
--- There are takers of the trees, each tree taken by one seat at most, once, and each taker that was seen is one of them
-pub record SettlesAll (b : Board) (m : Mated) (ss : List Seat) : Type 0 where
-  pub rows : length m.rows ≡ b.rows
-  pub cols : length m.cols ≡ b.cols
-  pub rightful : (s : Seat) → Among s ss → IsRightful s
-  pub takers : List (Option ℕ)
-  pub settles : Settles b.cols b.mates takers (m.rows ++ m.cols) (all_listed (lists_of ss))

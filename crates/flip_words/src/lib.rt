@@ -6,6 +6,9 @@
 #![tactic(auto)]
 
 mod board;
+mod closing;
+mod laws;
+mod opening;
 mod plays;
 mod seat;
 mod taken;
@@ -14,5 +17,6 @@ mod words;
 
 pub use bip_graph::Mates;
 pub use board::FlipBoard;
+pub use laws::{each_tree_has_one_taker, mates_are_those_set, new_seats_are_all, seats_stay_all};
 pub use seat::FlipSeat;
 pub use taken::Taken;

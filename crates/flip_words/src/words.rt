@@ -3,6 +3,8 @@
 ghost use Rattle.std.specs.Prelude.{◌≡◌, ◌+◌, ◌<◌, ◌≤◌, IfSome, Some};
 ghost use Rattle.flip_words.specs.Coding.{half, mate_of, value_of, vertex_word};
 
+use sp_ids::{Col, Row};
+
 // One more than the largest number of half a word.
 pub(crate) const HALF: u64 = 1 << 32;
 
@@ -28,5 +30,25 @@ pub(crate) fn mate(word: u64) -> Option<u32>
         None
     } else {
         Some((low - 1) as u32)
+    }
+}
+
+// A mate as a column and as a row.
+
+pub(crate) fn as_col(mate: Option<u32>) -> Option<Col>
+    ensures { result ≡ mate }
+{
+    match mate {
+        Some(col) => Some(Col(col)),
+        None => None,
+    }
+}
+
+pub(crate) fn as_row(mate: Option<u32>) -> Option<Row>
+    ensures { result ≡ mate }
+{
+    match mate {
+        Some(row) => Some(Row(row)),
+        None => None,
     }
 }

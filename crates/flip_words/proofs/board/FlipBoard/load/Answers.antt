@@ -25,6 +25,6 @@ pub returns-clause-set : goal.returns-clause-set
 returns-clause-set c = λ x h. c.mate.ensures.mate ∙ (told c).set x (subst (λ (s : Seat). Among (c.args.vertex, x) s.listed.sets) (sym c.seat.view_is) h)
 
 pub returns-clause-unset : goal.returns-clause-unset
-returns-clause-unset c = λ took unset.
-    c.mate.ensures.mate ∙ (told c).alone (of_taken c.seat.view_is c.args.vertex took) (never_set c.seat.view_is c.args.vertex unset)
+returns-clause-unset c = λ l.
+    c.mate.ensures.mate ∙ (told c).alone (of_taken c.seat.view_is c.args.vertex l.0) (never_set c.seat.view_is c.args.vertex l.1)
     ∙ ap (λ (s : Seat). held s.board.mates c.args.vertex) c.seat.view_is ∙ ap (λ (b : Board). held b.mates c.args.vertex) c.requires.seat

@@ -1,7 +1,7 @@
 use Rattle.std.proofs.Common.{◌≡◌, ◌∙◌, ◌+◌, sym, ap, subst}
 use Rattle.bip_defs.specs.Lists.{Among}
 use Rattle.flip_words.specs.Board.{Board, held}
-use Rattle.flip_words.specs.Seat.{HasSet, IsRightful, Seat, TookTreeOf}
+use Rattle.flip_words.specs.Seat.{IsRightful, LeavesUnset, Seat}
 use Rattle.flip_words.proofs.Righting.{rightful_look}
 use Rattle.flip_words.proofs.board.FlipBoard.look_col.Goals as goal
 
@@ -16,7 +16,7 @@ pub returns-clause-set : goal.returns-clause-set
 returns-clause-set c = λ x h. c.as_row.ensures ∙ c.load.ensures.set x (subst (λ (s : Seat). Among (c.self.inside.rows + c.number.result, x) s.listed.sets) (sym c.seat.view_is) (subst (λ v. Among (v, x) c.args.seat.now.listed.sets) (sym (at c)) h))
 
 pub returns-clause-unset : goal.returns-clause-unset
-returns-clause-unset c = λ took unset.
+returns-clause-unset c = λ l.
     c.as_row.ensures
-    ∙ c.load.ensures.unset (subst (λ (s : Seat). TookTreeOf s (c.self.inside.rows + c.number.result)) (sym c.seat.view_is) (subst (TookTreeOf c.args.seat.now) (sym (at c)) took)) (subst (λ (s : Seat). ¬ HasSet s (c.self.inside.rows + c.number.result)) (sym c.seat.view_is) (subst (λ v. ¬ HasSet c.args.seat.now v) (sym (at c)) unset))
+    ∙ c.load.ensures.unset (subst (λ (s : Seat). LeavesUnset s (c.self.inside.rows + c.number.result)) (sym c.seat.view_is) (subst (LeavesUnset c.args.seat.now) (sym (at c)) l))
     ∙ ap (held c.args.self.now.mates) (at c)

@@ -1,0 +1,5 @@
+use Rattle.flip_words.proofs.SeatLaws.{stay_all}
+use Rattle.flip_words.proofs.laws.seats_stay_all.Goals as goal
+
+pub returns : goal.returns
+returns c b ss ts = stay_all b ss ts
