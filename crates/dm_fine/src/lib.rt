@@ -2,12 +2,12 @@
 #![tactic(auto)]
 
 mod groups;
+mod in_degrees;
 mod listed;
 mod mates;
 mod order;
 #[cfg(test)]
 mod tests;
-mod in_degrees;
 
 ghost use Rattle.std.specs.Prelude.{◌≡◌, IfOk};
 ghost use Rattle.bip_defs.specs.Blocks.{AreBlocksOf};
