@@ -1,10 +1,10 @@
 -- Sums over lists that stand for sets.
-use Rattle.std.proofs.Common.{◌≡◌, ◌≢◌, ◌⊎◌, ◌∙◌, ℕ, zero, suc, ◌+◌, ◌<◌, ◌≤◌, List, [], ◌∷◌, ◌++◌, length, take, get_or, sum_by, refl, sym, ap, subst, inl, inr, ⊎_elim, arith, zero-le}
+use Rattle.std.proofs.Common.{◌≡◌, ◌≢◌, ◌⊎◌, ◌∙◌, ℕ, zero, suc, ◌+◌, ◌≤◌, List, [], ◌∷◌, length, take, get_or, sum_by, refl, sym, ap, subst, inl, inr, ⊎_elim, arith, zero-le}
 use Rattle.std.proofs.lemmas.List.{take_all}
 use Rattle.std.proofs.lemmas.List.Sums.{sum_by-cons, sum_by_more, sum_by_push}
 use Rattle.bip_defs.specs.Lists.{Among, AreDistinct}
-use Rattle.bip_defs.specs.Matrix.{upto, upto_from}
-use Rattle.bip_defs.proofs.Sets.{Drops, among_at, among_last, drops_kept, here, later, number_same, rising_distinct, taken, upto_lists, among_take, upto_more}
+use Rattle.bip_defs.specs.Matrix.{upto}
+use Rattle.bip_defs.proofs.Sets.{Drops, drops_kept, here, later, number_same, rising_distinct, taken, upto_lists, among_take, upto_more}
 
 -- Lists.
 

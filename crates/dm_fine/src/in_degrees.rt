@@ -29,7 +29,13 @@ pub fn count(
 {
     let mut in_degrees = vec![in alloc; 0; count as usize]?;
     for own in 0..count {
-        count_rows(pattern, numbers, own, rows.of(own), in_degrees.as_mut_slice());
+        count_rows(
+            pattern,
+            numbers,
+            own,
+            rows.of(own),
+            in_degrees.as_mut_slice(),
+        );
     }
     Ok(in_degrees)
 }
@@ -88,7 +94,14 @@ pub fn remove(
     ensures bound { ready.new.bound ≡ ready.old.bound }
 {
     for row in rows {
-        remove_row(numbers, own, pattern.cols_of(*row), least, in_degrees, ready);
+        remove_row(
+            numbers,
+            own,
+            pattern.cols_of(*row),
+            least,
+            in_degrees,
+            ready,
+        );
     }
 }
 
@@ -114,7 +127,13 @@ fn remove_row(
 
 // Takes an entry off, where it is in a column of another component.
 #[inline(always)]
-fn remove_one(own: u32, number: u32, least: &Groups<Col>, in_degrees: &mut [u32], ready: &mut IntSet)
+fn remove_one(
+    own: u32,
+    number: u32,
+    least: &Groups<Col>,
+    in_degrees: &mut [u32],
+    ready: &mut IntSet,
+)
     requires least { HaveLeast (length in_degrees.old) ready.old.bound least.now.starts.items least.now.places.items }
     requires counted { (j : ℕ) → j < length in_degrees.old → edges_at own j number ≤ slice_index in_degrees.old j }
     ensures in_degrees { (j : ℕ) → j < length in_degrees.old → slice_index in_degrees.old j ≡ slice_index in_degrees.new j + edges_at own j number }

@@ -2,16 +2,15 @@
 #![tactic(auto)]
 
 mod groups;
+mod in_degrees;
 mod listed;
 mod mates;
 mod order;
 #[cfg(test)]
 mod tests;
-mod in_degrees;
 
-ghost use Rattle.std.specs.Prelude.{◌≡◌, IfOk};
+ghost use Rattle.std.specs.Prelude.{IfOk};
 ghost use Rattle.bip_defs.specs.Blocks.{AreBlocksOf};
-ghost use Rattle.bip_defs.specs.Matrix.{cols};
 ghost use Rattle.bip_defs.specs.Parts.{ArePartsOf};
 ghost use Rattle.bip_graph.specs.Pairing.{IsMaximumOf};
 ghost use Rattle.bip_graph.specs.Shown.{parts_of};

@@ -1,15 +1,14 @@
 //! From a search to the next matching.
 
-ghost use Rattle.std.specs.Prelude.{◌≡◌, ◌⊎◌, ℕ, ◌+◌, ◌*◌, ◌^◌, ◌<◌, ◌≤◌, [], vec_capacity, true, false, Bool, List, length, set, slice_index, IfOk, OnOk};
+ghost use Rattle.std.specs.Prelude.{◌≡◌, ℕ, ◌+◌, ◌^◌, ◌<◌, ◌≤◌, [], vec_capacity, true, false, List, length, set, slice_index, IfOk, OnOk};
 ghost use Rattle.bip_defs.specs.Lists.{Among, AreDistinct};
 ghost use Rattle.bip_defs.specs.Matching.{Covers, cols_of, rows_of};
-ghost use Rattle.bip_defs.specs.Matrix.{AreEntries, Matrix, Place, cols};
-ghost use Rattle.bip_defs.specs.Paths.{IsAugmenting};
+ghost use Rattle.bip_defs.specs.Matrix.{Place, cols};
 ghost use Rattle.bip_defs.specs.Queues.{at, heads};
 ghost use Rattle.integer_diagonal.specs.Labels.{IsClear, labels_of, tree_of};
 ghost use Rattle.integer_diagonal.specs.Duals.{IsAssignment, priced};
 ghost use Rattle.integer_diagonal.specs.Prices.{IsFull};
-ghost use Rattle.integer_diagonal.specs.Searching.{IsRaised, Tree};
+ghost use Rattle.integer_diagonal.specs.Searching.{IsRaised};
 ghost use Rattle.sp_pattern.specs.Weighing.{Weighing};
 
 use crate::assignment::Assignment;

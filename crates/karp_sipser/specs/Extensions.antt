@@ -1,5 +1,5 @@
 -- Matchings that go on from some pairs.
-use Rattle.std.specs.Prelude.{ℕ, List}
+use Rattle.std.specs.Prelude.{List}
 use Rattle.bip_defs.specs.Lists.{Among}
 use Rattle.bip_defs.specs.Matching.{IsMatching}
 use Rattle.bip_defs.specs.Matrix.{Matrix, Place}

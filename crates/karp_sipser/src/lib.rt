@@ -10,7 +10,6 @@ ghost use Rattle.bip_defs.specs.Start.{IsFree, IsStart};
 ghost use Rattle.bip_graph.specs.Pairing.{IsMatchingOf};
 
 pub use crate::laws::only_neighbours_lose_nothing;
-
 use crate::rest::Rest;
 use bip_graph::Matching;
 use sp_ids::OutOfMemory;

@@ -7,8 +7,7 @@ mod search;
 #[cfg(test)]
 mod tests;
 
-ghost use Rattle.std.specs.Prelude.{◌≡◌, IfOk};
-ghost use Rattle.bip_defs.specs.Matrix.{cols};
+ghost use Rattle.std.specs.Prelude.{IfOk};
 ghost use Rattle.bip_defs.specs.Parts.{ArePartsOf};
 ghost use Rattle.bip_graph.specs.Pairing.{IsMaximumOf};
 ghost use Rattle.bip_graph.specs.Shown.{parts_of};
