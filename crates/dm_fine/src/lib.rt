@@ -5,8 +5,6 @@ mod groups;
 mod listed;
 mod mates;
 mod order;
-#[cfg(test)]
-mod tests;
 mod waits;
 
 ghost use Rattle.std.specs.Prelude.{◌≡◌, IfOk};
