@@ -6,8 +6,6 @@ mod laws;
 mod pairs;
 mod reasons;
 mod report;
-#[cfg(test)]
-mod tests;
 mod verdict;
 
 pub use laws::no_reason_applies;

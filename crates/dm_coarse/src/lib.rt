@@ -3,8 +3,6 @@
 
 mod maximum;
 mod split;
-#[cfg(test)]
-mod tests;
 
 ghost use Rattle.std.specs.Prelude.{IfOk};
 ghost use Rattle.bip_defs.specs.Parts.{ArePartsOf};

@@ -6,8 +6,6 @@ mod in_degrees;
 mod listed;
 mod mates;
 mod order;
-#[cfg(test)]
-mod tests;
 
 ghost use Rattle.std.specs.Prelude.{IfOk};
 ghost use Rattle.bip_defs.specs.Blocks.{AreBlocksOf};

@@ -12,8 +12,6 @@ mod put;
 mod renew;
 mod runs;
 mod table;
-#[cfg(test)]
-mod tests;
 
 pub use forest::Forest;
 pub use laws::{

@@ -5,8 +5,6 @@ mod answer;
 mod engine;
 mod search;
 mod sides;
-#[cfg(test)]
-mod tests;
 mod witness;
 
 pub use answer::Reach;

@@ -11,8 +11,6 @@ mod laws;
 mod path;
 mod search;
 mod start;
-#[cfg(test)]
-mod tests;
 
 pub use answer::heaviest;
 pub use laws::{fair_prices_show_heaviest, full_matching_shows_rank};

@@ -23,8 +23,6 @@
 
 mod kinds;
 mod sweep;
-#[cfg(test)]
-mod tests;
 
 ghost use Rattle.std.specs.Prelude.{◌≡◌, ◌↔◌, ℕ, ◌+◌, ◌<◌, length, IfOk, OnErr};
 ghost use Rattle.bip_defs.specs.Lists.{Among};

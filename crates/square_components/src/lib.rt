@@ -4,8 +4,6 @@
 mod explore;
 mod mates;
 mod search;
-#[cfg(test)]
-mod tests;
 
 ghost use Rattle.std.specs.Prelude.{IfOk};
 ghost use Rattle.bip_defs.specs.Parts.{ArePartsOf};

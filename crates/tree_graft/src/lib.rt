@@ -8,8 +8,6 @@
 
 mod augment;
 mod levels;
-#[cfg(test)]
-mod tests;
 
 ghost use Rattle.std.specs.Prelude.{◌≡◌, ◌↔◌, ℕ, ◌+◌, ◌≤◌, length, IfOk};
 ghost use Rattle.bip_defs.specs.Lists.{Among};

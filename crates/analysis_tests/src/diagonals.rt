@@ -1,32 +1,16 @@
-//! Small matrices, worked out by hand. Tables count rows and columns from 0.
+//! Heaviest diagonals of small matrices, worked out by hand. Tables count rows and columns from 1.
 
-ghost use Rattle.std.specs.Prelude.{◌≡◌, IfOk};
+ghost use Rattle.std.specs.Prelude.{◌≡◌};
 ghost use Rattle.sp_ids.specs.declared.triples.Field.TheVariants.{Integer};
 
-use crate::heaviest;
+use crate::small::{are, integers_of};
 use bip_graph::Heaviest;
-use sp_ids::{Col, Field, OutOfMemory, Row, Triples};
+use integer_diagonal::heaviest;
+use sp_ids::{Col, OutOfMemory, Row, Triples};
 use sp_pattern::{Pattern, Weights};
 use std::alloc::Global;
 use std::process::Abort;
 use std::thread::Threads;
-
-fn integers(
-    alloc: Global,
-    rows: u32,
-    cols: u32,
-    entries: &[(u32, u32, i64)],
-) -> Result<Triples, OutOfMemory>
-    ensures { IfOk result (λ t. t.field ≡ Integer) }
-{
-    let mut triples = Triples::new(alloc, rows, cols, Field::Integer)?;
-    for (row, col, value) in entries {
-        if *row < triples.rows() && *col < triples.cols() && triples.len() < 100 {
-            triples.push(Row(*row), Col(*col), *value)?;
-        }
-    }
-    Ok(triples)
-}
 
 fn answer<R: Abort + AllocGlobal + Threads + Sync>(
     rt: &R,
@@ -45,8 +29,8 @@ fn answer<R: Abort + AllocGlobal + Threads + Sync>(
 fn are_fair<R: Abort>(rt: &R, entries: &[(u32, u32, i64)], u: &[i128], v: &[i128]) {
     for (row, col, value) in entries {
         let (row, col) = (*row as usize, *col as usize);
-        assert!(rt; row < u.len() && col < v.len());
-        assert!(rt; value.unsigned_abs() as i128 <= u[row].saturating_add(v[col]));
+        assert!(rt; 0 < row && row <= u.len() && 0 < col && col <= v.len());
+        assert!(rt; value.unsigned_abs() as i128 <= u[row - 1].saturating_add(v[col - 1]));
     }
 }
 
@@ -58,7 +42,7 @@ fn has_diagonal<R: Abort + AllocGlobal + Threads + Sync>(
     diagonal: &[(Row, Col)],
     greatest: i128,
 ) -> Result<(), OutOfMemory> {
-    let given = integers(rt.alloc(), size, size, entries)?;
+    let given = integers_of(rt, size, size, entries)?;
     let found = answer(rt, &given)?;
     match &found {
         Heaviest::Diagonal { pairs, u, v, sum } => {
@@ -101,7 +85,7 @@ fn entries_of(
     for row in 0..4 {
         for col in 0..4 {
             if row < size && col < size {
-                entries.push((row, col, table[row as usize][col as usize]))?;
+                entries.push((row + 1, col + 1, table[row as usize][col as usize]))?;
             }
         }
     }
@@ -115,7 +99,7 @@ fn is_greatest<R: Abort + AllocGlobal + Threads + Sync>(
     table: &[[i64; 4]; 4],
 ) -> Result<(), OutOfMemory> {
     let entries = entries_of(rt.alloc(), table, size)?;
-    let given = integers(rt.alloc(), size, size, entries.as_slice())?;
+    let given = integers_of(rt, size, size, entries.as_slice())?;
     let found = answer(rt, &given)?;
     match &found {
         Heaviest::Diagonal { pairs, u, v, sum } => {
@@ -137,15 +121,15 @@ fn chooses_the_heavier(rt: HostRuntime) -> Result<(), OutOfMemory> {
     let across = [(Row(1), Col(0)), (Row(0), Col(1))];
     let along = [(Row(0), Col(0)), (Row(1), Col(1))];
     for first in [3, -7] {
-        let entries = [(0, 0, first), (0, 1, 5), (1, 0, 4), (1, 1, 1)];
+        let entries = [(1, 1, first), (1, 2, 5), (2, 1, 4), (2, 2, 1)];
         has_diagonal(&rt, 2, &entries, &across, 9)?;
     }
-    has_diagonal(&rt, 2, &[(0, 0, 0), (1, 1, 3), (0, 1, -8)], &along, 3)?;
+    has_diagonal(&rt, 2, &[(1, 1, 0), (2, 2, 3), (1, 2, -8)], &along, 3)?;
     let most = i64::MAX;
     has_diagonal(
         &rt,
         2,
-        &[(0, 0, most), (1, 1, most)],
+        &[(1, 1, most), (2, 2, most)],
         &along,
         18446744073709551614,
     )
@@ -165,13 +149,13 @@ fn greatest_of_all_ways(rt: HostRuntime) -> Result<(), OutOfMemory> {
 // 5 and -5 at one place weigh 0.
 #[test]
 fn adds_values_before_it_weighs(rt: HostRuntime) -> Result<(), OutOfMemory> {
-    let given = integers(rt.alloc(), 1, 1, &[(0, 0, 5), (0, 0, -5)])?;
+    let given = integers_of(&rt, 1, 1, &[(1, 1, 5), (1, 1, -5)])?;
     let found = answer(&rt, &given)?;
     match &found {
         Heaviest::Diagonal { pairs, u, v, sum } => {
             assert_eq!(rt; pairs.as_slice(), [(Row(0), Col(0))].as_slice());
             assert_eq!(rt; *sum, 0);
-            are_fair(&rt, &[(0, 0, 0)], u.as_slice(), v.as_slice());
+            are_fair(&rt, &[(1, 1, 0)], u.as_slice(), v.as_slice());
         }
         _ => assert!(rt; false, "it has a diagonal"),
     }
@@ -181,15 +165,15 @@ fn adds_values_before_it_weighs(rt: HostRuntime) -> Result<(), OutOfMemory> {
 // Both entries are in one row, and two rows have one column.
 #[test]
 fn without_a_diagonal(rt: HostRuntime) -> Result<(), OutOfMemory> {
-    let given = integers(rt.alloc(), 2, 2, &[(0, 0, 3), (0, 1, 4)])?;
+    let given = integers_of(&rt, 2, 2, &[(1, 1, 3), (1, 2, 4)])?;
     match answer(&rt, &given)? {
         Heaviest::Singular { rank, hall } => {
             assert_eq!(rt; rank, 1);
-            assert_eq!(rt; hall.as_slice(), [Col(0), Col(1)].as_slice());
+            are(&rt, "one row", hall.as_slice(), &[1, 2]);
         }
         _ => assert!(rt; false, "its rank is 1"),
     }
-    let given = integers(rt.alloc(), 2, 1, &[(0, 0, 3), (1, 0, 4)])?;
+    let given = integers_of(&rt, 2, 1, &[(1, 1, 3), (2, 1, 4)])?;
     assert!(rt; matches!(answer(&rt, &given)?, Heaviest::Rectangular));
     Ok(())
 }

@@ -1,0 +1,175 @@
+//! The coarse parts, the strong components and the fine blocks of each matrix.
+
+use crate::small::are;
+use crate::worked::{Lists, Worked, lists_in, matrices, pattern_from};
+use bip_graph::{Blocks, Parts};
+use dm_coarse::coarse;
+use dm_fine::fine;
+use hall_witness::plain;
+use square_components::{Components, strong_components};
+use std::process::Abort;
+use std::test::Fail;
+use std::thread::Threads;
+
+fn has_parts<R: Abort + AllocGlobal>(
+    rt: &R,
+    worked: &Worked<'_>,
+    parts: &Parts,
+) -> Result<(), Fail> {
+    let horizontal = worked.lists(rt.alloc(), "horizontal")?;
+    are(
+        rt,
+        worked.name(),
+        parts.hr.as_slice(),
+        horizontal.rows.as_slice(),
+    );
+    are(
+        rt,
+        worked.name(),
+        parts.hc.as_slice(),
+        horizontal.cols.as_slice(),
+    );
+    let square = worked.lists(rt.alloc(), "square")?;
+    are(
+        rt,
+        worked.name(),
+        parts.sr.as_slice(),
+        square.rows.as_slice(),
+    );
+    are(
+        rt,
+        worked.name(),
+        parts.sc.as_slice(),
+        square.cols.as_slice(),
+    );
+    let vertical = worked.lists(rt.alloc(), "vertical")?;
+    are(
+        rt,
+        worked.name(),
+        parts.vr.as_slice(),
+        vertical.rows.as_slice(),
+    );
+    are(
+        rt,
+        worked.name(),
+        parts.vc.as_slice(),
+        vertical.cols.as_slice(),
+    );
+    Ok(())
+}
+
+/// The blocks of a matrix, in their order.
+fn blocks_of<R: AllocGlobal>(rt: &R, worked: &Worked<'_>) -> Result<Vec<Lists>, Fail> {
+    let mut blocks = Vec::new(rt.alloc());
+    for text in worked.line("blocks")?.split(',') {
+        if !text.is_empty() {
+            blocks.push(lists_in(rt.alloc(), text)?)?;
+        }
+    }
+    Ok(blocks)
+}
+
+fn has_blocks<R: Abort>(rt: &R, name: &str, blocks: &Blocks, wanted: &[Lists]) {
+    assert_eq!(rt; blocks.len(), wanted.len(), "{name}");
+    assert_eq!(rt; blocks.is_empty(), wanted.is_empty(), "{name}");
+    for (at, lists) in wanted.iter().enumerate() {
+        are(rt, name, blocks.rows(at), lists.rows.as_slice());
+        are(rt, name, blocks.cols(at), lists.cols.as_slice());
+    }
+}
+
+/// The number of a column's component, where the column counts from 1.
+fn number_of(components: &Components, col: u32) -> Option<u32> {
+    let at = col.checked_sub(1)?;
+    components.numbers.get(at as usize).copied()
+}
+
+/// These columns have one number.
+fn have_number<R: Abort>(
+    rt: &R,
+    name: &str,
+    components: &Components,
+    cols: &[u32],
+    number: Option<u32>,
+) {
+    for col in cols {
+        assert_eq!(rt; number_of(components, *col), number, "{name}");
+    }
+}
+
+/// There are as many components as blocks, and the columns of a block have one number.
+fn has_components<R: Abort>(rt: &R, name: &str, components: &Components, wanted: &[Lists]) {
+    assert_eq!(rt; components.count as usize, wanted.len(), "{name}");
+    for lists in wanted {
+        if let Some(first) = lists.cols.get(0) {
+            let number = number_of(components, *first);
+            have_number(rt, name, components, lists.cols.as_slice(), number);
+        }
+    }
+}
+
+/// A column that is not square has no number. Where there is one way to number the components, these are the numbers.
+fn has_numbers<R: Abort + AllocGlobal>(
+    rt: &R,
+    worked: &Worked<'_>,
+    components: &Components,
+) -> Result<(), Fail> {
+    let none = Some(u32::MAX);
+    let horizontal = worked.lists(rt.alloc(), "horizontal")?;
+    have_number(
+        rt,
+        worked.name(),
+        components,
+        horizontal.cols.as_slice(),
+        none,
+    );
+    let vertical = worked.lists(rt.alloc(), "vertical")?;
+    have_number(
+        rt,
+        worked.name(),
+        components,
+        vertical.cols.as_slice(),
+        none,
+    );
+    if worked.find("components").is_some() {
+        let numbers = worked.numbers(rt.alloc(), "components")?;
+        assert_eq!(rt;
+            components.numbers.len(),
+            numbers.len(),
+            "{}",
+            worked.name()
+        );
+        for (found, number) in components.numbers.iter().zip(numbers.iter()) {
+            assert_eq!(rt; *found, number.wrapping_sub(1), "{}", worked.name());
+        }
+    }
+    Ok(())
+}
+
+/// The parts, the components and the blocks, from the matching of the plain engine.
+fn is_decomposed<R: Abort + AllocGlobal + Threads + Sync>(
+    rt: &R,
+    worked: &Worked<'_>,
+) -> Result<(), Fail> {
+    let pattern = pattern_from(rt, worked, false)?;
+    let (matching, _columns) = plain(rt.alloc(), &pattern)?;
+    let parts = coarse(rt, rt.alloc(), &pattern, &matching)?;
+    has_parts(rt, worked, &parts)?;
+    let wanted = blocks_of(rt, worked)?;
+    let components = strong_components(rt.alloc(), &pattern, &matching, &parts)?;
+    has_components(rt, worked.name(), &components, wanted.as_slice());
+    has_numbers(rt, worked, &components)?;
+    let blocks = fine(rt.alloc(), &pattern, &matching, &parts)?;
+    has_blocks(rt, worked.name(), &blocks, wanted.as_slice());
+    Ok(())
+}
+
+#[test]
+fn parts_components_and_blocks(rt: HostRuntime) -> Result<(), Fail> {
+    let matrices = matrices(rt.alloc())?;
+    assert_eq!(rt; matrices.len(), 37);
+    for worked in &matrices {
+        is_decomposed(&rt, worked)?;
+    }
+    Ok(())
+}
