@@ -7,6 +7,7 @@ mod load;
 mod pairs;
 mod pattern;
 mod pieces;
+mod side;
 mod split;
 mod spread;
 #[cfg(test)]
@@ -16,4 +17,5 @@ mod weights;
 
 pub use load::load_matrix;
 pub use pattern::Pattern;
+pub use side::{FromRows, Side};
 pub use weights::{WeightError, Weights};
