@@ -3,9 +3,9 @@ use Rattle.std.proofs.Common.{◌≡◌, ◌⊎◌, ◌∙◌, ℕ, zero, suc, �
 use Rattle.bip_defs.specs.Lists.{Among, AreDistinct, IsRising}
 use Rattle.bip_defs.specs.Matching.{cols_of, rows_of}
 use Rattle.bip_defs.specs.Matrix.{Place}
-use Rattle.bip_defs.specs.Queues.{Queue, at, heads}
-use Rattle.bip_defs.proofs.Queues.{head_at, one_place}
-use Rattle.bip_defs.proofs.Sets.{among_at, among_map, col_among, col_pair, number_among, one_col, place_among, rising_distinct}
+use Rattle.bip_defs.specs.Queues.{Queue, at}
+use Rattle.bip_defs.proofs.Queues.{one_place}
+use Rattle.bip_defs.proofs.Sets.{among_map, col_among, col_pair, number_among, one_col, place_among, rising_distinct}
 use Rattle.bip_graph.specs.Pairing.{Pairing}
 use Rattle.bip_graph.specs.Parents.{AreTrees, HasDepth, IsQueue, IsReachedIn, IsTraced, child, root}
 

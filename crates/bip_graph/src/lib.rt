@@ -6,6 +6,7 @@ mod blocks;
 mod examples;
 mod laws;
 mod matching;
+mod opposite;
 mod orders;
 mod trace;
 
@@ -14,5 +15,6 @@ pub use blocks::Blocks;
 pub use examples::lower_triangle_in_two_orders;
 pub use laws::{one_rank_text, one_report, pairs_before_the_end};
 pub use matching::Matching;
+pub use opposite::Opposite;
 pub use orders::{orders_are_block_upper_triangular, square_size_counts_the_square_part};
 pub use trace::{Parents, Queue, trace_back};

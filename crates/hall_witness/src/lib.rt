@@ -4,7 +4,6 @@
 mod answer;
 mod engine;
 mod search;
-mod sides;
 #[cfg(test)]
 mod tests;
 mod witness;
@@ -12,5 +11,4 @@ mod witness;
 pub use answer::Reach;
 pub use engine::plain;
 pub use search::reached;
-pub use sides::{ByCols, ByRows, Side};
 pub use witness::reach;

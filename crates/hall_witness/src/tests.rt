@@ -1,9 +1,9 @@
 //! Small matrices, worked out by hand. Tables count rows and columns from 0.
 
-use crate::{ByCols, ByRows, Reach, plain, reach, reached};
+use crate::{Reach, plain, reach, reached};
 use bip_graph::Matching;
 use sp_ids::{Col, Field, OutOfMemory, Row, Triples};
-use sp_pattern::Pattern;
+use sp_pattern::{FromRows, Pattern};
 use std::alloc::Global;
 use std::test::Fail;
 use std::thread::Threads;
@@ -61,17 +61,10 @@ fn all_three_parts(rt: HostRuntime) -> Result<(), Fail> {
     let (matching, columns) = plain(rt.alloc(), &pattern)?;
     assert_eq!(rt; matching.size(), 3);
     assert_eq!(rt; columns.as_slice(), [Col(0), Col(1)].as_slice());
-    let by_cols = ByCols {
-        pattern: &pattern,
-        matching: &matching,
-    };
-    let marks = reached(rt.alloc(), &by_cols)?;
+    let marks = reached(rt.alloc(), &pattern, &matching)?;
     assert_eq!(rt; marks.as_slice(), [true, true, false, false].as_slice());
-    let by_rows = ByRows {
-        pattern: &pattern,
-        matching: &matching,
-    };
-    let marks = reached(rt.alloc(), &by_rows)?;
+    let from_rows = FromRows { pattern: &pattern };
+    let marks = reached(rt.alloc(), &from_rows, &matching)?;
     assert_eq!(rt; marks.as_slice(), [false, false, true, true].as_slice());
     Ok(())
 }
