@@ -1,4 +1,7 @@
+pub mod Below
+pub mod Closed
 pub mod Counts
+pub mod Covers
 pub mod Duality
 pub mod Exchange
 pub mod Fine
@@ -8,6 +11,7 @@ pub mod Queues
 pub mod Reaching
 pub mod Searches
 pub mod Sets
+pub mod Slices
 pub mod Small
 pub mod SmallForms
 pub mod Square

@@ -2,6 +2,7 @@ pub mod Blocks
 pub mod Components
 pub mod Decomposition
 pub mod Lists
+pub mod Marks
 pub mod Matching
 pub mod Matrix
 pub mod Once

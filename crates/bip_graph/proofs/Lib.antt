@@ -1,4 +1,5 @@
 pub mod Arrays
+pub mod Backwards
 pub mod DiagonalBlocks
 pub mod Empty
 pub mod Ends

@@ -1,6 +1,6 @@
 -- What contracts see of a matching, and how two flat arrays store it.
 use Rattle.std.specs.Prelude.{◌≡◌, ◌≢◌, ℕ, zero, suc, ◌<◌, ◌^◌, ◌==◌, if◌then◌else◌, List, [], ◌∷◌, length, slice_index}
-use Rattle.bip_defs.specs.Matching.{IsMatching, IsMaximum}
+use Rattle.bip_defs.specs.Matching.{IsMatching, IsMaximum, turned}
 use Rattle.bip_defs.specs.Matrix.{Matrix, Place, cols}
 
 -- the numbers of rows and columns, and the pairs, rising by column
@@ -19,6 +19,10 @@ pub record IsMatchingOf (a : Matrix) (m : Pairing) : Type 0 where
 pub record IsMaximumOf (a : Matrix) (m : Pairing) : Type 0 where
   pub matching : IsMatchingOf a m
   pub maximum : IsMaximum a m.pairs
+
+-- the same matching of the transpose
+abbrev pub transposed : Pairing → Pairing
+transposed m = record { rows = m.cols; cols = m.rows; pairs = turned m.pairs }
 
 -- stands for no mate
 abbrev pub none : ℕ

@@ -2,7 +2,7 @@
 
 ghost use Rattle.std.specs.Prelude.{◌≡◌, ◌≢◌, ◌↔◌, ◌⊎◌, ℕ, suc, ◌<◌, ◌^◌, [], length, Some, IfOk, IfSome, IfNone};
 ghost use Rattle.bip_defs.specs.Lists.{Among, AreDistinct, IsRising};
-ghost use Rattle.bip_defs.specs.Matching.{IsMatching, rows_of, cols_of};
+ghost use Rattle.bip_defs.specs.Matching.{Covers, IsMatching, rows_of, cols_of};
 ghost use Rattle.bip_defs.specs.Matrix.{AreEntries, Matrix, Place};
 ghost use Rattle.bip_defs.specs.Paths.{Exchanges, Gives, IsAugmenting};
 ghost use Rattle.bip_graph.specs.Mates.{AreMutual, mate_in};
@@ -178,8 +178,7 @@ impl Matching {
         ensures entries { (a : Matrix) → IsMatching a self.old.pairs → AreEntries a path.now → IsMatching a self.new.pairs }
 
         // What was matched stays matched.
-        ensures rows_stay { (r : ℕ) → Among r (rows_of self.old.pairs) → Among r (rows_of self.new.pairs) }
-        ensures cols_stay { (c : ℕ) → Among c (cols_of self.old.pairs) → Among c (cols_of self.new.pairs) }
+        ensures covered { Covers self.old.pairs self.new.pairs }
     {
         // `size` tells the proof that rows and columns differ, before and after.
         let _before = self.size();

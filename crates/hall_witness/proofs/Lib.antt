@@ -1,4 +1,3 @@
-pub mod Backwards
 pub mod Marking
 pub mod Phases
 pub mod Scanning

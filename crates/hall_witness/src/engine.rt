@@ -1,8 +1,8 @@
 //! The plain engine: one augmenting path after another.
 
-ghost use Rattle.std.specs.Prelude.{◌≡◌, IfOk};
-ghost use Rattle.bip_defs.specs.Matrix.{cols};
+ghost use Rattle.std.specs.Prelude.{IfOk};
 ghost use Rattle.bip_defs.specs.Witness.{IsWitness};
+ghost use Rattle.bip_graph.specs.Pairing.{IsMaximumOf, Pairing};
 
 use crate::answer::Reach;
 use crate::witness::reach;
@@ -18,7 +18,7 @@ use std::alloc::Global;
 /// (Berge 1957).
 pub fn plain(alloc: Global, pattern: &Pattern) -> Result<(Matching, Vec<Col>), OutOfMemory>
     ensures witness { IfOk result (λ o. IsWitness pattern.now o.0.pairs o.1.items) }
-    ensures sizes { IfOk result (λ o. (o.0.rows ≡ pattern.now.rows) × (o.0.cols ≡ cols pattern.now)) }
+    ensures maximum { IfOk result (λ o. IsMaximumOf pattern.now o.0) }
 {
     let mut matching = Matching::empty(alloc, pattern.rows(), pattern.cols())?;
     loop {

@@ -4,11 +4,9 @@
 mod answer;
 mod engine;
 mod search;
-mod sides;
 mod witness;
 
 pub use answer::Reach;
 pub use engine::plain;
 pub use search::reached;
-pub use sides::{ByCols, ByRows, Side};
 pub use witness::reach;

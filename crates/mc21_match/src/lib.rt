@@ -6,10 +6,10 @@
 //! each entry once.
 #![tactic(auto)]
 
-ghost use Rattle.std.specs.Prelude.{◌≡◌, ℕ, ◌+◌, ◌<◌, IfOk};
-ghost use Rattle.bip_defs.specs.Lists.{Among};
-ghost use Rattle.bip_defs.specs.Matching.{IsMatching, IsMaximum, rows_of, cols_of};
+ghost use Rattle.std.specs.Prelude.{◌+◌, ◌<◌, IfOk};
+ghost use Rattle.bip_defs.specs.Matching.{Covers};
 ghost use Rattle.bip_defs.specs.Matrix.{cols};
+ghost use Rattle.bip_graph.specs.Pairing.{IsMatchingOf, IsMaximumOf, Pairing};
 ghost use Rattle.mc21_match.specs.Running.{IsSearched};
 
 use bip_graph::Matching;
@@ -28,13 +28,9 @@ pub fn complete(
     pattern: &Pattern,
     matching: Matching,
 ) -> Result<Matching, OutOfMemory>
-    requires rows { matching.rows ≡ pattern.now.rows }
-    requires cols { matching.cols ≡ cols pattern.now }
-    requires matching { IsMatching pattern.now matching.pairs }
-    ensures sizes { IfOk result (λ m. (m.rows ≡ matching.rows) × (m.cols ≡ matching.cols)) }
-    ensures maximum { IfOk result (λ m. IsMaximum pattern.now m.pairs) }
-    ensures rows_stay { IfOk result (λ m. (r : ℕ) → Among r (rows_of matching.pairs) → Among r (rows_of m.pairs)) }
-    ensures cols_stay { IfOk result (λ m. (c : ℕ) → Among c (cols_of matching.pairs) → Among c (cols_of m.pairs)) }
+    requires matching { IsMatchingOf pattern.now matching }
+    ensures maximum { IfOk result (λ m. IsMaximumOf pattern.now m) }
+    ensures covered { IfOk result (λ m. Covers matching.pairs m.pairs) }
 {
     let mut search = Search::new(alloc, pattern.rows(), pattern.cols())?;
     let mut grown = matching;
@@ -47,10 +43,11 @@ pub fn complete(
 // Searches from a column, if it is unmatched. The marks of a failed search stay.
 fn extend(search: &mut Search, pattern: &Pattern, matching: &mut Matching, root: Col)
     requires root { root < cols pattern.now }
+    requires matching { IsMatchingOf pattern.now matching.old }
     requires searched { IsSearched pattern.now matching.old search.old root }
     ensures searched { IsSearched pattern.now matching.new search.new (root + 1) }
-    ensures rows_stay { (r : ℕ) → Among r (rows_of matching.old.pairs) → Among r (rows_of matching.new.pairs) }
-    ensures cols_stay { (c : ℕ) → Among c (cols_of matching.old.pairs) → Among c (cols_of matching.new.pairs) }
+    ensures matching { IsMatchingOf pattern.now matching.new }
+    ensures covered { Covers matching.old.pairs matching.new.pairs }
 {
     match matching.row_of(root) {
         Some(_) => {}

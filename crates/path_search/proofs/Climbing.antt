@@ -8,7 +8,7 @@ use Rattle.bip_defs.specs.Paths.{Alternates, BeginsUnmatched}
 use Rattle.bip_defs.proofs.Sets.{col_among, one_col, one_row, row_among, row_pair}
 use Rattle.path_search.specs.Forests.{IsFound, IsForest, IsLeafOf, Traces, Trees, reached_at, reached_cols}
 use Rattle.path_search.specs.declared.reached.Reached.{Reached}
-use Rattle.path_search.proofs.Counting.{distinct_below}
+use Rattle.bip_defs.proofs.Full.{few_below}
 use Rattle.path_search.proofs.Queues.{one_place}
 
 -- the first pair's column
@@ -90,7 +90,7 @@ back_end a m q root leaf place path found b free = record {
     from [] h = absurd h
     from (p ∷ ps) h = inl (sym (h ∙ at_root found))
 
--- What is kept at each turn: the pairs so far, from the unmatched row on, and what was reached at the place.
+-- What is kept at each read_place: the pairs so far, from the unmatched row on, and what was reached at the place.
 
 pub record IsTracing (a : Matrix) (m : List Place) (root leaf : ℕ) (t now : Trees) (place : ℕ) (column : Reached) : Type 0 where
   pub back : IsBack a m t.queue root leaf place (reverse now.path)
@@ -124,7 +124,7 @@ pub tracing_room : (a : Matrix) (m : List Place) (root leaf : ℕ) (t now : Tree
 tracing_room a m root leaf t now place column row k f free no_leaf s mate =
     let b = (tracing_back a m root leaf t now place column row k f free no_leaf s mate).1 in
     let path : List Place = (row, (reached_at t.queue (reached_at t.queue place).from).col) ∷ reverse now.path in
-    let le = distinct_below a.rows (rows_of path) b.rows_differ (λ r h. let (c, p) = row_pair r path h in (b.entries r c p).0) in
+    let le = few_below a.rows (rows_of path) b.rows_differ (λ r h. let (c, p) = row_pair r path h in (b.entries r c p).0) in
     omega (arith, le, length-map path (λ (p : Place). p.0), length-reverse now.path, f.rows_are)
 
 pub tracing_more : (a : Matrix) (m : List Place) (root leaf : ℕ) (t now new : Trees) (place : ℕ) (column next : Reached) (row : ℕ) → IsMatching a m → IsForest a m t → ¬ Among root (cols_of m) → ¬ Among leaf (rows_of m) → IsTracing a m root leaf t now place column → Among (row, column.col) m → next ≡ reached_at t.queue column.from → new ≡ record now { path = now.path ++ (row, next.col) ∷ [] } → IsTracing a m root leaf t new column.from next

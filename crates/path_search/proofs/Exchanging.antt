@@ -1,12 +1,11 @@
 -- What an exchange leaves of the trees.
 use Rattle.std.proofs.Common.{◌≡◌, ◌≢◌, ◌∙◌, ℕ, ◌<◌, List, length, sym, ap, subst, inl, inr, ⊎_elim}
-use Rattle.bip_defs.specs.Lists.{Among}
+use Rattle.bip_defs.specs.Lists.{Among, IsMarked}
 use Rattle.bip_defs.specs.Matching.{IsMatching, cols_of, rows_of}
 use Rattle.bip_defs.specs.Matrix.{Matrix, Place}
 use Rattle.bip_defs.specs.Paths.{Exchanges}
 use Rattle.bip_defs.proofs.Sets.{col_among, col_pair, one_col, row_among}
 use Rattle.path_search.specs.Forests.{IsFound, IsForest, IsLeafOf, Traces, Trees, reached_at}
-use Rattle.path_search.specs.Searching.{IsMarked}
 use Rattle.path_search.proofs.Queues.{col_reached, one_place}
 
 -- the path's rows are marked

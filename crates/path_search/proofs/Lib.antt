@@ -1,14 +1,11 @@
-mod Backwards
 mod Climbing
-pub mod Closing
-pub mod Counting
+mod Closing
 mod Exchanging
 mod Flipping
-pub mod Marking
-pub mod Places
-mod Planting
+mod Marking
 mod Queues
 mod Spreading
+mod Starting
 mod Steps
 mod Sweeping
 mod Trailing

@@ -1,19 +1,21 @@
--- Marks of rows.
+-- HasMarked of rows.
 use Rattle.std.proofs.Common.{◌≡◌, ◌≢◌, ◌∙◌, ℕ, ◌<◌, Bool, true, false, List, [], ◌∷◌, ◌++◌, length, set, slice_index_or, refl, sym, subst, inl, ⊎_elim, arith, true≢false, get_or-set_same, get_or-set_other}
 use Rattle.std.proofs.Math.Decide.{dec_lt}
 use Rattle.std.proofs.Math.ListN.{length-set}
 use Rattle.std.proofs.lemmas.List.{get_or_past}
 use Rattle.bip_defs.proofs.Sets.{among_last, among_left, among_right, number_among, number_same}
 use Rattle.bip_defs.specs.Matrix.{Matrix}
-use Rattle.path_search.specs.Searching.{IsMarked, IsShut, Marks, Unmarks}
+use Rattle.bip_defs.specs.Lists.{IsMarked}
+use Rattle.bip_defs.specs.Marks.{IsExplored}
+use Rattle.path_search.specs.Searching.{HasMarked, Unmarks}
 
 -- what was marked stays marked
 abbrev pub Grows : List Bool → List Bool → Type 0
 Grows old new = (r : ℕ) → IsMarked old r → IsMarked new r
 
 -- a column whose entries are in marked rows stays so
-pub shut_grows : (a : Matrix) (old new : List Bool) (c : ℕ) → Grows old new → IsShut a old c → IsShut a new c
-shut_grows a old new c g s r e = g r (s r e)
+pub explored_grows : (a : Matrix) (old new : List Bool) (c : ℕ) → Grows old new → IsExplored a old c → IsExplored a new c
+explored_grows a old new c g s r e = g r (s r e)
 
 pub marked_below : (marks : List Bool) (r : ℕ) → IsMarked marks r → r < length marks
 marked_below marks r h = by (dec_lt r (length marks))
@@ -31,11 +33,11 @@ unmoved marks r x ne = rw get_or-set_other refl
 pub marked_grows : (marks : List Bool) (r : ℕ) → r < length marks → Grows marks (set marks r true)
 marked_grows marks r lt x h = ⊎_elim (λ (e : x ≡ r). subst (λ y. IsMarked (set marks r true) y) (sym e) (marked_now marks r lt)) (λ (ne : x ≢ r). unmoved marks r x ne ∙ h) (number_same x r)
 
-pub marks_none : (marks : List Bool) → Marks [] marks marks
+pub marks_none : (marks : List Bool) → HasMarked [] marks marks
 marks_none marks = record { size = refl; fresh = λ r h. absurd h; marked = λ r h. absurd h; others = λ r h. refl }
 
 -- one row more
-pub marks_more : (seen : List ℕ) (start now : List Bool) (r : ℕ) → r < length now → ¬ IsMarked now r → Marks seen start now → Marks (seen ++ r ∷ []) start (set now r true)
+pub marks_more : (seen : List ℕ) (start now : List Bool) (r : ℕ) → r < length now → ¬ IsMarked now r → HasMarked seen start now → HasMarked (seen ++ r ∷ []) start (set now r true)
 marks_more seen start now r lt un k = record {
   size = length-set now r true ∙ k.size;
   fresh = λ x h. ⊎_elim (λ g. k.fresh x g) (λ (e : x ≡ r). λ s. ⊎_elim (λ g. un (k.marked r g)) (λ g. un (k.others r g ∙ subst (λ y. IsMarked start y) e s)) (number_among r seen)) (among_last x r seen h);
@@ -43,7 +45,7 @@ marks_more seen start now r lt un k = record {
   others = λ x nh. unmoved now r x (λ (e : x ≡ r). nh (among_right x seen (r ∷ []) (inl e))) ∙ k.others x (λ g. nh (among_left x seen (r ∷ []) g));
 }
 
--- Marks that are taken away.
+-- HasMarked that are taken away.
 
 pub unmarks_none : (marks : List Bool) → Unmarks [] marks marks
 unmarks_none marks = record { size = refl; gone = λ r h. absurd h; others = λ r h. refl }

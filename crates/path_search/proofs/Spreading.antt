@@ -2,17 +2,16 @@
 use Rattle.std.proofs.Common.{◌≡◌, ◌≢◌, ◌∙◌, ℕ, ◌<◌, ◌≤◌, true, false, List, [], ◌∷◌, ◌++◌, length, set, take, refl, sym, ap, subst, inl, inr, ⊎_elim, arith, length-append, append_assoc}
 use Rattle.std.proofs.Math.ListN.{length-set}
 use Rattle.std.proofs.lemmas.List.{append-nil, length-map, take_all}
-use Rattle.bip_defs.specs.Lists.{Among, Lists}
+use Rattle.bip_defs.specs.Lists.{Among, IsMarked, Lists}
 use Rattle.bip_defs.specs.Matching.{IsMatching, cols_of}
 use Rattle.bip_defs.specs.Matrix.{IsEntry, Matrix, Place, cols}
-use Rattle.bip_defs.proofs.Sets.{among_last, among_right, entry_col, number_same, one_row}
+use Rattle.bip_defs.proofs.Sets.{among_last, among_right, distinct_last, entry_col, number_same, one_row}
 use Rattle.path_search.specs.Forests.{IsFound, IsForest, IsLeafOf, LeadOn, Spreads, Trees, Visits, reached_at, reached_cols}
-use Rattle.path_search.specs.Searching.{IsMarked, IsShut}
+use Rattle.bip_defs.specs.Marks.{IsExplored}
 use Rattle.path_search.specs.declared.reached.Reached.{Reached}
-use Rattle.path_search.proofs.Counting.{distinct_below}
+use Rattle.bip_defs.proofs.Full.{few_below}
 use Rattle.path_search.proofs.Marking.{marked_grows, marked_now, unmoved}
 use Rattle.path_search.proofs.Queues.{at_before, at_last, before_or_last, each_place, found_before, grown_among, place_of, reached_last}
-use Rattle.path_search.proofs.Trailing.{distinct_last}
 
 -- One row.
 
@@ -25,7 +24,7 @@ reached_below a m t c f h = let (i, lt, e) = place_of t.queue c h in subst (λ x
 -- there is room for the mate of an unmarked row
 pub room_more : (a : Matrix) (m : List Place) (t : Trees) (r d : ℕ) → IsMatching a m → IsForest a m t → Among (r, d) m → ¬ IsMarked t.marks r → length t.queue < t.cols
 room_more a m t r d k f pair un =
-    let le = distinct_below (cols a) (d ∷ reached_cols t.queue) (unreached a m t r d f pair un, f.cols_differ) (λ x h. ⊎_elim (λ (e : x ≡ d). subst (λ y. y < cols a) (sym e) (entry_col a r d (k.entries r d pair))) (λ g. reached_below a m t x f g) h) in
+    let le = few_below (cols a) (d ∷ reached_cols t.queue) (unreached a m t r d f pair un, f.cols_differ) (λ x h. ⊎_elim (λ (e : x ≡ d). subst (λ y. y < cols a) (sym e) (entry_col a r d (k.entries r d pair))) (λ g. reached_below a m t x f g) h) in
     omega (arith, length-map t.queue (λ (y : Reached). y.col), f.cols_are)
 
 pub forest_marked : (a : Matrix) (m : List Place) (t : Trees) (r : ℕ) → r < length t.marks → IsForest a m t → IsForest a m (record t { marks = set t.marks r true })
@@ -128,5 +127,5 @@ scanning_found a m old t new rows r place root col s lt entry (un, free, same) =
   leaf = record { entry = entry; unmatched = free; marked = marked_now t.marks r lt };
 })
 
-pub scanned_shut : (a : Matrix) (m : List Place) (root col : ℕ) (old t : Trees) (rows : List ℕ) (k : ℕ) → IsScanning a m root old t (take k rows) → length rows ≤ k → Lists (λ r. IsEntry a r col) rows → IsShut a t.marks col
-scanned_shut a m root col old t rows k s all listed r e = s.marked r (subst (λ xs. Among r xs) (sym (take_all k rows all)) (listed.complete r e))
+pub scanned_explored : (a : Matrix) (m : List Place) (root col : ℕ) (old t : Trees) (rows : List ℕ) (k : ℕ) → IsScanning a m root old t (take k rows) → length rows ≤ k → Lists (λ r. IsEntry a r col) rows → IsExplored a t.marks col
+scanned_explored a m root col old t rows k s all listed r e = s.marked r (subst (λ xs. Among r xs) (sym (take_all k rows all)) (listed.complete r e))

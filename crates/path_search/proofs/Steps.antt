@@ -1,16 +1,17 @@
 -- The steps of a search: down by a row, to an unmatched row, back, and its end.
 use Rattle.std.proofs.Common.{◌≡◌, ◌⊎◌, ◌∙◌, ℕ, suc, ◌<◌, ◌≤◌, ◌^◌, Bool, true, List, [], ◌∷◌, ◌++◌, length, set, slice_index, refl, sym, subst, inl, inr, ⊎_elim, arith, length-append}
 use Rattle.std.proofs.Math.ListN.{length-set}
-use Rattle.bip_defs.specs.Lists.{Among, AreDistinct, Lists}
+use Rattle.bip_defs.specs.Lists.{Among, AreDistinct, IsMarked, Lists}
 use Rattle.bip_defs.specs.Matching.{IsMatching, cols_of, rows_of}
 use Rattle.bip_defs.specs.Matrix.{IsEntry, Matrix, Place, cols, column}
-use Rattle.bip_defs.proofs.Sets.{among_last, among_left, among_right, entry_col, rising_distinct, row_among}
+use Rattle.bip_defs.proofs.Sets.{among_last, among_left, among_right, distinct_last, entry_col, rising_distinct, row_among}
 use Rattle.path_search.specs.Advancing.{GoesOn, Onward, Reaches}
-use Rattle.path_search.specs.Searching.{Fails, IsMarked, IsShut, Searching}
-use Rattle.path_search.specs.Trails.{IsSearch, Passed, Trail, turn}
-use Rattle.path_search.proofs.Counting.{distinct_below}
-use Rattle.path_search.proofs.Marking.{marked_below, marked_grows, marked_now, marks_more, shut_grows}
-use Rattle.path_search.proofs.Trailing.{distinct_last, passed_all, passed_more, passed_none, rows_last, passed_grows, trail_alternates, trail_back, trail_begins, trail_empty, trail_entries, trail_grows, trail_matched, trail_on, trail_root}
+use Rattle.bip_defs.specs.Marks.{IsExplored}
+use Rattle.path_search.specs.Searching.{Exhausts, Searching}
+use Rattle.path_search.specs.Trails.{StandsAt, HasPassed, Trail, read_place}
+use Rattle.bip_defs.proofs.Full.{few_below}
+use Rattle.path_search.proofs.Marking.{marked_below, marked_grows, marked_now, marks_more, explored_grows}
+use Rattle.path_search.proofs.Trailing.{passed_all, passed_more, passed_none, rows_last, passed_grows, trail_alternates, trail_back, trail_begins, trail_empty, trail_entries, trail_grows, trail_matched, trail_on, trail_root}
 
 abbrev pub started : Searching → ℕ → Searching
 started s root = record s { root = root; path = []; places = []; seen = [] }
@@ -27,15 +28,15 @@ noted s k = record s { places = s.places ++ k ∷ [] }
 abbrev pub left_from : Searching → ℕ → ℕ → ℕ → Searching
 left_from s r d j = record s { path = s.path ++ (r, d) ∷ []; places = s.places ++ j ∷ [] }
 
-pub search_starts : (a : Matrix) (m : List Place) (turned : Bool) (s : Searching) (root : ℕ) → s.cols ≡ cols a → length s.marks ≡ a.rows → a.rows < 2 ^ 32 → root < cols a → ¬ Among root (cols_of m) → IsSearch a m turned (started s root) root 0
-search_starts a m turned s root cs rs few lt free = record {
+pub search_starts : (a : Matrix) (m : List Place) (reversed : Bool) (s : Searching) (root : ℕ) → s.cols ≡ cols a → length s.marks ≡ a.rows → a.rows < 2 ^ 32 → root < cols a → ¬ Among root (cols_of m) → StandsAt a m reversed (started s root) root 0
+search_starts a m reversed s root cs rs few lt free = record {
   cols_are = cs;
   rows_are = rs;
   few_rows = few;
   in_range = lt;
   root_unmatched = free;
   trail = refl;
-  passed = passed_none turned s.marks (column a root);
+  passed = passed_none reversed s.marks (column a root);
   rows_differ = tt;
   path_seen = λ r h. h;
   seen_differ = tt;
@@ -44,15 +45,15 @@ search_starts a m turned s root cs rs few lt free = record {
   path_shorter = omega arith;
 }
 
-pub unmarked_unseen : (a : Matrix) (m : List Place) (turned : Bool) (s : Searching) (c k r : ℕ) → IsSearch a m turned s c k → ¬ IsMarked s.marks r → ¬ Among r s.seen
-unmarked_unseen a m turned s c k r f un h = un (f.seen_marked r h)
+pub unmarked_unseen : (a : Matrix) (m : List Place) (reversed : Bool) (s : Searching) (c k r : ℕ) → StandsAt a m reversed s c k → ¬ IsMarked s.marks r → ¬ Among r s.seen
+unmarked_unseen a m reversed s c k r f un h = un (f.seen_marked r h)
 
-pub unmatched_unseen : (a : Matrix) (m : List Place) (turned : Bool) (s : Searching) (c k r : ℕ) → IsSearch a m turned s c k → ¬ Among r (rows_of m) → ¬ Among r s.seen
-unmatched_unseen a m turned s c k r f free h = ⊎_elim (λ g. free (trail_matched a m turned s.marks s.root c s.path s.places r f.trail g)) (λ g. free (row_among r g.0 m g.1)) (f.finished r h)
+pub unmatched_unseen : (a : Matrix) (m : List Place) (reversed : Bool) (s : Searching) (c k r : ℕ) → StandsAt a m reversed s c k → ¬ Among r (rows_of m) → ¬ Among r s.seen
+unmatched_unseen a m reversed s c k r f free h = ⊎_elim (λ g. free (trail_matched a m reversed s.marks s.root c s.path s.places r f.trail g)) (λ g. free (row_among r g.0 m g.1)) (f.finished r h)
 
 -- there is room for one row more
-pub seen_room : (a : Matrix) (m : List Place) (turned : Bool) (s : Searching) (c k r : ℕ) → IsSearch a m turned s c k → r < a.rows → ¬ Among r s.seen → suc (length s.seen) ≤ a.rows
-seen_room a m turned s c k r f lt un = distinct_below a.rows (r ∷ s.seen) (un, f.seen_differ) (λ x h. ⊎_elim (λ (e : x ≡ r). omega arith) (λ g. let below = marked_below s.marks x (f.seen_marked x g) in let e = f.rows_are in omega arith) h)
+pub seen_room : (a : Matrix) (m : List Place) (reversed : Bool) (s : Searching) (c k r : ℕ) → StandsAt a m reversed s c k → r < a.rows → ¬ Among r s.seen → suc (length s.seen) ≤ a.rows
+seen_room a m reversed s c k r f lt un = few_below a.rows (r ∷ s.seen) (un, f.seen_differ) (λ x h. ⊎_elim (λ (e : x ≡ r). omega arith) (λ g. let below = marked_below s.marks x (f.seen_marked x g) in let e = f.rows_are in omega arith) h)
 
 pub onward_entered : (s : Searching) (r c : ℕ) → r < length s.marks → ¬ IsMarked s.marks r → Onward s (entered s r c)
 onward_entered s r c lt un = record { cols_stay = refl; root_stays = refl; marks = λ start k. marks_more s.seen start s.marks r lt un k }
@@ -62,27 +63,27 @@ onward_entered s r c lt un = record { cols_stay = refl; root_stays = refl; marks
 row_on_path : (path : List Place) (x r c : ℕ) → Among x (rows_of (path ++ (r, c) ∷ [])) → Among x (rows_of path) ⊎ (x ≡ r)
 row_on_path path x r c h = among_last x r (rows_of path) (subst (λ xs. Among x xs) (rows_last path (r, c)) h)
 
-pub reaches_end : (a : Matrix) (m : List Place) (turned : Bool) (s : Searching) (c k r : ℕ) → IsSearch a m turned s c k → IsEntry a r c → ¬ Among r (rows_of m) → Reaches a m (ended s r c)
-reaches_end a m turned s c k r f e free = record {
+pub reaches_end : (a : Matrix) (m : List Place) (reversed : Bool) (s : Searching) (c k r : ℕ) → StandsAt a m reversed s c k → IsEntry a r c → ¬ Among r (rows_of m) → Reaches a m (ended s r c)
+reaches_end a m reversed s c k r f e free = record {
   augmenting = record {
-    begins = trail_begins a m turned s.marks s.root c r s.path s.places f.trail f.root_unmatched;
-    alternates = trail_alternates a m turned s.marks s.root c r s.path s.places f.trail free;
-    rows_differ = rw rows_last (distinct_last (rows_of s.path) r f.rows_differ (λ h. free (trail_matched a m turned s.marks s.root c s.path s.places r f.trail h)));
+    begins = trail_begins a m reversed s.marks s.root c r s.path s.places f.trail f.root_unmatched;
+    alternates = trail_alternates a m reversed s.marks s.root c r s.path s.places f.trail free;
+    rows_differ = rw rows_last (distinct_last (rows_of s.path) r f.rows_differ (λ h. free (trail_matched a m reversed s.marks s.root c s.path s.places r f.trail h)));
   };
-  entries = λ x d h. ⊎_elim (λ g. trail_entries a m turned s.marks s.root c s.path s.places f.trail x d g) (λ (g : (x, d) ≡ (r, c)). subst (λ (q : Place). IsEntry a q.0 q.1) (sym g) e) (among_last (x, d) (r, c) s.path h);
-  from_root = trail_root a m turned s.marks s.root c r s.path s.places f.trail;
+  entries = λ x d h. ⊎_elim (λ g. trail_entries a m reversed s.marks s.root c s.path s.places f.trail x d g) (λ (g : (x, d) ≡ (r, c)). subst (λ (q : Place). IsEntry a q.0 q.1) (sym g) e) (among_last (x, d) (r, c) s.path h);
+  from_root = trail_root a m reversed s.marks s.root c r s.path s.places f.trail;
   seen = λ x h matched. ⊎_elim (λ g. f.path_seen x g) (λ (g : x ≡ r). absurd (free (subst (λ y. Among y (rows_of m)) g matched))) (row_on_path s.path x r c h);
 }
 
-pub reaches_entered : (a : Matrix) (m : List Place) (turned : Bool) (s : Searching) (c k r : ℕ) → IsSearch a m turned s c k → IsEntry a r c → ¬ Among r (rows_of m) → Reaches a m (entered s r c)
-reaches_entered a m turned s c k r f e free =
-    let g = reaches_end a m turned s c k r f e free in
+pub reaches_entered : (a : Matrix) (m : List Place) (reversed : Bool) (s : Searching) (c k r : ℕ) → StandsAt a m reversed s c k → IsEntry a r c → ¬ Among r (rows_of m) → Reaches a m (entered s r c)
+reaches_entered a m reversed s c k r f e free =
+    let g = reaches_end a m reversed s c k r f e free in
     record { augmenting = g.augmenting; entries = g.entries; from_root = g.from_root; seen = λ x h matched. among_left x s.seen (r ∷ []) (g.seen x h matched) }
 
 -- Down.
 
-pub goes_down : (a : Matrix) (m : List Place) (turned : Bool) (s : Searching) (c k r d i j : ℕ) → IsMatching a m → IsSearch a m turned s c k → IsEntry a r c → ¬ IsMarked s.marks r → Among (r, d) m → Passed turned s.marks (column a c) i → r ≡ slice_index (column a c) (turn turned (length (column a c)) i) → j ≡ suc i → GoesOn a m turned s (noted (entered s r c) j) d 0
-goes_down a m turned s c k r d i j matching f e un mate passed at next = record {
+pub goes_down : (a : Matrix) (m : List Place) (reversed : Bool) (s : Searching) (c k r d i j : ℕ) → IsMatching a m → StandsAt a m reversed s c k → IsEntry a r c → ¬ IsMarked s.marks r → Among (r, d) m → HasPassed reversed s.marks (column a c) i → r ≡ slice_index (column a c) (read_place reversed (length (column a c)) i) → j ≡ suc i → GoesOn a m reversed s (noted (entered s r c) j) d 0
+goes_down a m reversed s c k r d i j matching f e un mate passed at next = record {
   onward = let on = onward_entered s r c lt un in record { cols_stay = refl; root_stays = refl; marks = on.marks };
   search = record {
     cols_are = f.cols_are;
@@ -90,16 +91,16 @@ goes_down a m turned s c k r d i j matching f e un mate passed at next = record 
     few_rows = f.few_rows;
     in_range = entry_col a r d (matching.entries r d mate);
     root_unmatched = f.root_unmatched;
-    trail = trail_on a m turned now s.root c r d j s.path s.places (trail_grows a m turned s.marks now s.root c s.path s.places grows f.trail) e (subst (λ x. Passed turned now (column a c) x) (sym next) (passed_more turned now (column a c) i (passed_grows turned s.marks now (column a c) i grows passed) (subst (λ x. IsMarked now x) at (marked_now s.marks r lt)))) mate;
-    passed = passed_none turned now (column a d);
+    trail = trail_on a m reversed now s.root c r d j s.path s.places (trail_grows a m reversed s.marks now s.root c s.path s.places grows f.trail) e (subst (λ x. HasPassed reversed now (column a c) x) (sym next) (passed_more reversed now (column a c) i (passed_grows reversed s.marks now (column a c) i grows passed) (subst (λ x. IsMarked now x) at (marked_now s.marks r lt)))) mate;
+    passed = passed_none reversed now (column a d);
     rows_differ = rw rows_last (distinct_last (rows_of s.path) r f.rows_differ (λ h. unseen (f.path_seen r h)));
     path_seen = λ x h. ⊎_elim (λ g. among_left x s.seen (r ∷ []) (f.path_seen x g)) (λ g. among_right x s.seen (r ∷ []) (inl g)) (row_on_path s.path x r c h);
     seen_differ = distinct_last s.seen r f.seen_differ unseen;
     seen_marked = λ x h. ⊎_elim (λ g. grows x (f.seen_marked x g)) (λ (g : x ≡ r). subst (λ y. IsMarked now y) (sym g) (marked_now s.marks r lt)) (among_last x r s.seen h);
-    finished = λ x h. ⊎_elim (λ g. ⊎_elim (λ p. inl (rw rows_last (among_left x (rows_of s.path) (r ∷ []) p))) (λ p. inr (p.0, p.1, shut_grows a s.marks now p.0 grows p.2)) (f.finished x g)) (λ (g : x ≡ r). inl (rw rows_last (among_right x (rows_of s.path) (r ∷ []) (inl g)))) (among_last x r s.seen h);
+    finished = λ x h. ⊎_elim (λ g. ⊎_elim (λ p. inl (rw rows_last (among_left x (rows_of s.path) (r ∷ []) p))) (λ p. inr (p.0, p.1, explored_grows a s.marks now p.0 grows p.2)) (f.finished x g)) (λ (g : x ≡ r). inl (rw rows_last (among_right x (rows_of s.path) (r ∷ []) (inl g)))) (among_last x r s.seen h);
     path_shorter = let le = f.path_shorter in omega (arith, length-append s.path ((r, c) ∷ []), length-append s.seen (r ∷ []));
   };
-  falls = let room = seen_room a m turned s c k r f e.0 unseen in omega (arith, length-append s.path ((r, c) ∷ []), length-append s.seen (r ∷ []));
+  falls = let room = seen_room a m reversed s c k r f e.0 unseen in omega (arith, length-append s.path ((r, c) ∷ []), length-append s.seen (r ∷ []));
 }
   where
     now : List Bool
@@ -112,12 +113,12 @@ goes_down a m turned s c k r d i j matching f e un mate passed at next = record 
     grows = marked_grows s.marks r (let same = f.rows_are in let below = e.0 in omega arith)
 
     unseen : ¬ Among r s.seen
-    unseen = unmarked_unseen a m turned s c k r f un
+    unseen = unmarked_unseen a m reversed s c k r f un
 
 -- Back.
 
-pub goes_back : (a : Matrix) (m : List Place) (turned : Bool) (t : Searching) (c k r d j : ℕ) → IsSearch a m turned (left_from t r d j) c k → IsShut a t.marks c → GoesOn a m turned (left_from t r d j) t d j
-goes_back a m turned t c k r d j f shut = record {
+pub goes_back : (a : Matrix) (m : List Place) (reversed : Bool) (t : Searching) (c k r d j : ℕ) → StandsAt a m reversed (left_from t r d j) c k → IsExplored a t.marks c → GoesOn a m reversed (left_from t r d j) t d j
+goes_back a m reversed t c k r d j f shut = record {
   onward = record { cols_stay = refl; root_stays = refl; marks = λ start h. h };
   search = record {
     cols_are = f.cols_are;
@@ -137,8 +138,8 @@ goes_back a m turned t c k r d j f shut = record {
   falls = omega (arith, length-append t.path ((r, d) ∷ []));
 }
   where
-    back : Trail a m turned t.marks t.root t.path t.places d × IsEntry a r d × Passed turned t.marks (column a d) j × Among (r, c) m
-    back = trail_back a m turned t.marks t.root c j (r, d) t.path t.places f.trail
+    back : Trail a m reversed t.marks t.root t.path t.places d × IsEntry a r d × HasPassed reversed t.marks (column a d) j × Among (r, c) m
+    back = trail_back a m reversed t.marks t.root c j (r, d) t.path t.places f.trail
 
     front_differs : (xs : List ℕ) → AreDistinct (xs ++ r ∷ []) → AreDistinct xs
     front_differs [] h = tt
@@ -146,23 +147,23 @@ goes_back a m turned t c k r d j f shut = record {
 
 -- The end.
 
-pub search_fails : (a : Matrix) (m : List Place) (turned : Bool) (s : Searching) (c k : ℕ) → IsSearch a m turned s c k → IsShut a s.marks c → s.path ≡ [] → Fails a m s.marks s.seen s.root
-search_fails a m turned s c k f shut empty = record {
-  of_root = subst (λ x. IsShut a s.marks x) (sym (trail_empty a m turned s.marks s.root c s.places (subst (λ (path : List Place). Trail a m turned s.marks s.root path s.places c) empty f.trail))) shut;
+pub search_fails : (a : Matrix) (m : List Place) (reversed : Bool) (s : Searching) (c k : ℕ) → StandsAt a m reversed s c k → IsExplored a s.marks c → s.path ≡ [] → Exhausts a m s.marks s.seen s.root
+search_fails a m reversed s c k f shut empty = record {
+  of_root = subst (λ x. IsExplored a s.marks x) (sym (trail_empty a m reversed s.marks s.root c s.places (subst (λ (path : List Place). Trail a m reversed s.marks s.root path s.places c) empty f.trail))) shut;
   of_mates = λ r h. ⊎_elim (λ g. absurd (subst (λ (path : List Place). Among r (rows_of path)) empty g)) (λ g. g) (f.finished r h);
 }
 
 -- The same, where the column's list is lent.
 
-pub goes_down_by : (a : Matrix) (m : List Place) (turned : Bool) (s : Searching) (c k r d i j : ℕ) (rows : List ℕ) → IsMatching a m → IsSearch a m turned s c k → IsEntry a r c → ¬ IsMarked s.marks r → Among (r, d) m → rows ≡ column a c → Passed turned s.marks rows i → r ≡ slice_index rows (turn turned (length rows) i) → j ≡ suc i → GoesOn a m turned s (noted (entered s r c) j) d 0
-goes_down_by a m turned s c k r d i j rows matching f e un mate same = subst (λ (xs : List ℕ). Passed turned s.marks xs i → r ≡ slice_index xs (turn turned (length xs) i) → j ≡ suc i → GoesOn a m turned s (noted (entered s r c) j) d 0) (sym same) (λ passed at next. goes_down a m turned s c k r d i j matching f e un mate passed at next)
+pub goes_down_by : (a : Matrix) (m : List Place) (reversed : Bool) (s : Searching) (c k r d i j : ℕ) (rows : List ℕ) → IsMatching a m → StandsAt a m reversed s c k → IsEntry a r c → ¬ IsMarked s.marks r → Among (r, d) m → rows ≡ column a c → HasPassed reversed s.marks rows i → r ≡ slice_index rows (read_place reversed (length rows) i) → j ≡ suc i → GoesOn a m reversed s (noted (entered s r c) j) d 0
+goes_down_by a m reversed s c k r d i j rows matching f e un mate same = subst (λ (xs : List ℕ). HasPassed reversed s.marks xs i → r ≡ slice_index xs (read_place reversed (length xs) i) → j ≡ suc i → GoesOn a m reversed s (noted (entered s r c) j) d 0) (sym same) (λ passed at next. goes_down a m reversed s c k r d i j matching f e un mate passed at next)
 
-pub passed_all_by : (a : Matrix) (turned : Bool) (marks : List Bool) (c k : ℕ) (rows : List ℕ) → rows ≡ column a c → length rows ≤ k → Passed turned marks rows k → IsShut a marks c
-passed_all_by a turned marks c k rows same = subst (λ (xs : List ℕ). length xs ≤ k → Passed turned marks xs k → IsShut a marks c) (sym same) (λ le p. passed_all a turned marks c k le p)
+pub passed_all_by : (a : Matrix) (reversed : Bool) (marks : List Bool) (c k : ℕ) (rows : List ℕ) → rows ≡ column a c → length rows ≤ k → HasPassed reversed marks rows k → IsExplored a marks c
+passed_all_by a reversed marks c k rows same = subst (λ (xs : List ℕ). length xs ≤ k → HasPassed reversed marks xs k → IsExplored a marks c) (sym same) (λ le p. passed_all a reversed marks c k le p)
 
 -- a column's list is no longer than the matrix has rows
 pub column_short : (a : Matrix) (rows : List ℕ) (c : ℕ) → Lists (λ r. IsEntry a r c) rows → length rows ≤ a.rows
-column_short a rows c l = distinct_below a.rows rows (rising_distinct rows l.rising) (λ r h. (l.sound r h).0)
+column_short a rows c l = few_below a.rows rows (rising_distinct rows l.rising) (λ r h. (l.sound r h).0)
 
-pub goes_back_by : (a : Matrix) (m : List Place) (turned : Bool) (s t : Searching) (c k r d j : ℕ) → s ≡ left_from t r d j → IsSearch a m turned s c k → IsShut a s.marks c → GoesOn a m turned s t d j
-goes_back_by a m turned s t c k r d j e = subst (λ z. IsSearch a m turned z c k → IsShut a z.marks c → GoesOn a m turned z t d j) (sym e) (λ f shut. goes_back a m turned t c k r d j f shut)
+pub goes_back_by : (a : Matrix) (m : List Place) (reversed : Bool) (s t : Searching) (c k r d j : ℕ) → s ≡ left_from t r d j → StandsAt a m reversed s c k → IsExplored a s.marks c → GoesOn a m reversed s t d j
+goes_back_by a m reversed s t c k r d j e = subst (λ z. StandsAt a m reversed z c k → IsExplored a z.marks c → GoesOn a m reversed z t d j) (sym e) (λ f shut. goes_back a m reversed t c k r d j f shut)

@@ -1,11 +1,12 @@
 -- What one step of a search does.
 use Rattle.std.specs.Prelude.{◌≡◌, ℕ, ◌+◌, ◌-◌, ◌<◌, Bool, List, length}
 use Rattle.bip_defs.specs.Lists.{Among}
+use Rattle.bip_defs.specs.Marks.{IsExplored}
 use Rattle.bip_defs.specs.Matching.{cols_of, rows_of}
 use Rattle.bip_defs.specs.Matrix.{AreEntries, Matrix, Place}
 use Rattle.bip_defs.specs.Paths.{IsAugmenting}
-use Rattle.path_search.specs.Searching.{Fails, IsShut, Marks, Searching}
-use Rattle.path_search.specs.Trails.{IsSearch}
+use Rattle.path_search.specs.Searching.{Exhausts, HasMarked, Searching}
+use Rattle.path_search.specs.Trails.{StandsAt}
 use Rattle.path_search.specs.declared.step.Step.{Step}
 use Rattle.path_search.specs.declared.step.Step.TheVariants.{Found, On, Stuck}
 
@@ -13,7 +14,7 @@ use Rattle.path_search.specs.declared.step.Step.TheVariants.{Found, On, Stuck}
 pub record Onward (old new : Searching) : Type 0 where
   pub cols_stay : new.cols ≡ old.cols
   pub root_stays : new.root ≡ old.root
-  pub marks : (start : List Bool) → Marks old.seen start old.marks → Marks new.seen start new.marks
+  pub marks : (start : List Bool) → HasMarked old.seen start old.marks → HasMarked new.seen start new.marks
 
 -- its path is augmenting
 pub record Reaches (a : Matrix) (m : List Place) (s : Searching) : Type 0 where
@@ -26,19 +27,19 @@ pub record Reaches (a : Matrix) (m : List Place) (s : Searching) : Type 0 where
 abbrev pub steps_left : Matrix → Searching → ℕ
 steps_left a s = (a.rows - length s.seen) + (a.rows - length s.seen) + length s.path
 
-pub record GoesOn (a : Matrix) (m : List Place) (turned : Bool) (old new : Searching) (c k : ℕ) : Type 0 where
+pub record GoesOn (a : Matrix) (m : List Place) (reversed : Bool) (old new : Searching) (c k : ℕ) : Type 0 where
   pub onward : Onward old new
-  pub search : IsSearch a m turned new c k
+  pub search : StandsAt a m reversed new c k
   pub falls : steps_left a new < steps_left a old
 
 -- a step down from a column
-abbrev pub Visits : Matrix → List Place → Bool → Searching → Searching → ℕ → Step → Type 0
-Visits a m turned old new c Found = Onward old new × Reaches a m new
-Visits a m turned old new c Stuck = (new ≡ old) × IsShut a old.marks c
-Visits a m turned old new c (On s) = GoesOn a m turned old new s.col s.place
+abbrev pub Descends : Matrix → List Place → Bool → Searching → Searching → ℕ → Step → Type 0
+Descends a m reversed old new c Found = Onward old new × Reaches a m new
+Descends a m reversed old new c Stuck = (new ≡ old) × IsExplored a old.marks c
+Descends a m reversed old new c (On s) = GoesOn a m reversed old new s.col s.place
 
 -- a step down or back
 abbrev pub Advances : Matrix → List Place → Bool → Searching → Searching → Step → Type 0
-Advances a m turned old new Found = Onward old new × Reaches a m new
-Advances a m turned old new Stuck = Onward old new × Fails a m new.marks new.seen old.root
-Advances a m turned old new (On s) = GoesOn a m turned old new s.col s.place
+Advances a m reversed old new Found = Onward old new × Reaches a m new
+Advances a m reversed old new Stuck = Onward old new × Exhausts a m new.marks new.seen old.root
+Advances a m reversed old new (On s) = GoesOn a m reversed old new s.col s.place

@@ -1,11 +1,11 @@
 -- Breadth-first trees of columns, one from each unmatched column.
 use Rattle.std.specs.Prelude.{◌≡◌, ◌⊎◌, ℕ, suc, ◌<◌, Bool, List, true, false, [], ◌∷◌, ◌++◌, length, map, set, slice_index_or}
-use Rattle.bip_defs.specs.Lists.{Among, AreDistinct}
+use Rattle.bip_defs.specs.Lists.{Among, AreDistinct, IsMarked}
+use Rattle.bip_defs.specs.Marks.{IsExplored}
 use Rattle.bip_defs.specs.Matching.{cols_of, rows_of}
 use Rattle.bip_defs.specs.Matrix.{AreEntries, IsEntry, Matrix, Place, cols}
 use Rattle.bip_defs.specs.Paths.{IsAugmenting}
 use Rattle.bip_graph.specs.Pairing.{Pairing}
-use Rattle.path_search.specs.Searching.{IsMarked, IsShut}
 use Rattle.path_search.specs.declared.reached.Reached.{Reached}
 
 -- the number of columns, the mark of each row, the columns that were reached so far, and the path that was found last
@@ -40,10 +40,10 @@ abbrev pub LeadsOn : List Place → List Reached → ℕ → Type 0
 LeadsOn m q r = (d : ℕ) × Among (r, d) m × Among d (reached_cols q)
 
 -- no tree has found a path yet: all unmatched columns are roots, the columns before the place have been looked through, and each marked row leads on
-pub record AreFruitless (a : Matrix) (m : List Place) (t : Trees) (place : ℕ) : Type 0 where
+pub record HaveNoPath (a : Matrix) (m : List Place) (t : Trees) (place : ℕ) : Type 0 where
   pub unmatched : (c : ℕ) → c < cols a → ¬ Among c (cols_of m) → Among c (reached_cols t.queue)
   pub roots_unmatched : (i : ℕ) → i < length t.queue → ¬ Among (reached_at t.queue i).root (cols_of m)
-  pub shut : (i : ℕ) → i < place → IsShut a t.marks (reached_at t.queue i).col
+  pub explored : (i : ℕ) → i < place → IsExplored a t.marks (reached_at t.queue i).col
   pub leads_on : (r : ℕ) → IsMarked t.marks r → LeadsOn m t.queue r
 
 -- more columns were reached from the tree of this root, and more rows marked
@@ -75,5 +75,5 @@ pub record Traces (a : Matrix) (m : List Place) (q : List Reached) (root leaf : 
   pub in_tree : (r : ℕ) → Among r (rows_of path) → (r ≡ leaf) ⊎ ((i : ℕ) × (i < length q) × ((reached_at q i).root ≡ root) × Among (r, (reached_at q i).col) m)
 
 -- the matching stays, and one column more has been looked through, or it grows
-abbrev pub GoesOn : Matrix → Pairing → Pairing → Trees → Trees → ℕ → Type 0
-GoesOn a m n old new place = ((n ≡ m) × (AreFruitless a m.pairs old place → AreFruitless a m.pairs new (suc place))) ⊎ (length m.pairs < length n.pairs)
+abbrev pub Progresses : Matrix → Pairing → Pairing → Trees → Trees → ℕ → Type 0
+Progresses a m n old new place = ((n ≡ m) × (HaveNoPath a m.pairs old place → HaveNoPath a m.pairs new (suc place))) ⊎ (length m.pairs < length n.pairs)

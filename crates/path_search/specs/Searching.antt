@@ -1,8 +1,9 @@
 -- What contracts see of a search, and what it answers.
-use Rattle.std.specs.Prelude.{◌≡◌, ℕ, suc, Bool, false, true, List, length, slice_index_or}
-use Rattle.bip_defs.specs.Lists.{Among}
+use Rattle.std.specs.Prelude.{◌≡◌, ℕ, suc, Bool, false, List, length, slice_index_or}
+use Rattle.bip_defs.specs.Lists.{Among, IsMarked}
+use Rattle.bip_defs.specs.Marks.{AreClosed, IsExplored}
 use Rattle.bip_defs.specs.Matching.{cols_of, rows_of}
-use Rattle.bip_defs.specs.Matrix.{AreEntries, IsEntry, Matrix, Place}
+use Rattle.bip_defs.specs.Matrix.{AreEntries, Matrix, Place}
 use Rattle.bip_defs.specs.Paths.{IsAugmenting}
 
 -- the number of columns, the mark of each row, the column where the last search began, the path that it stands on with a
@@ -15,15 +16,8 @@ pub record Searching : Type 0 where
   pub places : List ℕ
   pub seen : List ℕ
 
-abbrev pub IsMarked : List Bool → ℕ → Type 0
-IsMarked marks r = slice_index_or marks r false ≡ true
-
--- each entry of the column is in a marked row
-abbrev pub IsShut : Matrix → List Bool → ℕ → Type 0
-IsShut a marks c = (r : ℕ) → IsEntry a r c → IsMarked marks r
-
 -- the rows of the list were marked, which were not before, and no others
-pub record Marks (rows : List ℕ) (old new : List Bool) : Type 0 where
+pub record HasMarked (rows : List ℕ) (old new : List Bool) : Type 0 where
   pub size : length new ≡ length old
   pub fresh : (r : ℕ) → Among r rows → ¬ IsMarked old r
   pub marked : (r : ℕ) → Among r rows → IsMarked new r
@@ -36,10 +30,11 @@ pub record Finds (a : Matrix) (m : List Place) (marks : List Bool) (root : ℕ) 
   pub from_root : Among root (cols_of path)
   pub fresh : (r : ℕ) → Among r (rows_of path) → Among r (rows_of m) → ¬ IsMarked marks r
 
--- no unmarked row is left to which a walk leads: the root's entries are in marked rows, and so are those of the mates of the rows that were seen
-pub record Fails (a : Matrix) (m : List Place) (marks : List Bool) (seen : List ℕ) (root : ℕ) : Type 0 where
-  pub of_root : IsShut a marks root
-  pub of_mates : (r : ℕ) → Among r seen → (d : ℕ) × Among (r, d) m × IsShut a marks d
+-- no unmarked row is left to which a walk leads: the root's entries are in marked rows, and so are those of the mates of
+-- the rows that were seen
+pub record Exhausts (a : Matrix) (m : List Place) (marks : List Bool) (seen : List ℕ) (root : ℕ) : Type 0 where
+  pub of_root : IsExplored a marks root
+  pub of_mates : (r : ℕ) → Among r seen → (d : ℕ) × Among (r, d) m × IsExplored a marks d
 
 -- the rows of the list lost their marks, and no others
 pub record Unmarks (rows : List ℕ) (old new : List Bool) : Type 0 where
@@ -51,9 +46,11 @@ pub record Unmarks (rows : List ℕ) (old new : List Bool) : Type 0 where
 abbrev pub KeepsMarked : List Bool → List Place → List Place → Type 0
 KeepsMarked marks old new = (r d : ℕ) → IsMarked marks r → Among (r, d) old → Among (r, d) new
 
--- no augmenting path leads through a marked row: each has a mate, all of whose entries are in marked rows
-abbrev pub AreLeftOut : Matrix → List Place → List Bool → Type 0
-AreLeftOut a m marks = (r : ℕ) → IsMarked marks r → (d : ℕ) × Among (r, d) m × IsShut a marks d
+-- no augmenting path begins at the root, or leads through a row that was marked on the way
+pub record Fails (a : Matrix) (m : List Place) (old new : List Bool) (root : ℕ) : Type 0 where
+  pub marked : (r : ℕ) → IsMarked old r → IsMarked new r
+  pub closed : AreClosed a m old → AreClosed a m new
+  pub of_root : IsExplored a new root
 
 -- a longer matching with the root, which has each vertex of the old one
 pub record Augments (root : ℕ) (marks : List Bool) (old new : List Place) : Type 0 where

@@ -1,44 +1,43 @@
 //! One column's list.
 
 ghost use Rattle.std.specs.Prelude.{◌≡◌, ◌⊎◌, ℕ, ◌+◌, ◌<◌, ◌≤◌, ◌^◌, length, map, slice_index, All, IfSome, vec_len, vec_capacity, ◌∷◌, ◌++◌, []};
-ghost use Rattle.bip_defs.specs.Lists.{Among};
+ghost use Rattle.bip_defs.specs.Lists.{Among, IsMarked};
 ghost use Rattle.bip_defs.specs.Matching.{rows_of};
 ghost use Rattle.bip_graph.specs.Pairing.{Pairing};
-ghost use Rattle.path_search.specs.Searching.{IsMarked, Unmarks};
-ghost use Rattle.path_search.specs.Trails.{Passed, turn};
+ghost use Rattle.path_search.specs.Searching.{Unmarks};
+ghost use Rattle.path_search.specs.Trails.{HasPassed, read_place};
 
-use crate::sides::Side;
-use bip_graph::Matching;
+use bip_graph::{Matching, Opposite};
 use sp_ids::{Id, Row};
 
 // The place at which a list is read as its k-th, from its front or from its end.
-pub fn turn(turned: bool, len: usize, k: usize) -> usize
+fn place_of(reversed: bool, len: usize, k: usize) -> usize
     requires { k < len }
-    ensures place { result ≡ turn turned len k }
+    ensures place { result ≡ read_place reversed len k }
     ensures in_range { result < len }
 {
-    if turned { len - 1 - k } else { k }
+    if reversed { len - 1 - k } else { k }
 }
 
 /// The row that is read as the list's k-th, from its front or from its end.
-pub fn row_at<F: Id>(rows: &[F], k: usize, turned: bool) -> Row
+pub fn row_at<F: Id>(rows: &[F], k: usize, reversed: bool) -> Row
     requires { k < length rows.now }
     ensures among { Among result (map F.number rows.now) }
-    ensures at { result ≡ slice_index (map F.number rows.now) (turn turned (length (map F.number rows.now)) k) }
+    ensures at { result ≡ slice_index (map F.number rows.now) (read_place reversed (length (map F.number rows.now)) k) }
 {
-    Row(rows[turn(turned, rows.len(), k)].number())
+    Row(rows[place_of(reversed, rows.len(), k)].number())
 }
 
 /// The first place, from `place` on, of an unmarked row, or one past the end.
-pub fn next_unmarked<F: Id>(rows: &[F], marks: &[bool], place: usize, turned: bool) -> usize
+pub fn next_unmarked<F: Id>(rows: &[F], marks: &[bool], place: usize, reversed: bool) -> usize
     requires in_range { (r : ℕ) → Among r (map F.number rows.now) → r < length marks.now }
-    requires passed { Passed turned marks.now (map F.number rows.now) place }
-    ensures passed { Passed turned marks.now (map F.number rows.now) result }
-    ensures unmarked { result < length rows.now → ¬ IsMarked marks.now (slice_index (map F.number rows.now) (turn turned (length (map F.number rows.now)) result)) }
+    requires passed { HasPassed reversed marks.now (map F.number rows.now) place }
+    ensures passed { HasPassed reversed marks.now (map F.number rows.now) result }
+    ensures unmarked { result < length rows.now → ¬ IsMarked marks.now (slice_index (map F.number rows.now) (read_place reversed (length (map F.number rows.now)) result)) }
 {
     let mut at = place;
     while at < rows.len() {
-        let row = row_at(rows, at, turned);
+        let row = row_at(rows, at, reversed);
         if !marks[row.0 as usize] {
             return at;
         }
@@ -48,21 +47,16 @@ pub fn next_unmarked<F: Id>(rows: &[F], marks: &[bool], place: usize, turned: bo
 }
 
 /// An unmatched row of the list, from `look` on, which moves past all that were looked at: matched rows stay matched.
-pub fn unmatched_row<F: Id, S: Side<F>>(
-    side: &S,
-    rows: &[F],
-    matching: &Matching,
-    look: &mut u32,
-) -> Option<Row>
-    requires in_range { (r : ℕ) → Among r (map F.number rows.now) → r < (S.seen matching.now).rows }
+pub fn unmatched_row<F: Opposite>(rows: &[F], matching: &Matching, look: &mut u32) -> Option<Row>
+    requires in_range { (r : ℕ) → Among r (map F.number rows.now) → r < (F.seen matching.now).rows }
     requires few { length rows.now < 2 ^ 32 }
-    ensures { IfSome result (λ r. Among r (map F.number rows.now) × (¬ Among r (rows_of (S.seen matching.now).pairs))) }
+    ensures { IfSome result (λ r. Among r (map F.number rows.now) × (¬ Among r (rows_of (F.seen matching.now).pairs))) }
 {
     let mut at = *look as usize;
     while at < rows.len() {
         let row = row_at(rows, at, false);
         at += 1;
-        match side.col_of(matching, row) {
+        match F::col_of(matching, row) {
             Some(_) => {}
             None => {
                 *look = at as u32;

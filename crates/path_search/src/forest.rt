@@ -1,19 +1,19 @@
 //! Phases of breadth-first searches from all unmatched columns at once.
 
 ghost use Rattle.std.specs.Prelude.{◌≡◌, ◌⊎◌, ◌↔◌, ℕ, suc, ◌<◌, ◌≤◌, ◌∷◌, ◌++◌, [], true, length, set, reverse, IsTrue, IfOk, IfSome, IfNone};
-ghost use Rattle.bip_defs.specs.Lists.{Among};
-ghost use Rattle.bip_defs.specs.Matching.{IsMatching, IsMaximum, rows_of, cols_of};
+ghost use Rattle.bip_defs.specs.Lists.{Among, IsMarked};
+ghost use Rattle.bip_defs.specs.Marks.{IsExplored};
+ghost use Rattle.bip_defs.specs.Matching.{Covers, IsMaximum, rows_of, cols_of};
 ghost use Rattle.bip_defs.specs.Matrix.{AreEntries, Matrix, cols};
 ghost use Rattle.bip_defs.specs.Paths.{Exchanges, IsAugmenting};
-ghost use Rattle.bip_graph.specs.Pairing.{Pairing};
-ghost use Rattle.path_search.specs.Searching.{IsMarked, IsShut};
-ghost use Rattle.path_search.specs.Forests.{AreFruitless, GoesOn, IsForest, IsLeafOf, LeadOn, Spreads, Traces, Visits, reached_at};
+ghost use Rattle.bip_graph.specs.Pairing.{IsMatchingOf, Pairing};
+ghost use Rattle.path_search.specs.Forests.{HaveNoPath, IsForest, IsLeafOf, LeadOn, Progresses, Spreads, Traces, Visits, reached_at};
 
 use crate::columns::{put, unmark_all};
 use crate::reached::Reached;
-use crate::sides::Side;
-use bip_graph::Matching;
-use sp_ids::{Col, Id, OutOfMemory, Row};
+use bip_graph::{Matching, Opposite};
+use sp_ids::{Col, OutOfMemory, Row};
+use sp_pattern::Side;
 use std::alloc::Global;
 use std::marker::Model;
 
@@ -124,35 +124,30 @@ impl Forest {
     }
 
     // Exchanges the path, and leaves something else in its place.
-    fn flip<F: Id, S: Side<F>>(&mut self, side: &S, matching: &mut Matching)
-        requires rows { (S.seen matching.old).rows ≡ (S.matrix side.now).rows }
-        requires cols { (S.seen matching.old).cols ≡ cols (S.matrix side.now) }
-        requires matching { IsMatching (S.matrix side.now) (S.seen matching.old).pairs }
-        requires entries { AreEntries (S.matrix side.now) self.old.path }
-        requires path { IsAugmenting (S.seen matching.old).pairs self.old.path }
+    fn flip<F: Opposite>(&mut self, matching: &mut Matching)
+        requires in_range { (r c : ℕ) → Among (r, c) self.old.path → (r < (F.seen matching.old).rows) × (c < (F.seen matching.old).cols) }
+        requires path { IsAugmenting (F.seen matching.old).pairs self.old.path }
         ensures same { self.new ≡ record self.old { path = self.new.path } }
-        ensures pairs { Exchanges self.old.path (S.seen matching.old).pairs (S.seen matching.new).pairs }
-        ensures size { length (S.seen matching.new).pairs ≡ suc (length (S.seen matching.old).pairs) }
-        ensures sizes { ((S.seen matching.new).rows ≡ (S.seen matching.old).rows) × ((S.seen matching.new).cols ≡ (S.seen matching.old).cols) }
-        ensures matching { IsMatching (S.matrix side.now) (S.seen matching.new).pairs }
-        ensures rows_stay { (r : ℕ) → Among r (rows_of (S.seen matching.old).pairs) → Among r (rows_of (S.seen matching.new).pairs) }
-        ensures cols_stay { (c : ℕ) → Among c (cols_of (S.seen matching.old).pairs) → Among c (cols_of (S.seen matching.new).pairs) }
+        ensures pairs { Exchanges self.old.path (F.seen matching.old).pairs (F.seen matching.new).pairs }
+        ensures size { length (F.seen matching.new).pairs ≡ suc (length (F.seen matching.old).pairs) }
+        ensures matching { (a : Matrix) → IsMatchingOf a (F.seen matching.old) → AreEntries a self.old.path → IsMatchingOf a (F.seen matching.new) }
+        ensures covered { Covers (F.seen matching.old).pairs (F.seen matching.new).pairs }
     {
-        side.exchange(matching, self.path.as_mut_slice());
+        F::exchange(matching, self.path.as_mut_slice());
     }
 
     // Starts a tree from each unmatched column.
-    fn plant<F: Id, S: Side<F>>(&mut self, side: &S, matching: &Matching)
+    fn start<F: Opposite, S: Side<F>>(&mut self, side: &S, matching: &Matching)
         requires rows { length self.old.marks ≡ (S.matrix side.now).rows }
         requires cols { self.old.cols ≡ cols (S.matrix side.now) }
-        requires matching_cols { (S.seen matching.now).cols ≡ cols (S.matrix side.now) }
-        ensures forest { IsForest (S.matrix side.now) (S.seen matching.now).pairs self.new }
-        ensures fruitless { AreFruitless (S.matrix side.now) (S.seen matching.now).pairs self.new 0 }
+        requires matching_cols { (F.seen matching.now).cols ≡ cols (S.matrix side.now) }
+        ensures forest { IsForest (S.matrix side.now) (F.seen matching.now).pairs self.new }
+        ensures no_path { HaveNoPath (S.matrix side.now) (F.seen matching.now).pairs self.new 0 }
     {
         self.clear();
         for number in 0..side.cols() {
             let col = Col(number);
-            match side.row_of(matching, col) {
+            match F::row_of(matching, col) {
                 Some(_) => {}
                 None => self.reach(Reached {
                     col,
@@ -164,7 +159,7 @@ impl Forest {
     }
 
     // Marks a row in which the column at a place has an entry, and reaches the row's mate. Whether it has none.
-    fn visit<F: Id, S: Side<F>>(
+    fn visit<F: Opposite, S: Side<F>>(
         &mut self,
         side: &S,
         matching: &Matching,
@@ -173,15 +168,15 @@ impl Forest {
         root: Col,
     ) -> bool
         requires row { row < length self.old.marks }
-        requires matching_rows { (S.seen matching.now).rows ≡ length self.old.marks }
-        requires room { (d : ℕ) → Among (row, d) (S.seen matching.now).pairs → ¬ IsMarked self.old.marks row → length self.old.queue < self.old.cols }
-        ensures { Visits (S.seen matching.now).pairs row place root self.old self.new result }
+        requires matching_rows { (F.seen matching.now).rows ≡ length self.old.marks }
+        requires room { (d : ℕ) → Among (row, d) (F.seen matching.now).pairs → ¬ IsMarked self.old.marks row → length self.old.queue < self.old.cols }
+        ensures { Visits (F.seen matching.now).pairs row place root self.old self.new result }
     {
         if self.is_marked(row) {
             return false;
         }
         self.mark(row);
-        match side.col_of(matching, row) {
+        match F::col_of(matching, row) {
             Some(col) => {
                 self.reach(Reached {
                     col,
@@ -195,7 +190,7 @@ impl Forest {
     }
 
     // Looks through the list of the column at a place, until an unmatched row is found.
-    fn scan<F: Id, S: Side<F>>(
+    fn scan<F: Opposite, S: Side<F>>(
         &mut self,
         side: &S,
         matching: &Matching,
@@ -203,17 +198,16 @@ impl Forest {
         col: Col,
         root: Col,
     ) -> Option<Row>
-        requires matching_rows { (S.seen matching.now).rows ≡ (S.matrix side.now).rows }
-        requires matching { IsMatching (S.matrix side.now) (S.seen matching.now).pairs }
-        requires forest { IsForest (S.matrix side.now) (S.seen matching.now).pairs self.old }
+        requires matching { IsMatchingOf (S.matrix side.now) (F.seen matching.now) }
+        requires forest { IsForest (S.matrix side.now) (F.seen matching.now).pairs self.old }
         requires place { place < length self.old.queue }
         requires col { (reached_at self.old.queue place).col ≡ col }
         requires root { (reached_at self.old.queue place).root ≡ root }
-        ensures forest { IsForest (S.matrix side.now) (S.seen matching.now).pairs self.new }
+        ensures forest { IsForest (S.matrix side.now) (F.seen matching.now).pairs self.new }
         ensures spreads { Spreads root self.old self.new }
-        ensures found { IfSome result (IsLeafOf (S.matrix side.now) (S.seen matching.now).pairs self.new col) }
-        ensures shut { IfNone result (IsShut (S.matrix side.now) self.new.marks col) }
-        ensures lead_on { IfNone result (LeadOn (S.seen matching.now).pairs self.old self.new) }
+        ensures found { IfSome result (IsLeafOf (S.matrix side.now) (F.seen matching.now).pairs self.new col) }
+        ensures explored { IfNone result (IsExplored (S.matrix side.now) self.new.marks col) }
+        ensures lead_on { IfNone result (LeadOn (F.seen matching.now).pairs self.old self.new) }
     {
         let rows = side.rows_of(col);
         for far in rows {
@@ -226,22 +220,27 @@ impl Forest {
     }
 
     // Follows a tree back from an unmatched row in which the column at a place has an entry, and keeps the path.
-    fn trace<F: Id, S: Side<F>>(&mut self, side: &S, matching: &Matching, row: Row, place: u32)
-        requires matching_cols { (S.seen matching.now).cols ≡ cols (S.matrix side.now) }
-        requires matching { IsMatching (S.matrix side.now) (S.seen matching.now).pairs }
-        requires forest { IsForest (S.matrix side.now) (S.seen matching.now).pairs self.old }
+    fn trace<F: Opposite, S: Side<F>>(
+        &mut self,
+        side: &S,
+        matching: &Matching,
+        row: Row,
+        place: u32,
+    )
+        requires matching { IsMatchingOf (S.matrix side.now) (F.seen matching.now) }
+        requires forest { IsForest (S.matrix side.now) (F.seen matching.now).pairs self.old }
         requires place { place < length self.old.queue }
-        requires leaf { IsLeafOf (S.matrix side.now) (S.seen matching.now).pairs self.old (reached_at self.old.queue place).col row }
-        requires unmatched { ¬ Among (reached_at self.old.queue place).root (cols_of (S.seen matching.now).pairs) }
+        requires leaf { IsLeafOf (S.matrix side.now) (F.seen matching.now).pairs self.old (reached_at self.old.queue place).col row }
+        requires unmatched { ¬ Among (reached_at self.old.queue place).root (cols_of (F.seen matching.now).pairs) }
         ensures same { self.new ≡ record self.old { path = self.new.path } }
-        ensures path { Traces (S.matrix side.now) (S.seen matching.now).pairs self.old.queue (reached_at self.old.queue place).root row self.new.path }
+        ensures path { Traces (S.matrix side.now) (F.seen matching.now).pairs self.old.queue (reached_at self.old.queue place).root row self.new.path }
     {
-        side.sizes_fit();
+        let _cols = side.cols();
         self.start_path();
         let mut at = place;
         let mut column = self.at(at);
         self.step(row, column.col);
-        while let Some(back) = side.row_of(matching, column.col) {
+        while let Some(back) = F::row_of(matching, column.col) {
             at = column.from;
             column = self.at(at);
             self.step(back, column.col);
@@ -250,49 +249,41 @@ impl Forest {
     }
 
     // Exchanges the path that a tree has found to an unmatched row in which the column at a place has an entry.
-    fn exchange<F: Id, S: Side<F>>(
+    fn exchange<F: Opposite, S: Side<F>>(
         &mut self,
         side: &S,
         matching: &mut Matching,
         row: Row,
         place: u32,
     )
-        requires matching_rows { (S.seen matching.old).rows ≡ (S.matrix side.now).rows }
-        requires matching_cols { (S.seen matching.old).cols ≡ cols (S.matrix side.now) }
-        requires matching { IsMatching (S.matrix side.now) (S.seen matching.old).pairs }
-        requires forest { IsForest (S.matrix side.now) (S.seen matching.old).pairs self.old }
+        requires matching { IsMatchingOf (S.matrix side.now) (F.seen matching.old) }
+        requires forest { IsForest (S.matrix side.now) (F.seen matching.old).pairs self.old }
         requires place { place < length self.old.queue }
-        requires leaf { IsLeafOf (S.matrix side.now) (S.seen matching.old).pairs self.old (reached_at self.old.queue place).col row }
-        requires unmatched { ¬ Among (reached_at self.old.queue place).root (cols_of (S.seen matching.old).pairs) }
+        requires leaf { IsLeafOf (S.matrix side.now) (F.seen matching.old).pairs self.old (reached_at self.old.queue place).col row }
+        requires unmatched { ¬ Among (reached_at self.old.queue place).root (cols_of (F.seen matching.old).pairs) }
         ensures queue { self.new.queue ≡ self.old.queue }
-        ensures forest { IsForest (S.matrix side.now) (S.seen matching.new).pairs self.new }
-        ensures sizes { ((S.seen matching.new).rows ≡ (S.seen matching.old).rows) × ((S.seen matching.new).cols ≡ (S.seen matching.old).cols) }
-        ensures matching { IsMatching (S.matrix side.now) (S.seen matching.new).pairs }
-        ensures rows_stay { (r : ℕ) → Among r (rows_of (S.seen matching.old).pairs) → Among r (rows_of (S.seen matching.new).pairs) }
-        ensures cols_stay { (c : ℕ) → Among c (cols_of (S.seen matching.old).pairs) → Among c (cols_of (S.seen matching.new).pairs) }
-        ensures size { length (S.seen matching.new).pairs ≡ suc (length (S.seen matching.old).pairs) }
+        ensures forest { IsForest (S.matrix side.now) (F.seen matching.new).pairs self.new }
+        ensures matching { IsMatchingOf (S.matrix side.now) (F.seen matching.new) }
+        ensures covered { Covers (F.seen matching.old).pairs (F.seen matching.new).pairs }
+        ensures size { length (F.seen matching.new).pairs ≡ suc (length (F.seen matching.old).pairs) }
     {
         self.trace(side, matching, row, place);
-        self.flip(side, matching);
+        self.flip::<F>(matching);
     }
 
     // Looks through the list of the column at a place, unless its tree is done with, and exchanges a path that ends there.
-    fn grow<F: Id, S: Side<F>>(&mut self, side: &S, matching: &mut Matching, place: u32)
-        requires matching_rows { (S.seen matching.old).rows ≡ (S.matrix side.now).rows }
-        requires matching_cols { (S.seen matching.old).cols ≡ cols (S.matrix side.now) }
-        requires matching { IsMatching (S.matrix side.now) (S.seen matching.old).pairs }
-        requires forest { IsForest (S.matrix side.now) (S.seen matching.old).pairs self.old }
+    fn grow<F: Opposite, S: Side<F>>(&mut self, side: &S, matching: &mut Matching, place: u32)
+        requires matching { IsMatchingOf (S.matrix side.now) (F.seen matching.old) }
+        requires forest { IsForest (S.matrix side.now) (F.seen matching.old).pairs self.old }
         requires place { place < length self.old.queue }
-        ensures forest { IsForest (S.matrix side.now) (S.seen matching.new).pairs self.new }
+        ensures forest { IsForest (S.matrix side.now) (F.seen matching.new).pairs self.new }
         ensures queue { length self.old.queue ≤ length self.new.queue }
-        ensures sizes { ((S.seen matching.new).rows ≡ (S.seen matching.old).rows) × ((S.seen matching.new).cols ≡ (S.seen matching.old).cols) }
-        ensures matching { IsMatching (S.matrix side.now) (S.seen matching.new).pairs }
-        ensures rows_stay { (r : ℕ) → Among r (rows_of (S.seen matching.old).pairs) → Among r (rows_of (S.seen matching.new).pairs) }
-        ensures cols_stay { (c : ℕ) → Among c (cols_of (S.seen matching.old).pairs) → Among c (cols_of (S.seen matching.new).pairs) }
-        ensures goes_on { GoesOn (S.matrix side.now) (S.seen matching.old) (S.seen matching.new) self.old self.new place }
+        ensures matching { IsMatchingOf (S.matrix side.now) (F.seen matching.new) }
+        ensures covered { Covers (F.seen matching.old).pairs (F.seen matching.new).pairs }
+        ensures progresses { Progresses (S.matrix side.now) (F.seen matching.old) (F.seen matching.new) self.old self.new place }
     {
         let column = self.at(place);
-        match side.row_of(matching, column.root) {
+        match F::row_of(matching, column.root) {
             Some(_) => {}
             None => {
                 let found = self.scan(side, matching, place, column.col, column.root);
@@ -309,24 +300,21 @@ impl Forest {
     /// (Azad, Buluç and Pothen 2017). Each row is in one tree at most, so the paths have no vertex in common. Where there
     /// is no path the matching was maximum. Takes no memory. Work: one look at each row and column, and at each entry once
     /// at most.
-    pub fn sweep<F: Id, S: Side<F>>(&mut self, side: &S, matching: &mut Matching)
+    pub fn sweep<F: Opposite, S: Side<F>>(&mut self, side: &S, matching: &mut Matching)
         requires rows { length self.old.marks ≡ (S.matrix side.now).rows }
         requires cols { self.old.cols ≡ cols (S.matrix side.now) }
-        requires matching_rows { (S.seen matching.old).rows ≡ (S.matrix side.now).rows }
-        requires matching_cols { (S.seen matching.old).cols ≡ cols (S.matrix side.now) }
-        requires matching { IsMatching (S.matrix side.now) (S.seen matching.old).pairs }
+        requires matching { IsMatchingOf (S.matrix side.now) (F.seen matching.old) }
         ensures rows { length self.new.marks ≡ length self.old.marks }
         ensures cols { self.new.cols ≡ self.old.cols }
-        ensures sizes { ((S.seen matching.new).rows ≡ (S.seen matching.old).rows) × ((S.seen matching.new).cols ≡ (S.seen matching.old).cols) }
-        ensures matching { IsMatching (S.matrix side.now) (S.seen matching.new).pairs }
-        ensures rows_stay { (r : ℕ) → Among r (rows_of (S.seen matching.old).pairs) → Among r (rows_of (S.seen matching.new).pairs) }
-        ensures cols_stay { (c : ℕ) → Among c (cols_of (S.seen matching.old).pairs) → Among c (cols_of (S.seen matching.new).pairs) }
+        ensures matching { IsMatchingOf (S.matrix side.now) (F.seen matching.new) }
+        ensures covered { Covers (F.seen matching.old).pairs (F.seen matching.new).pairs }
 
         // Where the matching hasn't grown it was maximum.
-        ensures maximum { ((S.seen matching.new ≡ S.seen matching.old) × IsMaximum (S.matrix side.now) (S.seen matching.old).pairs) ⊎ (length (S.seen matching.old).pairs < length (S.seen matching.new).pairs) }
+        ensures maximum { ((F.seen matching.new ≡ F.seen matching.old) × IsMaximum (S.matrix side.now) (F.seen matching.old).pairs) ⊎ (length (F.seen matching.old).pairs < length (F.seen matching.new).pairs) }
     {
-        side.sizes_fit();
-        self.plant(side, matching);
+        // Places fit, since there are no more than columns.
+        let _cols = side.cols();
+        self.start(side, matching);
         let mut place: u32 = 0;
         while (place as usize) < self.reached() {
             self.grow(side, matching, place);

@@ -7,9 +7,7 @@ mod columns;
 mod forest;
 mod reached;
 mod search;
-mod sides;
 mod step;
 
 pub use forest::Forest;
 pub use search::Search;
-pub use sides::{FromRows, Side};

@@ -1,21 +1,21 @@
 //! Searches, and what one keeps for the next.
 
 ghost use Rattle.std.specs.Bool.{OnTrue, OnFalse};
-ghost use Rattle.std.specs.Prelude.{◌≡◌, ◌⊎◌, ℕ, suc, ◌+◌, ◌<◌, ◌≤◌, ◌^◌, ◌∷◌, ◌++◌, [], true, length, map, set, slice_index, IfOk, IfSome, IfNone};
-ghost use Rattle.bip_defs.specs.Lists.{Among};
-ghost use Rattle.bip_defs.specs.Matching.{IsMatching, rows_of, cols_of};
+ghost use Rattle.std.specs.Prelude.{◌≡◌, ◌⊎◌, ℕ, suc, ◌+◌, ◌<◌, ◌≤◌, ◌^◌, ◌∷◌, ◌++◌, [], Bool, List, true, length, map, set, slice_index, IfOk, IfSome, IfNone};
+ghost use Rattle.bip_defs.specs.Lists.{Among, IsMarked};
+ghost use Rattle.bip_defs.specs.Matching.{Covers, rows_of, cols_of};
 ghost use Rattle.bip_defs.specs.Matrix.{AreEntries, IsEntry, Matrix, Place, cols, column};
 ghost use Rattle.bip_defs.specs.Paths.{Exchanges, IsAugmenting};
-ghost use Rattle.bip_graph.specs.Pairing.{Pairing};
-ghost use Rattle.path_search.specs.Searching.{IsMarked, Augments, Marks, Unmarks, Finds, Fails};
-ghost use Rattle.path_search.specs.Advancing.{Advances, Visits};
-ghost use Rattle.path_search.specs.Trails.{IsSearch, Passed, turn};
+ghost use Rattle.bip_graph.specs.Pairing.{IsMatchingOf, Pairing};
+ghost use Rattle.path_search.specs.Searching.{Augments, Exhausts, Fails, Finds, HasMarked};
+ghost use Rattle.path_search.specs.Advancing.{Advances, Descends};
+ghost use Rattle.path_search.specs.Trails.{HasPassed, StandsAt, read_place};
 
 use crate::columns::{next_unmarked, put, row_at, unmark, unmark_all, unmatched_row};
-use crate::sides::Side;
 use crate::step::{Stand, Step};
-use bip_graph::Matching;
+use bip_graph::{Matching, Opposite};
 use sp_ids::{Col, Id, OutOfMemory, Row};
+use sp_pattern::Side;
 use std::alloc::Global;
 use std::marker::Model;
 
@@ -115,55 +115,55 @@ impl Search {
     }
 
     // An unmatched row of a column, where one was not passed yet.
-    fn look_ahead<F: Id, S: Side<F>>(
+    fn look_ahead<F: Opposite, S: Side<F>>(
         &mut self,
         side: &S,
         matching: &Matching,
         col: Col,
     ) -> Option<Row>
-        requires rows { (S.seen matching.now).rows ≡ (S.matrix side.now).rows }
-        requires cols { self.old.cols ≡ cols (S.matrix side.now) }
+        requires rows { (F.seen matching.now).rows ≡ (S.matrix side.now).rows }
+        requires looks { self.old.cols ≡ cols (S.matrix side.now) }
         requires col { col < cols (S.matrix side.now) }
         ensures same { self.new ≡ self.old }
-        ensures found { IfSome result (λ r. IsEntry (S.matrix side.now) r col × (¬ Among r (rows_of (S.seen matching.now).pairs))) }
+        ensures found { IfSome result (λ r. IsEntry (S.matrix side.now) r col × (¬ Among r (rows_of (F.seen matching.now).pairs))) }
     {
-        side.sizes_fit();
+        // A column has no more rows than fit.
+        let _rows = side.rows();
         let rows = side.rows_of(col);
         let look = &mut self.look[col.0 as usize];
-        unmatched_row(side, rows, matching, look)
+        unmatched_row(rows, matching, look)
     }
 
     // The first place of an unmarked row, from `place` on, or one past the end.
-    fn next_place<F: Id>(&self, rows: &[F], place: u32, turned: bool) -> usize
+    fn next_place<F: Id>(&self, rows: &[F], place: u32, reversed: bool) -> usize
         requires in_range { (r : ℕ) → Among r (map F.number rows.now) → r < length self.now.marks }
-        requires passed { Passed turned self.now.marks (map F.number rows.now) place }
-        ensures passed { Passed turned self.now.marks (map F.number rows.now) result }
-        ensures unmarked { result < length rows.now → ¬ IsMarked self.now.marks (slice_index (map F.number rows.now) (turn turned (length (map F.number rows.now)) result)) }
+        requires passed { HasPassed reversed self.now.marks (map F.number rows.now) place }
+        ensures passed { HasPassed reversed self.now.marks (map F.number rows.now) result }
+        ensures unmarked { result < length rows.now → ¬ IsMarked self.now.marks (slice_index (map F.number rows.now) (read_place reversed (length (map F.number rows.now)) result)) }
     {
-        next_unmarked(rows, self.marks.as_slice(), place as usize, turned)
+        next_unmarked(rows, self.marks.as_slice(), place as usize, reversed)
     }
 
     // Goes down by the first unmarked row of a column, if there is one.
-    fn descend<F: Id, S: Side<F>>(
+    fn descend<F: Opposite, S: Side<F>>(
         &mut self,
         side: &S,
         matching: &Matching,
         at: Stand,
-        turned: bool,
+        reversed: bool,
     ) -> Step
-        requires rows { (S.seen matching.now).rows ≡ (S.matrix side.now).rows }
-        requires matching { IsMatching (S.matrix side.now) (S.seen matching.now).pairs }
-        requires search { IsSearch (S.matrix side.now) (S.seen matching.now).pairs turned self.old at.col at.place }
-        ensures { Visits (S.matrix side.now) (S.seen matching.now).pairs turned self.old self.new at.col result }
+        requires matching { IsMatchingOf (S.matrix side.now) (F.seen matching.now) }
+        requires search { StandsAt (S.matrix side.now) (F.seen matching.now).pairs reversed self.old at.col at.place }
+        ensures { Descends (S.matrix side.now) (F.seen matching.now).pairs reversed self.old self.new at.col result }
     {
         let rows = side.rows_of(at.col);
-        let place = self.next_place(rows, at.place, turned);
+        let place = self.next_place(rows, at.place, reversed);
         if place >= rows.len() {
             return Step::Stuck;
         }
-        let row = row_at(rows, place, turned);
+        let row = row_at(rows, place, reversed);
         self.enter(row, at.col);
-        match side.col_of(matching, row) {
+        match F::col_of(matching, row) {
             None => Step::Found,
             Some(next) => {
                 self.note(place as u32 + 1);
@@ -176,17 +176,16 @@ impl Search {
     }
 
     // At a column's first visit looks ahead, and goes down.
-    fn visit<F: Id, S: Side<F>>(
+    fn visit<F: Opposite, S: Side<F>>(
         &mut self,
         side: &S,
         matching: &Matching,
         at: Stand,
-        turned: bool,
+        reversed: bool,
     ) -> Step
-        requires rows { (S.seen matching.now).rows ≡ (S.matrix side.now).rows }
-        requires matching { IsMatching (S.matrix side.now) (S.seen matching.now).pairs }
-        requires search { IsSearch (S.matrix side.now) (S.seen matching.now).pairs turned self.old at.col at.place }
-        ensures { Visits (S.matrix side.now) (S.seen matching.now).pairs turned self.old self.new at.col result }
+        requires matching { IsMatchingOf (S.matrix side.now) (F.seen matching.now) }
+        requires search { StandsAt (S.matrix side.now) (F.seen matching.now).pairs reversed self.old at.col at.place }
+        ensures { Descends (S.matrix side.now) (F.seen matching.now).pairs reversed self.old self.new at.col result }
     {
         if at.place == 0 {
             if let Some(row) = self.look_ahead(side, matching, at.col) {
@@ -194,23 +193,22 @@ impl Search {
                 return Step::Found;
             }
         }
-        self.descend(side, matching, at, turned)
+        self.descend(side, matching, at, reversed)
     }
 
     // Goes down, or back where that isn't possible.
-    fn advance<F: Id, S: Side<F>>(
+    fn advance<F: Opposite, S: Side<F>>(
         &mut self,
         side: &S,
         matching: &Matching,
         at: Stand,
-        turned: bool,
+        reversed: bool,
     ) -> Step
-        requires rows { (S.seen matching.now).rows ≡ (S.matrix side.now).rows }
-        requires matching { IsMatching (S.matrix side.now) (S.seen matching.now).pairs }
-        requires search { IsSearch (S.matrix side.now) (S.seen matching.now).pairs turned self.old at.col at.place }
-        ensures { Advances (S.matrix side.now) (S.seen matching.now).pairs turned self.old self.new result }
+        requires matching { IsMatchingOf (S.matrix side.now) (F.seen matching.now) }
+        requires search { StandsAt (S.matrix side.now) (F.seen matching.now).pairs reversed self.old at.col at.place }
+        ensures { Advances (S.matrix side.now) (F.seen matching.now).pairs reversed self.old self.new result }
     {
-        match self.visit(side, matching, at, turned) {
+        match self.visit(side, matching, at, reversed) {
             Step::Stuck => match self.back() {
                 Some(before) => Step::On(before),
                 None => Step::Stuck,
@@ -220,32 +218,32 @@ impl Search {
     }
 
     // Searches from an unmatched column for an augmenting path through rows that are not marked.
-    fn find<F: Id, S: Side<F>>(
+    fn find<F: Opposite, S: Side<F>>(
         &mut self,
         side: &S,
         matching: &Matching,
         root: Col,
-        turned: bool,
+        reversed: bool,
     ) -> bool
         requires rows { length self.old.marks ≡ (S.matrix side.now).rows }
         requires cols { self.old.cols ≡ cols (S.matrix side.now) }
-        requires matching_rows { (S.seen matching.now).rows ≡ (S.matrix side.now).rows }
-        requires matching { IsMatching (S.matrix side.now) (S.seen matching.now).pairs }
+        requires matching { IsMatchingOf (S.matrix side.now) (F.seen matching.now) }
         requires root { root < cols (S.matrix side.now) }
-        requires unmatched { ¬ Among root (cols_of (S.seen matching.now).pairs) }
+        requires unmatched { ¬ Among root (cols_of (F.seen matching.now).pairs) }
         ensures cols { self.new.cols ≡ self.old.cols }
-        ensures marks { Marks self.new.seen self.old.marks self.new.marks }
-        ensures found { OnTrue result (Finds (S.matrix side.now) (S.seen matching.now).pairs self.old.marks root self.new.path) }
-        ensures failed { OnFalse result (Fails (S.matrix side.now) (S.seen matching.now).pairs self.new.marks self.new.seen root) }
+        ensures marks { HasMarked self.new.seen self.old.marks self.new.marks }
+        ensures found { OnTrue result (Finds (S.matrix side.now) (F.seen matching.now).pairs self.old.marks root self.new.path) }
+        ensures failed { OnFalse result (Exhausts (S.matrix side.now) (F.seen matching.now).pairs self.new.marks self.new.seen root) }
     {
-        side.sizes_fit();
+        // The rows fit, and so do the places in a column's list.
+        let _rows = side.rows();
         self.start(root);
         let mut at = Stand {
             col: root,
             place: 0,
         };
         loop {
-            match self.advance(side, matching, at, turned) {
+            match self.advance(side, matching, at, reversed) {
                 Step::Found => return true,
                 Step::Stuck => return false,
                 Step::On(next) => at = next,
@@ -254,66 +252,59 @@ impl Search {
     }
 
     // Exchanges the path, and leaves something else in its place.
-    fn flip<F: Id, S: Side<F>>(&mut self, side: &S, matching: &mut Matching)
-        requires rows { (S.seen matching.old).rows ≡ (S.matrix side.now).rows }
-        requires cols { (S.seen matching.old).cols ≡ cols (S.matrix side.now) }
-        requires matching { IsMatching (S.matrix side.now) (S.seen matching.old).pairs }
-        requires entries { AreEntries (S.matrix side.now) self.old.path }
-        requires path { IsAugmenting (S.seen matching.old).pairs self.old.path }
+    fn flip<F: Opposite>(&mut self, matching: &mut Matching)
+        requires in_range { (r c : ℕ) → Among (r, c) self.old.path → (r < (F.seen matching.old).rows) × (c < (F.seen matching.old).cols) }
+        requires path { IsAugmenting (F.seen matching.old).pairs self.old.path }
         ensures same { self.new ≡ record self.old { path = self.new.path } }
-        ensures pairs { Exchanges self.old.path (S.seen matching.old).pairs (S.seen matching.new).pairs }
-        ensures size { length (S.seen matching.new).pairs ≡ suc (length (S.seen matching.old).pairs) }
-        ensures sizes { ((S.seen matching.new).rows ≡ (S.seen matching.old).rows) × ((S.seen matching.new).cols ≡ (S.seen matching.old).cols) }
-        ensures matching { IsMatching (S.matrix side.now) (S.seen matching.new).pairs }
-        ensures rows_stay { (r : ℕ) → Among r (rows_of (S.seen matching.old).pairs) → Among r (rows_of (S.seen matching.new).pairs) }
-        ensures cols_stay { (c : ℕ) → Among c (cols_of (S.seen matching.old).pairs) → Among c (cols_of (S.seen matching.new).pairs) }
+        ensures pairs { Exchanges self.old.path (F.seen matching.old).pairs (F.seen matching.new).pairs }
+        ensures size { length (F.seen matching.new).pairs ≡ suc (length (F.seen matching.old).pairs) }
+        ensures matching { (a : Matrix) → IsMatchingOf a (F.seen matching.old) → AreEntries a self.old.path → IsMatchingOf a (F.seen matching.new) }
+        ensures covered { Covers (F.seen matching.old).pairs (F.seen matching.new).pairs }
     {
-        side.exchange(matching, self.path.as_mut_slice());
+        F::exchange(matching, self.path.as_mut_slice());
     }
 
     /// Searches from an unmatched column, and exchanges the augmenting path that it finds. Whether it found one.
     ///
     /// The search is depth-first with look-ahead, through rows that are not marked, and marks each row that it goes down
     /// over. An unmatched row that look-ahead finds ends the path and is not marked.
-    /// Where `turned` holds, each column's list is read from its end. Work: the entries of the columns that it comes to,
+    /// Where `reversed` holds, each column's list is read from its end. Work: the entries of the columns that it comes to,
     /// and of all look-aheads together each entry once.
-    pub fn augment<F: Id, S: Side<F>>(
+    pub fn augment<F: Opposite, S: Side<F>>(
         &mut self,
         side: &S,
         matching: &mut Matching,
         root: Col,
-        turned: bool,
+        reversed: bool,
     ) -> bool
         requires rows { length self.old.marks ≡ (S.matrix side.now).rows }
         requires cols { self.old.cols ≡ cols (S.matrix side.now) }
-        requires matching_rows { (S.seen matching.old).rows ≡ (S.matrix side.now).rows }
-        requires matching_cols { (S.seen matching.old).cols ≡ cols (S.matrix side.now) }
-        requires matching { IsMatching (S.matrix side.now) (S.seen matching.old).pairs }
+        requires matching { IsMatchingOf (S.matrix side.now) (F.seen matching.old) }
         requires root { root < cols (S.matrix side.now) }
-        requires unmatched { ¬ Among root (cols_of (S.seen matching.old).pairs) }
+        requires unmatched { ¬ Among root (cols_of (F.seen matching.old).pairs) }
         ensures cols { self.new.cols ≡ self.old.cols }
-        ensures marks { Marks self.new.seen self.old.marks self.new.marks }
-        ensures sizes { ((S.seen matching.new).rows ≡ (S.seen matching.old).rows) × ((S.seen matching.new).cols ≡ (S.seen matching.old).cols) }
-        ensures matching { IsMatching (S.matrix side.now) (S.seen matching.new).pairs }
-        ensures rows_stay { (r : ℕ) → Among r (rows_of (S.seen matching.old).pairs) → Among r (rows_of (S.seen matching.new).pairs) }
-        ensures cols_stay { (c : ℕ) → Among c (cols_of (S.seen matching.old).pairs) → Among c (cols_of (S.seen matching.new).pairs) }
-        ensures found { OnTrue result (Augments root self.old.marks (S.seen matching.old).pairs (S.seen matching.new).pairs) }
+        ensures marks { HasMarked self.new.seen self.old.marks self.new.marks }
+        ensures matching { IsMatchingOf (S.matrix side.now) (F.seen matching.new) }
+        ensures covered { Covers (F.seen matching.old).pairs (F.seen matching.new).pairs }
+        ensures found { OnTrue result (Augments root self.old.marks (F.seen matching.old).pairs (F.seen matching.new).pairs) }
 
         // Without a path the matching stays, and the rows that were marked are of no use to any other path.
-        ensures failed { OnFalse result ((S.seen matching.new ≡ S.seen matching.old) × Fails (S.matrix side.now) (S.seen matching.old).pairs self.new.marks self.new.seen root) }
+        ensures failed { OnFalse result ((F.seen matching.new ≡ F.seen matching.old) × Fails (S.matrix side.now) (F.seen matching.old).pairs self.old.marks self.new.marks root) }
     {
-        if !self.find(side, matching, root, turned) {
+        if !self.find(side, matching, root, reversed) {
             return false;
         }
-        self.flip(side, matching);
+        self.flip::<F>(matching);
         true
     }
 
     /// Takes the marks of the last search away.
     pub fn forget(&mut self)
-        requires { (r : ℕ) → Among r self.old.seen → r < length self.old.marks }
+        requires { (start : List Bool) × HasMarked self.old.seen start self.old.marks }
         ensures cols { self.new.cols ≡ self.old.cols }
-        ensures marks { Unmarks self.old.seen self.old.marks self.new.marks }
+
+        // The marks are those from before the search.
+        ensures marks { (start : List Bool) → HasMarked self.old.seen start self.old.marks → self.new.marks ≡ start }
     {
         unmark(self.marks.as_mut_slice(), self.seen.as_slice());
     }

@@ -4,31 +4,16 @@ use Rattle.bip_defs.specs.Lists.{Among, Lists}
 use Rattle.bip_defs.specs.Matching.{cols_of}
 use Rattle.bip_defs.specs.Matrix.{IsEntry, Matrix, Place, cols}
 use Rattle.bip_defs.proofs.Sets.{among_last, among_left, among_right, entry_col, number_same, rising_distinct, rising_last}
-use Rattle.path_search.proofs.Counting.{distinct_below}
-use Rattle.pothen_fan.specs.Sweeping.{HoldRoots, IsRoot}
+use Rattle.bip_defs.proofs.Full.{few_below}
+use Rattle.pothen_fan.specs.Roots.{HoldRoots, IsRoot}
 
 -- an unmatched column is a root exactly where its list is not empty
 pub root_told : {X : Type 0} (a : Matrix) (m : List Place) (c : ℕ) (f : X → ℕ) (xs : List X) (empty : Bool) → Lists (λ r. IsEntry a r c) (map f xs) → ¬ Among c (cols_of m) → empty ≡ (length xs == 0) → IsTrue (not empty) ↔ IsRoot a m c
 root_told a m c f [] empty l free is = (λ t. absurd (true≢false (sym (subst (λ b. IsTrue (not b)) is t))), λ root. absurd (l.complete root.entry.0 root.entry.1))
 root_told a m c f (x ∷ xs) empty l free is = (λ t. record { unmatched = free; entry = (f x, l.sound (f x) (inl refl)) }, λ root. subst (λ b. IsTrue (not b)) (sym is) (let long : IsTrue (not (length (x ∷ xs) == 0)) = grind arith in long))
 
--- one number more was looked at
-pub listed_more : (P : ℕ → Type 0) (n : ℕ) (xs : List ℕ) → Lists (λ c. (c < n) × P c) xs → P n → Lists (λ c. (c < n + 1) × P c) (xs ++ n ∷ [])
-listed_more P n xs l p = record {
-  rising = rising_last xs n l.rising (λ x h. (l.sound x h).0);
-  sound = λ x h. ⊎_elim (λ g. let k = l.sound x g in (let lt = k.0 in omega arith, k.1)) (λ (e : x ≡ n). (omega arith, subst P (sym e) p)) (among_last x n xs h);
-  complete = λ x q. ⊎_elim (λ (e : x ≡ n). among_right x xs (n ∷ []) (inl e)) (λ (ne : x ≢ n). among_left x xs (n ∷ []) (l.complete x (let lt = q.0 in omega arith, q.1))) (number_same x n);
-}
-
-pub listed_same : (P : ℕ → Type 0) (n : ℕ) (xs : List ℕ) → Lists (λ c. (c < n) × P c) xs → ¬ P n → Lists (λ c. (c < n + 1) × P c) xs
-listed_same P n xs l np = record {
-  rising = l.rising;
-  sound = λ x h. let k = l.sound x h in (let lt = k.0 in omega arith, k.1);
-  complete = λ x q. ⊎_elim (λ (e : x ≡ n). absurd (np (subst P e q.1))) (λ (ne : x ≢ n). l.complete x (let lt = q.0 in omega arith, q.1)) (number_same x n);
-}
-
 pub listed_short : (P : ℕ → Type 0) (n : ℕ) (xs : List ℕ) → Lists (λ c. (c < n) × P c) xs → length xs ≤ n
-listed_short P n xs l = distinct_below n xs (rising_distinct xs l.rising) (λ x h. (l.sound x h).0)
+listed_short P n xs l = few_below n xs (rising_distinct xs l.rising) (λ x h. (l.sound x h).0)
 
 -- all columns were looked at
 pub listed_all : (a : Matrix) (m : List Place) (n : ℕ) (xs : List ℕ) → n ≡ cols a → Lists (λ c. (c < n) × IsRoot a m c) xs → Lists (IsRoot a m) xs

@@ -1,2 +1,2 @@
-pub mod Sweeping
-pub mod Turning
+pub mod Ready
+pub mod Roots

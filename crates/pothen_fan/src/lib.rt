@@ -24,17 +24,16 @@
 mod kinds;
 mod sweep;
 
-ghost use Rattle.std.specs.Prelude.{◌≡◌, ◌↔◌, ℕ, ◌+◌, ◌<◌, length, IfOk, OnErr};
-ghost use Rattle.bip_defs.specs.Lists.{Among};
-ghost use Rattle.bip_defs.specs.Matching.{IsMatching, IsMaximum, rows_of, cols_of};
-ghost use Rattle.bip_defs.specs.Matrix.{cols};
+ghost use Rattle.std.specs.Prelude.{◌≡◌, ◌↔◌, ◌+◌, length, IfOk, OnErr};
+ghost use Rattle.bip_defs.specs.Matching.{Covers, IsMaximum};
+ghost use Rattle.bip_graph.specs.Pairing.{IsMatchingOf, IsMaximumOf, Pairing};
 
 use crate::kinds::complete_from;
 use crate::sweep::{count_roots, roots, sweep};
 use bip_graph::Matching;
-use path_search::{FromRows, Search};
+use path_search::Search;
 use sp_ids::OutOfMemory;
-use sp_pattern::Pattern;
+use sp_pattern::{FromRows, Pattern};
 use std::alloc::Global;
 
 /// One depth-first phase from the columns. Gives by how much the matching has grown: 0 exactly where it was maximum, and
@@ -44,22 +43,18 @@ use std::alloc::Global;
 /// `OutOfMemory` where there is no memory for 17 bytes a row, 4 a column and 4 an unmatched column that has entries; the
 /// matching is as before then. Work: at most two passes over the entries, one of look-ahead and one of the searches.
 pub fn phase(alloc: Global, pattern: &Pattern, matching: &mut Matching) -> Result<u32, OutOfMemory>
-    requires rows { matching.old.rows ≡ pattern.now.rows }
-    requires cols { matching.old.cols ≡ cols pattern.now }
-    requires matching { IsMatching pattern.now matching.old.pairs }
-    ensures sizes { (matching.new.rows ≡ matching.old.rows) × (matching.new.cols ≡ matching.old.cols) }
-    ensures matching { IsMatching pattern.now matching.new.pairs }
+    requires matching { IsMatchingOf pattern.now matching.old }
+    ensures matching { IsMatchingOf pattern.now matching.new }
     ensures growth { IfOk result (λ k. length matching.new.pairs ≡ length matching.old.pairs + k) }
     ensures maximum { IfOk result (λ k. (k ≡ 0) ↔ IsMaximum pattern.now matching.old.pairs) }
     ensures same { IfOk result (λ k. k ≡ 0 → matching.new ≡ matching.old) }
-    ensures rows_stay { (r : ℕ) → Among r (rows_of matching.old.pairs) → Among r (rows_of matching.new.pairs) }
-    ensures cols_stay { (c : ℕ) → Among c (cols_of matching.old.pairs) → Among c (cols_of matching.new.pairs) }
+    ensures covered { Covers matching.old.pairs matching.new.pairs }
     ensures refused { OnErr result (matching.new ≡ matching.old) }
 {
     let mut search = Search::new(alloc, pattern.rows(), pattern.cols())?;
     let roots = roots(alloc, pattern, matching)?;
     let before = matching.size();
-    let _grows = sweep(&mut search, pattern, matching, roots.as_slice(), false);
+    sweep(&mut search, pattern, matching, roots.as_slice(), false);
     Ok(matching.size() - before)
 }
 
@@ -75,13 +70,9 @@ pub fn complete(
     pattern: &Pattern,
     matching: Matching,
 ) -> Result<Matching, OutOfMemory>
-    requires rows { matching.rows ≡ pattern.now.rows }
-    requires cols { matching.cols ≡ cols pattern.now }
-    requires matching { IsMatching pattern.now matching.pairs }
-    ensures sizes { IfOk result (λ m. (m.rows ≡ matching.rows) × (m.cols ≡ matching.cols)) }
-    ensures maximum { IfOk result (λ m. IsMaximum pattern.now m.pairs) }
-    ensures rows_stay { IfOk result (λ m. (r : ℕ) → Among r (rows_of matching.pairs) → Among r (rows_of m.pairs)) }
-    ensures cols_stay { IfOk result (λ m. (c : ℕ) → Among c (cols_of matching.pairs) → Among c (cols_of m.pairs)) }
+    requires matching { IsMatchingOf pattern.now matching }
+    ensures maximum { IfOk result (λ m. IsMaximumOf pattern.now m) }
+    ensures covered { IfOk result (λ m. Covers matching.pairs m.pairs) }
 {
     let from_rows = FromRows { pattern };
     if count_roots(&from_rows, &matching) < count_roots(pattern, &matching) {

@@ -1,33 +1,34 @@
 //! One depth-first phase.
 
 ghost use Rattle.std.specs.Prelude.{◌≡◌, ◌⊎◌, ℕ, ◌<◌, ◌↔◌, List, length, IfOk, IsTrue};
-ghost use Rattle.bip_defs.specs.Lists.{Among, Lists};
-ghost use Rattle.bip_defs.specs.Matching.{IsMaximum, rows_of, cols_of};
+ghost use Rattle.bip_defs.specs.Lists.{Lists};
+ghost use Rattle.bip_defs.specs.Matching.{Covers, IsMaximum};
 ghost use Rattle.bip_defs.specs.Matrix.{Matrix, cols};
-ghost use Rattle.bip_graph.specs.Pairing.{Pairing};
-ghost use Rattle.pothen_fan.specs.Sweeping.{Fits, HoldRoots, IsRoot, Turns};
+ghost use Rattle.bip_graph.specs.Pairing.{IsMatchingOf, Pairing};
+ghost use Rattle.pothen_fan.specs.Roots.{Extends, HoldRoots, IsRoot};
 
-use bip_graph::Matching;
-use path_search::{Search, Side};
-use sp_ids::{Col, Id, OutOfMemory};
+use bip_graph::{Matching, Opposite};
+use path_search::Search;
+use sp_ids::{Col, OutOfMemory};
+use sp_pattern::Side;
 use std::alloc::Global;
 
 // Whether a column is unmatched and has entries.
-fn is_root<F: Id, S: Side<F>>(side: &S, matching: &Matching, col: Col) -> bool
-    requires sizes { (S.seen matching.now).cols ≡ cols (S.matrix side.now) }
+fn is_root<F: Opposite, S: Side<F>>(side: &S, matching: &Matching, col: Col) -> bool
+    requires sizes { (F.seen matching.now).cols ≡ cols (S.matrix side.now) }
     requires col { col < cols (S.matrix side.now) }
-    ensures { IsTrue result ↔ IsRoot (S.matrix side.now) (S.seen matching.now).pairs col }
+    ensures { IsTrue result ↔ IsRoot (S.matrix side.now) (F.seen matching.now).pairs col }
 {
-    match side.row_of(matching, col) {
+    match F::row_of(matching, col) {
         Some(_) => false,
         None => !side.rows_of(col).is_empty(),
     }
 }
 
 /// How many unmatched columns have entries.
-pub fn count_roots<F: Id, S: Side<F>>(side: &S, matching: &Matching) -> u32
-    requires { (S.seen matching.now).cols ≡ cols (S.matrix side.now) }
-    ensures { (w : List ℕ) × Lists (IsRoot (S.matrix side.now) (S.seen matching.now).pairs) w × (result ≡ length w) }
+pub fn count_roots<F: Opposite, S: Side<F>>(side: &S, matching: &Matching) -> u32
+    requires { (F.seen matching.now).cols ≡ cols (S.matrix side.now) }
+    ensures { (w : List ℕ) × Lists (IsRoot (S.matrix side.now) (F.seen matching.now).pairs) w × (result ≡ length w) }
 {
     let mut count = 0;
     for col in 0..side.cols() {
@@ -39,13 +40,13 @@ pub fn count_roots<F: Id, S: Side<F>>(side: &S, matching: &Matching) -> u32
 }
 
 /// The unmatched columns that have entries.
-pub fn roots<F: Id, S: Side<F>>(
+pub fn roots<F: Opposite, S: Side<F>>(
     alloc: Global,
     side: &S,
     matching: &Matching,
 ) -> Result<Vec<Col>, OutOfMemory>
-    requires { (S.seen matching.now).cols ≡ cols (S.matrix side.now) }
-    ensures { IfOk result (λ roots. Lists (IsRoot (S.matrix side.now) (S.seen matching.now).pairs) roots.items) }
+    requires { (F.seen matching.now).cols ≡ cols (S.matrix side.now) }
+    ensures { IfOk result (λ roots. Lists (IsRoot (S.matrix side.now) (F.seen matching.now).pairs) roots.items) }
 {
     let mut roots = Vec::new(alloc);
     for number in 0..side.cols() {
@@ -56,52 +57,54 @@ pub fn roots<F: Id, S: Side<F>>(
     Ok(roots)
 }
 
-/// Searches once from each root that is unmatched, with no row marked at first. Whether the matching has grown.
-pub fn sweep<F: Id, S: Side<F>>(
+/// Searches once from each root that is unmatched, with no row marked at first.
+pub fn sweep<F: Opposite, S: Side<F>>(
     search: &mut Search,
     side: &S,
     matching: &mut Matching,
     roots: &[Col],
-    turned: bool,
-) -> bool
-    requires fits { Fits (S.matrix side.now) (S.seen matching.old) search.old }
-    requires roots { HoldRoots (S.matrix side.now) (S.seen matching.old).pairs roots.now }
-    ensures fits { Fits (S.matrix side.now) (S.seen matching.new) search.new }
-    ensures rows_stay { (r : ℕ) → Among r (rows_of (S.seen matching.old).pairs) → Among r (rows_of (S.seen matching.new).pairs) }
-    ensures cols_stay { (c : ℕ) → Among c (cols_of (S.seen matching.old).pairs) → Among c (cols_of (S.seen matching.new).pairs) }
-
-    ensures grown { IsTrue result ↔ (length (S.seen matching.old).pairs < length (S.seen matching.new).pairs) }
+    reversed: bool,
+)
+    requires matching { IsMatchingOf (S.matrix side.now) (F.seen matching.old) }
+    requires rows { length search.old.marks ≡ (S.matrix side.now).rows }
+    requires cols { search.old.cols ≡ cols (S.matrix side.now) }
+    requires roots { HoldRoots (S.matrix side.now) (F.seen matching.old).pairs roots.now }
+    ensures matching { IsMatchingOf (S.matrix side.now) (F.seen matching.new) }
+    ensures rows { length search.new.marks ≡ length search.old.marks }
+    ensures cols { search.new.cols ≡ search.old.cols }
+    ensures covered { Covers (F.seen matching.old).pairs (F.seen matching.new).pairs }
 
     // Where the matching hasn't grown it was maximum.
-    ensures maximum { ((S.seen matching.new ≡ S.seen matching.old) × IsMaximum (S.matrix side.now) (S.seen matching.old).pairs) ⊎ (length (S.seen matching.old).pairs < length (S.seen matching.new).pairs) }
+    ensures maximum { ((F.seen matching.new ≡ F.seen matching.old) × IsMaximum (S.matrix side.now) (F.seen matching.old).pairs) ⊎ (length (F.seen matching.old).pairs < length (F.seen matching.new).pairs) }
 {
-    let before = side.size(matching);
     search.clear();
     for root in roots {
-        extend(search, side, matching, *root, turned);
+        extend(search, side, matching, *root, reversed);
     }
-    side.size(matching) > before
 }
 
 // Searches from a column, if it is unmatched.
-fn extend<F: Id, S: Side<F>>(
+fn extend<F: Opposite, S: Side<F>>(
     search: &mut Search,
     side: &S,
     matching: &mut Matching,
     root: Col,
-    turned: bool,
+    reversed: bool,
 )
     requires root { root < cols (S.matrix side.now) }
-    requires fits { Fits (S.matrix side.now) (S.seen matching.old) search.old }
-    ensures fits { Fits (S.matrix side.now) (S.seen matching.new) search.new }
-    ensures rows_stay { (r : ℕ) → Among r (rows_of (S.seen matching.old).pairs) → Among r (rows_of (S.seen matching.new).pairs) }
-    ensures cols_stay { (c : ℕ) → Among c (cols_of (S.seen matching.old).pairs) → Among c (cols_of (S.seen matching.new).pairs) }
-    ensures turns { Turns (S.matrix side.now) (S.seen matching.old) (S.seen matching.new) search.old.marks search.new.marks root }
+    requires matching { IsMatchingOf (S.matrix side.now) (F.seen matching.old) }
+    requires rows { length search.old.marks ≡ (S.matrix side.now).rows }
+    requires cols { search.old.cols ≡ cols (S.matrix side.now) }
+    ensures matching { IsMatchingOf (S.matrix side.now) (F.seen matching.new) }
+    ensures rows { length search.new.marks ≡ length search.old.marks }
+    ensures cols { search.new.cols ≡ search.old.cols }
+    ensures covered { Covers (F.seen matching.old).pairs (F.seen matching.new).pairs }
+    ensures extends { Extends (S.matrix side.now) (F.seen matching.old) (F.seen matching.new) search.old.marks search.new.marks root }
 {
-    match side.row_of(matching, root) {
+    match F::row_of(matching, root) {
         Some(_) => {}
         None => {
-            let _found = search.augment(side, matching, root, turned);
+            let _found = search.augment(side, matching, root, reversed);
         }
     }
 }

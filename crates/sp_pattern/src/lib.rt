@@ -8,6 +8,7 @@ mod load;
 mod pairs;
 mod pattern;
 mod pieces;
+mod side;
 mod sort;
 mod split;
 #[cfg(test)]
@@ -19,4 +20,5 @@ pub use laws::search_finds_members;
 pub use load::load_matrix;
 pub use pattern::Pattern;
 pub use pieces::part;
+pub use side::{FromRows, Side};
 pub use weights::{WeightError, Weights};

@@ -1,7 +1,7 @@
 use Rattle.std.proofs.Common.{◌<◌, length}
 use Rattle.std.proofs.lemmas.List.{take_more}
 use Rattle.path_search.proofs.Marking.{unmarks_more}
-use Rattle.path_search.proofs.Places.{read_among, read_at}
+use Rattle.bip_defs.proofs.Slices.{read_among, read_at}
 use Rattle.path_search.proofs.columns.unmark.Goals as goal
 
 pub bounds-marks-row-inside : goal.bounds-marks-row-inside

@@ -1,5 +1,6 @@
 use Rattle.std.proofs.Common.{◌∙◌, ◌++◌, ◌∷◌, [], arith, length-append, sym, true≢false}
-use Rattle.pothen_fan.proofs.Roots.{listed_all, listed_more, listed_same, listed_short}
+use Rattle.bip_defs.proofs.Below.{listed_more, listed_same}
+use Rattle.pothen_fan.proofs.Roots.{listed_all, listed_short}
 use Rattle.pothen_fan.proofs.sweep.count_roots.Goals.{then-is_root, else-is_root}
 use Rattle.pothen_fan.proofs.sweep.count_roots.Goals as goal
 

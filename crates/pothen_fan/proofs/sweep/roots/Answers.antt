@@ -1,5 +1,6 @@
 use Rattle.std.proofs.Common.{◌∙◌, arith, sym, true≢false}
-use Rattle.pothen_fan.proofs.Roots.{listed_all, listed_more, listed_same}
+use Rattle.bip_defs.proofs.Below.{listed_more, listed_same}
+use Rattle.pothen_fan.proofs.Roots.{listed_all}
 use Rattle.pothen_fan.proofs.sweep.roots.Goals.{then-is_root+in_ok-push, else-is_root}
 use Rattle.pothen_fan.proofs.sweep.roots.Goals as goal
 

@@ -1,8 +1,9 @@
 use Rattle.std.proofs.Common.{◌≡◌, length, take, arith, ap, ◌∙◌, subst}
 use Rattle.std.proofs.Math.Seq.{take-length}
 use Rattle.std.proofs.lemmas.List.{take_more}
+use Rattle.bip_defs.proofs.Covers.{covers_more, covers_none}
 use Rattle.pothen_fan.proofs.Phases.{Progress, progress_ends, progress_more}
-use Rattle.path_search.proofs.Places.{read_among, read_at}
+use Rattle.bip_defs.proofs.Slices.{read_among, read_at}
 use Rattle.pothen_fan.proofs.sweep.sweep.Goals as goal
 
 pub extend-requires-clause-root : goal.extend-requires-clause-root
@@ -13,14 +14,15 @@ loop-root-preserved g c =
     let roots = c.args.roots.now in
     let at = read_at _ 0 roots _ c.loop-root-test.true c.root-item.is in
     record {
-      fits = c.extend.ensures.fits;
-      progress = rw (take_more roots c.loop-root.root-index 0 c.loop-root-test.true, ← at) (progress_more _ _ _ _ _ _ _ _ c.loop-root.invariant.progress c.extend.ensures.turns);
-      rows_stay = λ r h. c.extend.ensures.rows_stay r (c.loop-root.invariant.rows_stay r h);
-      cols_stay = λ x h. c.extend.ensures.cols_stay x (c.loop-root.invariant.cols_stay x h);
+      matching = c.extend.ensures.matching;
+      rows = c.extend.ensures.rows ∙ c.loop-root.invariant.rows;
+      cols = c.extend.ensures.cols ∙ c.loop-root.invariant.cols;
+      progress = rw (take_more roots c.loop-root.root-index 0 c.loop-root-test.true, ← at) (progress_more _ _ _ _ _ _ _ _ c.loop-root.invariant.progress c.extend.ensures.extends);
+      covered = covers_more c.loop-root.invariant.covered c.extend.ensures.covered;
     }
 
 pub returns-clause-maximum : goal.returns-clause-maximum
 returns-clause-maximum g c =
     let roots = c.args.roots.now in
     let all : take c.loop-root.root-index roots ≡ roots = (let e : c.loop-root.root-index ≡ length roots = (let to = c.loop-root.auto.root-index-end in let past = c.loop-root-test.false in omega arith) in ap (λ k. take k roots) e ∙ take-length roots) in
-    progress_ends _ _ _ _ roots (subst (λ xs. Progress (g.S.Side.matrix c.args.side.now) (g.S.Side.seen c.args.matching.now) (g.S.Side.seen c.loop-root.matching) c.loop-root.search.marks xs) all c.loop-root.invariant.progress) c.requires.roots c.loop-root.invariant.fits.matching
+    progress_ends _ _ _ _ roots (subst (λ xs. Progress (g.S.Side.matrix c.args.side.now) (g.F.Opposite.seen c.args.matching.now) (g.F.Opposite.seen c.loop-root.matching) c.loop-root.search.marks xs) all c.loop-root.invariant.progress) c.requires.roots c.loop-root.invariant.matching.matching

@@ -50,8 +50,8 @@ returns-clause-entries c = λ a m on_path. record {
   cols_differ = rising_distinct _ c.size-after.ensures.cols_rise;
 }
 
-pub returns-clause-rows_stay : goal.returns-clause-rows_stay
-returns-clause-rows_stay c = λ r. exchange_keeps_row c.args.path.now c.args.self.now.pairs c.pair.new.self.pairs r (returns-clause-pairs c)
-
-pub returns-clause-cols_stay : goal.returns-clause-cols_stay
-returns-clause-cols_stay c = λ d. exchange_keeps_col c.args.path.now c.args.self.now.pairs c.pair.new.self.pairs d c.size-before.ensures.rows_differ c.requires.path (returns-clause-pairs c)
+pub returns-clause-covered : goal.returns-clause-covered
+returns-clause-covered c = record {
+  rows = λ r. exchange_keeps_row c.args.path.now c.args.self.now.pairs c.pair.new.self.pairs r (returns-clause-pairs c);
+  cols = λ d. exchange_keeps_col c.args.path.now c.args.self.now.pairs c.pair.new.self.pairs d c.size-before.ensures.rows_differ c.requires.path (returns-clause-pairs c);
+}

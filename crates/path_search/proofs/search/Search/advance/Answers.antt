@@ -10,7 +10,7 @@ pub returns-in-Some : goal.returns-in-Some
 returns-in-Some g c =
     let stuck = c.in-Stuck.ensures in
     let left = c.in-Some.ensures.some in
-    goes_back_by (g.S.Side.matrix c.args.side.now) (g.S.Side.seen c.args.matching.now).pairs c.args.turned c.args.self.now c.back.new.self c.args.at.col c.args.at.place left.0 c.in-Some.before.col c.in-Some.before.place (sym stuck.0 ∙ left.1) c.requires.search stuck.1
+    goes_back_by (g.S.Side.matrix c.args.side.now) (g.F.Opposite.seen c.args.matching.now).pairs c.args.reversed c.args.self.now c.back.new.self c.args.at.col c.args.at.place left.0 c.in-Some.before.col c.in-Some.before.place (sym stuck.0 ∙ left.1) c.requires.search stuck.1
 
 pub returns-in-None : goal.returns-in-None
 returns-in-None g c =

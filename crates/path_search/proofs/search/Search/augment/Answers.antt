@@ -1,5 +1,17 @@
+use Rattle.std.proofs.Common.{refl}
+use Rattle.bip_defs.proofs.Below.{entries_within}
+use Rattle.path_search.proofs.Closing.{search_failed}
 use Rattle.path_search.proofs.Flipping.{augmented}
 use Rattle.path_search.proofs.search.Search.augment.Goals as goal
+
+pub flip-requires-clause-in_range : goal.flip-requires-clause-in_range
+flip-requires-clause-in_range g c = rw (c.requires.matching.rows, c.requires.matching.cols) (entries_within _ c.find.new.self.path c.if-not-find.ensures.found.entries)
+
+pub returns-then-not-find-clause-failed : goal.returns-then-not-find-clause-failed
+returns-then-not-find-clause-failed g c = (refl, search_failed _ _ c.find.new.self.seen _ _ _ c.find.ensures.marks c.if-not-find.ensures.failed)
+
+pub returns-clause-matching : goal.returns-clause-matching
+returns-clause-matching g c = c.flip.ensures.matching _ c.requires.matching c.if-not-find.ensures.found.entries
 
 pub returns-clause-found : goal.returns-clause-found
 returns-clause-found g c = augmented _ _ _ c.find.new.self.path _ _ c.if-not-find.ensures.found c.flip.ensures.pairs c.flip.ensures.size

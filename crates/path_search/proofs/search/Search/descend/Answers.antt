@@ -2,7 +2,7 @@ use Rattle.std.proofs.Common.{map, subst, sym, refl, arith, true}
 use Rattle.std.proofs.Math.ListN.{length-set}
 use Rattle.std.proofs.lemmas.List.{length-map}
 use Rattle.bip_defs.specs.Matrix.{IsEntry}
-use Rattle.path_search.specs.Searching.{IsMarked}
+use Rattle.bip_defs.specs.Lists.{IsMarked}
 use Rattle.path_search.proofs.Steps.{column_short, goes_down_by, onward_entered, passed_all_by, reaches_entered, seen_room, unmarked_unseen}
 use Rattle.path_search.proofs.Trailing.{trail_length}
 use Rattle.path_search.proofs.search.Search.descend.Goals as goal
@@ -25,7 +25,7 @@ enter-requires-clause-room g c =
     rw f.rows_are (omega arith)
 
 pub col_of-requires : goal.col_of-requires
-col_of-requires g c = rw c.requires.rows (c.rows_of-rows.ensures.rows.sound _ c.row_at-row.ensures.among).0
+col_of-requires g c = rw c.requires.matching.rows (c.rows_of-rows.ensures.rows.sound _ c.row_at-row.ensures.among).0
 
 pub overflow_cast-place : goal.overflow_cast-place
 overflow_cast-place g c =
@@ -64,4 +64,4 @@ returns-in-Some g c =
     let f = c.requires.search in
     let e : IsEntry (g.S.Side.matrix c.args.side.now) c.row_at-row.result c.args.at.col = c.rows_of-rows.ensures.rows.sound _ c.row_at-row.ensures.among in
     let un : ¬ IsMarked c.args.self.now.marks c.row_at-row.result = subst (λ x. ¬ IsMarked c.args.self.now.marks x) (sym c.row_at-row.ensures.at) (c.next_place-place.ensures.unmarked c.if-place-rows.false) in
-    rw (c.note.ensures, c.enter.ensures) (goes_down_by _ _ _ _ _ _ _ _ _ _ (map g.F.Id.number c.rows_of-rows.result.now) c.requires.matching f e un c.in-Some.ensures.found c.rows_of-rows.ensures.column c.next_place-place.ensures.passed c.row_at-row.ensures.at (omega arith))
+    rw (c.note.ensures, c.enter.ensures) (goes_down_by _ _ _ _ _ _ _ _ _ _ (map g.F.Id.number c.rows_of-rows.result.now) c.requires.matching.matching f e un c.in-Some.ensures.found c.rows_of-rows.ensures.column c.next_place-place.ensures.passed c.row_at-row.ensures.at (omega arith))

@@ -7,19 +7,23 @@ returns-then-self-clause-ready g c =
     let k = c.requires.ready in
     let e = c.sweep.ensures in
     record {
-      fits = record { marks_are = k.fits.marks_are; looks_are = k.fits.looks_are; rows_are = e.sizes.0 ∙ k.fits.rows_are; cols_are = e.sizes.1 ∙ k.fits.cols_are; matching = e.matching };
+      matching = e.matching;
+      search_rows = k.search_rows;
+      search_cols = k.search_cols;
       forest_rows = e.rows ∙ k.forest_rows;
       forest_cols = e.cols ∙ k.forest_cols;
-      roots = roots_still _ _ _ _ e.cols_stay k.roots;
+      roots = roots_still _ _ _ _ e.covered k.roots;
     }
 
 pub returns-clause-ready : goal.returns-clause-ready
 returns-clause-ready g c =
     let k = c.requires.ready in
-    let e = c.sweep-grows.ensures in
+    let e = c.sweep-2.ensures in
     record {
-      fits = e.fits;
+      matching = e.matching;
+      search_rows = e.rows ∙ k.search_rows;
+      search_cols = e.cols ∙ k.search_cols;
       forest_rows = k.forest_rows;
       forest_cols = k.forest_cols;
-      roots = roots_still _ _ _ _ e.cols_stay k.roots;
+      roots = roots_still _ _ _ _ e.covered k.roots;
     }

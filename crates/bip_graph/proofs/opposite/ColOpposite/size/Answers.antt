@@ -1,0 +1,6 @@
+use Rattle.std.proofs.Common.{◌∙◌, sym}
+use Rattle.bip_defs.proofs.Turned.{turned_length}
+use Rattle.bip_graph.proofs.opposite.ColOpposite.size.Goals as goal
+
+pub returns : goal.returns
+returns c = c.size.ensures.size ∙ sym (turned_length c.args.matching.now.pairs)

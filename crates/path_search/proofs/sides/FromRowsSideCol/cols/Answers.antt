@@ -1,6 +1,0 @@
-use Rattle.std.proofs.Common.{◌∙◌, sym}
-use Rattle.bip_defs.proofs.Turned.{transpose_cols}
-use Rattle.path_search.proofs.sides.FromRowsSideCol.cols.Goals as goal
-
-pub returns : goal.returns
-returns c = c.rows.ensures ∙ sym (transpose_cols c.args.self.now.pattern.now)

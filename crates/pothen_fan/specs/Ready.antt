@@ -1,0 +1,15 @@
+-- What phases of both kinds begin with.
+use Rattle.std.specs.Prelude.{◌≡◌, length}
+use Rattle.bip_defs.specs.Matrix.{Matrix, cols}
+use Rattle.bip_graph.specs.Pairing.{IsMatchingOf, Pairing}
+use Rattle.pothen_fan.specs.Roots.{HoldRoots}
+use Rattle.pothen_fan.specs.declared.kinds.Phases.{Phases}
+
+-- a matching of the matrix, searches of its sizes, and its unmatched columns with entries among the roots
+pub record AreReady (a : Matrix) (m : Pairing) (p : Phases) : Type 0 where
+  pub matching : IsMatchingOf a m
+  pub search_rows : length p.search.marks ≡ a.rows
+  pub search_cols : p.search.cols ≡ cols a
+  pub forest_rows : length p.forest.marks ≡ a.rows
+  pub forest_cols : p.forest.cols ≡ cols a
+  pub roots : HoldRoots a m.pairs p.roots.items

@@ -1,0 +1,6 @@
+use Rattle.std.proofs.Common.{◌∙◌, sym}
+use Rattle.bip_defs.proofs.Turned.{transpose_cols}
+use Rattle.sp_pattern.proofs.side.FromRowsSideCol.cols.Goals as goal
+
+pub returns : goal.returns
+returns c = c.rows.ensures ∙ sym (transpose_cols c.args.self.now.pattern.now)
