@@ -1,4 +1,4 @@
-use Rattle.std.proofs.Common.{◌≡◌, ⊎_elim, rules, sym, subst}
+use Rattle.std.proofs.Common.{⊎_elim, rules, sym, subst}
 use Rattle.bip_defs.specs.Matrix.{IsEntry, Place}
 use Rattle.bip_defs.proofs.Sets.{rising_distinct}
 use Rattle.analysis_tests.proofs.small.pair_up.Goals as goal
