@@ -6,6 +6,7 @@ mod Decoding
 mod Flat
 mod Gathering
 mod Keeps
+mod Listing
 mod Openings
 mod Renewing
 mod Seating

@@ -2,6 +2,7 @@ pub mod Accounts
 pub mod Answers
 pub mod Board
 pub mod Coding
+pub mod Contest
 pub mod Listed
 pub mod Rule
 pub mod Seat

@@ -36,6 +36,10 @@ after_win s root leaf found = with_listed s (won s.listed root leaf found)
 abbrev pub after_look : Seat → Sight → Seat
 after_look s sight = with_listed s (looked s.listed sight)
 
+-- the same seat, whatever it lists
+abbrev pub IsSameSeat : Seat → Seat → Type 0
+IsSameSeat s t = (t.board ≡ s.board) × (t.number ≡ s.number) × (t.seats ≡ s.seats)
+
 -- What a seat knows of a word: it was opened with this value, or the seat lists the value, or has seen it.
 
 abbrev pub KnowsRow : Seat → ℕ → ℕ → Type 0

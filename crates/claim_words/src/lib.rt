@@ -8,14 +8,22 @@
 mod answers;
 mod board;
 mod closed;
+#[cfg(test)]
+mod contest;
 mod gather;
+mod laws;
 mod plays;
 mod seat;
+#[cfg(test)]
+mod tests;
 mod views;
 mod worker;
 
 pub use answers::{Claimed, Won};
 pub use board::ClaimBoard;
 pub use closed::Closed;
+pub use laws::{
+    fresh_lists_add_up, known_values_stand, listed_words_stand, times_add_up, words_are_listed,
+};
 pub use seat::ClaimSeat;
 pub use worker::Worker;

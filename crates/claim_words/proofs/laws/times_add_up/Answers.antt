@@ -1,0 +1,12 @@
+use Rattle.claim_words.proofs.Flat.{times_append}
+use Rattle.claim_words.proofs.Listing as listing
+use Rattle.claim_words.proofs.laws.times_add_up.Goals as goal
+
+pub returns : goal.returns
+returns c = record {
+  append = times_append;
+  listed = listing.times_listed;
+  some = listing.times_some;
+  distinct = listing.times_distinct;
+  once = listing.times_once;
+}
