@@ -3,13 +3,14 @@ use Rattle.std.proofs.Common.{Result, Ok, Err, IfOk, Vec, Global, ◌≡◌, ◌
 use Rattle.std.proofs.Math.Decide.{dec_lt}
 use Rattle.std.proofs.lemmas.List.{map-append, map-id}
 use Rattle.bip_defs.specs.Lists.{Among, AreDistinct, Lists}
-use Rattle.bip_defs.specs.Matching.{IsMaximum, cols_of, rows_of, turned}
+use Rattle.bip_defs.specs.Marks.{Marks}
+use Rattle.bip_defs.specs.Matching.{IsMaximum, cols_of, rows_of}
 use Rattle.bip_defs.specs.Matrix.{Matrix, Place, cols, column, transpose}
 use Rattle.bip_defs.specs.Parts.{IsHorizontalCol, IsHorizontalRow, IsSquareCol, IsSquareRow, IsVerticalCol, IsVerticalRow}
 use Rattle.bip_defs.proofs.Sets.{among_last, among_left, among_right, entry_col, lists_same, number_among, number_same, rising_last}
 use Rattle.bip_defs.proofs.Square.{horizontal_mate, rows_apart}
 use Rattle.bip_defs.proofs.Turned.{horizontal_turned, square_col_turned, square_row_turned, transpose_back, transpose_cols, transpose_is, turned_horizontal, turned_maximum, turned_vertical, turned_vertical_col, vertical_col_turned, vertical_turned}
-use Rattle.hall_witness.specs.Search.{Marks}
+use Rattle.bip_graph.specs.Pairing.{IsMaximumOf, Pairing, transposed}
 
 -- The numbers below a bound that have P, as the bound grows.
 
@@ -178,8 +179,15 @@ maximum_stable a m nn = record {
   longest = λ o k. let lt = less_stable (length o) (suc (length m)) (λ f. nn (λ max. f (let le = max.longest o k in omega arith))) in omega arith;
 }
 
-pub turned_known : (a : Matrix) (m : List Place) → ¬ ¬ IsMaximum a m → IsMaximum (transpose a) (turned m)
-turned_known a m nn = turned_maximum a (transpose a) m (transpose_is a) (maximum_stable a m nn)
+pub known : (a : Matrix) (m : Pairing) → m.rows ≡ a.rows → m.cols ≡ cols a → ¬ ¬ IsMaximum a m.pairs → IsMaximumOf a m
+known a m rows sizes nn =
+    let max = maximum_stable a m.pairs nn in
+    record { matching = record { rows = rows; cols = sizes; matching = max.matching }; maximum = max }
+
+pub transposed_known : (a : Matrix) (m : Pairing) → m.rows ≡ a.rows → m.cols ≡ cols a → ¬ ¬ IsMaximum a m.pairs → IsMaximumOf (transpose a) (transposed m)
+transposed_known a m rows sizes nn =
+    let max = turned_maximum a (transpose a) m.pairs (transpose_is a) (maximum_stable a m.pairs nn) in
+    record { matching = record { rows = sizes; cols = rows ∙ sym (transpose_cols a); matching = max.matching }; maximum = max }
 
 pub ok_map : {A E : Type 0} (r : Result A E) (P Q : A → Type 0) → ((x : A) → P x → Q x) → IfOk r P → IfOk r Q
 ok_map (Ok x) P Q f h = f x h

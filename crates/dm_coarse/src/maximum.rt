@@ -2,16 +2,16 @@
 
 ghost use Rattle.std.specs.Prelude.{◌≡◌, IfOk};
 ghost use Rattle.bip_defs.specs.Lists.{Lists};
+ghost use Rattle.bip_defs.specs.Marks.{Marks};
 ghost use Rattle.bip_defs.specs.Matching.{IsMaximum};
 ghost use Rattle.bip_defs.specs.Matrix.{cols};
 ghost use Rattle.bip_defs.specs.Parts.{IsHorizontalCol, IsHorizontalRow, IsSquareCol, IsSquareRow, IsVerticalCol, IsVerticalRow};
-ghost use Rattle.hall_witness.specs.Search.{Marks};
 
 use crate::split::{Thirds, split};
 use bip_graph::Matching;
-use hall_witness::{ByCols, ByRows, reached};
+use hall_witness::reached;
 use sp_ids::{Col, OutOfMemory, Row};
-use sp_pattern::Pattern;
+use sp_pattern::{FromRows, Pattern};
 use std::alloc::Global;
 use std::thread::{Threads, join};
 
@@ -52,22 +52,17 @@ impl Maximum<'_> {
     fn horizontal_cols(&self, alloc: Global) -> Result<Vec<bool>, OutOfMemory>
         ensures { IfOk result (λ v. Marks (cols self.now.pattern.now) (IsHorizontalCol self.now.pattern.now) v.items) }
     {
-        let side = ByCols {
-            pattern: self.pattern,
-            matching: self.matching,
-        };
-        reached(alloc, &side)
+        reached(alloc, self.pattern, self.matching)
     }
 
     /// Marks the vertical rows.
     fn vertical_rows(&self, alloc: Global) -> Result<Vec<bool>, OutOfMemory>
         ensures { IfOk result (λ v. Marks self.now.pattern.now.rows (IsVerticalRow self.now.pattern.now) v.items) }
     {
-        let side = ByRows {
+        let side = FromRows {
             pattern: self.pattern,
-            matching: self.matching,
         };
-        reached(alloc, &side)
+        reached(alloc, &side, self.matching)
     }
 
     /// The rows of the three parts, by the marks.
@@ -84,11 +79,7 @@ impl Maximum<'_> {
         ensures vertical { IfOk result (λ s. Lists (IsVerticalRow self.now.pattern.now) s.vertical.items) }
     {
         self.pattern.is_pattern();
-        let side = ByCols {
-            pattern: self.pattern,
-            matching: self.matching,
-        };
-        split(alloc, &side, horizontal, vertical)
+        split(alloc, self.pattern, self.matching, horizontal, vertical)
     }
 
     /// The columns of the three parts, by the marks.
@@ -105,16 +96,15 @@ impl Maximum<'_> {
         ensures vertical { IfOk result (λ s. Lists (IsVerticalCol self.now.pattern.now) s.vertical.items) }
     {
         self.pattern.is_pattern();
-        let side = ByRows {
+        let side = FromRows {
             pattern: self.pattern,
-            matching: self.matching,
         };
         // The horizontal columns are the vertical rows of the transpose.
-        let turned = split(alloc, &side, vertical, horizontal)?;
+        let transposed = split(alloc, &side, self.matching, vertical, horizontal)?;
         Ok(Thirds {
-            horizontal: turned.vertical,
-            square: turned.square,
-            vertical: turned.horizontal,
+            horizontal: transposed.vertical,
+            square: transposed.square,
+            vertical: transposed.horizontal,
         })
     }
 }

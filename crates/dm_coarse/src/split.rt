@@ -2,14 +2,15 @@
 
 ghost use Rattle.std.specs.Prelude.{◌≡◌, ◌<◌, ◌^◌, map, length, IfOk};
 ghost use Rattle.bip_defs.specs.Lists.{Lists};
-ghost use Rattle.bip_defs.specs.Matching.{IsMaximum};
+ghost use Rattle.bip_defs.specs.Marks.{Marks};
 ghost use Rattle.bip_defs.specs.Matrix.{Matrix, cols};
 ghost use Rattle.bip_defs.specs.Parts.{IsHorizontalCol, IsHorizontalRow, IsSquareRow, IsVerticalRow};
-ghost use Rattle.hall_witness.specs.Search.{Marks};
+ghost use Rattle.bip_graph.specs.Pairing.{IsMaximumOf};
 ghost use Rattle.dm_coarse.specs.Split.{IsInPart};
 
-use hall_witness::Side;
-use sp_ids::{Id, OutOfMemory};
+use bip_graph::{Matching, Opposite};
+use sp_ids::{OutOfMemory, Row};
+use sp_pattern::Side;
 use std::alloc::Global;
 
 /// The rows or the columns of each part, rising.
@@ -30,13 +31,14 @@ pub enum Part {
 /// The rows of each part, where it is known which columns are horizontal and which rows are vertical.
 ///
 /// Work: one look at each row and its mate.
-pub fn split<F: Id, S: Side<F>>(
+pub fn split<F: Opposite, S: Side<F>>(
     alloc: Global,
     side: &S,
+    matching: &Matching,
     horizontal: &[bool],
     vertical: &[bool],
 ) -> Result<Thirds<F>, OutOfMemory>
-    requires maximum { IsMaximum (S.matrix side.now) (S.pairs side.now) }
+    requires maximum { IsMaximumOf (S.matrix side.now) (F.seen matching.now) }
     requires few { Matrix.rows (S.matrix side.now) < 2 ^ 32 }
     requires horizontal { Marks (cols (S.matrix side.now)) (IsHorizontalCol (S.matrix side.now)) horizontal.now }
     requires vertical { Marks (Matrix.rows (S.matrix side.now)) (IsVerticalRow (S.matrix side.now)) vertical.now }
@@ -49,7 +51,7 @@ pub fn split<F: Id, S: Side<F>>(
     let mut vertical_rows = Vec::new(alloc);
     for at in 0..vertical.len() {
         let row = F::of(at as u32);
-        match part_of(side, row, horizontal, vertical) {
+        match part_of(side, matching, row, horizontal, vertical) {
             Part::Horizontal => horizontal_rows.push(row)?,
             Part::Square => square_rows.push(row)?,
             Part::Vertical => vertical_rows.push(row)?,
@@ -63,19 +65,26 @@ pub fn split<F: Id, S: Side<F>>(
 }
 
 // The part of a row: a row with an entry in a horizontal column is the mate of one.
-fn part_of<F: Id, S: Side<F>>(side: &S, row: F, horizontal: &[bool], vertical: &[bool]) -> Part
+fn part_of<F: Opposite, S: Side<F>>(
+    side: &S,
+    matching: &Matching,
+    row: F,
+    horizontal: &[bool],
+    vertical: &[bool],
+) -> Part
     requires row { F.number row < Matrix.rows (S.matrix side.now) }
-    requires maximum { IsMaximum (S.matrix side.now) (S.pairs side.now) }
+    requires maximum { IsMaximumOf (S.matrix side.now) (F.seen matching.now) }
     requires horizontal { Marks (cols (S.matrix side.now)) (IsHorizontalCol (S.matrix side.now)) horizontal.now }
     requires vertical { Marks (Matrix.rows (S.matrix side.now)) (IsVerticalRow (S.matrix side.now)) vertical.now }
     ensures { IsInPart (S.matrix side.now) (F.number row) result }
 {
-    if vertical[row.number() as usize] {
+    let row = row.number();
+    if vertical[row as usize] {
         return Part::Vertical;
     }
-    match side.mate(row) {
+    match F::col_of(matching, Row(row)) {
         Some(col) => {
-            if horizontal[col as usize] {
+            if horizontal[col.0 as usize] {
                 Part::Horizontal
             } else {
                 Part::Square
