@@ -3,7 +3,7 @@ use Rattle.std.proofs.Common.{◌≡◌, ◌≢◌, ◌∙◌, ℕ, zero, suc, �
 use Rattle.std.proofs.lemmas.List.{get_or-set_other, get_or-set_same, take_more}
 use Rattle.bip_defs.specs.Lists.{Among, AreDistinct}
 use Rattle.bip_defs.proofs.Sets.{among_at, among_last, among_left, among_right, drops_kept, drops_length, few_distinct, number_among, number_same, taken, among_take, apart_from_front, distinct_last}
-use Rattle.hall_witness.specs.Search.{IsMarked}
+use Rattle.bip_defs.specs.Lists.{IsMarked}
 use Rattle.btf_check.specs.Comparing.{AreOnce}
 
 marked_within : (marks : List Bool) (x : ℕ) → IsMarked marks x → x < length marks

@@ -5,7 +5,7 @@ use Rattle.bip_defs.specs.Lists.{Among, Lists}
 use Rattle.bip_defs.specs.Matrix.{IsEntry, Matrix}
 use Rattle.bip_defs.specs.Parts.{IsHorizontalCol, IsHorizontalRow}
 use Rattle.bip_defs.proofs.Sets.{among_last, among_left, among_right, lists_same, number_same}
-use Rattle.hall_witness.specs.Search.{IsMarked}
+use Rattle.bip_defs.specs.Lists.{IsMarked}
 use Rattle.btf_tool.specs.Touching.{AddsMarks, Touches}
 
 marked_more : (now : List Bool) (r k : ℕ) → r < length now → IsMarked now k → IsMarked (set now r true) k

@@ -2,7 +2,7 @@
 use Rattle.std.specs.Prelude.{◌≡◌, ◌⊎◌, ◌↔◌, ℕ, Bool, List, length}
 use Rattle.bip_defs.specs.Lists.{Among}
 use Rattle.bip_defs.specs.Matrix.{IsEntry, Matrix}
-use Rattle.hall_witness.specs.Search.{IsMarked}
+use Rattle.bip_defs.specs.Lists.{IsMarked}
 
 abbrev pub Touches : Matrix → List ℕ → ℕ → Type 0
 Touches a columns r = (c : ℕ) × Among c columns × IsEntry a r c

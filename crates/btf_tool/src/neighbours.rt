@@ -3,7 +3,7 @@
 ghost use Rattle.std.specs.Prelude.{◌≡◌, ◌<◌, ◌^◌, ◌↔◌, ℕ, Bool, List, length, IfOk};
 ghost use Rattle.bip_defs.specs.Lists.{Among, Lists};
 ghost use Rattle.bip_defs.specs.Matrix.{cols as cols_of_matrix};
-ghost use Rattle.hall_witness.specs.Search.{IsMarked};
+ghost use Rattle.bip_defs.specs.Lists.{IsMarked};
 ghost use Rattle.btf_tool.specs.Touching.{AddsMarks, Touches};
 
 use sp_ids::{Col, OutOfMemory, Row};

@@ -1,7 +1,7 @@
 use Rattle.std.proofs.Common.{◌≡◌, ◌∙◌, ◌<◌, ◌+◌, ℕ, ap, arith, length, rules, subst, sym, Vec, Global}
 use Rattle.bip_defs.specs.Lists.{Lists}
-use Rattle.hall_witness.specs.Search.{IsMarked}
-use Rattle.hall_witness.proofs.Marking.{listed_more, listed_same}
+use Rattle.bip_defs.specs.Lists.{IsMarked}
+use Rattle.bip_defs.proofs.Below.{listed_more, listed_same}
 use Rattle.btf_tool.proofs.neighbours.listed.Goals as goal
 use Rattle.btf_tool.proofs.neighbours.listed.Goals.{then-marks-row+in_ok-push, else-marks-row}
 
@@ -10,10 +10,10 @@ loop-row-preserved c =
     elim c.if-marks-row.branch [
       | then-marks-row+in_ok-push w ↦
           let marked : IsMarked c.args.marks.now c.loop-row.row = search rules in
-          subst (Lists (λ d. (d < c.loop-row.row + 1) × IsMarked c.args.marks.now d)) (sym (ap (λ (v : Vec ℕ Global). v.items) w.rows-is ∙ w.in_ok-push.ensures.items)) (listed_more c.args.marks.now c.loop-row.row c.loop-row.rows.items c.loop-row.invariant marked)
+          subst (Lists (λ d. (d < c.loop-row.row + 1) × IsMarked c.args.marks.now d)) (sym (ap (λ (v : Vec ℕ Global). v.items) w.rows-is ∙ w.in_ok-push.ensures.items)) (listed_more (IsMarked c.args.marks.now) c.loop-row.row c.loop-row.rows.items c.loop-row.invariant marked)
       | else-marks-row w ↦
           let unmarked : ¬ IsMarked c.args.marks.now c.loop-row.row = search rules in
-          subst (Lists (λ d. (d < c.loop-row.row + 1) × IsMarked c.args.marks.now d)) (sym (ap (λ (v : Vec ℕ Global). v.items) w.rows-is)) (listed_same c.args.marks.now c.loop-row.row c.loop-row.rows.items c.loop-row.invariant unmarked)
+          subst (Lists (λ d. (d < c.loop-row.row + 1) × IsMarked c.args.marks.now d)) (sym (ap (λ (v : Vec ℕ Global). v.items) w.rows-is)) (listed_same (IsMarked c.args.marks.now) c.loop-row.row c.loop-row.rows.items c.loop-row.invariant unmarked)
     ]
 
 pub returns : goal.returns

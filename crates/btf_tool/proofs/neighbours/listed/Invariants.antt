@@ -1,6 +1,6 @@
 use Rattle.std.proofs.Common.{◌<◌}
 use Rattle.bip_defs.specs.Lists.{Lists}
-use Rattle.hall_witness.specs.Search.{IsMarked}
+use Rattle.bip_defs.specs.Lists.{IsMarked}
 use Rattle.btf_tool.proofs.neighbours.listed.Given as goal
 
 abbrev pub invariant-loop-row : goal.invariant-loop-row

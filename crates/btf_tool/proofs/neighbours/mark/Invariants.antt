@@ -1,5 +1,5 @@
 use Rattle.std.proofs.Common.{◌≡◌, ℕ, ◌↔◌, length, take}
-use Rattle.hall_witness.specs.Search.{IsMarked}
+use Rattle.bip_defs.specs.Lists.{IsMarked}
 use Rattle.btf_tool.specs.Touching.{Touches}
 use Rattle.btf_tool.proofs.neighbours.mark.Given as goal
 

@@ -1,5 +1,5 @@
 use Rattle.std.proofs.Common.{◌≡◌, ◌∙◌, length, rules, Vec, Global, ℕ}
-use Rattle.hall_witness.proofs.Marking.{written}
+use Rattle.bip_defs.proofs.Slices.{written}
 use Rattle.btf_tool.proofs.Touching.{touching_ok}
 use Rattle.btf_tool.proofs.neighbours.neighbours.Goals as goal
 

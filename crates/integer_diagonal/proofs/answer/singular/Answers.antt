@@ -12,4 +12,4 @@ returns c w e =
     let m = c.in_ok-maximum.maximum.pairs in
     let shown : IsWitness a m c.in-Witness.hall.items = subst (IsReach a m) c.in-Witness.is c.in_ok-reach.ensures in
     subst (λ (z : Matrix). IsSingular z c.size.result c.in-Witness.hall.items) (sym e)
-    (singular_shown a m c.in-Witness.hall.items c.size.result c.requires.square c.requires.none c.in_ok-maximum.ensures.maximum c.size.ensures.size shown.horizontal)
+    (singular_shown a m c.in-Witness.hall.items c.size.result c.requires.square c.requires.none c.in_ok-maximum.ensures.maximum.maximum c.size.ensures.size shown.horizontal)

@@ -101,7 +101,7 @@ returns c =
     let flipped : IsFlipped a c.raise.new.assignment.matching c.flip.new.self t.queue c.as_slice-2.result.now = record {
       sizes = c.flip.ensures.sizes;
       matching = c.flip.ensures.entries a on.matching entries;
-      covered = record { rows = c.flip.ensures.rows_stay; cols = c.flip.ensures.cols_stay };
+      covered = c.flip.ensures.covered;
       swaps = c.flip.ensures.pairs;
       root = subst (HasRoot c.raise.new.assignment.matching.pairs (heads t.queue)) (sym is) (way_root _ _ _ _ _ _ on c.path_to.ensures.pairs c.path_to.ensures.path);
     } in
