@@ -16,18 +16,18 @@ use std::thread::Threads;
 
 /// A maximum matching of a matrix's entries, by the engine that is asked for.
 ///
-/// There may be 1 to 64 workers. The three engines search in the calling thread, so neither their number nor the gate
-/// has an effect on them. Answers `OutOfMemory` where the engine's tables can't be had.
+/// All engines but `Plain` begin with the start of Karp and Sipser. There may be 1 to 64 workers, for `Graft` alone: the
+/// other engines search in the calling thread. Answers `OutOfMemory` where the engine's tables can't be had.
 pub fn solve<R: Threads + Sync, G: Gate>(
-    _rt: &R,
+    rt: &R,
     alloc: Global,
     pattern: &Pattern,
     engine: Engine,
-    _workers: u32,
-    _gate: &G,
+    workers: u32,
+    gate: &G,
 ) -> Result<Matching, OutOfMemory>
-    requires some { 1 ≤ _workers }
-    requires few { _workers ≤ max_workers }
+    requires some { 1 ≤ workers }
+    requires few { workers ≤ max_workers }
     ensures maximum { IfOk result (λ m. IsMaximumOf pattern.now m) }
 {
     match engine {
@@ -42,6 +42,10 @@ pub fn solve<R: Threads + Sync, G: Gate>(
         Engine::Pf => {
             let matching = start(alloc, pattern)?;
             pothen_fan::complete(alloc, pattern, matching)
+        }
+        Engine::Graft => {
+            let matching = start(alloc, pattern)?;
+            tree_graft::complete(rt, alloc, pattern, matching, workers, gate)
         }
     }
 }

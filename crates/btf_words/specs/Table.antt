@@ -11,10 +11,10 @@ use Rattle.sp_ids.specs.Limits.{max_load_seed, max_load_size}
 -- ---- the engines' names
 
 abbrev pub engine_names : List Text
-engine_names = codes "plain" ∷ codes "mc21" ∷ codes "pf" ∷ []
+engine_names = codes "plain" ∷ codes "mc21" ∷ codes "pf" ∷ codes "graft" ∷ []
 
 abbrev pub default_engine : Text
-default_engine = codes "pf"
+default_engine = codes "graft"
 
 -- names as clap's definitions hold them, behind references
 abbrev pub Names : Type 0

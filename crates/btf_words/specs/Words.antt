@@ -9,7 +9,7 @@ use Rattle.clap.specs.ValueTests.{is_unsigned_in}
 use Rattle.sp_ids.specs.Limits.{max_load_seed, max_load_size}
 use Rattle.btf_words.specs.Table.{Names, btf, btf_over, default_engine}
 use Rattle.btf_words.specs.declared.jobs.Engine.{Engine}
-use Rattle.btf_words.specs.declared.jobs.Engine.TheVariants.{Plain, Mc21, Pf}
+use Rattle.btf_words.specs.declared.jobs.Engine.TheVariants.{Plain, Mc21, Pf, Graft}
 use Rattle.btf_words.specs.declared.jobs.Job.{Job}
 use Rattle.btf_words.specs.declared.jobs.Job.TheVariants.{Rank, Analyse, Diagonal, Check, Load}
 
@@ -22,7 +22,8 @@ AreTaken words = fault_of btf words ≡ []
 -- the engine of a name: clap takes no other name than these
 abbrev pub engine_named : Text → Engine
 engine_named name = if bytes_eq name (codes "plain") then Plain
-    else (if bytes_eq name (codes "mc21") then Mc21 else Pf)
+    else (if bytes_eq name (codes "mc21") then Mc21
+    else (if bytes_eq name (codes "pf") then Pf else Graft))
 
 abbrev pub engine_in : List Row → Engine
 engine_in rows = engine_named (unwrap_or (first_of (codes "engine") rows) default_engine)

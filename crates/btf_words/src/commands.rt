@@ -8,7 +8,7 @@ use crate::options::{engine, order, pairs, seed, size};
 use clap::Command;
 use std::alloc::{AllocError, Global};
 
-static ENGINES: [&str; 3] = ["plain", "mc21", "pf"];
+static ENGINES: [&str; 4] = ["plain", "mc21", "pf", "graft"];
 
 /// The command line of the program.
 pub(crate) fn command_line<'a>(alloc: Global) -> Result<Command<'a>, AllocError>

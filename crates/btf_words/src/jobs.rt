@@ -9,6 +9,9 @@ pub enum Engine {
     Mc21,
     /// Phases of searches from all unmatched columns (Pothen and Fan 1990), from the Karp-Sipser start.
     Pf,
+    /// Phases in which alternating trees grow from all unmatched columns at once (Azad, Buluç and Pothen 2017), from the
+    /// Karp-Sipser start.
+    Graft,
 }
 
 /// What the program is asked to do.

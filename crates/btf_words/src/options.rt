@@ -9,7 +9,7 @@ use clap::{Arg, ArgAction};
 use sp_ids::MAX_LOAD_SIZE;
 use std::alloc::Global;
 
-/// `--engine E`, where E is one of these names: `pf` where it is not given.
+/// `--engine E`, where E is one of these names: `graft` where it is not given.
 pub(crate) fn engine<'a>(alloc: Global, engines: &'a [&'a str]) -> Arg<'a>
     ensures rule { rule_of result ≡ engine_rule engines.entry }
     ensures local { result.global ≡ false }
@@ -18,7 +18,7 @@ pub(crate) fn engine<'a>(alloc: Global, engines: &'a [&'a str]) -> Arg<'a>
         .long("engine")
         .action(ArgAction::Set)
         .value_parser(engines)
-        .default_value("pf")
+        .default_value("graft")
 }
 
 /// `--order`.

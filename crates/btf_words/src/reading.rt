@@ -96,7 +96,7 @@ fn engine_of(options: &ArgMatches<'_>) -> Engine
 {
     match value_of(options, "engine") {
         Some(name) => engine_named(name),
-        None => Engine::Pf,
+        None => Engine::Graft,
     }
 }
 
@@ -107,8 +107,10 @@ fn engine_named(name: &str) -> Engine
         Engine::Plain
     } else if name == "mc21" {
         Engine::Mc21
-    } else {
+    } else if name == "pf" {
         Engine::Pf
+    } else {
+        Engine::Graft
     }
 }
 

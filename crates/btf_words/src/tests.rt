@@ -145,8 +145,8 @@ fn takes_commands_without_options(rt: HostRuntime) -> Result<(), Fail> {
         ("diagonal --", Job::Diagonal),
         ("check", Job::Check),
         ("check --", Job::Check),
-        ("analyse", analyse(Engine::Pf, false, false)),
-        ("analyse --", analyse(Engine::Pf, false, false)),
+        ("analyse", analyse(Engine::Graft, false, false)),
+        ("analyse --", analyse(Engine::Graft, false, false)),
     ];
     taken(&rt, &spellings)
 }
@@ -154,17 +154,20 @@ fn takes_commands_without_options(rt: HostRuntime) -> Result<(), Fail> {
 #[test]
 fn takes_options_of_an_analysis(rt: HostRuntime) -> Result<(), Fail> {
     let (plain, mc21, pf) = (Engine::Plain, Engine::Mc21, Engine::Pf);
+    let graft = Engine::Graft;
     let spellings = [
         ("analyse --engine plain", analyse(plain, false, false)),
         ("analyse --engine mc21", analyse(mc21, false, false)),
         ("analyse --engine pf", analyse(pf, false, false)),
+        ("analyse --engine graft", analyse(graft, false, false)),
         ("analyse --engine=plain", analyse(plain, false, false)),
         ("analyse --engine=mc21", analyse(mc21, false, false)),
         ("analyse --engine=pf", analyse(pf, false, false)),
-        ("analyse --order", analyse(pf, true, false)),
-        ("analyse --pairs", analyse(pf, false, true)),
-        ("analyse --order --pairs", analyse(pf, true, true)),
-        ("analyse --pairs --order", analyse(pf, true, true)),
+        ("analyse --engine=graft", analyse(graft, false, false)),
+        ("analyse --order", analyse(graft, true, false)),
+        ("analyse --pairs", analyse(graft, false, true)),
+        ("analyse --order --pairs", analyse(graft, true, true)),
+        ("analyse --pairs --order", analyse(graft, true, true)),
         ("analyse --order --engine mc21", analyse(mc21, true, false)),
         (
             "analyse --pairs --engine mc21 --order",
@@ -180,15 +183,16 @@ fn takes_options_of_an_analysis(rt: HostRuntime) -> Result<(), Fail> {
 
 #[test]
 fn takes_options_of_a_load(rt: HostRuntime) -> Result<(), Fail> {
-    let (plain, mc21, pf) = (Engine::Plain, Engine::Mc21, Engine::Pf);
+    let (plain, mc21, graft) = (Engine::Plain, Engine::Mc21, Engine::Graft);
     let spellings = [
-        ("load --size 1 --seed 0", load(1, 0, pf)),
-        ("load --seed 0 --size 1 --", load(1, 0, pf)),
+        ("load --size 1 --seed 0", load(1, 0, graft)),
+        ("load --seed 0 --size 1 --", load(1, 0, graft)),
         (
             "load --seed=18446744073709551615 --size=16777216",
-            load(16_777_216, u64::MAX, pf),
+            load(16_777_216, u64::MAX, graft),
         ),
         ("load --engine mc21 --seed 7 --size 30", load(30, 7, mc21)),
+        ("load --size 30 --engine=graft --seed 7", load(30, 7, graft)),
         (
             "load --size 007 --engine=plain --seed +4",
             load(7, 4, plain),
