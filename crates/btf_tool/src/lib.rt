@@ -22,20 +22,3 @@ pub use command::run;
 pub use engines::solve;
 pub use laws::one_summary;
 pub use refusals::{Refusal, refuse};
-
-#[cfg(test)]
-mod analyse_tests;
-#[cfg(test)]
-mod check_tests;
-#[cfg(test)]
-mod diagonal_tests;
-#[cfg(test)]
-mod engine_tests;
-#[cfg(test)]
-mod load_tests;
-#[cfg(test)]
-mod rank_tests;
-#[cfg(test)]
-mod test_runs;
-#[cfg(test)]
-mod tests;

@@ -1,15 +1,9 @@
 //! Each engine on small matrices.
 
-ghost use Rattle.std.specs.Prelude.{◌≡◌, IfOk};
-ghost use Rattle.bip_defs.specs.Matching.{IsMatching};
-ghost use Rattle.bip_defs.specs.Matrix.{cols};
-
-use crate::{Engine, solve};
-use bip_graph::Matching;
+use btf_tool::{Engine, solve};
 use sp_ids::{Col, Field, OutOfMemory, Row, Triples};
 use sp_pattern::Pattern;
 use sp_ports::NoGate;
-use std::alloc::Global;
 use std::process::Abort;
 use std::test::Fail;
 use std::thread::Threads;
@@ -54,51 +48,6 @@ const THREE_PARTS: [(u32, u32); 7] = [(1, 1), (1, 2), (1, 3), (2, 3), (2, 4), (3
 #[test]
 fn one_column_and_one_row_stay_unmatched(rt: HostRuntime) -> Result<(), Fail> {
     expect_size(&rt, 4, 4, &THREE_PARTS, 3)
-}
-
-/// The matching of one pair, or of none where the place is no entry.
-fn one_pair(alloc: Global, pattern: &Pattern, row: Row, col: Col) -> Result<Matching, OutOfMemory>
-    ensures rows { IfOk result (λ m. m.rows ≡ pattern.now.rows) }
-    ensures cols { IfOk result (λ m. m.cols ≡ cols pattern.now) }
-    ensures matching { IfOk result (λ m. IsMatching pattern.now m.pairs) }
-{
-    let mut matching = Matching::empty(alloc, pattern.rows(), pattern.cols())?;
-    if !pattern.has(row, col) {
-        return Ok(matching);
-    }
-    matching.pair(row, col);
-    // It tells the proof that no row or column stands twice.
-    let _size = matching.size();
-    Ok(matching)
-}
-
-// Row 1 and column 2 stay matched, and column 2 has no other row. So column 1 gets none, and column 3 gets row 2.
-#[test]
-fn copies_of_one_matching_are_completed(rt: HostRuntime) -> Result<(), Fail> {
-    let alloc = rt.alloc();
-    let pattern = pattern_of(&rt, 4, 4, &THREE_PARTS)?;
-    let pair = one_pair(alloc, &pattern, Row(0), Col(1))?;
-    let mut mc21 = mc21_match::complete(alloc, &pattern, pair.copy(alloc)?)?;
-    let mut pf = pothen_fan::complete(alloc, &pattern, pair.copy(alloc)?)?;
-    assert_eq!(rt; (pair.size(), mc21.size(), pf.size()), (1, 3, 3));
-    for matching in [&mc21, &pf] {
-        assert_eq!(rt; matching.cols(), 4);
-        assert_eq!(rt; matching.row_of(Col(1)), Some(Row(0)));
-        assert_eq!(rt; matching.row_of(Col(2)), Some(Row(1)));
-    }
-    assert_eq!(rt; pothen_fan::phase(alloc, &pattern, &mut mc21)?, 0);
-    assert_eq!(rt; pothen_fan::phase(alloc, &pattern, &mut pf)?, 0);
-    Ok(())
-}
-
-#[test]
-fn a_start_that_is_maximum_does_not_grow(rt: HostRuntime) -> Result<(), Fail> {
-    let alloc = rt.alloc();
-    let pattern = pattern_of(&rt, 4, 4, &THREE_PARTS)?;
-    let mut matching = karp_sipser::start(alloc, &pattern)?;
-    assert_eq!(rt; matching.size(), 3);
-    assert_eq!(rt; pothen_fan::phase(alloc, &pattern, &mut matching)?, 0);
-    Ok(())
 }
 
 // The start takes row 1 for column 1, which leaves row 2 alone to columns 3 and 4. A maximum matching has rows 3, 4, 1 and 2

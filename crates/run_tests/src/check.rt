@@ -1,6 +1,6 @@
 //! `check` on small files and what follows them, with verdicts worked out by hand.
 
-use crate::test_runs::{
+use crate::runs::{
     BANNER, Devices, STEADY, THREE_PARTS, THREE_PARTS_EXAMPLE, answer, expect, file_of, outcome_of,
 };
 use sp_ids::Status;

@@ -1,6 +1,6 @@
 //! `analyse` on small files, with texts worked out by hand.
 
-use crate::test_runs::{
+use crate::runs::{
     SMALLEST_REPORT, STEADY, THREE_PARTS, THREE_PARTS_EXAMPLE, answer, expect, file_of,
 };
 use sp_ids::Status;

@@ -1,6 +1,6 @@
 //! `load` on small sizes, with texts worked out by hand.
 
-use crate::test_runs::{Devices, STEADY, expect, outcome_of};
+use crate::runs::{Devices, STEADY, expect, outcome_of};
 use sp_ids::Status;
 use sp_ports::{Failed, Source};
 use std::process::Abort;

@@ -1,6 +1,6 @@
 //! Runs of the program over devices in memory, for the tests of every job.
 
-use crate::run;
+use btf_tool::run;
 use sp_ids::Status;
 use sp_ports::{MemSink, MemSource, NoGate, Sink, Source};
 use std::alloc::AllocError;

@@ -1,6 +1,6 @@
 //! What the jobs have in common: the files, the words and the devices that are refused, and devices that are not.
 
-use crate::test_runs::{
+use crate::runs::{
     Devices, SMALLEST, SMALLEST_RANK, SMALLEST_REPORT, STEADY, USAGE, expect, run_over,
 };
 use sp_ids::Status;

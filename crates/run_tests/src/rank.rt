@@ -1,6 +1,6 @@
 //! `rank` on small files, with texts worked out by hand.
 
-use crate::test_runs::{SMALLEST_RANK, STEADY, THREE_PARTS, THREE_PARTS_EXAMPLE, expect, file_of};
+use crate::runs::{SMALLEST_RANK, STEADY, THREE_PARTS, THREE_PARTS_EXAMPLE, expect, file_of};
 use sp_ids::Status;
 use std::test::Fail;
 

@@ -1,7 +1,7 @@
 //! `diagonal` on small files, worked out by hand. Several prices are fair, so the prices of a text are read, and judged by the
 //! entries of the file.
 
-use crate::test_runs::{Devices, STEADY, answer, expect};
+use crate::runs::{Devices, STEADY, answer, expect};
 use sp_ids::Status;
 use std::alloc::Global;
 use std::process::Abort;
