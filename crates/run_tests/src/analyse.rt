@@ -85,7 +85,7 @@ fn engines(rt: HostRuntime) -> Result<(), Fail> {
         "btf 1\nmatrix 4 4 7\nrank 3\nhorizontal 1 2\nrows 1\ncolumns 1 2\nsquare 1 1\nblock 1 1\nrows 2\ncolumns 3\nvertical 2 1\nrows 3 4\ncolumns 4\nrow_order 1 2 3 4\ncolumn_order 1 2 3 4\nend\n";
     let texts = [(THREE_PARTS, text), (THREE_PARTS_EXAMPLE, text)];
     reports(&rt, &["analyse", "--order"], &texts)?;
-    for engine in ["plain", "mc21", "pf"] {
+    for engine in ["plain", "mc21", "pf", "graft"] {
         let words = ["analyse", "--engine", engine, "--order"];
         reports(&rt, &words, &texts)?;
     }

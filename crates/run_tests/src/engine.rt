@@ -39,6 +39,10 @@ fn expect_size<R: Threads + Abort + AllocGlobal + Sync>(
     let mc21 = solve(rt, alloc, &pattern, Engine::Mc21, 2, &NoGate)?;
     let pf = solve(rt, alloc, &pattern, Engine::Pf, 64, &NoGate)?;
     assert_eq!(rt; (plain.size(), mc21.size(), pf.size()), (size, size, size));
+    for workers in [1, 2, 64] {
+        let graft = solve(rt, alloc, &pattern, Engine::Graft, workers, &NoGate)?;
+        assert_eq!(rt; graft.size(), size);
+    }
     Ok(())
 }
 

@@ -17,7 +17,7 @@ fn summary<'a, R: Threads + Abort + AllocGlobal + Sync>(
     let file = "no matrix";
     let words = ["load", "--size", size, "--seed", seed];
     expect(rt, &words, file, &STEADY, Status::Ok, text, "")?;
-    for engine in ["plain", "mc21", "pf"] {
+    for engine in ["plain", "mc21", "pf", "graft"] {
         let words = ["load", "--seed", seed, "--engine", engine, "--size", size];
         expect(rt, &words, file, &STEADY, Status::Ok, text, "")?;
     }
