@@ -1,10 +1,10 @@
 -- What a list that accounts for words tells of them.
-use Rattle.std.proofs.Common.{◌≡◌, ◌≢◌, ◌∙◌, ◌⊎◌, ℕ, zero, suc, ◌+◌, ◌<◌, ◌≤◌, ◌==◌, if◌then◌else◌, Option, None, Some, List, [], ◌∷◌, ◌++◌, map, flat_map, length, get_or, refl, sym, ap, subst, inl, inr, ⊎_elim, arith, ext_get_or, eq-eqb, ne_eqb}
+use Rattle.std.proofs.Common.{◌≡◌, ◌≢◌, ◌∙◌, ◌⊎◌, ℕ, zero, suc, ◌+◌, ◌<◌, ◌≤◌, Option, None, Some, List, [], ◌∷◌, map, flat_map, length, refl, sym, ap, subst, inl, inr, ⊎_elim, arith, eq-eqb, ne_eqb}
 use Rattle.bip_defs.specs.Lists.{Among, AreDistinct}
-use Rattle.bip_defs.proofs.Sets.{among_left, among_map, among_right, number_same, few_distinct, upto_complete, upto_length, among_map_back}
+use Rattle.bip_defs.proofs.Sets.{among_left, among_right, number_same, few_distinct, upto_complete, upto_length, among_map_back}
 use Rattle.claim_words.specs.Accounts.{Accounts, first_listed, is_added, listed_word, times, value_or}
 use Rattle.claim_words.specs.Board.{Board, Words, held}
-use Rattle.claim_words.specs.Listed.{Listed, Sight, root_word, row_word}
+use Rattle.claim_words.specs.Listed.{Listed, root_word, row_word}
 use Rattle.claim_words.specs.Seat.{KnowsRoot, KnowsRow, Seat, lists_of}
 use Rattle.claim_words.specs.Settles.{Settles, SettlesAll}
 use Rattle.claim_words.proofs.Accounting.{not_some, one_else, one_here, some_same}

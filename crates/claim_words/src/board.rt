@@ -21,7 +21,8 @@ use std::alloc::Global;
 use std::marker::Model;
 use std::snapshot::Snapshot;
 
-/// A word for each row, which a column claims, and a word for each root, which a leaf wins. It keeps 8 bytes a word.
+/// A word for each row, which a column claims, and a word for each root, which a leaf wins. It keeps 8 bytes a word, and one
+/// word more. Threads share it by `&`, each with a seat of its own.
 #[derive(Drop)]
 pub struct ClaimBoard {
     pub(crate) table: Table<(), View, Opening, EachWordOnce, Global>,
@@ -175,7 +176,9 @@ impl ClaimBoard {
         Ok(seats)
     }
 
-    /// Claims a row for a column.
+    /// Claims a row for a column, by one exchange of the row's word. `Mine`: the word was empty, holds the column from now on,
+    /// and the seat lists it once. `Held`: the word held this column and holds it for good, and the seat has seen it. A seat
+    /// that knows what the word holds is told that. It takes no memory and does not wait.
     pub fn claim(&self, seat: &mut ClaimSeat, row: Row, col: Col) -> Claimed
         requires seat { seat.old.board ≡ self.now }
         requires row { row < length self.now.rows }
@@ -190,7 +193,9 @@ impl ClaimBoard {
         claimed(value(found))
     }
 
-    /// Wins a root for a leaf.
+    /// Wins a root for a leaf, by one exchange of the root's word. `Mine`: the word was empty, holds the leaf from now on, and
+    /// the seat lists it once. `Held`: the word held this leaf and holds it for good, and the seat has seen it. A seat that
+    /// knows what the word holds is told that. It takes no memory and does not wait.
     pub fn win(&self, seat: &mut ClaimSeat, root: Col, leaf: Row) -> Won
         requires seat { seat.old.board ≡ self.now }
         requires root { root < length self.now.roots }
@@ -205,7 +210,8 @@ impl ClaimBoard {
         won(value(found))
     }
 
-    /// The column that holds a row, if any.
+    /// The column that holds a row, if any, by one load of the row's word, which the seat has seen from now on. A seat that
+    /// knows what the word holds is told that. It takes no memory and does not wait.
     pub fn look_row(&self, seat: &mut ClaimSeat, row: Row) -> Option<Col>
         requires seat { seat.old.board ≡ self.now }
         requires row { row < length self.now.rows }
@@ -214,10 +220,12 @@ impl ClaimBoard {
     {
         let word = 1 + row.number() as usize;
         let found = self.table.shared.load::<RowLoad>(&mut seat.seat, word);
-        identified(value(found))
+        let holder = value(found);
+        identified(holder)
     }
 
-    /// The leaf that a root has, if any.
+    /// The leaf that a root has, if any, by one load of the root's word, which the seat has seen from now on. A seat that
+    /// knows what the word holds is told that. It takes no memory and does not wait.
     pub fn look_root(&self, seat: &mut ClaimSeat, root: Col) -> Option<Row>
         requires seat { seat.old.board ≡ self.now }
         requires root { root < length self.now.roots }
@@ -226,7 +234,8 @@ impl ClaimBoard {
     {
         let word = 1 + self.rows + root.number() as usize;
         let found = self.table.shared.load::<RootLoad>(&mut seat.seat, word);
-        identified(value(found))
+        let leaf = value(found);
+        identified(leaf)
     }
 
     // One more seat, which the seat 0 splits off.

@@ -97,7 +97,7 @@ impl Worker {
         Ok(answer)
     }
 
-    /// The column that holds a row, if any.
+    /// The column that holds a row, if any, as the board's look tells it.
     pub fn look_row(&mut self, board: &ClaimBoard, row: Row) -> Option<Col>
         requires seat { self.old.seat.board ≡ board.now }
         requires row { row < length board.now.rows }
@@ -110,7 +110,7 @@ impl Worker {
         board.look_row(seat, row)
     }
 
-    /// The leaf that a root has, if any.
+    /// The leaf that a root has, if any, as the board's look tells it.
     pub fn look_root(&mut self, board: &ClaimBoard, root: Col) -> Option<Row>
         requires seat { self.old.seat.board ≡ board.now }
         requires root { root < length board.now.roots }

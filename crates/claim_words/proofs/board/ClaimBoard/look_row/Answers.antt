@@ -14,8 +14,8 @@ load-found-requires c =
       allows_row _ _ _ _ _ c.seat.invariant _ (subst (λ rows. c.number.result < length rows) (sym of.same_rows) within),
     )
 
-pub value-requires : goal.value-requires
-value-requires c = (c.load-found.ensures.2 _ _ c.seat.invariant.0 refl).fits
+pub value-holder-requires : goal.value-holder-requires
+value-holder-requires c = (c.load-found.ensures.2 _ _ c.seat.invariant.0 refl).fits
 
 pub invariant_of-seat : goal.invariant_of-seat
 invariant_of-seat c = open_after c.seat.invariant (c.load-found.ensures.2 _ _ c.seat.invariant.0 refl)
@@ -24,5 +24,5 @@ pub returns : goal.returns
 returns c =
     let told = c.load-found.ensures.2 _ c.args.row c.seat.invariant.0 (ap (λ n. 1 + n) c.number.ensures) in
     let a = row_answer c.seat.inside.seat.table_id c.load-found.new.seat.table_id c.seat.inside.seat.me c.load-found.new.seat.me c.args.seat.now
-    c.load-found.ensures.0 c.seat.view_is c.args.row c.load-found.result c.identified.result (sym (numbered c.identified.result) ∙ c.identified.ensures ∙ c.value.ensures) told in
+    c.load-found.ensures.0 c.seat.view_is c.args.row c.load-found.result c.identified.result (sym (numbered c.identified.result) ∙ c.identified.ensures ∙ c.value-holder.ensures) told in
     record { seat = a.0; known = a.1 }
