@@ -1,5 +1,5 @@
-//! A board of a hundred trees that four seats contest at once: each seat goes round all trees, and the taker of a tree
-//! matches its row with its column.
+//! A board of a hundred trees that four seats contest at once: each seat goes round all trees, and
+//! the taker of a tree matches its row with its column.
 
 ghost use Rattle.std.specs.Prelude.{◌≡◌, ℕ, ◌+◌, ◌<◌, Some, [], ◌∷◌, length, IfOk};
 ghost use Rattle.std.specs.Thread.{IsSync};
@@ -16,7 +16,8 @@ use std::thread::{Threads, join_mut};
 
 const TREES: u32 = 100;
 
-// Takes the tree, if no seat has taken it, and matches its row with its column. Tells how many trees were taken.
+// Takes the tree, if no seat has taken it, and matches its row with its column. Tells how many
+// trees were taken.
 fn visit(board: &FlipBoard, seat: &mut FlipSeat, tree: u32) -> u32
     requires tree { tree < 100 }
     requires seat { HasVisited board.now tree seat.old }
@@ -87,11 +88,13 @@ fn contend_by_four<R: Threads + Sync>(
         rt,
         &mut || -> u32
             requires { IsSync R.row × HasVisited board.now 0 zero.now × HasVisited board.now 0 one.now }
-            ensures { Visits board.entry.now 100 zero.entry.now zero.exit.now × Visits board.entry.now 100 one.entry.now one.exit.now }
+            ensures { Visits board.entry.now 100 zero.entry.now zero.exit.now
+                × Visits board.entry.now 100 one.entry.now one.exit.now }
         { contend_by_two(rt, board, zero, one) },
         &mut || -> u32
             requires { IsSync R.row × HasVisited board.now 0 two.now × HasVisited board.now 0 three.now }
-            ensures { Visits board.entry.now 100 two.entry.now two.exit.now × Visits board.entry.now 100 three.entry.now three.exit.now }
+            ensures { Visits board.entry.now 100 two.entry.now two.exit.now
+                × Visits board.entry.now 100 three.entry.now three.exit.now }
         { contend_by_two(rt, board, two, three) },
     );
     first.saturating_add(second)

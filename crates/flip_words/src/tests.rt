@@ -12,8 +12,9 @@ use std::alloc::Global;
 use std::test::Fail;
 use std::thread::{Threads, join_mut};
 
-// Three rows and three columns, of which row 0 and column 2 are matched. Rows 0 and 1 and columns 1 and 2 are in the tree of
-// column 1, column 0 is a tree of its own, and row 2 is in no tree. Two seats.
+// Three rows and three columns, of which row 0 and column 2 are matched. Rows 0 and 1 and columns 1
+// and 2 are in the tree of column 1, column 0 is a tree of its own, and row 2 is in no tree. Two
+// seats.
 fn board_for_two(alloc: Global) -> Result<(FlipBoard, FlipSeat, FlipSeat), OutOfMemory>
     ensures sizes { IfOk result (λ b. (b.0.rows ≡ 3) × (b.0.cols ≡ 3)) }
     ensures trees { IfOk result (λ b. b.0.trees ≡ Some 1 ∷ Some 1 ∷ None ∷ Some 0 ∷ Some 1 ∷ Some 1 ∷ []) }
