@@ -1,6 +1,7 @@
 pub mod Accounting
 pub mod Allowing
 pub mod Boards
+pub mod Contesting
 pub mod Decoding
 pub mod Finished
 pub mod Flat

@@ -2,6 +2,7 @@ pub mod Accounts
 pub mod Board
 pub mod Closing
 pub mod Coding
+pub mod Contest
 pub mod Listed
 pub mod Opening
 pub mod Rule

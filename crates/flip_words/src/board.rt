@@ -28,8 +28,8 @@ use std::alloc::Global;
 use std::marker::Model;
 use std::snapshot::Snapshot;
 
-/// A word for each row and each column, with its mate and the root of its tree, and a word for each tree, with the seat that
-/// took it. It keeps 8 bytes for each row and 16 for each column.
+/// A word for each row and each column, with its mate and the root of its tree, and a word for each
+/// tree, with the seat that took it. It keeps 8 bytes for each row and 16 for each column.
 #[derive(Drop)]
 pub struct FlipBoard {
     table: Table<(), View, Opening, OneTakerEach, Global>,
@@ -50,7 +50,8 @@ impl Model for FlipBoard {
     ghost invariant = { λ b. IsLaid b.table.shared.table_id b.rows b.cols b.table.shared.key.rows b.table.shared.key.cols b.table.shared.key.words.value.items };
 }
 
-// Each of these seats has taken itself what it lists as taken, and set vertices of such trees alone.
+// Each of these seats has taken itself what it lists as taken, and set vertices of such trees
+// alone.
 fn are_rightful(seats: &[FlipSeat])
     ensures { (s : Seat) → Among s seats.now → IsRightful s }
 {
@@ -70,11 +71,12 @@ fn answer(taker: Option<u32>) -> Taken
 }
 
 impl FlipBoard {
-    /// A board with the mates of the matching and with these trees: for each row and each column the root of its tree, or none.
-    /// Nothing is taken or set. With it come as many seats as are asked for, from 1 to 64, numbered from 0.
+    /// A board with the mates of the matching and with these trees: for each row and each column
+    /// the root of its tree, or none. Nothing is taken or set. With it come as many seats as are
+    /// asked for, from 1 to 64, numbered from 0.
     ///
-    /// Answers `OutOfMemory` where the words or the seats can't be had. While it works it holds the words twice. Work: one
-    /// write for each word.
+    /// Answers `OutOfMemory` where the words or the seats can't be had. While it works it holds the
+    /// words twice. Work: one write for each word.
     pub fn new(
         alloc: Global,
         matching: &Matching,
@@ -167,7 +169,8 @@ impl FlipBoard {
             .join_seat::<TakesIn>(&mut first.seat, seat);
     }
 
-    /// Each row and each column has a mate or none and a tree or none, and there are less than 2^32 of each.
+    /// Each row and each column has a mate or none and a tree or none, and there are less than 2^32
+    /// of each.
     pub fn has_all_vertices(&self)
         ensures mates { length self.now.mates ≡ self.now.rows + self.now.cols }
         ensures trees { length self.now.trees ≡ self.now.rows + self.now.cols }
@@ -176,7 +179,8 @@ impl FlipBoard {
         let _cols = self.cols;
     }
 
-    /// Takes a tree, given by its root, unless a seat has taken it. No memory is taken and nothing is waited for.
+    /// Takes a tree, given by its root, unless a seat has taken it. No memory is taken and nothing
+    /// is waited for.
     pub fn take(&self, seat: &mut FlipSeat, root: Col) -> Taken
         requires seat { seat.old.board ≡ self.now }
         requires root { root < self.now.cols }
@@ -189,7 +193,8 @@ impl FlipBoard {
         answer(self.exchange(&mut seat.place, root.number(), number))
     }
 
-    /// Sets the mate of a row of a tree that the seat took. No other seat sets it. No memory is taken and nothing is waited for.
+    /// Sets the mate of a row of a tree that the seat took. No other seat sets it. No memory is
+    /// taken and nothing is waited for.
     pub fn set_row(&self, seat: &mut FlipSeat, root: Col, row: Row, col: Col)
         requires seat { seat.old.board ≡ self.now }
         requires range { (root < self.now.cols) × (row < self.now.rows) × (col < self.now.cols) }
@@ -203,8 +208,8 @@ impl FlipBoard {
         self.store(&mut seat.place, root.number(), vertex, col.number());
     }
 
-    /// Sets the mate of a column of a tree that the seat took. No other seat sets it. No memory is taken and nothing is waited
-    /// for.
+    /// Sets the mate of a column of a tree that the seat took. No other seat sets it. No memory is
+    /// taken and nothing is waited for.
     pub fn set_col(&self, seat: &mut FlipSeat, root: Col, col: Col, row: Row)
         requires seat { seat.old.board ≡ self.now }
         requires range { (root < self.now.cols) × (col < self.now.cols) × (row < self.now.rows) }
@@ -240,16 +245,18 @@ impl FlipBoard {
 
         // The taker of the column's tree gets what it set, or the opened mate where it set none.
         ensures set { (x : ℕ) → HasSetTo seat.old (col_vertex self.now col) x → result ≡ Some x }
-        ensures unset { LeavesUnset seat.old (col_vertex self.now col) → result ≡ held self.now.mates (col_vertex self.now col) }
+        ensures unset { LeavesUnset seat.old (col_vertex self.now col)
+            → result ≡ held self.now.mates (col_vertex self.now col) }
     {
         self.has_all_vertices();
         words::as_row(self.load(&mut seat.place, self.rows + col.number() as usize))
     }
 
-    /// The mates, once all seats are back: those with which the board was opened, changed by what the seats have set.
+    /// The mates, once all seats are back: those with which the board was opened, changed by what
+    /// the seats have set.
     ///
-    /// Where the two arrays of the mates can't be had, the board and the seats are handed back as they were. Work: one read and
-    /// one write for each row and each column.
+    /// Where the two arrays of the mates can't be had, the board and the seats are handed back as
+    /// they were. Work: one read and one write for each row and each column.
     pub fn close(
         self,
         alloc: Global,
@@ -330,7 +337,9 @@ impl FlipBoard {
     // One store of the vertex's word. The tree stays as it is.
     fn store(&self, seat: &mut TableSeat, root: u32, vertex: usize, mate: u32)
         requires seat { seat.old.board ≡ self.now }
-        requires range { (root < self.now.cols) × (vertex < length self.now.mates) × (1 + mate < half) }
+        requires root { root < self.now.cols }
+        requires vertex { vertex < length self.now.mates }
+        requires mate { 1 + mate < half }
         requires took { Took seat.old root }
         requires tree { held self.now.trees vertex ≡ Some root }
         requires unset { ¬ HasSet seat.old vertex }

@@ -14,12 +14,14 @@ pub fn new_seats_are_all()
 
 /// All seats of a board stay all its seats, whatever they list.
 pub fn seats_stay_all()
-    ensures { (b : Board) (ss ts : List Seat) → AllZip IsSameSeat ss ts → AreAllSeats b ss → AreAllSeats b ts }
+    ensures { (b : Board) (ss ts : List Seat) → AllZip IsSameSeat ss ts → AreAllSeats b ss
+        → AreAllSeats b ts }
 {}
 
 /// At the close of a board each tree has one taker at most.
 pub fn each_tree_has_one_taker()
-    ensures { (b : Board) (m : Mated) (ss : List Seat) → AreAllSeats b ss → SettlesAll b m ss → HaveOneTakerEach ss }
+    ensures { (b : Board) (m : Mated) (ss : List Seat) → AreAllSeats b ss → SettlesAll b m ss
+        → HaveOneTakerEach ss }
 {}
 
 /// At the close of a board the mates are the opened ones but where a seat set them.

@@ -1,17 +1,23 @@
-//! A board of shared words on which the augmenting paths of many alternating trees are exchanged at once.
+//! A board of shared words on which the augmenting paths of many alternating trees are exchanged at
+//! once.
 //!
-//! Threads take trees, and only the taker of a tree sets the mates of its vertices. A take is one compare-exchange, a set is
-//! one store and a look is one load; no call waits or tries again. The board serves the augmentation by many workers of Azad,
-//! Buluç and Pothen, Computing maximum cardinality matchings in parallel on bipartite graphs via tree-grafting, 2017.
+//! Threads take trees, and only the taker of a tree sets the mates of its vertices. A take is one
+//! compare-exchange, a set is one store and a look is one load; no call waits or tries again. The
+//! board serves the augmentation by many workers of Azad, Buluç and Pothen, Computing maximum
+//! cardinality matchings in parallel on bipartite graphs via tree-grafting, 2017.
 #![tactic(auto)]
 
 mod board;
 mod closing;
+#[cfg(test)]
+mod contest;
 mod laws;
 mod opening;
 mod plays;
 mod seat;
 mod taken;
+#[cfg(test)]
+mod tests;
 mod views;
 mod words;
 

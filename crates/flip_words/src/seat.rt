@@ -25,8 +25,8 @@ impl Model for TableSeat {
     ghost invariant = { λ s. IsOpen s.seat.me };
 }
 
-/// A seat at a board, with which one thread takes trees, sets vertices and looks at them. Its lists are in proofs alone: a
-/// seat keeps its number, 4 bytes.
+/// A seat at a board, with which one thread takes trees, sets vertices and looks at them. Its lists
+/// are in proofs alone: a seat keeps its number, 4 bytes.
 #[derive(Drop)]
 pub struct FlipSeat {
     pub(crate) place: TableSeat,
@@ -46,7 +46,8 @@ impl Model for FlipSeat {
 }
 
 impl FlipSeat {
-    /// Each tree that the seat lists as taken it took itself, and each vertex that it set is of such a tree.
+    /// Each tree that the seat lists as taken it took itself, and each vertex that it set is of
+    /// such a tree.
     pub fn is_rightful(&self)
         ensures { IsRightful self.now }
     {

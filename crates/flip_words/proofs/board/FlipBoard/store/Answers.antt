@@ -15,20 +15,20 @@ use Rattle.flip_words.proofs.board.FlipBoard.store.Goals as goal
 pub store-requires : goal.store-requires
 store-requires c =
     let of = is_of c.seat.view_is c.requires.seat c.self.view_is in
-    let lt : c.args.vertex < length (mates_in c.self.inside.table.shared.key.cols c.self.inside.table.shared.key.words.value.items) = subst (λ (b : Board). c.args.vertex < length b.mates) (sym c.self.view_is) c.requires.range.1 in
+    let lt : c.args.vertex < length (mates_in c.self.inside.table.shared.key.cols c.self.inside.table.shared.key.words.value.items) = subst (λ (b : Board). c.args.vertex < length b.mates) (sym c.self.view_is) c.requires.vertex in
     let tree : held (trees_in c.self.inside.table.shared.key.cols c.self.inside.table.shared.key.words.value.items) c.args.vertex ≡ Some c.args.root = subst (λ (b : Board). held b.trees c.args.vertex ≡ Some c.args.root) (sym c.self.view_is) c.requires.tree in
     let took : TookTreeOf c.args.seat.now c.args.vertex = (c.args.root, ap (λ (b : Board). held b.trees c.args.vertex) c.requires.seat ∙ c.requires.tree, c.requires.took) in
     let taken = subst (λ (o : Opened). IsOfTaken o.trees (known c.seat.inside.seat.me.0).listed c.args.vertex) of.same_opened (of_taken c.seat.view_is c.args.vertex took) in (
       of.same_table,
       vertex_place c.self.invariant c.args.vertex lt,
-      allows_set _ _ _ _ _ _ c.seat.invariant c.self.inside.cols c.args.vertex c.args.root c.args.mate _ c.self.invariant.cols_told lt taken tree (never_set c.seat.view_is c.args.vertex c.requires.unset) c.requires.range.2
-          refl (mate_told (Some c.args.root) c.args.mate c.requires.range.2),
+      allows_set _ _ _ _ _ _ c.seat.invariant c.self.inside.cols c.args.vertex c.args.root c.args.mate _ c.self.invariant.cols_told lt taken tree (never_set c.seat.view_is c.args.vertex c.requires.unset) c.requires.mate
+          refl (mate_told (Some c.args.root) c.args.mate c.requires.mate),
     )
 
 told : (c : goal.After-store) → ◌≡◌ {A = Me (Unit {0}) (Option Known)} c.store.new.seat.me (knowing (known c.seat.inside.seat.me.0) (put (known c.seat.inside.seat.me.0).listed c.args.vertex c.args.mate), c.seat.inside.seat.me.1)
 told c =
     c.store.ensures.2 (known c.seat.inside.seat.me.0) c.args.vertex c.seat.invariant.0 (vertex_word_is (is_of c.seat.view_is c.requires.seat c.self.view_is) c.self.invariant.cols_told c.args.vertex)
-    ∙ (λ i. (knowing (known c.seat.inside.seat.me.0) (put (known c.seat.inside.seat.me.0).listed c.args.vertex (mate_told (Some c.args.root) c.args.mate c.requires.range.2 i)), c.seat.inside.seat.me.1))
+    ∙ (λ i. (knowing (known c.seat.inside.seat.me.0) (put (known c.seat.inside.seat.me.0).listed c.args.vertex (mate_told (Some c.args.root) c.args.mate c.requires.mate i)), c.seat.inside.seat.me.1))
 
 pub invariant_of-seat : goal.invariant_of-seat
 invariant_of-seat c = open_after c.seat.invariant (told c)
