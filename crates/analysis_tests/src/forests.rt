@@ -364,3 +364,51 @@ fn phases_beside_a_single_entry(rt: HostRuntime) -> Result<(), Fail> {
     }
     Ok(())
 }
+
+/// The numbers of a list, which count from 1, with 0 for none.
+fn numbers_of<I: Id>(list: &[Option<I>]) -> [u32; 4] {
+    let mut numbers = [0; 4];
+    for (at, found) in list.iter().enumerate() {
+        if let Some(id) = found {
+            if at < 4 {
+                numbers[at] = id.number().saturating_add(1);
+            }
+        }
+    }
+    numbers
+}
+
+// Column 1 claims row 2 and wins row 3 by way of column 2. Boards are opened with these lists.
+#[test]
+fn lists_by_row_and_by_column(rt: HostRuntime) -> Result<(), Fail> {
+    let alloc = rt.alloc();
+    let places = [(1, 1), (2, 1), (2, 2), (3, 2), (4, 2)];
+    let pattern = pattern_of(&rt, 4, 3, &places)?;
+    let steps = [Claim(2, 1), Claim(3, 2), Win(1, 3)];
+    let (forest, made) = after(&rt, &pattern, &[(2, 2)], &steps)?;
+    assert_eq!(rt; made, 3);
+    let holders = forest.row_holders(alloc)?;
+    assert_eq!(rt; numbers_of(holders.as_slice()), [0, 1, 2, 0]);
+    let leaves = forest.root_leaves(alloc)?;
+    assert_eq!(rt; numbers_of(leaves.as_slice()), [3, 0, 0, 0]);
+    let row_trees = forest.row_trees(alloc)?;
+    assert_eq!(rt; numbers_of(row_trees.as_slice()), [0, 1, 1, 0]);
+    let col_trees = forest.col_trees(alloc)?;
+    assert_eq!(rt; numbers_of(col_trees.as_slice()), [1, 1, 3, 0]);
+    Ok(())
+}
+
+// Two claims among 40 rows are taken back one by one, and many by filling the table: either way all rows are free.
+#[test]
+fn a_rebuild_with_few_claims(rt: HostRuntime) -> Result<(), Fail> {
+    let places = [(1, 1), (2, 1), (2, 2), (3, 2), (4, 2)];
+    let pattern = pattern_of(&rt, 40, 3, &places)?;
+    let steps = [Claim(2, 1), Claim(3, 2), Win(1, 3), Flip(1), Rebuild, Claim(40, 3)];
+    let (forest, made) = after(&rt, &pattern, &[(2, 2)], &steps)?;
+    assert_eq!(rt; made, 5);
+    assert!(rt; forest.claims().is_empty());
+    let holders = forest.row_holders(rt.alloc())?;
+    assert_eq!(rt; numbers_of(holders.as_slice()), [0; 4]);
+    has_pairs(&rt, "few claims", forest.base(), &[(2, 1), (3, 2)]);
+    Ok(())
+}
