@@ -1,12 +1,13 @@
 -- Moving the claims that stay to the front of their list.
-use Rattle.std.proofs.Common.{◌≡◌, ◌≢◌, ◌⊎◌, ◌∙◌, ℕ, suc, ◌+◌, ◌<◌, ◌≤◌, Bool, true, false, not, cond, List, [], ◌∷◌, ◌++◌, take, drop, filter, length, set, slice_index_or, Option, None, refl, sym, ap, subst, inl, inr, ⊎_elim, arith, add-one, append_assoc, drop-cons, drop_of_length-le}
-use Rattle.std.proofs.lemmas.List.{append-nil, drop-set-lt, take_more, take_more_set}
+use Rattle.std.proofs.Common.{◌≡◌, ◌≢◌, ◌⊎◌, ◌∙◌, ℕ, suc, ◌+◌, ◌<◌, ◌≤◌, Bool, true, false, not, cond, List, [], ◌∷◌, ◌++◌, take, drop, filter, length, length-set, set, slice_index_or, Option, None, Some, is_some, refl, sym, ap, subst, inl, inr, ⊎_elim, arith, add-one, append_assoc, drop-cons, drop_of_length-le}
+use Rattle.std.proofs.lemmas.List.{append-nil, drop-set-lt, get_or-set_other, get_or-set_same, get_or-take, get_or_read, length-take-le, take-append-drop, take_all, take_more, take_more_set}
 use Rattle.bip_defs.specs.Lists.{Among, AreDistinct}
 use Rattle.bip_defs.specs.Matching.{rows_of}
 use Rattle.bip_defs.specs.Matrix.{Place}
-use Rattle.bip_defs.proofs.Sets.{among_either, among_left, among_right, filter_sound, row_among, row_pair}
+use Rattle.bip_defs.proofs.Sets.{among_either, among_left, among_right, filter_sound, number_same, row_among, row_pair}
 use Rattle.forest_core.specs.Renewing.{kept, root_has_leaf, stays}
-use Rattle.forest_core.specs.Tables.{IsTableOf, beside}
+use Rattle.forest_core.specs.Stored.{AreClaimRoots, HasRootAt}
+use Rattle.forest_core.specs.Tables.{Claimed, IsTableOf, beside}
 use Rattle.forest_core.proofs.Tabling.{table_clear}
 
 -- One element more of a filtered list.
@@ -31,15 +32,26 @@ apart (x ∷ xs) ys p c a (inl (inl e)) = a.0 (subst (λ z. Among z (rows_of (xs
 apart (x ∷ xs) ys p c a (inl (inr h)) = apart xs ys p c a.1 (inl h)
 apart (x ∷ xs) ys p c a (inr h) = apart xs ys p c a.1 (inr h)
 
--- the claims before the place were looked at, and those that stay stand in front
-pub record IsKeeping (roots leaf_of : List (Option ℕ)) (old now : List Place) (holders : List (Option ℕ)) (i stay : ℕ) : Type 0 where
+-- the claims before the place were looked at, and those that stay stand in front, each with its root
+pub record IsKeeping (roots leaf_of : List (Option ℕ)) (old now : List Place) (xs : List ℕ) (t : Claimed) (i stay : ℕ) : Type 0 where
   pub within : stay ≤ i
   pub front : take stay now ≡ kept roots leaf_of (take i old)
   pub rest : drop i now ≡ drop i old
-  pub table : IsTableOf (kept roots leaf_of (take i old) ++ drop i old) holders
+  pub table : IsTableOf (kept roots leaf_of (take i old) ++ drop i old) t.holders
+  pub long : length xs ≡ length now
+  pub rooted : (j : ℕ) → (j < stay) ⊎ (i ≤ j) → j < length now → HasRootAt roots now xs j
+  pub same : (r c : ℕ) → Among (r, c) (kept roots leaf_of (take i old) ++ drop i old) → beside t.roots r ≡ beside roots r
 
-pub keeping_start : (roots leaf_of : List (Option ℕ)) (old : List Place) (holders : List (Option ℕ)) → IsTableOf old holders → IsKeeping roots leaf_of old old holders 0 0
-keeping_start roots leaf_of old holders of = record { within = omega arith; front = refl; rest = refl; table = of }
+pub keeping_start : (leaf_of : List (Option ℕ)) (old : List Place) (xs : List ℕ) (t : Claimed) → IsTableOf old t.holders → AreClaimRoots t.roots old xs → IsKeeping t.roots leaf_of old old xs t 0 0
+keeping_start leaf_of old xs t of are = record {
+  within = omega arith;
+  front = refl;
+  rest = refl;
+  table = of;
+  long = are.long;
+  rooted = λ j m lt. are.are j lt;
+  same = λ r c h. refl;
+}
 
 -- what stands at the place, and behind it
 pub record IsAt (old now : List Place) (i : ℕ) (p : Place) : Type 0 where
@@ -66,13 +78,39 @@ is_at old now i p lt long e read =
     tail [] = []
     tail (q ∷ qs) = qs
 
+-- the root of the claim at the place, in the table
+pub root_here : (roots leaf_of : List (Option ℕ)) (old now : List Place) (xs : List ℕ) (t : Claimed) (i stay : ℕ) (p : Place) (x : ℕ) → IsKeeping roots leaf_of old now xs t i stay → i < length now → p ≡ slice_index_or now i p → x ≡ slice_index_or xs i x → beside roots p.0 ≡ Some x
+root_here roots leaf_of old now xs t i stay p x k lt is at =
+    ap (λ (q : Place). beside roots q.0) (get_or_read now i p lt is (0, 0)) ∙ k.rooted i (inr (omega arith)) lt ∙ ap (λ (y : ℕ). Some y) (sym (get_or_read xs i x (omega (arith, lt, k.long)) at 0))
+
+-- whether that root has a leaf, as it is told
+pub leaf_told : (roots leaf_of : List (Option ℕ)) (p : Place) (x : ℕ) (o : Option ℕ) (told b : Bool) → beside roots p.0 ≡ Some x → o ≡ beside leaf_of x → told ≡ is_some o → told ≡ b → root_has_leaf leaf_of (beside roots p.0) ≡ b
+leaf_told roots leaf_of p x o told b root e f g = ap (root_has_leaf leaf_of) root ∙ ap is_some (sym e) ∙ sym f ∙ g
+
+-- numbers below n
+abbrev pub AreBelow : ℕ → List ℕ → Type 0
+AreBelow n xs = (i : ℕ) → i < length xs → slice_index_or xs i 0 < n
+
+pub below_set : (n : ℕ) (xs : List ℕ) (k x : ℕ) → AreBelow n xs → x < n → AreBelow n (set xs k x)
+below_set n xs k x are lt i within = ⊎_elim (λ (e : i ≡ k). subst (λ y. y < n) (sym (ap (λ j. slice_index_or (set xs k x) j 0) e ∙ get_or-set_same xs k x 0 (omega (arith, inside, e)))) lt) (λ ne. subst (λ y. y < n) (sym (get_or-set_other xs k i x 0 ne)) (are i inside)) (number_same i k)
+  where
+    inside : i < length xs
+    inside = omega (arith, within, length-set xs k x)
+
+pub root_below_here : (n : ℕ) (xs : List ℕ) (i x : ℕ) → AreBelow n xs → i < length xs → x ≡ slice_index_or xs i x → x < n
+root_below_here n xs i x are lt is = subst (λ y. y < n) (sym (get_or_read xs i x lt is 0)) (are i lt)
+
 -- a claim whose root has a leaf goes
-pub keeping_won : (roots leaf_of : List (Option ℕ)) (old now : List Place) (holders : List (Option ℕ)) (i stay : ℕ) (p : Place) → IsKeeping roots leaf_of old now holders i stay → IsAt old now i p → root_has_leaf leaf_of (beside roots p.0) ≡ true → AreDistinct (rows_of old) → take i old ++ drop i old ≡ old → p.0 < length holders → IsKeeping roots leaf_of old now (set holders p.0 None) (i + 1) stay
-keeping_won roots leaf_of old now holders i stay p k at won differ whole lt = record {
+pub keeping_won : (roots leaf_of : List (Option ℕ)) (old now : List Place) (xs : List ℕ) (t u : Claimed) (i stay : ℕ) (p : Place) → IsKeeping roots leaf_of old now xs t i stay → IsAt old now i p → root_has_leaf leaf_of (beside roots p.0) ≡ true → AreDistinct (rows_of old) → p.0 < length t.holders → u.holders ≡ set t.holders p.0 None → u.roots ≡ set t.roots p.0 None
+    → IsKeeping roots leaf_of old now xs u (i + 1) stay
+keeping_won roots leaf_of old now xs t u i stay p k at won differ lt holders_are roots_are = record {
   within = (let le = k.within in omega arith);
   front = k.front ∙ sym gone;
   rest = at.same;
-  table = subst (λ qs. IsTableOf (qs ++ drop (i + 1) old) (set holders p.0 None)) (sym gone) (table_clear (keep ++ drop i old) (keep ++ drop (i + 1) old) holders p.0 k.table lt not_there over back);
+  table = subst (λ h. IsTableOf (kept roots leaf_of (take (i + 1) old) ++ drop (i + 1) old) h) (sym holders_are) (subst (λ qs. IsTableOf (qs ++ drop (i + 1) old) (set t.holders p.0 None)) (sym gone) (table_clear (keep ++ drop i old) (keep ++ drop (i + 1) old) t.holders p.0 k.table lt not_there over back));
+  long = k.long;
+  rooted = λ j m below. k.rooted j (⊎_elim (λ f. inl f) (λ (f : i + 1 ≤ j). inr (omega arith)) m) below;
+  same = λ r c h. same r c (subst (λ qs. Among (r, c) (qs ++ drop (i + 1) old)) gone h);
 }
   where
     keep : List Place
@@ -82,7 +120,7 @@ keeping_won roots leaf_of old now holders i stay p k at won differ whole lt = re
     gone = ap (kept roots leaf_of) at.here ∙ filter_out (stays roots leaf_of) (take i old) p (ap not won)
 
     middle : AreDistinct (rows_of (take i old ++ p ∷ drop (i + 1) old))
-    middle = subst (λ qs. AreDistinct (rows_of qs)) (sym whole ∙ ap (λ qs. take i old ++ qs) at.behind) differ
+    middle = subst (λ qs. AreDistinct (rows_of qs)) (sym (take-append-drop i old) ∙ ap (λ qs. take i old ++ qs) at.behind) differ
 
     not_there : ¬ Among p.0 (rows_of (kept roots leaf_of (take i old) ++ drop (i + 1) old))
     not_there h =
@@ -95,21 +133,59 @@ keeping_won roots leaf_of old now holders i stay p k at won differ whole lt = re
     back : (j w : ℕ) → Among (j, w) (kept roots leaf_of (take i old) ++ drop (i + 1) old) → Among (j, w) (kept roots leaf_of (take i old) ++ drop i old)
     back j w h = ⊎_elim (λ f. among_left (j, w) (kept roots leaf_of (take i old)) (drop i old) f) (λ f. among_right (j, w) (kept roots leaf_of (take i old)) (drop i old) (subst (Among (j, w)) (sym at.behind) (inr f))) (among_either (j, w) (kept roots leaf_of (take i old)) (drop (i + 1) old) h)
 
+    same : (r c : ℕ) → Among (r, c) (kept roots leaf_of (take i old) ++ drop (i + 1) old) → beside u.roots r ≡ beside roots r
+    same r c h =
+        let other : r ≢ p.0 = λ e. not_there (subst (λ z. Among z (rows_of (kept roots leaf_of (take i old) ++ drop (i + 1) old))) e (row_among r c (kept roots leaf_of (take i old) ++ drop (i + 1) old) h)) in
+        ap (λ z. beside z r) roots_are ∙ get_or-set_other t.roots p.0 r None None other ∙ k.same r c (back r c h)
+
 -- another moves to the front
-pub keeping_stays : (roots leaf_of : List (Option ℕ)) (old now : List Place) (holders : List (Option ℕ)) (i stay : ℕ) (p : Place) → IsKeeping roots leaf_of old now holders i stay → IsAt old now i p → root_has_leaf leaf_of (beside roots p.0) ≡ false → i < length now → IsKeeping roots leaf_of old (set now stay p) holders (i + 1) (stay + 1)
-keeping_stays roots leaf_of old now holders i stay p k at not_won lt = record {
+pub keeping_stays : (roots leaf_of : List (Option ℕ)) (old now : List Place) (xs : List ℕ) (t : Claimed) (i stay : ℕ) (p : Place) (x : ℕ) → IsKeeping roots leaf_of old now xs t i stay → IsAt old now i p → beside roots p.0 ≡ Some x → root_has_leaf leaf_of (beside roots p.0) ≡ false → i < length now → IsKeeping roots leaf_of old (set now stay p) (set xs stay x) t (i + 1) (stay + 1)
+keeping_stays roots leaf_of old now xs t i stay p x k at root not_won lt = record {
   within = (let le = k.within in omega arith);
-  front = take_more_set now stay p (let le = k.within in omega arith) ∙ ap (λ qs. qs ++ p ∷ []) k.front ∙ sym more;
+  front = take_more_set now stay p below ∙ ap (λ qs. qs ++ p ∷ []) k.front ∙ sym more;
   rest = drop-set-lt (i + 1) now stay p (let le = k.within in omega arith) ∙ at.same;
-  table = subst (λ qs. IsTableOf qs holders) (ap (λ qs. kept roots leaf_of (take i old) ++ qs) at.behind ∙ sym (append_assoc (kept roots leaf_of (take i old)) (p ∷ []) (drop (i + 1) old)) ∙ ap (λ qs. qs ++ drop (i + 1) old) (sym more)) k.table;
+  table = subst (λ qs. IsTableOf qs t.holders) whole k.table;
+  long = length-set xs stay x ∙ k.long ∙ sym (length-set now stay p);
+  rooted = λ j m le. ⊎_elim (λ (e : j ≡ stay). here j e) (λ (ne : j ≢ stay). there j ne (⊎_elim (λ (f : j < stay + 1). inl (omega arith)) (λ (f : i + 1 ≤ j). inr (omega arith)) m) (subst (λ n. j < n) (length-set now stay p) le)) (number_same j stay);
+  same = λ r c h. k.same r c (subst (λ qs. Among (r, c) qs) (sym whole) h);
 }
   where
+    below : stay < length now
+    below = let le = k.within in omega arith
+
     more : kept roots leaf_of (take (i + 1) old) ≡ kept roots leaf_of (take i old) ++ p ∷ []
     more = ap (kept roots leaf_of) at.here ∙ filter_in (stays roots leaf_of) (take i old) p (ap not not_won)
 
-pub at_among : (old now : List Place) (i : ℕ) (p : Place) → IsAt old now i p → take i old ++ drop i old ≡ old → Among p old
-at_among old now i p at whole = subst (Among p) whole (among_right p (take i old) (drop i old) (subst (Among p) (sym at.behind) (inl refl)))
+    whole : kept roots leaf_of (take i old) ++ drop i old ≡ kept roots leaf_of (take (i + 1) old) ++ drop (i + 1) old
+    whole = ap (λ qs. kept roots leaf_of (take i old) ++ qs) at.behind ∙ sym (append_assoc (kept roots leaf_of (take i old)) (p ∷ []) (drop (i + 1) old)) ∙ ap (λ qs. qs ++ drop (i + 1) old) (sym more)
+
+    here : (j : ℕ) → j ≡ stay → HasRootAt roots (set now stay p) (set xs stay x) j
+    here j e = subst (HasRootAt roots (set now stay p) (set xs stay x)) (sym e) (ap (λ (q : Place). beside roots q.0) (get_or-set_same now stay p (0, 0) below) ∙ root ∙ ap (λ (y : ℕ). Some y) (sym (get_or-set_same xs stay x 0 (omega (arith, below, k.long)))))
+
+    there : (j : ℕ) → j ≢ stay → (j < stay) ⊎ (i ≤ j) → j < length now → HasRootAt roots (set now stay p) (set xs stay x) j
+    there j ne m le = ap (λ (q : Place). beside roots q.0) (get_or-set_other now stay j p (0, 0) ne) ∙ k.rooted j m le ∙ ap (λ (y : ℕ). Some y) (sym (get_or-set_other xs stay j x 0 ne))
+
+pub at_among : (old now : List Place) (i : ℕ) (p : Place) → IsAt old now i p → Among p old
+at_among old now i p at = subst (Among p) (take-append-drop i old) (among_right p (take i old) (drop i old) (subst (Among p) (sym at.behind) (inl refl)))
 
 -- all claims were looked at
-pub keeping_end : (roots leaf_of : List (Option ℕ)) (old now : List Place) (holders : List (Option ℕ)) (i stay : ℕ) → IsKeeping roots leaf_of old now holders i stay → length old ≤ i → take i old ≡ old → IsTableOf (kept roots leaf_of old) holders
-keeping_end roots leaf_of old now holders i stay k le all = subst (λ qs. IsTableOf qs holders) (ap (λ qs. kept roots leaf_of (take i old) ++ qs) (drop_of_length-le old le) ∙ append-nil (kept roots leaf_of (take i old)) ∙ ap (kept roots leaf_of) all) k.table
+pub keeping_end : (roots leaf_of : List (Option ℕ)) (old now : List Place) (xs : List ℕ) (t : Claimed) (i stay : ℕ) → IsKeeping roots leaf_of old now xs t i stay → length old ≤ i → take stay now ≡ kept roots leaf_of old
+keeping_end roots leaf_of old now xs t i stay k le = k.front ∙ ap (kept roots leaf_of) (take_all i old le)
+
+-- and the claims that stay are those of the front
+whole_front : (roots leaf_of : List (Option ℕ)) (old now : List Place) (xs : List ℕ) (t : Claimed) (i stay : ℕ) → IsKeeping roots leaf_of old now xs t i stay → length old ≤ i → kept roots leaf_of (take i old) ++ drop i old ≡ take stay now
+whole_front roots leaf_of old now xs t i stay k le = ap (λ qs. kept roots leaf_of (take i old) ++ qs) (drop_of_length-le old le) ∙ append-nil (kept roots leaf_of (take i old)) ∙ sym k.front
+
+pub keeping_table : (roots leaf_of : List (Option ℕ)) (old now : List Place) (xs : List ℕ) (t : Claimed) (i stay : ℕ) → IsKeeping roots leaf_of old now xs t i stay → length old ≤ i → IsTableOf (take stay now) t.holders
+keeping_table roots leaf_of old now xs t i stay k le = subst (λ qs. IsTableOf qs t.holders) (whole_front roots leaf_of old now xs t i stay k le) k.table
+
+pub keeping_same : (roots leaf_of : List (Option ℕ)) (old now : List Place) (xs : List ℕ) (t : Claimed) (i stay : ℕ) → IsKeeping roots leaf_of old now xs t i stay → length old ≤ i → (r c : ℕ) → Among (r, c) (take stay now) → beside t.roots r ≡ beside roots r
+keeping_same roots leaf_of old now xs t i stay k le r c h = k.same r c (subst (Among (r, c)) (sym (whole_front roots leaf_of old now xs t i stay k le)) h)
+
+pub keeping_roots : (roots leaf_of : List (Option ℕ)) (old now : List Place) (xs : List ℕ) (t : Claimed) (i stay : ℕ) → IsKeeping roots leaf_of old now xs t i stay → stay ≤ length now → AreClaimRoots roots (take stay now) (take stay xs)
+keeping_roots roots leaf_of old now xs t i stay k le = record {
+  long = length-take-le stay xs (omega (arith, le, k.long)) ∙ sym (length-take-le stay now le);
+  are = λ j lt.
+      let below : j < stay = omega (arith, lt, length-take-le stay now le) in
+      ap (λ (q : Place). beside roots q.0) (get_or-take stay now j (0, 0) below) ∙ k.rooted j (inl below) (omega (arith, below, le)) ∙ ap (λ (y : ℕ). Some y) (sym (get_or-take stay xs j 0 below));
+}

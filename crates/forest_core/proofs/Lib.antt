@@ -2,6 +2,7 @@ pub mod Climbs
 pub mod Currents
 pub mod Ends
 pub mod Grafts
+pub mod Growing
 pub mod Keeping
 pub mod Members
 pub mod Renewals

@@ -1,57 +1,55 @@
 -- What is stored of a forest whose base matching was renewed.
-use Rattle.std.proofs.Common.{◌≡◌, ◌∙◌, ℕ, ◌<◌, Bool, true, false, not, cond, List, [], ◌∷◌, length, slice_index_or, Option, None, Some, refl, sym, ap, subst, inl, inr, true≢false, arith}
+use Rattle.std.proofs.Common.{◌≡◌, ◌∙◌, ℕ, ◌<◌, Bool, true, false, not, cond, List, [], ◌∷◌, length, slice_index_or, Option, None, Some, is_some, refl, sym, ap, subst, inl, inr, true≢false, arith}
 use Rattle.bip_defs.specs.Lists.{Among}
 use Rattle.bip_defs.specs.Matrix.{Place}
-use Rattle.bip_defs.proofs.Sets.{row_among, row_pair}
+use Rattle.bip_defs.proofs.Sets.{among_at, place_among, row_among, row_pair}
 use Rattle.bip_graph.specs.Pairing.{Pairing}
 use Rattle.forest_core.specs.Current.{IsCurrent}
 use Rattle.forest_core.specs.Events.{AreKept, IsRenewed, drops, keeps, none}
 use Rattle.forest_core.specs.Exchanging.{CanExchange, IsExchanged}
-use Rattle.forest_core.specs.Renewing.{is_there, kept, root_has_leaf}
+use Rattle.forest_core.specs.Renewing.{kept, root_has_leaf}
 use Rattle.forest_core.specs.Sound.{AreClaims, IsSound}
-use Rattle.forest_core.specs.State.{IsWon, State, roots_of}
-use Rattle.forest_core.specs.Stored.{AreMarks, AreRoots, IsStored}
-use Rattle.forest_core.specs.Tables.{IsTableOf, beside}
+use Rattle.forest_core.specs.State.{IsRootOfRow, IsWon, RootOf, State, roots_of}
+use Rattle.forest_core.specs.Stored.{AreClaimRoots, AreMarks, AreRowTrees, IsStored, Tables}
+use Rattle.forest_core.specs.Tables.{AreAlike, IsTableOf, beside}
 use Rattle.forest_core.proofs.Grafts.{kept_claims, kept_root, kept_sound}
-use Rattle.forest_core.proofs.Roots.{one_root_of_row}
+use Rattle.forest_core.proofs.Roots.{has_root, one_root, root_of_claimer}
 use Rattle.forest_core.proofs.Sounds.{renewed_sound}
-use Rattle.forest_core.proofs.Storing.{leaf_in_range, root_in_range, root_stored, claim_in_range}
+use Rattle.forest_core.proofs.Storing.{claim_in_range, leaf_in_range, root_in_range}
 
 -- What the tables say of a claim's root.
 
-there_some : (o : Option ℕ) → is_there o ≡ true → (x : ℕ) × (o ≡ Some x)
+there_some : (o : Option ℕ) → is_some o ≡ true → (x : ℕ) × (o ≡ Some x)
 there_some None e = absurd (true≢false (sym e))
 there_some (Some x) e = (x, refl)
 
-won_if : (s : State) (roots leaf_of : List (Option ℕ)) (p : Place) → AreRoots s roots → IsTableOf s.leaves leaf_of → Among p s.claims → root_has_leaf leaf_of (beside roots p.0) ≡ true → IsWon s p.0
-won_if s roots leaf_of p are won h e =
-    let (x, f, w) = are p.0 p.1 h in
-    let (r, g) = there_some (beside leaf_of x) (ap (root_has_leaf leaf_of) (sym f) ∙ e) in
-    (x, (p.1, h, w), row_among x r s.leaves ((won x r).0 g))
+won_if : (s : State) → IsSound s → (roots leaf_of : List (Option ℕ)) (p : Place) → AreRowTrees s roots → IsTableOf s.leaves leaf_of → Among p s.claims → root_has_leaf leaf_of (beside roots p.0) ≡ true → IsWon s p.0
+won_if s k roots leaf_of p are won h e =
+    let (x, tree) = has_root s k p.0 (row_among p.0 p.1 s.claims h) in
+    let (r, g) = there_some (beside leaf_of x) (ap (root_has_leaf leaf_of) (sym ((are p.0 x).1 tree)) ∙ e) in
+    (x, tree, row_among x r s.leaves ((won x r).0 g))
 
-won_only : (s : State) → IsSound s → (roots leaf_of : List (Option ℕ)) (p : Place) → AreRoots s roots → IsTableOf s.leaves leaf_of → Among p s.claims → root_has_leaf leaf_of (beside roots p.0) ≡ false → ¬ IsWon s p.0
-won_only s k roots leaf_of p are won h e (y, tree, leaf) =
-    let (x, f, w) = are p.0 p.1 h in
+won_only : (s : State) (roots leaf_of : List (Option ℕ)) (p : Place) → AreRowTrees s roots → IsTableOf s.leaves leaf_of → root_has_leaf leaf_of (beside roots p.0) ≡ false → ¬ IsWon s p.0
+won_only s roots leaf_of p are won e (y, tree, leaf) =
     let (r, g) = row_pair y s.leaves leaf in
-    let same : x ≡ y = one_root_of_row s k x y p.0 (p.1, h, w) tree in
-    true≢false (sym (ap is_there ((won y r).1 g)) ∙ ap (λ z. is_there (beside leaf_of z)) (sym same) ∙ ap (root_has_leaf leaf_of) (sym f) ∙ e)
+    true≢false (sym (ap is_some ((won y r).1 g)) ∙ ap (root_has_leaf leaf_of) (sym ((are p.0 y).1 tree)) ∙ e)
 
 -- the claims that the tables keep are those whose root has no leaf
-kept_from : (s : State) → IsSound s → (roots leaf_of : List (Option ℕ)) → AreRoots s roots → IsTableOf s.leaves leaf_of → (ps : List Place) → ((p : Place) → Among p ps → Among p s.claims) → AreKept s ps (kept roots leaf_of ps)
+kept_from : (s : State) → IsSound s → (roots leaf_of : List (Option ℕ)) → AreRowTrees s roots → IsTableOf s.leaves leaf_of → (ps : List Place) → ((p : Place) → Among p ps → Among p s.claims) → AreKept s ps (kept roots leaf_of ps)
 kept_from s k roots leaf_of are won [] all = none
 kept_from s k roots leaf_of are won (p ∷ ps) all = by (root_has_leaf leaf_of (beside roots p.0)) refl (kept_from s k roots leaf_of are won ps (λ q h. all q (inr h)))
   where
     by : (b : Bool) → root_has_leaf leaf_of (beside roots p.0) ≡ b → AreKept s ps (kept roots leaf_of ps) → AreKept s (p ∷ ps) (cond (not b) (p ∷ kept roots leaf_of ps) (kept roots leaf_of ps))
-    by true e rest = drops p (won_if s roots leaf_of p are won (all p (inl refl)) e) rest
-    by false e rest = keeps p (won_only s k roots leaf_of p are won (all p (inl refl)) e) rest
+    by true e rest = drops p (won_if s k roots leaf_of p are won (all p (inl refl)) e) rest
+    by false e rest = keeps p (won_only s roots leaf_of p are won e) rest
 
-pub kept_stored : (s : State) (m : Pairing) (holders roots leaf_of : List (Option ℕ)) (marks : List Bool) → IsStored s m holders roots leaf_of marks → AreKept s s.claims (kept roots leaf_of s.claims)
-kept_stored s m holders roots leaf_of marks k = kept_from s k.sound roots leaf_of k.rooted k.won s.claims (λ p h. h)
+pub kept_stored : (s : State) (m : Pairing) (t : Tables) → IsStored s m t → AreKept s s.claims (kept t.claimed.roots t.leaf_of s.claims)
+kept_stored s m t k = kept_from s k.sound t.claimed.roots t.leaf_of k.rooted k.won s.claims (λ p h. h)
 
 -- Exchanging.
 
-pub can_exchange : (s : State) (m : Pairing) (holders roots leaf_of : List (Option ℕ)) (marks : List Bool) → IsStored s m holders roots leaf_of marks → CanExchange s m holders leaf_of s.flipped
-can_exchange s m holders roots leaf_of marks k = record {
+can_exchange : (s : State) (m : Pairing) (t : Tables) → IsStored s m t → CanExchange s m t.claimed.holders t.leaf_of s.flipped
+can_exchange s m t k = record {
   sound = k.sound;
   rows_long = k.holders_long;
   cols_long = k.leaves_long;
@@ -61,11 +59,8 @@ can_exchange s m holders roots leaf_of marks k = record {
   roots_are = refl;
 }
 
-pub exchanged_is : (s : State) (new : Pairing) → IsExchanged s s.flipped new → IsCurrent s new.pairs
-exchanged_is s new e = e.current
-
-pub exchanged_by : (s : State) (m new : Pairing) (holders roots leaf_of : List (Option ℕ)) (marks : List Bool) (xs : List ℕ) → IsStored s m holders roots leaf_of marks → xs ≡ s.flipped → ((t : State) → CanExchange t m holders leaf_of xs → IsExchanged t xs new) → IsExchanged s s.flipped new
-exchanged_by s m new holders roots leaf_of marks xs k e f = subst (λ ys. IsExchanged s ys new) e (f s (subst (CanExchange s m holders leaf_of) (sym e) (can_exchange s m holders roots leaf_of marks k)))
+pub exchanged_by : (s : State) (m new : Pairing) (t : Tables) (xs : List ℕ) → IsStored s m t → xs ≡ s.flipped → ((u : State) → CanExchange u m t.claimed.holders t.leaf_of xs → IsExchanged u xs new) → IsExchanged s s.flipped new
+exchanged_by s m new t xs k e f = subst (λ ys. IsExchanged s ys new) e (f s (subst (CanExchange s m t.claimed.holders t.leaf_of) (sym e) (can_exchange s m t k)))
 
 -- The renewed forest.
 
@@ -73,68 +68,106 @@ exchanged_by s m new holders roots leaf_of marks xs k e f = subst (λ ys. IsExch
 abbrev pub renewed : State → Pairing → List Place → State
 renewed s new qs = record { matrix = s.matrix; base = new.pairs; claims = qs; leaves = []; flipped = [] }
 
-pub is_renewed : (s : State) (new : Pairing) (qs : List Place) → IsExchanged s s.flipped new → IsRenewed s (renewed s new qs)
-is_renewed s new qs e = record { matrix = refl; base = exchanged_is s new e; leaves = refl; flipped = refl }
+is_renewed : (s : State) (new : Pairing) (qs : List Place) → IsExchanged s s.flipped new → IsRenewed s (renewed s new qs)
+is_renewed s new qs e = record { matrix = refl; base = e.current; leaves = refl; flipped = refl }
 
-stored_renewed : (s : State) (m new : Pairing) (holders roots leaf_of holders2 leaf_of2 : List (Option ℕ)) (marks marks2 : List Bool) (qs : List Place) → IsStored s m holders roots leaf_of marks → IsExchanged s s.flipped new → AreClaims s.matrix new.pairs [] qs → IsTableOf qs holders2 → AreRoots (renewed s new qs) roots → IsTableOf [] leaf_of2 → AreMarks [] marks2 → length holders2 ≡ length holders → length leaf_of2 ≡ length leaf_of → length marks2 ≡ length marks
-    → IsStored (renewed s new qs) new holders2 roots leaf_of2 marks2
-stored_renewed s m new holders roots leaf_of holders2 leaf_of2 marks marks2 qs k e claims held rooted won marked hl ll ml = record {
-  sound = renewed_sound s (renewed s new qs) k.sound (is_renewed s new qs e) claims;
-  base_is = λ i. record { rows = e.rows i; cols = e.cols_are i; pairs = new.pairs };
-  holders_long = hl ∙ k.holders_long;
-  roots_long = k.roots_long;
-  leaves_long = ll ∙ k.leaves_long;
-  marks_long = ml ∙ k.marks_long;
-  held = held;
-  rooted = rooted;
-  won = won;
-  marked = marked;
+-- tables of these claims, without leaves and marks
+pub record AreRenewed (t u : Tables) (qs : List Place) : Type 0 where
+  pub held : IsTableOf qs u.claimed.holders
+  pub alike : AreAlike u.claimed
+  pub same : (r c : ℕ) → Among (r, c) qs → beside u.claimed.roots r ≡ beside t.claimed.roots r
+  pub listed : AreClaimRoots u.claimed.roots qs u.claim_roots
+  pub won : IsTableOf [] u.leaf_of
+  pub marked : AreMarks [] u.marks
+  pub holders_long : length u.claimed.holders ≡ length t.claimed.holders
+  pub leaves_long : length u.leaf_of ≡ length t.leaf_of
+  pub marks_long : length u.marks ≡ length t.marks
+
+stored_renewed : (s : State) (m new : Pairing) (t u : Tables) (qs : List Place) → IsStored s m t → IsExchanged s s.flipped new → AreRenewed t u qs → AreClaims s.matrix new.pairs [] qs → ((r c x : ℕ) → Among (r, c) qs → Among (r, c) s.claims × (RootOf s.base s.claims x c → RootOf new.pairs qs x c)) → IsStored (renewed s new qs) new u
+stored_renewed s m new t u qs k e n claims stay = record {
+  sound = sound;
+  base_is = λ i. record { rows = e.matching.rows i; cols = e.matching.cols i; pairs = new.pairs };
+  holders_long = n.holders_long ∙ k.holders_long;
+  leaves_long = n.leaves_long ∙ k.leaves_long;
+  marks_long = n.marks_long ∙ k.marks_long;
+  held = n.held;
+  rooted = λ r x. (over r x, back r x);
+  listed = n.listed;
+  won = n.won;
+  marked = n.marked;
 }
-
-pub stored_graft : (s : State) (m new : Pairing) (holders roots leaf_of holders2 leaf_of2 : List (Option ℕ)) (marks marks2 : List Bool) → IsStored s m holders roots leaf_of marks → IsExchanged s s.flipped new → IsTableOf (kept roots leaf_of s.claims) holders2 → IsTableOf [] leaf_of2 → AreMarks [] marks2 → length holders2 ≡ length holders → length leaf_of2 ≡ length leaf_of → length marks2 ≡ length marks
-    → IsStored (renewed s new (kept roots leaf_of s.claims)) new holders2 roots leaf_of2 marks2
-stored_graft s m new holders roots leaf_of holders2 leaf_of2 marks marks2 k e held won marked hl ll ml = stored_renewed s m new holders roots leaf_of holders2 leaf_of2 marks marks2 (kept roots leaf_of s.claims) k e (kept_claims s k.sound new.pairs (kept roots leaf_of s.claims) (exchanged_is s new e) are_kept) held rooted won marked hl ll ml
   where
-    are_kept : AreKept s s.claims (kept roots leaf_of s.claims)
-    are_kept = kept_stored s m holders roots leaf_of marks k
+    sound : IsSound (renewed s new qs)
+    sound = renewed_sound s (renewed s new qs) k.sound (is_renewed s new qs e) claims
 
-    rooted : AreRoots (renewed s new (kept roots leaf_of s.claims)) roots
-    rooted r c h =
-        let (had, n) = kept_sound s are_kept (r, c) h in
-        let (x, f, w) = k.rooted r c had in
-        (x, f, kept_root s k.sound new.pairs (kept roots leaf_of s.claims) (exchanged_is s new e) are_kept r had n w)
+    over : (r x : ℕ) → beside u.claimed.roots r ≡ Some x → IsRootOfRow new.pairs qs x r
+    over r x f =
+        let (c, h) = n.alike r x f in
+        let on = (n.held r c).0 h in
+        let (had, moves) = stay r c x on in
+        (c, on, moves (root_of_claimer s k.sound x r c ((k.rooted r x).0 (sym (n.same r c on) ∙ f)) had))
 
-pub stored_rebuild : (s : State) (m new : Pairing) (holders roots leaf_of holders2 leaf_of2 : List (Option ℕ)) (marks marks2 : List Bool) → IsStored s m holders roots leaf_of marks → IsExchanged s s.flipped new → IsTableOf [] holders2 → IsTableOf [] leaf_of2 → AreMarks [] marks2 → length holders2 ≡ length holders → length leaf_of2 ≡ length leaf_of → length marks2 ≡ length marks
-    → IsStored (renewed s new []) new holders2 roots leaf_of2 marks2
-stored_rebuild s m new holders roots leaf_of holders2 leaf_of2 marks marks2 k e held won marked hl ll ml = stored_renewed s m new holders roots leaf_of holders2 leaf_of2 marks marks2 [] k e tt held (λ r c h. absurd h) won marked hl ll ml
+    back : (r x : ℕ) → IsRootOfRow new.pairs qs x r → beside u.claimed.roots r ≡ Some x
+    back r x (c, on, w) =
+        let (y, tree) = has_root s k.sound r (row_among r c s.claims (stay r c x on).0) in
+        let (had, moves) = stay r c y on in
+        n.same r c on ∙ (k.rooted r y).1 tree ∙ ap (λ (z : ℕ). Some z) (one_root (renewed s new qs) sound (moves (root_of_claimer s k.sound y r c tree had)) w)
+
+stored_graft : (s : State) (m new : Pairing) (t u : Tables) → IsStored s m t → IsExchanged s s.flipped new → AreRenewed t u (kept t.claimed.roots t.leaf_of s.claims) → IsStored (renewed s new (kept t.claimed.roots t.leaf_of s.claims)) new u
+stored_graft s m new t u k e n = stored_renewed s m new t u (kept t.claimed.roots t.leaf_of s.claims) k e n (kept_claims s k.sound new.pairs (kept t.claimed.roots t.leaf_of s.claims) e.current are_kept) (λ r c x h. let (had, not_won) = kept_sound s are_kept (r, c) h in (had, λ w. kept_root s k.sound new.pairs (kept t.claimed.roots t.leaf_of s.claims) e.current are_kept r had not_won w))
+  where
+    are_kept : AreKept s s.claims (kept t.claimed.roots t.leaf_of s.claims)
+    are_kept = kept_stored s m t k
+
+stored_rebuild : (s : State) (m new : Pairing) (t u : Tables) → IsStored s m t → IsExchanged s s.flipped new → AreRenewed t u [] → IsStored (renewed s new []) new u
+stored_rebuild s m new t u k e n = stored_renewed s m new t u [] k e n tt (λ r c x h. absurd h)
 
 -- what the calls need of the tables
 
-pub claims_within : (s : State) (m : Pairing) (holders roots leaf_of : List (Option ℕ)) (marks : List Bool) → IsStored s m holders roots leaf_of marks → (r c : ℕ) → Among (r, c) s.claims → (r < length holders) × (r < length roots)
-claims_within s m holders roots leaf_of marks k r c h =
-    let lt = (claim_in_range s k.sound r c h).0 in
-    (let l = k.holders_long in omega arith, let l = k.roots_long in omega arith)
+pub claims_within : (s : State) (m : Pairing) (t : Tables) → IsStored s m t → (r c : ℕ) → Among (r, c) s.claims → r < length t.claimed.holders
+claims_within s m t k r c h = let lt = (claim_in_range s k.sound r c h).0 in let l = k.holders_long in omega arith
 
-pub leaves_within : (s : State) (m : Pairing) (holders roots leaf_of : List (Option ℕ)) (marks : List Bool) → IsStored s m holders roots leaf_of marks → (x r : ℕ) → Among (x, r) s.leaves → (x < length leaf_of) × (x < length marks)
-leaves_within s m holders roots leaf_of marks k x r h =
+pub leaves_within : (s : State) (m : Pairing) (t : Tables) → IsStored s m t → (x r : ℕ) → Among (x, r) s.leaves → (x < length t.leaf_of) × (x < length t.marks)
+leaves_within s m t k x r h =
     let lt = (leaf_in_range s k.sound x r h).0 in
     (let l = k.leaves_long in omega arith, let l = k.marks_long in omega arith)
 
-pub marks_within : (s : State) (m : Pairing) (holders roots leaf_of : List (Option ℕ)) (marks : List Bool) → IsStored s m holders roots leaf_of marks → (x : ℕ) → slice_index_or marks x false ≡ true → Among x (roots_of s.leaves)
-marks_within s m holders roots leaf_of marks k x e = k.sound.flipped x ((k.marked x).0 e)
+pub marks_within : (s : State) (m : Pairing) (t : Tables) → IsStored s m t → (x : ℕ) → slice_index_or t.marks x false ≡ true → Among x (roots_of s.leaves)
+marks_within s m t k x e = k.sound.flipped x ((k.marked x).0 e)
 
-pub roots_within : (s : State) (m : Pairing) (holders roots leaf_of : List (Option ℕ)) (marks : List Bool) → IsStored s m holders roots leaf_of marks → (r c x : ℕ) → Among (r, c) s.claims → beside roots r ≡ Some x → x < length leaf_of
-roots_within s m holders roots leaf_of marks k r c x h e =
-    let lt = root_in_range s k.sound x r (root_stored s roots r c x k.rooted h e) in
-    let l = k.leaves_long in
-    omega arith
+pub roots_within : (s : State) (m : Pairing) (t : Tables) → IsStored s m t → (x : ℕ) → Among x t.claim_roots → x < length t.leaf_of
+roots_within s m t k x h =
+    let (i, lt, e) = place_among x 0 t.claim_roots h in
+    let below : i < length s.claims = omega (arith, lt, k.listed.long) in
+    let tree = (k.rooted (slice_index_or s.claims i (0, 0)).0 x).0 (k.listed.are i below ∙ ap (λ (y : ℕ). Some y) e) in
+    omega (arith, root_in_range s k.sound x (slice_index_or s.claims i (0, 0)).0 tree, k.leaves_long)
+
+-- of rows whose root is the same in both tables
+pub same_claim_roots : (old new : List (Option ℕ)) (claims : List Place) (xs : List ℕ) → AreClaimRoots old claims xs → ((r c : ℕ) → Among (r, c) claims → beside new r ≡ beside old r) → AreClaimRoots new claims xs
+same_claim_roots old new claims xs k same = record {
+  long = k.long;
+  are = λ i lt. same (slice_index_or claims i (0, 0)).0 (slice_index_or claims i (0, 0)).1 (among_at claims i (0, 0) lt) ∙ k.are i lt;
+}
+
+pub are_cleared : (t u : Tables) (claims : List Place) → claims ≡ [] → u.claim_roots ≡ [] → IsTableOf [] u.claimed.holders → AreAlike u.claimed → IsTableOf [] u.leaf_of → AreMarks [] u.marks → length u.claimed.holders ≡ length t.claimed.holders → length u.leaf_of ≡ length t.leaf_of → length u.marks ≡ length t.marks → AreRenewed t u claims
+are_cleared t u claims no_claims no_roots held alike won marked hl ll ml = rw no_claims (record {
+  held = held;
+  alike = alike;
+  same = λ r c h. absurd h;
+  listed = record { long = ap length no_roots; are = λ i lt. absurd (omega (arith, lt)) };
+  won = won;
+  marked = marked;
+  holders_long = hl;
+  leaves_long = ll;
+  marks_long = ml;
+})
 
 -- by the lists that are left
 
-pub stored_graft_at : (s : State) (m new : Pairing) (holders roots leaf_of holders2 leaf_of2 : List (Option ℕ)) (marks marks2 marks3 : List Bool) (claims leaves : List Place) (flipped : List ℕ) → IsStored s m holders roots leaf_of marks → IsExchanged s s.flipped new → IsTableOf (kept roots leaf_of s.claims) holders2 → IsTableOf [] leaf_of2 → AreMarks [] marks2 → length holders2 ≡ length holders → length leaf_of2 ≡ length leaf_of → length marks2 ≡ length marks
-    → claims ≡ kept roots leaf_of s.claims → leaves ≡ [] → flipped ≡ [] → marks3 ≡ marks2 → IsStored (record { matrix = s.matrix; base = new.pairs; claims = claims; leaves = leaves; flipped = flipped }) new holders2 roots leaf_of2 marks3
-stored_graft_at s m new holders roots leaf_of holders2 leaf_of2 marks marks2 marks3 claims leaves flipped k e held won marked hl ll ml c l f g = rw (c, l, f, g) (stored_graft s m new holders roots leaf_of holders2 leaf_of2 marks marks2 k e held won marked hl ll ml)
+pub stored_graft_at : (s : State) (m new : Pairing) (t u : Tables) (claims leaves : List Place) (flipped : List ℕ) → IsStored s m t → IsExchanged s s.flipped new → AreRenewed t u claims → claims ≡ kept t.claimed.roots t.leaf_of s.claims → leaves ≡ [] → flipped ≡ []
+    → IsStored (record { matrix = s.matrix; base = new.pairs; claims = claims; leaves = leaves; flipped = flipped }) new u
+stored_graft_at s m new t u claims leaves flipped k e n c l f = rw (c, l, f) (stored_graft s m new t u k e (subst (AreRenewed t u) c n))
 
-pub stored_rebuild_at : (s : State) (m new : Pairing) (holders roots leaf_of holders2 leaf_of2 : List (Option ℕ)) (marks marks2 marks3 : List Bool) (claims leaves : List Place) (flipped : List ℕ) → IsStored s m holders roots leaf_of marks → IsExchanged s s.flipped new → IsTableOf [] holders2 → IsTableOf [] leaf_of2 → AreMarks [] marks2 → length holders2 ≡ length holders → length leaf_of2 ≡ length leaf_of → length marks2 ≡ length marks
-    → claims ≡ [] → leaves ≡ [] → flipped ≡ [] → marks3 ≡ marks2 → IsStored (record { matrix = s.matrix; base = new.pairs; claims = claims; leaves = leaves; flipped = flipped }) new holders2 roots leaf_of2 marks3
-stored_rebuild_at s m new holders roots leaf_of holders2 leaf_of2 marks marks2 marks3 claims leaves flipped k e held won marked hl ll ml c l f g = rw (c, l, f, g) (stored_rebuild s m new holders roots leaf_of holders2 leaf_of2 marks marks2 k e held won marked hl ll ml)
+pub stored_rebuild_at : (s : State) (m new : Pairing) (t u : Tables) (claims leaves : List Place) (flipped : List ℕ) → IsStored s m t → IsExchanged s s.flipped new → AreRenewed t u claims → claims ≡ [] → leaves ≡ [] → flipped ≡ []
+    → IsStored (record { matrix = s.matrix; base = new.pairs; claims = claims; leaves = leaves; flipped = flipped }) new u
+stored_rebuild_at s m new t u claims leaves flipped k e n c l f = rw (c, l, f) (stored_rebuild s m new t u k e (subst (AreRenewed t u) c n))

@@ -98,6 +98,20 @@ one_root_of_row s k x y r (c, h, w) (d, g, v) = one_root s k w (subst (RootOf s.
 pub root_of_claimer : (s : State) → IsSound s → (x r c : ℕ) → IsRootOfRow s.base s.claims x r → Among (r, c) s.claims → RootOf s.base s.claims x c
 root_of_claimer s k x r c (d, h, w) g = subst (RootOf s.base s.claims x) (one_claim s k r d c h g) w
 
+-- each claimed row has a root
+has_root_from : (a : Matrix) (base all : List Place) (before : List ℕ) (claims : List Place) → AreClaims a base before claims → ((p : Place) → Among p claims → Among p all) → ((q : ℕ) → Among q before → (x : ℕ) × IsRootOfRow base all x q) → (r : ℕ) → Among r (rows_of claims) → (x : ℕ) × IsRootOfRow base all x r
+has_root_from a base all before [] k on roots r h = elim h [ ]
+has_root_from a base all before (p ∷ claims) k on roots r h = ⊎_elim (λ (e : r ≡ p.0). subst (λ q. (x : ℕ) × IsRootOfRow base all x q) (sym e) first) (λ g. has_root_from a base all (before ++ p.0 ∷ []) claims k.3 (λ q i. on q (inr i)) more r g) h
+  where
+    first : (x : ℕ) × IsRootOfRow base all x p.0
+    first = ⊎_elim (λ free. (p.1, (p.1, on p (inl refl), itself free))) (λ (q, m, was). let (x, (d, g, w)) = roots q was in (x, (p.1, on p (inl refl), above q m g w))) k.2
+
+    more : (q : ℕ) → Among q (before ++ p.0 ∷ []) → (x : ℕ) × IsRootOfRow base all x q
+    more q g = ⊎_elim (λ i. roots q i) (λ (e : q ≡ p.0). subst (λ z. (x : ℕ) × IsRootOfRow base all x z) (sym e) first) (among_last q p.0 before g)
+
+pub has_root : (s : State) → IsSound s → (r : ℕ) → Among r (rows_of s.claims) → (x : ℕ) × IsRootOfRow s.base s.claims x r
+has_root s k r h = has_root_from s.matrix s.base s.claims [] s.claims k.claims (λ p g. g) (λ q g. absurd g) r h
+
 -- a row on a root's path has this root
 pub path_root : (s : State) → IsSound s → {x r : ℕ} → OnPath s.base s.claims s.leaves x r → IsRootOfRow s.base s.claims x r
 path_root s k {x = x} {r = r} (leaf h) = (k.leaves x r h).in_tree

@@ -3,27 +3,13 @@ use Rattle.std.proofs.Common.{◌≡◌, ◌↔◌, ℕ, List, [], ◌∷◌, �
 use Rattle.bip_defs.specs.Lists.{Among}
 use Rattle.bip_defs.specs.Matching.{rows_of}
 use Rattle.bip_defs.specs.Matrix.{Matrix, Place}
-use Rattle.bip_defs.proofs.Sets.{among_last, number_among, row_among, row_pair}
+use Rattle.bip_defs.proofs.Sets.{number_among, row_among, row_pair}
 use Rattle.sp_ids.specs.declared.events.Event.TheVariants.{Graft, Rebuild, Win}
 use Rattle.forest_core.specs.Events.{IsLegal, Becomes}
-use Rattle.forest_core.specs.Sound.{AreClaims, IsSound}
-use Rattle.forest_core.specs.State.{IsRested, IsRootOfRow, IsSettled, State, above, itself, planted, roots_of}
+use Rattle.forest_core.specs.Sound.{IsSound}
+use Rattle.forest_core.specs.State.{IsRested, IsSettled, State, new_forest, roots_of}
 use Rattle.forest_core.proofs.Grafts.{keeps_mate, kept_sound}
-use Rattle.forest_core.proofs.Roots.{root_free}
-
--- each claimed row has a root
-has_root_from : (a : Matrix) (base all : List Place) (before : List ℕ) (claims : List Place) → AreClaims a base before claims → ((p : Place) → Among p claims → Among p all) → ((q : ℕ) → Among q before → (x : ℕ) × IsRootOfRow base all x q) → (r : ℕ) → Among r (rows_of claims) → (x : ℕ) × IsRootOfRow base all x r
-has_root_from a base all before [] k on roots r h = elim h [ ]
-has_root_from a base all before (p ∷ claims) k on roots r h = ⊎_elim (λ (e : r ≡ p.0). subst (λ q. (x : ℕ) × IsRootOfRow base all x q) (sym e) first) (λ g. has_root_from a base all (before ++ p.0 ∷ []) claims k.3 (λ q i. on q (inr i)) more r g) h
-  where
-    first : (x : ℕ) × IsRootOfRow base all x p.0
-    first = ⊎_elim (λ free. (p.1, (p.1, on p (inl refl), itself free))) (λ (q, m, was). let (x, (d, g, w)) = roots q was in (x, (p.1, on p (inl refl), above q m g w))) k.2
-
-    more : (q : ℕ) → Among q (before ++ p.0 ∷ []) → (x : ℕ) × IsRootOfRow base all x q
-    more q g = ⊎_elim (λ i. roots q i) (λ (e : q ≡ p.0). subst (λ z. (x : ℕ) × IsRootOfRow base all x z) (sym e) first) (among_last q p.0 before g)
-
-has_root : (s : State) → IsSound s → (r : ℕ) → Among r (rows_of s.claims) → (x : ℕ) × IsRootOfRow s.base s.claims x r
-has_root s k r h = has_root_from s.matrix s.base s.claims [] s.claims k.claims (λ p g. g) (λ q g. absurd g) r h
+use Rattle.forest_core.proofs.Roots.{has_root, root_free}
 
 no_leaf : (s : State) → s.leaves ≡ [] → (x : ℕ) → ¬ Among x (roots_of s.leaves)
 no_leaf s e x h = subst (λ ls. Among x (roots_of ls)) e h
@@ -38,8 +24,8 @@ settled_without_wins s k none = (over, back)
     back : ((x r : ℕ) → ¬ IsLegal s (Win x r)) → IsSettled s
     back wins r h unmatched = let (x, (d, g, w)) = has_root s k r h in absurd (wins x r (root_free s.base s.claims w, no_leaf s none x, unmatched, (d, g, w)))
 
-pub planted_rested : (a : Matrix) (m : List Place) → IsRested (planted a m)
-planted_rested a m = record { settled = λ r h. absurd h; no_leaves = refl; none_flipped = refl }
+pub new_forest_rested : (a : Matrix) (m : List Place) → IsRested (new_forest a m)
+new_forest_rested a m = record { settled = λ r h. absurd h; no_leaves = refl; none_flipped = refl }
 
 -- a row that stays claimed stays matched
 pub grafted_rested : (s t : State) → IsSound s → IsSettled s → Becomes s Graft t → IsRested t

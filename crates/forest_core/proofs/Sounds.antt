@@ -7,7 +7,7 @@ use Rattle.bip_defs.proofs.Sets.{among_last, among_left, among_right}
 use Rattle.forest_core.specs.Current.{IsCurrent}
 use Rattle.forest_core.specs.Events.{IsLegal, IsRenewed, Becomes, Runs, flips}
 use Rattle.forest_core.specs.Sound.{AreClaims, IsLeaf, IsSound}
-use Rattle.forest_core.specs.State.{IsRootOfRow, State, planted, roots_of}
+use Rattle.forest_core.specs.State.{IsRootOfRow, State, new_forest, roots_of}
 use Rattle.sp_ids.specs.declared.events.Event.{Event}
 use Rattle.sp_ids.specs.declared.events.Event.TheVariants.{Claim, Win, Flip, Graft, Rebuild, Done}
 use Rattle.forest_core.proofs.Currents.{current_grown, current_some}
@@ -15,8 +15,8 @@ use Rattle.forest_core.proofs.Grafts.{kept_claims}
 use Rattle.forest_core.proofs.Members.{distinct_last, map_last}
 use Rattle.forest_core.proofs.Roots.{root_more}
 
-pub planted_sound : (a : Matrix) (m : List Place) → IsMatching a m → IsSound (planted a m)
-planted_sound a m k = record { base = k; claims = tt; roots_differ = tt; leaves = λ x r h. elim h [ ]; flipped_differ = tt; flipped = λ x h. elim h [ ] }
+pub new_forest_sound : (a : Matrix) (m : List Place) → IsMatching a m → IsSound (new_forest a m)
+new_forest_sound a m k = record { base = k; claims = tt; roots_differ = tt; leaves = λ x r h. elim h [ ]; flipped_differ = tt; flipped = λ x h. elim h [ ] }
 
 -- One claim more.
 
@@ -34,7 +34,7 @@ claims_more a base before (p ∷ claims) r c k nb nc e m = (
     still q (inr (inl f)) = inl (among_right q before (p.0 ∷ []) (inl f))
     still q (inr (inr h)) = inr h
 
-in_tree_more : (base claims : List Place) (p : Place) (x r : ℕ) → IsRootOfRow base claims x r → IsRootOfRow base (claims ++ p ∷ []) x r
+pub in_tree_more : (base claims : List Place) (p : Place) (x r : ℕ) → IsRootOfRow base claims x r → IsRootOfRow base (claims ++ p ∷ []) x r
 in_tree_more base claims p x r (d, h, w) = (d, among_left (r, d) claims (p ∷ []) h, root_more base claims (claims ++ p ∷ []) (λ q g. among_left q claims (p ∷ []) g) w)
 
 pub claimed_sound : (s : State) (r c : ℕ) → IsSound s → IsLegal s (Claim r c) → IsSound (record s { claims = s.claims ++ (r, c) ∷ [] })
@@ -113,11 +113,11 @@ pub run_weight : (s t : State) (es : List Event) → IsSound s → Runs s es t �
 run_weight s t [] k h = ap weight h ∙ omega arith
 run_weight s t (e ∷ es) k (l, u, h, rest) = run_weight u t es (event_sound s u e k l h) rest ∙ event_weight s u e es k l h
 
-pub run_grown : (a : Matrix) (m n : List Place) (es : List Event) (s : State) → IsMatching a m → Runs (planted a m) es s → IsCurrent s n → length n ≡ length m + flips es
+pub run_grown : (a : Matrix) (m n : List Place) (es : List Event) (s : State) → IsMatching a m → Runs (new_forest a m) es s → IsCurrent s n → length n ≡ length m + flips es
 run_grown a m n es s k h cur =
-    let first = planted_sound a m k in
-    let g = (current_grown s n (run_sound (planted a m) s es first h) cur).size in
-    let w = run_weight (planted a m) s es first h in
+    let first = new_forest_sound a m k in
+    let g = (current_grown s n (run_sound (new_forest a m) s es first h) cur).size in
+    let w = run_weight (new_forest a m) s es first h in
     omega (arith, g, w)
 
 -- Runs.
@@ -140,7 +140,7 @@ run_last s t u [] e h l k = (subst (λ (v : State). IsLegal v e) h l, u, subst (
 run_last s t u (d ∷ es) e (l, v, h, rest) m k = (l, v, h, run_last v t u es e rest m k)
 
 -- a current matching after a run
-pub run_current : (a : Matrix) (m : List Place) (es : List Event) (s : State) → IsMatching a m → Runs (planted a m) es s → (n : List Place) × IsCurrent s n × IsMatching a n × (length n ≡ length m + flips es)
+pub run_current : (a : Matrix) (m : List Place) (es : List Event) (s : State) → IsMatching a m → Runs (new_forest a m) es s → (n : List Place) × IsCurrent s n × IsMatching a n × (length n ≡ length m + flips es)
 run_current a m es s k h =
-    let (n, g) = current_some s (run_sound (planted a m) s es (planted_sound a m k) h) in
-    (n, g.current, subst (λ b. IsMatching b n) (run_matrix (planted a m) s es h) g.matching, run_grown a m n es s k h g.current)
+    let (n, g) = current_some s (run_sound (new_forest a m) s es (new_forest_sound a m k) h) in
+    (n, g.current, subst (λ b. IsMatching b n) (run_matrix (new_forest a m) s es h) g.matching, run_grown a m n es s k h g.current)

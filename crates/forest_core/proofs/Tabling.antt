@@ -1,16 +1,16 @@
 -- What is read from tables, and what they hold after a change.
-use Rattle.std.proofs.Common.{◌≡◌, ◌≢◌, ◌⊎◌, ◌↔◌, ◌∙◌, ℕ, ◌<◌, ◌≤◌, List, [], ◌∷◌, ◌++◌, map, replicate, set, length, get_or, Option, None, Some, refl, sym, ap, subst, inl, ⊎_elim, arith, ne_eqb, eq-eqb}
-use Rattle.std.proofs.lemmas.List.{length-map, get_or-map, get_or-replicate, get_or_past, length-replicate, get_or-set_other, get_or-set_same, get_or_read, map-set}
+use Rattle.std.proofs.Common.{◌≡◌, ◌≢◌, ◌⊎◌, ◌↔◌, ◌∙◌, ℕ, zero, suc, ◌+◌, ◌<◌, ◌≤◌, List, [], ◌∷◌, ◌++◌, map, replicate, set, length, length-append, get_or, Option, None, Some, IfSome, IfNone, refl, sym, ap, subst, inl, ⊎_elim, arith, ne_eqb, eq-eqb}
+use Rattle.std.proofs.lemmas.List.{length-map, get_or-map, get_or-replicate, get_or_append_left, get_or_past, get_or_push, length-replicate, get_or-set_other, get_or-set_same, map-set}
 use Rattle.bip_defs.specs.Lists.{Among}
 use Rattle.bip_defs.specs.Matching.{rows_of}
 use Rattle.bip_defs.specs.Matrix.{Place}
 use Rattle.bip_defs.proofs.Sets.{among_last, among_left, among_right, number_same, row_among}
-use Rattle.forest_core.specs.Tables.{IsTableOf, beside, read}
+use Rattle.forest_core.specs.Tables.{AreAlike, IsTableOf, beside, holder_in, read, root_in}
 
-read_none : (n : ℕ) → n ≡ 4294967295 → read n ≡ None
+pub read_none : (n : ℕ) → n ≡ 4294967295 → read n ≡ None
 read_none n e = rw (eq-eqb n 4294967295 e) refl
 
-read_some : (n : ℕ) → n ≢ 4294967295 → read n ≡ Some n
+pub read_some : (n : ℕ) → n ≢ 4294967295 → read n ≡ Some n
 read_some n ne = rw (ne_eqb n 4294967295 ne) refl
 
 pub some_same : {x y : ℕ} → ◌≡◌ {A = Option ℕ} (Some x) (Some y) → x ≡ y
@@ -21,37 +21,48 @@ not_none e = cc
 
 -- What is read.
 
-seen_at : (xs : List ℕ) (t : List (Option ℕ)) (k x : ℕ) → map read xs ≡ t → k < length t → x ≡ get_or xs k x → beside t k ≡ read x
-seen_at xs t k x seen = subst (λ u. k < length u → x ≡ get_or xs k x → beside u k ≡ read x) seen (λ lt e. let within : k < length xs = (let h = lt in simp length-map at h) in get_or-map read xs k 0 None within ∙ ap read (sym (get_or_read xs k x within e 0)))
+seen_at : {W : Type 0} (f : W → Option ℕ) (xs : List W) (t : List (Option ℕ)) (k : ℕ) (x : W) → map f xs ≡ t → k < length t → x ≡ get_or xs k x → beside t k ≡ f x
+seen_at f xs t k x seen = subst (λ u. k < length u → x ≡ get_or xs k x → beside u k ≡ f x) seen (λ lt e. let within : k < length xs = (let h = lt in simp length-map at h) in get_or-map f xs k x None within ∙ ap f (sym e))
 
-pub seen_none : (xs : List ℕ) (t : List (Option ℕ)) (k x : ℕ) → map read xs ≡ t → k < length t → x ≡ get_or xs k x → x ≡ 4294967295 → None ≡ beside t k
-seen_none xs t k x seen lt e n = sym (seen_at xs t k x seen lt e ∙ read_none x n)
+pub seen_none : {W : Type 0} (f : W → Option ℕ) (xs : List W) (t : List (Option ℕ)) (k : ℕ) (x : W) → map f xs ≡ t → k < length t → x ≡ get_or xs k x → f x ≡ None → None ≡ beside t k
+seen_none f xs t k x seen lt e n = sym (seen_at f xs t k x seen lt e ∙ n)
 
-pub seen_some : (xs : List ℕ) (t : List (Option ℕ)) (k x : ℕ) → map read xs ≡ t → k < length t → x ≡ get_or xs k x → x ≢ 4294967295 → Some x ≡ beside t k
-seen_some xs t k x seen lt e n = sym (seen_at xs t k x seen lt e ∙ read_some x n)
+pub seen_some : {W : Type 0} (f : W → Option ℕ) (xs : List W) (t : List (Option ℕ)) (k : ℕ) (x : W) (v : ℕ) → map f xs ≡ t → k < length t → x ≡ get_or xs k x → f x ≡ Some v → Some v ≡ beside t k
+seen_some f xs t k x v seen lt e n = sym (seen_at f xs t k x seen lt e ∙ n)
 
 -- where a number stands it is the one that is read
 pub seen_there : (xs : List ℕ) (t : List (Option ℕ)) (k x : ℕ) → map read xs ≡ t → k < length t → x ≡ get_or xs k x → (v : ℕ) × (beside t k ≡ Some v) → beside t k ≡ Some x
-seen_there xs t k x seen lt e (v, s) = ⊎_elim (λ (n : x ≡ 4294967295). absurd (not_none (seen_none xs t k x seen lt e n ∙ s))) (λ n. sym (seen_some xs t k x seen lt e n)) (number_same x 4294967295)
+seen_there xs t k x seen lt e (v, s) = ⊎_elim (λ (n : x ≡ 4294967295). absurd (not_none (seen_none read xs t k x seen lt e (read_none x n) ∙ s))) (λ n. seen_at read xs t k x seen lt e ∙ read_some x n) (number_same x 4294967295)
 
-pub seen_put : (xs : List ℕ) (t : List (Option ℕ)) (k x : ℕ) → map read xs ≡ t → x < 4294967295 → map read (set xs k x) ≡ set t k (Some x)
-seen_put xs t k x seen lt = map-set read xs k x ∙ ap (set (map read xs) k) (read_some x (λ (e : x ≡ 4294967295). omega arith)) ∙ ap (λ u. set u k (Some x)) seen
-
-pub seen_clear : (xs : List ℕ) (t : List (Option ℕ)) (k : ℕ) → map read xs ≡ t → map read (set xs k 4294967295) ≡ set t k None
-seen_clear xs t k seen = map-set read xs k 4294967295 ∙ ap (λ u. set u k None) seen
+pub seen_put : {W : Type 0} (f : W → Option ℕ) (xs : List W) (t : List (Option ℕ)) (k : ℕ) (w : W) (o : Option ℕ) → map f xs ≡ t → f w ≡ o → map f (set xs k w) ≡ set t k o
+seen_put f xs t k w o seen e = map-set f xs k w ∙ ap (set (map f xs) k) e ∙ ap (λ u. set u k o) seen
 
 -- a new table has nothing
-pub seen_new : (n : ℕ) (xs : List ℕ) (k : ℕ) → xs ≡ replicate n 4294967295 → beside (map read xs) k ≡ None
-seen_new n xs k e = subst (λ ys. beside (map read ys) k ≡ None) (sym e) (⊎_elim inside past (below k n))
+pub seen_new : {W : Type 0} (f : W → Option ℕ) (n : ℕ) (w : W) (xs : List W) (k : ℕ) → f w ≡ None → xs ≡ replicate n w → beside (map f xs) k ≡ None
+seen_new {W = W} f n w xs k nothing e = subst (λ ys. beside (map f ys) k ≡ None) (sym e) (⊎_elim inside past (below k n))
   where
     below : (i n : ℕ) → (i < n) ⊎ (n ≤ i)
     below i n = grind arith
 
-    inside : k < n → beside (map read (replicate n 4294967295)) k ≡ None
-    inside lt = get_or-map read (replicate n 4294967295) k 0 None (omega (arith, length-map (replicate n 4294967295) read, length-replicate {A = ℕ} n 4294967295)) ∙ ap read (get_or-replicate n k 4294967295 0 lt) ∙ read_none 4294967295 refl
+    inside : k < n → beside (map f (replicate n w)) k ≡ None
+    inside lt = get_or-map f (replicate n w) k w None (omega (arith, length-map (replicate n w) f, length-replicate {A = W} n w)) ∙ ap f (get_or-replicate n k w w lt) ∙ nothing
 
-    past : n ≤ k → beside (map read (replicate n 4294967295)) k ≡ None
-    past le = get_or_past (map read (replicate n 4294967295)) k None (omega (arith, length-map (replicate n 4294967295) read, length-replicate {A = ℕ} n 4294967295))
+    past : n ≤ k → beside (map f (replicate n w)) k ≡ None
+    past le = get_or_past (map f (replicate n w)) k None (omega (arith, length-map (replicate n w) f, length-replicate {A = W} n w))
+
+-- The root of a row.
+
+pub root_none : (h x : ℕ) → h ≡ 4294967295 → root_in h x ≡ None
+root_none h x e = rw (eq-eqb h 4294967295 e) refl
+
+pub root_some : (h x : ℕ) → h ≢ 4294967295 → root_in h x ≡ Some x
+root_some h x ne = rw (ne_eqb h 4294967295 ne) refl
+
+-- a row with a root has a holder
+pub seen_alike : {W : Type 0} (h x : W → ℕ) (ws : List W) → AreAlike (record { holders = map (λ w. holder_in (h w)) ws; roots = map (λ w. root_in (h w) (x w)) ws })
+seen_alike h x [] r y e = absurd (not_none (sym (get_or_past (map (λ w. root_in (h w) (x w)) []) r None (omega arith)) ∙ e))
+seen_alike h x (w ∷ ws) zero y e = ⊎_elim (λ (n : h w ≡ 4294967295). absurd (not_none (sym (root_none (h w) (x w) n) ∙ e))) (λ n. (h w, read_some (h w) n)) (number_same (h w) 4294967295)
+seen_alike h x (w ∷ ws) (suc r) y e = seen_alike h x ws r y e
 
 -- Tables of lists.
 
@@ -105,3 +116,40 @@ within_clear p pairs t k of e lt = record {
 
 pub within_none : (t : List (Option ℕ)) → IsWithin [] t → IsTableOf [] t
 within_none t of k v = (λ h. of.held k v h, λ h. absurd h)
+
+pub table_none : (t : List (Option ℕ)) → ((k : ℕ) → beside t k ≡ None) → IsTableOf [] t
+table_none t none k v = (λ e. absurd (not_none (sym (none k) ∙ e)), λ h. absurd h)
+
+-- Tables that are made in order.
+
+-- of the numbers below n the one of which P holds
+pub record IsMadeTo (P : ℕ → ℕ → Type 0) (n : ℕ) (t : List (Option ℕ)) : Type 0 where
+  pub long : length t ≡ n
+  pub are : (k v : ℕ) → k < n → (beside t k ≡ Some v) ↔ P k v
+
+pub made_start : (P : ℕ → ℕ → Type 0) → IsMadeTo P 0 []
+made_start P = record { long = refl; are = λ k v lt. absurd (omega (arith, lt)) }
+
+-- one number more
+pub made_more : (P : ℕ → ℕ → Type 0) (n : ℕ) (t : List (Option ℕ)) (o : Option ℕ) → IsMadeTo P n t → ((v : ℕ) → (o ≡ Some v) ↔ P n v) → IsMadeTo P (n + 1) (t ++ o ∷ [])
+made_more P n t o k is = record {
+  long = omega (arith, k.long, length-append t (o ∷ []));
+  are = λ j v lt. ⊎_elim (λ (e : j ≡ n). last j v e) (λ (ne : j ≢ n). first j v (omega (arith, ne, lt))) (number_same j n);
+}
+  where
+    last : (j v : ℕ) → j ≡ n → (beside (t ++ o ∷ []) j ≡ Some v) ↔ P j v
+    last j v e =
+        let at : beside (t ++ o ∷ []) j ≡ o = get_or_push t o None j (k.long ∙ sym e) in (
+          λ f. subst (λ i. P i v) (sym e) ((is v).0 (sym at ∙ f)),
+          λ p. at ∙ (is v).1 (subst (λ i. P i v) e p),
+        )
+
+    first : (j v : ℕ) → j < n → (beside (t ++ o ∷ []) j ≡ Some v) ↔ P j v
+    first j v lt =
+        let same : beside (t ++ o ∷ []) j ≡ beside t j = get_or_append_left t (o ∷ []) None j (omega (arith, lt, k.long)) in
+        (λ f. (k.are j v lt).0 (sym same ∙ f), λ p. same ∙ (k.are j v lt).1 p)
+
+-- what an answer says of one number
+pub some_is : (P : ℕ → Type 0) (o : Option ℕ) → ((v w : ℕ) → P v → P w → v ≡ w) → IfSome o P → IfNone o ((v : ℕ) → ¬ P v) → (v : ℕ) → (o ≡ Some v) ↔ P v
+some_is P None one found none v = (λ e. absurd (not_none e), λ p. absurd (none v p))
+some_is P (Some x) one found none v = (λ e. subst P (some_same e) found, λ p. ap (λ (i : ℕ). Some i) (one x v found p))

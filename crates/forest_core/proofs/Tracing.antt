@@ -14,7 +14,7 @@ use Rattle.forest_core.specs.State.{State}
 use Rattle.forest_core.specs.Tables.{beside}
 use Rattle.forest_core.proofs.Climbs.{IsClimb, climb_end, climb_more, climb_start, starts_among}
 use Rattle.forest_core.proofs.Currents.{current_more, none_flipped, path_augments, path_entries, stays_matched, was_matched}
-use Rattle.forest_core.proofs.Members.{distinct_below}
+use Rattle.bip_defs.proofs.Full.{few_below}
 use Rattle.forest_core.proofs.Roots.{earlier}
 use Rattle.forest_core.proofs.Storing.{claim_in_range, leaf_in_range}
 
@@ -25,7 +25,7 @@ written_back xs ys n same long = ap (λ zs. take n (ys ++ zs)) (drop_of_length-l
 -- How long a climb is.
 
 climb_short : (s : State) → IsSound s → (x r c : ℕ) (path : List Place) → IsClimb s x r c path → length path ≤ s.matrix.rows
-climb_short s k x r c path b = let le = distinct_below s.matrix.rows (rows_of path) b.rows_differ (λ q h. let (d, p) = row_pair q path h in (claim_in_range s k q d (b.claimed (q, d) p)).0) in omega (arith, le, length-map path (λ (p : Place). p.0))
+climb_short s k x r c path b = let le = few_below s.matrix.rows (rows_of path) b.rows_differ (λ q h. let (d, p) = row_pair q path h in (claim_in_range s k q d (b.claimed (q, d) p)).0) in omega (arith, le, length-map path (λ (p : Place). p.0))
 
 -- Climbing.
 
@@ -43,7 +43,7 @@ pub climbing_start : (s : State) (xs : List ℕ) (x : ℕ) (m : Pairing) (holder
 climbing_start s xs x m holders leaf c t e = record { row = leaf; climb = climb_start s t.sound x leaf c t.leaf_is ((t.held leaf c).0 e) }
 
 pub climbing_col : (s : State) (xs : List ℕ) (x : ℕ) (m : Pairing) (holders : List (Option ℕ)) (leaf c : ℕ) (path : List Place) → CanTrace s xs x m holders leaf → IsClimbing s x c path → c < m.cols
-climbing_col s xs x m holders leaf c path t b = let lt = (claim_in_range s t.sound b.row c b.climb.claim).1 in let e = t.exchanged.cols_are in omega arith
+climbing_col s xs x m holders leaf c path t b = let lt = (claim_in_range s t.sound b.row c b.climb.claim).1 in let e = t.exchanged.matching.cols in omega arith
 
 -- the row above was matched with the column in the base, and is claimed
 above : (s : State) (xs : List ℕ) (x : ℕ) (m : Pairing) (holders : List (Option ℕ)) (leaf c q : ℕ) (path : List Place) → CanTrace s xs x m holders leaf → IsClimbing s x c path → Among (q, c) m.pairs → Among (q, c) s.base
@@ -91,10 +91,12 @@ distinct_at (x ∷ xs) (suc i) d a lt = λ h. ⊎_elim (λ (e : slice_index_or x
 
 pub exchanging_start : (s : State) (m : Pairing) (holders leaf_of : List (Option ℕ)) (roots : List ℕ) → CanExchange s m holders leaf_of roots → IsExchanged s [] m
 exchanging_start s m holders leaf_of roots e = record {
-  rows = ap (λ (p : Pairing). p.rows) e.base;
-  cols_are = ap (λ (p : Pairing). p.cols) e.base;
   current = subst (IsCurrent (with_flipped s [])) (sym (ap (λ (p : Pairing). p.pairs) e.base)) (none_flipped s e.sound [] refl);
-  matching = subst (IsMatching s.matrix) (sym (ap (λ (p : Pairing). p.pairs) e.base)) e.sound.base;
+  matching = record {
+    rows = ap (λ (p : Pairing). p.rows) e.base;
+    cols = ap (λ (p : Pairing). p.cols) e.base;
+    matching = subst (IsMatching s.matrix) (sym (ap (λ (p : Pairing). p.pairs) e.base)) e.sound.base;
+  };
 }
 
 -- a root of the list and its leaf
@@ -117,17 +119,15 @@ can_trace s m now holders leaf_of roots i x leaf e g lt at is = record {
 pub path_in_range : (s : State) (xs : List ℕ) (x : ℕ) (m : Pairing) (holders : List (Option ℕ)) (leaf : ℕ) (path : List Place) → CanTrace s xs x m holders leaf → IsPath s x path → (r c : ℕ) → Among (r, c) path → (r < m.rows) × (c < m.cols)
 path_in_range s xs x m holders leaf path t b r c h =
     let e = path_entries s t.sound x path b r c h in
-    (let lt = e.0 in let l = t.exchanged.rows in omega arith, let lt = entry_col s.matrix r c e in let l = t.exchanged.cols_are in omega arith)
+    (let lt = e.0 in let l = t.exchanged.matching.rows in omega arith, let lt = entry_col s.matrix r c e in let l = t.exchanged.matching.cols in omega arith)
 
 pub path_flips : (s : State) (xs : List ℕ) (x : ℕ) (m : Pairing) (holders : List (Option ℕ)) (leaf : ℕ) (path : List Place) → CanTrace s xs x m holders leaf → IsPath s x path → IsAugmenting m.pairs path
 path_flips s xs x m holders leaf path t b = path_augments s t.sound xs m.pairs x path t.exchanged.current t.not_yet b
 
 pub exchanging_more : (s : State) (m new : Pairing) (holders : List (Option ℕ)) (roots : List ℕ) (i x leaf : ℕ) (path : List Place) → CanTrace s (take i roots) x m holders leaf → i < length roots → x ≡ slice_index_or roots i x → IsPath s x path → Exchanges path m.pairs new.pairs → (new.rows ≡ m.rows) × (new.cols ≡ m.cols) → IsMatching s.matrix new.pairs → IsExchanged s (take (i + 1) roots) new
 exchanging_more s m new holders roots i x leaf path t lt at b ex sizes k = record {
-  rows = sizes.0 ∙ t.exchanged.rows;
-  cols_are = sizes.1 ∙ t.exchanged.cols_are;
   current = current_more s t.sound (take i roots) (take (i + 1) roots) m.pairs new.pairs x path t.exchanged.current t.not_yet b ex (distinct_pairs new.pairs k.rows_differ) members;
-  matching = k;
+  matching = record { rows = sizes.0 ∙ t.exchanged.matching.rows; cols = sizes.1 ∙ t.exchanged.matching.cols; matching = k };
 }
   where
     more : take (i + 1) roots ≡ take i roots ++ x ∷ []

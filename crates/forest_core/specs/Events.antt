@@ -4,7 +4,7 @@ use Rattle.bip_defs.specs.Lists.{Among}
 use Rattle.bip_defs.specs.Matching.{cols_of, rows_of}
 use Rattle.bip_defs.specs.Matrix.{IsEntry, Place}
 use Rattle.forest_core.specs.Current.{IsCurrent}
-use Rattle.forest_core.specs.State.{InForest, IsRootOfRow, IsWon, State, roots_of}
+use Rattle.forest_core.specs.State.{HasWon, InForest, IsRootOfRow, IsUsedUp, IsWon, RootOf, State, roots_of}
 use Rattle.sp_ids.specs.declared.events.Event.{Event}
 use Rattle.sp_ids.specs.declared.events.Event.TheVariants.{Claim, Win, Flip, Graft, Rebuild, Done}
 
@@ -12,9 +12,9 @@ use Rattle.sp_ids.specs.declared.events.Event.TheVariants.{Claim, Win, Flip, Gra
 abbrev pub AreFlipped : State → Type 0
 AreFlipped s = (x : ℕ) → Among x (roots_of s.leaves) → Among x s.flipped
 
--- each entry of a column in the forest has a claimed row
+-- every row in which a column of the forest has an entry is claimed
 abbrev pub IsClosed : State → Type 0
-IsClosed s = (r c : ℕ) → InForest s c → IsEntry s.matrix r c → Among r (rows_of s.claims)
+IsClosed s = (c : ℕ) → InForest s c → IsUsedUp s c
 
 abbrev pub IsLegal : State → Event → Type 0
 IsLegal s (Claim r c) = (¬ Among r (rows_of s.claims)) × IsEntry s.matrix r c × InForest s c
@@ -50,6 +50,34 @@ Becomes s Done t = t ≡ s
 abbrev pub Runs : State → List Event → State → Type 0
 Runs s [] t = t ≡ s
 Runs s (e ∷ es) t = IsLegal s e × (u : State) × Becomes s e u × Runs u es t
+
+-- some events, each legal in its turn, lead from the one forest to the other
+abbrev pub LeadsTo : State → State → Type 0
+LeadsTo s t = (es : List Event) × Runs s es t
+
+-- no events but claims and wins
+abbrev pub AreClaimsAndWins : List Event → Type 0
+AreClaimsAndWins [] = Unit {0}
+AreClaimsAndWins (Claim r c ∷ es) = AreClaimsAndWins es
+AreClaimsAndWins (Win x r ∷ es) = AreClaimsAndWins es
+AreClaimsAndWins (Flip x ∷ es) = ⊥
+AreClaimsAndWins (Graft ∷ es) = ⊥
+AreClaimsAndWins (Rebuild ∷ es) = ⊥
+AreClaimsAndWins (Done ∷ es) = ⊥
+
+-- legal events lead from s to t, both have the same base matching and flipped roots, and what there was in s there is in t
+pub record Grows (s t : State) : Type 0 where
+  pub legal : LeadsTo s t
+  pub matrix : t.matrix ≡ s.matrix
+  pub base : t.base ≡ s.base
+  pub flipped : t.flipped ≡ s.flipped
+  pub claims : (p : Place) → Among p s.claims → Among p t.claims
+  pub leaves : (p : Place) → Among p s.leaves → Among p t.leaves
+  pub inside : (c : ℕ) → InForest s c → InForest t c
+  pub root : (x c : ℕ) → RootOf s.base s.claims x c → RootOf t.base t.claims x c
+  pub row_won : (r : ℕ) → IsWon s r → IsWon t r
+  pub won : (c : ℕ) → HasWon s c → HasWon t c
+  pub used_up : (c : ℕ) → IsUsedUp s c → IsUsedUp t c
 
 -- how many roots the events flip
 abbrev pub flips : List Event → ℕ

@@ -1,10 +1,10 @@
 -- The path of a root, and matchings in which the paths of some roots are exchanged.
 use Rattle.std.specs.Prelude.{◌≡◌, ℕ, List, Option, length}
 use Rattle.bip_defs.specs.Lists.{Among, AreDistinct}
-use Rattle.bip_defs.specs.Matching.{IsMatching, rows_of}
+use Rattle.bip_defs.specs.Matching.{rows_of}
 use Rattle.bip_defs.specs.Matrix.{Place, cols}
 use Rattle.bip_defs.specs.Paths.{Alternates, BeginsUnmatched}
-use Rattle.bip_graph.specs.Pairing.{Pairing}
+use Rattle.bip_graph.specs.Pairing.{IsMatchingOf, Pairing}
 use Rattle.forest_core.specs.Current.{IsCurrent, OnPath}
 use Rattle.forest_core.specs.Sound.{IsSound}
 use Rattle.forest_core.specs.State.{State}
@@ -25,10 +25,8 @@ with_flipped s xs = record { matrix = s.matrix; base = s.base; claims = s.claims
 
 -- the base matching with the paths of these roots exchanged
 pub record IsExchanged (s : State) (xs : List ℕ) (m : Pairing) : Type 0 where
-  pub rows : m.rows ≡ s.matrix.rows
-  pub cols_are : m.cols ≡ cols s.matrix
   pub current : IsCurrent (with_flipped s xs) m.pairs
-  pub matching : IsMatching s.matrix m.pairs
+  pub matching : IsMatchingOf s.matrix m
 
 -- the leaf is that of a root whose path is not exchanged yet
 pub record CanTrace (s : State) (xs : List ℕ) (x : ℕ) (m : Pairing) (holders : List (Option ℕ)) (leaf : ℕ) : Type 0 where

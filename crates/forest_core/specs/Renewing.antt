@@ -1,17 +1,12 @@
 -- Which claims stay when a forest is renewed.
-use Rattle.std.specs.Prelude.{ℕ, Bool, true, false, List, Option, None, Some, filter, not}
+use Rattle.std.specs.Prelude.{ℕ, Bool, false, List, Option, None, Some, filter, is_some, not}
 use Rattle.bip_defs.specs.Matrix.{Place}
 use Rattle.forest_core.specs.Tables.{beside}
-
--- whether a number stands there
-abbrev pub is_there : Option ℕ → Bool
-is_there None = false
-is_there (Some x) = true
 
 -- whether a root has a leaf, where there is a root
 abbrev pub root_has_leaf : List (Option ℕ) → Option ℕ → Bool
 root_has_leaf leaf_of None = false
-root_has_leaf leaf_of (Some x) = is_there (beside leaf_of x)
+root_has_leaf leaf_of (Some x) = is_some (beside leaf_of x)
 
 -- whether the root of the claimed row has no leaf
 abbrev pub stays : List (Option ℕ) → List (Option ℕ) → Place → Bool

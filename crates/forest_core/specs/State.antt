@@ -2,7 +2,7 @@
 use Rattle.std.specs.Prelude.{◌≡◌, ◌⊎◌, ℕ, ◌<◌, List, [], map}
 use Rattle.bip_defs.specs.Lists.{Among}
 use Rattle.bip_defs.specs.Matching.{cols_of, rows_of}
-use Rattle.bip_defs.specs.Matrix.{Matrix, Place, cols}
+use Rattle.bip_defs.specs.Matrix.{IsEntry, Matrix, Place, cols}
 
 -- the matrix, the base matching, the claims in order, the leaves in order (each with its root before it), and the roots whose
 -- paths were exchanged
@@ -14,8 +14,8 @@ pub record State : Type 0 where
   pub flipped : List ℕ
 
 -- no claims, no leaves and no flipped roots
-abbrev pub planted : Matrix → List Place → State
-planted a m = record { matrix = a; base = m; claims = []; leaves = []; flipped = [] }
+abbrev pub new_forest : Matrix → List Place → State
+new_forest a m = record { matrix = a; base = m; claims = []; leaves = []; flipped = [] }
 
 abbrev pub roots_of : List (ℕ × ℕ) → List ℕ
 roots_of leaves = map (λ (p : ℕ × ℕ). p.0) leaves
@@ -37,6 +37,14 @@ IsRootOfRow base claims x r = (d : ℕ) × Among (r, d) claims × RootOf base cl
 -- the row's root has a leaf
 abbrev pub IsWon : State → ℕ → Type 0
 IsWon s r = (x : ℕ) × IsRootOfRow s.base s.claims x r × Among x (roots_of s.leaves)
+
+-- the column's root has a leaf
+abbrev pub HasWon : State → ℕ → Type 0
+HasWon s c = (x : ℕ) × RootOf s.base s.claims x c × Among x (roots_of s.leaves)
+
+-- every row in which the column has an entry is claimed
+abbrev pub IsUsedUp : State → ℕ → Type 0
+IsUsedUp s c = (r : ℕ) → IsEntry s.matrix r c → Among r (rows_of s.claims)
 
 -- every claimed row that is unmatched in the base has a root with a leaf
 abbrev pub IsSettled : State → Type 0

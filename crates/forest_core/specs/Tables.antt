@@ -13,3 +13,19 @@ beside table k = slice_index_or table k None
 -- beside the first of each pair stands the second, and beside no other number any
 abbrev pub IsTableOf : List (ℕ × ℕ) → List (Option ℕ) → Type 0
 IsTableOf pairs table = (k v : ℕ) → (beside table k ≡ Some v) ↔ Among (k, v) pairs
+
+-- of each row the column that claimed it, and the row's root
+pub record Claimed : Type 0 where
+  pub holders : List (Option ℕ)
+  pub roots : List (Option ℕ)
+
+-- the holder of a row and its root, of which there are both or neither
+abbrev pub holder_in : ℕ → Option ℕ
+holder_in holder = read holder
+
+abbrev pub root_in : ℕ → ℕ → Option ℕ
+root_in holder root = if holder == 4294967295 then None else Some root
+
+-- a row with a root has a holder
+abbrev pub AreAlike : Claimed → Type 0
+AreAlike t = (r x : ℕ) → beside t.roots r ≡ Some x → (c : ℕ) × (beside t.holders r ≡ Some c)

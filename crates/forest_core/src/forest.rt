@@ -2,17 +2,19 @@
 
 ghost use Rattle.std.specs.Prelude.{◌≡◌, ◌↔◌, ℕ, ◌+◌, ◌<◌, length, ◌∷◌, ◌++◌, [], IsTrue, IfOk, IfSome, IfNone};
 ghost use Rattle.bip_defs.specs.Lists.{Among};
-ghost use Rattle.bip_defs.specs.Matching.{IsMatching, rows_of, cols_of};
-ghost use Rattle.bip_defs.specs.Matrix.{IsEntry, cols};
+ghost use Rattle.bip_defs.specs.Matching.{rows_of, cols_of};
+ghost use Rattle.bip_defs.specs.Matrix.{cols};
+ghost use Rattle.bip_graph.specs.Pairing.{IsMatchingOf};
 ghost use Rattle.forest_core.specs.Current.{IsCurrent};
-ghost use Rattle.forest_core.specs.Events.{AreFlipped, AreKept, IsClosed, IsLegal, IsRenewed};
+ghost use Rattle.forest_core.specs.Events.{AreFlipped, AreKept, Grows, IsClosed, IsLegal, IsRenewed};
 ghost use Rattle.forest_core.specs.Sound.{IsSound};
-ghost use Rattle.forest_core.specs.State.{InForest, IsRootOfRow, RootOf, planted, roots_of};
+ghost use Rattle.forest_core.specs.State.{InForest, IsRootOfRow, IsUsedUp, RootOf, new_forest, roots_of};
 ghost use Rattle.sp_ids.specs.declared.events.Event.TheVariants.{Claim, Win, Flip, Graft, Rebuild, Done};
 
+use crate::claim_table::ClaimTable;
 use crate::paths::exchange;
 use crate::put::put;
-use crate::renew::{keep, release, uproot};
+use crate::renew::{clear_claims, clear_leaves, keep};
 use crate::table::Table;
 use bip_graph::Matching;
 use sp_ids::{Col, Event, Id, OutOfMemory, Row};
@@ -25,18 +27,19 @@ use std::marker::Model;
 /// A column of the forest claims rows in which it has entries, and with a row comes its base mate. A root wins a claimed row
 /// that is unmatched, its leaf; its path from there is then exchanged, at the latest when the base matching is renewed.
 ///
-/// It takes all its memory when it is made: 24 bytes a row and 17 a column, beside the matching.
+/// It takes all its memory when it is made: 28 bytes a row and 17 a column, beside the matching.
 #[derive(Drop)]
 pub struct Forest<'p> {
     pattern: &'p Pattern,
     base: Matching,
-    // By row the column that claimed it, and the row's root.
-    holders: Table,
-    roots: Table,
+    // By row the column that claimed it and the row's root.
+    claimed: ClaimTable,
     // By root its leaf, and whether it is flipped.
     leaf_of: Table,
     marks: Vec<bool>,
+    // The claims, and of each the row's root.
     claims: Vec<(Row, Col)>,
+    claim_roots: Vec<Col>,
     leaves: Vec<(Col, Row)>,
     flipped: Vec<Col>,
     // The path of one root.
@@ -65,21 +68,19 @@ impl<'p> Forest<'p> {
         pattern: &'p Pattern,
         matching: Matching,
     ) -> Result<Forest<'p>, OutOfMemory>
-        requires rows { matching.rows ≡ pattern.now.rows }
-        requires cols { matching.cols ≡ cols pattern.now }
-        requires matching { IsMatching pattern.now matching.pairs }
-        ensures { IfOk result (λ f. f ≡ planted pattern.entry.now matching.pairs) }
+        requires matching { IsMatchingOf pattern.now matching }
+        ensures { IfOk result (λ f. f ≡ new_forest pattern.entry.now matching.pairs) }
     {
         let (rows, cols) = (pattern.rows(), pattern.cols());
         let (row_room, col_room) = (rows as usize, cols as usize);
         Ok(Forest {
             pattern,
             base: matching,
-            holders: Table::new(alloc, rows)?,
-            roots: Table::new(alloc, rows)?,
+            claimed: ClaimTable::new(alloc, rows)?,
             leaf_of: Table::new(alloc, cols)?,
             marks: vec![in alloc; false; col_room]?,
             claims: Vec::with_capacity(alloc, row_room)?,
+            claim_roots: Vec::with_capacity(alloc, row_room)?,
             leaves: Vec::with_capacity(alloc, col_room)?,
             flipped: Vec::with_capacity(alloc, col_room)?,
             path: Vec::with_capacity(alloc, row_room)?,
@@ -145,10 +146,7 @@ impl<'p> Forest<'p> {
         ensures found { IfSome result (λ col. Among (row, col) self.now.claims) }
         ensures none { IfNone result (¬ Among row (rows_of self.now.claims)) }
     {
-        match self.holders.get(row.number()) {
-            Some(col) => Some(Col(col)),
-            None => None,
-        }
+        self.claimed.holder(row)
     }
 
     /// The root of a column's tree, where the column is in the forest.
@@ -165,16 +163,13 @@ impl<'p> Forest<'p> {
         }
     }
 
-    // The root of a row, where the row is claimed.
-    fn root_of_row(&self, row: Row) -> Option<Col>
+    /// The root of a row's tree, where the row is claimed.
+    pub fn root_of_row(&self, row: Row) -> Option<Col>
         requires { row < self.now.matrix.rows }
         ensures found { IfSome result (λ root. IsRootOfRow self.now.base self.now.claims root row) }
         ensures none { IfNone result (¬ Among row (rows_of self.now.claims)) }
     {
-        match self.holder(row) {
-            Some(_) => Some(Col(self.roots.at(row.number()))),
-            None => None,
-        }
+        self.claimed.root(row)
     }
 
     /// The leaf of a root, where it has one.
@@ -232,8 +227,8 @@ impl<'p> Forest<'p> {
         self.has_leaf(root) && !self.flipped(root)
     }
 
-    // Whether a column is in the forest.
-    fn is_inside(&self, col: Col) -> bool
+    /// Whether a column is in the forest. Any column may be asked for.
+    pub fn is_inside(&self, col: Col) -> bool
         ensures { IsTrue result ↔ InForest self.now col }
     {
         if col.number() >= self.pattern().cols() {
@@ -245,8 +240,8 @@ impl<'p> Forest<'p> {
         }
     }
 
-    // Whether a row is claimed.
-    fn is_claimed(&self, row: Row) -> bool
+    /// Whether a row is claimed.
+    pub fn is_claimed(&self, row: Row) -> bool
         requires { row < self.now.matrix.rows }
         ensures { IsTrue result ↔ Among row (rows_of self.now.claims) }
     {
@@ -282,8 +277,8 @@ impl<'p> Forest<'p> {
         }
     }
 
-    // Whether a root has a leaf.
-    fn has_leaf(&self, root: Col) -> bool
+    /// Whether a column is a root with a leaf. Any column may be asked for.
+    pub fn has_leaf(&self, root: Col) -> bool
         ensures leaf { IsTrue result ↔ Among root (roots_of self.now.leaves) }
         ensures root { IsTrue result → root < cols self.now.matrix }
     {
@@ -320,23 +315,23 @@ impl<'p> Forest<'p> {
         self.leaves().is_empty() && self.is_closed()
     }
 
-    // Whether each entry of a column in the forest has a claimed row.
+    // Whether every row in which a column of the forest has an entry is claimed.
     fn is_closed(&self) -> bool
         ensures { IsTrue result ↔ IsClosed self.now }
     {
         for number in 0..self.pattern().cols() {
             let col = Col(number);
-            if self.is_inside(col) && !self.is_covered(col) {
+            if self.is_inside(col) && !self.is_used_up(col) {
                 return false;
             }
         }
         true
     }
 
-    // Whether each entry of a column has a claimed row.
-    fn is_covered(&self, col: Col) -> bool
+    // Whether every row in which the column has an entry is claimed.
+    fn is_used_up(&self, col: Col) -> bool
         requires { col < cols self.now.matrix }
-        ensures { IsTrue result ↔ ((r : ℕ) → IsEntry self.now.matrix r col → Among r (rows_of self.now.claims)) }
+        ensures { IsTrue result ↔ IsUsedUp self.now col }
     {
         let rows = self.pattern().rows_of(col);
         for row in rows {
@@ -347,30 +342,38 @@ impl<'p> Forest<'p> {
         true
     }
 
-    // The root of a column of the forest.
-    fn root(&self, col: Col) -> Col
+    /// The root of a column of the forest.
+    pub fn root(&self, col: Col) -> Col
         requires { InForest self.now col }
-        ensures { RootOf self.now.base self.now.claims result col }
+        ensures root { RootOf self.now.base self.now.claims result col }
+        ensures in_range { result < cols self.now.matrix }
     {
-        self.root_of(col).unwrap_or(col)
+        self.is_sound();
+        match self.base_row(col) {
+            Some(row) => self.claimed.root_at(row),
+            None => col,
+        }
     }
 
     /// A column of the forest claims a row in which it has an entry. Takes no memory. Work: constant.
     pub fn claim(&mut self, row: Row, col: Col)
         requires { IsLegal self.old (Claim row col) }
-        ensures { self.new ≡ record self.old { claims = self.old.claims ++ (row, col) ∷ [] } }
+        ensures grows { Grows self.old self.new }
+        ensures claims { self.new ≡ record self.old { claims = self.old.claims ++ (row, col) ∷ [] } }
     {
         let root = self.root(col);
         self.pattern.is_pattern();
-        self.holders.put(row.number(), col.number());
-        self.roots.put(row.number(), root.number());
+        self.claimed.is_alike();
+        self.claimed.put(row, col, root);
         put(&mut self.claims, (row, col));
+        put(&mut self.claim_roots, root);
     }
 
     /// A root takes a claimed row of its tree, which has no base mate, as its leaf. Takes no memory. Work: constant.
     pub fn win(&mut self, root: Col, leaf: Row)
         requires { IsLegal self.old (Win root leaf) }
-        ensures { self.new ≡ record self.old { leaves = self.old.leaves ++ (root, leaf) ∷ [] } }
+        ensures grows { Grows self.old self.new }
+        ensures leaves { self.new ≡ record self.old { leaves = self.old.leaves ++ (root, leaf) ∷ [] } }
     {
         self.pattern.is_pattern();
         self.leaf_of.put(root.number(), leaf.number());
@@ -395,19 +398,23 @@ impl<'p> Forest<'p> {
         requires { IsLegal self.old Graft }
         ensures renewed { IsRenewed self.old self.new }
         ensures claims { AreKept self.old self.old.claims self.new.claims }
+        ensures size { length self.new.base ≡ length self.old.base + length self.old.flipped }
     {
         let roots = self.flipped.as_slice();
         exchange(
             &mut self.base,
-            &self.holders,
+            &self.claimed,
             &self.leaf_of,
             roots,
             &mut self.path,
         );
         let claims = self.claims.as_mut_slice();
-        let kept = keep(claims, &mut self.holders, &self.roots, &self.leaf_of);
+        let roots = self.claim_roots.as_mut_slice();
+        let kept = keep(claims, roots, &mut self.claimed, &self.leaf_of);
+        self.claimed.is_alike();
         self.claims.truncate(kept);
-        uproot(
+        self.claim_roots.truncate(kept);
+        clear_leaves(
             self.leaves.as_slice(),
             &mut self.leaf_of,
             self.marks.as_mut_slice(),
@@ -423,18 +430,21 @@ impl<'p> Forest<'p> {
         requires { IsLegal self.old Rebuild }
         ensures renewed { IsRenewed self.old self.new }
         ensures claims { self.new.claims ≡ [] }
+        ensures size { length self.new.base ≡ length self.old.base + length self.old.flipped }
     {
         let roots = self.flipped.as_slice();
         exchange(
             &mut self.base,
-            &self.holders,
+            &self.claimed,
             &self.leaf_of,
             roots,
             &mut self.path,
         );
-        release(self.claims.as_slice(), &mut self.holders);
+        clear_claims(self.claims.as_slice(), &mut self.claimed);
+        self.claimed.is_alike();
         self.claims.clear();
-        uproot(
+        self.claim_roots.clear();
+        clear_leaves(
             self.leaves.as_slice(),
             &mut self.leaf_of,
             self.marks.as_mut_slice(),
@@ -448,19 +458,18 @@ impl<'p> Forest<'p> {
     /// Takes no memory. Work: three writes at most for each pair of the path of a flipped root.
     pub fn into_matching(self) -> Matching
         ensures current { IsCurrent self.entry result.pairs }
-        ensures sizes { (result.rows ≡ self.entry.matrix.rows) × (result.cols ≡ cols self.entry.matrix) }
-        ensures matching { IsMatching self.entry.matrix result.pairs }
+        ensures matching { IsMatchingOf self.entry.matrix result }
         ensures size { length result.pairs ≡ length self.entry.base + length self.entry.flipped }
     {
         let Forest {
             mut base,
-            holders,
+            claimed,
             leaf_of,
             flipped,
             mut path,
             ..
         } = self;
-        exchange(&mut base, &holders, &leaf_of, flipped.as_slice(), &mut path);
+        exchange(&mut base, &claimed, &leaf_of, flipped.as_slice(), &mut path);
         base
     }
 }

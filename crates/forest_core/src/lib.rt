@@ -5,8 +5,10 @@
 //! tree-grafting, 2017.
 #![tactic(auto)]
 
+mod claim_table;
 mod forest;
 mod laws;
+mod lists;
 mod paths;
 mod put;
 mod renew;
@@ -17,7 +19,8 @@ mod tests;
 
 pub use forest::Forest;
 pub use laws::{
-    current_is_a_matching, done_is_maximum, events_keep_sound, forests_are_rested,
+    claims_and_wins_grow, claims_are_in_the_forest, columns_have_one_root, current_is_a_matching,
+    done_is_maximum, events_keep_covered, events_keep_sound, forests_are_rested, runs_join,
     settled_without_wins,
 };
 pub use runs::every_run;

@@ -2,11 +2,12 @@
 
 ghost use Rattle.std.specs.Prelude.{◌≡◌, ℕ, ◌+◌, ◌<◌, ◌≤◌, List, length, take, slice_index_or, IfOk};
 ghost use Rattle.bip_defs.specs.Matching.{IsMatching};
-ghost use Rattle.bip_defs.specs.Matrix.{Place, cols};
+ghost use Rattle.bip_defs.specs.Matrix.{Place};
+ghost use Rattle.bip_graph.specs.Pairing.{IsMatchingOf};
 ghost use Rattle.forest_core.specs.Current.{IsCurrent};
 ghost use Rattle.forest_core.specs.Events.{IsLegal, Becomes, Runs, flips};
 ghost use Rattle.forest_core.specs.Sound.{IsSound};
-ghost use Rattle.forest_core.specs.State.{planted};
+ghost use Rattle.forest_core.specs.State.{new_forest};
 ghost use Rattle.sp_ids.specs.declared.events.Event.TheVariants.{Done};
 
 use crate::forest::Forest;
@@ -39,10 +40,8 @@ pub fn every_run<'p>(
     matching: Matching,
     events: &[Event],
 ) -> Result<(Forest<'p>, usize), OutOfMemory>
-    requires rows { matching.rows ≡ pattern.now.rows }
-    requires cols { matching.cols ≡ cols pattern.now }
-    requires matching { IsMatching pattern.now matching.pairs }
-    ensures made { IfOk result (λ o. Runs (planted pattern.entry.now matching.pairs) (take o.1 events.now) o.0) }
+    requires matching { IsMatchingOf pattern.now matching }
+    ensures made { IfOk result (λ o. Runs (new_forest pattern.entry.now matching.pairs) (take o.1 events.now) o.0) }
     ensures longest { IfOk result (λ o. (o.1 ≤ length events.now) × (o.1 < length events.now → ¬ IsLegal o.0 (slice_index_or events.now o.1 Done))) }
     ensures pattern { IfOk result (λ o. o.0.matrix ≡ pattern.entry.now) }
     ensures sound { IfOk result (λ o. IsSound o.0) }

@@ -1,8 +1,7 @@
 //! Runs of events that were worked out by hand. Events, places and pairs count rows and columns from 1, answers from 0.
 
-ghost use Rattle.std.specs.Prelude.{◌≡◌, IfOk};
-ghost use Rattle.bip_defs.specs.Matching.{IsMatching};
-ghost use Rattle.bip_defs.specs.Matrix.{cols};
+ghost use Rattle.std.specs.Prelude.{IfOk};
+ghost use Rattle.bip_graph.specs.Pairing.{IsMatchingOf};
 
 use crate::{Forest, every_run};
 use bip_graph::Matching;
@@ -36,12 +35,8 @@ fn pattern_of<R: Threads + Sync>(
 
 // Makes a pair, where the place is an entry and both are unmatched.
 fn pair_up(pattern: &Pattern, matching: &mut Matching, row: Row, col: Col)
-    requires rows { matching.old.rows ≡ pattern.now.rows }
-    requires cols { matching.old.cols ≡ cols pattern.now }
-    requires matching { IsMatching pattern.now matching.old.pairs }
-    ensures rows { matching.new.rows ≡ pattern.now.rows }
-    ensures cols { matching.new.cols ≡ cols pattern.now }
-    ensures matching { IsMatching pattern.now matching.new.pairs }
+    requires matching { IsMatchingOf pattern.now matching.old }
+    ensures matching { IsMatchingOf pattern.now matching.new }
 {
     if col.0 >= pattern.cols() || !pattern.has(row, col) {
         return;
@@ -62,9 +57,7 @@ fn paired<R: Abort + AllocGlobal>(
     pattern: &Pattern,
     pairs: &[(u32, u32)],
 ) -> Result<Matching, OutOfMemory>
-    ensures rows { IfOk result (λ m. m.rows ≡ pattern.now.rows) }
-    ensures cols { IfOk result (λ m. m.cols ≡ cols pattern.now) }
-    ensures matching { IfOk result (λ m. IsMatching pattern.now m.pairs) }
+    ensures matching { IfOk result (λ m. IsMatchingOf pattern.now m) }
 {
     let mut matching = Matching::empty(rt.alloc(), pattern.rows(), pattern.cols())?;
     for (row, col) in pairs {
@@ -346,5 +339,39 @@ fn no_columns(rt: HostRuntime) -> Result<(), Fail> {
     let events = [Event::Done, Event::Graft, Event::Rebuild, claim(1, 1)];
     let (_forest, made) = every_run(rt.alloc(), &pattern, none, &events)?;
     assert_eq!(rt; made, 3);
+    Ok(())
+}
+
+// Column 1 claims rows 1 and 2 of 40, and column 2 wins nothing: the lists by row and by column tell the same as the forest.
+#[test]
+fn lists_by_row_and_by_column(rt: HostRuntime) -> Result<(), Fail> {
+    let places = [(1, 1), (2, 1), (2, 2), (3, 2), (4, 2)];
+    let pattern = pattern_of(&rt, rt.alloc(), 40, 3, &places)?;
+    let matching = paired(&rt, &pattern, &[(2, 2)])?;
+    let events = [claim(2, 1), claim(3, 2), win(1, 3)];
+    let (mut forest, made) = every_run(rt.alloc(), &pattern, matching, &events)?;
+    assert_eq!(rt; made, 3);
+    let holders = forest.row_holders(rt.alloc())?;
+    let leaves = forest.root_leaves(rt.alloc())?;
+    let row_trees = forest.row_trees(rt.alloc())?;
+    let col_trees = forest.col_trees(rt.alloc())?;
+    assert_eq!(rt; (holders.len(), leaves.len(), row_trees.len(), col_trees.len()), (40, 3, 40, 3));
+    assert_eq!(rt; holders.iter().filter(|holder| holder.is_some()).count(), 2);
+    assert_eq!(rt; (holders.get(1), holders.get(2)), (Some(&Some(Col(0))), Some(&Some(Col(1)))));
+    assert_eq!(rt; (leaves.get(0), leaves.get(1)), (Some(&Some(Row(2))), Some(&None)));
+    assert_eq!(rt; (row_trees.get(0), row_trees.get(2)), (Some(&None), Some(&Some(Col(0)))));
+    assert_eq!(rt; col_trees.get(0), Some(&Some(Col(0))));
+    assert_eq!(rt; col_trees.get(1), Some(&Some(Col(0))));
+    assert_eq!(rt; col_trees.get(2), Some(&Some(Col(2))));
+
+    // Two claims among 40 rows are taken back one by one.
+    if forest.may(Event::Flip { root: Col(0) }) {
+        forest.flip(Col(0));
+    }
+    assert!(rt; forest.may(Event::Rebuild));
+    forest.rebuild();
+    assert!(rt; forest.claims().is_empty() && !forest.done());
+    assert_eq!(rt; (holder(&forest, 1), holder(&forest, 2)), (None, None));
+    assert_eq!(rt; (mate(forest.base(), 0), mate(forest.base(), 1)), (Some(Row(1)), Some(Row(2))));
     Ok(())
 }

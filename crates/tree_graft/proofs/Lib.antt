@@ -1,4 +1,3 @@
 mod Augmenting
-mod Leading
 mod Phasing
 mod Searching

@@ -2,42 +2,41 @@
 use Rattle.std.proofs.Common.{◌≡◌, ◌≢◌, ◌↔◌, ◌∙◌, ℕ, ◌+◌, ◌-◌, ◌<◌, ◌≤◌, Bool, true, false, if◌then◌else◌, IsTrue, nat_lt, true≢false, List, [], ◌∷◌, length, refl, sym, ap, subst, arith}
 use Rattle.std.proofs.Math.Decide.{dec_lt}
 use Rattle.std.proofs.lemmas.Bool.{lt-ltb, ltb-true}
-use Rattle.std.proofs.lemmas.List.{length-map}
-use Rattle.bip_defs.specs.Matching.{IsMatching, IsMaximum, cols_of}
+use Rattle.bip_defs.specs.Matching.{Covers, IsMatching, IsMaximum}
 use Rattle.bip_defs.specs.Matrix.{Matrix, Place, cols}
+use Rattle.bip_defs.proofs.Full.{matching_few}
 use Rattle.bip_defs.proofs.Reaching.{same_size_maximum}
-use Rattle.bip_defs.proofs.Sets.{col_pair, entry_col}
-use Rattle.forest_core.specs.Current.{IsCurrent}
+use Rattle.sp_ids.specs.declared.events.Event.{Event}
+use Rattle.forest_core.specs.Events.{Grows, LeadsTo, Runs}
 use Rattle.forest_core.specs.Sound.{IsSound}
-use Rattle.forest_core.specs.State.{InForest, IsRested, IsSettled, State, planted}
-use Rattle.forest_core.proofs.Members.{distinct_below}
-use Rattle.forest_core.proofs.Sounds.{planted_sound}
-use Rattle.tree_graft.specs.Leading.{LeadsTo}
-use Rattle.tree_graft.specs.Searching.{Grows, IsScanned}
-use Rattle.tree_graft.proofs.Leading.{StayMatched, current_stays, leads_matrix, leads_sound, leads_stays, stay_on}
-use Rattle.tree_graft.proofs.Searching.{closed, done_is_maximum}
+use Rattle.forest_core.specs.State.{IsRested, IsSettled, State}
+
+-- the laws that runs keep a forest sound, and its matrix
+abbrev pub StaySound : Type 0
+StaySound = (s t : State) (es : List Event) → IsSound s → Runs s es t → IsSound t
+
+abbrev pub KeepMatrix : Type 0
+KeepMatrix = (s t : State) → LeadsTo s t → t.matrix ≡ s.matrix
+
+pub lead_matching : StaySound → KeepMatrix → (s t : State) → IsSound s → LeadsTo s t → IsMatching s.matrix t.base
+lead_matching sound same s t k l = subst (λ (a : Matrix). IsMatching a t.base) (same s t l) (sound s t l.0 k l.1).base
 
 -- Without a leaf.
 
 pub still_rested : (s t : State) → IsRested s → Grows s t → IsSettled t → t.leaves ≡ [] → IsRested t
 still_rested s t rested g settled e = record { settled = settled; no_leaves = e; none_flipped = g.flipped ∙ rested.none_flipped }
 
-pub was_maximum : (s t : State) → IsSound s → IsRested s → Grows s t → IsSettled t → ((c : ℕ) → InForest t c → IsScanned t c) → t.leaves ≡ [] → IsMaximum s.matrix s.base
-was_maximum s t k rested g settled scanned e =
-    let max = done_is_maximum t (leads_sound s t k g.legal) settled (g.flipped ∙ rested.none_flipped) (closed t scanned e) in
-    subst (λ (a : Matrix). IsMaximum a s.base) g.matrix (subst (λ (m : List Place). IsMaximum t.matrix m) g.base max)
+pub was_maximum : (s t : State) → Grows s t → IsMaximum t.matrix t.base → IsMaximum s.matrix s.base
+was_maximum s t g max = subst (λ (a : Matrix). IsMaximum a s.base) g.matrix (subst (λ (m : List Place). IsMaximum t.matrix m) g.base max)
 
 -- With leaves.
-
-lead_matching : (s t : State) → IsSound s → LeadsTo s t → IsMatching s.matrix t.base
-lead_matching s t k l = subst (λ (a : Matrix). IsMatching a t.base) (leads_matrix s t l) (leads_sound s t k l).base
 
 not_empty : {X : Type 0} (xs : List X) → xs ≢ [] → 0 < length xs
 not_empty [] ne = absurd (ne refl)
 not_empty (x ∷ xs) ne = omega arith
 
-pub was_not_maximum : (s t u : State) (k : ℕ) → IsSound s → Grows s t → LeadsTo s u → t.leaves ≢ [] → k ≡ length t.leaves → length u.base ≡ length t.base + k → (k ≡ 0) ↔ IsMaximum s.matrix s.base
-was_not_maximum s t u k sound g legal ne paths growth = (λ none. absurd (omega (arith, some, paths, none)), λ max. absurd (let le = max.longest u.base (lead_matching s u sound legal) in omega (arith, some, paths, growth, same, le)))
+pub was_not_maximum : (s t u : State) (k : ℕ) → IsMatching s.matrix u.base → Grows s t → t.leaves ≢ [] → k ≡ length t.leaves → length u.base ≡ length t.base + k → (k ≡ 0) ↔ IsMaximum s.matrix s.base
+was_not_maximum s t u k matching g ne paths growth = (λ none. absurd (omega (arith, some, paths, none)), λ max. absurd (let le = max.longest u.base matching in omega (arith, some, paths, growth, same, le)))
   where
     some : 0 < length t.leaves
     some = not_empty t.leaves ne
@@ -47,36 +46,25 @@ was_not_maximum s t u k sound g legal ne paths growth = (λ none. absurd (omega 
 
 -- Phases one after the other.
 
-pub matching_short : (a : Matrix) (m : List Place) → IsMatching a m → length m ≤ cols a
-matching_short a m k = let le = distinct_below (cols a) (cols_of m) k.cols_differ (λ c h. let (r, p) = col_pair c m h in entry_col a r c (k.entries r c p)) in omega (arith, le, length-map m (λ (p : Place). p.1))
-
 -- a phase that has found no path is the last
-pub last_phase : (a : Matrix) (s t : State) (k : ℕ) → IsSound s → s.matrix ≡ a → LeadsTo s t → length t.base ≡ length s.base + k → (k ≡ 0) ↔ IsMaximum s.matrix s.base → k ≡ 0 → IsMaximum a t.base
-last_phase a s t k sound e legal growth told none = subst (λ (b : Matrix). IsMaximum b t.base) e (same_size_maximum s.matrix s.base t.base (told.0 none) (lead_matching s t sound legal) (omega (arith, growth, none)))
+pub last_phase : (a : Matrix) (s t : State) (k : ℕ) → IsMatching s.matrix t.base → s.matrix ≡ a → length t.base ≡ length s.base + k → (k ≡ 0) ↔ IsMaximum s.matrix s.base → k ≡ 0 → IsMaximum a t.base
+last_phase a s t k matching e growth told none = subst (λ (b : Matrix). IsMaximum b t.base) e (same_size_maximum s.matrix s.base t.base (told.0 none) matching (omega (arith, growth, none)))
 
 -- the columns without a base mate, and one while phases go on, fall
-pub phases_fall : (a : Matrix) (s t : State) (k : ℕ) (more : Bool) → IsSound s → s.matrix ≡ a → LeadsTo s t → length t.base ≡ length s.base + k → (IsTrue more ↔ (0 < k)) → (cols a - length t.base) + (if more then 1 else 0) < (cols a - length s.base) + 1
-phases_fall a s t k true sound e legal growth told =
-    let le = matching_short s.matrix t.base (lead_matching s t sound legal) in
+pub phases_fall : (a : Matrix) (s t : State) (k : ℕ) (more : Bool) → IsMatching s.matrix t.base → s.matrix ≡ a → length t.base ≡ length s.base + k → (IsTrue more ↔ (0 < k)) → (cols a - length t.base) + (if more then 1 else 0) < (cols a - length s.base) + 1
+phases_fall a s t k true matching e growth told =
+    let le = matching_few s.matrix t.base matching in
     let same = ap (λ (b : Matrix). cols b) e in
     let some = told.0 refl in
     omega (arith, le, same, growth, some)
-phases_fall a s t k false sound e legal growth told = omega (arith, growth)
+phases_fall a s t k false matching e growth told = omega (arith, growth)
 
--- the matching that is left
+-- the matching that is left is as long as the base, since no root is flipped
+pub left_maximum : (a : Matrix) (s : State) (n : List Place) → IsRested s → IsMaximum a s.base → s.matrix ≡ a → IsMatching s.matrix n → length n ≡ length s.base + length s.flipped → IsMaximum a n
+left_maximum a s n rested max e matching size = same_size_maximum a s.base n max (subst (λ (b : Matrix). IsMatching b n) e matching) (let none = ap (λ (xs : List ℕ). length xs) rested.none_flipped in omega (arith, size, none))
 
-pub record IsCompleted (a : Matrix) (m n : List Place) : Type 0 where
-  pub maximum : IsMaximum a n
-  pub stay : StayMatched m n
-
-pub completed : (a : Matrix) (m n : List Place) (s : State) → IsMatching a m → LeadsTo (planted a m) s → IsRested s → IsMaximum a s.base → IsCurrent s n → IsMatching s.matrix n → length n ≡ length s.base + length s.flipped → IsCompleted a m n
-completed a m n s k legal rested max cur matching size = record {
-  maximum = same_size_maximum a s.base n max (subst (λ (b : Matrix). IsMatching b n) (leads_matrix (planted a m) s legal) matching) (let none = ap (λ (xs : List ℕ). length xs) rested.none_flipped in omega (arith, size, none));
-  stay = stay_on m s.base n (leads_stays (planted a m) s first legal) (current_stays s n (leads_sound (planted a m) s first legal) cur);
-}
-  where
-    first : IsSound (planted a m)
-    first = planted_sound a m k
+pub covers_on : (m n o : List Place) → Covers m n → Covers n o → Covers m o
+covers_on m n o h g = record { rows = λ r i. g.rows r (h.rows r i); cols = λ c i. g.cols c (h.cols c i) }
 
 -- Answers of code.
 

@@ -1,10 +1,10 @@
 //! The exchange of all paths of a phase.
 
 ghost use Rattle.std.specs.Prelude.{◌≡◌, ◌+◌, [], length};
+ghost use Rattle.forest_core.specs.Events.{LeadsTo};
 ghost use Rattle.forest_core.specs.State.{IsRested};
-ghost use Rattle.tree_graft.specs.Leading.{LeadsTo};
 
-use forest_core::Forest;
+use forest_core::{Forest, forests_are_rested, runs_join};
 
 /// Exchanges the path of each root with a leaf, and frees all rows. How many paths there were.
 pub fn augment(forest: &mut Forest) -> u32
@@ -15,6 +15,8 @@ pub fn augment(forest: &mut Forest) -> u32
     ensures growth { length forest.new.base ≡ length forest.old.base + result }
 {
     forest.is_sound();
+    runs_join();
+    forests_are_rested();
     let before = forest.base().size();
     for at in 0..forest.leaves().len() {
         let (root, _) = forest.leaves()[at];

@@ -1,16 +1,37 @@
 //! The search of a phase, level by level.
 
-ghost use Rattle.std.specs.Prelude.{◌≡◌, ◌⊎◌, ℕ, List, ◌++◌, false, IsTrue, IfOk, OnOk};
+ghost use Rattle.std.specs.Prelude.{◌≡◌, ◌⊎◌, ℕ, List, [], ◌++◌, false, IsTrue, IfOk, OnOk};
 ghost use Rattle.bip_defs.specs.Lists.{Among, Lists};
-ghost use Rattle.bip_defs.specs.Matching.{rows_of};
-ghost use Rattle.forest_core.specs.Events.{IsLegal};
+ghost use Rattle.bip_defs.specs.Matching.{cols_of, rows_of};
+ghost use Rattle.bip_defs.specs.Matrix.{IsEntry};
+ghost use Rattle.bip_graph.specs.Pairing.{IsMatchingOf};
+ghost use Rattle.forest_core.specs.Events.{Grows, IsLegal};
 ghost use Rattle.forest_core.specs.State.{InForest, IsRested, IsSettled, RootOf, roots_of};
 ghost use Rattle.sp_ids.specs.declared.events.Event.TheVariants.{Claim};
-ghost use Rattle.tree_graft.specs.Searching.{Grows, IsScanned, IsSearch};
+ghost use Rattle.tree_graft.specs.Searching.{IsScanned, IsSearch};
 
-use forest_core::Forest;
+use bip_graph::Matching;
+use forest_core::{Forest, claims_and_wins_grow, columns_have_one_root};
 use sp_ids::{Col, OutOfMemory, Row};
+use sp_pattern::Pattern;
 use std::alloc::Global;
+
+/// Whether a tree can grow at all: whether a column without a mate has an entry. Takes no memory.
+///
+/// Work: one look at each column.
+pub fn can_grow(pattern: &Pattern, matching: &Matching) -> bool
+    requires { IsMatchingOf pattern.now matching.now }
+    ensures {
+        result ≡ false → (r c : ℕ) → IsEntry pattern.now r c → Among c (cols_of matching.now.pairs) }
+{
+    for number in 0..pattern.cols() {
+        let col = Col(number);
+        if matching.row_of(col).is_none() && !pattern.rows_of(col).is_empty() {
+            return true;
+        }
+    }
+    false
+}
 
 /// Lets the trees grow until each has a leaf or has nothing left to claim.
 ///
@@ -23,6 +44,7 @@ pub fn grow(alloc: Global, forest: &mut Forest) -> Result<(), OutOfMemory>
     ensures scanned { OnOk result ((c : ℕ) → InForest forest.new c → IsScanned forest.new c) }
 {
     forest.is_sound();
+    claims_and_wins_grow();
     // The levels one after the other.
     let mut frontier = first_level(alloc, forest)?;
     let mut at: usize = 0;
@@ -41,7 +63,7 @@ fn first_level(alloc: Global, forest: &Forest) -> Result<Vec<Col>, OutOfMemory>
     let cols = forest.pattern().cols();
     let mut level = Vec::with_capacity(alloc, cols as usize)?;
     for number in 0..cols {
-        if forest.root_of(Col(number)).is_some() {
+        if forest.is_inside(Col(number)) {
             level.push(Col(number))?;
         }
     }
@@ -57,13 +79,14 @@ fn scan(forest: &mut Forest, frontier: &mut Vec<Col>, col: Col) -> Result<(), Ou
     ensures scanned { OnOk result (IsScanned forest.new col) }
     ensures further { OnOk result ((cs : List ℕ) × (frontier.new.items ≡ frontier.old.items ++ cs)) }
 {
-    let root = forest.root_of(col).unwrap_or(col);
-    if forest.leaf(root).is_some() {
+    claims_and_wins_grow();
+    let root = forest.root(col);
+    if forest.has_leaf(root) {
         return Ok(());
     }
     let rows = forest.pattern().rows_of(col);
     for row in rows {
-        if forest.holder(*row).is_none() && wins(forest, frontier, root, *row, col)? {
+        if !forest.is_claimed(*row) && wins(forest, frontier, root, *row, col)? {
             return Ok(());
         }
     }
@@ -85,9 +108,14 @@ fn wins(
     ensures grown { Grows forest.old forest.new }
     ensures search { OnOk result (IsSearch forest.new frontier.new.items) }
     ensures claimed { OnOk result (Among row (rows_of forest.new.claims)) }
-    ensures won { IfOk result (λ won. (IsTrue won × Among root (roots_of forest.new.leaves)) ⊎ ((won ≡ false) × (forest.new.leaves ≡ forest.old.leaves))) }
+    ensures won {
+        IfOk result (λ won. (IsTrue won × Among root (roots_of forest.new.leaves))
+            ⊎ ((won ≡ false) × (forest.new.leaves ≡ forest.old.leaves))) }
     ensures further { OnOk result ((cs : List ℕ) × (frontier.new.items ≡ frontier.old.items ++ cs)) }
 {
+    forest.is_sound();
+    claims_and_wins_grow();
+    columns_have_one_root();
     forest.claim(row, col);
     match forest.base_col(row) {
         Some(mate) => {

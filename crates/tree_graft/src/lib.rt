@@ -11,19 +11,20 @@ mod levels;
 #[cfg(test)]
 mod tests;
 
-ghost use Rattle.std.specs.Prelude.{◌≡◌, ◌↔◌, ℕ, ◌+◌, ◌≤◌, length, IfOk};
-ghost use Rattle.bip_defs.specs.Lists.{Among};
-ghost use Rattle.bip_defs.specs.Matching.{IsMatching, IsMaximum, cols_of, rows_of};
-ghost use Rattle.bip_defs.specs.Matrix.{cols};
-ghost use Rattle.forest_core.specs.Events.{IsLegal};
+ghost use Rattle.std.specs.Prelude.{◌≡◌, ◌↔◌, ◌+◌, ◌≤◌, length, IfOk};
+ghost use Rattle.bip_defs.specs.Matching.{Covers, IsMaximum};
+ghost use Rattle.bip_graph.specs.Pairing.{IsMatchingOf, IsMaximumOf};
+ghost use Rattle.forest_core.specs.Events.{IsLegal, LeadsTo};
 ghost use Rattle.forest_core.specs.State.{IsRested};
+ghost use Rattle.sp_ids.specs.Limits.{max_workers};
 ghost use Rattle.sp_ids.specs.declared.events.Event.TheVariants.{Done};
-ghost use Rattle.tree_graft.specs.Leading.{LeadsTo};
 
 use crate::augment::augment;
-use crate::levels::grow;
+use crate::levels::{can_grow, grow};
 use bip_graph::Matching;
-use forest_core::Forest;
+use forest_core::{
+    Forest, done_is_maximum, events_keep_covered, events_keep_sound, forests_are_rested, runs_join,
+};
 use sp_ids::OutOfMemory;
 use sp_pattern::Pattern;
 use sp_ports::Gate;
@@ -35,17 +36,18 @@ use std::thread::Threads;
 ///
 /// The forest must be rested, and there may be 1 to 64 workers. After a phase that gives 0 the claims stay; after any other
 /// nothing is claimed. Neither the number of workers nor the gate has an effect yet. Answers `OutOfMemory` where there is no
-/// memory for 4 bytes a column; the forest is then one that legal events lead to. Work: each column and each of its entries
-/// is looked at once at most, and three writes at most for each pair of a path.
+/// memory for 4 bytes a column; the forest is then one that legal events lead to. A forest without claims whose unmatched
+/// columns have no entries takes none. Work: each column and each of its entries is looked at once at most, and three writes
+/// at most for each pair of a path.
 pub fn phase<R: Threads + Sync, G: Gate>(
-    _rt: &R,
+    rt: &R,
     alloc: Global,
     forest: &mut Forest,
-    _workers: u32,
-    _gate: &G,
+    workers: u32,
+    gate: &G,
 ) -> Result<u32, OutOfMemory>
-    requires some { 1 ≤ _workers }
-    requires few { _workers ≤ 64 }
+    requires some { 1 ≤ workers }
+    requires few { workers ≤ max_workers }
     requires rested { IsRested forest.old }
     ensures legal { LeadsTo forest.old forest.new }
     ensures rested { IfOk result (λ _. IsRested forest.new) }
@@ -54,6 +56,12 @@ pub fn phase<R: Threads + Sync, G: Gate>(
     ensures done { IfOk result (λ k. k ≡ 0 → IsLegal forest.new Done) }
 {
     forest.is_sound();
+    events_keep_sound();
+    runs_join();
+    done_is_maximum();
+    if forest.claims().is_empty() && !can_grow(forest.pattern(), forest.base()) {
+        return Ok(0);
+    }
     grow(alloc, forest)?;
     if forest.leaves().is_empty() {
         return Ok(0);
@@ -64,8 +72,9 @@ pub fn phase<R: Threads + Sync, G: Gate>(
 /// A maximum matching, in which every row and column that was matched before is matched.
 ///
 /// The matching must be of the pattern's entries and sizes, and there may be 1 to 64 workers. Neither their number nor the
-/// gate has an effect yet. Answers `OutOfMemory` where there is no memory for 24 bytes a row and 21 a column; the matching is
-/// dropped then. Work: at most one pass over the entries for each phase, of which all but the last make the matching larger.
+/// gate has an effect yet. Answers `OutOfMemory` where there is no memory for 28 bytes a row and 21 a column; the matching is
+/// dropped then. Where each column that has an entry is matched it takes no memory. Work: at most one pass over the entries
+/// for each phase, of which all but the last make the matching larger.
 pub fn complete<R: Threads + Sync, G: Gate>(
     rt: &R,
     alloc: Global,
@@ -75,15 +84,19 @@ pub fn complete<R: Threads + Sync, G: Gate>(
     gate: &G,
 ) -> Result<Matching, OutOfMemory>
     requires some { 1 ≤ workers }
-    requires few { workers ≤ 64 }
-    requires rows { matching.rows ≡ pattern.now.rows }
-    requires cols { matching.cols ≡ cols pattern.now }
-    requires matching { IsMatching pattern.now matching.pairs }
-    ensures sizes { IfOk result (λ m. (m.rows ≡ matching.rows) × (m.cols ≡ matching.cols)) }
-    ensures maximum { IfOk result (λ m. IsMaximum pattern.now m.pairs) }
-    ensures rows_stay { IfOk result (λ m. (r : ℕ) → Among r (rows_of matching.pairs) → Among r (rows_of m.pairs)) }
-    ensures cols_stay { IfOk result (λ m. (c : ℕ) → Among c (cols_of matching.pairs) → Among c (cols_of m.pairs)) }
+    requires few { workers ≤ max_workers }
+    requires matching { IsMatchingOf pattern.now matching }
+    ensures maximum { IfOk result (λ m. IsMaximumOf pattern.now m) }
+    ensures covered { IfOk result (λ m. Covers matching.pairs m.pairs) }
 {
+    events_keep_sound();
+    events_keep_covered();
+    runs_join();
+    done_is_maximum();
+    forests_are_rested();
+    if !can_grow(pattern, &matching) {
+        return Ok(matching);
+    }
     let mut forest = Forest::new(alloc, pattern, matching)?;
     let mut grows = true;
     while grows {

@@ -1,8 +1,7 @@
 //! Small matrices, worked out by hand. Tables count rows and columns from 1.
 
-ghost use Rattle.std.specs.Prelude.{◌≡◌, IfOk};
-ghost use Rattle.bip_defs.specs.Matching.{IsMatching};
-ghost use Rattle.bip_defs.specs.Matrix.{cols};
+ghost use Rattle.std.specs.Prelude.{IfOk};
+ghost use Rattle.bip_graph.specs.Pairing.{IsMatchingOf};
 
 use crate::{complete, phase};
 use bip_graph::Matching;
@@ -37,12 +36,8 @@ fn pattern_of<R: Threads + Sync>(
 
 // Makes a pair, where the place is an entry and both are unmatched.
 fn pair_up(pattern: &Pattern, matching: &mut Matching, row: Row, col: Col)
-    requires rows { matching.old.rows ≡ pattern.now.rows }
-    requires cols { matching.old.cols ≡ cols pattern.now }
-    requires matching { IsMatching pattern.now matching.old.pairs }
-    ensures rows { matching.new.rows ≡ pattern.now.rows }
-    ensures cols { matching.new.cols ≡ cols pattern.now }
-    ensures matching { IsMatching pattern.now matching.new.pairs }
+    requires matching { IsMatchingOf pattern.now matching.old }
+    ensures matching { IsMatchingOf pattern.now matching.new }
 {
     if col.0 >= pattern.cols() || !pattern.has(row, col) {
         return;
@@ -63,9 +58,7 @@ fn paired<R: Abort + AllocGlobal>(
     pattern: &Pattern,
     pairs: &[(u32, u32)],
 ) -> Result<Matching, OutOfMemory>
-    ensures rows { IfOk result (λ m. m.rows ≡ pattern.now.rows) }
-    ensures cols { IfOk result (λ m. m.cols ≡ cols pattern.now) }
-    ensures matching { IfOk result (λ m. IsMatching pattern.now m.pairs) }
+    ensures matching { IfOk result (λ m. IsMatchingOf pattern.now m) }
 {
     let mut matching = Matching::empty(rt.alloc(), pattern.rows(), pattern.cols())?;
     for (row, col) in pairs {

@@ -1,14 +1,14 @@
 use Rattle.std.proofs.Common.{◌≡◌, ◌-◌, ◌+◌, false, length, if◌then◌else◌}
 use Rattle.bip_defs.specs.Matching.{IsMaximum}
 use Rattle.bip_defs.specs.Matrix.{cols}
-use Rattle.forest_core.specs.State.{IsRested, planted}
-use Rattle.tree_graft.specs.Leading.{LeadsTo}
+use Rattle.forest_core.specs.Events.{LeadsTo}
+use Rattle.forest_core.specs.State.{IsRested, new_forest}
 use Rattle.tree_graft.proofs.complete.Given as goal
 
 abbrev pub invariant-loop-grows : goal.invariant-loop-grows
 invariant-loop-grows g l = record {
   rested : IsRested l.forest;
-  legal : LeadsTo (planted l.pattern l.fn.matching.pairs) l.forest;
+  legal : LeadsTo (new_forest l.pattern l.fn.matching.pairs) l.forest;
   last : l.grows ≡ false → IsMaximum l.pattern l.forest.base;
 }
 

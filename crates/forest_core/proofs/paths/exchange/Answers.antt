@@ -43,5 +43,5 @@ loop-root-preserved c = record {
   exchanged = λ s e.
       let t = can_trace s _ _ _ _ _ _ _ _ e (c.loop-root.invariant.exchanged s e) c.loop-root-test.true c.root-item.is (rw c.number.ensures at c.at.ensures) in
       let path = c.trace.ensures.path s _ _ t in
-      exchanging_more s _ _ _ _ _ _ _ c.trace.new.path.items t c.loop-root-test.true c.root-item.is path (rw c.as_slice.ensures.value at c.flip.ensures.pairs) c.flip.ensures.sizes (c.flip.ensures.entries s.matrix t.exchanged.matching (rw c.as_slice.ensures.value (path_entries s e.sound _ c.trace.new.path.items path)));
+      exchanging_more s _ _ _ _ _ _ _ c.trace.new.path.items t c.loop-root-test.true c.root-item.is path (rw c.as_slice.ensures.value at c.flip.ensures.pairs) c.flip.ensures.sizes (c.flip.ensures.entries s.matrix t.exchanged.matching.matching (rw c.as_slice.ensures.value (path_entries s e.sound _ c.trace.new.path.items path)));
 }

@@ -5,6 +5,6 @@ use Rattle.forest_core.proofs.paths.exchange.Given as goal
 
 abbrev pub invariant-loop-root : goal.invariant-loop-root
 invariant-loop-root l = record {
-  room : length l.holders ≤ vec_capacity l.path;
-  exchanged : (s : State) → CanExchange s l.fn.base l.holders l.leaf_of l.roots → IsExchanged s (take l.root-index l.roots) l.base;
+  room : length l.claimed.holders ≤ vec_capacity l.path;
+  exchanged : (s : State) → CanExchange s l.fn.base l.claimed.holders l.leaf_of l.roots → IsExchanged s (take l.root-index l.roots) l.base;
 }

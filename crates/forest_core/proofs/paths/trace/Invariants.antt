@@ -6,9 +6,9 @@ use Rattle.forest_core.proofs.paths.trace.Given as goal
 
 abbrev pub invariant-loop-row : goal.invariant-loop-row
 invariant-loop-row l = record {
-  room : length l.holders ≤ vec_capacity l.path;
-  climbing : (s : State) (xs : List ℕ) (x : ℕ) → CanTrace s xs x l.base l.holders l.fn.leaf → IsClimbing s x l.col l.path.items;
+  room : length l.claimed.holders ≤ vec_capacity l.path;
+  climbing : (s : State) (xs : List ℕ) (x : ℕ) → CanTrace s xs x l.base l.claimed.holders l.fn.leaf → IsClimbing s x l.col l.path.items;
 }
 
 abbrev pub decreases-loop-row : goal.decreases-loop-row
-decreases-loop-row l = length l.holders - length l.path.items
+decreases-loop-row l = length l.claimed.holders - length l.path.items

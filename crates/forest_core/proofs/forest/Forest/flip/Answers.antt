@@ -2,7 +2,7 @@ use Rattle.std.proofs.Common.{ℕ, ◌<◌, ap, arith, set, true, length, rules,
 use Rattle.bip_defs.specs.Matrix.{cols}
 use Rattle.sp_ids.specs.declared.events.Event.TheVariants.{Flip}
 use Rattle.forest_core.specs.Events.{IsLegal}
-use Rattle.forest_core.specs.Fields.{state_of}
+use Rattle.forest_core.specs.Fields.{state_of, tables_of}
 use Rattle.forest_core.specs.State.{State}
 use Rattle.forest_core.proofs.Storing.{flip_room, root_with_leaf, stored_flip_at}
 use Rattle.forest_core.proofs.forest.Forest.flip.Goals as goal
@@ -26,6 +26,6 @@ pub invariant_of-self : goal.invariant_of-self
 invariant_of-self c =
     let legal = subst (λ (s : State). IsLegal s (Flip c.args.root)) (sym c.self.view_is) c.requires in
     let room = c.self.invariant.1 in (
-      stored_flip_at (state_of c.self.inside) _ _ _ _ _ _ c.args.root _ c.self.invariant.0 legal c.put.ensures.items (ap (λ (i : ℕ). set c.self.inside.marks.items i true) c.number.ensures),
-      record { claims = room.claims; path = room.path; leaves = room.leaves; flipped = (let le = room.flipped in let more = c.put.ensures.capacity in omega (arith, le, more)) },
+      stored_flip_at (state_of c.self.inside) _ (tables_of c.self.inside) _ c.args.root _ c.self.invariant.0 legal c.put.ensures.items (ap (λ (i : ℕ). set c.self.inside.marks.items i true) c.number.ensures),
+      record { claims = room.claims; claim_roots = room.claim_roots; path = room.path; leaves = room.leaves; flipped = (let le = room.flipped in let more = c.put.ensures.capacity in omega (arith, le, more)) },
     )

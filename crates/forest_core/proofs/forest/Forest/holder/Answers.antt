@@ -1,8 +1,9 @@
-use Rattle.forest_core.proofs.Storing.{table_found, table_missed}
+use Rattle.std.proofs.Common.{subst, sym}
+use Rattle.forest_core.proofs.Storing.{if_found, if_missed}
 use Rattle.forest_core.proofs.forest.Forest.holder.Goals as goal
 
-pub returns-in-Some-clause-found : goal.returns-in-Some-clause-found
-returns-in-Some-clause-found c = rw (← c.self.view_is) (table_found _ _ _ _ c.self.invariant.0.held (rw c.number.ensures at c.in-Some.ensures))
+pub returns-clause-found : goal.returns-clause-found
+returns-clause-found c = rw (← c.self.view_is) (if_found _ _ _ _ c.self.invariant.0.held c.holder.ensures)
 
-pub returns-in-None-clause-none : goal.returns-in-None-clause-none
-returns-in-None-clause-none c = rw (← c.self.view_is) (table_missed _ _ _ c.self.invariant.0.held (rw c.number.ensures at c.in-None.ensures))
+pub returns-clause-none : goal.returns-clause-none
+returns-clause-none c = rw (← c.self.view_is) (if_missed _ _ _ _ c.self.invariant.0.held c.holder.ensures)

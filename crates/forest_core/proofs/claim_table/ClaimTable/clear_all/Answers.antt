@@ -1,0 +1,14 @@
+use Rattle.std.proofs.Common.{◌≡◌, ◌∙◌, ap, length, refl, replicate, rules}
+use Rattle.forest_core.specs.Tables.{holder_in}
+use Rattle.forest_core.specs.declared.claim_table.RowClaim.{RowClaim}
+use Rattle.forest_core.proofs.Tabling.{read_none, seen_new}
+use Rattle.forest_core.proofs.Tracing.{written_back}
+use Rattle.forest_core.proofs.claim_table.ClaimTable.clear_all.Goals as goal
+
+pub returns-clause-none : goal.returns-clause-none
+returns-clause-none c = λ r.
+    let none : RowClaim = record { holder = 4294967295; root = 4294967295 } in
+    let filled : c.fill.new.self ≡ replicate (length c.as_mut_slice.result.now) none = search rules in
+    let long : c.self.inside.rows.len ≡ length c.self.inside.rows.items = search rules in
+    let same : length c.fill.new.self ≡ length c.self.inside.rows.items = c.fill.ensures.len ∙ ap length c.as_mut_slice.ensures.value in
+    seen_new (λ (w : RowClaim). holder_in w.holder) _ none _ r (read_none 4294967295 refl) (written_back c.self.inside.rows.items c.fill.new.self c.self.inside.rows.len same long ∙ filled)

@@ -1,0 +1,7 @@
+use Rattle.std.proofs.Common.{ℕ}
+use Rattle.forest_core.specs.State.{RootOf}
+use Rattle.forest_core.proofs.Tabling.{IsMadeTo}
+use Rattle.forest_core.proofs.forest.Forest.col_trees.Given as goal
+
+abbrev pub invariant-loop-col : goal.invariant-loop-col
+invariant-loop-col l = IsMadeTo (λ (k v : ℕ). RootOf l.self.base l.self.claims v k) l.col l.list.items

@@ -1,0 +1,7 @@
+use Rattle.std.proofs.Common.{ℕ}
+use Rattle.bip_defs.specs.Lists.{Among}
+use Rattle.forest_core.proofs.Tabling.{IsMadeTo}
+use Rattle.forest_core.proofs.forest.Forest.root_leaves.Given as goal
+
+abbrev pub invariant-loop-col : goal.invariant-loop-col
+invariant-loop-col l = IsMadeTo (λ (k v : ℕ). Among (k, v) l.self.leaves) l.col l.list.items

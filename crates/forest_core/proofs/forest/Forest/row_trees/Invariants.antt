@@ -1,0 +1,7 @@
+use Rattle.std.proofs.Common.{ℕ}
+use Rattle.forest_core.specs.State.{IsRootOfRow}
+use Rattle.forest_core.proofs.Tabling.{IsMadeTo}
+use Rattle.forest_core.proofs.forest.Forest.row_trees.Given as goal
+
+abbrev pub invariant-loop-row : goal.invariant-loop-row
+invariant-loop-row l = IsMadeTo (λ (k v : ℕ). IsRootOfRow l.self.base l.self.claims v k) l.row l.list.items

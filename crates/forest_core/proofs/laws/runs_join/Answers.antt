@@ -1,0 +1,5 @@
+use Rattle.forest_core.proofs.Growing.{leads_event, leads_here, leads_matrix, leads_on, runs_on}
+use Rattle.forest_core.proofs.laws.runs_join.Goals as goal
+
+pub returns : goal.returns
+returns c = record { here = leads_here; event = leads_event; runs = runs_on; on = leads_on; matrix = leads_matrix }
