@@ -403,7 +403,14 @@ fn lists_by_row_and_by_column(rt: HostRuntime) -> Result<(), Fail> {
 fn a_rebuild_with_few_claims(rt: HostRuntime) -> Result<(), Fail> {
     let places = [(1, 1), (2, 1), (2, 2), (3, 2), (4, 2)];
     let pattern = pattern_of(&rt, 40, 3, &places)?;
-    let steps = [Claim(2, 1), Claim(3, 2), Win(1, 3), Flip(1), Rebuild, Claim(40, 3)];
+    let steps = [
+        Claim(2, 1),
+        Claim(3, 2),
+        Win(1, 3),
+        Flip(1),
+        Rebuild,
+        Claim(40, 3),
+    ];
     let (forest, made) = after(&rt, &pattern, &[(2, 2)], &steps)?;
     assert_eq!(rt; made, 5);
     assert!(rt; forest.claims().is_empty());
