@@ -21,10 +21,8 @@ pub fn events_keep_sound()
 /// Runs one after the other are a run, over the same matrix.
 pub fn runs_join()
     ensures here { (s : State) → LeadsTo s s }
-    ensures event {
-        (s t u : State) (e : Event) → LeadsTo s t → IsLegal t e → Becomes t e u → LeadsTo s u }
-    ensures runs {
-        (s t u : State) (es ds : List Event) → Runs s es t → Runs t ds u → Runs s (es ++ ds) u }
+    ensures event { (s t u : State) (e : Event) → LeadsTo s t → IsLegal t e → Becomes t e u → LeadsTo s u }
+    ensures runs { (s t u : State) (es ds : List Event) → Runs s es t → Runs t ds u → Runs s (es ++ ds) u }
     ensures on { (s t u : State) → LeadsTo s t → LeadsTo t u → LeadsTo s u }
     ensures matrix { (s t : State) → LeadsTo s t → t.matrix ≡ s.matrix }
 {}
@@ -40,10 +38,8 @@ pub fn events_keep_covered()
 pub fn claims_and_wins_grow()
     ensures here { (s : State) → Grows s s }
     ensures on { (s t u : State) → Grows s t → Grows t u → Grows s u }
-    ensures claim {
-        (s t : State) (r c : ℕ) → IsLegal s (Claim r c) → Becomes s (Claim r c) t → Grows s t }
-    ensures win {
-        (s t : State) (x r : ℕ) → IsLegal s (Win x r) → Becomes s (Win x r) t → Grows s t }
+    ensures claim { (s t : State) (r c : ℕ) → IsLegal s (Claim r c) → Becomes s (Claim r c) t → Grows s t }
+    ensures win { (s t : State) (x r : ℕ) → IsLegal s (Win x r) → Becomes s (Win x r) t → Grows s t }
     ensures runs { (s t : State) (es : List Event) → AreClaimsAndWins es → Runs s es t → Grows s t }
 {}
 
@@ -52,9 +48,8 @@ pub fn claims_and_wins_grow()
 pub fn claims_are_in_the_forest()
     ensures rows_differ { (s : State) → IsSound s → AreDistinct (rows_of s.claims) }
     ensures few { (s : State) → IsSound s → length s.claims ≤ s.matrix.rows }
-    ensures in_range {
-        (s : State) (r c : ℕ) → IsSound s → Among (r, c) s.claims
-            → (r < s.matrix.rows) × (c < cols s.matrix) }
+    ensures in_range { (s : State) (r c : ℕ) → IsSound s → Among (r, c) s.claims
+        → (r < s.matrix.rows) × (c < cols s.matrix) }
     ensures inside { (s : State) (r c : ℕ) → IsSound s → Among (r, c) s.claims → InForest s c }
 {}
 
@@ -62,54 +57,43 @@ pub fn claims_are_in_the_forest()
 /// has one.
 pub fn columns_have_one_root()
     ensures some { (s : State) (c : ℕ) → IsSound s → InForest s c → (x : ℕ) × RootOf s.base s.claims x c }
-    ensures one {
-        (s : State) (x y c : ℕ) → IsSound s → RootOf s.base s.claims x c
-            → RootOf s.base s.claims y c → x ≡ y }
-    ensures in_range {
-        (s : State) (x c : ℕ) → IsSound s → RootOf s.base s.claims x c → c < cols s.matrix
-            → x < cols s.matrix }
-    ensures unmatched {
-        (s : State) (x c : ℕ) → RootOf s.base s.claims x c → ¬ Among x (cols_of s.base) }
-    ensures inside {
-        (s : State) (x c : ℕ) → RootOf s.base s.claims x c → c < cols s.matrix → InForest s c }
+    ensures one { (s : State) (x y c : ℕ) → IsSound s → RootOf s.base s.claims x c
+        → RootOf s.base s.claims y c → x ≡ y }
+    ensures in_range { (s : State) (x c : ℕ) → IsSound s → RootOf s.base s.claims x c → c < cols s.matrix
+        → x < cols s.matrix }
+    ensures unmatched { (s : State) (x c : ℕ) → RootOf s.base s.claims x c → ¬ Among x (cols_of s.base) }
+    ensures inside { (s : State) (x c : ℕ) → RootOf s.base s.claims x c → c < cols s.matrix → InForest s c }
 {}
 
 /// A sound forest has one current matching, up to the order of its pairs: it is a matching of entries, larger than the base
 /// by the number of flipped roots. In a run from a new forest it has grown with each flip, and with no other event.
 pub fn current_is_a_matching()
     ensures some { (s : State) → IsSound s → (m : List Place) × IsCurrent s m }
-    ensures matching {
-        (s : State) (m : List Place) → IsSound s → IsCurrent s m → IsMatching s.matrix m }
-    ensures size {
-        (s : State) (m : List Place) → IsSound s → IsCurrent s m
-            → length m ≡ length s.base + length s.flipped }
-    ensures grown {
-        (a : Matrix) (m n : List Place) (es : List Event) (s : State) → IsMatching a m
-            → Runs (new_forest a m) es s → IsCurrent s n → length n ≡ length m + flips es }
+    ensures matching { (s : State) (m : List Place) → IsSound s → IsCurrent s m → IsMatching s.matrix m }
+    ensures size { (s : State) (m : List Place) → IsSound s → IsCurrent s m
+        → length m ≡ length s.base + length s.flipped }
+    ensures grown { (a : Matrix) (m n : List Place) (es : List Event) (s : State) → IsMatching a m
+        → Runs (new_forest a m) es s → IsCurrent s n → length n ≡ length m + flips es }
 {}
 
 /// Where nothing is left to be claimed and the forest is settled, the current matching is maximum, and the columns in the
 /// forest are the horizontal columns, a Hall set.
 pub fn done_is_maximum()
-    ensures witness {
-        (s : State) (m : List Place) (w : List ℕ) → IsSound s → IsSettled s → IsLegal s Done
-            → IsCurrent s m → Lists (InForest s) w → IsWitness s.matrix m w }
-    ensures base {
-        (s : State) → IsSound s → IsSettled s → IsLegal s Done → s.flipped ≡ []
-            → IsMaximum s.matrix s.base }
+    ensures witness { (s : State) (m : List Place) (w : List ℕ) → IsSound s → IsSettled s → IsLegal s Done
+        → IsCurrent s m → Lists (InForest s) w → IsWitness s.matrix m w }
+    ensures base { (s : State) → IsSound s → IsSettled s → IsLegal s Done → s.flipped ≡ []
+        → IsMaximum s.matrix s.base }
 {}
 
 /// A new forest is rested, and a settled forest is rested once its base matching is renewed.
 pub fn forests_are_rested()
     ensures new { (a : Matrix) (m : List Place) → IsRested (new_forest a m) }
-    ensures graft {
-        (s t : State) → IsSound s → IsSettled s → Becomes s Graft t → IsRested t }
+    ensures graft { (s t : State) → IsSound s → IsSettled s → Becomes s Graft t → IsRested t }
     ensures rebuild { (s t : State) → Becomes s Rebuild t → IsRested t }
 {}
 
 /// Where there are no leaves, a forest is settled exactly where no root can win one.
 pub fn settled_without_wins()
-    ensures {
-        (s : State) → IsSound s → s.leaves ≡ []
-            → IsSettled s ↔ ((x r : ℕ) → ¬ IsLegal s (Win x r)) }
+    ensures { (s : State) → IsSound s → s.leaves ≡ []
+        → IsSettled s ↔ ((x r : ℕ) → ¬ IsLegal s (Win x r)) }
 {}

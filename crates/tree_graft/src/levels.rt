@@ -21,8 +21,7 @@ use std::alloc::Global;
 /// Work: one look at each column.
 pub fn can_grow(pattern: &Pattern, matching: &Matching) -> bool
     requires { IsMatchingOf pattern.now matching.now }
-    ensures {
-        result ≡ false → (r c : ℕ) → IsEntry pattern.now r c → Among c (cols_of matching.now.pairs) }
+    ensures { result ≡ false → (r c : ℕ) → IsEntry pattern.now r c → Among c (cols_of matching.now.pairs) }
 {
     for number in 0..pattern.cols() {
         let col = Col(number);
@@ -108,9 +107,8 @@ fn wins(
     ensures grown { Grows forest.old forest.new }
     ensures search { OnOk result (IsSearch forest.new frontier.new.items) }
     ensures claimed { OnOk result (Among row (rows_of forest.new.claims)) }
-    ensures won {
-        IfOk result (λ won. (IsTrue won × Among root (roots_of forest.new.leaves))
-            ⊎ ((won ≡ false) × (forest.new.leaves ≡ forest.old.leaves))) }
+    ensures won { IfOk result (λ won. (IsTrue won × Among root (roots_of forest.new.leaves))
+        ⊎ ((won ≡ false) × (forest.new.leaves ≡ forest.old.leaves))) }
     ensures further { OnOk result ((cs : List ℕ) × (frontier.new.items ≡ frontier.old.items ++ cs)) }
 {
     forest.is_sound();

@@ -18,5 +18,5 @@ pub returns-clause-leaves : goal.returns-clause-leaves
 returns-clause-leaves c =
     let s = c.args.self.now in
     made_all (λ (k v : ℕ). Among {X = Place} (k, v) s.leaves) c.loop-col.col c.loop-col.list.items c.loop-col.invariant (λ k v h.
-        let lt = (leaf_in_range s c.is_sound.ensures k v h).0 in
-        omega (arith, lt, c.loop-col-test.false, c.cols-cols.ensures, ap (λ (a : Matrix). cols a) c.pattern.ensures))
+    let lt = (leaf_in_range s c.is_sound.ensures k v h).0 in
+    omega (arith, lt, c.loop-col-test.false, c.cols-cols.ensures, ap (λ (a : Matrix). cols a) c.pattern.ensures))

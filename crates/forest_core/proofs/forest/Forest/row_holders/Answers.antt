@@ -18,5 +18,5 @@ pub returns-clause-holders : goal.returns-clause-holders
 returns-clause-holders c =
     let s = c.args.self.now in
     made_all (λ (k v : ℕ). Among {X = Place} (k, v) s.claims) c.loop-row.row c.loop-row.list.items c.loop-row.invariant (λ k v h.
-        let lt = (claim_in_range s c.is_sound.ensures k v h).0 in
-        omega (arith, lt, c.loop-row-test.false, c.rows-rows.ensures, ap (λ (a : Matrix). a.rows) c.pattern.ensures))
+    let lt = (claim_in_range s c.is_sound.ensures k v h).0 in
+    omega (arith, lt, c.loop-row-test.false, c.rows-rows.ensures, ap (λ (a : Matrix). a.rows) c.pattern.ensures))

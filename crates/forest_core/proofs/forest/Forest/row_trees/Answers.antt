@@ -20,5 +20,5 @@ pub returns-clause-roots : goal.returns-clause-roots
 returns-clause-roots c =
     let s = c.args.self.now in
     made_all (λ (k v : ℕ). IsRootOfRow s.base s.claims v k) c.loop-row.row c.loop-row.list.items c.loop-row.invariant (λ k v t.
-        let lt = (claim_in_range s c.is_sound.ensures k t.0 t.1).0 in
-        omega (arith, lt, c.loop-row-test.false, c.rows-rows.ensures, ap (λ (a : Matrix). a.rows) c.pattern.ensures))
+    let lt = (claim_in_range s c.is_sound.ensures k t.0 t.1).0 in
+    omega (arith, lt, c.loop-row-test.false, c.rows-rows.ensures, ap (λ (a : Matrix). a.rows) c.pattern.ensures))
