@@ -34,7 +34,7 @@ WEIGHTS = INTEGER + "2 2 4\n1 1 3\n1 2 5\n2 1 4\n2 2 1\n"
 # words, input, status, how the text on standard output begins
 JOBS = [
     (["rank"], THREE_PARTS, 0, "matrix 4 4 7\nrank 3\nhorizontal 1 2\n"),
-    (["analyse", "--engine", "graft", "--workers", "2", "--order", "--pairs"], THREE_PARTS, 0, "btf 1\nmatrix 4 4 7\nrank 3\n"),
+    (["analyse", "--engine", "graft", "--order", "--pairs"], THREE_PARTS, 0, "btf 1\nmatrix 4 4 7\nrank 3\n"),
     (["analyse", "--engine", "pf", "--order", "--pairs"], THREE_PARTS, 0, "btf 1\nmatrix 4 4 7\nrank 3\n"),
     (["analyse"], DIAGONAL, 0, "btf 1\nmatrix 6000 6000 6000\nrank 6000\n"),
     (["diagonal"], WEIGHTS, 0, "diagonal 2 9\n2 1 4\n1 2 5\n"),
