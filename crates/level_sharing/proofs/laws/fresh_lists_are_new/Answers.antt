@@ -1,0 +1,33 @@
+use Rattle.std.proofs.Common.{ℕ, List}
+use Rattle.claim_words.specs.Board.{Board, Words}
+use Rattle.claim_words.specs.Settles.{SettlesAll}
+use Rattle.claim_words.specs.WorkerState.{HaveGrown, WorkerState, fresh_claims_of, fresh_wins_of, listed_by_workers, seats_of}
+use Rattle.level_sharing.specs.Agreeing.{Agree}
+use Rattle.level_sharing.proofs.Counting.{IsExtended, WordLaws, fresh_new, words_extended}
+use Rattle.level_sharing.proofs.Members.{had_claims, had_wins, new_claims, new_wins}
+use Rattle.level_sharing.proofs.laws.fresh_lists_are_new.Goals as goal
+
+laws : goal.After-fresh_lists_add_up → WordLaws
+laws c = record {
+  stands = c.listed_words_stand.ensures.stands;
+  from = c.listed_words_stand.ensures.from;
+  listed = c.times_add_up.ensures.listed;
+  some = c.times_add_up.ensures.some;
+  distinct = c.times_add_up.ensures.distinct;
+}
+
+rows_grow : (c : goal.After-fresh_lists_add_up) (b : Board) (words : Words) (before after : List WorkerState) (claims leaves : List (ℕ × ℕ)) (a : Agree b before claims leaves) → HaveGrown before after → SettlesAll b words (seats_of after)
+    → IsExtended b.rows a.shows.words.rows words.rows (listed_by_workers before).claims (listed_by_workers after).claims (fresh_claims_of after)
+rows_grow c b words before after claims leaves a g s = record { at_first = a.shows.listed.claims; at_last = s.claims; adds = λ i. c.fresh_lists_add_up.ensures.claims before after i g; had = had_claims before after g; new = new_claims before after g }
+
+roots_grow : (c : goal.After-fresh_lists_add_up) (b : Board) (words : Words) (before after : List WorkerState) (claims leaves : List (ℕ × ℕ)) (a : Agree b before claims leaves) → HaveGrown before after → SettlesAll b words (seats_of after)
+    → IsExtended b.roots a.shows.words.roots words.roots (listed_by_workers before).wins (listed_by_workers after).wins (fresh_wins_of after)
+roots_grow c b words before after claims leaves a g s = record { at_first = a.shows.listed.wins; at_last = s.wins; adds = λ i. c.fresh_lists_add_up.ensures.wins before after i g; had = had_wins before after g; new = new_wins before after g }
+
+pub returns : goal.returns
+returns c = record {
+  claims = λ b words before after claims leaves a g s. fresh_new (laws c) _ _ _ _ _ _ _ (rows_grow c b words before after claims leaves a g s) a.shows.rows;
+  wins = λ b words before after claims leaves a g s. fresh_new (laws c) _ _ _ _ _ _ _ (roots_grow c b words before after claims leaves a g s) a.shows.roots;
+  rows = λ b words before after claims leaves a g s. words_extended (laws c) _ _ _ _ _ _ _ (rows_grow c b words before after claims leaves a g s) a.shows.rows;
+  roots = λ b words before after claims leaves a g s. words_extended (laws c) _ _ _ _ _ _ _ (roots_grow c b words before after claims leaves a g s) a.shows.roots;
+}

@@ -1,0 +1,39 @@
+//! Laws on boards and workers that agree with a forest.
+
+ghost use Rattle.std.specs.Prelude.{ℕ, List, ◌++◌, map};
+ghost use Rattle.claim_words.specs.Board.{Board, Words};
+ghost use Rattle.claim_words.specs.Settles.{SettlesAll};
+ghost use Rattle.claim_words.specs.WorkerState.{HaveGrown, WorkerState, fresh_claims_of, fresh_wins_of, seats_of, settled};
+ghost use Rattle.level_sharing.specs.Agreeing.{Agree, AreNew, HoldThese, Shows};
+
+use claim_words::{fresh_lists_add_up, listed_words_stand, times_add_up};
+
+/// Board and workers agreed with a forest, and since then each worker's seat lists what is in its fresh lists beside what it
+/// listed before. Then the fresh claims are of rows that were unclaimed, each once, the fresh wins of roots without a leaf,
+/// each once, and the words hold the old claims and leaves with the fresh ones and nothing else.
+pub fn fresh_lists_are_new()
+    ensures claims { (b : Board) (words : Words) (before after : List WorkerState)
+        (claims leaves : List (ℕ × ℕ)) → Agree b before claims leaves → HaveGrown before after
+        → SettlesAll b words (seats_of after) → AreNew claims (fresh_claims_of after) }
+    ensures wins { (b : Board) (words : Words) (before after : List WorkerState)
+        (claims leaves : List (ℕ × ℕ)) → Agree b before claims leaves → HaveGrown before after
+        → SettlesAll b words (seats_of after) → AreNew leaves (fresh_wins_of after) }
+    ensures rows { (b : Board) (words : Words) (before after : List WorkerState)
+        (claims leaves : List (ℕ × ℕ)) → Agree b before claims leaves → HaveGrown before after
+        → SettlesAll b words (seats_of after)
+        → HoldThese (claims ++ fresh_claims_of after) words.rows }
+    ensures roots { (b : Board) (words : Words) (before after : List WorkerState)
+        (claims leaves : List (ℕ × ℕ)) → Agree b before claims leaves → HaveGrown before after
+        → SettlesAll b words (seats_of after)
+        → HoldThese (leaves ++ fresh_wins_of after) words.roots }
+{
+    listed_words_stand();
+    times_add_up();
+    fresh_lists_add_up();
+}
+
+/// Workers that show the claims and the leaves of a forest agree with it once they are settled.
+pub fn settled_workers_agree()
+    ensures { (b : Board) (ws : List WorkerState) (claims leaves : List (ℕ × ℕ))
+        → Shows b ws claims leaves → Agree b (map settled ws) claims leaves }
+{}
