@@ -1,5 +1,5 @@
 -- When a board of words and its workers agree with the claims and the leaves of a forest.
-use Rattle.std.specs.Prelude.{◌≡◌, ◌↔◌, ℕ, List, [], ◌++◌, Option, Some, map}
+use Rattle.std.specs.Prelude.{◌≡◌, ◌↔◌, ℕ, List, [], Option, Some, map}
 use Rattle.bip_defs.specs.Lists.{Among, AreDistinct}
 use Rattle.claim_words.specs.Board.{Board, Words, held}
 use Rattle.claim_words.specs.Settles.{SettlesAll}
