@@ -1,7 +1,7 @@
 //! The start and every engine, on each matrix and on its transpose.
 
 ghost use Rattle.std.specs.Prelude.{IfOk};
-ghost use Rattle.bip_graph.specs.Pairing.{IsMatchingOf};
+ghost use Rattle.bip_graph.specs.Matching.{IsMatchingOf};
 
 use crate::small::{are, has_pairs, matching_of};
 use crate::worked::{Worked, matrices, pairs_in, pattern_from, seen};

@@ -1,7 +1,7 @@
 //! Small matrices and matchings, made of places that count rows and columns from 1, as files do.
 
 ghost use Rattle.std.specs.Prelude.{◌≡◌, ◌≢◌, pos, IfOk};
-ghost use Rattle.bip_graph.specs.Pairing.{IsMatchingOf};
+ghost use Rattle.bip_graph.specs.Matching.{IsMatchingOf};
 ghost use Rattle.sp_ids.specs.declared.triples.Field.TheVariants.{Integer};
 
 use bip_graph::Matching;

@@ -2,13 +2,13 @@
 use Rattle.std.proofs.Common.{◌≡◌, ℕ, ◌+◌, ◌<◌, ◌≤◌, List, [], ◌∷◌, ◌++◌, length, refl, subst, inl, inr, ⊎_elim, arith, length-append, le_antisymm}
 use Rattle.std.proofs.Math.Decide.{ℕ_discrete}
 use Rattle.bip_defs.specs.Lists.{Among, AreDistinct, Lists}
-use Rattle.bip_defs.specs.Matching.{IsHallSet, IsMaximum, IsRank, turned}
+use Rattle.bip_defs.specs.Matching.{IsHallSet, IsMaximum, IsRank, transposed_places}
 use Rattle.bip_defs.specs.Matrix.{IsEntry, IsTransposeOf, Matrix, Place, cols, neighbours, transpose, upto}
 use Rattle.bip_defs.specs.Parts.{ArePartsOf, IsHorizontalCol, IsHorizontalRow, IsSquareCol, IsSquareRow, IsVerticalCol, IsVerticalRow, Parts}
 use Rattle.bip_defs.proofs.Reaching.{reached_hall, reached_horizontal, reached_somehow}
 use Rattle.bip_defs.proofs.Sets.{among_either, among_left, among_right, col_pair, entry_col, few_distinct, lists_same, lists_unique, neighbours_lists, number_among, one_col, one_row, pigeonhole, rising_distinct, row_pair, upto_length, upto_lists}
 use Rattle.bip_defs.proofs.Square.{cols_apart, rows_apart, square_col_mate, square_col_matched, square_row_mate, square_row_matched}
-use Rattle.bip_defs.proofs.Turned.{transpose_cols, transpose_is, turned_maximum, turned_length, vertical_col_turned, turned_vertical_col, vertical_turned, turned_vertical}
+use Rattle.bip_defs.proofs.Transposed.{transpose_cols, transpose_is, turned_maximum, turned_length, vertical_col_turned, turned_vertical_col, vertical_turned, turned_vertical}
 
 -- an equation of numbers that can't fail holds
 stable : (x y : ℕ) → ¬ ¬ (x ≡ y) → x ≡ y
@@ -35,7 +35,7 @@ vertical_count a m w cs max l h = omega (
   arith,
   turned_length m,
   transpose_cols a,
-  horizontal_count (transpose a) (turned m) w cs (turned_maximum a (transpose a) m t max)
+  horizontal_count (transpose a) (transposed_places m) w cs (turned_maximum a (transpose a) m t max)
       (lists_same (IsVerticalRow a) (IsHorizontalCol (transpose a)) w (λ r k. vertical_turned a (transpose a) r t k) (λ r k. turned_vertical a (transpose a) r t k) l)
       (lists_same (IsVerticalCol a) (IsHorizontalRow (transpose a)) cs (λ c k. vertical_col_turned a (transpose a) c t k) (λ c k. turned_vertical_col a (transpose a) c t k) h),
 )

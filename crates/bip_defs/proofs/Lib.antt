@@ -16,6 +16,6 @@ pub mod Small
 pub mod SmallForms
 pub mod Square
 pub mod Together
+pub mod Transposed
 pub mod Triangular
-pub mod Turned
 pub mod Uniqueness

@@ -1,14 +1,14 @@
 -- The six parts from two finished searches, one from the unmatched columns and one from the unmatched rows.
 use Rattle.std.proofs.Common.{ℕ, ◌<◌, List, sym, subst}
 use Rattle.bip_defs.specs.Lists.{Among, Lists}
-use Rattle.bip_defs.specs.Matching.{IsMatching, turned}
+use Rattle.bip_defs.specs.Matching.{IsMatching, transposed_places}
 use Rattle.bip_defs.specs.Matrix.{IsEntry, Matrix, Place, cols, transpose}
 use Rattle.bip_defs.specs.Parts.{ArePartsOf, IsHorizontalCol, IsHorizontalRow, IsSquareCol, IsSquareRow, IsVerticalCol, IsVerticalRow, Parts}
 use Rattle.bip_defs.specs.Searches.{AreReadOff}
 use Rattle.bip_defs.specs.Walks.{IsReached}
 use Rattle.bip_defs.proofs.Reaching.{reached_horizontal}
 use Rattle.bip_defs.proofs.Sets.{lists_same}
-use Rattle.bip_defs.proofs.Turned.{transpose_is, turned_lists, turned_matching}
+use Rattle.bip_defs.proofs.Transposed.{transpose_is, turned_lists, turned_matching}
 
 pub parts_read_off : (a : Matrix) (w v : List ℕ) (p : Parts) → Lists (IsHorizontalCol a) w → Lists (IsVerticalRow a) v → AreReadOff a w v p → ArePartsOf a p
 parts_read_off a w v p hc vr off = record {
@@ -32,8 +32,8 @@ parts_read_off a w v p hc vr off = record {
     vc : Lists (IsVerticalCol a) p.vertical_cols
     vc = lists_same (λ c. (r : ℕ) × Among r v × IsEntry a r c) (IsVerticalCol a) p.vertical_cols (λ c h. (h.0, vr.sound h.0 h.1, h.2)) (λ c h. (h.0, vr.complete h.0 h.1, h.2)) off.vertical_cols
 
-pub reached_rows_vertical : (a : Matrix) (m : List Place) (v : List ℕ) → IsMatching a m → IsReached (transpose a) (turned m) v → Lists (IsVerticalRow a) v
-reached_rows_vertical a m v k reached = turned_lists a (transpose a) v (transpose_is a) (reached_horizontal (transpose a) (turned m) v (turned_matching a (transpose a) m (transpose_is a) k) reached)
+pub reached_rows_vertical : (a : Matrix) (m : List Place) (v : List ℕ) → IsMatching a m → IsReached (transpose a) (transposed_places m) v → Lists (IsVerticalRow a) v
+reached_rows_vertical a m v k reached = turned_lists a (transpose a) v (transpose_is a) (reached_horizontal (transpose a) (transposed_places m) v (turned_matching a (transpose a) m (transpose_is a) k) reached)
 
-pub parts_from_searches : (a : Matrix) (m : List Place) (w v : List ℕ) (p : Parts) → IsMatching a m → IsReached a m w → IsReached (transpose a) (turned m) v → AreReadOff a w v p → ArePartsOf a p
+pub parts_from_searches : (a : Matrix) (m : List Place) (w v : List ℕ) (p : Parts) → IsMatching a m → IsReached a m w → IsReached (transpose a) (transposed_places m) v → AreReadOff a w v p → ArePartsOf a p
 parts_from_searches a m w v p k cols_reached rows_reached off = parts_read_off a w v p (reached_horizontal a m w k cols_reached) (reached_rows_vertical a m v k rows_reached) off

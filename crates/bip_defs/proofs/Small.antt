@@ -9,7 +9,7 @@ use Rattle.bip_defs.proofs.Reaching.{reached_maximum}
 use Rattle.bip_defs.proofs.Searches.{parts_from_searches}
 use Rattle.bip_defs.specs.Decomposition.{IsDecompositionOf}
 use Rattle.bip_defs.specs.Lists.{Among, AreDistinct, Lists}
-use Rattle.bip_defs.specs.Matching.{IsMatching, IsMaximum, cols_of, turned}
+use Rattle.bip_defs.specs.Matching.{IsMatching, IsMaximum, cols_of, transposed_places}
 use Rattle.bip_defs.specs.Matrix.{HasPlaces, IsEntry, Matrix, Place, column, cols, transpose, upto}
 use Rattle.bip_defs.specs.Searches.{AreReadOff}
 use Rattle.bip_defs.specs.Small.{lower_triangle, lower_triangle_parts, single, wide_row, wide_row_parts}
@@ -311,17 +311,17 @@ wide_reached = record {
     free (inl e) = absurd (omega arith)
     free (inr h) = h
 
-wide_rows_reached : IsReached (transpose wide_row) (turned wide_pair) (1 ∷ [])
+wide_rows_reached : IsReached (transpose wide_row) (transposed_places wide_pair) (1 ∷ [])
 unfolding wide_pair
 wide_rows_reached = record {
   rising = (tt, tt);
   in_range = λ c h. let e = one c 1 h in omega arith;
   unmatched = λ c lt free. ⊎_elim (λ (e : c ≡ 0). absurd (free (inl e))) (λ (e : c ≡ 1). inl e) (two c lt);
   closed = λ r c h e. absurd (subst (λ x. Among r (column (transpose wide_row) x)) (one c 1 h) e.1);
-  led = λ c h. subst (IsLed (transpose wide_row) (turned wide_pair)) (sym (one c 1 h)) (1, omega arith, free, stay);
+  led = λ c h. subst (IsLed (transpose wide_row) (transposed_places wide_pair)) (sym (one c 1 h)) (1, omega arith, free, stay);
 }
   where
-    free : ¬ Among 1 (cols_of (turned wide_pair))
+    free : ¬ Among 1 (cols_of (transposed_places wide_pair))
     free (inl e) = absurd (omega arith)
     free (inr h) = h
 

@@ -3,12 +3,12 @@ use Rattle.std.proofs.Common.{ℕ, Bool, true, false, cond, List, [], ◌∷◌,
 use Rattle.std.specs.List.{list_any}
 use Rattle.bip_defs.specs.Blocks.{IsPerfect}
 use Rattle.bip_defs.specs.Lists.{Among, AreDistinct, Lists}
-use Rattle.bip_defs.specs.Matching.{IsMatching, IsMaximum, cols_of, rows_of, turned}
+use Rattle.bip_defs.specs.Matching.{IsMatching, IsMaximum, cols_of, rows_of, transposed_places}
 use Rattle.bip_defs.specs.Matrix.{IsEntry, Matrix, Place, transpose}
 use Rattle.bip_defs.specs.Parts.{IsHorizontalCol, IsHorizontalRow, IsSquareCol, IsSquareRow, IsVerticalCol, IsVerticalRow}
 use Rattle.bip_defs.proofs.Reaching.{reached_horizontal, reached_somehow}
 use Rattle.bip_defs.proofs.Sets.{among_map, among_map_back, among_test, col_among, col_pair, entry_col, filter_complete, filter_sound, number_among, one_col, row_among, row_pair}
-use Rattle.bip_defs.proofs.Turned.{transpose_is, turned_among, turned_maximum, turned_vertical, vertical_col_turned}
+use Rattle.bip_defs.proofs.Transposed.{transpose_is, turned_among, turned_maximum, turned_vertical, vertical_col_turned}
 
 -- no row is in both parts
 pub rows_apart : (a : Matrix) (r : ℕ) → IsHorizontalRow a r → ¬ IsVerticalRow a r
@@ -27,7 +27,7 @@ horizontal_mate a m r c max h p none = reached_somehow a m max (λ s.
 
 -- the mate of a vertical column is a vertical row
 pub vertical_mate : (a : Matrix) (m : List Place) (r c : ℕ) → IsMaximum a m → IsVerticalCol a c → Among (r, c) m → ¬ ¬ IsVerticalRow a r
-vertical_mate a m r c max v p none = horizontal_mate (transpose a) (turned m) c r (turned_maximum a (transpose a) m (transpose_is a) max) (vertical_col_turned a (transpose a) c (transpose_is a) v) (turned_among r c m p) (λ h. none (turned_vertical a (transpose a) r (transpose_is a) h))
+vertical_mate a m r c max v p none = horizontal_mate (transpose a) (transposed_places m) c r (turned_maximum a (transpose a) m (transpose_is a) max) (vertical_col_turned a (transpose a) c (transpose_is a) v) (turned_among r c m p) (λ h. none (turned_vertical a (transpose a) r (transpose_is a) h))
 
 pub square_row_mate : (a : Matrix) (m : List Place) (r c : ℕ) → IsMaximum a m → Among (r, c) m → IsSquareRow a r → IsSquareCol a c
 square_row_mate a m r c max p s = (entry_col a r c e, λ h. s.1 (c, h, e), λ v. vertical_mate a m r c max v p s.2)

@@ -9,7 +9,7 @@ ghost use Rattle.bip_defs.specs.Blocks.{Block, IsBlock, IsPerfect};
 ghost use Rattle.bip_defs.specs.Components.{AreComponents, IsComponent};
 ghost use Rattle.bip_defs.specs.Decomposition.{Decomposition, IsDecompositionOf};
 ghost use Rattle.bip_defs.specs.Lists.{Among, Lists};
-ghost use Rattle.bip_defs.specs.Matching.{IsHallSet, IsMatching, IsMaximum, IsRank, turned};
+ghost use Rattle.bip_defs.specs.Matching.{IsHallSet, IsMatching, IsMaximum, IsRank, transposed_places};
 ghost use Rattle.bip_defs.specs.Matrix.{AreEntries, HasPlaces, IsEntry, IsTransposeOf, Matrix, Place, cols, neighbours, row_list, transpose};
 ghost use Rattle.bip_defs.specs.Parts.{ArePartsOf, IsHorizontalCol, IsHorizontalRow, IsSquareCol, IsVerticalCol, IsVerticalRow, Parts};
 ghost use Rattle.bip_defs.specs.Paths.{IsAugmenting};
@@ -46,7 +46,7 @@ pub fn reached_columns_are_horizontal()
 /// The transpose exchanges rows and columns, and the vertical and the horizontal part.
 pub fn transpose_turns_parts()
     ensures entries { (a : Matrix) → IsTransposeOf a (transpose a) }
-    ensures maximum { (a b : Matrix) (m : List Place) → IsTransposeOf a b → IsMaximum a m → IsMaximum b (turned m) }
+    ensures maximum { (a b : Matrix) (m : List Place) → IsTransposeOf a b → IsMaximum a m → IsMaximum b (transposed_places m) }
     ensures rows { (a b : Matrix) (r : ℕ) → IsTransposeOf a b → IsVerticalRow a r ↔ IsHorizontalCol b r }
     ensures cols { (a b : Matrix) (c : ℕ) → IsTransposeOf a b → IsVerticalCol a c ↔ IsHorizontalRow b c }
 {}
@@ -67,7 +67,7 @@ pub fn parts_are_apart()
 /// Two searches from one matching, from the unmatched columns and from the unmatched rows, give the
 /// six parts (Pothen and Fan 1990).
 pub fn searches_give_parts()
-    ensures { (a : Matrix) (m : List Place) (w v : List ℕ) (p : Parts) → IsMatching a m → IsReached a m w → IsReached (transpose a) (turned m) v → AreReadOff a w v p → ArePartsOf a p }
+    ensures { (a : Matrix) (m : List Place) (w v : List ℕ) (p : Parts) → IsMatching a m → IsReached a m w → IsReached (transpose a) (transposed_places m) v → AreReadOff a w v p → ArePartsOf a p }
 {}
 
 /// How many rows and columns the parts have.

@@ -4,7 +4,7 @@ use Rattle.bip_defs.specs.Lists.{Among, IsRising}
 use Rattle.bip_defs.specs.Matching.{cols_of}
 use Rattle.bip_defs.specs.Matrix.{Place}
 use Rattle.bip_defs.proofs.Sets.{below_each_from, number_same, col_among, col_pair}
-use Rattle.bip_graph.specs.Pairing.{none, pairs_from, pairs_of}
+use Rattle.bip_graph.specs.Matching.{none, pairs_from, pairs_of}
 
 -- an array without a mate at its first place, and with one
 

@@ -2,11 +2,11 @@
 use Rattle.std.proofs.Common.{◌≡◌, ◌∙◌, ◌⊎◌, ℕ, zero, suc, ◌+◌, ◌<◌, ◌≤◌, List, [], ◌∷◌, ◌++◌, length, reverse, set, slice_index_or, refl, sym, ap, subst, inl, inr, ⊎_elim, arith, append_assoc}
 use Rattle.std.proofs.lemmas.List.{append-nil, get_or_default, map-append, reverse-append}
 use Rattle.bip_defs.specs.Lists.{Among, AreDistinct}
-use Rattle.bip_defs.specs.Matching.{IsMatching, cols_of, rows_of, turned}
+use Rattle.bip_defs.specs.Matching.{IsMatching, cols_of, rows_of, transposed_places}
 use Rattle.bip_defs.specs.Matrix.{AreEntries, IsTransposeOf, Matrix, Place, transpose}
 use Rattle.bip_defs.specs.Paths.{Alternates, BeginsUnmatched, Exchanges, IsAugmenting}
 use Rattle.bip_defs.proofs.Sets.{among_last, among_left, among_right, col_among, one_row, row_pair}
-use Rattle.bip_defs.proofs.Turned.{transpose_back, transpose_is, turned_among, turned_back, turned_cols, turned_matching, turned_rows, turned_twice}
+use Rattle.bip_defs.proofs.Transposed.{transpose_back, transpose_is, turned_among, turned_back, turned_cols, turned_matching, turned_rows, turned_twice}
 use Rattle.bip_defs.proofs.Sets.{distinct_last}
 
 -- Columns of a path.
@@ -41,15 +41,15 @@ abbrev backwards_onto : List Place → List Place → List Place
 backwards_onto [] after = after
 backwards_onto (p ∷ path) after = backwards_onto path ((p.1, p.0) ∷ after)
 
-onto_is : (path after : List Place) → backwards_onto path after ≡ turned (reverse path) ++ after
+onto_is : (path after : List Place) → backwards_onto path after ≡ transposed_places (reverse path) ++ after
 onto_is [] after = refl
-onto_is (p ∷ path) after = onto_is path ((p.1, p.0) ∷ after) ∙ sym (ap (λ (xs : List Place). turned xs ++ after) (reverse_more {X = Place} p path) ∙ ap (λ (xs : List Place). xs ++ after) (map-append (λ (q : Place). (q.1, q.0)) (reverse path) (p ∷ [])) ∙ append_assoc (turned (reverse path)) ((p.1, p.0) ∷ []) after)
+onto_is (p ∷ path) after = onto_is path ((p.1, p.0) ∷ after) ∙ sym (ap (λ (xs : List Place). transposed_places xs ++ after) (reverse_more {X = Place} p path) ∙ ap (λ (xs : List Place). xs ++ after) (map-append (λ (q : Place). (q.1, q.0)) (reverse path) (p ∷ [])) ∙ append_assoc (transposed_places (reverse path)) ((p.1, p.0) ∷ []) after)
 
-onto_alternates : (m : List Place) (p : Place) (path after : List Place) → Alternates m (p ∷ path) → Alternates (turned m) ((p.1, p.0) ∷ after) → Alternates (turned m) (backwards_onto path ((p.1, p.0) ∷ after))
+onto_alternates : (m : List Place) (p : Place) (path after : List Place) → Alternates m (p ∷ path) → Alternates (transposed_places m) ((p.1, p.0) ∷ after) → Alternates (transposed_places m) (backwards_onto path ((p.1, p.0) ∷ after))
 onto_alternates m p [] after alt back = back
 onto_alternates m p (q ∷ path) after alt back = onto_alternates m q path ((p.1, p.0) ∷ after) alt.1 (turned_among p.0 q.1 m alt.0, back)
 
-onto_begins : (m : List Place) (p : Place) (path after : List Place) → Alternates m (p ∷ path) → BeginsUnmatched (turned m) (backwards_onto path ((p.1, p.0) ∷ after))
+onto_begins : (m : List Place) (p : Place) (path after : List Place) → Alternates m (p ∷ path) → BeginsUnmatched (transposed_places m) (backwards_onto path ((p.1, p.0) ∷ after))
 onto_begins m p [] after alt = λ h. alt (subst (λ xs. Among p.0 xs) (turned_cols m) h)
 onto_begins m p (q ∷ path) after alt = onto_begins m q path ((p.1, p.0) ∷ after) alt.1
 
@@ -71,9 +71,9 @@ reverse_cols [] = refl
 reverse_cols (p ∷ path) = ap cols_of (reverse_more {X = Place} p path) ∙ map-append (λ (q : Place). q.1) (reverse path) (p ∷ []) ∙ ap (λ (xs : List ℕ). xs ++ p.1 ∷ []) (reverse_cols path) ∙ sym (reverse_more p.1 (cols_of path))
 
 abbrev pub backwards : List Place → List Place
-backwards path = turned (reverse path)
+backwards path = transposed_places (reverse path)
 
-backwards_augments_turned : (m path : List Place) → AreDistinct (cols_of m) → IsAugmenting m path → IsAugmenting (turned m) (backwards path)
+backwards_augments_turned : (m path : List Place) → AreDistinct (cols_of m) → IsAugmenting m path → IsAugmenting (transposed_places m) (backwards path)
 backwards_augments_turned m path one aug = record {
   begins = begins path aug;
   alternates = alternates path aug;
@@ -83,18 +83,18 @@ backwards_augments_turned m path one aug = record {
     whole : (p : Place) (ps : List Place) → backwards_onto ps ((p.1, p.0) ∷ []) ≡ backwards (p ∷ ps)
     whole p ps = onto_is (p ∷ ps) [] ∙ append-nil (backwards (p ∷ ps))
 
-    begins : (ps : List Place) → IsAugmenting m ps → BeginsUnmatched (turned m) (backwards ps)
+    begins : (ps : List Place) → IsAugmenting m ps → BeginsUnmatched (transposed_places m) (backwards ps)
     begins [] g = absurd g.begins
-    begins (p ∷ ps) g = subst (λ (z : List Place). BeginsUnmatched (turned m) z) (whole p ps) (onto_begins m p ps [] g.alternates)
+    begins (p ∷ ps) g = subst (λ (z : List Place). BeginsUnmatched (transposed_places m) z) (whole p ps) (onto_begins m p ps [] g.alternates)
 
-    alternates : (ps : List Place) → IsAugmenting m ps → Alternates (turned m) (backwards ps)
+    alternates : (ps : List Place) → IsAugmenting m ps → Alternates (transposed_places m) (backwards ps)
     alternates [] g = absurd g.begins
-    alternates (p ∷ ps) g = subst (λ (z : List Place). Alternates (turned m) z) (whole p ps) (onto_alternates m p ps [] g.alternates (λ h. g.begins (subst (λ xs. Among p.1 xs) (turned_rows m) h)))
+    alternates (p ∷ ps) g = subst (λ (z : List Place). Alternates (transposed_places m) z) (whole p ps) (onto_alternates m p ps [] g.alternates (λ h. g.begins (subst (λ xs. Among p.1 xs) (turned_rows m) h)))
 
 -- For a matching of the pattern, seen from the rows.
 
-pub backwards_augments : (m path : List Place) → AreDistinct (rows_of m) → IsAugmenting (turned m) path → IsAugmenting m (backwards path)
-backwards_augments m path one aug = subst (λ (z : List Place). IsAugmenting z (backwards path)) (turned_twice m) (backwards_augments_turned (turned m) path (subst (λ xs. AreDistinct xs) (sym (turned_cols m)) one) aug)
+pub backwards_augments : (m path : List Place) → AreDistinct (rows_of m) → IsAugmenting (transposed_places m) path → IsAugmenting m (backwards path)
+backwards_augments m path one aug = subst (λ (z : List Place). IsAugmenting z (backwards path)) (turned_twice m) (backwards_augments_turned (transposed_places m) path (subst (λ xs. AreDistinct xs) (sym (turned_cols m)) one) aug)
 
 pub backwards_among : (r c : ℕ) (path : List Place) → Among (c, r) path → Among (r, c) (backwards path)
 backwards_among r c path h = turned_among c r (reverse path) (among_reverse {X = Place} (c, r) path h)
@@ -103,27 +103,27 @@ pub backwards_back : (r c : ℕ) (path : List Place) → Among (r, c) (backwards
 backwards_back r c path h = reverse_among {X = Place} (c, r) path (subst (λ (z : List Place). Among (c, r) z) (turned_twice (reverse path)) (turned_among r c (backwards path) h))
 
 -- what is exchanged is the same from both sides
-pub backwards_exchanges : (m new path : List Place) → AreDistinct (rows_of m) → AreDistinct (cols_of m) → IsAugmenting (turned m) path → Exchanges (backwards path) m new → Exchanges path (turned m) (turned new)
+pub backwards_exchanges : (m new path : List Place) → AreDistinct (rows_of m) → AreDistinct (cols_of m) → IsAugmenting (transposed_places m) path → Exchanges (backwards path) m new → Exchanges path (transposed_places m) (transposed_places new)
 backwards_exchanges m new path rows cols aug x p = (over, back)
   where
     -- a pair whose column is on the path has its row there
     on_too : Among (p.1, p.0) m → Among p.1 (rows_of (backwards path)) → Among p.0 (rows_of path)
-    on_too pair h = prior_row (turned m) path p.0 p.1 (subst (λ xs. AreDistinct xs) (sym (turned_cols m)) rows) aug (let (c, on) = row_pair p.1 (backwards path) h in col_among c p.1 path (backwards_back p.1 c path on)) (turned_among p.1 p.0 m pair)
+    on_too pair h = prior_row (transposed_places m) path p.0 p.1 (subst (λ xs. AreDistinct xs) (sym (turned_cols m)) rows) aug (let (c, on) = row_pair p.1 (backwards path) h in col_among c p.1 path (backwards_back p.1 c path on)) (turned_among p.1 p.0 m pair)
 
     -- and the other way round
     too_on : Among (p.1, p.0) m → Among p.0 (rows_of path) → Among p.1 (rows_of (backwards path))
     too_on pair h = prior_row m (backwards path) p.1 p.0 cols (backwards_augments m path rows aug) (let (c, on) = row_pair p.0 path h in col_among c p.0 (backwards path) (backwards_among c p.0 path on)) pair
 
-    over : Among p (turned new) → Among p path ⊎ (Among p (turned m) × (¬ Among p.0 (rows_of path)))
+    over : Among p (transposed_places new) → Among p path ⊎ (Among p (transposed_places m) × (¬ Among p.0 (rows_of path)))
     over h = ⊎_elim (λ on. inl (backwards_back p.1 p.0 path on)) (λ (had, off). inr (turned_among p.1 p.0 m had, λ on. off (too_on had on))) ((x (p.1, p.0)).0 (turned_back p.1 p.0 new h))
 
-    back : Among p path ⊎ (Among p (turned m) × (¬ Among p.0 (rows_of path))) → Among p (turned new)
+    back : Among p path ⊎ (Among p (transposed_places m) × (¬ Among p.0 (rows_of path))) → Among p (transposed_places new)
     back (inl on) = turned_among p.1 p.0 new ((x (p.1, p.0)).1 (inl (backwards_among p.1 p.0 path on)))
     back (inr (had, off)) = let pair = turned_back p.1 p.0 m had in turned_among p.1 p.0 new ((x (p.1, p.0)).1 (inr (pair, λ on. off (on_too pair on))))
 
 -- what is a matching of each matrix from one side is one from the other
-pub backwards_matching : (a : Matrix) (m new path : List Place) → IsMatching a (turned m) → AreEntries a path → ((b : Matrix) → IsMatching b m → AreEntries b (backwards path) → IsMatching b new) → IsMatching a (turned new)
-backwards_matching a m new path k entries stays = turned_matching b a new (transpose_back a b t) (stays b (subst (λ (z : List Place). IsMatching b z) (turned_twice m) (turned_matching a b (turned m) t k)) (λ r c h. t.over c r (entries c r (backwards_back r c path h))))
+pub backwards_matching : (a : Matrix) (m new path : List Place) → IsMatching a (transposed_places m) → AreEntries a path → ((b : Matrix) → IsMatching b m → AreEntries b (backwards path) → IsMatching b new) → IsMatching a (transposed_places new)
+backwards_matching a m new path k entries stays = turned_matching b a new (transpose_back a b t) (stays b (subst (λ (z : List Place). IsMatching b z) (turned_twice m) (turned_matching a b (transposed_places m) t k)) (λ r c h. t.over c r (entries c r (backwards_back r c path h))))
   where
     b : Matrix
     b = transpose a
@@ -153,7 +153,7 @@ turned_to_suc (suc k) (p ∷ xs) d lt = ap (λ (z : List Place). (p.1, p.0) ∷ 
 pub turned_to_more : (k : ℕ) (xs now : List Place) (d e : Place) (row col : ℕ) → now ≡ turned_to k xs → k < length xs → row ≡ (slice_index_or now k d).0 → col ≡ (slice_index_or now k e).1 → set now k (col, row) ≡ turned_to (k + 1) xs
 turned_to_more k xs now d e row col is lt = subst (λ (z : List Place). row ≡ (slice_index_or z k d).0 → col ≡ (slice_index_or z k e).1 → set z k (col, row) ≡ turned_to (k + 1) xs) (sym is) (λ r c. ap (λ (x : ℕ). set (turned_to k xs) k (x, row)) (c ∙ ap (λ (p : Place). p.1) (turned_to_at k xs e ∙ get_or_default xs k e d lt)) ∙ ap (λ (x : ℕ). set (turned_to k xs) k ((slice_index_or xs k d).1, x)) (r ∙ ap (λ (p : Place). p.0) (turned_to_at k xs d)) ∙ turned_to_suc k xs d lt ∙ ap (λ n. turned_to n xs) (let e : suc k ≡ k + 1 = omega arith in e))
 
-pub turned_to_all : (k : ℕ) (xs : List Place) → length xs ≤ k → turned_to k xs ≡ turned xs
+pub turned_to_all : (k : ℕ) (xs : List Place) → length xs ≤ k → turned_to k xs ≡ transposed_places xs
 turned_to_all k [] le = none k
   where
     none : (n : ℕ) → turned_to n [] ≡ []

@@ -18,7 +18,7 @@ use Rattle.bip_defs.proofs.Small.{filled, lower_triangle_is}
 use Rattle.bip_defs.proofs.Together.{square_rows_once}
 use Rattle.bip_defs.proofs.Triangular.{cols_in_parts, rows_in_parts, upper_triangular}
 use Rattle.bip_graph.specs.Answers.{orders_of}
-use Rattle.bip_graph.specs.Permuted.{IsZeroBelow}
+use Rattle.bip_graph.specs.Orders.{IsZeroBelow}
 use Rattle.bip_graph.specs.Texts.{square_size}
 
 pub rows_go : (d : Decomposition) → (orders_of d).0 ≡ all_rows (diagonal_blocks d)

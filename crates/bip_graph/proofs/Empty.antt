@@ -1,9 +1,9 @@
 -- Arrays without a mate.
 use Rattle.std.proofs.Common.{◌≡◌, ◌∙◌, ◌^◌, ℕ, zero, suc, ◌<◌, List, [], length, replicate, refl, sym, ap, subst, arith}
 use Rattle.std.proofs.lemmas.List.{get_or-replicate, length-replicate}
-use Rattle.bip_graph.specs.Pairing.{AreMates, LeadsBack, none, pairs_from, pairs_of}
+use Rattle.bip_graph.specs.Matching.{AreMates, LeadsBack, none, pairs_from, pairs_of}
 use Rattle.bip_graph.proofs.Arrays.{pairs_none}
-use Rattle.bip_graph.proofs.Seen.{shown}
+use Rattle.bip_graph.proofs.MatchingViews.{shown}
 
 no_pairs : (k n : ℕ) → pairs_from k (replicate n none) ≡ []
 no_pairs k zero = refl

@@ -4,7 +4,7 @@ use Rattle.bip_defs.specs.Lists.{Among, AreDistinct}
 use Rattle.bip_defs.specs.Matching.{cols_of, rows_of}
 use Rattle.bip_defs.specs.Matrix.{Place}
 use Rattle.bip_defs.proofs.Sets.{number_same, col_among, row_among, row_pair, rising_distinct}
-use Rattle.bip_graph.specs.Pairing.{AreMates, none, pairs_of}
+use Rattle.bip_graph.specs.Matching.{AreMates, none, pairs_of}
 use Rattle.bip_graph.proofs.Arrays.{stored, read, cols_rising}
 
 -- a number of a row or a column does not stand for no mate

@@ -6,7 +6,7 @@ use Rattle.std.proofs.Math.Seq.{drop-cons}
 use Rattle.bip_defs.specs.Lists.{Among}
 use Rattle.bip_defs.proofs.Sets.{number_same}
 use Rattle.bip_graph.specs.Mates.{AreFew, AreMutual, Mated, mate_in, mate_of}
-use Rattle.bip_graph.specs.Pairing.{AreMates, LeadsBack, none, pairs_from, pairs_of}
+use Rattle.bip_graph.specs.Matching.{AreMates, LeadsBack, none, pairs_from, pairs_of}
 use Rattle.bip_graph.proofs.Arrays.{few_pairs, pairs_none, pairs_some, read, stored}
 
 mate_none : (n : ℕ) → n ≡ none → mate_of n ≡ None

@@ -1,8 +1,8 @@
 pub mod Answers
-pub mod Mates
 pub mod Blocks
-pub mod Pairing
+pub mod Decompositions
+pub mod Matching
+pub mod Mates
+pub mod Orders
 pub mod Parents
-pub mod Permuted
-pub mod Shown
 pub mod Texts

@@ -1,6 +1,6 @@
 -- What contracts see of mates that were set one by one, and how flat arrays store them.
 use Rattle.std.specs.Prelude.{◌≡◌, ◌↔◌, ℕ, ◌<◌, ◌^◌, ◌==◌, if◌then◌else◌, List, length, slice_index_or, Option, None, Some}
-use Rattle.bip_graph.specs.Pairing.{none}
+use Rattle.bip_graph.specs.Matching.{none}
 
 -- for each row its column, and for each column its row, if it has one
 pub record Mated : Type 0 where

@@ -5,7 +5,7 @@ use Rattle.bip_defs.specs.Lists.{Among, AreDistinct}
 use Rattle.bip_defs.specs.Matching.{cols_of, rows_of}
 use Rattle.bip_defs.specs.Matrix.{Place}
 use Rattle.bip_defs.specs.Queues.{Queue, at, heads}
-use Rattle.bip_graph.specs.Pairing.{Pairing}
+use Rattle.bip_graph.specs.Matching.{Pairing}
 
 -- the column is so many parents away from an unmatched column, the root of its tree
 pub data HasDepth (m : List Place) (reached : ℕ → ℕ → Type 0) : ℕ → ℕ → Type 0 where

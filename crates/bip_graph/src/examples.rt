@@ -4,7 +4,7 @@ ghost use Rattle.std.specs.Prelude.{◌≡◌, [], ◌∷◌};
 ghost use Rattle.bip_defs.specs.Small.{lower_triangle, lower_triangle_parts, single};
 ghost use Rattle.bip_defs.specs.Triangular.{diagonal_blocks};
 ghost use Rattle.bip_graph.specs.Answers.{orders_of};
-ghost use Rattle.bip_graph.specs.Permuted.{IsZeroBelow};
+ghost use Rattle.bip_graph.specs.Orders.{IsZeroBelow};
 
 /// A lower triangle is reported from its end, and then it has no entry below its blocks; from its start it would have one.
 pub fn lower_triangle_in_two_orders()

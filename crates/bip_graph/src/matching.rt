@@ -6,7 +6,7 @@ ghost use Rattle.bip_defs.specs.Matching.{Covers, IsMatching, rows_of, cols_of};
 ghost use Rattle.bip_defs.specs.Matrix.{AreEntries, Matrix, Place};
 ghost use Rattle.bip_defs.specs.Paths.{Exchanges, Gives, IsAugmenting};
 ghost use Rattle.bip_graph.specs.Mates.{AreMutual, mate_in};
-ghost use Rattle.bip_graph.specs.Pairing.{Pairing, pairs_of};
+ghost use Rattle.bip_graph.specs.Matching.{Pairing, pairs_of};
 
 use crate::mates::Mates;
 use sp_ids::{Col, OutOfMemory, Row};
@@ -26,7 +26,7 @@ pub struct Matching {
 
 impl Model for Matching {
     ghost use Rattle.std.specs.Prelude.{length};
-    ghost use Rattle.bip_graph.specs.Pairing.{Pairing, AreMates, pairs_of};
+    ghost use Rattle.bip_graph.specs.Matching.{Pairing, AreMates, pairs_of};
 
     ghost Value = { Pairing };
 

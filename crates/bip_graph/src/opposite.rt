@@ -2,10 +2,10 @@
 
 ghost use Rattle.std.specs.Prelude.{◌≡◌, ◌<◌, ℕ, suc, length, reverse, IfSome, IfNone};
 ghost use Rattle.bip_defs.specs.Lists.{Among};
-ghost use Rattle.bip_defs.specs.Matching.{Covers, cols_of, rows_of, turned};
+ghost use Rattle.bip_defs.specs.Matching.{Covers, cols_of, rows_of, transposed_places};
 ghost use Rattle.bip_defs.specs.Matrix.{AreEntries, Matrix};
 ghost use Rattle.bip_defs.specs.Paths.{Exchanges, IsAugmenting};
-ghost use Rattle.bip_graph.specs.Pairing.{IsMatchingOf, Pairing, transposed};
+ghost use Rattle.bip_graph.specs.Matching.{IsMatchingOf, Pairing, transposed};
 
 use crate::matching::Matching;
 use sp_ids::{Col, Id, Row};
@@ -102,7 +102,7 @@ impl Opposite for Col {
 
 // Reverses a path, and puts rows for columns.
 fn transpose_path(path: &mut [(Row, Col)])
-    ensures { path.new ≡ turned (reverse path.old) }
+    ensures { path.new ≡ transposed_places (reverse path.old) }
 {
     path.reverse();
     for at in 0..path.len() {

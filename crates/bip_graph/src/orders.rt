@@ -7,7 +7,7 @@ ghost use Rattle.bip_defs.specs.Once.{ListsOnce};
 ghost use Rattle.bip_defs.specs.Triangular.{diagonal_blocks};
 ghost use Rattle.bip_defs.specs.Blocks.{all_cols, all_rows};
 ghost use Rattle.bip_graph.specs.Answers.{orders_of};
-ghost use Rattle.bip_graph.specs.Permuted.{IsZeroBelow};
+ghost use Rattle.bip_graph.specs.Orders.{IsZeroBelow};
 ghost use Rattle.bip_graph.specs.Texts.{square_size};
 
 /// In the orders of a report the matrix is block upper triangular: they go through the rows and the columns of the

@@ -1,5 +1,5 @@
-mod Answered
-mod Marking
-mod Pairing
-mod Judging
+mod Comparisons
+mod MarkLemmas
+mod PairLemmas
+mod ReasonLemmas
 pub mod Verdicts

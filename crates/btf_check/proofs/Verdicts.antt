@@ -13,7 +13,7 @@ use Rattle.btf_check.specs.Reasons.{IsMet}
 use Rattle.btf_check.specs.Verdicts.{IsJudged, IsMetBy, IsReportOf, IsValid, IsVerdict, Spells}
 use Rattle.btf_check.specs.declared.verdict.Verdict.{Verdict}
 use Rattle.btf_check.specs.declared.verdict.Verdict.TheVariants.{Invalid, Valid}
-use Rattle.btf_check.proofs.Answered.{met_of_report, report_of_met}
+use Rattle.btf_check.proofs.ReasonLemmas.{met_of_report, report_of_met}
 
 -- the bytes spell one report
 one_report : (bytes : List ℕ) (r s : Report) → Spells bytes r → Spells bytes s → r ≡ s

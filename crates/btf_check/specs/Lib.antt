@@ -1,3 +1,3 @@
-pub mod Comparing
 pub mod Reasons
+pub mod ReportParts
 pub mod Verdicts

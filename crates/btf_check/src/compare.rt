@@ -2,7 +2,7 @@
 
 ghost use Rattle.std.specs.Prelude.{◌≡◌, ◌↔◌, ℕ, ◌<◌, ◌++◌, map, IfOk, IsTrue};
 ghost use Rattle.bip_defs.specs.Lists.{Among, AreDistinct};
-ghost use Rattle.btf_check.specs.Comparing.{AreOnce};
+ghost use Rattle.btf_check.specs.ReportParts.{AreOnce};
 
 use bip_graph::Blocks;
 use sp_ids::{Col, Id, OutOfMemory, Row};

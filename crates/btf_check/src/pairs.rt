@@ -4,7 +4,7 @@ ghost use Rattle.std.specs.Prelude.{◌≡◌, ◌↔◌, IfNone, IfOk, IfSome, 
 ghost use Rattle.bip_defs.specs.Lists.{IsRising};
 ghost use Rattle.bip_defs.specs.Matching.{IsMaximum, cols_of};
 ghost use Rattle.bip_defs.specs.Matrix.{cols};
-ghost use Rattle.bip_graph.specs.Pairing.{IsMatchingOf};
+ghost use Rattle.bip_graph.specs.Matching.{IsMatchingOf};
 ghost use Rattle.btf_check.specs.Reasons.{ArePaired};
 
 use bip_graph::Matching;

@@ -4,10 +4,10 @@ ghost use Rattle.std.specs.Prelude.{◌≡◌, ◌↔◌, IfOk, IfSome, IsTrue};
 ghost use Rattle.bip_defs.specs.Lists.{IsRising};
 ghost use Rattle.bip_defs.specs.Matching.{IsMaximum, cols_of};
 ghost use Rattle.bip_defs.specs.Parts.{ArePartsOf};
-ghost use Rattle.bip_graph.specs.Shown.{parts_of};
-ghost use Rattle.btf_check.specs.Comparing.{HasOuterParts, HasSizes};
+ghost use Rattle.bip_graph.specs.Decompositions.{parts_of};
+ghost use Rattle.btf_check.specs.ReportParts.{HasOuterParts, HasSizes};
 ghost use Rattle.btf_check.specs.Reasons.{AreOrdersOf, TellsParts};
-ghost use Rattle.btf_text.specs.Told.{orders_told, told};
+ghost use Rattle.btf_text.specs.ReportRead.{orders_told, told};
 ghost use Rattle.btf_check.specs.Verdicts.{IsJudged};
 
 use crate::Verdict;

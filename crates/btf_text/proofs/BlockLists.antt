@@ -8,8 +8,8 @@ use Rattle.bip_defs.specs.Blocks.{Block, all_cols, all_rows}
 use Rattle.bip_graph.specs.Texts.{block_lines, line, lists, spelled, square_line, square_lines, square_size, text_of}
 use Rattle.btf_text.specs.declared.stop.Stop.{Stop}
 use Rattle.btf_text.specs.Readable.{AreBlocksLike, IsBlockLike}
-use Rattle.btf_text.specs.Reading.{◌>>=◌, Stops, block_at, blocks_at, square_at, two_at}
-use Rattle.btf_text.proofs.Fronts.{no_front, regroup, stops_so, with_front}
+use Rattle.btf_text.specs.ReportGrammar.{◌>>=◌, Stops, block_at, blocks_at, square_at, two_at}
+use Rattle.btf_text.proofs.Prefixes.{no_front, regroup, stops_so, with_front}
 use Rattle.btf_text.proofs.ListLines.{two_again, two_takes}
 use Rattle.btf_text.proofs.Listed.{block_again, block_takes, line_first}
 use Rattle.btf_text.proofs.Spelled.{bind_some, some_is, where_some}

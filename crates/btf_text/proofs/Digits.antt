@@ -2,7 +2,7 @@
 use Rattle.std.proofs.Common.{◌≡◌, ◌<◌, ◌≤◌, ◌+◌, ◌-◌, ◌*◌, ℕ, true, false, List, ◌∷◌, length, get_or, drop, take, take_all, length-drop, Some, None, refl, arith, add-one, drop-cons, lt-ltb, le-ltb}
 use Rattle.std.proofs.lemmas.List.{drop_all}
 use Rattle.std.specs.Char.{is_ascii_digit}
-use Rattle.btf_text.specs.Reading.{digits_on}
+use Rattle.btf_text.specs.ReportGrammar.{digits_on}
 
 front : (bytes : List ℕ) (at d : ℕ) → at < length bytes → drop at bytes ≡ get_or bytes at d ∷ drop (at + 1) bytes
 front bytes at d inside = rw (add-one, drop-cons bytes at d) refl

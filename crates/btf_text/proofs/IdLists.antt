@@ -3,8 +3,8 @@ use Rattle.std.proofs.Common.{◌≡◌, ◌<◌, ℕ, zero, suc, true, false, L
 use Rattle.std.specs.Fmt.{decimal}
 use Rattle.std.specs.List.{starts_with}
 use Rattle.btf_text.specs.declared.stop.Stop.{Stop}
-use Rattle.btf_text.specs.Reading.{Stops, field_at, id_of, ids_at, line_end}
-use Rattle.btf_text.proofs.Fronts.{no_front, regroup, stops_so, with_front}
+use Rattle.btf_text.specs.ReportGrammar.{Stops, field_at, id_of, ids_at, line_end}
+use Rattle.btf_text.proofs.Prefixes.{no_front, regroup, stops_so, with_front}
 use Rattle.btf_text.proofs.Spelled.{field_takes, id_takes}
 
 -- What is read from here on, behind what was read, is what is read of all. Each number takes a byte at least.

@@ -3,7 +3,7 @@ use Rattle.std.proofs.Common.{codes, decimal, ◌≡◌, ◌<◌, ◌≤◌, ◌
 use Rattle.std.specs.List.{AllByRecursion, starts_with}
 use Rattle.bip_graph.specs.Texts.{Sizes, counted, line, matrix_line, spaced, spelled}
 use Rattle.btf_text.specs.Readable.{IsId}
-use Rattle.btf_text.specs.Reading.{◌>>=◌, field_at, id_of, ids_at, line_end, list_at, one_at, sizes_at, two_at, word_at}
+use Rattle.btf_text.specs.ReportGrammar.{◌>>=◌, field_at, id_of, ids_at, line_end, list_at, one_at, sizes_at, two_at, word_at}
 use Rattle.btf_text.proofs.Spelled.{EndsNumber, bind_some, field_again, field_takes, id_again, id_takes, line_ends_number, some_is, space_ends, word_again, word_takes}
 
 -- a line in front of more bytes: its word, its numbers and its end

@@ -5,7 +5,7 @@ use Rattle.std.proofs.lemmas.List.{nil_from_length}
 use Rattle.bip_defs.specs.Blocks.{Block}
 use Rattle.bip_graph.specs.Texts.{TextLine, counted, line, lists, part, spelled, text_of}
 use Rattle.btf_text.specs.Readable.{IsBlockLike, IsList}
-use Rattle.btf_text.specs.Reading.{◌>>=◌, block_at, list_at, lists_at, part_at, rises, two_at}
+use Rattle.btf_text.specs.ReportGrammar.{◌>>=◌, block_at, list_at, lists_at, part_at, rises, two_at}
 use Rattle.btf_text.proofs.ListLines.{IsTwoLine, list_again, list_takes, two_again, two_takes}
 use Rattle.btf_text.proofs.Rising.{rises_complete, rises_sound}
 use Rattle.btf_text.proofs.Spelled.{bind_some, some_is, where_some}

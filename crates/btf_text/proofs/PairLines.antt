@@ -6,7 +6,7 @@ use Rattle.bip_defs.specs.Matching.{cols_of, rows_of}
 use Rattle.bip_defs.specs.Matrix.{Place}
 use Rattle.bip_graph.specs.Texts.{counted, line, order_lines, pair_line, pair_lines, spelled, text_of}
 use Rattle.btf_text.specs.Readable.{AreOrdersLike, ArePairsLike, IsId}
-use Rattle.btf_text.specs.Reading.{◌>>=◌, both_orders_at, field_at, id_of, line_end, list_at, number_at, one_at, orders_at, pair_at, pair_list_at, pairs_at, rises}
+use Rattle.btf_text.specs.ReportGrammar.{◌>>=◌, both_orders_at, field_at, id_of, line_end, list_at, number_at, one_at, orders_at, pair_at, pair_list_at, pairs_at, rises}
 use Rattle.btf_text.proofs.ListLines.{AreIds, end_again, end_takes, list_again, list_takes, one_again, one_before, one_takes}
 use Rattle.btf_text.proofs.Listed.{line_first}
 use Rattle.btf_text.proofs.Rising.{rises_complete, rises_sound}

@@ -2,8 +2,8 @@
 use Rattle.std.proofs.Common.{◌≡◌, ◌<◌, ◌≤◌, ◌+◌, ◌-◌, ℕ, suc, List, [], ◌∷◌, ◌++◌, Option, Some, None, refl, sym, ap, ◌∙◌, append-nil, arith}
 use Rattle.bip_defs.specs.Matrix.{Place}
 use Rattle.btf_text.specs.declared.stop.Stop.{Stop}
-use Rattle.btf_text.specs.Reading.{Stops, pair_at, pair_list_at}
-use Rattle.btf_text.proofs.Fronts.{regroup, stops_so, with_front}
+use Rattle.btf_text.specs.ReportGrammar.{Stops, pair_at, pair_list_at}
+use Rattle.btf_text.proofs.Prefixes.{regroup, stops_so, with_front}
 
 pub pairs_more : (front : List Place) (count i : ℕ) (bytes : List ℕ) (p : Place × List ℕ) (total : Option (List Place × List ℕ)) → i < count → pair_at bytes ≡ Some p
     → with_front front (pair_list_at (count - i) bytes) ≡ total → with_front (front ++ p.0 ∷ []) (pair_list_at (count - (i + 1)) p.1) ≡ total

@@ -7,7 +7,7 @@ use Rattle.bip_defs.specs.Blocks.{Block}
 use Rattle.bip_defs.specs.Matrix.{Place}
 use Rattle.bip_graph.specs.Texts.{Report, Sizes, TextLine, end_line, line, matrix_line, order_lines, pair_lines, part, rank_line, report_text, spelled, square_lines, text_of}
 use Rattle.btf_text.specs.Readable.{AreOrdersLike, ArePairsLike, AreSizesLike, IsReadable}
-use Rattle.btf_text.specs.Reading.{◌>>=◌, head_at, one_at, orders_at, pairs_at, part_at, report_at, sizes_at, square_at, tail_at, word_at}
+use Rattle.btf_text.specs.ReportGrammar.{◌>>=◌, head_at, one_at, orders_at, pairs_at, part_at, report_at, sizes_at, square_at, tail_at, word_at}
 use Rattle.btf_text.proofs.BlockLists.{square_again, square_takes}
 use Rattle.btf_text.proofs.ListLines.{one_again, one_takes, sizes_again, sizes_take}
 use Rattle.btf_text.proofs.Listed.{part_again, part_takes}

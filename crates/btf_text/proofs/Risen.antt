@@ -1,7 +1,7 @@
 -- Lists that rise, number by number.
 use Rattle.std.proofs.Common.{◌≡◌, ◌<◌, ◌≤◌, ◌+◌, ℕ, true, false, List, ◌∷◌, length, map, get_or, drop, refl, ap, ◌∙◌, arith, add-one, drop-cons, lt-ltb, le-ltb}
 use Rattle.std.proofs.lemmas.List.{drop_all}
-use Rattle.btf_text.specs.Reading.{rises_from}
+use Rattle.btf_text.specs.ReportGrammar.{rises_from}
 
 front : {X : Type 0} (f : X → ℕ) (xs : List X) (i : ℕ) (d : X) → i < length xs → map f (drop i xs) ≡ f (get_or xs i d) ∷ map f (drop (i + 1) xs)
 front f xs i d inside = rw (add-one, drop-cons xs i d) refl

@@ -2,7 +2,7 @@
 use Rattle.std.proofs.Common.{◌≡◌, ◌<◌, ℕ, suc, Bool, true, false, cond, List, [], ◌∷◌, nat_lt, refl, sym, arith, le-ltb, ltb-false, true≢false}
 use Rattle.bip_defs.specs.Lists.{IsBelowEach, IsRising}
 use Rattle.bip_defs.proofs.Sets.{below_each_from, below_each_sound}
-use Rattle.btf_text.specs.Reading.{rises, rises_from}
+use Rattle.btf_text.specs.ReportGrammar.{rises, rises_from}
 
 kept : (b : Bool) (r : Bool) → cond b false r ≡ true → (b ≡ false) × (r ≡ true)
 kept true r e = absurd (true≢false (sym e))

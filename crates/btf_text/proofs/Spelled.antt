@@ -6,7 +6,7 @@ use Rattle.std.specs.Cmp.Lexicographic.{bytes_decides}
 use Rattle.std.proofs.lemmas.Bool.Decides.{eqb_tells, leb_tells}
 use Rattle.std.proofs.lemmas.Fmt.{decimal_by_steps, decimal_digit, decimal_step}
 use Rattle.std.proofs.lemmas.List.{drop_at, take_at, take-append-drop}
-use Rattle.btf_text.specs.Reading.{◌>>=◌, digits_on, field_at, id_of, number_at, word_at}
+use Rattle.btf_text.specs.ReportGrammar.{◌>>=◌, digits_on, field_at, id_of, number_at, word_at}
 
 -- the value of a step that read something
 pub bind_some : {A B : Type 0} (r : Option A) (f : A → Option B) (y : B) → (r >>= f) ≡ Some y → (x : A) × (r ≡ Some x) × (f x ≡ Some y)

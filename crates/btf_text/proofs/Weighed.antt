@@ -5,7 +5,7 @@ use Rattle.std.proofs.lemmas.List.{take_more, map-append}
 use Rattle.std.proofs.lemmas.Grind.{flat_map-append}
 use Rattle.bip_defs.specs.Matrix.{Place}
 use Rattle.bip_graph.specs.Texts.{line, spelled}
-use Rattle.sp_pattern.specs.Weighing.{Weighing, weight_at}
+use Rattle.sp_pattern.specs.Weights.{Weighing, weight_at}
 use Rattle.btf_text.specs.Diagonals.{entry_line, signed_line, signed_spaced, weighed_lines}
 
 signed_more : (numbers : List ℤ) (z : ℤ) → signed_spaced (numbers ++ z ∷ []) ≡ signed_spaced numbers ++ 32 ∷ signed_decimal z

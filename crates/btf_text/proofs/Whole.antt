@@ -2,7 +2,7 @@
 use Rattle.std.proofs.Common.{◌≡◌, ◌∙◌, ℕ, Bool, List, Option, ap}
 use Rattle.bip_defs.specs.Matrix.{Matrix, Place, cols}
 use Rattle.bip_graph.specs.Answers.{orders_of, report_of, where_asked}
-use Rattle.bip_graph.specs.Shown.{Decomposes, decomposition_of}
+use Rattle.bip_graph.specs.Decompositions.{Decomposes, decomposition_of}
 use Rattle.bip_graph.specs.Texts.{Report, Sizes, sizes_of}
 use Rattle.bip_graph.specs.declared.answers.Decomposition.{Decomposition}
 use Rattle.btf_text.specs.Reports.{reported, sizes_told}

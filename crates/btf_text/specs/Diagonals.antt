@@ -6,7 +6,7 @@ use Rattle.bip_defs.specs.Matrix.{AreEntries, Matrix, Place, cols, neighbours}
 use Rattle.bip_graph.specs.Texts.{TextLine, end_line, line, lists, text_of}
 use Rattle.bip_graph.specs.declared.answers.Heaviest.{Heaviest}
 use Rattle.bip_graph.specs.declared.answers.Heaviest.TheVariants.{Diagonal, Rectangular, Singular}
-use Rattle.sp_pattern.specs.Weighing.{Weighing, weight_at}
+use Rattle.sp_pattern.specs.Weights.{Weighing, weight_at}
 
 -- one space and one number each, the numbers below zero with a minus sign
 abbrev pub signed_spaced : List ℤ → List ℕ

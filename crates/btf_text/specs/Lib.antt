@@ -1,7 +1,7 @@
+pub mod Buffered
 pub mod Columns
 pub mod Diagonals
-pub mod Buffered
 pub mod Readable
-pub mod Reading
+pub mod ReportGrammar
+pub mod ReportRead
 pub mod Reports
-pub mod Told

@@ -2,7 +2,7 @@
 use Rattle.std.specs.Prelude.{ℕ, Bool, List, [], ◌∷◌, ◌++◌, length, Option, codes}
 use Rattle.bip_defs.specs.Matrix.{Place}
 use Rattle.bip_graph.specs.Answers.{orders_of, where_asked}
-use Rattle.bip_graph.specs.Shown.{decomposition_of}
+use Rattle.bip_graph.specs.Decompositions.{decomposition_of}
 use Rattle.bip_graph.specs.Texts.{Report, Sizes, TextLine, line, matrix_line, part, rank_line, square_line, square_lines, text_of}
 use Rattle.bip_graph.specs.declared.answers.Decomposition.{Decomposition}
 

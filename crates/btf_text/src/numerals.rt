@@ -1,7 +1,7 @@
 //! Words, numbers and lines of a report that is read.
 
 ghost use Rattle.std.specs.Prelude.{◌≡◌, suc, length, map};
-ghost use Rattle.btf_text.specs.Reading.{Gives, digits_on, field_at, id_of, ids_at, line_end, list_at, number_at, one_at, rises, two_at, word_at};
+ghost use Rattle.btf_text.specs.ReportGrammar.{Gives, digits_on, field_at, id_of, ids_at, line_end, list_at, number_at, one_at, rises, two_at, word_at};
 
 use crate::stop::Stop;
 use sp_ids::Id;

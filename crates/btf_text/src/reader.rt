@@ -4,8 +4,8 @@ ghost use Rattle.std.specs.Prelude.{◌≡◌, IfOk, IfSome, IfNone};
 ghost use Rattle.bip_graph.specs.Texts as texts;
 ghost use Rattle.bip_graph.specs.Texts.{report_text};
 ghost use Rattle.btf_text.specs.Readable.{IsReadable};
-ghost use Rattle.btf_text.specs.Reading.{Gives, head_at, report_at, sizes_at, tail_at};
-ghost use Rattle.btf_text.specs.Told.{GivesSquareByBlocks, orders_told, told};
+ghost use Rattle.btf_text.specs.ReportGrammar.{Gives, head_at, report_at, sizes_at, tail_at};
+ghost use Rattle.btf_text.specs.ReportRead.{GivesSquareByBlocks, orders_told, told};
 
 use crate::numerals::{field_at, line_end, one_at, word_at};
 use crate::sections::{orders_at, pairs_at, part_at, square_at};

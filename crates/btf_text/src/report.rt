@@ -3,7 +3,7 @@
 ghost use Rattle.std.specs.Prelude.{◌≡◌, ◌≤◌, ◌++◌, ◌∷◌, [], length, map, codes};
 ghost use Rattle.bip_defs.specs.Matrix.{Matrix};
 ghost use Rattle.bip_graph.specs.Answers.{orders_of, report_of, where_asked};
-ghost use Rattle.bip_graph.specs.Shown.{Decomposes, decomposition_of};
+ghost use Rattle.bip_graph.specs.Decompositions.{Decomposes, decomposition_of};
 ghost use Rattle.bip_graph.specs.Texts.{block_lines, counted, line, lists, order_lines, report_text};
 ghost use Rattle.btf_text.specs.Buffered.{AppendsLines};
 ghost use Rattle.btf_text.specs.Reports.{part_lines, reported};

@@ -3,8 +3,8 @@
 ghost use Rattle.std.specs.Prelude.{◌≡◌, ◌<◌, ◌≤◌, ◌+◌, ◌^◌, length, map, Some};
 ghost use Rattle.bip_defs.specs.Matching.{cols_of};
 ghost use Rattle.bip_defs.specs.Blocks.{all_cols, all_rows};
-ghost use Rattle.btf_text.specs.Reading.{Gives, block_at, blocks_at, both_orders_at, lists_at, orders_at, pair_at, pair_list_at, pairs_at, part_at, rises, square_at};
-ghost use Rattle.btf_text.specs.Told.{orders_told};
+ghost use Rattle.btf_text.specs.ReportGrammar.{Gives, block_at, blocks_at, both_orders_at, lists_at, orders_at, pair_at, pair_list_at, pairs_at, part_at, rises, square_at};
+ghost use Rattle.btf_text.specs.ReportRead.{orders_told};
 
 use crate::numerals::{field_at, id_of, line_end, list_at, number_at, one_at, rises, two_at};
 use crate::stop::Stop;

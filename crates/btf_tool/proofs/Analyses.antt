@@ -2,7 +2,7 @@
 use Rattle.std.proofs.Common.{Bool, true, false, List, [], ◌∷◌, ◌≡◌, ◌∙◌, ℕ, ap, codes, refl}
 use Rattle.bip_defs.specs.Matrix.{Matrix, Place, cols}
 use Rattle.bip_graph.specs.Answers.{ArePairs, IsAnalysis, report_of, where_asked}
-use Rattle.bip_graph.specs.Shown.{Decomposes, decomposition_of}
+use Rattle.bip_graph.specs.Decompositions.{Decomposes, decomposition_of}
 use Rattle.bip_graph.specs.Texts.{Sizes, matrix_line, rank_line, report_text, sizes_of, square_line, text_of}
 use Rattle.bip_graph.specs.declared.answers.Decomposition.{Decomposition}
 use Rattle.btf_text.specs.Reports.{lengths_line, sizes_told, summary_text}

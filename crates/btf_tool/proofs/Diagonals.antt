@@ -18,7 +18,7 @@ use Rattle.sp_ids.specs.Entries.{Entries}
 use Rattle.sp_ids.specs.declared.outcomes.Status.{Status}
 use Rattle.sp_ids.specs.declared.outcomes.Status.TheVariants as statuses
 use Rattle.sp_ids.specs.declared.triples.Field.TheVariants.{Integer}
-use Rattle.sp_pattern.specs.Weighing.{IsFirstPast, Weighing}
+use Rattle.sp_pattern.specs.Weights.{IsFirstPast, Weighing}
 
 -- a matrix that is not square, or whose rank is too small, has no diagonal
 none_rectangular : (w : Weighing) (h : Heaviest) → IsHeaviest w h → ¬ (w.matrix.rows ≡ cols w.matrix) → answer_on h ≡ Negative

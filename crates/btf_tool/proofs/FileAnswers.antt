@@ -4,18 +4,18 @@ use Rattle.sp_ids.specs.Entries.{Entries}
 use Rattle.sp_ports.specs.Bytes.{Gives, GivesFront, WhereTold}
 use Rattle.sp_ports.specs.Device.{SourceRose}
 use Rattle.mm_defs.specs.File.{Fault, Reads, rest_of}
-use Rattle.mm_defs.specs.Reading.{Call, FellShort, HasItsKind, Intake, IsAnswer, IsRest, JudgesNoLine, ReadsAll, RefusesRest, TakesAtMostOnePast, call_on, first_bad, got, room}
+use Rattle.mm_defs.specs.Calls.{Call, FellShort, HasItsKind, Intake, IsAnswer, IsRest, JudgesNoLine, ReadsAll, RefusesRest, TakesAtMostOnePast, call_on, first_bad, got, room}
 use Rattle.mm_defs.specs.declared.answers.End.{End}
 use Rattle.mm_defs.specs.declared.answers.End.TheVariants.{File, LastEntry}
 use Rattle.mm_defs.specs.declared.answers.ReadError.{ReadError}
 use Rattle.mm_defs.specs.declared.answers.ReadError.TheVariants as errors
-use Rattle.mm_defs.proofs.Answering.{bad_line_told}
+use Rattle.mm_defs.proofs.AnswerLemmas.{bad_line_told}
 use Rattle.mm_defs.proofs.Behind.{length-behind}
 use Rattle.sp_ports.specs.Device.{Device, HasReadFault}
 use Rattle.btf_tool.specs.Jobs.{GaveFront, OfReading, WasRead, reading}
 use Rattle.btf_tool.specs.Refusals.{refusal_for}
 use Rattle.btf_tool.specs.Runs.{IsReadAs, IsUnread}
-use Rattle.btf_tool.proofs.Completing.{told}
+use Rattle.btf_tool.proofs.Completeness.{told}
 
 second_empty : (xs ys : List ℕ) → xs ++ ys ≡ [] → ys ≡ []
 second_empty [] ys e = e

@@ -13,7 +13,7 @@ use Rattle.bip_graph.specs.declared.answers.Heaviest.{Heaviest}
 use Rattle.btf_text.specs.Diagonals.{diagonal_text}
 use Rattle.integer_diagonal.specs.Heaviest.{IsHeaviest}
 use Rattle.sp_ids.specs.declared.triples.Field.TheVariants.{Integer}
-use Rattle.sp_pattern.specs.Weighing.{AreWeightsOf, IsFirstPast, Weighing}
+use Rattle.sp_pattern.specs.Weights.{AreWeightsOf, IsFirstPast, Weighing}
 use Rattle.btf_tool.specs.Diagonals.{IsDiagonalText, answer_on}
 use Rattle.btf_check.specs.Verdicts.{IsVerdict}
 use Rattle.btf_check.specs.declared.verdict.Verdict.{Verdict}
@@ -24,9 +24,9 @@ use Rattle.btf_tool.specs.declared.refusals.Refusal.{Refusal}
 use Rattle.btf_tool.specs.declared.refusals.Refusal.TheVariants.{Usage, Malformed, Limit, TooLong, SumLimit, NeedsInteger, ReadFault, WriteFault, OutOfMemory}
 use Rattle.sp_ports.specs.Device.{Device, FailsOnceAtMost, IsUntouched, Took, TookFront}
 use Rattle.btf_tool.specs.Jobs.{IsMatrixOf, IsTextOf, MayAnswer, OfReading, ReadsFile, WasRead, WithAnswer, WithFileAnswer, end_of}
-use Rattle.btf_tool.specs.Judging.{IsVerdictText, answer_of, verdict_text}
+use Rattle.btf_tool.specs.VerdictText.{IsVerdictText, answer_of, verdict_text}
 use Rattle.btf_tool.specs.Runs.{IsReadAs, IsUnread, JobSays}
-use Rattle.btf_tool.proofs.Completing.{told}
+use Rattle.btf_tool.proofs.Completeness.{told}
 
 -- what holds of this refusal holds of a result that is it
 pub as_refusal : {T : Type 0} (result : Result T Refusal) (refusal : Refusal) (Q : Result T Refusal → Type 0)

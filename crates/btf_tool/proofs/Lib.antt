@@ -1,9 +1,9 @@
 mod Analyses
-mod Completing
+mod Completeness
 mod Diagonals
 mod FileAnswers
 mod Jobs
-mod Judging
 mod Loads
+mod NeighbourLemmas
 mod Summaries
-mod Touching
+mod VerdictLemmas

@@ -8,7 +8,7 @@ use Rattle.btf_tool.specs.declared.refusals.Refusal.TheVariants.{OutOfMemory, Wr
 use Rattle.sp_ports.specs.Device.{Device, IsUntouched, Took, TookFront}
 use Rattle.btf_tool.specs.Runs.{JobSays}
 use Rattle.btf_tool.specs.Summaries.{IsLoadMatrix, IsSummary}
-use Rattle.btf_tool.proofs.Completing.{untouched_counts, untouched_tells}
+use Rattle.btf_tool.proofs.Completeness.{untouched_counts, untouched_tells}
 
 -- memory ran out
 pub load_no_memory : (size seed : ℕ) (engine : Engine) (input out : Device) → IsUntouched input → IsUntouched out → JobSays (Load size seed engine) input out (Err OutOfMemory)

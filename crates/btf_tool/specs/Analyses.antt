@@ -3,7 +3,7 @@ use Rattle.std.specs.Prelude.{List}
 use Rattle.bip_defs.specs.Lists.{IsRising}
 use Rattle.bip_defs.specs.Matching.{IsMaximum, cols_of}
 use Rattle.bip_defs.specs.Matrix.{Matrix, Place}
-use Rattle.bip_graph.specs.Shown.{Decomposes}
+use Rattle.bip_graph.specs.Decompositions.{Decomposes}
 use Rattle.bip_graph.specs.declared.answers.Decomposition.{Decomposition}
 
 -- its decomposition, and a maximum matching, rising by column

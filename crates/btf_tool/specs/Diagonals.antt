@@ -9,7 +9,7 @@ use Rattle.btf_tool.specs.declared.answers.Answer.TheVariants.{Negative, Positiv
 use Rattle.integer_diagonal.specs.Heaviest.{IsHeaviest}
 use Rattle.sp_ids.specs.Entries.{Entries}
 use Rattle.sp_ids.specs.declared.triples.Field.TheVariants.{Integer}
-use Rattle.sp_pattern.specs.Weighing.{AreWeightsOf, Weighing}
+use Rattle.sp_pattern.specs.Weights.{AreWeightsOf, Weighing}
 
 abbrev pub answer_on : Heaviest → Answer
 answer_on Rectangular = Negative

@@ -7,7 +7,7 @@ use Rattle.bip_graph.specs.Answers.{IsAnalysis, IsRankText}
 use Rattle.btf_words.specs.declared.jobs.Job.{Job}
 use Rattle.btf_words.specs.declared.jobs.Job.TheVariants.{Rank, Analyse, Diagonal, Check, Load}
 use Rattle.mm_defs.specs.File.{Reads}
-use Rattle.mm_defs.specs.Reading.{Call, offered}
+use Rattle.mm_defs.specs.Calls.{Call, offered}
 use Rattle.mm_defs.specs.declared.answers.End.{End}
 use Rattle.mm_defs.specs.declared.answers.End.TheVariants.{File, LastEntry}
 use Rattle.sp_ports.specs.Bytes.{WhereTold}
@@ -15,7 +15,7 @@ use Rattle.btf_tool.specs.declared.answers.Answer.{Answer}
 use Rattle.btf_tool.specs.declared.answers.Answer.TheVariants.{Negative, Positive}
 use Rattle.sp_ports.specs.Device.{Device}
 use Rattle.btf_tool.specs.Diagonals.{IsDiagonalText}
-use Rattle.btf_tool.specs.Judging.{IsVerdictText}
+use Rattle.btf_tool.specs.VerdictText.{IsVerdictText}
 use Rattle.btf_tool.specs.Summaries.{IsLoadMatrix, IsSummary}
 
 -- What a job is, but for the text that it answers.

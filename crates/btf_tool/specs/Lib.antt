@@ -1,9 +1,9 @@
 pub mod Analyses
 pub mod Diagonals
 pub mod Jobs
-pub mod Judging
+pub mod Neighbours
+pub mod Ranks
 pub mod Refusals
 pub mod Runs
 pub mod Summaries
-pub mod Touching
-pub mod Ranks
+pub mod VerdictText

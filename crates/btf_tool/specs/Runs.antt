@@ -10,12 +10,12 @@ use Rattle.btf_words.specs.declared.jobs.Job.TheVariants.{Diagonal, Check}
 use Rattle.bip_defs.specs.Matching.{IsRank}
 use Rattle.bip_defs.specs.Matrix.{Matrix, cols}
 use Rattle.sp_ids.specs.declared.triples.Field.TheVariants.{Integer}
-use Rattle.sp_pattern.specs.Weighing.{IsFirstPast, weight_limit, weight_of}
+use Rattle.sp_pattern.specs.Weights.{IsFirstPast, weight_limit, weight_of}
 use Rattle.btf_check.specs.Verdicts.{IsVerdict}
 use Rattle.btf_check.specs.declared.verdict.Verdict.{Verdict}
 use Rattle.mm_defs.specs.Faults.{is_limit}
 use Rattle.mm_defs.specs.File.{Fault, Reads, first_fault}
-use Rattle.mm_defs.specs.Reading.{first_bad, got}
+use Rattle.mm_defs.specs.Calls.{first_bad, got}
 use Rattle.mm_defs.specs.declared.answers.End.{End}
 use Rattle.sp_ports.specs.Bytes.{WhereTold}
 use Rattle.btf_tool.specs.declared.answers.Answer.{Answer}
@@ -24,7 +24,7 @@ use Rattle.btf_tool.specs.declared.refusals.Refusal.{Refusal}
 use Rattle.btf_tool.specs.declared.refusals.Refusal.TheVariants.{Usage, Malformed, Limit, TooLong, SumLimit, NeedsInteger, ReadFault, WriteFault, OutOfMemory}
 use Rattle.sp_ports.specs.Device.{Device, FailsOnceAtMost, IsSteady, IsUntouched, HasReadFault, HasWriteFault, Took, TookFront, WroteAsFar}
 use Rattle.btf_tool.specs.Jobs.{IsMatrixOf, MayAnswer, OfReading, ReadsFile, WasRead, Weighs, WithAnswer, end_of}
-use Rattle.btf_tool.specs.Judging.{answer_of}
+use Rattle.btf_tool.specs.VerdictText.{answer_of}
 use Rattle.btf_tool.specs.Refusals.{line_of, status_of, status_of_answer}
 
 -- a run: the words after the program's name, and what is seen of the devices

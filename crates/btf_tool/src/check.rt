@@ -7,7 +7,7 @@ ghost use Rattle.btf_words.specs.declared.jobs.Job.TheVariants.{Check};
 ghost use Rattle.sp_pattern.specs.Stored.{IsPattern};
 ghost use Rattle.sp_ports.specs.Device.{Writes, seen};
 ghost use Rattle.btf_tool.specs.Jobs.{GaveFront, IsMatrixOf, OfReading};
-ghost use Rattle.btf_tool.specs.Judging.{answer_of as answer_on, verdict_text};
+ghost use Rattle.btf_tool.specs.VerdictText.{answer_of as answer_on, verdict_text};
 ghost use Rattle.btf_tool.specs.Runs.{JobSays};
 
 use crate::reading::{Followed, read_followed};

@@ -1,7 +1,7 @@
 //! The choice of the search that finds a maximum matching.
 
 ghost use Rattle.std.specs.Prelude.{◌≤◌, IfOk};
-ghost use Rattle.bip_graph.specs.Pairing.{IsMaximumOf};
+ghost use Rattle.bip_graph.specs.Matching.{IsMaximumOf};
 ghost use Rattle.sp_ids.specs.Limits.{max_workers};
 
 use bip_graph::Matching;

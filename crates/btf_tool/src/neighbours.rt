@@ -4,7 +4,7 @@ ghost use Rattle.std.specs.Prelude.{◌≡◌, ◌<◌, ◌^◌, ◌↔◌, ℕ,
 ghost use Rattle.bip_defs.specs.Lists.{Among, Lists};
 ghost use Rattle.bip_defs.specs.Matrix.{cols as cols_of_matrix};
 ghost use Rattle.bip_defs.specs.Lists.{IsMarked};
-ghost use Rattle.btf_tool.specs.Touching.{AddsMarks, Touches};
+ghost use Rattle.btf_tool.specs.Neighbours.{AddsMarks, Touches};
 
 use sp_ids::{Col, OutOfMemory, Row};
 use sp_pattern::Pattern;

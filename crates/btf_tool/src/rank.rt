@@ -3,7 +3,7 @@
 ghost use Rattle.std.specs.Prelude.{IfOk};
 ghost use Rattle.bip_defs.specs.Lists.{Lists};
 ghost use Rattle.bip_defs.specs.Parts.{IsHorizontalCol};
-ghost use Rattle.bip_graph.specs.Pairing.{IsMaximumOf};
+ghost use Rattle.bip_graph.specs.Matching.{IsMaximumOf};
 ghost use Rattle.btf_words.specs.declared.jobs.Job.TheVariants.{Rank};
 ghost use Rattle.sp_ports.specs.Device.{seen};
 ghost use Rattle.btf_tool.specs.Jobs.{GaveFront, OfReading};

@@ -2,10 +2,10 @@
 use Rattle.std.proofs.Common.{◌≡◌, ◌∙◌, ℕ, ◌+◌, ◌<◌, ◌≤◌, Option, None, Some, List, length, option_map, refl, sym, ap, subst, subst₂, arith}
 use Rattle.atomic_table.specs.Seated.{TableId}
 use Rattle.claim_words.specs.Board.{Board}
-use Rattle.claim_words.specs.Coding.{roots_in, rows_in}
+use Rattle.claim_words.specs.WordCodes.{roots_in, rows_in}
 use Rattle.claim_words.specs.Rule.{Known}
 use Rattle.claim_words.specs.Seat.{Seat}
-use Rattle.claim_words.proofs.Decoding.{root_below, rows_long}
+use Rattle.claim_words.proofs.WordCodes.{root_below, rows_long}
 use Rattle.claim_words.specs.Stored.{IsLaid, board_in, shown}
 
 -- A seat of a board is of the board's table, and knows what the words held when it was opened

@@ -7,15 +7,15 @@ use Rattle.atomic_table.specs.Table.{State}
 use Rattle.atomic_table.proofs.Lists.{at_map}
 use Rattle.bip_defs.specs.Lists.{Among}
 use Rattle.claim_words.specs.Board.{Words, held}
-use Rattle.claim_words.specs.Coding.{decoded, roots_in, rows_in, value_of}
+use Rattle.claim_words.specs.WordCodes.{decoded, roots_in, rows_in, value_of}
 use Rattle.claim_words.specs.Listed.{Listed, Sight, all_listed, claimed, looked, root_word, row_word, won}
 use Rattle.claim_words.specs.Rule.{Kept, Known, listed_by}
 use Rattle.claim_words.specs.Settles.{Settles, Stands}
 use Rattle.claim_words.specs.Steps.{KnewRoot, KnewRow, knowing}
-use Rattle.claim_words.proofs.Decoding.{root_read, roots_root, roots_row, row_below, row_read, rows_root, rows_row}
+use Rattle.claim_words.proofs.WordCodes.{root_read, roots_root, roots_row, row_below, row_read, rows_root, rows_row}
 use Rattle.claim_words.proofs.Flat.{among_flat}
-use Rattle.claim_words.proofs.Seating.{seated_step}
-use Rattle.claim_words.proofs.Settling.{settles_claim, settles_look, settles_win}
+use Rattle.claim_words.proofs.SeatNumbers.{seated_step}
+use Rattle.claim_words.proofs.SettledWords.{settles_claim, settles_look, settles_win}
 
 -- a word that is written fits
 pub fits_set : (ws : List ℕ) (i x : ℕ) → ((j : ℕ) → slice_index ws j ≤ 4294967296) → x ≤ 4294967296 → (j : ℕ) → slice_index (set ws i x) j ≤ 4294967296

@@ -8,13 +8,13 @@ use lib.ListN.{get_elem?}
 use Rattle.atomic_table.specs.Table.{opening}
 use Rattle.claim_words.specs.Accounts.{Accounts, is_added}
 use Rattle.claim_words.specs.Board.{Board, held}
-use Rattle.claim_words.specs.Coding.{AllFit, code_by, roots_in, rows_in, value_of, words_for}
+use Rattle.claim_words.specs.WordCodes.{AllFit, code_by, roots_in, rows_in, value_of, words_for}
 use Rattle.claim_words.specs.Listed.{nothing}
 use Rattle.claim_words.specs.Rule.{AreSeated, Kept, Known, below, has_number, opener}
 use Rattle.claim_words.specs.Seat.{Seat, first_seat, more_seats, new_seat}
-use Rattle.claim_words.proofs.Accounting.{one_else}
-use Rattle.claim_words.proofs.Decoding.{coded_read}
-use Rattle.claim_words.proofs.Seating.{known_same}
+use Rattle.claim_words.proofs.AccountLemmas.{one_else}
+use Rattle.claim_words.proofs.WordCodes.{coded_read}
+use Rattle.claim_words.proofs.SeatNumbers.{known_same}
 
 -- Seats.
 

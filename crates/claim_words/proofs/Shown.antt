@@ -8,10 +8,10 @@ use Rattle.claim_words.specs.Accounts.{times}
 use Rattle.claim_words.specs.Listed.{Listed, claimed, looked, root_word, row_word, won}
 use Rattle.claim_words.specs.Rule.{Known, known}
 use Rattle.claim_words.specs.Seat.{KnowsRoot, KnowsRow, Seat, after_claim, after_look, after_win, with_listed}
-use Rattle.claim_words.specs.Coding.{value_of}
+use Rattle.claim_words.specs.WordCodes.{value_of}
 use Rattle.claim_words.specs.Steps.{KnewRoot, KnewRow, Tells, knowing}
 use Rattle.claim_words.specs.Stored.{IsOpen, shown}
-use Rattle.claim_words.proofs.Accounting.{not_some, one_else, one_here}
+use Rattle.claim_words.proofs.AccountLemmas.{not_some, one_else, one_here}
 use Rattle.claim_words.proofs.Flat.{times_append}
 
 pub open_after : {S : Type 0} {me now : Me S (Option Known)} {k : Known} {Knew : ℕ → Type 0} {l : Listed} {found : ℕ} → IsOpen me → Tells k Knew l found me now → IsOpen now

@@ -1,7 +1,6 @@
 pub mod Accounts
 pub mod Answers
 pub mod Board
-pub mod Coding
 pub mod Contest
 pub mod Listed
 pub mod Rule
@@ -9,4 +8,5 @@ pub mod Seat
 pub mod Settles
 pub mod Steps
 pub mod Stored
+pub mod WordCodes
 pub mod WorkerState

@@ -3,7 +3,7 @@ use Rattle.std.specs.Prelude.{◌≡◌, ℕ, zero, suc, ◌≤◌, ◌==◌, if
 use mathlib.Core.Option.{some}
 use lib.ListN.{get_elem?}
 use Rattle.atomic_table.specs.Table.{State}
-use Rattle.claim_words.specs.Coding.{decoded, roots_in, rows_in, AllFit}
+use Rattle.claim_words.specs.WordCodes.{decoded, roots_in, rows_in, AllFit}
 use Rattle.claim_words.specs.Listed.{Listed, all_listed, nothing}
 use Rattle.claim_words.specs.Settles.{Settles}
 

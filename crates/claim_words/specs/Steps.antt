@@ -3,7 +3,7 @@ use Rattle.std.specs.Prelude.{◌≡◌, ◌⊎◌, ℕ, ◌+◌, ◌-◌, ◌�
 use Rattle.bip_defs.specs.Lists.{Among}
 use Rattle.atomic_table.specs.Table.{Me, Step}
 use Rattle.claim_words.specs.Board.{Words, held}
-use Rattle.claim_words.specs.Coding.{value_of}
+use Rattle.claim_words.specs.WordCodes.{value_of}
 use Rattle.claim_words.specs.Listed.{Listed, claimed, followed_by, looked, nothing, root_word, row_word, won}
 use Rattle.claim_words.specs.Rule.{Known}
 use Rattle.claim_words.specs.Settles.{Settles}

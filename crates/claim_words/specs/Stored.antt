@@ -3,7 +3,7 @@ use Rattle.std.specs.Prelude.{◌≡◌, ℕ, ◌+◌, ◌≤◌, ◌<◌, ◌^�
 use Rattle.atomic_table.specs.Seated.{TableId}
 use Rattle.atomic_table.specs.Table.{Me}
 use Rattle.claim_words.specs.Board.{Board}
-use Rattle.claim_words.specs.Coding.{roots_in, rows_in, AllFit}
+use Rattle.claim_words.specs.WordCodes.{roots_in, rows_in, AllFit}
 use Rattle.claim_words.specs.Rule.{Known, known, nobody}
 use Rattle.claim_words.specs.Seat.{Seat}
 

@@ -4,7 +4,7 @@ ghost use Rattle.std.specs.Prelude.{◌≡◌, ℕ, ◌+◌, ◌<◌, ◌≤◌,
 ghost use Rattle.claim_words.specs.Accounts.{times};
 ghost use Rattle.claim_words.specs.Answers.{col_before, leaf_before};
 ghost use Rattle.claim_words.specs.Board.{Words};
-ghost use Rattle.claim_words.specs.Coding.{AllFit, code_by, value_of, words_for};
+ghost use Rattle.claim_words.specs.WordCodes.{AllFit, code_by, value_of, words_for};
 ghost use Rattle.claim_words.specs.Listed.{followed_by, nothing, root_word, row_word};
 ghost use Rattle.claim_words.specs.Seat.{KnowsRoot, KnowsRow, after_claim, after_look, after_win, first_seat, new_seat, new_seats};
 ghost use Rattle.claim_words.specs.Settles.{Settles};

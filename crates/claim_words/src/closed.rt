@@ -24,7 +24,7 @@ impl Model for Closed {
 
     ghost use Rattle.std.specs.Prelude.{◌≡◌};
     ghost use Rattle.std.specs.Mem.Slots.{IsFull, slots_items, slots_len};
-    ghost use Rattle.claim_words.specs.Coding.{decoded};
+    ghost use Rattle.claim_words.specs.WordCodes.{decoded};
     ghost use Rattle.claim_words.specs.Stored.{IsLeft};
 
     ghost view = { λ c. decoded c.rows (slots_items c.words.words) };

@@ -6,8 +6,8 @@ mod split;
 
 ghost use Rattle.std.specs.Prelude.{IfOk};
 ghost use Rattle.bip_defs.specs.Parts.{ArePartsOf};
-ghost use Rattle.bip_graph.specs.Pairing.{IsMaximumOf};
-ghost use Rattle.bip_graph.specs.Shown.{parts_of};
+ghost use Rattle.bip_graph.specs.Matching.{IsMaximumOf};
+ghost use Rattle.bip_graph.specs.Decompositions.{parts_of};
 
 use crate::maximum::Maximum;
 use bip_graph::{Matching, Parts};

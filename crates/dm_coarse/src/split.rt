@@ -5,7 +5,7 @@ ghost use Rattle.bip_defs.specs.Lists.{Lists};
 ghost use Rattle.bip_defs.specs.Marks.{Marks};
 ghost use Rattle.bip_defs.specs.Matrix.{Matrix, cols};
 ghost use Rattle.bip_defs.specs.Parts.{IsHorizontalCol, IsHorizontalRow, IsSquareRow, IsVerticalRow};
-ghost use Rattle.bip_graph.specs.Pairing.{IsMaximumOf};
+ghost use Rattle.bip_graph.specs.Matching.{IsMaximumOf};
 ghost use Rattle.dm_coarse.specs.Split.{IsInPart};
 
 use bip_graph::{Matching, Opposite};

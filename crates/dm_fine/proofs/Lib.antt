@@ -1,9 +1,9 @@
-pub mod Blocking
+pub mod BlockLemmas
 pub mod Gathered
-pub mod Grouping
+pub mod GroupLemmas
+pub mod GroupParts
 pub mod InDegrees
-pub mod Listing
-pub mod Mating
-pub mod Ordering
-pub mod Parting
+pub mod ListedBlocks
+pub mod MateLemmas
+pub mod OrderLemmas
 pub mod Sums

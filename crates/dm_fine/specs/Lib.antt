@@ -1,3 +1,3 @@
-pub mod Following
+pub mod BlockOrder
 pub mod Groups
 pub mod InDegrees

@@ -10,8 +10,8 @@ mod order;
 ghost use Rattle.std.specs.Prelude.{IfOk};
 ghost use Rattle.bip_defs.specs.Blocks.{AreBlocksOf};
 ghost use Rattle.bip_defs.specs.Parts.{ArePartsOf};
-ghost use Rattle.bip_graph.specs.Pairing.{IsMaximumOf};
-ghost use Rattle.bip_graph.specs.Shown.{parts_of};
+ghost use Rattle.bip_graph.specs.Matching.{IsMaximumOf};
+ghost use Rattle.bip_graph.specs.Decompositions.{parts_of};
 
 use crate::groups::gather;
 use crate::listed::listed;

@@ -2,7 +2,7 @@
 
 ghost use Rattle.std.specs.Prelude.{◌≡◌, [], length, IfOk};
 ghost use Rattle.bip_defs.specs.Matrix.{row_list};
-ghost use Rattle.dm_fine.specs.Following.{AreOrdered};
+ghost use Rattle.dm_fine.specs.BlockOrder.{AreOrdered};
 ghost use Rattle.dm_fine.specs.InDegrees.{AreReady, HaveLeast, IsGathered, least_of, edges_into};
 
 use crate::groups::Groups;

@@ -7,7 +7,7 @@ use Rattle.flip_words.specs.Board.{Board}
 use Rattle.flip_words.specs.Rule.{IsOfTaken, Known, Opened, opened_in}
 use Rattle.flip_words.specs.Seat.{HasSet, Seat, TookTreeOf}
 use Rattle.flip_words.specs.Stored.{IsLaid, IsOpen, board_in, shown}
-use Rattle.flip_words.proofs.Decoding.{vertices_long}
+use Rattle.flip_words.proofs.WordCodes.{vertices_long}
 
 -- A seat of a board is of the board's table, and knows what the board was opened with
 pub record IsOf (table id : TableId) (k : Known) (o : Opened) : Type 0 where

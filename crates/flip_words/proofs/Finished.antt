@@ -11,16 +11,16 @@ use Rattle.bip_defs.proofs.Sets.{among_either, among_last, among_left, among_rig
 use Rattle.bip_graph.specs.Mates.{Mated}
 use Rattle.flip_words.specs.Accounts.{Settles, times}
 use Rattle.flip_words.specs.Board.{Board, held}
-use Rattle.flip_words.specs.Coding.{mate_of, mates_in, takers_in}
+use Rattle.flip_words.specs.WordCodes.{mate_of, mates_in, takers_in}
 use Rattle.flip_words.specs.Listed.{Listed, all_listed, followed_by}
 use Rattle.flip_words.specs.Rule.{Kept, Known, known, opened_in}
-use Rattle.flip_words.specs.Closing.{gathered, SettlesAll}
+use Rattle.flip_words.specs.ClosedBoards.{gathered, SettlesAll}
 use Rattle.flip_words.specs.Seat.{AreAllSeats, AreNumbered, IsRightful, Seat, first_seat, lists_of}
 use Rattle.flip_words.specs.Stored.{AreLeft, AreSized, board_in}
-use Rattle.flip_words.proofs.Accounting.{sets_moved, takes_moved}
-use Rattle.flip_words.proofs.Decoding.{mate_read, vertices_long}
+use Rattle.flip_words.proofs.AccountLemmas.{sets_moved, takes_moved}
+use Rattle.flip_words.proofs.WordCodes.{mate_read, vertices_long}
 use Rattle.flip_words.proofs.Flat.{times_append}
-use Rattle.flip_words.proofs.Seating.{alone}
+use Rattle.flip_words.proofs.SeatNumbers.{alone}
 
 pub rightful_more : (seats : List Seat) (i : ℕ) (seat : Seat) → i < length seats → seat ≡ get_or seats i seat → ((s : Seat) → Among s (take i seats) → IsRightful s) → IsRightful seat → (s : Seat) → Among s (take (i + 1) seats) → IsRightful s
 rightful_more seats i seat lt at before own s h = ⊎_elim (before s) (λ (e : s ≡ seat). subst IsRightful (sym e) own) (among_last s seat (take i seats) (subst (Among s) (take_more seats i seat lt ∙ ap (λ t. take i seats ++ t ∷ []) (sym at)) h))

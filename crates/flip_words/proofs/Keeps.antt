@@ -9,14 +9,14 @@ use Rattle.bip_defs.specs.Lists.{Among}
 use Rattle.bip_defs.proofs.Sets.{among_either, among_last, among_left, among_right, number_same}
 use Rattle.flip_words.specs.Accounts.{Settles, is_held, times}
 use Rattle.flip_words.specs.Board.{held}
-use Rattle.flip_words.specs.Coding.{half, mate_of, mates_in, takers_in, tree_of, trees_in, value_of, vertex_word}
+use Rattle.flip_words.specs.WordCodes.{half, mate_of, mates_in, takers_in, tree_of, trees_in, value_of, vertex_word}
 use Rattle.flip_words.specs.Listed.{Listed, all_listed, followed_by, looked, put, took}
 use Rattle.flip_words.specs.Rule.{IsOfTaken, Kept, Known, SetsItsOwn, listed_by}
 use Rattle.flip_words.specs.Steps.{knowing}
-use Rattle.flip_words.proofs.Accounting.{sets_of, settles_look, settles_put, settles_seen, settles_take, some_same}
-use Rattle.flip_words.proofs.Decoding.{mate_coded, mate_read, taker_below, taker_read, takers_put, takers_take, tree_coded, value_there, vertices_put, vertices_take}
+use Rattle.flip_words.proofs.AccountLemmas.{sets_of, settles_look, settles_put, settles_seen, settles_take, some_same}
+use Rattle.flip_words.proofs.WordCodes.{mate_coded, mate_read, taker_below, taker_read, takers_put, takers_take, tree_coded, value_there, vertices_put, vertices_take}
 use Rattle.flip_words.proofs.Flat.{among_flat, times_none, times_some, times_two}
-use Rattle.flip_words.proofs.Seating.{seated_step}
+use Rattle.flip_words.proofs.SeatNumbers.{seated_step}
 
 -- the same slots, with other words and views
 abbrev pub with_words : {S : Type 0} → State S (Option Known) → List ℕ → List (Option Known) → State S (Option Known)

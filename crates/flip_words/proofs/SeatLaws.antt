@@ -9,10 +9,10 @@ use Rattle.bip_defs.proofs.Sets.{among_either, among_left, among_right}
 use Rattle.bip_graph.specs.Mates.{Mated, mate_in}
 use Rattle.flip_words.specs.Accounts.{is_held, times}
 use Rattle.flip_words.specs.Board.{Board, col_vertex, held}
-use Rattle.flip_words.specs.Closing.{AreMatesAfter, HaveOneTakerEach, SettlesAll}
+use Rattle.flip_words.specs.ClosedBoards.{AreMatesAfter, HaveOneTakerEach, SettlesAll}
 use Rattle.flip_words.specs.Listed.{Listed}
 use Rattle.flip_words.specs.Seat.{AreAllSeats, AreNumbered, HasSeen, HasSet, HasSetTo, IsSameSeat, Seat, Took, lists_of, more_seats, new_seats}
-use Rattle.flip_words.proofs.Accounting.{some_same}
+use Rattle.flip_words.proofs.AccountLemmas.{some_same}
 use Rattle.flip_words.proofs.Flat.{times_none, times_one}
 
 -- All seats.

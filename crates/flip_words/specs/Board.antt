@@ -3,7 +3,7 @@
 use Rattle.std.specs.Prelude.{◌≡◌, ◌↔◌, ℕ, ◌+◌, ◌<◌, List, Option, None, Some, length, slice_index_or}
 use Rattle.atomic_table.specs.Seated.{TableId}
 use Rattle.bip_defs.specs.Lists.{Among}
-use Rattle.bip_graph.specs.Pairing.{Pairing}
+use Rattle.bip_graph.specs.Matching.{Pairing}
 
 -- the table of shared words in which a board stands, the numbers of rows and columns, and for each vertex the mate with which it was opened and the root of its tree
 pub record Board : Type 0 where

@@ -1,12 +1,12 @@
 pub mod Accounts
 pub mod Board
-pub mod Closing
-pub mod Coding
+pub mod ClosedBoards
 pub mod Contest
 pub mod Listed
-pub mod Opening
+pub mod OpenedBoards
 pub mod Rule
 pub mod Seat
 pub mod Steps
 pub mod Stored
 pub mod Taken
+pub mod WordCodes

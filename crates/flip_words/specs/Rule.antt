@@ -6,7 +6,7 @@ use Rattle.atomic_table.specs.Table.{State}
 use Rattle.bip_defs.specs.Lists.{Among}
 use Rattle.flip_words.specs.Accounts.{Settles}
 use Rattle.flip_words.specs.Board.{held}
-use Rattle.flip_words.specs.Coding.{half, mates_in, takers_in, trees_in}
+use Rattle.flip_words.specs.WordCodes.{half, mates_in, takers_in, trees_in}
 use Rattle.flip_words.specs.Listed.{Listed, all_listed, nothing}
 
 -- the numbers of rows and columns of a board, and the mates and trees of its vertices when it was opened

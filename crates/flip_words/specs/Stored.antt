@@ -5,7 +5,7 @@ use Rattle.atomic_table.specs.Table.{Me}
 use Rattle.bip_graph.specs.Mates.{Mated}
 use Rattle.flip_words.specs.Accounts.{Settles}
 use Rattle.flip_words.specs.Board.{Board}
-use Rattle.flip_words.specs.Coding.{mates_in, takers_in}
+use Rattle.flip_words.specs.WordCodes.{mates_in, takers_in}
 use Rattle.flip_words.specs.Listed.{Listed}
 use Rattle.flip_words.specs.Rule.{Known, Opened, known}
 use Rattle.flip_words.specs.Seat.{Seat}

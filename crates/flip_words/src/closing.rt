@@ -2,7 +2,7 @@
 
 ghost use Rattle.std.specs.Prelude.{◌≡◌, ◌+◌, ◌++◌, length};
 ghost use Rattle.std.specs.Mem.Slots.{IsFull, slots_items};
-ghost use Rattle.flip_words.specs.Coding.{mates_in};
+ghost use Rattle.flip_words.specs.WordCodes.{mates_in};
 ghost use Rattle.flip_words.specs.Stored.{AreSized};
 
 use crate::words::{as_col, as_row, mate};

@@ -4,7 +4,7 @@ ghost use Rattle.std.specs.Prelude.{ℕ, ◌≤◌, List};
 ghost use Rattle.std.specs.List.{AllZip};
 ghost use Rattle.bip_graph.specs.Mates.{Mated};
 ghost use Rattle.flip_words.specs.Board.{Board};
-ghost use Rattle.flip_words.specs.Closing.{AreMatesAfter, HaveOneTakerEach, SettlesAll};
+ghost use Rattle.flip_words.specs.ClosedBoards.{AreMatesAfter, HaveOneTakerEach, SettlesAll};
 ghost use Rattle.flip_words.specs.Seat.{AreAllSeats, IsSameSeat, Seat, new_seats};
 
 /// The seats with which a board is opened are all its seats.

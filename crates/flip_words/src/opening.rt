@@ -2,8 +2,8 @@
 
 ghost use Rattle.std.specs.Prelude.{◌≡◌, ◌+◌, ◌*◌, ◌<◌, [], ◌∷◌, ◌++◌, IfOk, OnOk};
 ghost use Rattle.flip_words.specs.Board.{AreTrees};
-ghost use Rattle.flip_words.specs.Coding.{code_of, half};
-ghost use Rattle.flip_words.specs.Opening.{AreLaid};
+ghost use Rattle.flip_words.specs.WordCodes.{code_of, half};
+ghost use Rattle.flip_words.specs.OpenedBoards.{AreLaid};
 
 use crate::words::HALF;
 use bip_graph::Matching;

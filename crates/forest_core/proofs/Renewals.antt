@@ -3,19 +3,19 @@ use Rattle.std.proofs.Common.{◌≡◌, ◌∙◌, ℕ, ◌<◌, Bool, true, fa
 use Rattle.bip_defs.specs.Lists.{Among}
 use Rattle.bip_defs.specs.Matrix.{Place}
 use Rattle.bip_defs.proofs.Sets.{among_at, place_among, row_among, row_pair}
-use Rattle.bip_graph.specs.Pairing.{Pairing}
+use Rattle.bip_graph.specs.Matching.{Pairing}
 use Rattle.forest_core.specs.Current.{IsCurrent}
 use Rattle.forest_core.specs.Events.{AreKept, IsRenewed, drops, keeps, none}
-use Rattle.forest_core.specs.Exchanging.{CanExchange, IsExchanged}
-use Rattle.forest_core.specs.Renewing.{kept, root_has_leaf}
+use Rattle.forest_core.specs.Paths.{CanExchange, IsExchanged}
+use Rattle.forest_core.specs.Kept.{kept, root_has_leaf}
 use Rattle.forest_core.specs.Sound.{AreClaims, IsSound}
 use Rattle.forest_core.specs.State.{IsRootOfRow, IsWon, RootOf, State, roots_of}
 use Rattle.forest_core.specs.Stored.{AreClaimRoots, AreMarks, AreRowTrees, IsStored, Tables}
 use Rattle.forest_core.specs.Tables.{AreAlike, IsTableOf, beside}
 use Rattle.forest_core.proofs.Grafts.{kept_claims, kept_root, kept_sound}
 use Rattle.forest_core.proofs.Roots.{has_root, one_root, root_of_claimer}
-use Rattle.forest_core.proofs.Sounds.{renewed_sound}
-use Rattle.forest_core.proofs.Storing.{claim_in_range, leaf_in_range, root_in_range}
+use Rattle.forest_core.proofs.Soundness.{renewed_sound}
+use Rattle.forest_core.proofs.StoredForests.{claim_in_range, leaf_in_range, root_in_range}
 
 -- What the tables say of a claim's root.
 

@@ -1,8 +1,8 @@
 pub mod Current
 pub mod Events
-pub mod Exchanging
-pub mod Fields
-pub mod Renewing
+pub mod Inside
+pub mod Kept
+pub mod Paths
 pub mod Sound
 pub mod State
 pub mod Stored

@@ -2,7 +2,7 @@
 use Rattle.std.specs.Prelude.{◌≡◌, ◌↔◌, ℕ, ◌<◌, Bool, true, false, List, Option, Some, length, slice_index_or}
 use Rattle.bip_defs.specs.Lists.{Among}
 use Rattle.bip_defs.specs.Matrix.{Place, cols}
-use Rattle.bip_graph.specs.Pairing.{Pairing}
+use Rattle.bip_graph.specs.Matching.{Pairing}
 use Rattle.forest_core.specs.Sound.{IsSound}
 use Rattle.forest_core.specs.State.{IsRootOfRow, RootOf, State}
 use Rattle.forest_core.specs.Tables.{Claimed, IsTableOf, beside}

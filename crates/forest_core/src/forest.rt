@@ -4,7 +4,7 @@ ghost use Rattle.std.specs.Prelude.{◌≡◌, ◌↔◌, ℕ, ◌+◌, ◌<◌,
 ghost use Rattle.bip_defs.specs.Lists.{Among};
 ghost use Rattle.bip_defs.specs.Matching.{rows_of, cols_of};
 ghost use Rattle.bip_defs.specs.Matrix.{cols};
-ghost use Rattle.bip_graph.specs.Pairing.{IsMatchingOf};
+ghost use Rattle.bip_graph.specs.Matching.{IsMatchingOf};
 ghost use Rattle.forest_core.specs.Current.{IsCurrent};
 ghost use Rattle.forest_core.specs.Events.{AreFlipped, AreKept, Grows, IsClosed, IsLegal, IsRenewed};
 ghost use Rattle.forest_core.specs.Sound.{IsSound};
@@ -51,7 +51,7 @@ impl<'p> Model for Forest<'p> {
 
     ghost Value = { State };
 
-    ghost use Rattle.forest_core.specs.Fields.{IsForest, state_of};
+    ghost use Rattle.forest_core.specs.Inside.{IsForest, state_of};
 
     ghost view = { state_of };
 

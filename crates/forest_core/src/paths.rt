@@ -1,7 +1,7 @@
 //! The paths of roots.
 
 ghost use Rattle.std.specs.Prelude.{◌≡◌, ℕ, ◌≤◌, List, length, vec_capacity};
-ghost use Rattle.forest_core.specs.Exchanging.{CanExchange, CanTrace, IsExchanged, IsPath};
+ghost use Rattle.forest_core.specs.Paths.{CanExchange, CanTrace, IsExchanged, IsPath};
 ghost use Rattle.forest_core.specs.State.{State};
 
 use crate::claim_table::ClaimTable;

@@ -3,7 +3,7 @@
 ghost use Rattle.std.specs.Prelude.{◌≡◌, ◌↔◌, ℕ, ◌<◌, List, Bool, Some, true, false, [], length, take, slice_index_or, IsTrue};
 ghost use Rattle.bip_defs.specs.Lists.{Among, AreDistinct};
 ghost use Rattle.bip_defs.specs.Matching.{rows_of};
-ghost use Rattle.forest_core.specs.Renewing.{kept};
+ghost use Rattle.forest_core.specs.Kept.{kept};
 ghost use Rattle.forest_core.specs.State.{roots_of};
 ghost use Rattle.forest_core.specs.Stored.{AreClaimRoots, AreMarks};
 ghost use Rattle.forest_core.specs.Tables.{IsTableOf, beside};

@@ -3,7 +3,7 @@
 ghost use Rattle.std.specs.Prelude.{◌≡◌, ℕ, ◌+◌, ◌<◌, ◌≤◌, List, length, take, slice_index_or, IfOk};
 ghost use Rattle.bip_defs.specs.Matching.{IsMatching};
 ghost use Rattle.bip_defs.specs.Matrix.{Place};
-ghost use Rattle.bip_graph.specs.Pairing.{IsMatchingOf};
+ghost use Rattle.bip_graph.specs.Matching.{IsMatchingOf};
 ghost use Rattle.forest_core.specs.Current.{IsCurrent};
 ghost use Rattle.forest_core.specs.Events.{IsLegal, Becomes, Runs, flips};
 ghost use Rattle.forest_core.specs.Sound.{IsSound};

@@ -6,8 +6,8 @@ ghost use Rattle.bip_defs.specs.Matching.{cols_of, rows_of};
 ghost use Rattle.bip_defs.specs.Matrix.{IsEntry, Place};
 ghost use Rattle.forest_core.specs.Events.{Runs};
 ghost use Rattle.forest_core.specs.State.{InForest, IsRootOfRow, State};
-ghost use Rattle.frontier_levels.specs.Growing.{claims_then_wins, grown_by};
-ghost use Rattle.level_sharing.specs.Agreeing.{AreNew};
+ghost use Rattle.frontier_levels.specs.Growth.{claims_then_wins, grown_by};
+ghost use Rattle.level_sharing.specs.Agreement.{AreNew};
 
 use forest_core::{claims_and_wins_grow, runs_join};
 

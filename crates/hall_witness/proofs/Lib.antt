@@ -1,4 +1,4 @@
-pub mod Marking
+pub mod MarkLemmas
 pub mod Phases
-pub mod Scanning
-pub mod Searching
+pub mod ScanLemmas
+pub mod SearchLemmas

@@ -2,7 +2,7 @@
 
 ghost use Rattle.std.specs.Prelude.{IfOk};
 ghost use Rattle.bip_defs.specs.Witness.{IsWitness};
-ghost use Rattle.bip_graph.specs.Pairing.{IsMaximumOf, Pairing};
+ghost use Rattle.bip_graph.specs.Matching.{IsMaximumOf, Pairing};
 
 use crate::answer::Reach;
 use crate::witness::reach;

@@ -1,6 +1,6 @@
 pub mod Bits
-pub mod Clearing
+pub mod InsertLemmas
 pub mod Least
-pub mod Marking
 pub mod Members
+pub mod RemoveLemmas
 pub mod Views

@@ -7,7 +7,7 @@ use Rattle.bip_defs.specs.Matrix.{Place, cols, upto}
 use Rattle.bip_defs.proofs.Sets.{few_distinct, upto_length, upto_lists}
 use Rattle.integer_diagonal.proofs.Cheap.{cheap_entry}
 use Rattle.integer_diagonal.specs.Duals.{Priced, cheap, cost, dual, paid, top}
-use Rattle.integer_diagonal.specs.Searching.{IsGrown, IsLedTo, Reaches, Tree, depth, stop}
+use Rattle.integer_diagonal.specs.SearchTree.{IsGrown, IsLedTo, Reaches, Tree, depth, stop}
 use Rattle.bip_defs.specs.Queues.{at, heads}
 
 -- the depth of the column at a place, and its dual variable, against each other

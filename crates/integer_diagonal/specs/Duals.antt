@@ -3,9 +3,9 @@ use Rattle.std.specs.Prelude.{◌≡◌, ℕ, ◌+◌, ◌-◌, ◌^◌, ◌≤�
 use Rattle.bip_defs.specs.Lists.{Among}
 use Rattle.bip_defs.specs.Matching.{IsMatching, cols_of, rows_of}
 use Rattle.bip_defs.specs.Matrix.{IsEntry, Matrix, Place, cols, column, upto}
-use Rattle.bip_graph.specs.Pairing.{Pairing}
+use Rattle.bip_graph.specs.Matching.{Pairing}
 use Rattle.integer_diagonal.specs.declared.assignment.Assignment.{Assignment}
-use Rattle.sp_pattern.specs.Weighing.{Weighing, weight_at}
+use Rattle.sp_pattern.specs.Weights.{Weighing, weight_at}
 
 -- what an entry costs is how much less it weighs than this
 abbrev pub top : ℕ

@@ -7,7 +7,7 @@ use Rattle.bip_defs.specs.Parts.{IsHorizontalCol}
 use Rattle.bip_graph.specs.declared.answers.Heaviest.{Heaviest}
 use Rattle.bip_graph.specs.declared.answers.Heaviest.TheVariants.{Diagonal, Rectangular, Singular}
 use Rattle.integer_diagonal.specs.Prices.{AreFair, IsFull, total}
-use Rattle.sp_pattern.specs.Weighing.{Weighing}
+use Rattle.sp_pattern.specs.Weights.{Weighing}
 
 -- as many rows as columns, and a rank that is less, with the columns that some maximum matching misses
 pub record IsSingular (a : Matrix) (rank : ℕ) (hall : List ℕ) : Type 0 where

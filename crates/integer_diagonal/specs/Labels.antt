@@ -6,7 +6,7 @@ use Rattle.bip_defs.specs.Matrix.{IsEntry, Place}
 use Rattle.integer_diagonal.specs.declared.search.Nearest.{Nearest}
 use Rattle.integer_diagonal.specs.declared.search.Search.{Search}
 use Rattle.integer_diagonal.specs.Duals.{Priced, dual, paid}
-use Rattle.integer_diagonal.specs.Searching.{IsNearest, Reaches, Tree, depth, far, stop}
+use Rattle.integer_diagonal.specs.SearchTree.{IsNearest, Reaches, Tree, depth, far, stop}
 
 pub record Labels : Type 0 where
   pub distances : List ℕ

@@ -1,7 +1,7 @@
 pub mod Duals
+pub mod FirstPrices
 pub mod Heaviest
 pub mod Labels
 pub mod Nearness
 pub mod Prices
-pub mod Searching
-pub mod Starting
+pub mod SearchTree

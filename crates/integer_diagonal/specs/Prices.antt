@@ -3,7 +3,7 @@ use Rattle.std.specs.Prelude.{◌≡◌, ℕ, ℤ, pos, ◌+ℤ◌, ◌≤ℤ◌
 use Rattle.bip_defs.specs.Lists.{Among}
 use Rattle.bip_defs.specs.Matching.{IsMatching, cols_of, rows_of}
 use Rattle.bip_defs.specs.Matrix.{IsEntry, Matrix, Place, cols}
-use Rattle.sp_pattern.specs.Weighing.{Weighing, weight_at}
+use Rattle.sp_pattern.specs.Weights.{Weighing, weight_at}
 
 -- a matching of entries that misses no row and no column
 pub record IsFull (a : Matrix) (m : List Place) : Type 0 where

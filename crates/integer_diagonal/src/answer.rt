@@ -4,11 +4,11 @@ ghost use Rattle.std.specs.Prelude.{◌≡◌, ℕ, pos, ◌+◌, ◌-ℤ◌, �
 ghost use Rattle.bip_defs.specs.Lists.{Among};
 ghost use Rattle.bip_defs.specs.Matching.{cols_of};
 ghost use Rattle.bip_defs.specs.Matrix.{AreEntries, Place, cols, upto};
-ghost use Rattle.bip_graph.specs.Pairing.{IsMatchingOf};
+ghost use Rattle.bip_graph.specs.Matching.{IsMatchingOf};
 ghost use Rattle.integer_diagonal.specs.Heaviest.{IsHeaviest};
 ghost use Rattle.integer_diagonal.specs.Duals.{IsAssignment, top};
 ghost use Rattle.integer_diagonal.specs.Prices.{IsFull, total};
-ghost use Rattle.sp_pattern.specs.Weighing.{Weighing};
+ghost use Rattle.sp_pattern.specs.Weights.{Weighing};
 
 use crate::assignment::{Assignment, TOP};
 use crate::path::extend;

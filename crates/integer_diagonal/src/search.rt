@@ -6,7 +6,7 @@ ghost use Rattle.bip_defs.specs.Matching.{cols_of, rows_of};
 ghost use Rattle.bip_defs.specs.Matrix.{IsEntry, cols};
 ghost use Rattle.integer_diagonal.specs.Labels.{AreBeyond, AreKnown, AreListed, IsBest, IsClear, IsKept, Looks, Puts, Takes, distance_of, labels_of, tree_of};
 ghost use Rattle.integer_diagonal.specs.Duals.{IsAssignment, priced};
-ghost use Rattle.integer_diagonal.specs.Searching.{IsGrown, IsNearest, IsSearched, IsStuck, Reaches, depth, far};
+ghost use Rattle.integer_diagonal.specs.SearchTree.{IsGrown, IsNearest, IsSearched, IsStuck, Reaches, depth, far};
 
 use crate::assignment::{Assignment, TOP};
 use crate::frontier::Frontier;

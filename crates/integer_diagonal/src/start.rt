@@ -5,7 +5,7 @@ ghost use Rattle.bip_defs.specs.Lists.{Among};
 ghost use Rattle.bip_defs.specs.Matching.{rows_of};
 ghost use Rattle.bip_defs.specs.Matrix.{IsEntry, cols};
 ghost use Rattle.integer_diagonal.specs.Duals.{IsAssignment, cost, top};
-ghost use Rattle.integer_diagonal.specs.Starting.{AreFirstDuals, AreFirstPrices};
+ghost use Rattle.integer_diagonal.specs.FirstPrices.{AreFirstDuals, AreFirstPrices};
 
 use crate::assignment::{Assignment, TOP};
 use bip_graph::Matching;

@@ -1,6 +1,6 @@
 pub mod Choices
 pub mod Counts
-pub mod Extending
 pub mod Free
-pub mod Fronts
-pub mod Way
+pub mod LongestMatchings
+pub mod Prefixes
+pub mod TakenPairs

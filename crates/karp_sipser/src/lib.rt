@@ -7,7 +7,7 @@ mod rest;
 
 ghost use Rattle.std.specs.Prelude.{ℕ, IfOk};
 ghost use Rattle.bip_defs.specs.Start.{IsFree, IsStart};
-ghost use Rattle.bip_graph.specs.Pairing.{IsMatchingOf};
+ghost use Rattle.bip_graph.specs.Matching.{IsMatchingOf};
 
 pub use crate::laws::only_neighbours_lose_nothing;
 use crate::rest::Rest;

@@ -1,3 +1,3 @@
-pub mod Counting
 pub mod Members
-pub mod Settling
+pub mod NewWords
+pub mod SettledWorkers

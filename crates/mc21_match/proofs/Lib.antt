@@ -1,1 +1,1 @@
-mod Extending
+mod ExtendLemmas

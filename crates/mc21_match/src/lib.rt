@@ -9,8 +9,8 @@
 ghost use Rattle.std.specs.Prelude.{◌+◌, ◌<◌, IfOk};
 ghost use Rattle.bip_defs.specs.Matching.{Covers};
 ghost use Rattle.bip_defs.specs.Matrix.{cols};
-ghost use Rattle.bip_graph.specs.Pairing.{IsMatchingOf, IsMaximumOf, Pairing};
-ghost use Rattle.mc21_match.specs.Running.{IsSearched};
+ghost use Rattle.bip_graph.specs.Matching.{IsMatchingOf, IsMaximumOf, Pairing};
+ghost use Rattle.mc21_match.specs.Searched.{IsSearched};
 
 use bip_graph::Matching;
 use path_search::Search;

@@ -5,7 +5,7 @@ use Rattle.std.proofs.lemmas.List.Splits.{length-slice_split}
 use Rattle.std.proofs.lemmas.List.Sums.{sum_by-cons}
 use Rattle.mm_defs.specs.Words.{but_last, last_part, is_lf, lines, open_line}
 use Rattle.mm_defs.specs.File.{behind}
-use Rattle.mm_defs.proofs.Splitting.{split_cons}
+use Rattle.mm_defs.proofs.SplitLemmas.{split_cons}
 
 length-but_last : (x : List ℕ) (xs : List (List ℕ)) → length (but_last (x ∷ xs)) ≡ length xs
 length-but_last x [] = refl

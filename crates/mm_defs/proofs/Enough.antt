@@ -8,7 +8,7 @@ use Rattle.mm_defs.specs.declared.answers.End.TheVariants.{File, LastEntry}
 use Rattle.mm_defs.specs.Words.{Line, words, is_lf, is_skipped, lines, numbered, kept}
 use Rattle.mm_defs.specs.Header.{size}
 use Rattle.mm_defs.specs.File.{Fault, Reads, later_lines, size_lines, entry_lines, matrix_lines, last_number, missing, no_banner, line_faults, faults, rest_of, behind}
-use Rattle.mm_defs.specs.Reading.{LacksLines}
+use Rattle.mm_defs.specs.Calls.{LacksLines}
 use Rattle.mm_defs.proofs.Behind.{length-lines, length-behind}
 use Rattle.mm_defs.proofs.Lines.{lines-append}
 use Rattle.mm_defs.proofs.Roles.{later_lines-append}

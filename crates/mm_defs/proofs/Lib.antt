@@ -1,7 +1,7 @@
-pub mod Answering
+pub mod AnswerLemmas
 pub mod Behind
 pub mod Enough
-pub mod Fronts
 pub mod Lines
+pub mod Prefixes
 pub mod Roles
-pub mod Splitting
+pub mod SplitLemmas

@@ -2,7 +2,7 @@
 use Rattle.std.proofs.Common.{◌≡◌, ℕ, Bool, true, false, if◌then◌else◌, List, [], ◌∷◌, ◌++◌, refl, ◌∙◌, append-nil}
 use Rattle.std.specs.List.{slice_split}
 use Rattle.mm_defs.specs.Words.{but_last, but_empty_last, last_part, has_bytes, is_lf, lines, open_line}
-use Rattle.mm_defs.proofs.Splitting.{joined_to, split_cons, split-append, but_last-append, but_empty_last-append, last_part-append, but_empty_last-is, parts_are, split-push_yes, split-push_no}
+use Rattle.mm_defs.proofs.SplitLemmas.{joined_to, split_cons, split-append, but_last-append, but_empty_last-append, last_part-append, but_empty_last-is, parts_are, split-push_yes, split-push_no}
 
 -- no byte, no line
 pub lines-none : (ended : Bool) → lines ended [] ≡ []

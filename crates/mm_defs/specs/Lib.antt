@@ -1,8 +1,8 @@
-pub mod Words
-pub mod Numbers
-pub mod Header
-pub mod Names
+pub mod Calls
 pub mod Faults
 pub mod File
-pub mod Reading
+pub mod Header
+pub mod Names
+pub mod Numbers
+pub mod Words
 pub mod Worked

@@ -6,7 +6,7 @@ ghost use Rattle.mm_defs.specs.declared.answers.End.{End};
 ghost use Rattle.mm_defs.specs.declared.answers.ReadError.{ReadError};
 ghost use Rattle.mm_defs.specs.Words.{lines};
 ghost use Rattle.mm_defs.specs.File.{Fault, Reads, faults, first_fault};
-ghost use Rattle.mm_defs.specs.Reading.{Call, offered, first_bad, IsAnswer, FellShort, LacksLines, Tells, IsRefusal, IsOkOrNoMemory, IsTooLongOrNoMemory};
+ghost use Rattle.mm_defs.specs.Calls.{Call, offered, first_bad, IsAnswer, FellShort, LacksLines, Tells, IsRefusal, IsOkOrNoMemory, IsTooLongOrNoMemory};
 
 /// The first bad line stays the first one, whatever follows, and whether the input ends there or not.
 pub fn bad_line_stays()

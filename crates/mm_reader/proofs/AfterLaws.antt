@@ -13,7 +13,7 @@ use Rattle.mm_reader.specs.declared.machine.Stop.{Stop}
 use Rattle.mm_reader.specs.declared.machine.Stop.TheVariants as stops
 use Rattle.mm_reader.specs.Lines.{IsLine}
 use Rattle.mm_reader.specs.Machine.{is_complete, StopsAt}
-use Rattle.mm_reader.specs.Standing.{IsBetween, IsAfter, StopsIn}
+use Rattle.mm_reader.specs.Stages.{IsBetween, IsAfter, StopsIn}
 use Rattle.mm_reader.proofs.Words.{has_bytes-push}
 
 pub map_result : {T E : Type 0} (P Q : T → Type 0) (F G : E → Type 0) (r : Result T E) → ((x : T) → P x → Q x) → ((e : E) → F e → G e) → MatchResult r P F → MatchResult r Q G

@@ -5,8 +5,8 @@ use Rattle.sp_ports.specs.Bytes.{WhereTold}
 use Rattle.mm_defs.specs.declared.answers.End.{End}
 use Rattle.mm_defs.specs.declared.answers.ReadError.{ReadError}
 use Rattle.mm_defs.specs.File.{Fault}
-use Rattle.mm_defs.specs.Reading.{Intake, Call, call_on, room, first_bad, FellShort, IsAnswer, LacksLf, Tells}
-use Rattle.mm_defs.proofs.Answering.{bad_line_told}
+use Rattle.mm_defs.specs.Calls.{Intake, Call, call_on, room, first_bad, FellShort, IsAnswer, LacksLf, Tells}
+use Rattle.mm_defs.proofs.AnswerLemmas.{bad_line_told}
 use Rattle.mm_reader.specs.declared.input.Input.TheInside.{Inside}
 use Rattle.mm_reader.specs.declared.window.Window.{Window}
 use Rattle.mm_reader.specs.Inputs.{intake_of, IsInput}

@@ -10,14 +10,14 @@ use Rattle.mm_defs.specs.Words.{Line, is_lf, lines, open_line, has_bytes}
 use Rattle.mm_defs.specs.Header.{size}
 use Rattle.mm_defs.specs.File.{Fault, later_lines, line_faults, no_banner, missing, faults, first_fault, entries_of, rest_of, behind, last_number, matrix_lines, Reads}
 use Rattle.mm_defs.proofs.Behind.{length-lines, behind-front, behind-past}
-use Rattle.mm_defs.proofs.Fronts.{fault_stays}
+use Rattle.mm_defs.proofs.Prefixes.{fault_stays}
 use Rattle.mm_defs.proofs.Lines.{lines-ended}
 use Rattle.mm_reader.specs.declared.machine.Phase.{Phase}
 use Rattle.mm_reader.specs.declared.machine.Phase.TheVariants as phases
 use Rattle.mm_reader.specs.declared.machine.Stop.{Stop}
 use Rattle.mm_reader.specs.declared.machine.Stop.TheVariants as stops
 use Rattle.mm_reader.specs.Machine.{HasBanner, HasEntries, HasLines, is_complete, StopsAt}
-use Rattle.mm_reader.specs.Standing.{IsAll, Lacks, StopsAtEnd}
+use Rattle.mm_reader.specs.Stages.{IsAll, Lacks, StopsAtEnd}
 use Rattle.mm_reader.proofs.Words.{empty_of}
 
 -- ---- all lines have come

@@ -8,16 +8,16 @@ use Rattle.mm_defs.specs.declared.answers.End.{End}
 use Rattle.mm_defs.specs.declared.answers.ReadError.{ReadError}
 use Rattle.mm_defs.specs.declared.answers.ReadError.TheVariants as errors
 use Rattle.mm_defs.specs.declared.answers.End.TheVariants.{File, LastEntry}
-use Rattle.mm_defs.specs.Reading.{HasItsKind}
+use Rattle.mm_defs.specs.Calls.{HasItsKind}
 use Rattle.mm_defs.specs.Words.{lines, open_line}
 use Rattle.mm_reader.specs.declared.machine.Machine.{Machine}
 use Rattle.mm_reader.specs.declared.machine.Phase.{Phase}
 use Rattle.mm_reader.specs.declared.window.Window.{Window}
 use Rattle.mm_reader.specs.Machine.{is_complete}
-use Rattle.mm_reader.specs.Standing.{IsAfter}
+use Rattle.mm_reader.specs.Stages.{IsAfter}
 use Rattle.mm_reader.specs.Windows.{ahead_of, call_of, Answers, IsWindow, Refuses, RefusesAtEnd}
 use Rattle.mm_reader.proofs.CompleteLaws.{complete_reads}
-use Rattle.mm_reader.proofs.Lacking.{lacks_lines}
+use Rattle.mm_reader.proofs.MissingLines.{lacks_lines}
 use Rattle.mm_reader.proofs.Progress.{Fed}
 use Rattle.mm_reader.proofs.StreamLaws.{refused_answer, fault_answer, fault_short, end_refused, end_read, read_on}
 use Rattle.mm_reader.proofs.WindowLaws.{length-ahead_of}

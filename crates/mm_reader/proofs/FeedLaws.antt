@@ -4,7 +4,7 @@ use Rattle.std.proofs.lemmas.List.{take_more}
 use Rattle.mm_defs.specs.declared.answers.End.{End}
 use Rattle.mm_reader.specs.declared.machine.Machine.{Machine}
 use Rattle.mm_reader.specs.declared.machine.Stop.{Stop}
-use Rattle.mm_reader.specs.Standing.{IsAfter, StopsIn, StopsWithin}
+use Rattle.mm_reader.specs.Stages.{IsAfter, StopsIn, StopsWithin}
 
 one_more : (bytes piece : List ℕ) (at : ℕ) → at < length piece → (bytes ++ take at piece) ++ get_or piece at 0 ∷ [] ≡ bytes ++ take (at + 1) piece
 one_more bytes piece at h = append_assoc bytes (take at piece) (get_or piece at 0 ∷ []) ∙ ap (λ (t : List ℕ). bytes ++ t) (sym (take_more piece at 0 h))

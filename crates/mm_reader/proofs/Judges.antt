@@ -11,7 +11,7 @@ use Rattle.mm_defs.specs.Faults.{Rule, first_kind, size_limits, size_rules, is_o
 use Rattle.mm_defs.specs.File.{triple, triple_at}
 use Rattle.mm_reader.specs.declared.judge.Entry.{Entry}
 use Rattle.mm_reader.specs.Tokens.{capped}
-use Rattle.mm_reader.specs.Judging.{Judged, JudgedEntry, triple_of, IsWithin}
+use Rattle.mm_reader.specs.Judged.{Judged, JudgedEntry, triple_of, IsWithin}
 
 pub size_judged : (h : Header) (ws : List Word) (r : Result Size Kind) → (length ws == 3) ≡ true
     → is_number (word ws 0) ≡ true → is_number (word ws 1) ≡ true → is_number (word ws 2) ≡ true

@@ -6,10 +6,10 @@ pub mod EndLaws
 pub mod Exits
 pub mod FeedLaws
 pub mod Judges
-pub mod Lacking
 pub mod LineSteps
 pub mod Lookups
 pub mod Masks
+pub mod MissingLines
 pub mod Numbers
 pub mod PlainLaws
 pub mod PlainSteps

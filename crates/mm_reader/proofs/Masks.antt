@@ -14,7 +14,7 @@ use Rattle.std.proofs.lemmas.Simd.{zip2_splat, zip2_splat_left, map-map, tops_co
 use lib.Count.{count_trailing_zeros}
 use lib.Lanes.{Each1, zip2, chunk, mask_l, top, number_l}
 use Rattle.mm_defs.specs.Numbers.{value}
-use Rattle.mm_defs.proofs.Answering.{and_left, and_right}
+use Rattle.mm_defs.proofs.AnswerLemmas.{and_left, and_right}
 use Rattle.mm_reader.specs.Plain.{between}
 use Rattle.mm_reader.specs.Places.{is_no_digit, IsMask, IsShortNumber}
 use Rattle.mm_reader.proofs.Numbers.{digit_at}

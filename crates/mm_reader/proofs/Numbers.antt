@@ -6,7 +6,7 @@ use Rattle.std.proofs.lemmas.Str.{digit_value_digit}
 use Rattle.std.proofs.lemmas.Int.Digits.{digits_value_push}
 use Rattle.mm_defs.specs.Words.{has_bytes}
 use Rattle.mm_defs.specs.Numbers.{value, bare}
-use Rattle.mm_defs.proofs.Answering.{and_left, and_right}
+use Rattle.mm_defs.proofs.AnswerLemmas.{and_left, and_right}
 use Rattle.mm_reader.specs.declared.number.Number.{Number}
 use Rattle.mm_reader.specs.Tokens.{capped, number_facts, next_number}
 use Rattle.mm_reader.proofs.Words.{has_bytes-push}

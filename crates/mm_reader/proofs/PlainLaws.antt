@@ -16,14 +16,14 @@ use Rattle.mm_defs.specs.Header.{value_words, is_integer_field}
 use Rattle.mm_defs.specs.Faults.{place_rules, entry_rules}
 use Rattle.mm_defs.specs.File.{triple, triple_at}
 use Rattle.mm_defs.specs.Words.{Word, is_lf, is_blank, has_bytes, word, words, lines, open_line, but_last, last_part, is_skipped}
-use Rattle.mm_defs.proofs.Answering.{and_left, and_right}
-use Rattle.mm_defs.proofs.Splitting.{split-append, but_last-append, last_part-append}
+use Rattle.mm_defs.proofs.AnswerLemmas.{and_left, and_right}
+use Rattle.mm_defs.proofs.SplitLemmas.{split-append, but_last-append, last_part-append}
 use Rattle.mm_defs.proofs.Lines.{lines-push_lf, open_line-push_lf}
 use Rattle.mm_defs.specs.Numbers.{value, unsigned, is_number, number}
 use Rattle.mm_reader.specs.declared.judge.Entry.{Entry}
 use Rattle.mm_reader.specs.declared.number.Integer.{Integer}
 use Rattle.mm_reader.specs.declared.plain.PlainLine.{PlainLine}
-use Rattle.mm_reader.specs.Judging.{JudgedEntry}
+use Rattle.mm_reader.specs.Judged.{JudgedEntry}
 use Rattle.mm_reader.specs.Tokens.{capped, ReadsInteger}
 use Rattle.mm_reader.specs.Plain.{between, is_inner, is_visible, stands_apart, IsRun, IsDigits, IsNextLine, HasValues, IsPlainLine}
 use Rattle.mm_reader.proofs.Judges.{entry_judged}

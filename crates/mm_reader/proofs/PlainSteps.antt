@@ -16,7 +16,7 @@ use Rattle.mm_reader.specs.declared.machine.Stop.TheVariants as stops
 use Rattle.std.proofs.Common.{Result, Ok, Err}
 use Rattle.mm_reader.specs.Machine.{HasBanner, HasEntries, IsReady, Steps, is_complete}
 use Rattle.mm_reader.specs.Plain.{AwaitsPlain, IsPlainLine, between}
-use Rattle.mm_reader.specs.Standing.{begun_lines, GoesOn, Halts, IsAfter, StopsIn, StopsWithin}
+use Rattle.mm_reader.specs.Stages.{begun_lines, GoesOn, Halts, IsAfter, StopsIn, StopsWithin}
 use Rattle.mm_reader.proofs.PlainLaws.{whole_line, whole_closed_line, between_join, between-none, between-push, split_at}
 use Rattle.mm_reader.proofs.Words.{empty_of}
 

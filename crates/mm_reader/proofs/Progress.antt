@@ -6,11 +6,11 @@ use Rattle.sp_ports.specs.Bytes.{Gives, WhereTold}
 use Rattle.mm_defs.specs.declared.answers.End.{End}
 use Rattle.mm_defs.specs.declared.answers.End.TheVariants.{File}
 use Rattle.mm_defs.specs.Words.{is_lf, open_line}
-use Rattle.mm_defs.specs.Reading as reading
-use Rattle.mm_defs.specs.Reading.{LacksLf, TakesAtMostOnePast, got}
+use Rattle.mm_defs.specs.Calls as reading
+use Rattle.mm_defs.specs.Calls.{LacksLf, TakesAtMostOnePast, got}
 use Rattle.mm_reader.specs.declared.machine.Machine.{Machine}
 use Rattle.mm_reader.specs.declared.window.Window.{Window}
-use Rattle.mm_reader.specs.Standing.{IsAfter}
+use Rattle.mm_reader.specs.Stages.{IsAfter}
 use Rattle.mm_reader.specs.Windows.{ahead_of, call_of, Consumes, HasCounted, IsWindow, KeepsWindow, TakesAhead, Uses}
 use Rattle.mm_reader.proofs.StreamLaws.{got-is}
 use Rattle.mm_reader.proofs.WindowLaws.{length-ahead_of}

@@ -5,7 +5,7 @@ use Rattle.sp_ports.specs.Device.{SourceRose}
 use Rattle.mm_defs.specs.declared.answers.End.TheVariants.{File}
 use Rattle.mm_defs.specs.declared.answers.ReadError.{ReadError}
 use Rattle.mm_defs.specs.declared.answers.ReadError.TheVariants as errors
-use Rattle.mm_defs.specs.Reading.{IsRest, JudgesNoLine, RefusesRest, got}
+use Rattle.mm_defs.specs.Calls.{IsRest, JudgesNoLine, RefusesRest, got}
 use Rattle.mm_reader.specs.declared.window.Window.{Window}
 use Rattle.mm_reader.specs.Windows.{ahead_of, call_of, IsOnePast, IsWindow, RefusesAhead}
 use Rattle.mm_reader.proofs.Progress.{HasUsed}

@@ -8,9 +8,9 @@ use Rattle.mm_defs.specs.declared.answers.ReadError.{ReadError}
 use Rattle.mm_defs.specs.declared.answers.ReadError.TheVariants as errors
 use Rattle.mm_defs.specs.Words.{lines}
 use Rattle.mm_defs.specs.File.{Fault, Reads, line_faults, first_fault, behind}
-use Rattle.mm_defs.specs.Reading.{Call, got, given, offered, ended, first_bad, FellShort, IsAnswer, IsNear, LacksLines}
+use Rattle.mm_defs.specs.Calls.{Call, got, given, offered, ended, first_bad, FellShort, IsAnswer, IsNear, LacksLines}
 use Rattle.mm_defs.proofs.Behind.{behind-front}
-use Rattle.mm_defs.proofs.Fronts.{bad_stays}
+use Rattle.mm_defs.proofs.Prefixes.{bad_stays}
 use Rattle.mm_reader.specs.Windows.{HasBadFront, Refuses, RefusesAtEnd}
 
 first_is : (end : End) (bytes : List ℕ) (x : Fault) → line_faults end (lines false bytes) ≡ x ∷ [] → first_fault end false bytes ≡ Some x

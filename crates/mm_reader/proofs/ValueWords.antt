@@ -7,7 +7,7 @@ use Rattle.sp_ids.specs.declared.triples.Field.TheVariants as fields
 use Rattle.mm_defs.specs.Header.{value_words, is_integer_field}
 use Rattle.mm_defs.specs.Numbers.{value, bare, is_negative}
 use Rattle.mm_defs.specs.Words.{is_blank, has_bytes, words}
-use Rattle.mm_defs.proofs.Answering.{and_left, and_right}
+use Rattle.mm_defs.proofs.AnswerLemmas.{and_left, and_right}
 use Rattle.mm_reader.specs.declared.number.Integer.{Integer}
 use Rattle.mm_reader.specs.Tokens.{capped, ReadsInteger}
 use Rattle.mm_reader.specs.Plain.{between, is_inner, is_visible, is_sign, stands_apart, IsRun, IsDigits, IsSign, IsNextWord, IsNextInteger, HasValues}

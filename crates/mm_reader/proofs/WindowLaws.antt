@@ -13,9 +13,9 @@ use Rattle.mm_reader.specs.declared.machine.Stop.TheVariants as stops
 use Rattle.mm_reader.specs.declared.machine.Machine.{Machine}
 use Rattle.mm_reader.specs.declared.window.Window.{Window}
 use Rattle.mm_reader.specs.Machine.{IsReady, is_complete}
-use Rattle.mm_reader.specs.Standing.{begun_lines, IsAfter, StandsSomewhere, StopsWithin}
+use Rattle.mm_reader.specs.Stages.{begun_lines, IsAfter, StandsSomewhere, StopsWithin}
 use Rattle.mm_reader.specs.Windows.{ahead_of, IsOnePast, IsWindow, Consumes, HasBadFront, Refuses, Uses, refusal_of}
-use Rattle.mm_reader.proofs.Lacking.{lacks_lines}
+use Rattle.mm_reader.proofs.MissingLines.{lacks_lines}
 
 -- what stopped the machine within a front of the bytes ahead
 module _ (end : End) (bytes piece past ahead : List ℕ) (room : ℕ) (ahead_is : ahead ≡ piece ++ past) (short : length piece ≤ room) where

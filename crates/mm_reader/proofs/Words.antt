@@ -3,7 +3,7 @@ use Rattle.std.proofs.Common.{◌≡◌, ℕ, true, false, cond, List, [], ◌�
 use Rattle.std.specs.List.{slice_split}
 use Rattle.std.proofs.lemmas.List.Elements.{filter-append}
 use Rattle.mm_defs.specs.Words.{Word, words, but_last, last_part, has_bytes, is_blank}
-use Rattle.mm_defs.proofs.Splitting.{split_cons, parts_are, split-push_yes, split-push_no, last_part-append}
+use Rattle.mm_defs.proofs.SplitLemmas.{split_cons, parts_are, split-push_yes, split-push_no, last_part-append}
 use Rattle.mm_reader.specs.Lines.{in_word}
 
 -- the words but for the last, where it may go on

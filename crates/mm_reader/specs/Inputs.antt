@@ -5,7 +5,7 @@ use Rattle.sp_ports.specs.Bytes.{WhereTold}
 use Rattle.sp_ports.specs.Device.{Device, FailsOnceAtMost, HasReadFault, IsSteady}
 use Rattle.mm_defs.specs.declared.answers.ReadError.{ReadError}
 use Rattle.mm_defs.specs.declared.answers.ReadError.TheVariants.{ReadFault}
-use Rattle.mm_defs.specs.Reading.{Call, Intake, call_on}
+use Rattle.mm_defs.specs.Calls.{Call, Intake, call_on}
 use Rattle.mm_reader.specs.declared.input.Input.TheInside.{Inside}
 use Rattle.mm_reader.specs.Windows.{ahead_of, IsWindow}
 

@@ -1,10 +1,10 @@
-pub mod Tokens
-pub mod Lines
-pub mod Judging
-pub mod Machine
 pub mod Additions
-pub mod Standing
-pub mod Windows
 pub mod Inputs
-pub mod Plain
+pub mod Judged
+pub mod Lines
+pub mod Machine
 pub mod Places
+pub mod Plain
+pub mod Stages
+pub mod Tokens
+pub mod Windows

@@ -13,7 +13,7 @@ use Rattle.mm_reader.specs.declared.machine.Phase.{Phase}
 use Rattle.mm_reader.specs.declared.machine.Phase.TheVariants as phases
 use Rattle.mm_reader.specs.declared.machine.Stop.{Stop}
 use Rattle.mm_reader.specs.declared.machine.Stop.TheVariants as stops
-use Rattle.mm_reader.specs.Judging.{IsWithin}
+use Rattle.mm_reader.specs.Judged.{IsWithin}
 
 -- ---- what the lines were
 

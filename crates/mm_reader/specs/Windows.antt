@@ -10,13 +10,13 @@ use Rattle.mm_defs.specs.declared.answers.ReadError.TheVariants as errors
 use Rattle.mm_defs.specs.Words.{lines, is_lf}
 use Rattle.mm_defs.specs.Faults.{is_limit}
 use Rattle.mm_defs.specs.File.{Fault, line_faults, first_fault, behind}
-use Rattle.mm_defs.specs.Reading.{Call, FellShort, IsAnswer, IsNear, LacksLines}
+use Rattle.mm_defs.specs.Calls.{Call, FellShort, IsAnswer, IsNear, LacksLines}
 use Rattle.mm_reader.specs.declared.machine.Machine.{Machine}
 use Rattle.mm_reader.specs.declared.machine.Stop.{Stop}
 use Rattle.mm_reader.specs.declared.machine.Stop.TheVariants as stops
 use Rattle.mm_reader.specs.declared.window.Window.{Window}
 use Rattle.mm_reader.specs.Machine.{IsReady, is_complete}
-use Rattle.mm_reader.specs.Standing.{begun_lines, IsAfter, EndsBad}
+use Rattle.mm_reader.specs.Stages.{begun_lines, IsAfter, EndsBad}
 
 -- the bytes ahead
 abbrev pub ahead_of : Window → List ℕ

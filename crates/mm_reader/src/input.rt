@@ -8,7 +8,7 @@ ghost use Rattle.sp_ports.specs.Device.{seen};
 ghost use Rattle.mm_defs.specs.Words.{is_lf};
 ghost use Rattle.mm_reader.specs.Inputs.{FailsByReadFault, OnCall};
 ghost use Rattle.mm_defs.specs.File.{Fault};
-ghost use Rattle.mm_defs.specs.Reading.{first_bad, FellShort, HasItsKind, IsAnswer, IsNear, IsRest, JudgesNoLine, LacksLf, RefusesRest, TakesAtMostOnePast, Tells};
+ghost use Rattle.mm_defs.specs.Calls.{first_bad, FellShort, HasItsKind, IsAnswer, IsNear, IsRest, JudgesNoLine, LacksLf, RefusesRest, TakesAtMostOnePast, Tells};
 
 use crate::reader::matrix;
 use crate::rest::rest;
@@ -30,7 +30,7 @@ pub struct Input {
 }
 
 impl Model for Input {
-    ghost use Rattle.mm_defs.specs.Reading.{Intake};
+    ghost use Rattle.mm_defs.specs.Calls.{Intake};
 
     ghost Value = { Intake };
 

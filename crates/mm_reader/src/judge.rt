@@ -9,7 +9,7 @@ ghost use Rattle.mm_defs.specs.Faults.{banner_rules, size_limits, size_rules, pl
 ghost use Rattle.mm_defs.specs.File.{triple, triple_at};
 ghost use Rattle.mm_reader.specs.Tokens.{capped, ReadsInteger};
 ghost use Rattle.mm_reader.specs.Lines.{IsLine};
-ghost use Rattle.mm_reader.specs.Judging.{Judged, JudgedEntry, Passes, IsWithin};
+ghost use Rattle.mm_reader.specs.Judged.{Judged, JudgedEntry, Passes, IsWithin};
 
 use crate::line::LineSoFar;
 use crate::number::Integer;

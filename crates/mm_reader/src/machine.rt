@@ -7,9 +7,9 @@ ghost use Rattle.mm_defs.specs.Words.{words};
 ghost use Rattle.mm_defs.specs.Header.{is_general, is_integer_field};
 ghost use Rattle.mm_defs.specs.File.{Reads, mirror, line_faults, later_lines};
 ghost use Rattle.mm_reader.specs.Lines.{IsLine};
-ghost use Rattle.mm_reader.specs.Judging.{triple_of};
+ghost use Rattle.mm_reader.specs.Judged.{triple_of};
 ghost use Rattle.mm_reader.specs.Machine.{HasBanner, HasEntries, HasLines, HasRoom, IsReady, Steps, StopsAt, is_complete};
-ghost use Rattle.mm_reader.specs.Standing.{begun_lines, IsBetween, IsAfter, IsAll, GoesOn, Halts, Lacks, StopsIn, StopsWithin, StopsAtEnd};
+ghost use Rattle.mm_reader.specs.Stages.{begun_lines, IsBetween, IsAfter, IsAll, GoesOn, Halts, Lacks, StopsIn, StopsWithin, StopsAtEnd};
 ghost use Rattle.mm_reader.specs.Additions.{with_entries};
 ghost use Rattle.mm_reader.specs.Plain.{AwaitsPlain, IsPlainLine};
 

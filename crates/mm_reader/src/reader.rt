@@ -5,10 +5,10 @@ ghost use Rattle.std.specs.Result.{IsErrOf};
 ghost use Rattle.sp_ports.specs.Bytes.{GivesFront, IsAtEnd, WhereTold};
 ghost use Rattle.sp_ports.specs.Device.{seen};
 ghost use Rattle.mm_defs.specs.File.{Reads};
-ghost use Rattle.mm_defs.specs.Reading.{HasItsKind, LacksLf, TakesAtMostOnePast};
+ghost use Rattle.mm_defs.specs.Calls.{HasItsKind, LacksLf, TakesAtMostOnePast};
 ghost use Rattle.mm_reader.specs.Inputs.{FailsByReadFault};
 ghost use Rattle.mm_reader.specs.Machine.{IsReady, is_complete};
-ghost use Rattle.mm_reader.specs.Standing.{begun_lines, IsAfter, StandsSomewhere};
+ghost use Rattle.mm_reader.specs.Stages.{begun_lines, IsAfter, StandsSomewhere};
 ghost use Rattle.mm_reader.specs.Windows.{ahead_of, OnCallOf, Answers, HasCounted, IsOnePast, IsWindow, KeepsWindow, Consumes, Refuses, RefusesAtEnd, refusal_of, UsesSome};
 
 use crate::machine::{Machine, Stop, feed, finish, is_complete, start};

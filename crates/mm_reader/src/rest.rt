@@ -6,7 +6,7 @@ ghost use Rattle.std.specs.Result.{IsErrOf};
 ghost use Rattle.sp_ports.specs.Bytes.{GivesFront, IsAtEnd, WhereTold};
 ghost use Rattle.sp_ports.specs.Device.{seen};
 ghost use Rattle.mm_defs.specs.Words.{is_lf};
-ghost use Rattle.mm_defs.specs.Reading.{IsRest, JudgesNoLine, RefusesRest, TakesAtMostOnePast};
+ghost use Rattle.mm_defs.specs.Calls.{IsRest, JudgesNoLine, RefusesRest, TakesAtMostOnePast};
 ghost use Rattle.mm_reader.specs.Inputs.{FailsByReadFault};
 ghost use Rattle.mm_reader.specs.Windows.{ahead_of, OnCallOf, HasCounted, IsOnePast, IsWindow, KeepsWindow, TakesAhead, RefusesAhead};
 

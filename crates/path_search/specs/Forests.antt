@@ -5,7 +5,7 @@ use Rattle.bip_defs.specs.Marks.{IsExplored}
 use Rattle.bip_defs.specs.Matching.{cols_of, rows_of}
 use Rattle.bip_defs.specs.Matrix.{AreEntries, IsEntry, Matrix, Place, cols}
 use Rattle.bip_defs.specs.Paths.{IsAugmenting}
-use Rattle.bip_graph.specs.Pairing.{Pairing}
+use Rattle.bip_graph.specs.Matching.{Pairing}
 use Rattle.path_search.specs.declared.reached.Reached.{Reached}
 
 -- the number of columns, the mark of each row, the columns that were reached so far, and the path that was found last

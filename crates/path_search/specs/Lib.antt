@@ -1,4 +1,4 @@
-pub mod Advancing
+pub mod Advances
 pub mod Forests
-pub mod Searching
+pub mod Search
 pub mod Trails

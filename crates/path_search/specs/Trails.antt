@@ -4,7 +4,7 @@ use Rattle.bip_defs.specs.Lists.{Among, AreDistinct, IsMarked}
 use Rattle.bip_defs.specs.Marks.{IsExplored}
 use Rattle.bip_defs.specs.Matching.{cols_of, rows_of}
 use Rattle.bip_defs.specs.Matrix.{IsEntry, Matrix, Place, cols, column}
-use Rattle.path_search.specs.Searching.{Searching}
+use Rattle.path_search.specs.Search.{Searching}
 
 -- the place at which a list of n is read as its k-th, from its front or from its end
 abbrev pub read_place : Bool → ℕ → ℕ → ℕ

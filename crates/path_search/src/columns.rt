@@ -3,8 +3,8 @@
 ghost use Rattle.std.specs.Prelude.{◌≡◌, ◌⊎◌, ℕ, ◌+◌, ◌<◌, ◌≤◌, ◌^◌, length, map, slice_index, All, IfSome, vec_len, vec_capacity, ◌∷◌, ◌++◌, []};
 ghost use Rattle.bip_defs.specs.Lists.{Among, IsMarked};
 ghost use Rattle.bip_defs.specs.Matching.{rows_of};
-ghost use Rattle.bip_graph.specs.Pairing.{Pairing};
-ghost use Rattle.path_search.specs.Searching.{Unmarks};
+ghost use Rattle.bip_graph.specs.Matching.{Pairing};
+ghost use Rattle.path_search.specs.Search.{Unmarks};
 ghost use Rattle.path_search.specs.Trails.{HasPassed, read_place};
 
 use bip_graph::{Matching, Opposite};

@@ -6,7 +6,7 @@ ghost use Rattle.bip_defs.specs.Marks.{IsExplored};
 ghost use Rattle.bip_defs.specs.Matching.{Covers, IsMaximum, rows_of, cols_of};
 ghost use Rattle.bip_defs.specs.Matrix.{AreEntries, Matrix, cols};
 ghost use Rattle.bip_defs.specs.Paths.{Exchanges, IsAugmenting};
-ghost use Rattle.bip_graph.specs.Pairing.{IsMatchingOf, Pairing};
+ghost use Rattle.bip_graph.specs.Matching.{IsMatchingOf, Pairing};
 ghost use Rattle.path_search.specs.Forests.{HaveNoPath, IsForest, IsLeafOf, LeadOn, Progresses, Spreads, Traces, Visits, reached_at};
 
 use crate::columns::{put, unmark_all};

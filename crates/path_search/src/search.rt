@@ -6,9 +6,9 @@ ghost use Rattle.bip_defs.specs.Lists.{Among, IsMarked};
 ghost use Rattle.bip_defs.specs.Matching.{Covers, rows_of, cols_of};
 ghost use Rattle.bip_defs.specs.Matrix.{AreEntries, IsEntry, Matrix, Place, cols, column};
 ghost use Rattle.bip_defs.specs.Paths.{Exchanges, IsAugmenting};
-ghost use Rattle.bip_graph.specs.Pairing.{IsMatchingOf, Pairing};
-ghost use Rattle.path_search.specs.Searching.{Augments, Exhausts, Fails, Finds, HasMarked};
-ghost use Rattle.path_search.specs.Advancing.{Advances, Descends};
+ghost use Rattle.bip_graph.specs.Matching.{IsMatchingOf, Pairing};
+ghost use Rattle.path_search.specs.Search.{Augments, Exhausts, Fails, Finds, HasMarked};
+ghost use Rattle.path_search.specs.Advances.{Advances, Descends};
 ghost use Rattle.path_search.specs.Trails.{HasPassed, StandsAt, read_place};
 
 use crate::columns::{next_unmarked, put, row_at, unmark, unmark_all, unmatched_row};
@@ -33,7 +33,7 @@ pub struct Search {
 
 impl Model for Search {
     ghost use Rattle.std.specs.Prelude.{length, vec_capacity, ◌≤◌};
-    ghost use Rattle.path_search.specs.Searching.{Searching};
+    ghost use Rattle.path_search.specs.Search.{Searching};
 
     ghost Value = { Searching };
 

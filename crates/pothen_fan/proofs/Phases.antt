@@ -3,15 +3,15 @@ use Rattle.std.proofs.Common.{◌≡◌, ◌⊎◌, ◌↔◌, ◌∙◌, ℕ, �
 use Rattle.std.specs.Bool.{OnFalse, OnTrue}
 use Rattle.bip_defs.specs.Lists.{Among, IsMarked}
 use Rattle.bip_defs.specs.Marks.{AreClosed, IsExplored}
-use Rattle.bip_defs.specs.Matching.{Covers, IsMatching, IsMaximum, cols_of, turned}
+use Rattle.bip_defs.specs.Matching.{Covers, IsMatching, IsMaximum, cols_of, transposed_places}
 use Rattle.bip_defs.specs.Matrix.{Matrix, Place, cols, transpose}
 use Rattle.bip_defs.proofs.Closed.{closed_maximum}
 use Rattle.bip_defs.proofs.Full.{matching_few}
 use Rattle.bip_defs.proofs.Sets.{among_last}
-use Rattle.bip_defs.proofs.Turned.{transpose_back, transpose_cols, transpose_is, turned_matching, turned_maximum, turned_twice}
-use Rattle.bip_graph.specs.Pairing.{IsMatchingOf, IsMaximumOf, Pairing, transposed}
+use Rattle.bip_defs.proofs.Transposed.{transpose_back, transpose_cols, transpose_is, turned_matching, turned_maximum, turned_twice}
+use Rattle.bip_graph.specs.Matching.{IsMatchingOf, IsMaximumOf, Pairing, transposed}
 use Rattle.pothen_fan.specs.Roots.{HoldRoots, Extends}
-use Rattle.path_search.specs.Searching.{Augments, Fails}
+use Rattle.path_search.specs.Search.{Augments, Fails}
 
 pub extends_matched : (a : Matrix) (m : Pairing) (marks : List Bool) (root : ℕ) → Among root (cols_of m.pairs) → Extends a m m marks marks root
 extends_matched a m marks root on = inl (refl, record { marked = λ r h. h; closed = λ closed. closed; of_root = λ free. absurd (free on) })
@@ -68,4 +68,4 @@ pub straight_maximum : (a : Matrix) (m : Pairing) → IsMaximumOf (transpose a) 
 straight_maximum a m k = record { matching = record { rows = k.matching.cols ∙ transpose_cols a; cols = k.matching.rows; matching = max.matching }; maximum = max }
   where
     max : IsMaximum a m.pairs
-    max = subst (λ (z : List Place). IsMaximum a z) (turned_twice m.pairs) (turned_maximum (transpose a) a (turned m.pairs) (transpose_back a (transpose a) (transpose_is a)) k.maximum)
+    max = subst (λ (z : List Place). IsMaximum a z) (turned_twice m.pairs) (turned_maximum (transpose a) a (transposed_places m.pairs) (transpose_back a (transpose a) (transpose_is a)) k.maximum)

@@ -1,7 +1,7 @@
 -- What phases of both kinds begin with.
 use Rattle.std.specs.Prelude.{◌≡◌, length}
 use Rattle.bip_defs.specs.Matrix.{Matrix, cols}
-use Rattle.bip_graph.specs.Pairing.{IsMatchingOf, Pairing}
+use Rattle.bip_graph.specs.Matching.{IsMatchingOf, Pairing}
 use Rattle.pothen_fan.specs.Roots.{HoldRoots}
 use Rattle.pothen_fan.specs.declared.kinds.Phases.{Phases}
 

@@ -4,7 +4,7 @@ use Rattle.bip_defs.specs.Lists.{Among, IsMarked}
 use Rattle.bip_defs.specs.Marks.{AreClosed, IsExplored}
 use Rattle.bip_defs.specs.Matching.{cols_of}
 use Rattle.bip_defs.specs.Matrix.{IsEntry, Matrix, Place, cols}
-use Rattle.bip_graph.specs.Pairing.{Pairing}
+use Rattle.bip_graph.specs.Matching.{Pairing}
 
 -- an unmatched column that has an entry
 pub record IsRoot (a : Matrix) (m : List Place) (c : ℕ) : Type 0 where

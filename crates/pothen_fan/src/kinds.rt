@@ -3,7 +3,7 @@
 ghost use Rattle.std.specs.Prelude.{◌≡◌, ◌⊎◌, ◌↔◌, ◌<◌, length, IfOk, IsTrue};
 ghost use Rattle.bip_defs.specs.Matching.{Covers, IsMaximum};
 ghost use Rattle.bip_defs.specs.Matrix.{Matrix};
-ghost use Rattle.bip_graph.specs.Pairing.{IsMatchingOf, IsMaximumOf, Pairing};
+ghost use Rattle.bip_graph.specs.Matching.{IsMatchingOf, IsMaximumOf, Pairing};
 ghost use Rattle.pothen_fan.specs.Ready.{AreReady};
 
 use crate::sweep::{roots, sweep};

@@ -26,7 +26,7 @@ mod sweep;
 
 ghost use Rattle.std.specs.Prelude.{◌≡◌, ◌↔◌, ◌+◌, length, IfOk, OnErr};
 ghost use Rattle.bip_defs.specs.Matching.{Covers, IsMaximum};
-ghost use Rattle.bip_graph.specs.Pairing.{IsMatchingOf, IsMaximumOf, Pairing};
+ghost use Rattle.bip_graph.specs.Matching.{IsMatchingOf, IsMaximumOf, Pairing};
 
 use crate::kinds::complete_from;
 use crate::sweep::{count_roots, roots, sweep};

@@ -1,4 +1,4 @@
-pub mod Exit
 pub mod Entries
+pub mod Exit
 pub mod Limits
 pub mod Stored

@@ -5,17 +5,17 @@ use Rattle.sp_ids.specs.Entries.{IsInside}
 use Rattle.std.proofs.Math.Decide.{dec_lt}
 use Rattle.std.proofs.lemmas.List.{get_or_past, map-id}
 use Rattle.bip_defs.specs.Lists.{Among, Lists}
-use Rattle.bip_defs.specs.Matching.{turned}
+use Rattle.bip_defs.specs.Matching.{transposed_places}
 use Rattle.bip_defs.specs.Matrix.{HasPlaces, IsEntry, Matrix, Place, cols}
 use Rattle.bip_defs.proofs.Sets.{lists_same}
-use Rattle.bip_defs.proofs.Turned.{turned_among, turned_back, turned_twice}
-use Rattle.sp_pattern.specs.Order.{AreInside, AreParts, IsOrder, IsOrderOf, IsTurned, Pair}
+use Rattle.bip_defs.proofs.Transposed.{turned_among, turned_back, turned_twice}
+use Rattle.sp_pattern.specs.Pairs.{AreInside, AreParts, IsOrder, IsOrderOf, IsTurned, Pair}
 use Rattle.sp_pattern.specs.Stored.{AreOrders, piece, pieces, stored}
 use Rattle.sp_pattern.proofs.Cuts.{get_or-pieces, length-pieces}
 use Rattle.sp_pattern.proofs.Orders.{length-inners}
 use Rattle.sp_pattern.proofs.Shape.{orders_columns}
 use Rattle.sp_pattern.proofs.Sides.{inners_lists, inners_of, order_piece, order_starts, order_table}
-use Rattle.sp_pattern.proofs.Turning.{order_turned_length, turned_parts}
+use Rattle.sp_pattern.proofs.TransposeLemmas.{order_turned_length, turned_parts}
 
 -- an order of pairs, by its parts
 pub order_parts : (m n : ℕ) (ps : List Pair) (starts flat : List ℕ) → IsOrderOf m n ps starts flat → AreParts m (λ i j. Among (i, j) ps) starts flat
@@ -68,7 +68,7 @@ module _ (rows cols : ℕ) (P : ℕ → ℕ → Type 0) (cs rs us vs : List ℕ)
 -- A pattern of pairs of a column and a row, and one of pairs of a row and a column.
 
 pub of_columns : (rows cols : ℕ) (ps : List Pair) (cs rs us vs : List ℕ) → IsOrderOf cols rows ps cs rs → IsTurned (length cs - 1) rows cs rs us vs
-    → rows < 2 ^ 32 → cols < 2 ^ 32 → length rs < 2 ^ 32 → AreOrders cs rs us vs × HasPlaces rows cols (turned ps) (stored cs rs us)
+    → rows < 2 ^ 32 → cols < 2 ^ 32 → length rs < 2 ^ 32 → AreOrders cs rs us vs × HasPlaces rows cols (transposed_places ps) (stored cs rs us)
 of_columns rows cols ps cs rs us vs o t few_rows few_cols few =
     let by_col = order_parts cols rows ps cs rs o in
     let long = by_col.long in
@@ -77,7 +77,7 @@ of_columns rows cols ps cs rs us vs o t few_rows few_cols few =
     let by_row = turned_parts cols rows ps cs rs us vs o (t o.order.pairs (rw same (order_table cols rows cs rs o.order))) in
     let within : (r c : ℕ) → Among (c, r) ps → (r < rows) × (c < cols) = λ r c h. ((inside (c, r) h).1, (inside (c, r) h).0) in
     let orders = both_orders rows cols (λ r c. Among (c, r) ps) cs rs us vs by_col by_row within few_rows few_cols few in
-    (orders, both_places rows cols (λ r c. Among (c, r) ps) cs rs us vs by_col by_row within (turned ps) (λ r c h. turned_among c r ps h) (λ r c h. turned_back c r ps h) orders)
+    (orders, both_places rows cols (λ r c. Among (c, r) ps) cs rs us vs by_col by_row within (transposed_places ps) (λ r c h. turned_among c r ps h) (λ r c h. turned_back c r ps h) orders)
 
 -- an order is one of its own pairs
 pub order_itself : (m n : ℕ) (starts flat : List ℕ) (o : IsOrder m n starts flat) → IsOrderOf m n o.pairs starts flat
@@ -107,7 +107,7 @@ itself x = x
 
 pub made_by_columns : (rows cols : ℕ) (ps : List Pair) (cs rs us vs lent_starts lent_flat : List ℕ) → IsOrderOf cols rows ps cs rs → lent_starts ≡ cs → lent_flat ≡ rs
     → IsTurned (length lent_starts - 1) rows lent_starts (map itself lent_flat) us (map itself vs)
-    → rows < 2 ^ 32 → cols < 2 ^ 32 → length rs < 2 ^ 32 → AreOrders cs rs us vs × HasPlaces rows cols (turned ps) (stored cs rs us)
+    → rows < 2 ^ 32 → cols < 2 ^ 32 → length rs < 2 ^ 32 → AreOrders cs rs us vs × HasPlaces rows cols (transposed_places ps) (stored cs rs us)
 made_by_columns rows cols ps cs rs us vs ss ff o es ef t few_rows few_cols few =
     of_columns rows cols ps cs rs us vs o
     (subst (λ xs. IsTurned (length cs - 1) rows cs xs us vs) (map-id rs)
@@ -138,7 +138,7 @@ made_by_rows rows cols ps cs rs us vs ss ff o es ef t inside few_rows few_cols f
 
 -- What a list of places gives.
 
-pub inside_turned : (rows cols : ℕ) (ps : List Place) → AllByRecursion (IsInside rows cols) ps → AreInside cols rows (turned ps)
+pub inside_turned : (rows cols : ℕ) (ps : List Place) → AllByRecursion (IsInside rows cols) ps → AreInside cols rows (transposed_places ps)
 inside_turned rows cols [] all p h = elim h [ ]
 inside_turned rows cols (q ∷ ps) all p (inl e) = let first = ap (λ (z : Pair). z.0) e in let second = ap (λ (z : Pair). z.1) e in let a = all.0.0 in let b = all.0.1 in (omega (arith, first, b), omega (arith, second, a))
 inside_turned rows cols (q ∷ ps) all p (inr h) = inside_turned rows cols ps all.1 p h
@@ -148,5 +148,5 @@ inside_places rows cols [] all p h = elim h [ ]
 inside_places rows cols (q ∷ ps) all p (inl e) = let first = ap (λ (z : Pair). z.0) e in let second = ap (λ (z : Pair). z.1) e in let a = all.0.0 in let b = all.0.1 in (omega (arith, first, a), omega (arith, second, b))
 inside_places rows cols (q ∷ ps) all p (inr h) = inside_places rows cols ps all.1 p h
 
-pub from_turned_twice : (rows cols m n : ℕ) (ps qs : List Place) (a : Matrix) → m ≡ rows → n ≡ cols → ps ≡ qs → HasPlaces m n (turned (turned ps)) a → HasPlaces rows cols qs a
+pub from_turned_twice : (rows cols m n : ℕ) (ps qs : List Place) (a : Matrix) → m ≡ rows → n ≡ cols → ps ≡ qs → HasPlaces m n (transposed_places (transposed_places ps)) a → HasPlaces rows cols qs a
 from_turned_twice rows cols m n ps qs a em en same h = rw (← em, ← en, ← same) (subst (λ xs. HasPlaces m n xs a) (turned_twice ps) h)

@@ -14,7 +14,7 @@ use Rattle.bip_defs.specs.Lists.{Among, IsRising, Lists}
 use Rattle.bip_defs.specs.Matrix.{IsEntry, Matrix, column, cols, entry_count}
 use Rattle.bip_defs.proofs.Sets.{among_at, below_each_sound, entry_col, number_same, place_among}
 use Rattle.sp_pattern.specs.Stored.{AreOrders, AreStarts, pieces, stored}
-use Rattle.sp_pattern.specs.Weighing.{Weighing, place_in, position, start_of, weight_at, weights_in}
+use Rattle.sp_pattern.specs.Weights.{Weighing, place_in, position, start_of, weight_at, weights_in}
 use Rattle.sp_pattern.proofs.Cuts.{get_or-pieces, length-pieces, length-slice_range, start_within}
 use Rattle.sp_pattern.proofs.Shape.{col_fits, orders_columns, piece_column, rising_step}
 

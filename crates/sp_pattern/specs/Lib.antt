@@ -1,5 +1,5 @@
 pub mod Load
-pub mod Order
-pub mod Refusal
+pub mod Pairs
 pub mod Stored
-pub mod Weighing
+pub mod WeightErrors
+pub mod Weights

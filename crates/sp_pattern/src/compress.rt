@@ -1,7 +1,7 @@
 //! Pairs in order, compressed: a start for each outer number, and one flat list of inner numbers.
 
 ghost use Rattle.std.specs.Prelude.{◌≡◌, ◌+◌, ◌<◌, ◌≤◌, ◌^◌, ℕ, List, length, map, IfOk, OnOk};
-ghost use Rattle.sp_pattern.specs.Order.{AreInside, AreSorted, IsFront, IsOrderOf, Pair};
+ghost use Rattle.sp_pattern.specs.Pairs.{AreInside, AreSorted, IsFront, IsOrderOf, Pair};
 
 use crate::pairs::Pairs;
 use sp_ids::{Id, OutOfMemory};

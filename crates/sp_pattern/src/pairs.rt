@@ -1,8 +1,8 @@
 //! Lists of pairs of an outer and an inner number.
 
 ghost use Rattle.std.specs.Prelude.{◌≡◌, ◌+◌, ◌<◌, ◌↔◌, IsTrue, ℕ, List, length, map};
-ghost use Rattle.bip_defs.specs.Matching.{turned};
-ghost use Rattle.sp_pattern.specs.Order.{AreSorted, in_blocks, pair_at, with_zero};
+ghost use Rattle.bip_defs.specs.Matching.{transposed_places};
+ghost use Rattle.sp_pattern.specs.Pairs.{AreSorted, in_blocks, pair_at, with_zero};
 
 use sp_ids::{Col, Id, Row};
 
@@ -25,7 +25,7 @@ pub struct ByCol<'a> {
 }
 
 impl Pairs for ByCol<'_> {
-    ghost pairs = { λ s. turned s.places.now };
+    ghost pairs = { λ s. transposed_places s.places.now };
 
     fn len(&self) -> usize {
         self.places.len()

@@ -1,13 +1,13 @@
 //! The pattern of a matrix.
 
 ghost use Rattle.std.specs.Prelude.{◌≡◌, ◌<◌, ◌^◌, ◌↔◌, IsTrue, IfOk, List, length, ◌+◌, ◌≤◌};
-ghost use Rattle.bip_defs.specs.Matching.{turned};
-ghost use Rattle.sp_pattern.specs.Order.{AreInside, AreSorted, IsOrder, IsOrderOf, Pair};
+ghost use Rattle.bip_defs.specs.Matching.{transposed_places};
+ghost use Rattle.sp_pattern.specs.Pairs.{AreInside, AreSorted, IsOrder, IsOrderOf, Pair};
 ghost use Rattle.bip_defs.specs.Lists.{IsRising, Lists};
 ghost use Rattle.bip_defs.specs.Matrix.{IsEntry, HasPlaces, cols, column, row_list, entry_count};
 ghost use Rattle.sp_ids.specs.Entries.{places};
 ghost use Rattle.sp_pattern.specs.Stored.{IsPattern};
-ghost use Rattle.sp_pattern.specs.Weighing.{position, start_of};
+ghost use Rattle.sp_pattern.specs.Weights.{position, start_of};
 
 use crate::compress::compress;
 use crate::pairs::{ByCol, ByRow, Pairs, are_sorted};
@@ -82,7 +82,7 @@ impl Pattern {
         requires sorted { AreSorted (P.pairs pairs) }
         requires inside { AreInside cols rows (P.pairs pairs) }
         requires few { length (P.pairs pairs) < 2 ^ 32 }
-        ensures { IfOk result (HasPlaces rows cols (turned (P.pairs pairs))) }
+        ensures { IfOk result (HasPlaces rows cols (transposed_places (P.pairs pairs))) }
     {
         let (col_starts, col_rows) = compress::<P, Row>(alloc, &pairs, cols, rows)?;
         drop(pairs);
@@ -101,7 +101,7 @@ impl Pattern {
         requires few { length col_rows.items < 2 ^ 32 }
         ensures { IfOk result (λ a. (ps : List Pair)
             → IsOrderOf cols rows ps col_starts.items col_rows.items
-            → HasPlaces rows cols (turned ps) a) }
+            → HasPlaces rows cols (transposed_places ps) a) }
     {
         let (row_starts, row_cols) = transpose::<Col, Row>(
             alloc,

@@ -6,7 +6,7 @@ ghost use Rattle.std.specs.Int.RustNames.{unsigned_abs};
 ghost use Rattle.bip_defs.specs.Matrix.{HasPlaces, IsEntry, cols, column, entry_count};
 ghost use Rattle.sp_ids.specs.Entries.{places};
 ghost use Rattle.sp_ids.specs.declared.triples.Field.TheVariants.{Integer};
-ghost use Rattle.sp_pattern.specs.Weighing.{AreSums, AreWeightsOf, AreWithin, weight_at, weight_limit, weights_in};
+ghost use Rattle.sp_pattern.specs.Weights.{AreSums, AreWeightsOf, AreWithin, weight_at, weight_limit, weights_in};
 
 use crate::Pattern;
 use sp_ids::{Col, MAX_VALUE, OutOfMemory, Row, Triples};
@@ -35,7 +35,7 @@ pub struct Weights<'p> {
 impl<'p> Model for Weights<'p> {
     ghost use Rattle.std.specs.Prelude.{◌≡◌, length};
     ghost use Rattle.bip_defs.specs.Matrix.{entry_count};
-    ghost use Rattle.sp_pattern.specs.Weighing.{Weighing};
+    ghost use Rattle.sp_pattern.specs.Weights.{Weighing};
 
     ghost Value = { Weighing };
 
@@ -68,7 +68,7 @@ impl<'p> Weights<'p> {
 }
 
 impl<'p> Weights<'p> {
-    ghost use Rattle.sp_pattern.specs.Refusal.{IsRefusal};
+    ghost use Rattle.sp_pattern.specs.WeightErrors.{IsRefusal};
 
     /// The weights of a pattern's entries, by the integer file that the pattern is of.
     ///

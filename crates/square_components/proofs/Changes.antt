@@ -3,7 +3,7 @@ use Rattle.std.proofs.Common.{◌≡◌, ◌≢◌, ◌∙◌, ℕ, ◌+◌, ◌
 use Rattle.std.proofs.lemmas.List.{get_or_default}
 use Rattle.bip_defs.specs.Lists.{Among, IsRising}
 use Rattle.bip_defs.proofs.Sets.{among_last, among_left, below_each_from, below_each_sound, among_right, number_same}
-use Rattle.square_components.specs.Numbering.{look, none}
+use Rattle.square_components.specs.Numbers.{look, none}
 use Rattle.square_components.specs.Steps.{AreUpTo, Numbers}
 
 -- what indexing read, as the clauses say it

@@ -1,7 +1,7 @@
 pub mod Changes
-pub mod Stacking
-pub mod Finishing
-pub mod Searching
-pub mod Ending
+pub mod EndLemmas
+pub mod LastComponent
+pub mod MateLemmas
 pub mod Scans
-pub mod Mating
+pub mod SearchLemmas
+pub mod StackLemmas

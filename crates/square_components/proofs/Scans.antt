@@ -6,11 +6,11 @@ use Rattle.bip_defs.specs.Matrix.{IsEntry, Matrix, cols, column}
 use Rattle.bip_defs.specs.Parts.{IsSquareCol}
 use Rattle.bip_defs.proofs.Sets.{among_at, few_distinct, rising_distinct, upto_complete, upto_length}
 use Rattle.bip_defs.specs.Matrix as matrices
-use Rattle.square_components.specs.Numbering.{look, none}
+use Rattle.square_components.specs.Numbers.{look, none}
 use Rattle.square_components.specs.Stacks.{IsSearch, State, degree, target}
 use Rattle.square_components.specs.Steps.{EndsWith, LeadsOn, Settles, advancing, merging}
 use Rattle.square_components.specs.Steps as steps
-use Rattle.square_components.proofs.Searching.{looks, target_square, top_in}
+use Rattle.square_components.proofs.SearchLemmas.{looks, target_square, top_in}
 
 -- so many entries of the column at the last place to do are left
 pub record IsScan (a : Matrix) (mates : List ℕ) (old s : State) (at col left : ℕ) : Type 0 where

@@ -1,3 +1,3 @@
-pub mod Numbering
+pub mod Numbers
 pub mod Stacks
 pub mod Steps

@@ -5,7 +5,7 @@ use Rattle.bip_defs.specs.Lists.{Among, IsRising}
 use Rattle.bip_defs.specs.Matrix.{Matrix, Place, cols, column}
 use Rattle.bip_defs.specs.Parts.{IsSquareCol}
 use Rattle.bip_defs.specs.Walks.{Walk}
-use Rattle.square_components.specs.Numbering.{look, none}
+use Rattle.square_components.specs.Numbers.{look, none}
 
 -- the columns that are not finished in the order in which they were entered; the places at which the components so far
 -- start; the places of those that are not left yet; for each column how many of its entries are left to look at, its place, and

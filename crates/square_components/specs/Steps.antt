@@ -2,7 +2,7 @@
 use Rattle.std.specs.Prelude.{◌≡◌, ◌≢◌, ℕ, ◌+◌, ◌<◌, ◌≤◌, List, [], ◌∷◌, ◌++◌, length, replicate, slice_index, slice_set, take}
 use Rattle.bip_defs.specs.Lists.{Among, IsRising}
 use Rattle.bip_defs.specs.Matrix.{Matrix, Place}
-use Rattle.square_components.specs.Numbering.{look, none}
+use Rattle.square_components.specs.Numbers.{look, none}
 use Rattle.square_components.specs.Stacks.{State, degree, target}
 
 -- the mates of an array are pairs of a matching

@@ -4,7 +4,7 @@ ghost use Rattle.std.specs.Prelude.{◌≡◌, ◌≢◌, ℕ, ◌<◌, [], slic
 ghost use Rattle.bip_defs.specs.Lists.{Among};
 ghost use Rattle.bip_defs.specs.Matrix.{cols};
 ghost use Rattle.bip_defs.specs.Parts.{IsSquareCol};
-ghost use Rattle.square_components.specs.Numbering.{look, none};
+ghost use Rattle.square_components.specs.Numbers.{look, none};
 ghost use Rattle.square_components.specs.Stacks.{IsSearch, degree, work};
 ghost use Rattle.square_components.specs.Steps.{EndsWith, LeadsOn, StaysPlaced};
 

@@ -7,9 +7,9 @@ mod search;
 
 ghost use Rattle.std.specs.Prelude.{IfOk};
 ghost use Rattle.bip_defs.specs.Parts.{ArePartsOf};
-ghost use Rattle.bip_graph.specs.Pairing.{IsMaximumOf};
-ghost use Rattle.bip_graph.specs.Shown.{parts_of};
-ghost use Rattle.square_components.specs.Numbering.{AreNumbered};
+ghost use Rattle.bip_graph.specs.Matching.{IsMaximumOf};
+ghost use Rattle.bip_graph.specs.Decompositions.{parts_of};
+ghost use Rattle.square_components.specs.Numbers.{AreNumbered};
 
 use crate::mates::square_mates;
 use crate::search::Search;

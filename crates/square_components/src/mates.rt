@@ -5,8 +5,8 @@ ghost use Rattle.bip_defs.specs.Lists.{Among, Lists};
 ghost use Rattle.bip_defs.specs.Matching.{IsMatching};
 ghost use Rattle.bip_defs.specs.Matrix.{Matrix, Place};
 ghost use Rattle.bip_defs.specs.Parts.{IsSquareRow};
-ghost use Rattle.bip_graph.specs.Pairing.{IsMaximumOf};
-ghost use Rattle.square_components.specs.Numbering.{look, none};
+ghost use Rattle.bip_graph.specs.Matching.{IsMaximumOf};
+ghost use Rattle.square_components.specs.Numbers.{look, none};
 ghost use Rattle.square_components.specs.Stacks.{AreMatesOf};
 ghost use Rattle.square_components.specs.Steps.{ArePairs};
 

@@ -2,7 +2,7 @@
 
 ghost use Rattle.std.specs.Prelude.{◌≡◌, ◌≢◌, ℕ, ◌+◌, ◌<◌, ◌≤◌, ◌++◌, List, [], ◌∷◌, length, slice_index, vec_capacity, IfNone, IfOk, IfSome, MatchBool};
 ghost use Rattle.bip_defs.specs.Lists.{Among, IsRising};
-ghost use Rattle.square_components.specs.Numbering.{look, none};
+ghost use Rattle.square_components.specs.Numbers.{look, none};
 ghost use Rattle.square_components.specs.Stacks.{State};
 ghost use Rattle.square_components.specs.Steps.{AreUpTo, EndsWith, HasRoom, Leaves, Numbers, Settles, advancing, beginning, entering, finishing, merging};
 

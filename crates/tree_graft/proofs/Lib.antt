@@ -1,3 +1,3 @@
-mod Augmenting
-mod Phasing
-mod Searching
+mod AugmentLemmas
+mod PhaseLemmas
+mod SearchLemmas

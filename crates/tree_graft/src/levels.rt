@@ -4,11 +4,11 @@ ghost use Rattle.std.specs.Prelude.{◌≡◌, ◌⊎◌, ℕ, List, [], ◌++�
 ghost use Rattle.bip_defs.specs.Lists.{Among, Lists};
 ghost use Rattle.bip_defs.specs.Matching.{cols_of, rows_of};
 ghost use Rattle.bip_defs.specs.Matrix.{IsEntry};
-ghost use Rattle.bip_graph.specs.Pairing.{IsMatchingOf};
+ghost use Rattle.bip_graph.specs.Matching.{IsMatchingOf};
 ghost use Rattle.forest_core.specs.Events.{Grows, IsLegal};
 ghost use Rattle.forest_core.specs.State.{InForest, IsRested, IsSettled, RootOf, roots_of};
 ghost use Rattle.sp_ids.specs.declared.events.Event.TheVariants.{Claim};
-ghost use Rattle.tree_graft.specs.Searching.{IsScanned, IsSearch};
+ghost use Rattle.tree_graft.specs.Search.{IsScanned, IsSearch};
 
 use bip_graph::Matching;
 use forest_core::{Forest, claims_and_wins_grow, columns_have_one_root};

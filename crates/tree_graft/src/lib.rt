@@ -11,7 +11,7 @@ mod levels;
 
 ghost use Rattle.std.specs.Prelude.{◌≡◌, ◌↔◌, ◌+◌, ◌≤◌, length, IfOk};
 ghost use Rattle.bip_defs.specs.Matching.{Covers, IsMaximum};
-ghost use Rattle.bip_graph.specs.Pairing.{IsMatchingOf, IsMaximumOf};
+ghost use Rattle.bip_graph.specs.Matching.{IsMatchingOf, IsMaximumOf};
 ghost use Rattle.forest_core.specs.Events.{IsLegal, LeadsTo};
 ghost use Rattle.forest_core.specs.State.{IsRested};
 ghost use Rattle.sp_ids.specs.Limits.{max_workers};

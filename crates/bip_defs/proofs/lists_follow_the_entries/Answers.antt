@@ -1,5 +1,5 @@
 use Rattle.bip_defs.proofs.Sets.{neighbours_lists}
-use Rattle.bip_defs.proofs.Turned.{row_list_lists}
+use Rattle.bip_defs.proofs.Transposed.{row_list_lists}
 use Rattle.bip_defs.proofs.lists_follow_the_entries.Goals as goal
 
 pub returns : goal.returns

@@ -1,4 +1,4 @@
-use Rattle.bip_defs.proofs.Turned.{transpose_is, turned_maximum, turned_vertical, turned_vertical_col, vertical_col_turned, vertical_turned}
+use Rattle.bip_defs.proofs.Transposed.{transpose_is, turned_maximum, turned_vertical, turned_vertical_col, vertical_col_turned, vertical_turned}
 use Rattle.bip_defs.proofs.transpose_turns_parts.Goals as goal
 
 pub returns : goal.returns

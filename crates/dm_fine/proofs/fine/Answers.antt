@@ -2,9 +2,9 @@ use Rattle.std.proofs.Common.{◌^◌, subst, sym, arith}
 use Rattle.std.proofs.lemmas.List.{map-id}
 use Rattle.std.proofs.lemmas.Result.{IfOk-weaker}
 use Rattle.bip_defs.specs.Blocks.{AreBlocksOf}
-use Rattle.dm_fine.proofs.Blocking.{all_few, are_blocks, gathered}
-use Rattle.dm_fine.proofs.Ordering.{follow_range}
-use Rattle.dm_fine.proofs.Parting.{groups_apart}
+use Rattle.dm_fine.proofs.BlockLemmas.{all_few, are_blocks, gathered}
+use Rattle.dm_fine.proofs.OrderLemmas.{follow_range}
+use Rattle.dm_fine.proofs.GroupParts.{groups_apart}
 use Rattle.dm_fine.proofs.fine.Goals as goal
 
 pub order-requires : goal.order-requires

@@ -1,5 +1,5 @@
 use Rattle.std.proofs.Common.{arith}
-use Rattle.karp_sipser.proofs.Way.{choice_free, way_begins, way_ends, way_goes_on, way_matching, way_room}
+use Rattle.karp_sipser.proofs.TakenPairs.{choice_free, way_begins, way_ends, way_goes_on, way_matching, way_room}
 use Rattle.karp_sipser.proofs.start.Goals as goal
 
 pub take-requires-clause-free : goal.take-requires-clause-free

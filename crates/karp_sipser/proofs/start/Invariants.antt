@@ -1,6 +1,6 @@
 use Rattle.std.proofs.Common.{◌-◌, length}
 use Rattle.bip_defs.specs.Matrix.{cols}
-use Rattle.karp_sipser.proofs.Way.{IsUnderWay}
+use Rattle.karp_sipser.proofs.TakenPairs.{IsUnderWay}
 use Rattle.karp_sipser.specs.Rest.{HasOnes, IsRest}
 use Rattle.karp_sipser.proofs.start.Given as goal
 

@@ -1,6 +1,6 @@
 use Rattle.bip_defs.specs.Matching.{Covers}
-use Rattle.bip_graph.specs.Pairing.{IsMatchingOf}
-use Rattle.mc21_match.specs.Running.{IsSearched}
+use Rattle.bip_graph.specs.Matching.{IsMatchingOf}
+use Rattle.mc21_match.specs.Searched.{IsSearched}
 use Rattle.mc21_match.proofs.complete.Given as goal
 
 abbrev pub invariant-loop-number : goal.invariant-loop-number

@@ -1,6 +1,6 @@
 use Rattle.bip_defs.proofs.Covers.{covers_none}
 use Rattle.bip_defs.proofs.Sets.{col_among}
-use Rattle.mc21_match.proofs.Extending.{searched_failed, searched_found, searched_matched}
+use Rattle.mc21_match.proofs.ExtendLemmas.{searched_failed, searched_found, searched_matched}
 use Rattle.mc21_match.proofs.extend.Goals as goal
 
 pub forget-requires : goal.forget-requires

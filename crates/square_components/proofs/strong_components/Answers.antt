@@ -1,11 +1,11 @@
 use Rattle.std.proofs.Common.{◌≡◌, ◌∙◌, ap, sym, subst}
 use Rattle.bip_defs.specs.Lists.{Among}
 use Rattle.bip_defs.specs.Matrix.{cols}
-use Rattle.square_components.specs.Numbering.{AreNumbered}
+use Rattle.square_components.specs.Numbers.{AreNumbered}
 use Rattle.square_components.specs.Stacks.{IsSearch}
 use Rattle.square_components.specs.Steps.{ArePairs, beginning}
-use Rattle.square_components.proofs.Ending.{ends}
-use Rattle.square_components.proofs.Searching.{begins}
+use Rattle.square_components.proofs.EndLemmas.{ends}
+use Rattle.square_components.proofs.SearchLemmas.{begins}
 use Rattle.square_components.proofs.strong_components.Goals as goal
 
 pub explore_all-requires-clause-search : goal.explore_all-requires-clause-search

@@ -2,9 +2,9 @@ use Rattle.std.proofs.Common.{◌∙◌, ◌==◌, List, ap, length, refl, subst
 use Rattle.bip_defs.specs.Lists.{Among}
 use Rattle.bip_defs.specs.Matching.{cols_of}
 use Rattle.bip_defs.specs.Matrix.{IsEntry, Matrix, Place}
-use Rattle.bip_graph.specs.Pairing.{Pairing}
-use Rattle.tree_graft.proofs.Phasing.{lead_matching, was_maximum, was_not_maximum}
-use Rattle.tree_graft.proofs.Searching.{closed, none_listed, nothing_to_claim}
+use Rattle.bip_graph.specs.Matching.{Pairing}
+use Rattle.tree_graft.proofs.PhaseLemmas.{lead_matching, was_maximum, was_not_maximum}
+use Rattle.tree_graft.proofs.SearchLemmas.{closed, none_listed, nothing_to_claim}
 use Rattle.tree_graft.proofs.phase.Goals as goal
 
 pub returns-then-not-can_grow-clause-maximum : goal.returns-then-not-can_grow-clause-maximum

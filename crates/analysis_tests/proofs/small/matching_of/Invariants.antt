@@ -1,4 +1,4 @@
-use Rattle.bip_graph.specs.Pairing.{IsMatchingOf}
+use Rattle.bip_graph.specs.Matching.{IsMatchingOf}
 use Rattle.analysis_tests.proofs.small.matching_of.Given as goal
 
 abbrev pub invariant-loop-row : goal.invariant-loop-row

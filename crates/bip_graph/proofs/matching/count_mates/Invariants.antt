@@ -1,5 +1,5 @@
 use Rattle.std.proofs.Common.{◌≡◌, ◌+◌, length, drop}
-use Rattle.bip_graph.specs.Pairing.{pairs_from, pairs_of}
+use Rattle.bip_graph.specs.Matching.{pairs_from, pairs_of}
 use Rattle.bip_graph.proofs.matching.count_mates.Given as goal
 
 abbrev pub invariant-loop-row : goal.invariant-loop-row

@@ -1,5 +1,5 @@
 use Rattle.std.proofs.Common.{◌∙◌, ◌-◌, ◌<◌, ap, arith, length, refl, reverse, rules, suc}
-use Rattle.bip_graph.proofs.Traced.{grown_length, tracing_end, tracing_more, tracing_room, tracing_start, turned_round}
+use Rattle.bip_graph.proofs.TraceLemmas.{grown_length, tracing_end, tracing_more, tracing_room, tracing_start, turned_round}
 use Rattle.bip_graph.proofs.trace.trace_back.Goals as goal
 
 pub loop-row-init : goal.loop-row-init

@@ -1,5 +1,5 @@
 use Rattle.std.proofs.Common.{◌-◌, ◌<◌, ◌≤◌, length, suc, vec_capacity}
-use Rattle.bip_graph.proofs.Traced.{IsTracing}
+use Rattle.bip_graph.proofs.TraceLemmas.{IsTracing}
 use Rattle.bip_graph.proofs.trace.trace_back.Given as goal
 
 abbrev pub invariant-loop-row : goal.invariant-loop-row

@@ -3,7 +3,7 @@ use Rattle.std.proofs.lemmas.List.{get_or_default, get_or_past, length-map}
 use Rattle.bip_defs.specs.Lists.{Among}
 use Rattle.bip_defs.proofs.Sets.{among_at, number_at}
 use Rattle.bip_defs.specs.Lists.{IsMarked}
-use Rattle.btf_check.proofs.Marking.{marking_more, once_long, striking_end, striking_more, striking_stop}
+use Rattle.btf_check.proofs.MarkLemmas.{marking_more, once_long, striking_end, striking_more, striking_stop}
 use Rattle.btf_check.proofs.compare.are_once.Goals as goal
 use Rattle.btf_check.proofs.compare.are_once.Goals.{then-number-len-via-then-number-len, then-number-len-via-else-number-len+then-not-index}
 

@@ -1,5 +1,5 @@
 use Rattle.std.proofs.Common.{map}
-use Rattle.btf_check.proofs.Marking.{IsMarking, IsStriking}
+use Rattle.btf_check.proofs.MarkLemmas.{IsMarking, IsStriking}
 use Rattle.btf_check.proofs.compare.are_once.Given as goal
 
 abbrev pub invariant-loop-at : goal.invariant-loop-at

@@ -1,4 +1,4 @@
-use Rattle.btf_check.proofs.Pairing.{IsPairingUp}
+use Rattle.btf_check.proofs.PairLemmas.{IsPairingUp}
 use Rattle.btf_check.proofs.pairs.matching_of.Given as goal
 
 abbrev pub invariant-loop-pair : goal.invariant-loop-pair

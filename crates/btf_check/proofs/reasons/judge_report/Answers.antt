@@ -1,12 +1,12 @@
 use Rattle.std.proofs.Common.{◌≡◌, ◌∙◌, rules, refl, sym, subst, true≢false}
 use Rattle.bip_defs.specs.Matching.{IsMaximum}
-use Rattle.bip_graph.specs.Pairing.{IsMatchingOf}
-use Rattle.bip_graph.specs.Shown.{parts_of}
+use Rattle.bip_graph.specs.Matching.{IsMatchingOf}
+use Rattle.bip_graph.specs.Decompositions.{parts_of}
 use Rattle.btf_check.specs.Reasons.{ArePaired, TellsBlocks}
-use Rattle.btf_text.specs.Told.{told}
-use Rattle.btf_check.proofs.Judging.{all_met, first_blocks, tells_blocks, told_blocks}
-use Rattle.btf_check.proofs.Answered.{report_of_met}
-use Rattle.btf_check.proofs.Pairing.{paired_matching}
+use Rattle.btf_text.specs.ReportRead.{told}
+use Rattle.btf_check.proofs.Comparisons.{all_met, first_blocks, tells_blocks, told_blocks}
+use Rattle.btf_check.proofs.ReasonLemmas.{report_of_met}
+use Rattle.btf_check.proofs.PairLemmas.{paired_matching}
 use Rattle.btf_check.proofs.reasons.judge_report.Goals as goal
 use Rattle.btf_check.proofs.reasons.judge_report.Goals.{then-not-same_blocks-via-then-not-same_blocks, then-not-same_blocks-via-else-not-same_blocks+then-not-has_orders}
 

@@ -4,11 +4,11 @@ use Rattle.std.specs.Prelude.{◌↔◌}
 use Rattle.bip_defs.specs.Lists.{Among, AreDistinct}
 use Rattle.bip_defs.proofs.Sets.{rising_distinct}
 use Rattle.bip_defs.specs.Blocks.{all_cols, all_rows}
-use Rattle.bip_graph.specs.Shown.{parts_of}
-use Rattle.btf_check.specs.Comparing.{HasOuterParts, HasSizes}
+use Rattle.bip_graph.specs.Decompositions.{parts_of}
+use Rattle.btf_check.specs.ReportParts.{HasOuterParts, HasSizes}
 use Rattle.btf_check.specs.Reasons.{TellsParts}
-use Rattle.btf_text.specs.Told.{told}
-use Rattle.btf_check.proofs.Judging.{answer_weaker, once_back, once_same, tells_parts, told_cols, told_outer, told_rows}
+use Rattle.btf_text.specs.ReportRead.{told}
+use Rattle.btf_check.proofs.Comparisons.{answer_weaker, once_back, once_same, tells_parts, told_cols, told_outer, told_rows}
 use Rattle.btf_check.proofs.reasons.tells_parts.Goals as goal
 
 pub returns-then-not-has_outer_parts : goal.returns-then-not-has_outer_parts

@@ -2,10 +2,10 @@ use Rattle.std.proofs.Common.{◌≡◌, ℕ, List, Option, Some, None, refl, ru
 use Rattle.std.specs.Prelude.{IfNone, IfSome}
 use Rattle.bip_graph.specs.Texts.{report_text}
 use Rattle.btf_text.specs.Readable.{IsReadable}
-use Rattle.btf_text.specs.Told.{told}
+use Rattle.btf_text.specs.ReportRead.{told}
 use Rattle.btf_text.specs.declared.reader.Report.{Report}
 use Rattle.btf_check.specs.Verdicts.{IsJudged, IsVerdict}
-use Rattle.btf_check.proofs.Judging.{answer_weaker}
+use Rattle.btf_check.proofs.Comparisons.{answer_weaker}
 use Rattle.btf_check.proofs.Verdicts.{judged, no_report, rising_pairs}
 use Rattle.btf_check.proofs.report.judge.Goals as goal
 

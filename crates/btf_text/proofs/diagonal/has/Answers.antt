@@ -1,6 +1,6 @@
 use Rattle.bip_defs.specs.Lists.{Among}
 use Rattle.sp_pattern.proofs.Shape.{found_iff}
-use Rattle.btf_text.proofs.Touched.{contained, own_list}
+use Rattle.btf_text.proofs.NeighbourRows.{contained, own_list}
 use Rattle.btf_text.proofs.diagonal.has.Goals as goal
 
 pub returns-then-rising : goal.returns-then-rising

@@ -1,12 +1,12 @@
 use Rattle.std.proofs.Common.{◌≡◌, ℕ, codes, filter, append-nil, sym, ap, ◌∙◌, arith}
 use Rattle.bip_defs.specs.Matrix.{neighbours, touches, upto}
 use Rattle.bip_graph.specs.Texts.{counted, line}
-use Rattle.btf_text.specs.Reading.{rises}
+use Rattle.btf_text.specs.ReportGrammar.{rises}
 use Rattle.btf_text.proofs.BufferLaws.{appends_as, appends_then}
 use Rattle.btf_text.proofs.Lines.{line_alone, line_ends}
 use Rattle.btf_text.proofs.Parts.{same_ids}
 use Rattle.btf_text.proofs.Rising.{rises_sound}
-use Rattle.btf_text.proofs.Touched.{rows_go_on}
+use Rattle.btf_text.proofs.NeighbourRows.{rows_go_on}
 use Rattle.btf_text.proofs.diagonal.put_neighbours.Goals as goal
 
 pub loop-row-init : goal.loop-row-init

@@ -1,7 +1,7 @@
 use Rattle.std.proofs.Common.{arith, sym, ◌∙◌}
 use Rattle.bip_defs.specs.Matrix.{touches}
 use Rattle.btf_text.proofs.BufferLaws.{appends_as, appends_none}
-use Rattle.btf_text.proofs.Touched.{row_off, row_on}
+use Rattle.btf_text.proofs.NeighbourRows.{row_off, row_on}
 use Rattle.btf_text.proofs.diagonal.put_where_touched.Goals as goal
 
 pub returns-then-not-touches : goal.returns-then-not-touches

@@ -2,7 +2,7 @@ use Rattle.std.proofs.Common.{ℕ, Bool, ◌||◌, nat_eq, ◌∙◌, ap, ap₂,
 use Rattle.std.specs.List.{list_any}
 use Rattle.std.proofs.lemmas.List.{take_all}
 use Rattle.std.proofs.lemmas.List.Folds.{list_any_at, list_any_more}
-use Rattle.btf_text.proofs.Touched.{told_among, touches_by_row}
+use Rattle.btf_text.proofs.NeighbourRows.{told_among, touches_by_row}
 use Rattle.btf_text.proofs.diagonal.touches.Goals as goal
 
 pub loop-col-init : goal.loop-col-init

@@ -1,5 +1,5 @@
 use Rattle.std.proofs.Common.{◌*◌, ◌+◌, ap, ap₂, arith, drop, sym, ◌∙◌, Some, List, ℕ}
-use Rattle.btf_text.specs.Reading.{digits_on}
+use Rattle.btf_text.specs.ReportGrammar.{digits_on}
 use Rattle.btf_text.proofs.Digits.{digits_end, digits_more, digits_over, digits_stop, rest_of}
 use Rattle.btf_text.proofs.numerals.digits_on.Goals as goal
 

@@ -1,5 +1,5 @@
 use Rattle.std.proofs.Common.{◌≡◌, ◌<◌, ◌^◌, drop}
-use Rattle.btf_text.specs.Reading.{digits_on}
+use Rattle.btf_text.specs.ReportGrammar.{digits_on}
 use Rattle.btf_text.proofs.numerals.digits_on.Given as goal
 
 abbrev pub invariant-loop-at : goal.invariant-loop-at

@@ -1,7 +1,7 @@
 use Rattle.std.proofs.Common.{[], ◌∷◌, ◌++◌, map, sym, ◌∙◌, ap, List, ℕ, subst, length, suc}
 use Rattle.std.proofs.lemmas.List.{map_push}
 use Rattle.std.proofs.lemmas.Result.{err_from_is_err_and}
-use Rattle.btf_text.specs.Reading.{ids_at}
+use Rattle.btf_text.specs.ReportGrammar.{ids_at}
 use Rattle.btf_text.proofs.IdLists.{GoesOn, begins, end_stops, field_stops, id_stops, ids_end, ids_more, shorter}
 use Rattle.btf_text.proofs.numerals.ids_at.Goals as goal
 

@@ -1,5 +1,5 @@
 use Rattle.std.proofs.Common.{suc, length, map}
-use Rattle.btf_text.specs.Reading.{ids_at}
+use Rattle.btf_text.specs.ReportGrammar.{ids_at}
 use Rattle.btf_text.proofs.IdLists.{GoesOn}
 use Rattle.btf_text.proofs.numerals.ids_at.Given as goal
 

@@ -1,5 +1,5 @@
 use Rattle.std.proofs.Common.{◌≡◌, drop, map}
-use Rattle.btf_text.specs.Reading.{rises, rises_from}
+use Rattle.btf_text.specs.ReportGrammar.{rises, rises_from}
 use Rattle.btf_text.proofs.numerals.rises.Given as goal
 
 abbrev pub invariant-loop-id : goal.invariant-loop-id

@@ -1,7 +1,7 @@
 use Rattle.std.proofs.Common.{subst}
 use Rattle.btf_text.specs.declared.stop.Stop.{Stop}
-use Rattle.btf_text.specs.Reading.{Stops, report_at}
-use Rattle.btf_text.specs.Told.{told}
+use Rattle.btf_text.specs.ReportGrammar.{Stops, report_at}
+use Rattle.btf_text.specs.ReportRead.{told}
 use Rattle.btf_text.proofs.Reports.{read_not_none, report_takes}
 use Rattle.btf_text.proofs.reader.read_report.Goals as goal
 

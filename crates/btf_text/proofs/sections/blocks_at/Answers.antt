@@ -1,6 +1,6 @@
 use Rattle.std.proofs.Common.{◌≡◌, ◌∷◌, ◌++◌, [], List, ap, arith, ◌∙◌, ℕ, length, ap₂}
 use Rattle.std.proofs.lemmas.Result.{err_from_is_err_and}
-use Rattle.btf_text.specs.Reading.{blocks_at}
+use Rattle.btf_text.specs.ReportGrammar.{blocks_at}
 use Rattle.btf_text.proofs.BlockLists.{blocks_begin, blocks_done, blocks_more, blocks_stop}
 use Rattle.btf_text.proofs.Listed.{block_takes}
 use Rattle.btf_text.proofs.sections.blocks_at.Goals as goal

@@ -1,4 +1,4 @@
-use Rattle.btf_text.specs.Reading.{blocks_at}
+use Rattle.btf_text.specs.ReportGrammar.{blocks_at}
 use Rattle.btf_text.proofs.BlockLists.{HaveRead}
 use Rattle.btf_text.proofs.sections.blocks_at.Given as goal
 

@@ -1,8 +1,8 @@
 use Rattle.std.proofs.Common.{◌≡◌, ◌-◌, ◌+◌, List, ap, arith, sym, subst, ◌∙◌, ℕ}
 use Rattle.std.proofs.lemmas.Result.{err_from_is_err_and}
 use Rattle.bip_defs.specs.Matrix.{Place}
-use Rattle.btf_text.specs.Reading.{pair_list_at}
-use Rattle.btf_text.proofs.Fronts.{no_front, with_front}
+use Rattle.btf_text.specs.ReportGrammar.{pair_list_at}
+use Rattle.btf_text.proofs.Prefixes.{no_front, with_front}
 use Rattle.btf_text.proofs.PairLists.{pairs_done, pairs_more, pairs_stop}
 use Rattle.btf_text.proofs.sections.pair_list_at.Goals as goal
 

@@ -1,6 +1,6 @@
 use Rattle.std.proofs.Common.{◌≡◌, ◌-◌}
-use Rattle.btf_text.specs.Reading.{pair_list_at}
-use Rattle.btf_text.proofs.Fronts.{with_front}
+use Rattle.btf_text.specs.ReportGrammar.{pair_list_at}
+use Rattle.btf_text.proofs.Prefixes.{with_front}
 use Rattle.btf_text.proofs.sections.pair_list_at.Given as goal
 
 abbrev pub invariant-loop : goal.invariant-loop

@@ -1,6 +1,6 @@
 use Rattle.sp_ports.specs.Device.{seen}
 use Rattle.btf_words.specs.declared.jobs.Job.TheVariants.{Check}
-use Rattle.btf_tool.specs.Judging.{answer_of}
+use Rattle.btf_tool.specs.VerdictText.{answer_of}
 use Rattle.btf_tool.specs.Runs.{JobSays}
 use Rattle.btf_tool.specs.declared.refusals.Refusal.TheVariants.{WriteFault}
 use Rattle.btf_tool.proofs.Jobs.{as_refusal, job_not_written, job_written, verdict_answers}

@@ -1,6 +1,6 @@
 use Rattle.std.proofs.Common.{refl}
 use Rattle.sp_ports.specs.Device.{seen}
-use Rattle.btf_tool.proofs.Completing.{untouched_gave}
+use Rattle.btf_tool.proofs.Completeness.{untouched_gave}
 use Rattle.btf_tool.proofs.command.perform.Goals as goal
 
 pub returns-in-Load-clause-says : goal.returns-in-Load-clause-says

@@ -1,7 +1,7 @@
 use Rattle.std.proofs.Common.{refl, ap, Err, ◌∙◌}
 use Rattle.sp_ports.specs.Device.{seen}
 use Rattle.btf_tool.specs.declared.refusals.Refusal.TheVariants.{Usage, OutOfMemory}
-use Rattle.btf_tool.proofs.Completing.{completes, job_done, job_not_done, made_named, named, refusal_says, untouched_gave, untouched_counts, untouched_tells}
+use Rattle.btf_tool.proofs.Completeness.{completes, job_done, job_not_done, made_named, named, refusal_says, untouched_gave, untouched_counts, untouched_tells}
 use Rattle.btf_tool.proofs.command.run.Goals as goal
 
 pub returns-in-Err-Usage-clause-says : goal.returns-in-Err-Usage-clause-says

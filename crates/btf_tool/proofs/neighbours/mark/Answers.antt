@@ -1,7 +1,7 @@
 use Rattle.std.proofs.Common.{◌∙◌, ℕ, sym, subst, arith}
 use Rattle.bip_defs.specs.Lists.{Among}
 use Rattle.bip_defs.proofs.Sets.{among_at}
-use Rattle.btf_tool.proofs.Touching.{touches_one}
+use Rattle.btf_tool.proofs.NeighbourLemmas.{touches_one}
 use Rattle.btf_tool.proofs.neighbours.mark.Goals as goal
 
 pub rows_of-requires : goal.rows_of-requires

@@ -1,6 +1,6 @@
 use Rattle.std.proofs.Common.{◌≡◌, ℕ, ◌↔◌, length, take}
 use Rattle.bip_defs.specs.Lists.{IsMarked}
-use Rattle.btf_tool.specs.Touching.{Touches}
+use Rattle.btf_tool.specs.Neighbours.{Touches}
 use Rattle.btf_tool.proofs.neighbours.mark.Given as goal
 
 abbrev pub invariant-loop-column : goal.invariant-loop-column

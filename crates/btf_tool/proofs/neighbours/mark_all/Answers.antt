@@ -1,7 +1,7 @@
 use Rattle.std.proofs.Common.{◌≡◌, ◌∙◌, sym, subst, arith, get_or, ℕ}
 use Rattle.bip_defs.proofs.Sets.{among_at}
 use Rattle.bip_defs.specs.Lists.{Among}
-use Rattle.btf_tool.proofs.Touching.{adds_one}
+use Rattle.btf_tool.proofs.NeighbourLemmas.{adds_one}
 use Rattle.btf_tool.proofs.neighbours.mark_all.Goals as goal
 
 pub bounds-marks-row-inside : goal.bounds-marks-row-inside

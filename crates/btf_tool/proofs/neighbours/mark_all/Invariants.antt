@@ -1,5 +1,5 @@
 use Rattle.std.proofs.Common.{take}
-use Rattle.btf_tool.specs.Touching.{AddsMarks}
+use Rattle.btf_tool.specs.Neighbours.{AddsMarks}
 use Rattle.btf_tool.proofs.neighbours.mark_all.Given as goal
 
 abbrev pub invariant-loop-row : goal.invariant-loop-row

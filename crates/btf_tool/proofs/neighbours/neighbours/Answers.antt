@@ -1,6 +1,6 @@
 use Rattle.std.proofs.Common.{◌≡◌, ◌∙◌, length, rules, Vec, Global, ℕ}
 use Rattle.bip_defs.proofs.Slices.{written}
-use Rattle.btf_tool.proofs.Touching.{touching_ok}
+use Rattle.btf_tool.proofs.NeighbourLemmas.{touching_ok}
 use Rattle.btf_tool.proofs.neighbours.neighbours.Goals as goal
 
 pub returns : goal.returns

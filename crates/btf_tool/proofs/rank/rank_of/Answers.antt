@@ -1,7 +1,7 @@
 use Rattle.std.proofs.Common.{subst, sym, List, ℕ}
 use Rattle.bip_defs.specs.Lists.{Among, Lists}
-use Rattle.btf_tool.specs.Touching.{Touches}
-use Rattle.btf_tool.proofs.Touching.{horizontal_rows}
+use Rattle.btf_tool.specs.Neighbours.{Touches}
+use Rattle.btf_tool.proofs.NeighbourLemmas.{horizontal_rows}
 use Rattle.btf_tool.proofs.rank.rank_of.Goals as goal
 
 pub neighbours-requires : goal.neighbours-requires

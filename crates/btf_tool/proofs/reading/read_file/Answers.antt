@@ -1,7 +1,7 @@
 use Rattle.std.proofs.Common.{◌++◌, ap, subst, IfErr, Ok, Err}
 use Rattle.sp_ports.specs.Bytes.{WhereTold}
 use Rattle.sp_ports.specs.Device.{seen}
-use Rattle.mm_defs.specs.Reading.{Intake, IsAnswer, call_on}
+use Rattle.mm_defs.specs.Calls.{Intake, IsAnswer, call_on}
 use Rattle.mm_defs.specs.declared.answers.End.TheVariants.{File}
 use Rattle.btf_tool.specs.Refusals.{refusal_for}
 use Rattle.btf_tool.specs.Runs.{IsUnread}

@@ -1,6 +1,6 @@
 use Rattle.std.proofs.Common.{◌∙◌, ap, IfErr, Err}
 use Rattle.sp_ports.specs.Device.{seen}
-use Rattle.mm_defs.specs.Reading.{Intake}
+use Rattle.mm_defs.specs.Calls.{Intake}
 use Rattle.mm_defs.specs.declared.answers.End.TheVariants.{LastEntry}
 use Rattle.sp_ports.specs.Device.{seen}
 use Rattle.btf_tool.specs.Refusals.{refusal_for}

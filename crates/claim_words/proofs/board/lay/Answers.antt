@@ -1,6 +1,6 @@
 use Rattle.std.proofs.Common.{◌∙◌, sym, subst}
-use Rattle.claim_words.specs.Coding.{AllFit, code_by}
-use Rattle.claim_words.proofs.Decoding.{fits_more}
+use Rattle.claim_words.specs.WordCodes.{AllFit, code_by}
+use Rattle.claim_words.proofs.WordCodes.{fits_more}
 use Rattle.claim_words.proofs.Openings.{laid_more}
 use Rattle.claim_words.proofs.board.lay.Goals as goal
 

@@ -1,5 +1,5 @@
 use Rattle.std.proofs.Common.{◌≡◌, ◌++◌, map, take}
-use Rattle.claim_words.specs.Coding.{AllFit, code_by}
+use Rattle.claim_words.specs.WordCodes.{AllFit, code_by}
 use Rattle.claim_words.proofs.board.lay.Given as goal
 
 -- the values so far are laid

@@ -1,4 +1,4 @@
-use Rattle.claim_words.proofs.Listing.{grown_claims, grown_wins}
+use Rattle.claim_words.proofs.ListedWords.{grown_claims, grown_wins}
 use Rattle.claim_words.proofs.laws.fresh_lists_add_up.Goals as goal
 
 pub returns : goal.returns

@@ -1,5 +1,5 @@
 use Rattle.claim_words.proofs.Flat.{times_append}
-use Rattle.claim_words.proofs.Listing as listing
+use Rattle.claim_words.proofs.ListedWords as listing
 use Rattle.claim_words.proofs.laws.times_add_up.Goals as goal
 
 pub returns : goal.returns

@@ -1,4 +1,4 @@
-use Rattle.claim_words.proofs.Listing as listing
+use Rattle.claim_words.proofs.ListedWords as listing
 use Rattle.claim_words.proofs.laws.words_are_listed.Goals as goal
 
 pub returns : goal.returns

@@ -1,6 +1,6 @@
 use Rattle.std.proofs.Common.{◌≡◌, ℕ, arith, false, get_or, subst, true}
 use Rattle.bip_defs.specs.Lists.{Among}
-use Rattle.dm_coarse.proofs.Splitting.{marked_is, mate_below, mate_horizontal, mate_square, unmarked_is}
+use Rattle.dm_coarse.proofs.SplitLemmas.{marked_is, mate_below, mate_horizontal, mate_square, unmarked_is}
 use Rattle.dm_coarse.proofs.split.part_of.Goals as goal
 
 pub bounds-horizontal-col-inside : goal.bounds-horizontal-col-inside

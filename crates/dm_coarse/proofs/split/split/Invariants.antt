@@ -1,5 +1,5 @@
 use Rattle.std.proofs.Common.{map}
-use Rattle.dm_coarse.proofs.Splitting.{IsSplit}
+use Rattle.dm_coarse.proofs.SplitLemmas.{IsSplit}
 use Rattle.dm_coarse.proofs.split.split.Given as goal
 
 abbrev pub invariant-loop-at : goal.invariant-loop-at

@@ -1,6 +1,6 @@
 use Rattle.std.proofs.Common.{arith}
 use Rattle.bip_defs.proofs.Sets.{among_at}
-use Rattle.dm_fine.proofs.Listing.{cols_fit, rows_fit}
+use Rattle.dm_fine.proofs.ListedBlocks.{cols_fit, rows_fit}
 use Rattle.dm_fine.proofs.listed.listed.Goals as goal
 
 pub of-requires : goal.of-requires

@@ -1,5 +1,5 @@
 use Rattle.std.proofs.Common.{arith}
-use Rattle.dm_fine.proofs.Mating.{mates_more}
+use Rattle.dm_fine.proofs.MateLemmas.{mates_more}
 use Rattle.dm_fine.proofs.mates.of_mates.Goals as goal
 
 pub of_mate-requires-clause-cols : goal.of_mate-requires-clause-cols

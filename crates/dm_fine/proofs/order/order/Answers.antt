@@ -4,8 +4,8 @@ use Rattle.std.proofs.lemmas.List.{length_push}
 use Rattle.bip_defs.proofs.Sets.{written_over}
 use Rattle.dm_fine.specs.InDegrees.{AreReady, least_of, edges_into}
 use Rattle.dm_fine.proofs.Gathered.{gathered_falls, gathered_least, gathered_taken}
-use Rattle.dm_fine.proofs.Ordering.{all_gone, follow_distinct, follow_few, follow_more, follow_range, left_next, ready_after, still_counted}
-use Rattle.dm_fine.proofs.Parting.{edges_few}
+use Rattle.dm_fine.proofs.OrderLemmas.{all_gone, follow_distinct, follow_few, follow_more, follow_range, left_next, ready_after, still_counted}
+use Rattle.dm_fine.proofs.GroupParts.{edges_few}
 use Rattle.dm_fine.proofs.order.order.Goals as goal
 
 pub count-requires-clause-few : goal.count-requires-clause-few

@@ -1,8 +1,8 @@
 use Rattle.std.proofs.Common.{◌≡◌, ◌-◌, [], length}
 use Rattle.bip_defs.specs.Matrix.{cols, row_list}
-use Rattle.dm_fine.specs.Following.{Follow}
+use Rattle.dm_fine.specs.BlockOrder.{Follow}
 use Rattle.dm_fine.specs.InDegrees.{AreReady, least_of, edges_into}
-use Rattle.dm_fine.proofs.Ordering.{AreLeft}
+use Rattle.dm_fine.proofs.OrderLemmas.{AreLeft}
 use Rattle.dm_fine.proofs.order.order.Given as goal
 
 abbrev pub invariant-loop-col : goal.invariant-loop-col

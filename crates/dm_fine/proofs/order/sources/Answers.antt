@@ -1,6 +1,6 @@
 use Rattle.std.proofs.Common.{◌≡◌, ◌∙◌, [], subst, arith}
 use Rattle.dm_fine.specs.InDegrees.{AreReady, least_of}
-use Rattle.dm_fine.proofs.Ordering.{ready_in, ready_out}
+use Rattle.dm_fine.proofs.OrderLemmas.{ready_in, ready_out}
 use Rattle.dm_fine.proofs.order.sources.Goals as goal
 use Rattle.dm_fine.proofs.order.sources.Goals.{then-in_degrees-k-eq0, else-in_degrees-k-eq0}
 

@@ -1,6 +1,6 @@
 use Rattle.std.proofs.Common.{◌≡◌, drop, take}
 use Rattle.std.specs.Mem.Slots.{slots_items}
-use Rattle.flip_words.specs.Coding.{mates_in}
+use Rattle.flip_words.specs.WordCodes.{mates_in}
 use Rattle.flip_words.specs.Stored.{AreSized}
 use Rattle.flip_words.proofs.closing.read_mates.Given as goal
 

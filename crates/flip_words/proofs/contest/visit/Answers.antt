@@ -1,4 +1,4 @@
-use Rattle.flip_words.proofs.Contesting.{col_unset, row_unset, took_mine, took_still, visited_held, visited_mine}
+use Rattle.flip_words.proofs.ContestLemmas.{col_unset, row_unset, took_mine, took_still, visited_held, visited_mine}
 use Rattle.flip_words.proofs.contest.visit.Goals as goal
 
 pub set_row-requires-clause-took : goal.set_row-requires-clause-took

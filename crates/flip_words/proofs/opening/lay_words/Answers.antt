@@ -1,7 +1,7 @@
 use Rattle.std.proofs.Common.{◌<◌, sym, subst, length, arith}
 use Rattle.bip_defs.proofs.Sets.{rising_distinct}
-use Rattle.flip_words.specs.Coding.{half}
-use Rattle.flip_words.proofs.Laying.{col_within, laid_col, laid_row, mate_fits, mate_of_col, mate_of_row, row_within, tree_fits}
+use Rattle.flip_words.specs.WordCodes.{half}
+use Rattle.flip_words.proofs.OpenedWords.{col_within, laid_col, laid_row, mate_fits, mate_of_col, mate_of_row, row_within, tree_fits}
 use Rattle.flip_words.proofs.opening.lay_words.Goals as goal
 
 pub lay-requires-clause-tree : goal.lay-requires-clause-tree

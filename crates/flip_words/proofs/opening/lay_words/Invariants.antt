@@ -1,5 +1,5 @@
 use Rattle.std.proofs.Common.{◌++◌, take}
-use Rattle.flip_words.specs.Opening.{AreLaid}
+use Rattle.flip_words.specs.OpenedBoards.{AreLaid}
 use Rattle.flip_words.proofs.opening.lay_words.Given as goal
 
 abbrev pub invariant-loop-row : goal.invariant-loop-row

@@ -1,6 +1,6 @@
 use Rattle.std.proofs.Common.{[]}
 use Rattle.forest_core.proofs.Roots.{claims_differ}
-use Rattle.forest_core.proofs.Storing.{claim_in_range, claimer_inside, claims_few}
+use Rattle.forest_core.proofs.StoredForests.{claim_in_range, claimer_inside, claims_few}
 use Rattle.forest_core.proofs.laws.claims_are_in_the_forest.Goals as goal
 
 pub returns : goal.returns

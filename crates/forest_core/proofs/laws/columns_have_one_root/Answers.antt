@@ -1,5 +1,5 @@
 use Rattle.forest_core.proofs.Roots.{one_root, root_free}
-use Rattle.forest_core.proofs.Storing.{root_below, root_inside, root_of_column}
+use Rattle.forest_core.proofs.StoredForests.{root_below, root_inside, root_of_column}
 use Rattle.forest_core.proofs.laws.columns_have_one_root.Goals as goal
 
 pub returns : goal.returns

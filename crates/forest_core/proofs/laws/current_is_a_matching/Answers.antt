@@ -1,5 +1,5 @@
 use Rattle.forest_core.proofs.Currents.{current_grown, current_some}
-use Rattle.forest_core.proofs.Sounds.{run_grown}
+use Rattle.forest_core.proofs.Soundness.{run_grown}
 use Rattle.forest_core.proofs.laws.current_is_a_matching.Goals as goal
 
 pub returns : goal.returns

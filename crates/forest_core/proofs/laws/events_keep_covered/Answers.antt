@@ -1,4 +1,4 @@
-use Rattle.forest_core.proofs.Growing.{current_covers, leads_covers}
+use Rattle.forest_core.proofs.RunLemmas.{current_covers, leads_covers}
 use Rattle.forest_core.proofs.laws.events_keep_covered.Goals as goal
 
 pub returns : goal.returns

@@ -1,4 +1,4 @@
-use Rattle.forest_core.proofs.Sounds.{new_forest_sound, run_sound}
+use Rattle.forest_core.proofs.Soundness.{new_forest_sound, run_sound}
 use Rattle.forest_core.proofs.laws.events_keep_sound.Goals as goal
 
 pub returns : goal.returns

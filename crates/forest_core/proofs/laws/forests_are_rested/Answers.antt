@@ -1,4 +1,4 @@
-use Rattle.forest_core.proofs.Settling.{grafted_rested, new_forest_rested, rebuilt_rested}
+use Rattle.forest_core.proofs.SettledForests.{grafted_rested, new_forest_rested, rebuilt_rested}
 use Rattle.forest_core.proofs.laws.forests_are_rested.Goals as goal
 
 pub returns : goal.returns

@@ -1,4 +1,4 @@
-use Rattle.forest_core.proofs.Growing.{leads_event, leads_here, leads_matrix, leads_on, runs_on}
+use Rattle.forest_core.proofs.RunLemmas.{leads_event, leads_here, leads_matrix, leads_on, runs_on}
 use Rattle.forest_core.proofs.laws.runs_join.Goals as goal
 
 pub returns : goal.returns

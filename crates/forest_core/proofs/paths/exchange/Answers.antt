@@ -2,7 +2,7 @@ use Rattle.std.proofs.Common.{arith, subst, take}
 use Rattle.bip_defs.specs.Lists.{Among}
 use Rattle.forest_core.proofs.Currents.{path_entries}
 use Rattle.forest_core.proofs.Members.{read_among}
-use Rattle.forest_core.proofs.Tracing.{can_trace, exchanging_more, exchanging_start, path_flips, path_in_range, root_held}
+use Rattle.forest_core.proofs.PathLemmas.{can_trace, exchanging_more, exchanging_start, path_flips, path_in_range, root_held}
 use Rattle.forest_core.proofs.paths.exchange.Goals as goal
 
 pub loop-root-init : goal.loop-root-init

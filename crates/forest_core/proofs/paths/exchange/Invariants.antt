@@ -1,5 +1,5 @@
 use Rattle.std.proofs.Common.{◌≤◌, length, take, vec_capacity}
-use Rattle.forest_core.specs.Exchanging.{CanExchange, IsExchanged}
+use Rattle.forest_core.specs.Paths.{CanExchange, IsExchanged}
 use Rattle.forest_core.specs.State.{State}
 use Rattle.forest_core.proofs.paths.exchange.Given as goal
 

@@ -1,6 +1,6 @@
 use Rattle.std.proofs.Common.{◌≡◌, ◌∙◌, ◌∷◌, [], ◌+◌, ◌-◌, ◌<◌, ap, arith, length, length-append, reverse, rules}
 use Rattle.std.proofs.lemmas.List.{length-reverse}
-use Rattle.forest_core.proofs.Tracing.{above_held, climbing_col, climbing_end, climbing_more, climbing_room, climbing_start, leaf_held, written_back}
+use Rattle.forest_core.proofs.PathLemmas.{above_held, climbing_col, climbing_end, climbing_more, climbing_room, climbing_start, leaf_held, written_back}
 use Rattle.forest_core.proofs.paths.trace.Goals as goal
 
 pub holder_at-col-requires-clause-within : goal.holder_at-col-requires-clause-within

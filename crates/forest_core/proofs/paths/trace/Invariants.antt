@@ -1,7 +1,7 @@
 use Rattle.std.proofs.Common.{ℕ, ◌-◌, ◌≤◌, List, length, vec_capacity}
-use Rattle.forest_core.specs.Exchanging.{CanTrace}
+use Rattle.forest_core.specs.Paths.{CanTrace}
 use Rattle.forest_core.specs.State.{State}
-use Rattle.forest_core.proofs.Tracing.{IsClimbing}
+use Rattle.forest_core.proofs.PathLemmas.{IsClimbing}
 use Rattle.forest_core.proofs.paths.trace.Given as goal
 
 abbrev pub invariant-loop-row : goal.invariant-loop-row

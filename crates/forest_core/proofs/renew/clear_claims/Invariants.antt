@@ -1,5 +1,5 @@
 use Rattle.std.proofs.Common.{◌≡◌, drop, length}
-use Rattle.forest_core.proofs.Tabling.{IsWithin}
+use Rattle.forest_core.proofs.TableLemmas.{IsWithin}
 use Rattle.forest_core.proofs.renew.clear_claims.Given as goal
 
 abbrev pub invariant-loop-row : goal.invariant-loop-row

@@ -1,7 +1,7 @@
 use Rattle.std.proofs.Common.{◌≡◌, ℕ, drop, length, slice_index_or, true, false}
 use Rattle.bip_defs.specs.Lists.{Among}
 use Rattle.forest_core.specs.State.{roots_of}
-use Rattle.forest_core.proofs.Tabling.{IsWithin}
+use Rattle.forest_core.proofs.TableLemmas.{IsWithin}
 use Rattle.forest_core.proofs.renew.clear_leaves.Given as goal
 
 abbrev pub invariant-loop-root : goal.invariant-loop-root

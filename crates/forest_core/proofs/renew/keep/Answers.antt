@@ -2,7 +2,7 @@ use Rattle.std.proofs.Common.{◌≡◌, ◌<◌, ◌∙◌, ◌≤◌, Some, ap
 use Rattle.std.proofs.lemmas.List.{length-set}
 use Rattle.bip_defs.proofs.Sets.{among_at}
 use Rattle.forest_core.specs.Tables.{beside}
-use Rattle.forest_core.proofs.Keeping.{IsAt, at_among, below_set, is_at, keeping_end, keeping_roots, keeping_same, keeping_start, keeping_stays, keeping_table, keeping_won, leaf_told, root_below_here, root_here}
+use Rattle.forest_core.proofs.KeptClaims.{IsAt, at_among, below_set, is_at, keeping_end, keeping_roots, keeping_same, keeping_start, keeping_stays, keeping_table, keeping_won, leaf_told, root_below_here, root_here}
 use Rattle.forest_core.proofs.renew.keep.Goals as goal
 use Rattle.forest_core.proofs.renew.keep.Goals.{then-is_some, else-is_some}
 

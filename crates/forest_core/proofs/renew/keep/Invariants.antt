@@ -1,5 +1,5 @@
 use Rattle.std.proofs.Common.{◌≡◌, length}
-use Rattle.forest_core.proofs.Keeping.{AreBelow, IsKeeping}
+use Rattle.forest_core.proofs.KeptClaims.{AreBelow, IsKeeping}
 use Rattle.forest_core.proofs.renew.keep.Given as goal
 
 abbrev pub invariant-loop-i : goal.invariant-loop-i

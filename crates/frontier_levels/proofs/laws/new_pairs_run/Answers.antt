@@ -1,4 +1,4 @@
-use Rattle.frontier_levels.proofs.Running.{pairs_run}
+use Rattle.frontier_levels.proofs.RunLemmas.{pairs_run}
 use Rattle.frontier_levels.proofs.laws.new_pairs_run.Goals as goal
 
 pub returns : goal.returns

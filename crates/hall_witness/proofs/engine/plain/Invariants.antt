@@ -1,6 +1,6 @@
 use Rattle.std.proofs.Common.{◌-◌, length}
 use Rattle.bip_defs.specs.Matrix.{cols}
-use Rattle.bip_graph.specs.Pairing.{IsMatchingOf}
+use Rattle.bip_graph.specs.Matching.{IsMatchingOf}
 use Rattle.hall_witness.proofs.engine.plain.Given as goal
 
 abbrev pub invariant-loop-matching : goal.invariant-loop-matching

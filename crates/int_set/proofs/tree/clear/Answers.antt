@@ -2,7 +2,7 @@ use Rattle.std.proofs.Common.{◌≡◌, ◌≢◌, ◌⊎◌, ◌∙◌, ◌*�
 use Rattle.std.specs.Int.{bit_not, w64}
 use Rattle.std.specs.Int.Bits.{bit_and}
 use Rattle.int_set.proofs.Bits.{cleared, written}
-use Rattle.int_set.proofs.Clearing.{clearing_begins, clearing_ends, clearing_goes_on}
+use Rattle.int_set.proofs.RemoveLemmas.{clearing_begins, clearing_ends, clearing_goes_on}
 use Rattle.int_set.proofs.tree.clear.Goals as goal
 use Rattle.int_set.proofs.tree.clear.Goals.{then-word-ne0-via-then-word-ne0, then-word-ne0-via-else-word-ne0+then-at-eq0}
 

@@ -1,4 +1,4 @@
-use Rattle.int_set.proofs.Clearing.{IsClearing}
+use Rattle.int_set.proofs.RemoveLemmas.{IsClearing}
 use Rattle.int_set.proofs.tree.clear.Given as goal
 
 abbrev pub invariant-loop-bit : goal.invariant-loop-bit

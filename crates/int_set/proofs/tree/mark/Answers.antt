@@ -1,6 +1,6 @@
 use Rattle.std.proofs.Common.{◌≡◌, ◌≢◌, ◌⊎◌, ◌/◌, slice_index, inl, inr, arith}
 use Rattle.int_set.proofs.Bits.{marked}
-use Rattle.int_set.proofs.Marking.{marking_begins, marking_ends, marking_goes_on}
+use Rattle.int_set.proofs.InsertLemmas.{marking_begins, marking_ends, marking_goes_on}
 use Rattle.int_set.proofs.tree.mark.Goals as goal
 use Rattle.int_set.proofs.tree.mark.Goals.{then-word-ne0-via-then-word-ne0, then-word-ne0-via-else-word-ne0+then-at-eq0}
 

@@ -1,4 +1,4 @@
-use Rattle.int_set.proofs.Marking.{IsMarking}
+use Rattle.int_set.proofs.InsertLemmas.{IsMarking}
 use Rattle.int_set.proofs.tree.mark.Given as goal
 
 abbrev pub invariant-loop-bit : goal.invariant-loop-bit

@@ -1,7 +1,7 @@
 use Rattle.std.proofs.Common.{subst, rules}
 use Rattle.bip_defs.specs.Matrix.{Matrix}
-use Rattle.bip_graph.specs.Pairing.{IsMatchingOf}
-use Rattle.integer_diagonal.proofs.Answering.{matching_of}
+use Rattle.bip_graph.specs.Matching.{IsMatchingOf}
+use Rattle.integer_diagonal.proofs.AnswerLemmas.{matching_of}
 use Rattle.integer_diagonal.specs.Duals.{priced}
 use Rattle.integer_diagonal.proofs.answer.heaviest.Goals as goal
 

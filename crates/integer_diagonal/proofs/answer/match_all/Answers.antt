@@ -2,8 +2,8 @@ use Rattle.std.proofs.Common.{◌≡◌, ◌∙◌, ◌+◌, not, true, ap, rule
 use Rattle.bip_defs.specs.Lists.{Among}
 use Rattle.bip_defs.specs.Matrix.{Place}
 use Rattle.bip_defs.proofs.Sets.{col_among}
-use Rattle.integer_diagonal.proofs.Answering.{AreMated, mated_next, mated_same}
-use Rattle.integer_diagonal.proofs.Starting.{some_holds}
+use Rattle.integer_diagonal.proofs.AnswerLemmas.{AreMated, mated_next, mated_same}
+use Rattle.integer_diagonal.proofs.StartLemmas.{some_holds}
 use Rattle.integer_diagonal.proofs.answer.match_all.Goals.{then-is_none+in_ok-found+else-not-found, else-is_none}
 use Rattle.integer_diagonal.proofs.answer.match_all.Goals as goal
 

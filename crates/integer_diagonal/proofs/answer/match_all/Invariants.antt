@@ -1,6 +1,6 @@
 use Rattle.std.proofs.Common.{◌≤◌, vec_capacity}
 use Rattle.bip_defs.specs.Matrix.{cols}
-use Rattle.integer_diagonal.proofs.Answering.{AreMated}
+use Rattle.integer_diagonal.proofs.AnswerLemmas.{AreMated}
 use Rattle.integer_diagonal.proofs.answer.match_all.Given as goal
 
 abbrev pub invariant-loop-col : goal.invariant-loop-col

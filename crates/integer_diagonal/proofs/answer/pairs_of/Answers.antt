@@ -1,4 +1,4 @@
-use Rattle.integer_diagonal.proofs.Answering.{listed_more}
+use Rattle.integer_diagonal.proofs.AnswerLemmas.{listed_more}
 use Rattle.integer_diagonal.proofs.answer.pairs_of.Goals as goal
 
 pub loop-col-preserved : goal.loop-col-preserved

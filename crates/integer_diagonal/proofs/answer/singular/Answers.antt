@@ -2,7 +2,7 @@ use Rattle.std.proofs.Common.{sym, subst}
 use Rattle.bip_defs.specs.Matrix.{Matrix}
 use Rattle.bip_defs.specs.Witness.{IsWitness}
 use Rattle.hall_witness.specs.Answers.{IsReach}
-use Rattle.integer_diagonal.proofs.Answering.{singular_shown}
+use Rattle.integer_diagonal.proofs.AnswerLemmas.{singular_shown}
 use Rattle.integer_diagonal.specs.Heaviest.{IsSingular}
 use Rattle.integer_diagonal.proofs.answer.singular.Goals as goal
 

@@ -1,6 +1,6 @@
 use Rattle.std.proofs.Common.{arith}
 use Rattle.std.proofs.lemmas.Bool.{ltb-false}
-use Rattle.integer_diagonal.proofs.Popped.{nearest_first}
+use Rattle.integer_diagonal.proofs.HeapLemmas.{nearest_first}
 use Rattle.integer_diagonal.proofs.frontier.begins_below.Goals as goal
 
 pub returns-in-Some-clause-beyond : goal.returns-in-Some-clause-beyond

@@ -3,8 +3,8 @@ use Rattle.std.proofs.lemmas.List.{get_or_read}
 use Rattle.bip_defs.specs.Lists.{Among}
 use Rattle.bip_defs.specs.Matching.{cols_of}
 use Rattle.bip_defs.specs.Matrix.{Place}
-use Rattle.bip_graph.specs.Pairing.{Pairing}
-use Rattle.integer_diagonal.proofs.Rising.{PricesRise, all_raised, dual_next, duals_more, price_next, prices_keep, prices_more}
+use Rattle.bip_graph.specs.Matching.{Pairing}
+use Rattle.integer_diagonal.proofs.RaisedDuals.{PricesRise, all_raised, dual_next, duals_more, price_next, prices_keep, prices_more}
 use Rattle.integer_diagonal.proofs.path.raise.Goals.{in-Some, in-None}
 use Rattle.integer_diagonal.proofs.path.raise.Goals as goal
 use Rattle.bip_defs.specs.Queues.{at}

@@ -1,5 +1,5 @@
 use Rattle.std.proofs.Common.{◌≡◌}
-use Rattle.integer_diagonal.proofs.Rising.{DualsRise, PricesRise}
+use Rattle.integer_diagonal.proofs.RaisedDuals.{DualsRise, PricesRise}
 use Rattle.integer_diagonal.proofs.path.raise.Given as goal
 
 abbrev pub invariant-loop-place : goal.invariant-loop-place

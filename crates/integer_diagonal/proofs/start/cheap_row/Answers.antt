@@ -4,8 +4,8 @@ use Rattle.bip_defs.specs.Lists.{Among}
 use Rattle.bip_defs.specs.Matching.{rows_of}
 use Rattle.bip_defs.specs.Matrix.{Place}
 use Rattle.bip_defs.proofs.Sets.{row_among}
-use Rattle.integer_diagonal.proofs.Scanning.{row_entry}
-use Rattle.integer_diagonal.proofs.Starting.{all_matched, begun, cost_here, none_holds, some_holds}
+use Rattle.integer_diagonal.proofs.ScanLemmas.{row_entry}
+use Rattle.integer_diagonal.proofs.StartLemmas.{all_matched, begun, cost_here, none_holds, some_holds}
 use Rattle.integer_diagonal.specs.Duals.{cost, dual, paid, top}
 use Rattle.integer_diagonal.proofs.start.cheap_row.Goals.{else-paid-dual-via-then-paid-dual+else-is_none, else-paid-dual-via-else-paid-dual}
 use Rattle.integer_diagonal.proofs.start.cheap_row.Goals as goal

@@ -1,6 +1,6 @@
 use Rattle.std.proofs.Common.{◌+◌, List, ℕ, sym, subst, arith}
-use Rattle.integer_diagonal.proofs.Starting.{duals_more}
-use Rattle.integer_diagonal.specs.Starting.{AreFirstDuals}
+use Rattle.integer_diagonal.proofs.StartLemmas.{duals_more}
+use Rattle.integer_diagonal.specs.FirstPrices.{AreFirstDuals}
 use Rattle.integer_diagonal.proofs.start.first_duals.Goals as goal
 
 pub loop-col-preserved : goal.loop-col-preserved

@@ -1,4 +1,4 @@
-use Rattle.integer_diagonal.specs.Starting.{AreFirstDuals}
+use Rattle.integer_diagonal.specs.FirstPrices.{AreFirstDuals}
 use Rattle.integer_diagonal.proofs.start.first_duals.Given as goal
 
 abbrev pub invariant-loop-col : goal.invariant-loop-col

@@ -1,8 +1,8 @@
 use Rattle.std.proofs.Common.{◌≡◌, ◌∙◌, ◌+◌, ◌≤◌, ◌++◌, ℕ, List, drop, length, replicate, slice_index, take, sym, ap, subst, arith}
 use Rattle.std.proofs.Math.Seq.{take-append_seam}
 use Rattle.bip_defs.specs.Matrix.{IsEntry, Matrix}
-use Rattle.integer_diagonal.proofs.Starting.{prices_more, prices_none}
-use Rattle.integer_diagonal.specs.Starting.{AreFirstPrices}
+use Rattle.integer_diagonal.proofs.StartLemmas.{prices_more, prices_none}
+use Rattle.integer_diagonal.specs.FirstPrices.{AreFirstPrices}
 use Rattle.integer_diagonal.proofs.start.first_prices.Goals as goal
 
 pub loop-col-init : goal.loop-col-init

@@ -1,4 +1,4 @@
-use Rattle.integer_diagonal.specs.Starting.{AreFirstPrices}
+use Rattle.integer_diagonal.specs.FirstPrices.{AreFirstPrices}
 use Rattle.integer_diagonal.proofs.start.first_prices.Given as goal
 
 abbrev pub invariant-loop-col : goal.invariant-loop-col

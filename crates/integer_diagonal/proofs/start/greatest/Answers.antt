@@ -1,5 +1,5 @@
 use Rattle.std.proofs.Common.{◌+◌, inl, inr, arith}
-use Rattle.integer_diagonal.proofs.Starting.{BoundFirst, IsMetIn, greatest_next}
+use Rattle.integer_diagonal.proofs.StartLemmas.{BoundFirst, IsMetIn, greatest_next}
 use Rattle.integer_diagonal.proofs.start.greatest.Goals.{then-weight-most, else-weight-most}
 use Rattle.integer_diagonal.proofs.start.greatest.Goals as goal
 

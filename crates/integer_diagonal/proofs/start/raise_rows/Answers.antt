@@ -1,7 +1,7 @@
 use Rattle.std.proofs.Common.{◌≡◌, ◌+◌, ◌≤◌, slice_index, refl, sym, ap, subst, arith}
 use Rattle.std.proofs.lemmas.List.{get_or_read}
-use Rattle.integer_diagonal.proofs.Scanning.{row_entry}
-use Rattle.integer_diagonal.proofs.Starting.{cost_here, raising_all, raising_more}
+use Rattle.integer_diagonal.proofs.ScanLemmas.{row_entry}
+use Rattle.integer_diagonal.proofs.StartLemmas.{cost_here, raising_all, raising_more}
 use Rattle.integer_diagonal.specs.Duals.{cost, top}
 use Rattle.integer_diagonal.proofs.start.raise_rows.Goals as goal
 

@@ -1,4 +1,4 @@
-use Rattle.integer_diagonal.proofs.Starting.{AreRaisedIn}
+use Rattle.integer_diagonal.proofs.StartLemmas.{AreRaisedIn}
 use Rattle.integer_diagonal.proofs.start.raise_rows.Given as goal
 
 abbrev pub invariant-loop-k : goal.invariant-loop-k

@@ -1,9 +1,9 @@
 use Rattle.std.proofs.Common.{◌≡◌, ◌+◌, ◌∙◌, ℕ, List, slice_index, sym, subst, ap, arith}
 use Rattle.bip_defs.specs.Matrix.{IsEntry, Matrix, cols}
-use Rattle.bip_graph.specs.Pairing.{Pairing}
-use Rattle.integer_diagonal.proofs.Starting.{AreFirst, begun, first_none, first_pair, first_same, start_assigned}
+use Rattle.bip_graph.specs.Matching.{Pairing}
+use Rattle.integer_diagonal.proofs.StartLemmas.{AreFirst, begun, first_none, first_pair, first_same, start_assigned}
 use Rattle.integer_diagonal.specs.Duals.{cost, dual, paid}
-use Rattle.integer_diagonal.specs.Starting.{AreFirstDuals, AreFirstPrices}
+use Rattle.integer_diagonal.specs.FirstPrices.{AreFirstDuals, AreFirstPrices}
 use Rattle.integer_diagonal.proofs.start.start.Goals.{in-Some, in_default}
 use Rattle.integer_diagonal.proofs.start.start.Goals as goal
 

@@ -1,4 +1,4 @@
-use Rattle.integer_diagonal.proofs.Starting.{AreFirst, begun}
+use Rattle.integer_diagonal.proofs.StartLemmas.{AreFirst, begun}
 use Rattle.integer_diagonal.proofs.start.start.Given as goal
 
 abbrev pub invariant-loop-col : goal.invariant-loop-col

@@ -2,7 +2,7 @@ use Rattle.std.proofs.Common.{◌≡◌, ◌≢◌, ℕ, List, map, slice_index,
 use Rattle.std.proofs.lemmas.List.{length-map}
 use Rattle.bip_defs.specs.Lists.{Among}
 use Rattle.bip_defs.specs.Start.{IsLeast}
-use Rattle.karp_sipser.proofs.Fronts.{least_from_front, none_next, number_at, read_among}
+use Rattle.karp_sipser.proofs.Prefixes.{least_from_front, none_next, number_at, read_among}
 use Rattle.karp_sipser.proofs.degrees.first_with_degree.Goals as goal
 
 pub bounds-degrees-number : goal.bounds-degrees-number

@@ -1,6 +1,6 @@
 use Rattle.std.proofs.Common.{◌≡◌, ◌∙◌, ℕ, ◌<◌, List, length, map, slice_index, sym, inl, inr, refl, arith}
 use Rattle.std.proofs.lemmas.List.{length-map}
-use Rattle.karp_sipser.proofs.Fronts.{lowering_step, number_at, read_among}
+use Rattle.karp_sipser.proofs.Prefixes.{lowering_step, number_at, read_among}
 use Rattle.karp_sipser.proofs.degrees.lower.Goals as goal
 use Rattle.karp_sipser.proofs.degrees.lower.Goals.{then-degree-eq2, else-degree-eq2}
 

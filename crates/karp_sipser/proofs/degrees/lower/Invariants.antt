@@ -1,5 +1,5 @@
 use Rattle.std.proofs.Common.{◌≡◌, length, map, take}
-use Rattle.karp_sipser.proofs.Fronts.{IsLowering}
+use Rattle.karp_sipser.proofs.Prefixes.{IsLowering}
 use Rattle.karp_sipser.proofs.degrees.lower.Given as goal
 
 abbrev pub invariant-loop-id : goal.invariant-loop-id

@@ -2,8 +2,8 @@ use Rattle.std.proofs.Common.{ℕ, List}
 use Rattle.claim_words.specs.Board.{Board, Words}
 use Rattle.claim_words.specs.Settles.{SettlesAll}
 use Rattle.claim_words.specs.WorkerState.{HaveGrown, WorkerState, fresh_claims_of, fresh_wins_of, listed_by_workers, seats_of}
-use Rattle.level_sharing.specs.Agreeing.{Agree}
-use Rattle.level_sharing.proofs.Counting.{IsExtended, WordLaws, fresh_new, words_extended}
+use Rattle.level_sharing.specs.Agreement.{Agree}
+use Rattle.level_sharing.proofs.NewWords.{IsExtended, WordLaws, fresh_new, words_extended}
 use Rattle.level_sharing.proofs.Members.{had_claims, had_wins, new_claims, new_wins}
 use Rattle.level_sharing.proofs.laws.fresh_lists_are_new.Goals as goal
 

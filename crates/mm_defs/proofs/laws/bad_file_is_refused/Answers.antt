@@ -1,4 +1,4 @@
-use Rattle.mm_defs.proofs.Answering.{bad_file_answer}
+use Rattle.mm_defs.proofs.AnswerLemmas.{bad_file_answer}
 use Rattle.mm_defs.proofs.laws.bad_file_is_refused.Goals as goal
 
 pub returns : goal.returns

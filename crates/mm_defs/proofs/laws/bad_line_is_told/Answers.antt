@@ -1,4 +1,4 @@
-use Rattle.mm_defs.proofs.Answering.{bad_line_told}
+use Rattle.mm_defs.proofs.AnswerLemmas.{bad_line_told}
 use Rattle.mm_defs.proofs.laws.bad_line_is_told.Goals as goal
 
 pub returns : goal.returns

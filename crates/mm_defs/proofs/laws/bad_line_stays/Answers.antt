@@ -1,4 +1,4 @@
-use Rattle.mm_defs.proofs.Fronts.{bad_stays}
+use Rattle.mm_defs.proofs.Prefixes.{bad_stays}
 use Rattle.mm_defs.proofs.laws.bad_line_stays.Goals as goal
 
 pub returns : goal.returns

@@ -1,4 +1,4 @@
-use Rattle.mm_defs.proofs.Answering.{good_file_answer, good_file_entries}
+use Rattle.mm_defs.proofs.AnswerLemmas.{good_file_answer, good_file_entries}
 use Rattle.mm_defs.proofs.laws.good_file_is_read.Goals as goal
 
 pub returns : goal.returns

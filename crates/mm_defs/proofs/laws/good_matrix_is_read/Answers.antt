@@ -1,4 +1,4 @@
-use Rattle.mm_defs.proofs.Answering.{good_matrix_answer}
+use Rattle.mm_defs.proofs.AnswerLemmas.{good_matrix_answer}
 use Rattle.mm_defs.proofs.laws.good_matrix_is_read.Goals as goal
 
 pub returns : goal.returns

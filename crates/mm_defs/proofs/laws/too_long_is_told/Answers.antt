@@ -1,4 +1,4 @@
-use Rattle.mm_defs.proofs.Answering.{too_long_answer}
+use Rattle.mm_defs.proofs.AnswerLemmas.{too_long_answer}
 use Rattle.mm_defs.proofs.laws.too_long_is_told.Goals as goal
 
 pub returns : goal.returns

@@ -1,6 +1,6 @@
 use Rattle.std.proofs.Common.{◌≡◌, ℕ, ◌≤◌, ◌+◌, ◌-◌, false, List, ◌++◌, take, length}
 use Rattle.mm_reader.specs.Machine.{IsReady, is_complete}
-use Rattle.mm_reader.specs.Standing.{begun_lines, IsAfter}
+use Rattle.mm_reader.specs.Stages.{begun_lines, IsAfter}
 use Rattle.mm_reader.proofs.machine.feed.Given as goal
 
 abbrev pub invariant-loop-at : goal.invariant-loop-at

@@ -1,7 +1,7 @@
 use Rattle.std.proofs.Common.{◌≡◌, ◌++◌, ◌∷◌, [], true, false, sym, ◌∙◌}
 use Rattle.mm_defs.specs.File.{Reads}
 use Rattle.mm_defs.specs.Words.{lines, open_line, has_bytes}
-use Rattle.mm_reader.specs.Standing.{IsAll, Lacks, StopsAtEnd}
+use Rattle.mm_reader.specs.Stages.{IsAll, Lacks, StopsAtEnd}
 use Rattle.mm_reader.proofs.AfterLaws.{map_result}
 use Rattle.mm_reader.proofs.EndLaws.{whole_begun, whole_closed, stop_begun, lacks_begun, lacks_closed}
 use Rattle.mm_reader.proofs.machine.finish.Goals as goal

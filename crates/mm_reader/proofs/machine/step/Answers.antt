@@ -2,7 +2,7 @@ use Rattle.std.proofs.Common.{◌≡◌, ◌+◌, ◌++◌, ◌∷◌, [], List,
 use Rattle.mm_defs.specs.declared.answers.End.{End}
 use Rattle.mm_reader.specs.declared.machine.Machine.{Machine}
 use Rattle.mm_reader.specs.Machine.{is_complete}
-use Rattle.mm_reader.specs.Standing.{GoesOn, IsAfter, StopsIn}
+use Rattle.mm_reader.specs.Stages.{GoesOn, IsAfter, StopsIn}
 use Rattle.mm_reader.proofs.PlainSteps.{byte_goes, byte_halts}
 use Rattle.mm_reader.proofs.machine.step.Goals as goal
 

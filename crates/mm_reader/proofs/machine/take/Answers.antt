@@ -1,7 +1,7 @@
 use Rattle.std.proofs.Common.{◌++◌, ◌∷◌, [], false}
 use Rattle.mm_reader.specs.Machine.{StopsAt}
 use Rattle.mm_defs.specs.Words.{lines, open_line}
-use Rattle.mm_reader.specs.Standing.{IsBetween, IsAfter, StopsIn}
+use Rattle.mm_reader.specs.Stages.{IsBetween, IsAfter, StopsIn}
 use Rattle.mm_reader.proofs.AfterLaws.{map_result, lf_comes, lf_stops, byte_comes}
 use Rattle.mm_reader.proofs.machine.take.Goals as goal
 

@@ -1,7 +1,7 @@
 use Rattle.std.proofs.Common.{◌≡◌, ◌-◌}
 use Rattle.mm_reader.specs.declared.machine.Machine.{Machine}
 use Rattle.mm_reader.specs.Plain.{AwaitsPlain}
-use Rattle.mm_reader.specs.Standing.{GoesOn}
+use Rattle.mm_reader.specs.Stages.{GoesOn}
 use Rattle.mm_reader.proofs.machine.take_plain.Given as goal
 
 abbrev pub invariant-loop-done : goal.invariant-loop-done

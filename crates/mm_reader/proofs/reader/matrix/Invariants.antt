@@ -1,7 +1,7 @@
 use Rattle.std.proofs.Common.{◌≡◌, ◌≤◌, ◌+◌, ◌*◌, ◌==◌, if◌then◌else◌, false, IsTrue}
 use Rattle.sp_ports.specs.Bytes.{IsAtEnd}
 use Rattle.mm_reader.specs.Machine.{IsReady, is_complete}
-use Rattle.mm_reader.specs.Standing.{begun_lines}
+use Rattle.mm_reader.specs.Stages.{begun_lines}
 use Rattle.mm_reader.specs.Windows.{IsWindow}
 use Rattle.mm_reader.proofs.Progress.{Fed}
 use Rattle.mm_reader.proofs.reader.matrix.Given as goal

@@ -1,6 +1,6 @@
 use Rattle.std.proofs.Common.{◌<◌, length}
 use Rattle.std.proofs.lemmas.List.{take_more}
-use Rattle.path_search.proofs.Marking.{unmarks_more}
+use Rattle.path_search.proofs.MarkLemmas.{unmarks_more}
 use Rattle.bip_defs.proofs.Slices.{read_among, read_at}
 use Rattle.path_search.proofs.columns.unmark.Goals as goal
 

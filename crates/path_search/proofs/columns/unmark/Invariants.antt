@@ -1,5 +1,5 @@
 use Rattle.std.proofs.Common.{take}
-use Rattle.path_search.specs.Searching.{Unmarks}
+use Rattle.path_search.specs.Search.{Unmarks}
 use Rattle.path_search.proofs.columns.unmark.Given as goal
 
 abbrev pub invariant-loop-row : goal.invariant-loop-row

@@ -1,6 +1,6 @@
 use Rattle.std.proofs.Common.{◌≡◌, length, take}
 use Rattle.bip_defs.specs.Matching.{Covers}
-use Rattle.bip_graph.specs.Pairing.{IsMatchingOf}
+use Rattle.bip_graph.specs.Matching.{IsMatchingOf}
 use Rattle.pothen_fan.proofs.Phases.{Progress}
 use Rattle.pothen_fan.proofs.sweep.sweep.Given as goal
 

@@ -1,5 +1,5 @@
 use Rattle.std.proofs.Common.{◌≡◌, ◌+◌, ◌-◌, ◌≤◌, ℕ, List, length}
-use Rattle.sp_pattern.specs.Order.{IsFront, Pair}
+use Rattle.sp_pattern.specs.Pairs.{IsFront, Pair}
 use Rattle.sp_pattern.proofs.compress.open.Given as goal
 
 abbrev pub invariant-loop-starts : goal.invariant-loop-starts

@@ -1,5 +1,5 @@
 use Rattle.std.proofs.Common.{◌≡◌, ◌+◌, ◌-◌, ◌<◌, ℕ}
-use Rattle.sp_pattern.specs.Order.{IsAtMost, pair_at}
+use Rattle.sp_pattern.specs.Pairs.{IsAtMost, pair_at}
 use Rattle.sp_pattern.proofs.pairs.are_sorted.Given as goal
 
 abbrev pub invariant-loop-k : goal.invariant-loop-k

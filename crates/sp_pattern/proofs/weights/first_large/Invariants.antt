@@ -1,6 +1,6 @@
 use Rattle.std.proofs.Common.{ℕ, pos, ◌<◌, ◌≤◌, slice_index_or}
 use Rattle.std.specs.Int.RustNames.{unsigned_abs}
-use Rattle.sp_pattern.specs.Weighing.{weight_limit}
+use Rattle.sp_pattern.specs.Weights.{weight_limit}
 use Rattle.sp_pattern.proofs.weights.first_large.Given as goal
 
 abbrev pub invariant-loop-k : goal.invariant-loop-k

@@ -2,7 +2,7 @@ use Rattle.std.proofs.Common.{arith, rules, ◌≡◌, ◌<◌, ◌+ℤ◌, ◌�
 use Rattle.std.specs.Int.{w64, w128}
 use Rattle.std.proofs.lemmas.List.{get_or_default}
 use Rattle.std.proofs.lemmas.Int.{to_z-of_z}
-use Rattle.sp_pattern.proofs.Summing.{next_entry, so_far_next, so_far_start, sum_fits}
+use Rattle.sp_pattern.proofs.SumLemmas.{next_entry, so_far_next, so_far_start, sum_fits}
 use Rattle.sp_pattern.proofs.weights.sums_of.Goals as goal
 
 pub loop-k-init : goal.loop-k-init

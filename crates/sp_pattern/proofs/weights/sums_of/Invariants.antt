@@ -1,4 +1,4 @@
-use Rattle.sp_pattern.proofs.Summing.{AreSumsSoFar}
+use Rattle.sp_pattern.proofs.SumLemmas.{AreSumsSoFar}
 use Rattle.sp_pattern.proofs.weights.sums_of.Given as goal
 
 abbrev pub invariant-loop-k : goal.invariant-loop-k

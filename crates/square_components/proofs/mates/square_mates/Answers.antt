@@ -1,5 +1,5 @@
 use Rattle.std.proofs.Common.{arith}
-use Rattle.square_components.proofs.Mating.{known_all, known_more}
+use Rattle.square_components.proofs.MateLemmas.{known_all, known_more}
 use Rattle.square_components.proofs.Scans.{item_among, item_at}
 use Rattle.square_components.proofs.mates.square_mates.Goals as goal
 

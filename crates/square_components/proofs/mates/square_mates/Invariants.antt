@@ -1,4 +1,4 @@
-use Rattle.square_components.proofs.Mating.{AreKnown}
+use Rattle.square_components.proofs.MateLemmas.{AreKnown}
 use Rattle.square_components.proofs.mates.square_mates.Given as goal
 
 abbrev pub invariant-loop-row : goal.invariant-loop-row

@@ -1,9 +1,9 @@
 use Rattle.std.proofs.Common.{◌≡◌, ◌∙◌, ◌<◌, ◌≤◌, ◌+◌, List, ap, arith, length}
 use Rattle.bip_defs.specs.Matrix.{Place}
-use Rattle.bip_graph.specs.Pairing.{Pairing}
+use Rattle.bip_graph.specs.Matching.{Pairing}
 use Rattle.sp_ids.specs.declared.events.Event.TheVariants.{Rebuild}
 use Rattle.forest_core.specs.State.{State}
-use Rattle.tree_graft.proofs.Augmenting.{flips_begin, flips_more, may_flip, may_rebuild, read_here, rebuild_growth}
+use Rattle.tree_graft.proofs.AugmentLemmas.{flips_begin, flips_more, may_flip, may_rebuild, read_here, rebuild_growth}
 use Rattle.tree_graft.proofs.augment.augment.Goals as goal
 
 pub loop-at-init : goal.loop-at-init

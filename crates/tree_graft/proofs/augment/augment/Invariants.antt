@@ -1,4 +1,4 @@
-use Rattle.tree_graft.proofs.Augmenting.{AreFlippedTo}
+use Rattle.tree_graft.proofs.AugmentLemmas.{AreFlippedTo}
 use Rattle.tree_graft.proofs.augment.augment.Given as goal
 
 abbrev pub invariant-loop-at : goal.invariant-loop-at

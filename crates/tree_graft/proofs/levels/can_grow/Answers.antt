@@ -3,7 +3,7 @@ use Rattle.bip_defs.specs.Lists.{Among}
 use Rattle.bip_defs.specs.Matching.{cols_of}
 use Rattle.bip_defs.specs.Matrix.{IsEntry, Place, cols}
 use Rattle.bip_defs.proofs.Sets.{col_among, entry_col, number_same}
-use Rattle.tree_graft.proofs.Searching.{none_among, some_holds}
+use Rattle.tree_graft.proofs.SearchLemmas.{none_among, some_holds}
 use Rattle.tree_graft.proofs.levels.can_grow.Goals.{else-is_none-via-then-is_none+else-not-is_empty, else-is_none-via-else-is_none}
 use Rattle.tree_graft.proofs.levels.can_grow.Goals as goal
 

@@ -2,7 +2,7 @@ use Rattle.std.proofs.Common.{◌≤◌, ◌<◌, ap, arith, length, subst, sym}
 use Rattle.std.proofs.lemmas.List.{take_all}
 use Rattle.bip_defs.specs.Lists.{Among}
 use Rattle.bip_defs.specs.Matrix.{Matrix, cols}
-use Rattle.tree_graft.proofs.Searching.{front_within, frontier_short, read_among, scanned_front, search_begins}
+use Rattle.tree_graft.proofs.SearchLemmas.{front_within, frontier_short, read_among, scanned_front, search_begins}
 use Rattle.tree_graft.proofs.levels.grow.Goals as goal
 
 pub loop-at-init : goal.loop-at-init

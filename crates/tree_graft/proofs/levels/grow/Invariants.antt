@@ -2,7 +2,7 @@ use Rattle.std.proofs.Common.{◌-◌, ◌≤◌, ℕ, length, take}
 use Rattle.bip_defs.specs.Lists.{Among}
 use Rattle.bip_defs.specs.Matrix.{cols}
 use Rattle.forest_core.specs.Events.{Grows}
-use Rattle.tree_graft.specs.Searching.{IsScanned, IsSearch}
+use Rattle.tree_graft.specs.Search.{IsScanned, IsSearch}
 use Rattle.tree_graft.proofs.levels.grow.Given as goal
 
 abbrev pub invariant-loop-at : goal.invariant-loop-at

@@ -2,7 +2,7 @@ use Rattle.std.proofs.Common.{◌≡◌, ◌++◌, ℕ, List, take}
 use Rattle.bip_defs.specs.Lists.{Among}
 use Rattle.bip_defs.specs.Matching.{rows_of}
 use Rattle.forest_core.specs.Events.{Grows}
-use Rattle.tree_graft.specs.Searching.{IsSearch}
+use Rattle.tree_graft.specs.Search.{IsSearch}
 use Rattle.tree_graft.proofs.levels.scan.Given as goal
 
 abbrev pub invariant-loop-row : goal.invariant-loop-row

@@ -5,8 +5,8 @@ use Rattle.bip_defs.specs.Matrix.{Place}
 use Rattle.sp_ids.specs.declared.events.Event.TheVariants.{Win}
 use Rattle.forest_core.specs.Events.{Grows, IsLegal}
 use Rattle.forest_core.specs.State.{RootOf, State, roots_of}
-use Rattle.tree_graft.specs.Searching.{IsSearch}
-use Rattle.tree_graft.proofs.Searching.{last_claimed, last_won, may_win, search_claim, search_win, with_claim, with_leaf}
+use Rattle.tree_graft.specs.Search.{IsSearch}
+use Rattle.tree_graft.proofs.SearchLemmas.{last_claimed, last_won, may_win, search_claim, search_win, with_claim, with_leaf}
 use Rattle.tree_graft.proofs.levels.wins.Goals as goal
 
 pub returns-in_ok-push-in-Some-clause-search : goal.returns-in_ok-push-in-Some-clause-search

@@ -1,4 +1,4 @@
-use Rattle.bip_graph.proofs.Seen.{row_with, row_without}
+use Rattle.bip_graph.proofs.MatchingViews.{row_with, row_without}
 use Rattle.bip_graph.proofs.matching.Matching.col_of.Goals as goal
 
 pub returns-then-col-clause-none : goal.returns-then-col-clause-none

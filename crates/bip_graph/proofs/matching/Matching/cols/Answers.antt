@@ -1,4 +1,4 @@
-use Rattle.bip_graph.proofs.Seen.{seen_cols_within}
+use Rattle.bip_graph.proofs.MatchingViews.{seen_cols_within}
 use Rattle.bip_graph.proofs.matching.Matching.cols.Goals as goal
 
 pub returns-clause-within : goal.returns-clause-within

@@ -1,5 +1,5 @@
 use Rattle.std.proofs.Common.{◌≡◌, rules, replicate}
-use Rattle.bip_graph.specs.Pairing.{none}
+use Rattle.bip_graph.specs.Matching.{none}
 use Rattle.bip_graph.proofs.Empty.{empty_mates, empty_shown}
 use Rattle.bip_graph.proofs.matching.Matching.empty.Goals as goal
 

@@ -1,7 +1,7 @@
 use Rattle.std.proofs.Common.{◌∙◌, ap, suc}
 use Rattle.bip_defs.proofs.Exchange.{exchange_entries, exchange_keeps_col, exchange_keeps_row}
 use Rattle.bip_defs.proofs.Sets.{rising_distinct}
-use Rattle.bip_graph.proofs.Halfway.{halfway_col_free, halfway_col_in, halfway_end, halfway_last, halfway_more, halfway_row_free, halfway_row_in, halfway_row_taken, halfway_start, last_place}
+use Rattle.bip_graph.proofs.PartlyExchanged.{halfway_col_free, halfway_col_in, halfway_end, halfway_last, halfway_more, halfway_row_free, halfway_row_in, halfway_row_taken, halfway_start, last_place}
 use Rattle.bip_graph.proofs.matching.Matching.flip.Goals as goal
 
 pub loop-i-init : goal.loop-i-init

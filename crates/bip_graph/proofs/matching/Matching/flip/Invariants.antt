@@ -1,4 +1,4 @@
-use Rattle.bip_graph.proofs.Halfway.{IsHalfway}
+use Rattle.bip_graph.proofs.PartlyExchanged.{IsHalfway}
 use Rattle.bip_graph.proofs.matching.Matching.flip.Given as goal
 
 abbrev pub invariant-loop-i : goal.invariant-loop-i

@@ -1,7 +1,7 @@
 use Rattle.std.proofs.Common.{ap, length, ◌<◌, ◌∙◌, rules}
-use Rattle.bip_graph.specs.Pairing.{Pairing}
-use Rattle.bip_graph.proofs.Handing.{given, given_mates, given_size}
-use Rattle.bip_graph.proofs.Seen.{mate_within, seen_cols_rise, seen_gives, taken_from}
+use Rattle.bip_graph.specs.Matching.{Pairing}
+use Rattle.bip_graph.proofs.RowGiven.{given, given_mates, given_size}
+use Rattle.bip_graph.proofs.MatchingViews.{mate_within, seen_cols_rise, seen_gives, taken_from}
 use Rattle.bip_defs.proofs.Sets.{rising_distinct}
 use Rattle.bip_graph.proofs.matching.Matching.give.Goals as goal
 

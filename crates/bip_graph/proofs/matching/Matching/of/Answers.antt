@@ -1,7 +1,7 @@
 use Rattle.std.proofs.Common.{◌≡◌, ◌↔◌, Some, sym, subst, rules, length}
 use Rattle.bip_defs.specs.Lists.{Among}
 use Rattle.bip_graph.specs.Mates.{Mated, mate_in}
-use Rattle.bip_graph.specs.Pairing.{pairs_of}
+use Rattle.bip_graph.specs.Matching.{pairs_of}
 use Rattle.bip_graph.proofs.Mutual.{mutual_mates, same_pairs}
 use Rattle.bip_graph.proofs.matching.Matching.of.Goals as goal
 

@@ -1,7 +1,7 @@
 use Rattle.std.proofs.Common.{ap, length, suc, ◌∙◌, arith}
-use Rattle.bip_graph.specs.Pairing.{Pairing}
-use Rattle.bip_graph.proofs.Handing.{gives_adds, paired, paired_mates, paired_size, room}
-use Rattle.bip_graph.proofs.Seen.{free_from, seen_gives}
+use Rattle.bip_graph.specs.Matching.{Pairing}
+use Rattle.bip_graph.proofs.RowGiven.{gives_adds, paired, paired_mates, paired_size, room}
+use Rattle.bip_graph.proofs.MatchingViews.{free_from, seen_gives}
 use Rattle.bip_graph.proofs.matching.Matching.pair.Goals as goal
 
 pub overflow_add-self : goal.overflow_add-self

@@ -1,4 +1,4 @@
-use Rattle.bip_graph.proofs.Seen.{col_with, col_without}
+use Rattle.bip_graph.proofs.MatchingViews.{col_with, col_without}
 use Rattle.bip_graph.proofs.matching.Matching.row_of.Goals as goal
 
 pub returns-then-row-clause-none : goal.returns-then-row-clause-none

@@ -1,4 +1,4 @@
-use Rattle.bip_graph.proofs.Seen.{seen_rows_within}
+use Rattle.bip_graph.proofs.MatchingViews.{seen_rows_within}
 use Rattle.bip_graph.proofs.matching.Matching.rows.Goals as goal
 
 pub returns-clause-within : goal.returns-clause-within

@@ -1,4 +1,4 @@
-use Rattle.bip_graph.proofs.Seen.{seen_cols_rise, seen_rows_differ}
+use Rattle.bip_graph.proofs.MatchingViews.{seen_cols_rise, seen_rows_differ}
 use Rattle.bip_graph.proofs.matching.Matching.size.Goals as goal
 
 pub returns-clause-rows_differ : goal.returns-clause-rows_differ

@@ -3,7 +3,7 @@ use Rattle.bip_defs.specs.Lists.{Among}
 use Rattle.bip_defs.specs.Matching.{rows_of}
 use Rattle.bip_defs.specs.Matrix.{Place}
 use Rattle.bip_defs.specs.Paths.{IsAugmenting}
-use Rattle.bip_graph.specs.Pairing.{Pairing}
+use Rattle.bip_graph.specs.Matching.{Pairing}
 use Rattle.bip_graph.proofs.Members.{augments_by, first_pair, path_pairs}
 use Rattle.bip_graph.proofs.matching.tests.exchanges_paths.Goals as goal
 

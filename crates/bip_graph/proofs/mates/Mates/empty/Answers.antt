@@ -1,6 +1,6 @@
 use Rattle.std.proofs.Common.{◌≡◌, ◌∙◌, ap, map, rules, replicate}
 use Rattle.bip_graph.specs.Mates.{mate_of}
-use Rattle.bip_graph.specs.Pairing.{none}
+use Rattle.bip_graph.specs.Matching.{none}
 use Rattle.bip_graph.proofs.Mutual.{no_mates}
 use Rattle.bip_graph.proofs.mates.Mates.empty.Goals as goal
 

@@ -2,7 +2,7 @@ use Rattle.std.proofs.Common.{subst, sym}
 use Rattle.bip_defs.specs.Lists.{Among}
 use Rattle.bip_defs.specs.Matching.{cols_of}
 use Rattle.bip_defs.specs.Matrix.{Place}
-use Rattle.bip_defs.proofs.Turned.{turned_among, turned_rows}
+use Rattle.bip_defs.proofs.Transposed.{turned_among, turned_rows}
 use Rattle.bip_graph.proofs.opposite.ColOpposite.col_of.Goals as goal
 
 pub returns-in-Some-clause-found : goal.returns-in-Some-clause-found

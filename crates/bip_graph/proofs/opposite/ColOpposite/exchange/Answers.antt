@@ -5,7 +5,7 @@ use Rattle.bip_defs.specs.Matrix.{Place}
 use Rattle.bip_defs.specs.Paths.{Exchanges, IsAugmenting}
 use Rattle.bip_defs.proofs.Covers.{turned_covers}
 use Rattle.bip_defs.proofs.Sets.{rising_distinct}
-use Rattle.bip_defs.proofs.Turned.{turned_length}
+use Rattle.bip_defs.proofs.Transposed.{turned_length}
 use Rattle.bip_graph.proofs.Backwards.{backwards_augments, backwards_back, backwards_exchanges, backwards_matching}
 use Rattle.bip_graph.proofs.opposite.ColOpposite.exchange.Goals as goal
 

@@ -1,5 +1,5 @@
 use Rattle.std.proofs.Common.{◌∙◌, sym}
-use Rattle.bip_defs.proofs.Turned.{turned_length}
+use Rattle.bip_defs.proofs.Transposed.{turned_length}
 use Rattle.bip_graph.proofs.opposite.ColOpposite.size.Goals as goal
 
 pub returns : goal.returns

@@ -1,5 +1,5 @@
 use Rattle.bip_defs.proofs.Sets.{among_at}
-use Rattle.bip_graph.proofs.Queued.{queue_depth, queue_traced, queue_trees}
+use Rattle.bip_graph.proofs.QueueTrees.{queue_depth, queue_traced, queue_trees}
 use Rattle.bip_graph.proofs.trace.Queue.path_to.Goals as goal
 
 pub trace_back-requires-clause-trees : goal.trace_back-requires-clause-trees

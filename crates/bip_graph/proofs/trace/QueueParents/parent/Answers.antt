@@ -1,5 +1,5 @@
 use Rattle.bip_defs.proofs.Sets.{among_at}
-use Rattle.bip_graph.proofs.Queued.{queue_col, queue_parent}
+use Rattle.bip_graph.proofs.QueueTrees.{queue_col, queue_parent}
 use Rattle.bip_graph.proofs.trace.QueueParents.parent.Goals as goal
 
 pub row_of-requires : goal.row_of-requires

@@ -2,7 +2,7 @@ use Rattle.std.proofs.Common.{◌≡◌, ◌∙◌, sym, ap, subst, arith, ◌++
 use Rattle.claim_words.specs.Seat.{new_seat}
 use Rattle.claim_words.specs.Stored.{seat_in}
 use Rattle.claim_words.specs.WorkerState.{WorkerState, re_seated, with_seat}
-use Rattle.claim_words.proofs.Renewing.{last_first, last_out, renewed_first, renewed_others}
+use Rattle.claim_words.proofs.Reseated.{last_first, last_out, renewed_first, renewed_others}
 use Rattle.claim_words.proofs.board.ClaimBoard.+renew.Goals as goal
 
 pub join-requires-clause-first : goal.join-requires-clause-first

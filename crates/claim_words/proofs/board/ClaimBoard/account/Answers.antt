@@ -1,6 +1,6 @@
 use Rattle.std.proofs.Common.{◌∙◌, ap}
 use Rattle.claim_words.specs.Seat.{Seat}
-use Rattle.claim_words.proofs.Allowing.{allows_all}
+use Rattle.claim_words.proofs.StepRules.{allows_all}
 use Rattle.claim_words.proofs.Boards.{is_of, some_words}
 use Rattle.claim_words.proofs.board.ClaimBoard.account.Goals as goal
 

@@ -1,8 +1,8 @@
 use Rattle.std.proofs.Common.{◌∙◌, ◌+◌, ◌<◌, length, refl, sym, ap, subst, arith}
 use Rattle.claim_words.specs.Answers.{col_before}
-use Rattle.claim_words.proofs.Allowing.{allows_claim}
+use Rattle.claim_words.proofs.StepRules.{allows_claim}
 use Rattle.claim_words.proofs.Boards.{is_of, row_in_range}
-use Rattle.claim_words.proofs.Decoding.{row_below}
+use Rattle.claim_words.proofs.WordCodes.{row_below}
 use Rattle.claim_words.proofs.Shown.{claim_answer, open_after}
 use Rattle.claim_words.proofs.board.ClaimBoard.claim.Goals as goal
 

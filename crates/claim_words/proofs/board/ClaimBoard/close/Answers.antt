@@ -1,5 +1,5 @@
 use Rattle.std.proofs.Common.{◌∙◌}
-use Rattle.claim_words.proofs.Closing.{last_told, left}
+use Rattle.claim_words.proofs.ClosedBoards.{last_told, left}
 use Rattle.claim_words.proofs.board.ClaimBoard.close.Goals as goal
 
 pub invariant_of-result : goal.invariant_of-result

@@ -5,7 +5,7 @@ use Rattle.claim_words.specs.Seat.{first_seat, lists_of}
 use Rattle.claim_words.specs.Settles.{SettlesAll}
 use Rattle.claim_words.specs.Stored.{seat_in}
 use Rattle.claim_words.specs.WorkerState.{AreAllWorkers, WorkerState, fresh_lists, seats_of, with_seat}
-use Rattle.claim_words.proofs.Renewing.{all_renewed, gathered_all, gathered_fresh, gathered_words}
+use Rattle.claim_words.proofs.Reseated.{all_renewed, gathered_all, gathered_fresh, gathered_words}
 use Rattle.claim_words.proofs.board.ClaimBoard.gather.Goals as goal
 
 pub returns-clause-all : goal.returns-clause-all

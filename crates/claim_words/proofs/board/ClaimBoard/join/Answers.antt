@@ -1,6 +1,6 @@
 use Rattle.std.proofs.Common.{◌∙◌, ◌+◌, ap, sym}
 use Rattle.claim_words.specs.Seat.{Seat}
-use Rattle.claim_words.proofs.Allowing.{joins}
+use Rattle.claim_words.proofs.StepRules.{joins}
 use Rattle.claim_words.proofs.Boards.{is_of, some_words}
 use Rattle.claim_words.proofs.board.ClaimBoard.join.Goals as goal
 

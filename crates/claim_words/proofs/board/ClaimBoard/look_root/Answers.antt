@@ -1,5 +1,5 @@
 use Rattle.std.proofs.Common.{◌∙◌, ◌<◌, length, sym, subst}
-use Rattle.claim_words.proofs.Allowing.{allows_root_at}
+use Rattle.claim_words.proofs.StepRules.{allows_root_at}
 use Rattle.claim_words.proofs.Boards.{is_of, numbered, root_at, root_in_range, root_word_below}
 use Rattle.claim_words.proofs.Shown.{open_after, root_answer}
 use Rattle.claim_words.proofs.board.ClaimBoard.look_root.Goals as goal

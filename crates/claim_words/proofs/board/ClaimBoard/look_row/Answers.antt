@@ -1,7 +1,7 @@
 use Rattle.std.proofs.Common.{◌∙◌, ◌+◌, ◌<◌, length, refl, sym, ap, subst}
-use Rattle.claim_words.proofs.Allowing.{allows_row}
+use Rattle.claim_words.proofs.StepRules.{allows_row}
 use Rattle.claim_words.proofs.Boards.{is_of, numbered, row_in_range}
-use Rattle.claim_words.proofs.Decoding.{row_below}
+use Rattle.claim_words.proofs.WordCodes.{row_below}
 use Rattle.claim_words.proofs.Shown.{open_after, row_answer}
 use Rattle.claim_words.proofs.board.ClaimBoard.look_row.Goals as goal
 

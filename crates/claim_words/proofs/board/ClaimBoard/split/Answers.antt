@@ -1,6 +1,6 @@
 use Rattle.std.proofs.Common.{◌∙◌, ap}
 use Rattle.claim_words.specs.Seat.{Seat}
-use Rattle.claim_words.proofs.Allowing.{splits}
+use Rattle.claim_words.proofs.StepRules.{splits}
 use Rattle.claim_words.proofs.Boards.{is_of, some_words}
 use Rattle.claim_words.proofs.board.ClaimBoard.split.Goals as goal
 

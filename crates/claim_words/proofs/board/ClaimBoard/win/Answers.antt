@@ -1,6 +1,6 @@
 use Rattle.std.proofs.Common.{◌∙◌, ◌+◌, ◌<◌, length, refl, sym, ap, subst, arith}
 use Rattle.claim_words.specs.Answers.{leaf_before}
-use Rattle.claim_words.proofs.Allowing.{allows_win_at}
+use Rattle.claim_words.proofs.StepRules.{allows_win_at}
 use Rattle.claim_words.proofs.Boards.{is_of, root_at, root_in_range, root_word_below}
 use Rattle.claim_words.proofs.Shown.{open_after, win_answer}
 use Rattle.claim_words.proofs.board.ClaimBoard.win.Goals as goal

@@ -1,6 +1,6 @@
 use Rattle.std.proofs.Common.{◌∙◌, sym}
 use Rattle.claim_words.proofs.Boards.{numbered}
-use Rattle.claim_words.proofs.Closing.{found_fits, row_held}
+use Rattle.claim_words.proofs.ClosedBoards.{found_fits, row_held}
 use Rattle.claim_words.proofs.closed.Closed.holder.Goals as goal
 
 pub value-requires : goal.value-requires

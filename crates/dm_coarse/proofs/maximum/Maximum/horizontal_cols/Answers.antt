@@ -1,4 +1,4 @@
-use Rattle.dm_coarse.proofs.Splitting.{known}
+use Rattle.dm_coarse.proofs.SplitLemmas.{known}
 use Rattle.dm_coarse.proofs.maximum.Maximum.horizontal_cols.Goals as goal
 
 pub reached-requires : goal.reached-requires

@@ -1,4 +1,4 @@
-use Rattle.dm_coarse.proofs.Splitting.{col_marks_turned, horizontal_cols_lists, marks_turned, plain_lists, square_cols_lists, transposed_known, vertical_cols_lists}
+use Rattle.dm_coarse.proofs.SplitLemmas.{col_marks_turned, horizontal_cols_lists, marks_turned, plain_lists, square_cols_lists, transposed_known, vertical_cols_lists}
 use Rattle.dm_coarse.proofs.maximum.Maximum.split_cols.Goals as goal
 
 pub split-requires-clause-maximum : goal.split-requires-clause-maximum

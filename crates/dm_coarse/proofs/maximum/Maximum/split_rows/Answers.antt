@@ -1,4 +1,4 @@
-use Rattle.dm_coarse.proofs.Splitting.{known}
+use Rattle.dm_coarse.proofs.SplitLemmas.{known}
 use Rattle.dm_coarse.proofs.maximum.Maximum.split_rows.Goals as goal
 
 pub split-requires-clause-maximum : goal.split-requires-clause-maximum

@@ -1,5 +1,5 @@
 use Rattle.std.proofs.Common.{Vec, Bool, Global}
-use Rattle.dm_coarse.proofs.Splitting.{ok_map, transposed_known, turned_marks}
+use Rattle.dm_coarse.proofs.SplitLemmas.{ok_map, transposed_known, turned_marks}
 use Rattle.dm_coarse.proofs.maximum.Maximum.vertical_rows.Goals as goal
 
 pub reached-requires : goal.reached-requires

@@ -2,7 +2,7 @@ use Rattle.std.proofs.Common.{◌≡◌, ◌∙◌, ℕ, sym, ap, subst}
 use Rattle.std.specs.Mem.Slots.{slots_items}
 use Rattle.bip_defs.specs.Lists.{Among}
 use Rattle.flip_words.specs.Board.{Board}
-use Rattle.flip_words.specs.Coding.{mates_in}
+use Rattle.flip_words.specs.WordCodes.{mates_in}
 use Rattle.flip_words.specs.Seat.{IsRightful, Seat}
 use Rattle.flip_words.specs.Stored.{AreSized}
 use Rattle.flip_words.proofs.Finished.{settles_all}

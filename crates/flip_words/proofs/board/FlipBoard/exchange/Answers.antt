@@ -1,9 +1,9 @@
 use Rattle.std.proofs.Common.{◌≡◌, ◌∙◌, ◌<◌, refl, sym, ap, subst, arith}
 use Rattle.flip_words.specs.Board.{Board}
-use Rattle.flip_words.specs.Coding.{half}
+use Rattle.flip_words.specs.WordCodes.{half}
 use Rattle.flip_words.specs.Rule.{known}
 use Rattle.flip_words.specs.Seat.{KnowsTaker, Seat}
-use Rattle.flip_words.proofs.Allowing.{allows_take}
+use Rattle.flip_words.proofs.StepRules.{allows_take}
 use Rattle.flip_words.proofs.Boards.{is_of, open_after, taker_place}
 use Rattle.flip_words.proofs.board.FlipBoard.exchange.Goals as goal
 

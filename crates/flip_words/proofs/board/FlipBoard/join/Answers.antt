@@ -1,7 +1,7 @@
 use Rattle.std.proofs.Common.{◌≡◌, ◌∙◌, ◌+◌, sym, ap, arith}
 use Rattle.flip_words.specs.Rule.{known}
 use Rattle.flip_words.specs.Seat.{Seat}
-use Rattle.flip_words.proofs.Allowing.{joins}
+use Rattle.flip_words.proofs.StepRules.{joins}
 use Rattle.flip_words.proofs.Boards.{is_of}
 use Rattle.flip_words.proofs.board.FlipBoard.join.Goals as goal
 

@@ -1,4 +1,4 @@
-use Rattle.flip_words.specs.Closing.{gathered}
+use Rattle.flip_words.specs.ClosedBoards.{gathered}
 use Rattle.flip_words.proofs.Finished.{IsJoined}
 use Rattle.flip_words.proofs.board.FlipBoard.join_all.Given as goal
 

@@ -1,11 +1,11 @@
 use Rattle.std.proofs.Common.{◌∙◌, ◌<◌, length, sym, ap, subst}
 use Rattle.bip_defs.specs.Lists.{Among}
 use Rattle.flip_words.specs.Board.{Board, held}
-use Rattle.flip_words.specs.Coding.{mates_in}
+use Rattle.flip_words.specs.WordCodes.{mates_in}
 use Rattle.flip_words.specs.Rule.{known}
 use Rattle.flip_words.specs.Seat.{Seat}
 use Rattle.flip_words.specs.Steps.{TellsMate}
-use Rattle.flip_words.proofs.Allowing.{allows_look}
+use Rattle.flip_words.proofs.StepRules.{allows_look}
 use Rattle.flip_words.proofs.Boards.{is_of, never_set, of_taken, open_after, vertex_place, vertex_word_is}
 use Rattle.flip_words.proofs.board.FlipBoard.load.Goals as goal
 

@@ -1,7 +1,7 @@
 use Rattle.std.proofs.Common.{◌∙◌, sym, ap, subst}
 use Rattle.bip_defs.specs.Lists.{Among}
 use Rattle.flip_words.specs.Seat.{IsRightful, Seat}
-use Rattle.flip_words.proofs.Righting.{rightful_look}
+use Rattle.flip_words.proofs.OwnTrees.{rightful_look}
 use Rattle.flip_words.proofs.board.FlipBoard.look_row.Goals as goal
 
 pub invariant_of-seat : goal.invariant_of-seat

@@ -1,7 +1,7 @@
 use Rattle.std.proofs.Common.{◌≡◌, ◌∙◌, ◌+◌, ◌++◌, ℕ, length, sym, subst}
 use Rattle.std.proofs.lemmas.List.{length-append}
 use Rattle.flip_words.specs.Board.{IsOpenedFrom}
-use Rattle.flip_words.specs.Opening.{AreOpening}
+use Rattle.flip_words.specs.OpenedBoards.{AreOpening}
 use Rattle.flip_words.specs.Rule.{opened_in}
 use Rattle.flip_words.specs.Stored.{board_in}
 use Rattle.flip_words.proofs.Opened.{laid_board, laid_opening}

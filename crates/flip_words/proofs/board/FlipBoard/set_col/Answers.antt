@@ -1,7 +1,7 @@
 use Rattle.std.proofs.Common.{◌∙◌, ◌+◌, sym, ap}
 use Rattle.flip_words.specs.Board.{Board}
 use Rattle.flip_words.specs.Seat.{Seat}
-use Rattle.flip_words.proofs.Righting.{rightful_set}
+use Rattle.flip_words.proofs.OwnTrees.{rightful_set}
 use Rattle.flip_words.proofs.board.FlipBoard.set_col.Goals as goal
 
 pub invariant_of-seat : goal.invariant_of-seat

@@ -1,6 +1,6 @@
 use Rattle.std.proofs.Common.{◌∙◌, ap, arith}
 use Rattle.flip_words.specs.Seat.{Seat}
-use Rattle.flip_words.proofs.Allowing.{splits}
+use Rattle.flip_words.proofs.StepRules.{splits}
 use Rattle.flip_words.proofs.Boards.{is_of}
 use Rattle.flip_words.proofs.board.FlipBoard.split.Goals as goal
 

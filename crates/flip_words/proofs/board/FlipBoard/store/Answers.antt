@@ -1,15 +1,15 @@
 use Rattle.std.proofs.Common.{◌≡◌, ◌∙◌, ◌<◌, Option, Some, length, refl, sym, ap, subst}
 use Rattle.atomic_table.specs.Table.{Me}
 use Rattle.flip_words.specs.Board.{Board, held}
-use Rattle.flip_words.specs.Coding.{mates_in, trees_in}
+use Rattle.flip_words.specs.WordCodes.{mates_in, trees_in}
 use Rattle.flip_words.specs.Listed.{put}
 use Rattle.flip_words.specs.Rule.{IsOfTaken, Known, Opened, known}
 use Rattle.flip_words.specs.Seat.{Seat, TookTreeOf, after_set}
 use Rattle.flip_words.specs.Steps.{knowing}
 use Rattle.flip_words.specs.Stored.{shown}
-use Rattle.flip_words.proofs.Allowing.{allows_set}
+use Rattle.flip_words.proofs.StepRules.{allows_set}
 use Rattle.flip_words.proofs.Boards.{is_of, never_set, of_taken, open_after, vertex_place, vertex_word_is}
-use Rattle.flip_words.proofs.Decoding.{mate_told}
+use Rattle.flip_words.proofs.WordCodes.{mate_told}
 use Rattle.flip_words.proofs.board.FlipBoard.store.Goals as goal
 
 pub store-requires : goal.store-requires

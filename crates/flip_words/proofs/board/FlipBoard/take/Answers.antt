@@ -1,6 +1,6 @@
 use Rattle.std.proofs.Common.{◌∙◌, sym, ap, subst}
 use Rattle.flip_words.specs.Seat.{IsRightful, KnowsTaker, Seat}
-use Rattle.flip_words.proofs.Righting.{rightful_take}
+use Rattle.flip_words.proofs.OwnTrees.{rightful_take}
 use Rattle.flip_words.proofs.board.FlipBoard.take.Goals as goal
 
 pub invariant_of-seat : goal.invariant_of-seat

@@ -1,7 +1,7 @@
 use Rattle.std.proofs.Common.{◌∙◌, None, Option, List, ℕ, ap, refl, set}
 use Rattle.forest_core.specs.Tables.{Claimed, holder_in, root_in}
 use Rattle.forest_core.specs.declared.claim_table.RowClaim.{RowClaim}
-use Rattle.forest_core.proofs.Tabling.{read_none, root_none, seen_put}
+use Rattle.forest_core.proofs.TableLemmas.{read_none, root_none, seen_put}
 use Rattle.forest_core.proofs.claim_table.ClaimTable.clear.Goals as goal
 
 pub returns-clause-holders : goal.returns-clause-holders

@@ -1,8 +1,8 @@
 use Rattle.std.proofs.Common.{◌≡◌, ◌∙◌, ap, length, refl, replicate, rules}
 use Rattle.forest_core.specs.Tables.{holder_in}
 use Rattle.forest_core.specs.declared.claim_table.RowClaim.{RowClaim}
-use Rattle.forest_core.proofs.Tabling.{read_none, seen_new}
-use Rattle.forest_core.proofs.Tracing.{written_back}
+use Rattle.forest_core.proofs.TableLemmas.{read_none, seen_new}
+use Rattle.forest_core.proofs.PathLemmas.{written_back}
 use Rattle.forest_core.proofs.claim_table.ClaimTable.clear_all.Goals as goal
 
 pub returns-clause-none : goal.returns-clause-none

@@ -2,7 +2,7 @@ use Rattle.std.proofs.Common.{◌≡◌, ◌∙◌, length, subst, sym}
 use Rattle.std.proofs.lemmas.List.{length-map}
 use Rattle.forest_core.specs.Tables.{AreAlike, Claimed, holder_in, root_in}
 use Rattle.forest_core.specs.declared.claim_table.RowClaim.{RowClaim}
-use Rattle.forest_core.proofs.Tabling.{seen_alike}
+use Rattle.forest_core.proofs.TableLemmas.{seen_alike}
 use Rattle.forest_core.proofs.claim_table.ClaimTable.is_alike.Goals as goal
 
 pub returns-clause-alike : goal.returns-clause-alike

@@ -1,7 +1,7 @@
 use Rattle.std.proofs.Common.{◌≡◌, refl, replicate, rules}
 use Rattle.forest_core.specs.Tables.{holder_in, root_in}
 use Rattle.forest_core.specs.declared.claim_table.RowClaim.{RowClaim}
-use Rattle.forest_core.proofs.Tabling.{read_none, root_none, seen_new}
+use Rattle.forest_core.proofs.TableLemmas.{read_none, root_none, seen_new}
 use Rattle.forest_core.proofs.claim_table.ClaimTable.new.Goals as goal
 
 pub returns-clause-holders : goal.returns-clause-holders

@@ -5,7 +5,7 @@ use Rattle.bip_defs.specs.Matrix.{Place}
 use Rattle.bip_defs.proofs.Sets.{among_last, row_among}
 use Rattle.forest_core.specs.State.{roots_of}
 use Rattle.forest_core.proofs.Members.{map_last, read_among, told_false}
-use Rattle.forest_core.proofs.Storing.{leaf_in_range}
+use Rattle.forest_core.proofs.StoredForests.{leaf_in_range}
 use Rattle.forest_core.proofs.forest.Forest.are_flipped.Goals as goal
 
 pub flipped-requires : goal.flipped-requires

@@ -3,8 +3,8 @@ use Rattle.bip_defs.specs.Matrix.{Matrix, cols}
 use Rattle.forest_core.specs.State.{InForest, RootOf}
 use Rattle.forest_core.proofs.Members.{if_none}
 use Rattle.forest_core.proofs.Roots.{one_root}
-use Rattle.forest_core.proofs.Storing.{root_inside}
-use Rattle.forest_core.proofs.Tabling.{made_more, some_is}
+use Rattle.forest_core.proofs.StoredForests.{root_inside}
+use Rattle.forest_core.proofs.TableLemmas.{made_more, some_is}
 use Rattle.forest_core.proofs.forest.Forest.col_trees.Goals as goal
 
 pub loop-col-preserved : goal.loop-col-preserved

@@ -2,9 +2,9 @@ use Rattle.std.proofs.Common.{ℕ, ◌<◌, ap, arith, set, true, length, rules,
 use Rattle.bip_defs.specs.Matrix.{cols}
 use Rattle.sp_ids.specs.declared.events.Event.TheVariants.{Flip}
 use Rattle.forest_core.specs.Events.{IsLegal}
-use Rattle.forest_core.specs.Fields.{state_of, tables_of}
+use Rattle.forest_core.specs.Inside.{state_of, tables_of}
 use Rattle.forest_core.specs.State.{State}
-use Rattle.forest_core.proofs.Storing.{flip_room, root_with_leaf, stored_flip_at}
+use Rattle.forest_core.proofs.StoredForests.{flip_room, root_with_leaf, stored_flip_at}
 use Rattle.forest_core.proofs.forest.Forest.flip.Goals as goal
 
 pub index_mut-requires : goal.index_mut-requires

@@ -2,9 +2,9 @@ use Rattle.std.proofs.Common.{List, ◌≡◌, ◌∙◌, ◌+◌, ap, arith, le
 use Rattle.bip_defs.specs.Lists.{Among}
 use Rattle.bip_defs.specs.Matrix.{Place}
 use Rattle.forest_core.specs.Current.{IsCurrent}
-use Rattle.forest_core.specs.Exchanging.{IsExchanged}
-use Rattle.forest_core.specs.Fields.{state_of, tables_of}
-use Rattle.forest_core.specs.Renewing.{kept}
+use Rattle.forest_core.specs.Paths.{IsExchanged}
+use Rattle.forest_core.specs.Inside.{state_of, tables_of}
+use Rattle.forest_core.specs.Kept.{kept}
 use Rattle.forest_core.specs.State.{State}
 use Rattle.forest_core.specs.Stored.{AreClaimRoots}
 use Rattle.forest_core.specs.Tables.{IsTableOf}
@@ -12,7 +12,7 @@ use Rattle.forest_core.specs.Events.{AreKept}
 use Rattle.forest_core.proofs.Currents.{current_grown}
 use Rattle.forest_core.proofs.Renewals.{claims_within, exchanged_by, kept_stored, leaves_within, marks_within, same_claim_roots, roots_within, stored_graft_at}
 use Rattle.forest_core.proofs.Roots.{claims_differ}
-use Rattle.forest_core.proofs.Tracing.{written_back}
+use Rattle.forest_core.proofs.PathLemmas.{written_back}
 use Rattle.forest_core.proofs.forest.Forest.graft.Goals as goal
 
 pub keep-kept-requires-clause-rows : goal.keep-kept-requires-clause-rows

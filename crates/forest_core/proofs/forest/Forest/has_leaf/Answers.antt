@@ -2,7 +2,7 @@ use Rattle.std.proofs.Common.{ap, arith, refl}
 use Rattle.bip_defs.specs.Matrix.{Matrix, cols}
 use Rattle.bip_defs.proofs.Sets.{row_among}
 use Rattle.forest_core.proofs.Members.{told_false}
-use Rattle.forest_core.proofs.Storing.{root_with_leaf}
+use Rattle.forest_core.proofs.StoredForests.{root_with_leaf}
 use Rattle.forest_core.proofs.forest.Forest.has_leaf.Goals as goal
 
 pub returns-then-number-cols-clause-leaf : goal.returns-then-number-cols-clause-leaf

@@ -1,5 +1,5 @@
 use Rattle.std.proofs.Common.{subst, sym}
-use Rattle.forest_core.proofs.Storing.{if_found, if_missed}
+use Rattle.forest_core.proofs.StoredForests.{if_found, if_missed}
 use Rattle.forest_core.proofs.forest.Forest.holder.Goals as goal
 
 pub returns-clause-found : goal.returns-clause-found

@@ -1,8 +1,8 @@
 use Rattle.std.proofs.Common.{◌≡◌, ◌+◌, length, subst}
-use Rattle.bip_graph.specs.Pairing.{IsMatchingOf}
+use Rattle.bip_graph.specs.Matching.{IsMatchingOf}
 use Rattle.forest_core.specs.Current.{IsCurrent}
-use Rattle.forest_core.specs.Exchanging.{IsExchanged}
-use Rattle.forest_core.specs.Fields.{state_of, tables_of}
+use Rattle.forest_core.specs.Paths.{IsExchanged}
+use Rattle.forest_core.specs.Inside.{state_of, tables_of}
 use Rattle.forest_core.specs.State.{State}
 use Rattle.forest_core.proofs.Currents.{current_grown}
 use Rattle.forest_core.proofs.Renewals.{exchanged_by}

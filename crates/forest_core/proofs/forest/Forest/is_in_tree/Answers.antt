@@ -5,7 +5,7 @@ use Rattle.bip_defs.proofs.Sets.{row_among}
 use Rattle.forest_core.specs.State.{IsRootOfRow}
 use Rattle.forest_core.proofs.Members.{told_false}
 use Rattle.forest_core.proofs.Roots.{one_root_of_row}
-use Rattle.forest_core.proofs.Storing.{claim_in_range}
+use Rattle.forest_core.proofs.StoredForests.{claim_in_range}
 use Rattle.forest_core.proofs.forest.Forest.is_in_tree.Goals as goal
 
 pub returns-then-number-rows-clause-tree : goal.returns-then-number-rows-clause-tree

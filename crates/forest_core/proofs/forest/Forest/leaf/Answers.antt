@@ -1,4 +1,4 @@
-use Rattle.forest_core.proofs.Storing.{table_found, table_missed}
+use Rattle.forest_core.proofs.StoredForests.{table_found, table_missed}
 use Rattle.forest_core.proofs.forest.Forest.leaf.Goals as goal
 
 pub returns-in-Some-clause-found : goal.returns-in-Some-clause-found

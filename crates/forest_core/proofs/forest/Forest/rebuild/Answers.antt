@@ -1,12 +1,12 @@
 use Rattle.std.proofs.Common.{◌≡◌, ◌∙◌, ◌+◌, ap, arith, length, rules, subst}
 use Rattle.bip_defs.specs.Lists.{Among}
 use Rattle.forest_core.specs.Current.{IsCurrent}
-use Rattle.forest_core.specs.Exchanging.{IsExchanged}
-use Rattle.forest_core.specs.Fields.{state_of, tables_of}
+use Rattle.forest_core.specs.Paths.{IsExchanged}
+use Rattle.forest_core.specs.Inside.{state_of, tables_of}
 use Rattle.forest_core.specs.State.{State}
 use Rattle.forest_core.proofs.Currents.{current_grown}
 use Rattle.forest_core.proofs.Renewals.{are_cleared, claims_within, exchanged_by, leaves_within, marks_within, stored_rebuild_at}
-use Rattle.forest_core.proofs.Tracing.{written_back}
+use Rattle.forest_core.proofs.PathLemmas.{written_back}
 use Rattle.forest_core.proofs.forest.Forest.rebuild.Goals as goal
 
 pub clear_claims-requires-clause-rows : goal.clear_claims-requires-clause-rows

@@ -2,9 +2,9 @@ use Rattle.std.proofs.Common.{ap, arith, length, subst, sym}
 use Rattle.bip_defs.specs.Lists.{Among}
 use Rattle.bip_defs.specs.Matching.{rows_of}
 use Rattle.bip_defs.specs.Matrix.{Place}
-use Rattle.forest_core.specs.Fields.{state_of}
+use Rattle.forest_core.specs.Inside.{state_of}
 use Rattle.forest_core.specs.State.{State, IsRootOfRow, RootOf, itself}
-use Rattle.forest_core.proofs.Storing.{base_row_claimed, root_below, root_by_row, table_there}
+use Rattle.forest_core.proofs.StoredForests.{base_row_claimed, root_below, root_by_row, table_there}
 use Rattle.forest_core.proofs.forest.Forest.root.Goals as goal
 
 pub root_at-requires-clause-within : goal.root_at-requires-clause-within

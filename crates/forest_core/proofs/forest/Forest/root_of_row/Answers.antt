@@ -1,5 +1,5 @@
-use Rattle.forest_core.specs.Fields.{state_of}
-use Rattle.forest_core.proofs.Storing.{if_missed_in, if_rooted}
+use Rattle.forest_core.specs.Inside.{state_of}
+use Rattle.forest_core.proofs.StoredForests.{if_missed_in, if_rooted}
 use Rattle.forest_core.proofs.forest.Forest.root_of_row.Goals as goal
 
 pub returns-clause-found : goal.returns-clause-found

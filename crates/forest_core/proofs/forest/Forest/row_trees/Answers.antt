@@ -6,8 +6,8 @@ use Rattle.bip_defs.proofs.Sets.{row_among}
 use Rattle.forest_core.specs.State.{IsRootOfRow}
 use Rattle.forest_core.proofs.Members.{if_none}
 use Rattle.forest_core.proofs.Roots.{one_root_of_row}
-use Rattle.forest_core.proofs.Storing.{claim_in_range, made_all}
-use Rattle.forest_core.proofs.Tabling.{made_more, some_is}
+use Rattle.forest_core.proofs.StoredForests.{claim_in_range, made_all}
+use Rattle.forest_core.proofs.TableLemmas.{made_more, some_is}
 use Rattle.forest_core.proofs.forest.Forest.row_trees.Goals as goal
 
 pub loop-row-preserved : goal.loop-row-preserved

@@ -1,6 +1,6 @@
 use Rattle.std.proofs.Common.{ℕ}
 use Rattle.forest_core.specs.State.{IsRootOfRow}
-use Rattle.forest_core.proofs.Tabling.{IsMadeTo}
+use Rattle.forest_core.proofs.TableLemmas.{IsMadeTo}
 use Rattle.forest_core.proofs.forest.Forest.row_trees.Given as goal
 
 abbrev pub invariant-loop-row : goal.invariant-loop-row

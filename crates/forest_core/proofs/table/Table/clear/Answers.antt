@@ -1,6 +1,6 @@
 use Rattle.std.proofs.Common.{None, refl}
 use Rattle.forest_core.specs.Tables.{read}
-use Rattle.forest_core.proofs.Tabling.{read_none, seen_put}
+use Rattle.forest_core.proofs.TableLemmas.{read_none, seen_put}
 use Rattle.forest_core.proofs.table.Table.clear.Goals as goal
 
 pub returns : goal.returns

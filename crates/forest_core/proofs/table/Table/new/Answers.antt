@@ -1,6 +1,6 @@
 use Rattle.std.proofs.Common.{◌≡◌, refl, replicate, rules}
 use Rattle.forest_core.specs.Tables.{read}
-use Rattle.forest_core.proofs.Tabling.{read_none, seen_new}
+use Rattle.forest_core.proofs.TableLemmas.{read_none, seen_new}
 use Rattle.forest_core.proofs.table.Table.new.Goals as goal
 
 pub returns-clause-none : goal.returns-clause-none

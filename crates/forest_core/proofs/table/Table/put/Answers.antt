@@ -1,6 +1,6 @@
 use Rattle.std.proofs.Common.{Some, arith}
 use Rattle.forest_core.specs.Tables.{read}
-use Rattle.forest_core.proofs.Tabling.{read_some, seen_put}
+use Rattle.forest_core.proofs.TableLemmas.{read_some, seen_put}
 use Rattle.forest_core.proofs.table.Table.put.Goals as goal
 
 pub returns : goal.returns

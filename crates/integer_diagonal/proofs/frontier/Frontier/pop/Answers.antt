@@ -1,6 +1,6 @@
 use Rattle.std.proofs.Common.{◌≡◌, ◌∙◌, ◌<◌, arith, length, rules, subst, sym, vec_len}
 use Rattle.integer_diagonal.proofs.Levels.{back_more, level_nearest, near_more, none_more, none_nearest}
-use Rattle.integer_diagonal.proofs.Popped.{nearest_first, popped}
+use Rattle.integer_diagonal.proofs.HeapLemmas.{nearest_first, popped}
 use Rattle.integer_diagonal.specs.Nearness.{unwrapped}
 use Rattle.integer_diagonal.proofs.frontier.Frontier.pop.Goals as goal
 

@@ -1,5 +1,5 @@
 use Rattle.integer_diagonal.proofs.Levels.{back_more, near_more}
-use Rattle.integer_diagonal.proofs.Popped.{pushed}
+use Rattle.integer_diagonal.proofs.HeapLemmas.{pushed}
 use Rattle.integer_diagonal.proofs.frontier.Frontier.push.Goals as goal
 
 pub returns-then-distance-self : goal.returns-then-distance-self

@@ -1,7 +1,7 @@
 use Rattle.std.proofs.Common.{◌≡◌, ◌<◌, ◌∙◌, length, get_or, sym, subst, arith, length-set}
-use Rattle.integer_diagonal.proofs.Keeping.{clear_step}
+use Rattle.integer_diagonal.proofs.SearchInvariant.{clear_step}
 use Rattle.integer_diagonal.specs.Labels.{labels_of}
-use Rattle.integer_diagonal.specs.Searching.{far}
+use Rattle.integer_diagonal.specs.SearchTree.{far}
 use Rattle.integer_diagonal.proofs.search.Search.clear.Goals as goal
 
 pub index_mut-requires : goal.index_mut-requires

@@ -1,11 +1,11 @@
 use Rattle.std.proofs.Common.{◌≡◌, ◌<◌, ◌+◌, ◌^◌, ◌∙◌, length, sym, subst, ap, arith}
 use Rattle.bip_defs.specs.Matrix.{cols}
 use Rattle.integer_diagonal.proofs.Bounds.{queue_short}
-use Rattle.integer_diagonal.proofs.Growing.{near_in, search_stuck, searched, stepped}
-use Rattle.integer_diagonal.proofs.Keeping.{listed_same}
+use Rattle.integer_diagonal.proofs.GrownTrees.{near_in, search_stuck, searched, stepped}
+use Rattle.integer_diagonal.proofs.SearchInvariant.{listed_same}
 use Rattle.integer_diagonal.specs.Labels.{AreKnown, AreListed, IsBest, IsKept, Labels, labels_of, tree_of}
 use Rattle.integer_diagonal.specs.Duals.{priced}
-use Rattle.integer_diagonal.specs.Searching.{IsGrown, IsNearest, IsSearched, IsStuck, Tree, depth}
+use Rattle.integer_diagonal.specs.SearchTree.{IsGrown, IsNearest, IsSearched, IsStuck, Tree, depth}
 use Rattle.integer_diagonal.proofs.search.Search.find.Goals as goal
 
 pub next-requires : goal.next-requires

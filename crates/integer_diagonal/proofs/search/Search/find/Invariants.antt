@@ -2,7 +2,7 @@ use Rattle.std.proofs.Common.{◌-◌, ◌+◌, ℕ, length}
 use Rattle.bip_defs.specs.Matrix.{cols}
 use Rattle.integer_diagonal.specs.Labels.{AreKnown, AreListed, IsBest, IsKept, labels_of, tree_of}
 use Rattle.integer_diagonal.specs.Duals.{priced}
-use Rattle.integer_diagonal.specs.Searching.{IsGrown}
+use Rattle.integer_diagonal.specs.SearchTree.{IsGrown}
 use Rattle.integer_diagonal.proofs.search.Search.find.Given as goal
 
 abbrev pub invariant-loop-distance : goal.invariant-loop-distance

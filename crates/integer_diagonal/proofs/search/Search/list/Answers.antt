@@ -2,9 +2,9 @@ use Rattle.std.proofs.Common.{◌∙◌, sym, subst, inl, refl, [], ◌∷◌}
 use Rattle.std.proofs.lemmas.List.{get_or_read}
 use Rattle.bip_defs.specs.Lists.{Among}
 use Rattle.bip_defs.proofs.Sets.{among_right}
-use Rattle.integer_diagonal.proofs.Keeping.{listed_more, listed_on}
+use Rattle.integer_diagonal.proofs.SearchInvariant.{listed_more, listed_on}
 use Rattle.integer_diagonal.specs.Labels.{AreListed, labels_of}
-use Rattle.integer_diagonal.specs.Searching.{far}
+use Rattle.integer_diagonal.specs.SearchTree.{far}
 use Rattle.integer_diagonal.proofs.search.Search.list.Goals as goal
 
 pub returns-then-index-clause-listed : goal.returns-then-index-clause-listed

@@ -1,7 +1,7 @@
 use Rattle.std.proofs.Common.{inl, inr, refl, arith}
 use Rattle.std.proofs.lemmas.List.{get_or_read}
 use Rattle.bip_defs.proofs.Sets.{row_among}
-use Rattle.integer_diagonal.specs.Searching.{far}
+use Rattle.integer_diagonal.specs.SearchTree.{far}
 use Rattle.integer_diagonal.proofs.search.Search.look.Goals as goal
 
 pub returns-in_ok-reach-in-Some-clause-looked : goal.returns-in_ok-reach-in-Some-clause-looked

@@ -1,5 +1,5 @@
 use Rattle.std.proofs.Common.{length, ap, inl, inr, refl, arith}
-use Rattle.integer_diagonal.proofs.Keeping.{is_marked, nearest_beyond, not_marked, skip_keeps, takes_nearest}
+use Rattle.integer_diagonal.proofs.SearchInvariant.{is_marked, nearest_beyond, not_marked, skip_keeps, takes_nearest}
 use Rattle.integer_diagonal.specs.Labels.{Labels, labels_of}
 use Rattle.integer_diagonal.proofs.search.Search.next.Goals as goal
 

@@ -1,6 +1,6 @@
 use Rattle.std.proofs.Common.{sym, subst, ap, inl, inr, ⊎_elim, refl}
 use Rattle.bip_defs.specs.Lists.{Among}
-use Rattle.integer_diagonal.proofs.Keeping.{listed_put}
+use Rattle.integer_diagonal.proofs.SearchInvariant.{listed_put}
 use Rattle.integer_diagonal.specs.Labels.{AreListed, Labels, labels_of, put}
 use Rattle.integer_diagonal.proofs.search.Search.reach.Goals as goal
 

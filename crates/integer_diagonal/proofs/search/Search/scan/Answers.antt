@@ -1,10 +1,10 @@
 use Rattle.std.proofs.Common.{◌<◌, ◌+◌, ◌-◌, ◌∙◌, length, get_or, slice_index, below_more, sym, subst, ap, arith}
 use Rattle.bip_defs.specs.Matrix.{Matrix, column, cols}
-use Rattle.integer_diagonal.proofs.Scanning.{known_column, make_scan, place_col, row_entry, scan_covers, scan_fits, scan_fits_price, scan_reaches}
-use Rattle.integer_diagonal.proofs.Keeping.{best_look, kept_look, known_look, looked_known}
+use Rattle.integer_diagonal.proofs.ScanLemmas.{known_column, make_scan, place_col, row_entry, scan_covers, scan_fits, scan_fits_price, scan_reaches}
+use Rattle.integer_diagonal.proofs.SearchInvariant.{best_look, kept_look, known_look, looked_known}
 use Rattle.std.proofs.lemmas.List.{get_or_read}
 use Rattle.integer_diagonal.specs.Labels.{AreKnown, IsKnown, labels_of, tree_of}
-use Rattle.integer_diagonal.specs.Searching.{Tree, far}
+use Rattle.integer_diagonal.specs.SearchTree.{Tree, far}
 use Rattle.integer_diagonal.specs.Duals.{priced, top}
 use Rattle.integer_diagonal.proofs.search.Search.scan.Goals as goal
 

@@ -1,7 +1,7 @@
 use Rattle.std.proofs.Common.{◌≡◌, ℕ, ◌<◌, get_or}
 use Rattle.integer_diagonal.specs.Labels.{AreKnown, AreListed, IsBest, IsKept, IsKnown, labels_of, tree_of}
 use Rattle.integer_diagonal.specs.Duals.{priced}
-use Rattle.integer_diagonal.specs.Searching.{depth}
+use Rattle.integer_diagonal.specs.SearchTree.{depth}
 use Rattle.integer_diagonal.proofs.search.Search.scan.Given as goal
 
 abbrev pub invariant-loop-k : goal.invariant-loop-k

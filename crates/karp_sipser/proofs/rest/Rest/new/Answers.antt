@@ -1,6 +1,6 @@
 use Rattle.std.proofs.Common.{rules, ◌≡◌, ◌∙◌, [], List, length, ap, sym, subst, arith}
 use Rattle.bip_defs.specs.Matrix.{Place}
-use Rattle.bip_graph.specs.Pairing.{Pairing}
+use Rattle.bip_graph.specs.Matching.{Pairing}
 use Rattle.karp_sipser.specs.Counts.{AreDegrees}
 use Rattle.karp_sipser.proofs.rest.Rest.new.Goals as goal
 

@@ -1,4 +1,4 @@
-use Rattle.path_search.proofs.Exchanging.{forest_exchanged}
+use Rattle.path_search.proofs.ExchangeLemmas.{forest_exchanged}
 use Rattle.bip_defs.proofs.Below.{entries_within}
 use Rattle.path_search.proofs.forest.Forest.exchange.Goals as goal
 

@@ -4,7 +4,7 @@ use Rattle.bip_defs.specs.Matching.{cols_of}
 use Rattle.bip_defs.proofs.Sets.{col_among}
 use Rattle.bip_defs.specs.Marks.{IsExplored}
 use Rattle.path_search.specs.declared.reached.Reached.{Reached}
-use Rattle.path_search.proofs.Sweeping.{no_path_more}
+use Rattle.path_search.proofs.SweepLemmas.{no_path_more}
 use Rattle.path_search.proofs.forest.Forest.grow.Goals as goal
 
 -- the tree of the column is done with

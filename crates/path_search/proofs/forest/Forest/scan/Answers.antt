@@ -2,7 +2,7 @@ use Rattle.std.proofs.Common.{◌<◌, length, map, subst, sym, arith}
 use Rattle.std.proofs.lemmas.List.{length-map, take_more}
 use Rattle.bip_defs.specs.Matrix.{IsEntry}
 use Rattle.bip_defs.proofs.Slices.{number_read, number_at}
-use Rattle.path_search.proofs.Spreading.{room_more, scanning_found, scanning_more}
+use Rattle.path_search.proofs.GrownTrees.{room_more, scanning_found, scanning_more}
 use Rattle.path_search.proofs.forest.Forest.scan.Goals as goal
 
 pub visit-requires-clause-row : goal.visit-requires-clause-row

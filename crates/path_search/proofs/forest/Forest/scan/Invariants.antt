@@ -1,5 +1,5 @@
 use Rattle.std.proofs.Common.{map, take}
-use Rattle.path_search.proofs.Spreading.{IsScanning}
+use Rattle.path_search.proofs.GrownTrees.{IsScanning}
 use Rattle.path_search.proofs.forest.Forest.scan.Given as goal
 
 abbrev pub invariant-loop-far : goal.invariant-loop-far

@@ -1,7 +1,7 @@
 use Rattle.std.proofs.Common.{◌≡◌, arith}
 use Rattle.bip_defs.specs.Matrix.{cols}
 use Rattle.bip_defs.proofs.Sets.{col_among}
-use Rattle.path_search.proofs.Starting.{started_forest, started_no_path, started_matched, started_more, started_room}
+use Rattle.path_search.proofs.StartLemmas.{started_forest, started_no_path, started_matched, started_more, started_room}
 use Rattle.path_search.proofs.forest.Forest.start.Goals.{in-Some, in-None}
 use Rattle.path_search.proofs.forest.Forest.start.Goals as goal
 

@@ -1,4 +1,4 @@
-use Rattle.path_search.proofs.Starting.{HaveStarted}
+use Rattle.path_search.proofs.StartLemmas.{HaveStarted}
 use Rattle.path_search.proofs.forest.Forest.start.Given as goal
 
 abbrev pub invariant-loop-number : goal.invariant-loop-number

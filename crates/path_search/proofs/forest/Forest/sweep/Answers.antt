@@ -1,6 +1,6 @@
 use Rattle.std.proofs.Common.{arith}
 use Rattle.bip_defs.proofs.Covers.{covers_more}
-use Rattle.path_search.proofs.Sweeping.{forest_short, grown_end, grown_more}
+use Rattle.path_search.proofs.SweepLemmas.{forest_short, grown_end, grown_more}
 use Rattle.path_search.proofs.forest.Forest.sweep.Goals as goal
 
 pub overflow_add-place : goal.overflow_add-place

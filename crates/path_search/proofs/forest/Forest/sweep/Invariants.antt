@@ -1,9 +1,9 @@
 use Rattle.std.proofs.Common.{◌-◌, ◌≤◌, length}
 use Rattle.bip_defs.specs.Matching.{Covers}
 use Rattle.bip_defs.specs.Matrix.{cols}
-use Rattle.bip_graph.specs.Pairing.{IsMatchingOf}
+use Rattle.bip_graph.specs.Matching.{IsMatchingOf}
 use Rattle.path_search.specs.Forests.{IsForest}
-use Rattle.path_search.proofs.Sweeping.{HasGrown}
+use Rattle.path_search.proofs.SweepLemmas.{HasGrown}
 use Rattle.path_search.proofs.forest.Forest.sweep.Given as goal
 
 abbrev pub invariant-loop-place : goal.invariant-loop-place

@@ -1,6 +1,6 @@
 use Rattle.std.proofs.Common.{◌≡◌, ◌∙◌, ◌<◌, ap, length, subst, sym}
 use Rattle.path_search.specs.Forests.{Trees, reached_at}
-use Rattle.path_search.proofs.Climbing.{tracing_earlier, tracing_end, tracing_more, tracing_room}
+use Rattle.path_search.proofs.PathLemmas.{tracing_earlier, tracing_end, tracing_more, tracing_room}
 use Rattle.path_search.proofs.forest.Forest.trace.Goals as goal
 
 pub at-column-requires-in-Some : goal.at-column-requires-in-Some

@@ -1,5 +1,5 @@
 use Rattle.path_search.specs.Forests.{reached_at}
-use Rattle.path_search.proofs.Climbing.{IsTracing}
+use Rattle.path_search.proofs.PathLemmas.{IsTracing}
 use Rattle.path_search.proofs.forest.Forest.trace.Given as goal
 
 abbrev pub invariant-loop-back : goal.invariant-loop-back

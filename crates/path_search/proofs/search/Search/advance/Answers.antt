@@ -1,6 +1,6 @@
 use Rattle.std.proofs.Common.{◌∙◌, sym, refl}
 use Rattle.path_search.proofs.Steps.{goes_back_by, search_fails}
-use Rattle.path_search.proofs.Trailing.{trail_length}
+use Rattle.path_search.proofs.TrailLemmas.{trail_length}
 use Rattle.path_search.proofs.search.Search.advance.Goals as goal
 
 pub back-requires : goal.back-requires

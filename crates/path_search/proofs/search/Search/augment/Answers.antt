@@ -1,7 +1,7 @@
 use Rattle.std.proofs.Common.{refl}
 use Rattle.bip_defs.proofs.Below.{entries_within}
-use Rattle.path_search.proofs.Closing.{search_failed}
-use Rattle.path_search.proofs.Flipping.{augmented}
+use Rattle.path_search.proofs.FailedSearches.{search_failed}
+use Rattle.path_search.proofs.FlipLemmas.{augmented}
 use Rattle.path_search.proofs.search.Search.augment.Goals as goal
 
 pub flip-requires-clause-in_range : goal.flip-requires-clause-in_range

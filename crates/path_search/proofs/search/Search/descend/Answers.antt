@@ -4,7 +4,7 @@ use Rattle.std.proofs.lemmas.List.{length-map}
 use Rattle.bip_defs.specs.Matrix.{IsEntry}
 use Rattle.bip_defs.specs.Lists.{IsMarked}
 use Rattle.path_search.proofs.Steps.{column_short, goes_down_by, onward_entered, passed_all_by, reaches_entered, seen_room, unmarked_unseen}
-use Rattle.path_search.proofs.Trailing.{trail_length}
+use Rattle.path_search.proofs.TrailLemmas.{trail_length}
 use Rattle.path_search.proofs.search.Search.descend.Goals as goal
 
 pub next_place-place-requires-clause-in_range : goal.next_place-place-requires-clause-in_range

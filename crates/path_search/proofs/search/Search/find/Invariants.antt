@@ -1,6 +1,6 @@
 use Rattle.std.proofs.Common.{◌≡◌}
-use Rattle.path_search.specs.Advancing.{steps_left}
-use Rattle.path_search.specs.Searching.{HasMarked}
+use Rattle.path_search.specs.Advances.{steps_left}
+use Rattle.path_search.specs.Search.{HasMarked}
 use Rattle.path_search.specs.Trails.{StandsAt}
 use Rattle.path_search.proofs.search.Search.find.Given as goal
 

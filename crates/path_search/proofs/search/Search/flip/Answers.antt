@@ -2,7 +2,7 @@ use Rattle.std.proofs.Common.{◌≡◌, ◌∙◌, ℕ, List, ap, subst, sym}
 use Rattle.bip_defs.specs.Lists.{Among}
 use Rattle.bip_defs.specs.Matrix.{AreEntries, Place}
 use Rattle.bip_defs.specs.Paths.{Exchanges}
-use Rattle.path_search.specs.Searching.{Searching}
+use Rattle.path_search.specs.Search.{Searching}
 use Rattle.path_search.proofs.search.Search.flip.Goals as goal
 
 pub exchange-requires-clause-in_range : goal.exchange-requires-clause-in_range

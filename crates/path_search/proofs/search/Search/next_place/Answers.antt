@@ -1,5 +1,5 @@
 use Rattle.std.proofs.Common.{◌<◌, ◌∙◌, List, Bool, length, ap, sym, subst}
-use Rattle.path_search.specs.Searching.{Searching}
+use Rattle.path_search.specs.Search.{Searching}
 use Rattle.path_search.proofs.search.Search.next_place.Goals as goal
 
 pub next_unmarked-requires-clause-in_range : goal.next_unmarked-requires-clause-in_range

@@ -1,7 +1,7 @@
 use Rattle.std.proofs.Common.{◌<◌, ◌∙◌, length, map, arith, sym}
 use Rattle.std.proofs.lemmas.List.{get_or-map}
 use Rattle.sp_pattern.proofs.Numbers.{length_numbers}
-use Rattle.sp_pattern.proofs.Splitting.{length-with_zero, with_zero_at}
+use Rattle.sp_pattern.proofs.SplitLemmas.{length-with_zero, with_zero_at}
 use Rattle.sp_pattern.proofs.pairs.InnersPairs.at.Goals as goal
 
 pub returns : goal.returns

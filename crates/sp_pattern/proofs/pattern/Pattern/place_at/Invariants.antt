@@ -1,5 +1,5 @@
 use Rattle.std.proofs.Common.{◌≤◌}
-use Rattle.sp_pattern.specs.Weighing.{start_of}
+use Rattle.sp_pattern.specs.Weights.{start_of}
 use Rattle.sp_pattern.proofs.pattern.Pattern.place_at.Given as goal
 
 abbrev pub invariant-loop-col : goal.invariant-loop-col

@@ -1,5 +1,5 @@
 use Rattle.std.proofs.Common.{◌∙◌, sym}
-use Rattle.bip_defs.proofs.Turned.{transpose_cols}
+use Rattle.bip_defs.proofs.Transposed.{transpose_cols}
 use Rattle.sp_pattern.proofs.side.FromRowsSideCol.cols.Goals as goal
 
 pub returns : goal.returns

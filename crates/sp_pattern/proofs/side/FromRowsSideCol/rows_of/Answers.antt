@@ -3,7 +3,7 @@ use Rattle.std.proofs.lemmas.List.{map-id}
 use Rattle.bip_defs.specs.Lists.{Lists}
 use Rattle.bip_defs.specs.Matrix.{IsEntry, row_list, transpose}
 use Rattle.bip_defs.proofs.Sets.{lists_same}
-use Rattle.bip_defs.proofs.Turned.{transpose_cols, transpose_column, transpose_is}
+use Rattle.bip_defs.proofs.Transposed.{transpose_cols, transpose_column, transpose_is}
 use Rattle.sp_pattern.proofs.side.FromRowsSideCol.rows_of.Goals as goal
 
 pub cols_of-requires : goal.cols_of-requires

@@ -1,6 +1,6 @@
 use Rattle.std.proofs.Common.{◌∙◌, ap, map}
 use Rattle.std.specs.Int.RustNames.{unsigned_abs}
-use Rattle.sp_pattern.proofs.Summing.{first_past, weights_made}
+use Rattle.sp_pattern.proofs.SumLemmas.{first_past, weights_made}
 use Rattle.sp_pattern.proofs.weights.Weights.build.Goals as goal
 
 pub returns-in-Some-clause-refused : goal.returns-in-Some-clause-refused

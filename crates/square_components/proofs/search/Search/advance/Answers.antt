@@ -1,7 +1,7 @@
 use Rattle.std.proofs.Common.{◌≡◌, ◌<◌, ap, arith, sym, subst}
 use Rattle.square_components.specs.Stacks.{IsSearch, State, degree, work}
 use Rattle.square_components.specs.Steps.{EndsWith, entering}
-use Rattle.square_components.proofs.Searching.{count_few, entered_same, enters_next, has_room, has_start, leaves, less_entered, next_square, top_in}
+use Rattle.square_components.proofs.SearchLemmas.{count_few, entered_same, enters_next, has_room, has_start, leaves, less_entered, next_square, top_in}
 use Rattle.square_components.proofs.search.Search.advance.Goals as goal
 
 pub entries_of-requires : goal.entries_of-requires

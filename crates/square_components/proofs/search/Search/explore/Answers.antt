@@ -1,8 +1,8 @@
 use Rattle.std.proofs.Common.{◌≡◌, ◌≢◌, [], sym, subst, rules}
-use Rattle.square_components.specs.Numbering.{look, none}
+use Rattle.square_components.specs.Numbers.{look, none}
 use Rattle.square_components.specs.Stacks.{IsSearch, degree}
 use Rattle.square_components.specs.Steps.{StaysPlaced, entering}
-use Rattle.square_components.proofs.Searching.{entered_placed, entered_same, enters_first, path_empty}
+use Rattle.square_components.proofs.SearchLemmas.{entered_placed, entered_same, enters_first, path_empty}
 use Rattle.square_components.proofs.search.Search.explore.Goals as goal
 
 pub loop-at-init : goal.loop-at-init

@@ -1,5 +1,5 @@
 use Rattle.std.proofs.Common.{◌≢◌}
-use Rattle.square_components.specs.Numbering.{look, none}
+use Rattle.square_components.specs.Numbers.{look, none}
 use Rattle.square_components.specs.Stacks.{IsSearch, work}
 use Rattle.square_components.specs.Steps.{StaysPlaced}
 use Rattle.square_components.proofs.search.Search.explore.Given as goal

@@ -1,5 +1,5 @@
 use Rattle.std.proofs.Common.{◌≡◌, ◌≢◌, ℕ, ◌<◌, [], slice_index}
-use Rattle.square_components.specs.Numbering.{look, none}
+use Rattle.square_components.specs.Numbers.{look, none}
 use Rattle.square_components.specs.Stacks.{IsSearch}
 use Rattle.square_components.proofs.search.Search.explore_all.Given as goal
 

@@ -1,5 +1,5 @@
 use Rattle.std.proofs.Common.{◌≡◌, ◌∙◌, ap, sym, subst, rules}
-use Rattle.square_components.specs.Numbering.{look}
+use Rattle.square_components.specs.Numbers.{look}
 use Rattle.square_components.specs.Stacks.{State}
 use Rattle.square_components.specs.Steps.{AreUpTo, joined}
 use Rattle.square_components.proofs.Changes.{look_read}

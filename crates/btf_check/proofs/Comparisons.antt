@@ -1,0 +1,104 @@
+-- What the comparisons show of a report.
+use Rattle.std.proofs.Common.{◌≡◌, ℕ, List, Some, Result, Ok, Err, IfOk, length, refl, sym, subst, arith}
+use Rattle.std.specs.Prelude.{IfSome}
+use Rattle.bip_defs.specs.Blocks.{AreBlocksOf, Block, all_cols, all_rows}
+use Rattle.bip_defs.specs.Lists.{Lists}
+use Rattle.bip_defs.specs.Matching.{IsMaximum}
+use Rattle.bip_defs.specs.Matrix.{Matrix, Place}
+use Rattle.bip_defs.specs.Once.{ListsOnce}
+use Rattle.bip_defs.specs.Parts.{ArePartsOf, IsHorizontalCol, IsHorizontalRow, IsSquareCol, IsSquareRow, IsVerticalCol, IsVerticalRow, Parts}
+use Rattle.bip_defs.proofs.Sets.{lists_unique}
+use Rattle.bip_defs.proofs.Square.{in_rows, square_pairs_perfect}
+use Rattle.bip_defs.proofs.Uniqueness.{one_blocks, same_rank}
+use Rattle.bip_graph.specs.Texts.{Report}
+use Rattle.btf_check.specs.ReportParts.{AreOnce, HasOuterParts, HasParts, HasSizes}
+use Rattle.btf_check.specs.Reasons.{AreOrdersOf, ArePaired, IsMet, TellsBlocks, TellsParts}
+use Rattle.btf_check.specs.Verdicts.{IsFirst}
+
+-- Numbers in any order.
+
+once_listed : (P : ℕ → Type 0) (once list : List ℕ) → Lists P once → AreOnce once list → ListsOnce P list
+once_listed P once list listed all = record { distinct = all.distinct; sound = λ x h. listed.sound x (all.sound x h); complete = λ x p. all.complete x (listed.complete x p) }
+
+listed_once : (P : ℕ → Type 0) (once list : List ℕ) → Lists P once → ListsOnce P list → AreOnce once list
+listed_once P once list listed all = record { distinct = all.distinct; sound = λ x h. listed.complete x (all.sound x h); complete = λ x h. all.complete x (listed.sound x h) }
+
+pub once_same : (once list o l : List ℕ) → o ≡ once → l ≡ list → AreOnce once list → AreOnce o l
+once_same once list o l e f all = subst (λ z. AreOnce z l) (sym e) (subst (AreOnce once) (sym f) all)
+
+pub once_back : (once list o l : List ℕ) → o ≡ once → l ≡ list → AreOnce o l → AreOnce once list
+once_back once list o l e f all = subst (λ z. AreOnce z list) e (subst (AreOnce o) f all)
+
+-- The parts.
+
+pub tells_parts : (a : Matrix) (m : List Place) (p : Parts) (r : Report) → IsMaximum a m → ArePartsOf a p → HasSizes a m r → HasParts p r → TellsParts a r
+tells_parts a m p r max parts sizes has = record {
+  sizes = sizes.sizes;
+  rank = (m, max, sym sizes.rank);
+  horizontal_rows = subst (Lists (IsHorizontalRow a)) (sym has.outer.horizontal_rows) parts.horizontal_rows;
+  horizontal_cols = subst (Lists (IsHorizontalCol a)) (sym has.outer.horizontal_cols) parts.horizontal_cols;
+  square_rows = once_listed (IsSquareRow a) p.square_rows (all_rows r.blocks) parts.square_rows has.square_rows;
+  square_cols = once_listed (IsSquareCol a) p.square_cols (all_cols r.blocks) parts.square_cols has.square_cols;
+  vertical_rows = subst (Lists (IsVerticalRow a)) (sym has.outer.vertical_rows) parts.vertical_rows;
+  vertical_cols = subst (Lists (IsVerticalCol a)) (sym has.outer.vertical_cols) parts.vertical_cols;
+}
+
+pub told_sizes : (a : Matrix) (m : List Place) (r : Report) → IsMaximum a m → TellsParts a r → HasSizes a m r
+told_sizes a m r max tells = record { sizes = tells.sizes; rank = same_rank a r.rank (length m) tells.rank (m, max, refl) }
+
+pub told_outer : (a : Matrix) (p : Parts) (r : Report) → ArePartsOf a p → TellsParts a r → HasOuterParts p r
+told_outer a p r parts tells = record {
+  horizontal_rows = lists_unique (IsHorizontalRow a) r.horizontal_rows p.horizontal_rows tells.horizontal_rows parts.horizontal_rows;
+  horizontal_cols = lists_unique (IsHorizontalCol a) r.horizontal_cols p.horizontal_cols tells.horizontal_cols parts.horizontal_cols;
+  vertical_rows = lists_unique (IsVerticalRow a) r.vertical_rows p.vertical_rows tells.vertical_rows parts.vertical_rows;
+  vertical_cols = lists_unique (IsVerticalCol a) r.vertical_cols p.vertical_cols tells.vertical_cols parts.vertical_cols;
+}
+
+pub told_rows : (a : Matrix) (p : Parts) (r : Report) → ArePartsOf a p → TellsParts a r → AreOnce p.square_rows (all_rows r.blocks)
+told_rows a p r parts tells = listed_once (IsSquareRow a) p.square_rows (all_rows r.blocks) parts.square_rows tells.square_rows
+
+pub told_cols : (a : Matrix) (p : Parts) (r : Report) → ArePartsOf a p → TellsParts a r → AreOnce p.square_cols (all_cols r.blocks)
+told_cols a p r parts tells = listed_once (IsSquareCol a) p.square_cols (all_cols r.blocks) parts.square_cols tells.square_cols
+
+-- The blocks.
+
+pub tells_blocks : (a : Matrix) (r : Report) (bs : List Block) → AreBlocksOf a bs → r.blocks ≡ bs → IfSome r.orders (AreOrdersOf r) → TellsBlocks a r
+tells_blocks a r bs blocks same orders = record { blocks = subst (AreBlocksOf a) (sym same) blocks; orders = orders }
+
+pub told_blocks : (a : Matrix) (m : List Place) (p : Parts) (r : Report) (bs : List Block) → IsMaximum a m → ArePartsOf a p → AreBlocksOf a bs → TellsBlocks a r → r.blocks ≡ bs
+told_blocks a m p r bs max parts blocks tells = one_blocks a (in_rows p.square_rows m) r.blocks bs (square_pairs_perfect a m p.square_rows max parts.square_rows) tells.blocks blocks
+
+-- What follows from an answer.
+
+pub answer_weaker : {T E : Type 0} (P Q : T → Type 0) (r : Result T E) → ((b : T) → P b → Q b) → IfOk r P → IfOk r Q
+answer_weaker P Q (Ok b) f h = f b h
+answer_weaker P Q (Err e) f h = tt
+
+-- The first reason.
+
+pub first_pairs : (a : Matrix) (r : Report) (ps : List Place) → r.pairs ≡ Some ps → ¬ ArePaired a ps → IsFirst (IsMet a r) 2
+first_pairs a r ps e none = record {
+  fails = λ met. none (subst (λ o. IfSome o (ArePaired a)) e (met.pairs refl));
+  before = λ j lt. record { pairs = λ (f : j ≡ 2). absurd (omega arith); maximum = λ (f : j ≡ 3). absurd (omega arith); parts = λ (f : j ≡ 4). absurd (omega arith); blocks = λ (f : j ≡ 5). absurd (omega arith) };
+}
+
+pub first_maximum : (a : Matrix) (r : Report) (ps : List Place) → r.pairs ≡ Some ps → ArePaired a ps → ¬ IsMaximum a ps → IsFirst (IsMet a r) 3
+first_maximum a r ps e paired none = record {
+  fails = λ met. none (subst (λ o. IfSome o (IsMaximum a)) e (met.maximum refl));
+  before = λ j lt. record { pairs = λ (f : j ≡ 2). subst (λ o. IfSome o (ArePaired a)) (sym e) paired; maximum = λ (f : j ≡ 3). absurd (omega arith); parts = λ (f : j ≡ 4). absurd (omega arith); blocks = λ (f : j ≡ 5). absurd (omega arith) };
+}
+
+pub first_parts : (a : Matrix) (r : Report) (ps : List Place) → r.pairs ≡ Some ps → ArePaired a ps → IsMaximum a ps → ¬ TellsParts a r → IsFirst (IsMet a r) 4
+first_parts a r ps e paired max none = record {
+  fails = λ met. none (met.parts refl);
+  before = λ j lt. record { pairs = λ (f : j ≡ 2). subst (λ o. IfSome o (ArePaired a)) (sym e) paired; maximum = λ (f : j ≡ 3). subst (λ o. IfSome o (IsMaximum a)) (sym e) max; parts = λ (f : j ≡ 4). absurd (omega arith); blocks = λ (f : j ≡ 5). absurd (omega arith) };
+}
+
+pub first_blocks : (a : Matrix) (r : Report) (ps : List Place) → r.pairs ≡ Some ps → ArePaired a ps → IsMaximum a ps → TellsParts a r → ¬ TellsBlocks a r → IsFirst (IsMet a r) 5
+first_blocks a r ps e paired max parts none = record {
+  fails = λ met. none (met.blocks refl);
+  before = λ j lt. record { pairs = λ (f : j ≡ 2). subst (λ o. IfSome o (ArePaired a)) (sym e) paired; maximum = λ (f : j ≡ 3). subst (λ o. IfSome o (IsMaximum a)) (sym e) max; parts = λ (f : j ≡ 4). parts; blocks = λ (f : j ≡ 5). absurd (omega arith) };
+}
+
+pub all_met : (a : Matrix) (r : Report) (ps : List Place) → r.pairs ≡ Some ps → ArePaired a ps → IsMaximum a ps → TellsParts a r → TellsBlocks a r → (k : ℕ) → IsMet a r k
+all_met a r ps e paired max parts blocks k = record { pairs = λ f. subst (λ o. IfSome o (ArePaired a)) (sym e) paired; maximum = λ f. subst (λ o. IfSome o (IsMaximum a)) (sym e) max; parts = λ f. parts; blocks = λ f. blocks }

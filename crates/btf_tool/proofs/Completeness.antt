@@ -1,0 +1,385 @@
+-- Which status has to come, from what each status says.
+use Rattle.std.proofs.Common.{IfOk, ◌≡◌, ◌≤◌, ◌<◌, ◌⊎◌, ℕ, Bool, true, false, List, [], length, inl, inr, refl, sym, ap, ◌∙◌, subst, arith, Option, Some, None, Ok, Err, Result, if◌then◌else◌}
+use Rattle.sp_ids.specs.Entries.{Entries}
+use Rattle.sp_ids.specs.declared.outcomes.Status.{Status}
+use Rattle.sp_ids.specs.declared.outcomes.Status.TheVariants as statuses
+use Rattle.sp_ports.specs.Bytes.{WhereTold}
+use Rattle.sp_ports.specs.Device.{SourceRose}
+use Rattle.btf_words.specs.Words.{AreTaken, job_of}
+use Rattle.btf_words.specs.declared.jobs.WordsError.{WordsError}
+use Rattle.btf_words.specs.declared.jobs.Job.{Job}
+use Rattle.btf_words.specs.declared.jobs.Job.TheVariants.{Rank, Analyse, Diagonal, Check, Load}
+use Rattle.mm_defs.specs.Faults.{is_limit}
+use Rattle.mm_defs.specs.File.{Fault, Reads}
+use Rattle.mm_defs.specs.Calls.{Call, ReadsAll, first_bad, got, offered}
+use Rattle.mm_defs.specs.declared.answers.End.{End}
+use Rattle.mm_defs.specs.declared.answers.ReadError.TheVariants as errors
+use Rattle.mm_defs.specs.declared.kinds.Kind.{Kind}
+use Rattle.mm_defs.proofs.AnswerLemmas.{bad_line_told, good_file_answer, length_got, none_given}
+use Rattle.bip_defs.specs.Matrix.{Matrix}
+use Rattle.bip_defs.proofs.Uniqueness.{same_matrix}
+use Rattle.btf_check.specs.Verdicts.{IsVerdict}
+use Rattle.btf_tool.specs.declared.answers.Answer.{Answer}
+use Rattle.btf_tool.specs.declared.answers.Answer.TheVariants.{Negative, Positive}
+use Rattle.btf_tool.specs.declared.refusals.Refusal.{Refusal}
+use Rattle.btf_tool.specs.declared.refusals.Refusal.TheVariants.{Usage, Malformed, Limit, TooLong, SumLimit, NeedsInteger, ReadFault, WriteFault, OutOfMemory}
+use Rattle.sp_ports.specs.Device.{Device, FailsOnceAtMost, HasReadFault, HasWriteFault, IsUntouched, WroteAsFar}
+use Rattle.btf_tool.specs.Jobs.{GaveFront, IsAnswer as IsJobAnswer, IsMatrixOf, OfReading, ReadsFile, WasRead, Weighs, WithAnswer, WithFileAnswer, end_of, reading}
+use Rattle.btf_tool.specs.VerdictText.{answer_of}
+use Rattle.btf_tool.specs.Refusals.{line_of, status_of, status_of_answer}
+use Rattle.btf_tool.specs.Runs.{ComesToDiagonal, ComesToNoWeights, Completes, EndsWell, HasCause, IsBadLine, IsGoodSoFar, IsOrNoMemory, IsTooLong, JobSays, NameMaker, Names, NamesReader, Run, Says, TellsStill, WithFile, status_of_fault}
+use Rattle.btf_tool.proofs.Diagonals.{comes_to_diagonal, has_weights, needs_ends, no_diagonal_memory, no_memory_for_weights, not_integer_refused, past_ends, past_refused}
+use Rattle.btf_tool.proofs.VerdictLemmas.{one_verdict}
+
+-- what follows of what holds where bytes are told
+pub told : {P Q : List ℕ → List ℕ → Type 0} (before after : Option (List ℕ)) → WhereTold before after P
+    → ((x y : List ℕ) → before ≡ Some x → P x y → Q x y) → WhereTold before after Q
+told None after h f = tt
+told (Some x) None h f = absurd h
+told (Some x) (Some y) h f = f x y refl h
+
+-- an input that tells its bytes and did not fail counts as before
+steady : (input : Device) (x : List ℕ) → input.before ≡ Some x → FailsOnceAtMost input → ¬ HasReadFault input → input.failed_after ≡ input.failed_before
+steady input x tells counts no_fault =
+    omega (arith, counts.later, λ (rose : input.failed_before < input.failed_after). no_fault (subst (λ (b : Option (List ℕ)). SourceRose b input.failed_before input.failed_after) (sym tells) rose))
+
+-- the status of the first bad line
+kind_status : (line : ℕ) (kind : Kind) (fault : Fault) (first : Option Fault) (limit : Bool) → first ≡ Some (record { line = line; kind = kind }) → is_limit kind ≡ limit → first ≡ Some fault
+    → (if limit then statuses.Limit else statuses.Malformed) ≡ status_of_fault fault
+kind_status line kind fault first limit one is two =
+    let same : record { line = line; kind = kind } ≡ fault = cc in
+    ap (λ (b : Bool). if b then statuses.Limit else statuses.Malformed) (sym is) ∙ ap status_of_fault same
+
+clash : (first : Option Fault) (fault : Fault) → first ≡ None → first ≡ Some fault → ⊥
+clash first fault none some = cc
+
+-- a job's answer is of a good file within the limit
+answer_read : (job : Job) (call : Call) (answer : Answer) (text : List ℕ) → IsJobAnswer job call answer text
+    → (t : Entries) × (rest : List ℕ) × ReadsAll (end_of job) call t rest
+answer_read job call answer text h = (h.entries, h.rest, record { reads = h.was_read.reads; within = let w = h.was_read.within in omega (arith, w) })
+
+-- a file within the limit gave no byte past it, and is not too long
+not_past : (call : Call) → length (offered call) ≤ call.room → call.room < length (got call) → ⊥
+not_past call within past = let n = length_got call in omega (arith, n, within, past)
+
+not_long : (bytes : List ℕ) → length bytes ≤ 68719476736 → 68719476736 < length bytes → ⊥
+not_long bytes within past = omega (arith, within, past)
+
+-- words name one job
+one_job : (words : List (List ℕ)) (one two : Job) → Names words one → Names words two → one ≡ two
+one_job words one two h k =
+    let e : Some one ≡ Some two = sym h.job_is ∙ k.job_is in
+    cc
+
+-- words that name a job that makes its matrix name no other
+pub made_named : (words : List (List ℕ)) (job : Job) → Names words job → NameMaker words → ¬ ReadsFile job
+made_named words job names maker = subst (λ (j : Job). ¬ ReadsFile j) (one_job words maker.0 job maker.1 names) maker.2
+
+-- a job that reads a file answered over it
+over_file : (job : Job) (answer : Answer) (input : Device) (P : List ℕ → Type 0) → ReadsFile job → WithAnswer job answer input P → WithFileAnswer job answer input P
+over_file Rank answer input P reads h = h
+over_file (Analyse engine order pairs) answer input P reads h = h
+over_file Diagonal answer input P reads h = h
+over_file Check answer input P reads h = h
+over_file (Load size seed engine) answer input P reads h = absurd reads
+
+-- a matrix that was made was answered as was asked
+made_positive : (job : Job) (answer : Answer) (input : Device) (P : List ℕ → Type 0) → ¬ ReadsFile job → WithAnswer job answer input P → answer ≡ Positive
+made_positive Rank answer input P makes h = absurd (makes tt)
+made_positive (Analyse engine order pairs) answer input P makes h = absurd (makes tt)
+made_positive Diagonal answer input P makes h = absurd (makes tt)
+made_positive Check answer input P makes h = absurd (makes tt)
+made_positive (Load size seed engine) answer input P makes h = h.1.positive
+
+-- the answer over a good file is the one of that file
+ends_well : (job : Job) (call : Call) (answer : Answer) (text : List ℕ) (t : Entries) (rest : List ℕ) (status : Status) → ReadsFile job
+    → IsJobAnswer job call answer text → Reads (offered call) (end_of job) t rest → IsOrNoMemory status (status_of_answer answer) → EndsWell job t rest status
+ends_well Rank call answer text t rest status file h reads ends = subst (λ (x : Answer). IsOrNoMemory status (status_of_answer x)) h.is_text.0 ends
+ends_well (Analyse engine order pairs) call answer text t rest status file h reads ends = subst (λ (x : Answer). IsOrNoMemory status (status_of_answer x)) h.is_text.0 ends
+ends_well Diagonal call answer text t rest status file h reads ends =
+    let same : h.entries ≡ t = h.was_read.reads.entries ∙ sym reads.entries in
+    subst (λ (x : Entries). ComesToDiagonal x status) same (comes_to_diagonal h.entries h.matrix answer text status h.is_matrix h.is_text ends)
+ends_well Check call answer text t rest status file h reads ends = record {
+  comes = comes answer ends;
+  right = λ a verdict matrix is_verdict.
+      let same_t : h.entries ≡ t = h.was_read.reads.entries ∙ sym reads.entries in
+      let same_rest : h.rest ≡ rest = h.was_read.reads.follows ∙ sym reads.follows in
+      let mine : IsMatrixOf t h.matrix = subst (λ (x : Entries). IsMatrixOf x h.matrix) same_t h.is_matrix in
+      let same_a : h.matrix ≡ a = same_matrix _ _ _ h.matrix a mine matrix in
+      let v : IsVerdict h.matrix h.rest h.is_text.verdict = h.is_text.is_verdict in
+      let w : IsVerdict h.matrix h.rest verdict = subst (λ (bytes : List ℕ). IsVerdict h.matrix bytes verdict) (sym same_rest) (subst (λ (x : Matrix). IsVerdict x rest verdict) (sym same_a) is_verdict) in
+      let same_v : h.is_text.verdict ≡ verdict = one_verdict h.matrix h.rest h.is_text.verdict verdict h.is_text.fits v w in
+      subst (λ (x : Answer). IsOrNoMemory status (status_of_answer x)) (h.is_text.answer_is ∙ ap answer_of same_v) ends;
+}
+  where
+    comes : (answer : Answer) → IsOrNoMemory status (status_of_answer answer) → (status ≡ statuses.Negative) ⊎ IsOrNoMemory status statuses.Ok
+    comes Positive ends = inr ends
+    comes Negative (inl is) = inl is
+    comes Negative (inr none) = inr (inr none)
+ends_well (Load size seed engine) call answer text t rest status file h reads ends = absurd file
+
+-- the file of a job that needs weights, and answered over it, has them
+answer_weighed : (job : Job) (call : Call) (answer : Answer) (text : List ℕ) (t : Entries) (rest : List ℕ) (status : Status)
+    → Weighs job → IsJobAnswer job call answer text → Reads (offered call) (end_of job) t rest → ComesToNoWeights t status
+answer_weighed Rank call answer text t rest status weighs h reads = absurd weighs
+answer_weighed (Analyse engine order pairs) call answer text t rest status weighs h reads = absurd weighs
+answer_weighed Diagonal call answer text t rest status weighs h reads =
+    subst (λ (x : Entries). ComesToNoWeights x status) (h.was_read.reads.entries ∙ sym reads.entries) (has_weights h.entries h.matrix answer text status h.is_text)
+answer_weighed Check call answer text t rest status weighs h reads = absurd weighs
+answer_weighed (Load size seed engine) call answer text t rest status weighs h reads = absurd weighs
+
+-- the job that the words name, in place of another that they name
+abbrev in_place : (words : List (List ℕ)) (one two : Job) → Names words one → Names words two → (P : Job → Type 0) → P one → P two
+in_place words one two h k P p = subst P (one_job words one two h k) p
+
+-- the run was answered
+answered : (r : Run) (status : Status) (P : List ℕ → Type 0) (answer : Answer) (job : Job) → Names r.words job → WithAnswer job answer r.input P
+    → (¬ HasWriteFault r.out → IsOrNoMemory status (status_of_answer answer)) → Completes r status
+answered r status P answer job names written ends = record {
+  usage = λ not. absurd (not names.taken);
+  bad_line = λ other reader. told r.input.before r.input.after (over other reader)
+      (λ x y before h fault bad. let read = answer_read other (reading r.input x y) answer h.0 h.1 in
+      absurd (bad_line_told (end_of other) (reading r.input x y) read.1 (Ok read.0) fault read.2 bad));
+  good = λ other reader no_read no_write. told r.input.before r.input.after (over other reader)
+      (λ x y before h t rest reads few. ends_well other (reading r.input x y) answer h.0 t rest status reader.1 h.1 reads (ends no_write));
+  unweighed = λ other reader weighs no_read. told r.input.before r.input.after (over other reader)
+      (λ x y before h t rest reads few. answer_weighed other (reading r.input x y) answer h.0 t rest status weighs h.1 reads);
+  not_good = λ other reader no_read. told r.input.before r.input.after (over other reader)
+      (λ x y before h none. let read = answer_read other (reading r.input x y) answer h.0 h.1 in
+      absurd (none read.0 read.1 read.2.reads h.1.was_read.within));
+  too_many = λ other reader. told r.input.before r.input.after (over other reader)
+      (λ x y before h none past. absurd (not_past (reading r.input x y) h.1.was_read.within past));
+  too_long = λ other reader no_read. told r.input.before r.input.after (over other reader)
+      (λ x y before h past none. absurd (not_long x h.1.was_read.within past));
+  made = λ maker no_write.
+      let positive : answer ≡ Positive = made_positive maker.0 answer r.input P maker.2 (in_place r.words job maker.0 names maker.1 (λ (j : Job). WithAnswer j answer r.input P) written) in
+      subst (λ (x : Answer). IsOrNoMemory status (status_of_answer x)) positive (ends no_write);
+}
+  where
+    over : (other : Job) → NamesReader r.words other → WithFileAnswer other answer r.input P
+    over other reader = over_file other answer r.input P reader.1 (in_place r.words job other names reader.0 (λ (j : Job). WithAnswer j answer r.input P) written)
+
+-- the run was refused for a bad line
+bad : (r : Run) (status : Status) (line : ℕ) (kind : Kind) (limit : Bool) → status ≡ (if limit then statuses.Limit else statuses.Malformed)
+    → (job : Job) → Names r.words job → ReadsFile job → FailsOnceAtMost r.input → is_limit kind ≡ limit
+    → IsBadLine (end_of job) r.input (record { line = line; kind = kind }) → Completes r status
+bad r status line kind limit said job names reads later is first = record {
+  usage = λ not. absurd (not names.taken);
+  bad_line = λ other reader. told r.input.before r.input.after (of other reader)
+      (λ x y before h fault two. inl (said ∙ kind_status line kind fault (first_bad (end_of other) (reading r.input x y)) limit h is two));
+  good = λ other reader no_read no_write. told r.input.before r.input.after (of other reader)
+      (λ x y before h t rest reads few. absurd (not_answered (end_of other) limit (reading r.input x y) t rest h is reads few (steady r.input x before later no_read)));
+  unweighed = λ other reader weighs no_read. told r.input.before r.input.after (of other reader)
+      (λ x y before h t rest reads few. absurd (not_answered (end_of other) limit (reading r.input x y) t rest h is reads few (steady r.input x before later no_read)));
+  not_good = λ other reader no_read. told r.input.before r.input.after (of other reader) (λ x y before h none. inl (either limit said));
+  too_many = λ other reader. told r.input.before r.input.after (of other reader)
+      (λ x y before h none past. absurd (clash (first_bad (end_of other) (reading r.input x y)) _ none h));
+  too_long = λ other reader no_read. told r.input.before r.input.after (of other reader)
+      (λ x y before h past none. absurd (clash (first_bad (end_of other) (reading r.input x y)) _ (none_given (end_of other) (reading r.input x y) past none) h));
+  made = λ maker. absurd (made_named r.words job names maker reads);
+}
+  where
+    of : (other : Job) → NamesReader r.words other → IsBadLine (end_of other) r.input (record { line = line; kind = kind })
+    of other reader = in_place r.words job other names reader.0 (λ (j : Job). IsBadLine (end_of j) r.input (record { line = line; kind = kind })) first
+
+    not_answered : (end : End) (limit : Bool) (call : Call) (t : Entries) (rest : List ℕ) → first_bad end call ≡ Some (record { line = line; kind = kind }) → is_limit kind ≡ limit
+        → Reads (offered call) end t rest → length (offered call) ≤ call.room → call.failures_after ≡ call.failures_before → ⊥
+    not_answered end true call t rest h is reads few same = good_file_answer end call [] (Err (errors.Limit line kind)) t rest (h, is) reads few same
+    not_answered end false call t rest h is reads few same = good_file_answer end call [] (Err (errors.Malformed line kind)) t rest (h, is) reads few same
+
+    either : (limit : Bool) → status ≡ (if limit then statuses.Limit else statuses.Malformed) → (status ≡ statuses.Malformed) ⊎ (status ≡ statuses.Limit)
+    either true said = inr said
+    either false said = inl said
+
+-- a job that is out of memory ends as it may
+no_memory_ends : (job : Job) (t : Entries) (rest : List ℕ) (status : Status) → status ≡ statuses.OutOfMemory → EndsWell job t rest status
+no_memory_ends Rank t rest status said = inr said
+no_memory_ends (Analyse engine order pairs) t rest status said = inr said
+no_memory_ends Diagonal t rest status said = no_diagonal_memory t status said
+no_memory_ends Check t rest status said = record { comes = inr (inr said); right = λ a verdict matrix is_verdict. inr said }
+no_memory_ends (Load size seed engine) t rest status said = inr said
+
+-- a job that needs weights reads a file, and ends over it as one that has a diagonal
+weighs_reads : (job : Job) → Weighs job → ReadsFile job
+weighs_reads Rank weighs = absurd weighs
+weighs_reads (Analyse engine order pairs) weighs = absurd weighs
+weighs_reads Diagonal weighs = tt
+weighs_reads Check weighs = absurd weighs
+weighs_reads (Load size seed engine) weighs = absurd weighs
+
+weighs_ends : (job : Job) (t : Entries) (rest : List ℕ) (status : Status) → Weighs job → ComesToDiagonal t status → EndsWell job t rest status
+weighs_ends Rank t rest status weighs comes = absurd weighs
+weighs_ends (Analyse engine order pairs) t rest status weighs comes = absurd weighs
+weighs_ends Diagonal t rest status weighs comes = comes
+weighs_ends Check t rest status weighs comes = absurd weighs
+weighs_ends (Load size seed engine) t rest status weighs comes = absurd weighs
+
+-- the run was refused since its file has no weights, by a job that needs them
+by_entries : (r : Run) (status : Status) (P : Entries → Type 0) (job : Job) → Names r.words job → Weighs job → WithFile job r.input P
+    → ((t : Entries) → P t → ComesToDiagonal t status) → ((t : Entries) → P t → ComesToNoWeights t status) → Completes r status
+by_entries r status P job names is file ends refuses = record {
+  usage = λ not. absurd (not names.taken);
+  bad_line = λ other reader. told r.input.before r.input.after (of other reader)
+      (λ x y before h fault bad. absurd (bad_line_told (end_of other) (reading r.input x y) h.1 (Ok h.0) fault (all other (reading r.input x y) h.0 h.1 h.2) bad));
+  good = λ other reader no_read no_write. told r.input.before r.input.after (of other reader)
+      (λ x y before h t rest reads few. weighs_ends other t rest status (weighs other reader)
+      (subst (λ (e : Entries). ComesToDiagonal e status) (h.2.reads.entries ∙ sym reads.entries) (ends h.0 h.3)));
+  unweighed = λ other reader _ no_read. told r.input.before r.input.after (of other reader)
+      (λ x y before h t rest reads few. subst (λ (e : Entries). ComesToNoWeights e status) (h.2.reads.entries ∙ sym reads.entries) (refuses h.0 h.3));
+  not_good = λ other reader no_read. told r.input.before r.input.after (of other reader) (λ x y before h none. absurd (none h.0 h.1 h.2.reads h.2.within));
+  too_many = λ other reader. told r.input.before r.input.after (of other reader) (λ x y before h none past. absurd (not_past (reading r.input x y) h.2.within past));
+  too_long = λ other reader no_read. told r.input.before r.input.after (of other reader) (λ x y before h past none. absurd (not_long x h.2.within past));
+  made = λ maker. absurd (made_named r.words job names maker (weighs_reads job is));
+}
+  where
+    weighs : (other : Job) → NamesReader r.words other → Weighs other
+    weighs other reader = in_place r.words job other names reader.0 Weighs is
+
+    of : (other : Job) → NamesReader r.words other → WithFile other r.input P
+    of other reader = in_place r.words job other names reader.0 (λ (j : Job). WithFile j r.input P) file
+
+    all : (other : Job) (call : Call) (t : Entries) (rest : List ℕ) → WasRead (end_of other) call t rest → ReadsAll (end_of other) call t rest
+    all other call t rest read = record { reads = read.reads; within = let w = read.within in omega (arith, w) }
+
+-- each refusal
+refused : (r : Run) (status : Status) (refusal : Refusal) → status ≡ status_of refusal → HasCause r refusal → Completes r status
+refused r status Usage said c = record {
+  usage = λ _. inl said;
+  bad_line = λ other reader. absurd (c.0 reader.0.taken);
+  good = λ other reader. absurd (c.0 reader.0.taken);
+  unweighed = λ other reader. absurd (c.0 reader.0.taken);
+  not_good = λ other reader. absurd (c.0 reader.0.taken);
+  too_many = λ other reader. absurd (c.0 reader.0.taken);
+  too_long = λ other reader. absurd (c.0 reader.0.taken);
+  made = λ maker. absurd (c.0 maker.1.taken);
+}
+refused r status (Malformed line kind) said c = bad r status line kind false said c.0 c.1 c.3.0 c.2 c.3.1 c.3.2
+refused r status (Limit line kind) said c = bad r status line kind true said c.0 c.1 c.3.0 c.2 c.3.1 c.3.2
+refused r status TooLong said c = record {
+  usage = λ not. absurd (not c.1.taken);
+  bad_line = λ other reader. told r.input.before r.input.after (of other reader) (λ x y before h fault two. absurd (clash (first_bad (end_of other) (reading r.input x y)) fault h.0 two));
+  good = λ other reader no_read no_write. told r.input.before r.input.after (of other reader)
+      (λ x y before h t rest reads few. absurd (good_file_answer (end_of other) (reading r.input x y) [] (Err errors.TooLong) t rest h reads few (steady r.input x before c.2 no_read)));
+  unweighed = λ other reader weighs no_read. told r.input.before r.input.after (of other reader)
+      (λ x y before h t rest reads few. absurd (good_file_answer (end_of other) (reading r.input x y) [] (Err errors.TooLong) t rest h reads few (steady r.input x before c.2 no_read)));
+  not_good = λ other reader no_read. told r.input.before r.input.after (of other reader) (λ x y before h none. inl (inr said));
+  too_many = λ other reader. told r.input.before r.input.after (of other reader) (λ x y before h none past. inl said);
+  too_long = λ other reader no_read. told r.input.before r.input.after (of other reader) (λ x y before h past none. inl said);
+  made = λ maker. absurd (made_named r.words c.0 c.1 maker c.3.0);
+}
+  where
+    of : (other : Job) → NamesReader r.words other → IsTooLong (end_of other) r.input
+    of other reader = in_place r.words c.0 other c.1 reader.0 (λ (j : Job). IsTooLong (end_of j) r.input) c.3.1
+refused r status ReadFault said c = record {
+  usage = λ not. absurd (not c.1.taken);
+  bad_line = λ other reader. told r.input.before r.input.after (of other reader) (λ x y before h fault two. absurd (clash (first_bad (end_of other) (reading r.input x y)) fault h.0 two));
+  good = λ other reader no_read. absurd (no_read c.3.1);
+  unweighed = λ other reader weighs no_read. absurd (no_read c.3.1);
+  not_good = λ other reader no_read. absurd (no_read c.3.1);
+  too_many = λ other reader. told r.input.before r.input.after (of other reader) (λ x y before h none past. let few = h.1 in absurd (omega (arith, few, past)));
+  too_long = λ other reader no_read. absurd (no_read c.3.1);
+  made = λ maker. absurd (made_named r.words c.0 c.1 maker c.3.0);
+}
+  where
+    of : (other : Job) → NamesReader r.words other → IsGoodSoFar (end_of other) r.input
+    of other reader = in_place r.words c.0 other c.1 reader.0 (λ (j : Job). IsGoodSoFar (end_of j) r.input) c.3.2
+refused r status (SumLimit row col) said c = by_entries r status _ c.0 c.1 c.3.0 c.3.2 (λ t h. past_ends t row col status h.1) (λ t h. past_refused t status said h.0)
+refused r status NeedsInteger said c = by_entries r status _ c.0 c.1 c.3.0 c.3.2 (λ t not. needs_ends t status not) (λ t not. not_integer_refused t status said not)
+refused r status WriteFault said c = answered r status _ c.3.2.0 c.0 c.1 c.3.2.1 (λ no_write. absurd (no_write c.3.0))
+refused r status OutOfMemory said c = record {
+  usage = λ _. inr said;
+  bad_line = λ other reader. told r.input.before r.input.after c.1 (λ x y before h fault two. inr said);
+  good = λ other reader no_read no_write. told r.input.before r.input.after c.1 (λ x y before h t rest reads few. no_memory_ends other t rest status said);
+  unweighed = λ other reader weighs no_read. told r.input.before r.input.after c.1 (λ x y before h t rest reads few. no_memory_for_weights t status said);
+  not_good = λ other reader no_read. told r.input.before r.input.after c.1 (λ x y before h none. inr said);
+  too_many = λ other reader. told r.input.before r.input.after c.1 (λ x y before h none past. inr said);
+  too_long = λ other reader no_read. told r.input.before r.input.after c.1 (λ x y before h past none. inr said);
+  made = λ maker no_write. inr said;
+}
+
+pub completes : (r : Run) (status : Status) → Says r status → Completes r status
+completes r statuses.Ok s = answered r statuses.Ok _ Positive s.job s.names s.written (λ _. inl refl)
+completes r statuses.Negative s = answered r statuses.Negative _ Negative s.job s.names s.written (λ _. inl refl)
+completes r statuses.Usage s = refused r statuses.Usage s.refusal s.status_is s.cause
+completes r statuses.Malformed s = refused r statuses.Malformed s.refusal s.status_is s.cause
+completes r statuses.Limit s = refused r statuses.Limit s.refusal s.status_is s.cause
+completes r statuses.ReadFault s = refused r statuses.ReadFault s.refusal s.status_is s.cause
+completes r statuses.WriteFault s = refused r statuses.WriteFault s.refusal s.status_is s.cause
+completes r statuses.OutOfMemory s = refused r statuses.OutOfMemory s.refusal s.status_is s.cause
+completes r statuses.NeedsInteger s = refused r statuses.NeedsInteger s.refusal s.status_is s.cause
+
+by_refusal : (r : Run) (refusal : Refusal) → WroteAsFar r.err (line_of refusal) → HasCause r refusal → Says r (status_of refusal)
+by_refusal r Usage told cause = record { refusal = Usage; status_is = refl; told = told; cause = cause }
+by_refusal r (Malformed line kind) told cause = record { refusal = Malformed line kind; status_is = refl; told = told; cause = cause }
+by_refusal r (Limit line kind) told cause = record { refusal = Limit line kind; status_is = refl; told = told; cause = cause }
+by_refusal r TooLong told cause = record { refusal = TooLong; status_is = refl; told = told; cause = cause }
+by_refusal r (SumLimit row col) told cause = record { refusal = SumLimit row col; status_is = refl; told = told; cause = cause }
+by_refusal r NeedsInteger told cause = record { refusal = NeedsInteger; status_is = refl; told = told; cause = cause }
+by_refusal r ReadFault told cause = record { refusal = ReadFault; status_is = refl; told = told; cause = cause }
+by_refusal r WriteFault told cause = record { refusal = WriteFault; status_is = refl; told = told; cause = cause }
+by_refusal r OutOfMemory told cause = record { refusal = OutOfMemory; status_is = refl; told = told; cause = cause }
+
+-- a refusal that was told, with its cause
+pub refusal_says : (r : Run) (status : Status) (refusal : Refusal) → status ≡ status_of refusal → WroteAsFar r.err (line_of refusal) → HasCause r refusal → Says r status
+refusal_says r status refusal said told cause = subst (λ (s : Status). Says r s) (sym said) (by_refusal r refusal told cause)
+
+-- the refusal of a job
+pub job_refused : (r : Run) (job : Job) (refusal : Refusal) → Names r.words job → JobSays job r.input r.out (Err refusal) → HasCause r refusal
+job_refused r job Usage names says = absurd says.1
+job_refused r job (Malformed line kind) names says = (job, names, says.0, says.1)
+job_refused r job (Limit line kind) names says = (job, names, says.0, says.1)
+job_refused r job TooLong names says = (job, names, says.0, says.1)
+job_refused r job (SumLimit row col) names says = (job, names, says.0, says.1)
+job_refused r job NeedsInteger names says = (job, names, says.0, says.1)
+job_refused r job ReadFault names says = (job, names, says.0, says.1)
+job_refused r job WriteFault names says = (job, names, says.0, says.1)
+job_refused r job OutOfMemory names says = (says.0, says.1.0, says.1.1)
+
+-- an input that tells its bytes and was not used tells them still
+pub untouched_tells : (input : Device) → IsUntouched input → TellsStill input
+untouched_tells input same = subst (λ (after : Option (List ℕ)). WhereTold input.before after (λ x y. Unit {0})) (sym same.0) (still input.before)
+  where
+    still : (bytes : Option (List ℕ)) → WhereTold bytes bytes (λ x y. Unit {0})
+    still None = tt
+    still (Some x) = tt
+
+-- it gave nothing
+pub untouched_gave : (input : Device) → IsUntouched input → OfReading input GaveFront
+untouched_gave input same =
+    subst (λ (after : Option (List ℕ)). WhereTold input.before after (λ x y. GaveFront (reading input x y))) (sym same.0) (still input.before)
+  where
+    still : (bytes : Option (List ℕ)) → WhereTold bytes bytes (λ x y. GaveFront (reading input x y))
+    still None = tt
+    still (Some x) = record { gave = []; in_order = refl; few = omega arith }
+
+-- no call of it has failed
+pub untouched_counts : (d : Device) → IsUntouched d → FailsOnceAtMost d
+untouched_counts d same = record { later = omega (arith, same.1); once = omega (arith, same.1) }
+
+-- ---- what `run` cites
+
+-- the job that was read from the words
+pub named : (words : List (List ℕ)) (result : Result Job WordsError) (job : Job) → result ≡ Ok job
+    → IfOk result (λ j. AreTaken words) → IfOk result (λ j. job_of words ≡ Some j) → Names words job
+named words result job is taken names = record {
+  taken = subst (λ (r : Result Job WordsError). IfOk r (λ j. AreTaken words)) is taken;
+  job_is = subst (λ (r : Result Job WordsError). IfOk r (λ j. job_of words ≡ Some j)) is names;
+}
+
+by_answer : (r : Run) (answer : Answer) (job : Job) → Names r.words job → JobSays job r.input r.out (Ok answer) → IsUntouched r.err → Says r (status_of_answer answer)
+by_answer r Positive job names done untouched = record { job = job; names = names; may = done.0; written = done.3; steady_input = done.1; steady_out = done.2; nothing_told = untouched }
+by_answer r Negative job names done untouched = record { job = job; names = names; may = done.0; written = done.3; steady_input = done.1; steady_out = done.2; nothing_told = untouched }
+
+-- the job was done
+pub job_done : (r : Run) (job : Job) (result : Result Answer Refusal) (answer : Answer) (status : Status) → result ≡ Ok answer → Names r.words job
+    → JobSays job r.input r.out result → status ≡ status_of_answer answer → IsUntouched r.err → Says r status
+job_done r job result answer status is names says said untouched =
+    subst (λ (s : Status). Says r s) (sym said)
+    (by_answer r answer job names (subst (λ (o : Result Answer Refusal). JobSays job r.input r.out o) is says) untouched)
+
+-- the job was refused
+pub job_not_done : (r : Run) (job : Job) (result : Result Answer Refusal) (refusal : Refusal) (status : Status) → result ≡ Err refusal → Names r.words job
+    → JobSays job r.input r.out result → status ≡ status_of refusal → WroteAsFar r.err (line_of refusal) → Says r status
+job_not_done r job result refusal status is names says said told =
+    refusal_says r status refusal said told
+    (job_refused r job refusal names (subst (λ (o : Result Answer Refusal). JobSays job r.input r.out o) is says))

@@ -1,0 +1,160 @@
+-- The numbers of the seats, where one seat's view changes, a seat is split off, or one is joined to another.
+use Rattle.std.proofs.Common.{◌≡◌, ◌≢◌, ◌∙◌, ℕ, zero, suc, ◌+◌, ◌≤◌, ◌==◌, if◌then◌else◌, Option, None, Some, List, [], ◌∷◌, ◌++◌, map, set, sum_by, flat_map, refl, sym, ap, subst, ⊎_elim, arith, append-nil, one-add}
+use Rattle.std.proofs.lemmas.List.Sums.{sum_by-cons, sum_by_push}
+use mathlib.Core.Option.{some, some-injective, some-ne-none}
+use lib.ListN.{get_elem?}
+use Rattle.atomic_table.proofs.Lists.{at_set, at_snoc, set_else}
+use Rattle.bip_defs.proofs.Sets.{number_same}
+use Rattle.claim_words.specs.Listed.{Listed, all_listed, nothing}
+use Rattle.claim_words.specs.Rule.{AreSeated, Known, below, has_number, known, listed_by}
+use Rattle.claim_words.specs.Steps.{counting_more, joined, knowing, newcomer}
+use Rattle.claim_words.proofs.AccountLemmas.{one_else, one_here}
+
+-- Sums over views.
+
+module _ {V : Type 0} (f : V → ℕ) where
+  pub total_set : (vs : List V) (i : ℕ) (v w : V) → get_elem? vs i ≡ some v → sum_by f (set vs i w) + f v ≡ sum_by f vs + f w
+  total_set [] i v w at = absurd (some-ne-none v (sym at))
+  total_set (x ∷ vs) zero v w at = subst (λ y. sum_by f (w ∷ vs) + f y ≡ sum_by f (x ∷ vs) + f w) (some-injective x v at) (omega (arith, sum_by-cons f w vs, sum_by-cons f x vs))
+  total_set (x ∷ vs) (suc i) v w at = let e = total_set vs i v w at in omega (arith, e, sum_by-cons f x (set vs i w), sum_by-cons f x vs)
+
+  pub total_one : (vs : List V) (i : ℕ) (v : V) → get_elem? vs i ≡ some v → f v ≤ sum_by f vs
+  total_one [] i v at = absurd (some-ne-none v (sym at))
+  total_one (x ∷ vs) zero v at = subst (λ y. f y ≤ sum_by f (x ∷ vs)) (some-injective x v at) (omega (arith, sum_by-cons f x vs))
+  total_one (x ∷ vs) (suc i) v at = let le = total_one vs i v at in omega (arith, le, sum_by-cons f x vs)
+
+  pub total_two : (vs : List V) (i j : ℕ) (v w : V) → get_elem? vs i ≡ some v → get_elem? vs j ≡ some w → j ≢ i → f v + f w ≤ sum_by f vs
+  total_two [] i j v w at there ne = absurd (some-ne-none v (sym at))
+  total_two (x ∷ vs) zero zero v w at there ne = absurd (ne refl)
+  total_two (x ∷ vs) zero (suc j) v w at there ne = subst (λ y. f y + f w ≤ sum_by f (x ∷ vs)) (some-injective x v at) (let le = total_one vs j w there in omega (arith, le, sum_by-cons f x vs))
+  total_two (x ∷ vs) (suc i) zero v w at there ne = subst (λ y. f v + f y ≤ sum_by f (x ∷ vs)) (some-injective x w there) (let le = total_one vs i v at in omega (arith, le, sum_by-cons f x vs))
+  total_two (x ∷ vs) (suc i) (suc j) v w at there ne = let le = total_two vs i j v w at there (λ e. ne (ap suc e)) in omega (arith, le, sum_by-cons f x vs)
+
+-- Numbers below a count.
+
+below_suc : (n count : ℕ) → below n (suc count) ≡ below n count + (if count == n then 1 else 0)
+below_suc zero zero = refl
+below_suc zero (suc count) = let e = one_else (suc count) 0 (λ f. omega arith) in omega (arith, e)
+below_suc (suc n) zero = let e = one_else 0 (suc n) (λ f. omega arith) in omega (arith, e)
+below_suc (suc n) (suc count) = ⊎_elim (λ (e : count ≡ n). let same = one_here (suc count) (suc n) (ap suc e) in let was = one_here count n e in let more = below_suc n count in omega (arith, same, was, more)) (λ (ne : count ≢ n). let same = one_else (suc count) (suc n) (λ f. ne (omega arith)) in let was = one_else count n ne in let more = below_suc n count in omega (arith, same, was, more)) (number_same count n)
+
+pub below_more : (n count : ℕ) → below n (1 + count) ≡ below n count + (if count == n then 1 else 0)
+below_more n count = subst (λ c. below n c ≡ below n count + (if count == n then 1 else 0)) (sym (one-add count)) (below_suc n count)
+
+below_once : (n count : ℕ) → below n count ≤ 1
+below_once n zero = omega arith
+below_once zero (suc count) = omega arith
+below_once (suc n) (suc count) = below_once n count
+
+below_one : (n : ℕ) → n ≢ 0 → below n 1 ≡ 0
+below_one zero ne = absurd (ne refl)
+below_one (suc n) ne = refl
+
+-- Views.
+
+pub known_same : {k j : Known} → Some k ≡ Some j → k ≡ j
+known_same e = ap known e
+
+pub not_gone : {k : Known} → None ≡ Some k → ⊥
+not_gone e = cc
+
+module _ {rows roots : List (Option ℕ)} {views : List (Option Known)} (a : AreSeated rows roots views) (id : ℕ) (k : Known) (at : get_elem? views id ≡ some (Some k)) where
+  -- no two seats have one number
+  pub one_seat : (i : ℕ) (j : Known) → get_elem? views i ≡ some (Some j) → j.number ≡ k.number → i ≡ id
+  one_seat i j there same = ⊎_elim (λ e. e) (λ ne.
+      let two = total_two (has_number k.number) views id i (Some k) (Some j) at there ne in
+      let total = a.numbers k.number in
+      absurd (omega (arith, two, total, below_once k.number a.count, one_here k.number k.number refl, one_here j.number k.number same))) (number_same i id)
+
+  -- a seat lists more
+  pub seated_step : (l : Listed) → AreSeated rows roots (set views id (knowing k l))
+  seated_step l = record {
+    count = a.count;
+    some_seat = a.some_seat;
+    numbers = λ n. let e = total_set (has_number n) views id (Some k) (knowing k l) at in let was = a.numbers n in omega (arith, e, was);
+    keeps_count = λ i j there. ⊎_elim (λ (t : (i ≡ id) × (knowing k l ≡ Some j)). subst (λ (m : Known). m.number ≡ 0 → m.seats ≡ a.count) (known_same t.1) (a.keeps_count id k at)) (λ (t : (i ≢ id) × (get_elem? views i ≡ some (Some j))). a.keeps_count i j t.1) (at_set views id i (knowing k l) (Some j) there);
+    opened = λ i j there. ⊎_elim (λ (t : (i ≡ id) × (knowing k l ≡ Some j)). subst (λ (m : Known). (m.rows ≡ rows) × (m.roots ≡ roots)) (known_same t.1) (a.opened id k at)) (λ (t : (i ≢ id) × (get_elem? views i ≡ some (Some j))). a.opened i j t.1) (at_set views id i (knowing k l) (Some j) there);
+  }
+
+  -- the seat 0 splits off a seat with the next number
+  pub seated_more : k.number ≡ 0 → AreSeated rows roots (set views id (counting_more (Some k)) ++ newcomer (Some k) ∷ [])
+  seated_more zeroth = record {
+    count = 1 + a.count;
+    some_seat = omega arith;
+    numbers = λ n.
+        let pushed = sum_by_push (has_number n) (set views id (counting_more (Some k))) (newcomer (Some k)) in
+        let e = total_set (has_number n) views id (Some k) (counting_more (Some k)) at in
+        let was = a.numbers n in
+        let more = below_more n a.count in
+        let last : has_number n (newcomer (Some k)) ≡ (if a.count == n then 1 else 0) = ap (λ (c : ℕ). if c == n then 1 else 0) counted in
+        omega (arith, pushed, e, was, more, last);
+    keeps_count = λ i j there num. ⊎_elim (old_count i j num) (λ (e : newcomer (Some k) ≡ Some j). absurd (let own : k.seats ≡ 0 = subst (λ (m : Known). m.number ≡ 0) (sym (known_same e)) num in let some = a.some_seat in omega (arith, own, counted, some))) (at_snoc (set views id (counting_more (Some k))) (newcomer (Some k)) (Some j) i there);
+    opened = λ i j there. ⊎_elim (old_opened i j) (λ (e : newcomer (Some k) ≡ Some j). subst (λ (m : Known). (m.rows ≡ rows) × (m.roots ≡ roots)) (known_same e) (a.opened id k at)) (at_snoc (set views id (counting_more (Some k))) (newcomer (Some k)) (Some j) i there);
+  }
+    where
+      counted : k.seats ≡ a.count
+      counted = a.keeps_count id k at zeroth
+
+      old_count : (i : ℕ) (j : Known) → j.number ≡ 0 → get_elem? (set views id (counting_more (Some k))) i ≡ some (Some j) → j.seats ≡ 1 + a.count
+      old_count i j num there = ⊎_elim (λ (t : (i ≡ id) × (counting_more (Some k) ≡ Some j)). subst (λ (m : Known). m.seats ≡ 1 + a.count) (known_same t.1) (ap (λ (c : ℕ). 1 + c) counted)) (λ (t : (i ≢ id) × (get_elem? views i ≡ some (Some j))). absurd (t.0 (one_seat i j t.1 (num ∙ sym zeroth)))) (at_set views id i (counting_more (Some k)) (Some j) there)
+
+      old_opened : (i : ℕ) (j : Known) → get_elem? (set views id (counting_more (Some k))) i ≡ some (Some j) → (j.rows ≡ rows) × (j.roots ≡ roots)
+      old_opened i j there = ⊎_elim (λ (t : (i ≡ id) × (counting_more (Some k) ≡ Some j)). subst (λ (m : Known). (m.rows ≡ rows) × (m.roots ≡ roots)) (known_same t.1) (a.opened id k at)) (λ (t : (i ≢ id) × (get_elem? views i ≡ some (Some j))). a.opened i j t.1) (at_set views id i (counting_more (Some k)) (Some j) there)
+
+  -- the seat 0 takes in the seat with the highest number
+  pub seated_fewer : k.number ≡ 0 → (other : ℕ) (j : Known) → other ≢ id → get_elem? views other ≡ some (Some j) → k.seats ≡ 1 + j.number → AreSeated rows roots (set (set views id (joined (Some k) (Some j))) other None)
+  seated_fewer zeroth other j ne there highest = record {
+    count = j.number;
+    some_seat = some_left;
+    numbers = λ n.
+        let both = total_set (has_number n) views id (Some k) (joined (Some k) (Some j)) at in
+        let gone = total_set (has_number n) (set views id (joined (Some k) (Some j))) other (Some j) None still in
+        let was = a.numbers n in
+        let fewer : below n a.count ≡ below n j.number + (if j.number == n then 1 else 0) = ap (below n) (sym counted ∙ highest) ∙ below_more n j.number in
+        omega (arith, both, gone, was, fewer);
+    keeps_count = λ i m at_i num. ⊎_elim (λ (t : (i ≡ other) × (None ≡ Some m)). absurd (not_gone t.1)) (λ (t : (i ≢ other) × (get_elem? (set views id (joined (Some k) (Some j))) i ≡ some (Some m))). rest_count i m num t.1) (at_set (set views id (joined (Some k) (Some j))) other i None (Some m) at_i);
+    opened = λ i m at_i. ⊎_elim (λ (t : (i ≡ other) × (None ≡ Some m)). absurd (not_gone t.1)) (λ (t : (i ≢ other) × (get_elem? (set views id (joined (Some k) (Some j))) i ≡ some (Some m))). rest_opened i m t.1) (at_set (set views id (joined (Some k) (Some j))) other i None (Some m) at_i);
+  }
+    where
+      counted : k.seats ≡ a.count
+      counted = a.keeps_count id k at zeroth
+
+      some_left : 1 ≤ j.number
+      some_left = ⊎_elim (λ (e : j.number ≡ 0). absurd (ne (one_seat other j there (e ∙ sym zeroth)))) (λ (n : j.number ≢ 0). omega arith) (number_same j.number 0)
+
+      still : get_elem? (set views id (joined (Some k) (Some j))) other ≡ some (Some j)
+      still = set_else views id other (joined (Some k) (Some j)) ne ∙ there
+
+      rest_count : (i : ℕ) (m : Known) → m.number ≡ 0 → get_elem? (set views id (joined (Some k) (Some j))) i ≡ some (Some m) → m.seats ≡ j.number
+      rest_count i m num at_i = ⊎_elim (λ (t : (i ≡ id) × (joined (Some k) (Some j) ≡ Some m)). subst (λ (x : Known). x.seats ≡ j.number) (known_same t.1) (omega arith)) (λ (t : (i ≢ id) × (get_elem? views i ≡ some (Some m))). absurd (t.0 (one_seat i m t.1 (num ∙ sym zeroth)))) (at_set views id i (joined (Some k) (Some j)) (Some m) at_i)
+
+      rest_opened : (i : ℕ) (m : Known) → get_elem? (set views id (joined (Some k) (Some j))) i ≡ some (Some m) → (m.rows ≡ rows) × (m.roots ≡ roots)
+      rest_opened i m at_i = ⊎_elim (λ (t : (i ≡ id) × (joined (Some k) (Some j) ≡ Some m)). subst (λ (x : Known). (x.rows ≡ rows) × (x.roots ≡ roots)) (known_same t.1) (a.opened id k at)) (λ (t : (i ≢ id) × (get_elem? views i ≡ some (Some m))). a.opened i m t.1) (at_set views id i (joined (Some k) (Some j)) (Some m) at_i)
+
+  -- where the count is 1, no other seat is left
+  only_seat : k.number ≡ 0 → k.seats ≡ 1 → (i : ℕ) (j : Known) → get_elem? views i ≡ some (Some j) → i ≡ id
+  only_seat zeroth one i j there = ⊎_elim (λ (e : j.number ≡ 0). one_seat i j there (e ∙ sym zeroth)) (λ ne. absurd (
+      let le = total_one (has_number j.number) views i (Some j) there in
+      let total : sum_by (has_number j.number) views ≡ 0 = a.numbers j.number ∙ ap (below j.number) (sym (a.keeps_count id k at zeroth) ∙ one) ∙ below_one j.number ne in
+      omega (arith, le, total, one_here j.number j.number refl))) (number_same j.number 0)
+
+module _ {X : Type 0} (g : Listed → List X) (empty : g nothing ≡ []) where
+  gone_flat : (views : List (Option Known)) → ((i : ℕ) (j : Known) → ¬ (get_elem? views i ≡ some (Some j))) → flat_map g (map listed_by views) ≡ []
+  gone_flat [] none = refl
+  gone_flat (None ∷ views) none = ap (λ xs. xs ++ flat_map g (map listed_by views)) empty ∙ gone_flat views (λ i j. none (suc i) j)
+  gone_flat (Some j ∷ views) none = absurd (none 0 j refl)
+
+  only_flat : (views : List (Option Known)) (id : ℕ) (k : Known) → get_elem? views id ≡ some (Some k) → ((i : ℕ) (j : Known) → get_elem? views i ≡ some (Some j) → i ≡ id) → flat_map g (map listed_by views) ≡ g k.listed
+  only_flat [] id k at only = absurd (some-ne-none (Some k) (sym at))
+  only_flat (v ∷ views) zero k at only =
+      ap (λ xs. g (listed_by v) ++ xs) (gone_flat views (λ i j there. let e = only (suc i) j there in omega (arith, e))) ∙ append-nil (g (listed_by v)) ∙ ap (λ o. g (listed_by o)) (some-injective v (Some k) at)
+  only_flat (None ∷ views) (suc id) k at only = ap (λ xs. xs ++ flat_map g (map listed_by views)) empty ∙ only_flat views id k at (λ i j there. let e = only (suc i) j there in omega (arith, e))
+  only_flat (Some j ∷ views) (suc id) k at only = absurd (let e = only 0 j refl in omega (arith, e))
+
+-- and its lists are all that there are
+pub alone : {rows roots : List (Option ℕ)} {views : List (Option Known)} → AreSeated rows roots views → (id : ℕ) (k : Known) → get_elem? views id ≡ some (Some k) → k.number ≡ 0 → k.seats ≡ 1 → all_listed (map listed_by views) ≡ k.listed
+alone {views = views} a id k at zeroth one = λ i. record {
+  claims = only_flat (λ (l : Listed). l.claims) refl views id k at (only_seat a id k at zeroth one) i;
+  wins = only_flat (λ (l : Listed). l.wins) refl views id k at (only_seat a id k at zeroth one) i;
+  seen = only_flat (λ (l : Listed). l.seen) refl views id k at (only_seat a id k at zeroth one) i;
+}

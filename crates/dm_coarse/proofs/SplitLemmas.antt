@@ -1,0 +1,194 @@
+-- Rows of a side one after another, each in its part.
+use Rattle.std.proofs.Common.{Result, Ok, Err, IfOk, Vec, Global, ◌≡◌, ◌∙◌, true≢false, ℕ, suc, ◌+◌, ◌<◌, ◌≤◌, Bool, true, false, List, [], ◌∷◌, ◌++◌, map, length, get_or, sym, ap, subst, inl, ⊎_elim, arith}
+use Rattle.std.proofs.Math.Decide.{dec_lt}
+use Rattle.std.proofs.lemmas.List.{map-append, map-id}
+use Rattle.bip_defs.specs.Lists.{Among, AreDistinct, Lists}
+use Rattle.bip_defs.specs.Marks.{Marks}
+use Rattle.bip_defs.specs.Matching.{IsMaximum, cols_of, rows_of}
+use Rattle.bip_defs.specs.Matrix.{Matrix, Place, cols, column, transpose}
+use Rattle.bip_defs.specs.Parts.{IsHorizontalCol, IsHorizontalRow, IsSquareCol, IsSquareRow, IsVerticalCol, IsVerticalRow}
+use Rattle.bip_defs.proofs.Sets.{among_last, among_left, among_right, entry_col, lists_same, number_among, number_same, rising_last}
+use Rattle.bip_defs.proofs.Square.{horizontal_mate, rows_apart}
+use Rattle.bip_defs.proofs.Transposed.{horizontal_turned, square_col_turned, square_row_turned, transpose_back, transpose_cols, transpose_is, turned_horizontal, turned_maximum, turned_vertical, turned_vertical_col, vertical_col_turned, vertical_turned}
+use Rattle.bip_graph.specs.Matching.{IsMaximumOf, Pairing, transposed}
+
+-- The numbers below a bound that have P, as the bound grows.
+
+abbrev pub Below : (ℕ → Type 0) → ℕ → ℕ → Type 0
+Below P n x = (x < n) × P x
+
+pub below_none : (P : ℕ → Type 0) → Lists (Below P 0) []
+below_none P = record { rising = tt; sound = λ x h. elim h [ ]; complete = λ x h. absurd (let lt = h.0 in omega arith) }
+
+pub below_yes : (P : ℕ → Type 0) (n : ℕ) (xs : List ℕ) → P n → Lists (Below P n) xs → Lists (Below P (n + 1)) (xs ++ n ∷ [])
+below_yes P n xs p l = record {
+  rising = rising_last xs n l.rising (λ x h. (l.sound x h).0);
+  sound = λ x h. ⊎_elim (λ k. let s = l.sound x k in let lt = s.0 in (omega arith, s.1)) (λ (e : x ≡ n). (omega arith, subst P (sym e) p)) (among_last x n xs h);
+  complete = λ x h. ⊎_elim (λ (e : x ≡ n). among_right x xs (n ∷ []) (inl e)) (λ ne. among_left x xs (n ∷ []) (l.complete x (let lt = h.0 in omega arith, h.1))) (number_same x n);
+}
+
+pub below_no : (P : ℕ → Type 0) (n : ℕ) (xs : List ℕ) → ¬ P n → Lists (Below P n) xs → Lists (Below P (n + 1)) xs
+below_no P n xs p l = lists_same (Below P n) (Below P (n + 1)) xs
+    (λ x h. (let lt = h.0 in omega arith, h.1))
+    (λ x h. ⊎_elim (λ (e : x ≡ n). absurd (p (subst P e h.1))) (λ ne. (let lt = h.0 in omega arith, h.1)) (number_same x n))
+    l
+
+-- the rows below n, in three lists
+pub record IsSplit (a : Matrix) (n : ℕ) (hs ss vs : List ℕ) : Type 0 where
+  pub horizontal : Lists (Below (IsHorizontalRow a) n) hs
+  pub square : Lists (Below (IsSquareRow a) n) ss
+  pub vertical : Lists (Below (IsVerticalRow a) n) vs
+
+pub split_none : (a : Matrix) → IsSplit a 0 [] [] []
+split_none a = record { horizontal = below_none (IsHorizontalRow a); square = below_none (IsSquareRow a); vertical = below_none (IsVerticalRow a) }
+
+pub split_horizontal : (a : Matrix) (n : ℕ) (hs ss vs : List ℕ) → IsHorizontalRow a n → IsSplit a n hs ss vs → IsSplit a (n + 1) (hs ++ n ∷ []) ss vs
+split_horizontal a n hs ss vs h s = record {
+  horizontal = below_yes (IsHorizontalRow a) n hs h s.horizontal;
+  square = below_no (IsSquareRow a) n ss (λ k. k.1 h) s.square;
+  vertical = below_no (IsVerticalRow a) n vs (rows_apart a n h) s.vertical;
+}
+
+pub split_square : (a : Matrix) (n : ℕ) (hs ss vs : List ℕ) → IsSquareRow a n → IsSplit a n hs ss vs → IsSplit a (n + 1) hs (ss ++ n ∷ []) vs
+split_square a n hs ss vs h s = record {
+  horizontal = below_no (IsHorizontalRow a) n hs h.1 s.horizontal;
+  square = below_yes (IsSquareRow a) n ss h s.square;
+  vertical = below_no (IsVerticalRow a) n vs h.2 s.vertical;
+}
+
+pub split_vertical : (a : Matrix) (n : ℕ) (hs ss vs : List ℕ) → IsVerticalRow a n → IsSplit a n hs ss vs → IsSplit a (n + 1) hs ss (vs ++ n ∷ [])
+split_vertical a n hs ss vs h s = record {
+  horizontal = below_no (IsHorizontalRow a) n hs (λ k. rows_apart a n k h) s.horizontal;
+  square = below_no (IsSquareRow a) n ss (λ k. k.2 h) s.square;
+  vertical = below_yes (IsVerticalRow a) n vs h s.vertical;
+}
+
+pub number_last : {X : Type 0} (f : X → ℕ) (xs : List X) (x : X) (n : ℕ) → f x ≡ n → map f (xs ++ x ∷ []) ≡ map f xs ++ n ∷ []
+number_last f xs x n e = map-append f xs (x ∷ []) ∙ ap (λ k. map f xs ++ k ∷ []) e
+
+pub all_below : (P : ℕ → Type 0) (n : ℕ) (xs : List ℕ) → ((x : ℕ) → P x → x < n) → Lists (Below P n) xs → Lists P xs
+all_below P n xs below l = lists_same (Below P n) P xs (λ x h. h.1) (λ x h. (below x h, h)) l
+
+pub horizontal_below : (a : Matrix) (r : ℕ) → IsHorizontalRow a r → r < a.rows
+horizontal_below a r h = h.2.0
+
+-- Which part a row is in.
+
+pub mate_horizontal : (a : Matrix) (m : List Place) (r c : ℕ) → IsMaximum a m → Among (r, c) m → IsHorizontalCol a c → IsHorizontalRow a r
+mate_horizontal a m r c max p h = (c, h, max.matching.entries r c p)
+
+pub mate_square : (a : Matrix) (m : List Place) (r c : ℕ) → r < a.rows → IsMaximum a m → Among (r, c) m → ¬ IsHorizontalCol a c → ¬ IsVerticalRow a r → IsSquareRow a r
+mate_square a m r c lt max p h v = (lt, λ k. horizontal_mate a m r c max k p h, v)
+
+pub unmatched_vertical : (a : Matrix) (m : List Place) (r : ℕ) → r < a.rows → IsMaximum a m → ¬ Among r (rows_of m) → IsVerticalRow a r
+unmatched_vertical a m r lt max free = (lt, m, max, free)
+
+-- Marks.
+
+pub marked_is : (n : ℕ) (P : ℕ → Type 0) (marks : List Bool) (i : ℕ) → Marks n P marks → i < n → get_or marks i false ≡ true → P i
+marked_is n P marks i k lt e = (k.exact i lt).0 e
+
+pub unmarked_is : (n : ℕ) (P : ℕ → Type 0) (marks : List Bool) (j i : ℕ) → j ≡ i → Marks n P marks → i < n → get_or marks j false ≡ false → ¬ P i
+unmarked_is n P marks j i same k lt e p = true≢false (sym ((k.exact i lt).1 p) ∙ ap (λ x. get_or marks x false) (sym same) ∙ e)
+
+pub mate_below : (a : Matrix) (m : List Place) (r c : ℕ) → IsMaximum a m → Among (r, c) m → c < cols a
+mate_below a m r c max p = entry_col a r c (max.matching.entries r c p)
+
+-- One row more.
+
+pub more_horizontal : {X : Type 0} (f : X → ℕ) (a : Matrix) (n : ℕ) (x : X) (hs ss vs hs2 ss2 vs2 : List X) → f x ≡ n → IsHorizontalRow a (f x) → IsSplit a n (map f hs) (map f ss) (map f vs) → hs2 ≡ hs ++ x ∷ [] → ss2 ≡ ss → vs2 ≡ vs → IsSplit a (n + 1) (map f hs2) (map f ss2) (map f vs2)
+more_horizontal f a n x hs ss vs hs2 ss2 vs2 e p s i j k =
+    subst (λ z. IsSplit a (n + 1) z (map f ss2) (map f vs2)) (sym (ap (map f) i ∙ number_last f hs x n e))
+    (subst (λ z. IsSplit a (n + 1) (map f hs ++ n ∷ []) z (map f vs2)) (sym (ap (map f) j))
+    (subst (λ z. IsSplit a (n + 1) (map f hs ++ n ∷ []) (map f ss) z) (sym (ap (map f) k)) (split_horizontal a n (map f hs) (map f ss) (map f vs) (subst (IsHorizontalRow a) e p) s)))
+
+pub more_square : {X : Type 0} (f : X → ℕ) (a : Matrix) (n : ℕ) (x : X) (hs ss vs hs2 ss2 vs2 : List X) → f x ≡ n → IsSquareRow a (f x) → IsSplit a n (map f hs) (map f ss) (map f vs) → hs2 ≡ hs → ss2 ≡ ss ++ x ∷ [] → vs2 ≡ vs → IsSplit a (n + 1) (map f hs2) (map f ss2) (map f vs2)
+more_square f a n x hs ss vs hs2 ss2 vs2 e p s i j k =
+    subst (λ z. IsSplit a (n + 1) z (map f ss2) (map f vs2)) (sym (ap (map f) i))
+    (subst (λ z. IsSplit a (n + 1) (map f hs) z (map f vs2)) (sym (ap (map f) j ∙ number_last f ss x n e))
+    (subst (λ z. IsSplit a (n + 1) (map f hs) (map f ss ++ n ∷ []) z) (sym (ap (map f) k)) (split_square a n (map f hs) (map f ss) (map f vs) (subst (IsSquareRow a) e p) s)))
+
+pub more_vertical : {X : Type 0} (f : X → ℕ) (a : Matrix) (n : ℕ) (x : X) (hs ss vs hs2 ss2 vs2 : List X) → f x ≡ n → IsVerticalRow a (f x) → IsSplit a n (map f hs) (map f ss) (map f vs) → hs2 ≡ hs → ss2 ≡ ss → vs2 ≡ vs ++ x ∷ [] → IsSplit a (n + 1) (map f hs2) (map f ss2) (map f vs2)
+more_vertical f a n x hs ss vs hs2 ss2 vs2 e p s i j k =
+    subst (λ z. IsSplit a (n + 1) z (map f ss2) (map f vs2)) (sym (ap (map f) i))
+    (subst (λ z. IsSplit a (n + 1) (map f hs) z (map f vs2)) (sym (ap (map f) j))
+    (subst (λ z. IsSplit a (n + 1) (map f hs) (map f ss) z) (sym (ap (map f) k ∙ number_last f vs x n e)) (split_vertical a n (map f hs) (map f ss) (map f vs) (subst (IsVerticalRow a) e p) s)))
+
+pub split_end : (a : Matrix) (n : ℕ) (hs ss vs : List ℕ) → a.rows ≤ n → IsSplit a n hs ss vs → Lists (IsHorizontalRow a) hs × Lists (IsSquareRow a) ss × Lists (IsVerticalRow a) vs
+split_end a n hs ss vs le s = (
+  all_below (IsHorizontalRow a) n hs (λ x h. let lt = horizontal_below a x h in omega arith) s.horizontal,
+  all_below (IsSquareRow a) n ss (λ x h. let lt = h.0 in omega arith) s.square,
+  all_below (IsVerticalRow a) n vs (λ x h. let lt = h.0 in omega arith) s.vertical,
+)
+
+pub items_same : {X : Type 0} {v w : Vec X Global} → v ≡ w → v.items ≡ w.items
+items_same e = λ i. (e i).items
+
+-- The transpose.
+
+pub turned_marks : (a : Matrix) (marks : List Bool) → Marks (cols (transpose a)) (IsHorizontalCol (transpose a)) marks → Marks a.rows (IsVerticalRow a) marks
+turned_marks a marks k = record {
+  long = k.long ∙ transpose_cols a;
+  exact = λ i lt. (λ h. turned_vertical a (transpose a) i (transpose_is a) ((k.exact i (rw transpose_cols lt)).0 h), λ v. (k.exact i (rw transpose_cols lt)).1 (vertical_turned a (transpose a) i (transpose_is a) v));
+}
+
+pub marks_turned : (a : Matrix) (marks : List Bool) → Marks a.rows (IsVerticalRow a) marks → Marks (cols (transpose a)) (IsHorizontalCol (transpose a)) marks
+marks_turned a marks k = record {
+  long = k.long ∙ sym (transpose_cols a);
+  exact = λ i lt. (λ h. vertical_turned a (transpose a) i (transpose_is a) ((k.exact i (rw transpose_cols at lt)).0 h), λ v. (k.exact i (rw transpose_cols at lt)).1 (turned_vertical a (transpose a) i (transpose_is a) v));
+}
+
+pub col_marks_turned : (a : Matrix) (marks : List Bool) → Marks (cols a) (IsHorizontalCol a) marks → Marks (cols a) (IsVerticalRow (transpose a)) marks
+col_marks_turned a marks k = record {
+  long = k.long;
+  exact = λ i lt. (λ h. horizontal_turned a (transpose a) i (transpose_is a) ((k.exact i lt).0 h), λ v. (k.exact i lt).1 (turned_horizontal a (transpose a) i (transpose_is a) v));
+}
+
+pub horizontal_cols_lists : (a : Matrix) (xs : List ℕ) → Lists (IsVerticalRow (transpose a)) xs → Lists (IsHorizontalCol a) xs
+horizontal_cols_lists a xs l = lists_same (IsVerticalRow (transpose a)) (IsHorizontalCol a) xs (λ c k. turned_horizontal a (transpose a) c (transpose_is a) k) (λ c k. horizontal_turned a (transpose a) c (transpose_is a) k) l
+
+pub square_cols_lists : (a : Matrix) (xs : List ℕ) → Lists (IsSquareRow (transpose a)) xs → Lists (IsSquareCol a) xs
+square_cols_lists a xs l = lists_same (IsSquareRow (transpose a)) (IsSquareCol a) xs (λ c k. square_row_turned (transpose a) a c (transpose_back a (transpose a) (transpose_is a)) k) (λ c k. square_col_turned a (transpose a) c (transpose_is a) k) l
+
+pub vertical_cols_lists : (a : Matrix) (xs : List ℕ) → Lists (IsHorizontalRow (transpose a)) xs → Lists (IsVerticalCol a) xs
+vertical_cols_lists a xs l = lists_same (IsHorizontalRow (transpose a)) (IsVerticalCol a) xs (λ c k. turned_vertical_col a (transpose a) c (transpose_is a) k) (λ c k. vertical_col_turned a (transpose a) c (transpose_is a) k) l
+
+pub plain_lists : (P : ℕ → Type 0) (xs : List ℕ) → Lists P (map (λ (x : ℕ). x) xs) → Lists P xs
+plain_lists P xs l = subst (Lists P) (map-id xs) l
+
+-- What nothing refutes.
+
+distinct_stable : (xs : List ℕ) → ¬ ¬ AreDistinct xs → AreDistinct xs
+distinct_stable [] nn = tt
+distinct_stable (x ∷ xs) nn = (λ h. nn (λ d. d.0 h), distinct_stable xs (λ k. nn (λ d. k d.1)))
+
+less_stable : (x y : ℕ) → ¬ ¬ (x < y) → x < y
+less_stable x y nn = by (dec_lt x y)
+  where
+    by : Dec (x < y) → x < y
+    by (yes lt) = lt
+    by (no nlt) = absurd (nn nlt)
+
+pub maximum_stable : (a : Matrix) (m : List Place) → ¬ ¬ IsMaximum a m → IsMaximum a m
+maximum_stable a m nn = record {
+  matching = record {
+    entries = λ r c h. (less_stable r a.rows (λ f. nn (λ k. f (k.matching.entries r c h).0)), ⊎_elim (λ k. k) (λ f. absurd (nn (λ k. f (k.matching.entries r c h).1))) (number_among r (column a c)));
+    rows_differ = distinct_stable (rows_of m) (λ f. nn (λ k. f k.matching.rows_differ));
+    cols_differ = distinct_stable (cols_of m) (λ f. nn (λ k. f k.matching.cols_differ));
+  };
+  longest = λ o k. let lt = less_stable (length o) (suc (length m)) (λ f. nn (λ max. f (let le = max.longest o k in omega arith))) in omega arith;
+}
+
+pub known : (a : Matrix) (m : Pairing) → m.rows ≡ a.rows → m.cols ≡ cols a → ¬ ¬ IsMaximum a m.pairs → IsMaximumOf a m
+known a m rows sizes nn =
+    let max = maximum_stable a m.pairs nn in
+    record { matching = record { rows = rows; cols = sizes; matching = max.matching }; maximum = max }
+
+pub transposed_known : (a : Matrix) (m : Pairing) → m.rows ≡ a.rows → m.cols ≡ cols a → ¬ ¬ IsMaximum a m.pairs → IsMaximumOf (transpose a) (transposed m)
+transposed_known a m rows sizes nn =
+    let max = turned_maximum a (transpose a) m.pairs (transpose_is a) (maximum_stable a m.pairs nn) in
+    record { matching = record { rows = sizes; cols = rows ∙ sym (transpose_cols a); matching = max.matching }; maximum = max }
+
+pub ok_map : {A E : Type 0} (r : Result A E) (P Q : A → Type 0) → ((x : A) → P x → Q x) → IfOk r P → IfOk r Q
+ok_map (Ok x) P Q f h = f x h
+ok_map (Err e) P Q f h = h

@@ -1,0 +1,48 @@
+-- The path of a root, and matchings in which the paths of some roots are exchanged.
+use Rattle.std.specs.Prelude.{◌≡◌, ℕ, List, Option, length}
+use Rattle.bip_defs.specs.Lists.{Among, AreDistinct}
+use Rattle.bip_defs.specs.Matching.{rows_of}
+use Rattle.bip_defs.specs.Matrix.{Place, cols}
+use Rattle.bip_defs.specs.Paths.{Alternates, BeginsUnmatched}
+use Rattle.bip_graph.specs.Matching.{IsMatchingOf, Pairing}
+use Rattle.forest_core.specs.Current.{IsCurrent, OnPath}
+use Rattle.forest_core.specs.Sound.{IsSound}
+use Rattle.forest_core.specs.State.{State}
+use Rattle.forest_core.specs.Tables.{IsTableOf}
+
+-- the whole path of a root, from the root
+pub record IsPath (s : State) (x : ℕ) (path : List Place) : Type 0 where
+  pub begins : BeginsUnmatched s.base path
+  pub alternates : Alternates s.base path
+  pub claimed : (p : Place) → Among p path → Among p s.claims
+  pub on_path : (q : ℕ) → Among q (rows_of path) → OnPath s.base s.claims s.leaves x q
+  pub complete : (q : ℕ) → OnPath s.base s.claims s.leaves x q → Among q (rows_of path)
+  pub rows_differ : AreDistinct (rows_of path)
+
+-- the same forest with these roots flipped
+abbrev pub with_flipped : State → List ℕ → State
+with_flipped s xs = record { matrix = s.matrix; base = s.base; claims = s.claims; leaves = s.leaves; flipped = xs }
+
+-- the base matching with the paths of these roots exchanged
+pub record IsExchanged (s : State) (xs : List ℕ) (m : Pairing) : Type 0 where
+  pub current : IsCurrent (with_flipped s xs) m.pairs
+  pub matching : IsMatchingOf s.matrix m
+
+-- the leaf is that of a root whose path is not exchanged yet
+pub record CanTrace (s : State) (xs : List ℕ) (x : ℕ) (m : Pairing) (holders : List (Option ℕ)) (leaf : ℕ) : Type 0 where
+  pub sound : IsSound s
+  pub long : length holders ≡ s.matrix.rows
+  pub held : IsTableOf s.claims holders
+  pub exchanged : IsExchanged s xs m
+  pub not_yet : ¬ Among x xs
+  pub leaf_is : Among (x, leaf) s.leaves
+
+-- the base matching of a forest in which these roots are flipped, and its tables
+pub record CanExchange (s : State) (m : Pairing) (holders leaf_of : List (Option ℕ)) (roots : List ℕ) : Type 0 where
+  pub sound : IsSound s
+  pub rows_long : length holders ≡ s.matrix.rows
+  pub cols_long : length leaf_of ≡ cols s.matrix
+  pub held : IsTableOf s.claims holders
+  pub won : IsTableOf s.leaves leaf_of
+  pub base : m ≡ record { rows = s.matrix.rows; cols = cols s.matrix; pairs = s.base }
+  pub roots_are : s.flipped ≡ roots
