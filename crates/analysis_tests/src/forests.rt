@@ -1,6 +1,6 @@
 //! Runs of events on the forest of alternating trees, and its phases, worked out by hand.
 
-ghost use Rattle.forest_core.specs.State.{IsRested};
+ghost use Rattle.bip_defs.specs.Forest.{IsRested};
 
 use crate::small::{has_pairs, matching_of, pattern_of};
 use forest_core::{Forest, every_run};

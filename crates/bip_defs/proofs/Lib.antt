@@ -15,6 +15,7 @@ pub mod Slices
 pub mod Small
 pub mod SmallForms
 pub mod Square
+pub mod Tallies
 pub mod Together
 pub mod Transposed
 pub mod Triangular

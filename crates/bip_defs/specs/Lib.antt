@@ -1,6 +1,7 @@
 pub mod Blocks
 pub mod Components
 pub mod Decomposition
+pub mod Forest
 pub mod Lists
 pub mod Marks
 pub mod Matching
@@ -12,6 +13,7 @@ pub mod Queues
 pub mod Searches
 pub mod Small
 pub mod Start
+pub mod Tallies
 pub mod Triangular
 pub mod Walks
 pub mod Witness

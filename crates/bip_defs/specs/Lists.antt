@@ -1,5 +1,5 @@
 -- Words on lists that stand for sets.
-use Rattle.std.specs.Prelude.{◌≡◌, ◌⊎◌, ℕ, ◌<◌, Bool, true, false, List, [], ◌∷◌, slice_index_or}
+use Rattle.std.specs.Prelude.{◌≡◌, ◌⊎◌, ℕ, ◌<◌, Bool, true, false, List, [], ◌∷◌, map, slice_index_or}
 
 -- x is one of the list
 abbrev pub Among : {X : Type 0} → X → List X → Type 0
@@ -30,3 +30,12 @@ pub record Lists (P : ℕ → Type 0) (xs : List ℕ) : Type 0 where
 -- the number's place in a list of marks has one
 abbrev pub IsMarked : List Bool → ℕ → Type 0
 IsMarked marks x = slice_index_or marks x false ≡ true
+
+-- the first of each two numbers
+abbrev pub numbers_of : List (ℕ × ℕ) → List ℕ
+numbers_of pairs = map (λ (p : ℕ × ℕ). p.0) pairs
+
+-- no word is listed twice by the new pairs, and none of these by the old ones
+pub record AreNew (old new : List (ℕ × ℕ)) : Type 0 where
+  pub differ : AreDistinct (numbers_of new)
+  pub apart : (i : ℕ) → Among i (numbers_of new) → ¬ Among i (numbers_of old)

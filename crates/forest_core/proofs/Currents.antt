@@ -9,7 +9,7 @@ use Rattle.bip_defs.proofs.Sets.{col_among, col_pair, distinct_pairs, drops_gone
 use Rattle.forest_core.specs.Current.{IsCurrent, IsRematched, OnPath}
 use Rattle.forest_core.specs.Paths.{IsPath, with_flipped}
 use Rattle.forest_core.specs.Sound.{IsSound}
-use Rattle.forest_core.specs.State.{RootOf, State, roots_of}
+use Rattle.bip_defs.specs.Forest.{RootOf, State, roots_of}
 use Rattle.forest_core.proofs.RootPaths.{has_path}
 use Rattle.forest_core.proofs.Members.{same_length, same_matching}
 use Rattle.forest_core.proofs.Roots.{claims_entries, one_claim, one_path, one_root, path_root, root_of_claimer}

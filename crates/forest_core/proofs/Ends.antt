@@ -12,7 +12,7 @@ use Rattle.sp_ids.specs.declared.events.Event.TheVariants.{Done}
 use Rattle.forest_core.specs.Current.{IsCurrent}
 use Rattle.forest_core.specs.Events.{IsLegal}
 use Rattle.forest_core.specs.Sound.{AreClaims, IsSound}
-use Rattle.forest_core.specs.State.{InForest, IsSettled, State, roots_of}
+use Rattle.bip_defs.specs.Forest.{InForest, IsSettled, State, roots_of}
 use Rattle.forest_core.proofs.Currents.{current_grown, none_flipped}
 
 -- walks lead to the base columns of claimed rows

@@ -7,7 +7,7 @@ use Rattle.bip_defs.proofs.Sets.{among_last, among_left, among_right, col_among,
 use Rattle.forest_core.specs.Current.{IsCurrent}
 use Rattle.forest_core.specs.Events.{AreKept, drops, keeps, none}
 use Rattle.forest_core.specs.Sound.{AreClaims, IsSound}
-use Rattle.forest_core.specs.State.{IsRootOfRow, IsWon, RootOf, State, above, itself}
+use Rattle.bip_defs.specs.Forest.{IsRootOfRow, IsWon, RootOf, State, above, itself}
 use Rattle.forest_core.proofs.Roots.{one_root, path_root, root_of_claimer}
 
 -- The kept claims.

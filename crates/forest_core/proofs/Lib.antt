@@ -3,6 +3,7 @@ pub mod Ends
 pub mod Grafts
 pub mod KeptClaims
 pub mod Members
+pub mod NewPairs
 pub mod PathLemmas
 pub mod Renewals
 pub mod RootPaths

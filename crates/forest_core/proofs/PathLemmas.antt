@@ -10,7 +10,7 @@ use Rattle.bip_graph.specs.Matching.{Pairing}
 use Rattle.forest_core.specs.Current.{IsCurrent, OnPath, up}
 use Rattle.forest_core.specs.Paths.{CanExchange, CanTrace, IsExchanged, IsPath, with_flipped}
 use Rattle.forest_core.specs.Sound.{IsSound}
-use Rattle.forest_core.specs.State.{State}
+use Rattle.bip_defs.specs.Forest.{State}
 use Rattle.forest_core.specs.Tables.{beside}
 use Rattle.forest_core.proofs.RootPaths.{IsClimb, climb_end, climb_more, climb_start, starts_among}
 use Rattle.forest_core.proofs.Currents.{current_more, none_flipped, path_augments, path_entries, stays_matched, was_matched}

@@ -4,12 +4,11 @@ use Rattle.bip_defs.specs.Lists.{Among}
 use Rattle.bip_defs.specs.Matrix.{Place}
 use Rattle.bip_defs.proofs.Sets.{among_at, place_among, row_among, row_pair}
 use Rattle.bip_graph.specs.Matching.{Pairing}
-use Rattle.forest_core.specs.Current.{IsCurrent}
 use Rattle.forest_core.specs.Events.{AreKept, IsRenewed, drops, keeps, none}
 use Rattle.forest_core.specs.Paths.{CanExchange, IsExchanged}
 use Rattle.forest_core.specs.Kept.{kept, root_has_leaf}
 use Rattle.forest_core.specs.Sound.{AreClaims, IsSound}
-use Rattle.forest_core.specs.State.{IsRootOfRow, IsWon, RootOf, State, roots_of}
+use Rattle.bip_defs.specs.Forest.{IsRootOfRow, IsWon, RootOf, State, roots_of}
 use Rattle.forest_core.specs.Stored.{AreClaimRoots, AreMarks, AreRowTrees, IsStored, Tables}
 use Rattle.forest_core.specs.Tables.{AreAlike, IsTableOf, beside}
 use Rattle.forest_core.proofs.Grafts.{kept_claims, kept_root, kept_sound}

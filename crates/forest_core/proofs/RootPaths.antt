@@ -8,7 +8,7 @@ use Rattle.bip_defs.proofs.Sets.{col_among, one_col, one_row, row_among, row_pai
 use Rattle.forest_core.specs.Current.{OnPath, leaf, up}
 use Rattle.forest_core.specs.Paths.{IsPath}
 use Rattle.forest_core.specs.Sound.{IsSound}
-use Rattle.forest_core.specs.State.{RootOf, State, above, itself}
+use Rattle.bip_defs.specs.Forest.{RootOf, State, above, itself}
 use Rattle.forest_core.proofs.Roots.{earlier, one_claim, rank, root_above, root_of_claimer}
 
 -- the first pair of the list

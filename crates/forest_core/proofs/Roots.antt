@@ -6,7 +6,7 @@ use Rattle.bip_defs.specs.Matrix.{AreEntries, IsEntry, Matrix, Place}
 use Rattle.bip_defs.proofs.Sets.{among_last, among_left, among_right, col_among, number_same, one_col, one_row, row_among}
 use Rattle.forest_core.specs.Current.{OnPath, leaf, up}
 use Rattle.forest_core.specs.Sound.{AreClaims, IsSound}
-use Rattle.forest_core.specs.State.{IsRootOfRow, RootOf, State, above, itself}
+use Rattle.bip_defs.specs.Forest.{IsRootOfRow, RootOf, State, above, itself}
 
 -- Claims.
 

@@ -1,5 +1,5 @@
 -- Forests that grow, and what legal events lead to.
-use Rattle.std.proofs.Common.{◌≡◌, ◌⊎◌, ◌∙◌, ℕ, ◌<◌, List, [], ◌∷◌, ◌++◌, refl, sym, ap, subst, inl, inr, ⊎_elim}
+use Rattle.std.proofs.Common.{◌≡◌, ◌∙◌, ℕ, ◌<◌, List, [], ◌∷◌, ◌++◌, refl, sym, ap, subst, inl, inr, ⊎_elim}
 use Rattle.bip_defs.specs.Lists.{Among}
 use Rattle.bip_defs.specs.Matching.{Covers, cols_of, rows_of}
 use Rattle.bip_defs.specs.Matrix.{IsEntry, Matrix, Place, cols}
@@ -9,7 +9,7 @@ use Rattle.sp_ids.specs.declared.events.Event.TheVariants.{Claim, Win, Flip, Gra
 use Rattle.forest_core.specs.Current.{IsCurrent, OnPath, leaf, up}
 use Rattle.forest_core.specs.Events.{AreClaimsAndWins, Becomes, Grows, IsLegal, LeadsTo, Runs}
 use Rattle.forest_core.specs.Sound.{IsSound}
-use Rattle.forest_core.specs.State.{HasWon, InForest, IsUsedUp, IsWon, RootOf, State, roots_of}
+use Rattle.bip_defs.specs.Forest.{InForest, RootOf, State, roots_of}
 use Rattle.forest_core.proofs.Roots.{path_root, root_more}
 use Rattle.forest_core.proofs.Soundness.{event_sound, run_last, run_matrix, run_sound}
 

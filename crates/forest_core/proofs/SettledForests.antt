@@ -1,5 +1,5 @@
 -- Settled and rested forests.
-use Rattle.std.proofs.Common.{◌≡◌, ◌↔◌, ℕ, List, [], ◌∷◌, ◌++◌, refl, sym, subst, inl, inr, ⊎_elim}
+use Rattle.std.proofs.Common.{◌≡◌, ◌↔◌, ℕ, List, [], refl, subst, ⊎_elim}
 use Rattle.bip_defs.specs.Lists.{Among}
 use Rattle.bip_defs.specs.Matching.{rows_of}
 use Rattle.bip_defs.specs.Matrix.{Matrix, Place}
@@ -7,7 +7,7 @@ use Rattle.bip_defs.proofs.Sets.{number_among, row_among, row_pair}
 use Rattle.sp_ids.specs.declared.events.Event.TheVariants.{Graft, Rebuild, Win}
 use Rattle.forest_core.specs.Events.{IsLegal, Becomes}
 use Rattle.forest_core.specs.Sound.{IsSound}
-use Rattle.forest_core.specs.State.{IsRested, IsSettled, State, new_forest, roots_of}
+use Rattle.bip_defs.specs.Forest.{IsRested, IsSettled, State, new_forest, roots_of}
 use Rattle.forest_core.proofs.Grafts.{keeps_mate, kept_sound}
 use Rattle.forest_core.proofs.Roots.{has_root, root_free}
 

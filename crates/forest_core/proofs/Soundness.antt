@@ -7,7 +7,7 @@ use Rattle.bip_defs.proofs.Sets.{among_last, among_left, among_right}
 use Rattle.forest_core.specs.Current.{IsCurrent}
 use Rattle.forest_core.specs.Events.{IsLegal, IsRenewed, Becomes, Runs, flips}
 use Rattle.forest_core.specs.Sound.{AreClaims, IsLeaf, IsSound}
-use Rattle.forest_core.specs.State.{IsRootOfRow, State, new_forest, roots_of}
+use Rattle.bip_defs.specs.Forest.{IsRootOfRow, State, new_forest, roots_of}
 use Rattle.sp_ids.specs.declared.events.Event.{Event}
 use Rattle.sp_ids.specs.declared.events.Event.TheVariants.{Claim, Win, Flip, Graft, Rebuild, Done}
 use Rattle.forest_core.proofs.Currents.{current_grown, current_some}

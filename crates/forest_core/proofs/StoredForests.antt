@@ -10,7 +10,7 @@ use Rattle.bip_graph.specs.Matching.{IsMatchingOf, Pairing}
 use Rattle.sp_ids.specs.declared.events.Event.TheVariants.{Claim, Win, Flip}
 use Rattle.forest_core.specs.Events.{IsLegal}
 use Rattle.forest_core.specs.Sound.{IsSound}
-use Rattle.forest_core.specs.State.{InForest, IsRootOfRow, RootOf, State, above, itself, new_forest, roots_of}
+use Rattle.bip_defs.specs.Forest.{InForest, IsRootOfRow, RootOf, State, above, itself, new_forest, roots_of}
 use Rattle.forest_core.specs.Stored.{AreClaimRoots, AreMarks, AreRowTrees, HasRootAt, IsStored, Tables}
 use Rattle.forest_core.specs.Tables.{Claimed, IsTableOf, beside}
 use Rattle.forest_core.proofs.Roots.{claims_differ, claims_entries, has_root, one_root_of_row, root_more, root_of_claimer}

@@ -2,7 +2,7 @@
 use Rattle.std.specs.Prelude.{◌⊎◌, ◌↔◌, ℕ, List}
 use Rattle.bip_defs.specs.Lists.{Among, AreDistinct}
 use Rattle.bip_defs.specs.Matrix.{Place}
-use Rattle.forest_core.specs.State.{State}
+use Rattle.bip_defs.specs.Forest.{State}
 
 -- a row on the path of a root: its leaf, or the base row of the column that claimed a row on the path
 pub data OnPath (base claims leaves : List Place) (x : ℕ) : ℕ → Type 0 where

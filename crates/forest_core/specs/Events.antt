@@ -4,7 +4,7 @@ use Rattle.bip_defs.specs.Lists.{Among}
 use Rattle.bip_defs.specs.Matching.{cols_of, rows_of}
 use Rattle.bip_defs.specs.Matrix.{IsEntry, Place}
 use Rattle.forest_core.specs.Current.{IsCurrent}
-use Rattle.forest_core.specs.State.{HasWon, InForest, IsRootOfRow, IsUsedUp, IsWon, RootOf, State, roots_of}
+use Rattle.bip_defs.specs.Forest.{HasWon, InForest, IsRootOfRow, IsUsedUp, IsWon, RootOf, State, roots_of}
 use Rattle.sp_ids.specs.declared.events.Event.{Event}
 use Rattle.sp_ids.specs.declared.events.Event.TheVariants.{Claim, Win, Flip, Graft, Rebuild, Done}
 

@@ -1,7 +1,7 @@
 -- What contracts see of a forest, and what holds of its fields.
 use Rattle.std.specs.Prelude.{◌≤◌, vec_capacity}
 use Rattle.bip_defs.specs.Matrix.{cols}
-use Rattle.forest_core.specs.State.{State}
+use Rattle.bip_defs.specs.Forest.{State}
 use Rattle.forest_core.specs.Stored.{IsStored, Tables}
 use Rattle.forest_core.specs.declared.forest.Forest.TheInside.{Inside}
 

@@ -4,6 +4,5 @@ pub mod Inside
 pub mod Kept
 pub mod Paths
 pub mod Sound
-pub mod State
 pub mod Stored
 pub mod Tables

@@ -7,7 +7,7 @@ use Rattle.bip_defs.specs.Paths.{Alternates, BeginsUnmatched}
 use Rattle.bip_graph.specs.Matching.{IsMatchingOf, Pairing}
 use Rattle.forest_core.specs.Current.{IsCurrent, OnPath}
 use Rattle.forest_core.specs.Sound.{IsSound}
-use Rattle.forest_core.specs.State.{State}
+use Rattle.bip_defs.specs.Forest.{State}
 use Rattle.forest_core.specs.Tables.{IsTableOf}
 
 -- the whole path of a root, from the root

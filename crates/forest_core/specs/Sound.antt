@@ -3,7 +3,7 @@ use Rattle.std.specs.Prelude.{◌⊎◌, ℕ, List, [], ◌∷◌, ◌++◌}
 use Rattle.bip_defs.specs.Lists.{Among, AreDistinct}
 use Rattle.bip_defs.specs.Matching.{IsMatching, cols_of, rows_of}
 use Rattle.bip_defs.specs.Matrix.{IsEntry, Matrix, Place}
-use Rattle.forest_core.specs.State.{IsRootOfRow, State, roots_of}
+use Rattle.bip_defs.specs.Forest.{IsRootOfRow, State, roots_of}
 
 -- each claim, after those of the rows before it, is of a row that was not claimed, at an entry whose column is unmatched in
 -- the base or has its base row claimed before

@@ -4,7 +4,7 @@ use Rattle.bip_defs.specs.Lists.{Among}
 use Rattle.bip_defs.specs.Matrix.{Place, cols}
 use Rattle.bip_graph.specs.Matching.{Pairing}
 use Rattle.forest_core.specs.Sound.{IsSound}
-use Rattle.forest_core.specs.State.{IsRootOfRow, RootOf, State}
+use Rattle.bip_defs.specs.Forest.{IsRootOfRow, RootOf, State}
 use Rattle.forest_core.specs.Tables.{Claimed, IsTableOf, beside}
 
 -- of each row the root of its tree, where the row is claimed

@@ -8,7 +8,7 @@ ghost use Rattle.bip_graph.specs.Matching.{IsMatchingOf};
 ghost use Rattle.forest_core.specs.Current.{IsCurrent};
 ghost use Rattle.forest_core.specs.Events.{AreFlipped, AreKept, Grows, IsClosed, IsLegal, IsRenewed};
 ghost use Rattle.forest_core.specs.Sound.{IsSound};
-ghost use Rattle.forest_core.specs.State.{InForest, IsRootOfRow, IsUsedUp, RootOf, new_forest, roots_of};
+ghost use Rattle.bip_defs.specs.Forest.{InForest, IsRootOfRow, IsUsedUp, RootOf, new_forest, roots_of};
 ghost use Rattle.sp_ids.specs.declared.events.Event.TheVariants.{Claim, Win, Flip, Graft, Rebuild, Done};
 
 use crate::claim_table::ClaimTable;
@@ -47,7 +47,7 @@ pub struct Forest<'p> {
 }
 
 impl<'p> Model for Forest<'p> {
-    ghost use Rattle.forest_core.specs.State.{State};
+    ghost use Rattle.bip_defs.specs.Forest.{State};
 
     ghost Value = { State };
 

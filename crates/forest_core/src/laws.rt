@@ -1,14 +1,15 @@
 //! Laws on forests.
 
 ghost use Rattle.std.specs.Prelude.{◌≡◌, ◌↔◌, ◌+◌, ◌<◌, ◌≤◌, ◌++◌, ℕ, List, [], length};
-ghost use Rattle.bip_defs.specs.Lists.{Among, AreDistinct, Lists};
+ghost use Rattle.bip_defs.specs.Lists.{Among, AreDistinct, AreNew, Lists};
 ghost use Rattle.bip_defs.specs.Matching.{Covers, IsMatching, IsMaximum, cols_of, rows_of};
-ghost use Rattle.bip_defs.specs.Matrix.{Matrix, Place, cols};
+ghost use Rattle.bip_defs.specs.Matrix.{IsEntry, Matrix, Place, cols};
 ghost use Rattle.bip_defs.specs.Witness.{IsWitness};
 ghost use Rattle.forest_core.specs.Current.{IsCurrent};
 ghost use Rattle.forest_core.specs.Events.{AreClaimsAndWins, Becomes, Grows, IsLegal, LeadsTo, Runs, flips};
 ghost use Rattle.forest_core.specs.Sound.{IsSound};
-ghost use Rattle.forest_core.specs.State.{InForest, IsRested, IsSettled, RootOf, State, new_forest};
+ghost use Rattle.bip_defs.specs.Forest.{InForest, IsRested, IsRootOfRow, IsSettled, RootOf, State, grown_by, new_forest};
+ghost use Rattle.sp_ids.specs.Events.{claims_then_wins};
 ghost use Rattle.sp_ids.specs.declared.events.Event.{Event};
 ghost use Rattle.sp_ids.specs.declared.events.Event.TheVariants.{Claim, Done, Graft, Rebuild, Win};
 
@@ -97,3 +98,17 @@ pub fn settled_without_wins()
     ensures { (s : State) → IsSound s → s.leaves ≡ []
         → IsSettled s ↔ ((x r : ℕ) → ¬ IsLegal s (Win x r)) }
 {}
+
+/// Claims of new rows by columns that are in the forest, and then wins of new roots, each with a claimed row of its tree as
+/// leaf, are legal events in whatever order they stand.
+pub fn new_pairs_run()
+    ensures { (s : State) (claims : List Place) (wins : List (ℕ × ℕ)) → AreNew s.claims claims
+        → ((r c : ℕ) → Among (r, c) claims → IsEntry s.matrix r c × InForest s c)
+        → AreNew s.leaves wins
+        → ((x r : ℕ) → Among (x, r) wins → (¬ Among x (cols_of s.base))
+        × (¬ Among r (rows_of s.base)) × IsRootOfRow s.base (s.claims ++ claims) x r)
+        → Runs s (claims_then_wins claims wins) (grown_by s claims wins) }
+{
+    runs_join();
+    claims_and_wins_grow();
+}

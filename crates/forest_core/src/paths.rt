@@ -2,7 +2,7 @@
 
 ghost use Rattle.std.specs.Prelude.{◌≡◌, ℕ, ◌≤◌, List, length, vec_capacity};
 ghost use Rattle.forest_core.specs.Paths.{CanExchange, CanTrace, IsExchanged, IsPath};
-ghost use Rattle.forest_core.specs.State.{State};
+ghost use Rattle.bip_defs.specs.Forest.{State};
 
 use crate::claim_table::ClaimTable;
 use crate::put::put;

@@ -4,7 +4,7 @@ ghost use Rattle.std.specs.Prelude.{◌≡◌, ◌↔◌, ℕ, ◌<◌, List, Bo
 ghost use Rattle.bip_defs.specs.Lists.{Among, AreDistinct};
 ghost use Rattle.bip_defs.specs.Matching.{rows_of};
 ghost use Rattle.forest_core.specs.Kept.{kept};
-ghost use Rattle.forest_core.specs.State.{roots_of};
+ghost use Rattle.bip_defs.specs.Forest.{roots_of};
 ghost use Rattle.forest_core.specs.Stored.{AreClaimRoots, AreMarks};
 ghost use Rattle.forest_core.specs.Tables.{IsTableOf, beside};
 

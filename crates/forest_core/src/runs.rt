@@ -7,7 +7,7 @@ ghost use Rattle.bip_graph.specs.Matching.{IsMatchingOf};
 ghost use Rattle.forest_core.specs.Current.{IsCurrent};
 ghost use Rattle.forest_core.specs.Events.{IsLegal, Becomes, Runs, flips};
 ghost use Rattle.forest_core.specs.Sound.{IsSound};
-ghost use Rattle.forest_core.specs.State.{new_forest};
+ghost use Rattle.bip_defs.specs.Forest.{new_forest};
 ghost use Rattle.sp_ids.specs.declared.events.Event.TheVariants.{Done};
 
 use crate::forest::Forest;

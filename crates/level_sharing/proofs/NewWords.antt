@@ -1,10 +1,10 @@
 -- What the entries tell by which the list of all words has grown.
 use Rattle.std.proofs.Common.{◌≡◌, ◌≢◌, ◌∙◌, ◌⊎◌, ℕ, ◌+◌, ◌≤◌, Option, None, Some, List, ◌++◌, map, sym, subst, ⊎_elim, arith}
-use Rattle.bip_defs.specs.Lists.{Among, AreDistinct}
+use Rattle.bip_defs.specs.Lists.{Among, AreDistinct, AreNew}
 use Rattle.bip_defs.proofs.Sets.{among_either, among_left, among_right, number_same, row_pair}
 use Rattle.claim_words.specs.Accounts.{Accounts, is_added, times}
 use Rattle.claim_words.specs.Board.{held}
-use Rattle.level_sharing.specs.Agreement.{AreNew, HoldThese}
+use Rattle.level_sharing.specs.Agreement.{HoldThese}
 
 -- what the board's laws tell of lists that account for words
 pub record WordLaws : Type 0 where

@@ -1,6 +1,6 @@
 -- When a board of words and its workers agree with the claims and the leaves of a forest.
-use Rattle.std.specs.Prelude.{◌≡◌, ◌↔◌, ℕ, List, [], Option, Some, map}
-use Rattle.bip_defs.specs.Lists.{Among, AreDistinct}
+use Rattle.std.specs.Prelude.{◌≡◌, ◌↔◌, ℕ, List, [], Option, Some}
+use Rattle.bip_defs.specs.Lists.{Among}
 use Rattle.claim_words.specs.Board.{Board, Words, held}
 use Rattle.claim_words.specs.Settles.{SettlesAll}
 use Rattle.claim_words.specs.WorkerState.{AreAllWorkers, WorkerState, fresh_claims_of, fresh_wins_of, seats_of}
@@ -23,11 +23,3 @@ pub record Agree (b : Board) (ws : List WorkerState) (claims leaves : List (ℕ 
   pub shows : Shows b ws claims leaves
   pub no_claims : fresh_claims_of ws ≡ []
   pub no_wins : fresh_wins_of ws ≡ []
-
-abbrev pub numbers_of : List (ℕ × ℕ) → List ℕ
-numbers_of pairs = map (λ (p : ℕ × ℕ). p.0) pairs
-
--- no word is listed twice by the new pairs, and none of these by the old ones
-pub record AreNew (old new : List (ℕ × ℕ)) : Type 0 where
-  pub differ : AreDistinct (numbers_of new)
-  pub apart : (i : ℕ) → Among i (numbers_of new) → ¬ Among i (numbers_of old)

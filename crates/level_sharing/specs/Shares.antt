@@ -1,8 +1,7 @@
 -- Shares of a list, one for each worker.
 use Rattle.std.specs.Prelude.{ℕ, suc, ◌+◌, ◌*◌, ◌/◌, List, [], ◌∷◌, length, slice_range}
-use Rattle.bip_defs.specs.Lists.{Among}
+use Rattle.bip_defs.specs.Lists.{Among, numbers_of}
 use Rattle.claim_words.specs.WorkerState.{WorkerState}
-use Rattle.level_sharing.specs.Agreement.{numbers_of}
 
 -- of so many workers, the share of the worker i: its places from `i * l / workers` on, up to `(i + 1) * l / workers`, of l
 abbrev pub share_of : {X : Type 0} → List X → ℕ → ℕ → List X

@@ -4,7 +4,8 @@ ghost use Rattle.std.specs.Prelude.{ℕ, List, ◌++◌, map};
 ghost use Rattle.claim_words.specs.Board.{Board, Words};
 ghost use Rattle.claim_words.specs.Settles.{SettlesAll};
 ghost use Rattle.claim_words.specs.WorkerState.{HaveGrown, WorkerState, fresh_claims_of, fresh_wins_of, seats_of, settled};
-ghost use Rattle.level_sharing.specs.Agreement.{Agree, AreNew, HoldThese, Shows};
+ghost use Rattle.bip_defs.specs.Lists.{AreNew};
+ghost use Rattle.level_sharing.specs.Agreement.{Agree, HoldThese, Shows};
 
 use claim_words::{fresh_lists_add_up, listed_words_stand, times_add_up};
 

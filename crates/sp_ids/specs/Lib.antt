@@ -1,4 +1,5 @@
 pub mod Entries
+pub mod Events
 pub mod Exit
 pub mod Limits
 pub mod Stored

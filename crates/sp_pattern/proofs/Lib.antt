@@ -7,9 +7,7 @@ pub mod Packed
 pub mod PlacedPairs
 pub mod Shape
 pub mod Sides
-pub mod Slices
 pub mod SplitLemmas
 pub mod SumLemmas
-pub mod Tallies
 pub mod TransposeLemmas
 pub mod Weighed

@@ -9,7 +9,7 @@ use Rattle.sp_ids.specs.declared.events.Event.TheVariants.{Flip, Rebuild}
 use Rattle.forest_core.specs.Events.{Becomes, IsLegal, LeadsTo}
 use Rattle.forest_core.specs.Paths.{with_flipped}
 use Rattle.forest_core.specs.Sound.{IsSound}
-use Rattle.forest_core.specs.State.{State, roots_of}
+use Rattle.bip_defs.specs.Forest.{State, roots_of}
 
 -- one event more, as the law says
 abbrev pub OneMore : Type 0

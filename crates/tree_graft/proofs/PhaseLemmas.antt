@@ -9,7 +9,7 @@ use Rattle.bip_defs.proofs.Reaching.{same_size_maximum}
 use Rattle.sp_ids.specs.declared.events.Event.{Event}
 use Rattle.forest_core.specs.Events.{Grows, LeadsTo, Runs}
 use Rattle.forest_core.specs.Sound.{IsSound}
-use Rattle.forest_core.specs.State.{IsRested, IsSettled, State}
+use Rattle.bip_defs.specs.Forest.{IsRested, IsSettled, State}
 
 -- the laws that runs keep a forest sound, and its matrix
 abbrev pub StaySound : Type 0

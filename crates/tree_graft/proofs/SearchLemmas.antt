@@ -9,7 +9,7 @@ use Rattle.bip_defs.proofs.Full.{few_below}
 use Rattle.bip_defs.proofs.Sets.{among_at, among_last, among_left, among_right, col_among, distinct_last, entry_col, number_same, one_col, one_row, rising_distinct, rising_last, row_among}
 use Rattle.sp_ids.specs.declared.events.Event.TheVariants.{Claim, Win, Done}
 use Rattle.forest_core.specs.Events.{Grows, IsLegal}
-use Rattle.forest_core.specs.State.{InForest, IsRested, IsWon, RootOf, State, roots_of}
+use Rattle.bip_defs.specs.Forest.{InForest, IsRested, IsWon, RootOf, State, roots_of}
 use Rattle.tree_graft.specs.Search.{IsScanned, IsSearch}
 
 -- the forest after a claim

@@ -1,7 +1,7 @@
 -- The search of a phase.
 use Rattle.std.specs.Prelude.{◌⊎◌, ℕ, List}
 use Rattle.bip_defs.specs.Lists.{Among, AreDistinct}
-use Rattle.forest_core.specs.State.{HasWon, InForest, IsSettled, IsUsedUp, State}
+use Rattle.bip_defs.specs.Forest.{HasWon, InForest, IsSettled, IsUsedUp, State}
 
 -- a settled forest, whose columns the frontier lists, each once
 pub record IsSearch (s : State) (frontier : List ℕ) : Type 0 where

@@ -2,7 +2,7 @@
 
 ghost use Rattle.std.specs.Prelude.{◌≡◌, ◌+◌, [], length};
 ghost use Rattle.forest_core.specs.Events.{LeadsTo};
-ghost use Rattle.forest_core.specs.State.{IsRested};
+ghost use Rattle.bip_defs.specs.Forest.{IsRested};
 
 use forest_core::{Forest, forests_are_rested, runs_join};
 

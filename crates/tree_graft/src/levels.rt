@@ -6,7 +6,7 @@ ghost use Rattle.bip_defs.specs.Matching.{cols_of, rows_of};
 ghost use Rattle.bip_defs.specs.Matrix.{IsEntry};
 ghost use Rattle.bip_graph.specs.Matching.{IsMatchingOf};
 ghost use Rattle.forest_core.specs.Events.{Grows, IsLegal};
-ghost use Rattle.forest_core.specs.State.{InForest, IsRested, IsSettled, RootOf, roots_of};
+ghost use Rattle.bip_defs.specs.Forest.{InForest, IsRested, IsSettled, RootOf, roots_of};
 ghost use Rattle.sp_ids.specs.declared.events.Event.TheVariants.{Claim};
 ghost use Rattle.tree_graft.specs.Search.{IsScanned, IsSearch};
 

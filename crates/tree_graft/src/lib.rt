@@ -13,7 +13,7 @@ ghost use Rattle.std.specs.Prelude.{◌≡◌, ◌↔◌, ◌+◌, ◌≤◌, le
 ghost use Rattle.bip_defs.specs.Matching.{Covers, IsMaximum};
 ghost use Rattle.bip_graph.specs.Matching.{IsMatchingOf, IsMaximumOf};
 ghost use Rattle.forest_core.specs.Events.{IsLegal, LeadsTo};
-ghost use Rattle.forest_core.specs.State.{IsRested};
+ghost use Rattle.bip_defs.specs.Forest.{IsRested};
 ghost use Rattle.sp_ids.specs.Limits.{max_workers};
 ghost use Rattle.sp_ids.specs.declared.events.Event.TheVariants.{Done};
 

@@ -2,7 +2,7 @@ use Rattle.std.proofs.Common.{◌≡◌, ◌-◌, ◌+◌, false, length, if◌t
 use Rattle.bip_defs.specs.Matching.{IsMaximum}
 use Rattle.bip_defs.specs.Matrix.{cols}
 use Rattle.forest_core.specs.Events.{LeadsTo}
-use Rattle.forest_core.specs.State.{IsRested, new_forest}
+use Rattle.bip_defs.specs.Forest.{IsRested, new_forest}
 use Rattle.tree_graft.proofs.complete.Given as goal
 
 abbrev pub invariant-loop-grows : goal.invariant-loop-grows

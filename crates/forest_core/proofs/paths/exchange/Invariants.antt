@@ -1,6 +1,6 @@
 use Rattle.std.proofs.Common.{◌≤◌, length, take, vec_capacity}
 use Rattle.forest_core.specs.Paths.{CanExchange, IsExchanged}
-use Rattle.forest_core.specs.State.{State}
+use Rattle.bip_defs.specs.Forest.{State}
 use Rattle.forest_core.proofs.paths.exchange.Given as goal
 
 abbrev pub invariant-loop-root : goal.invariant-loop-root

@@ -1,6 +1,6 @@
 use Rattle.std.proofs.Common.{ℕ, ◌-◌, ◌≤◌, List, length, vec_capacity}
 use Rattle.forest_core.specs.Paths.{CanTrace}
-use Rattle.forest_core.specs.State.{State}
+use Rattle.bip_defs.specs.Forest.{State}
 use Rattle.forest_core.proofs.PathLemmas.{IsClimbing}
 use Rattle.forest_core.proofs.paths.trace.Given as goal
 

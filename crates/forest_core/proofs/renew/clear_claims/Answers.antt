@@ -1,6 +1,6 @@
 use Rattle.std.proofs.Common.{◌≤◌, arith, drop_of_length-le, length, refl, subst}
 use Rattle.forest_core.proofs.Members.{read_among}
-use Rattle.forest_core.proofs.TableLemmas.{IsWithin, table_none, within_none}
+use Rattle.forest_core.proofs.TableLemmas.{IsWithin, within_none}
 use Rattle.forest_core.proofs.renew.clear_claims.Goals as goal
 
 pub loop-row-init : goal.loop-row-init

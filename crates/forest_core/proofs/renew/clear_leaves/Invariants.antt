@@ -1,6 +1,6 @@
 use Rattle.std.proofs.Common.{◌≡◌, ℕ, drop, length, slice_index_or, true, false}
 use Rattle.bip_defs.specs.Lists.{Among}
-use Rattle.forest_core.specs.State.{roots_of}
+use Rattle.bip_defs.specs.Forest.{roots_of}
 use Rattle.forest_core.proofs.TableLemmas.{IsWithin}
 use Rattle.forest_core.proofs.renew.clear_leaves.Given as goal
 

@@ -1,4 +1,4 @@
-use Rattle.std.proofs.Common.{◌≡◌, ◌<◌, ◌∙◌, ◌≤◌, Some, ap, arith, length, refl, sym}
+use Rattle.std.proofs.Common.{◌≡◌, ◌<◌, ◌∙◌, ◌≤◌, Some, ap, arith, length, refl}
 use Rattle.std.proofs.lemmas.List.{length-set}
 use Rattle.bip_defs.proofs.Sets.{among_at}
 use Rattle.forest_core.specs.Tables.{beside}

@@ -2,7 +2,7 @@ use Rattle.std.proofs.Common.{◌≤◌, ◌∙◌, List, ap, arith, length, sub
 use Rattle.std.proofs.lemmas.List.{take_all, take_more}
 use Rattle.sp_ids.specs.declared.events.Event.{Event}
 use Rattle.forest_core.specs.Events.{Runs}
-use Rattle.forest_core.specs.State.{new_forest}
+use Rattle.bip_defs.specs.Forest.{new_forest}
 use Rattle.forest_core.proofs.Soundness.{new_forest_sound, run_current, run_last, run_matrix, run_sound}
 use Rattle.forest_core.proofs.runs.every_run.Goals as goal
 

@@ -1,6 +1,6 @@
 use Rattle.std.proofs.Common.{take}
 use Rattle.forest_core.specs.Events.{Runs}
-use Rattle.forest_core.specs.State.{new_forest}
+use Rattle.bip_defs.specs.Forest.{new_forest}
 use Rattle.forest_core.proofs.runs.every_run.Given as goal
 
 abbrev pub invariant-loop-made : goal.invariant-loop-made

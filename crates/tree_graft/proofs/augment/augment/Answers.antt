@@ -2,7 +2,7 @@ use Rattle.std.proofs.Common.{◌≡◌, ◌∙◌, ◌<◌, ◌≤◌, ◌+◌,
 use Rattle.bip_defs.specs.Matrix.{Place}
 use Rattle.bip_graph.specs.Matching.{Pairing}
 use Rattle.sp_ids.specs.declared.events.Event.TheVariants.{Rebuild}
-use Rattle.forest_core.specs.State.{State}
+use Rattle.bip_defs.specs.Forest.{State}
 use Rattle.tree_graft.proofs.AugmentLemmas.{flips_begin, flips_more, may_flip, may_rebuild, read_here, rebuild_growth}
 use Rattle.tree_graft.proofs.augment.augment.Goals as goal
 

@@ -1,7 +1,7 @@
 use Rattle.std.proofs.Common.{◌<◌, ◌∙◌, ℕ, ap, arith, sym, true≢false}
 use Rattle.bip_defs.specs.Matrix.{Matrix, cols}
 use Rattle.bip_defs.proofs.Sets.{lists_same}
-use Rattle.forest_core.specs.State.{InForest}
+use Rattle.bip_defs.specs.Forest.{InForest}
 use Rattle.tree_graft.proofs.SearchLemmas.{level_more, level_same}
 use Rattle.tree_graft.proofs.levels.first_level.Goals.{then-is_inside+in_ok-push, else-is_inside}
 use Rattle.tree_graft.proofs.levels.first_level.Goals as goal

@@ -1,6 +1,6 @@
 use Rattle.std.proofs.Common.{◌<◌}
 use Rattle.bip_defs.specs.Lists.{Lists}
-use Rattle.forest_core.specs.State.{InForest}
+use Rattle.bip_defs.specs.Forest.{InForest}
 use Rattle.tree_graft.proofs.levels.first_level.Given as goal
 
 abbrev pub invariant-loop-number : goal.invariant-loop-number

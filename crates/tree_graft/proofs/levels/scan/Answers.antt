@@ -4,7 +4,7 @@ use Rattle.bip_defs.specs.Lists.{Among}
 use Rattle.bip_defs.specs.Matching.{rows_of}
 use Rattle.bip_defs.specs.Matrix.{IsEntry, Matrix, Place}
 use Rattle.bip_defs.proofs.Sets.{among_last, row_among, row_pair}
-use Rattle.forest_core.specs.State.{roots_of}
+use Rattle.bip_defs.specs.Forest.{roots_of}
 use Rattle.tree_graft.proofs.SearchLemmas.{further_on, read_among}
 use Rattle.tree_graft.proofs.levels.scan.Goals.{else-not-is_claimed-via-then-not-is_claimed+in_ok-wins+else-branch, else-not-is_claimed-via-else-not-is_claimed}
 use Rattle.tree_graft.proofs.levels.scan.Goals as goal

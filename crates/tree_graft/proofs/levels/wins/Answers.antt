@@ -4,7 +4,7 @@ use Rattle.bip_defs.specs.Matching.{rows_of}
 use Rattle.bip_defs.specs.Matrix.{Place}
 use Rattle.sp_ids.specs.declared.events.Event.TheVariants.{Win}
 use Rattle.forest_core.specs.Events.{Grows, IsLegal}
-use Rattle.forest_core.specs.State.{RootOf, State, roots_of}
+use Rattle.bip_defs.specs.Forest.{RootOf, State, roots_of}
 use Rattle.tree_graft.specs.Search.{IsSearch}
 use Rattle.tree_graft.proofs.SearchLemmas.{last_claimed, last_won, may_win, search_claim, search_win, with_claim, with_leaf}
 use Rattle.tree_graft.proofs.levels.wins.Goals as goal

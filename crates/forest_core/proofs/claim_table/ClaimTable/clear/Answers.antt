@@ -1,4 +1,4 @@
-use Rattle.std.proofs.Common.{◌∙◌, None, Option, List, ℕ, ap, refl, set}
+use Rattle.std.proofs.Common.{◌∙◌, None, ℕ, ap, refl, set}
 use Rattle.forest_core.specs.Tables.{Claimed, holder_in, root_in}
 use Rattle.forest_core.specs.declared.claim_table.RowClaim.{RowClaim}
 use Rattle.forest_core.proofs.TableLemmas.{read_none, root_none, seen_put}

@@ -1,6 +1,6 @@
 use Rattle.std.proofs.Common.{ℕ, take}
 use Rattle.bip_defs.specs.Lists.{Among}
-use Rattle.forest_core.specs.State.{roots_of}
+use Rattle.bip_defs.specs.Forest.{roots_of}
 use Rattle.forest_core.proofs.forest.Forest.are_flipped.Given as goal
 
 abbrev pub invariant-loop-root : goal.invariant-loop-root

@@ -1,9 +1,8 @@
-use Rattle.std.proofs.Common.{◌<◌, ◌∙◌, arith, length, rules, subst, sym}
-use Rattle.bip_defs.specs.Matrix.{cols}
+use Rattle.std.proofs.Common.{◌<◌, arith, length, rules, subst, sym}
 use Rattle.sp_ids.specs.declared.events.Event.TheVariants.{Claim}
 use Rattle.forest_core.specs.Events.{IsLegal}
 use Rattle.forest_core.specs.Inside.{state_of, tables_of}
-use Rattle.forest_core.specs.State.{RootOf, State}
+use Rattle.bip_defs.specs.Forest.{RootOf, State}
 use Rattle.forest_core.proofs.RunLemmas.{claim_grows_at}
 use Rattle.forest_core.proofs.StoredForests.{claim_room, stored_claim_at}
 use Rattle.forest_core.proofs.forest.Forest.claim.Goals as goal

@@ -1,6 +1,6 @@
-use Rattle.std.proofs.Common.{ℕ, ◌<◌, ap, arith, length}
+use Rattle.std.proofs.Common.{ℕ, ◌<◌, ap, arith}
 use Rattle.bip_defs.specs.Matrix.{Matrix, cols}
-use Rattle.forest_core.specs.State.{InForest, RootOf}
+use Rattle.bip_defs.specs.Forest.{InForest, RootOf}
 use Rattle.forest_core.proofs.Members.{if_none}
 use Rattle.forest_core.proofs.Roots.{one_root}
 use Rattle.forest_core.proofs.StoredForests.{root_inside}

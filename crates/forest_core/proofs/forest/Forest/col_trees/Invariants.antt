@@ -1,5 +1,5 @@
 use Rattle.std.proofs.Common.{ℕ}
-use Rattle.forest_core.specs.State.{RootOf}
+use Rattle.bip_defs.specs.Forest.{RootOf}
 use Rattle.forest_core.proofs.TableLemmas.{IsMadeTo}
 use Rattle.forest_core.proofs.forest.Forest.col_trees.Given as goal
 

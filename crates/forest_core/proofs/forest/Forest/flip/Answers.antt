@@ -3,7 +3,7 @@ use Rattle.bip_defs.specs.Matrix.{cols}
 use Rattle.sp_ids.specs.declared.events.Event.TheVariants.{Flip}
 use Rattle.forest_core.specs.Events.{IsLegal}
 use Rattle.forest_core.specs.Inside.{state_of, tables_of}
-use Rattle.forest_core.specs.State.{State}
+use Rattle.bip_defs.specs.Forest.{State}
 use Rattle.forest_core.proofs.StoredForests.{flip_room, root_with_leaf, stored_flip_at}
 use Rattle.forest_core.proofs.forest.Forest.flip.Goals as goal
 

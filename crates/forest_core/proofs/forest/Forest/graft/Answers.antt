@@ -5,9 +5,7 @@ use Rattle.forest_core.specs.Current.{IsCurrent}
 use Rattle.forest_core.specs.Paths.{IsExchanged}
 use Rattle.forest_core.specs.Inside.{state_of, tables_of}
 use Rattle.forest_core.specs.Kept.{kept}
-use Rattle.forest_core.specs.State.{State}
-use Rattle.forest_core.specs.Stored.{AreClaimRoots}
-use Rattle.forest_core.specs.Tables.{IsTableOf}
+use Rattle.bip_defs.specs.Forest.{State}
 use Rattle.forest_core.specs.Events.{AreKept}
 use Rattle.forest_core.proofs.Currents.{current_grown}
 use Rattle.forest_core.proofs.Renewals.{claims_within, exchanged_by, kept_stored, leaves_within, marks_within, same_claim_roots, roots_within, stored_graft_at}

@@ -1,4 +1,3 @@
-use Rattle.std.proofs.Common.{subst, sym}
 use Rattle.forest_core.proofs.StoredForests.{if_found, if_missed}
 use Rattle.forest_core.proofs.forest.Forest.holder.Goals as goal
 

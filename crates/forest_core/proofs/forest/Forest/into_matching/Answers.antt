@@ -3,7 +3,7 @@ use Rattle.bip_graph.specs.Matching.{IsMatchingOf}
 use Rattle.forest_core.specs.Current.{IsCurrent}
 use Rattle.forest_core.specs.Paths.{IsExchanged}
 use Rattle.forest_core.specs.Inside.{state_of, tables_of}
-use Rattle.forest_core.specs.State.{State}
+use Rattle.bip_defs.specs.Forest.{State}
 use Rattle.forest_core.proofs.Currents.{current_grown}
 use Rattle.forest_core.proofs.Renewals.{exchanged_by}
 use Rattle.forest_core.proofs.forest.Forest.into_matching.Goals as goal

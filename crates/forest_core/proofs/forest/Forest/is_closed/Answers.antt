@@ -1,7 +1,7 @@
 use Rattle.std.proofs.Common.{◌≡◌, ◌≢◌, ◌<◌, ◌∙◌, ap, arith, refl, subst, sym, true≢false, ⊎_elim}
 use Rattle.bip_defs.specs.Matrix.{IsEntry, Matrix, cols}
 use Rattle.bip_defs.proofs.Sets.{number_same}
-use Rattle.forest_core.specs.State.{InForest}
+use Rattle.bip_defs.specs.Forest.{InForest}
 use Rattle.forest_core.proofs.Members.{told_false}
 use Rattle.forest_core.proofs.forest.Forest.is_closed.Goals.{else-is_inside-via-then-is_inside+else-not-is_used_up, else-is_inside-via-else-is_inside}
 use Rattle.forest_core.proofs.forest.Forest.is_closed.Goals as goal

@@ -2,7 +2,7 @@ use Rattle.std.proofs.Common.{ℕ, ◌<◌}
 use Rattle.bip_defs.specs.Lists.{Among}
 use Rattle.bip_defs.specs.Matching.{rows_of}
 use Rattle.bip_defs.specs.Matrix.{IsEntry}
-use Rattle.forest_core.specs.State.{InForest}
+use Rattle.bip_defs.specs.Forest.{InForest}
 use Rattle.forest_core.proofs.forest.Forest.is_closed.Given as goal
 
 abbrev pub invariant-loop-number : goal.invariant-loop-number

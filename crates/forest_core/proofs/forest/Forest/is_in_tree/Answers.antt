@@ -2,7 +2,7 @@ use Rattle.std.proofs.Common.{◌∙◌, ap, arith, eq-eqb, subst, sym}
 use Rattle.std.proofs.lemmas.Bool.{eqb-true}
 use Rattle.bip_defs.specs.Matrix.{Matrix}
 use Rattle.bip_defs.proofs.Sets.{row_among}
-use Rattle.forest_core.specs.State.{IsRootOfRow}
+use Rattle.bip_defs.specs.Forest.{IsRootOfRow}
 use Rattle.forest_core.proofs.Members.{told_false}
 use Rattle.forest_core.proofs.Roots.{one_root_of_row}
 use Rattle.forest_core.proofs.StoredForests.{claim_in_range}

@@ -3,7 +3,7 @@ use Rattle.bip_defs.specs.Lists.{Among}
 use Rattle.forest_core.specs.Current.{IsCurrent}
 use Rattle.forest_core.specs.Paths.{IsExchanged}
 use Rattle.forest_core.specs.Inside.{state_of, tables_of}
-use Rattle.forest_core.specs.State.{State}
+use Rattle.bip_defs.specs.Forest.{State}
 use Rattle.forest_core.proofs.Currents.{current_grown}
 use Rattle.forest_core.proofs.Renewals.{are_cleared, claims_within, exchanged_by, leaves_within, marks_within, stored_rebuild_at}
 use Rattle.forest_core.proofs.PathLemmas.{written_back}

@@ -1,9 +1,8 @@
-use Rattle.std.proofs.Common.{ap, arith, length, subst, sym}
+use Rattle.std.proofs.Common.{ap, arith, subst, sym}
 use Rattle.bip_defs.specs.Lists.{Among}
 use Rattle.bip_defs.specs.Matching.{rows_of}
-use Rattle.bip_defs.specs.Matrix.{Place}
 use Rattle.forest_core.specs.Inside.{state_of}
-use Rattle.forest_core.specs.State.{State, IsRootOfRow, RootOf, itself}
+use Rattle.bip_defs.specs.Forest.{State, IsRootOfRow, itself}
 use Rattle.forest_core.proofs.StoredForests.{base_row_claimed, root_below, root_by_row, table_there}
 use Rattle.forest_core.proofs.forest.Forest.root.Goals as goal
 

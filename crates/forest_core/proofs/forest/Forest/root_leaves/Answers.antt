@@ -1,11 +1,10 @@
-use Rattle.std.proofs.Common.{ℕ, [], ◌<◌, ap, arith, length}
+use Rattle.std.proofs.Common.{ℕ, ap, arith}
 use Rattle.bip_defs.specs.Lists.{Among}
 use Rattle.bip_defs.specs.Matching.{rows_of}
 use Rattle.bip_defs.specs.Matrix.{Matrix, Place, cols}
 use Rattle.bip_defs.proofs.Sets.{one_col, row_among}
 use Rattle.forest_core.proofs.Members.{if_none}
-use Rattle.forest_core.proofs.Roots.{claims_differ}
-use Rattle.forest_core.proofs.StoredForests.{claim_in_range, leaf_in_range, made_all}
+use Rattle.forest_core.proofs.StoredForests.{leaf_in_range, made_all}
 use Rattle.forest_core.proofs.TableLemmas.{made_more, some_is}
 use Rattle.forest_core.proofs.forest.Forest.root_leaves.Goals as goal
 

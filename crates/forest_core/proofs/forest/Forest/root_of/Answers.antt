@@ -1,7 +1,7 @@
 use Rattle.bip_defs.proofs.Sets.{row_among}
 use Rattle.bip_defs.specs.Lists.{Among}
 use Rattle.bip_defs.specs.Matching.{rows_of}
-use Rattle.forest_core.specs.State.{InForest, IsRootOfRow, RootOf, itself}
+use Rattle.bip_defs.specs.Forest.{InForest, IsRootOfRow, RootOf, itself}
 use Rattle.forest_core.proofs.Members.{if_none, if_some}
 use Rattle.forest_core.proofs.StoredForests.{in_by_row, out_by_row, root_by_row}
 use Rattle.forest_core.proofs.forest.Forest.root_of.Goals as goal

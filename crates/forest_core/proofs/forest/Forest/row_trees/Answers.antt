@@ -1,9 +1,9 @@
-use Rattle.std.proofs.Common.{ℕ, ◌<◌, ap, arith, length}
+use Rattle.std.proofs.Common.{ℕ, ap, arith}
 use Rattle.bip_defs.specs.Lists.{Among}
 use Rattle.bip_defs.specs.Matching.{rows_of}
 use Rattle.bip_defs.specs.Matrix.{Matrix}
 use Rattle.bip_defs.proofs.Sets.{row_among}
-use Rattle.forest_core.specs.State.{IsRootOfRow}
+use Rattle.bip_defs.specs.Forest.{IsRootOfRow}
 use Rattle.forest_core.proofs.Members.{if_none}
 use Rattle.forest_core.proofs.Roots.{one_root_of_row}
 use Rattle.forest_core.proofs.StoredForests.{claim_in_range, made_all}

@@ -1,5 +1,5 @@
 use Rattle.std.proofs.Common.{ℕ}
-use Rattle.forest_core.specs.State.{IsRootOfRow}
+use Rattle.bip_defs.specs.Forest.{IsRootOfRow}
 use Rattle.forest_core.proofs.TableLemmas.{IsMadeTo}
 use Rattle.forest_core.proofs.forest.Forest.row_trees.Given as goal
 

@@ -3,7 +3,7 @@ use Rattle.bip_defs.specs.Matrix.{cols}
 use Rattle.sp_ids.specs.declared.events.Event.TheVariants.{Win}
 use Rattle.forest_core.specs.Events.{IsLegal}
 use Rattle.forest_core.specs.Inside.{state_of, tables_of}
-use Rattle.forest_core.specs.State.{State}
+use Rattle.bip_defs.specs.Forest.{State}
 use Rattle.forest_core.proofs.RunLemmas.{win_grows_at}
 use Rattle.forest_core.proofs.StoredForests.{claim_in_range, root_in_range, stored_win_at, win_room}
 use Rattle.forest_core.proofs.forest.Forest.win.Goals as goal

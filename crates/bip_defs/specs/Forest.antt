@@ -1,5 +1,5 @@
 -- A forest of alternating trees, and what is in it.
-use Rattle.std.specs.Prelude.{◌≡◌, ◌⊎◌, ℕ, ◌<◌, List, [], map}
+use Rattle.std.specs.Prelude.{◌≡◌, ◌⊎◌, ℕ, ◌<◌, List, [], ◌++◌, map}
 use Rattle.bip_defs.specs.Lists.{Among}
 use Rattle.bip_defs.specs.Matching.{cols_of, rows_of}
 use Rattle.bip_defs.specs.Matrix.{IsEntry, Matrix, Place, cols}
@@ -16,6 +16,10 @@ pub record State : Type 0 where
 -- no claims, no leaves and no flipped roots
 abbrev pub new_forest : Matrix → List Place → State
 new_forest a m = record { matrix = a; base = m; claims = []; leaves = []; flipped = [] }
+
+-- the forest with more claims and more leaves
+abbrev pub grown_by : State → List Place → List (ℕ × ℕ) → State
+grown_by s claims wins = record s { claims = s.claims ++ claims; leaves = s.leaves ++ wins }
 
 abbrev pub roots_of : List (ℕ × ℕ) → List ℕ
 roots_of leaves = map (λ (p : ℕ × ℕ). p.0) leaves

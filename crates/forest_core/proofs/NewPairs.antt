@@ -1,15 +1,14 @@
 -- New claims and then new wins are legal in whatever order they stand.
 use Rattle.std.proofs.Common.{◌≡◌, ◌⊎◌, ℕ, List, [], ◌∷◌, ◌++◌, refl, ap, subst, inl, inr, ⊎_elim}
-use Rattle.bip_defs.specs.Lists.{Among}
+use Rattle.bip_defs.specs.Lists.{Among, AreNew, numbers_of}
 use Rattle.bip_defs.specs.Matching.{cols_of, rows_of}
 use Rattle.bip_defs.specs.Matrix.{IsEntry, Place}
 use Rattle.std.proofs.lemmas.List.{append_assoc}
 use Rattle.forest_core.specs.Events.{Becomes, Grows, IsLegal, Runs}
-use Rattle.forest_core.specs.State.{InForest, IsRootOfRow, State}
+use Rattle.bip_defs.specs.Forest.{InForest, IsRootOfRow, State, grown_by}
 use Rattle.sp_ids.specs.declared.events.Event.{Event}
 use Rattle.sp_ids.specs.declared.events.Event.TheVariants.{Claim}
-use Rattle.frontier_levels.specs.Growth.{claim_events, claims_then_wins, grown_by, win_events}
-use Rattle.level_sharing.specs.Agreement.{AreNew, numbers_of}
+use Rattle.sp_ids.specs.Events.{claim_events, claims_then_wins, win_events}
 
 -- the rest of new pairs is new beside the first of them
 pub rest_new : (old : List (ℕ × ℕ)) (p : ℕ × ℕ) (ps : List (ℕ × ℕ)) → AreNew old (p ∷ ps) → AreNew (old ++ p ∷ []) ps

@@ -1,5 +1,0 @@
-use Rattle.frontier_levels.proofs.RunLemmas.{pairs_run}
-use Rattle.frontier_levels.proofs.laws.new_pairs_run.Goals as goal
-
-pub returns : goal.returns
-returns c = pairs_run c.claims_and_wins_grow.ensures.claim c.runs_join.ensures.runs
