@@ -78,24 +78,24 @@ made_named words job names maker = subst (λ (j : Job). ¬ ReadsFile j) (one_job
 -- a job that reads a file answered over it
 over_file : (job : Job) (answer : Answer) (input : Device) (P : List ℕ → Type 0) → ReadsFile job → WithAnswer job answer input P → WithFileAnswer job answer input P
 over_file Rank answer input P reads h = h
-over_file (Analyse engine order pairs) answer input P reads h = h
+over_file (Analyse search order pairs) answer input P reads h = h
 over_file Diagonal answer input P reads h = h
 over_file Check answer input P reads h = h
-over_file (Load size seed engine) answer input P reads h = absurd reads
+over_file (Load size seed search) answer input P reads h = absurd reads
 
 -- a matrix that was made was answered as was asked
 made_positive : (job : Job) (answer : Answer) (input : Device) (P : List ℕ → Type 0) → ¬ ReadsFile job → WithAnswer job answer input P → answer ≡ Positive
 made_positive Rank answer input P makes h = absurd (makes tt)
-made_positive (Analyse engine order pairs) answer input P makes h = absurd (makes tt)
+made_positive (Analyse search order pairs) answer input P makes h = absurd (makes tt)
 made_positive Diagonal answer input P makes h = absurd (makes tt)
 made_positive Check answer input P makes h = absurd (makes tt)
-made_positive (Load size seed engine) answer input P makes h = h.1.positive
+made_positive (Load size seed search) answer input P makes h = h.1.positive
 
 -- the answer over a good file is the one of that file
 ends_well : (job : Job) (call : Call) (answer : Answer) (text : List ℕ) (t : Entries) (rest : List ℕ) (status : Status) → ReadsFile job
     → IsJobAnswer job call answer text → Reads (offered call) (end_of job) t rest → IsOrNoMemory status (status_of_answer answer) → EndsWell job t rest status
 ends_well Rank call answer text t rest status file h reads ends = subst (λ (x : Answer). IsOrNoMemory status (status_of_answer x)) h.is_text.0 ends
-ends_well (Analyse engine order pairs) call answer text t rest status file h reads ends = subst (λ (x : Answer). IsOrNoMemory status (status_of_answer x)) h.is_text.0 ends
+ends_well (Analyse search order pairs) call answer text t rest status file h reads ends = subst (λ (x : Answer). IsOrNoMemory status (status_of_answer x)) h.is_text.0 ends
 ends_well Diagonal call answer text t rest status file h reads ends =
     let same : h.entries ≡ t = h.was_read.reads.entries ∙ sym reads.entries in
     subst (λ (x : Entries). ComesToDiagonal x status) same (comes_to_diagonal h.entries h.matrix answer text status h.is_matrix h.is_text ends)
@@ -116,17 +116,17 @@ ends_well Check call answer text t rest status file h reads ends = record {
     comes Positive ends = inr ends
     comes Negative (inl is) = inl is
     comes Negative (inr none) = inr (inr none)
-ends_well (Load size seed engine) call answer text t rest status file h reads ends = absurd file
+ends_well (Load size seed search) call answer text t rest status file h reads ends = absurd file
 
 -- the file of a job that needs weights, and answered over it, has them
 answer_weighed : (job : Job) (call : Call) (answer : Answer) (text : List ℕ) (t : Entries) (rest : List ℕ) (status : Status)
     → Weighs job → IsJobAnswer job call answer text → Reads (offered call) (end_of job) t rest → ComesToNoWeights t status
 answer_weighed Rank call answer text t rest status weighs h reads = absurd weighs
-answer_weighed (Analyse engine order pairs) call answer text t rest status weighs h reads = absurd weighs
+answer_weighed (Analyse search order pairs) call answer text t rest status weighs h reads = absurd weighs
 answer_weighed Diagonal call answer text t rest status weighs h reads =
     subst (λ (x : Entries). ComesToNoWeights x status) (h.was_read.reads.entries ∙ sym reads.entries) (has_weights h.entries h.matrix answer text status h.is_text)
 answer_weighed Check call answer text t rest status weighs h reads = absurd weighs
-answer_weighed (Load size seed engine) call answer text t rest status weighs h reads = absurd weighs
+answer_weighed (Load size seed search) call answer text t rest status weighs h reads = absurd weighs
 
 -- the job that the words name, in place of another that they name
 abbrev in_place : (words : List (List ℕ)) (one two : Job) → Names words one → Names words two → (P : Job → Type 0) → P one → P two
@@ -194,25 +194,25 @@ bad r status line kind limit said job names reads later is first = record {
 -- a job that is out of memory ends as it may
 no_memory_ends : (job : Job) (t : Entries) (rest : List ℕ) (status : Status) → status ≡ statuses.OutOfMemory → EndsWell job t rest status
 no_memory_ends Rank t rest status said = inr said
-no_memory_ends (Analyse engine order pairs) t rest status said = inr said
+no_memory_ends (Analyse search order pairs) t rest status said = inr said
 no_memory_ends Diagonal t rest status said = no_diagonal_memory t status said
 no_memory_ends Check t rest status said = record { comes = inr (inr said); right = λ a verdict matrix is_verdict. inr said }
-no_memory_ends (Load size seed engine) t rest status said = inr said
+no_memory_ends (Load size seed search) t rest status said = inr said
 
 -- a job that needs weights reads a file, and ends over it as one that has a diagonal
 weighs_reads : (job : Job) → Weighs job → ReadsFile job
 weighs_reads Rank weighs = absurd weighs
-weighs_reads (Analyse engine order pairs) weighs = absurd weighs
+weighs_reads (Analyse search order pairs) weighs = absurd weighs
 weighs_reads Diagonal weighs = tt
 weighs_reads Check weighs = absurd weighs
-weighs_reads (Load size seed engine) weighs = absurd weighs
+weighs_reads (Load size seed search) weighs = absurd weighs
 
 weighs_ends : (job : Job) (t : Entries) (rest : List ℕ) (status : Status) → Weighs job → ComesToDiagonal t status → EndsWell job t rest status
 weighs_ends Rank t rest status weighs comes = absurd weighs
-weighs_ends (Analyse engine order pairs) t rest status weighs comes = absurd weighs
+weighs_ends (Analyse search order pairs) t rest status weighs comes = absurd weighs
 weighs_ends Diagonal t rest status weighs comes = comes
 weighs_ends Check t rest status weighs comes = absurd weighs
-weighs_ends (Load size seed engine) t rest status weighs comes = absurd weighs
+weighs_ends (Load size seed search) t rest status weighs comes = absurd weighs
 
 -- the run was refused since its file has no weights, by a job that needs them
 by_entries : (r : Run) (status : Status) (P : Entries → Type 0) (job : Job) → Names r.words job → Weighs job → WithFile job r.input P

@@ -53,10 +53,10 @@ no_memory job input out t rest says later same = (later, (told input.before inpu
 -- a job that reads a file answers over it
 from_file : (job : Job) (answer : Answer) (input : Device) (P : List ℕ → Type 0) → ReadsFile job → WithFileAnswer job answer input P → WithAnswer job answer input P
 from_file Rank answer input P reads h = h
-from_file (Analyse engine order pairs) answer input P reads h = h
+from_file (Analyse search order pairs) answer input P reads h = h
 from_file Diagonal answer input P reads h = h
 from_file Check answer input P reads h = h
-from_file (Load size seed engine) answer input P reads h = absurd reads
+from_file (Load size seed search) answer input P reads h = absurd reads
 
 with_answer : (job : Job) (answer : Answer) (input : Device) (P : List ℕ → Type 0) (text : List ℕ) (t : Entries) (rest : List ℕ) (a : Matrix) → ReadsFile job → OfReading input (λ call. WasRead (end_of job) call t rest)
     → IsMatrixOf t a → IsTextOf job t a rest answer text → P text → WithAnswer job answer input P
@@ -67,12 +67,12 @@ with_answer job answer input P text t rest a reads read matrix is_text p =
 -- a text of the job's is one of an answer that it may give
 may_answer : (job : Job) (answer : Answer) (t : Entries) (a : Matrix) (rest text : List ℕ) → IsTextOf job t a rest answer text → MayAnswer job answer
 may_answer Rank answer t a rest text h = subst (λ (x : Answer). MayAnswer Rank x) (sym h.0) tt
-may_answer (Analyse engine order pairs) answer t a rest text h = subst (λ (x : Answer). MayAnswer (Analyse engine order pairs) x) (sym h.0) tt
+may_answer (Analyse search order pairs) answer t a rest text h = subst (λ (x : Answer). MayAnswer (Analyse search order pairs) x) (sym h.0) tt
 may_answer Diagonal Positive t a rest text h = tt
 may_answer Diagonal Negative t a rest text h = tt
 may_answer Check Positive t a rest text h = tt
 may_answer Check Negative t a rest text h = tt
-may_answer (Load size seed engine) answer t a rest text h = subst (λ (x : Answer). MayAnswer (Load size seed engine) x) (sym h.0) tt
+may_answer (Load size seed search) answer t a rest text h = subst (λ (x : Answer). MayAnswer (Load size seed search) x) (sym h.0) tt
 
 -- the answer was written, or a write of it failed
 pub job_written : (job : Job) (answer : Answer) (input out : Device) (text : List ℕ) (t : Entries) (rest : List ℕ) (a : Matrix) → ReadsFile job → IsReadAs (end_of job) input t rest → IsMatrixOf t a

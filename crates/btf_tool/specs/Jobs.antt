@@ -31,10 +31,10 @@ pub record Traits : Type 0 where
 
 abbrev pub traits_of : Job → Traits
 traits_of Rank = record { reads = true; end = File; weighs = false; denies = false }
-traits_of (Analyse engine order pairs) = record { reads = true; end = File; weighs = false; denies = false }
+traits_of (Analyse search order pairs) = record { reads = true; end = File; weighs = false; denies = false }
 traits_of Diagonal = record { reads = true; end = File; weighs = true; denies = true }
 traits_of Check = record { reads = true; end = LastEntry; weighs = false; denies = true }
-traits_of (Load size seed engine) = record { reads = false; end = File; weighs = false; denies = false }
+traits_of (Load size seed search) = record { reads = false; end = File; weighs = false; denies = false }
 
 abbrev pub Holds : Bool → Type 0
 Holds true = Unit {0}
@@ -87,10 +87,10 @@ IsMatrixOf t a = HasPlaces t.rows t.cols (places t) a
 -- the text that a job answers over its file, the file's matrix and what followed the file, and whether it is what was asked for
 abbrev pub IsTextOf : Job → Entries → Matrix → List ℕ → Answer → List ℕ → Type 0
 IsTextOf Rank t a rest answer text = (answer ≡ Positive) × IsRankText a text
-IsTextOf (Analyse engine order pairs) t a rest answer text = (answer ≡ Positive) × IsAnalysis a order pairs text
+IsTextOf (Analyse search order pairs) t a rest answer text = (answer ≡ Positive) × IsAnalysis a order pairs text
 IsTextOf Diagonal t a rest answer text = IsDiagonalText t a answer text
 IsTextOf Check t a rest answer text = IsVerdictText a rest answer text
-IsTextOf (Load size seed engine) t a rest answer text = (answer ≡ Positive) × IsSummary a text
+IsTextOf (Load size seed search) t a rest answer text = (answer ≡ Positive) × IsSummary a text
 
 -- a good file was read, with what follows it, and this is what the job answers
 pub record IsAnswer (job : Job) (call : Call) (answer : Answer) (text : List ℕ) : Type 0 where
@@ -114,5 +114,5 @@ WithFileAnswer job answer input P = OfReading input (λ call. (text : List ℕ) 
 
 -- what was done with the job's answer
 abbrev pub WithAnswer : Job → Answer → Device → (List ℕ → Type 0) → Type 0
-WithAnswer (Load size seed engine) answer input P = (text : List ℕ) × IsLoadAnswer size seed answer text × P text
+WithAnswer (Load size seed search) answer input P = (text : List ℕ) × IsLoadAnswer size seed answer text × P text
 WithAnswer job answer input P = WithFileAnswer job answer input P

@@ -2,6 +2,7 @@
 
 ghost use Rattle.std.specs.Prelude.{IfOk};
 ghost use Rattle.bip_defs.specs.Matrix.{Matrix};
+ghost use Rattle.btf_words.specs.Words.{HasWorkers};
 ghost use Rattle.btf_words.specs.declared.jobs.Job.TheVariants.{Analyse};
 ghost use Rattle.btf_tool.specs.Analyses.{IsFoundIn};
 ghost use Rattle.sp_ports.specs.Device.{seen};
@@ -13,7 +14,7 @@ use crate::reading::read_file;
 use crate::writing::hand_on;
 use crate::{Answer, Refusal};
 use btf_text::{TextBuf, write_report};
-use btf_words::Engine;
+use btf_words::Search;
 use sp_ids::{OutOfMemory, Triples};
 use sp_pattern::Pattern;
 use sp_ports::{Gate, Sink, Source};
@@ -23,7 +24,7 @@ use std::thread::Threads;
 /// What an analysis is asked for: who searches, and whether the orders and the pairs are written.
 #[derive(Clone, Copy)]
 pub(crate) struct Options {
-    pub(crate) engine: Engine,
+    pub(crate) search: Search,
     pub(crate) order: bool,
     pub(crate) pairs: bool,
 }
@@ -37,11 +38,12 @@ pub(crate) fn analyse<R: Threads + Sync, S: Source, O: Sink, G: Gate>(
     out: &mut O,
     gate: &G,
 ) -> Result<Answer, Refusal>
-    ensures says { JobSays (Analyse options.engine options.order options.pairs) (seen S.left S.faults input.old input.new) (seen O.taken O.faults out.old out.new) result }
+    requires workers { HasWorkers options.search }
+    ensures says { JobSays (Analyse options.search options.order options.pairs) (seen S.left S.faults input.old input.new) (seen O.taken O.faults out.old out.new) result }
     ensures gave { OfReading (seen S.left S.faults input.old input.new) GaveFront }
 {
     let triples = read_file(alloc, input)?;
-    let analysis = analysis_of(rt, alloc, triples, options.engine, gate)?;
+    let analysis = analysis_of(rt, alloc, triples, options.search, gate)?;
     let mut buf = TextBuf::new(alloc)?;
     let Options { order, pairs, .. } = options;
     let Analysis {
@@ -58,12 +60,13 @@ fn analysis_of<R: Threads + Sync, G: Gate>(
     rt: &R,
     alloc: Global,
     triples: Triples,
-    engine: Engine,
+    search: Search,
     gate: &G,
 ) -> Result<Analysis, OutOfMemory>
+    requires workers { HasWorkers search }
     ensures { IfOk result (λ s. (a : Matrix) × IsMatrixOf triples a × IsFoundIn a s.decomposition s.matching.pairs) }
 {
     let pattern = Pattern::build(rt, alloc, &triples)?;
     drop(triples);
-    decompose(rt, alloc, &pattern, engine, gate)
+    decompose(rt, alloc, &pattern, search, gate)
 }

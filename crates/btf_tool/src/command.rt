@@ -1,7 +1,7 @@
 //! The top call.
 
 ghost use Rattle.std.specs.Prelude.{map, string_bytes};
-ghost use Rattle.btf_words.specs.Words.{HasSizeInRange};
+ghost use Rattle.btf_words.specs.Words.{IsWithinLimits};
 ghost use Rattle.sp_ports.specs.Device.{IsUntouched, seen};
 ghost use Rattle.btf_tool.specs.Jobs.{GaveFront, OfReading, ReadsFile};
 ghost use Rattle.btf_tool.specs.Runs.{Completes, JobSays, NameMaker, Says};
@@ -75,7 +75,7 @@ fn perform<R: Threads + Sync, S: Source, O: Sink, G: Gate>(
     out: &mut O,
     gate: &G,
 ) -> Result<Answer, Refusal>
-    requires size { HasSizeInRange job }
+    requires limits { IsWithinLimits job }
     ensures says { JobSays job (seen S.left S.faults input.old input.new) (seen O.taken O.faults out.old out.new) result }
     ensures gave { OfReading (seen S.left S.faults input.old input.new) GaveFront }
     ensures unread { ¬ ReadsFile job → IsUntouched (seen S.left S.faults input.old input.new) }
@@ -83,12 +83,12 @@ fn perform<R: Threads + Sync, S: Source, O: Sink, G: Gate>(
     match job {
         Job::Rank => rank(rt, alloc, input, out, gate),
         Job::Analyse {
-            engine,
+            search,
             order,
             pairs,
         } => {
             let options = Options {
-                engine,
+                search,
                 order,
                 pairs,
             };
@@ -96,6 +96,6 @@ fn perform<R: Threads + Sync, S: Source, O: Sink, G: Gate>(
         }
         Job::Diagonal => diagonal(rt, alloc, input, out),
         Job::Check => check(rt, alloc, input, out),
-        Job::Load { size, seed, engine } => load(rt, alloc, size, seed, engine, out, gate),
+        Job::Load { size, seed, search } => load(rt, alloc, size, seed, search, out, gate),
     }
 }

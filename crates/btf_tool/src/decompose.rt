@@ -2,10 +2,11 @@
 
 ghost use Rattle.std.specs.Prelude.{◌≡◌, IfOk};
 ghost use Rattle.btf_tool.specs.Analyses.{IsFoundIn};
+ghost use Rattle.btf_words.specs.Words.{HasWorkers};
 
 use crate::engines::solve;
 use bip_graph::{Decomposition, Matching};
-use btf_words::Engine;
+use btf_words::Search;
 use dm_coarse::coarse;
 use dm_fine::fine;
 use sp_ids::OutOfMemory;
@@ -21,19 +22,20 @@ pub(crate) struct Analysis {
     pub(crate) matching: Matching,
 }
 
-/// The decomposition of a matrix, by a maximum matching that this engine finds.
+/// The decomposition of a matrix, by a maximum matching that is found by this engine with so many workers.
 ///
 /// Answers `OutOfMemory` where the tables of the engine, of the coarse parts or of the fine blocks can't be had.
 pub(crate) fn decompose<R: Threads + Sync, G: Gate>(
     rt: &R,
     alloc: Global,
     pattern: &Pattern,
-    engine: Engine,
+    search: Search,
     gate: &G,
 ) -> Result<Analysis, OutOfMemory>
+    requires workers { HasWorkers search }
     ensures { IfOk result (λ s. IsFoundIn pattern.now s.decomposition s.matching.pairs) }
 {
-    let matching = solve(rt, alloc, pattern, engine, 1, gate)?;
+    let matching = solve(rt, alloc, pattern, search.engine, search.workers, gate)?;
     let parts = coarse(rt, alloc, pattern, &matching)?;
     let blocks = fine(alloc, pattern, &matching, &parts)?;
     let decomposition = Decomposition {

@@ -3,6 +3,7 @@
 ghost use Rattle.std.specs.Prelude.{◌≡◌, ◌≤◌, IfOk};
 ghost use Rattle.bip_defs.specs.Matrix.{Matrix};
 ghost use Rattle.btf_words.specs.declared.jobs.Job.TheVariants.{Load};
+ghost use Rattle.btf_words.specs.Words.{HasWorkers};
 ghost use Rattle.sp_ids.specs.Limits.{max_load_size};
 ghost use Rattle.btf_tool.specs.Analyses.{IsFoundIn};
 ghost use Rattle.sp_ports.specs.Device.{Device, IsUntouched, seen};
@@ -13,7 +14,7 @@ use crate::decompose::{Analysis, decompose};
 use crate::writing::hand_on;
 use crate::{Answer, Refusal};
 use btf_text::{TextBuf, write_load};
-use btf_words::Engine;
+use btf_words::Search;
 use sp_ids::OutOfMemory;
 use sp_pattern::load_matrix;
 use sp_ports::{Gate, Sink};
@@ -26,15 +27,16 @@ pub(crate) fn load<R: Threads + Sync, O: Sink, G: Gate>(
     alloc: Global,
     size: u32,
     seed: u64,
-    engine: Engine,
+    search: Search,
     out: &mut O,
     gate: &G,
 ) -> Result<Answer, Refusal>
     requires some { 1 ≤ size }
     requires few { size ≤ max_load_size }
-    ensures { (input : Device) → IsUntouched input → JobSays (Load size seed engine) input (seen O.taken O.faults out.old out.new) result }
+    requires workers { HasWorkers search }
+    ensures { (input : Device) → IsUntouched input → JobSays (Load size seed search) input (seen O.taken O.faults out.old out.new) result }
 {
-    let analysis = analysis_of(rt, alloc, size, seed, engine, gate)?;
+    let analysis = analysis_of(rt, alloc, size, seed, search, gate)?;
     let mut buf = TextBuf::new(alloc)?;
     let written = write_load(out, &mut buf, &analysis.decomposition);
     hand_on(out, written)?;
@@ -47,13 +49,14 @@ fn analysis_of<R: Threads + Sync, G: Gate>(
     alloc: Global,
     size: u32,
     seed: u64,
-    engine: Engine,
+    search: Search,
     gate: &G,
 ) -> Result<Analysis, OutOfMemory>
     requires some { 1 ≤ size }
     requires few { size ≤ max_load_size }
+    requires workers { HasWorkers search }
     ensures { IfOk result (λ s. (a : Matrix) × IsLoadMatrix size seed a × IsFoundIn a s.decomposition s.matching.pairs) }
 {
     let pattern = load_matrix(rt, alloc, size, seed)?;
-    decompose(rt, alloc, &pattern, engine, gate)
+    decompose(rt, alloc, &pattern, search, gate)
 }

@@ -6,7 +6,7 @@ use Rattle.clap.specs.Words.{App, Rule, Shape, Text, new_rule}
 use Rattle.clap.specs.Simple.{new_shape}
 use Rattle.clap.specs.declared.builder.action.ArgAction.TheVariants.{Set, SetTrue}
 use Rattle.clap.specs.declared.builder.value_parser.ValueParser.TheVariants as vp
-use Rattle.sp_ids.specs.Limits.{max_load_seed, max_load_size}
+use Rattle.sp_ids.specs.Limits.{max_load_seed, max_load_size, max_workers}
 
 -- ---- the engines' names
 
@@ -15,6 +15,9 @@ engine_names = codes "plain" ∷ codes "mc21" ∷ codes "pf" ∷ codes "graft" �
 
 abbrev pub default_engine : Text
 default_engine = codes "graft"
+
+abbrev pub default_workers : ℕ
+default_workers = 4
 
 -- names as clap's definitions hold them, behind references
 abbrev pub Names : Type 0
@@ -45,6 +48,13 @@ engine_rule names = record (option_rule (codes "engine")) {
   defaults = default_engine ∷ [];
 }
 
+-- `--workers W`
+abbrev pub workers_rule : Rule
+workers_rule = record (option_rule (codes "workers")) {
+  parser = Some (vp.Unsigned 1 max_workers);
+  defaults = codes "4" ∷ [];
+}
+
 abbrev pub order_rule : Rule
 order_rule = flag_rule (codes "order")
 
@@ -67,7 +77,7 @@ rank_command = command (codes "rank") []
 
 abbrev pub analyse_command : Names → Shape
 analyse_command names =
-    command (codes "analyse") (engine_rule names ∷ order_rule ∷ pairs_rule ∷ [])
+    command (codes "analyse") (engine_rule names ∷ workers_rule ∷ order_rule ∷ pairs_rule ∷ [])
 
 abbrev pub diagonal_command : Shape
 diagonal_command = command (codes "diagonal") []
@@ -76,7 +86,8 @@ abbrev pub check_command : Shape
 check_command = command (codes "check") []
 
 abbrev pub load_command : Names → Shape
-load_command names = command (codes "load") (size_rule ∷ seed_rule ∷ engine_rule names ∷ [])
+load_command names =
+    command (codes "load") (size_rule ∷ seed_rule ∷ engine_rule names ∷ workers_rule ∷ [])
 
 -- the commands that the program has
 abbrev pub commands : Names → List Shape

@@ -6,11 +6,12 @@ use Rattle.std.specs.Str.{bytes_eq}
 use Rattle.std.specs.Str.Parse.{digits_value, without_leading_plus}
 use Rattle.clap.specs.Words.{Row, Text, fault_of, first_of, subcommand_of}
 use Rattle.clap.specs.ValueTests.{is_unsigned_in}
-use Rattle.sp_ids.specs.Limits.{max_load_seed, max_load_size}
-use Rattle.btf_words.specs.Table.{Names, btf, btf_over, default_engine}
+use Rattle.sp_ids.specs.Limits.{max_load_seed, max_load_size, max_workers}
+use Rattle.btf_words.specs.Table.{Names, btf, btf_over, default_engine, default_workers}
 use Rattle.btf_words.specs.declared.jobs.Engine.{Engine}
 use Rattle.btf_words.specs.declared.jobs.Engine.TheVariants.{Plain, Mc21, Pf, Graft}
 use Rattle.btf_words.specs.declared.jobs.Job.{Job}
+use Rattle.btf_words.specs.declared.jobs.Search.{Search}
 use Rattle.btf_words.specs.declared.jobs.Job.TheVariants.{Rank, Analyse, Diagonal, Check, Load}
 
 -- clap's definitions find no fault with the words
@@ -32,14 +33,27 @@ engine_in rows = engine_named (unwrap_or (first_of (codes "engine") rows) defaul
 abbrev pub is_given : Text → List Row → Bool
 is_given id rows = option_map_or (λ value. bytes_eq value (codes "true")) (first_of id rows) false
 
--- the number that a text spells, where it is one within the bounds; clap takes no other text, so the least number
--- stands for none that was given
+-- the number that a text spells, where it is one within the bounds; clap takes no other text
 abbrev pub number_within : ℕ → ℕ → Text → ℕ
 number_within low high text = if is_unsigned_in low high text
     then digits_value 10 (without_leading_plus text) else low
 
-abbrev pub number_in : ℕ → ℕ → Text → List Row → ℕ
-number_in low high id rows = option_map_or (number_within low high) (first_of id rows) low
+-- the number of an option, and this one where it is not given
+abbrev pub number_or : ℕ → ℕ → ℕ → Text → List Row → ℕ
+number_or none low high id rows = option_map_or (number_within low high) (first_of id rows) none
+
+abbrev pub size_in : List Row → ℕ
+size_in = number_or 1 1 max_load_size (codes "size")
+
+abbrev pub seed_in : List Row → ℕ
+seed_in = number_or 0 0 max_load_seed (codes "seed")
+
+-- the engine and how many workers search
+abbrev pub search_in : List Row → Search
+search_in rows = record {
+  engine = engine_in rows;
+  workers = number_or default_workers 1 max_workers (codes "workers") rows;
+}
 
 -- ---- the job
 
@@ -47,12 +61,11 @@ number_in low high id rows = option_map_or (number_within low high) (first_of id
 abbrev pub job_from : Text × List Row → Option Job
 job_from m = if bytes_eq m.0 (codes "rank") then Some Rank
     else (if bytes_eq m.0 (codes "analyse")
-    then Some (Analyse (engine_in m.1) (is_given (codes "order") m.1) (is_given (codes "pairs") m.1))
+    then Some (Analyse (search_in m.1) (is_given (codes "order") m.1) (is_given (codes "pairs") m.1))
     else (if bytes_eq m.0 (codes "diagonal") then Some Diagonal
     else (if bytes_eq m.0 (codes "check") then Some Check
     else (if bytes_eq m.0 (codes "load")
-    then Some (Load (number_in 1 max_load_size (codes "size") m.1)
-    (number_in 0 max_load_seed (codes "seed") m.1) (engine_in m.1))
+    then Some (Load (size_in m.1) (seed_in m.1) (search_in m.1))
     else None))))
 
 -- the job that the words name: that of the command that they enter, by clap's definitions
@@ -65,7 +78,11 @@ abbrev pub ReadsAlike : Names → List Text → Type 0
 ReadsAlike names words = (fault_of (btf_over names) words ≡ fault_of btf words)
     × (subcommand_of (btf_over names) words ≡ subcommand_of btf words)
 
--- the matrix that a job makes is within the limits
-abbrev pub HasSizeInRange : Job → Type 0
-HasSizeInRange (Load size seed engine) = (1 ≤ size) × (size ≤ max_load_size)
-HasSizeInRange _ = ⊤
+abbrev pub HasWorkers : Search → Type 0
+HasWorkers search = (1 ≤ search.workers) × (search.workers ≤ max_workers)
+
+-- the matrix that a job makes, and the number of its workers, are within the limits
+abbrev pub IsWithinLimits : Job → Type 0
+IsWithinLimits (Load size seed search) = (1 ≤ size) × (size ≤ max_load_size) × HasWorkers search
+IsWithinLimits (Analyse search order pairs) = HasWorkers search
+IsWithinLimits _ = ⊤

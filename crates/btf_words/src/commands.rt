@@ -4,7 +4,7 @@ ghost use Rattle.std.specs.Prelude.{◌≡◌, [], IfOk};
 ghost use Rattle.clap.specs.Words.{app_of, with_subcommand};
 ghost use Rattle.btf_words.specs.Table.{IsBtf, analyse_command, check_command, diagonal_command, load_command, program as program_shape, rank_command};
 
-use crate::options::{engine, order, pairs, seed, size};
+use crate::options::{engine, order, pairs, seed, size, workers};
 use clap::Command;
 use std::alloc::{AllocError, Global};
 
@@ -51,6 +51,7 @@ fn with_analyse<'a>(
 {
     let analyse = Command::new(alloc, "analyse")
         .arg(engine(alloc, engines))?
+        .arg(workers(alloc))?
         .arg(order(alloc))?
         .arg(pairs(alloc))?;
     program.subcommand(analyse)
@@ -79,6 +80,7 @@ fn with_load<'a>(
     let load = Command::new(alloc, "load")
         .arg(size(alloc))?
         .arg(seed(alloc))?
-        .arg(engine(alloc, engines))?;
+        .arg(engine(alloc, engines))?
+        .arg(workers(alloc))?;
     program.subcommand(load)
 }

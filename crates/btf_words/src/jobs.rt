@@ -14,6 +14,15 @@ pub enum Engine {
     Graft,
 }
 
+/// Who searches for a maximum matching.
+#[derive(Clone, Copy, Debug, PartialEq, Eq)]
+pub struct Search {
+    /// How it is searched for.
+    pub engine: Engine,
+    /// How many workers search at once, where the engine is `Graft`: 1 to 64.
+    pub workers: u32,
+}
+
 /// What the program is asked to do.
 #[derive(Clone, Copy, Debug, PartialEq, Eq)]
 pub enum Job {
@@ -22,7 +31,7 @@ pub enum Job {
     /// The whole structural analysis.
     Analyse {
         /// Who searches.
-        engine: Engine,
+        search: Search,
         /// Whether the two orders are written.
         order: bool,
         /// Whether the pairs of the matching are written.
@@ -39,7 +48,7 @@ pub enum Job {
         /// The number that it is made from.
         seed: u64,
         /// Who searches.
-        engine: Engine,
+        search: Search,
     },
 }
 

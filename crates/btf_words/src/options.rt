@@ -2,11 +2,11 @@
 
 ghost use Rattle.std.specs.Prelude.{◌≡◌, false, true, codes};
 ghost use Rattle.clap.specs.Words.{rule_of};
-ghost use Rattle.btf_words.specs.Table.{engine_rule, option_rule, flag_rule, number_rule, order_rule, pairs_rule, size_rule, seed_rule};
+ghost use Rattle.btf_words.specs.Table.{engine_rule, option_rule, flag_rule, number_rule, order_rule, pairs_rule, size_rule, seed_rule, workers_rule};
 
 use clap::builder::ValueParser;
 use clap::{Arg, ArgAction};
-use sp_ids::MAX_LOAD_SIZE;
+use sp_ids::{MAX_LOAD_SIZE, MAX_WORKERS};
 use std::alloc::Global;
 
 /// `--engine E`, where E is one of these names: `graft` where it is not given.
@@ -19,6 +19,18 @@ pub(crate) fn engine<'a>(alloc: Global, engines: &'a [&'a str]) -> Arg<'a>
         .action(ArgAction::Set)
         .value_parser(engines)
         .default_value("graft")
+}
+
+/// `--workers W`: 4 where it is not given.
+pub(crate) fn workers<'a>(alloc: Global) -> Arg<'a>
+    ensures rule { rule_of result ≡ workers_rule }
+    ensures local { result.global ≡ false }
+{
+    Arg::new(alloc, "workers")
+        .long("workers")
+        .action(ArgAction::Set)
+        .value_parser(ValueParser::unsigned(1, u64::from(MAX_WORKERS)))
+        .default_value("4")
 }
 
 /// `--order`.

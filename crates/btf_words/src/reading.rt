@@ -2,16 +2,16 @@
 
 ghost use Rattle.std.specs.Prelude.{◌≡◌, ◌≤◌, List, IfOk, IfSome, IsErrOf, Some, codes, map, option_and_then, option_map, string_bytes};
 ghost use Rattle.clap.specs.Words.{Text, first_of, found_of, rows_of, subcommand_rows_of};
-ghost use Rattle.sp_ids.specs.Limits.{max_load_seed, max_load_size};
+ghost use Rattle.sp_ids.specs.Limits.{max_load_seed, max_load_size, max_workers};
 ghost use Rattle.btf_words.specs.Table.{Names, engine_names, texts_of};
-ghost use Rattle.btf_words.specs.Words.{AreTaken, HasSizeInRange, ReadsAlike, engine_in, engine_named as engine_of_name, is_given, job_from, job_of, number_in, number_within};
+ghost use Rattle.btf_words.specs.Words.{AreTaken, HasWorkers, IsWithinLimits, ReadsAlike, engine_in, engine_named as engine_of_name, is_given, job_from, job_of, number_or, number_within, search_in, seed_in, size_in};
 ghost use Rattle.btf_words.specs.declared.jobs.Job.{Job as JobValue};
 
 use crate::commands::command_line;
-use crate::{Engine, Job, WordsError};
+use crate::{Engine, Job, Search, WordsError};
 use clap::ArgMatches;
 use clap::error::ErrorKind;
-use sp_ids::MAX_LOAD_SIZE;
+use sp_ids::{MAX_LOAD_SIZE, MAX_WORKERS};
 use std::alloc::Global;
 
 /// The job that the words after the program's name name.
@@ -22,7 +22,7 @@ use std::alloc::Global;
 pub fn read_words(alloc: Global, words: &[String]) -> Result<Job, WordsError>
     ensures taken { IfOk result (λ job. AreTaken (map string_bytes words.now)) }
     ensures job { IfOk result (λ job. job_of (map string_bytes words.now) ≡ Some job) }
-    ensures size { IfOk result HasSizeInRange }
+    ensures limits { IfOk result IsWithinLimits }
     ensures usage { IsErrOf result WordsError.Usage → ¬ AreTaken (map string_bytes words.now) }
 {
     let Ok(program) = command_line(alloc) else {
@@ -50,7 +50,7 @@ pub fn names_lie_anywhere()
 /// The job of the command that the words entered.
 fn job_in(matches: &ArgMatches<'_>) -> Option<Job>
     ensures job { result ≡ option_and_then job_from (subcommand_rows_of matches.now) }
-    ensures size { IfSome result HasSizeInRange }
+    ensures limits { IfSome result IsWithinLimits }
 {
     let (name, options) = matches.subcommand()?;
     job_named(name, options)
@@ -59,13 +59,13 @@ fn job_in(matches: &ArgMatches<'_>) -> Option<Job>
 /// The job of a command, by the command's name and what was found for its options.
 fn job_named(name: &str, options: &ArgMatches<'_>) -> Option<Job>
     ensures job { result ≡ job_from (name.now, rows_of (found_of options.now)) }
-    ensures size { IfSome result HasSizeInRange }
+    ensures limits { IfSome result IsWithinLimits }
 {
     if name == "rank" {
         Some(Job::Rank)
     } else if name == "analyse" {
         Some(Job::Analyse {
-            engine: engine_of(options),
+            search: search_of(options),
             order: flag_of(options, "order"),
             pairs: flag_of(options, "pairs"),
         })
@@ -77,10 +77,20 @@ fn job_named(name: &str, options: &ArgMatches<'_>) -> Option<Job>
         Some(Job::Load {
             size: size_of(options),
             seed: seed_of(options),
-            engine: engine_of(options),
+            search: search_of(options),
         })
     } else {
         None
+    }
+}
+
+fn search_of(options: &ArgMatches<'_>) -> Search
+    ensures search { result ≡ search_in (rows_of (found_of options.now)) }
+    ensures workers { HasWorkers result }
+{
+    Search {
+        engine: engine_of(options),
+        workers: number_of(options, "workers", 4, 1, u64::from(MAX_WORKERS)) as u32,
     }
 }
 
@@ -124,27 +134,28 @@ fn flag_of(options: &ArgMatches<'_>, name: &str) -> bool
 }
 
 fn size_of(options: &ArgMatches<'_>) -> u32
-    ensures number { result ≡ number_in 1 max_load_size (codes "size") (rows_of (found_of options.now)) }
+    ensures number { result ≡ size_in (rows_of (found_of options.now)) }
     ensures range { (1 ≤ result) × (result ≤ max_load_size) }
 {
-    number_of(options, "size", 1, u64::from(MAX_LOAD_SIZE)) as u32
+    number_of(options, "size", 1, 1, u64::from(MAX_LOAD_SIZE)) as u32
 }
 
 fn seed_of(options: &ArgMatches<'_>) -> u64
-    ensures { result ≡ number_in 0 max_load_seed (codes "seed") (rows_of (found_of options.now)) }
+    ensures { result ≡ seed_in (rows_of (found_of options.now)) }
 {
-    number_of(options, "seed", 0, u64::MAX)
+    number_of(options, "seed", 0, 0, u64::MAX)
 }
 
-/// The number of an option within its bounds.
-fn number_of(options: &ArgMatches<'_>, name: &str, low: u64, high: u64) -> u64
-    requires { low ≤ high }
-    ensures number { result ≡ number_in low high name.now (rows_of (found_of options.now)) }
+/// The number of an option within its bounds, and `none` where it is not given.
+fn number_of(options: &ArgMatches<'_>, name: &str, none: u64, low: u64, high: u64) -> u64
+    requires least { low ≤ none }
+    requires most { none ≤ high }
+    ensures number { result ≡ number_or none low high name.now (rows_of (found_of options.now)) }
     ensures range { (low ≤ result) × (result ≤ high) }
 {
     match value_of(options, name) {
         Some(text) => bounded_number(text, low, high),
-        None => low,
+        None => none,
     }
 }
 

@@ -1,4 +1,4 @@
-use crate::{Engine, Job, WordsError, read_words};
+use crate::{Engine, Job, Search, WordsError, read_words};
 use std::alloc::{AllocError, Global};
 use std::process::Abort;
 use std::test::Fail;
@@ -37,7 +37,7 @@ const OTHER_COMMANDS: [&str; 29] = [
 ];
 
 /// Words that ask for no analysis.
-const OTHER_ANALYSES: [&str; 30] = [
+const OTHER_ANALYSES: [&str; 36] = [
     "analyse --help",
     "analyse -h",
     "analyse help",
@@ -65,13 +65,19 @@ const OTHER_ANALYSES: [&str; 30] = [
     "analyse --pairs=1",
     "analyse pairs",
     "analyse -- --order",
-    "analyse --workers 2",
+    "analyse --workers",
+    "analyse --workers 0",
+    "analyse --workers 65",
+    "analyse --workers -1",
+    "analyse --workers two",
+    "analyse --workers=",
+    "analyse --workers 2 --workers 2",
     "--order analyse",
     "analyse --size 3",
 ];
 
 /// Words that name no matrix.
-const OTHER_LOADS: [&str; 17] = [
+const OTHER_LOADS: [&str; 18] = [
     "load",
     "load --size 3",
     "load --seed 3",
@@ -86,6 +92,7 @@ const OTHER_LOADS: [&str; 17] = [
     "load --size 0x1 --seed 1",
     "load --size 1 --size 1 --seed 1",
     "load --size 1 --seed 1 --engine fast",
+    "load --size 1 --seed 1 --workers 65",
     "load --size 1 --seed 1 --order",
     "load --siz 1 --seed 1",
     "load 1 1",
@@ -100,16 +107,34 @@ fn words_of(alloc: Global, line: &str) -> Result<Vec<String>, AllocError> {
     Ok(words)
 }
 
+/// An engine with four workers, as where the words name no number of them.
+fn by(engine: Engine) -> Search {
+    Search { engine, workers: 4 }
+}
+
 fn analyse(engine: Engine, order: bool, pairs: bool) -> Job {
     Job::Analyse {
-        engine,
+        search: by(engine),
         order,
         pairs,
     }
 }
 
 fn load(size: u32, seed: u64, engine: Engine) -> Job {
-    Job::Load { size, seed, engine }
+    Job::Load {
+        size,
+        seed,
+        search: by(engine),
+    }
+}
+
+/// An analysis without orders and pairs by so many workers.
+fn analyse_by(engine: Engine, workers: u32) -> Job {
+    Job::Analyse {
+        search: Search { engine, workers },
+        order: false,
+        pairs: false,
+    }
 }
 
 /// Reads words that are taken, a line each, and compares their job.
@@ -177,6 +202,30 @@ fn takes_options_of_an_analysis(rt: HostRuntime) -> Result<(), Fail> {
             "analyse --order --engine=plain --pairs --",
             analyse(plain, true, true),
         ),
+    ];
+    taken(&rt, &spellings)
+}
+
+#[test]
+fn takes_numbers_of_workers(rt: HostRuntime) -> Result<(), Fail> {
+    let graft = Engine::Graft;
+    let search = Search {
+        engine: graft,
+        workers: 64,
+    };
+    let loaded = Job::Load {
+        size: 2,
+        seed: 1,
+        search,
+    };
+    let spellings = [
+        ("analyse --workers 1", analyse_by(graft, 1)),
+        ("analyse --workers 64", analyse_by(graft, 64)),
+        ("analyse --workers=2", analyse_by(graft, 2)),
+        ("analyse --workers 007", analyse_by(graft, 7)),
+        ("analyse --workers +8", analyse_by(graft, 8)),
+        ("analyse --workers 3 --engine pf", analyse_by(Engine::Pf, 3)),
+        ("load --workers 64 --size 2 --seed 1", loaded),
     ];
     taken(&rt, &spellings)
 }

@@ -2,7 +2,7 @@
 
 use btf_tool::run;
 use sp_ids::Status;
-use sp_ports::{MemSink, MemSource, NoGate, Sink, Source};
+use sp_ports::{Gate, MemSink, MemSource, NoGate, Sink, Source};
 use std::alloc::AllocError;
 use std::process::Abort;
 use std::test::Fail;
@@ -68,20 +68,21 @@ pub(crate) fn file_of<R: AllocGlobal>(rt: &R, lines: &str) -> Result<String, All
     Ok(file)
 }
 
-/// Runs the program on words over any devices.
-pub(crate) fn run_over<R: Threads + AllocGlobal + Sync, S: Source, O: Sink, E: Sink>(
+/// Runs the program on words over any devices and any gate.
+pub(crate) fn run_over<R: Threads + AllocGlobal + Sync, S: Source, O: Sink, E: Sink, G: Gate>(
     rt: &R,
     words: &[&str],
     input: &mut S,
     out: &mut O,
     err: &mut E,
+    gate: &G,
 ) -> Result<Status, AllocError> {
     let alloc = rt.alloc();
     let mut list = Vec::new(alloc);
     for word in words {
         list.push(String::from_str(alloc, word)?)?;
     }
-    Ok(run(rt, alloc, list.as_slice(), input, out, err, &NoGate))
+    Ok(run(rt, alloc, list.as_slice(), input, out, err, gate))
 }
 
 /// Runs the program on words and a file.
@@ -98,7 +99,7 @@ pub(crate) fn outcome_of<R: Threads + Abort + AllocGlobal + Sync>(
     let failing_writes = devices.failing_writes.to_vec(alloc)?;
     let mut out = MemSink::new(alloc, devices.room, 10, failing_writes)?;
     let mut err = MemSink::new(alloc, devices.err_room, 10, Vec::new(alloc))?;
-    let status = run_over(rt, words, &mut input, &mut out, &mut err)?;
+    let status = run_over(rt, words, &mut input, &mut out, &mut err, &NoGate)?;
     Ok(Outcome {
         status,
         input,

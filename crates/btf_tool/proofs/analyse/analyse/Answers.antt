@@ -10,7 +10,7 @@ use Rattle.btf_tool.proofs.analyse.analyse.Goals as goal
 
 pub returns-in_err-hand_on-clause-says : goal.returns-in_err-hand_on-clause-says
 returns-in_err-hand_on-clause-says g c =
-    let job = Analyse c.args.options.engine c.args.options.order c.args.options.pairs in
+    let job = Analyse c.args.options.search c.args.options.order c.args.options.pairs in
     let input = seen g.S.Source.left g.S.Source.faults c.args.input.now c.read_file.new.input in
     let out = seen g.O.Sink.taken g.O.Sink.faults c.args.out.now c.hand_on.new.out in
     let (a, matrix, found) = c.in_ok-analysis.ensures in
@@ -21,7 +21,7 @@ returns-in_err-hand_on-clause-says g c =
 
 pub returns-clause-says : goal.returns-clause-says
 returns-clause-says g c =
-    let job = Analyse c.args.options.engine c.args.options.order c.args.options.pairs in
+    let job = Analyse c.args.options.search c.args.options.order c.args.options.pairs in
     let input = seen g.S.Source.left g.S.Source.faults c.args.input.now c.read_file.new.input in
     let out = seen g.O.Sink.taken g.O.Sink.faults c.args.out.now c.hand_on.new.out in
     let (a, matrix, found) = c.in_ok-analysis.ensures in

@@ -29,7 +29,7 @@ pub returns : goal.returns
 returns c = record {
   taken = tt;
   job = tt;
-  size = tt;
+  limits = tt;
   usage = λ refusal taken. refused (app_of c.in-Ok.program) (map string_bytes c.args.words.now) c.in-Err.error c.in-Ok.ensures
       c.in-Err.ensures.kinds (λ memory. c.in_default-kind.not-OutOfMemory (c.kind.ensures ∙ memory)) taken;
 }

@@ -1,0 +1,96 @@
+//! Several workers: that they work at once, and that no text depends on how many there are or on who is first.
+
+use crate::runs::{BANNER, THREE_PARTS, answer, file_of, run_over};
+use sp_ids::Status;
+use sp_ports::{MeetGate, MemSink, MemSource};
+use std::process::Abort;
+use std::test::Fail;
+use std::thread::Threads;
+
+// Worker 0 waits at each of its arrivals until worker 1 has arrived as often.
+#[test]
+fn two_workers_meet(rt: HostRuntime) -> Result<(), Fail> {
+    let alloc = rt.alloc();
+    let gate = MeetGate::new(alloc)?;
+    let mut input = MemSource::new(Vec::new(alloc), 1, Vec::new(alloc));
+    let mut out = MemSink::new(alloc, 4096, 4096, Vec::new(alloc))?;
+    let mut err = MemSink::new(alloc, 4096, 4096, Vec::new(alloc))?;
+    let words = ["load", "--size", "30", "--seed", "0", "--workers", "2"];
+    let status = run_over(&rt, &words, &mut input, &mut out, &mut err, &gate)?;
+    assert_eq!(rt; status, Status::Ok);
+    let text = "matrix 30 30 85\nrank 22\nhorizontal 22 30\nsquare 0 0\nvertical 8 0\n";
+    assert_eq!(rt; out.bytes(), text.as_bytes());
+    assert!(rt; !gate.ran_out());
+    assert!(rt; 0 < gate.arrivals(0));
+    assert_eq!(rt; gate.arrivals(0), gate.arrivals(1));
+    assert_eq!(rt; gate.arrivals(2), 0);
+    Ok(())
+}
+
+const NUMBERS: [&str; 6] = ["1", "2", "3", "4", "8", "64"];
+
+/// With each number of workers the report of a file is that of the plain engine.
+fn same_reports<R: Threads + Abort + AllocGlobal + Sync>(rt: &R, file: &[u8]) -> Result<(), Fail> {
+    let plain = ["analyse", "--order", "--engine", "plain"];
+    let (_, wanted) = answer(rt, &plain, file)?;
+    for workers in NUMBERS {
+        let words = ["analyse", "--workers", workers, "--order"];
+        let (status, found) = answer(rt, &words, file)?;
+        assert_eq!(rt; status, Status::Ok, "{workers} workers");
+        assert_eq!(rt; found.as_slice(), wanted.as_slice(), "{workers} workers");
+    }
+    Ok(())
+}
+
+#[test]
+fn reports_of_small_matrices(rt: HostRuntime) -> Result<(), Fail> {
+    for lines in [
+        "0 0 0\n",
+        "1 2 2\n1 1\n1 2\n",
+        "2 1 2\n1 1\n2 1\n",
+        "3 3 5\n1 1\n1 2\n3 2\n1 3\n2 3\n",
+        THREE_PARTS,
+    ] {
+        same_reports(&rt, file_of(&rt, lines)?.as_bytes())?;
+    }
+    Ok(())
+}
+
+// Thirty columns that all have entries in the same three rows, and one row of all columns beside them.
+#[test]
+fn a_contested_matrix_again_and_again(rt: HostRuntime) -> Result<(), Fail> {
+    let mut file = String::from_str(rt.alloc(), BANNER)?;
+    file.push_str("4 30 120\n")?;
+    for col in 1..31u32 {
+        for row in 1..5u32 {
+            write!(file, "{row} {col}\n")?;
+        }
+    }
+    for _ in 0..10 {
+        same_reports(&rt, file.as_bytes())?;
+    }
+    Ok(())
+}
+
+// Matrices of some ten thousand entries.
+#[test]
+fn summaries_of_larger_matrices(rt: HostRuntime) -> Result<(), Fail> {
+    for seed in ["0", "1", "12345"] {
+        let serial = ["load", "--size", "3400", "--engine", "pf", "--seed", seed];
+        let (_, wanted) = answer(&rt, &serial, b"")?;
+        for workers in NUMBERS {
+            let words = [
+                "load",
+                "--size",
+                "3400",
+                "--workers",
+                workers,
+                "--seed",
+                seed,
+            ];
+            let (_, found) = answer(&rt, &words, b"")?;
+            assert_eq!(rt; found.as_slice(), wanted.as_slice(), "{workers} workers");
+        }
+    }
+    Ok(())
+}
