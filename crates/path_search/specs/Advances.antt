@@ -28,7 +28,8 @@ pub record HasFound (a : Matrix) (m : List Place) (s : SearchState) : Type 0 whe
 abbrev pub steps_left : Matrix → SearchState → ℕ
 steps_left a s = (a.rows - length s.visited) + (a.rows - length s.visited) + length s.path
 
-pub record Continues (a : Matrix) (m : List Place) (reversed : Bool) (old new : SearchState) (c k : ℕ) : Type 0 where
+pub record Continues (a : Matrix) (m : List Place) (reversed : Bool) (old new : SearchState)
+    (c k : ℕ) : Type 0 where
   pub onward : Onward old new
   pub search : StandsAt a m reversed new c k
   pub falls : steps_left a new < steps_left a old

@@ -102,7 +102,8 @@ Visits m r place root old new false = (IsMarked old.marks r × (new ≡ old))
     }))
 
 -- an augmenting path of entries from the root, whose rows but its last have their mates in the tree of this root
-pub record Traces (a : Matrix) (m : List Place) (q : List Reached) (root leaf : ℕ) (path : List Place) : Type 0 where
+pub record Traces (a : Matrix) (m : List Place) (q : List Reached) (root leaf : ℕ)
+    (path : List Place) : Type 0 where
   pub augmenting : IsAugmenting m path
   pub entries : AreEntries a path
   pub from_root : Among root (cols_of path)

@@ -24,7 +24,8 @@ pub record HasMarked (rows : List ℕ) (old new : List Bool) : Type 0 where
   pub others : (r : ℕ) → ¬ Among r rows → slice_index_or new r false ≡ slice_index_or old r false
 
 -- an augmenting path of entries with the root on it, whose matched rows were not marked
-pub record Finds (a : Matrix) (m : List Place) (marks : List Bool) (root : ℕ) (path : List Place) : Type 0 where
+pub record Finds (a : Matrix) (m : List Place) (marks : List Bool) (root : ℕ)
+    (path : List Place) : Type 0 where
   pub augmenting : IsAugmenting m path
   pub entries : AreEntries a path
   pub from_root : Among root (cols_of path)
@@ -32,7 +33,8 @@ pub record Finds (a : Matrix) (m : List Place) (marks : List Bool) (root : ℕ) 
 
 -- no unmarked row is left to which a walk leads: the root's entries are in marked rows, and so are those of the mates of
 -- the rows that were visited
-pub record Exhausts (a : Matrix) (m : List Place) (marks : List Bool) (visited : List ℕ) (root : ℕ) : Type 0 where
+pub record Exhausts (a : Matrix) (m : List Place) (marks : List Bool) (visited : List ℕ)
+    (root : ℕ) : Type 0 where
   pub of_root : IsExplored a marks root
   pub of_mates : (r : ℕ) → Among r visited → (d : ℕ) × Among (r, d) m × IsExplored a marks d
 

@@ -25,7 +25,8 @@ Trail a m reversed marks from (p ∷ path) (k ∷ places) to = (p.1 ≡ from) ×
     × Trail a m reversed marks d path places to
 
 -- a search that stands at the k-th row of column c
-pub record StandsAt (a : Matrix) (m : List Place) (reversed : Bool) (s : SearchState) (c k : ℕ) : Type 0 where
+pub record StandsAt (a : Matrix) (m : List Place) (reversed : Bool) (s : SearchState)
+    (c k : ℕ) : Type 0 where
   pub cols_are : s.cols ≡ cols a
   pub rows_are : length s.marks ≡ a.rows
   pub few_rows : a.rows < 2 ^ 32
