@@ -5,6 +5,7 @@
 //! tree-grafting, 2017.
 #![tactic(auto)]
 
+mod adopted;
 mod claim_table;
 mod forest;
 mod laws;
