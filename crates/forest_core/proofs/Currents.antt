@@ -6,7 +6,7 @@ use Rattle.bip_defs.specs.Matrix.{AreEntries, Matrix, Place}
 use Rattle.bip_defs.specs.Paths.{Alternates, BeginsUnmatched, Exchanges, Gives, IsAugmenting}
 use Rattle.bip_defs.proofs.Exchange.{adds_pair, drops_gives, drops_pair, exchange_one, exchange_rest, rest_augments}
 use Rattle.bip_defs.proofs.Sets.{col_among, col_pair, distinct_pairs, drops_gone, drops_length, drops_only, drops_rows, row_among, row_pair, taken}
-use Rattle.forest_core.specs.Current.{IsCurrent, IsRematched, OnPath}
+use Rattle.forest_core.specs.Current.{IsCurrent, IsPairAfter, OnPath}
 use Rattle.forest_core.specs.Paths.{IsPath, with_flipped}
 use Rattle.forest_core.specs.Sound.{IsSound}
 use Rattle.bip_defs.specs.Forest.{RootOf, State, roots_of}
@@ -58,7 +58,7 @@ path_entries s k x path b r c h = claims_entries s.matrix s.base [] s.claims k.c
 pub current_more : (s : State) → IsSound s → (xs ys : List ℕ) (now new : List Place) (x : ℕ) (path : List Place) → IsCurrent (with_flipped s xs) now → ¬ Among x xs → IsPath s x path → Exchanges path now new → AreDistinct new → ((y : ℕ) → Among y ys ↔ ((y ≡ x) ⊎ Among y xs)) → IsCurrent (with_flipped s ys) new
 current_more s k xs ys now new x path cur off b ex once more = record { pairs = λ p. (over p, back p); once = once }
   where
-    over : (p : Place) → Among p new → (Among p s.claims × IsRematched (with_flipped s ys) p.0) ⊎ (Among p s.base × (¬ IsRematched (with_flipped s ys) p.0))
+    over : (p : Place) → Among p new → IsPairAfter s ys p
     over p h = ⊎_elim (λ on. inl (b.claimed p on, (x, (more x).1 (inl refl), b.on_path p.0 (row_among p.0 p.1 path on)))) (λ (was, not_on). ⊎_elim (λ (g, (y, f, w)). inl (g, (y, (more y).1 (inr f), w))) (λ (g, n). inr (g, λ (y, f, w). ⊎_elim (λ (e : y ≡ x). not_on (b.complete p.0 (subst (λ z. OnPath s.base s.claims s.leaves z p.0) e w))) (λ i. n (y, i, w)) ((more y).0 f))) ((cur.pairs p).0 was)) ((ex p).0 h)
 
     by_flip : (p : Place) (y : ℕ) → Among p s.claims → OnPath s.base s.claims s.leaves y p.0 → (y ≡ x) ⊎ Among y xs → Among p new
@@ -70,7 +70,7 @@ current_more s k xs ys now new x path cur off b ex once more = record { pairs = 
         same_claim d h = one_claim s k p.0 d p.1 h g
     by_flip p y g w (inr i) = (ex p).1 (inr ((cur.pairs p).1 (inl (g, (y, i, w))), λ h. off (subst (λ z. Among z xs) (one_path s k w (b.on_path p.0 h)) i)))
 
-    back : (p : Place) → (Among p s.claims × IsRematched (with_flipped s ys) p.0) ⊎ (Among p s.base × (¬ IsRematched (with_flipped s ys) p.0)) → Among p new
+    back : (p : Place) → IsPairAfter s ys p → Among p new
     back p (inl (g, (y, f, w))) = by_flip p y g w ((more y).0 f)
     back p (inr (g, n)) = (ex p).1 (inr ((cur.pairs p).1 (inr (g, λ (y, i, w). n (y, (more y).1 (inr i), w))), λ h. n (x, (more x).1 (inl refl), b.on_path p.0 h)))
 

@@ -1,5 +1,7 @@
+pub mod Adopted
 pub mod Current
 pub mod Events
+pub mod Exchanged
 pub mod Inside
 pub mod Kept
 pub mod Paths
