@@ -1,11 +1,11 @@
 -- Matchings that were adopted: the paths of what mates are exchanged, and what later events leave of it.
 use Rattle.std.proofs.Common.{◌≡◌, ◌↔◌, ◌∙◌, ℕ, ◌<◌, List, [], ◌∷◌, ◌++◌, length, length-append, take, Option, None, Some, sym, subst, inl, inr, arith}
 use Rattle.std.proofs.lemmas.List.{take-append-le, take_all}
-use Rattle.bip_defs.specs.Lists.{Among, AreDistinct, IsRising}
+use Rattle.bip_defs.specs.Lists.{Among, AreDistinct, IsRising, option_at}
 use Rattle.bip_defs.specs.Matching.{cols_of, rows_of}
 use Rattle.bip_defs.specs.Matrix.{IsEntry, Place, cols}
 use Rattle.bip_defs.proofs.Sets.{among_left, among_take, distinct_pairs, entry_col, one_col, rising_distinct, row_pair}
-use Rattle.bip_graph.specs.Mates.{AreMutual, Mated, mate_in}
+use Rattle.bip_graph.specs.Mates.{AreMutual, Mated}
 use Rattle.bip_graph.specs.Matching.{Pairing}
 use Rattle.forest_core.specs.declared.adopted.Adopted.{Adopted}
 use Rattle.forest_core.specs.Adopted.{HasExchanged, IsAdopted}
@@ -109,7 +109,7 @@ same_roots s xs ys over back p (inl (g, (x, f, w))) = inl (g, (x, over x f, w))
 same_roots s xs ys over back p (inr (g, n)) = inr (g, λ (x, f, w). n (x, back x f, w))
 
 pub exchanged_in : (s : State) (mates : Mated) (m : Pairing) (xs : List ℕ) → IsSound s → AreExchanged s mates → ((x : ℕ) → Among x xs → Among x (roots_of s.leaves)) → ((x : ℕ) → Among x (roots_of s.leaves) → Among x xs) → m.rows ≡ length mates.rows → m.cols ≡ length mates.cols
-    → ((r c : ℕ) → Among (r, c) m.pairs ↔ (mate_in mates.cols c ≡ Some r)) → AreDistinct (rows_of m.pairs) → AreDistinct (cols_of m.pairs) → IsExchanged s xs m
+    → ((r c : ℕ) → Among (r, c) m.pairs ↔ (option_at mates.cols c ≡ Some r)) → AreDistinct (rows_of m.pairs) → AreDistinct (cols_of m.pairs) → IsExchanged s xs m
 exchanged_in s mates m xs k e over back rows_are cols_are pairs_are rows_differ cols_differ = record {
   current = record { pairs = λ p. (now p, was p); once = distinct_pairs m.pairs rows_differ };
   matching = record {
@@ -133,7 +133,7 @@ exchanged_in s mates m xs k e over back rows_are cols_are pairs_are rows_differ 
 
 -- and so it is what the forest adopts, once all these roots are flipped
 pub adopted_now : (s u : State) (mates : Mated) (m : Pairing) (fs : List ℕ) (flips : ℕ) → IsSound s → AreExchanged s mates → u ≡ with_flipped s fs → ((x : ℕ) → Among x fs → Among x (roots_of s.leaves)) → ((x : ℕ) → Among x (roots_of s.leaves) → Among x fs) → flips ≡ length u.flipped → m.rows ≡ length mates.rows → m.cols ≡ length mates.cols
-    → ((r c : ℕ) → Among (r, c) m.pairs ↔ (mate_in mates.cols c ≡ Some r)) → AreDistinct (rows_of m.pairs) → IsRising (cols_of m.pairs) → HasExchanged u flips m
+    → ((r c : ℕ) → Among (r, c) m.pairs ↔ (option_at mates.cols c ≡ Some r)) → AreDistinct (rows_of m.pairs) → IsRising (cols_of m.pairs) → HasExchanged u flips m
 adopted_now s u mates m fs flips k e is over back count rows_are cols_are pairs_are rows_differ cols_rise = subst (λ (v : State). (n : ℕ) → n ≡ length v.flipped → HasExchanged v n m) (sym is) (λ n all. rw all (record {
   few = omega arith;
   exchanged = record { current = subst (λ xs. IsCurrent (with_flipped s xs) m.pairs) (sym (take_all (length fs) fs (omega arith))) now.current; matching = now.matching };

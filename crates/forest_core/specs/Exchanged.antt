@@ -3,7 +3,8 @@ use Rattle.std.specs.Prelude.{◌≡◌, ◌↔◌, ℕ, ◌<◌, Bool, not, ◌
 use Rattle.std.specs.Set.{is_member}
 use Rattle.bip_defs.specs.Matrix.{cols}
 use Rattle.bip_defs.specs.Forest.{State, roots_of}
-use Rattle.bip_graph.specs.Mates.{Mated, mate_in}
+use Rattle.bip_defs.specs.Lists.{option_at}
+use Rattle.bip_graph.specs.Mates.{Mated}
 use Rattle.forest_core.specs.Current.{IsPairAfter}
 use Rattle.sp_ids.specs.declared.events.Event.{Event}
 use Rattle.sp_ids.specs.declared.events.Event.TheVariants.{Flip}
@@ -12,8 +13,8 @@ use Rattle.sp_ids.specs.declared.events.Event.TheVariants.{Flip}
 pub record AreExchanged (s : State) (m : Mated) : Type 0 where
   pub rows_long : length m.rows ≡ s.matrix.rows
   pub cols_long : length m.cols ≡ cols s.matrix
-  pub row : (r c : ℕ) → r < s.matrix.rows → (mate_in m.rows r ≡ Some c) ↔ IsPairAfter s (roots_of s.leaves) (r, c)
-  pub col : (r c : ℕ) → c < cols s.matrix → (mate_in m.cols c ≡ Some r) ↔ IsPairAfter s (roots_of s.leaves) (r, c)
+  pub row : (r c : ℕ) → r < s.matrix.rows → (option_at m.rows r ≡ Some c) ↔ IsPairAfter s (roots_of s.leaves) (r, c)
+  pub col : (r c : ℕ) → c < cols s.matrix → (option_at m.cols c ≡ Some r) ↔ IsPairAfter s (roots_of s.leaves) (r, c)
 
 -- whether the root is not flipped
 abbrev pub is_unflipped : State → ℕ → Bool
