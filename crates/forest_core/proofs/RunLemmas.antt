@@ -12,7 +12,7 @@ use Rattle.forest_core.specs.Events.{AreClaimsAndWins, Becomes, Grows, IsLegal, 
 use Rattle.forest_core.specs.Sound.{IsSound}
 use Rattle.bip_defs.specs.Forest.{InForest, RootOf, State, roots_of}
 use Rattle.forest_core.proofs.Roots.{path_root, root_more}
-use Rattle.forest_core.proofs.Soundness.{event_sound, run_last, run_matrix, run_sound}
+use Rattle.forest_core.proofs.Soundness.{event_sound, run_last, run_matrix}
 
 -- Runs one after the other.
 
@@ -33,9 +33,6 @@ runs_split s u (e ∷ es) ds (l, v, k, rest) = let (t, front, back) = runs_split
 
 pub leads_on : (s t u : State) → LeadsTo s t → LeadsTo t u → LeadsTo s u
 leads_on s t u (es, h) (ds, g) = (es ++ ds, runs_on s t u es ds h g)
-
-pub leads_sound : (s t : State) → IsSound s → LeadsTo s t → IsSound t
-leads_sound s t k (es, h) = run_sound s t es k h
 
 pub leads_matrix : (s t : State) → LeadsTo s t → t.matrix ≡ s.matrix
 leads_matrix s t (es, h) = run_matrix s t es h
