@@ -55,8 +55,8 @@ fn trace(matching: &Matching, claimed: &ClaimTable, leaf: Row, path: &mut Vec<(R
     trace_back(&trees, leaf, claimed.holder_at(leaf), path);
 }
 
-/// Exchanges the paths of these roots, but of those whose paths are exchanged in an adopted matching, which then stands in
-/// the base's place.
+/// Exchanges the paths of these roots, but of those whose paths are exchanged in an adopted
+/// matching, which then stands in the base's place.
 pub fn exchange(
     base: &mut Matching,
     adopted: &mut Option<Adopted>,
