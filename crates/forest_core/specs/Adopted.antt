@@ -18,7 +18,8 @@ abbrev pub IsAdopted : State → Option Adopted → Type 0
 IsAdopted s None = Unit {0}
 IsAdopted s (Some a) = HasExchanged s a.flips a.matching
 
--- the adopted matching is the new one, with its number of roots; the old one stays where none was adopted
+-- the adopted matching is the new one, with its number of roots; the old one stays where none was
+-- adopted
 abbrev pub Replaces : Option Adopted → Pairing → Pairing → ℕ → Type 0
 Replaces None old new flips = (new ≡ old) × (flips ≡ 0)
 Replaces (Some a) old new flips = (new ≡ a.matching) × (flips ≡ a.flips)

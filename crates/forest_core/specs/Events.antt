@@ -65,7 +65,8 @@ AreClaimsAndWins (Graft ∷ es) = ⊥
 AreClaimsAndWins (Rebuild ∷ es) = ⊥
 AreClaimsAndWins (Done ∷ es) = ⊥
 
--- legal events lead from s to t, both have the same base matching and flipped roots, and what there was in s there is in t
+-- legal events lead from s to t, both have the same base matching and flipped roots, and what there
+-- was in s there is in t
 pub record Grows (s t : State) : Type 0 where
   pub legal : LeadsTo s t
   pub matrix : t.matrix ≡ s.matrix

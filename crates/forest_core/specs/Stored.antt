@@ -28,7 +28,8 @@ pub record AreClaimRoots (roots : List (Option ℕ)) (claims : List Place) (xs :
   pub long : length xs ≡ length claims
   pub are : (i : ℕ) → i < length claims → HasRootAt roots claims xs i
 
--- by row the column that claimed it and its root, by claim its row's root, by column its leaf and whether it is flipped
+-- by row the column that claimed it and its root, by claim its row's root, by column its leaf and
+-- whether it is flipped
 pub record Tables : Type 0 where
   pub claimed : Claimed
   pub claim_roots : List ℕ

@@ -20,7 +20,8 @@ const NONE: RowClaim = RowClaim {
     root: u32::MAX,
 };
 
-/// For each row the column that claimed it and the root of its tree, or neither. It keeps 8 bytes for each.
+/// For each row the column that claimed it and the root of its tree, or neither. It keeps 8 bytes
+/// for each.
 #[derive(Drop)]
 pub struct ClaimTable {
     rows: Vec<RowClaim>,

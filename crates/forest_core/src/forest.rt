@@ -26,11 +26,13 @@ use std::marker::Model;
 
 /// Alternating trees that grow from the columns that are unmatched in a base matching.
 ///
-/// A column of the forest claims rows in which it has entries, and with a row comes its base mate. A root wins a claimed row
-/// that is unmatched, its leaf; its path from there is then exchanged, at the latest when the base matching is renewed.
+/// A column of the forest claims rows in which it has entries, and with a row comes its base mate.
+/// A root wins a claimed row that is unmatched, its leaf; its path from there is then exchanged, at
+/// the latest when the base matching is renewed.
 ///
-/// It takes all its memory when it is made: 28 bytes a row and 17 a column, beside the matching. Mates that it adopts, 4 bytes
-/// a row and 4 a column, it keeps beside the base matching until that is renewed.
+/// It takes all its memory when it is made: 28 bytes a row and 17 a column, beside the matching.
+/// Mates that it adopts, 4 bytes a row and 4 a column, it keeps beside the base matching until that
+/// is renewed.
 #[derive(Drop)]
 pub struct Forest<'p> {
     pattern: &'p Pattern,
@@ -65,8 +67,8 @@ impl<'p> Model for Forest<'p> {
 impl<'p> Forest<'p> {
     /// The forest over a matching of entries of the pattern: no row is claimed.
     ///
-    /// Answers `OutOfMemory` where the room for all later claims and leaves can't be had. Work: one write for each row and
-    /// column.
+    /// Answers `OutOfMemory` where the room for all later claims and leaves can't be had. Work: one
+    /// write for each row and column.
     pub fn new(
         alloc: Global,
         pattern: &'p Pattern,
@@ -199,8 +201,8 @@ impl<'p> Forest<'p> {
 
     /// Whether an event is legal. Any row and column may be asked for.
     ///
-    /// Work: for `Graft` and `Rebuild` one look at each leaf, for `Done` at most one at each entry; for a `Claim` the look-up
-    /// of an entry; constant for the others.
+    /// Work: for `Graft` and `Rebuild` one look at each leaf, for `Done` at most one at each entry;
+    /// for a `Claim` the look-up of an entry; constant for the others.
     pub fn may(&self, event: Event) -> bool
         ensures { IsTrue result ↔ IsLegal self.now event }
     {
@@ -311,7 +313,8 @@ impl<'p> Forest<'p> {
         true
     }
 
-    /// Whether nothing is left to be claimed: there are no leaves, and each entry of a column in the forest has a claimed row.
+    /// Whether nothing is left to be claimed: there are no leaves, and each entry of a column in
+    /// the forest has a claimed row.
     ///
     /// Work: at most one look at each entry.
     pub fn done(&self) -> bool
@@ -360,7 +363,8 @@ impl<'p> Forest<'p> {
         }
     }
 
-    /// A column of the forest claims a row in which it has an entry. Takes no memory. Work: constant.
+    /// A column of the forest claims a row in which it has an entry. Takes no memory. Work:
+    /// constant.
     pub fn claim(&mut self, row: Row, col: Col)
         requires { IsLegal self.old (Claim row col) }
         ensures grows { Grows self.old self.new }
@@ -374,7 +378,8 @@ impl<'p> Forest<'p> {
         put(&mut self.claim_roots, root);
     }
 
-    /// A root takes a claimed row of its tree, which has no base mate, as its leaf. Takes no memory. Work: constant.
+    /// A root takes a claimed row of its tree, which has no base mate, as its leaf. Takes no
+    /// memory. Work: constant.
     pub fn win(&mut self, root: Col, leaf: Row)
         requires { IsLegal self.old (Win root leaf) }
         ensures grows { Grows self.old self.new }
@@ -385,8 +390,9 @@ impl<'p> Forest<'p> {
         put(&mut self.leaves, (root, leaf));
     }
 
-    /// Exchanges the path of a root with a leaf: it belongs to the current matching from now on. The base matching stays.
-    /// Takes no memory. Work: constant; the matching itself is written when it is asked for.
+    /// Exchanges the path of a root with a leaf: it belongs to the current matching from now on.
+    /// The base matching stays. Takes no memory. Work: constant; the matching itself is written
+    /// when it is asked for.
     pub fn flip(&mut self, root: Col)
         requires { IsLegal self.old (Flip root) }
         ensures { self.new ≡ record self.old { flipped = self.old.flipped ++ root ∷ [] } }
@@ -395,9 +401,10 @@ impl<'p> Forest<'p> {
         put(&mut self.flipped, root);
     }
 
-    /// Flips each root with a leaf that is not flipped, in the order of the leaves, where the exchange itself is made already:
-    /// the mates are those of the base matching with the path of every leaf exchanged. They are kept, and no path of these
-    /// roots is exchanged again. The base matching stays.
+    /// Flips each root with a leaf that is not flipped, in the order of the leaves, where the
+    /// exchange itself is made already: the mates are those of the base matching with the path of
+    /// every leaf exchanged. They are kept, and no path of these roots is exchanged again. The base
+    /// matching stays.
     ///
     /// Takes no memory. Work: one look at each leaf and one read for each column.
     pub fn adopt(&mut self, mates: Mates)
@@ -429,10 +436,11 @@ impl<'p> Forest<'p> {
         }
     }
 
-    /// The current matching becomes the base, and the claims of trees without a leaf stay: the others, the leaves and the
-    /// flipped roots are gone.
+    /// The current matching becomes the base, and the claims of trees without a leaf stay: the
+    /// others, the leaves and the flipped roots are gone.
     ///
-    /// Takes no memory. Work: one look at each claim and each leaf, and three writes at most for each pair of a path.
+    /// Takes no memory. Work: one look at each claim and each leaf, and three writes at most for
+    /// each pair of a path.
     pub fn graft(&mut self)
         requires { IsLegal self.old Graft }
         ensures renewed { IsRenewed self.old self.new }

@@ -12,8 +12,8 @@ use crate::claim_table::ClaimTable;
 use crate::table::Table;
 use sp_ids::{Col, Id, Row};
 
-/// Moves the claims whose root has no leaf to the front, in their order, each with its root, and takes the others' rows
-/// back. How many stay.
+/// Moves the claims whose root has no leaf to the front, in their order, each with its root, and
+/// takes the others' rows back. How many stay.
 pub fn keep(
     claims: &mut [(Row, Col)],
     roots: &mut [Col],
@@ -47,7 +47,8 @@ pub fn keep(
 
 /// Takes back all rows that are claimed.
 ///
-/// Where more than one row in 16 is claimed the table is written anew in order: for each claim it would cost more.
+/// Where more than one row in 16 is claimed the table is written anew in order: for each claim it
+/// would cost more.
 pub fn clear_claims(claims: &[(Row, Col)], claimed: &mut ClaimTable)
     requires rows { (r c : ℕ) → Among (r, c) claims.now → r < length claimed.old.holders }
     requires holders { IsTableOf claims.now claimed.old.holders }
