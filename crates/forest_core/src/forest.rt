@@ -5,9 +5,9 @@ ghost use Rattle.bip_defs.specs.Lists.{Among};
 ghost use Rattle.bip_defs.specs.Matching.{rows_of, cols_of};
 ghost use Rattle.bip_defs.specs.Matrix.{cols};
 ghost use Rattle.bip_graph.specs.Matching.{IsMatchingOf};
-ghost use Rattle.forest_core.specs.Current.{IsCurrent};
-ghost use Rattle.forest_core.specs.Events.{AreFlipped, AreKept, Grows, IsClosed, IsLegal, IsRenewed, Runs};
-ghost use Rattle.forest_core.specs.Exchanged.{AreExchanged, flip_events, unflipped};
+ghost use Rattle.forest_core.specs.Current.{IsCurrent, base_of};
+ghost use Rattle.forest_core.specs.Events.{AreFlipped, AreKept, Becomes, Grows, IsClosed, IsLegal, IsRenewed, Runs};
+ghost use Rattle.forest_core.specs.Exchanged.{AreExchanged, all_flipped, flip_events, unflipped};
 ghost use Rattle.forest_core.specs.Sound.{IsSound};
 ghost use Rattle.bip_defs.specs.Forest.{InForest, IsRootOfRow, IsUsedUp, RootOf, new_forest, roots_of};
 ghost use Rattle.sp_ids.specs.declared.events.Event.TheVariants.{Claim, Win, Flip, Graft, Rebuild, Done};
@@ -103,7 +103,7 @@ impl<'p> Forest<'p> {
 
     /// The base matching. Flips don't change it; a graft or a rebuild renews it.
     pub fn base(&self) -> &Matching
-        ensures { result.now ≡ record { rows = self.now.matrix.rows; cols = cols self.now.matrix; pairs = self.now.base } }
+        ensures { result.now ≡ base_of self.now }
     {
         &self.base
     }
@@ -368,7 +368,7 @@ impl<'p> Forest<'p> {
     pub fn claim(&mut self, row: Row, col: Col)
         requires { IsLegal self.old (Claim row col) }
         ensures grows { Grows self.old self.new }
-        ensures claims { self.new ≡ record self.old { claims = self.old.claims ++ (row, col) ∷ [] } }
+        ensures claims { Becomes self.old (Claim row col) self.new }
     {
         let root = self.root(col);
         self.pattern.is_pattern();
@@ -383,7 +383,7 @@ impl<'p> Forest<'p> {
     pub fn win(&mut self, root: Col, leaf: Row)
         requires { IsLegal self.old (Win root leaf) }
         ensures grows { Grows self.old self.new }
-        ensures leaves { self.new ≡ record self.old { leaves = self.old.leaves ++ (root, leaf) ∷ [] } }
+        ensures leaves { Becomes self.old (Win root leaf) self.new }
     {
         self.pattern.is_pattern();
         self.leaf_of.put(root.number(), leaf.number());
@@ -410,7 +410,7 @@ impl<'p> Forest<'p> {
     pub fn adopt(&mut self, mates: Mates)
         requires exchanged { AreExchanged self.old mates }
         ensures flips { Runs self.old (flip_events (unflipped self.old)) self.new }
-        ensures flipped { self.new ≡ record self.old { flipped = self.old.flipped ++ unflipped self.old } }
+        ensures flipped { self.new ≡ all_flipped self.old }
         ensures all { AreFlipped self.new }
         ensures size { length self.new.flipped ≡ length self.old.leaves }
     {
@@ -425,7 +425,7 @@ impl<'p> Forest<'p> {
 
     // Flips each root with a leaf that is not flipped.
     fn flip_all(&mut self)
-        ensures { self.new ≡ record self.old { flipped = self.old.flipped ++ unflipped self.old } }
+        ensures { self.new ≡ all_flipped self.old }
     {
         self.is_sound();
         for i in 0..self.leaves().len() {

@@ -46,9 +46,11 @@ impl Parents for Trees<'_> {
 // Follows a root's path up from its leaf, and leaves it in order from the root.
 fn trace(matching: &Matching, claimed: &ClaimTable, leaf: Row, path: &mut Vec<(Row, Col)>)
     requires room { length claimed.now.holders ≤ vec_capacity path.old }
-    requires forest { (s : State) × (xs : List ℕ) × (x : ℕ) × CanTrace s xs x matching.now claimed.now.holders leaf }
+    requires forest { (s : State) × (xs : List ℕ) × (x : ℕ)
+        × CanTrace s xs x matching.now claimed.now.holders leaf }
     ensures augments { IsAugmenting matching.now.pairs path.new.items }
-    ensures pairs { (s : State) (xs : List ℕ) (x : ℕ) → CanTrace s xs x matching.now claimed.now.holders leaf → ArePathPairs s x path.new.items }
+    ensures pairs { (s : State) (xs : List ℕ) (x : ℕ)
+        → CanTrace s xs x matching.now claimed.now.holders leaf → ArePathPairs s x path.new.items }
     ensures room { length claimed.now.holders ≤ vec_capacity path.new }
 {
     let trees = Trees { matching, claimed };
@@ -66,8 +68,11 @@ pub fn exchange(
     path: &mut Vec<(Row, Col)>,
 )
     requires room { length claimed.now.holders ≤ vec_capacity path.old }
-    requires forest { (s : State) × CanExchange s base.old adopted.old claimed.now.holders leaf_of.now roots.now }
-    ensures exchanged { (s : State) → CanExchange s base.old adopted.old claimed.now.holders leaf_of.now roots.now → IsExchanged s roots.now base.new }
+    requires forest { (s : State)
+        × CanExchange s base.old adopted.old claimed.now.holders leaf_of.now roots.now }
+    ensures exchanged { (s : State)
+        → CanExchange s base.old adopted.old claimed.now.holders leaf_of.now roots.now
+        → IsExchanged s roots.now base.new }
     ensures adopted { adopted.new ≡ None }
     ensures room { length claimed.now.holders ≤ vec_capacity path.new }
 {
