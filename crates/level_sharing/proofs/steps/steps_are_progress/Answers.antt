@@ -1,5 +1,5 @@
 use Rattle.level_sharing.proofs.ProgressLemmas.{progress_claim, progress_here, progress_look, progress_on, progress_win}
-use Rattle.level_sharing.proofs.laws.steps_are_progress.Goals as goal
+use Rattle.level_sharing.proofs.steps.steps_are_progress.Goals as goal
 
 pub returns : goal.returns
 returns c = record {

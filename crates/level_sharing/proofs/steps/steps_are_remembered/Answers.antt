@@ -1,5 +1,5 @@
 use Rattle.level_sharing.proofs.ProgressLemmas.{holder_after_claim, holder_after_look, holder_known, leaf_after_look, leaf_after_win, settled_stays, won_known}
-use Rattle.level_sharing.proofs.laws.steps_are_remembered.Goals as goal
+use Rattle.level_sharing.proofs.steps.steps_are_remembered.Goals as goal
 
 pub returns : goal.returns
 returns c = record {
