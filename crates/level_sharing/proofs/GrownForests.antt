@@ -8,13 +8,13 @@ use Rattle.bip_defs.proofs.Sets.{among_either, among_left, among_map, among_righ
 use Rattle.claim_words.specs.Board.{Board, Words, held}
 use Rattle.claim_words.specs.Seat.{AreNumbered, KnowsRoot, KnowsRow, Seat}
 use Rattle.claim_words.specs.Settles.{SettlesAll}
-use Rattle.claim_words.specs.WorkerState.{AreAllWorkers, HaveGrown, WorkerState, fresh_claims_of, fresh_wins_of, seats_of}
+use Rattle.claim_words.specs.WorkerState.{AreAllWorkers, HaveGrown, WorkerState, fresh_claims_of, fresh_lists, fresh_wins_of, seats_of}
 use Rattle.level_sharing.specs.Agreement.{Agree, HoldThese, Shows}
 use Rattle.level_sharing.specs.Each.{EachPairFrom}
 use Rattle.level_sharing.specs.Level.{AreThroughColumns, AreThroughRows, Level, forest_after}
 use Rattle.level_sharing.specs.Progress.{HasSettled, IsLeafFor, IsThroughColumns, IsThroughRows, KnowsHolder, KnowsWon}
 use Rattle.level_sharing.specs.Shares.{share_of}
-use Rattle.level_sharing.proofs.LevelLemmas.{Began, all_began, claims_same, fresh_claims_are, fresh_wins_are, lists_grow, seats_stay, wins_same}
+use Rattle.level_sharing.proofs.LevelLemmas.{Began, all_began, fresh_claims_are, fresh_wins_are, lists_grow}
 use Rattle.level_sharing.proofs.ShareLemmas.{shares_cover_list}
 
 -- Trees grow.
@@ -75,6 +75,9 @@ board_of b w (u ∷ ws) (board, number, count, h) (inr m) = numbered_board b 1 w
 
 -- What the laws on fresh lists and on known values tell of a level.
 pub record LevelTold (l : Level) : Type 0 where
+  pub all : AreAllWorkers l.board l.after
+  pub same_claims : fresh_claims_of l.gathered ≡ fresh_claims_of l.after
+  pub same_wins : fresh_wins_of l.gathered ≡ fresh_wins_of l.after
   pub new_claims : AreNew l.forest.claims (fresh_claims_of l.after)
   pub new_wins : AreNew l.forest.leaves (fresh_wins_of l.after)
   pub rows : HoldThese (l.forest.claims ++ fresh_claims_of l.after) l.words.rows
@@ -84,6 +87,9 @@ pub record LevelTold (l : Level) : Type 0 where
 
 -- The laws on fresh lists and on known values.
 pub record LevelLaws : Type 0 where
+  pub all : (b : Board) (vs ws : List WorkerState) → HaveGrown vs ws → AreAllWorkers b vs → AreAllWorkers b ws
+  pub same_claims : (vs ws : List WorkerState) → fresh_lists vs ≡ fresh_lists ws → fresh_claims_of vs ≡ fresh_claims_of ws
+  pub same_wins : (vs ws : List WorkerState) → fresh_lists vs ≡ fresh_lists ws → fresh_wins_of vs ≡ fresh_wins_of ws
   pub claims : (b : Board) (words : Words) (before after : List WorkerState) (claims leaves : List (ℕ × ℕ)) → Agree b before claims leaves → HaveGrown before after → SettlesAll b words (seats_of after) → AreNew claims (fresh_claims_of after)
   pub wins : (b : Board) (words : Words) (before after : List WorkerState) (claims leaves : List (ℕ × ℕ)) → Agree b before claims leaves → HaveGrown before after → SettlesAll b words (seats_of after) → AreNew leaves (fresh_wins_of after)
   pub rows : (b : Board) (words : Words) (before after : List WorkerState) (claims leaves : List (ℕ × ℕ)) → Agree b before claims leaves → HaveGrown before after → SettlesAll b words (seats_of after) → HoldThese (claims ++ fresh_claims_of after) words.rows
@@ -93,7 +99,10 @@ pub record LevelLaws : Type 0 where
 
 pub level_told : LevelLaws → (l : Level) → LevelTold l
 level_told laws l =
-    let grow = lists_grow l.forest l.own 0 l.before l.after (all_began l.forest l.own 0 l.before l.after l.progress l.agree.no_claims l.agree.no_wins) in record {
+    let grow = lists_grow l.forest l.own 0 l.before l.after l.progress in record {
+      all = laws.all l.board l.before l.after grow l.agree.shows.all_workers;
+      same_claims = laws.same_claims l.gathered l.after l.fresh;
+      same_wins = laws.same_wins l.gathered l.after l.fresh;
       new_claims = laws.claims l.board l.words l.before l.after l.forest.claims l.forest.leaves l.agree grow l.settles;
       new_wins = laws.wins l.board l.words l.before l.after l.forest.claims l.forest.leaves l.agree grow l.settles;
       rows = laws.rows l.board l.words l.before l.after l.forest.claims l.forest.leaves l.agree grow l.settles;
@@ -102,71 +111,61 @@ level_told laws l =
       root_known = λ v root leaf. laws.root_known l.board l.words (seats_of l.after) v root leaf l.settles;
     }
 
--- what the facts of the one list of fresh claims and wins say of the other
-pub claims_are : (l : Level) → fresh_claims_of l.after ≡ fresh_claims_of l.gathered
-claims_are l = sym (claims_same l.after l.gathered l.fresh)
-
-pub wins_are : (l : Level) → fresh_wins_of l.after ≡ fresh_wins_of l.gathered
-wins_are l = sym (wins_same l.after l.gathered l.fresh)
-
 began : (l : Level) → EachPairFrom (λ (j : ℕ). λ (v w : WorkerState). Began l.forest (l.own j) v w) 0 l.before l.after
 began l = all_began l.forest l.own 0 l.before l.after l.progress l.agree.no_claims l.agree.no_wins
 
-pub places : (l : Level) → (r c : ℕ) → Among (r, c) (fresh_claims_of l.gathered) → IsEntry l.forest.matrix r c × InForest l.forest c
-places l r c m =
-    let by = claim_by _ 0 l.before l.after (r, c) (began l) (subst (λ (ps : List Place). Among (r, c) ps) (claims_same l.after l.gathered l.fresh) m) in
+pub places : (l : Level) → LevelTold l → (r c : ℕ) → Among (r, c) (fresh_claims_of l.gathered) → IsEntry l.forest.matrix r c × InForest l.forest c
+places l t r c m =
+    let by = claim_by _ 0 l.before l.after (r, c) (began l) (subst (λ (ps : List Place). Among (r, c) ps) t.same_claims m) in
     by.has.progress.entries r c (subst (λ (ps : List Place). Among (r, c) ps) (fresh_claims_are l.forest (l.own by.number) by.was by.worker by.has) by.lists)
 
-leaf_for : (l : Level) (x r : ℕ) (w : WorkerState) → Among w l.after → IsLeafFor l.forest w x r
+leaf_for : (l : Level) (x r : ℕ) (w : WorkerState) → LevelTold l → Among w l.after → IsLeafFor l.forest w x r
     → (¬ Among x (cols_of l.forest.base)) × (¬ Among r (rows_of l.forest.base)) × IsRootOfRow l.forest.base (l.forest.claims ++ fresh_claims_of l.gathered) x r
-leaf_for l x r w m (free, (c, claimed, root)) = (
+leaf_for l x r w t m (free, (c, claimed, root)) = (
   root_unmatched l.forest.base l.forest.claims x c root,
   free,
   (
     c,
-    among_right (r, c) l.forest.claims (fresh_claims_of l.gathered) (subst (λ (ps : List Place). Among (r, c) ps) (claims_are l) (fresh_of_all w l.after (r, c) m claimed)),
+    among_right (r, c) l.forest.claims (fresh_claims_of l.gathered) (subst (λ (ps : List Place). Among (r, c) ps) (sym t.same_claims) (fresh_of_all w l.after (r, c) m claimed)),
     root_grows l.forest.base l.forest.claims (fresh_claims_of l.gathered) x c root,
   ),
 )
 
-pub leaves : (l : Level) → (x r : ℕ) → Among (x, r) (fresh_wins_of l.gathered)
+pub leaves : (l : Level) → LevelTold l → (x r : ℕ) → Among (x, r) (fresh_wins_of l.gathered)
     → (¬ Among x (cols_of l.forest.base)) × (¬ Among r (rows_of l.forest.base)) × IsRootOfRow l.forest.base (l.forest.claims ++ fresh_claims_of l.gathered) x r
-leaves l x r m =
-    let by = win_by _ 0 l.before l.after (x, r) (began l) (subst (λ (ps : List (ℕ × ℕ)). Among (x, r) ps) (wins_same l.after l.gathered l.fresh) m) in
-    leaf_for l x r by.worker by.one_of (by.has.progress.leaves x r (subst (λ (ps : List (ℕ × ℕ)). Among (x, r) ps) (fresh_wins_are l.forest (l.own by.number) by.was by.worker by.has) by.lists))
+leaves l t x r m =
+    let by = win_by _ 0 l.before l.after (x, r) (began l) (subst (λ (ps : List (ℕ × ℕ)). Among (x, r) ps) t.same_wins m) in
+    leaf_for l x r by.worker t by.one_of (by.has.progress.leaves x r (subst (λ (ps : List (ℕ × ℕ)). Among (x, r) ps) (fresh_wins_are l.forest (l.own by.number) by.was by.worker by.has) by.lists))
 
 pub new_claims_of : (l : Level) → LevelTold l → AreNew l.forest.claims (fresh_claims_of l.gathered)
-new_claims_of l t = subst (λ (ps : List Place). AreNew l.forest.claims ps) (claims_are l) t.new_claims
+new_claims_of l t = subst (λ (ps : List Place). AreNew l.forest.claims ps) (sym t.same_claims) t.new_claims
 
 pub new_wins_of : (l : Level) → LevelTold l → AreNew l.forest.leaves (fresh_wins_of l.gathered)
-new_wins_of l t = subst (λ (ps : List (ℕ × ℕ)). AreNew l.forest.leaves ps) (wins_are l) t.new_wins
+new_wins_of l t = subst (λ (ps : List (ℕ × ℕ)). AreNew l.forest.leaves ps) (sym t.same_wins) t.new_wins
 
 pub shown : (l : Level) → LevelTold l → Shows l.board l.gathered (forest_after l).claims (forest_after l).leaves
 shown l t = record {
   all_workers = l.all_workers;
   words = l.words;
   listed = l.settles_gathered;
-  rows = subst (λ (ps : List Place). HoldThese (l.forest.claims ++ ps) l.words.rows) (claims_are l) t.rows;
-  roots = subst (λ (ps : List (ℕ × ℕ)). HoldThese (l.forest.leaves ++ ps) l.words.roots) (wins_are l) t.roots;
+  rows = subst (λ (ps : List Place). HoldThese (l.forest.claims ++ ps) l.words.rows) (sym t.same_claims) t.rows;
+  roots = subst (λ (ps : List (ℕ × ℕ)). HoldThese (l.forest.leaves ++ ps) l.words.roots) (sym t.same_wins) t.roots;
 }
 
 -- What a worker knows is so after the level.
-
-after_all : (l : Level) → AreAllWorkers l.board l.after
-after_all l = seats_stay l.forest l.own l.board l.before l.after l.progress l.agree.shows.all_workers
 
 seat_among : (w : WorkerState) (ws : List WorkerState) → Among w ws → Among w.seat (seats_of ws)
 seat_among w ws m = among_map (λ (z : WorkerState). z.seat) w ws m
 
 holder_stands : (l : Level) (w : WorkerState) (r : ℕ) → LevelTold l → Among w l.after → KnowsHolder w r → Among r (rows_of (forest_after l).claims)
 holder_stands l w r t m (c, k) =
-    let held_by = t.row_known w.seat r c (seat_among w l.after m) (board_of l.board w l.after (after_all l) m) k in
-    subst (λ (ps : List Place). Among r (rows_of (l.forest.claims ++ ps))) (claims_are l) (row_among r c (l.forest.claims ++ fresh_claims_of l.after) ((t.rows r c).0 held_by))
+    let held_by = t.row_known w.seat r c (seat_among w l.after m) (board_of l.board w l.after t.all m) k in
+    subst (λ (ps : List Place). Among r (rows_of (l.forest.claims ++ ps))) (sym t.same_claims) (row_among r c (l.forest.claims ++ fresh_claims_of l.after) ((t.rows r c).0 held_by))
 
 leaf_stands : (l : Level) (w : WorkerState) (x r : ℕ) → LevelTold l → Among w l.after → KnowsRoot w.seat x r → Among x (roots_of (forest_after l).leaves)
 leaf_stands l w x r t m k =
-    let won_by = t.root_known w.seat x r (seat_among w l.after m) (board_of l.board w l.after (after_all l) m) k in
-    subst (λ (ps : List (ℕ × ℕ)). Among x (roots_of (l.forest.leaves ++ ps))) (wins_are l) (among_map (λ (p : ℕ × ℕ). p.0) (x, r) (l.forest.leaves ++ fresh_wins_of l.after) ((t.roots x r).0 won_by))
+    let won_by = t.root_known w.seat x r (seat_among w l.after m) (board_of l.board w l.after t.all m) k in
+    subst (λ (ps : List (ℕ × ℕ)). Among x (roots_of (l.forest.leaves ++ ps))) (sym t.same_wins) (among_map (λ (p : ℕ × ℕ). p.0) (x, r) (l.forest.leaves ++ fresh_wins_of l.after) ((t.roots x r).0 won_by))
 
 won_stands : (l : Level) (w : WorkerState) (c : ℕ) → LevelTold l → Among w l.after → KnowsWon l.forest w c → HasWon (forest_after l) c
 won_stands l w c t m (x, root, (r, k)) = (x, root_grows l.forest.base l.forest.claims (fresh_claims_of l.gathered) x c root, leaf_stands l w x r t m k)
@@ -190,7 +189,7 @@ settled_after l P has t each old r m free =
 
     is_new : (c : ℕ) → Among (r, c) (fresh_claims_of l.gathered) → IsWon (forest_after l) r
     is_new c k =
-        let by = claim_by P 0 l.before l.after (r, c) each (subst (λ (ps : List Place). Among (r, c) ps) (claims_same l.after l.gathered l.fresh) k) in
+        let by = claim_by P 0 l.before l.after (r, c) each (subst (λ (ps : List Place). Among (r, c) ps) t.same_claims k) in
         let (x, root, leaf) = won_stands l by.worker c t by.one_of (has by.number by.was by.worker by.has r c by.lists free) in
         (x, (c, among_right (r, c) l.forest.claims (fresh_claims_of l.gathered) k, root), leaf)
 

@@ -1,41 +1,21 @@
 -- What a level does to the forest, from what each worker has done.
-use Rattle.std.proofs.Common.{◌≡◌, ◌∙◌, ℕ, suc, ◌+◌, List, [], ◌∷◌, ◌++◌, length, refl, sym, ap, ap₂, subst}
+use Rattle.std.proofs.Common.{◌≡◌, ◌∙◌, ℕ, suc, List, [], ◌∷◌, ◌++◌, refl, sym, ap, subst}
 use Rattle.bip_defs.specs.Forest.{State}
 use Rattle.bip_defs.specs.Lists.{Among, numbers_of}
 use Rattle.bip_defs.specs.Matrix.{Place}
 use Rattle.bip_defs.proofs.Sets.{row_among}
-use Rattle.claim_words.specs.Board.{Board}
-use Rattle.claim_words.specs.Seat.{AreNumbered}
-use Rattle.claim_words.specs.WorkerState.{AreAllWorkers, HaveGrown, WorkerState, fresh_claims_of, fresh_lists, fresh_wins_of, seats_of}
+use Rattle.claim_words.specs.WorkerState.{HaveGrown, WorkerState, fresh_claims_of, fresh_lists, fresh_wins_of}
 use Rattle.level_sharing.specs.Each.{EachFrom, EachPairFrom}
-use Rattle.level_sharing.specs.Level.{HaveProgressed}
 use Rattle.level_sharing.specs.Progress.{Progress}
+use Rattle.level_sharing.proofs.ProgressLemmas.{fresh_claims_grow, fresh_wins_grow}
 use Rattle.level_sharing.specs.Shares.{KeepsTo, Share}
 
--- Seats.
-
-numbered_stay : (s : State) (own : ℕ → Share) (b : Board) (i n : ℕ) (vs ws : List WorkerState) → EachPairFrom (λ (j : ℕ). λ (v w : WorkerState). Progress s (own j) v w) i vs ws → AreNumbered b n (seats_of vs) → AreNumbered b n (seats_of ws)
-numbered_stay s own b i n [] [] p h = h
-numbered_stay s own b i n [] (w ∷ ws) p h = absurd p
-numbered_stay s own b i n (v ∷ vs) [] p h = absurd p
-numbered_stay s own b i n (v ∷ vs) (w ∷ ws) (p, ps) (board, number, h) = (p.same_seat.0 ∙ board, p.same_seat.1 ∙ number, numbered_stay s own b (suc i) (1 + n) vs ws ps h)
-
-as_many : (P : ℕ → WorkerState → WorkerState → Type 0) (i : ℕ) (vs ws : List WorkerState) → EachPairFrom P i vs ws → length (seats_of ws) ≡ length (seats_of vs)
-as_many P i [] [] p = refl
-as_many P i [] (w ∷ ws) p = absurd p
-as_many P i (v ∷ vs) [] p = absurd p
-as_many P i (v ∷ vs) (w ∷ ws) (p, ps) = ap suc (as_many P (suc i) vs ws ps)
-
-pub seats_stay : (s : State) (own : ℕ → Share) (b : Board) (vs ws : List WorkerState) → HaveProgressed s own vs ws → AreAllWorkers b vs → AreAllWorkers b ws
-seats_stay s own b [] [] p h = h
-seats_stay s own b [] (w ∷ ws) p h = absurd p
-seats_stay s own b (v ∷ vs) [] p h = absurd p
-seats_stay s own b (v ∷ vs) (w ∷ ws) (p, ps) (board, number, count, h) = (
-  p.same_seat.0 ∙ board,
-  p.same_seat.1 ∙ number,
-  p.same_seat.2 ∙ (count ∙ ap (λ n. 1 + n) (sym (as_many _ 1 vs ws ps))),
-  numbered_stay s own b 1 1 vs ws ps h,
-)
+-- the workers have grown
+pub lists_grow : (s : State) (own : ℕ → Share) (i : ℕ) (vs ws : List WorkerState) → EachPairFrom (λ (j : ℕ). λ (v w : WorkerState). Progress s (own j) v w) i vs ws → HaveGrown vs ws
+lists_grow s own i [] [] p = tt
+lists_grow s own i [] (w ∷ ws) p = absurd p
+lists_grow s own i (v ∷ vs) [] p = absurd p
+lists_grow s own i (v ∷ vs) (w ∷ ws) (p, ps) = ((p.more, p.grown), lists_grow s own (suc i) vs ws ps)
 
 -- The lists of a worker that began with empty fresh lists.
 
@@ -62,21 +42,11 @@ all_began s own i (v ∷ vs) (w ∷ ws) (p, ps) c x = (
   all_began s own (suc i) vs ws ps (none_right v.fresh_claims (fresh_claims_of vs) c) (none_right v.fresh_wins (fresh_wins_of vs) x),
 )
 
-pub fresh_claims_are : (s : State) (own : Share) (v w : WorkerState) (b : Began s own v w) → w.fresh_claims ≡ b.progress.claims
-fresh_claims_are s own v w b = b.progress.fresh_claims ∙ ap (λ l. l ++ b.progress.claims) b.no_claims
+pub fresh_claims_are : (s : State) (own : Share) (v w : WorkerState) (b : Began s own v w) → w.fresh_claims ≡ b.progress.more.claims
+fresh_claims_are s own v w b = fresh_claims_grow s own v w b.progress ∙ ap (λ l. l ++ b.progress.more.claims) b.no_claims
 
-pub fresh_wins_are : (s : State) (own : Share) (v w : WorkerState) (b : Began s own v w) → w.fresh_wins ≡ b.progress.wins
-fresh_wins_are s own v w b = b.progress.fresh_wins ∙ ap (λ l. l ++ b.progress.wins) b.no_wins
-
-pub lists_grow : (s : State) (own : ℕ → Share) (i : ℕ) (vs ws : List WorkerState) → EachPairFrom (λ (j : ℕ). λ (v w : WorkerState). Began s (own j) v w) i vs ws → HaveGrown vs ws
-lists_grow s own i [] [] p = tt
-lists_grow s own i [] (w ∷ ws) p = absurd p
-lists_grow s own i (v ∷ vs) [] p = absurd p
-lists_grow s own i (v ∷ vs) (w ∷ ws) (p, ps) = (
-  p.progress.listed_claims ∙ ap (λ l. v.seat.listed.claims ++ l) (sym (fresh_claims_are s (own i) v w p)),
-  p.progress.listed_wins ∙ ap (λ l. v.seat.listed.wins ++ l) (sym (fresh_wins_are s (own i) v w p)),
-  lists_grow s own (suc i) vs ws ps,
-)
+pub fresh_wins_are : (s : State) (own : Share) (v w : WorkerState) (b : Began s own v w) → w.fresh_wins ≡ b.progress.more.wins
+fresh_wins_are s own v w b = fresh_wins_grow s own v w b.progress ∙ ap (λ l. l ++ b.progress.more.wins) b.no_wins
 
 keeps : (s : State) (own : Share) (v w : WorkerState) → Began s own v w → KeepsTo own w
 keeps s own v w b = record {
@@ -116,15 +86,3 @@ keep_same own i [] [] e h = tt
 keep_same own i [] (u ∷ us) e h = absurd cc
 keep_same own i (w ∷ ws) [] e h = absurd cc
 keep_same own i (w ∷ ws) (u ∷ us) e (h, hs) = let one = head_same _ _ _ _ e in (keeps_same (own i) w u (claims_of_one w u one) (wins_of_one w u one) h, keep_same own (suc i) ws us (tail_same _ _ _ _ e) hs)
-
-pub claims_same : (ws us : List WorkerState) → fresh_lists us ≡ fresh_lists ws → fresh_claims_of us ≡ fresh_claims_of ws
-claims_same [] [] e = refl
-claims_same [] (u ∷ us) e = absurd cc
-claims_same (w ∷ ws) [] e = absurd cc
-claims_same (w ∷ ws) (u ∷ us) e = ap₂ ◌++◌ (claims_of_one w u (head_same _ _ _ _ e)) (claims_same ws us (tail_same _ _ _ _ e))
-
-pub wins_same : (ws us : List WorkerState) → fresh_lists us ≡ fresh_lists ws → fresh_wins_of us ≡ fresh_wins_of ws
-wins_same [] [] e = refl
-wins_same [] (u ∷ us) e = absurd cc
-wins_same (w ∷ ws) [] e = absurd cc
-wins_same (w ∷ ws) (u ∷ us) e = ap₂ ◌++◌ (wins_of_one w u (head_same _ _ _ _ e)) (wins_same ws us (tail_same _ _ _ _ e))

@@ -8,11 +8,13 @@ ghost use Rattle.claim_words.specs.WorkerState.{HaveGrown, WorkerState, fresh_cl
 ghost use Rattle.level_sharing.specs.Agreement.{Agree, HoldThese, Shows};
 ghost use Rattle.level_sharing.specs.Shares.{share_of};
 
-use claim_words::{fresh_lists_add_up, listed_words_stand, times_add_up};
+use claim_words::{
+    fresh_lists_add_up, fresh_lists_are_listed, listed_words_stand, seats_stay, times_add_up,
+};
 
-/// Board and workers agreed with a forest, and since then each worker's seat lists what is in its fresh lists beside what it
-/// listed before. Then the fresh claims are of rows that were unclaimed, each once, the fresh wins of roots without a leaf,
-/// each once, and the words hold the old claims and leaves with the fresh ones and nothing else.
+/// Board and workers agreed with a forest, and since then the workers have listed more. Then the fresh claims are of rows that
+/// were unclaimed, each once, the fresh wins of roots without a leaf, each once, and the words hold the old claims and leaves
+/// with the fresh ones and nothing else.
 pub fn fresh_lists_are_new()
     ensures claims { (b : Board) (words : Words) (before after : List WorkerState)
         (claims leaves : List (ℕ × ℕ)) → Agree b before claims leaves
@@ -36,13 +38,16 @@ pub fn fresh_lists_are_new()
     listed_words_stand();
     times_add_up();
     fresh_lists_add_up();
+    fresh_lists_are_listed();
 }
 
 /// Workers that show the claims and the leaves of a forest agree with it once they are settled.
 pub fn settled_workers_agree()
     ensures { (b : Board) (ws : List WorkerState) (claims leaves : List (ℕ × ℕ))
         → Shows b ws claims leaves → Agree b (map settled ws) claims leaves }
-{}
+{
+    seats_stay();
+}
 
 /// The shares of so many workers cover a list, and have nothing else.
 pub fn shares_cover_a_list()

@@ -11,7 +11,7 @@ ghost use Rattle.level_sharing.specs.Level.{AreThroughColumns, AreThroughRows, L
 ghost use Rattle.level_sharing.specs.Shares.{KeepToShares};
 
 use crate::laws::fresh_lists_are_new;
-use claim_words::known_values_stand;
+use claim_words::{fresh_lists_join, known_values_stand, workers_grow};
 
 /// In a level each worker claims and wins of its own share alone.
 pub fn levels_keep_to_shares()
@@ -29,6 +29,8 @@ pub fn levels_are_legal()
         → (¬ Among x (cols_of l.forest.base)) × (¬ Among r (rows_of l.forest.base))
         × IsRootOfRow l.forest.base (l.forest.claims ++ fresh_claims_of l.gathered) x r }
 {
+    fresh_lists_join();
+    workers_grow();
     fresh_lists_are_new();
     known_values_stand();
 }
@@ -37,6 +39,8 @@ pub fn levels_are_legal()
 pub fn levels_are_shown()
     ensures { (l : Level) → Shows l.board l.gathered (forest_after l).claims (forest_after l).leaves }
 {
+    fresh_lists_join();
+    workers_grow();
     fresh_lists_are_new();
     known_values_stand();
 }
@@ -49,6 +53,8 @@ pub fn levels_go_through_columns()
     ensures columns { (l : Level) (cols : List ℕ) (c : ℕ) → AreThroughColumns l cols → Among c cols
         → HasWon (forest_after l) c ⊎ IsUsedUp (forest_after l) c }
 {
+    fresh_lists_join();
+    workers_grow();
     fresh_lists_are_new();
     known_values_stand();
 }
@@ -62,6 +68,8 @@ pub fn levels_go_through_rows()
         → IsEntry l.forest.matrix r c → InForest l.forest c
         → Among r (rows_of (forest_after l).claims) ⊎ HasWon (forest_after l) c }
 {
+    fresh_lists_join();
+    workers_grow();
     fresh_lists_are_new();
     known_values_stand();
 }

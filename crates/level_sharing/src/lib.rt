@@ -19,6 +19,6 @@ pub use levels::{
     levels_are_legal, levels_are_shown, levels_go_through_columns, levels_go_through_rows,
     levels_keep_to_shares,
 };
-pub use shares::share;
+pub use shares::{share, share_start};
 pub use steps::{progress_keeps_seats, steps_are_progress, steps_are_remembered};
 pub use work::{Work, work_at_once};

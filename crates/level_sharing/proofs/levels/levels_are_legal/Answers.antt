@@ -3,6 +3,9 @@ use Rattle.level_sharing.proofs.levels.levels_are_legal.Goals as goal
 
 laws : goal.After-known_values_stand → LevelLaws
 laws c = record {
+  all = c.workers_grow.ensures.all;
+  same_claims = c.fresh_lists_join.ensures.same_claims;
+  same_wins = c.fresh_lists_join.ensures.same_wins;
   claims = c.fresh_lists_are_new.ensures.claims;
   wins = c.fresh_lists_are_new.ensures.wins;
   rows = c.fresh_lists_are_new.ensures.rows;
@@ -14,7 +17,7 @@ laws c = record {
 pub returns : goal.returns
 returns c = record {
   claims = λ l. new_claims_of l (level_told (laws c) l);
-  places = places;
+  places = λ l. places l (level_told (laws c) l);
   wins = λ l. new_wins_of l (level_told (laws c) l);
-  leaves = leaves;
+  leaves = λ l. leaves l (level_told (laws c) l);
 }
