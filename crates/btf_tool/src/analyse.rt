@@ -5,7 +5,7 @@ ghost use Rattle.bip_defs.specs.Matrix.{Matrix};
 ghost use Rattle.btf_words.specs.declared.jobs.Job.TheVariants.{Analyse};
 ghost use Rattle.btf_tool.specs.Analyses.{IsFoundIn};
 ghost use Rattle.sp_ports.specs.Device.{seen};
-ghost use Rattle.btf_tool.specs.Jobs.{GaveFront, IsMatrixOf, OfReading};
+ghost use Rattle.btf_tool.specs.Jobs.{GavePrefix, IsMatrixOf, OfReading};
 ghost use Rattle.btf_tool.specs.Runs.{JobSays};
 
 use crate::decompose::{Analysis, decompose};
@@ -37,8 +37,9 @@ pub(crate) fn analyse<R: Threads + Sync, S: Source, O: Sink, G: Gate>(
     out: &mut O,
     gate: &G,
 ) -> Result<Answer, Refusal>
-    ensures says { JobSays (Analyse options.engine options.order options.pairs) (seen S.left S.faults input.old input.new) (seen O.taken O.faults out.old out.new) result }
-    ensures gave { OfReading (seen S.left S.faults input.old input.new) GaveFront }
+    ensures says { JobSays (Analyse options.engine options.order options.pairs)
+        (seen S.left S.faults input.old input.new) (seen O.taken O.faults out.old out.new) result }
+    ensures gave { OfReading (seen S.left S.faults input.old input.new) GavePrefix }
 {
     let triples = read_file(alloc, input)?;
     let analysis = analysis_of(rt, alloc, triples, options.engine, gate)?;
@@ -61,7 +62,8 @@ fn analysis_of<R: Threads + Sync, G: Gate>(
     engine: Engine,
     gate: &G,
 ) -> Result<Analysis, OutOfMemory>
-    ensures { IfOk result (λ s. (a : Matrix) × IsMatrixOf triples a × IsFoundIn a s.decomposition s.matching.pairs) }
+    ensures { IfOk result
+        (λ s. (a : Matrix) × IsMatrixOf triples a × IsFoundIn a s.decomposition s.matching.pairs) }
 {
     let pattern = Pattern::build(rt, alloc, &triples)?;
     drop(triples);

@@ -32,7 +32,8 @@ pub(crate) fn load<R: Threads + Sync, O: Sink, G: Gate>(
 ) -> Result<Answer, Refusal>
     requires some { 1 ≤ size }
     requires few { size ≤ max_load_size }
-    ensures { (input : Device) → IsUntouched input → JobSays (Load size seed engine) input (seen O.taken O.faults out.old out.new) result }
+    ensures { (input : Device) → IsUntouched input
+        → JobSays (Load size seed engine) input (seen O.taken O.faults out.old out.new) result }
 {
     let analysis = analysis_of(rt, alloc, size, seed, engine, gate)?;
     let mut buf = TextBuf::new(alloc)?;
@@ -52,7 +53,9 @@ fn analysis_of<R: Threads + Sync, G: Gate>(
 ) -> Result<Analysis, OutOfMemory>
     requires some { 1 ≤ size }
     requires few { size ≤ max_load_size }
-    ensures { IfOk result (λ s. (a : Matrix) × IsLoadMatrix size seed a × IsFoundIn a s.decomposition s.matching.pairs) }
+    ensures { IfOk result
+        (λ s. (a : Matrix) × IsLoadMatrix size seed a
+        × IsFoundIn a s.decomposition s.matching.pairs) }
 {
     let pattern = load_matrix(rt, alloc, size, seed)?;
     decompose(rt, alloc, &pattern, engine, gate)

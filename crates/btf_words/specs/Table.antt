@@ -80,7 +80,8 @@ load_command names = command (codes "load") (size_rule ∷ seed_rule ∷ engine_
 
 -- the commands that the program has
 abbrev pub commands : Names → List Shape
-commands names = rank_command ∷ analyse_command names ∷ diagonal_command ∷ check_command ∷ load_command names ∷ []
+commands names = rank_command ∷ analyse_command names ∷ diagonal_command ∷ check_command
+    ∷ load_command names ∷ []
 
 -- ---- the program
 

@@ -44,7 +44,8 @@ pub fn taken_words_name_a_job()
 
 /// Where the names of the engines lie counts for nothing.
 pub fn names_lie_anywhere()
-    ensures { (names : Names) (words : List Text) → texts_of names ≡ engine_names → ReadsAlike names words }
+    ensures { (names : Names) (words : List Text) → texts_of names ≡ engine_names
+        → ReadsAlike names words }
 {}
 
 /// The job of the command that the words entered.
@@ -124,7 +125,8 @@ fn flag_of(options: &ArgMatches<'_>, name: &str) -> bool
 }
 
 fn size_of(options: &ArgMatches<'_>) -> u32
-    ensures number { result ≡ number_in 1 max_load_size (codes "size") (rows_of (found_of options.now)) }
+    ensures number { result
+        ≡ number_in 1 max_load_size (codes "size") (rows_of (found_of options.now)) }
     ensures range { (1 ≤ result) × (result ≤ max_load_size) }
 {
     number_of(options, "size", 1, u64::from(MAX_LOAD_SIZE)) as u32
