@@ -440,7 +440,7 @@ impl<'p> Forest<'p> {
     /// others, the leaves and the flipped roots are gone.
     ///
     /// Takes no memory. Work: one look at each claim and each leaf, and three writes at most for
-    /// each pair of a path.
+    /// each pair of the path of a root that was flipped after the last adoption.
     pub fn graft(&mut self)
         requires { IsLegal self.old Graft }
         ensures renewed { IsRenewed self.old self.new }
@@ -504,7 +504,8 @@ impl<'p> Forest<'p> {
 
     /// The current matching: the base matching with the paths of the flipped roots exchanged.
     ///
-    /// Takes no memory. Work: three writes at most for each pair of the path of a flipped root.
+    /// Takes no memory. Work: three writes at most for each pair of the path of a root that was
+    /// flipped after the last adoption.
     pub fn into_matching(self) -> Matching
         ensures current { IsCurrent self.entry result.pairs }
         ensures matching { IsMatchingOf self.entry.matrix result }
