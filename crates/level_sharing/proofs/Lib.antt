@@ -1,3 +1,6 @@
+pub mod EachLemmas
 pub mod Members
 pub mod NewWords
+pub mod ProgressLemmas
 pub mod SettledWorkers
+pub mod ShareLemmas

@@ -6,5 +6,9 @@
 #![tactic(auto)]
 
 mod laws;
+mod shares;
+mod work;
 
 pub use laws::{fresh_lists_are_new, settled_workers_agree};
+pub use shares::share;
+pub use work::{Work, work_at_once};
