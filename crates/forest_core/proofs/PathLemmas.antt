@@ -1,14 +1,16 @@
 -- Following a root's path up from its leaf, and exchanging it.
-use Rattle.std.proofs.Common.{◌≡◌, ◌⊎◌, ◌↔◌, ◌∙◌, ℕ, zero, suc, ◌+◌, ◌<◌, ◌≤◌, List, [], ◌∷◌, ◌++◌, take, drop, drop_of_length-le, length, reverse, slice_index_or, Option, Some, refl, sym, ap, subst, inl, inr, ⊎_elim, arith}
+use Rattle.std.proofs.Common.{◌≡◌, ◌⊎◌, ◌↔◌, ◌∙◌, ℕ, zero, suc, ◌+◌, ◌<◌, ◌≤◌, List, [], ◌∷◌, ◌++◌, take, drop, drop_of_length-le, length, reverse, slice_index_or, Option, None, Some, refl, sym, ap, subst, inl, inr, ⊎_elim, arith}
 use Rattle.std.proofs.lemmas.List.{append-nil, length-map, length-reverse, reverse-append, take_all, take_more}
 use Rattle.bip_defs.specs.Lists.{Among, AreDistinct}
 use Rattle.bip_defs.specs.Matching.{IsMatching, cols_of, rows_of}
-use Rattle.bip_defs.specs.Matrix.{Place}
+use Rattle.bip_defs.specs.Matrix.{Place, cols}
 use Rattle.bip_defs.specs.Paths.{Exchanges, IsAugmenting}
 use Rattle.bip_defs.proofs.Sets.{among_at, among_last, among_left, among_right, col_among, col_pair, distinct_pairs, entry_col, row_among, row_pair}
 use Rattle.bip_graph.specs.Matching.{Pairing}
-use Rattle.forest_core.specs.Current.{IsCurrent, OnPath, up}
-use Rattle.forest_core.specs.Paths.{CanExchange, CanTrace, IsExchanged, IsPath, with_flipped}
+use Rattle.forest_core.specs.Current.{OnPath, up}
+use Rattle.forest_core.specs.Adopted.{CanExchange, IsAdopted, Replaces}
+use Rattle.forest_core.specs.declared.adopted.Adopted.{Adopted}
+use Rattle.forest_core.specs.Paths.{CanTrace, IsExchanged, IsPath}
 use Rattle.forest_core.specs.Sound.{IsSound}
 use Rattle.bip_defs.specs.Forest.{State}
 use Rattle.forest_core.specs.Tables.{beside}
@@ -89,25 +91,30 @@ distinct_at [] i d a lt = absurd (omega arith)
 distinct_at (x ∷ xs) zero d a lt = λ h. h
 distinct_at (x ∷ xs) (suc i) d a lt = λ h. ⊎_elim (λ (e : slice_index_or xs i d ≡ x). a.0 (subst (λ z. Among z xs) e (among_at xs i d (omega arith)))) (distinct_at xs i d a.1 (omega arith)) h
 
-pub exchanging_start : (s : State) (m : Pairing) (holders leaf_of : List (Option ℕ)) (roots : List ℕ) → CanExchange s m holders leaf_of roots → IsExchanged s [] m
-exchanging_start s m holders leaf_of roots e = record {
-  current = subst (IsCurrent (with_flipped s [])) (sym (ap (λ (p : Pairing). p.pairs) e.base)) (none_flipped s e.sound [] refl);
-  matching = record {
-    rows = ap (λ (p : Pairing). p.rows) e.base;
-    cols = ap (λ (p : Pairing). p.cols) e.base;
-    matching = subst (IsMatching s.matrix) (sym (ap (λ (p : Pairing). p.pairs) e.base)) e.sound.base;
-  };
-}
+none_exchanged : (s : State) → IsSound s → (m : Pairing) → m ≡ record { rows = s.matrix.rows; cols = cols s.matrix; pairs = s.base } → IsExchanged s [] m
+none_exchanged s k m e = subst (IsExchanged s []) (sym e) (record {
+  current = none_flipped s k [] refl;
+  matching = record { rows = refl; cols = refl; matching = k.base };
+})
+
+-- what stands in the base's place at first: the adopted matching, if there is one
+pub exchanging_start : (s : State) (m new : Pairing) (adopted : Option Adopted) (holders leaf_of : List (Option ℕ)) (roots : List ℕ) (flips : ℕ) → CanExchange s m adopted holders leaf_of roots → Replaces adopted m new flips → (flips ≤ length roots) × IsExchanged s (take flips roots) new
+exchanging_start s m new adopted holders leaf_of roots flips e by = start adopted e.adopted_is by
+  where
+    start : (a : Option Adopted) → IsAdopted s a → Replaces a m new flips → (flips ≤ length roots) × IsExchanged s (take flips roots) new
+    start None is (same, none) = rw (same, none) (omega arith, none_exchanged s e.sound m e.base)
+    start (Some a) is (same, flipped) = rw (same, flipped, sym e.roots_are) (is.few, is.exchanged)
 
 -- a root of the list and its leaf
-pub root_held : (s : State) (m : Pairing) (holders leaf_of : List (Option ℕ)) (roots : List ℕ) (x : ℕ) → CanExchange s m holders leaf_of roots → Among x roots → (x < length leaf_of) × (v : ℕ) × (beside leaf_of x ≡ Some v)
-root_held s m holders leaf_of roots x e h =
+
+pub root_held : (s : State) (m : Pairing) (adopted : Option Adopted) (holders leaf_of : List (Option ℕ)) (roots : List ℕ) (x : ℕ) → CanExchange s m adopted holders leaf_of roots → Among x roots → (x < length leaf_of) × (v : ℕ) × (beside leaf_of x ≡ Some v)
+root_held s m adopted holders leaf_of roots x e h =
     let on = e.sound.flipped x (subst (Among x) (sym e.roots_are) h) in
     let (r, g) = row_pair x s.leaves on in
     (let lt = (leaf_in_range s e.sound x r g).0 in let l = e.cols_long in omega arith, r, (e.won x r).1 g)
 
-pub can_trace : (s : State) (m now : Pairing) (holders leaf_of : List (Option ℕ)) (roots : List ℕ) (i x leaf : ℕ) → CanExchange s m holders leaf_of roots → IsExchanged s (take i roots) now → i < length roots → x ≡ slice_index_or roots i x → beside leaf_of x ≡ Some leaf → CanTrace s (take i roots) x now holders leaf
-can_trace s m now holders leaf_of roots i x leaf e g lt at is = record {
+pub can_trace : (s : State) (m now : Pairing) (adopted : Option Adopted) (holders leaf_of : List (Option ℕ)) (roots : List ℕ) (i x leaf : ℕ) → CanExchange s m adopted holders leaf_of roots → IsExchanged s (take i roots) now → i < length roots → x ≡ slice_index_or roots i x → beside leaf_of x ≡ Some leaf → CanTrace s (take i roots) x now holders leaf
+can_trace s m now adopted holders leaf_of roots i x leaf e g lt at is = record {
   sound = e.sound;
   long = e.rows_long;
   held = e.held;

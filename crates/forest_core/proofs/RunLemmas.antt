@@ -4,6 +4,7 @@ use Rattle.bip_defs.specs.Lists.{Among}
 use Rattle.bip_defs.specs.Matching.{Covers, cols_of, rows_of}
 use Rattle.bip_defs.specs.Matrix.{IsEntry, Matrix, Place, cols}
 use Rattle.bip_defs.proofs.Sets.{among_left, col_among, col_pair, number_among, one_col, row_among, row_pair}
+use Rattle.sp_ids.specs.Events.{claims_then_wins, win_events}
 use Rattle.sp_ids.specs.declared.events.Event.{Event}
 use Rattle.sp_ids.specs.declared.events.Event.TheVariants.{Claim, Win, Flip, Graft, Rebuild, Done}
 use Rattle.forest_core.specs.Current.{IsCurrent, OnPath, leaf, up}
@@ -25,6 +26,10 @@ leads_event s t u e (es, h) l k = (es ++ e ∷ [], run_last s t u es e h l k)
 pub runs_on : (s t u : State) (es ds : List Event) → Runs s es t → Runs t ds u → Runs s (es ++ ds) u
 runs_on s t u [] ds h g = subst (λ (v : State). Runs v ds u) h g
 runs_on s t u (e ∷ es) ds (l, v, k, rest) g = (l, v, k, runs_on v t u es ds rest g)
+
+pub runs_split : (s u : State) (es ds : List Event) → Runs s (es ++ ds) u → (t : State) × Runs s es t × Runs t ds u
+runs_split s u [] ds h = (s, refl, h)
+runs_split s u (e ∷ es) ds (l, v, k, rest) = let (t, front, back) = runs_split v u es ds rest in (t, (l, v, k, front), back)
 
 pub leads_on : (s t u : State) → LeadsTo s t → LeadsTo t u → LeadsTo s u
 leads_on s t u (es, h) (ds, g) = (es ++ ds, runs_on s t u es ds h g)
@@ -139,3 +144,11 @@ run_grows s t (Flip x ∷ es) a h = absurd a
 run_grows s t (Graft ∷ es) a h = absurd a
 run_grows s t (Rebuild ∷ es) a h = absurd a
 run_grows s t (Done ∷ es) a h = absurd a
+
+wins_grow : (wins : List (ℕ × ℕ)) → AreClaimsAndWins (win_events wins)
+wins_grow [] = tt
+wins_grow (p ∷ wins) = wins_grow wins
+
+pub claims_then_wins_grow : (claims wins : List (ℕ × ℕ)) → AreClaimsAndWins (claims_then_wins claims wins)
+claims_then_wins_grow [] wins = wins_grow wins
+claims_then_wins_grow (p ∷ claims) wins = claims_then_wins_grow claims wins

@@ -122,7 +122,7 @@ run_grown a m n es s k h cur =
 
 -- Runs.
 
-event_matrix : (s t : State) (e : Event) → Becomes s e t → t.matrix ≡ s.matrix
+pub event_matrix : (s t : State) (e : Event) → Becomes s e t → t.matrix ≡ s.matrix
 event_matrix s t (Claim r c) h = ap (λ (u : State). u.matrix) h
 event_matrix s t (Win x r) h = ap (λ (u : State). u.matrix) h
 event_matrix s t (Flip x) h = ap (λ (u : State). u.matrix) h

@@ -2,6 +2,7 @@
 use Rattle.std.specs.Prelude.{◌≤◌, vec_capacity}
 use Rattle.bip_defs.specs.Matrix.{cols}
 use Rattle.bip_defs.specs.Forest.{State}
+use Rattle.forest_core.specs.Adopted.{IsAdopted}
 use Rattle.forest_core.specs.Stored.{IsStored, Tables}
 use Rattle.forest_core.specs.declared.forest.Forest.TheInside.{Inside}
 
@@ -20,4 +21,4 @@ abbrev pub tables_of : Inside → Tables
 tables_of f = record { claimed = f.claimed; claim_roots = f.claim_roots.items; leaf_of = f.leaf_of; marks = f.marks.items }
 
 abbrev pub IsForest : Inside → Type 0
-IsForest f = IsStored (state_of f) f.base (tables_of f) × HasRoom f
+IsForest f = IsStored (state_of f) f.base (tables_of f) × HasRoom f × IsAdopted (state_of f) f.adopted

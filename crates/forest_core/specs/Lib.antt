@@ -1,3 +1,4 @@
+pub mod Adopted
 pub mod Current
 pub mod Events
 pub mod Exchanged

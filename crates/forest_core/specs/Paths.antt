@@ -2,7 +2,7 @@
 use Rattle.std.specs.Prelude.{◌≡◌, ℕ, List, Option, length}
 use Rattle.bip_defs.specs.Lists.{Among, AreDistinct}
 use Rattle.bip_defs.specs.Matching.{rows_of}
-use Rattle.bip_defs.specs.Matrix.{Place, cols}
+use Rattle.bip_defs.specs.Matrix.{Place}
 use Rattle.bip_defs.specs.Paths.{Alternates, BeginsUnmatched}
 use Rattle.bip_graph.specs.Matching.{IsMatchingOf, Pairing}
 use Rattle.forest_core.specs.Current.{IsCurrent, OnPath}
@@ -36,13 +36,3 @@ pub record CanTrace (s : State) (xs : List ℕ) (x : ℕ) (m : Pairing) (holders
   pub exchanged : IsExchanged s xs m
   pub not_yet : ¬ Among x xs
   pub leaf_is : Among (x, leaf) s.leaves
-
--- the base matching of a forest in which these roots are flipped, and its tables
-pub record CanExchange (s : State) (m : Pairing) (holders leaf_of : List (Option ℕ)) (roots : List ℕ) : Type 0 where
-  pub sound : IsSound s
-  pub rows_long : length holders ≡ s.matrix.rows
-  pub cols_long : length leaf_of ≡ cols s.matrix
-  pub held : IsTableOf s.claims holders
-  pub won : IsTableOf s.leaves leaf_of
-  pub base : m ≡ record { rows = s.matrix.rows; cols = cols s.matrix; pairs = s.base }
-  pub roots_are : s.flipped ≡ roots

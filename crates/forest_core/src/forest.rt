@@ -6,17 +6,19 @@ ghost use Rattle.bip_defs.specs.Matching.{rows_of, cols_of};
 ghost use Rattle.bip_defs.specs.Matrix.{cols};
 ghost use Rattle.bip_graph.specs.Matching.{IsMatchingOf};
 ghost use Rattle.forest_core.specs.Current.{IsCurrent};
-ghost use Rattle.forest_core.specs.Events.{AreFlipped, AreKept, Grows, IsClosed, IsLegal, IsRenewed};
+ghost use Rattle.forest_core.specs.Events.{AreFlipped, AreKept, Grows, IsClosed, IsLegal, IsRenewed, Runs};
+ghost use Rattle.forest_core.specs.Exchanged.{AreExchanged, flip_events, unflipped};
 ghost use Rattle.forest_core.specs.Sound.{IsSound};
 ghost use Rattle.bip_defs.specs.Forest.{InForest, IsRootOfRow, IsUsedUp, RootOf, new_forest, roots_of};
 ghost use Rattle.sp_ids.specs.declared.events.Event.TheVariants.{Claim, Win, Flip, Graft, Rebuild, Done};
 
+use crate::adopted::Adopted;
 use crate::claim_table::ClaimTable;
 use crate::paths::exchange;
 use crate::put::put;
 use crate::renew::{clear_claims, clear_leaves, keep};
 use crate::table::Table;
-use bip_graph::Matching;
+use bip_graph::{Matching, Mates};
 use sp_ids::{Col, Event, Id, OutOfMemory, Row};
 use sp_pattern::Pattern;
 use std::alloc::Global;
@@ -27,11 +29,13 @@ use std::marker::Model;
 /// A column of the forest claims rows in which it has entries, and with a row comes its base mate. A root wins a claimed row
 /// that is unmatched, its leaf; its path from there is then exchanged, at the latest when the base matching is renewed.
 ///
-/// It takes all its memory when it is made: 28 bytes a row and 17 a column, beside the matching.
+/// It takes all its memory when it is made: 28 bytes a row and 17 a column, beside the matching. Mates that it adopts, 4 bytes
+/// a row and 4 a column, it keeps beside the base matching until that is renewed.
 #[derive(Drop)]
 pub struct Forest<'p> {
     pattern: &'p Pattern,
     base: Matching,
+    adopted: Option<Adopted>,
     // By row the column that claimed it and the row's root.
     claimed: ClaimTable,
     // By root its leaf, and whether it is flipped.
@@ -76,6 +80,7 @@ impl<'p> Forest<'p> {
         Ok(Forest {
             pattern,
             base: matching,
+            adopted: None,
             claimed: ClaimTable::new(alloc, rows)?,
             leaf_of: Table::new(alloc, cols)?,
             marks: vec![in alloc; false; col_room]?,
@@ -390,6 +395,40 @@ impl<'p> Forest<'p> {
         put(&mut self.flipped, root);
     }
 
+    /// Flips each root with a leaf that is not flipped, in the order of the leaves, where the exchange itself is made already:
+    /// the mates are those of the base matching with the path of every leaf exchanged. They are kept, and no path of these
+    /// roots is exchanged again. The base matching stays.
+    ///
+    /// Takes no memory. Work: one look at each leaf and one read for each column.
+    pub fn adopt(&mut self, mates: Mates)
+        requires exchanged { AreExchanged self.old mates }
+        ensures flips { Runs self.old (flip_events (unflipped self.old)) self.new }
+        ensures flipped { self.new ≡ record self.old { flipped = self.old.flipped ++ unflipped self.old } }
+        ensures all { AreFlipped self.new }
+        ensures size { length self.new.flipped ≡ length self.old.leaves }
+    {
+        self.is_sound();
+        self.flip_all();
+        let matching = Matching::of(mates);
+        // `size` tells the proof that rows and columns differ.
+        let _size = matching.size();
+        let flips = self.flipped.as_slice().len();
+        self.adopted = Some(Adopted { matching, flips });
+    }
+
+    // Flips each root with a leaf that is not flipped.
+    fn flip_all(&mut self)
+        ensures { self.new ≡ record self.old { flipped = self.old.flipped ++ unflipped self.old } }
+    {
+        self.is_sound();
+        for i in 0..self.leaves().len() {
+            let (root, _) = self.leaves()[i];
+            if !self.flipped(root) {
+                self.flip(root);
+            }
+        }
+    }
+
     /// The current matching becomes the base, and the claims of trees without a leaf stay: the others, the leaves and the
     /// flipped roots are gone.
     ///
@@ -403,6 +442,7 @@ impl<'p> Forest<'p> {
         let roots = self.flipped.as_slice();
         exchange(
             &mut self.base,
+            &mut self.adopted,
             &self.claimed,
             &self.leaf_of,
             roots,
@@ -435,6 +475,7 @@ impl<'p> Forest<'p> {
         let roots = self.flipped.as_slice();
         exchange(
             &mut self.base,
+            &mut self.adopted,
             &self.claimed,
             &self.leaf_of,
             roots,
@@ -463,13 +504,22 @@ impl<'p> Forest<'p> {
     {
         let Forest {
             mut base,
+            mut adopted,
             claimed,
             leaf_of,
             flipped,
             mut path,
             ..
         } = self;
-        exchange(&mut base, &claimed, &leaf_of, flipped.as_slice(), &mut path);
+        let roots = flipped.as_slice();
+        exchange(
+            &mut base,
+            &mut adopted,
+            &claimed,
+            &leaf_of,
+            roots,
+            &mut path,
+        );
         base
     }
 }

@@ -5,8 +5,9 @@ ghost use Rattle.bip_defs.specs.Lists.{Among, AreDistinct, AreNew, Lists};
 ghost use Rattle.bip_defs.specs.Matching.{Covers, IsMatching, IsMaximum, cols_of, rows_of};
 ghost use Rattle.bip_defs.specs.Matrix.{IsEntry, Matrix, Place, cols};
 ghost use Rattle.bip_defs.specs.Witness.{IsWitness};
-ghost use Rattle.forest_core.specs.Current.{IsCurrent};
+ghost use Rattle.forest_core.specs.Current.{IsCurrent, OnPath};
 ghost use Rattle.forest_core.specs.Events.{AreClaimsAndWins, Becomes, Grows, IsLegal, LeadsTo, Runs, flips};
+ghost use Rattle.forest_core.specs.Paths.{IsPath};
 ghost use Rattle.forest_core.specs.Sound.{IsSound};
 ghost use Rattle.bip_defs.specs.Forest.{InForest, IsRested, IsRootOfRow, IsSettled, RootOf, State, grown_by, new_forest};
 ghost use Rattle.sp_ids.specs.Events.{claims_then_wins};
@@ -19,13 +20,25 @@ pub fn events_keep_sound()
     ensures runs { (s t : State) (es : List Event) → IsSound s → Runs s es t → IsSound t }
 {}
 
-/// Runs one after the other are a run, over the same matrix.
+/// Runs one after the other are a run, over the same matrix, and a run splits wherever its events are cut.
 pub fn runs_join()
     ensures here { (s : State) → LeadsTo s s }
     ensures event { (s t u : State) (e : Event) → LeadsTo s t → IsLegal t e → Becomes t e u → LeadsTo s u }
     ensures runs { (s t u : State) (es ds : List Event) → Runs s es t → Runs t ds u → Runs s (es ++ ds) u }
     ensures on { (s t u : State) → LeadsTo s t → LeadsTo t u → LeadsTo s u }
+    ensures split { (s u : State) (es ds : List Event) → Runs s (es ++ ds) u
+        → (t : State) × Runs s es t × Runs t ds u }
     ensures matrix { (s t : State) → LeadsTo s t → t.matrix ≡ s.matrix }
+{}
+
+/// No event changes the matrix, and claims and wins don't change the base matching nor what is flipped.
+pub fn events_keep_the_matrix()
+    ensures event { (s t : State) (e : Event) → Becomes s e t → t.matrix ≡ s.matrix }
+    ensures run { (s t : State) (es : List Event) → Runs s es t → t.matrix ≡ s.matrix }
+    ensures base { (s t : State) (es : List Event) → AreClaimsAndWins es → Runs s es t → t.base ≡ s.base }
+    ensures flipped { (s t : State) (es : List Event) → AreClaimsAndWins es → Runs s es t
+        → t.flipped ≡ s.flipped }
+    ensures pairs { (claims wins : List (ℕ × ℕ)) → AreClaimsAndWins (claims_then_wins claims wins) }
 {}
 
 /// Whatever is matched stays matched: legal events leave no row and no column of the base matching uncovered, nor does the
@@ -54,6 +67,16 @@ pub fn claims_are_in_the_forest()
     ensures inside { (s : State) (r c : ℕ) → IsSound s → Among (r, c) s.claims → InForest s c }
 {}
 
+/// A root with a leaf is in range, as its leaf is, and has a path. Each row of the path is of the root's tree.
+pub fn leaves_end_paths()
+    ensures in_range { (s : State) (x r : ℕ) → IsSound s → Among (x, r) s.leaves
+        → (x < cols s.matrix) × (r < s.matrix.rows) }
+    ensures path { (s : State) (x r : ℕ) → IsSound s → Among (x, r) s.leaves
+        → (path : List Place) × IsPath s x path }
+    ensures tree { (s : State) (x r : ℕ) → IsSound s → OnPath s.base s.claims s.leaves x r
+        → IsRootOfRow s.base s.claims x r }
+{}
+
 /// A column in the forest has a root, and one only: a column of the matrix that is unmatched in the base. No other column
 /// has one.
 pub fn columns_have_one_root()
@@ -64,6 +87,23 @@ pub fn columns_have_one_root()
         → x < cols s.matrix }
     ensures unmatched { (s : State) (x c : ℕ) → RootOf s.base s.claims x c → ¬ Among x (cols_of s.base) }
     ensures inside { (s : State) (x c : ℕ) → RootOf s.base s.claims x c → c < cols s.matrix → InForest s c }
+{}
+
+/// A claimed row has a root, and one only, which is in range: that of the column that claimed it, and of its base mate. The
+/// base mate of a column in the forest is claimed.
+pub fn rows_have_one_root()
+    ensures some { (s : State) (r : ℕ) → IsSound s → Among r (rows_of s.claims)
+        → (x : ℕ) × IsRootOfRow s.base s.claims x r }
+    ensures one { (s : State) (x y r : ℕ) → IsSound s → IsRootOfRow s.base s.claims x r
+        → IsRootOfRow s.base s.claims y r → x ≡ y }
+    ensures in_range { (s : State) (x r : ℕ) → IsSound s → IsRootOfRow s.base s.claims x r
+        → (x < cols s.matrix) × (r < s.matrix.rows) }
+    ensures claimer { (s : State) (x r c : ℕ) → IsSound s → IsRootOfRow s.base s.claims x r
+        → Among (r, c) s.claims → RootOf s.base s.claims x c }
+    ensures mate { (s : State) (x r c : ℕ) → IsSound s → RootOf s.base s.claims x c → Among (r, c) s.base
+        → IsRootOfRow s.base s.claims x r }
+    ensures claimed { (s : State) (r c : ℕ) → IsSound s → Among (r, c) s.base → InForest s c
+        → Among r (rows_of s.claims) }
 {}
 
 /// A sound forest has one current matching, up to the order of its pairs: it is a matching of entries, larger than the base

@@ -41,7 +41,7 @@ clear_leaves-requires-clause-marks c = rw (c.as_mut_slice.ensures.value, c.as_sl
 
 -- the base matching has become the current one
 exchanged : (c : goal.After-clear-2) → IsExchanged (state_of c.self.inside) (state_of c.self.inside).flipped c.exchange.new.base
-exchanged c = exchanged_by (state_of c.self.inside) _ _ (tables_of c.self.inside) _ c.self.invariant.0 c.as_slice-roots.ensures.value c.exchange.ensures.exchanged
+exchanged c = exchanged_by (state_of c.self.inside) _ _ c.self.inside.adopted (tables_of c.self.inside) _ c.self.invariant.0 c.self.invariant.2 c.as_slice-roots.ensures.value c.exchange.ensures.exchanged
 
 -- the claims that are left, and their roots
 left : (c : goal.After-clear-2) → c.truncate.new.self.items ≡ take c.keep-kept.result c.keep-kept.new.claims
@@ -85,6 +85,7 @@ invariant_of-self c =
         leaves = (let le = room.leaves in let more = c.clear.ensures.capacity in omega (arith, le, more));
         flipped = (let le = room.flipped in let more = c.clear-2.ensures.capacity in omega (arith, le, more));
       },
+      rw c.exchange.ensures.adopted tt,
     )
 
 pub returns-clause-renewed : goal.returns-clause-renewed

@@ -28,7 +28,7 @@ clear_leaves-requires-clause-marks c = rw (c.as_mut_slice.ensures.value, c.as_sl
 
 -- the base matching has become the current one
 exchanged : (c : goal.After-clear-4) → IsExchanged (state_of c.self.inside) (state_of c.self.inside).flipped c.exchange.new.base
-exchanged c = exchanged_by (state_of c.self.inside) _ _ (tables_of c.self.inside) _ c.self.invariant.0 c.as_slice-roots.ensures.value c.exchange.ensures.exchanged
+exchanged c = exchanged_by (state_of c.self.inside) _ _ c.self.inside.adopted (tables_of c.self.inside) _ c.self.invariant.0 c.self.invariant.2 c.as_slice-roots.ensures.value c.exchange.ensures.exchanged
 
 pub invariant_of-self : goal.invariant_of-self
 invariant_of-self c =
@@ -45,6 +45,7 @@ invariant_of-self c =
         leaves = (let le = room.leaves in let more = c.clear-3.ensures.capacity in omega (arith, le, more));
         flipped = (let le = room.flipped in let more = c.clear-4.ensures.capacity in omega (arith, le, more));
       },
+      rw c.exchange.ensures.adopted tt,
     )
 
 pub returns-clause-renewed : goal.returns-clause-renewed
