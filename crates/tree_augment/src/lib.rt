@@ -8,6 +8,8 @@
 mod laws;
 mod opening;
 mod rounds;
+#[cfg(test)]
+mod tests;
 mod walk;
 mod workers;
 
