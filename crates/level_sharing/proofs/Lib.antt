@@ -1,6 +1,6 @@
 pub mod EachLemmas
-pub mod Members
+pub mod GrownForests
+pub mod LevelLemmas
 pub mod NewWords
 pub mod ProgressLemmas
-pub mod SettledWorkers
 pub mod ShareLemmas

@@ -9,15 +9,16 @@ pub fn share<T>(list: &[T], workers: usize, number: usize) -> &[T]
     requires { number < workers }
     ensures { result.now ≡ share_of list.now workers number }
 {
-    let (len, from) = (list.len(), number as u128);
-    &list[part(len, workers, from)..part(len, workers, from + 1)]
+    let len = list.len();
+    &list[share_start(len, workers, number)..share_start(len, workers, number + 1)]
 }
 
-// So many parts, of as many as there are workers, of a length.
-fn part(len: usize, workers: usize, parts: u128) -> usize
-    requires { (0 < workers) × (parts ≤ workers) }
-    ensures part { result ≡ parts * len / workers }
+/// Where the share of a worker begins: at the place `number * len / workers`, rounded down, of a list of this length. There the
+/// share of the worker before it ends.
+pub fn share_start(len: usize, workers: usize, number: usize) -> usize
+    requires { (0 < workers) × (number ≤ workers) }
+    ensures start { result ≡ number * len / workers }
     ensures within { result ≤ len }
 {
-    (parts * len as u128 / workers as u128) as usize
+    (number as u128 * len as u128 / workers as u128) as usize
 }

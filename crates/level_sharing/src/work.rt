@@ -71,12 +71,18 @@ fn work_from<R: Threads + Sync, G: Gate, T: Send, E: Send + Drop, W: Work<T, E>>
     let (low, high) = join_mut(
         rt,
         &mut || -> Result<(), E>
-            requires { IsSync R.row × IsSync G.row × IsSync W.row × (0 < length front.now) × AreReady (W.can_begin work.now) first front.now }
-            ensures { EachPairFrom (W.leaves work.entry.now) first front.entry.now front.exit.now × OnOk result (EachPairFrom (W.completes work.entry.now) first front.entry.now front.exit.now) }
+            requires { IsSync R.row × IsSync G.row × IsSync W.row
+                × (0 < length front.now) × AreReady (W.can_begin work.now) first front.now }
+            ensures { EachPairFrom (W.leaves work.entry.now) first front.entry.now front.exit.now
+                × OnOk result
+                (EachPairFrom (W.completes work.entry.now) first front.entry.now front.exit.now) }
         { work_from(rt, gate, work, first, front) },
         &mut || -> Result<(), E>
-            requires { IsSync R.row × IsSync G.row × IsSync W.row × (0 < length back.now) × AreReady (W.can_begin work.now) next back.now }
-            ensures { EachPairFrom (W.leaves work.entry.now) next back.entry.now back.exit.now × OnOk result (EachPairFrom (W.completes work.entry.now) next back.entry.now back.exit.now) }
+            requires { IsSync R.row × IsSync G.row × IsSync W.row
+                × (0 < length back.now) × AreReady (W.can_begin work.now) next back.now }
+            ensures { EachPairFrom (W.leaves work.entry.now) next back.entry.now back.exit.now
+                × OnOk result
+                (EachPairFrom (W.completes work.entry.now) next back.entry.now back.exit.now) }
         { work_from(rt, gate, work, next, back) },
     );
     low?;
