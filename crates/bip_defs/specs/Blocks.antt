@@ -75,7 +75,9 @@ least_col b = slice_index b.cols 0
 -- at each position stands, of the blocks from there on that meet no other of them, the one with the least column
 abbrev pub AreInOrder : Matrix → List Block → Type 0
 AreInOrder a [] = Unit {0}
-AreInOrder a (b ∷ bs) = MeetsNoOther a (b ∷ bs) b × ((d : Block) → Among d (b ∷ bs) → MeetsNoOther a (b ∷ bs) d → least_col b ≤ least_col d) × AreInOrder a bs
+AreInOrder a (b ∷ bs) = MeetsNoOther a (b ∷ bs) b
+    × ((d : Block) → Among d (b ∷ bs) → MeetsNoOther a (b ∷ bs) d → least_col b ≤ least_col d)
+    × AreInOrder a bs
 
 -- all blocks, each once, in order
 pub record AreBlocksOf (a : Matrix) (bs : List Block) : Type 0 where

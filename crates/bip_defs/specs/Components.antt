@@ -12,6 +12,7 @@ pub record AreComponents (a : Matrix) (m : List Place) (number : ℕ → ℕ) : 
   pub falling : (r c d : ℕ) → IsSquareCol a c → IsEntry a r c → Among (r, d) m → number d ≤ number c
 
 -- the square columns of one number, and their mates
-pub record IsComponent (a : Matrix) (m : List Place) (number : ℕ → ℕ) (k : ℕ) (b : Block) : Type 0 where
+pub record IsComponent (a : Matrix) (m : List Place) (number : ℕ → ℕ) (k : ℕ)
+    (b : Block) : Type 0 where
   pub rows : Lists (λ r. (c : ℕ) × Among (r, c) m × (number c ≡ k)) b.rows
   pub cols : Lists (λ c. IsSquareCol a c × (number c ≡ k)) b.cols

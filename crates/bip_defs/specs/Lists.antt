@@ -1,5 +1,5 @@
 -- Words on lists that stand for sets.
-use Rattle.std.specs.Prelude.{◌≡◌, ◌⊎◌, ℕ, ◌<◌, Bool, true, false, List, [], ◌∷◌, map, slice_index_or}
+use Rattle.std.specs.Prelude.{◌≡◌, ◌⊎◌, ℕ, ◌<◌, Bool, true, false, Option, None, List, [], ◌∷◌, map, slice_index_or}
 
 -- x is one of the list
 abbrev pub Among : {X : Type 0} → X → List X → Type 0
@@ -30,6 +30,10 @@ pub record Lists (P : ℕ → Type 0) (xs : List ℕ) : Type 0 where
 -- the number's place in a list of marks has one
 abbrev pub IsMarked : List Bool → ℕ → Type 0
 IsMarked marks x = slice_index_or marks x false ≡ true
+
+-- what the list has at a place; none past its end
+abbrev pub option_at : List (Option ℕ) → ℕ → Option ℕ
+option_at options i = slice_index_or options i None
 
 -- the first of each two numbers
 abbrev pub numbers_of : List (ℕ × ℕ) → List ℕ

@@ -22,7 +22,8 @@ pub record IsAugmenting (m path : List Place) : Type 0 where
 
 -- new has the pairs of the path, and the old pairs of the rows that are not on it
 abbrev pub Exchanges : List Place → List Place → List Place → Type 0
-Exchanges path old new = (p : Place) → Among p new ↔ (Among p path ⊎ (Among p old × (¬ Among p.0 (rows_of path))))
+Exchanges path old new = (p : Place) → Among p new
+    ↔ (Among p path ⊎ (Among p old × (¬ Among p.0 (rows_of path))))
 
 -- new is old with the row given to the column
 abbrev pub Gives : Place → List Place → List Place → Type 0

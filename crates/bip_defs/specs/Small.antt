@@ -9,7 +9,18 @@ abbrev pub wide_row : Matrix
 wide_row = record { rows = 2; columns = (0 ∷ []) ∷ (0 ∷ []) ∷ [] }
 
 abbrev pub wide_row_parts : Decomposition
-wide_row_parts = record { rank = 1; parts = record { horizontal_rows = 0 ∷ []; horizontal_cols = 0 ∷ 1 ∷ []; square_rows = []; square_cols = []; vertical_rows = 1 ∷ []; vertical_cols = [] }; blocks = [] }
+wide_row_parts = record {
+  rank = 1;
+  parts = record {
+    horizontal_rows = 0 ∷ [];
+    horizontal_cols = 0 ∷ 1 ∷ [];
+    square_rows = [];
+    square_cols = [];
+    vertical_rows = 1 ∷ [];
+    vertical_cols = [];
+  };
+  blocks = [];
+}
 
 -- three rows and columns, and the entries on and below the diagonal
 abbrev pub lower_triangle : Matrix
@@ -24,4 +35,15 @@ abbrev pub whole_triangle : Block
 whole_triangle = record { rows = 0 ∷ 1 ∷ 2 ∷ []; cols = 0 ∷ 1 ∷ 2 ∷ [] }
 
 abbrev pub lower_triangle_parts : Decomposition
-lower_triangle_parts = record { rank = 3; parts = record { horizontal_rows = []; horizontal_cols = []; square_rows = 0 ∷ 1 ∷ 2 ∷ []; square_cols = 0 ∷ 1 ∷ 2 ∷ []; vertical_rows = []; vertical_cols = [] }; blocks = single 2 ∷ single 1 ∷ single 0 ∷ [] }
+lower_triangle_parts = record {
+  rank = 3;
+  parts = record {
+    horizontal_rows = [];
+    horizontal_cols = [];
+    square_rows = 0 ∷ 1 ∷ 2 ∷ [];
+    square_cols = 0 ∷ 1 ∷ 2 ∷ [];
+    vertical_rows = [];
+    vertical_cols = [];
+  };
+  blocks = single 2 ∷ single 1 ∷ single 0 ∷ [];
+}

@@ -28,8 +28,10 @@ ColOfSome a m c = (r : ℕ) × IsFree a m r c
 -- the pair that is taken next
 pub data IsChoice (a : Matrix) (m : List Place) : Place → Type 0 where
   by_col : (r c : ℕ) → IsLeast (ColOfOne a m) c → IsFree a m r c → IsChoice a m (r, c)
-  by_row : (r c : ℕ) → ((d : ℕ) → ¬ ColOfOne a m d) → IsLeast (RowOfOne a m) r → IsFree a m r c → IsChoice a m (r, c)
-  by_any : (r c : ℕ) → ((d : ℕ) → ¬ ColOfOne a m d) → ((s : ℕ) → ¬ RowOfOne a m s) → IsLeast (ColOfSome a m) c → IsLeast (λ s. IsFree a m s c) r → IsChoice a m (r, c)
+  by_row : (r c : ℕ) → ((d : ℕ) → ¬ ColOfOne a m d) → IsLeast (RowOfOne a m) r → IsFree a m r c
+      → IsChoice a m (r, c)
+  by_any : (r c : ℕ) → ((d : ℕ) → ¬ ColOfOne a m d) → ((s : ℕ) → ¬ RowOfOne a m s)
+      → IsLeast (ColOfSome a m) c → IsLeast (λ s. IsFree a m s c) r → IsChoice a m (r, c)
 
 -- what repeating the choice leaves, until nothing is free
 pub data Repeats (a : Matrix) : List Place → List Place → Type 0 where
@@ -38,4 +40,5 @@ pub data Repeats (a : Matrix) : List Place → List Place → Type 0 where
 
 -- the pairs are those of the start
 abbrev pub IsStart : Matrix → List Place → Type 0
-IsStart a pairs = (m : List Place) × Repeats a [] m × ((p : Place) → Among p pairs → Among p m) × ((p : Place) → Among p m → Among p pairs)
+IsStart a pairs = (m : List Place) × Repeats a [] m × ((p : Place) → Among p pairs → Among p m)
+    × ((p : Place) → Among p m → Among p pairs)

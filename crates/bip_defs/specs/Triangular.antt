@@ -8,13 +8,15 @@ use Rattle.bip_defs.specs.Once.{ListsOnce}
 
 -- the diagonal blocks of a decomposition in their order: the horizontal part, the fine blocks, the vertical part
 abbrev pub diagonal_blocks : Decomposition → List Block
-diagonal_blocks d = record { rows = d.parts.horizontal_rows; cols = d.parts.horizontal_cols } ∷ d.blocks ++ record { rows = d.parts.vertical_rows; cols = d.parts.vertical_cols } ∷ []
+diagonal_blocks d = record { rows = d.parts.horizontal_rows; cols = d.parts.horizontal_cols }
+    ∷ d.blocks ++ record { rows = d.parts.vertical_rows; cols = d.parts.vertical_cols } ∷ []
 
 -- each row and each column is in one block, and no entry's row is in a later block than its column
 pub record IsBlockUpperTriangular (a : Matrix) (bs : List Block) : Type 0 where
   pub rows : ListsOnce (λ r. r < a.rows) (all_rows bs)
   pub cols : ListsOnce (λ c. c < cols a) (all_cols bs)
-  pub entries : (r c i j : ℕ) → IsEntry a r c → Among r (block_at bs i).rows → Among c (block_at bs j).cols → i ≤ j
+  pub entries : (r c i j : ℕ) → IsEntry a r c → Among r (block_at bs i).rows
+      → Among c (block_at bs j).cols → i ≤ j
 
 -- the pairs lead from each row of the block to a column of it, and from each column to a row
 pub record PairUp (m : List Place) (b : Block) : Type 0 where

@@ -10,14 +10,29 @@ ghost use Rattle.bip_defs.specs.Triangular.{IsBlockUpperTriangular, IsProperPart
 
 /// A place given twice stands for one entry, and no place is out of range.
 pub fn given_places()
-    ensures twice { (m n : ℕ) (p : Place) (places : List Place) (a : Matrix) → HasPlaces m n (p ∷ p ∷ places) a ↔ HasPlaces m n (p ∷ places) a }
-    ensures in_range { (m n : ℕ) (places : List Place) (a : Matrix) (r c : ℕ) → HasPlaces m n places a → Among (r, c) places → (r < m) × (c < n) }
+    ensures twice { (m n : ℕ) (p : Place) (places : List Place) (a : Matrix)
+        → HasPlaces m n (p ∷ p ∷ places) a ↔ HasPlaces m n (p ∷ places) a }
+    ensures in_range { (m n : ℕ) (places : List Place) (a : Matrix) (r c : ℕ)
+        → HasPlaces m n places a → Among (r, c) places → (r < m) × (c < n) }
 {}
 
 /// Without entries, as without rows or columns, the rank is 0, all columns are horizontal and all
 /// rows vertical.
 pub fn no_entries()
-    ensures { (a : Matrix) → ((r c : ℕ) → ¬ IsEntry a r c) → IsDecompositionOf a (record { rank = 0; parts = record { horizontal_rows = []; horizontal_cols = upto (cols a); square_rows = []; square_cols = []; vertical_rows = upto a.rows; vertical_cols = [] }; blocks = [] }) }
+    ensures { (a : Matrix) → ((r c : ℕ) → ¬ IsEntry a r c)
+        → IsDecompositionOf a
+        (record {
+          rank = 0;
+          parts = record {
+            horizontal_rows = [];
+            horizontal_cols = upto (cols a);
+            square_rows = [];
+            square_cols = [];
+            vertical_rows = upto a.rows;
+            vertical_cols = [];
+          };
+          blocks = [];
+        }) }
 {}
 
 /// Two columns with one row: both are horizontal, and the other row is vertical.
@@ -34,8 +49,10 @@ pub fn lower_triangle_from_its_end()
 /// A lower triangle is block upper triangular by its blocks from the end, not by those from the start, nor by some of
 /// them alone. The outer parts are diagonal blocks too, and need not be square.
 pub fn orders_of_small_matrices()
-    ensures from_the_end { IsBlockUpperTriangular lower_triangle (single 2 ∷ single 1 ∷ single 0 ∷ []) }
-    ensures from_the_start { ¬ IsBlockUpperTriangular lower_triangle (single 0 ∷ single 1 ∷ single 2 ∷ []) }
+    ensures from_the_end { IsBlockUpperTriangular lower_triangle
+        (single 2 ∷ single 1 ∷ single 0 ∷ []) }
+    ensures from_the_start { ¬ IsBlockUpperTriangular lower_triangle
+        (single 0 ∷ single 1 ∷ single 2 ∷ []) }
     ensures not_all { ¬ IsBlockUpperTriangular lower_triangle (single 2 ∷ single 1 ∷ []) }
     ensures outer_parts { IsBlockUpperTriangular wide_row (diagonal_blocks wide_row_parts) }
 {}

@@ -3,9 +3,9 @@ use Rattle.std.proofs.Common.{◌≡◌, ◌≢◌, ◌↔◌, ◌∙◌, ℕ, z
 use Rattle.std.proofs.lemmas.List.{length-drop, map-set}
 use Rattle.std.proofs.lemmas.Option.{none-some, same_Some}
 use Rattle.std.proofs.Math.Seq.{drop-cons}
-use Rattle.bip_defs.specs.Lists.{Among}
+use Rattle.bip_defs.specs.Lists.{Among, option_at}
 use Rattle.bip_defs.proofs.Sets.{number_same}
-use Rattle.bip_graph.specs.Mates.{AreFew, AreMutual, Mated, mate_in, mate_of}
+use Rattle.bip_graph.specs.Mates.{AreFew, AreMutual, Mated, mate_of}
 use Rattle.bip_graph.specs.Matching.{AreMates, LeadsBack, none, pairs_from, pairs_of}
 use Rattle.bip_graph.proofs.Arrays.{few_pairs, pairs_none, pairs_some, read, stored}
 
@@ -28,22 +28,22 @@ pub record IsKept (xs : List ℕ) (i x : ℕ) : Type 0 where
   pub at : get_or xs i 0 ≡ x
   pub some : x ≢ none
 
-pub kept : (xs : List ℕ) (i x : ℕ) → mate_in (map mate_of xs) i ≡ Some x → IsKept xs i x
+pub kept : (xs : List ℕ) (i x : ℕ) → option_at (map mate_of xs) i ≡ Some x → IsKept xs i x
 kept [] i x e = absurd (none-some x e)
 kept (y ∷ ys) zero x e = ⊎_elim (λ (n : y ≡ none). absurd (none-some x (sym (mate_none y n) ∙ e))) (λ ne. let is = same_Some y x (sym (mate_some y ne) ∙ e) in record { within = omega arith; at = is; some = subst (λ z. z ≢ none) is ne }) (number_same y none)
 kept (y ∷ ys) (suc i) x e = let k = kept ys i x e in record { within = omega (arith, k.within); at = k.at; some = k.some }
 
-pub seen : (xs : List ℕ) (i x : ℕ) → i < length xs → get_or xs i 0 ≡ x → x ≢ none → mate_in (map mate_of xs) i ≡ Some x
+pub seen : (xs : List ℕ) (i x : ℕ) → i < length xs → get_or xs i 0 ≡ x → x ≢ none → option_at (map mate_of xs) i ≡ Some x
 seen [] i x lt e some = absurd (omega arith)
 seen (y ∷ ys) zero x lt e some = mate_some y (λ n. some (sym e ∙ n)) ∙ ap Some e
 seen (y ∷ ys) (suc i) x lt e some = seen ys i x (omega arith) e some
 
 -- The pairs of the mates.
 
-pub same_pairs : (xs : List ℕ) (r c : ℕ) → Among (r, c) (pairs_of xs) ↔ (mate_in (map mate_of xs) c ≡ Some r)
+pub same_pairs : (xs : List ℕ) (r c : ℕ) → Among (r, c) (pairs_of xs) ↔ (option_at (map mate_of xs) c ≡ Some r)
 same_pairs xs r c = (λ h. let is = read xs r c h in seen xs c r is.0 is.1 is.2, λ e. let k = kept xs c r e in stored xs r c k.within k.at k.some)
 
-leads_back : (xs ys : List ℕ) → ((i x : ℕ) → mate_in (map mate_of xs) i ≡ Some x → mate_in (map mate_of ys) x ≡ Some i) → LeadsBack xs ys
+leads_back : (xs ys : List ℕ) → ((i x : ℕ) → option_at (map mate_of xs) i ≡ Some x → option_at (map mate_of ys) x ≡ Some i) → LeadsBack xs ys
 leads_back xs ys over i lt some = let k = kept ys (get_or xs i 0) i (over i (get_or xs i 0) (seen xs i (get_or xs i 0) lt refl some)) in (k.within, k.at)
 
 pub mutual_mates : (m : Mated) (xs ys : List ℕ) (size : ℕ) → AreFew xs ys → m ≡ record { rows = map mate_of ys; cols = map mate_of xs } → AreMutual m → size ≡ length (pairs_of xs) → AreMates xs ys size

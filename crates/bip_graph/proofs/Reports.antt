@@ -9,8 +9,8 @@ use Rattle.bip_graph.specs.Answers.{ArePairs, IsAnalysis, IsWithPairs, report_of
 use Rattle.bip_graph.specs.Texts.{Report, TextLine, end_line, line, matrix_line, order_lines, pair_lines, part, rank_line, report_text, spelled, square_lines, text_of}
 
 -- the lines of a report before its pairs
-abbrev front_lines : Report → List TextLine
-front_lines r =
+abbrev prefix_lines : Report → List TextLine
+prefix_lines r =
     line (codes "btf") (1 ∷ [])
     ∷ matrix_line r.sizes
     ∷ rank_line r.rank
@@ -19,18 +19,18 @@ front_lines r =
     ++ part (codes "vertical") r.vertical_rows r.vertical_cols
     ++ order_lines r.orders
 
-text_split : (r : Report) → report_text r ≡ text_of (front_lines r) ++ text_of (pair_lines r.pairs) ++ text_of (end_line ∷ [])
+text_split : (r : Report) → report_text r ≡ text_of (prefix_lines r) ++ text_of (pair_lines r.pairs) ++ text_of (end_line ∷ [])
 text_split r =
-    flat_map-append spelled (front_lines r ++ pair_lines r.pairs) (end_line ∷ [])
-    ∙ ap (λ (t : List ℕ). t ++ text_of (end_line ∷ [])) (flat_map-append spelled (front_lines r) (pair_lines r.pairs))
+    flat_map-append spelled (prefix_lines r ++ pair_lines r.pairs) (end_line ∷ [])
+    ∙ ap (λ (t : List ℕ). t ++ text_of (end_line ∷ [])) (flat_map-append spelled (prefix_lines r) (pair_lines r.pairs))
 
 -- the text before the pairs, which needs none of them
-abbrev front_of : Matrix → Decomposition → Bool → List ℕ
-front_of a d order = text_of (front_lines (report_of a d order None))
+abbrev prefix_of : Matrix → Decomposition → Bool → List ℕ
+prefix_of a d order = text_of (prefix_lines (report_of a d order None))
 
-text_without : (a : Matrix) (d : Decomposition) (order : Bool) → report_text (report_of a d order None) ≡ front_of a d order ++ text_of (end_line ∷ [])
+text_without : (a : Matrix) (d : Decomposition) (order : Bool) → report_text (report_of a d order None) ≡ prefix_of a d order ++ text_of (end_line ∷ [])
 text_without a d order =
-    text_split (report_of a d order None) ∙ ap (λ (t : List ℕ). t ++ text_of (end_line ∷ [])) (append-nil (front_of a d order))
+    text_split (report_of a d order None) ∙ ap (λ (t : List ℕ). t ++ text_of (end_line ∷ [])) (append-nil (prefix_of a d order))
 
 -- a report without pairs is spelled as one
 spelled_without : (a : Matrix) (order : Bool) (t : List ℕ) (is : IsAnalysis a order false t) → t ≡ report_text (report_of a is.decomposition order None)
@@ -52,7 +52,7 @@ with_pairs a order t is = by is.matching is.are_pairs is.spelled
     by : (o : Option (List Place)) → ArePairs a true o → t ≡ report_text (report_of a is.decomposition order o) → IsWithPairs a order t
     by None h e = absurd h
     by (Some m) h e = record {
-      front = front_of a is.decomposition order;
+      prefix = prefix_of a is.decomposition order;
       matching = m;
       is_maximum = h.0;
       is_rising = h.1;
@@ -64,8 +64,8 @@ pub without_pairs : (a : Matrix) (order : Bool) (t : List ℕ) → IsWithPairs a
 without_pairs a order t is =
     let d = is.is_report.decomposition in
     let end = text_of (end_line ∷ []) in
-    let same : is.front ≡ front_of a d order =
-    append_cancel_right is.front (front_of a d order) end (spelled_without a order _ is.is_report ∙ text_without a d order) in
+    let same : is.prefix ≡ prefix_of a d order =
+    append_cancel_right is.prefix (prefix_of a d order) end (spelled_without a order _ is.is_report ∙ text_without a d order) in
     record {
       decomposition = d;
       is_decomposition = is.is_report.is_decomposition;

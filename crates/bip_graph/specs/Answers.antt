@@ -20,7 +20,10 @@ pub record IsRankText (a : Matrix) (text : List ℕ) : Type 0 where
 
 -- the rows in the order in which the matrix is block upper triangular, and the columns
 abbrev pub orders_of : Decomposition → List ℕ × List ℕ
-orders_of d = (d.parts.horizontal_rows ++ all_rows d.blocks ++ d.parts.vertical_rows, d.parts.horizontal_cols ++ all_cols d.blocks ++ d.parts.vertical_cols)
+orders_of d = (
+  d.parts.horizontal_rows ++ all_rows d.blocks ++ d.parts.vertical_rows,
+  d.parts.horizontal_cols ++ all_cols d.blocks ++ d.parts.vertical_cols,
+)
 
 abbrev pub where_asked : {X : Type 0} → Bool → X → Option X
 where_asked true x = Some x
@@ -57,9 +60,9 @@ pub record IsAnalysis (a : Matrix) (order pairs : Bool) (text : List ℕ) : Type
 
 -- the report without pairs, and before its end the lines of a maximum matching
 pub record IsWithPairs (a : Matrix) (order : Bool) (text : List ℕ) : Type 0 where
-  pub front : List ℕ
+  pub prefix : List ℕ
   pub matching : List Place
   pub is_maximum : IsMaximum a matching
   pub is_rising : IsRising (cols_of matching)
-  pub is_report : IsAnalysis a order false (front ++ text_of (end_line ∷ []))
-  pub spelled : text ≡ front ++ text_of (pair_lines (Some matching)) ++ text_of (end_line ∷ [])
+  pub is_report : IsAnalysis a order false (prefix ++ text_of (end_line ∷ []))
+  pub spelled : text ≡ prefix ++ text_of (pair_lines (Some matching)) ++ text_of (end_line ∷ [])

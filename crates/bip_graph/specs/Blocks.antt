@@ -6,7 +6,10 @@ use Rattle.bip_defs.specs.Blocks.{Block}
 abbrev pub blocks_from : ℕ → ℕ → List ℕ → List ℕ → List ℕ → List ℕ → List Block
 blocks_from i j [] col_ends rows cols = []
 blocks_from i j (e ∷ row_ends) [] rows cols = []
-blocks_from i j (e ∷ row_ends) (f ∷ col_ends) rows cols = record { rows = slice_range rows i e; cols = slice_range cols j f } ∷ blocks_from e f row_ends col_ends rows cols
+blocks_from i j (e ∷ row_ends) (f ∷ col_ends) rows cols = record {
+  rows = slice_range rows i e;
+  cols = slice_range cols j f;
+} ∷ blocks_from e f row_ends col_ends rows cols
 
 -- the ends rise from here, and the last is the end of the flat list
 abbrev pub AreEnds : ℕ → List ℕ → ℕ → Type 0

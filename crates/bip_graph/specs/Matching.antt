@@ -38,7 +38,8 @@ pairs_of mates = pairs_from zero mates
 
 -- each mate of an array is in range of the other, and leads back
 abbrev pub LeadsBack : List ℕ → List ℕ → Type 0
-LeadsBack xs ys = (i : ℕ) → i < length xs → slice_index xs i ≢ none → (slice_index xs i < length ys) × (slice_index ys (slice_index xs i) ≡ i)
+LeadsBack xs ys = (i : ℕ) → i < length xs → slice_index xs i ≢ none
+    → (slice_index xs i < length ys) × (slice_index ys (slice_index xs i) ≡ i)
 
 -- two arrays that store one matching of so many pairs
 pub record AreMates (row_of_col col_of_row : List ℕ) (size : ℕ) : Type 0 where

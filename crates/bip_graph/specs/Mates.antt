@@ -1,5 +1,6 @@
 -- What contracts see of mates that were set one by one, and how flat arrays store them.
-use Rattle.std.specs.Prelude.{◌≡◌, ◌↔◌, ℕ, ◌<◌, ◌^◌, ◌==◌, if◌then◌else◌, List, length, slice_index_or, Option, None, Some}
+use Rattle.std.specs.Prelude.{◌≡◌, ◌↔◌, ℕ, ◌<◌, ◌^◌, ◌==◌, if◌then◌else◌, List, length, Option, None, Some}
+use Rattle.bip_defs.specs.Lists.{option_at}
 use Rattle.bip_graph.specs.Matching.{none}
 
 -- for each row its column, and for each column its row, if it has one
@@ -7,13 +8,9 @@ pub record Mated : Type 0 where
   pub rows : List (Option ℕ)
   pub cols : List (Option ℕ)
 
--- the mate in a list of mates; there is none past its end
-abbrev pub mate_in : List (Option ℕ) → ℕ → Option ℕ
-mate_in mates i = slice_index_or mates i None
-
 -- a row's column has that row, and a column's row has that column
 abbrev pub AreMutual : Mated → Type 0
-AreMutual m = (r c : ℕ) → (mate_in m.rows r ≡ Some c) ↔ (mate_in m.cols c ≡ Some r)
+AreMutual m = (r c : ℕ) → (option_at m.rows r ≡ Some c) ↔ (option_at m.cols c ≡ Some r)
 
 -- what a number in the array stands for
 abbrev pub mate_of : ℕ → Option ℕ

@@ -12,4 +12,5 @@ cols_before blocks i = length (all_cols (take i blocks))
 
 -- from the first row of each block on, in the order of the rows, no row has an entry in a column that stands before the block
 abbrev pub IsZeroBelow : Matrix → List Block → List ℕ × List ℕ → Type 0
-IsZeroBelow a blocks orders = (i x y : ℕ) → rows_before blocks i ≤ x → x < a.rows → y < cols_before blocks i → ¬ IsEntry a (slice_index orders.0 x) (slice_index orders.1 y)
+IsZeroBelow a blocks orders = (i x y : ℕ) → rows_before blocks i ≤ x → x < a.rows
+    → y < cols_before blocks i → ¬ IsEntry a (slice_index orders.0 x) (slice_index orders.1 y)

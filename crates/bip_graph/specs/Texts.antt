@@ -32,7 +32,8 @@ lists rows cols = line (codes "rows") (counted rows) ∷ line (codes "columns") 
 
 -- a part: its sizes, and its lists unless both are empty
 abbrev pub part : List ℕ → List ℕ → List ℕ → List TextLine
-part word rows cols = line word (length rows ∷ length cols ∷ []) ∷ (if length rows + length cols == 0 then [] else lists rows cols)
+part word rows cols = line word (length rows ∷ length cols ∷ [])
+    ∷ (if length rows + length cols == 0 then [] else lists rows cols)
 
 -- the numbers of rows, columns and entries of a matrix
 pub record Sizes : Type 0 where
@@ -55,7 +56,8 @@ end_line = line (codes "end") []
 -- ---- the text of `rank`
 
 abbrev pub rank_lines : Sizes → ℕ → List ℕ → List ℕ → List TextLine
-rank_lines s k rows cols = matrix_line s ∷ rank_line k ∷ part (codes "horizontal") rows cols ++ end_line ∷ []
+rank_lines s k rows cols = matrix_line s ∷ rank_line k ∷ part (codes "horizontal") rows cols
+    ++ end_line ∷ []
 
 abbrev pub rank_text : Sizes → ℕ → List ℕ → List ℕ → List ℕ
 rank_text s k rows cols = text_of (rank_lines s k rows cols)
@@ -77,7 +79,8 @@ pub record Report : Type 0 where
 -- the blocks from number i on
 abbrev pub block_lines : ℕ → List Block → List TextLine
 block_lines i [] = []
-block_lines i (b ∷ bs) = line (codes "block") (i ∷ length b.rows ∷ []) ∷ lists b.rows b.cols ++ block_lines (suc i) bs
+block_lines i (b ∷ bs) = line (codes "block") (i ∷ length b.rows ∷ []) ∷ lists b.rows b.cols
+    ++ block_lines (suc i) bs
 
 abbrev pub square_size : List Block → ℕ
 square_size bs = sum_by (λ (b : Block). length b.rows) bs
@@ -90,7 +93,8 @@ square_lines bs = square_line bs ∷ block_lines 1 bs
 
 abbrev pub order_lines : Option (List ℕ × List ℕ) → List TextLine
 order_lines None = []
-order_lines (Some orders) = line (codes "row_order") (counted orders.0) ∷ line (codes "column_order") (counted orders.1) ∷ []
+order_lines (Some orders) = line (codes "row_order") (counted orders.0)
+    ∷ line (codes "column_order") (counted orders.1) ∷ []
 
 -- a pair is a line of two numbers
 abbrev pub pair_line : Place → TextLine

@@ -27,9 +27,11 @@ impl Model for Blocks {
 
     ghost Value = { List Block };
 
-    ghost view = { λ b. blocks_from 0 0 b.row_ends.items b.col_ends.items b.rows.items b.cols.items };
+    ghost view = { λ b. blocks_from 0 0 b.row_ends.items b.col_ends.items b.rows.items
+        b.cols.items };
 
-    ghost invariant = { λ b. AreOffsets b.row_ends.items b.col_ends.items b.rows.items b.cols.items };
+    ghost invariant = { λ b.
+        AreOffsets b.row_ends.items b.col_ends.items b.rows.items b.cols.items };
 }
 
 impl Blocks {
@@ -115,7 +117,8 @@ impl Blocks {
     pub fn push(&mut self, rows: &[Row], cols: &[Col]) -> Result<(), OutOfMemory>
         requires few_rows { length (all_rows self.old) + length rows.now < 2 ^ 32 }
         requires few_cols { length (all_cols self.old) + length cols.now < 2 ^ 32 }
-        ensures ok { OnOk result (self.new ≡ self.old ++ record { rows = rows.now; cols = cols.now } ∷ []) }
+        ensures ok { OnOk result
+            (self.new ≡ self.old ++ record { rows = rows.now; cols = cols.now } ∷ []) }
         ensures err { OnErr result (self.new ≡ self.old) }
     {
         // Once there is room nothing fails, so all four arrays grow or none.

@@ -11,10 +11,12 @@ pub fn one_rank_text()
 
 /// Two reports of one matrix under the same options, without pairs, are the same bytes.
 pub fn one_report()
-    ensures { (a : Matrix) (order : Bool) (s t : List ℕ) → IsAnalysis a order false s → IsAnalysis a order false t → s ≡ t }
+    ensures { (a : Matrix) (order : Bool) (s t : List ℕ) → IsAnalysis a order false s
+        → IsAnalysis a order false t → s ≡ t }
 {}
 
 /// The reports with pairs are the one without them, with the lines of any maximum matching before its end.
 pub fn pairs_before_the_end()
-    ensures { (a : Matrix) (order : Bool) (t : List ℕ) → IsAnalysis a order true t ↔ IsWithPairs a order t }
+    ensures { (a : Matrix) (order : Bool) (t : List ℕ) → IsAnalysis a order true t
+        ↔ IsWithPairs a order t }
 {}

@@ -1,11 +1,11 @@
 //! Matchings: pairs of a row and a column, in which no row and no column stands twice.
 
 ghost use Rattle.std.specs.Prelude.{◌≡◌, ◌≢◌, ◌↔◌, ◌⊎◌, ℕ, suc, ◌<◌, ◌^◌, [], length, Some, IfOk, IfSome, IfNone};
-ghost use Rattle.bip_defs.specs.Lists.{Among, AreDistinct, IsRising};
+ghost use Rattle.bip_defs.specs.Lists.{Among, AreDistinct, IsRising, option_at};
 ghost use Rattle.bip_defs.specs.Matching.{Covers, IsMatching, rows_of, cols_of};
 ghost use Rattle.bip_defs.specs.Matrix.{AreEntries, Matrix, Place};
 ghost use Rattle.bip_defs.specs.Paths.{Exchanges, Gives, IsAugmenting};
-ghost use Rattle.bip_graph.specs.Mates.{AreMutual, mate_in};
+ghost use Rattle.bip_graph.specs.Mates.{AreMutual};
 ghost use Rattle.bip_graph.specs.Matching.{Pairing, pairs_of};
 
 use crate::mates::Mates;
@@ -30,7 +30,11 @@ impl Model for Matching {
 
     ghost Value = { Pairing };
 
-    ghost view = { λ m. record { rows = length m.col_of_row.items; cols = length m.row_of_col.items; pairs = pairs_of m.row_of_col.items } };
+    ghost view = { λ m. record {
+      rows = length m.col_of_row.items;
+      cols = length m.row_of_col.items;
+      pairs = pairs_of m.row_of_col.items;
+    } };
 
     ghost invariant = { λ m. AreMates m.row_of_col.items m.col_of_row.items m.size };
 }
@@ -73,7 +77,7 @@ impl Matching {
         requires mutual { AreMutual mates }
         ensures rows { result.rows ≡ length mates.rows }
         ensures cols { result.cols ≡ length mates.cols }
-        ensures pairs { (r c : ℕ) → Among (r, c) result.pairs ↔ (mate_in mates.cols c ≡ Some r) }
+        ensures pairs { (r c : ℕ) → Among (r, c) result.pairs ↔ (option_at mates.cols c ≡ Some r) }
     {
         let (row_of_col, col_of_row) = mates.into_arrays();
         let size = count_mates(row_of_col.as_slice());
@@ -136,7 +140,8 @@ impl Matching {
         requires row_free { ¬ Among row (rows_of self.old.pairs) }
         requires col_free { ¬ Among col (cols_of self.old.pairs) }
         ensures pairs { Gives (row, col) self.old.pairs self.new.pairs }
-        ensures added { (p : Place) → Among p self.new.pairs ↔ ((p ≡ (row, col)) ⊎ Among p self.old.pairs) }
+        ensures added { (p : Place) → Among p self.new.pairs
+            ↔ ((p ≡ (row, col)) ⊎ Among p self.old.pairs) }
         ensures size { length self.new.pairs ≡ suc (length self.old.pairs) }
         ensures sizes { (self.new.rows ≡ self.old.rows) × (self.new.cols ≡ self.old.cols) }
     {
@@ -168,14 +173,16 @@ impl Matching {
     ///
     /// Takes no memory. Work: three writes at most for each pair of the path.
     pub fn flip(&mut self, path: &[(Row, Col)])
-        requires in_range { (r c : ℕ) → Among (r, c) path.now → (r < self.old.rows) × (c < self.old.cols) }
+        requires in_range { (r c : ℕ) → Among (r, c) path.now
+            → (r < self.old.rows) × (c < self.old.cols) }
         requires path { IsAugmenting self.old.pairs path.now }
         ensures pairs { Exchanges path.now self.old.pairs self.new.pairs }
         ensures size { length self.new.pairs ≡ suc (length self.old.pairs) }
         ensures sizes { (self.new.rows ≡ self.old.rows) × (self.new.cols ≡ self.old.cols) }
 
         // A matching of entries stays one, where the path is of entries.
-        ensures entries { (a : Matrix) → IsMatching a self.old.pairs → AreEntries a path.now → IsMatching a self.new.pairs }
+        ensures entries { (a : Matrix) → IsMatching a self.old.pairs → AreEntries a path.now
+            → IsMatching a self.new.pairs }
 
         // What was matched stays matched.
         ensures covered { Covers self.old.pairs self.new.pairs }

@@ -1,7 +1,8 @@
 //! Mates that are set one by one: a row's mate and a column's mate need not lead back to one another.
 
 ghost use Rattle.std.specs.Prelude.{◌≡◌, ◌<◌, ◌+◌, ◌^◌, length, None, set, replicate, map, IfOk, IfSome};
-ghost use Rattle.bip_graph.specs.Mates.{AreFew, Mated, mate_in, mate_of};
+ghost use Rattle.bip_defs.specs.Lists.{option_at};
+ghost use Rattle.bip_graph.specs.Mates.{AreFew, Mated, mate_of};
 
 use sp_ids::{Col, OutOfMemory, Row};
 use std::alloc::Global;
@@ -25,7 +26,10 @@ impl Model for Mates {
 
     ghost Value = { Mated };
 
-    ghost view = { λ m. record { rows = map mate_of m.col_of_row.items; cols = map mate_of m.row_of_col.items } };
+    ghost view = { λ m. record {
+      rows = map mate_of m.col_of_row.items;
+      cols = map mate_of m.row_of_col.items;
+    } };
 
     ghost invariant = { λ m. AreFew m.row_of_col.items m.col_of_row.items };
 }
@@ -35,7 +39,8 @@ impl Mates {
     ///
     /// Answers `OutOfMemory` where the two arrays can't be had. Work: one write for each row and column.
     pub fn empty(alloc: Global, rows: u32, cols: u32) -> Result<Self, OutOfMemory>
-        ensures { IfOk result (λ m. m ≡ record { rows = replicate rows None; cols = replicate cols None }) }
+        ensures { IfOk result
+            (λ m. m ≡ record { rows = replicate rows None; cols = replicate cols None }) }
     {
         let row_of_col = vec![in alloc; NONE; cols as usize]?;
         let col_of_row = vec![in alloc; NONE; rows as usize]?;
@@ -48,7 +53,7 @@ impl Mates {
     /// The mate of a column, if it has one.
     pub fn row_of(&self, col: Col) -> Option<Row>
         requires { col < length self.now.cols }
-        ensures { result ≡ mate_in self.now.cols col }
+        ensures { result ≡ option_at self.now.cols col }
     {
         let row = self.row_of_col[col.0 as usize];
         if row == NONE { None } else { Some(Row(row)) }
@@ -57,7 +62,7 @@ impl Mates {
     /// The mate of a row, if it has one.
     pub fn col_of(&self, row: Row) -> Option<Col>
         requires { row < length self.now.rows }
-        ensures { result ≡ mate_in self.now.rows row }
+        ensures { result ≡ option_at self.now.rows row }
     {
         let col = self.col_of_row[row.0 as usize];
         if col == NONE { None } else { Some(Col(col)) }
@@ -86,7 +91,10 @@ impl Mates {
     // The rows of the columns and the columns of the rows.
     pub(crate) fn into_arrays(self) -> (Vec<u32>, Vec<u32>)
         ensures few { AreFew result.0.items result.1.items }
-        ensures mates { self ≡ record { rows = map mate_of result.1.items; cols = map mate_of result.0.items } }
+        ensures mates { self ≡ record {
+          rows = map mate_of result.1.items;
+          cols = map mate_of result.0.items;
+        } }
     {
         (self.row_of_col, self.col_of_row)
     }

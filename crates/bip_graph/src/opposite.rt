@@ -40,13 +40,15 @@ pub trait Opposite: Id {
     ///
     /// Takes no memory. Work: two reads and five writes at most for each pair of the path.
     fn exchange(matching: &mut Matching, path: &mut [(Row, Col)])
-        requires in_range { (r c : ℕ) → Among (r, c) path.old → (r < (seen matching.old).rows) × (c < (seen matching.old).cols) }
+        requires in_range { (r c : ℕ) → Among (r, c) path.old
+            → (r < (seen matching.old).rows) × (c < (seen matching.old).cols) }
         requires path { IsAugmenting (seen matching.old).pairs path.old }
         ensures pairs { Exchanges path.old (seen matching.old).pairs (seen matching.new).pairs }
         ensures size { length (seen matching.new).pairs ≡ suc (length (seen matching.old).pairs) }
 
         // A matching of a matrix stays one, where the path is of entries.
-        ensures matching { (a : Matrix) → IsMatchingOf a (seen matching.old) → AreEntries a path.old → IsMatchingOf a (seen matching.new) }
+        ensures matching { (a : Matrix) → IsMatchingOf a (seen matching.old) → AreEntries a path.old
+            → IsMatchingOf a (seen matching.new) }
         ensures covered { Covers (seen matching.old).pairs (seen matching.new).pairs };
 }
 

@@ -18,14 +18,19 @@ ghost use Rattle.bip_graph.specs.Texts.{square_size};
 pub fn orders_are_block_upper_triangular()
     ensures rows_go { (d : Decomposition) → (orders_of d).0 ≡ all_rows (diagonal_blocks d) }
     ensures cols_go { (d : Decomposition) → (orders_of d).1 ≡ all_cols (diagonal_blocks d) }
-    ensures rows_once { (a : Matrix) (d : Decomposition) → IsDecompositionOf a d → ListsOnce (λ r. r < a.rows) (orders_of d).0 }
-    ensures cols_once { (a : Matrix) (d : Decomposition) → IsDecompositionOf a d → ListsOnce (λ c. c < cols a) (orders_of d).1 }
-    ensures below { (a : Matrix) (d : Decomposition) → IsDecompositionOf a d → IsZeroBelow a (diagonal_blocks d) (orders_of d) }
+    ensures rows_once { (a : Matrix) (d : Decomposition) → IsDecompositionOf a d
+        → ListsOnce (λ r. r < a.rows) (orders_of d).0 }
+    ensures cols_once { (a : Matrix) (d : Decomposition) → IsDecompositionOf a d
+        → ListsOnce (λ c. c < cols a) (orders_of d).1 }
+    ensures below { (a : Matrix) (d : Decomposition) → IsDecompositionOf a d
+        → IsZeroBelow a (diagonal_blocks d) (orders_of d) }
 {}
 
 /// The number of rows that the line of the square part tells, which is the sum over its blocks, is that of the square
 /// rows, and that of the square columns.
 pub fn square_size_counts_the_square_part()
-    ensures rows { (a : Matrix) (d : Decomposition) → IsDecompositionOf a d → square_size d.blocks ≡ length d.parts.square_rows }
-    ensures cols { (a : Matrix) (d : Decomposition) → IsDecompositionOf a d → square_size d.blocks ≡ length d.parts.square_cols }
+    ensures rows { (a : Matrix) (d : Decomposition) → IsDecompositionOf a d
+        → square_size d.blocks ≡ length d.parts.square_rows }
+    ensures cols { (a : Matrix) (d : Decomposition) → IsDecompositionOf a d
+        → square_size d.blocks ≡ length d.parts.square_cols }
 {}

@@ -51,12 +51,14 @@ pub trait Parents {
 pub fn trace_back<T: Parents>(trees: &T, leaf: Row, from: T::Reached, path: &mut Vec<(Row, Col)>)
     requires trees { AreTrees (T.pairs trees.now) (T.reached trees.now) }
     requires kept { T.kept trees.now from }
-    requires depth { (n : ℕ) × HasDepth (T.pairs trees.now) (T.reached trees.now) (T.column from) n }
+    requires depth { (n : ℕ)
+        × HasDepth (T.pairs trees.now) (T.reached trees.now) (T.column from) n }
     requires leaf { ¬ Among leaf (rows_of (T.pairs trees.now)) }
     requires room { length (T.pairs trees.now) < vec_capacity path.old }
     ensures path { IsAugmenting (T.pairs trees.now) path.new.items }
     ensures leaf { Among (leaf, T.column from) path.new.items }
-    ensures pairs { (p : Place) → Among p path.new.items → IsTraced (T.pairs trees.now) (T.reached trees.now) leaf (T.column from) p }
+    ensures pairs { (p : Place) → Among p path.new.items
+        → IsTraced (T.pairs trees.now) (T.reached trees.now) leaf (T.column from) p }
     ensures room { vec_capacity path.old ≤ vec_capacity path.new }
 {
     path.clear();
@@ -119,7 +121,9 @@ impl Queue<'_> {
         requires leaf { ¬ Among leaf (rows_of self.now.matching.now.pairs) }
         requires room { length self.now.matching.now.pairs < vec_capacity path.old }
         ensures path { IsAugmenting self.now.matching.now.pairs path.new.items }
-        ensures pairs { (p : Place) → Among p path.new.items → (p ≡ (leaf, (at self.now.columns.now place).0)) ⊎ IsReachedIn self.now.matching.now.pairs self.now.columns.now p.0 p.1 }
+        ensures pairs { (p : Place) → Among p path.new.items
+            → (p ≡ (leaf, (at self.now.columns.now place).0))
+            ⊎ IsReachedIn self.now.matching.now.pairs self.now.columns.now p.0 p.1 }
         ensures room { vec_capacity path.old ≤ vec_capacity path.new }
     {
         // `size` tells the proof that rows and columns differ.

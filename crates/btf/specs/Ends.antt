@@ -3,7 +3,7 @@ use Rattle.std.specs.Prelude.{◌≡◌, ℕ}
 use Rattle.std.specs.declared.io.ErrorKind.{ErrorKind}
 use Rattle.std.specs.declared.io.ErrorKind.TheVariants as kinds
 use Rattle.sp_ports.specs.Device.{Device, IsUntouched, WroteAsFar}
-use Rattle.btf_tool.specs.Jobs.{GaveFront, OfReading}
+use Rattle.btf_tool.specs.Jobs.{GavePrefix, OfReading}
 use Rattle.btf_tool.specs.Refusals.{line_of, status_of}
 use Rattle.btf_tool.specs.Runs.{Completes, NameMaker, Run, Says}
 use Rattle.btf_tool.specs.declared.refusals.Refusal.{Refusal}
@@ -17,7 +17,7 @@ pub record EndsWith (r : Run) (number : ℕ) : Type 0 where
   pub says : Says r status
   pub complete : Completes r status
   -- what the input has left is the end of what it had, and at most one byte past its limit was taken
-  pub gave : OfReading r.input GaveFront
+  pub gave : OfReading r.input GavePrefix
   -- a matrix that is made is made without the input
   pub unread : NameMaker r.words → IsUntouched r.input
   pub number_is : number ≡ exit_code status
@@ -29,7 +29,7 @@ want_of_words _ = Usage
 
 -- the number of a run that has no words: it is refused for that, and only tells so
 pub record EndsWithoutWords (kind : ErrorKind) (input out err : Device) (number : ℕ) : Type 0 where
-  pub told : WroteAsFar err (line_of (want_of_words kind))
+  pub line : WroteAsFar err (line_of (want_of_words kind))
   pub not_read : IsUntouched input
   pub nothing_written : IsUntouched out
   pub number_is : number ≡ exit_code (status_of (want_of_words kind))

@@ -6,7 +6,7 @@
 ghost use Rattle.std.specs.Prelude.{◌≡◌, ◌<◌, ◌+◌, ◌-◌, ◌^◌, ◌≤◌, min, length, IfOk, None};
 ghost use Rattle.std.specs.Io.KnownBytes.{Keeps, ReadConsumes, WriteAppends};
 ghost use Rattle.sp_ports.specs.Device.{FailsByReads, FailsByWrites};
-ghost use Rattle.btf.specs.Untold.{untold};
+ghost use Rattle.btf.specs.Unknown.{unknown_device};
 
 use sp_ports::{Failed, Sink, Source};
 use std::io::{Read, Stderr, Stdin, Stdout, Write};
@@ -44,8 +44,9 @@ impl<R: Read> Source for Incoming<R> {
     /// A reader that fails is not taken for one at its end.
     fn read(&mut self, buf: &mut [u8]) -> Result<usize, Failed>
         ensures bound { IfOk result (λ k. k ≤ length buf.old) }
-        ensures reader { ReadConsumes (R.remaining self.old.reader) (R.remaining self.new.reader) result buf.new }
-        ensures cause { FailsByReads (untold self.old.faults self.new.faults) result }
+        ensures reader { ReadConsumes (R.remaining self.old.reader)
+            (R.remaining self.new.reader) result buf.new }
+        ensures cause { FailsByReads (unknown_device self.old.faults self.new.faults) result }
     {
         match self.reader.read(buf) {
             Ok(count) => Ok(count),
@@ -79,8 +80,9 @@ impl<W: Write> Sink for Outgoing<W> {
     fn write(&mut self, piece: &[u8]) -> Result<usize, Failed>
         ensures bound { IfOk result (λ k. k ≤ length piece.now) }
         ensures some { IfOk result (λ k. 0 < length piece.now → 0 < k) }
-        ensures writer { WriteAppends (W.contents self.old.writer) (W.contents self.new.writer) result piece.now }
-        ensures cause { FailsByWrites (untold self.old.faults self.new.faults) result }
+        ensures writer { WriteAppends (W.contents self.old.writer)
+            (W.contents self.new.writer) result piece.now }
+        ensures cause { FailsByWrites (unknown_device self.old.faults self.new.faults) result }
     {
         match self.writer.write(piece) {
             Ok(count) => {
@@ -95,7 +97,7 @@ impl<W: Write> Sink for Outgoing<W> {
 
     fn flush(&mut self) -> Result<(), Failed>
         ensures writer { Keeps (W.contents self.old.writer) (W.contents self.new.writer) }
-        ensures cause { FailsByWrites (untold self.old.faults self.new.faults) result }
+        ensures cause { FailsByWrites (unknown_device self.old.faults self.new.faults) result }
     {
         match self.writer.flush() {
             Ok(()) => Ok(()),

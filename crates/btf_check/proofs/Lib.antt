@@ -2,4 +2,5 @@ mod Comparisons
 mod MarkLemmas
 mod PairLemmas
 mod ReasonLemmas
-pub mod Verdicts
+mod VerdictLemmas
+mod Verdicts

@@ -24,14 +24,14 @@ pub marking_more : (once : List ℕ) (k n x : ℕ) (marks : List Bool) → k < l
 marking_more once k n x marks lt below e is = record {
   long = length-set marks x true ∙ is.long;
   marked = λ y h. subst (Among y) (sym more) (⊎_elim (λ (same : y ≡ x). among_right y (take k once) (x ∷ []) (inl same)) (λ (ne : y ≢ x). among_left y (take k once) (x ∷ []) (is.marked y (sym (get_or-set_other marks x y true false ne) ∙ h))) (number_same y x));
-  all = λ y h. ⊎_elim (λ (same : y ≡ x). subst (IsMarked (set marks x true)) (sym same) (get_or-set_same marks x true false (let l = is.long in omega arith))) (λ (ne : y ≢ x). get_or-set_other marks x y true false ne ∙ is.all y (front y ne h)) (number_same y x);
+  all = λ y h. ⊎_elim (λ (same : y ≡ x). subst (IsMarked (set marks x true)) (sym same) (get_or-set_same marks x true false (let l = is.long in omega arith))) (λ (ne : y ≢ x). get_or-set_other marks x y true false ne ∙ is.all y (prefix y ne h)) (number_same y x);
 }
   where
     more : take (k + 1) once ≡ take k once ++ x ∷ []
     more = take_more once k 0 lt ∙ ap (λ z. take k once ++ z ∷ []) e
 
-    front : (y : ℕ) → y ≢ x → Among y (take (k + 1) once) → Among y (take k once)
-    front y ne h = ⊎_elim (λ (g : Among y (take k once)). g) (λ (same : y ≡ x). absurd (ne same)) (among_last y x (take k once) (subst (Among y) more h))
+    prefix : (y : ℕ) → y ≢ x → Among y (take (k + 1) once) → Among y (take k once)
+    prefix y ne h = ⊎_elim (λ (g : Among y (take k once)). g) (λ (same : y ≡ x). absurd (ne same)) (among_last y x (take k once) (subst (Among y) more h))
 
 -- the marks that are left when the first k numbers of the list have taken theirs away
 pub record IsStriking (once list : List ℕ) (k n : ℕ) (marks : List Bool) : Type 0 where

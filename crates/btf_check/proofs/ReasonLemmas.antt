@@ -50,8 +50,8 @@ pub met_of_report : (a : Matrix) (r : Report) → IsReportOf a r → (k : ℕ) �
 met_of_report a r is k = subst (λ s. IsMet a s k) (sym is.same) (is_met a is.decomposition is.order is.matching is.is_decomposition is.maximum k)
 
 -- the decomposition that a report tells
-abbrev told : Matrix → Report → Decomposition
-told a r = record {
+abbrev contents : Matrix → Report → Decomposition
+contents a r = record {
   rank = r.rank;
   parts = record {
     horizontal_rows = r.horizontal_rows;
@@ -64,7 +64,7 @@ told a r = record {
   blocks = r.blocks;
 }
 
-told_decomposition : (a : Matrix) (r : Report) → TellsParts a r → AreBlocksOf a r.blocks → IsDecompositionOf a (told a r)
+told_decomposition : (a : Matrix) (r : Report) → TellsParts a r → AreBlocksOf a r.blocks → IsDecompositionOf a (contents a r)
 told_decomposition a r tells blocks = record {
   rank = tells.rank;
   parts = record {
@@ -88,7 +88,7 @@ same_orders r both e f (Some o) h = λ i. Some ((h.rows ∙ sym e) i, (h.cols �
 
 pub report_of_met : (a : Matrix) (r : Report) (pairs : List Place) → r.pairs ≡ Some pairs → IsRising (cols_of pairs) → ((k : ℕ) → IsMet a r k) → IsReportOf a r
 report_of_met a r pairs given rising met = record {
-  decomposition = told a r;
+  decomposition = contents a r;
   is_decomposition = told_decomposition a r tells ((met 5).blocks refl).blocks;
   order = with_orders r.orders;
   matching = pairs;
@@ -102,7 +102,7 @@ report_of_met a r pairs given rising met = record {
     blocks = r.blocks;
     vertical_rows = r.vertical_rows;
     vertical_cols = r.vertical_cols;
-    orders = same_orders r (orders_of (told a r)) refl refl r.orders ((met 5).blocks refl).orders i;
+    orders = same_orders r (orders_of (contents a r)) refl refl r.orders ((met 5).blocks refl).orders i;
     pairs = given i;
   };
 }

@@ -1,13 +1,12 @@
 -- The verdict on bytes follows from what they spell.
 use Rattle.std.proofs.Common.{◌≡◌, ◌∙◌, ℕ, ◌<◌, Bool, true, List, Option, Some, None, refl, sym, ap, subst, arith}
 use Rattle.bip_defs.specs.Lists.{IsRising}
-use Rattle.bip_defs.specs.Matching.{cols_of}
+use Rattle.bip_defs.specs.Decomposition.{Decomposition, IsDecompositionOf}
+use Rattle.bip_defs.specs.Matching.{IsMatching, cols_of}
 use Rattle.bip_defs.specs.Matrix.{Matrix, Place}
 use Rattle.bip_graph.specs.Answers.{ArePairs, IsAnalysis, report_of}
 use Rattle.bip_graph.specs.Texts.{Report, report_text}
 use Rattle.btf_text.specs.Readable.{FitsText, IsReadable}
-use Rattle.btf_text.proofs.Limits.{can_be_read}
-use Rattle.btf_text.proofs.Reports.{spells_one}
 use Rattle.sp_pattern.specs.Stored.{IsPattern}
 use Rattle.btf_check.specs.Reasons.{IsMet}
 use Rattle.btf_check.specs.Verdicts.{IsJudged, IsMetBy, IsReportOf, IsValid, IsVerdict, Spells}
@@ -15,9 +14,17 @@ use Rattle.btf_check.specs.declared.verdict.Verdict.{Verdict}
 use Rattle.btf_check.specs.declared.verdict.Verdict.TheVariants.{Invalid, Valid}
 use Rattle.btf_check.proofs.ReasonLemmas.{met_of_report, report_of_met}
 
+-- what the law `one_spelling` says
+abbrev pub HaveOneSpelling : Type 0
+HaveOneSpelling = (r s : Report) → IsReadable r → IsReadable s → report_text r ≡ report_text s → r ≡ s
+
+-- what the law `reports_can_be_read` says
+abbrev pub CanBeRead : Type 0
+CanBeRead = (a : Matrix) (d : Decomposition) (order : Bool) (m : List Place) → FitsText a → IsDecompositionOf a d → IsMatching a m → IsRising (cols_of m) → IsReadable (report_of a d order (Some m))
+
 -- the bytes spell one report
-one_report : (bytes : List ℕ) (r s : Report) → Spells bytes r → Spells bytes s → r ≡ s
-one_report bytes r s h k = spells_one r s h.readable k.readable (sym h.spelled ∙ k.spelled)
+one_report : HaveOneSpelling → (bytes : List ℕ) (r s : Report) → Spells bytes r → Spells bytes s → r ≡ s
+one_report one bytes r s h k = one r s h.readable k.readable (sym h.spelled ∙ k.spelled)
 
 report_valid : (a : Matrix) (bytes : List ℕ) (r : Report) → bytes ≡ report_text r → IsReportOf a r → IsValid a bytes
 report_valid a bytes r spelled is = (
@@ -41,11 +48,11 @@ no_report a bytes none = record {
   before = λ j lt. record { grammar = λ (e : j ≡ 1). absurd (omega arith); report = λ r s. none_asked a r j (omega arith) };
 }
 
-pub judged : (a : Matrix) (bytes : List ℕ) (r : Report) (v : Verdict) → IsReadable r → bytes ≡ report_text r → IsJudged a r v → IsVerdict a bytes v
-judged a bytes r Valid can spelled is = report_valid a bytes r spelled is
-judged a bytes r (Invalid k) can spelled first = record {
+pub judged : HaveOneSpelling → (a : Matrix) (bytes : List ℕ) (r : Report) (v : Verdict) → IsReadable r → bytes ≡ report_text r → IsJudged a r v → IsVerdict a bytes v
+judged one a bytes r Valid can spelled is = report_valid a bytes r spelled is
+judged one a bytes r (Invalid k) can spelled first = record {
   fails = λ met. first.fails (met.report r this);
-  before = λ j lt. record { grammar = λ e. (r, this); report = λ s k. subst (λ x. IsMet a x j) (one_report bytes r s this k) (first.before j lt) };
+  before = λ j lt. record { grammar = λ e. (r, this); report = λ s k. subst (λ x. IsMet a x j) (one_report one bytes r s this k) (first.before j lt) };
 }
   where
     this : Spells bytes r
@@ -67,11 +74,11 @@ analysed a bytes order is = by is.matching is.are_pairs is.spelled
 fits : (a : Matrix) → IsPattern a → FitsText a
 fits a pattern = record { rows = pattern.few_rows; columns = pattern.few_cols; entries = pattern.few_entries }
 
-pub met_by_valid : (a : Matrix) (bytes : List ℕ) → IsPattern a → IsValid a bytes → (k : ℕ) → IsMetBy a bytes k
-met_by_valid a bytes pattern (order, is) k =
+pub met_by_valid : HaveOneSpelling → CanBeRead → (a : Matrix) (bytes : List ℕ) → IsPattern a → IsValid a bytes → (k : ℕ) → IsMetBy a bytes k
+met_by_valid one can a bytes pattern (order, is) k =
     let (r, report, e) = analysed a bytes order is in
-    let this : Spells bytes r = record { readable = subst IsReadable (sym report.same) (can_be_read a report.decomposition report.order report.matching (fits a pattern) report.is_decomposition report.maximum.matching report.rising); spelled = e } in
-    record { grammar = λ e. (r, this); report = λ s h. subst (λ x. IsMet a x k) (one_report bytes r s this h) (met_of_report a r report k) }
+    let this : Spells bytes r = record { readable = subst IsReadable (sym report.same) (can a report.decomposition report.order report.matching (fits a pattern) report.is_decomposition report.maximum.matching report.rising); spelled = e } in
+    record { grammar = λ e. (r, this); report = λ s h. subst (λ x. IsMet a x k) (one_report one bytes r s this h) (met_of_report a r report k) }
 
 -- What a report that was read leaves.
 

@@ -20,7 +20,8 @@ pub(crate) fn are_once<N: Id>(
 ) -> Result<bool, OutOfMemory>
     requires below { (x : ℕ) → Among x (map N.number once.now) → x < bound }
     requires distinct { AreDistinct (map N.number once.now) }
-    ensures { IfOk result (λ b. IsTrue b ↔ AreOnce (map N.number once.now) (map N.number list.now)) }
+    ensures { IfOk result
+        (λ b. IsTrue b ↔ AreOnce (map N.number once.now) (map N.number list.now)) }
 {
     if list.len() != once.len() {
         return Ok(false);
@@ -75,9 +76,9 @@ pub(crate) fn are_joined_rows(whole: &[Row], first: &[Row], second: &[Row], thir
     if whole.len() != first.len() + second.len() + third.len() {
         return false;
     }
-    let (front, rest) = whole.split_at(first.len());
+    let (prefix, rest) = whole.split_at(first.len());
     let (middle, back) = rest.split_at(second.len());
-    if !same_rows(front, first) {
+    if !same_rows(prefix, first) {
         return false;
     }
     if !same_rows(middle, second) {
@@ -93,9 +94,9 @@ pub(crate) fn are_joined_cols(whole: &[Col], first: &[Col], second: &[Col], thir
     if whole.len() != first.len() + second.len() + third.len() {
         return false;
     }
-    let (front, rest) = whole.split_at(first.len());
+    let (prefix, rest) = whole.split_at(first.len());
     let (middle, back) = rest.split_at(second.len());
-    if !same_cols(front, first) {
+    if !same_cols(prefix, first) {
         return false;
     }
     if !same_cols(middle, second) {

@@ -8,6 +8,6 @@ mod reasons;
 mod report;
 mod verdict;
 
-pub use laws::no_reason_applies;
+pub use laws::{no_reason_applies, one_verdict};
 pub use report::judge;
 pub use verdict::Verdict;

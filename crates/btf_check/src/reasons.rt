@@ -7,7 +7,7 @@ ghost use Rattle.bip_defs.specs.Parts.{ArePartsOf};
 ghost use Rattle.bip_graph.specs.Decompositions.{parts_of};
 ghost use Rattle.btf_check.specs.ReportParts.{HasOuterParts, HasSizes};
 ghost use Rattle.btf_check.specs.Reasons.{AreOrdersOf, TellsParts};
-ghost use Rattle.btf_text.specs.ReportRead.{orders_told, told};
+ghost use Rattle.btf_text.specs.ReportRead.{orders_in, contents};
 ghost use Rattle.btf_check.specs.Verdicts.{IsJudged};
 
 use crate::Verdict;
@@ -34,7 +34,7 @@ pub(crate) fn judge_report<R: Threads + Sync>(
     report: &Report,
 ) -> Result<Verdict, OutOfMemory>
     requires rising { IsRising (cols_of report.now.pairs.items) }
-    ensures { IfOk result (IsJudged pattern.now (told report.now)) }
+    ensures { IfOk result (IsJudged pattern.now (contents report.now)) }
 {
     let Some(matching) = matching_of(alloc, pattern, report.pairs.as_slice())? else {
         return Ok(Verdict::Invalid(2));
@@ -64,7 +64,7 @@ fn tells_parts(
 ) -> Result<bool, OutOfMemory>
     requires maximum { IsMaximum pattern.now matching.now.pairs }
     requires parts { ArePartsOf pattern.now (parts_of parts.now) }
-    ensures { IfOk result (λ b. IsTrue b ↔ TellsParts pattern.now (told report.now)) }
+    ensures { IfOk result (λ b. IsTrue b ↔ TellsParts pattern.now (contents report.now)) }
 {
     if !has_sizes(pattern, matching, report) {
         return Ok(false);
@@ -82,7 +82,7 @@ fn tells_parts(
 
 /// Whether the sizes and the rank are those of a matrix with this maximum matching.
 fn has_sizes(pattern: &Pattern, matching: &Matching, report: &Report) -> bool
-    ensures { IsTrue result ↔ HasSizes pattern.now matching.now.pairs (told report.now) }
+    ensures { IsTrue result ↔ HasSizes pattern.now matching.now.pairs (contents report.now) }
 {
     report.m == pattern.rows()
         && report.n == pattern.cols()
@@ -92,7 +92,7 @@ fn has_sizes(pattern: &Pattern, matching: &Matching, report: &Report) -> bool
 
 /// Whether the horizontal and the vertical part are these.
 fn has_outer_parts(parts: &Parts, report: &Report) -> bool
-    ensures { IsTrue result ↔ HasOuterParts (parts_of parts.now) (told report.now) }
+    ensures { IsTrue result ↔ HasOuterParts (parts_of parts.now) (contents report.now) }
 {
     same_rows(report.parts.hr.as_slice(), parts.hr.as_slice())
         && same_cols(report.parts.hc.as_slice(), parts.hc.as_slice())
@@ -102,7 +102,8 @@ fn has_outer_parts(parts: &Parts, report: &Report) -> bool
 
 /// Whether the order lines, if there are any, go through the parts and blocks of the report.
 fn has_orders(report: &Report) -> bool
-    ensures { IsTrue result ↔ IfSome (orders_told report.now.orders) (AreOrdersOf (told report.now)) }
+    ensures { IsTrue result
+        ↔ IfSome (orders_in report.now.orders) (AreOrdersOf (contents report.now)) }
 {
     match &report.orders {
         None => true,

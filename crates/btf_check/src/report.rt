@@ -5,7 +5,7 @@ ghost use Rattle.btf_check.specs.Verdicts.{IsVerdict};
 
 use crate::Verdict;
 use crate::reasons::judge_report;
-use btf_text::read_report;
+use btf_text::{one_spelling, read_report};
 use sp_ids::OutOfMemory;
 use sp_pattern::Pattern;
 use std::alloc::Global;
@@ -27,6 +27,7 @@ pub fn judge<R: Threads + Sync>(
 ) -> Result<Verdict, OutOfMemory>
     ensures { IfOk result (IsVerdict pattern.now bytes.now) }
 {
+    one_spelling();
     match read_report(alloc, bytes)? {
         Some(report) => judge_report(rt, alloc, pattern, &report),
         None => Ok(Verdict::Invalid(1)),

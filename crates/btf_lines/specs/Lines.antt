@@ -18,7 +18,8 @@ too_long_line = codes "btf: limit: TooLong\n"
 
 -- a place counts from 1 where it is told
 abbrev pub sum_limit_line : ℕ → ℕ → List ℕ
-sum_limit_line row col = codes "btf: limit: sum at " ++ decimal (suc row) ++ codes " " ++ decimal (suc col) ++ codes "\n"
+sum_limit_line row col = codes "btf: limit: sum at " ++ decimal (suc row) ++ codes " "
+    ++ decimal (suc col) ++ codes "\n"
 
 abbrev pub needs_integer_line : List ℕ
 needs_integer_line = codes "btf: needs an integer file\n"

@@ -9,7 +9,7 @@ use Rattle.bip_graph.specs.Texts.{block_lines, line, lists, spelled, square_line
 use Rattle.btf_text.specs.declared.stop.Stop.{Stop}
 use Rattle.btf_text.specs.Readable.{AreBlocksLike, IsBlockLike}
 use Rattle.btf_text.specs.ReportGrammar.{◌>>=◌, Stops, block_at, blocks_at, square_at, two_at}
-use Rattle.btf_text.proofs.Prefixes.{no_front, regroup, stops_so, with_front}
+use Rattle.btf_text.proofs.Prefixes.{no_prefix, regroup, stops_so, with_prefix}
 use Rattle.btf_text.proofs.ListLines.{two_again, two_takes}
 use Rattle.btf_text.proofs.Listed.{block_again, block_takes, line_first}
 use Rattle.btf_text.proofs.Spelled.{bind_some, some_is, where_some}
@@ -18,13 +18,13 @@ use Rattle.btf_text.proofs.Spelled.{bind_some, some_is, where_some}
 
 -- So many blocks were read. What is read from here on, behind them, is what is read of all; there is room for what is read.
 pub record HaveRead (size : ℕ) (blocks : List Block) (count at room : ℕ) (rest : List ℕ) (total : Option (List Block × List ℕ)) : Type 0 where
-  pub same : with_front blocks (blocks_at (count - at) (at + 1) room rest) ≡ total
+  pub same : with_prefix blocks (blocks_at (count - at) (at + 1) room rest) ≡ total
   pub rows_fit : length (all_rows blocks) + room ≤ size
   pub cols_fit : length (all_cols blocks) + room ≤ size
 
 pub blocks_begin : (size count : ℕ) (bytes : List ℕ) → HaveRead size [] count 0 size bytes (blocks_at count 1 size bytes)
 blocks_begin size count bytes = record {
-  same = no_front (blocks_at (count - 0) 1 size bytes) ∙ ap (λ (k : ℕ). blocks_at k 1 size bytes) (omega arith);
+  same = no_prefix (blocks_at (count - 0) 1 size bytes) ∙ ap (λ (k : ℕ). blocks_at k 1 size bytes) (omega arith);
   rows_fit = omega arith;
   cols_fit = omega arith;
 }
@@ -33,12 +33,12 @@ abbrev of_lists : List ℕ × List ℕ → Block
 of_lists l = record { rows = l.0; cols = l.1 }
 
 next : (blocks : List Block) (count at room : ℕ) (bytes : List ℕ) (b : (List ℕ × List ℕ) × List ℕ) → at < count → block_at (at + 1) room bytes ≡ Some b
-    → with_front blocks (blocks_at (count - at) (at + 1) room bytes) ≡ with_front (blocks ++ of_lists b.0 ∷ []) (blocks_at (count - (at + 1)) (at + 1 + 1) (room - length b.0.0) b.1)
+    → with_prefix blocks (blocks_at (count - at) (at + 1) room bytes) ≡ with_prefix (blocks ++ of_lists b.0 ∷ []) (blocks_at (count - (at + 1)) (at + 1 + 1) (room - length b.0.0) b.1)
 unfolding blocks_at
 next blocks count at room bytes b inside block =
     let k : count - at ≡ suc (count - (at + 1)) = omega (arith, inside) in
     rw (k, block) (regroup blocks (of_lists b.0) (blocks_at (count - (at + 1)) (suc (at + 1)) (room - length b.0.0) b.1)
-    ∙ ap (λ (n : ℕ). with_front (blocks ++ of_lists b.0 ∷ []) (blocks_at (count - (at + 1)) n (room - length b.0.0) b.1)) (omega arith))
+    ∙ ap (λ (n : ℕ). with_prefix (blocks ++ of_lists b.0 ∷ []) (blocks_at (count - (at + 1)) n (room - length b.0.0) b.1)) (omega arith))
 
 more_rows : (blocks : List Block) (b : Block) → length (all_rows (blocks ++ b ∷ [])) ≡ length (all_rows blocks) + length b.rows
 more_rows blocks b = ap length (flat_map-append (λ (b : Block). b.rows) blocks (b ∷ [])) ∙ length-append (all_rows blocks) (b.rows ++ []) ∙ ap (λ (xs : List ℕ). length (all_rows blocks) + length xs) (append-nil b.rows)
@@ -55,7 +55,7 @@ blocks_more size blocks count at room bytes b total so_far inside block = let t 
   cols_fit = omega (arith, so_far.cols_fit, t.fits, t.like.same, more_cols blocks (of_lists b.0));
 }
 
-none_next : (blocks : List Block) (count at room : ℕ) (bytes : List ℕ) → at < count → block_at (at + 1) room bytes ≡ None → with_front blocks (blocks_at (count - at) (at + 1) room bytes) ≡ None
+none_next : (blocks : List Block) (count at room : ℕ) (bytes : List ℕ) → at < count → block_at (at + 1) room bytes ≡ None → with_prefix blocks (blocks_at (count - at) (at + 1) room bytes) ≡ None
 unfolding blocks_at
 none_next blocks count at room bytes inside block =
     let k : count - at ≡ suc (count - (at + 1)) = omega (arith, inside) in
@@ -71,7 +71,7 @@ pub blocks_done : (size : ℕ) (blocks : List Block) (count at room : ℕ) (byte
 unfolding blocks_at
 blocks_done size blocks count at room bytes total so_far ended =
     let k : count - at ≡ 0 = omega (arith, ended) in
-    let one : with_front blocks (blocks_at (count - at) (at + 1) room bytes) ≡ Some (blocks, bytes) = rw k (ap (λ (bs : List Block). Some (bs, bytes)) (append-nil blocks)) in
+    let one : with_prefix blocks (blocks_at (count - at) (at + 1) room bytes) ≡ Some (blocks, bytes) = rw k (ap (λ (bs : List Block). Some (bs, bytes)) (append-nil blocks)) in
     sym so_far.same ∙ one
 
 -- ---- as a text

@@ -1,8 +1,8 @@
 -- How a text goes through a buffer to its sink.
 use Rattle.std.proofs.Common.{OnOk, OnErr, Result, Ok, Err, ◌≡◌, ℕ, Bool, true, false, List, [], ◌++◌, Option, None, Some, append_assoc, append-nil, refl, sym, ap, ◌∙◌, subst}
 use Rattle.bip_graph.specs.Texts.{TextLine, text_of}
-use Rattle.sp_ports.specs.Bytes.{Takes, TakesFront}
-use Rattle.sp_ports.specs.Device.{Device, Took, TookFront, Writes}
+use Rattle.sp_ports.specs.Bytes.{Takes, TakesPrefix}
+use Rattle.sp_ports.specs.Device.{Device, Took, TookPrefix, Writes}
 use Rattle.btf_text.specs.Buffered.{Appends, AppendsLines, Buffered, HasTaken, Stands, since}
 
 -- the same text
@@ -13,8 +13,8 @@ stands_as d buf text other e p = subst (λ (t : List ℕ). Stands d buf t) e p
 pub failed_before : (d : Device) (text bytes : List ℕ) (failed : Bool) → failed ≡ true
     → Stands d (record { bytes = bytes; failed = failed }) text → Stands d (record { bytes = []; failed = true }) (text ++ [])
 failed_before d text bytes failed e p =
-    let front : TookFront d text = subst (λ (b : Bool). HasTaken d text bytes b) e p.taken in
-    stands_as d (record { bytes = []; failed = true }) text (text ++ []) (sym (append-nil text)) (record { taken = front })
+    let prefix : TookPrefix d text = subst (λ (b : Bool). HasTaken d text bytes b) e p.taken in
+    stands_as d (record { bytes = []; failed = true }) text (text ++ []) (sym (append-nil text)) (record { taken = prefix })
 
 -- all that was kept was handed on
 pub handed_on : {t0 t1 t2 : Option (List ℕ)} {f0 f1 f2 : ℕ} (text bytes : List ℕ) (failed : Bool) → failed ≡ false
@@ -25,22 +25,22 @@ handed_on {t0 = t0} {t1 = t1} {f0 = f0} {f1 = f1} text bytes failed not_failed t
     let (piece, is, took) : HasTaken (since t0 f0 t1 f1) text bytes false = subst (λ (b : Bool). HasTaken (since t0 f0 t1 f1) text bytes b) not_failed p.taken in
     record { taken = (piece ++ bytes, ap (λ (t : List ℕ). t ++ []) is, then piece took) }
 
--- a front of what was kept was handed on, and then a write failed
-pub handed_front : {t0 t1 t2 : Option (List ℕ)} {f0 f1 f2 : ℕ} (text bytes : List ℕ) (failed : Bool) → failed ≡ false
-    → ((piece : List ℕ) → Took (since t0 f0 t1 f1) piece → TookFront (since t0 f0 t2 f2) (piece ++ bytes))
+-- a prefix of what was kept was handed on, and then a write failed
+pub prefix_passed : {t0 t1 t2 : Option (List ℕ)} {f0 f1 f2 : ℕ} (text bytes : List ℕ) (failed : Bool) → failed ≡ false
+    → ((piece : List ℕ) → Took (since t0 f0 t1 f1) piece → TookPrefix (since t0 f0 t2 f2) (piece ++ bytes))
     → Stands (since t0 f0 t1 f1) (record { bytes = bytes; failed = failed }) text
     → Stands (since t0 f0 t2 f2) (record { bytes = []; failed = true }) (text ++ [])
-handed_front {t0 = t0} {t1 = t1} {t2 = t2} {f0 = f0} {f1 = f1} {f2 = f2} text bytes failed not_failed then p =
+prefix_passed {t0 = t0} {t1 = t1} {t2 = t2} {f0 = f0} {f1 = f1} {f2 = f2} text bytes failed not_failed then p =
     let (piece, is, took) : HasTaken (since t0 f0 t1 f1) text bytes false = subst (λ (b : Bool). HasTaken (since t0 f0 t1 f1) text bytes b) not_failed p.taken in
-    record { taken = subst (λ (t : List ℕ). TookFront (since t0 f0 t2 f2) t) (sym is ∙ sym (append-nil text)) (then piece took) }
+    record { taken = subst (λ (t : List ℕ). TookPrefix (since t0 f0 t2 f2) t) (sym is ∙ sym (append-nil text)) (then piece took) }
 
 taken_more : (failed : Bool) (d : Device) (text kept more : List ℕ)
     → HasTaken d text kept failed → HasTaken d (text ++ more) (kept ++ more) failed
 taken_more false d text kept more h =
     (h.0, ap (λ (t : List ℕ). t ++ more) h.1 ∙ append_assoc h.0 kept more, h.2)
 taken_more true d text kept more h =
-    let (front, rest, is, takes) : TakesFront d.before d.after text = h.bytes in record {
-      bytes = (front, rest ++ more, ap (λ (t : List ℕ). t ++ more) is ∙ append_assoc front rest more, takes);
+    let (prefix, rest, is, takes) : TakesPrefix d.before d.after text = h.bytes in record {
+      bytes = (prefix, rest ++ more, ap (λ (t : List ℕ). t ++ more) is ∙ append_assoc prefix rest more, takes);
       counts = h.counts;
       fault = h.fault;
     }
@@ -93,7 +93,7 @@ begun {t0 = t0} {f0 = f0} fresh p =
     (subst (λ (b : Buffered). Stands (since t0 f0 t0 f0) b []) (sym fresh)
     (record { taken = ([], refl, record { bytes = takes_nothing t0; steady = refl }) }))
 
--- nothing is kept: the text was written, or a front of it
+-- nothing is kept: the text was written, or a prefix of it
 pub ends : {T E : Type 0} (d : Device) (text : List ℕ) (buf : Buffered) (result : Result T E)
     → Stands d buf (text ++ []) → buf.bytes ≡ [] → OnOk result (buf.failed ≡ false) → OnErr result (buf.failed ≡ true)
     → Writes d text result

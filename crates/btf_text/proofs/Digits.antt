@@ -4,25 +4,25 @@ use Rattle.std.proofs.lemmas.List.{drop_all}
 use Rattle.std.specs.Char.{is_ascii_digit}
 use Rattle.btf_text.specs.ReportGrammar.{digits_on}
 
-front : (bytes : List ℕ) (at d : ℕ) → at < length bytes → drop at bytes ≡ get_or bytes at d ∷ drop (at + 1) bytes
-front bytes at d inside = rw (add-one, drop-cons bytes at d) refl
+prefix : (bytes : List ℕ) (at d : ℕ) → at < length bytes → drop at bytes ≡ get_or bytes at d ∷ drop (at + 1) bytes
+prefix bytes at d inside = rw (add-one, drop-cons bytes at d) refl
 
 -- no digit stands there
 pub digits_stop : (n : ℕ) (bytes : List ℕ) (at d : ℕ) → at < length bytes → is_ascii_digit (get_or bytes at d) ≡ false → digits_on n (drop at bytes) ≡ Some (n, drop at bytes)
 unfolding digits_on
-digits_stop n bytes at d inside test = rw (front bytes at d inside, test) refl
+digits_stop n bytes at d inside test = rw (prefix bytes at d inside, test) refl
 
 -- a digit stands there
 pub digits_more : (n : ℕ) (bytes : List ℕ) (at d : ℕ) → at < length bytes → is_ascii_digit (get_or bytes at d) ≡ true → n * 10 + (get_or bytes at d - 48) ≤ 4294967295
     → digits_on n (drop at bytes) ≡ digits_on (n * 10 + (get_or bytes at d - 48)) (drop (at + 1) bytes)
 unfolding digits_on
-digits_more n bytes at d inside test small = rw (front bytes at d inside, test, le-ltb _ _ small) refl
+digits_more n bytes at d inside test small = rw (prefix bytes at d inside, test, le-ltb _ _ small) refl
 
 -- the number is too large
 pub digits_over : (n : ℕ) (bytes : List ℕ) (at d : ℕ) → at < length bytes → is_ascii_digit (get_or bytes at d) ≡ true → 4294967295 < n * 10 + (get_or bytes at d - 48)
     → digits_on n (drop at bytes) ≡ None
 unfolding digits_on
-digits_over n bytes at d inside test large = rw (front bytes at d inside, test, lt-ltb _ _ large) refl
+digits_over n bytes at d inside test large = rw (prefix bytes at d inside, test, lt-ltb _ _ large) refl
 
 -- all that is left
 pub rest_of : (bytes : List ℕ) (at : ℕ) → take (length bytes - at) (drop at bytes) ≡ drop at bytes

@@ -26,8 +26,8 @@ ids_go_on number list i d n inside is =
     ∙ ap (λ (m : ℕ). spaced (counted (map number (take i list))) ++ 32 ∷ decimal m) (sym is))
 
 -- the line ends
-pub line_ends : (word numbers front : List ℕ) → front ≡ numbers → (word ++ spaced front) ++ 10 ∷ [] ≡ spelled (line word numbers)
-line_ends word numbers front e = ap (λ (t : List ℕ). word ++ spaced t ++ 10 ∷ []) e
+pub line_ends : (word numbers prefix : List ℕ) → prefix ≡ numbers → (word ++ spaced prefix) ++ 10 ∷ [] ≡ spelled (line word numbers)
+line_ends word numbers prefix e = ap (λ (t : List ℕ). word ++ spaced t ++ 10 ∷ []) e
 
 -- a line alone
 pub line_alone : {t0 t1 : Option (List ℕ)} {f0 f1 : ℕ} {buf after : Buffered} (l : TextLine)

@@ -40,10 +40,6 @@ contained c w = (
   λ on. any_complete (λ y. nat_eq y c) c w on (eq-eqb c c refl),
 )
 
--- a rising list lists its members
-pub own_list : (w : List ℕ) → IsRising w → Lists (λ x. Among x w) w
-own_list w rising = record { rising = rising; sound = λ x on. on; complete = λ x on. on }
-
 upto_more : (k n : ℕ) → upto_from k (n + 1) ≡ upto_from k n ++ (k + n) ∷ []
 upto_more k zero = ap (λ (x : ℕ). x ∷ []) (omega arith)
 upto_more k (suc n) =

@@ -3,30 +3,30 @@ use Rattle.std.proofs.Common.{◌≡◌, ◌<◌, ◌≤◌, ◌+◌, ◌-◌, �
 use Rattle.bip_defs.specs.Matrix.{Place}
 use Rattle.btf_text.specs.declared.stop.Stop.{Stop}
 use Rattle.btf_text.specs.ReportGrammar.{Stops, pair_at, pair_list_at}
-use Rattle.btf_text.proofs.Prefixes.{regroup, stops_so, with_front}
+use Rattle.btf_text.proofs.Prefixes.{regroup, stops_so, with_prefix}
 
-pub pairs_more : (front : List Place) (count i : ℕ) (bytes : List ℕ) (p : Place × List ℕ) (total : Option (List Place × List ℕ)) → i < count → pair_at bytes ≡ Some p
-    → with_front front (pair_list_at (count - i) bytes) ≡ total → with_front (front ++ p.0 ∷ []) (pair_list_at (count - (i + 1)) p.1) ≡ total
+pub pairs_more : (prefix : List Place) (count i : ℕ) (bytes : List ℕ) (p : Place × List ℕ) (total : Option (List Place × List ℕ)) → i < count → pair_at bytes ≡ Some p
+    → with_prefix prefix (pair_list_at (count - i) bytes) ≡ total → with_prefix (prefix ++ p.0 ∷ []) (pair_list_at (count - (i + 1)) p.1) ≡ total
 unfolding pair_list_at
-pairs_more front count i bytes p total inside pair so_far =
+pairs_more prefix count i bytes p total inside pair so_far =
     let k : count - i ≡ suc (count - (i + 1)) = omega (arith, inside) in
-    let one : with_front front (pair_list_at (count - i) bytes) ≡ with_front (front ++ p.0 ∷ []) (pair_list_at (count - (i + 1)) p.1) = rw (k, pair) (regroup front p.0 (pair_list_at (count - (i + 1)) p.1)) in
+    let one : with_prefix prefix (pair_list_at (count - i) bytes) ≡ with_prefix (prefix ++ p.0 ∷ []) (pair_list_at (count - (i + 1)) p.1) = rw (k, pair) (regroup prefix p.0 (pair_list_at (count - (i + 1)) p.1)) in
     sym one ∙ so_far
 
-pub pairs_stop : (e : Stop) (front : List Place) (count i : ℕ) (bytes : List ℕ) (total : Option (List Place × List ℕ)) → i < count → Stops e (pair_at bytes)
-    → with_front front (pair_list_at (count - i) bytes) ≡ total → Stops e total
+pub pairs_stop : (e : Stop) (prefix : List Place) (count i : ℕ) (bytes : List ℕ) (total : Option (List Place × List ℕ)) → i < count → Stops e (pair_at bytes)
+    → with_prefix prefix (pair_list_at (count - i) bytes) ≡ total → Stops e total
 unfolding pair_list_at
-pairs_stop e front count i bytes total inside stops so_far = stops_so e (pair_at bytes) total none stops
+pairs_stop e prefix count i bytes total inside stops so_far = stops_so e (pair_at bytes) total none stops
   where
     none : pair_at bytes ≡ None → total ≡ None
     none pair =
         let k : count - i ≡ suc (count - (i + 1)) = omega (arith, inside) in
-        let one : with_front front (pair_list_at (count - i) bytes) ≡ None = rw (k, pair) refl in
+        let one : with_prefix prefix (pair_list_at (count - i) bytes) ≡ None = rw (k, pair) refl in
         sym so_far ∙ one
 
-pub pairs_done : (front : List Place) (count i : ℕ) (bytes : List ℕ) (total : Option (List Place × List ℕ)) → count ≤ i → with_front front (pair_list_at (count - i) bytes) ≡ total → total ≡ Some (front, bytes)
+pub pairs_done : (prefix : List Place) (count i : ℕ) (bytes : List ℕ) (total : Option (List Place × List ℕ)) → count ≤ i → with_prefix prefix (pair_list_at (count - i) bytes) ≡ total → total ≡ Some (prefix, bytes)
 unfolding pair_list_at
-pairs_done front count i bytes total ended so_far =
+pairs_done prefix count i bytes total ended so_far =
     let k : count - i ≡ 0 = omega (arith, ended) in
-    let one : with_front front (pair_list_at (count - i) bytes) ≡ Some (front, bytes) = rw k (ap (λ (ps : List Place). Some (ps, bytes)) (append-nil front)) in
+    let one : with_prefix prefix (pair_list_at (count - i) bytes) ≡ Some (prefix, bytes) = rw k (ap (λ (ps : List Place). Some (ps, bytes)) (append-nil prefix)) in
     sym so_far ∙ one

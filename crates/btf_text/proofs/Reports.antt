@@ -56,7 +56,7 @@ pieces r =
     ∙ join h s (text_of v ++ tail_text r.orders r.pairs) in
     ap₂ (λ (t u : List ℕ). t ++ (spelled (matrix_line r.sizes) ++ (spelled (rank_line r.rank) ++ u))) title_line parts
 
--- ---- the front
+-- ---- the lines before the pairs
 
 record IsHeadOf (bytes : List ℕ) (x : (Sizes × ℕ) × List ℕ) : Type 0 where
   pub spells : bytes ≡ head_text x.0.0 x.0.1 x.1

@@ -107,7 +107,7 @@ number_takes (c ∷ cs) x e = by (eqb c 48) refl e
         let r = digits_take (c - 48) cs x (omega (arith, d.0, other)) (omega (arith, d.1)) g.1 in
         (ap (λ (t : List ℕ). t ++ cs) (ap (λ (n : ℕ). n ∷ []) (omega (arith, d.0)) ∙ sym (decimal_digit (c - 48) (omega (arith, d.1)))) ∙ r.0, r.1)
 
--- no digit stands at the front
+-- no digit stands first
 abbrev pub EndsNumber : List ℕ → Type 0
 EndsNumber rest = (n : ℕ) → digits_on n rest ≡ Some (n, rest)
 
@@ -134,9 +134,9 @@ one_digit n small some fits rest =
     rw (other, digit_is (48 + n) (omega arith) (omega (arith, small))) (ap (λ (k : ℕ). digits_on k rest) (omega arith))
 
 more_digits : (n : ℕ) (ds : List ℕ) → 10 ≤ n → IsReadOn (n / 10) ds → IsReadOn n (ds ++ (48 + n % 10) ∷ [])
-more_digits n ds large front some fits rest =
+more_digits n ds large prefix some fits rest =
     ap number_at (append_assoc ds ((48 + n % 10) ∷ []) rest)
-    ∙ front (omega (arith, large)) (omega (arith, fits)) ((48 + n % 10) ∷ rest)
+    ∙ prefix (omega (arith, large)) (omega (arith, fits)) ((48 + n % 10) ∷ rest)
     ∙ digit_on (n / 10) (48 + n % 10) rest (omega arith) (omega arith) (omega (arith, fits))
     ∙ ap (λ (k : ℕ). digits_on k rest) (omega arith)
 

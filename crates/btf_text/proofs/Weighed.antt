@@ -20,8 +20,8 @@ signed_go_on word numbers i d inside =
     ∙ ap (λ (t : List ℕ). word ++ t) (sym (ap signed_spaced (take_more numbers i d inside) ∙ signed_more (take i numbers) (get_or numbers i d)))
 
 -- the line ends
-pub signed_ends : (word : List ℕ) (numbers front : List ℤ) → front ≡ numbers → (word ++ signed_spaced front) ++ 10 ∷ [] ≡ spelled (signed_line word numbers)
-signed_ends word numbers front e = ap (λ (t : List ℕ). t ++ 10 ∷ []) (ap (λ (ns : List ℤ). word ++ signed_spaced ns) e ∙ sym (append-nil (word ++ signed_spaced numbers)))
+pub signed_ends : (word : List ℕ) (numbers prefix : List ℤ) → prefix ≡ numbers → (word ++ signed_spaced prefix) ++ 10 ∷ [] ≡ spelled (signed_line word numbers)
+signed_ends word numbers prefix e = ap (λ (t : List ℕ). t ++ 10 ∷ []) (ap (λ (ns : List ℤ). word ++ signed_spaced ns) e ∙ sym (append-nil (word ++ signed_spaced numbers)))
 
 -- the line of an entry, from its digits
 pub same_entry : (w : Weighing) {word : List ℕ} {r c row col weight : ℕ} → word ≡ decimal (r + 1) → r ≡ row → c ≡ col → weight ≡ weight_at w row col

@@ -5,9 +5,9 @@ use Rattle.bip_graph.specs.Answers.{orders_of, report_of, where_asked}
 use Rattle.bip_graph.specs.Decompositions.{Decomposes, decomposition_of}
 use Rattle.bip_graph.specs.Texts.{Report, Sizes, sizes_of}
 use Rattle.bip_graph.specs.declared.answers.Decomposition.{Decomposition}
-use Rattle.btf_text.specs.Reports.{reported, sizes_told}
+use Rattle.btf_text.specs.Reports.{reported, sizes_in}
 
-same_sizes : (a : Matrix) (d : Decomposition) → Decomposes a d → sizes_told d ≡ sizes_of a
+same_sizes : (a : Matrix) (d : Decomposition) → Decomposes a d → sizes_in d ≡ sizes_of a
 same_sizes a d is =
     ap (λ (k : ℕ). sized k d.n d.e) is.rows ∙ ap (λ (k : ℕ). sized a.rows k d.e) is.cols_are ∙ ap (λ (k : ℕ). sized a.rows (cols a) k) is.entries
   where

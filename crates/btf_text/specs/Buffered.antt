@@ -1,7 +1,7 @@
 -- What a text buffer keeps, and what a sink has taken of a text so far.
 use Rattle.std.specs.Prelude.{◌≡◌, ℕ, Bool, true, false, List, ◌++◌, Option, Result}
 use Rattle.bip_graph.specs.Texts.{TextLine, text_of}
-use Rattle.sp_ports.specs.Device.{Device, Took, TookFront, Writes}
+use Rattle.sp_ports.specs.Device.{Device, Took, TookPrefix, Writes}
 
 -- bytes that are still to be handed on, and whether a write has failed since the text began
 pub record Buffered : Type 0 where
@@ -17,10 +17,10 @@ since taken faults taken_now faults_now = record {
   failed_after = faults_now;
 }
 
--- The sink has taken the text but for what is kept. After a failure it has taken a front of it.
+-- The sink has taken the text but for what is kept. After a failure it has taken a prefix of it.
 abbrev pub HasTaken : Device → List ℕ → List ℕ → Bool → Type 0
 HasTaken d text kept false = (piece : List ℕ) × (text ≡ piece ++ kept) × Took d piece
-HasTaken d text kept true = TookFront d text
+HasTaken d text kept true = TookPrefix d text
 
 -- this is the text so far
 pub record Stands (d : Device) (buf : Buffered) (text : List ℕ) : Type 0 where
@@ -36,7 +36,7 @@ Appends d buf after bytes = (taken : Option (List ℕ)) (faults : ℕ) (text : L
 pub record AppendsLines (d : Device) (buf after : Buffered) (ls : List TextLine) : Type 0 where
   pub appends : Appends d buf after (text_of ls)
 
--- In a call the text ends: all of it was written, or a front of it where a write failed.
+-- In a call the text ends: all of it was written, or a prefix of it where a write failed.
 abbrev pub Ends : {T E : Type 0} → Device → Buffered → Result T E → Type 0
 Ends d buf result = (taken : Option (List ℕ)) (faults : ℕ) (text : List ℕ)
     → Stands (since taken faults d.before d.failed_before) buf text

@@ -25,7 +25,8 @@ rectangular_line a = line (codes "rectangular") (a.rows ∷ cols a ∷ [])
 
 -- the rank, columns, and the rows with an entry in one of them
 abbrev pub singular_lines : Matrix → ℕ → List ℕ → List TextLine
-singular_lines a rank hall = line (codes "singular") (rank ∷ []) ∷ lists (neighbours a hall) hall ++ end_line ∷ []
+singular_lines a rank hall = line (codes "singular") (rank ∷ []) ∷ lists (neighbours a hall) hall
+    ++ end_line ∷ []
 
 -- the number of pairs and the sum of their weights, the pairs, and the prices by row and by column
 abbrev pub weighed_lines : Weighing → List Place → List ℤ → List ℤ → ℤ → List TextLine

@@ -1,4 +1,4 @@
--- Reading a report from its front: each function gives what stands there and the bytes behind it, or nothing.
+-- Reading a report from its start: each function gives what stands there and the bytes behind it, or nothing.
 use Rattle.std.specs.Prelude.{◌≡◌, ℕ, zero, suc, ◌+◌, ◌-◌, ◌*◌, ◌==◌, nat_lt, nat_eq, if◌then◌else◌, Bool, true, false, ◌&&◌, List, [], ◌∷◌, ◌++◌, length, drop, Option, Some, None, Result, Ok, Err, codes}
 use Rattle.std.specs.Char.{is_ascii_digit}
 use Rattle.std.specs.List.{starts_with}
@@ -28,15 +28,20 @@ Gives view (Err e) read = Stops e read
 unfoldable pub word_at : List ℕ → List ℕ → Option (List ℕ)
 word_at word bytes = if starts_with nat_eq bytes word then Some (drop (length word) bytes) else None
 
--- a number goes on with the digits at the front
+-- a number goes on with the digits that stand there
 unfoldable pub digits_on : ℕ → List ℕ → Option (ℕ × List ℕ)
 digits_on n [] = Some (n, [])
 digits_on n (c ∷ cs) =
-    if is_ascii_digit c then (if nat_lt 4294967295 (n * 10 + (c - 48)) then None else digits_on (n * 10 + (c - 48)) cs) else Some (n, c ∷ cs)
+    if is_ascii_digit c
+    then (if nat_lt 4294967295 (n * 10 + (c - 48)) then None else digits_on (n * 10 + (c - 48)) cs)
+    else Some (n, c ∷ cs)
 
 unfoldable pub number_at : List ℕ → Option (ℕ × List ℕ)
 number_at [] = None
-number_at (c ∷ cs) = if c == 48 then Some (0, cs) else (if is_ascii_digit c then digits_on (c - 48) cs else None)
+number_at (c ∷ cs) =
+    if c == 48
+    then Some (0, cs)
+    else (if is_ascii_digit c then digits_on (c - 48) cs else None)
 
 -- a space and a number
 unfoldable pub field_at : List ℕ → Option (ℕ × List ℕ)
@@ -146,7 +151,10 @@ both_orders_at bytes = do
   Some (Some (rows.0, cols.0), cols.1)
 
 unfoldable pub orders_at : List ℕ → Option (Option (List ℕ × List ℕ) × List ℕ)
-orders_at bytes = if starts_with nat_eq bytes (codes "row_order") then both_orders_at bytes else Some (None, bytes)
+orders_at bytes =
+    if starts_with nat_eq bytes (codes "row_order")
+    then both_orders_at bytes
+    else Some (None, bytes)
 
 unfoldable pub pair_at : List ℕ → Option (Place × List ℕ)
 pair_at bytes = do

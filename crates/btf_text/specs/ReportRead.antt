@@ -6,12 +6,12 @@ use Rattle.sp_ids.specs.declared.ids.Col.{Col}
 use Rattle.sp_ids.specs.declared.ids.Row.{Row}
 use Rattle.btf_text.specs.declared.reader.Report.{Report}
 
-abbrev pub orders_told : Option (Vec Row × Vec Col) → Option (List ℕ × List ℕ)
-orders_told None = None
-orders_told (Some orders) = Some (orders.0.items, orders.1.items)
+abbrev pub orders_in : Option (Vec Row × Vec Col) → Option (List ℕ × List ℕ)
+orders_in None = None
+orders_in (Some orders) = Some (orders.0.items, orders.1.items)
 
-abbrev pub told : Report → texts.Report
-told r = record {
+abbrev pub contents : Report → texts.Report
+contents r = record {
   sizes = record { rows = r.m; cols = r.n; entries = r.e };
   rank = r.rank;
   horizontal_rows = r.parts.hr.items;
@@ -19,7 +19,7 @@ told r = record {
   blocks = r.blocks;
   vertical_rows = r.parts.vr.items;
   vertical_cols = r.parts.vc.items;
-  orders = orders_told r.orders;
+  orders = orders_in r.orders;
   pairs = Some r.pairs.items;
 }
 

@@ -6,13 +6,13 @@ use Rattle.bip_graph.specs.Decompositions.{decomposition_of}
 use Rattle.bip_graph.specs.Texts.{Report, Sizes, TextLine, line, matrix_line, part, rank_line, square_line, square_lines, text_of}
 use Rattle.bip_graph.specs.declared.answers.Decomposition.{Decomposition}
 
-abbrev pub sizes_told : Decomposition → Sizes
-sizes_told d = record { rows = d.m; cols = d.n; entries = d.e }
+abbrev pub sizes_in : Decomposition → Sizes
+sizes_in d = record { rows = d.m; cols = d.n; entries = d.e }
 
 -- all of it, the orders where they are asked for, and these pairs
 abbrev pub reported : Decomposition → Bool → Option (List Place) → Report
 reported d order pairs = record {
-  sizes = sizes_told d;
+  sizes = sizes_in d;
   rank = d.rank;
   horizontal_rows = d.parts.hr.items;
   horizontal_cols = d.parts.hc.items;
@@ -37,7 +37,7 @@ lengths_line word rows cols = line word (length rows ∷ length cols ∷ [])
 -- five lines: sizes alone
 abbrev pub summary_lines : Decomposition → List TextLine
 summary_lines d =
-    matrix_line (sizes_told d)
+    matrix_line (sizes_in d)
     ∷ rank_line d.rank
     ∷ lengths_line (codes "horizontal") d.parts.hr.items d.parts.hc.items
     ∷ square_line d.blocks

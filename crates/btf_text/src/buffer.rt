@@ -39,7 +39,8 @@ impl Model for TextBuf {
 /// Hands the bytes on, unless a write has failed before: whether one has failed by now.
 fn write_kept<K: Sink>(out: &mut K, bytes: &[u8], failed: bool) -> bool
     ensures { Appends (seen K.taken K.faults out.old out.new)
-        (record { bytes = bytes.now; failed = failed }) (record { bytes = []; failed = result }) [] }
+        (record { bytes = bytes.now; failed = failed })
+        (record { bytes = []; failed = result }) [] }
 {
     if failed {
         return true;
@@ -122,7 +123,8 @@ impl TextBuf {
 
     /// Goes on with a space and a number.
     pub fn put_number<K: Sink>(&mut self, out: &mut K, number: u64)
-        ensures { Appends (seen K.taken K.faults out.old out.new) self.old self.new (32 ∷ decimal number) }
+        ensures { Appends (seen K.taken K.faults out.old out.new) self.old self.new
+            (32 ∷ decimal number) }
     {
         let mut digits = Buffer::new();
         let text = digits.format(number).as_bytes();
@@ -134,7 +136,8 @@ impl TextBuf {
     /// Goes on with a line: a word, and a space and a number each.
     pub fn put_line<K: Sink>(&mut self, out: &mut K, word: &[u8], numbers: &[u64])
         requires { length word.now ≤ 65536 }
-        ensures { AppendsLines (seen K.taken K.faults out.old out.new) self.old self.new (line word.now numbers.now ∷ []) }
+        ensures { AppendsLines (seen K.taken K.faults out.old out.new) self.old self.new
+            (line word.now numbers.now ∷ []) }
     {
         self.put(out, word);
         for number in numbers {
@@ -146,7 +149,8 @@ impl TextBuf {
     /// Goes on with a list line: a word, and a space and a number each, which count from 1.
     pub fn put_list<K: Sink, N: Id>(&mut self, out: &mut K, word: &[u8], list: &[N])
         requires { length word.now ≤ 65536 }
-        ensures { AppendsLines (seen K.taken K.faults out.old out.new) self.old self.new (line word.now (counted (map N.number list.now)) ∷ []) }
+        ensures { AppendsLines (seen K.taken K.faults out.old out.new) self.old self.new
+            (line word.now (counted (map N.number list.now)) ∷ []) }
     {
         self.put(out, word);
         self.put_ids(out, list);
@@ -155,7 +159,8 @@ impl TextBuf {
 
     /// Goes on with a space and a number each, which count from 1.
     pub(crate) fn put_ids<K: Sink, N: Id>(&mut self, out: &mut K, list: &[N])
-        ensures { Appends (seen K.taken K.faults out.old out.new) self.old self.new (spaced (counted (map N.number list.now))) }
+        ensures { Appends (seen K.taken K.faults out.old out.new) self.old self.new
+            (spaced (counted (map N.number list.now))) }
     {
         for id in list {
             self.put_number(out, u64::from(id.number()) + 1);

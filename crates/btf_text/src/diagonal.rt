@@ -14,12 +14,13 @@ use crate::numerals::rises;
 use bip_graph::Heaviest;
 use itoa::Buffer;
 use sp_ids::{Col, Row};
-use sp_pattern::{Pattern, Weights};
+use sp_pattern::{Pattern, Weights, search_finds_members};
 use sp_ports::{Failed, Sink};
 
 /// Goes on with a space and a number that may be below zero.
 fn put_signed<K: Sink>(out: &mut K, buf: &mut TextBuf, number: i128)
-    ensures { Appends (seen K.taken K.faults out.old out.new) buf.old buf.new (32 ∷ signed_decimal number) }
+    ensures { Appends (seen K.taken K.faults out.old out.new) buf.old buf.new
+        (32 ∷ signed_decimal number) }
 {
     let mut digits = Buffer::new();
     let text = digits.format(number).as_bytes();
@@ -30,7 +31,8 @@ fn put_signed<K: Sink>(out: &mut K, buf: &mut TextBuf, number: i128)
 /// Goes on with a line: a word, and a space and a number each, which may be below zero.
 fn put_signed_line<K: Sink>(out: &mut K, buf: &mut TextBuf, word: &[u8], numbers: &[i128])
     requires { length word.now ≤ 65536 }
-    ensures { AppendsLines (seen K.taken K.faults out.old out.new) buf.old buf.new (signed_line word.now numbers.now ∷ []) }
+    ensures { AppendsLines (seen K.taken K.faults out.old out.new) buf.old buf.new
+        (signed_line word.now numbers.now ∷ []) }
 {
     buf.put(out, word);
     for number in numbers {
@@ -42,7 +44,8 @@ fn put_signed_line<K: Sink>(out: &mut K, buf: &mut TextBuf, word: &[u8], numbers
 /// Goes on with the line of an entry: its row, its column and its weight.
 fn put_entry<K: Sink>(out: &mut K, buf: &mut TextBuf, weights: &Weights, row: Row, col: Col)
     requires { IsEntry weights.now.matrix row col }
-    ensures { AppendsLines (seen K.taken K.faults out.old out.new) buf.old buf.new (entry_line weights.now (row, col) ∷ []) }
+    ensures { AppendsLines (seen K.taken K.faults out.old out.new) buf.old buf.new
+        (entry_line weights.now (row, col) ∷ []) }
 {
     let mut digits = Buffer::new();
     let word = digits.format(u64::from(row.0) + 1).as_bytes();
@@ -53,7 +56,8 @@ fn put_entry<K: Sink>(out: &mut K, buf: &mut TextBuf, weights: &Weights, row: Ro
 /// Goes on with the lines of entries, in the order given.
 fn put_entries<K: Sink>(out: &mut K, buf: &mut TextBuf, weights: &Weights, pairs: &[(Row, Col)])
     requires { AreEntries weights.now.matrix pairs.now }
-    ensures { AppendsLines (seen K.taken K.faults out.old out.new) buf.old buf.new (map (entry_line weights.now) pairs.now) }
+    ensures { AppendsLines (seen K.taken K.faults out.old out.new) buf.old buf.new
+        (map (entry_line weights.now) pairs.now) }
 {
     for pair in pairs {
         put_entry(out, buf, weights, pair.0, pair.1);
@@ -71,7 +75,8 @@ fn put_weighed<K: Sink>(
     sum: i128,
 )
     requires { AreEntries weights.now.matrix pairs.now }
-    ensures { AppendsLines (seen K.taken K.faults out.old out.new) buf.old buf.new (weighed_lines weights.now pairs.now u.now v.now sum) }
+    ensures { AppendsLines (seen K.taken K.faults out.old out.new) buf.old buf.new
+        (weighed_lines weights.now pairs.now u.now v.now sum) }
 {
     put_signed_line(out, buf, b"diagonal", &[pairs.len() as i128, sum]);
     put_entries(out, buf, weights, pairs);
@@ -86,6 +91,7 @@ fn has(hall: &[Col], rising: bool, col: Col) -> bool
     ensures { IsTrue result ↔ Among col hall.now }
 {
     if rising {
+        search_finds_members();
         hall.binary_search(&col).is_ok()
     } else {
         hall.contains(&col)
@@ -118,7 +124,8 @@ fn put_where_touched<K: Sink>(
 )
     requires row { row < pattern.now.rows }
     requires rising { rising ≡ true → IsRising hall.now }
-    ensures { Appends (seen K.taken K.faults out.old out.new) buf.old buf.new (spaced (counted (filter (touches pattern.now hall.now) (row ∷ [])))) }
+    ensures { Appends (seen K.taken K.faults out.old out.new) buf.old buf.new
+        (spaced (counted (filter (touches pattern.now hall.now) (row ∷ [])))) }
 {
     if !touches(pattern, hall, rising, row) {
         return;
@@ -128,7 +135,8 @@ fn put_where_touched<K: Sink>(
 
 /// Goes on with the list line of the rows with an entry in one of these columns.
 fn put_neighbours<K: Sink>(out: &mut K, buf: &mut TextBuf, pattern: &Pattern, hall: &[Col])
-    ensures { AppendsLines (seen K.taken K.faults out.old out.new) buf.old buf.new (line (codes "rows") (counted (neighbours pattern.now hall.now)) ∷ []) }
+    ensures { AppendsLines (seen K.taken K.faults out.old out.new) buf.old buf.new
+        (line (codes "rows") (counted (neighbours pattern.now hall.now)) ∷ []) }
 {
     let rising = rises(hall);
     buf.put(out, b"rows");
@@ -140,7 +148,8 @@ fn put_neighbours<K: Sink>(out: &mut K, buf: &mut TextBuf, pattern: &Pattern, ha
 
 /// Goes on with the rank, the rows with an entry in one of these columns, and these columns.
 fn put_singular<K: Sink>(out: &mut K, buf: &mut TextBuf, pattern: &Pattern, rank: u32, hall: &[Col])
-    ensures { AppendsLines (seen K.taken K.faults out.old out.new) buf.old buf.new (singular_lines pattern.now rank hall.now) }
+    ensures { AppendsLines (seen K.taken K.faults out.old out.new) buf.old buf.new
+        (singular_lines pattern.now rank hall.now) }
 {
     buf.put_line(out, b"singular", &[u64::from(rank)]);
     put_neighbours(out, buf, pattern, hall);
@@ -158,7 +167,8 @@ fn put_answer<K: Sink>(
 )
     requires weights { weights.now.matrix ≡ pattern.now }
     requires entries { HasEntries pattern.now answer.now }
-    ensures { AppendsLines (seen K.taken K.faults out.old out.new) buf.old buf.new (diagonal_lines weights.now answer.now) }
+    ensures { AppendsLines (seen K.taken K.faults out.old out.new) buf.old buf.new
+        (diagonal_lines weights.now answer.now) }
 {
     match answer {
         Heaviest::Rectangular => {
@@ -184,7 +194,7 @@ fn put_answer<K: Sink>(
 /// - Not as many rows as columns: one line of both.
 ///
 /// `answer` is of this pattern: the pairs of a diagonal are entries. `Failed` comes only where a write failed, and then
-/// a front of the text was taken. It takes no memory. Work: a search in its column for each pair; and where there is no
+/// a prefix of the text was taken. It takes no memory. Work: a search in its column for each pair; and where there is no
 /// perfect matching a search among the given columns for each entry, by halves if they rise, else one by one.
 pub fn write_diagonal<K: Sink>(
     out: &mut K,
@@ -195,7 +205,8 @@ pub fn write_diagonal<K: Sink>(
 ) -> Result<(), Failed>
     requires weights { weights.now.matrix ≡ pattern.now }
     requires entries { HasEntries pattern.now answer.now }
-    ensures { Writes (seen K.taken K.faults out.old out.new) (diagonal_text weights.now answer.now) result }
+    ensures { Writes (seen K.taken K.faults out.old out.new)
+        (diagonal_text weights.now answer.now) result }
 {
     buf.start();
     put_answer(out, buf, answer, pattern, weights);

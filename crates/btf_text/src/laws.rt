@@ -18,5 +18,7 @@ pub fn one_spelling()
 /// that rises by column, maximum or not: what `write_report` writes with pairs is read again, and by `one_spelling` as the
 /// same report.
 pub fn reports_can_be_read()
-    ensures { (a : Matrix) (d : Decomposition) (order : Bool) (m : List Place) → FitsText a → IsDecompositionOf a d → IsMatching a m → IsRising (cols_of m) → IsReadable (report_of a d order (Some m)) }
+    ensures { (a : Matrix) (d : Decomposition) (order : Bool) (m : List Place) → FitsText a
+        → IsDecompositionOf a d → IsMatching a m → IsRising (cols_of m)
+        → IsReadable (report_of a d order (Some m)) }
 {}

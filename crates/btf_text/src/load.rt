@@ -3,7 +3,7 @@
 ghost use Rattle.std.specs.Prelude.{◌≡◌, ◌≤◌, ◌∷◌, [], length, codes};
 ghost use Rattle.bip_graph.specs.Texts.{matrix_line, rank_line, square_line};
 ghost use Rattle.btf_text.specs.Buffered.{AppendsLines};
-ghost use Rattle.btf_text.specs.Reports.{lengths_line, sizes_told, summary_text};
+ghost use Rattle.btf_text.specs.Reports.{lengths_line, sizes_in, summary_text};
 ghost use Rattle.sp_ports.specs.Device.{Writes, seen};
 
 use crate::TextBuf;
@@ -13,7 +13,8 @@ use sp_ports::{Failed, Sink};
 
 /// Goes on with the sizes of the matrix and its rank.
 pub(crate) fn put_head<K: Sink>(out: &mut K, buf: &mut TextBuf, dec: &Decomposition)
-    ensures { AppendsLines (seen K.taken K.faults out.old out.new) buf.old buf.new (matrix_line (sizes_told dec.now) ∷ rank_line dec.now.rank ∷ []) }
+    ensures { AppendsLines (seen K.taken K.faults out.old out.new) buf.old buf.new
+        (matrix_line (sizes_in dec.now) ∷ rank_line dec.now.rank ∷ []) }
 {
     buf.put_line(
         out,
@@ -26,14 +27,16 @@ pub(crate) fn put_head<K: Sink>(out: &mut K, buf: &mut TextBuf, dec: &Decomposit
 /// Goes on with the lengths of two lists.
 fn put_lengths<K: Sink>(out: &mut K, buf: &mut TextBuf, word: &[u8], rows: &[Row], cols: &[Col])
     requires { length word.now ≤ 65536 }
-    ensures { AppendsLines (seen K.taken K.faults out.old out.new) buf.old buf.new (lengths_line word.now rows.now cols.now ∷ []) }
+    ensures { AppendsLines (seen K.taken K.faults out.old out.new) buf.old buf.new
+        (lengths_line word.now rows.now cols.now ∷ []) }
 {
     buf.put_line(out, word, &[rows.len() as u64, cols.len() as u64]);
 }
 
 /// Goes on with the number of rows in blocks, and the number of blocks.
 pub(crate) fn put_square<K: Sink>(out: &mut K, buf: &mut TextBuf, blocks: &Blocks)
-    ensures { AppendsLines (seen K.taken K.faults out.old out.new) buf.old buf.new (square_line blocks.now ∷ []) }
+    ensures { AppendsLines (seen K.taken K.faults out.old out.new) buf.old buf.new
+        (square_line blocks.now ∷ []) }
 {
     let rows = blocks.all_rows();
     buf.put_line(out, b"square", &[rows.len() as u64, blocks.len() as u64]);
@@ -41,7 +44,7 @@ pub(crate) fn put_square<K: Sink>(out: &mut K, buf: &mut TextBuf, blocks: &Block
 
 /// Writes the summary of a decomposition, five lines: the sizes of the matrix, its rank, and the sizes of its parts.
 ///
-/// `Failed` comes only where a write failed, and then a front of the text was taken. It takes no memory.
+/// `Failed` comes only where a write failed, and then a prefix of the text was taken. It takes no memory.
 pub fn write_load<K: Sink>(
     out: &mut K,
     buf: &mut TextBuf,

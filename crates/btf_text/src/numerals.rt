@@ -8,7 +8,7 @@ use sp_ids::Id;
 use std::alloc::Global;
 
 /// What is behind a word.
-#[tactic(auto, unfolding(crate::specs::Reading::word_at))]
+#[tactic(auto, unfolding(crate::specs::ReportGrammar::word_at))]
 pub(crate) fn word_at<'a>(bytes: &'a [u8], word: &[u8]) -> Result<&'a [u8], Stop>
     ensures { Gives (λ x. x.now) result (word_at word.now bytes.now) }
 {
@@ -19,14 +19,14 @@ pub(crate) fn word_at<'a>(bytes: &'a [u8], word: &[u8]) -> Result<&'a [u8], Stop
 }
 
 /// What is behind the end of a line.
-#[tactic(auto, unfolding(crate::specs::Reading::line_end))]
+#[tactic(auto, unfolding(crate::specs::ReportGrammar::line_end))]
 pub(crate) fn line_end(bytes: &[u8]) -> Result<&[u8], Stop>
     ensures { Gives (λ x. x.now) result (line_end bytes.now) }
 {
     word_at(bytes, b"\n")
 }
 
-/// A number goes on with the digits at the front.
+/// A number goes on with the digits that stand there.
 fn digits_on(first: u32, bytes: &[u8]) -> Result<(u32, &[u8]), Stop>
     ensures { Gives (λ x. (x.0, x.1.now)) result (digits_on first bytes.now) }
 {
@@ -46,7 +46,7 @@ fn digits_on(first: u32, bytes: &[u8]) -> Result<(u32, &[u8]), Stop>
 }
 
 /// A number below 2^32, and what is behind it. Behind a leading zero no digit is read.
-#[tactic(auto, unfolding(crate::specs::Reading::number_at))]
+#[tactic(auto, unfolding(crate::specs::ReportGrammar::number_at))]
 pub(crate) fn number_at(bytes: &[u8]) -> Result<(u32, &[u8]), Stop>
     ensures { Gives (λ x. (x.0, x.1.now)) result (number_at bytes.now) }
 {
@@ -63,7 +63,7 @@ pub(crate) fn number_at(bytes: &[u8]) -> Result<(u32, &[u8]), Stop>
 }
 
 /// A space and a number.
-#[tactic(auto, unfolding(crate::specs::Reading::field_at))]
+#[tactic(auto, unfolding(crate::specs::ReportGrammar::field_at))]
 pub(crate) fn field_at(bytes: &[u8]) -> Result<(u32, &[u8]), Stop>
     ensures { Gives (λ x. (x.0, x.1.now)) result (field_at bytes.now) }
 {
@@ -72,7 +72,7 @@ pub(crate) fn field_at(bytes: &[u8]) -> Result<(u32, &[u8]), Stop>
 }
 
 /// The place from 0 of a row or column that counts from 1.
-#[tactic(auto, unfolding(crate::specs::Reading::id_of))]
+#[tactic(auto, unfolding(crate::specs::ReportGrammar::id_of))]
 pub(crate) fn id_of(number: u32, rest: &[u8]) -> Result<(u32, &[u8]), Stop>
     ensures { Gives (λ x. (x.0, x.1.now)) result (id_of (number, rest.now)) }
 {
@@ -83,7 +83,7 @@ pub(crate) fn id_of(number: u32, rest: &[u8]) -> Result<(u32, &[u8]), Stop>
 }
 
 /// A line of a word and one number.
-#[tactic(auto, unfolding(crate::specs::Reading::one_at))]
+#[tactic(auto, unfolding(crate::specs::ReportGrammar::one_at))]
 pub(crate) fn one_at<'a>(bytes: &'a [u8], word: &[u8]) -> Result<(u32, &'a [u8]), Stop>
     ensures { Gives (λ x. (x.0, x.1.now)) result (one_at word.now bytes.now) }
 {
@@ -94,7 +94,7 @@ pub(crate) fn one_at<'a>(bytes: &'a [u8], word: &[u8]) -> Result<(u32, &'a [u8])
 }
 
 /// A line of a word and two numbers.
-#[tactic(auto, unfolding(crate::specs::Reading::two_at))]
+#[tactic(auto, unfolding(crate::specs::ReportGrammar::two_at))]
 pub(crate) fn two_at<'a>(bytes: &'a [u8], word: &[u8]) -> Result<((u32, u32), &'a [u8]), Stop>
     ensures { Gives (λ x. (x.0, x.1.now)) result (two_at word.now bytes.now) }
 {
@@ -107,7 +107,8 @@ pub(crate) fn two_at<'a>(bytes: &'a [u8], word: &[u8]) -> Result<((u32, u32), &'
 
 /// The rows or columns of a line, up to its end.
 fn ids_at<N: Id>(alloc: Global, bytes: &[u8]) -> Result<(Vec<N>, &[u8]), Stop>
-    ensures { Gives (λ x. (map N.number x.0.items, x.1.now)) result (ids_at (suc (length bytes.now)) bytes.now) }
+    ensures { Gives (λ x. (map N.number x.0.items, x.1.now)) result
+        (ids_at (suc (length bytes.now)) bytes.now) }
 {
     let mut ids = Vec::new(alloc);
     let mut rest = bytes;
@@ -122,7 +123,7 @@ fn ids_at<N: Id>(alloc: Global, bytes: &[u8]) -> Result<(Vec<N>, &[u8]), Stop>
 }
 
 /// A line of a word and rows or columns, as many as there are.
-#[tactic(auto, unfolding(crate::specs::Reading::list_at))]
+#[tactic(auto, unfolding(crate::specs::ReportGrammar::list_at))]
 pub(crate) fn list_at<'a, N: Id>(
     alloc: Global,
     bytes: &'a [u8],

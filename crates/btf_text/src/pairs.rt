@@ -15,7 +15,8 @@ use sp_ports::{Failed, Sink};
 
 /// Goes on with the line of a pair.
 fn put_pair<K: Sink>(out: &mut K, buf: &mut TextBuf, row: Row, col: Col)
-    ensures { AppendsLines (seen K.taken K.faults out.old out.new) buf.old buf.new (pair_line (row, col) ∷ []) }
+    ensures { AppendsLines (seen K.taken K.faults out.old out.new) buf.old buf.new
+        (pair_line (row, col) ∷ []) }
 {
     let mut digits = Buffer::new();
     let word = digits.format(u64::from(row.0) + 1).as_bytes();
@@ -25,7 +26,8 @@ fn put_pair<K: Sink>(out: &mut K, buf: &mut TextBuf, row: Row, col: Col)
 /// Goes on with the line of a column's pair, if it has a mate.
 fn put_mate<K: Sink>(out: &mut K, buf: &mut TextBuf, matching: &Matching, col: Col)
     requires { col < matching.now.cols }
-    ensures { AppendsLines (seen K.taken K.faults out.old out.new) buf.old buf.new (map pair_line (pairs_at col matching.now.pairs)) }
+    ensures { AppendsLines (seen K.taken K.faults out.old out.new) buf.old buf.new
+        (map pair_line (pairs_at col matching.now.pairs)) }
 {
     // `size` tells the proof that a column has one pair.
     let _pairs = matching.size();
@@ -37,7 +39,8 @@ fn put_mate<K: Sink>(out: &mut K, buf: &mut TextBuf, matching: &Matching, col: C
 
 /// Goes on with the pairs, rising by column.
 fn put_list_of_pairs<K: Sink>(out: &mut K, buf: &mut TextBuf, matching: &Matching)
-    ensures { AppendsLines (seen K.taken K.faults out.old out.new) buf.old buf.new (pair_lines (Some matching.now.pairs)) }
+    ensures { AppendsLines (seen K.taken K.faults out.old out.new) buf.old buf.new
+        (pair_lines (Some matching.now.pairs)) }
 {
     buf.put_line(out, b"pairs", &[u64::from(matching.size())]);
     for col in 0..matching.cols() {
@@ -47,7 +50,8 @@ fn put_list_of_pairs<K: Sink>(out: &mut K, buf: &mut TextBuf, matching: &Matchin
 
 /// Goes on with the pairs, where they are asked for.
 pub(crate) fn put_pairs<K: Sink>(out: &mut K, buf: &mut TextBuf, matching: &Matching, pairs: bool)
-    ensures { AppendsLines (seen K.taken K.faults out.old out.new) buf.old buf.new (pair_lines (where_asked pairs matching.now.pairs)) }
+    ensures { AppendsLines (seen K.taken K.faults out.old out.new) buf.old buf.new
+        (pair_lines (where_asked pairs matching.now.pairs)) }
 {
     if !pairs {
         return;
@@ -57,14 +61,15 @@ pub(crate) fn put_pairs<K: Sink>(out: &mut K, buf: &mut TextBuf, matching: &Matc
 
 /// Writes the pairs of a matching: their number, and a line each of its row and its column, rising by column.
 ///
-/// `Failed` comes only where a write failed, and then a front of the text was taken. It takes no memory. Work: one look
+/// `Failed` comes only where a write failed, and then a prefix of the text was taken. It takes no memory. Work: one look
 /// at each column.
 pub fn write_pairs<K: Sink>(
     out: &mut K,
     buf: &mut TextBuf,
     matching: &Matching,
 ) -> Result<(), Failed>
-    ensures { Writes (seen K.taken K.faults out.old out.new) (text_of (pair_lines (Some matching.now.pairs))) result }
+    ensures { Writes (seen K.taken K.faults out.old out.new)
+        (text_of (pair_lines (Some matching.now.pairs))) result }
 {
     buf.start();
     put_list_of_pairs(out, buf, matching);

@@ -19,7 +19,8 @@ pub(crate) fn put_part<K: Sink>(
     cols: &[Col],
 )
     requires { length word.now ≤ 65536 }
-    ensures { AppendsLines (seen K.taken K.faults out.old out.new) buf.old buf.new (part word.now rows.now cols.now) }
+    ensures { AppendsLines (seen K.taken K.faults out.old out.new) buf.old buf.new
+        (part word.now rows.now cols.now) }
 {
     buf.put_line(out, word, &[rows.len() as u64, cols.len() as u64]);
     if rows.len() + cols.len() == 0 {
@@ -31,7 +32,7 @@ pub(crate) fn put_part<K: Sink>(
 
 /// Writes the text of `rank`: the sizes of the matrix, its rank, and the rows and columns of its horizontal part.
 ///
-/// `Failed` comes only where a write failed, and then a front of the text was taken. It takes no memory.
+/// `Failed` comes only where a write failed, and then a prefix of the text was taken. It takes no memory.
 pub fn write_rank<K: Sink>(
     out: &mut K,
     buf: &mut TextBuf,
@@ -40,7 +41,8 @@ pub fn write_rank<K: Sink>(
     hr: &[Row],
     hc: &[Col],
 ) -> Result<(), Failed>
-    ensures { Writes (seen K.taken K.faults out.old out.new) (rank_text (sizes_of pattern.now) rank hr.now hc.now) result }
+    ensures { Writes (seen K.taken K.faults out.old out.new)
+        (rank_text (sizes_of pattern.now) rank hr.now hc.now) result }
 {
     let sizes = (pattern.rows(), pattern.cols(), pattern.entries());
     write_sized(out, buf, sizes, rank, hr, hc)
@@ -55,7 +57,9 @@ fn write_sized<K: Sink>(
     rows: &[Row],
     cols: &[Col],
 ) -> Result<(), Failed>
-    ensures { Writes (seen K.taken K.faults out.old out.new) (rank_text (record { rows = sizes.0; cols = sizes.1; entries = sizes.2 }) rank rows.now cols.now) result }
+    ensures { Writes (seen K.taken K.faults out.old out.new)
+        (rank_text (record { rows = sizes.0; cols = sizes.1; entries = sizes.2 }) rank rows.now
+        cols.now) result }
 {
     buf.start();
     let (m, n, e) = sizes;

@@ -5,7 +5,7 @@ ghost use Rattle.bip_graph.specs.Texts as texts;
 ghost use Rattle.bip_graph.specs.Texts.{report_text};
 ghost use Rattle.btf_text.specs.Readable.{IsReadable};
 ghost use Rattle.btf_text.specs.ReportGrammar.{Gives, head_at, report_at, sizes_at, tail_at};
-ghost use Rattle.btf_text.specs.ReportRead.{GivesSquareByBlocks, orders_told, told};
+ghost use Rattle.btf_text.specs.ReportRead.{GivesSquareByBlocks, orders_in, contents};
 
 use crate::numerals::{field_at, line_end, one_at, word_at};
 use crate::sections::{orders_at, pairs_at, part_at, square_at};
@@ -33,9 +33,10 @@ pub struct Report {
 }
 
 /// The numbers of rows, columns and entries.
-#[tactic(auto, unfolding(crate::specs::Reading::sizes_at))]
+#[tactic(auto, unfolding(crate::specs::ReportGrammar::sizes_at))]
 fn sizes_at(bytes: &[u8]) -> Result<((u32, u32, u32), &[u8]), Stop>
-    ensures { Gives (λ x. (record { rows = x.0.0; cols = x.0.1; entries = x.0.2 }, x.1.now)) result (sizes_at bytes.now) }
+    ensures { Gives (λ x. (record { rows = x.0.0; cols = x.0.1; entries = x.0.2 }, x.1.now)) result
+        (sizes_at bytes.now) }
 {
     let rest = word_at(bytes, b"matrix")?;
     let (m, rest) = field_at(rest)?;
@@ -46,9 +47,11 @@ fn sizes_at(bytes: &[u8]) -> Result<((u32, u32, u32), &[u8]), Stop>
 }
 
 /// What stands in front of the parts: the sizes of the matrix and its rank.
-#[tactic(auto, unfolding(crate::specs::Reading::head_at))]
+#[tactic(auto, unfolding(crate::specs::ReportGrammar::head_at))]
 fn head_at(bytes: &[u8]) -> Result<(((u32, u32, u32), u32), &[u8]), Stop>
-    ensures { Gives (λ x. ((record { rows = x.0.0.0; cols = x.0.0.1; entries = x.0.0.2 }, x.0.1), x.1.now)) result (head_at bytes.now) }
+    ensures { Gives (λ x.
+        ((record { rows = x.0.0.0; cols = x.0.0.1; entries = x.0.0.2 }, x.0.1), x.1.now)) result
+        (head_at bytes.now) }
 {
     let rest = word_at(bytes, b"btf 1\n")?;
     let (sizes, rest) = sizes_at(rest)?;
@@ -64,9 +67,9 @@ struct Tail {
 }
 
 /// What stands behind the parts: orders and pairs, up to the end of the bytes.
-#[tactic(auto, unfolding(crate::specs::Reading::tail_at))]
+#[tactic(auto, unfolding(crate::specs::ReportGrammar::tail_at))]
 fn tail_at(alloc: Global, bytes: &[u8]) -> Result<Tail, Stop>
-    ensures { Gives (λ t. (orders_told t.orders, t.pairs.items)) result (tail_at bytes.now) }
+    ensures { Gives (λ t. (orders_in t.orders, t.pairs.items)) result (tail_at bytes.now) }
 {
     let (orders, rest) = orders_at(alloc, bytes)?;
     let (pairs, rest) = pairs_at(alloc, rest)?;
@@ -78,9 +81,9 @@ fn tail_at(alloc: Global, bytes: &[u8]) -> Result<Tail, Stop>
 }
 
 /// The report that the bytes are.
-#[tactic(auto, unfolding(crate::specs::Reading::report_at))]
+#[tactic(auto, unfolding(crate::specs::ReportGrammar::report_at))]
 fn report_at(alloc: Global, bytes: &[u8]) -> Result<Report, Stop>
-    ensures told { Gives told result (report_at bytes.now) }
+    ensures gives { Gives contents result (report_at bytes.now) }
     ensures square { IfOk result GivesSquareByBlocks }
 {
     let (((m, n, e), rank), rest) = head_at(bytes)?;
@@ -115,11 +118,13 @@ fn report_at(alloc: Global, bytes: &[u8]) -> Result<Report, Stop>
 /// at each byte.
 pub fn read_report(alloc: Global, bytes: &[u8]) -> Result<Option<Report>, OutOfMemory>
     // What is read is spelled so, each byte of it.
-    ensures found { IfOk result (λ o. IfSome o (λ r. IsReadable (told r) × (bytes.now ≡ report_text (told r)))) }
+    ensures found { IfOk result
+        (λ o. IfSome o (λ r. IsReadable (contents r) × (bytes.now ≡ report_text (contents r)))) }
     // The square part is given by the blocks alone.
     ensures square { IfOk result (λ o. IfSome o GivesSquareByBlocks) }
     // Where nothing is read, the bytes are no report.
-    ensures none { IfOk result (λ o. IfNone o ((r : texts.Report) → IsReadable r → ¬ (bytes.now ≡ report_text r))) }
+    ensures none { IfOk result
+        (λ o. IfNone o ((r : texts.Report) → IsReadable r → ¬ (bytes.now ≡ report_text r))) }
 {
     match report_at(alloc, bytes) {
         Ok(report) => Ok(Some(report)),

@@ -19,7 +19,8 @@ use sp_ports::{Failed, Sink};
 
 /// Goes on with a block: its number and size, and its lists.
 fn put_block<K: Sink>(out: &mut K, buf: &mut TextBuf, number: u64, rows: &[Row], cols: &[Col])
-    ensures { AppendsLines (seen K.taken K.faults out.old out.new) buf.old buf.new (line (codes "block") (number ∷ length rows.now ∷ []) ∷ lists rows.now cols.now) }
+    ensures { AppendsLines (seen K.taken K.faults out.old out.new) buf.old buf.new
+        (line (codes "block") (number ∷ length rows.now ∷ []) ∷ lists rows.now cols.now) }
 {
     buf.put_line(out, b"block", &[number, rows.len() as u64]);
     buf.put_list(out, b"rows", rows);
@@ -28,7 +29,8 @@ fn put_block<K: Sink>(out: &mut K, buf: &mut TextBuf, number: u64, rows: &[Row],
 
 /// Goes on with the blocks in their order, numbered from 1.
 pub(crate) fn put_blocks<K: Sink>(out: &mut K, buf: &mut TextBuf, blocks: &Blocks)
-    ensures { AppendsLines (seen K.taken K.faults out.old out.new) buf.old buf.new (block_lines 1 blocks.now) }
+    ensures { AppendsLines (seen K.taken K.faults out.old out.new) buf.old buf.new
+        (block_lines 1 blocks.now) }
 {
     for i in 0..blocks.len() {
         put_block(out, buf, i as u64 + 1, blocks.rows(i), blocks.cols(i));
@@ -45,7 +47,8 @@ fn put_order<K: Sink, N: Id>(
     last: &[N],
 )
     requires { length word.now ≤ 65536 }
-    ensures { AppendsLines (seen K.taken K.faults out.old out.new) buf.old buf.new (line word.now (counted (map N.number (first.now ++ middle.now ++ last.now))) ∷ []) }
+    ensures { AppendsLines (seen K.taken K.faults out.old out.new) buf.old buf.new
+        (line word.now (counted (map N.number (first.now ++ middle.now ++ last.now))) ∷ []) }
 {
     buf.put(out, word);
     buf.put_ids(out, first);
@@ -56,7 +59,8 @@ fn put_order<K: Sink, N: Id>(
 
 /// Goes on with the rows and the columns in the order of the block triangular form, where they are asked for.
 pub(crate) fn put_orders<K: Sink>(out: &mut K, buf: &mut TextBuf, dec: &Decomposition, order: bool)
-    ensures { AppendsLines (seen K.taken K.faults out.old out.new) buf.old buf.new (order_lines (where_asked order (orders_of (decomposition_of dec.now)))) }
+    ensures { AppendsLines (seen K.taken K.faults out.old out.new) buf.old buf.new
+        (order_lines (where_asked order (orders_of (decomposition_of dec.now)))) }
 {
     if !order {
         return;
@@ -82,7 +86,8 @@ pub(crate) fn put_orders<K: Sink>(out: &mut K, buf: &mut TextBuf, dec: &Decompos
 
 /// Goes on with the lists of the parts and the blocks.
 fn put_parts<K: Sink>(out: &mut K, buf: &mut TextBuf, dec: &Decomposition)
-    ensures { AppendsLines (seen K.taken K.faults out.old out.new) buf.old buf.new (part_lines dec.now) }
+    ensures { AppendsLines (seen K.taken K.faults out.old out.new) buf.old buf.new
+        (part_lines dec.now) }
 {
     let parts = &dec.parts;
     put_part(
@@ -106,7 +111,7 @@ fn put_parts<K: Sink>(out: &mut K, buf: &mut TextBuf, dec: &Decomposition)
 /// Writes the report of a decomposition: the sizes of the matrix, its rank, and the lists of its parts and blocks; with
 /// `order` its rows and columns in the order of the block triangular form, and with `pairs` the pairs of the matching.
 ///
-/// `Failed` comes only where a write failed, and then a front of the text was taken. It takes no memory. Work: one look
+/// `Failed` comes only where a write failed, and then a prefix of the text was taken. It takes no memory. Work: one look
 /// at each number that is written, and with `pairs` one at each column.
 pub fn write_report<K: Sink>(
     out: &mut K,
@@ -117,8 +122,12 @@ pub fn write_report<K: Sink>(
     pairs: bool,
 ) -> Result<(), Failed>
     // Written is what the answer tells; where it is the decomposition of a matrix, that is the matrix's report.
-    ensures written { Writes (seen K.taken K.faults out.old out.new) (report_text (reported dec.now order (where_asked pairs matching.now.pairs))) result }
-    ensures of_matrix { (a : Matrix) → Decomposes a dec.now → Writes (seen K.taken K.faults out.old out.new) (report_text (report_of a (decomposition_of dec.now) order (where_asked pairs matching.now.pairs))) result }
+    ensures written { Writes (seen K.taken K.faults out.old out.new)
+        (report_text (reported dec.now order (where_asked pairs matching.now.pairs))) result }
+    ensures of_matrix { (a : Matrix) → Decomposes a dec.now
+        → Writes (seen K.taken K.faults out.old out.new)
+        (report_text (report_of a (decomposition_of dec.now) order
+        (where_asked pairs matching.now.pairs))) result }
 {
     buf.start();
     buf.put_line(out, b"btf", &[1]);

@@ -177,8 +177,8 @@ fn a_report_that_is_cut_off(rt: HostRuntime) -> Result<(), Fail> {
         Err(Failed)
     );
     assert_eq!(rt; failing.failed_calls(), 1);
-    let front = b"btf 1\nmatrix 0 0 0\nrank 0\nhorizontal 20000 0\nrows 1 2 3";
-    assert!(rt; failing.bytes().starts_with(front));
+    let prefix = b"btf 1\nmatrix 0 0 0\nrank 0\nhorizontal 20000 0\nrows 1 2 3";
+    assert!(rt; failing.bytes().starts_with(prefix));
     Ok(())
 }
 

@@ -4,7 +4,7 @@ ghost use Rattle.std.specs.Prelude.{◌≡◌, ◌<◌, ◌≤◌, ◌+◌, ◌^
 ghost use Rattle.bip_defs.specs.Matching.{cols_of};
 ghost use Rattle.bip_defs.specs.Blocks.{all_cols, all_rows};
 ghost use Rattle.btf_text.specs.ReportGrammar.{Gives, block_at, blocks_at, both_orders_at, lists_at, orders_at, pair_at, pair_list_at, pairs_at, part_at, rises, square_at};
-ghost use Rattle.btf_text.specs.ReportRead.{orders_told};
+ghost use Rattle.btf_text.specs.ReportRead.{orders_in};
 
 use crate::numerals::{field_at, id_of, line_end, list_at, number_at, one_at, rises, two_at};
 use crate::stop::Stop;
@@ -13,7 +13,7 @@ use sp_ids::{Col, Row};
 use std::alloc::Global;
 
 /// Two rising lists of these lengths.
-#[tactic(auto, unfolding(crate::specs::Reading::lists_at))]
+#[tactic(auto, unfolding(crate::specs::ReportGrammar::lists_at))]
 fn lists_at(
     alloc: Global,
     bytes: &[u8],
@@ -34,13 +34,14 @@ fn lists_at(
 }
 
 /// A part: its sizes, and its lists unless both are empty.
-#[tactic(auto, unfolding(crate::specs::Reading::part_at))]
+#[tactic(auto, unfolding(crate::specs::ReportGrammar::part_at))]
 pub(crate) fn part_at<'a>(
     alloc: Global,
     bytes: &'a [u8],
     word: &[u8],
 ) -> Result<((Vec<Row>, Vec<Col>), &'a [u8]), Stop>
-    ensures { Gives (λ x. ((x.0.0.items, x.0.1.items), x.1.now)) result (part_at word.now bytes.now) }
+    ensures { Gives (λ x. ((x.0.0.items, x.0.1.items), x.1.now)) result
+        (part_at word.now bytes.now) }
 {
     let ((m, n), rest) = two_at(bytes, word)?;
     if m == 0 && n == 0 {
@@ -50,17 +51,18 @@ pub(crate) fn part_at<'a>(
 }
 
 /// The block of this number, of at most so many rows.
-#[tactic(auto, unfolding(crate::specs::Reading::block_at))]
+#[tactic(auto, unfolding(crate::specs::ReportGrammar::block_at))]
 fn block_at(
     alloc: Global,
     bytes: &[u8],
     number: u32,
     room: u32,
 ) -> Result<((Vec<Row>, Vec<Col>), &[u8]), Stop>
-    ensures { Gives (λ x. ((x.0.0.items, x.0.1.items), x.1.now)) result (block_at number room bytes.now) }
+    ensures { Gives (λ x. ((x.0.0.items, x.0.1.items), x.1.now)) result
+        (block_at number room bytes.now) }
 {
-    let ((told, size), rest) = two_at(bytes, b"block")?;
-    if told != number || size == 0 || size > room {
+    let ((written, size), rest) = two_at(bytes, b"block")?;
+    if written != number || size == 0 || size > room {
         return Err(Stop::Other);
     }
     lists_at(alloc, rest, size, size)
@@ -83,7 +85,7 @@ fn blocks_at(alloc: Global, bytes: &[u8], count: u32, room: u32) -> Result<(Bloc
 }
 
 /// The number of rows in blocks, the number of blocks, and the blocks.
-#[tactic(auto, unfolding(crate::specs::Reading::square_at))]
+#[tactic(auto, unfolding(crate::specs::ReportGrammar::square_at))]
 pub(crate) fn square_at(alloc: Global, bytes: &[u8]) -> Result<(Blocks, &[u8]), Stop>
     ensures { Gives (λ x. (x.0, x.1.now)) result (square_at bytes.now) }
 {
@@ -96,9 +98,10 @@ pub(crate) fn square_at(alloc: Global, bytes: &[u8]) -> Result<(Blocks, &[u8]), 
 }
 
 /// Both orders.
-#[tactic(auto, unfolding(crate::specs::Reading::both_orders_at))]
+#[tactic(auto, unfolding(crate::specs::ReportGrammar::both_orders_at))]
 fn both_orders_at(alloc: Global, bytes: &[u8]) -> Result<((Vec<Row>, Vec<Col>), &[u8]), Stop>
-    ensures { Gives (λ x. (Some (x.0.0.items, x.0.1.items), x.1.now)) result (both_orders_at bytes.now) }
+    ensures { Gives (λ x. (Some (x.0.0.items, x.0.1.items), x.1.now)) result
+        (both_orders_at bytes.now) }
 {
     let (rows, rest) = list_at::<Row>(alloc, bytes, b"row_order")?;
     let (cols, rest) = list_at::<Col>(alloc, rest, b"column_order")?;
@@ -106,12 +109,12 @@ fn both_orders_at(alloc: Global, bytes: &[u8]) -> Result<((Vec<Row>, Vec<Col>), 
 }
 
 /// Both orders, if they stand there.
-#[tactic(auto, unfolding(crate::specs::Reading::orders_at))]
+#[tactic(auto, unfolding(crate::specs::ReportGrammar::orders_at))]
 pub(crate) fn orders_at(
     alloc: Global,
     bytes: &[u8],
 ) -> Result<(Option<(Vec<Row>, Vec<Col>)>, &[u8]), Stop>
-    ensures { Gives (λ x. (orders_told x.0, x.1.now)) result (orders_at bytes.now) }
+    ensures { Gives (λ x. (orders_in x.0, x.1.now)) result (orders_at bytes.now) }
 {
     if !bytes.starts_with(b"row_order") {
         return Ok((None, bytes));
@@ -121,7 +124,7 @@ pub(crate) fn orders_at(
 }
 
 /// The line of a pair: the places from 0 of its row and its column.
-#[tactic(auto, unfolding(crate::specs::Reading::pair_at))]
+#[tactic(auto, unfolding(crate::specs::ReportGrammar::pair_at))]
 fn pair_at(bytes: &[u8]) -> Result<((u32, u32), &[u8]), Stop>
     ensures { Gives (λ x. ((x.0.0, x.0.1), x.1.now)) result (pair_at bytes.now) }
 {
@@ -163,7 +166,7 @@ fn cols_rise(pairs: &[(Row, Col)]) -> bool
 }
 
 /// The number of pairs, and their lines.
-#[tactic(auto, unfolding(crate::specs::Reading::pairs_at))]
+#[tactic(auto, unfolding(crate::specs::ReportGrammar::pairs_at))]
 pub(crate) fn pairs_at(alloc: Global, bytes: &[u8]) -> Result<(Vec<(Row, Col)>, &[u8]), Stop>
     ensures { Gives (λ x. (x.0.items, x.1.now)) result (pairs_at bytes.now) }
 {

@@ -25,7 +25,7 @@ fn the_rank_of_a_wide_matrix(rt: HostRuntime) -> Result<(), Fail> {
     );
     assert_eq!(rt; out.bytes(), text.as_slice());
 
-    // The first call takes 10 bytes and the second fails: a front of the text was taken. The same buffer then writes
+    // The first call takes 10 bytes and the second fails: a prefix of the text was taken. The same buffer then writes
     // the whole of it to another sink.
     let mut failing = MemSink::new(alloc, 100, 10, [1].to_vec(alloc)?)?;
     assert_eq!(rt;

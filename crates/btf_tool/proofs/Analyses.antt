@@ -5,7 +5,7 @@ use Rattle.bip_graph.specs.Answers.{ArePairs, IsAnalysis, report_of, where_asked
 use Rattle.bip_graph.specs.Decompositions.{Decomposes, decomposition_of}
 use Rattle.bip_graph.specs.Texts.{Sizes, matrix_line, rank_line, report_text, sizes_of, square_line, text_of}
 use Rattle.bip_graph.specs.declared.answers.Decomposition.{Decomposition}
-use Rattle.btf_text.specs.Reports.{lengths_line, sizes_told, summary_text}
+use Rattle.btf_text.specs.Reports.{lengths_line, sizes_in, summary_text}
 use Rattle.btf_tool.specs.Analyses.{IsFoundIn}
 use Rattle.btf_tool.specs.Summaries.{IsSummary}
 
@@ -23,7 +23,7 @@ analysis_answers a d m order pairs h = record {
     as_asked true = (h.maximum, h.rising)
     as_asked false = tt
 
-same_sizes : (a : Matrix) (d : Decomposition) → Decomposes a d → sizes_told d ≡ sizes_of a
+same_sizes : (a : Matrix) (d : Decomposition) → Decomposes a d → sizes_in d ≡ sizes_of a
 same_sizes a d is =
     ap (λ (k : ℕ). sized k d.n d.e) is.rows ∙ ap (λ (k : ℕ). sized a.rows k d.e) is.cols_are ∙ ap (λ (k : ℕ). sized a.rows (cols a) k) is.entries
   where

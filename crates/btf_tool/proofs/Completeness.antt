@@ -3,7 +3,7 @@ use Rattle.std.proofs.Common.{IfOk, ◌≡◌, ◌≤◌, ◌<◌, ◌⊎◌, �
 use Rattle.sp_ids.specs.Entries.{Entries}
 use Rattle.sp_ids.specs.declared.outcomes.Status.{Status}
 use Rattle.sp_ids.specs.declared.outcomes.Status.TheVariants as statuses
-use Rattle.sp_ports.specs.Bytes.{WhereTold}
+use Rattle.sp_ports.specs.Bytes.{WhereKnown}
 use Rattle.sp_ports.specs.Device.{SourceRose}
 use Rattle.btf_words.specs.Words.{AreTaken, job_of}
 use Rattle.btf_words.specs.declared.jobs.WordsError.{WordsError}
@@ -15,28 +15,29 @@ use Rattle.mm_defs.specs.Calls.{Call, ReadsAll, first_bad, got, offered}
 use Rattle.mm_defs.specs.declared.answers.End.{End}
 use Rattle.mm_defs.specs.declared.answers.ReadError.TheVariants as errors
 use Rattle.mm_defs.specs.declared.kinds.Kind.{Kind}
-use Rattle.mm_defs.proofs.AnswerLemmas.{bad_line_told, good_file_answer, length_got, none_given}
+use Rattle.mm_defs.proofs.AnswerLemmas.{bad_line_known, good_file_answer, length_got, none_given}
 use Rattle.bip_defs.specs.Matrix.{Matrix}
 use Rattle.bip_defs.proofs.Uniqueness.{same_matrix}
 use Rattle.btf_check.specs.Verdicts.{IsVerdict}
+use Rattle.btf_check.specs.declared.verdict.Verdict.{Verdict}
+use Rattle.sp_pattern.specs.Stored.{IsPattern}
 use Rattle.btf_tool.specs.declared.answers.Answer.{Answer}
 use Rattle.btf_tool.specs.declared.answers.Answer.TheVariants.{Negative, Positive}
 use Rattle.btf_tool.specs.declared.refusals.Refusal.{Refusal}
 use Rattle.btf_tool.specs.declared.refusals.Refusal.TheVariants.{Usage, Malformed, Limit, TooLong, SumLimit, NeedsInteger, ReadFault, WriteFault, OutOfMemory}
-use Rattle.sp_ports.specs.Device.{Device, FailsOnceAtMost, HasReadFault, HasWriteFault, IsUntouched, WroteAsFar}
-use Rattle.btf_tool.specs.Jobs.{GaveFront, IsAnswer as IsJobAnswer, IsMatrixOf, OfReading, ReadsFile, WasRead, Weighs, WithAnswer, WithFileAnswer, end_of, reading}
+use Rattle.sp_ports.specs.Device.{Device, FailsOnceAtMost, HasReadFault, HasWriteFault, IsSteady, IsUntouched, WroteAsFar}
+use Rattle.btf_tool.specs.Jobs.{GavePrefix, IsAnswer as IsJobAnswer, IsMatrixOf, OfReading, ReadsFile, WasRead, Weighs, WithAnswer, WithFileAnswer, end_of, reading}
 use Rattle.btf_tool.specs.VerdictText.{answer_of}
 use Rattle.btf_tool.specs.Refusals.{line_of, status_of, status_of_answer}
-use Rattle.btf_tool.specs.Runs.{ComesToDiagonal, ComesToNoWeights, Completes, EndsWell, HasCause, IsBadLine, IsGoodSoFar, IsOrNoMemory, IsTooLong, JobSays, NameMaker, Names, NamesReader, Run, Says, TellsStill, WithFile, status_of_fault}
-use Rattle.btf_tool.proofs.Diagonals.{comes_to_diagonal, has_weights, needs_ends, no_diagonal_memory, no_memory_for_weights, not_integer_refused, past_ends, past_refused}
-use Rattle.btf_tool.proofs.VerdictLemmas.{one_verdict}
+use Rattle.btf_tool.specs.Runs.{ComesToDiagonal, ComesToNoWeights, Completes, EndsWell, HasCause, IsBadLine, IsGoodSoFar, IsOrNoMemory, IsTooLong, JobSays, NameMaker, Names, NamesReader, Run, Says, StaysKnown, WithFile, status_of_fault}
+use Rattle.btf_tool.proofs.Diagonals.{FullHasRank, comes_to_diagonal, has_weights, needs_ends, no_diagonal_memory, no_memory_for_weights, not_integer_refused, past_ends, past_refused}
 
 -- what follows of what holds where bytes are told
-pub told : {P Q : List ℕ → List ℕ → Type 0} (before after : Option (List ℕ)) → WhereTold before after P
-    → ((x y : List ℕ) → before ≡ Some x → P x y → Q x y) → WhereTold before after Q
-told None after h f = tt
-told (Some x) None h f = absurd h
-told (Some x) (Some y) h f = f x y refl h
+pub where_known : {P Q : List ℕ → List ℕ → Type 0} (before after : Option (List ℕ)) → WhereKnown before after P
+    → ((x y : List ℕ) → before ≡ Some x → P x y → Q x y) → WhereKnown before after Q
+where_known None after h f = tt
+where_known (Some x) None h f = absurd h
+where_known (Some x) (Some y) h f = f x y refl h
 
 -- an input that tells its bytes and did not fail counts as before
 steady : (input : Device) (x : List ℕ) → input.before ≡ Some x → FailsOnceAtMost input → ¬ HasReadFault input → input.failed_after ≡ input.failed_before
@@ -91,15 +92,19 @@ made_positive Diagonal answer input P makes h = absurd (makes tt)
 made_positive Check answer input P makes h = absurd (makes tt)
 made_positive (Load size seed search) answer input P makes h = h.1.positive
 
+-- what the law `one_verdict` says
+abbrev pub HasOneVerdict : Type 0
+HasOneVerdict = (a : Matrix) (bytes : List ℕ) (v w : Verdict) → IsPattern a → IsVerdict a bytes v → IsVerdict a bytes w → v ≡ w
+
 -- the answer over a good file is the one of that file
-ends_well : (job : Job) (call : Call) (answer : Answer) (text : List ℕ) (t : Entries) (rest : List ℕ) (status : Status) → ReadsFile job
+ends_well : HasOneVerdict → FullHasRank → (job : Job) (call : Call) (answer : Answer) (text : List ℕ) (t : Entries) (rest : List ℕ) (status : Status) → ReadsFile job
     → IsJobAnswer job call answer text → Reads (offered call) (end_of job) t rest → IsOrNoMemory status (status_of_answer answer) → EndsWell job t rest status
-ends_well Rank call answer text t rest status file h reads ends = subst (λ (x : Answer). IsOrNoMemory status (status_of_answer x)) h.is_text.0 ends
-ends_well (Analyse search order pairs) call answer text t rest status file h reads ends = subst (λ (x : Answer). IsOrNoMemory status (status_of_answer x)) h.is_text.0 ends
-ends_well Diagonal call answer text t rest status file h reads ends =
+ends_well one_verdict full_rank Rank call answer text t rest status file h reads ends = subst (λ (x : Answer). IsOrNoMemory status (status_of_answer x)) h.is_text.0 ends
+ends_well one_verdict full_rank (Analyse search order pairs) call answer text t rest status file h reads ends = subst (λ (x : Answer). IsOrNoMemory status (status_of_answer x)) h.is_text.0 ends
+ends_well one_verdict full_rank Diagonal call answer text t rest status file h reads ends =
     let same : h.entries ≡ t = h.was_read.reads.entries ∙ sym reads.entries in
-    subst (λ (x : Entries). ComesToDiagonal x status) same (comes_to_diagonal h.entries h.matrix answer text status h.is_matrix h.is_text ends)
-ends_well Check call answer text t rest status file h reads ends = record {
+    subst (λ (x : Entries). ComesToDiagonal x status) same (comes_to_diagonal full_rank h.entries h.matrix answer text status h.is_matrix h.is_text ends)
+ends_well one_verdict full_rank Check call answer text t rest status file h reads ends = record {
   comes = comes answer ends;
   right = λ a verdict matrix is_verdict.
       let same_t : h.entries ≡ t = h.was_read.reads.entries ∙ sym reads.entries in
@@ -116,7 +121,7 @@ ends_well Check call answer text t rest status file h reads ends = record {
     comes Positive ends = inr ends
     comes Negative (inl is) = inl is
     comes Negative (inr none) = inr (inr none)
-ends_well (Load size seed search) call answer text t rest status file h reads ends = absurd file
+ends_well one_verdict full_rank (Load size seed search) call answer text t rest status file h reads ends = absurd file
 
 -- the file of a job that needs weights, and answered over it, has them
 answer_weighed : (job : Job) (call : Call) (answer : Answer) (text : List ℕ) (t : Entries) (rest : List ℕ) (status : Status)
@@ -133,23 +138,23 @@ abbrev in_place : (words : List (List ℕ)) (one two : Job) → Names words one 
 in_place words one two h k P p = subst P (one_job words one two h k) p
 
 -- the run was answered
-answered : (r : Run) (status : Status) (P : List ℕ → Type 0) (answer : Answer) (job : Job) → Names r.words job → WithAnswer job answer r.input P
+answered : HasOneVerdict → FullHasRank → (r : Run) (status : Status) (P : List ℕ → Type 0) (answer : Answer) (job : Job) → Names r.words job → WithAnswer job answer r.input P
     → (¬ HasWriteFault r.out → IsOrNoMemory status (status_of_answer answer)) → Completes r status
-answered r status P answer job names written ends = record {
+answered one_verdict full_rank r status P answer job names written ends = record {
   usage = λ not. absurd (not names.taken);
-  bad_line = λ other reader. told r.input.before r.input.after (over other reader)
+  bad_line = λ other reader. where_known r.input.before r.input.after (over other reader)
       (λ x y before h fault bad. let read = answer_read other (reading r.input x y) answer h.0 h.1 in
-      absurd (bad_line_told (end_of other) (reading r.input x y) read.1 (Ok read.0) fault read.2 bad));
-  good = λ other reader no_read no_write. told r.input.before r.input.after (over other reader)
-      (λ x y before h t rest reads few. ends_well other (reading r.input x y) answer h.0 t rest status reader.1 h.1 reads (ends no_write));
-  unweighed = λ other reader weighs no_read. told r.input.before r.input.after (over other reader)
+      absurd (bad_line_known (end_of other) (reading r.input x y) read.1 (Ok read.0) fault read.2 bad));
+  good = λ other reader no_read no_write. where_known r.input.before r.input.after (over other reader)
+      (λ x y before h t rest reads few. ends_well one_verdict full_rank other (reading r.input x y) answer h.0 t rest status reader.1 h.1 reads (ends no_write));
+  unweighed = λ other reader weighs no_read. where_known r.input.before r.input.after (over other reader)
       (λ x y before h t rest reads few. answer_weighed other (reading r.input x y) answer h.0 t rest status weighs h.1 reads);
-  not_good = λ other reader no_read. told r.input.before r.input.after (over other reader)
+  not_good = λ other reader no_read. where_known r.input.before r.input.after (over other reader)
       (λ x y before h none. let read = answer_read other (reading r.input x y) answer h.0 h.1 in
       absurd (none read.0 read.1 read.2.reads h.1.was_read.within));
-  too_many = λ other reader. told r.input.before r.input.after (over other reader)
+  too_many = λ other reader. where_known r.input.before r.input.after (over other reader)
       (λ x y before h none past. absurd (not_past (reading r.input x y) h.1.was_read.within past));
-  too_long = λ other reader no_read. told r.input.before r.input.after (over other reader)
+  too_long = λ other reader no_read. where_known r.input.before r.input.after (over other reader)
       (λ x y before h past none. absurd (not_long x h.1.was_read.within past));
   made = λ maker no_write.
       let positive : answer ≡ Positive = made_positive maker.0 answer r.input P maker.2 (in_place r.words job maker.0 names maker.1 (λ (j : Job). WithAnswer j answer r.input P) written) in
@@ -165,16 +170,16 @@ bad : (r : Run) (status : Status) (line : ℕ) (kind : Kind) (limit : Bool) → 
     → IsBadLine (end_of job) r.input (record { line = line; kind = kind }) → Completes r status
 bad r status line kind limit said job names reads later is first = record {
   usage = λ not. absurd (not names.taken);
-  bad_line = λ other reader. told r.input.before r.input.after (of other reader)
+  bad_line = λ other reader. where_known r.input.before r.input.after (of other reader)
       (λ x y before h fault two. inl (said ∙ kind_status line kind fault (first_bad (end_of other) (reading r.input x y)) limit h is two));
-  good = λ other reader no_read no_write. told r.input.before r.input.after (of other reader)
+  good = λ other reader no_read no_write. where_known r.input.before r.input.after (of other reader)
       (λ x y before h t rest reads few. absurd (not_answered (end_of other) limit (reading r.input x y) t rest h is reads few (steady r.input x before later no_read)));
-  unweighed = λ other reader weighs no_read. told r.input.before r.input.after (of other reader)
+  unweighed = λ other reader weighs no_read. where_known r.input.before r.input.after (of other reader)
       (λ x y before h t rest reads few. absurd (not_answered (end_of other) limit (reading r.input x y) t rest h is reads few (steady r.input x before later no_read)));
-  not_good = λ other reader no_read. told r.input.before r.input.after (of other reader) (λ x y before h none. inl (either limit said));
-  too_many = λ other reader. told r.input.before r.input.after (of other reader)
+  not_good = λ other reader no_read. where_known r.input.before r.input.after (of other reader) (λ x y before h none. inl (either limit said));
+  too_many = λ other reader. where_known r.input.before r.input.after (of other reader)
       (λ x y before h none past. absurd (clash (first_bad (end_of other) (reading r.input x y)) _ none h));
-  too_long = λ other reader no_read. told r.input.before r.input.after (of other reader)
+  too_long = λ other reader no_read. where_known r.input.before r.input.after (of other reader)
       (λ x y before h past none. absurd (clash (first_bad (end_of other) (reading r.input x y)) _ (none_given (end_of other) (reading r.input x y) past none) h));
   made = λ maker. absurd (made_named r.words job names maker reads);
 }
@@ -219,16 +224,16 @@ by_entries : (r : Run) (status : Status) (P : Entries → Type 0) (job : Job) �
     → ((t : Entries) → P t → ComesToDiagonal t status) → ((t : Entries) → P t → ComesToNoWeights t status) → Completes r status
 by_entries r status P job names is file ends refuses = record {
   usage = λ not. absurd (not names.taken);
-  bad_line = λ other reader. told r.input.before r.input.after (of other reader)
-      (λ x y before h fault bad. absurd (bad_line_told (end_of other) (reading r.input x y) h.1 (Ok h.0) fault (all other (reading r.input x y) h.0 h.1 h.2) bad));
-  good = λ other reader no_read no_write. told r.input.before r.input.after (of other reader)
+  bad_line = λ other reader. where_known r.input.before r.input.after (of other reader)
+      (λ x y before h fault bad. absurd (bad_line_known (end_of other) (reading r.input x y) h.1 (Ok h.0) fault (all other (reading r.input x y) h.0 h.1 h.2) bad));
+  good = λ other reader no_read no_write. where_known r.input.before r.input.after (of other reader)
       (λ x y before h t rest reads few. weighs_ends other t rest status (weighs other reader)
       (subst (λ (e : Entries). ComesToDiagonal e status) (h.2.reads.entries ∙ sym reads.entries) (ends h.0 h.3)));
-  unweighed = λ other reader _ no_read. told r.input.before r.input.after (of other reader)
+  unweighed = λ other reader _ no_read. where_known r.input.before r.input.after (of other reader)
       (λ x y before h t rest reads few. subst (λ (e : Entries). ComesToNoWeights e status) (h.2.reads.entries ∙ sym reads.entries) (refuses h.0 h.3));
-  not_good = λ other reader no_read. told r.input.before r.input.after (of other reader) (λ x y before h none. absurd (none h.0 h.1 h.2.reads h.2.within));
-  too_many = λ other reader. told r.input.before r.input.after (of other reader) (λ x y before h none past. absurd (not_past (reading r.input x y) h.2.within past));
-  too_long = λ other reader no_read. told r.input.before r.input.after (of other reader) (λ x y before h past none. absurd (not_long x h.2.within past));
+  not_good = λ other reader no_read. where_known r.input.before r.input.after (of other reader) (λ x y before h none. absurd (none h.0 h.1 h.2.reads h.2.within));
+  too_many = λ other reader. where_known r.input.before r.input.after (of other reader) (λ x y before h none past. absurd (not_past (reading r.input x y) h.2.within past));
+  too_long = λ other reader no_read. where_known r.input.before r.input.after (of other reader) (λ x y before h past none. absurd (not_long x h.2.within past));
   made = λ maker. absurd (made_named r.words job names maker (weighs_reads job is));
 }
   where
@@ -242,8 +247,8 @@ by_entries r status P job names is file ends refuses = record {
     all other call t rest read = record { reads = read.reads; within = let w = read.within in omega (arith, w) }
 
 -- each refusal
-refused : (r : Run) (status : Status) (refusal : Refusal) → status ≡ status_of refusal → HasCause r refusal → Completes r status
-refused r status Usage said c = record {
+refused : HasOneVerdict → FullHasRank → (r : Run) (status : Status) (refusal : Refusal) → status ≡ status_of refusal → HasCause r refusal → Completes r status
+refused one_verdict full_rank r status Usage said c = record {
   usage = λ _. inl said;
   bad_line = λ other reader. absurd (c.0 reader.0.taken);
   good = λ other reader. absurd (c.0 reader.0.taken);
@@ -253,108 +258,120 @@ refused r status Usage said c = record {
   too_long = λ other reader. absurd (c.0 reader.0.taken);
   made = λ maker. absurd (c.0 maker.1.taken);
 }
-refused r status (Malformed line kind) said c = bad r status line kind false said c.0 c.1 c.3.0 c.2 c.3.1 c.3.2
-refused r status (Limit line kind) said c = bad r status line kind true said c.0 c.1 c.3.0 c.2 c.3.1 c.3.2
-refused r status TooLong said c = record {
+refused one_verdict full_rank r status (Malformed line kind) said c = bad r status line kind false said c.0 c.1 c.3.0 c.2 c.3.1 c.3.2
+refused one_verdict full_rank r status (Limit line kind) said c = bad r status line kind true said c.0 c.1 c.3.0 c.2 c.3.1 c.3.2
+refused one_verdict full_rank r status TooLong said c = record {
   usage = λ not. absurd (not c.1.taken);
-  bad_line = λ other reader. told r.input.before r.input.after (of other reader) (λ x y before h fault two. absurd (clash (first_bad (end_of other) (reading r.input x y)) fault h.0 two));
-  good = λ other reader no_read no_write. told r.input.before r.input.after (of other reader)
+  bad_line = λ other reader. where_known r.input.before r.input.after (of other reader) (λ x y before h fault two. absurd (clash (first_bad (end_of other) (reading r.input x y)) fault h.0 two));
+  good = λ other reader no_read no_write. where_known r.input.before r.input.after (of other reader)
       (λ x y before h t rest reads few. absurd (good_file_answer (end_of other) (reading r.input x y) [] (Err errors.TooLong) t rest h reads few (steady r.input x before c.2 no_read)));
-  unweighed = λ other reader weighs no_read. told r.input.before r.input.after (of other reader)
+  unweighed = λ other reader weighs no_read. where_known r.input.before r.input.after (of other reader)
       (λ x y before h t rest reads few. absurd (good_file_answer (end_of other) (reading r.input x y) [] (Err errors.TooLong) t rest h reads few (steady r.input x before c.2 no_read)));
-  not_good = λ other reader no_read. told r.input.before r.input.after (of other reader) (λ x y before h none. inl (inr said));
-  too_many = λ other reader. told r.input.before r.input.after (of other reader) (λ x y before h none past. inl said);
-  too_long = λ other reader no_read. told r.input.before r.input.after (of other reader) (λ x y before h past none. inl said);
+  not_good = λ other reader no_read. where_known r.input.before r.input.after (of other reader) (λ x y before h none. inl (inr said));
+  too_many = λ other reader. where_known r.input.before r.input.after (of other reader) (λ x y before h none past. inl said);
+  too_long = λ other reader no_read. where_known r.input.before r.input.after (of other reader) (λ x y before h past none. inl said);
   made = λ maker. absurd (made_named r.words c.0 c.1 maker c.3.0);
 }
   where
     of : (other : Job) → NamesReader r.words other → IsTooLong (end_of other) r.input
     of other reader = in_place r.words c.0 other c.1 reader.0 (λ (j : Job). IsTooLong (end_of j) r.input) c.3.1
-refused r status ReadFault said c = record {
+refused one_verdict full_rank r status ReadFault said c = record {
   usage = λ not. absurd (not c.1.taken);
-  bad_line = λ other reader. told r.input.before r.input.after (of other reader) (λ x y before h fault two. absurd (clash (first_bad (end_of other) (reading r.input x y)) fault h.0 two));
+  bad_line = λ other reader. where_known r.input.before r.input.after (of other reader) (λ x y before h fault two. absurd (clash (first_bad (end_of other) (reading r.input x y)) fault h.0 two));
   good = λ other reader no_read. absurd (no_read c.3.1);
   unweighed = λ other reader weighs no_read. absurd (no_read c.3.1);
   not_good = λ other reader no_read. absurd (no_read c.3.1);
-  too_many = λ other reader. told r.input.before r.input.after (of other reader) (λ x y before h none past. let few = h.1 in absurd (omega (arith, few, past)));
+  too_many = λ other reader. where_known r.input.before r.input.after (of other reader) (λ x y before h none past. let few = h.1 in absurd (omega (arith, few, past)));
   too_long = λ other reader no_read. absurd (no_read c.3.1);
   made = λ maker. absurd (made_named r.words c.0 c.1 maker c.3.0);
 }
   where
     of : (other : Job) → NamesReader r.words other → IsGoodSoFar (end_of other) r.input
     of other reader = in_place r.words c.0 other c.1 reader.0 (λ (j : Job). IsGoodSoFar (end_of j) r.input) c.3.2
-refused r status (SumLimit row col) said c = by_entries r status _ c.0 c.1 c.3.0 c.3.2 (λ t h. past_ends t row col status h.1) (λ t h. past_refused t status said h.0)
-refused r status NeedsInteger said c = by_entries r status _ c.0 c.1 c.3.0 c.3.2 (λ t not. needs_ends t status not) (λ t not. not_integer_refused t status said not)
-refused r status WriteFault said c = answered r status _ c.3.2.0 c.0 c.1 c.3.2.1 (λ no_write. absurd (no_write c.3.0))
-refused r status OutOfMemory said c = record {
+refused one_verdict full_rank r status (SumLimit row col) said c = by_entries r status _ c.0 c.1 c.3.0 c.3.2 (λ t h. past_ends t row col status h.1) (λ t h. past_refused t status said h.0)
+refused one_verdict full_rank r status NeedsInteger said c = by_entries r status _ c.0 c.1 c.3.0 c.3.2 (λ t not. needs_ends t status not) (λ t not. not_integer_refused t status said not)
+refused one_verdict full_rank r status WriteFault said c = answered one_verdict full_rank r status _ c.3.2.0 c.0 c.1 c.3.2.1 (λ no_write. absurd (no_write c.3.0))
+refused one_verdict full_rank r status OutOfMemory said c = record {
   usage = λ _. inr said;
-  bad_line = λ other reader. told r.input.before r.input.after c.1 (λ x y before h fault two. inr said);
-  good = λ other reader no_read no_write. told r.input.before r.input.after c.1 (λ x y before h t rest reads few. no_memory_ends other t rest status said);
-  unweighed = λ other reader weighs no_read. told r.input.before r.input.after c.1 (λ x y before h t rest reads few. no_memory_for_weights t status said);
-  not_good = λ other reader no_read. told r.input.before r.input.after c.1 (λ x y before h none. inr said);
-  too_many = λ other reader. told r.input.before r.input.after c.1 (λ x y before h none past. inr said);
-  too_long = λ other reader no_read. told r.input.before r.input.after c.1 (λ x y before h past none. inr said);
+  bad_line = λ other reader. where_known r.input.before r.input.after c.1 (λ x y before h fault two. inr said);
+  good = λ other reader no_read no_write. where_known r.input.before r.input.after c.1 (λ x y before h t rest reads few. no_memory_ends other t rest status said);
+  unweighed = λ other reader weighs no_read. where_known r.input.before r.input.after c.1 (λ x y before h t rest reads few. no_memory_for_weights t status said);
+  not_good = λ other reader no_read. where_known r.input.before r.input.after c.1 (λ x y before h none. inr said);
+  too_many = λ other reader. where_known r.input.before r.input.after c.1 (λ x y before h none past. inr said);
+  too_long = λ other reader no_read. where_known r.input.before r.input.after c.1 (λ x y before h past none. inr said);
   made = λ maker no_write. inr said;
 }
 
-pub completes : (r : Run) (status : Status) → Says r status → Completes r status
-completes r statuses.Ok s = answered r statuses.Ok _ Positive s.job s.names s.written (λ _. inl refl)
-completes r statuses.Negative s = answered r statuses.Negative _ Negative s.job s.names s.written (λ _. inl refl)
-completes r statuses.Usage s = refused r statuses.Usage s.refusal s.status_is s.cause
-completes r statuses.Malformed s = refused r statuses.Malformed s.refusal s.status_is s.cause
-completes r statuses.Limit s = refused r statuses.Limit s.refusal s.status_is s.cause
-completes r statuses.ReadFault s = refused r statuses.ReadFault s.refusal s.status_is s.cause
-completes r statuses.WriteFault s = refused r statuses.WriteFault s.refusal s.status_is s.cause
-completes r statuses.OutOfMemory s = refused r statuses.OutOfMemory s.refusal s.status_is s.cause
-completes r statuses.NeedsInteger s = refused r statuses.NeedsInteger s.refusal s.status_is s.cause
+pub completes : HasOneVerdict → FullHasRank → (r : Run) (status : Status) → Says r status → Completes r status
+completes one_verdict full_rank r statuses.Ok s = answered one_verdict full_rank r statuses.Ok _ Positive s.job s.names s.written (λ _. inl refl)
+completes one_verdict full_rank r statuses.Negative s = answered one_verdict full_rank r statuses.Negative _ Negative s.job s.names s.written (λ _. inl refl)
+completes one_verdict full_rank r statuses.Usage s = refused one_verdict full_rank r statuses.Usage s.refusal s.status_is s.cause
+completes one_verdict full_rank r statuses.Malformed s = refused one_verdict full_rank r statuses.Malformed s.refusal s.status_is s.cause
+completes one_verdict full_rank r statuses.Limit s = refused one_verdict full_rank r statuses.Limit s.refusal s.status_is s.cause
+completes one_verdict full_rank r statuses.ReadFault s = refused one_verdict full_rank r statuses.ReadFault s.refusal s.status_is s.cause
+completes one_verdict full_rank r statuses.WriteFault s = refused one_verdict full_rank r statuses.WriteFault s.refusal s.status_is s.cause
+completes one_verdict full_rank r statuses.OutOfMemory s = refused one_verdict full_rank r statuses.OutOfMemory s.refusal s.status_is s.cause
+completes one_verdict full_rank r statuses.NeedsInteger s = refused one_verdict full_rank r statuses.NeedsInteger s.refusal s.status_is s.cause
 
 by_refusal : (r : Run) (refusal : Refusal) → WroteAsFar r.err (line_of refusal) → HasCause r refusal → Says r (status_of refusal)
-by_refusal r Usage told cause = record { refusal = Usage; status_is = refl; told = told; cause = cause }
-by_refusal r (Malformed line kind) told cause = record { refusal = Malformed line kind; status_is = refl; told = told; cause = cause }
-by_refusal r (Limit line kind) told cause = record { refusal = Limit line kind; status_is = refl; told = told; cause = cause }
-by_refusal r TooLong told cause = record { refusal = TooLong; status_is = refl; told = told; cause = cause }
-by_refusal r (SumLimit row col) told cause = record { refusal = SumLimit row col; status_is = refl; told = told; cause = cause }
-by_refusal r NeedsInteger told cause = record { refusal = NeedsInteger; status_is = refl; told = told; cause = cause }
-by_refusal r ReadFault told cause = record { refusal = ReadFault; status_is = refl; told = told; cause = cause }
-by_refusal r WriteFault told cause = record { refusal = WriteFault; status_is = refl; told = told; cause = cause }
-by_refusal r OutOfMemory told cause = record { refusal = OutOfMemory; status_is = refl; told = told; cause = cause }
+by_refusal r Usage wrote cause = record { refusal = Usage; status_is = refl; line = wrote; cause = cause }
+by_refusal r (Malformed line kind) wrote cause = record { refusal = Malformed line kind; status_is = refl; line = wrote; cause = cause }
+by_refusal r (Limit line kind) wrote cause = record { refusal = Limit line kind; status_is = refl; line = wrote; cause = cause }
+by_refusal r TooLong wrote cause = record { refusal = TooLong; status_is = refl; line = wrote; cause = cause }
+by_refusal r (SumLimit row col) wrote cause = record { refusal = SumLimit row col; status_is = refl; line = wrote; cause = cause }
+by_refusal r NeedsInteger wrote cause = record { refusal = NeedsInteger; status_is = refl; line = wrote; cause = cause }
+by_refusal r ReadFault wrote cause = record { refusal = ReadFault; status_is = refl; line = wrote; cause = cause }
+by_refusal r WriteFault wrote cause = record { refusal = WriteFault; status_is = refl; line = wrote; cause = cause }
+by_refusal r OutOfMemory wrote cause = record { refusal = OutOfMemory; status_is = refl; line = wrote; cause = cause }
 
 -- a refusal that was told, with its cause
 pub refusal_says : (r : Run) (status : Status) (refusal : Refusal) → status ≡ status_of refusal → WroteAsFar r.err (line_of refusal) → HasCause r refusal → Says r status
-refusal_says r status refusal said told cause = subst (λ (s : Status). Says r s) (sym said) (by_refusal r refusal told cause)
+refusal_says r status refusal said wrote cause = subst (λ (s : Status). Says r s) (sym said) (by_refusal r refusal wrote cause)
 
 -- the refusal of a job
 pub job_refused : (r : Run) (job : Job) (refusal : Refusal) → Names r.words job → JobSays job r.input r.out (Err refusal) → HasCause r refusal
-job_refused r job Usage names says = absurd says.1
-job_refused r job (Malformed line kind) names says = (job, names, says.0, says.1)
-job_refused r job (Limit line kind) names says = (job, names, says.0, says.1)
-job_refused r job TooLong names says = (job, names, says.0, says.1)
-job_refused r job (SumLimit row col) names says = (job, names, says.0, says.1)
-job_refused r job NeedsInteger names says = (job, names, says.0, says.1)
-job_refused r job ReadFault names says = (job, names, says.0, says.1)
-job_refused r job WriteFault names says = (job, names, says.0, says.1)
-job_refused r job OutOfMemory names says = (says.0, says.1.0, says.1.1)
+job_refused r job Usage names says = absurd says.2
+job_refused r job (Malformed line kind) names says = (job, names, says.0, says.2)
+job_refused r job (Limit line kind) names says = (job, names, says.0, says.2)
+job_refused r job TooLong names says = (job, names, says.0, says.2)
+job_refused r job (SumLimit row col) names says = (job, names, says.0, says.2)
+job_refused r job NeedsInteger names says = (job, names, says.0, says.2)
+job_refused r job ReadFault names says = (job, names, says.0, says.2)
+job_refused r job WriteFault names says = (job, names, says.0, says.2)
+job_refused r job OutOfMemory names says = (says.0, says.2.0, says.2.1)
 
 -- an input that tells its bytes and was not used tells them still
-pub untouched_tells : (input : Device) → IsUntouched input → TellsStill input
-untouched_tells input same = subst (λ (after : Option (List ℕ)). WhereTold input.before after (λ x y. Unit {0})) (sym same.0) (still input.before)
+pub untouched_tells : (input : Device) → IsUntouched input → StaysKnown input
+untouched_tells input same = subst (λ (after : Option (List ℕ)). WhereKnown input.before after (λ x y. Unit {0})) (sym same.0) (still input.before)
   where
-    still : (bytes : Option (List ℕ)) → WhereTold bytes bytes (λ x y. Unit {0})
+    still : (bytes : Option (List ℕ)) → WhereKnown bytes bytes (λ x y. Unit {0})
     still None = tt
     still (Some x) = tt
 
 -- it gave nothing
-pub untouched_gave : (input : Device) → IsUntouched input → OfReading input GaveFront
+pub untouched_gave : (input : Device) → IsUntouched input → OfReading input GavePrefix
 untouched_gave input same =
-    subst (λ (after : Option (List ℕ)). WhereTold input.before after (λ x y. GaveFront (reading input x y))) (sym same.0) (still input.before)
+    subst (λ (after : Option (List ℕ)). WhereKnown input.before after (λ x y. GavePrefix (reading input x y))) (sym same.0) (still input.before)
   where
-    still : (bytes : Option (List ℕ)) → WhereTold bytes bytes (λ x y. GaveFront (reading input x y))
+    still : (bytes : Option (List ℕ)) → WhereKnown bytes bytes (λ x y. GavePrefix (reading input x y))
     still None = tt
     still (Some x) = record { gave = []; in_order = refl; few = omega arith }
 
 -- no call of it has failed
 pub untouched_counts : (d : Device) → IsUntouched d → FailsOnceAtMost d
 untouched_counts d same = record { later = omega (arith, same.1); once = omega (arith, same.1) }
+
+-- a device that did not fail, or that failed once, failed once at most
+steady_counts : (d : Device) → IsSteady d → FailsOnceAtMost d
+steady_counts d same = record { later = omega (arith, same); once = omega (arith, same) }
+
+pub job_counts : (job : Job) (input out : Device) (result : Result Answer Refusal) → JobSays job input out result → FailsOnceAtMost input × FailsOnceAtMost out
+job_counts job input out (Ok answer) says = (steady_counts input says.1, steady_counts out says.2)
+job_counts job input out (Err refusal) says = (says.0, says.1)
+
+pub line_counts : (d : Device) (text : List ℕ) → WroteAsFar d text → FailsOnceAtMost d
+line_counts d text (inl took) = steady_counts d took.steady
+line_counts d text (inr took) = took.counts
 
 -- ---- what `run` cites
 
@@ -367,8 +384,8 @@ named words result job is taken names = record {
 }
 
 by_answer : (r : Run) (answer : Answer) (job : Job) → Names r.words job → JobSays job r.input r.out (Ok answer) → IsUntouched r.err → Says r (status_of_answer answer)
-by_answer r Positive job names done untouched = record { job = job; names = names; may = done.0; written = done.3; steady_input = done.1; steady_out = done.2; nothing_told = untouched }
-by_answer r Negative job names done untouched = record { job = job; names = names; may = done.0; written = done.3; steady_input = done.1; steady_out = done.2; nothing_told = untouched }
+by_answer r Positive job names done untouched = record { job = job; names = names; may = done.0; written = done.3; steady_input = done.1; steady_out = done.2; nothing_written = untouched }
+by_answer r Negative job names done untouched = record { job = job; names = names; may = done.0; written = done.3; steady_input = done.1; steady_out = done.2; nothing_written = untouched }
 
 -- the job was done
 pub job_done : (r : Run) (job : Job) (result : Result Answer Refusal) (answer : Answer) (status : Status) → result ≡ Ok answer → Names r.words job
@@ -380,6 +397,6 @@ job_done r job result answer status is names says said untouched =
 -- the job was refused
 pub job_not_done : (r : Run) (job : Job) (result : Result Answer Refusal) (refusal : Refusal) (status : Status) → result ≡ Err refusal → Names r.words job
     → JobSays job r.input r.out result → status ≡ status_of refusal → WroteAsFar r.err (line_of refusal) → Says r status
-job_not_done r job result refusal status is names says said told =
-    refusal_says r status refusal said told
+job_not_done r job result refusal status is names says said line =
+    refusal_says r status refusal said line
     (job_refused r job refusal names (subst (λ (o : Result Answer Refusal). JobSays job r.input r.out o) is says))

@@ -1,7 +1,7 @@
 -- How `diagonal` ends, from what it answers.
 use Rattle.std.proofs.Common.{◌≡◌, ◌∙◌, ◌<◌, ◌⊎◌, ℕ, List, arith, inl, inr, refl, subst, sym}
 use Rattle.bip_defs.specs.Matching.{IsRank}
-use Rattle.bip_defs.specs.Matrix.{AreEntries, Matrix, cols}
+use Rattle.bip_defs.specs.Matrix.{AreEntries, Matrix, Place, cols}
 use Rattle.bip_defs.proofs.Uniqueness.{same_matrix, same_rank}
 use Rattle.bip_graph.specs.declared.answers.Heaviest.{Heaviest}
 use Rattle.bip_graph.specs.declared.answers.Heaviest.TheVariants.{Diagonal, Rectangular, Singular}
@@ -13,12 +13,16 @@ use Rattle.btf_tool.specs.Jobs.{IsMatrixOf}
 use Rattle.btf_tool.specs.Refusals.{status_of_answer}
 use Rattle.btf_tool.specs.Runs.{ComesToDiagonal, ComesToNoWeights, IsOrNoMemory, IsWithin}
 use Rattle.integer_diagonal.specs.Heaviest.{IsHeaviest}
-use Rattle.integer_diagonal.proofs.Duality.{full_rank}
+use Rattle.integer_diagonal.specs.Prices.{IsFull}
 use Rattle.sp_ids.specs.Entries.{Entries}
 use Rattle.sp_ids.specs.declared.outcomes.Status.{Status}
 use Rattle.sp_ids.specs.declared.outcomes.Status.TheVariants as statuses
 use Rattle.sp_ids.specs.declared.triples.Field.TheVariants.{Integer}
 use Rattle.sp_pattern.specs.Weights.{IsFirstPast, Weighing}
+
+-- what the law `full_matching_shows_rank` says
+abbrev pub FullHasRank : Type 0
+FullHasRank = (a : Matrix) (m : List Place) → IsFull a m → IsRank a (cols a)
 
 -- a matrix that is not square, or whose rank is too small, has no diagonal
 none_rectangular : (w : Weighing) (h : Heaviest) → IsHeaviest w h → ¬ (w.matrix.rows ≡ cols w.matrix) → answer_on h ≡ Negative
@@ -26,10 +30,10 @@ none_rectangular w Rectangular is not = refl
 none_rectangular w (Singular rank hall) is not = refl
 none_rectangular w (Diagonal pairs u v sum) is not = absurd (not is.square)
 
-none_singular : (w : Weighing) (h : Heaviest) (k : ℕ) → IsHeaviest w h → IsRank w.matrix k → k < cols w.matrix → answer_on h ≡ Negative
-none_singular w Rectangular k is rank below = refl
-none_singular w (Singular r hall) k is rank below = refl
-none_singular w (Diagonal pairs u v sum) k is rank below =
+none_singular : FullHasRank → (w : Weighing) (h : Heaviest) (k : ℕ) → IsHeaviest w h → IsRank w.matrix k → k < cols w.matrix → answer_on h ≡ Negative
+none_singular full_rank w Rectangular k is rank below = refl
+none_singular full_rank w (Singular r hall) k is rank below = refl
+none_singular full_rank w (Diagonal pairs u v sum) k is rank below =
     let same : k ≡ cols w.matrix = same_rank w.matrix k (cols w.matrix) rank (full_rank w.matrix pairs.items is.full) in
     absurd (omega (arith, same, below))
 
@@ -43,13 +47,13 @@ some_full w (Singular r hall) is square rank =
 some_full w (Diagonal pairs u v sum) is square rank = refl
 
 -- the answer over the entries comes to their diagonal
-pub comes_to_diagonal : (t : Entries) (a : Matrix) (answer : Answer) (text : List ℕ) (status : Status) → IsMatrixOf t a → IsDiagonalText t a answer text
+pub comes_to_diagonal : FullHasRank → (t : Entries) (a : Matrix) (answer : Answer) (text : List ℕ) (status : Status) → IsMatrixOf t a → IsDiagonalText t a answer text
     → IsOrNoMemory status (status_of_answer answer) → ComesToDiagonal t status
-comes_to_diagonal t a answer text status of h ends = record {
+comes_to_diagonal full_rank t a answer text status of h ends = record {
   comes = λ integer within. either answer ends;
   rectangular = λ integer within b of_b not. ended Negative (none_rectangular h.weighing h.heaviest h.is_heaviest (λ e. not (subst (λ (x : Matrix). x.rows ≡ cols x) (same b of_b) e)));
   singular = λ integer within b k of_b rank below. ended Negative
-      (none_singular h.weighing h.heaviest k h.is_heaviest (subst (λ (x : Matrix). IsRank x k) (sym (same b of_b)) rank) (subst (λ (x : Matrix). k < cols x) (sym (same b of_b)) below));
+      (none_singular full_rank h.weighing h.heaviest k h.is_heaviest (subst (λ (x : Matrix). IsRank x k) (sym (same b of_b)) rank) (subst (λ (x : Matrix). k < cols x) (sym (same b of_b)) below));
   full = λ integer within b of_b square rank. ended Positive
       (some_full h.weighing h.heaviest h.is_heaviest (subst (λ (x : Matrix). x.rows ≡ cols x) (sym (same b of_b)) square) (subst (λ (x : Matrix). IsRank x (cols x)) (sym (same b of_b)) rank));
 }

@@ -22,11 +22,11 @@ use Rattle.btf_tool.specs.declared.answers.Answer.{Answer}
 use Rattle.btf_tool.specs.declared.answers.Answer.TheVariants.{Negative, Positive}
 use Rattle.btf_tool.specs.declared.refusals.Refusal.{Refusal}
 use Rattle.btf_tool.specs.declared.refusals.Refusal.TheVariants.{Usage, Malformed, Limit, TooLong, SumLimit, NeedsInteger, ReadFault, WriteFault, OutOfMemory}
-use Rattle.sp_ports.specs.Device.{Device, FailsOnceAtMost, IsUntouched, Took, TookFront}
+use Rattle.sp_ports.specs.Device.{Device, FailsOnceAtMost, IsUntouched, Took, TookPrefix}
 use Rattle.btf_tool.specs.Jobs.{IsMatrixOf, IsTextOf, MayAnswer, OfReading, ReadsFile, WasRead, WithAnswer, WithFileAnswer, end_of}
 use Rattle.btf_tool.specs.VerdictText.{IsVerdictText, answer_of, verdict_text}
 use Rattle.btf_tool.specs.Runs.{IsReadAs, IsUnread, JobSays}
-use Rattle.btf_tool.proofs.Completeness.{told}
+use Rattle.btf_tool.proofs.Completeness.{untouched_counts, where_known}
 
 -- what holds of this refusal holds of a result that is it
 pub as_refusal : {T : Type 0} (result : Result T Refusal) (refusal : Refusal) (Q : Result T Refusal → Type 0)
@@ -37,18 +37,18 @@ as_refusal (Err e) refusal Q is q = subst (λ (r : Refusal). Q (Err r)) (sym is)
 -- the reading was refused, and nothing was written
 pub file_refused : (job : Job) (input out : Device) (refusal : Refusal) → ReadsFile job → IsUnread (end_of job) input refusal → FailsOnceAtMost input → IsUntouched out → JobSays job input out (Err refusal)
 file_refused job input out Usage reads says later same = absurd says
-file_refused job input out (Malformed line kind) reads says later same = (later, (reads, says.0, says.1, same))
-file_refused job input out (Limit line kind) reads says later same = (later, (reads, says.0, says.1, same))
-file_refused job input out TooLong reads says later same = (later, (reads, says, same))
-file_refused job input out ReadFault reads says later same = (later, (reads, says.0, says.1, same))
+file_refused job input out (Malformed line kind) reads says later same = (later, untouched_counts out same, (reads, says.0, says.1, same))
+file_refused job input out (Limit line kind) reads says later same = (later, untouched_counts out same, (reads, says.0, says.1, same))
+file_refused job input out TooLong reads says later same = (later, untouched_counts out same, (reads, says, same))
+file_refused job input out ReadFault reads says later same = (later, untouched_counts out same, (reads, says.0, says.1, same))
 file_refused job input out (SumLimit row col) reads says later same = absurd says
 file_refused job input out NeedsInteger reads says later same = absurd says
 file_refused job input out WriteFault reads says later same = absurd says
-file_refused job input out OutOfMemory reads says later same = (later, (says, same))
+file_refused job input out OutOfMemory reads says later same = (later, untouched_counts out same, (says, same))
 
 -- memory ran out after the reading
 pub no_memory : (job : Job) (input out : Device) (t : Entries) (rest : List ℕ) → IsReadAs (end_of job) input t rest → FailsOnceAtMost input → IsUntouched out → JobSays job input out (Err OutOfMemory)
-no_memory job input out t rest says later same = (later, (told input.before input.after says.1 (λ x y before h. tt), same))
+no_memory job input out t rest says later same = (later, untouched_counts out same, (where_known input.before input.after says.1 (λ x y before h. tt), same))
 
 -- a job that reads a file answers over it
 from_file : (job : Job) (answer : Answer) (input : Device) (P : List ℕ → Type 0) → ReadsFile job → WithFileAnswer job answer input P → WithAnswer job answer input P
@@ -62,7 +62,7 @@ with_answer : (job : Job) (answer : Answer) (input : Device) (P : List ℕ → T
     → IsMatrixOf t a → IsTextOf job t a rest answer text → P text → WithAnswer job answer input P
 with_answer job answer input P text t rest a reads read matrix is_text p =
     from_file job answer input P reads
-    (told input.before input.after read (λ x y before h. (text, record { entries = t; rest = rest; matrix = a; was_read = h; is_matrix = matrix; is_text = is_text }, p)))
+    (where_known input.before input.after read (λ x y before h. (text, record { entries = t; rest = rest; matrix = a; was_read = h; is_matrix = matrix; is_text = is_text }, p)))
 
 -- a text of the job's is one of an answer that it may give
 may_answer : (job : Job) (answer : Answer) (t : Entries) (a : Matrix) (rest text : List ℕ) → IsTextOf job t a rest answer text → MayAnswer job answer
@@ -81,9 +81,9 @@ job_written job answer input out text t rest a reads says matrix is_text took =
     (may_answer job answer t a rest text is_text, says.0, took.steady, with_answer job answer input (Took out) text t rest a reads says.1 matrix is_text took)
 
 pub job_not_written : (job : Job) (answer : Answer) (input out : Device) (text : List ℕ) (t : Entries) (rest : List ℕ) (a : Matrix) → ReadsFile job → IsReadAs (end_of job) input t rest → FailsOnceAtMost input
-    → IsMatrixOf t a → IsTextOf job t a rest answer text → TookFront out text → JobSays job input out (Err WriteFault)
-job_not_written job answer input out text t rest a reads says counts matrix is_text front =
-    (counts, (front.fault, says.0, (answer, with_answer job answer input (TookFront out) text t rest a reads says.1 matrix is_text front)))
+    → IsMatrixOf t a → IsTextOf job t a rest answer text → TookPrefix out text → JobSays job input out (Err WriteFault)
+job_not_written job answer input out text t rest a reads says counts matrix is_text prefix =
+    (counts, prefix.counts, (prefix.fault, says.0, (answer, with_answer job answer input (TookPrefix out) text t rest a reads says.1 matrix is_text prefix)))
 
 -- the text of the same lists
 pub same_text : (Q : List ℕ → Type 0) (s : Sizes) (k : ℕ) (rows others cols more : List ℕ) → rows ≡ others → cols ≡ more → Q (rank_text s k rows cols) → Q (rank_text s k others more)
@@ -102,12 +102,12 @@ verdict_answers a bytes verdict fits is = record { fits = fits; verdict = verdic
 
 -- the file is no integer file
 pub not_integer : (input out : Device) (t : Entries) → IsReadAs File input t [] → FailsOnceAtMost input → ¬ (t.field ≡ Integer) → IsUntouched out → JobSays Diagonal input out (Err NeedsInteger)
-not_integer input out t says later not same = (later, (tt, says.0, told input.before input.after says.1 (λ x y before h. (t, [], h, not)), same))
+not_integer input out t says later not same = (later, untouched_counts out same, (tt, says.0, where_known input.before input.after says.1 (λ x y before h. (t, [], h, not)), same))
 
 -- a sum passes the limit
 pub past_limit : (input out : Device) (t : Entries) (row col : ℕ) → IsReadAs File input t [] → FailsOnceAtMost input → t.field ≡ Integer → IsFirstPast t row col → IsUntouched out
     → JobSays Diagonal input out (Err (SumLimit row col))
-past_limit input out t row col says later integer first same = (later, (tt, says.0, told input.before input.after says.1 (λ x y before h. (t, [], h, (integer, first))), same))
+past_limit input out t row col says later integer first same = (later, untouched_counts out same, (tt, says.0, where_known input.before input.after says.1 (λ x y before h. (t, [], h, (integer, first))), same))
 
 -- the text is that of the answer
 pub diagonal_answers : (t : Entries) (a : Matrix) (w : Weighing) (h : Heaviest) → t.field ≡ Integer → AreWeightsOf t a w → IsHeaviest w h → IsDiagonalText t a (answer_on h) (diagonal_text w h)

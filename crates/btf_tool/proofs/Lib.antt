@@ -6,4 +6,3 @@ mod Jobs
 mod Loads
 mod NeighbourLemmas
 mod Summaries
-mod VerdictLemmas

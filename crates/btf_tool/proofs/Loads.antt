@@ -5,14 +5,14 @@ use Rattle.btf_words.specs.declared.jobs.Search.{Search}
 use Rattle.btf_words.specs.declared.jobs.Job.TheVariants.{Load}
 use Rattle.btf_tool.specs.declared.answers.Answer.TheVariants.{Positive}
 use Rattle.btf_tool.specs.declared.refusals.Refusal.TheVariants.{OutOfMemory, WriteFault}
-use Rattle.sp_ports.specs.Device.{Device, IsUntouched, Took, TookFront}
+use Rattle.sp_ports.specs.Device.{Device, IsUntouched, Took, TookPrefix}
 use Rattle.btf_tool.specs.Runs.{JobSays}
 use Rattle.btf_tool.specs.Summaries.{IsLoadMatrix, IsSummary}
 use Rattle.btf_tool.proofs.Completeness.{untouched_counts, untouched_tells}
 
 -- memory ran out
 pub load_no_memory : (size seed : ℕ) (search : Search) (input out : Device) → IsUntouched input → IsUntouched out → JobSays (Load size seed search) input out (Err OutOfMemory)
-load_no_memory size seed search input out same unwritten = (untouched_counts input same, (untouched_tells input same, unwritten))
+load_no_memory size seed search input out same unwritten = (untouched_counts input same, untouched_counts out unwritten, (untouched_tells input same, unwritten))
 
 -- the summary was written
 pub load_written : (size seed : ℕ) (search : Search) (input out : Device) (text : List ℕ) (a : Matrix) → IsUntouched input → IsLoadMatrix size seed a → IsSummary a text
@@ -22,6 +22,6 @@ load_written size seed search input out text a same matrix summary took =
 
 -- a write of it failed
 pub load_not_written : (size seed : ℕ) (search : Search) (input out : Device) (text : List ℕ) (a : Matrix) → IsUntouched input → IsLoadMatrix size seed a → IsSummary a text
-    → TookFront out text → JobSays (Load size seed search) input out (Err WriteFault)
-load_not_written size seed search input out text a same matrix summary front =
-    (untouched_counts input same, (front.fault, same.1, (Positive, (text, record { matrix = a; is_matrix = matrix; is_summary = summary; positive = refl }, front))))
+    → TookPrefix out text → JobSays (Load size seed search) input out (Err WriteFault)
+load_not_written size seed search input out text a same matrix summary prefix =
+    (untouched_counts input same, prefix.counts, (prefix.fault, same.1, (Positive, (text, record { matrix = a; is_matrix = matrix; is_summary = summary; positive = refl }, prefix))))

@@ -17,7 +17,8 @@ answer_on (Singular rank hall) = Negative
 answer_on (Diagonal pairs u v sum) = Positive
 
 -- the text of a heaviest diagonal of an integer file's matrix, or of why there is none
-pub record IsDiagonalText (t : Entries) (a : Matrix) (answer : Answer) (text : List ℕ) : Type 0 where
+pub record IsDiagonalText (t : Entries) (a : Matrix) (answer : Answer)
+    (text : List ℕ) : Type 0 where
   pub integer : t.field ≡ Integer
   pub weighing : Weighing
   pub are_weights : AreWeightsOf t a weighing

@@ -7,10 +7,10 @@ use Rattle.bip_graph.specs.Answers.{IsAnalysis, IsRankText}
 use Rattle.btf_words.specs.declared.jobs.Job.{Job}
 use Rattle.btf_words.specs.declared.jobs.Job.TheVariants.{Rank, Analyse, Diagonal, Check, Load}
 use Rattle.mm_defs.specs.File.{Reads}
-use Rattle.mm_defs.specs.Calls.{Call, offered}
+use Rattle.mm_defs.specs.Calls.{Call, call_on, offered}
 use Rattle.mm_defs.specs.declared.answers.End.{End}
 use Rattle.mm_defs.specs.declared.answers.End.TheVariants.{File, LastEntry}
-use Rattle.sp_ports.specs.Bytes.{WhereTold}
+use Rattle.sp_ports.specs.Bytes.{WhereKnown}
 use Rattle.btf_tool.specs.declared.answers.Answer.{Answer}
 use Rattle.btf_tool.specs.declared.answers.Answer.TheVariants.{Negative, Positive}
 use Rattle.sp_ports.specs.Device.{Device}
@@ -31,10 +31,20 @@ pub record Traits : Type 0 where
 
 abbrev pub traits_of : Job → Traits
 traits_of Rank = record { reads = true; end = File; weighs = false; denies = false }
-traits_of (Analyse search order pairs) = record { reads = true; end = File; weighs = false; denies = false }
+traits_of (Analyse search order pairs) = record {
+  reads = true;
+  end = File;
+  weighs = false;
+  denies = false;
+}
 traits_of Diagonal = record { reads = true; end = File; weighs = true; denies = true }
 traits_of Check = record { reads = true; end = LastEntry; weighs = false; denies = true }
-traits_of (Load size seed search) = record { reads = false; end = File; weighs = false; denies = false }
+traits_of (Load size seed search) = record {
+  reads = false;
+  end = File;
+  weighs = false;
+  denies = false;
+}
 
 abbrev pub Holds : Bool → Type 0
 Holds true = Unit {0}
@@ -55,21 +65,16 @@ MayAnswer job Negative = Holds (traits_of job).denies
 
 -- the reading of an input that told these bytes before and has these left
 abbrev pub reading : Device → List ℕ → List ℕ → Call
-reading input before after = record {
-  room = max_input_bytes;
-  ahead = [];
-  before = before;
-  after = after;
-  failures_before = input.failed_before;
-  failures_after = input.failed_after;
-}
+reading input before after =
+    call_on max_input_bytes [] input.failed_before input.failed_after before after
 
 -- what holds of the reading, where the input tells its bytes
 abbrev pub OfReading : Device → (Call → Type 0) → Type 0
-OfReading input P = WhereTold input.before input.after (λ before after. P (reading input before after))
+OfReading input P = WhereKnown input.before input.after
+    (λ before after. P (reading input before after))
 
 -- what is left is the end of what there was, and at most one byte past the limit was taken
-pub record GaveFront (call : Call) : Type 0 where
+pub record GavePrefix (call : Call) : Type 0 where
   pub gave : List ℕ
   pub in_order : call.before ≡ gave ++ call.after
   pub few : length gave ≤ call.room + 1
@@ -87,7 +92,8 @@ IsMatrixOf t a = HasPlaces t.rows t.cols (places t) a
 -- the text that a job answers over its file, the file's matrix and what followed the file, and whether it is what was asked for
 abbrev pub IsTextOf : Job → Entries → Matrix → List ℕ → Answer → List ℕ → Type 0
 IsTextOf Rank t a rest answer text = (answer ≡ Positive) × IsRankText a text
-IsTextOf (Analyse search order pairs) t a rest answer text = (answer ≡ Positive) × IsAnalysis a order pairs text
+IsTextOf (Analyse search order pairs) t a rest answer text = (answer ≡ Positive)
+    × IsAnalysis a order pairs text
 IsTextOf Diagonal t a rest answer text = IsDiagonalText t a answer text
 IsTextOf Check t a rest answer text = IsVerdictText a rest answer text
 IsTextOf (Load size seed search) t a rest answer text = (answer ≡ Positive) × IsSummary a text
@@ -110,9 +116,11 @@ pub record IsLoadAnswer (size seed : ℕ) (answer : Answer) (text : List ℕ) : 
 
 -- what was done with the answer over a file, where the input tells its bytes
 abbrev pub WithFileAnswer : Job → Answer → Device → (List ℕ → Type 0) → Type 0
-WithFileAnswer job answer input P = OfReading input (λ call. (text : List ℕ) × IsAnswer job call answer text × P text)
+WithFileAnswer job answer input P = OfReading input
+    (λ call. (text : List ℕ) × IsAnswer job call answer text × P text)
 
 -- what was done with the job's answer
 abbrev pub WithAnswer : Job → Answer → Device → (List ℕ → Type 0) → Type 0
-WithAnswer (Load size seed search) answer input P = (text : List ℕ) × IsLoadAnswer size seed answer text × P text
+WithAnswer (Load size seed search) answer input P = (text : List ℕ)
+    × IsLoadAnswer size seed answer text × P text
 WithAnswer job answer input P = WithFileAnswer job answer input P

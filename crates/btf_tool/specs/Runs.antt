@@ -17,12 +17,12 @@ use Rattle.mm_defs.specs.Faults.{is_limit}
 use Rattle.mm_defs.specs.File.{Fault, Reads, first_fault}
 use Rattle.mm_defs.specs.Calls.{first_bad, got}
 use Rattle.mm_defs.specs.declared.answers.End.{End}
-use Rattle.sp_ports.specs.Bytes.{WhereTold}
+use Rattle.sp_ports.specs.Bytes.{WhereKnown}
 use Rattle.btf_tool.specs.declared.answers.Answer.{Answer}
 use Rattle.btf_tool.specs.declared.answers.Answer.TheVariants.{Negative, Positive}
 use Rattle.btf_tool.specs.declared.refusals.Refusal.{Refusal}
 use Rattle.btf_tool.specs.declared.refusals.Refusal.TheVariants.{Usage, Malformed, Limit, TooLong, SumLimit, NeedsInteger, ReadFault, WriteFault, OutOfMemory}
-use Rattle.sp_ports.specs.Device.{Device, FailsOnceAtMost, IsSteady, IsUntouched, HasReadFault, HasWriteFault, Took, TookFront, WroteAsFar}
+use Rattle.sp_ports.specs.Device.{Device, FailsOnceAtMost, IsSteady, IsUntouched, HasReadFault, HasWriteFault, Took, TookPrefix, WroteAsFar}
 use Rattle.btf_tool.specs.Jobs.{IsMatrixOf, MayAnswer, OfReading, ReadsFile, WasRead, Weighs, WithAnswer, end_of}
 use Rattle.btf_tool.specs.VerdictText.{answer_of}
 use Rattle.btf_tool.specs.Refusals.{line_of, status_of, status_of_answer}
@@ -57,7 +57,7 @@ pub record IsAnswered (r : Run) (answer : Answer) : Type 0 where
   pub written : WithAnswer job answer r.input (Took r.out)
   pub steady_input : IsSteady r.input
   pub steady_out : IsSteady r.out
-  pub nothing_told : IsUntouched r.err
+  pub nothing_written : IsUntouched r.err
 
 -- ---- refusals
 
@@ -67,38 +67,47 @@ IsBadLine end input fault = OfReading input (λ call. first_bad end call ≡ Som
 
 -- no line is bad of what the input gave, and it gave no more bytes than it may have
 abbrev pub IsGoodSoFar : End → Device → Type 0
-IsGoodSoFar end input = OfReading input (λ call. (first_bad end call ≡ None) × (length (got call) ≤ call.room))
+IsGoodSoFar end input = OfReading input
+    (λ call. (first_bad end call ≡ None) × (length (got call) ≤ call.room))
 
 -- no line is bad of what the input gave, and it gave more bytes than it may have
 abbrev pub IsTooLong : End → Device → Type 0
-IsTooLong end input = OfReading input (λ call. (first_bad end call ≡ None) × (call.room < length (got call)))
+IsTooLong end input = OfReading input
+    (λ call. (first_bad end call ≡ None) × (call.room < length (got call)))
 
--- an input that told its bytes tells them still
-abbrev pub TellsStill : Device → Type 0
-TellsStill input = WhereTold input.before input.after (λ before after. Unit {0})
+-- where the bytes of an input were known they still are
+abbrev pub StaysKnown : Device → Type 0
+StaysKnown input = WhereKnown input.before input.after (λ before after. Unit {0})
 
 -- the job's file was a good one and was read to its end, and this holds of its entries
 abbrev pub WithFile : Job → Device → (Entries → Type 0) → Type 0
-WithFile job input P = OfReading input (λ call. (t : Entries) × (rest : List ℕ) × WasRead (end_of job) call t rest × P t)
+WithFile job input P = OfReading input
+    (λ call. (t : Entries) × (rest : List ℕ) × WasRead (end_of job) call t rest × P t)
 
 -- What a refusal of a job says of the input and of the output. Only a job that reads a file is refused for what it read.
 abbrev pub IsCause : Job → Device → Device → Refusal → Type 0
 -- the first bad line is not of the file's form
-IsCause job input out (Malformed line kind) = ReadsFile job × (is_limit kind ≡ false) × IsBadLine (end_of job) input (record { line = line; kind = kind }) × IsUntouched out
+IsCause job input out (Malformed line kind) = ReadsFile job × (is_limit kind ≡ false)
+    × IsBadLine (end_of job) input (record { line = line; kind = kind }) × IsUntouched out
 -- the first bad line passes a limit
-IsCause job input out (Limit line kind) = ReadsFile job × (is_limit kind ≡ true) × IsBadLine (end_of job) input (record { line = line; kind = kind }) × IsUntouched out
+IsCause job input out (Limit line kind) = ReadsFile job × (is_limit kind ≡ true)
+    × IsBadLine (end_of job) input (record { line = line; kind = kind }) × IsUntouched out
 -- no line is bad, and the input gave more bytes than it may have
 IsCause job input out TooLong = ReadsFile job × IsTooLong (end_of job) input × IsUntouched out
 -- the sum of a place's values passes the limit, in the integer file of a job that adds them up
-IsCause job input out (SumLimit row col) = Weighs job × IsSteady input × WithFile job input (λ t. (t.field ≡ Integer) × IsFirstPast t row col) × IsUntouched out
+IsCause job input out (SumLimit row col) = Weighs job × IsSteady input
+    × WithFile job input (λ t. (t.field ≡ Integer) × IsFirstPast t row col) × IsUntouched out
 -- the file of such a job is no integer file
-IsCause job input out NeedsInteger = Weighs job × IsSteady input × WithFile job input (λ t. ¬ (t.field ≡ Integer)) × IsUntouched out
+IsCause job input out NeedsInteger = Weighs job × IsSteady input
+    × WithFile job input (λ t. ¬ (t.field ≡ Integer)) × IsUntouched out
 -- a read failed, no line that had ended is bad, and no more bytes came than the input may have
-IsCause job input out ReadFault = ReadsFile job × HasReadFault input × IsGoodSoFar (end_of job) input × IsUntouched out
--- a write failed, and a front of the job's answer was taken
-IsCause job input out WriteFault = HasWriteFault out × IsSteady input × ((answer : Answer) × WithAnswer job answer input (TookFront out))
+IsCause job input out ReadFault = ReadsFile job × HasReadFault input
+    × IsGoodSoFar (end_of job) input × IsUntouched out
+-- a write failed, and a prefix of the job's answer was taken
+IsCause job input out WriteFault = HasWriteFault out × IsSteady input
+    × ((answer : Answer) × WithAnswer job answer input (TookPrefix out))
 -- nothing is said of why
-IsCause job input out OutOfMemory = TellsStill input × IsUntouched out
+IsCause job input out OutOfMemory = StaysKnown input × IsUntouched out
 -- words that name a job are no cause
 IsCause job input out Usage = ⊥
 
@@ -108,11 +117,13 @@ IsReadAs end input t rest = IsSteady input × OfReading input (λ call. WasRead 
 
 -- Why the input could not be read.
 abbrev pub IsUnread : End → Device → Refusal → Type 0
-IsUnread end input (Malformed line kind) = (is_limit kind ≡ false) × IsBadLine end input (record { line = line; kind = kind })
-IsUnread end input (Limit line kind) = (is_limit kind ≡ true) × IsBadLine end input (record { line = line; kind = kind })
+IsUnread end input (Malformed line kind) = (is_limit kind ≡ false)
+    × IsBadLine end input (record { line = line; kind = kind })
+IsUnread end input (Limit line kind) = (is_limit kind ≡ true)
+    × IsBadLine end input (record { line = line; kind = kind })
 IsUnread end input TooLong = IsTooLong end input
 IsUnread end input ReadFault = HasReadFault input × IsGoodSoFar end input
-IsUnread end input OutOfMemory = TellsStill input
+IsUnread end input OutOfMemory = StaysKnown input
 IsUnread end input (SumLimit row col) = ⊥
 IsUnread end input NeedsInteger = ⊥
 IsUnread end input WriteFault = ⊥
@@ -120,21 +131,24 @@ IsUnread end input Usage = ⊥
 
 -- What the outcome of a job says of the input and of the output.
 abbrev pub JobSays : Job → Device → Device → Result Answer Refusal → Type 0
-JobSays job input out (Ok answer) = MayAnswer job answer × IsSteady input × IsSteady out × WithAnswer job answer input (Took out)
-JobSays job input out (Err refusal) = FailsOnceAtMost input × IsCause job input out refusal
+JobSays job input out (Ok answer) = MayAnswer job answer × IsSteady input × IsSteady out
+    × WithAnswer job answer input (Took out)
+JobSays job input out (Err refusal) = FailsOnceAtMost input × FailsOnceAtMost out
+    × IsCause job input out refusal
 
 -- What a refusal says of a run.
 abbrev pub HasCause : Run → Refusal → Type 0
 -- the words are not taken, and nothing was read or written
 HasCause r Usage = (¬ AreTaken r.words) × IsUntouched r.input × IsUntouched r.out
-HasCause r OutOfMemory = FailsOnceAtMost r.input × TellsStill r.input × IsUntouched r.out
-HasCause r refusal = (job : Job) × Names r.words job × FailsOnceAtMost r.input × IsCause job r.input r.out refusal
+HasCause r OutOfMemory = FailsOnceAtMost r.input × StaysKnown r.input × IsUntouched r.out
+HasCause r refusal = (job : Job) × Names r.words job × FailsOnceAtMost r.input
+    × IsCause job r.input r.out refusal
 
--- The run was refused: the status is the refusal's, its line was told, and it has its cause.
+-- The run was refused: the status is the refusal's, its line was written, and it has its cause.
 pub record IsRefused (r : Run) (status : Status) : Type 0 where
   pub refusal : Refusal
   pub status_is : status ≡ status_of refusal
-  pub told : WroteAsFar r.err (line_of refusal)
+  pub line : WroteAsFar r.err (line_of refusal)
   pub cause : HasCause r refusal
 
 -- what each status says
@@ -156,7 +170,8 @@ status_of_fault fault = if is_limit fault.kind then statuses.Limit else statuses
 -- the verdict on the bytes behind a good file comes, unless memory ran out
 pub record ComesToVerdict (t : Entries) (bytes : List ℕ) (status : Status) : Type 0 where
   pub comes : (status ≡ statuses.Negative) ⊎ IsOrNoMemory status statuses.Ok
-  pub right : (a : Matrix) (verdict : Verdict) → IsMatrixOf t a → IsVerdict a bytes verdict → IsOrNoMemory status (status_of_answer (answer_of verdict))
+  pub right : (a : Matrix) (verdict : Verdict) → IsMatrixOf t a → IsVerdict a bytes verdict
+      → IsOrNoMemory status (status_of_answer (answer_of verdict))
 
 -- no place's sum passes the limit
 abbrev pub IsWithin : Entries → Type 0
@@ -165,14 +180,19 @@ IsWithin t = (r c : ℕ) → weight_of t r c ≤ weight_limit
 -- a file that has no weights is refused for that, unless memory ran out
 pub record ComesToNoWeights (t : Entries) (status : Status) : Type 0 where
   pub needs_integer : ¬ (t.field ≡ Integer) → IsOrNoMemory status statuses.NeedsInteger
-  pub past : t.field ≡ Integer → (r c : ℕ) → weight_limit < weight_of t r c → IsOrNoMemory status statuses.Limit
+  pub past : t.field ≡ Integer → (r c : ℕ) → weight_limit < weight_of t r c
+      → IsOrNoMemory status statuses.Limit
 
 -- the diagonal of a good file comes, or why there is none, unless memory ran out
 pub record ComesToDiagonal (t : Entries) (status : Status) : Type 0 where
-  pub comes : t.field ≡ Integer → IsWithin t → (status ≡ statuses.Negative) ⊎ IsOrNoMemory status statuses.Ok
-  pub rectangular : t.field ≡ Integer → IsWithin t → (a : Matrix) → IsMatrixOf t a → ¬ (a.rows ≡ cols a) → IsOrNoMemory status statuses.Negative
-  pub singular : t.field ≡ Integer → IsWithin t → (a : Matrix) (k : ℕ) → IsMatrixOf t a → IsRank a k → k < cols a → IsOrNoMemory status statuses.Negative
-  pub full : t.field ≡ Integer → IsWithin t → (a : Matrix) → IsMatrixOf t a → a.rows ≡ cols a → IsRank a (cols a) → IsOrNoMemory status statuses.Ok
+  pub comes : t.field ≡ Integer → IsWithin t → (status ≡ statuses.Negative)
+      ⊎ IsOrNoMemory status statuses.Ok
+  pub rectangular : t.field ≡ Integer → IsWithin t → (a : Matrix) → IsMatrixOf t a
+      → ¬ (a.rows ≡ cols a) → IsOrNoMemory status statuses.Negative
+  pub singular : t.field ≡ Integer → IsWithin t → (a : Matrix) (k : ℕ) → IsMatrixOf t a → IsRank a k
+      → k < cols a → IsOrNoMemory status statuses.Negative
+  pub full : t.field ≡ Integer → IsWithin t → (a : Matrix) → IsMatrixOf t a → a.rows ≡ cols a
+      → IsRank a (cols a) → IsOrNoMemory status statuses.Ok
 
 -- how a job ends over a good file, where no device failed
 abbrev pub EndsWell : Job → Entries → List ℕ → Status → Type 0
@@ -185,21 +205,33 @@ pub record Completes (r : Run) (status : Status) : Type 0 where
   pub usage : ¬ AreTaken r.words → IsOrNoMemory status statuses.Usage
   -- a bad line that the input gave is answered, whatever follows it
   pub bad_line : (job : Job) → NamesReader r.words job
-      → OfReading r.input (λ call. (fault : Fault) → first_bad (end_of job) call ≡ Some fault → IsOrNoMemory status (status_of_fault fault))
+      → OfReading r.input (λ call. (fault : Fault) → first_bad (end_of job) call ≡ Some fault
+      → IsOrNoMemory status (status_of_fault fault))
   -- a good file within the limits is answered, where no device failed
   pub good : (job : Job) → NamesReader r.words job → ¬ HasReadFault r.input → ¬ HasWriteFault r.out
-      → OfReading r.input (λ call. (t : Entries) (rest : List ℕ) → Reads call.before (end_of job) t rest → length call.before ≤ max_input_bytes → EndsWell job t rest status)
+      → OfReading r.input (λ call. (t : Entries) (rest : List ℕ)
+      → Reads call.before (end_of job) t rest → length call.before ≤ max_input_bytes
+      → EndsWell job t rest status)
   -- a good file without weights is refused for that by a job that needs them, whatever comes of writes
   pub unweighed : (job : Job) → NamesReader r.words job → Weighs job → ¬ HasReadFault r.input
-      → OfReading r.input (λ call. (t : Entries) (rest : List ℕ) → Reads call.before (end_of job) t rest → length call.before ≤ max_input_bytes → ComesToNoWeights t status)
+      → OfReading r.input (λ call. (t : Entries) (rest : List ℕ)
+      → Reads call.before (end_of job) t rest → length call.before ≤ max_input_bytes
+      → ComesToNoWeights t status)
   -- what is no good file within the limits is refused by its kind, where no read failed
   pub not_good : (job : Job) → NamesReader r.words job → ¬ HasReadFault r.input
-      → OfReading r.input (λ call. ((t : Entries) (rest : List ℕ) → Reads call.before (end_of job) t rest → ¬ (length call.before ≤ max_input_bytes)) → ((status ≡ statuses.Malformed) ⊎ (status ≡ statuses.Limit)) ⊎ (status ≡ statuses.OutOfMemory))
+      → OfReading r.input (λ call.
+      ((t : Entries) (rest : List ℕ) → Reads call.before (end_of job) t rest
+      → ¬ (length call.before ≤ max_input_bytes))
+      → ((status ≡ statuses.Malformed) ⊎ (status ≡ statuses.Limit))
+      ⊎ (status ≡ statuses.OutOfMemory))
   -- more bytes than the input may have are refused for their number, whatever failed, where no line that had ended is bad
   pub too_many : (job : Job) → NamesReader r.words job
-      → OfReading r.input (λ call. first_bad (end_of job) call ≡ None → call.room < length (got call) → IsOrNoMemory status statuses.Limit)
+      → OfReading r.input (λ call. first_bad (end_of job) call ≡ None
+      → call.room < length (got call) → IsOrNoMemory status statuses.Limit)
   -- so is an input that is too long, where no read failed and no line that ends within the limit is bad
   pub too_long : (job : Job) → NamesReader r.words job → ¬ HasReadFault r.input
-      → OfReading r.input (λ call. max_input_bytes < length call.before → first_fault (end_of job) false (take max_input_bytes call.before) ≡ None → IsOrNoMemory status statuses.Limit)
+      → OfReading r.input (λ call. max_input_bytes < length call.before
+      → first_fault (end_of job) false (take max_input_bytes call.before) ≡ None
+      → IsOrNoMemory status statuses.Limit)
   -- a matrix that is made is answered, whatever the input, where no write failed
   pub made : NameMaker r.words → ¬ HasWriteFault r.out → IsOrNoMemory status statuses.Ok

@@ -19,7 +19,8 @@ answer_of Valid = Positive
 answer_of (Invalid reason) = Negative
 
 -- the line of the verdict on these bytes, over a matrix whose sizes fit 32 bits
-pub record IsVerdictText (a : Matrix) (bytes : List ℕ) (answer : Answer) (text : List ℕ) : Type 0 where
+pub record IsVerdictText (a : Matrix) (bytes : List ℕ) (answer : Answer)
+    (text : List ℕ) : Type 0 where
   pub fits : IsPattern a
   pub verdict : Verdict
   pub is_verdict : IsVerdict a bytes verdict

@@ -6,7 +6,7 @@ ghost use Rattle.btf_words.specs.Words.{HasWorkers};
 ghost use Rattle.btf_words.specs.declared.jobs.Job.TheVariants.{Analyse};
 ghost use Rattle.btf_tool.specs.Analyses.{IsFoundIn};
 ghost use Rattle.sp_ports.specs.Device.{seen};
-ghost use Rattle.btf_tool.specs.Jobs.{GaveFront, IsMatrixOf, OfReading};
+ghost use Rattle.btf_tool.specs.Jobs.{GavePrefix, IsMatrixOf, OfReading};
 ghost use Rattle.btf_tool.specs.Runs.{JobSays};
 
 use crate::decompose::{Analysis, decompose};
@@ -39,8 +39,9 @@ pub(crate) fn analyse<R: Threads + Sync, S: Source, O: Sink, G: Gate>(
     gate: &G,
 ) -> Result<Answer, Refusal>
     requires workers { HasWorkers options.search }
-    ensures says { JobSays (Analyse options.search options.order options.pairs) (seen S.left S.faults input.old input.new) (seen O.taken O.faults out.old out.new) result }
-    ensures gave { OfReading (seen S.left S.faults input.old input.new) GaveFront }
+    ensures says { JobSays (Analyse options.search options.order options.pairs)
+        (seen S.left S.faults input.old input.new) (seen O.taken O.faults out.old out.new) result }
+    ensures gave { OfReading (seen S.left S.faults input.old input.new) GavePrefix }
 {
     let triples = read_file(alloc, input)?;
     let analysis = analysis_of(rt, alloc, triples, options.search, gate)?;
@@ -64,7 +65,8 @@ fn analysis_of<R: Threads + Sync, G: Gate>(
     gate: &G,
 ) -> Result<Analysis, OutOfMemory>
     requires workers { HasWorkers search }
-    ensures { IfOk result (λ s. (a : Matrix) × IsMatrixOf triples a × IsFoundIn a s.decomposition s.matching.pairs) }
+    ensures { IfOk result
+        (λ s. (a : Matrix) × IsMatrixOf triples a × IsFoundIn a s.decomposition s.matching.pairs) }
 {
     let pattern = Pattern::build(rt, alloc, &triples)?;
     drop(triples);

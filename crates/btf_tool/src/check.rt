@@ -6,7 +6,7 @@ ghost use Rattle.btf_check.specs.Verdicts.{IsVerdict};
 ghost use Rattle.btf_words.specs.declared.jobs.Job.TheVariants.{Check};
 ghost use Rattle.sp_pattern.specs.Stored.{IsPattern};
 ghost use Rattle.sp_ports.specs.Device.{Writes, seen};
-ghost use Rattle.btf_tool.specs.Jobs.{GaveFront, IsMatrixOf, OfReading};
+ghost use Rattle.btf_tool.specs.Jobs.{GavePrefix, IsMatrixOf, OfReading};
 ghost use Rattle.btf_tool.specs.VerdictText.{answer_of as answer_on, verdict_text};
 ghost use Rattle.btf_tool.specs.Runs.{JobSays};
 
@@ -28,8 +28,9 @@ pub(crate) fn check<R: Threads + Sync, S: Source, O: Sink>(
     input: &mut S,
     out: &mut O,
 ) -> Result<Answer, Refusal>
-    ensures says { JobSays Check (seen S.left S.faults input.old input.new) (seen O.taken O.faults out.old out.new) result }
-    ensures gave { OfReading (seen S.left S.faults input.old input.new) GaveFront }
+    ensures says { JobSays Check (seen S.left S.faults input.old input.new)
+        (seen O.taken O.faults out.old out.new) result }
+    ensures gave { OfReading (seen S.left S.faults input.old input.new) GavePrefix }
 {
     let file = read_followed(alloc, input)?;
     let verdict = verdict_on(rt, alloc, file)?;
@@ -44,7 +45,9 @@ fn verdict_on<R: Threads + Sync>(
     alloc: Global,
     file: Followed,
 ) -> Result<Verdict, OutOfMemory>
-    ensures { IfOk result (λ v. (a : Matrix) × IsMatrixOf file.triples a × IsPattern a × IsVerdict a file.rest.items v) }
+    ensures { IfOk result
+        (λ v. (a : Matrix) × IsMatrixOf file.triples a × IsPattern a
+        × IsVerdict a file.rest.items v) }
 {
     let Followed { triples, rest } = file;
     let pattern = Pattern::build(rt, alloc, &triples)?;

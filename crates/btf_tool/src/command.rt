@@ -2,8 +2,8 @@
 
 ghost use Rattle.std.specs.Prelude.{map, string_bytes};
 ghost use Rattle.btf_words.specs.Words.{IsWithinLimits};
-ghost use Rattle.sp_ports.specs.Device.{IsUntouched, seen};
-ghost use Rattle.btf_tool.specs.Jobs.{GaveFront, OfReading, ReadsFile};
+ghost use Rattle.sp_ports.specs.Device.{FailsOnceAtMost, IsUntouched, seen};
+ghost use Rattle.btf_tool.specs.Jobs.{GavePrefix, OfReading, ReadsFile};
 ghost use Rattle.btf_tool.specs.Runs.{Completes, JobSays, NameMaker, Says};
 
 use crate::analyse::{Options, analyse};
@@ -13,7 +13,9 @@ use crate::load::load;
 use crate::rank::rank;
 use crate::refusals::refuse;
 use crate::{Answer, Refusal};
+use btf_check::one_verdict;
 use btf_words::{Job, WordsError, read_words};
+use integer_diagonal::full_matching_shows_rank;
 use sp_ids::Status;
 use sp_ports::{Gate, Sink, Source};
 use std::alloc::Global;
@@ -50,12 +52,21 @@ pub fn run<R: Threads + Sync, S: Source, O: Sink, E: Sink, G: Gate>(
       err = seen E.taken E.faults err.old err.new;
     }) result }
 
+    // No device is asked again after a call of it that failed.
+    ensures input_once { FailsOnceAtMost (seen S.left S.faults input.old input.new) }
+    ensures out_once { FailsOnceAtMost (seen O.taken O.faults out.old out.new) }
+    ensures err_once { FailsOnceAtMost (seen E.taken E.faults err.old err.new) }
+
     // What the input has left is the end of what it had, and at most one byte past its limit was taken.
-    ensures gave { OfReading (seen S.left S.faults input.old input.new) GaveFront }
+    ensures gave { OfReading (seen S.left S.faults input.old input.new) GavePrefix }
 
     // A matrix that is made is made without the input.
-    ensures unread { NameMaker (map string_bytes words.now) → IsUntouched (seen S.left S.faults input.old input.new) }
+    ensures unread { NameMaker (map string_bytes words.now)
+        → IsUntouched (seen S.left S.faults input.old input.new) }
 {
+    // There is one verdict on bytes, and a matrix with a diagonal has full rank.
+    one_verdict();
+    full_matching_shows_rank();
     match read_words(alloc, words) {
         Err(WordsError::Usage) => refuse(err, &Refusal::Usage),
         Err(WordsError::OutOfMemory) => refuse(err, &Refusal::OutOfMemory),
@@ -76,8 +87,9 @@ fn perform<R: Threads + Sync, S: Source, O: Sink, G: Gate>(
     gate: &G,
 ) -> Result<Answer, Refusal>
     requires limits { IsWithinLimits job }
-    ensures says { JobSays job (seen S.left S.faults input.old input.new) (seen O.taken O.faults out.old out.new) result }
-    ensures gave { OfReading (seen S.left S.faults input.old input.new) GaveFront }
+    ensures says { JobSays job (seen S.left S.faults input.old input.new)
+        (seen O.taken O.faults out.old out.new) result }
+    ensures gave { OfReading (seen S.left S.faults input.old input.new) GavePrefix }
     ensures unread { ¬ ReadsFile job → IsUntouched (seen S.left S.faults input.old input.new) }
 {
     match job {

@@ -4,7 +4,7 @@ ghost use Rattle.std.specs.Prelude.{◌≡◌};
 ghost use Rattle.btf_words.specs.declared.jobs.Job.TheVariants.{Diagonal};
 ghost use Rattle.sp_ports.specs.Device.{seen};
 ghost use Rattle.btf_tool.specs.Diagonals.{answer_on};
-ghost use Rattle.btf_tool.specs.Jobs.{GaveFront, OfReading};
+ghost use Rattle.btf_tool.specs.Jobs.{GavePrefix, OfReading};
 ghost use Rattle.btf_tool.specs.Refusals.{refusal_without_weights};
 ghost use Rattle.btf_tool.specs.Runs.{JobSays};
 
@@ -27,8 +27,9 @@ pub(crate) fn diagonal<R: Threads + Sync, S: Source, O: Sink>(
     input: &mut S,
     out: &mut O,
 ) -> Result<Answer, Refusal>
-    ensures says { JobSays Diagonal (seen S.left S.faults input.old input.new) (seen O.taken O.faults out.old out.new) result }
-    ensures gave { OfReading (seen S.left S.faults input.old input.new) GaveFront }
+    ensures says { JobSays Diagonal (seen S.left S.faults input.old input.new)
+        (seen O.taken O.faults out.old out.new) result }
+    ensures gave { OfReading (seen S.left S.faults input.old input.new) GavePrefix }
 {
     let triples = read_file(alloc, input)?;
     let Field::Integer = triples.field() else {

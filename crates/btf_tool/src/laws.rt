@@ -7,5 +7,6 @@ ghost use Rattle.btf_tool.specs.Summaries.{IsLoadMatrix, IsSummary};
 /// A matrix has one summary, and so have a size and a seed, whichever engine finds it.
 pub fn one_summary()
     ensures matrix { (a : Matrix) (s t : List ℕ) → IsSummary a s → IsSummary a t → s ≡ t }
-    ensures load { (size seed : ℕ) (a b : Matrix) (s t : List ℕ) → IsLoadMatrix size seed a → IsLoadMatrix size seed b → IsSummary a s → IsSummary b t → s ≡ t }
+    ensures load { (size seed : ℕ) (a b : Matrix) (s t : List ℕ) → IsLoadMatrix size seed a
+        → IsLoadMatrix size seed b → IsSummary a s → IsSummary b t → s ≡ t }
 {}

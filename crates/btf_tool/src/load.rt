@@ -34,7 +34,8 @@ pub(crate) fn load<R: Threads + Sync, O: Sink, G: Gate>(
     requires some { 1 ≤ size }
     requires few { size ≤ max_load_size }
     requires workers { HasWorkers search }
-    ensures { (input : Device) → IsUntouched input → JobSays (Load size seed search) input (seen O.taken O.faults out.old out.new) result }
+    ensures { (input : Device) → IsUntouched input
+        → JobSays (Load size seed search) input (seen O.taken O.faults out.old out.new) result }
 {
     let analysis = analysis_of(rt, alloc, size, seed, search, gate)?;
     let mut buf = TextBuf::new(alloc)?;
@@ -55,7 +56,9 @@ fn analysis_of<R: Threads + Sync, G: Gate>(
     requires some { 1 ≤ size }
     requires few { size ≤ max_load_size }
     requires workers { HasWorkers search }
-    ensures { IfOk result (λ s. (a : Matrix) × IsLoadMatrix size seed a × IsFoundIn a s.decomposition s.matching.pairs) }
+    ensures { IfOk result
+        (λ s. (a : Matrix) × IsLoadMatrix size seed a
+        × IsFoundIn a s.decomposition s.matching.pairs) }
 {
     let pattern = load_matrix(rt, alloc, size, seed)?;
     decompose(rt, alloc, &pattern, search, gate)

@@ -50,7 +50,8 @@ fn mark_all(rows: &[Row], marks: &mut [bool])
 /// The marked rows, rising.
 fn listed(alloc: Global, marks: &[bool]) -> Result<Vec<Row>, OutOfMemory>
     requires { length marks.now < 2 ^ 32 }
-    ensures { IfOk result (λ v. Lists (λ r. (r < length marks.now) × IsMarked marks.now r) v.items) }
+    ensures { IfOk result
+        (λ v. Lists (λ r. (r < length marks.now) × IsMarked marks.now r) v.items) }
 {
     let mut rows = Vec::new(alloc);
     for row in 0..marks.len() {

@@ -6,7 +6,7 @@ ghost use Rattle.bip_defs.specs.Parts.{IsHorizontalCol};
 ghost use Rattle.bip_graph.specs.Matching.{IsMaximumOf};
 ghost use Rattle.btf_words.specs.declared.jobs.Job.TheVariants.{Rank};
 ghost use Rattle.sp_ports.specs.Device.{seen};
-ghost use Rattle.btf_tool.specs.Jobs.{GaveFront, OfReading};
+ghost use Rattle.btf_tool.specs.Jobs.{GavePrefix, OfReading};
 ghost use Rattle.btf_tool.specs.Ranks.{IsRankOf};
 ghost use Rattle.btf_tool.specs.Runs.{JobSays};
 
@@ -42,8 +42,9 @@ pub(crate) fn rank<R: Threads + Sync, S: Source, O: Sink, G: Gate>(
     out: &mut O,
     gate: &G,
 ) -> Result<Answer, Refusal>
-    ensures says { JobSays Rank (seen S.left S.faults input.old input.new) (seen O.taken O.faults out.old out.new) result }
-    ensures gave { OfReading (seen S.left S.faults input.old input.new) GaveFront }
+    ensures says { JobSays Rank (seen S.left S.faults input.old input.new)
+        (seen O.taken O.faults out.old out.new) result }
+    ensures gave { OfReading (seen S.left S.faults input.old input.new) GavePrefix }
 {
     let triples = read_file(alloc, input)?;
     let answer = rank_of(rt, alloc, triples, gate)?;

@@ -4,7 +4,7 @@ ghost use Rattle.std.specs.Prelude.{◌≡◌, [], true, false, IfErr, IfOk};
 ghost use Rattle.mm_defs.specs.declared.answers.End.TheVariants.{File, LastEntry};
 ghost use Rattle.sp_ids.specs.Limits.{max_input_bytes};
 ghost use Rattle.sp_ports.specs.Device.{FailsOnceAtMost, seen};
-ghost use Rattle.btf_tool.specs.Jobs.{GaveFront, OfReading};
+ghost use Rattle.btf_tool.specs.Jobs.{GavePrefix, OfReading};
 ghost use Rattle.btf_tool.specs.Refusals.{refusal_for};
 ghost use Rattle.btf_tool.specs.Runs.{IsReadAs, IsUnread};
 
@@ -24,10 +24,11 @@ pub(crate) struct Followed {
 
 /// Reads the matrix file that the input is.
 pub(crate) fn read_file<S: Source>(alloc: Global, input: &mut S) -> Result<Triples, Refusal>
-    ensures read { IfOk result (λ t. IsReadAs File (seen S.left S.faults input.old input.new) t []) }
+    ensures read { IfOk result
+        (λ t. IsReadAs File (seen S.left S.faults input.old input.new) t []) }
     ensures unread { IfErr result (IsUnread File (seen S.left S.faults input.old input.new)) }
     ensures counts { FailsOnceAtMost (seen S.left S.faults input.old input.new) }
-    ensures gave { OfReading (seen S.left S.faults input.old input.new) GaveFront }
+    ensures gave { OfReading (seen S.left S.faults input.old input.new) GavePrefix }
 {
     let mut bytes = new_input(alloc)?;
     Ok(read_matrix(alloc, &mut bytes, input, End::File)?)
@@ -35,10 +36,12 @@ pub(crate) fn read_file<S: Source>(alloc: Global, input: &mut S) -> Result<Tripl
 
 /// Reads the matrix file with which the input begins, up to its last entry line, and then all that follows.
 pub(crate) fn read_followed<S: Source>(alloc: Global, input: &mut S) -> Result<Followed, Refusal>
-    ensures read { IfOk result (λ f. IsReadAs LastEntry (seen S.left S.faults input.old input.new) f.triples f.rest.items) }
+    ensures read { IfOk result
+        (λ f. IsReadAs LastEntry
+        (seen S.left S.faults input.old input.new) f.triples f.rest.items) }
     ensures unread { IfErr result (IsUnread LastEntry (seen S.left S.faults input.old input.new)) }
     ensures counts { FailsOnceAtMost (seen S.left S.faults input.old input.new) }
-    ensures gave { OfReading (seen S.left S.faults input.old input.new) GaveFront }
+    ensures gave { OfReading (seen S.left S.faults input.old input.new) GavePrefix }
 {
     let mut bytes = new_input(alloc)?;
     let triples = read_matrix(alloc, &mut bytes, input, End::LastEntry)?;
@@ -48,7 +51,15 @@ pub(crate) fn read_followed<S: Source>(alloc: Global, input: &mut S) -> Result<F
 
 /// An input before its first byte, with the limit on its bytes.
 fn new_input(alloc: Global) -> Result<Input, OutOfMemory>
-    ensures { IfOk result (λ input. input ≡ record { limit = max_input_bytes; taken = 0; ahead = []; at_end = false; lines = 0; good = true }) }
+    ensures { IfOk result
+        (λ input. input ≡ record {
+          limit = max_input_bytes;
+          taken = 0;
+          ahead = [];
+          at_end = false;
+          lines = 0;
+          good = true;
+        }) }
 {
     Input::new(alloc, MAX_INPUT_BYTES)
 }

@@ -68,7 +68,7 @@ impl Refusal {
         }
     }
 
-    /// Tells it by its one line. What the device does with the line changes nothing else.
+    /// IsAnswerTo it by its one line. What the device does with the line changes nothing else.
     pub(crate) fn tell<E: Sink>(&self, err: &mut E)
         ensures { WroteAsFar (seen E.taken E.faults err.old err.new) (line_of self.now) }
     {
@@ -96,12 +96,12 @@ fn put<E: Sink>(err: &mut E, line: &[u8])
     }
 }
 
-/// Tells a refusal by its one line, and gives the status with which the run ends.
+/// IsAnswerTo a refusal by its one line, and gives the status with which the run ends.
 ///
 /// What the device does with the line changes nothing else. It takes no memory.
 pub fn refuse<E: Sink>(err: &mut E, refusal: &Refusal) -> Status
     ensures status { result ≡ status_of refusal.now }
-    ensures told { WroteAsFar (seen E.taken E.faults err.old err.new) (line_of refusal.now) }
+    ensures line { WroteAsFar (seen E.taken E.faults err.old err.new) (line_of refusal.now) }
 {
     refusal.tell(err);
     refusal.status()

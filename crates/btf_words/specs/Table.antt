@@ -91,7 +91,8 @@ load_command names =
 
 -- the commands that the program has
 abbrev pub commands : Names → List Shape
-commands names = rank_command ∷ analyse_command names ∷ diagonal_command ∷ check_command ∷ load_command names ∷ []
+commands names = rank_command ∷ analyse_command names ∷ diagonal_command ∷ check_command
+    ∷ load_command names ∷ []
 
 -- ---- the program
 

@@ -61,7 +61,8 @@ search_in rows = record {
 abbrev pub job_from : Text × List Row → Option Job
 job_from m = if bytes_eq m.0 (codes "rank") then Some Rank
     else (if bytes_eq m.0 (codes "analyse")
-    then Some (Analyse (search_in m.1) (is_given (codes "order") m.1) (is_given (codes "pairs") m.1))
+    then Some (Analyse (search_in m.1) (is_given (codes "order") m.1)
+    (is_given (codes "pairs") m.1))
     else (if bytes_eq m.0 (codes "diagonal") then Some Diagonal
     else (if bytes_eq m.0 (codes "check") then Some Check
     else (if bytes_eq m.0 (codes "load")

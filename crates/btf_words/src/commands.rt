@@ -58,7 +58,8 @@ fn with_analyse<'a>(
 }
 
 fn with_diagonal<'a>(alloc: Global, program: Command<'a>) -> Result<Command<'a>, AllocError>
-    ensures { IfOk result (λ c. app_of c ≡ with_subcommand (app_of program.entry) diagonal_command) }
+    ensures { IfOk result
+        (λ c. app_of c ≡ with_subcommand (app_of program.entry) diagonal_command) }
 {
     program.subcommand(Command::new(alloc, "diagonal"))
 }

@@ -44,7 +44,8 @@ pub fn taken_words_name_a_job()
 
 /// Where the names of the engines lie counts for nothing.
 pub fn names_lie_anywhere()
-    ensures { (names : Names) (words : List Text) → texts_of names ≡ engine_names → ReadsAlike names words }
+    ensures { (names : Names) (words : List Text) → texts_of names ≡ engine_names
+        → ReadsAlike names words }
 {}
 
 /// The job of the command that the words entered.
@@ -134,7 +135,8 @@ fn flag_of(options: &ArgMatches<'_>, name: &str) -> bool
 }
 
 fn size_of(options: &ArgMatches<'_>) -> u32
-    ensures number { result ≡ size_in (rows_of (found_of options.now)) }
+    ensures number { result
+        ≡ size_in (rows_of (found_of options.now)) }
     ensures range { (1 ≤ result) × (result ≤ max_load_size) }
 {
     number_of(options, "size", 1, 1, u64::from(MAX_LOAD_SIZE)) as u32

@@ -1,6 +1,7 @@
 -- A board of shared words. Each row has a word, which a column claims, and each root has one, which a leaf wins.
-use Rattle.std.specs.Prelude.{ℕ, List, Option, None, slice_index_or}
+use Rattle.std.specs.Prelude.{ℕ, List, Option}
 use Rattle.atomic_table.specs.Seated.{TableId}
+use Rattle.bip_defs.specs.Lists.{option_at}
 
 -- the table of shared words in which a board stands, and what the words of the rows and of the roots held when it was opened
 pub record Board : Type 0 where
@@ -13,6 +14,10 @@ pub record Words : Type 0 where
   pub rows : List (Option ℕ)
   pub roots : List (Option ℕ)
 
+-- what they hold when the board is opened
+abbrev pub opened_words : Board → Words
+opened_words b = record { rows = b.rows; roots = b.roots }
+
 -- what the word of a number holds; none past the last word
 abbrev pub held : List (Option ℕ) → ℕ → Option ℕ
-held words i = slice_index_or words i None
+held words i = option_at words i

@@ -36,28 +36,38 @@ impl Maximum<'_> {
         Result<Vec<bool>, OutOfMemory>,
         Result<Vec<bool>, OutOfMemory>,
     )
-        ensures cols { IfOk result.0 (λ v. Marks (cols self.now.pattern.now) (IsHorizontalCol self.now.pattern.now) v.items) }
-        ensures rows { IfOk result.1 (λ v. Marks self.now.pattern.now.rows (IsVerticalRow self.now.pattern.now) v.items) }
+        ensures cols { IfOk result.0
+            (λ v. Marks (cols self.now.pattern.now)
+            (IsHorizontalCol self.now.pattern.now) v.items) }
+        ensures rows { IfOk result.1
+            (λ v. Marks self.now.pattern.now.rows (IsVerticalRow self.now.pattern.now) v.items) }
     {
         let of_cols = move || -> Result<Vec<bool>, OutOfMemory>
-            ensures { IfOk result (λ v. Marks (cols self.entry.now.pattern.now) (IsHorizontalCol self.entry.now.pattern.now) v.items) }
+            ensures { IfOk result
+                (λ v. Marks (cols self.entry.now.pattern.now)
+                (IsHorizontalCol self.entry.now.pattern.now) v.items) }
         { self.horizontal_cols(alloc) };
         let of_rows = move || -> Result<Vec<bool>, OutOfMemory>
-            ensures { IfOk result (λ v. Marks self.entry.now.pattern.now.rows (IsVerticalRow self.entry.now.pattern.now) v.items) }
+            ensures { IfOk result
+                (λ v. Marks self.entry.now.pattern.now.rows
+                (IsVerticalRow self.entry.now.pattern.now) v.items) }
         { self.vertical_rows(alloc) };
         join(rt, of_cols, of_rows)
     }
 
     /// Marks the horizontal columns.
     fn horizontal_cols(&self, alloc: Global) -> Result<Vec<bool>, OutOfMemory>
-        ensures { IfOk result (λ v. Marks (cols self.now.pattern.now) (IsHorizontalCol self.now.pattern.now) v.items) }
+        ensures { IfOk result
+            (λ v. Marks (cols self.now.pattern.now)
+            (IsHorizontalCol self.now.pattern.now) v.items) }
     {
         reached(alloc, self.pattern, self.matching)
     }
 
     /// Marks the vertical rows.
     fn vertical_rows(&self, alloc: Global) -> Result<Vec<bool>, OutOfMemory>
-        ensures { IfOk result (λ v. Marks self.now.pattern.now.rows (IsVerticalRow self.now.pattern.now) v.items) }
+        ensures { IfOk result
+            (λ v. Marks self.now.pattern.now.rows (IsVerticalRow self.now.pattern.now) v.items) }
     {
         let side = FromRows {
             pattern: self.pattern,
@@ -72,11 +82,16 @@ impl Maximum<'_> {
         horizontal: &[bool],
         vertical: &[bool],
     ) -> Result<Thirds<Row>, OutOfMemory>
-        requires horizontal { Marks (cols self.now.pattern.now) (IsHorizontalCol self.now.pattern.now) horizontal.now }
-        requires vertical { Marks self.now.pattern.now.rows (IsVerticalRow self.now.pattern.now) vertical.now }
-        ensures horizontal { IfOk result (λ s. Lists (IsHorizontalRow self.now.pattern.now) s.horizontal.items) }
-        ensures square { IfOk result (λ s. Lists (IsSquareRow self.now.pattern.now) s.square.items) }
-        ensures vertical { IfOk result (λ s. Lists (IsVerticalRow self.now.pattern.now) s.vertical.items) }
+        requires horizontal { Marks (cols self.now.pattern.now)
+            (IsHorizontalCol self.now.pattern.now) horizontal.now }
+        requires vertical { Marks self.now.pattern.now.rows
+            (IsVerticalRow self.now.pattern.now) vertical.now }
+        ensures horizontal { IfOk result
+            (λ s. Lists (IsHorizontalRow self.now.pattern.now) s.horizontal.items) }
+        ensures square { IfOk result
+            (λ s. Lists (IsSquareRow self.now.pattern.now) s.square.items) }
+        ensures vertical { IfOk result
+            (λ s. Lists (IsVerticalRow self.now.pattern.now) s.vertical.items) }
     {
         self.pattern.is_pattern();
         split(alloc, self.pattern, self.matching, horizontal, vertical)
@@ -89,11 +104,16 @@ impl Maximum<'_> {
         horizontal: &[bool],
         vertical: &[bool],
     ) -> Result<Thirds<Col>, OutOfMemory>
-        requires horizontal { Marks (cols self.now.pattern.now) (IsHorizontalCol self.now.pattern.now) horizontal.now }
-        requires vertical { Marks self.now.pattern.now.rows (IsVerticalRow self.now.pattern.now) vertical.now }
-        ensures horizontal { IfOk result (λ s. Lists (IsHorizontalCol self.now.pattern.now) s.horizontal.items) }
-        ensures square { IfOk result (λ s. Lists (IsSquareCol self.now.pattern.now) s.square.items) }
-        ensures vertical { IfOk result (λ s. Lists (IsVerticalCol self.now.pattern.now) s.vertical.items) }
+        requires horizontal { Marks (cols self.now.pattern.now)
+            (IsHorizontalCol self.now.pattern.now) horizontal.now }
+        requires vertical { Marks self.now.pattern.now.rows
+            (IsVerticalRow self.now.pattern.now) vertical.now }
+        ensures horizontal { IfOk result
+            (λ s. Lists (IsHorizontalCol self.now.pattern.now) s.horizontal.items) }
+        ensures square { IfOk result
+            (λ s. Lists (IsSquareCol self.now.pattern.now) s.square.items) }
+        ensures vertical { IfOk result
+            (λ s. Lists (IsVerticalCol self.now.pattern.now) s.vertical.items) }
     {
         self.pattern.is_pattern();
         let side = FromRows {

@@ -40,11 +40,16 @@ pub fn split<F: Opposite, S: Side<F>>(
 ) -> Result<Thirds<F>, OutOfMemory>
     requires maximum { IsMaximumOf (S.matrix side.now) (F.seen matching.now) }
     requires few { Matrix.rows (S.matrix side.now) < 2 ^ 32 }
-    requires horizontal { Marks (cols (S.matrix side.now)) (IsHorizontalCol (S.matrix side.now)) horizontal.now }
-    requires vertical { Marks (Matrix.rows (S.matrix side.now)) (IsVerticalRow (S.matrix side.now)) vertical.now }
-    ensures horizontal { IfOk result (λ s. Lists (IsHorizontalRow (S.matrix side.now)) (map F.number s.horizontal.items)) }
-    ensures square { IfOk result (λ s. Lists (IsSquareRow (S.matrix side.now)) (map F.number s.square.items)) }
-    ensures vertical { IfOk result (λ s. Lists (IsVerticalRow (S.matrix side.now)) (map F.number s.vertical.items)) }
+    requires horizontal { Marks (cols (S.matrix side.now))
+        (IsHorizontalCol (S.matrix side.now)) horizontal.now }
+    requires vertical { Marks (Matrix.rows (S.matrix side.now))
+        (IsVerticalRow (S.matrix side.now)) vertical.now }
+    ensures horizontal { IfOk result
+        (λ s. Lists (IsHorizontalRow (S.matrix side.now)) (map F.number s.horizontal.items)) }
+    ensures square { IfOk result
+        (λ s. Lists (IsSquareRow (S.matrix side.now)) (map F.number s.square.items)) }
+    ensures vertical { IfOk result
+        (λ s. Lists (IsVerticalRow (S.matrix side.now)) (map F.number s.vertical.items)) }
 {
     let mut horizontal_rows = Vec::new(alloc);
     let mut square_rows = Vec::new(alloc);
@@ -74,8 +79,10 @@ fn part_of<F: Opposite, S: Side<F>>(
 ) -> Part
     requires row { F.number row < Matrix.rows (S.matrix side.now) }
     requires maximum { IsMaximumOf (S.matrix side.now) (F.seen matching.now) }
-    requires horizontal { Marks (cols (S.matrix side.now)) (IsHorizontalCol (S.matrix side.now)) horizontal.now }
-    requires vertical { Marks (Matrix.rows (S.matrix side.now)) (IsVerticalRow (S.matrix side.now)) vertical.now }
+    requires horizontal { Marks (cols (S.matrix side.now))
+        (IsHorizontalCol (S.matrix side.now)) horizontal.now }
+    requires vertical { Marks (Matrix.rows (S.matrix side.now))
+        (IsVerticalRow (S.matrix side.now)) vertical.now }
     ensures { IsInPart (S.matrix side.now) (F.number row) result }
 {
     let row = row.number();

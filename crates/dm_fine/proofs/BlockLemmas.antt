@@ -11,7 +11,8 @@ use Rattle.bip_defs.specs.Parts.{IsSquareCol}
 use Rattle.bip_defs.proofs.Fine.{block_is_component, component_is_block}
 use Rattle.bip_defs.proofs.Sets.{among_left, among_right, among_map, among_map_back, among_test, entry_col, filter_complete, filter_sound, lists_same, lists_unique, number_same, one_col, row_among, upto_lists}
 use Rattle.sp_pattern.specs.Stored.{piece}
-use Rattle.square_components.specs.Numbers.{AreNumbered, look, none}
+use Rattle.bip_graph.specs.Matching.{none}
+use Rattle.square_components.specs.Numbers.{AreNumbered, look}
 use Rattle.dm_fine.specs.BlockOrder.{AreOrdered, Follow}
 use Rattle.dm_fine.specs.Groups.{AreApart, AreGroups, AreRowGroups, StandsAt, block_of}
 use Rattle.dm_fine.specs.InDegrees.{IsGathered, least_of, row_edges, edges_at, edges_into}

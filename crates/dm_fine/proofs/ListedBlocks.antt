@@ -17,10 +17,10 @@ cols_joined rs r cs c (k ∷ ks) = ap (λ xs. piece cs c k ++ xs) (cols_joined r
 
 next_fits : (starts flat ks : List ℕ) (i : ℕ) → i < length ks → length (joined starts flat (take i ks)) + length (piece starts flat (get_or ks i 0)) ≤ length (joined starts flat ks)
 next_fits starts flat ks i lt =
-    let front = length-flat_map (piece starts flat) (take i ks) in
+    let prefix = length-flat_map (piece starts flat) (take i ks) in
     let all = length-flat_map (piece starts flat) ks in
     let le = sum_by_more_le (λ k. length (piece starts flat k)) ks i 0 lt in
-    omega (arith, front, all, le)
+    omega (arith, prefix, all, le)
 
 pub rows_fit : (rs r cs c ks : List ℕ) (i : ℕ) → i < length ks → length (all_rows (map (block_of rs r cs c) (take i ks))) + length (piece rs r (get_or ks i 0)) ≤ length (joined rs r ks)
 rows_fit rs r cs c ks i lt = let le = next_fits rs r ks i lt in let same = ap length (rows_joined rs r cs c (take i ks)) in omega (arith, le, same)

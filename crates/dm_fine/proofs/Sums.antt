@@ -75,8 +75,8 @@ sum_places_front f xs d (suc n) le =
     let two = sum_by_more f xs n d (omega arith) in
     let more : n + 1 ≡ suc n = omega arith in
     let up : sum_by (λ i. f (get_or xs i d)) (upto (n + 1)) ≡ sum_by (λ i. f (get_or xs i d)) (upto (suc n)) = ap (λ j. sum_by (λ i. f (get_or xs i d)) (upto j)) more in
-    let front : sum_by f (take (n + 1) xs) ≡ sum_by f (take (suc n) xs) = ap (λ j. sum_by f (take j xs)) more in
-    omega (arith, rest, one, two, up, front)
+    let prefix : sum_by f (take (n + 1) xs) ≡ sum_by f (take (suc n) xs) = ap (λ j. sum_by f (take j xs)) more in
+    omega (arith, rest, one, two, up, prefix)
 
 pub sum_places : {X : Type 0} (f : X → ℕ) (xs : List X) (d : X) → sum_by (λ i. f (get_or xs i d)) (upto (length xs)) ≡ sum_by f xs
 sum_places f xs d = sum_places_front f xs d (length xs) (omega arith) ∙ ap (sum_by f) (take_all (length xs) xs (omega arith))

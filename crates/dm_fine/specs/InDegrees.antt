@@ -32,23 +32,31 @@ pub record HaveLeast (n bound : ℕ) (starts places : List ℕ) : Type 0 where
   pub below : (j : ℕ) → j < n → least_of starts places j < bound
 
 -- the least columns of the components that have come to in-degree 0 are put in
-pub record MoreSources (count : ℕ) (least : ℕ → ℕ) (in_degrees ready in_degrees2 ready2 : List ℕ) : Type 0 where
-  pub sound : (x : ℕ) → Among x ready2 → Among x ready ⊎ ((j : ℕ) × (j < count) × (slice_index in_degrees j ≢ 0) × (slice_index in_degrees2 j ≡ 0) × (x ≡ least j))
+pub record MoreSources (count : ℕ) (least : ℕ → ℕ)
+    (in_degrees ready in_degrees2 ready2 : List ℕ) : Type 0 where
+  pub sound : (x : ℕ) → Among x ready2 → Among x ready
+      ⊎ ((j : ℕ) × (j < count) × (slice_index in_degrees j ≢ 0) × (slice_index in_degrees2 j ≡ 0)
+      × (x ≡ least j))
   pub stays : (x : ℕ) → Among x ready → Among x ready2
-  pub complete : (j : ℕ) → j < count → slice_index in_degrees j ≢ 0 → slice_index in_degrees2 j ≡ 0 → Among (least j) ready2
+  pub complete : (j : ℕ) → j < count → slice_index in_degrees j ≢ 0 → slice_index in_degrees2 j ≡ 0
+      → Among (least j) ready2
   pub falls : (j : ℕ) → j < count → slice_index in_degrees2 j ≤ slice_index in_degrees j
 
 -- the least columns of the components of in-degree 0, without those that are gone, which have that in-degree too
 pub record AreReady (count : ℕ) (least : ℕ → ℕ) (gone in_degrees ready : List ℕ) : Type 0 where
-  pub sound : (x : ℕ) → Among x ready → (j : ℕ) × (j < count) × (slice_index in_degrees j ≡ 0) × (¬ Among j gone) × (x ≡ least j)
-  pub complete : (j : ℕ) → j < count → slice_index in_degrees j ≡ 0 → ¬ Among j gone → Among (least j) ready
+  pub sound : (x : ℕ) → Among x ready
+      → (j : ℕ) × (j < count) × (slice_index in_degrees j ≡ 0) × (¬ Among j gone) × (x ≡ least j)
+  pub complete : (j : ℕ) → j < count → slice_index in_degrees j ≡ 0 → ¬ Among j gone
+      → Among (least j) ready
   pub gone_done : (j : ℕ) → Among j gone → slice_index in_degrees j ≡ 0
 
 -- what the search for the order knows of the components: their rows and columns in flat lists
-pub record IsGathered (a : Matrix) (numbers : List ℕ) (count : ℕ) (row_starts row_places col_starts col_places : List ℕ) : Type 0 where
+pub record IsGathered (a : Matrix) (numbers : List ℕ) (count : ℕ)
+    (row_starts row_places col_starts col_places : List ℕ) : Type 0 where
   pub numbered : length numbers ≡ cols a
   pub by_row : AreApart a.rows count row_starts row_places
   pub by_col : AreGroups numbers count col_starts col_places
   pub some : (k : ℕ) → k < count → 0 < length (piece col_starts col_places k)
   -- no edge leads into a component from one of a greater number
-  pub falls : (j k : ℕ) → j < count → k < count → edges_into (row_list a) numbers row_starts row_places j k ≢ 0 → k ≤ j
+  pub falls : (j k : ℕ) → j < count → k < count
+      → edges_into (row_list a) numbers row_starts row_places j k ≢ 0 → k ≤ j

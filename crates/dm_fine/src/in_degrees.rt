@@ -23,9 +23,15 @@ pub fn count(
 ) -> Result<Vec<u32>, OutOfMemory>
     requires numbers { length numbers.now ≡ cols pattern.now }
     requires rows { AreApart pattern.now.rows count rows.now.starts.items rows.now.places.items }
-    requires few { (j : ℕ) → j < count → sum_by (edges_into (row_list pattern.now) numbers.now rows.now.starts.items rows.now.places.items j) (upto count) < 2 ^ 32 }
+    requires few { (j : ℕ) → j < count
+        → sum_by (edges_into (row_list pattern.now) numbers.now rows.now.starts.items
+        rows.now.places.items j) (upto count) < 2 ^ 32 }
     ensures length { IfOk result (λ v. length v.items ≡ count) }
-    ensures in_degrees { IfOk result (λ v. (j : ℕ) → j < count → slice_index v.items j ≡ sum_by (edges_into (row_list pattern.now) numbers.now rows.now.starts.items rows.now.places.items j) (upto count)) }
+    ensures in_degrees { IfOk result
+        (λ v. (j : ℕ) → j < count
+        → slice_index v.items j
+        ≡ sum_by (edges_into (row_list pattern.now) numbers.now rows.now.starts.items
+        rows.now.places.items j) (upto count)) }
 {
     let mut in_degrees = vec![in alloc; 0; count as usize]?;
     for own in 0..count {
@@ -44,8 +50,13 @@ pub fn count(
 fn count_rows(pattern: &Pattern, numbers: &[u32], own: u32, rows: &[Row], in_degrees: &mut [u32])
     requires numbers { length numbers.now ≡ cols pattern.now }
     requires rows { (r : ℕ) → Among r rows.now → r < pattern.now.rows }
-    requires few { (j : ℕ) → j < length in_degrees.old → slice_index in_degrees.old j + edges_in (row_list pattern.now) numbers.now own j rows.now < 2 ^ 32 }
-    ensures { (j : ℕ) → j < length in_degrees.old → slice_index in_degrees.new j ≡ slice_index in_degrees.old j + edges_in (row_list pattern.now) numbers.now own j rows.now }
+    requires few { (j : ℕ) → j < length in_degrees.old
+        → slice_index in_degrees.old j + edges_in
+        (row_list pattern.now) numbers.now own j rows.now < 2 ^ 32 }
+    ensures { (j : ℕ) → j < length in_degrees.old
+        → slice_index in_degrees.new j
+        ≡ slice_index in_degrees.old j + edges_in
+        (row_list pattern.now) numbers.now own j rows.now }
 {
     for row in rows {
         count_row(numbers, own, pattern.cols_of(*row), in_degrees);
@@ -55,8 +66,11 @@ fn count_rows(pattern: &Pattern, numbers: &[u32], own: u32, rows: &[Row], in_deg
 // Counts the entries in a row that has these columns.
 fn count_row(numbers: &[u32], own: u32, cols: &[Col], in_degrees: &mut [u32])
     requires cols { (c : ℕ) → Among c cols.now → c < length numbers.now }
-    requires few { (j : ℕ) → j < length in_degrees.old → slice_index in_degrees.old j + row_edges numbers.now own j cols.now < 2 ^ 32 }
-    ensures { (j : ℕ) → j < length in_degrees.old → slice_index in_degrees.new j ≡ slice_index in_degrees.old j + row_edges numbers.now own j cols.now }
+    requires few { (j : ℕ) → j < length in_degrees.old
+        → slice_index in_degrees.old j + row_edges numbers.now own j cols.now < 2 ^ 32 }
+    ensures { (j : ℕ) → j < length in_degrees.old
+        → slice_index in_degrees.new j
+        ≡ slice_index in_degrees.old j + row_edges numbers.now own j cols.now }
 {
     for col in cols {
         count_one(own, numbers[col.0 as usize], in_degrees);
@@ -66,8 +80,10 @@ fn count_row(numbers: &[u32], own: u32, cols: &[Col], in_degrees: &mut [u32])
 // Counts an entry, where it is in a column of another component.
 #[inline(always)]
 fn count_one(own: u32, number: u32, in_degrees: &mut [u32])
-    requires { (j : ℕ) → j < length in_degrees.old → slice_index in_degrees.old j + edges_at own j number < 2 ^ 32 }
-    ensures { (j : ℕ) → j < length in_degrees.old → slice_index in_degrees.new j ≡ slice_index in_degrees.old j + edges_at own j number }
+    requires { (j : ℕ) → j < length in_degrees.old
+        → slice_index in_degrees.old j + edges_at own j number < 2 ^ 32 }
+    ensures { (j : ℕ) → j < length in_degrees.old
+        → slice_index in_degrees.new j ≡ slice_index in_degrees.old j + edges_at own j number }
 {
     if number != own && (number as usize) < in_degrees.len() {
         in_degrees[number as usize] += 1;
@@ -87,10 +103,18 @@ pub fn remove(
 )
     requires numbers { length numbers.now ≡ cols pattern.now }
     requires rows { (r : ℕ) → Among r rows.now → r < pattern.now.rows }
-    requires least { HaveLeast (length in_degrees.old) ready.old.bound least.now.starts.items least.now.places.items }
-    requires counted { (j : ℕ) → j < length in_degrees.old → edges_in (row_list pattern.now) numbers.now own j rows.now ≤ slice_index in_degrees.old j }
-    ensures in_degrees { (j : ℕ) → j < length in_degrees.old → slice_index in_degrees.old j ≡ slice_index in_degrees.new j + edges_in (row_list pattern.now) numbers.now own j rows.now }
-    ensures more { MoreSources (length in_degrees.old) (least_of least.now.starts.items least.now.places.items) in_degrees.old ready.old.members in_degrees.new ready.new.members }
+    requires least { HaveLeast
+        (length in_degrees.old) ready.old.bound least.now.starts.items least.now.places.items }
+    requires counted { (j : ℕ) → j < length in_degrees.old
+        → edges_in (row_list pattern.now) numbers.now own j rows.now ≤ slice_index in_degrees.old
+        j }
+    ensures in_degrees { (j : ℕ) → j < length in_degrees.old
+        → slice_index in_degrees.old j
+        ≡ slice_index in_degrees.new j + edges_in
+        (row_list pattern.now) numbers.now own j rows.now }
+    ensures more { MoreSources (length in_degrees.old)
+        (least_of least.now.starts.items least.now.places.items) in_degrees.old ready.old.members
+        in_degrees.new ready.new.members }
     ensures bound { ready.new.bound ≡ ready.old.bound }
 {
     for row in rows {
@@ -114,10 +138,16 @@ fn remove_row(
     ready: &mut IntSet,
 )
     requires cols { (c : ℕ) → Among c cols.now → c < length numbers.now }
-    requires least { HaveLeast (length in_degrees.old) ready.old.bound least.now.starts.items least.now.places.items }
-    requires counted { (j : ℕ) → j < length in_degrees.old → row_edges numbers.now own j cols.now ≤ slice_index in_degrees.old j }
-    ensures in_degrees { (j : ℕ) → j < length in_degrees.old → slice_index in_degrees.old j ≡ slice_index in_degrees.new j + row_edges numbers.now own j cols.now }
-    ensures more { MoreSources (length in_degrees.old) (least_of least.now.starts.items least.now.places.items) in_degrees.old ready.old.members in_degrees.new ready.new.members }
+    requires least { HaveLeast
+        (length in_degrees.old) ready.old.bound least.now.starts.items least.now.places.items }
+    requires counted { (j : ℕ) → j < length in_degrees.old
+        → row_edges numbers.now own j cols.now ≤ slice_index in_degrees.old j }
+    ensures in_degrees { (j : ℕ) → j < length in_degrees.old
+        → slice_index in_degrees.old j
+        ≡ slice_index in_degrees.new j + row_edges numbers.now own j cols.now }
+    ensures more { MoreSources (length in_degrees.old)
+        (least_of least.now.starts.items least.now.places.items) in_degrees.old ready.old.members
+        in_degrees.new ready.new.members }
     ensures bound { ready.new.bound ≡ ready.old.bound }
 {
     for col in cols {
@@ -134,10 +164,15 @@ fn remove_one(
     in_degrees: &mut [u32],
     ready: &mut IntSet,
 )
-    requires least { HaveLeast (length in_degrees.old) ready.old.bound least.now.starts.items least.now.places.items }
-    requires counted { (j : ℕ) → j < length in_degrees.old → edges_at own j number ≤ slice_index in_degrees.old j }
-    ensures in_degrees { (j : ℕ) → j < length in_degrees.old → slice_index in_degrees.old j ≡ slice_index in_degrees.new j + edges_at own j number }
-    ensures more { MoreSources (length in_degrees.old) (least_of least.now.starts.items least.now.places.items) in_degrees.old ready.old.members in_degrees.new ready.new.members }
+    requires least { HaveLeast
+        (length in_degrees.old) ready.old.bound least.now.starts.items least.now.places.items }
+    requires counted { (j : ℕ) → j < length in_degrees.old
+        → edges_at own j number ≤ slice_index in_degrees.old j }
+    ensures in_degrees { (j : ℕ) → j < length in_degrees.old
+        → slice_index in_degrees.old j ≡ slice_index in_degrees.new j + edges_at own j number }
+    ensures more { MoreSources (length in_degrees.old)
+        (least_of least.now.starts.items least.now.places.items) in_degrees.old ready.old.members
+        in_degrees.new ready.new.members }
     ensures bound { ready.new.bound ≡ ready.old.bound }
 {
     if number == own || number as usize >= in_degrees.len() {

@@ -20,9 +20,13 @@ pub fn listed(
 ) -> Result<Blocks, OutOfMemory>
     requires rows { (k : ℕ) → Among k order.now → k + 1 < length rows.now.starts.items }
     requires cols { (k : ℕ) → Among k order.now → k + 1 < length cols.now.starts.items }
-    requires few_rows { length (flat_map (piece rows.now.starts.items rows.now.places.items) order.now) < 2 ^ 32 }
-    requires few_cols { length (flat_map (piece cols.now.starts.items cols.now.places.items) order.now) < 2 ^ 32 }
-    ensures { IfOk result (λ b. b ≡ map (block_of rows.now.starts.items rows.now.places.items cols.now.starts.items cols.now.places.items) order.now) }
+    requires few_rows { length
+        (flat_map (piece rows.now.starts.items rows.now.places.items) order.now) < 2 ^ 32 }
+    requires few_cols { length
+        (flat_map (piece cols.now.starts.items cols.now.places.items) order.now) < 2 ^ 32 }
+    ensures { IfOk result
+        (λ b. b ≡ map (block_of rows.now.starts.items rows.now.places.items cols.now.starts.items
+        cols.now.places.items) order.now) }
 {
     let mut blocks = Blocks::with_room(alloc, order.len(), rows.places.len(), cols.places.len())?;
     for k in order {

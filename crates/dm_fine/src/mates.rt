@@ -23,7 +23,9 @@ pub fn mates(
 ) -> Result<Groups<Row>, OutOfMemory>
     requires cols { length numbers.now ≡ matching.now.cols }
     requires few_rows { matching.now.rows < 2 ^ 32 }
-    ensures { IfOk result (λ g. AreRowGroups matching.now.pairs numbers.now matching.now.rows count g.starts.items g.places.items) }
+    ensures { IfOk result
+        (λ g. AreRowGroups matching.now.pairs numbers.now matching.now.rows count g.starts.items
+        g.places.items) }
 {
     let of_rows = of_mates(alloc, matching, numbers)?;
     gather(alloc, of_rows.as_slice(), count)
@@ -32,7 +34,8 @@ pub fn mates(
 // For each row the number of its mate, or 2^32 - 1 where it has none.
 fn of_mates(alloc: Global, matching: &Matching, numbers: &[u32]) -> Result<Vec<u32>, OutOfMemory>
     requires { length numbers.now ≡ matching.now.cols }
-    ensures { IfOk result (λ v. AreOfMates matching.now.pairs numbers.now matching.now.rows v.items) }
+    ensures { IfOk result
+        (λ v. AreOfMates matching.now.pairs numbers.now matching.now.rows v.items) }
 {
     // It tells the proof that each column of a pair is below it.
     let _cols = matching.cols();

@@ -26,8 +26,12 @@ pub fn order(
     rows: &Groups<Row>,
     cols: &Groups<Col>,
 ) -> Result<Vec<u32>, OutOfMemory>
-    requires { IsGathered pattern.now numbers.now count rows.now.starts.items rows.now.places.items cols.now.starts.items cols.now.places.items }
-    ensures { IfOk result (λ v. AreOrdered count (edges_into (row_list pattern.now) numbers.now rows.now.starts.items rows.now.places.items) (least_of cols.now.starts.items cols.now.places.items) v.items) }
+    requires { IsGathered pattern.now numbers.now count rows.now.starts.items rows.now.places.items
+        cols.now.starts.items cols.now.places.items }
+    ensures { IfOk result
+        (λ v. AreOrdered count
+        (edges_into (row_list pattern.now) numbers.now rows.now.starts.items rows.now.places.items)
+        (least_of cols.now.starts.items cols.now.places.items) v.items) }
 {
     pattern.is_pattern();
     let mut in_degrees = in_degrees::count(alloc, pattern, numbers, rows, count)?;
@@ -53,7 +57,9 @@ fn sources(
 ) -> Result<IntSet, OutOfMemory>
     requires long { length in_degrees.now ≡ count }
     requires least { HaveLeast count bound cols.now.starts.items cols.now.places.items }
-    ensures ready { IfOk result (λ s. AreReady count (least_of cols.now.starts.items cols.now.places.items) [] in_degrees.now s.members) }
+    ensures ready { IfOk result
+        (λ s. AreReady count (least_of cols.now.starts.items cols.now.places.items) []
+        in_degrees.now s.members) }
     ensures bound { IfOk result (λ s. s.bound ≡ bound) }
 {
     let mut ready = IntSet::new(alloc, bound)?;

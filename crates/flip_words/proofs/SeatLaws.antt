@@ -4,9 +4,9 @@ use Rattle.std.specs.List.{AllZip}
 use Rattle.std.proofs.lemmas.List.{get_or-append-add}
 use Rattle.std.proofs.lemmas.Slice.Zip.{AllZip-long}
 use Rattle.std.proofs.Math.ListN.{get_or-append}
-use Rattle.bip_defs.specs.Lists.{Among}
+use Rattle.bip_defs.specs.Lists.{Among, option_at}
 use Rattle.bip_defs.proofs.Sets.{among_either, among_left, among_right}
-use Rattle.bip_graph.specs.Mates.{Mated, mate_in}
+use Rattle.bip_graph.specs.Mates.{Mated}
 use Rattle.flip_words.specs.Accounts.{is_held, times}
 use Rattle.flip_words.specs.Board.{Board, col_vertex, held}
 use Rattle.flip_words.specs.ClosedBoards.{AreMatesAfter, HaveOneTakerEach, SettlesAll}
@@ -105,10 +105,10 @@ module _ (b : Board) (m : Mated) (ss : List Seat) (all : SettlesAll b m ss) wher
   pub one_taker_each : AreAllSeats b ss → HaveOneTakerEach ss
   one_taker_each a = record { taken = one_taker a; set = one_setter a; seen = seen_taker }
 
-  row_held : (r : ℕ) → r < b.rows → held (m.rows ++ m.cols) r ≡ mate_in m.rows r
+  row_held : (r : ℕ) → r < b.rows → held (m.rows ++ m.cols) r ≡ option_at m.rows r
   row_held r lt = get_or-append m.rows m.cols None r (subst (λ n. r < n) (sym all.rows) lt)
 
-  col_held : (c : ℕ) → held (m.rows ++ m.cols) (col_vertex b c) ≡ mate_in m.cols c
+  col_held : (c : ℕ) → held (m.rows ++ m.cols) (col_vertex b c) ≡ option_at m.cols c
   col_held c = ap (λ n. held (m.rows ++ m.cols) (n + c)) (sym all.rows) ∙ get_or-append-add m.rows m.cols c None
 
   set_held : (s : Seat) (vertex mate : ℕ) → Among s ss → HasSetTo s vertex mate → held (m.rows ++ m.cols) vertex ≡ Some mate

@@ -1,8 +1,8 @@
 -- A board of shared words on which paths are exchanged. Each vertex has a word with its mate and the root of its tree, and each tree has a word with the seat that took it.
 -- Vertices are numbered: the rows first, then the columns, so that column c is the vertex rows + c. A tree has the number of its root, a column.
-use Rattle.std.specs.Prelude.{◌≡◌, ◌↔◌, ℕ, ◌+◌, ◌<◌, List, Option, None, Some, length, slice_index_or}
+use Rattle.std.specs.Prelude.{◌≡◌, ◌↔◌, ℕ, ◌+◌, ◌<◌, List, Option, Some, length}
 use Rattle.atomic_table.specs.Seated.{TableId}
-use Rattle.bip_defs.specs.Lists.{Among}
+use Rattle.bip_defs.specs.Lists.{Among, option_at}
 use Rattle.bip_graph.specs.Matching.{Pairing}
 
 -- the table of shared words in which a board stands, the numbers of rows and columns, and for each vertex the mate with which it was opened and the root of its tree
@@ -15,7 +15,7 @@ pub record Board : Type 0 where
 
 -- what the word of a number holds; none past the last word
 abbrev pub held : List (Option ℕ) → ℕ → Option ℕ
-held words i = slice_index_or words i None
+held words i = option_at words i
 
 -- the vertex that is the column
 abbrev pub col_vertex : Board → ℕ → ℕ

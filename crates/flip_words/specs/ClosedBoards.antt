@@ -1,7 +1,7 @@
 -- What closing a board tells.
 use Rattle.std.specs.Prelude.{◌≡◌, ℕ, ◌<◌, List, [], ◌∷◌, ◌++◌, Option, Some, length}
-use Rattle.bip_defs.specs.Lists.{Among}
-use Rattle.bip_graph.specs.Mates.{Mated, mate_in}
+use Rattle.bip_defs.specs.Lists.{Among, option_at}
+use Rattle.bip_graph.specs.Mates.{Mated}
 use Rattle.flip_words.specs.Accounts.{Settles}
 use Rattle.flip_words.specs.Board.{Board, col_vertex, held}
 use Rattle.flip_words.specs.Listed.{Listed, all_listed, followed_by, nothing}
@@ -29,7 +29,7 @@ pub record HaveOneTakerEach (ss : List Seat) : Type 0 where
 
 -- A row or a column that one of the seats set has the mate to which it was set, and any other has the mate with which the board was opened
 pub record AreMatesAfter (b : Board) (ss : List Seat) (m : Mated) : Type 0 where
-  pub row_set : (s : Seat) (r c : ℕ) → Among s ss → r < b.rows → HasSetTo s r c → mate_in m.rows r ≡ Some c
-  pub col_set : (s : Seat) (r c : ℕ) → Among s ss → HasSetTo s (col_vertex b c) r → mate_in m.cols c ≡ Some r
-  pub row_unset : (r : ℕ) → r < b.rows → ((s : Seat) → Among s ss → ¬ HasSet s r) → mate_in m.rows r ≡ held b.mates r
-  pub col_unset : (c : ℕ) → ((s : Seat) → Among s ss → ¬ HasSet s (col_vertex b c)) → mate_in m.cols c ≡ held b.mates (col_vertex b c)
+  pub row_set : (s : Seat) (r c : ℕ) → Among s ss → r < b.rows → HasSetTo s r c → option_at m.rows r ≡ Some c
+  pub col_set : (s : Seat) (r c : ℕ) → Among s ss → HasSetTo s (col_vertex b c) r → option_at m.cols c ≡ Some r
+  pub row_unset : (r : ℕ) → r < b.rows → ((s : Seat) → Among s ss → ¬ HasSet s r) → option_at m.rows r ≡ held b.mates r
+  pub col_unset : (c : ℕ) → ((s : Seat) → Among s ss → ¬ HasSet s (col_vertex b c)) → option_at m.cols c ≡ held b.mates (col_vertex b c)

@@ -1,5 +1,7 @@
+pub mod AdoptedMatchings
 pub mod Currents
 pub mod Ends
+pub mod FlippedRoots
 pub mod Grafts
 pub mod KeptClaims
 pub mod Members

@@ -5,7 +5,9 @@ use Rattle.bip_defs.specs.Matrix.{Place}
 use Rattle.bip_defs.proofs.Sets.{among_at, place_among, row_among, row_pair}
 use Rattle.bip_graph.specs.Matching.{Pairing}
 use Rattle.forest_core.specs.Events.{AreKept, IsRenewed, drops, keeps, none}
-use Rattle.forest_core.specs.Paths.{CanExchange, IsExchanged}
+use Rattle.forest_core.specs.Adopted.{CanExchange, IsAdopted}
+use Rattle.forest_core.specs.declared.adopted.Adopted.{Adopted}
+use Rattle.forest_core.specs.Paths.{IsExchanged}
 use Rattle.forest_core.specs.Kept.{kept, root_has_leaf}
 use Rattle.forest_core.specs.Sound.{AreClaims, IsSound}
 use Rattle.bip_defs.specs.Forest.{IsRootOfRow, IsWon, RootOf, State, roots_of}
@@ -47,19 +49,20 @@ kept_stored s m t k = kept_from s k.sound t.claimed.roots t.leaf_of k.rooted k.w
 
 -- Exchanging.
 
-can_exchange : (s : State) (m : Pairing) (t : Tables) → IsStored s m t → CanExchange s m t.claimed.holders t.leaf_of s.flipped
-can_exchange s m t k = record {
+can_exchange : (s : State) (m : Pairing) (adopted : Option Adopted) (t : Tables) → IsStored s m t → IsAdopted s adopted → CanExchange s m adopted t.claimed.holders t.leaf_of s.flipped
+can_exchange s m adopted t k is = record {
   sound = k.sound;
   rows_long = k.holders_long;
   cols_long = k.leaves_long;
   held = k.held;
   won = k.won;
   base = k.base_is;
+  adopted_is = is;
   roots_are = refl;
 }
 
-pub exchanged_by : (s : State) (m new : Pairing) (t : Tables) (xs : List ℕ) → IsStored s m t → xs ≡ s.flipped → ((u : State) → CanExchange u m t.claimed.holders t.leaf_of xs → IsExchanged u xs new) → IsExchanged s s.flipped new
-exchanged_by s m new t xs k e f = subst (λ ys. IsExchanged s ys new) e (f s (subst (CanExchange s m t.claimed.holders t.leaf_of) (sym e) (can_exchange s m t k)))
+pub exchanged_by : (s : State) (m new : Pairing) (adopted : Option Adopted) (t : Tables) (xs : List ℕ) → IsStored s m t → IsAdopted s adopted → xs ≡ s.flipped → ((u : State) → CanExchange u m adopted t.claimed.holders t.leaf_of xs → IsExchanged u xs new) → IsExchanged s s.flipped new
+exchanged_by s m new adopted t xs k is e f = subst (λ ys. IsExchanged s ys new) e (f s (subst (CanExchange s m adopted t.claimed.holders t.leaf_of) (sym e) (can_exchange s m adopted t k is)))
 
 -- The renewed forest.
 

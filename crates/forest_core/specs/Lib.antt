@@ -1,8 +1,12 @@
+pub mod Adopted
 pub mod Current
 pub mod Events
+pub mod Exchanged
 pub mod Inside
 pub mod Kept
+pub mod Made
 pub mod Paths
+pub mod RowClaims
 pub mod Sound
 pub mod Stored
 pub mod Tables

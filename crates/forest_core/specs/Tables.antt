@@ -1,6 +1,6 @@
 -- Tables, and the lists of pairs that they have.
-use Rattle.std.specs.Prelude.{◌≡◌, ◌↔◌, ℕ, ◌==◌, if◌then◌else◌, List, Option, None, Some, slice_index_or}
-use Rattle.bip_defs.specs.Lists.{Among}
+use Rattle.std.specs.Prelude.{◌≡◌, ◌↔◌, ℕ, ◌==◌, if◌then◌else◌, List, Option, None, Some}
+use Rattle.bip_defs.specs.Lists.{Among, option_at}
 
 -- the greatest number of 32 bits stands for none
 abbrev pub read : ℕ → Option ℕ
@@ -8,7 +8,7 @@ read n = if n == 4294967295 then None else Some n
 
 -- what a table has beside a number
 abbrev pub beside : List (Option ℕ) → ℕ → Option ℕ
-beside table k = slice_index_or table k None
+beside table k = option_at table k
 
 -- beside the first of each pair stands the second, and beside no other number any
 abbrev pub IsTableOf : List (ℕ × ℕ) → List (Option ℕ) → Type 0

@@ -5,18 +5,20 @@ ghost use Rattle.bip_defs.specs.Lists.{Among};
 ghost use Rattle.bip_defs.specs.Matching.{rows_of, cols_of};
 ghost use Rattle.bip_defs.specs.Matrix.{cols};
 ghost use Rattle.bip_graph.specs.Matching.{IsMatchingOf};
-ghost use Rattle.forest_core.specs.Current.{IsCurrent};
-ghost use Rattle.forest_core.specs.Events.{AreFlipped, AreKept, Grows, IsClosed, IsLegal, IsRenewed};
+ghost use Rattle.forest_core.specs.Current.{IsCurrent, base_of};
+ghost use Rattle.forest_core.specs.Events.{AreFlipped, AreKept, Becomes, Grows, IsClosed, IsLegal, IsRenewed, Runs};
+ghost use Rattle.forest_core.specs.Exchanged.{AreExchanged, all_flipped, flip_events, unflipped};
 ghost use Rattle.forest_core.specs.Sound.{IsSound};
 ghost use Rattle.bip_defs.specs.Forest.{InForest, IsRootOfRow, IsUsedUp, RootOf, new_forest, roots_of};
 ghost use Rattle.sp_ids.specs.declared.events.Event.TheVariants.{Claim, Win, Flip, Graft, Rebuild, Done};
 
+use crate::adopted::Adopted;
 use crate::claim_table::ClaimTable;
 use crate::paths::exchange;
 use crate::put::put;
 use crate::renew::{clear_claims, clear_leaves, keep};
 use crate::table::Table;
-use bip_graph::Matching;
+use bip_graph::{Matching, Mates};
 use sp_ids::{Col, Event, Id, OutOfMemory, Row};
 use sp_pattern::Pattern;
 use std::alloc::Global;
@@ -24,14 +26,18 @@ use std::marker::Model;
 
 /// Alternating trees that grow from the columns that are unmatched in a base matching.
 ///
-/// A column of the forest claims rows in which it has entries, and with a row comes its base mate. A root wins a claimed row
-/// that is unmatched, its leaf; its path from there is then exchanged, at the latest when the base matching is renewed.
+/// A column of the forest claims rows in which it has entries, and with a row comes its base mate.
+/// A root wins a claimed row that is unmatched, its leaf; its path from there is then exchanged, at
+/// the latest when the base matching is renewed.
 ///
 /// It takes all its memory when it is made: 28 bytes a row and 17 a column, beside the matching.
+/// Mates that it adopts, 4 bytes a row and 4 a column, it keeps beside the base matching until that
+/// is renewed.
 #[derive(Drop)]
 pub struct Forest<'p> {
     pattern: &'p Pattern,
     base: Matching,
+    adopted: Option<Adopted>,
     // By row the column that claimed it and the row's root.
     claimed: ClaimTable,
     // By root its leaf, and whether it is flipped.
@@ -61,8 +67,8 @@ impl<'p> Model for Forest<'p> {
 impl<'p> Forest<'p> {
     /// The forest over a matching of entries of the pattern: no row is claimed.
     ///
-    /// Answers `OutOfMemory` where the room for all later claims and leaves can't be had. Work: one write for each row and
-    /// column.
+    /// Answers `OutOfMemory` where the room for all later claims and leaves can't be had. Work: one
+    /// write for each row and column.
     pub fn new(
         alloc: Global,
         pattern: &'p Pattern,
@@ -76,6 +82,7 @@ impl<'p> Forest<'p> {
         Ok(Forest {
             pattern,
             base: matching,
+            adopted: None,
             claimed: ClaimTable::new(alloc, rows)?,
             leaf_of: Table::new(alloc, cols)?,
             marks: vec![in alloc; false; col_room]?,
@@ -96,7 +103,7 @@ impl<'p> Forest<'p> {
 
     /// The base matching. Flips don't change it; a graft or a rebuild renews it.
     pub fn base(&self) -> &Matching
-        ensures { result.now ≡ record { rows = self.now.matrix.rows; cols = cols self.now.matrix; pairs = self.now.base } }
+        ensures { result.now ≡ base_of self.now }
     {
         &self.base
     }
@@ -194,8 +201,8 @@ impl<'p> Forest<'p> {
 
     /// Whether an event is legal. Any row and column may be asked for.
     ///
-    /// Work: for `Graft` and `Rebuild` one look at each leaf, for `Done` at most one at each entry; for a `Claim` the look-up
-    /// of an entry; constant for the others.
+    /// Work: for `Graft` and `Rebuild` one look at each leaf, for `Done` at most one at each entry;
+    /// for a `Claim` the look-up of an entry; constant for the others.
     pub fn may(&self, event: Event) -> bool
         ensures { IsTrue result ↔ IsLegal self.now event }
     {
@@ -306,7 +313,8 @@ impl<'p> Forest<'p> {
         true
     }
 
-    /// Whether nothing is left to be claimed: there are no leaves, and each entry of a column in the forest has a claimed row.
+    /// Whether nothing is left to be claimed: there are no leaves, and each entry of a column in
+    /// the forest has a claimed row.
     ///
     /// Work: at most one look at each entry.
     pub fn done(&self) -> bool
@@ -355,11 +363,12 @@ impl<'p> Forest<'p> {
         }
     }
 
-    /// A column of the forest claims a row in which it has an entry. Takes no memory. Work: constant.
+    /// A column of the forest claims a row in which it has an entry. Takes no memory. Work:
+    /// constant.
     pub fn claim(&mut self, row: Row, col: Col)
         requires { IsLegal self.old (Claim row col) }
         ensures grows { Grows self.old self.new }
-        ensures claims { self.new ≡ record self.old { claims = self.old.claims ++ (row, col) ∷ [] } }
+        ensures claims { Becomes self.old (Claim row col) self.new }
     {
         let root = self.root(col);
         self.pattern.is_pattern();
@@ -369,19 +378,21 @@ impl<'p> Forest<'p> {
         put(&mut self.claim_roots, root);
     }
 
-    /// A root takes a claimed row of its tree, which has no base mate, as its leaf. Takes no memory. Work: constant.
+    /// A root takes a claimed row of its tree, which has no base mate, as its leaf. Takes no
+    /// memory. Work: constant.
     pub fn win(&mut self, root: Col, leaf: Row)
         requires { IsLegal self.old (Win root leaf) }
         ensures grows { Grows self.old self.new }
-        ensures leaves { self.new ≡ record self.old { leaves = self.old.leaves ++ (root, leaf) ∷ [] } }
+        ensures leaves { Becomes self.old (Win root leaf) self.new }
     {
         self.pattern.is_pattern();
         self.leaf_of.put(root.number(), leaf.number());
         put(&mut self.leaves, (root, leaf));
     }
 
-    /// Exchanges the path of a root with a leaf: it belongs to the current matching from now on. The base matching stays.
-    /// Takes no memory. Work: constant; the matching itself is written when it is asked for.
+    /// Exchanges the path of a root with a leaf: it belongs to the current matching from now on.
+    /// The base matching stays. Takes no memory. Work: constant; the matching itself is written
+    /// when it is asked for.
     pub fn flip(&mut self, root: Col)
         requires { IsLegal self.old (Flip root) }
         ensures { self.new ≡ record self.old { flipped = self.old.flipped ++ root ∷ [] } }
@@ -390,10 +401,46 @@ impl<'p> Forest<'p> {
         put(&mut self.flipped, root);
     }
 
-    /// The current matching becomes the base, and the claims of trees without a leaf stay: the others, the leaves and the
-    /// flipped roots are gone.
+    /// Flips each root with a leaf that is not flipped, in the order of the leaves, where the
+    /// exchange itself is made already: the mates are those of the base matching with the path of
+    /// every leaf exchanged. They are kept, and no path of these roots is exchanged again. The base
+    /// matching stays.
     ///
-    /// Takes no memory. Work: one look at each claim and each leaf, and three writes at most for each pair of a path.
+    /// Takes no memory. Work: one look at each leaf and one read for each column.
+    pub fn adopt(&mut self, mates: Mates)
+        requires exchanged { AreExchanged self.old mates }
+        ensures flips { Runs self.old (flip_events (unflipped self.old)) self.new }
+        ensures flipped { self.new ≡ all_flipped self.old }
+        ensures all { AreFlipped self.new }
+        ensures size { length self.new.flipped ≡ length self.old.leaves }
+    {
+        self.is_sound();
+        self.flip_all();
+        let matching = Matching::of(mates);
+        // `size` tells the proof that rows and columns differ.
+        let _size = matching.size();
+        let flips = self.flipped.as_slice().len();
+        self.adopted = Some(Adopted { matching, flips });
+    }
+
+    // Flips each root with a leaf that is not flipped.
+    fn flip_all(&mut self)
+        ensures { self.new ≡ all_flipped self.old }
+    {
+        self.is_sound();
+        for i in 0..self.leaves().len() {
+            let (root, _) = self.leaves()[i];
+            if !self.flipped(root) {
+                self.flip(root);
+            }
+        }
+    }
+
+    /// The current matching becomes the base, and the claims of trees without a leaf stay: the
+    /// others, the leaves and the flipped roots are gone.
+    ///
+    /// Takes no memory. Work: one look at each claim and each leaf, and three writes at most for
+    /// each pair of the path of a root that was flipped after the last adoption.
     pub fn graft(&mut self)
         requires { IsLegal self.old Graft }
         ensures renewed { IsRenewed self.old self.new }
@@ -403,6 +450,7 @@ impl<'p> Forest<'p> {
         let roots = self.flipped.as_slice();
         exchange(
             &mut self.base,
+            &mut self.adopted,
             &self.claimed,
             &self.leaf_of,
             roots,
@@ -435,6 +483,7 @@ impl<'p> Forest<'p> {
         let roots = self.flipped.as_slice();
         exchange(
             &mut self.base,
+            &mut self.adopted,
             &self.claimed,
             &self.leaf_of,
             roots,
@@ -455,7 +504,8 @@ impl<'p> Forest<'p> {
 
     /// The current matching: the base matching with the paths of the flipped roots exchanged.
     ///
-    /// Takes no memory. Work: three writes at most for each pair of the path of a flipped root.
+    /// Takes no memory. Work: three writes at most for each pair of the path of a root that was
+    /// flipped after the last adoption.
     pub fn into_matching(self) -> Matching
         ensures current { IsCurrent self.entry result.pairs }
         ensures matching { IsMatchingOf self.entry.matrix result }
@@ -463,13 +513,22 @@ impl<'p> Forest<'p> {
     {
         let Forest {
             mut base,
+            mut adopted,
             claimed,
             leaf_of,
             flipped,
             mut path,
             ..
         } = self;
-        exchange(&mut base, &claimed, &leaf_of, flipped.as_slice(), &mut path);
+        let roots = flipped.as_slice();
+        exchange(
+            &mut base,
+            &mut adopted,
+            &claimed,
+            &leaf_of,
+            roots,
+            &mut path,
+        );
         base
     }
 }

@@ -33,7 +33,10 @@ cheap_rows x c = filter (λ r. nat_eq (paid x r c) (dual x c)) (column x.weighin
 
 -- these entries alone
 abbrev pub cheap : Priced → Matrix
-cheap x = record { rows = x.weighing.matrix.rows; columns = map (cheap_rows x) (upto (cols x.weighing.matrix)) }
+cheap x = record {
+  rows = x.weighing.matrix.rows;
+  columns = map (cheap_rows x) (upto (cols x.weighing.matrix));
+}
 
 -- no entry costs less than its column's dual variable
 pub record IsFeasible (x : Priced) : Type 0 where

@@ -22,4 +22,5 @@ pub record AreFirstDuals (w : Weighing) (k : ℕ) (duals : List ℕ) : Type 0 wh
 pub record AreFirstPrices (w : Weighing) (k : ℕ) (duals prices : List ℕ) : Type 0 where
   pub prices_are : length prices ≡ w.matrix.rows
   pub low : (r : ℕ) → slice_index prices r ≤ top
-  pub covers : (r c : ℕ) → c < k → IsEntry w.matrix r c → slice_index duals c ≤ slice_index prices r + cost w r c
+  pub covers : (r c : ℕ) → c < k → IsEntry w.matrix r c
+      → slice_index duals c ≤ slice_index prices r + cost w r c

@@ -17,7 +17,8 @@ pub record IsSingular (a : Matrix) (rank : ℕ) (hall : List ℕ) : Type 0 where
   pub horizontal : Lists (IsHorizontalCol a) hall
 
 -- a full matching, in order of its columns, with fair prices and the sum of its weights
-pub record IsHeaviestDiagonal (w : Weighing) (m : List Place) (u v : List ℤ) (sum : ℤ) : Type 0 where
+pub record IsHeaviestDiagonal (w : Weighing) (m : List Place) (u v : List ℤ)
+    (sum : ℤ) : Type 0 where
   pub square : w.matrix.rows ≡ cols w.matrix
   pub full : IsFull w.matrix m
   pub rising : IsRising (cols_of m)

@@ -22,7 +22,12 @@ abbrev pub tree_of : Search → Tree
 tree_of s = record { queue = s.queue.items; depths = s.depths.items }
 
 abbrev pub labels_of : Search → Labels
-labels_of s = record { distances = s.distances.items; parents = s.parents.items; settled = s.settled.items; waiting = s.frontier }
+labels_of s = record {
+  distances = s.distances.items;
+  parents = s.parents.items;
+  settled = s.settled.items;
+  waiting = s.frontier;
+}
 
 -- the rows with a distance are matched and reached at it; the settled ones are those whose mates are among the columns, and
 -- the others wait, at no less than the level, which is no less than any depth
@@ -30,21 +35,30 @@ pub record IsKept (x : Priced) (m : List Place) (t : Tree) (l : Labels) (level :
   pub distances_are : length l.distances ≡ x.weighing.matrix.rows
   pub parents_are : length l.parents ≡ x.weighing.matrix.rows
   pub settled_are : length l.settled ≡ x.weighing.matrix.rows
-  pub reached : (r : ℕ) → distance_of l r < far → Reaches x t r (slice_index l.parents r) (distance_of l r)
+  pub reached : (r : ℕ) → distance_of l r < far
+      → Reaches x t r (slice_index l.parents r) (distance_of l r)
   pub matched : (r : ℕ) → distance_of l r < far → Among r (rows_of m)
-  pub settled : (r : ℕ) → IsMarked l.settled r → (j : ℕ) × (0 < j) × (j < length t.queue) × Among (r, stop t j) m × (depth t j ≡ distance_of l r)
-  pub entered : (i r : ℕ) → 0 < i → i < length t.queue → Among (r, stop t i) m → IsMarked l.settled r
-  pub waiting : (r : ℕ) → distance_of l r < far → IsMarked l.settled r ⊎ Among (distance_of l r, r) l.waiting
-  pub waits : (d r : ℕ) → Among (d, r) l.waiting → (level ≤ d) × (distance_of l r ≤ d) × (distance_of l r < far)
+  pub settled : (r : ℕ) → IsMarked l.settled r
+      → (j : ℕ) × (0 < j) × (j < length t.queue) × Among (r, stop t j) m
+      × (depth t j ≡ distance_of l r)
+  pub entered : (i r : ℕ) → 0 < i → i < length t.queue → Among (r, stop t i) m
+      → IsMarked l.settled r
+  pub waiting : (r : ℕ) → distance_of l r < far → IsMarked l.settled r
+      ⊎ Among (distance_of l r, r) l.waiting
+  pub waits : (d r : ℕ) → Among (d, r) l.waiting
+      → (level ≤ d) × (distance_of l r ≤ d) × (distance_of l r < far)
   pub depths : (i : ℕ) → i < length t.queue → depth t i ≤ level
 
 -- an entry of the column at the place does not lead nearer to its row than is known, or not nearer than the limit
 abbrev pub IsKnown : Priced → Tree → Labels → ℕ → ℕ → ℕ → Type 0
-IsKnown x t l limit i r = ((distance_of l r < far) × (distance_of l r + dual x (stop t i) ≤ depth t i + paid x r (stop t i))) ⊎ (limit + dual x (stop t i) ≤ depth t i + paid x r (stop t i))
+IsKnown x t l limit i r = ((distance_of l r < far)
+    × (distance_of l r + dual x (stop t i) ≤ depth t i + paid x r (stop t i)))
+    ⊎ (limit + dual x (stop t i) ≤ depth t i + paid x r (stop t i))
 
 -- the entries of the first k columns
 abbrev pub AreKnown : Priced → Tree → Labels → ℕ → ℕ → Type 0
-AreKnown x t l limit k = (i r : ℕ) → i < k → IsEntry x.weighing.matrix r (stop t i) → IsKnown x t l limit i r
+AreKnown x t l limit k = (i r : ℕ) → i < k → IsEntry x.weighing.matrix r (stop t i)
+    → IsKnown x t l limit i r
 
 -- the nearest unmatched row so far, if there is one, is no nearer than the level
 pub record IsBest (x : Priced) (m : List Place) (t : Tree) (n : Nearest) (level : ℕ) : Type 0 where
@@ -53,7 +67,12 @@ pub record IsBest (x : Priced) (m : List Place) (t : Tree) (n : Nearest) (level 
 
 -- a matched row is given a distance
 abbrev pub put : Labels → List (ℕ × ℕ) → ℕ → ℕ → ℕ → Labels
-put l waiting r d p = record { distances = set l.distances r d; parents = set l.parents r p; settled = l.settled; waiting = waiting }
+put l waiting r d p = record {
+  distances = set l.distances r d;
+  parents = set l.parents r p;
+  settled = l.settled;
+  waiting = waiting;
+}
 
 pub record Puts (l k : Labels) (r d p : ℕ) : Type 0 where
   pub heap : List (ℕ × ℕ)
@@ -64,7 +83,10 @@ pub record Puts (l k : Labels) (r d p : ℕ) : Type 0 where
 
 -- what a look at an entry changes, which leads from a place to a row at a distance
 abbrev pub Looks : List Place → ℕ → ℕ → ℕ → Labels → Nearest → Labels → Nearest → Type 0
-Looks m r d p l n k o = ((k ≡ l) × (o ≡ n) × ((n.distance ≤ d) ⊎ (distance_of l r ≤ d))) ⊎ ((Puts l k r d p × (o ≡ n) × Among r (rows_of m) × (d < distance_of l r)) ⊎ ((k ≡ l) × (o ≡ record { row = r; distance = d; place = p }) × (¬ Among r (rows_of m)) × (d < n.distance)))
+Looks m r d p l n k o = ((k ≡ l) × (o ≡ n) × ((n.distance ≤ d) ⊎ (distance_of l r ≤ d)))
+    ⊎ ((Puts l k r d p × (o ≡ n) × Among r (rows_of m) × (d < distance_of l r))
+    ⊎ ((k ≡ l) × (o ≡ record { row = r; distance = d; place = p }) × (¬ Among r (rows_of m))
+    × (d < n.distance)))
 
 -- the nearest row that waits and is not settled is taken out, or none is below the limit
 pub record Takes (l k : Labels) (d r limit : ℕ) : Type 0 where
@@ -74,7 +96,8 @@ pub record Takes (l k : Labels) (d r limit : ℕ) : Type 0 where
   pub was : Among (d, r) l.waiting
   pub below : d < limit
   pub holds : (e : ℕ × ℕ) → Among e heap → Among e l.waiting × (d ≤ e.0)
-  pub keeps : (e : ℕ × ℕ) → Among e l.waiting → (e ≡ (d, r)) ⊎ (IsMarked l.settled e.1 ⊎ Among e heap)
+  pub keeps : (e : ℕ × ℕ) → Among e l.waiting → (e ≡ (d, r))
+      ⊎ (IsMarked l.settled e.1 ⊎ Among e heap)
 
 abbrev pub AreBeyond : Labels → ℕ → Type 0
 AreBeyond l limit = (e : ℕ × ℕ) → Among e l.waiting → IsMarked l.settled e.1 ⊎ (limit ≤ e.0)

@@ -30,7 +30,8 @@ pub record Reaches (x : Priced) (t : Tree) (r p d : ℕ) : Type 0 where
 
 -- the column at the place is the mate of a row that an earlier one reaches, at the same distance
 abbrev pub IsLedTo : Priced → List Place → Tree → ℕ → Type 0
-IsLedTo x m t i = (r : ℕ) × Among (r, stop t i) m × ((at t.queue i).1 < i) × Reaches x t r (at t.queue i).1 (depth t i)
+IsLedTo x m t i = (r : ℕ) × Among (r, stop t i) m × ((at t.queue i).1 < i)
+    × Reaches x t r (at t.queue i).1 (depth t i)
 
 -- the columns begin with the unmatched root, and each is there once
 pub record IsGrown (x : Priced) (m : List Place) (root : ℕ) (t : Tree) : Type 0 where
@@ -45,12 +46,14 @@ pub record IsGrown (x : Priced) (m : List Place) (root : ℕ) (t : Tree) : Type 
 
 -- the row's mate is one of the columns, at a place with at most this much to pay
 abbrev pub IsTaken : Priced → List Place → Tree → ℕ → ℕ → Type 0
-IsTaken x m t i r = (j : ℕ) × (0 < j) × (j < length t.queue) × Among (r, stop t j) m × (depth t j + dual x (stop t i) ≤ depth t i + paid x r (stop t i))
+IsTaken x m t i r = (j : ℕ) × (0 < j) × (j < length t.queue) × Among (r, stop t j) m
+    × (depth t j + dual x (stop t i) ≤ depth t i + paid x r (stop t i))
 
 -- no row is nearer than this but those whose mates are among the columns
 pub record IsSearched (x : Priced) (m : List Place) (t : Tree) (distance : ℕ) : Type 0 where
   pub depths : (i : ℕ) → i < length t.queue → depth t i ≤ distance
-  pub closed : (i r : ℕ) → i < length t.queue → IsEntry x.weighing.matrix r (stop t i) → IsTaken x m t i r ⊎ (distance + dual x (stop t i) ≤ depth t i + paid x r (stop t i))
+  pub closed : (i r : ℕ) → i < length t.queue → IsEntry x.weighing.matrix r (stop t i)
+      → IsTaken x m t i r ⊎ (distance + dual x (stop t i) ≤ depth t i + paid x r (stop t i))
 
 -- an unmatched row at this distance
 pub record IsNearest (x : Priced) (m : List Place) (t : Tree) (r p d : ℕ) : Type 0 where
@@ -59,15 +62,19 @@ pub record IsNearest (x : Priced) (m : List Place) (t : Tree) (r p d : ℕ) : Ty
 
 -- each entry of the columns is in a row whose mate is among them
 abbrev pub IsStuck : Priced → List Place → Tree → Type 0
-IsStuck x m t = (i r : ℕ) → i < length t.queue → IsEntry x.weighing.matrix r (stop t i) → (j : ℕ) × (0 < j) × (j < length t.queue) × Among (r, stop t j) m
+IsStuck x m t = (i r : ℕ) → i < length t.queue → IsEntry x.weighing.matrix r (stop t i)
+    → (j : ℕ) × (0 < j) × (j < length t.queue) × Among (r, stop t j) m
 
 -- the dual variables of the columns, and the prices of their mates, have risen by how much nearer they are than the distance
 pub record IsRaised (x y : Priced) (m : List Place) (t : Tree) (distance : ℕ) : Type 0 where
   pub same : y.weighing ≡ x.weighing
   pub prices_are : length y.prices ≡ length x.prices
   pub duals_are : length y.duals ≡ length x.duals
-  pub cols_up : (i : ℕ) → i < length t.queue → dual y (stop t i) + depth t i ≡ dual x (stop t i) + distance
-  pub rows_up : (i r : ℕ) → i < length t.queue → Among (r, stop t i) m → slice_index y.prices r + depth t i ≡ slice_index x.prices r + distance
+  pub cols_up : (i : ℕ) → i < length t.queue
+      → dual y (stop t i) + depth t i ≡ dual x (stop t i) + distance
+  pub rows_up : (i r : ℕ) → i < length t.queue → Among (r, stop t i) m
+      → slice_index y.prices r + depth t i ≡ slice_index x.prices r + distance
   pub cols_stay : (c : ℕ) → ¬ Among c (heads t.queue) → dual y c ≡ dual x c
-  pub rows_stay : (r : ℕ) → ((i : ℕ) → i < length t.queue → ¬ Among (r, stop t i) m) → slice_index y.prices r ≡ slice_index x.prices r
+  pub rows_stay : (r : ℕ) → ((i : ℕ) → i < length t.queue → ¬ Among (r, stop t i) m)
+      → slice_index y.prices r ≡ slice_index x.prices r
   pub rows_rise : (r : ℕ) → slice_index x.prices r ≤ slice_index y.prices r

@@ -63,8 +63,11 @@ fn match_all(
     requires square { pattern.now.rows ≡ cols pattern.now }
     requires few { cols pattern.now < 2 ^ 32 }
     ensures assignment { OnOk result (IsAssignment weights.now assignment.new) }
-    ensures all { IfOk result (λ b. b ≡ true → (c : ℕ) → c < cols pattern.now → Among c (cols_of assignment.new.matching.pairs)) }
-    ensures stuck { IfOk result (λ b. b ≡ false → (other : List Place) → ¬ IsFull pattern.now other) }
+    ensures all { IfOk result
+        (λ b. b ≡ true → (c : ℕ) → c < cols pattern.now
+        → Among c (cols_of assignment.new.matching.pairs)) }
+    ensures stuck { IfOk result
+        (λ b. b ≡ false → (other : List Place) → ¬ IsFull pattern.now other) }
 {
     let mut search = Search::new(alloc, pattern.rows())?;
     let mut path: Vec<(Row, Col)> = Vec::with_capacity(alloc, pattern.cols() as usize)?;
@@ -108,7 +111,8 @@ fn diagonal(
     requires square { pattern.now.rows ≡ cols pattern.now }
     requires few { cols pattern.now < 2 ^ 32 }
     requires assignment { IsAssignment weights.now assignment.now }
-    requires all_cols { (c : ℕ) → c < cols pattern.now → Among c (cols_of assignment.now.matching.pairs) }
+    requires all_cols { (c : ℕ) → c < cols pattern.now
+        → Among c (cols_of assignment.now.matching.pairs) }
     ensures { IfOk result (IsHeaviest weights.now) }
 {
     let pairs = pairs_of(alloc, &assignment.matching)?;
@@ -122,7 +126,8 @@ fn diagonal(
 fn pairs_of(alloc: Global, matching: &Matching) -> Result<Vec<(Row, Col)>, OutOfMemory>
     requires { (c : ℕ) → c < matching.now.cols → Among c (cols_of matching.now.pairs) }
     ensures cols { IfOk result (λ pairs. cols_of pairs.items ≡ upto matching.now.cols) }
-    ensures pairs { IfOk result (λ pairs. (r c : ℕ) → Among (r, c) pairs.items → Among (r, c) matching.now.pairs) }
+    ensures pairs { IfOk result
+        (λ pairs. (r c : ℕ) → Among (r, c) pairs.items → Among (r, c) matching.now.pairs) }
 {
     let mut pairs = Vec::with_capacity(alloc, matching.cols() as usize)?;
     for col in 0..matching.cols() {

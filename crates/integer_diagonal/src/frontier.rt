@@ -48,7 +48,8 @@ impl Frontier {
 
     /// Adds a row at a distance. It may stand there several times.
     pub fn push(&mut self, distance: u128, row: u32) -> Result<(), AllocError>
-        ensures { OnOk result ((e : ℕ × ℕ) → Among e self.new ↔ ((e ≡ (distance, row)) ⊎ Among e self.old)) }
+        ensures { OnOk result
+            ((e : ℕ × ℕ) → Among e self.new ↔ ((e ≡ (distance, row)) ⊎ Among e self.old)) }
     {
         if distance == self.level {
             self.near.push(row)?;
@@ -60,7 +61,8 @@ impl Frontier {
 
     /// Takes out what is nearest.
     pub fn pop(&mut self) -> Option<(u128, u32)>
-        ensures taken { IfSome result (λ x. (e : ℕ × ℕ) → Among e self.old ↔ ((e ≡ x) ⊎ Among e self.new)) }
+        ensures taken { IfSome result
+            (λ x. (e : ℕ × ℕ) → Among e self.old ↔ ((e ≡ x) ⊎ Among e self.new)) }
         ensures nearest { IfSome result (λ x. (e : ℕ × ℕ) → Among e self.old → x.0 ≤ e.0) }
         ensures shorter { IfSome result (λ x. length self.new < length self.old) }
         ensures none { IfNone result (self.old ≡ []) }
@@ -92,8 +94,10 @@ impl Frontier {
 // Whether the nearest row of a heap is nearer than the level.
 fn begins_below(heap: &BinaryHeap<Reverse<(u128, u32)>, Global>, level: u128) -> bool
     ensures some { result ≡ true → 0 < heap_len heap.now }
-    ensures below { result ≡ true → (x : Reversed (ℕ × ℕ)) → (unwrapped (slice_index_or (heap_items heap.now) 0 x)).0 < level }
-    ensures beyond { result ≡ false → IsHeap by_nearness (heap_items heap.now) → (e : ℕ × ℕ) → Among e (map unwrapped (heap_items heap.now)) → level ≤ e.0 }
+    ensures below { result ≡ true → (x : Reversed (ℕ × ℕ))
+        → (unwrapped (slice_index_or (heap_items heap.now) 0 x)).0 < level }
+    ensures beyond { result ≡ false → IsHeap by_nearness (heap_items heap.now) → (e : ℕ × ℕ)
+        → Among e (map unwrapped (heap_items heap.now)) → level ≤ e.0 }
 {
     match heap.peek() {
         Some(nearest) => nearest.0.0 < level,

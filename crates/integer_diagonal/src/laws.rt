@@ -11,7 +11,8 @@ ghost use Rattle.sp_pattern.specs.Weights.{Weighing};
 /// The prices of all rows and all columns add up to the weight of the one diagonal, and to at least the weight of each
 /// other: the weak duality of the assignment problem (Egervary 1931; Kuhn 1955).
 pub fn fair_prices_show_heaviest()
-    ensures { (w : Weighing) (m other : List Place) (u v : List ℤ) → IsFull w.matrix m → AreFair w m u v → IsFull w.matrix other → total w other ≤ total w m }
+    ensures { (w : Weighing) (m other : List Place) (u v : List ℤ) → IsFull w.matrix m
+        → AreFair w m u v → IsFull w.matrix other → total w other ≤ total w m }
 {}
 
 /// A matrix with a diagonal is square, and its rank is the number of its columns.

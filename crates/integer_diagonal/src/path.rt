@@ -41,9 +41,14 @@ pub fn extend(
     requires room { cols pattern.now ≤ vec_capacity path.old }
     ensures room { cols pattern.now ≤ vec_capacity path.new }
     ensures assignment { OnOk result (IsAssignment weights.now assignment.new) }
-    ensures covered { OnOk result (Covers assignment.old.matching.pairs assignment.new.matching.pairs) }
-    ensures found { IfOk result (λ b. (b ≡ true → Among root (cols_of assignment.new.matching.pairs) × IsClear pattern.now.rows (tree_of search.new) (labels_of search.new) × (search.new.reached.items ≡ []))) }
-    ensures stuck { IfOk result (λ b. b ≡ false → (other : List Place) → ¬ IsFull pattern.now other) }
+    ensures covered { OnOk result
+        (Covers assignment.old.matching.pairs assignment.new.matching.pairs) }
+    ensures found { IfOk result
+        (λ b. (b ≡ true → Among root (cols_of assignment.new.matching.pairs)
+        × IsClear pattern.now.rows (tree_of search.new) (labels_of search.new)
+        × (search.new.reached.items ≡ []))) }
+    ensures stuck { IfOk result
+        (λ b. b ≡ false → (other : List Place) → ¬ IsFull pattern.now other) }
 {
     let nearest = search.find(pattern, weights, assignment, root)?;
     if nearest.distance == FAR {
@@ -69,16 +74,20 @@ pub fn extend(
 // Raises the dual variable of each column that the search has come to, and the price of its mate, by how much nearer it is.
 fn raise(assignment: &mut Assignment, queue: &[(u32, u32)], depths: &[u128], distance: u128)
     requires lengths { length depths.now ≡ length queue.now }
-    requires in_range { (i : ℕ) → i < length queue.now → (at queue.now i).0 < length assignment.old.duals.items }
+    requires in_range { (i : ℕ) → i < length queue.now
+        → (at queue.now i).0 < length assignment.old.duals.items }
     requires cols { assignment.old.matching.cols ≡ length assignment.old.duals.items }
-    requires rows_in_range { (r c : ℕ) → Among (r, c) assignment.old.matching.pairs → r < length assignment.old.prices.items }
+    requires rows_in_range { (r c : ℕ) → Among (r, c) assignment.old.matching.pairs
+        → r < length assignment.old.prices.items }
     requires distinct { AreDistinct (heads queue.now) }
     requires rows_differ { AreDistinct (rows_of assignment.old.matching.pairs) }
     requires cols_differ { AreDistinct (cols_of assignment.old.matching.pairs) }
     requires depths { (i : ℕ) → i < length queue.now → slice_index depths.now i ≤ distance }
     requires duals_fit { (c : ℕ) → slice_index assignment.old.duals.items c + distance < 2 ^ 128 }
     requires prices_fit { (r : ℕ) → slice_index assignment.old.prices.items r + distance < 2 ^ 128 }
-    ensures raised { (w : Weighing) → IsRaised (priced w assignment.old) (priced w assignment.new) assignment.old.matching.pairs (record { queue = queue.now; depths = depths.now }) distance }
+    ensures raised { (w : Weighing)
+        → IsRaised (priced w assignment.old) (priced w assignment.new) assignment.old.matching.pairs
+        (record { queue = queue.now; depths = depths.now }) distance }
     ensures matching { assignment.new.matching ≡ assignment.old.matching }
 {
     for place in 0..queue.len() {
@@ -95,7 +104,8 @@ fn raise(assignment: &mut Assignment, queue: &[(u32, u32)], depths: &[u128], dis
 fn raise_price(prices: &mut Vec<u128>, row: Row, rise: u128)
     requires row { row < length prices.old.items }
     requires fits { slice_index prices.old.items row + rise < 2 ^ 128 }
-    ensures { prices.new.items ≡ set prices.old.items row (slice_index prices.old.items row + rise) }
+    ensures { prices.new.items
+        ≡ set prices.old.items row (slice_index prices.old.items row + rise) }
 {
     prices[row.0 as usize] += rise;
 }

@@ -65,7 +65,8 @@ impl Search {
         requires listed { AreListed (labels_of self.old) self.old.reached.items }
         requires settled { length self.old.settled.items ≡ length self.old.distances.items }
         requires parents { length self.old.parents.items ≡ length self.old.distances.items }
-        ensures clear { IsClear (length self.old.distances.items) (tree_of self.new) (labels_of self.new) }
+        ensures clear { IsClear (length self.old.distances.items) (tree_of self.new)
+            (labels_of self.new) }
         ensures listed { self.new.reached.items ≡ [] }
     {
         for k in 0..self.reached.len() {
@@ -95,11 +96,24 @@ impl Search {
         requires few { cols pattern.now < 2 ^ 32 }
         requires clear { IsClear pattern.now.rows (tree_of self.old) (labels_of self.old) }
         requires listed { self.old.reached.items ≡ [] }
-        ensures tree { OnOk result (IsGrown (priced weights.now assignment.now) assignment.now.matching.pairs root (tree_of self.new)) }
-        ensures found { IfOk result (λ n. n.distance < far → IsNearest (priced weights.now assignment.now) assignment.now.matching.pairs (tree_of self.new) n.row n.place n.distance × IsSearched (priced weights.now assignment.now) assignment.now.matching.pairs (tree_of self.new) n.distance) }
-        ensures stuck { IfOk result (λ n. n.distance ≡ far → IsStuck (priced weights.now assignment.now) assignment.now.matching.pairs (tree_of self.new)) }
+        ensures tree { OnOk result
+            (IsGrown (priced weights.now assignment.now) assignment.now.matching.pairs root
+            (tree_of self.new)) }
+        ensures found { IfOk result
+            (λ n. n.distance < far
+            → IsNearest (priced weights.now assignment.now) assignment.now.matching.pairs
+            (tree_of self.new) n.row n.place n.distance
+            × IsSearched (priced weights.now assignment.now) assignment.now.matching.pairs
+            (tree_of self.new) n.distance) }
+        ensures stuck { IfOk result
+            (λ n. n.distance ≡ far
+            → IsStuck (priced weights.now assignment.now) assignment.now.matching.pairs
+            (tree_of self.new)) }
         ensures listed { OnOk result (AreListed (labels_of self.new) self.new.reached.items) }
-        ensures lengths { OnOk result ((length self.new.distances.items ≡ pattern.now.rows) × (length self.new.settled.items ≡ pattern.now.rows) × (length self.new.parents.items ≡ pattern.now.rows)) }
+        ensures lengths { OnOk result
+            ((length self.new.distances.items ≡ pattern.now.rows)
+            × (length self.new.settled.items ≡ pattern.now.rows)
+            × (length self.new.parents.items ≡ pattern.now.rows)) }
     {
         let mut nearest = Nearest {
             row: 0,
@@ -118,8 +132,11 @@ impl Search {
     // Takes out the nearest row that is not settled, if it is nearer than the limit.
     fn next(&mut self, limit: u128) -> Option<(u128, u32)>
         requires { (e : ℕ × ℕ) → Among e self.old.frontier → e.1 < length self.old.settled.items }
-        ensures taken { IfSome result (λ e. Takes (labels_of self.old) (labels_of self.new) e.0 e.1 limit) }
-        ensures none { IfNone result (AreBeyond (labels_of self.old) limit × (labels_of self.new ≡ record (labels_of self.old) { waiting = self.new.frontier })) }
+        ensures taken { IfSome result
+            (λ e. Takes (labels_of self.old) (labels_of self.new) e.0 e.1 limit) }
+        ensures none { IfNone result
+            (AreBeyond (labels_of self.old) limit
+            × (labels_of self.new ≡ record (labels_of self.old) { waiting = self.new.frontier })) }
         ensures tree { tree_of self.new ≡ tree_of self.old }
         ensures listed { self.new.reached.items ≡ self.old.reached.items }
     {
@@ -142,8 +159,16 @@ impl Search {
         requires matched { Among row (rows_of matching.now.pairs) }
         requires few { length self.old.queue.items < 2 ^ 32 }
         ensures place { IfOk result (λ place. place ≡ length self.old.queue.items) }
-        ensures tree { OnOk result ((c : ℕ) × Among (row, c) matching.now.pairs × (tree_of self.new ≡ record { queue = self.old.queue.items ++ (c, slice_index self.old.parents.items row) ∷ []; depths = self.old.depths.items ++ distance ∷ [] })) }
-        ensures labels { OnOk result (labels_of self.new ≡ record (labels_of self.old) { settled = set self.old.settled.items row true }) }
+        ensures tree { OnOk result
+            ((c : ℕ) × Among (row, c) matching.now.pairs
+            × (tree_of self.new ≡ record {
+              queue = self.old.queue.items
+                  ++ (c, slice_index self.old.parents.items row) ∷ [];
+              depths = self.old.depths.items ++ distance ∷ [];
+            })) }
+        ensures labels { OnOk result
+            (labels_of self.new ≡ record (labels_of self.old)
+            { settled = set self.old.settled.items row true }) }
         ensures listed { OnOk result (self.new.reached.items ≡ self.old.reached.items) }
     {
         let place = self.queue.len() as u32;
@@ -160,7 +185,11 @@ impl Search {
 
     // Puts a column at the end of the queue.
     fn enter(&mut self, col: Col, parent: u32, depth: u128) -> Result<(), AllocError>
-        ensures tree { OnOk result (tree_of self.new ≡ record { queue = self.old.queue.items ++ (col, parent) ∷ []; depths = self.old.depths.items ++ depth ∷ [] }) }
+        ensures tree { OnOk result
+            (tree_of self.new ≡ record {
+              queue = self.old.queue.items ++ (col, parent) ∷ [];
+              depths = self.old.depths.items ++ depth ∷ [];
+            }) }
         ensures labels { labels_of self.new ≡ labels_of self.old }
         ensures listed { self.new.reached.items ≡ self.old.reached.items }
     {
@@ -181,15 +210,26 @@ impl Search {
         requires of { weights.now.matrix ≡ pattern.now }
         requires assignment { IsAssignment weights.now assignment.now }
         requires place { place < length self.old.queue.items }
-        requires root { (root : ℕ) × IsGrown (priced weights.now assignment.now) assignment.now.matching.pairs root (tree_of self.old) }
-        requires kept { IsKept (priced weights.now assignment.now) assignment.now.matching.pairs (tree_of self.old) (labels_of self.old) (depth (tree_of self.old) place) }
-        requires best { IsBest (priced weights.now assignment.now) assignment.now.matching.pairs (tree_of self.old) nearest.old (depth (tree_of self.old) place) }
-        requires known { AreKnown (priced weights.now assignment.now) (tree_of self.old) (labels_of self.old) nearest.old.distance place }
+        requires root { (root : ℕ)
+            × IsGrown (priced weights.now assignment.now) assignment.now.matching.pairs root
+            (tree_of self.old) }
+        requires kept { IsKept (priced weights.now assignment.now) assignment.now.matching.pairs
+            (tree_of self.old) (labels_of self.old) (depth (tree_of self.old) place) }
+        requires best { IsBest (priced weights.now assignment.now) assignment.now.matching.pairs
+            (tree_of self.old) nearest.old (depth (tree_of self.old) place) }
+        requires known { AreKnown (priced weights.now assignment.now) (tree_of self.old)
+            (labels_of self.old) nearest.old.distance place }
         requires listed { AreListed (labels_of self.old) self.old.reached.items }
         ensures tree { tree_of self.new ≡ tree_of self.old }
-        ensures kept { OnOk result (IsKept (priced weights.now assignment.now) assignment.now.matching.pairs (tree_of self.new) (labels_of self.new) (depth (tree_of self.new) place)) }
-        ensures best { OnOk result (IsBest (priced weights.now assignment.now) assignment.now.matching.pairs (tree_of self.new) nearest.new (depth (tree_of self.new) place)) }
-        ensures known { OnOk result (AreKnown (priced weights.now assignment.now) (tree_of self.new) (labels_of self.new) nearest.new.distance (place + 1)) }
+        ensures kept { OnOk result
+            (IsKept (priced weights.now assignment.now) assignment.now.matching.pairs
+            (tree_of self.new) (labels_of self.new) (depth (tree_of self.new) place)) }
+        ensures best { OnOk result
+            (IsBest (priced weights.now assignment.now) assignment.now.matching.pairs
+            (tree_of self.new) nearest.new (depth (tree_of self.new) place)) }
+        ensures known { OnOk result
+            (AreKnown (priced weights.now assignment.now) (tree_of self.new)
+            (labels_of self.new) nearest.new.distance (place + 1)) }
         ensures listed { OnOk result (AreListed (labels_of self.new) self.new.reached.items) }
     {
         let col = Col(self.queue[place as usize].0);
@@ -218,9 +258,13 @@ impl Search {
         requires row { row < matching.now.rows }
         requires distances { row < length self.old.distances.items }
         requires parents { row < length self.old.parents.items }
-        ensures looked { OnOk result (Looks matching.now.pairs row distance place (labels_of self.old) nearest.old (labels_of self.new) nearest.new) }
+        ensures looked { OnOk result
+            (Looks matching.now.pairs row distance place (labels_of self.old) nearest.old
+            (labels_of self.new) nearest.new) }
         ensures tree { tree_of self.new ≡ tree_of self.old }
-        ensures listed { OnOk result (AreListed (labels_of self.old) self.old.reached.items → AreListed (labels_of self.new) self.new.reached.items) }
+        ensures listed { OnOk result
+            (AreListed (labels_of self.old) self.old.reached.items
+            → AreListed (labels_of self.new) self.new.reached.items) }
     {
         if distance >= nearest.distance || distance >= self.distances[row as usize] {
             return Ok(());
@@ -243,9 +287,12 @@ impl Search {
         requires distances { row < length self.old.distances.items }
         requires parents { row < length self.old.parents.items }
         requires nearer { distance < far }
-        ensures put { OnOk result (Puts (labels_of self.old) (labels_of self.new) row distance place) }
+        ensures put { OnOk result
+            (Puts (labels_of self.old) (labels_of self.new) row distance place) }
         ensures tree { tree_of self.new ≡ tree_of self.old }
-        ensures listed { OnOk result (AreListed (labels_of self.old) self.old.reached.items → AreListed (labels_of self.new) self.new.reached.items) }
+        ensures listed { OnOk result
+            (AreListed (labels_of self.old) self.old.reached.items
+            → AreListed (labels_of self.new) self.new.reached.items) }
     {
         self.list(row)?;
         let at = row as usize;
@@ -260,7 +307,10 @@ impl Search {
         requires { row < length self.old.distances.items }
         ensures labels { labels_of self.new ≡ labels_of self.old }
         ensures tree { tree_of self.new ≡ tree_of self.old }
-        ensures listed { OnOk result (AreListed (labels_of self.old) self.old.reached.items → AreListed (labels_of self.new) self.new.reached.items × Among row self.new.reached.items) }
+        ensures listed { OnOk result
+            (AreListed (labels_of self.old) self.old.reached.items
+            → AreListed (labels_of self.new) self.new.reached.items
+            × Among row self.new.reached.items) }
     {
         if self.distances[row as usize] == FAR {
             self.reached.push(row)?;

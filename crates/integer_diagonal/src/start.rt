@@ -80,7 +80,8 @@ fn first_prices(
 ) -> Result<Vec<u128>, OutOfMemory>
     requires of { weights.now.matrix ≡ pattern.now }
     requires duals { AreFirstDuals weights.now (cols pattern.now) duals.now }
-    ensures { IfOk result (λ prices. AreFirstPrices weights.now (cols pattern.now) duals.now prices.items) }
+    ensures { IfOk result
+        (λ prices. AreFirstPrices weights.now (cols pattern.now) duals.now prices.items) }
 {
     let mut prices = vec![in alloc; 0u128; pattern.rows() as usize]?;
     for col in 0..pattern.cols() {
@@ -98,7 +99,8 @@ fn raise_rows(pattern: &Pattern, weights: &Weights, duals: &[u128], prices: &mut
     requires low { (r : ℕ) → slice_index prices.old r ≤ top }
     ensures low { (r : ℕ) → slice_index prices.new r ≤ top }
     ensures rise { (r : ℕ) → slice_index prices.old r ≤ slice_index prices.new r }
-    ensures covers { (r : ℕ) → IsEntry pattern.now r col → slice_index duals.now col ≤ slice_index prices.new r + cost weights.now r col }
+    ensures covers { (r : ℕ) → IsEntry pattern.now r col
+        → slice_index duals.now col ≤ slice_index prices.new r + cost weights.now r col }
 {
     let rows = pattern.rows_of(col);
     let weights = weights.weights_of(col);
@@ -112,7 +114,8 @@ fn raise_rows(pattern: &Pattern, weights: &Weights, duals: &[u128], prices: &mut
 fn raise_row(prices: &mut [u128], row: Row, least: u128)
     requires { row < length prices.old }
     ensures met { least ≤ slice_index prices.new row }
-    ensures low { (r : ℕ) → (slice_index prices.new r ≤ slice_index prices.old r) ⊎ (slice_index prices.new r ≡ least) }
+    ensures low { (r : ℕ) → (slice_index prices.new r ≤ slice_index prices.old r)
+        ⊎ (slice_index prices.new r ≡ least) }
     ensures rise { (r : ℕ) → slice_index prices.old r ≤ slice_index prices.new r }
 {
     if prices[row.0 as usize] < least {
@@ -134,8 +137,14 @@ fn cheap_row(
     requires col { col < cols pattern.now }
     requires prices { AreFirstPrices weights.now (cols pattern.now) duals.now prices.now }
     requires duals { length duals.now ≡ cols pattern.now }
-    ensures found { IfSome result (λ row. IsEntry pattern.now row col × (slice_index prices.now row + cost weights.now row col ≡ slice_index duals.now col) × (¬ Among row (rows_of matching.now.pairs))) }
-    ensures none { IfNone result ((r : ℕ) → IsEntry pattern.now r col → slice_index prices.now r + cost weights.now r col ≡ slice_index duals.now col → Among r (rows_of matching.now.pairs)) }
+    ensures found { IfSome result
+        (λ row. IsEntry pattern.now row col
+        × (slice_index prices.now row + cost weights.now row col ≡ slice_index duals.now col)
+        × (¬ Among row (rows_of matching.now.pairs))) }
+    ensures none { IfNone result
+        ((r : ℕ) → IsEntry pattern.now r col
+        → slice_index prices.now r + cost weights.now r col ≡ slice_index duals.now col
+        → Among r (rows_of matching.now.pairs)) }
 {
     let rows = pattern.rows_of(col);
     let weights = weights.weights_of(col);

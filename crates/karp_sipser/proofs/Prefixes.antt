@@ -1,4 +1,4 @@
--- The front of a list of rows or columns that a loop has passed.
+-- The prefix of a list of rows or columns that a loop has passed.
 use Rattle.std.proofs.Common.{◌≡◌, ◌≢◌, ◌⊎◌, ◌∙◌, ℕ, zero, suc, ◌+◌, ◌-◌, ◌<◌, ◌≤◌, List, [], ◌∷◌, map, take, length, slice_index, slice_index_or, slice_set, refl, ap, sym, subst, inl, inr, ⊎_elim, arith}
 use Rattle.std.proofs.lemmas.Bool.{cases_eq}
 use Rattle.std.proofs.lemmas.List.{get_or-set_other, get_or-set_same, length-map, length-set, take_more}
@@ -24,7 +24,7 @@ among_index [] i lt = absurd (omega arith)
 among_index (x ∷ xs) zero lt = inl refl
 among_index (x ∷ xs) (suc i) lt = inr (among_index xs i (omega arith))
 
--- the front with one element more
+-- the prefix with one element more
 pub front_next : (x i : ℕ) (xs : List ℕ) → i < length xs → Among x (take (i + 1) xs) → Among x (take i xs) ⊎ (x ≡ slice_index xs i)
 front_next x i xs lt h = among_last x (slice_index xs i) (take i xs) (rw (← take_more xs i 0 lt) h)
 
@@ -34,7 +34,7 @@ front_all x zero (y ∷ ys) le h = absurd (omega arith)
 front_all x (suc i) (y ∷ ys) le (inl e) = inl e
 front_all x (suc i) (y ∷ ys) le (inr h) = inr (front_all x i ys (omega arith) h)
 
--- what rises, from the front on
+-- what rises, from the start on
 pub front_or_later : (y i : ℕ) (xs : List ℕ) → IsRising xs → i < length xs → Among y xs → Among y (take i xs) ⊎ (slice_index xs i ≤ y)
 front_or_later y i [] up lt h = elim h [ ]
 front_or_later y zero (x ∷ xs) up lt (inl e) = inr (omega (arith, e))
@@ -51,7 +51,7 @@ not_in_front (suc i) (x ∷ xs) up lt = λ (h : Among (slice_index xs i) (x ∷ 
       | inr k ↦ not_in_front i xs up.1 (omega arith) k
     ]
 
--- the least of a rising list that has a degree, where none of the front has one
+-- the least of a rising list that has a degree, where none of the prefix has one
 pub least_from_front : (degrees xs : List ℕ) (i : ℕ) → IsRising xs → i < length xs → ((x : ℕ) → Among x (take i xs) → slice_index degrees x ≡ 0) → slice_index degrees (slice_index xs i) ≢ 0
     → IsLeast (λ x. Among x xs × (slice_index degrees x ≢ 0)) (slice_index xs i)
 least_from_front degrees xs i up lt none some =
@@ -61,11 +61,11 @@ pub none_next : (degrees xs : List ℕ) (i : ℕ) → i < length xs → ((x : �
     → (x : ℕ) → Among x (take (i + 1) xs) → slice_index degrees x ≡ 0
 none_next degrees xs i lt none here x h = ⊎_elim (λ k. none x k) (λ e. rw e here) (front_next x i xs lt h)
 
--- the degrees of the front are lowered, the others are as before, and those of one are among the members
-pub record IsLowering (old new members front : List ℕ) : Type 0 where
+-- the degrees of the prefix are lowered, the others are as before, and those of one are among the members
+pub record IsLowering (old new members prefix : List ℕ) : Type 0 where
   pub long : length new ≡ length old
-  pub lowered : (x : ℕ) → Among x front → slice_index new x ≡ slice_index old x - 1
-  pub kept : (x : ℕ) → ¬ Among x front → slice_index new x ≡ slice_index old x
+  pub lowered : (x : ℕ) → Among x prefix → slice_index new x ≡ slice_index old x - 1
+  pub kept : (x : ℕ) → ¬ Among x prefix → slice_index new x ≡ slice_index old x
   pub ones : HoldsOnes new members
 
 pub lowering_begins : (degrees members xs : List ℕ) → HoldsOnes degrees members → IsLowering degrees degrees members (take 0 xs)

@@ -11,7 +11,8 @@ pub record IsCount (P : ℕ → Type 0) (count : ℕ) : Type 0 where
   pub size : length having ≡ count
 
 -- for each column and row the number of its free entries
-pub record AreDegrees (a : Matrix) (m : List Place) (col_degrees row_degrees : List ℕ) : Type 0 where
+pub record AreDegrees (a : Matrix) (m : List Place)
+    (col_degrees row_degrees : List ℕ) : Type 0 where
   pub long_cols : length col_degrees ≡ cols a
   pub long_rows : length row_degrees ≡ a.rows
   pub col : (c : ℕ) → c < cols a → IsCount (λ r. IsFree a m r c) (slice_index col_degrees c)

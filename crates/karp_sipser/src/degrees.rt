@@ -63,7 +63,8 @@ pub fn first_with_degree<I: Id>(degrees: &[u32], ids: &[I]) -> I
     requires rising { IsRising (map I.number ids.now) }
     requires in_range { (x : ℕ) → Among x (map I.number ids.now) → x < length degrees.now }
     requires some { (x : ℕ) × Among x (map I.number ids.now) × (slice_index degrees.now x ≢ 0) }
-    ensures least { IsLeast (λ x. Among x (map I.number ids.now) × (slice_index degrees.now x ≢ 0)) (I.number result) }
+    ensures least { IsLeast (λ x. Among x (map I.number ids.now) × (slice_index degrees.now x ≢ 0))
+        (I.number result) }
 {
     for id in ids {
         if degrees[id.number() as usize] != 0 {
@@ -80,8 +81,10 @@ pub fn lower<I: Id>(degrees: &mut [u32], ids: &[I], ones: &mut IntSet)
     requires in_range { (x : ℕ) → Among x (map I.number ids.now) → x < length degrees.old }
     requires bound { ones.old.bound ≡ length degrees.old }
     requires ones { HoldsOnes degrees.old ones.old.members }
-    ensures lowered { (x : ℕ) → Among x (map I.number ids.now) → slice_index degrees.new x ≡ slice_index degrees.old x - 1 }
-    ensures kept { (x : ℕ) → ¬ Among x (map I.number ids.now) → slice_index degrees.new x ≡ slice_index degrees.old x }
+    ensures lowered { (x : ℕ) → Among x (map I.number ids.now)
+        → slice_index degrees.new x ≡ slice_index degrees.old x - 1 }
+    ensures kept { (x : ℕ) → ¬ Among x (map I.number ids.now)
+        → slice_index degrees.new x ≡ slice_index degrees.old x }
     ensures ones { HoldsOnes degrees.new ones.new.members }
     ensures bound { ones.new.bound ≡ length degrees.old }
 {
@@ -101,12 +104,15 @@ pub fn leave_out<I: Id>(degrees: &mut [u32], matched: I, ids: &[I], others: bool
     requires rising { IsRising (map I.number ids.now) }
     requires in_range { (x : ℕ) → Among x (map I.number ids.now) → x < length degrees.old }
     requires beside { Among (I.number matched) (map I.number ids.now) }
-    requires alone { others ≡ false → (x : ℕ) → x ≢ I.number matched → Among x (map I.number ids.now) → slice_index degrees.old x ≡ 0 }
+    requires alone { others ≡ false → (x : ℕ) → x ≢ I.number matched
+        → Among x (map I.number ids.now) → slice_index degrees.old x ≡ 0 }
     requires bound { ones.old.bound ≡ length degrees.old }
     requires ones { HoldsOnesBut (I.number matched) degrees.old ones.old.members }
     ensures matched { slice_index degrees.new (I.number matched) ≡ 0 }
-    ensures lowered { (x : ℕ) → x ≢ I.number matched → Among x (map I.number ids.now) → slice_index degrees.new x ≡ slice_index degrees.old x - 1 }
-    ensures kept { (x : ℕ) → ¬ Among x (map I.number ids.now) → slice_index degrees.new x ≡ slice_index degrees.old x }
+    ensures lowered { (x : ℕ) → x ≢ I.number matched → Among x (map I.number ids.now)
+        → slice_index degrees.new x ≡ slice_index degrees.old x - 1 }
+    ensures kept { (x : ℕ) → ¬ Among x (map I.number ids.now)
+        → slice_index degrees.new x ≡ slice_index degrees.old x }
     ensures ones { HoldsOnes degrees.new ones.new.members }
     ensures bound { ones.new.bound ≡ length degrees.old }
 {

@@ -10,6 +10,10 @@ ghost use Rattle.karp_sipser.specs.Extensions.{Extends};
 ///
 /// A law, with an empty body (Karp and Sipser 1981).
 pub fn only_neighbours_lose_nothing()
-    ensures col { (a : Matrix) (pairs m : List Place) (r c : ℕ) → IsOnly (λ s. IsFree a pairs s c) r → Extends a pairs m → (n : List Place) × Extends a ((r, c) ∷ pairs) n × (length m ≤ length n) }
-    ensures row { (a : Matrix) (pairs m : List Place) (r c : ℕ) → IsOnly (λ d. IsFree a pairs r d) c → Extends a pairs m → (n : List Place) × Extends a ((r, c) ∷ pairs) n × (length m ≤ length n) }
+    ensures col { (a : Matrix) (pairs m : List Place) (r c : ℕ) → IsOnly (λ s. IsFree a pairs s c) r
+        → Extends a pairs m → (n : List Place) × Extends a ((r, c) ∷ pairs) n
+        × (length m ≤ length n) }
+    ensures row { (a : Matrix) (pairs m : List Place) (r c : ℕ) → IsOnly (λ d. IsFree a pairs r d) c
+        → Extends a pairs m → (n : List Place) × Extends a ((r, c) ∷ pairs) n
+        × (length m ≤ length n) }
 {}

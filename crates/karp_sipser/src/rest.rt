@@ -28,7 +28,9 @@ pub struct Rest {
 /// For each column how many entries it has.
 fn col_degrees(alloc: Global, pattern: &Pattern) -> Result<Vec<u32>, OutOfMemory>
     ensures long { IfOk result (λ d. length d.items ≡ cols pattern.now) }
-    ensures degrees { IfOk result (λ d. (c : ℕ) → c < cols pattern.now → IsCount (λ r. IsFree pattern.now [] r c) (slice_index d.items c)) }
+    ensures degrees { IfOk result
+        (λ d. (c : ℕ) → c < cols pattern.now
+        → IsCount (λ r. IsFree pattern.now [] r c) (slice_index d.items c)) }
 {
     pattern.is_pattern();
     let count = pattern.cols();
@@ -42,7 +44,9 @@ fn col_degrees(alloc: Global, pattern: &Pattern) -> Result<Vec<u32>, OutOfMemory
 /// For each row how many entries it has.
 fn row_degrees(alloc: Global, pattern: &Pattern) -> Result<Vec<u32>, OutOfMemory>
     ensures long { IfOk result (λ d. length d.items ≡ pattern.now.rows) }
-    ensures degrees { IfOk result (λ d. (r : ℕ) → r < pattern.now.rows → IsCount (λ c. IsFree pattern.now [] r c) (slice_index d.items r)) }
+    ensures degrees { IfOk result
+        (λ d. (r : ℕ) → r < pattern.now.rows
+        → IsCount (λ c. IsFree pattern.now [] r c) (slice_index d.items r)) }
 {
     pattern.is_pattern();
     let count = pattern.rows();
@@ -80,7 +84,8 @@ impl Rest {
     pub fn choose(&mut self, pattern: &Pattern) -> Option<(Row, Col)>
         requires rest { IsRest pattern.now self.old }
         requires ones { HasOnes self.old }
-        ensures none { IfNone result ((r c : ℕ) → ¬ IsFree pattern.now self.old.matching.pairs r c) }
+        ensures none { IfNone result
+            ((r c : ℕ) → ¬ IsFree pattern.now self.old.matching.pairs r c) }
         ensures choice { IfSome result (IsChoice pattern.now self.old.matching.pairs) }
         ensures rest { IsRest pattern.now self.new }
         ensures ones { IfSome result (λ p. HasOnesBut p self.new) }
@@ -113,7 +118,8 @@ impl Rest {
         requires free { IsFree pattern.now self.old.matching.pairs row col }
         ensures rest { IsRest pattern.now self.new }
         ensures ones { HasOnes self.new }
-        ensures pairs { (p : Place) → Among p self.new.matching.pairs ↔ ((p ≡ (row, col)) ⊎ Among p self.old.matching.pairs) }
+        ensures pairs { (p : Place) → Among p self.new.matching.pairs
+            ↔ ((p ≡ (row, col)) ⊎ Among p self.old.matching.pairs) }
         ensures size { length self.new.matching.pairs ≡ suc (length self.old.matching.pairs) }
         ensures next { self.new.next_col ≡ self.old.next_col }
     {

@@ -7,9 +7,9 @@ use Rattle.bip_defs.specs.Matrix.{Matrix}
 use Rattle.bip_defs.proofs.Below.{below_more}
 use Rattle.bip_graph.specs.Matching.{Pairing}
 use Rattle.mc21_match.specs.Searched.{IsSearched}
-use Rattle.path_search.specs.Search.{Augments, Fails, HasMarked, Searching}
+use Rattle.path_search.specs.Search.{Augments, Fails, HasMarked, SearchState}
 
-pub searched_matched : (a : Matrix) (m : Pairing) (s : Searching) (n : ℕ) → IsSearched a m s n → Among n (cols_of m.pairs) → IsSearched a m s (n + 1)
+pub searched_matched : (a : Matrix) (m : Pairing) (s : SearchState) (n : ℕ) → IsSearched a m s n → Among n (cols_of m.pairs) → IsSearched a m s (n + 1)
 searched_matched a m s n k on = record {
   rows = k.rows;
   cols = k.cols;
@@ -18,7 +18,7 @@ searched_matched a m s n k on = record {
 }
 
 -- a path was exchanged, and the marks are those from before its search
-pub searched_found : (a : Matrix) (m g : Pairing) (s t u : Searching) (n : ℕ) → IsSearched a m s n → t.cols ≡ s.cols → u.cols ≡ t.cols → HasMarked t.seen s.marks t.marks → ((start : List Bool) → HasMarked t.seen start t.marks → u.marks ≡ start) → Covers m.pairs g.pairs → Augments n s.marks m.pairs g.pairs → IsSearched a g u (n + 1)
+pub searched_found : (a : Matrix) (m g : Pairing) (s t u : SearchState) (n : ℕ) → IsSearched a m s n → t.cols ≡ s.cols → u.cols ≡ t.cols → HasMarked t.visited s.marks t.marks → ((start : List Bool) → HasMarked t.visited start t.marks → u.marks ≡ start) → Covers m.pairs g.pairs → Augments n s.marks m.pairs g.pairs → IsSearched a g u (n + 1)
 searched_found a m g s t u n k looks after marks restored covers found = record {
   rows = ap length same ∙ k.rows;
   cols = after ∙ looks ∙ k.cols;
@@ -29,7 +29,7 @@ searched_found a m g s t u n k looks after marks restored covers found = record 
     same : u.marks ≡ s.marks
     same = restored s.marks marks
 
-pub searched_failed : (a : Matrix) (m g : Pairing) (s t : Searching) (n : ℕ) → IsSearched a m s n → t.cols ≡ s.cols → HasMarked t.seen s.marks t.marks → g ≡ m → Fails a m.pairs s.marks t.marks n → IsSearched a g t (n + 1)
+pub searched_failed : (a : Matrix) (m g : Pairing) (s t : SearchState) (n : ℕ) → IsSearched a m s n → t.cols ≡ s.cols → HasMarked t.visited s.marks t.marks → g ≡ m → Fails a m.pairs s.marks t.marks n → IsSearched a g t (n + 1)
 searched_failed a m g s t n k looks marks same fails = subst (λ p. IsSearched a p t (n + 1)) (sym same) (record {
   rows = marks.size ∙ k.rows;
   cols = looks ∙ k.cols;

@@ -1,7 +1,7 @@
 //! Maximum matchings by one depth-first search from each unmatched column, after Duff's MC21 (1981).
 //!
 //! Each column's list is looked through for an unmatched row before the search goes deeper (cheap assignment), from where
-//! the last look-ahead ended: rows that were found matched stay matched. The rows that a failed search has seen are left
+//! the last look-ahead ended: rows that were found matched stay matched. The rows that a failed search has visited are left
 //! out of all later ones, since no augmenting path leads through them, then or later: all failed searches together look at
 //! each entry once.
 #![tactic(auto)]

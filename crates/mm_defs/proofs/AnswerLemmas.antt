@@ -7,9 +7,9 @@ use Rattle.mm_defs.specs.declared.answers.ReadError.{ReadError}
 use Rattle.mm_defs.specs.declared.answers.ReadError.TheVariants as errors
 use Rattle.mm_defs.specs.Words.{has_bytes, lines}
 use Rattle.mm_defs.specs.File.{Fault, Reads, faults, first_fault}
-use Rattle.mm_defs.specs.Calls.{Call, offered, got, given, ended, first_bad, IsAnswer, FellShort, LacksLines, Tells, IsRefusal, IsOkOrNoMemory, IsTooLongOrNoMemory}
-use Rattle.mm_defs.proofs.Enough.{front_lacks_none}
-use Rattle.mm_defs.proofs.Prefixes.{bad_stays, good_front, good_file}
+use Rattle.mm_defs.specs.Calls.{Call, offered, got, given, ended, first_bad, IsAnswer, FellShort, LacksLines, IsAnswerTo, IsRefusal, IsOkOrNoMemory, IsTooLongOrNoMemory}
+use Rattle.mm_defs.proofs.Enough.{prefix_lacks_none}
+use Rattle.mm_defs.proofs.Prefixes.{bad_stays, good_prefix, good_file}
 
 pub and_left : (a b : Bool) → (a && b) ≡ true → a ≡ true
 and_left true b h = refl
@@ -23,9 +23,9 @@ no_bytes : (bytes : List ℕ) → not (has_bytes bytes) ≡ true → bytes ≡ [
 no_bytes [] h = refl
 no_bytes (b ∷ bytes) h = absurd cc
 
--- what was given is a front of what was offered
-given_front : (call : Call) → (more : List ℕ) × (given call ++ more ≡ offered call)
-given_front call =
+-- what was given is a prefix of what was offered
+given_prefix : (call : Call) → (more : List ℕ) × (given call ++ more ≡ offered call)
+given_prefix call =
     let n : ℕ = length call.before - length call.after in
     let a : given call ++ drop call.room (got call) ≡ got call = take-append-drop call.room (got call) in
     let b : take n call.before ++ drop n call.before ≡ call.before = take-append-drop n call.before in
@@ -51,16 +51,16 @@ good_given end call good = by (ended call) refl
   where
     by : (e : Bool) → ended call ≡ e → first_bad end call ≡ None
     by true e = let k = given_all call e in rw (e, k) (good_file end (offered call) good)
-    by false e = let r = given_front call in rw e (good_front end (given call) r.0 (rw r.1 good))
+    by false e = let r = given_prefix call in rw e (good_prefix end (given call) r.0 (rw r.1 good))
 
 -- a bad line is answered, and the first one
-pub bad_line_told : (end : End) (call : Call) (rest : List ℕ) (result : Result entries.Entries ReadError) (fault : Fault) → IsAnswer end call rest result → first_bad end call ≡ Some fault → Tells fault result
-bad_line_told end call rest (Ok t) fault h bad = let n = good_given end call h.reads.good in absurd cc
-bad_line_told end call rest (Err (errors.Malformed line kind)) fault h bad = cc
-bad_line_told end call rest (Err (errors.Limit line kind)) fault h bad = cc
-bad_line_told end call rest (Err errors.TooLong) fault h bad = cc
-bad_line_told end call rest (Err errors.ReadFault) fault h bad = cc
-bad_line_told end call rest (Err errors.OutOfMemory) fault h bad = tt
+pub bad_line_known : (end : End) (call : Call) (rest : List ℕ) (result : Result entries.Entries ReadError) (fault : Fault) → IsAnswer end call rest result → first_bad end call ≡ Some fault → IsAnswerTo fault result
+bad_line_known end call rest (Ok t) fault h bad = let n = good_given end call h.reads.good in absurd cc
+bad_line_known end call rest (Err (errors.Malformed line kind)) fault h bad = cc
+bad_line_known end call rest (Err (errors.Limit line kind)) fault h bad = cc
+bad_line_known end call rest (Err errors.TooLong) fault h bad = cc
+bad_line_known end call rest (Err errors.ReadFault) fault h bad = cc
+bad_line_known end call rest (Err errors.OutOfMemory) fault h bad = tt
 
 -- what came is no longer than what was offered
 pub length_got : (call : Call) → length (got call) ≤ length (offered call)
@@ -101,12 +101,12 @@ length_given call past = length-take-le call.room (got call) (omega arith)
 not_too_long : (end : End) (call : Call) (t : entries.Entries) (follows : List ℕ) → Reads (offered call) end t follows → length (offered call) - length follows ≤ call.room → call.room < length (got call)
     → LacksLines end (lines false (given call)) → ⊥
 not_too_long end call t follows reads fits past lacks =
-    let r = given_front call in
+    let r = given_prefix call in
     let g = length_given call past in
     let o = length_got call in
     let n : length (given call) + length r.0 ≡ length (offered call) = sym (length-append (given call) r.0) ∙ ap length r.1 in
     let some : r.0 ≢ [] = λ e. let z : length r.0 ≡ 0 = ap length e in omega arith in
-    front_lacks_none end (given call) r.0 t follows (rw r.1 reads) (rw (r.1, g) fits) some lacks
+    prefix_lacks_none end (given call) r.0 t follows (rw r.1 reads) (rw (r.1, g) fits) some lacks
 
 -- a matrix that ends within the limit is read, where no read failed
 pub good_matrix_answer : (end : End) (call : Call) (rest : List ℕ) (result : Result entries.Entries ReadError) (t : entries.Entries) (follows : List ℕ)
@@ -125,7 +125,7 @@ take-append zero (x ∷ xs) ys = let e : 0 - length (x ∷ xs) ≡ 0 = omega ari
 take-append (suc n) [] ys = let e : suc n - length {A = ℕ} [] ≡ suc n = omega arith in rw e refl
 take-append (suc n) (x ∷ xs) ys = let e : suc n - length (x ∷ xs) ≡ n - length xs = omega arith in rw e (ap (λ (t : List ℕ). x ∷ t) (take-append n xs ys))
 
--- what was given is a front of what the limit lets the call use
+-- what was given is a prefix of what the limit lets the call use
 given_within : (call : Call) → (more : List ℕ) × (take call.room (offered call) ≡ given call ++ more)
 given_within call =
     let n : ℕ = length call.before - length call.after in
@@ -160,7 +160,7 @@ too_long_answer end call rest (Ok t) h past good lacks steady =
     let d = length-drop call.room (offered call) in
     let some : drop call.room (offered call) ≢ [] = λ e. let z : length (drop call.room (offered call)) ≡ 0 = ap length e in omega arith in
     let all = take-append-drop call.room (offered call) in
-    absurd (front_lacks_none end (take call.room (offered call)) (drop call.room (offered call)) t rest (rw all h.reads) (rw (all, n) h.within) some lacks)
+    absurd (prefix_lacks_none end (take call.room (offered call)) (drop call.room (offered call)) t rest (rw all h.reads) (rw (all, n) h.within) some lacks)
 too_long_answer end call rest (Err (errors.Malformed line kind)) h past good lacks steady = let n = none_given end call past good in cc
 too_long_answer end call rest (Err (errors.Limit line kind)) h past good lacks steady = let n = none_given end call past good in cc
 too_long_answer end call rest (Err errors.TooLong) h past good lacks steady = tt

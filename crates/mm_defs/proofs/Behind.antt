@@ -1,4 +1,4 @@
--- What stands behind the LFs of a front.
+-- What stands behind the LFs of a prefix.
 use Rattle.std.proofs.Common.{◌≡◌, ℕ, zero, suc, ◌+◌, ◌<◌, ◌≤◌, Bool, true, false, cond, List, [], ◌∷◌, ◌++◌, length, count_by, refl, ap, ◌∙◌, arith}
 use Rattle.std.specs.List.{slice_split, onto_first}
 use Rattle.std.proofs.lemmas.List.Splits.{length-slice_split}
@@ -21,32 +21,32 @@ length-lines bytes =
     let k = length-but_last c.0 c.1 in
     rw c.2 (omega (arith, m, k))
 
--- a front that ends with an LF, or is empty
-behind_lf : (b : ℕ) (front rest : List ℕ) (s : List ℕ) (ss : List (List ℕ)) (lf : Bool) → is_lf b ≡ lf
-    → length (s ∷ ss) ≡ count_by is_lf front + 1
+-- a prefix that ends with an LF, or is empty
+behind_lf : (b : ℕ) (prefix rest : List ℕ) (s : List ℕ) (ss : List (List ℕ)) (lf : Bool) → is_lf b ≡ lf
+    → length (s ∷ ss) ≡ count_by is_lf prefix + 1
     → last_part (cond lf ([] ∷ s ∷ ss) (onto_first b (s ∷ ss))) ≡ []
-    → (last_part (s ∷ ss) ≡ [] → behind (count_by is_lf front) (front ++ rest) ≡ rest)
-    → behind (count_by is_lf (b ∷ front)) (b ∷ front ++ rest) ≡ rest
-behind_lf b front rest s ss true e n h ih =
-    let k : count_by is_lf (b ∷ front) ≡ suc (count_by is_lf front) = sum_by-cons _ b front ∙ rw e (omega arith) in
+    → (last_part (s ∷ ss) ≡ [] → behind (count_by is_lf prefix) (prefix ++ rest) ≡ rest)
+    → behind (count_by is_lf (b ∷ prefix)) (b ∷ prefix ++ rest) ≡ rest
+behind_lf b prefix rest s ss true e n h ih =
+    let k : count_by is_lf (b ∷ prefix) ≡ suc (count_by is_lf prefix) = sum_by-cons _ b prefix ∙ rw e (omega arith) in
     rw (k, e) (ih h)
-behind_lf b front rest s [] false e n h ih = absurd cc
-behind_lf b front rest s (q ∷ qs) false e n h ih =
-    let k : count_by is_lf (b ∷ front) ≡ count_by is_lf front = sum_by-cons _ b front ∙ rw e (omega arith) in
-    let p : count_by is_lf front ≡ suc (length qs) = omega (arith, n) in
-    let r : behind (suc (length qs)) (front ++ rest) ≡ rest = rw (← p) (ih h) in
+behind_lf b prefix rest s [] false e n h ih = absurd cc
+behind_lf b prefix rest s (q ∷ qs) false e n h ih =
+    let k : count_by is_lf (b ∷ prefix) ≡ count_by is_lf prefix = sum_by-cons _ b prefix ∙ rw e (omega arith) in
+    let p : count_by is_lf prefix ≡ suc (length qs) = omega (arith, n) in
+    let r : behind (suc (length qs)) (prefix ++ rest) ≡ rest = rw (← p) (ih h) in
     rw (k, p, e) r
 
-pub behind-front : (front rest : List ℕ) → open_line front ≡ [] → behind (length (lines false front)) (front ++ rest) ≡ rest
+pub behind-prefix : (prefix rest : List ℕ) → open_line prefix ≡ [] → behind (length (lines false prefix)) (prefix ++ rest) ≡ rest
 unfolding open_line
-behind-front front rest h = rw (length-lines front) (go front h)
+behind-prefix prefix rest h = rw (length-lines prefix) (go prefix h)
   where
-    go : (front : List ℕ) → last_part (slice_split is_lf front) ≡ [] → behind (count_by is_lf front) (front ++ rest) ≡ rest
+    go : (prefix : List ℕ) → last_part (slice_split is_lf prefix) ≡ [] → behind (count_by is_lf prefix) (prefix ++ rest) ≡ rest
     go [] h = refl
-    go (b ∷ front) h =
-        let c = split_cons is_lf front in
-        let n = length-slice_split is_lf front in
-        behind_lf b front rest c.0 c.1 (is_lf b) refl (rw c.2 at n) (rw c.2 at h) (λ e. go front (rw c.2 e))
+    go (b ∷ prefix) h =
+        let c = split_cons is_lf prefix in
+        let n = length-slice_split is_lf prefix in
+        behind_lf b prefix rest c.0 c.1 (is_lf b) refl (rw c.2 at n) (rw c.2 at h) (λ e. go prefix (rw c.2 e))
 
 -- past the last LF there is nothing
 pub behind-past : (n : ℕ) (bytes : List ℕ) → count_by is_lf bytes < n → behind n bytes ≡ []

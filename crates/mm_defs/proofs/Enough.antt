@@ -67,8 +67,8 @@ matrix-some ls =
 
 -- ---- lines that hold the matrix
 
-take-front : {X : Type 0} (n : ℕ) (xs ys : List X) → length xs ≤ n → take n (xs ++ ys) ≡ xs ++ take (n - length xs) ys
-take-front n xs ys h =
+take-prefix : {X : Type 0} (n : ℕ) (xs ys : List X) → length xs ≤ n → take n (xs ++ ys) ≡ xs ++ take (n - length xs) ys
+take-prefix n xs ys h =
     let e : n ≡ length xs + (n - length xs) = omega arith in
     ap (λ k. take k (xs ++ ys)) e ∙ take-append-add xs ys (n - length xs)
 
@@ -105,7 +105,7 @@ module _ (first : List ℕ) (others more : List (List ℕ)) (whole : missing ((f
       let lt : length es < (size s.words).count = ltb-true _ _ few in
       let n : ℕ = (size s.words).count - length es - 1 in
       let one : (size s.words).count - length es ≡ suc n = omega arith in
-      let all : take (size s.words).count (es ++ m ∷ ms) ≡ es ++ m ∷ take n ms = take-front (size s.words).count es (m ∷ ms) (omega arith) ∙ ap (λ k. es ++ take k (m ∷ ms)) one in
+      let all : take (size s.words).count (es ++ m ∷ ms) ≡ es ++ m ∷ take n ms = take-prefix (size s.words).count es (m ∷ ms) (omega arith) ∙ ap (λ k. es ++ take k (m ∷ ms)) one in
       let r = from-take (2 + length others) n ms h.1 in
       let f = last-from (2 + length others) m (take n ms) (h.0, r) in
       let a = last_number-append (s ∷ es) m (take n ms) in
@@ -125,24 +125,24 @@ module _ (first : List ℕ) (others more : List (List ℕ)) (whole : missing ((f
 
 -- ---- bytes that hold the matrix
 
--- behind more LFs than a front has there are not all the bytes that follow it
-behind-longer : (n : ℕ) (front more : List ℕ) → count_by is_lf front < n → more ≢ [] → length (behind n (front ++ more)) < length more
-behind-longer zero front more h some = absurd (omega arith)
+-- behind more LFs than a prefix has there are not all the bytes that follow it
+behind-longer : (n : ℕ) (prefix more : List ℕ) → count_by is_lf prefix < n → more ≢ [] → length (behind n (prefix ++ more)) < length more
+behind-longer zero prefix more h some = absurd (omega arith)
 behind-longer (suc n) [] [] h some = absurd (some refl)
 behind-longer (suc n) [] (b ∷ more) h some = by (is_lf b) refl
   where
     by : (lf : Bool) → is_lf b ≡ lf → length (behind (suc n) (b ∷ more)) < length (b ∷ more)
     by true e = let k = length-behind n more in rw e (omega arith)
     by false e = let k = length-behind (suc n) more in rw e (omega arith)
-behind-longer (suc n) (b ∷ front) more h some = by (is_lf b) refl (behind-longer n front more) (behind-longer (suc n) front more)
+behind-longer (suc n) (b ∷ prefix) more h some = by (is_lf b) refl (behind-longer n prefix more) (behind-longer (suc n) prefix more)
   where
-    by : (lf : Bool) → is_lf b ≡ lf → (count_by is_lf front < n → more ≢ [] → length (behind n (front ++ more)) < length more)
-        → (count_by is_lf front < suc n → more ≢ [] → length (behind (suc n) (front ++ more)) < length more) → length (behind (suc n) (b ∷ front ++ more)) < length more
+    by : (lf : Bool) → is_lf b ≡ lf → (count_by is_lf prefix < n → more ≢ [] → length (behind n (prefix ++ more)) < length more)
+        → (count_by is_lf prefix < suc n → more ≢ [] → length (behind (suc n) (prefix ++ more)) < length more) → length (behind (suc n) (b ∷ prefix ++ more)) < length more
     by true e yes_lf no_lf =
-        let k : count_by is_lf (b ∷ front) ≡ suc (count_by is_lf front) = sum_by-cons _ b front ∙ rw e (omega arith) in
+        let k : count_by is_lf (b ∷ prefix) ≡ suc (count_by is_lf prefix) = sum_by-cons _ b prefix ∙ rw e (omega arith) in
         rw e (yes_lf (omega (arith, k, h)) some)
     by false e yes_lf no_lf =
-        let k : count_by is_lf (b ∷ front) ≡ count_by is_lf front = sum_by-cons _ b front ∙ rw e (omega arith) in
+        let k : count_by is_lf (b ∷ prefix) ≡ count_by is_lf prefix = sum_by-cons _ b prefix ∙ rw e (omega arith) in
         rw e (no_lf (omega (arith, k, h)) some)
 
 right_none : (xs ys : List Fault) → xs ++ ys ≡ [] → ys ≡ []
@@ -152,44 +152,44 @@ right_none (x ∷ xs) ys h = absurd cc
 none_missing : (ls : List (List ℕ)) → faults LastEntry true ls ≡ [] → missing ls ≡ []
 none_missing ls h = right_none (no_banner ls ++ line_faults LastEntry ls) (missing ls) h
 
--- a good file whose matrix ends within a front
-matrix_in_front : (front more : List ℕ) → faults LastEntry true (lines true (front ++ more)) ≡ [] → more ≢ [] → length (front ++ more) - length (rest_of LastEntry (front ++ more)) ≤ length front
-    → missing (lines false front) ≡ []
+-- a good file whose matrix ends within a prefix
+matrix_in_prefix : (prefix more : List ℕ) → faults LastEntry true (lines true (prefix ++ more)) ≡ [] → more ≢ [] → length (prefix ++ more) - length (rest_of LastEntry (prefix ++ more)) ≤ length prefix
+    → missing (lines false prefix) ≡ []
 unfolding rest_of
-matrix_in_front front more good some fits =
-    let r = lines-append true front more in
-    let whole : missing (lines false front ++ r.0) ≡ [] = rw r.1 at (none_missing (lines true (front ++ more)) good) in
-    by_last r.0 r.1 whole (nat_lt (length (lines false front)) (last_number (matrix_lines (lines true (front ++ more))))) refl
+matrix_in_prefix prefix more good some fits =
+    let r = lines-append true prefix more in
+    let whole : missing (lines false prefix ++ r.0) ≡ [] = rw r.1 at (none_missing (lines true (prefix ++ more)) good) in
+    by_last r.0 r.1 whole (nat_lt (length (lines false prefix)) (last_number (matrix_lines (lines true (prefix ++ more))))) refl
   where
     by_lines : (ls rest : List (List ℕ)) → missing (ls ++ rest) ≡ [] → last_number (matrix_lines (ls ++ rest)) ≤ length ls → missing ls ≡ []
     by_lines [] rest whole low = let n = matrix-some rest in absurd (omega arith)
     by_lines (first ∷ others) rest whole low = no_later first others rest whole low
 
-    by_last : (rest : List (List ℕ)) → lines true (front ++ more) ≡ lines false front ++ rest → missing (lines false front ++ rest) ≡ []
-        → (past : Bool) → nat_lt (length (lines false front)) (last_number (matrix_lines (lines true (front ++ more)))) ≡ past → missing (lines false front) ≡ []
+    by_last : (rest : List (List ℕ)) → lines true (prefix ++ more) ≡ lines false prefix ++ rest → missing (lines false prefix ++ rest) ≡ []
+        → (past : Bool) → nat_lt (length (lines false prefix)) (last_number (matrix_lines (lines true (prefix ++ more)))) ≡ past → missing (lines false prefix) ≡ []
     by_last rest e whole true h =
-        let n = length-lines front in
-        let lt : length (lines false front) < last_number (matrix_lines (lines true (front ++ more))) = ltb-true _ _ h in
-        let k = behind-longer (last_number (matrix_lines (lines true (front ++ more)))) front more (omega arith) some in
-        let a = length-append front more in
+        let n = length-lines prefix in
+        let lt : length (lines false prefix) < last_number (matrix_lines (lines true (prefix ++ more))) = ltb-true _ _ h in
+        let k = behind-longer (last_number (matrix_lines (lines true (prefix ++ more)))) prefix more (omega arith) some in
+        let a = length-append prefix more in
         absurd (omega arith)
     by_last rest e whole false h =
-        let le : last_number (matrix_lines (lines true (front ++ more))) ≤ length (lines false front) = ltb-false _ _ h in
-        by_lines (lines false front) rest whole (rw e at le)
+        let le : last_number (matrix_lines (lines true (prefix ++ more))) ≤ length (lines false prefix) = ltb-false _ _ h in
+        by_lines (lines false prefix) rest whole (rw e at le)
 
--- no line is missing in a front that holds what is read
-pub front_lacks_none : (end : End) (front more : List ℕ) (t : entries.Entries) (follows : List ℕ) → Reads (front ++ more) end t follows → length (front ++ more) - length follows ≤ length front → more ≢ []
-    → LacksLines end (lines false front) → ⊥
+-- no line is missing in a prefix that holds what is read
+pub prefix_lacks_none : (end : End) (prefix more : List ℕ) (t : entries.Entries) (follows : List ℕ) → Reads (prefix ++ more) end t follows → length (prefix ++ more) - length follows ≤ length prefix → more ≢ []
+    → LacksLines end (lines false prefix) → ⊥
 unfolding rest_of
-front_lacks_none File front more t follows reads fits some lacks =
+prefix_lacks_none File prefix more t follows reads fits some lacks =
     let e : length follows ≡ 0 = ap length reads.follows in
-    let a = length-append front more in
+    let a = length-append prefix more in
     let n : length more ≢ 0 = none_long more some in
     omega arith
   where
     none_long : (xs : List ℕ) → xs ≢ [] → length xs ≢ 0
     none_long [] h = absurd (h refl)
     none_long (x ∷ xs) h = λ e. cc
-front_lacks_none LastEntry front more t follows reads fits some lacks =
-    let e : length follows ≡ length (rest_of LastEntry (front ++ more)) = ap length reads.follows in
-    lacks (matrix_in_front front more reads.good some (rw e at fits))
+prefix_lacks_none LastEntry prefix more t follows reads fits some lacks =
+    let e : length follows ≡ length (rest_of LastEntry (prefix ++ more)) = ap length reads.follows in
+    lacks (matrix_in_prefix prefix more reads.good some (rw e at fits))

@@ -1,4 +1,4 @@
--- What is found in a front of the bytes stays, whatever follows.
+-- What is found in a prefix of the bytes stays, whatever follows.
 use Rattle.std.proofs.Common.{◌≡◌, ℕ, Bool, true, false, List, [], ◌∷◌, ◌++◌, refl, slice_get, Option, Some, None}
 use Rattle.mm_defs.specs.declared.answers.End.{End}
 use Rattle.mm_defs.specs.Words.{lines}
@@ -33,9 +33,9 @@ pub good_file : (end : End) (bytes : List ℕ) → faults end true (lines true b
 unfolding first_fault
 good_file end bytes good = rw good refl
 
--- no line of a front of a good file is bad
-pub good_front : (end : End) (bytes more : List ℕ) → faults end true (lines true (bytes ++ more)) ≡ [] → first_fault end false bytes ≡ None
-good_front end bytes more good = by (first_fault end false bytes) refl
+-- no line of a prefix of a good file is bad
+pub good_prefix : (end : End) (bytes more : List ℕ) → faults end true (lines true (bytes ++ more)) ≡ [] → first_fault end false bytes ≡ None
+good_prefix end bytes more good = by (first_fault end false bytes) refl
   where
     by : (o : Option Fault) → first_fault end false bytes ≡ o → first_fault end false bytes ≡ None
     by None e = e

@@ -118,7 +118,7 @@ faults_of-append end b (s ∷ es) ms =
     let r = walk-append end (entry_rules (header b.words) (size s.words)) (size s.words).count es ms in
     (r.0, ap (λ (t : List Fault). fault_by banner_rules b ++ fault_by (size_rules (header b.words)) s ++ t) r.1 ∙ simp append_assoc)
 
--- the faults of a front stay the first ones
+-- the faults of a prefix stay the first ones
 pub line_faults-append : (end : End) (ls ms : List (List ℕ)) → (more : List Fault) × (line_faults end (ls ++ ms) ≡ line_faults end ls ++ more)
 line_faults-append end [] ms = (line_faults end ms, rw (line_faults-none end) refl)
 line_faults-append end (first ∷ others) ms =

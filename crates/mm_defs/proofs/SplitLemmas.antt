@@ -5,8 +5,8 @@ use Rattle.mm_defs.specs.Words.{but_last, but_empty_last, last_part, has_bytes}
 
 -- the parts, the first of them behind these elements
 abbrev pub joined_to : List ℕ → List (List ℕ) → List (List ℕ)
-joined_to front [] = front ∷ []
-joined_to front (part ∷ parts) = (front ++ part) ∷ parts
+joined_to prefix [] = prefix ∷ []
+joined_to prefix (part ∷ parts) = (prefix ++ part) ∷ parts
 
 cons_case : (x : ℕ) (parts : List (List ℕ)) (b : Bool) → (first : List ℕ) × (others : List (List ℕ)) × (cond b ([] ∷ parts) (onto_first x parts) ≡ first ∷ others)
 cons_case x parts true = ([], parts, refl)
@@ -29,7 +29,7 @@ step x s ss rs ys true e = ap (λ (t : List (List ℕ)). [] ∷ t) e
 step x s [] rs ys false e = ap (onto_first x) e ∙ onto_joined x s ys
 step x s (q ∷ qs) rs ys false e = ap (onto_first x) e
 
--- a front's last part and the first part behind it are one
+-- a prefix's last part and the first part behind it are one
 pub split-append : (p : ℕ → Bool) (xs ys : List ℕ) → slice_split p (xs ++ ys) ≡ but_last (slice_split p xs) ++ joined_to (last_part (slice_split p xs)) (slice_split p ys)
 split-append p [] ys = let c = split_cons p ys in rw c.2 refl
 split-append p (x ∷ xs) ys =
@@ -37,20 +37,20 @@ split-append p (x ∷ xs) ys =
     let e : slice_split p (xs ++ ys) ≡ but_last (c.0 ∷ c.1) ++ joined_to (last_part (c.0 ∷ c.1)) (slice_split p ys) = rw (← c.2) (split-append p xs ys) in
     rw c.2 (step x c.0 c.1 _ _ (p x) e)
 
-pub but_last-append : (front : List (List ℕ)) (x : List ℕ) (bs : List (List ℕ)) → but_last (front ++ x ∷ bs) ≡ front ++ but_last (x ∷ bs)
+pub but_last-append : (prefix : List (List ℕ)) (x : List ℕ) (bs : List (List ℕ)) → but_last (prefix ++ x ∷ bs) ≡ prefix ++ but_last (x ∷ bs)
 but_last-append [] x bs = refl
 but_last-append (a ∷ []) x bs = refl
-but_last-append (a ∷ b ∷ front) x bs = ap (λ (t : List (List ℕ)). a ∷ t) (but_last-append (b ∷ front) x bs)
+but_last-append (a ∷ b ∷ prefix) x bs = ap (λ (t : List (List ℕ)). a ∷ t) (but_last-append (b ∷ prefix) x bs)
 
-pub but_empty_last-append : (front : List (List ℕ)) (x : List ℕ) (bs : List (List ℕ)) → but_empty_last (front ++ x ∷ bs) ≡ front ++ but_empty_last (x ∷ bs)
+pub but_empty_last-append : (prefix : List (List ℕ)) (x : List ℕ) (bs : List (List ℕ)) → but_empty_last (prefix ++ x ∷ bs) ≡ prefix ++ but_empty_last (x ∷ bs)
 but_empty_last-append [] x bs = refl
 but_empty_last-append (a ∷ []) x bs = refl
-but_empty_last-append (a ∷ b ∷ front) x bs = ap (λ (t : List (List ℕ)). a ∷ t) (but_empty_last-append (b ∷ front) x bs)
+but_empty_last-append (a ∷ b ∷ prefix) x bs = ap (λ (t : List (List ℕ)). a ∷ t) (but_empty_last-append (b ∷ prefix) x bs)
 
-pub last_part-append : (front : List (List ℕ)) (x : List ℕ) (bs : List (List ℕ)) → last_part (front ++ x ∷ bs) ≡ last_part (x ∷ bs)
+pub last_part-append : (prefix : List (List ℕ)) (x : List ℕ) (bs : List (List ℕ)) → last_part (prefix ++ x ∷ bs) ≡ last_part (x ∷ bs)
 last_part-append [] x bs = refl
 last_part-append (a ∷ []) x bs = refl
-last_part-append (a ∷ b ∷ front) x bs = last_part-append (b ∷ front) x bs
+last_part-append (a ∷ b ∷ prefix) x bs = last_part-append (b ∷ prefix) x bs
 
 -- the parts are all but the last, and the last
 pub parts_are : (x : List ℕ) (xs : List (List ℕ)) → x ∷ xs ≡ but_last (x ∷ xs) ++ last_part (x ∷ xs) ∷ []

@@ -47,7 +47,8 @@ given call = take call.room (got call)
 
 -- nothing past the limit came, the source has nothing left, and no read failed
 abbrev pub ended : Call → Bool
-ended call = nat_le (length (got call)) call.room && not (has_bytes call.after) && (call.failures_before == call.failures_after)
+ended call = nat_le (length (got call)) call.room && not (has_bytes call.after) &&
+    (call.failures_before == call.failures_after)
 
 -- the first bad line among those that the call was given
 abbrev pub first_bad : End → Call → Option Fault
@@ -69,10 +70,14 @@ pub record ReadsAll (end : End) (call : Call) (t : entries.Entries) (rest : List
 -- What each answer says, of a source that tells its bytes; rest is what is left to be used.
 abbrev pub IsAnswer : End → Call → List ℕ → Result entries.Entries ReadError → Type 0
 IsAnswer end call rest (Ok t) = ReadsAll end call t rest
-IsAnswer end call rest (Err (errors.Malformed line kind)) = (first_bad end call ≡ Some (record { line = line; kind = kind })) × (is_limit kind ≡ false)
-IsAnswer end call rest (Err (errors.Limit line kind)) = (first_bad end call ≡ Some (record { line = line; kind = kind })) × (is_limit kind ≡ true)
-IsAnswer end call rest (Err errors.TooLong) = (first_bad end call ≡ None) × (call.room < length (got call))
-IsAnswer end call rest (Err errors.ReadFault) = (first_bad end call ≡ None) × (call.failures_before < call.failures_after)
+IsAnswer end call rest (Err (errors.Malformed line kind)) = (first_bad end call
+    ≡ Some (record { line = line; kind = kind })) × (is_limit kind ≡ false)
+IsAnswer end call rest (Err (errors.Limit line kind)) = (first_bad end call
+    ≡ Some (record { line = line; kind = kind })) × (is_limit kind ≡ true)
+IsAnswer end call rest (Err errors.TooLong) = (first_bad end call ≡ None)
+    × (call.room < length (got call))
+IsAnswer end call rest (Err errors.ReadFault) = (first_bad end call ≡ None)
+    × (call.failures_before < call.failures_after)
 IsAnswer end call rest (Err errors.OutOfMemory) = Unit {0}
 
 -- where the matrix ends with its last entry line: not all of its lines are among these
@@ -87,17 +92,18 @@ FellShort end call (Ok t) = Unit {0}
 FellShort end call (Err (errors.Malformed line kind)) = Unit {0}
 FellShort end call (Err (errors.Limit line kind)) = Unit {0}
 FellShort end call (Err errors.TooLong) = LacksLines end (lines false (given call))
-FellShort end call (Err errors.ReadFault) = LacksLines end (lines false (given call)) × (length (got call) ≤ call.room)
+FellShort end call (Err errors.ReadFault) = LacksLines end (lines false (given call))
+    × (length (got call) ≤ call.room)
 FellShort end call (Err errors.OutOfMemory) = Unit {0}
 
 -- the answer to a bad line, where memory does not run out
-abbrev pub Tells : {T : Type 0} → Fault → Result T ReadError → Type 0
-Tells fault (Ok t) = ⊥
-Tells fault (Err (errors.Malformed line kind)) = fault ≡ record { line = line; kind = kind }
-Tells fault (Err (errors.Limit line kind)) = fault ≡ record { line = line; kind = kind }
-Tells fault (Err errors.TooLong) = ⊥
-Tells fault (Err errors.ReadFault) = ⊥
-Tells fault (Err errors.OutOfMemory) = Unit {0}
+abbrev pub IsAnswerTo : {T : Type 0} → Fault → Result T ReadError → Type 0
+IsAnswerTo fault (Ok t) = ⊥
+IsAnswerTo fault (Err (errors.Malformed line kind)) = fault ≡ record { line = line; kind = kind }
+IsAnswerTo fault (Err (errors.Limit line kind)) = fault ≡ record { line = line; kind = kind }
+IsAnswerTo fault (Err errors.TooLong) = ⊥
+IsAnswerTo fault (Err errors.ReadFault) = ⊥
+IsAnswerTo fault (Err errors.OutOfMemory) = Unit {0}
 
 -- what is answered as Malformed passes no limit, and what is answered as Limit does
 abbrev pub HasItsKind : {T : Type 0} → Result T ReadError → Type 0
@@ -129,7 +135,8 @@ abbrev pub RefusesRest : Call → ReadError → Type 0
 RefusesRest call (errors.Malformed line kind) = ⊥
 RefusesRest call (errors.Limit line kind) = ⊥
 RefusesRest call errors.TooLong = call.room < length (got call)
-RefusesRest call errors.ReadFault = (call.failures_before < call.failures_after) × (length (got call) ≤ call.room)
+RefusesRest call errors.ReadFault = (call.failures_before < call.failures_after)
+    × (length (got call) ≤ call.room)
 RefusesRest call errors.OutOfMemory = Unit {0}
 
 -- of the bytes that came, at most one is past what may be used
@@ -144,11 +151,11 @@ JudgesNoLine errors.TooLong = Unit {0}
 JudgesNoLine errors.ReadFault = Unit {0}
 JudgesNoLine errors.OutOfMemory = Unit {0}
 
--- the call on an input over a source that tells its bytes
-abbrev pub call_on : Intake → ℕ → ℕ → List ℕ → List ℕ → Call
-call_on input failures_before failures_after before after = record {
-  room = room input;
-  ahead = input.ahead;
+-- the call that may use so many bytes, with these ahead, over a source that tells its bytes
+abbrev pub call_on : ℕ → List ℕ → ℕ → ℕ → List ℕ → List ℕ → Call
+call_on room ahead failures_before failures_after before after = record {
+  room = room;
+  ahead = ahead;
   before = before;
   after = after;
   failures_before = failures_before;

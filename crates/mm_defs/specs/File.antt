@@ -55,7 +55,8 @@ pub record Fault : Type 0 where
 
 -- the fault of a line, if a kind applies to it
 abbrev pub fault_by : (List Word → List Rule) → Line → List Fault
-fault_by rules l = option_to_list (option_map (λ kind. record { line = l.number; kind = kind }) (first_kind (rules l.words)))
+fault_by rules l = option_to_list
+    (option_map (λ kind. record { line = l.number; kind = kind }) (first_kind (rules l.words)))
 
 -- the first kind that applies to each of these lines
 abbrev pub faults_by : (List Word → List Rule) → List Line → List Fault
@@ -75,7 +76,10 @@ abbrev pub missing : List (List ℕ) → List Fault
 missing ls =
     if length (size_lines ls) == 0
     then record { line = length ls; kind = NoSize } ∷ []
-    else (if nat_lt (length (entry_lines ls)) (size_of ls).count then record { line = length ls; kind = MissingEntries } ∷ [] else [])
+    else (if nat_lt (length (entry_lines ls)) (size_of ls).count then record {
+      line = length ls;
+      kind = MissingEntries;
+    } ∷ [] else [])
 
 -- the faults of the lines themselves
 unfoldable pub line_faults : End → List (List ℕ) → List Fault
@@ -99,13 +103,23 @@ first_fault end ended given = slice_get (faults end ended (lines ended given)) 0
 -- the place on the other side of the diagonal
 abbrev pub mirror : symmetry.Symmetry → Triple → List Triple
 mirror General t = []
-mirror Symmetric t = if t.row == t.col then [] else record { row = t.col; col = t.row; value = t.value } ∷ []
+mirror Symmetric t =
+    if t.row == t.col
+    then []
+    else record { row = t.col; col = t.row; value = t.value } ∷ []
 mirror SkewSymmetric t = record { row = t.col; col = t.row; value = neg_ℤ t.value } ∷ []
-mirror Hermitian t = if t.row == t.col then [] else record { row = t.col; col = t.row; value = t.value } ∷ []
+mirror Hermitian t =
+    if t.row == t.col
+    then []
+    else record { row = t.col; col = t.row; value = t.value } ∷ []
 
 -- rows and columns count from 1 in files, and from 0 here
 abbrev pub triple_at : field.Field → ℕ → ℕ → Word → Triple
-triple_at f i j w = record { row = i - 1; col = j - 1; value = if is_integer_field f then integer w else pos 0 }
+triple_at f i j w = record {
+  row = i - 1;
+  col = j - 1;
+  value = if is_integer_field f then integer w else pos 0;
+}
 
 abbrev pub triple : Header → List Word → Triple
 triple h ws = triple_at h.field (number (word ws 0)) (number (word ws 1)) (word ws 2)

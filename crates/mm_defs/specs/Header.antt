@@ -21,10 +21,12 @@ named [] w = None
 named (row ∷ rows) w = if spells row.0 w then Some row.1 else named rows w
 
 abbrev pub fields : List (List ℕ × Field)
-fields = (codes "real", Real) ∷ (codes "complex", Complex) ∷ (codes "integer", Integer) ∷ (codes "pattern", Pattern) ∷ []
+fields = (codes "real", Real) ∷ (codes "complex", Complex) ∷ (codes "integer", Integer)
+    ∷ (codes "pattern", Pattern) ∷ []
 
 abbrev pub symmetries : List (List ℕ × Symmetry)
-symmetries = (codes "general", General) ∷ (codes "symmetric", Symmetric) ∷ (codes "skew-symmetric", SkewSymmetric) ∷ (codes "hermitian", Hermitian) ∷ []
+symmetries = (codes "general", General) ∷ (codes "symmetric", Symmetric)
+    ∷ (codes "skew-symmetric", SkewSymmetric) ∷ (codes "hermitian", Hermitian) ∷ []
 
 -- how many value words an entry line has
 abbrev pub value_words : Field → ℕ
@@ -66,8 +68,15 @@ may_combine Pattern Hermitian = false
 
 -- what the words of a good banner line say
 abbrev pub header : List Word → Header
-header ws = record { field = unwrap_or (named fields (word ws 3)) Pattern; symmetry = unwrap_or (named symmetries (word ws 4)) General }
+header ws = record {
+  field = unwrap_or (named fields (word ws 3)) Pattern;
+  symmetry = unwrap_or (named symmetries (word ws 4)) General;
+}
 
 -- what the words of a good size line say
 abbrev pub size : List Word → Size
-size ws = record { rows = number (word ws 0); cols = number (word ws 1); count = number (word ws 2) }
+size ws = record {
+  rows = number (word ws 0);
+  cols = number (word ws 1);
+  count = number (word ws 2);
+}

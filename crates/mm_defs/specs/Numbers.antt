@@ -12,7 +12,7 @@ are_digits ds = has_bytes ds && all_ascii_digits ds
 abbrev pub value : List ℕ → ℕ
 value ds = digits_value 10 ds
 
--- without a plus sign at the front
+-- without a plus sign before it
 abbrev pub unsigned : Word → List ℕ
 unsigned [] = []
 unsigned (b ∷ bs) = if b == 43 then bs else b ∷ bs
@@ -28,7 +28,7 @@ abbrev pub is_negative : Word → Bool
 is_negative [] = false
 is_negative (b ∷ bs) = b == 45
 
--- without a sign at the front
+-- without a sign before it
 abbrev pub bare : Word → List ℕ
 bare [] = []
 bare (b ∷ bs) = if b == 45 then bs else unsigned (b ∷ bs)

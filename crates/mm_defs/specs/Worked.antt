@@ -50,14 +50,23 @@ bad_banners =
     ∷ (text (codes "%%MatrixMarkets matrix coordinate pattern general" ∷ []), at 1 kinds.NoBanner)
     ∷ (text ([] ∷ pattern_banner ∷ codes "1 1 0" ∷ []), at 1 kinds.NoBanner)
     ∷ (text (codes "%%MatrixMarket matrix coordinate pattern" ∷ []), at 1 kinds.HeaderWords)
-    ∷ (text (codes "%%MatrixMarket matrix coordinate pattern general 1" ∷ []), at 1 kinds.HeaderWords)
+    ∷ (
+      text (codes "%%MatrixMarket matrix coordinate pattern general 1" ∷ []),
+      at 1 kinds.HeaderWords,
+    )
     ∷ (text (codes "%%MatrixMarket vector array real general" ∷ []), at 1 kinds.Object)
     ∷ (text (codes "%%MatrixMarket matrix array real general" ∷ []), at 1 kinds.ArrayFormat)
     ∷ (text (codes "%%MatrixMarket matrix dense real general" ∷ []), at 1 kinds.Format)
     ∷ (text (codes "%%MatrixMarket matrix coordinate boolean general" ∷ []), at 1 kinds.Field)
     ∷ (text (codes "%%MatrixMarket matrix coordinate pattern triangular" ∷ []), at 1 kinds.Symmetry)
-    ∷ (text (codes "%%MatrixMarket matrix coordinate pattern hermitian" ∷ []), at 1 kinds.Combination)
-    ∷ (text (codes "%%MatrixMarket matrix coordinate pattern skew-symmetric" ∷ []), at 1 kinds.Combination)
+    ∷ (
+      text (codes "%%MatrixMarket matrix coordinate pattern hermitian" ∷ []),
+      at 1 kinds.Combination,
+    )
+    ∷ (
+      text (codes "%%MatrixMarket matrix coordinate pattern skew-symmetric" ∷ []),
+      at 1 kinds.Combination,
+    )
     ∷ []
 
 abbrev pub bad_sizes : List Refused
@@ -83,7 +92,10 @@ bad_entries =
     ∷ (pattern_file (codes "1 1 1" ∷ codes "1 +" ∷ []), at 3 kinds.ColumnNumber)
     ∷ (pattern_file (codes "2 2 1" ∷ codes "0 1" ∷ []), at 3 kinds.RowRange)
     ∷ (pattern_file (codes "1 1 1" ∷ codes "2 1" ∷ []), at 3 kinds.RowRange)
-    ∷ (pattern_file (codes "%c" ∷ [] ∷ codes "1 1 1" ∷ codes "% c" ∷ codes "2 1" ∷ []), at 6 kinds.RowRange)
+    ∷ (
+      pattern_file (codes "%c" ∷ [] ∷ codes "1 1 1" ∷ codes "% c" ∷ codes "2 1" ∷ []),
+      at 6 kinds.RowRange,
+    )
     ∷ (pattern_file (codes "1 1 1" ∷ codes "1 2" ∷ []), at 3 kinds.ColumnRange)
     ∷ (integer_file (codes "1 1 1" ∷ codes "1 1 5.0" ∷ []), at 3 kinds.ValueNumber)
     ∷ (integer_file (codes "1 1 1" ∷ codes "1 1 9223372036854775808" ∷ []), at 3 kinds.Value)
@@ -108,7 +120,10 @@ ReadFile = List ℕ × Option entries.Entries
 
 -- the entries, where the bytes are a good file
 abbrev pub read : List ℕ → Option entries.Entries
-read bytes = if length (faults File true (lines true bytes)) == 0 then Some (entries_of (lines true bytes)) else None
+read bytes =
+    if length (faults File true (lines true bytes)) == 0
+    then Some (entries_of (lines true bytes))
+    else None
 
 -- one entry
 abbrev pub smallest_file : List ℕ
@@ -116,21 +131,51 @@ smallest_file = pattern_file (codes "1 1 1" ∷ codes "1 1" ∷ [])
 
 -- CR LF, and no LF at the end
 abbrev pub foreign_line_ends : List ℕ
-foreign_line_ends = integer_banner ++ 13 ∷ 10 ∷ codes "1 1 2" ++ 13 ∷ 10 ∷ codes "1 1 5" ++ 13 ∷ 10 ∷ codes "1 1 -5"
+foreign_line_ends = integer_banner ++ 13 ∷ 10 ∷ codes "1 1 2" ++ 13 ∷ 10 ∷ codes "1 1 5" ++ 13 ∷ 10
+    ∷ codes "1 1 -5"
 
 abbrev pub good_files : List ReadFile
 good_files =
     (smallest_file, Some (matrix 1 1 field.Pattern (place 0 0 ∷ [])))
     ∷ (pattern_file (codes "0 0 0" ∷ []), Some (matrix 0 0 field.Pattern []))
-    ∷ (pattern_file (codes "9 9 1" ∷ codes "+007 00009" ∷ []), Some (matrix 9 9 field.Pattern (place 6 8 ∷ [])))
-    ∷ (pattern_file (codes "1 1 1" ∷ codes "1 1" ∷ codes " % c" ∷ [] ∷ []), Some (matrix 1 1 field.Pattern (place 0 0 ∷ [])))
+    ∷ (
+      pattern_file (codes "9 9 1" ∷ codes "+007 00009" ∷ []),
+      Some (matrix 9 9 field.Pattern (place 6 8 ∷ [])),
+    )
+    ∷ (
+      pattern_file (codes "1 1 1" ∷ codes "1 1" ∷ codes " % c" ∷ [] ∷ []),
+      Some (matrix 1 1 field.Pattern (place 0 0 ∷ [])),
+    )
     ∷ ((32 ∷ 9 ∷ text (pattern_banner ∷ codes "1 1 0" ∷ [])), Some (matrix 1 1 field.Pattern []))
-    ∷ (text (symmetric_banner ∷ codes "2 2 1" ∷ codes "2 1" ∷ []), Some (matrix 2 2 field.Pattern (place 1 0 ∷ place 0 1 ∷ [])))
-    ∷ (text (codes "%%MatrixMarket MATRIX Coordinate complex hermitian" ∷ codes "2 2 2" ∷ codes "1 1 1 0" ∷ codes "2 1 0 1" ∷ []), Some (matrix 2 2 field.Complex (place 0 0 ∷ place 1 0 ∷ place 0 1 ∷ [])))
-    ∷ (foreign_line_ends, Some (matrix 1 1 field.Integer (record { row = 0; col = 0; value = pos 5 } ∷ record { row = 0; col = 0; value = negsuc 4 } ∷ [])))
-    ∷ (text (codes "%%MatrixMarket matrix coordinate real general" ∷ codes "2 2 2" ∷ codes "1 1 1.5e-3" ∷ codes "2 2 nan" ∷ []), Some (matrix 2 2 field.Real (place 0 0 ∷ place 1 1 ∷ [])))
-    ∷ (text (skew_banner ∷ codes "2 2 1" ∷ codes "2 1 -4" ∷ []), Some (matrix 2 2 field.Integer (record { row = 1; col = 0; value = negsuc 3 } ∷ record { row = 0; col = 1; value = pos 4 } ∷ [])))
-    ∷ (integer_file (codes "1 1 1" ∷ codes "1 1 -9223372036854775807" ∷ []), Some (matrix 1 1 field.Integer (record { row = 0; col = 0; value = negsuc 9223372036854775806 } ∷ [])))
+    ∷ (
+      text (symmetric_banner ∷ codes "2 2 1" ∷ codes "2 1" ∷ []),
+      Some (matrix 2 2 field.Pattern (place 1 0 ∷ place 0 1 ∷ [])),
+    )
+    ∷ (
+      text (codes "%%MatrixMarket MATRIX Coordinate complex hermitian" ∷ codes "2 2 2"
+          ∷ codes "1 1 1 0" ∷ codes "2 1 0 1" ∷ []),
+      Some (matrix 2 2 field.Complex (place 0 0 ∷ place 1 0 ∷ place 0 1 ∷ [])),
+    )
+    ∷ (
+      foreign_line_ends,
+      Some (matrix 1 1 field.Integer (record { row = 0; col = 0; value = pos 5 }
+          ∷ record { row = 0; col = 0; value = negsuc 4 } ∷ [])),
+    )
+    ∷ (
+      text (codes "%%MatrixMarket matrix coordinate real general" ∷ codes "2 2 2"
+          ∷ codes "1 1 1.5e-3" ∷ codes "2 2 nan" ∷ []),
+      Some (matrix 2 2 field.Real (place 0 0 ∷ place 1 1 ∷ [])),
+    )
+    ∷ (
+      text (skew_banner ∷ codes "2 2 1" ∷ codes "2 1 -4" ∷ []),
+      Some (matrix 2 2 field.Integer (record { row = 1; col = 0; value = negsuc 3 }
+          ∷ record { row = 0; col = 1; value = pos 4 } ∷ [])),
+    )
+    ∷ (
+      integer_file (codes "1 1 1" ∷ codes "1 1 -9223372036854775807" ∷ []),
+      Some (matrix 1 1 field.Integer
+          (record { row = 0; col = 0; value = negsuc 9223372036854775806 } ∷ [])),
+    )
     ∷ []
 
 -- ---- what follows a matrix
@@ -143,7 +188,10 @@ abbrev pub followed_files : List Followed
 followed_files =
     (smallest_file ++ codes "% c", codes "% c")
     ∷ (smallest_file ++ text (codes "btf 1" ∷ []), text (codes "btf 1" ∷ []))
-    ∷ (pattern_file (codes "1 1 1" ∷ codes "% c" ∷ [] ∷ codes "1 1" ∷ []) ++ codes "1 1", codes "1 1")
+    ∷ (
+      pattern_file (codes "1 1 1" ∷ codes "% c" ∷ [] ∷ codes "1 1" ∷ []) ++ codes "1 1",
+      codes "1 1",
+    )
     ∷ (pattern_file (codes "0 0 0" ∷ []) ++ codes "btf", codes "btf")
     ∷ (pattern_banner ++ 10 ∷ codes "1 1 1" ++ 10 ∷ codes "1 1", [])
     ∷ (smallest_file, [])
@@ -151,9 +199,9 @@ followed_files =
 
 -- ---- bytes that are not all of an input
 
--- of a front of a file no line is bad that has not ended
-abbrev pub fronts : List Refused
-fronts =
+-- of a prefix of a file no line is bad that has not ended
+abbrev pub prefixes : List Refused
+prefixes =
     (codes "%%MatrixMarket matri", None)
     ∷ (text (codes "%%NotIt" ∷ []), at 1 kinds.NoBanner)
     ∷ (codes "%%NotIt", None)

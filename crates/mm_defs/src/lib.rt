@@ -14,7 +14,7 @@ pub use answers::{End, ReadError};
 pub use header::{Header, Size, Symmetry};
 pub use kinds::Kind;
 pub use laws::{
-    bad_file_is_refused, bad_line_is_told, bad_line_stays, front_of_good_file, good_file_is_read,
-    good_matrix_is_read, too_long_is_told,
+    bad_file_is_refused, bad_line_is_reported, bad_line_stays, good_file_is_read,
+    good_matrix_is_read, prefix_of_good_file, too_long_is_reported,
 };
-pub use worked::{worked_files, worked_fronts, worked_refusals, worked_rests};
+pub use worked::{worked_files, worked_prefixes, worked_refusals, worked_rests};

@@ -9,7 +9,7 @@ use Rattle.mm_defs.specs.declared.header.Size.{Size}
 use Rattle.mm_defs.specs.Words.{Line, lines, open_line, numbered, kept}
 use Rattle.mm_defs.specs.Header.{size}
 use Rattle.mm_defs.specs.File.{later_lines, line_faults, no_banner, missing, faults, entries_of, rest_of, behind, last_number, matrix_lines, Reads}
-use Rattle.mm_defs.proofs.Behind.{behind-front}
+use Rattle.mm_defs.proofs.Behind.{behind-prefix}
 use Rattle.mm_defs.proofs.Lines.{lines-append}
 use Rattle.mm_defs.proofs.Roles.{later_lines-append, line_faults-past}
 use Rattle.mm_reader.specs.declared.machine.Phase.{Phase}
@@ -29,8 +29,8 @@ module _ (h : Header) (s : Size) (done : ℕ) (t : entries.Entries) (ls more : L
   count_is : (size has.size_line.words).count ≡ length has.entry_lines
   count_is = sym (ap (λ (x : Size). x.count) has.size_is) ∙ sym full ∙ has.done_is
 
-  front_is : take (size has.size_line.words).count (has.entry_lines ++ extra) ≡ has.entry_lines
-  front_is = rw count_is (take-append_seam has.entry_lines extra)
+  prefix_is : take (size has.size_line.words).count (has.entry_lines ++ extra) ≡ has.entry_lines
+  prefix_is = rw count_is (take-append_seam has.entry_lines extra)
 
   no_banner-none : no_banner (ls ++ more) ≡ []
   no_banner-none = rw b.lines_are refl
@@ -38,7 +38,7 @@ module _ (h : Header) (s : Size) (done : ℕ) (t : entries.Entries) (ls more : L
   missing-none : missing (ls ++ more) ≡ []
   missing-none =
       let n : nat_lt (length has.entry_lines) (length has.entry_lines) ≡ false = le-ltb (length has.entry_lines) (length has.entry_lines) (omega arith) in
-      rw later_more (rw front_is (rw count_is (rw n refl)))
+      rw later_more (rw prefix_is (rw count_is (rw n refl)))
 
   faults-none : line_faults LastEntry ls ≡ [] → line_faults LastEntry (ls ++ more) ≡ []
   faults-none good =
@@ -57,13 +57,13 @@ module _ (h : Header) (s : Size) (done : ℕ) (t : entries.Entries) (ls more : L
   unfolding entries_of
   entries_are =
       let l = later_more in
-      let f = front_is in
+      let f = prefix_is in
       has.triples_are ∙ rw (l, f) (rw (b.lines_are, has.size_is, b.header_is) refl)
 
   matrix_is : matrix_lines (ls ++ more) ≡ has.size_line ∷ has.entry_lines
   matrix_is =
       let l = later_more in
-      rw l (ap (λ (r : List Line). has.size_line ∷ r) front_is)
+      rw l (ap (λ (r : List Line). has.size_line ∷ r) prefix_is)
 
   pub last_is : last_number (later_lines ls) ≡ length ls → last_number (matrix_lines (ls ++ more)) ≡ length ls
   last_is e = ap last_number matrix_is ∙ ap last_number (sym has.later_are) ∙ e
@@ -79,7 +79,7 @@ complete_entries h s done t used rest l e closed =
     record {
       good = rw r.1 (good h s done t (lines false used) r.0 l.phase_is.0 l.phase_is.1 full l.good);
       entries = rw r.1 (entries_are h s done t (lines false used) r.0 l.phase_is.0 l.phase_is.1 full);
-      follows = rw r.1 (sym (ap (λ k. behind k (used ++ rest)) n ∙ behind-front used rest closed));
+      follows = rw r.1 (sym (ap (λ k. behind k (used ++ rest)) n ∙ behind-prefix used rest closed));
     }
 
 pub complete_reads : (end : End) (phase : Phase) (t : entries.Entries) (used rest : List ℕ) → HasLines end phase t (lines false used) → is_complete end phase ≡ true → open_line used ≡ [] → Reads (used ++ rest) end t rest

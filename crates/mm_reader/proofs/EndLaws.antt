@@ -9,7 +9,7 @@ use Rattle.mm_defs.specs.declared.header.Size.{Size}
 use Rattle.mm_defs.specs.Words.{Line, is_lf, lines, open_line, has_bytes}
 use Rattle.mm_defs.specs.Header.{size}
 use Rattle.mm_defs.specs.File.{Fault, later_lines, line_faults, no_banner, missing, faults, first_fault, entries_of, rest_of, behind, last_number, matrix_lines, Reads}
-use Rattle.mm_defs.proofs.Behind.{length-lines, behind-front, behind-past}
+use Rattle.mm_defs.proofs.Behind.{length-lines, behind-prefix, behind-past}
 use Rattle.mm_defs.proofs.Prefixes.{fault_stays}
 use Rattle.mm_defs.proofs.Lines.{lines-ended}
 use Rattle.mm_reader.specs.declared.machine.Phase.{Phase}
@@ -136,7 +136,7 @@ module _ (end : End) (bytes : List ℕ) where
       by zero e = behind-past line bytes (omega (arith, lf_count))
       by (suc n) e =
           let at : line ≡ length (lines false bytes) = omega arith in
-          let k = behind-front bytes [] o in
+          let k = behind-prefix bytes [] o in
           rw at (subst (λ (r : List ℕ). behind (length (lines false bytes)) r ≡ []) (append-nil bytes) k)
 
   pub lacks_closed : (stop : Stop) → has_bytes (open_line bytes) ≡ false → Lacks end (lines false bytes) stop → StopsAtEnd end bytes stop

@@ -1,21 +1,21 @@
 -- How a reading ends, of a source that may tell its bytes.
 use Rattle.std.proofs.Common.{◌≡◌, ◌≢◌, ℕ, ◌+◌, ◌-◌, ◌*◌, ◌<◌, ◌≤◌, Bool, true, false, ◌==◌, if◌then◌else◌, List, [], ◌++◌, length, drop, refl, sym, ap, ◌∙◌, arith, length-drop, Option, Some, None, Result, Ok, Err, OnOk, MatchResult, eq-eqb, ne_eqb}
 use Rattle.sp_ids.specs.Entries as entries
-use Rattle.sp_ports.specs.Bytes.{Gives, IsAtEnd, WhereTold}
+use Rattle.sp_ports.specs.Bytes.{Gives, IsAtEnd, WhereKnown}
 use Rattle.sp_ports.specs.Device.{SourceRose}
 use Rattle.mm_defs.specs.File.{Reads}
 use Rattle.mm_defs.specs.declared.answers.End.{End}
 use Rattle.mm_defs.specs.declared.answers.ReadError.{ReadError}
 use Rattle.mm_defs.specs.declared.answers.ReadError.TheVariants as errors
 use Rattle.mm_defs.specs.declared.answers.End.TheVariants.{File, LastEntry}
-use Rattle.mm_defs.specs.Calls.{HasItsKind}
+use Rattle.mm_defs.specs.Calls.{HasItsKind, call_on}
 use Rattle.mm_defs.specs.Words.{lines, open_line}
 use Rattle.mm_reader.specs.declared.machine.Machine.{Machine}
 use Rattle.mm_reader.specs.declared.machine.Phase.{Phase}
 use Rattle.mm_reader.specs.declared.window.Window.{Window}
 use Rattle.mm_reader.specs.Machine.{is_complete}
 use Rattle.mm_reader.specs.Stages.{IsAfter}
-use Rattle.mm_reader.specs.Windows.{ahead_of, call_of, Answers, IsWindow, Refuses, RefusesAtEnd}
+use Rattle.mm_reader.specs.Windows.{ahead_of, Answers, IsWindow, Refuses, RefusesAtEnd}
 use Rattle.mm_reader.proofs.CompleteLaws.{complete_reads}
 use Rattle.mm_reader.proofs.MissingLines.{lacks_lines}
 use Rattle.mm_reader.proofs.Progress.{Fed}
@@ -39,65 +39,65 @@ module _ (end : End) (w0 : Window) (fb fa : ℕ) (m : Machine) (w : Window) (win
 
   pub exit_refused : (w3 : Window) (old now : Option (List ℕ)) (error : ReadError) → Fed end w0 w old now m
       → ((bytes : List ℕ) → IsAfter end m bytes → Refuses end bytes (ahead_of w) w.room error)
-      → WhereTold old now (λ before after. Answers end (call_of w0 fb fa before after) w3 (Err error))
+      → WhereKnown old now (λ before after. Answers end (call_on w0.room (ahead_of w0) fb fa before after) w3 (Err error))
   exit_refused w3 None now error f h = tt
-  exit_refused w3 (Some before) None error f h = absurd f.so_far.told
+  exit_refused w3 (Some before) None error f h = absurd f.so_far.known
   exit_refused w3 (Some before) (Some after) error f h =
       let e : w0.room - length f.used ≡ w.room = omega (arith, f.so_far.size) in
       let fits : length f.used ≤ w0.room = omega (arith, f.so_far.size) in
       let k : Refuses end f.used (ahead_of w) (w0.room - length f.used) error = rw e (h f.used f.stands) in
-      let r = refused_answer end (ahead_of w0) before after f.so_far.gave f.used (ahead_of w) w0.room fb fa f.so_far.told f.so_far.split fits (ahead_of w3 ++ after) error small k in
+      let r = refused_answer end (ahead_of w0) before after f.so_far.gave f.used (ahead_of w) w0.room fb fa f.so_far.known f.so_far.split fits (ahead_of w3 ++ after) error small k in
       record { answer = r.0; near = r.1; short = r.2 }
 
   pub exit_fault : (w3 : Window) (old now : Option (List ℕ)) → Fed end w0 w old now m → ahead_of w ≡ [] → is_complete end m.phase ≡ false → SourceRose old fb fa
-      → WhereTold old now (λ before after. Answers end (call_of w0 fb fa before after) w3 (Err errors.ReadFault))
+      → WhereKnown old now (λ before after. Answers end (call_on w0.room (ahead_of w0) fb fa before after) w3 (Err errors.ReadFault))
   exit_fault w3 None now f none open_now h = tt
-  exit_fault w3 (Some before) None f none open_now h = absurd f.so_far.told
+  exit_fault w3 (Some before) None f none open_now h = absurd f.so_far.known
   exit_fault w3 (Some before) (Some after) f none open_now h =
       let fits : length f.used ≤ w0.room = omega (arith, f.so_far.size) in
       record {
-        answer = fault_answer end (ahead_of w0) before after f.so_far.gave f.used (ahead_of w) w0.room fb fa f.so_far.told f.so_far.split fits (ahead_of w3 ++ after) none h f.stands.lines_are.good;
+        answer = fault_answer end (ahead_of w0) before after f.so_far.gave f.used (ahead_of w) w0.room fb fa f.so_far.known f.so_far.split fits (ahead_of w3 ++ after) none h f.stands.lines_are.good;
         near = tt;
-        short = fault_short end (ahead_of w0) before after f.so_far.gave f.used (ahead_of w) w0.room fb fa f.so_far.told f.so_far.split fits none (lacks_lines end m.phase m.triples (lines false f.used) f.stands.lines_are open_now);
+        short = fault_short end (ahead_of w0) before after f.so_far.gave f.used (ahead_of w) w0.room fb fa f.so_far.known f.so_far.split fits none (lacks_lines end m.phase m.triples (lines false f.used) f.stands.lines_are open_now);
       }
 
   pub exit_done : (old now : Option (List ℕ)) (t : entries.Entries) (f : Fed end w0 w old now m) → is_complete end m.phase ≡ true → open_line f.used ≡ [] → t ≡ m.triples
-      → WhereTold old now (λ before after. Answers end (call_of w0 fb fa before after) w (Ok t))
+      → WhereKnown old now (λ before after. Answers end (call_on w0.room (ahead_of w0) fb fa before after) w (Ok t))
   exit_done None now t f e closed is = tt
-  exit_done (Some before) None t f e closed is = absurd f.so_far.told
+  exit_done (Some before) None t f e closed is = absurd f.so_far.known
   exit_done (Some before) (Some after) t f e closed is =
       let fits : length f.used ≤ w0.room = omega (arith, f.so_far.size) in
       let r = complete_reads end m.phase m.triples f.used (ahead_of w ++ after) f.stands.lines_are e closed in
       record {
-        answer = read_on end (ahead_of w0) before after f.so_far.gave f.used (ahead_of w) w0.room fb fa f.so_far.told f.so_far.split fits t (ahead_of w ++ after) refl (rw is r);
+        answer = read_on end (ahead_of w0) before after f.so_far.gave f.used (ahead_of w) w0.room fb fa f.so_far.known f.so_far.split fits t (ahead_of w ++ after) refl (rw is r);
         near = tt;
         short = tt;
       }
 
   exit_of : (before after : List ℕ) (f : Fed end w0 w (Some before) (Some after) m) (result : Result entries.Entries ReadError) → ahead_of w ≡ [] → after ≡ [] → fa ≡ fb
-      → MatchResult result (λ t. Reads f.used end t []) (RefusesAtEnd end f.used) → Answers end (call_of w0 fb fa before after) w result
+      → MatchResult result (λ t. Reads f.used end t []) (RefusesAtEnd end f.used) → Answers end (call_on w0.room (ahead_of w0) fb fa before after) w result
   exit_of before after f (Ok t) none over steady h =
       let fits : length f.used ≤ w0.room = omega (arith, f.so_far.size) in
       record {
-        answer = end_read end (ahead_of w0) before after f.so_far.gave f.used (ahead_of w) w0.room fb fa f.so_far.told f.so_far.split fits none over steady t (ahead_of w ++ after) (rw (none, over) refl) h;
+        answer = end_read end (ahead_of w0) before after f.so_far.gave f.used (ahead_of w) w0.room fb fa f.so_far.known f.so_far.split fits none over steady t (ahead_of w ++ after) (rw (none, over) refl) h;
         near = tt;
         short = tt;
       }
   exit_of before after f (Err error) none over steady h =
       let fits : length f.used ≤ w0.room = omega (arith, f.so_far.size) in
-      let r = end_refused end (ahead_of w0) before after f.so_far.gave f.used (ahead_of w) w0.room fb fa f.so_far.told f.so_far.split fits none over steady (ahead_of w ++ after) error h in
+      let r = end_refused end (ahead_of w0) before after f.so_far.gave f.used (ahead_of w) w0.room fb fa f.so_far.known f.so_far.split fits none over steady (ahead_of w ++ after) error h in
       record { answer = r.0; near = r.1; short = r.2 }
 
   pub exit_end : (old now : Option (List ℕ)) (result : Result entries.Entries ReadError) → Fed end w0 w old now m → ahead_of w ≡ [] → IsAtEnd now → fa ≡ fb → is_complete end m.phase ≡ false
       → ((e : End) (bytes : List ℕ) → IsAfter e m bytes → is_complete e m.phase ≡ false → MatchResult result (λ t. Reads bytes e t []) (RefusesAtEnd e bytes))
-      → WhereTold old now (λ before after. Answers end (call_of w0 fb fa before after) w result)
+      → WhereKnown old now (λ before after. Answers end (call_on w0.room (ahead_of w0) fb fa before after) w result)
   exit_end None now result f none over steady out h = tt
-  exit_end (Some before) None result f none over steady out h = absurd f.so_far.told
+  exit_end (Some before) None result f none over steady out h = absurd f.so_far.known
   exit_end (Some before) (Some after) result f none over steady out h = exit_of before after f result none over steady (h end f.used f.stands out)
 
-pub memory_told : (end : End) (w0 w3 : Window) (fb fa : ℕ) (o : Option (List ℕ)) → WhereTold o o (λ before after. Answers end (call_of w0 fb fa before after) w3 (Err errors.OutOfMemory))
-memory_told end w0 w3 fb fa None = tt
-memory_told end w0 w3 fb fa (Some xs) = record { answer = tt; near = tt; short = tt }
+pub memory_known : (end : End) (w0 w3 : Window) (fb fa : ℕ) (o : Option (List ℕ)) → WhereKnown o o (λ before after. Answers end (call_on w0.room (ahead_of w0) fb fa before after) w3 (Err errors.OutOfMemory))
+memory_known end w0 w3 fb fa None = tt
+memory_known end w0 w3 fb fa (Some xs) = record { answer = tt; near = tt; short = tt }
 
 -- where no line has begun, what was used ends with an LF, or is empty
 pub closed_used : (end : End) (m : Machine) (used : List ℕ) → IsAfter end m used → m.begun ≡ false → open_line used ≡ []

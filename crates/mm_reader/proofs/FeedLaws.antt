@@ -14,7 +14,7 @@ after_more end m bytes piece at h a = subst (λ (t : List ℕ). IsAfter end m t)
 
 pub stops_more : (end : End) (stop : Stop) (bytes piece : List ℕ) (at : ℕ) → at < length piece → StopsIn end ((bytes ++ take at piece) ++ get_or piece at 0 ∷ []) stop → StopsWithin end bytes piece stop
 stops_more end stop bytes piece at h s = record {
-  front = take (at + 1) piece;
+  prefix = take (at + 1) piece;
   rest = drop (at + 1) piece;
   piece_is = sym (take-append-drop (at + 1) piece);
   stops = subst (λ (t : List ℕ). StopsIn end t stop) (one_more bytes piece at h) s;

@@ -25,21 +25,21 @@ pub entry_judged : (h : Header) (s : Size) (ws : List Word) (r : Result Entry Ki
 entry_judged h s ws (Ok e) n a b j = (rw (n, a, b) j.0, j.1)
 entry_judged h s ws (Err kind) n a b j = rw (n, a, b) j
 
-none_then : (k : Kind) (b : Bool) (front bs : List Rule) → (first_kind front ≡ None → first_kind (front ++ bs) ≡ first_kind bs) → first_kind ((k, b) ∷ front) ≡ None → first_kind ((k, b) ∷ front ++ bs) ≡ first_kind bs
-none_then k true front bs ih h = absurd cc
-none_then k false front bs ih h = ih h
+none_then : (k : Kind) (b : Bool) (prefix bs : List Rule) → (first_kind prefix ≡ None → first_kind (prefix ++ bs) ≡ first_kind bs) → first_kind ((k, b) ∷ prefix) ≡ None → first_kind ((k, b) ∷ prefix ++ bs) ≡ first_kind bs
+none_then k true prefix bs ih h = absurd cc
+none_then k false prefix bs ih h = ih h
 
-first_none : (front bs : List Rule) → first_kind front ≡ None → first_kind (front ++ bs) ≡ first_kind bs
+first_none : (prefix bs : List Rule) → first_kind prefix ≡ None → first_kind (prefix ++ bs) ≡ first_kind bs
 first_none [] bs h = refl
-first_none ((k, b) ∷ front) bs h = none_then k b front bs (first_none front bs) h
+first_none ((k, b) ∷ prefix) bs h = none_then k b prefix bs (first_none prefix bs) h
 
-some_then : (k : Kind) (b : Bool) (front bs : List Rule) (x : Kind) → (first_kind front ≡ Some x → first_kind (front ++ bs) ≡ Some x) → first_kind ((k, b) ∷ front) ≡ Some x → first_kind ((k, b) ∷ front ++ bs) ≡ Some x
-some_then k true front bs x ih h = h
-some_then k false front bs x ih h = ih h
+some_then : (k : Kind) (b : Bool) (prefix bs : List Rule) (x : Kind) → (first_kind prefix ≡ Some x → first_kind (prefix ++ bs) ≡ Some x) → first_kind ((k, b) ∷ prefix) ≡ Some x → first_kind ((k, b) ∷ prefix ++ bs) ≡ Some x
+some_then k true prefix bs x ih h = h
+some_then k false prefix bs x ih h = ih h
 
-first_some : (front bs : List Rule) (x : Kind) → first_kind front ≡ Some x → first_kind (front ++ bs) ≡ Some x
+first_some : (prefix bs : List Rule) (x : Kind) → first_kind prefix ≡ Some x → first_kind (prefix ++ bs) ≡ Some x
 first_some [] bs x h = absurd cc
-first_some ((k, b) ∷ front) bs x h = some_then k b front bs x (first_some front bs x) h
+first_some ((k, b) ∷ prefix) bs x h = some_then k b prefix bs x (first_some prefix bs x) h
 
 inside : (limit n row : ℕ) → row ≡ capped n → row ≢ 0 → row ≤ limit → limit < 2 ^ 63 → is_outside limit n ≡ false
 inside limit n row e some low small =

@@ -65,8 +65,8 @@ module _ (tokens : List Token) (count : ℕ) (inside : Bool) (line : List ℕ) (
         inside_is = sym (in_word-push line b e);
       }
 
-  length_same : (g : GoesOn line b) → (length (words line) ≡ length g.front + 1) × (length (words (line ++ b ∷ [])) ≡ length g.front + 1)
-  length_same g = (ap length g.before ∙ length-append g.front ((g.first ∷ g.others) ∷ []), ap length g.after ∙ length-append g.front (((g.first ∷ g.others) ++ b ∷ []) ∷ []))
+  length_same : (g : GoesOn line b) → (length (words line) ≡ length g.prefix + 1) × (length (words (line ++ b ∷ [])) ≡ length g.prefix + 1)
+  length_same g = (ap length g.before ∙ length-append g.prefix ((g.first ∷ g.others) ∷ []), ap length g.after ∙ length-append g.prefix (((g.first ∷ g.others) ++ b ∷ []) ∷ []))
 
   pub word_goes_on : (old new : Token) → is_blank b ≡ false → inside ≡ true → count ≢ 0 → count ≤ 5
       → ((c : ℕ) (cs : List ℕ) → get_or tokens (count - 1) old ≡ token_of (c ∷ cs) → new ≡ token_of ((c ∷ cs) ++ b ∷ []))
@@ -74,31 +74,31 @@ module _ (tokens : List Token) (count : ℕ) (inside : Bool) (line : List ℕ) (
   word_goes_on old new e isin some low pushed =
       let g = words-go_on line b e (sym l.inside_is ∙ isin) in
       let n = length_same g in
-      let last : count - 1 ≡ length g.front = omega (arith, l.count_is, n.0) in
-      let count_is2 : count ≡ suc (length g.front) = omega (arith, l.count_is, n.0) in
-      let room : length g.front < length tokens = omega (arith, l.places) in
-      let below : length g.front < count = omega arith in
+      let last : count - 1 ≡ length g.prefix = omega (arith, l.count_is, n.0) in
+      let count_is2 : count ≡ suc (length g.prefix) = omega (arith, l.count_is, n.0) in
+      let room : length g.prefix < length tokens = omega (arith, l.places) in
+      let below : length g.prefix < count = omega arith in
       let few : length (words line) ≤ 5 = omega (arith, n.0) in
       let few_after : length (words (line ++ b ∷ [])) ≤ 5 = omega (arith, n.1) in
       let w : Word = g.first ∷ g.others in
-      let kept : take count tokens ≡ map token_of g.front ++ token_of w ∷ [] =
-      l.tokens_are ∙ ap (map token_of) (take_all 5 (words line) few ∙ g.before) ∙ map-append token_of g.front (w ∷ []) in
-      let m : length (map token_of g.front) ≡ length g.front = length-map g.front token_of in
-      let seam : get_or (map token_of g.front ++ token_of w ∷ []) (length g.front) old ≡ token_of w =
-      subst (λ i. get_or (map token_of g.front ++ token_of w ∷ []) i old ≡ token_of w) m (get_or-append_seam (map token_of g.front) (token_of w) [] old) in
+      let kept : take count tokens ≡ map token_of g.prefix ++ token_of w ∷ [] =
+      l.tokens_are ∙ ap (map token_of) (take_all 5 (words line) few ∙ g.before) ∙ map-append token_of g.prefix (w ∷ []) in
+      let m : length (map token_of g.prefix) ≡ length g.prefix = length-map g.prefix token_of in
+      let seam : get_or (map token_of g.prefix ++ token_of w ∷ []) (length g.prefix) old ≡ token_of w =
+      subst (λ i. get_or (map token_of g.prefix ++ token_of w ∷ []) i old ≡ token_of w) m (get_or-append_seam (map token_of g.prefix) (token_of w) [] old) in
       let is : get_or tokens (count - 1) old ≡ token_of w =
-      ap (λ i. get_or tokens i old) last ∙ sym (get_or-take count tokens (length g.front) old below) ∙ ap (λ (t : List Token). get_or t (length g.front) old) kept ∙ seam in
+      ap (λ i. get_or tokens i old) last ∙ sym (get_or-take count tokens (length g.prefix) old below) ∙ ap (λ (t : List Token). get_or t (length g.prefix) old) kept ∙ seam in
       let new_is : new ≡ token_of (w ++ b ∷ []) = pushed g.first g.others is in
-      let front_is : take (length g.front) tokens ≡ map token_of g.front =
-      sym (take-take (length g.front) count tokens (omega arith)) ∙ ap (take (length g.front)) kept
-      ∙ subst (λ i. take i (map token_of g.front ++ token_of w ∷ []) ≡ map token_of g.front) m (take-append_seam (map token_of g.front) (token_of w ∷ [])) in
+      let prefix_is : take (length g.prefix) tokens ≡ map token_of g.prefix =
+      sym (take-take (length g.prefix) count tokens (omega arith)) ∙ ap (take (length g.prefix)) kept
+      ∙ subst (λ i. take i (map token_of g.prefix ++ token_of w ∷ []) ≡ map token_of g.prefix) m (take-append_seam (map token_of g.prefix) (token_of w ∷ [])) in
       record {
         places = length-set tokens (count - 1) new ∙ l.places;
         tokens_are =
-            rw last (ap (λ i. take i (set tokens (length g.front) new)) count_is2 ∙ take-suc-set tokens (length g.front) new room)
-            ∙ ap (λ (t : List Token). t ++ new ∷ []) front_is
-            ∙ ap (λ (t : Token). map token_of g.front ++ t ∷ []) new_is
-            ∙ sym (map-append token_of g.front ((w ++ b ∷ []) ∷ []))
+            rw last (ap (λ i. take i (set tokens (length g.prefix) new)) count_is2 ∙ take-suc-set tokens (length g.prefix) new room)
+            ∙ ap (λ (t : List Token). t ++ new ∷ []) prefix_is
+            ∙ ap (λ (t : Token). map token_of g.prefix ++ t ∷ []) new_is
+            ∙ sym (map-append token_of g.prefix ((w ++ b ∷ []) ∷ []))
             ∙ ap (map token_of) (sym g.after ∙ sym (take_all 5 (words (line ++ b ∷ [])) few_after));
         count_is = omega (arith, l.count_is, n.0, n.1);
         inside_is = isin ∙ sym (in_word-push line b e);
@@ -108,10 +108,10 @@ module _ (tokens : List Token) (count : ℕ) (inside : Bool) (line : List ℕ) (
   word_goes_on_past e isin high =
       let g = words-go_on line b e (sym l.inside_is ∙ isin) in
       let n = length_same g in
-      let many : 5 ≤ length g.front = omega (arith, l.count_is, n.0) in
+      let many : 5 ≤ length g.prefix = omega (arith, l.count_is, n.0) in
       let same : take 5 (words (line ++ b ∷ [])) ≡ take 5 (words line) =
-      ap (take 5) g.after ∙ take-append-le 5 g.front (((g.first ∷ g.others) ++ b ∷ []) ∷ []) many
-      ∙ sym (ap (take 5) g.before ∙ take-append-le 5 g.front ((g.first ∷ g.others) ∷ []) many) in
+      ap (take 5) g.after ∙ take-append-le 5 g.prefix (((g.first ∷ g.others) ++ b ∷ []) ∷ []) many
+      ∙ sym (ap (take 5) g.before ∙ take-append-le 5 g.prefix ((g.first ∷ g.others) ∷ []) many) in
       record {
         places = l.places;
         tokens_are = l.tokens_are ∙ ap (map token_of) (sym same);

@@ -50,10 +50,10 @@ pub no_text : (text : List ℕ) → 0 < length text → bytes_eq [] text ≡ fal
 no_text [] h = absurd (omega arith)
 no_text (t ∷ text) h = refl
 
-pub front_at : (ws : List Word) → 0 < length ws → (slice_index (take 15 (word ws 0)) 0 == 37) ≡ is_skipped ws
-front_at [] h = absurd (omega arith)
-front_at ([] ∷ ws) h = refl
-front_at ((b ∷ w) ∷ ws) h = refl
+pub first_at : (ws : List Word) → 0 < length ws → (slice_index (take 15 (word ws 0)) 0 == 37) ≡ is_skipped ws
+first_at [] h = absurd (omega arith)
+first_at ([] ∷ ws) h = refl
+first_at ((b ∷ w) ∷ ws) h = refl
 
 pub no_words : (ws : List Word) → length ws ≡ 0 → is_skipped ws ≡ true
 no_words [] h = refl

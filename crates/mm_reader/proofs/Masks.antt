@@ -169,11 +169,11 @@ module _ (bytes : List ℕ) (from count : ℕ) (room : from + 8 ≤ length bytes
       let v : List ℕ = chunk from 8 bytes in
       let long : length v ≡ 8 = length-chunk from 8 bytes room in
       let lanes : zip2 (λ a b. (a + (256 - b)) % 256) v (replicate 8 48) ≡ map above_zero v = zip2_splat (λ a b. (a + (256 - b)) % 256) v 8 48 long in
-      let front : take count (map above_zero v) ≡ map above_zero (between bytes from (from + count)) =
+      let prefix : take count (map above_zero v) ≡ map above_zero (between bytes from (from + count)) =
       take-map above_zero count v ∙ ap (map above_zero) (take-take count 8 (drop from bytes) few ∙ sym (between_long bytes from count)) in
       ap (λ (t : List ℕ). number_l 256 t % 18446744073709551616 * 2 ^ (64 - 8 * count) % 18446744073709551616) lanes
       ∙ number_moved (map above_zero v) count (length-map v above_zero ∙ long) (each-byte v) few
-      ∙ ap (λ (t : List ℕ). number_l 256 (replicate (8 - count) 0 ++ t)) front
+      ∙ ap (λ (t : List ℕ). number_l 256 (replicate (8 - count) 0 ++ t)) prefix
 
   pub eight_long : length (eight_here bytes from count) ≡ 8
   eight_long =

@@ -143,7 +143,7 @@ blank_inner b h = by (is_lf b) refl
     by false e = rw e refl
     by true e = let k : b ≡ 10 = eqb-true b 10 e in let n : is_blank 10 ≡ true = rw k at h in absurd cc
 
--- ---- words from the front
+-- ---- words from the start
 
 words-skip : (b : ℕ) (rest : List ℕ) → is_blank b ≡ true → words (b ∷ rest) ≡ words rest
 unfolding words

@@ -75,7 +75,7 @@ module _ (m : Machine) (h : Header) (s : Size) (done : ℕ) (w : AwaitsPlain m h
   plain_halts stop f end bytes a out =
       let ordered : at ≤ l.next = omega (arith, p.in_order) in
       record {
-        front = p.line ++ 10 ∷ [];
+        prefix = p.line ++ 10 ∷ [];
         rest = drop l.next piece;
         piece_is = split_at piece at l.next ordered ∙ ap (λ (x : List ℕ). x ++ drop l.next piece) p.line_is;
         stops = halted stop f end bytes a;
@@ -102,7 +102,7 @@ pub byte_halts : (m : Machine) (piece : List ℕ) (at : ℕ) (stop : Stop) → a
     → ((end : End) (bytes : List ℕ) → IsAfter end m bytes → is_complete end m.phase ≡ false → StopsIn end (bytes ++ get_or piece at 0 ∷ []) stop)
     → (end : End) (bytes : List ℕ) → IsAfter end m bytes → is_complete end m.phase ≡ false → StopsWithin end bytes (drop at piece) stop
 byte_halts m piece at stop h f end bytes a out = record {
-  front = get_or piece at 0 ∷ [];
+  prefix = get_or piece at 0 ∷ [];
   rest = drop (at + 1) piece;
   piece_is = split_at piece at (at + 1) (omega arith) ∙ ap (λ (x : List ℕ). x ++ drop (at + 1) piece) (byte_at piece at h);
   stops = f end bytes a out;
@@ -118,10 +118,10 @@ after_piece end m bytes piece at next h a =
 
 pub stops_piece : (end : End) (stop : Stop) (bytes piece : List ℕ) (at : ℕ) → StopsWithin end (bytes ++ take at piece) (drop at piece) stop → StopsWithin end bytes piece stop
 stops_piece end stop bytes piece at s = record {
-  front = take at piece ++ s.front;
+  prefix = take at piece ++ s.prefix;
   rest = s.rest;
-  piece_is = sym (take-append-drop at piece) ∙ ap (λ (x : List ℕ). take at piece ++ x) s.piece_is ∙ sym (append_assoc (take at piece) s.front s.rest);
-  stops = subst (λ (x : List ℕ). StopsIn end x stop) (append_assoc bytes (take at piece) s.front) s.stops;
+  piece_is = sym (take-append-drop at piece) ∙ ap (λ (x : List ℕ). take at piece ++ x) s.piece_is ∙ sym (append_assoc (take at piece) s.prefix s.rest);
+  stops = subst (λ (x : List ℕ). StopsIn end x stop) (append_assoc bytes (take at piece) s.prefix) s.stops;
 }
 
 -- ---- line behind line

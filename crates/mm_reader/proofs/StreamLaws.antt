@@ -9,9 +9,9 @@ use Rattle.mm_defs.specs.declared.answers.ReadError.TheVariants as errors
 use Rattle.mm_defs.specs.Words.{lines}
 use Rattle.mm_defs.specs.File.{Fault, Reads, line_faults, first_fault, behind}
 use Rattle.mm_defs.specs.Calls.{Call, got, given, offered, ended, first_bad, FellShort, IsAnswer, IsNear, LacksLines}
-use Rattle.mm_defs.proofs.Behind.{behind-front}
+use Rattle.mm_defs.proofs.Behind.{behind-prefix}
 use Rattle.mm_defs.proofs.Prefixes.{bad_stays}
-use Rattle.mm_reader.specs.Windows.{HasBadFront, Refuses, RefusesAtEnd}
+use Rattle.mm_reader.specs.Windows.{HasBadPrefix, Refuses, RefusesAtEnd}
 
 first_is : (end : End) (bytes : List ℕ) (x : Fault) → line_faults end (lines false bytes) ≡ x ∷ [] → first_fault end false bytes ≡ Some x
 unfolding first_fault
@@ -21,8 +21,8 @@ first_none : (end : End) (bytes : List ℕ) → line_faults end (lines false byt
 unfolding first_fault
 first_none end bytes h = rw h refl
 
-take-front : (n : ℕ) (xs ys : List ℕ) → length xs ≤ n → take n (xs ++ ys) ≡ xs ++ take (n - length xs) ys
-take-front n xs ys h =
+take-prefix : (n : ℕ) (xs ys : List ℕ) → length xs ≤ n → take n (xs ++ ys) ≡ xs ++ take (n - length xs) ys
+take-prefix n xs ys h =
     let e : n ≡ length xs + (n - length xs) = omega arith in
     ap (λ k. take k (xs ++ ys)) e ∙ take-append-add xs ys (n - length xs)
 
@@ -43,23 +43,23 @@ module _ (end : End) (ahead before after gave used rest : List ℕ) (room fb fa 
   offered-is = ap (λ (t : List ℕ). ahead ++ t) b ∙ sym (append_assoc ahead gave after) ∙ ap (λ (t : List ℕ). t ++ after) split ∙ append_assoc used rest after
 
   given-is : given call ≡ used ++ take (room - length used) rest
-  given-is = ap (take room) got-is ∙ take-front room used rest fits
+  given-is = ap (take room) got-is ∙ take-prefix room used rest fits
 
   -- ---- a bad line in what was used, or in the bytes ahead
 
-  bad-first : (fault : Fault) → HasBadFront end used rest (room - length used) fault → first_bad end call ≡ Some fault
+  bad-first : (fault : Fault) → HasBadPrefix end used rest (room - length used) fault → first_bad end call ≡ Some fault
   bad-first fault h =
-      let n : length h.front ≤ room - length used = h.short in
-      let e : take (room - length used) rest ≡ h.front ++ take ((room - length used) - length h.front) h.rest = ap (take (room - length used)) h.ahead_is ∙ take-front (room - length used) h.front h.rest n in
-      let k : given call ≡ (used ++ h.front) ++ take ((room - length used) - length h.front) h.rest =
-      given-is ∙ ap (λ (t : List ℕ). used ++ t) e ∙ sym (append_assoc used h.front (take ((room - length used) - length h.front) h.rest)) in
-      rw k (bad_stays end (ended call) (used ++ h.front) (take ((room - length used) - length h.front) h.rest) fault (first_is end (used ++ h.front) fault h.ends.bad))
+      let n : length h.prefix ≤ room - length used = h.short in
+      let e : take (room - length used) rest ≡ h.prefix ++ take ((room - length used) - length h.prefix) h.rest = ap (take (room - length used)) h.ahead_is ∙ take-prefix (room - length used) h.prefix h.rest n in
+      let k : given call ≡ (used ++ h.prefix) ++ take ((room - length used) - length h.prefix) h.rest =
+      given-is ∙ ap (λ (t : List ℕ). used ++ t) e ∙ sym (append_assoc used h.prefix (take ((room - length used) - length h.prefix) h.rest)) in
+      rw k (bad_stays end (ended call) (used ++ h.prefix) (take ((room - length used) - length h.prefix) h.rest) fault (first_is end (used ++ h.prefix) fault h.ends.bad))
 
-  bad-near : (fault : Fault) → length rest ≤ 65536 → HasBadFront end used rest (room - length used) fault → length (behind fault.line (got call)) ≤ 65536
+  bad-near : (fault : Fault) → length rest ≤ 65536 → HasBadPrefix end used rest (room - length used) fault → length (behind fault.line (got call)) ≤ 65536
   bad-near fault small h =
-      let k : got call ≡ (used ++ h.front) ++ h.rest = got-is ∙ ap (λ (t : List ℕ). used ++ t) h.ahead_is ∙ sym (append_assoc used h.front h.rest) in
-      let e : behind fault.line (got call) ≡ h.rest = rw (k, h.ends.number_is) (behind-front (used ++ h.front) h.rest h.ends.closed) in
-      let n : length rest ≡ length h.front + length h.rest = ap length h.ahead_is ∙ length-append h.front h.rest in
+      let k : got call ≡ (used ++ h.prefix) ++ h.rest = got-is ∙ ap (λ (t : List ℕ). used ++ t) h.ahead_is ∙ sym (append_assoc used h.prefix h.rest) in
+      let e : behind fault.line (got call) ≡ h.rest = rw (k, h.ends.number_is) (behind-prefix (used ++ h.prefix) h.rest h.ends.closed) in
+      let n : length rest ≡ length h.prefix + length h.rest = ap length h.ahead_is ∙ length-append h.prefix h.rest in
       rw e (omega arith)
 
   not-ended-past : room < length (got call) → ended call ≡ false

@@ -14,29 +14,29 @@ use Rattle.mm_reader.specs.declared.machine.Machine.{Machine}
 use Rattle.mm_reader.specs.declared.window.Window.{Window}
 use Rattle.mm_reader.specs.Machine.{IsReady, is_complete}
 use Rattle.mm_reader.specs.Stages.{begun_lines, IsAfter, StandsSomewhere, StopsWithin}
-use Rattle.mm_reader.specs.Windows.{ahead_of, IsOnePast, IsWindow, Consumes, HasBadFront, Refuses, Uses, refusal_of}
+use Rattle.mm_reader.specs.Windows.{ahead_of, IsOnePast, IsWindow, Consumes, HasBadPrefix, Refuses, Uses, refusal_of}
 use Rattle.mm_reader.proofs.MissingLines.{lacks_lines}
 
--- what stopped the machine within a front of the bytes ahead
+-- what stopped the machine within a prefix of the bytes ahead
 module _ (end : End) (bytes piece past ahead : List ℕ) (room : ℕ) (ahead_is : ahead ≡ piece ++ past) (short : length piece ≤ room) where
-  bad_front : (line : ℕ) (kind : Kind) → StopsWithin end bytes piece (stops.Bad line kind) → HasBadFront end bytes ahead room (record { line = line; kind = kind })
-  bad_front line kind s =
-      let n : length piece ≡ length s.front + length s.rest = ap length s.piece_is ∙ length-append s.front s.rest in
+  bad_prefix : (line : ℕ) (kind : Kind) → StopsWithin end bytes piece (stops.Bad line kind) → HasBadPrefix end bytes ahead room (record { line = line; kind = kind })
+  bad_prefix line kind s =
+      let n : length piece ≡ length s.prefix + length s.rest = ap length s.piece_is ∙ length-append s.prefix s.rest in
       record {
-        front = s.front;
+        prefix = s.prefix;
         rest = s.rest ++ past;
-        ahead_is = ahead_is ∙ ap (λ (t : List ℕ). t ++ past) s.piece_is ∙ append_assoc s.front s.rest past;
+        ahead_is = ahead_is ∙ ap (λ (t : List ℕ). t ++ past) s.piece_is ∙ append_assoc s.prefix s.rest past;
         short = omega arith;
         ends = s.stops;
       }
 
-  by_kind : (line : ℕ) (kind : Kind) (limit : Bool) → is_limit kind ≡ limit → HasBadFront end bytes ahead room (record { line = line; kind = kind })
+  by_kind : (line : ℕ) (kind : Kind) (limit : Bool) → is_limit kind ≡ limit → HasBadPrefix end bytes ahead room (record { line = line; kind = kind })
       → Refuses end bytes ahead room (if limit then errors.Limit line kind else errors.Malformed line kind)
   by_kind line kind true e h = (h, e)
   by_kind line kind false e h = (h, e)
 
   pub refuses : (stop : Stop) → StopsWithin end bytes piece stop → Refuses end bytes ahead room (refusal_of stop)
-  refuses (stops.Bad line kind) s = by_kind line kind (is_limit kind) refl (bad_front line kind s)
+  refuses (stops.Bad line kind) s = by_kind line kind (is_limit kind) refl (bad_prefix line kind s)
   refuses stops.Memory s = tt
 
 -- the bytes ahead of a window
@@ -100,7 +100,7 @@ module _ (w : Window) (used lfs : ℕ) (win : IsWindow w) (some : used ≤ lengt
         asked = omega (arith, win.asked);
       }
 
--- the machine goes on by this front of the bytes ahead
+-- the machine goes on by this prefix of the bytes ahead
 module _ (end : End) (w : Window) (m m2 : Machine) (piece past : List ℕ) (used : ℕ) (ahead_is : ahead_of w ≡ piece ++ past) (some : used ≤ length piece)
     (stands : (bytes : List ℕ) → IsAfter end m bytes → IsAfter end m2 (bytes ++ take used piece)) where
   same : take used piece ≡ take used (ahead_of w)
@@ -151,7 +151,7 @@ one_past w w2 n win over u =
     let d : length (ahead_of w2) ≡ length (ahead_of w) - n = ap length u.ahead_is ∙ length-drop n (ahead_of w) in
     omega (arith, u.some, u.room_is, win.asked, win.in_order)
 
--- the front of the bytes ahead that may be used
+-- the prefix of the bytes ahead that may be used
 pub limited : (w : Window) → IsWindow w → w.room < length (ahead_of w) → ahead_of w ≡ take ((w.from + w.room) - w.from) (drop w.from w.buffer.items) ++ drop w.room (ahead_of w)
 limited w win over =
     let n = length-ahead_of w win in

@@ -70,11 +70,11 @@ words-begin line b e out =
 
 -- a word that may go on
 pub record GoesOn (line : List ℕ) (b : ℕ) : Type 0 where
-  pub front : List Word
+  pub prefix : List Word
   pub first : ℕ
   pub others : List ℕ
-  pub before : words line ≡ front ++ (first ∷ others) ∷ []
-  pub after : words (line ++ b ∷ []) ≡ front ++ ((first ∷ others) ++ b ∷ []) ∷ []
+  pub before : words line ≡ prefix ++ (first ∷ others) ∷ []
+  pub after : words (line ++ b ∷ []) ≡ prefix ++ ((first ∷ others) ++ b ∷ []) ∷ []
 
 -- and it goes on
 pub words-go_on : (line : List ℕ) (b : ℕ) → is_blank b ≡ false → in_word line ≡ true → GoesOn line b
@@ -83,7 +83,7 @@ words-go_on line b e inside = by (open_word line) refl inside
     by : (w : List ℕ) → open_word line ≡ w → has_bytes w ≡ true → GoesOn line b
     by [] is h = absurd cc
     by (a ∷ w) is h = record {
-      front = closed_words line;
+      prefix = closed_words line;
       first = a;
       others = w;
       before = words-is line ∙ rw is refl;

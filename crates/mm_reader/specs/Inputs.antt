@@ -1,11 +1,11 @@
 -- What callers see of an input.
 use Rattle.std.specs.Prelude.{◌≤◌, ◌+◌, ◌-◌, length, Result, OnOk}
 use Rattle.std.specs.Result.{IsErrOf}
-use Rattle.sp_ports.specs.Bytes.{WhereTold}
+use Rattle.sp_ports.specs.Bytes.{WhereKnown}
 use Rattle.sp_ports.specs.Device.{Device, FailsOnceAtMost, HasReadFault, IsSteady}
 use Rattle.mm_defs.specs.declared.answers.ReadError.{ReadError}
 use Rattle.mm_defs.specs.declared.answers.ReadError.TheVariants.{ReadFault}
-use Rattle.mm_defs.specs.Calls.{Call, Intake, call_on}
+use Rattle.mm_defs.specs.Calls.{Call, Intake, call_on, room}
 use Rattle.mm_reader.specs.declared.input.Input.TheInside.{Inside}
 use Rattle.mm_reader.specs.Windows.{ahead_of, IsWindow}
 
@@ -27,11 +27,13 @@ pub record IsInput (i : Inside) : Type 0 where
 
 -- what holds of a call on an input, where its source tells its bytes
 abbrev pub OnCall : Intake → Device → (Call → Type 0) → Type 0
-OnCall input source P = WhereTold source.before source.after
-    (λ before after. P (call_on input source.failed_before source.failed_after before after))
+OnCall input source P = WhereKnown source.before source.after
+    (λ before after.
+    P (call_on (room input) input.ahead source.failed_before source.failed_after before after))
 
 -- At Ok no read of the source has failed, and ReadFault is answered only where one has. None is made after it.
-pub record FailsByReadFault {T : Type 0} (source : Device) (result : Result T ReadError) : Type 0 where
+pub record FailsByReadFault {T : Type 0} (source : Device)
+    (result : Result T ReadError) : Type 0 where
   pub counts : FailsOnceAtMost source
   pub steady : OnOk result (IsSteady source)
   pub failed : IsErrOf result ReadFault → HasReadFault source

@@ -25,14 +25,20 @@ pub record HasBanner (h : Header) (ls : List (List ℕ)) : Type 0 where
   pub header_is : h ≡ header (words first)
 
 -- the size line and so many entry lines have come
-pub record HasEntries (h : Header) (s : Size) (done : ℕ) (t : entries.Entries) (later : List Line) : Type 0 where
+pub record HasEntries (h : Header) (s : Size) (done : ℕ) (t : entries.Entries)
+    (later : List Line) : Type 0 where
   pub size_line : Line
   pub entry_lines : List Line
   pub later_are : later ≡ size_line ∷ entry_lines
   pub size_is : s ≡ size size_line.words
   pub done_is : done ≡ length entry_lines
   pub in_count : done ≤ s.count
-  pub triples_are : t ≡ record { rows = s.rows; cols = s.cols; field = h.field; items = flat_map (triples h) entry_lines }
+  pub triples_are : t ≡ record {
+    rows = s.rows;
+    cols = s.cols;
+    field = h.field;
+    items = flat_map (triples h) entry_lines;
+  }
 
 -- where the machine is, after these lines
 abbrev pub IsPhase : Phase → entries.Entries → List (List ℕ) → Type 0
@@ -50,14 +56,16 @@ is_complete LastEntry (phases.Entries h s done) = done == s.count
 -- ---- what one more line does
 
 -- The machine has these lines, and none of them is bad. Where the matrix is read, the last of them is its last line.
-pub record HasLines (end : End) (phase : Phase) (t : entries.Entries) (ls : List (List ℕ)) : Type 0 where
+pub record HasLines (end : End) (phase : Phase) (t : entries.Entries) (ls : List
+    (List ℕ)) : Type 0 where
   pub phase_is : IsPhase phase t ls
   pub good : line_faults end ls ≡ []
   pub last : is_complete end phase ≡ true → last_number (later_lines ls) ≡ length ls
 
 -- the last of these lines is the one bad line
 abbrev pub StopsAt : End → List (List ℕ) → Stop → Type 0
-StopsAt end ls (stops.Bad line kind) = (line_faults end ls ≡ record { line = line; kind = kind } ∷ []) × (line ≡ length ls)
+StopsAt end ls (stops.Bad line kind) = (line_faults end ls ≡ record { line = line; kind = kind }
+    ∷ []) × (line ≡ length ls)
 StopsAt end ls stops.Memory = Unit {0}
 
 -- the phase after one more line, or its fault, which is the only one

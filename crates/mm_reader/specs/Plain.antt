@@ -78,7 +78,8 @@ pub record HasValues (f : Field) (bytes : List ℕ) (from to : ℕ) (value : Int
   pub inner : list_all is_inner (between bytes from to) ≡ true
   pub apart : stands_apart (between bytes from to) ≡ true
   pub count : length (words (between bytes from to)) ≡ value_words f
-  pub reads : is_integer_field f ≡ true → ReadsInteger (word (words (between bytes from to)) 0) (Some value)
+  pub reads : is_integer_field f ≡ true
+      → ReadsInteger (word (words (between bytes from to)) 0) (Some value)
 
 -- blanks and behind them an LF lie between these places
 pub record IsNextLine (bytes : List ℕ) (from to : ℕ) : Type 0 where

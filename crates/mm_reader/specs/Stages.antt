@@ -44,15 +44,16 @@ abbrev pub StopsIn : End → List ℕ → Stop → Type 0
 StopsIn end bytes (stops.Bad line kind) = EndsBad end (record { line = line; kind = kind }) bytes
 StopsIn end bytes stops.Memory = Unit {0}
 
--- a front of the piece ends with the one bad line
+-- a prefix of the piece ends with the one bad line
 pub record StopsWithin (end : End) (bytes piece : List ℕ) (stop : Stop) : Type 0 where
-  pub front : List ℕ
+  pub prefix : List ℕ
   pub rest : List ℕ
-  pub piece_is : piece ≡ front ++ rest
-  pub stops : StopsIn end (bytes ++ front) stop
+  pub piece_is : piece ≡ prefix ++ rest
+  pub stops : StopsIn end (bytes ++ prefix) stop
 
 -- the input ended with these lines, and none is bad or missing
-pub record IsAll (end : End) (phase : Phase) (t : entries.Entries) (ls : List (List ℕ)) : Type 0 where
+pub record IsAll (end : End) (phase : Phase) (t : entries.Entries) (ls : List
+    (List ℕ)) : Type 0 where
   pub good : faults end true ls ≡ []
   pub entries : t ≡ entries_of ls
   pub complete : is_complete LastEntry phase ≡ true
@@ -60,12 +61,14 @@ pub record IsAll (end : End) (phase : Phase) (t : entries.Entries) (ls : List (L
 
 -- the input ended with these lines, and this is its first fault
 abbrev pub Lacks : End → List (List ℕ) → Stop → Type 0
-Lacks end ls (stops.Bad line kind) = (slice_get (faults end true ls) 0 ≡ Some (record { line = line; kind = kind })) × (line ≡ max (length ls) 1)
+Lacks end ls (stops.Bad line kind) = (slice_get (faults end true ls) 0
+    ≡ Some (record { line = line; kind = kind })) × (line ≡ max (length ls) 1)
 Lacks end ls stops.Memory = Unit {0}
 
 -- the input ended with these bytes, and this is its first fault
 abbrev pub StopsAtEnd : End → List ℕ → Stop → Type 0
-StopsAtEnd end bytes (stops.Bad line kind) = (first_fault end true bytes ≡ Some (record { line = line; kind = kind })) × (behind line bytes ≡ [])
+StopsAtEnd end bytes (stops.Bad line kind) = (first_fault end true bytes
+    ≡ Some (record { line = line; kind = kind })) × (behind line bytes ≡ [])
 StopsAtEnd end bytes stops.Memory = Unit {0}
 
 -- The machine goes on from one place of a piece to another: it got the bytes between.
@@ -74,9 +77,13 @@ pub record GoesOn (old new : Machine) (piece : List ℕ) (at next : ℕ) : Type 
   pub within : next ≤ length piece
   pub number : begun_lines new + at ≤ begun_lines old + next
   pub ready : IsReady new.phase new.triples
-  pub closed : (end : End) → is_complete end old.phase ≡ false → is_complete end new.phase ≡ true → new.begun ≡ false
-  pub stands : (end : End) (bytes : List ℕ) → IsAfter end old bytes → is_complete end old.phase ≡ false → IsAfter end new (bytes ++ take (next - at) (drop at piece))
+  pub closed : (end : End) → is_complete end old.phase ≡ false → is_complete end new.phase ≡ true
+      → new.begun ≡ false
+  pub stands : (end : End) (bytes : List ℕ) → IsAfter end old bytes
+      → is_complete end old.phase ≡ false
+      → IsAfter end new (bytes ++ take (next - at) (drop at piece))
 
 -- the machine stops in what stands behind this place of a piece
 abbrev pub Halts : Machine → List ℕ → ℕ → Stop → Type 0
-Halts m piece at stop = (end : End) (bytes : List ℕ) → IsAfter end m bytes → is_complete end m.phase ≡ false → StopsWithin end bytes (drop at piece) stop
+Halts m piece at stop = (end : End) (bytes : List ℕ) → IsAfter end m bytes
+    → is_complete end m.phase ≡ false → StopsWithin end bytes (drop at piece) stop

@@ -42,4 +42,5 @@ ReadsNumber w (Some n) = (is_number w ≡ true) × (n ≡ capped (number w))
 -- the word is this integer, as far as it fits, or no integer
 abbrev pub ReadsInteger : Word → Option Integer → Type 0
 ReadsInteger w None = is_integer w ≡ false
-ReadsInteger w (Some v) = (is_integer w ≡ true) × (v.minus ≡ is_negative w) × (v.magnitude ≡ capped (magnitude w))
+ReadsInteger w (Some v) = (is_integer w ≡ true) × (v.minus ≡ is_negative w)
+    × (v.magnitude ≡ capped (magnitude w))

@@ -2,7 +2,7 @@
 use Rattle.std.specs.Prelude.{◌≡◌, ◌≤◌, ◌<◌, ◌+◌, ◌-◌, ◌^◌, ℕ, Bool, true, false, List, [], ◌++◌, length, take, drop, vec_len, if◌then◌else◌, Some, Result}
 use Rattle.std.specs.List.{count_by}
 use Rattle.sp_ids.specs.Entries as entries
-use Rattle.sp_ports.specs.Bytes.{WhereTold}
+use Rattle.sp_ports.specs.Bytes.{WhereKnown}
 use Rattle.sp_ports.specs.Device.{Device}
 use Rattle.mm_defs.specs.declared.answers.End.{End}
 use Rattle.mm_defs.specs.declared.answers.ReadError.{ReadError}
@@ -10,7 +10,7 @@ use Rattle.mm_defs.specs.declared.answers.ReadError.TheVariants as errors
 use Rattle.mm_defs.specs.Words.{lines, is_lf}
 use Rattle.mm_defs.specs.Faults.{is_limit}
 use Rattle.mm_defs.specs.File.{Fault, line_faults, first_fault, behind}
-use Rattle.mm_defs.specs.Calls.{Call, FellShort, IsAnswer, IsNear, LacksLines}
+use Rattle.mm_defs.specs.Calls.{Call, call_on, FellShort, IsAnswer, IsNear, LacksLines}
 use Rattle.mm_reader.specs.declared.machine.Machine.{Machine}
 use Rattle.mm_reader.specs.declared.machine.Stop.{Stop}
 use Rattle.mm_reader.specs.declared.machine.Stop.TheVariants as stops
@@ -46,66 +46,70 @@ UsesSome old new = (n : ℕ) × Uses old new n
 abbrev pub IsOnePast : Window → Type 0
 IsOnePast w = length (ahead_of w) ≡ w.room + 1
 
--- the machine got the front of the bytes ahead, and is ready for more or has its matrix
-pub record Consumes (end : End) (old new : Window) (before after : Machine) (done : Bool) : Type 0 where
+-- the machine got a prefix of the bytes ahead, and is ready for more or has its matrix
+pub record Consumes (end : End) (old new : Window) (before after : Machine)
+    (done : Bool) : Type 0 where
   pub count : ℕ
   pub uses : Uses old new count
-  pub stands : (bytes : List ℕ) → IsAfter end before bytes → IsAfter end after (bytes ++ take count (ahead_of old))
+  pub stands : (bytes : List ℕ) → IsAfter end before bytes
+      → IsAfter end after (bytes ++ take count (ahead_of old))
   pub done_is : done ≡ is_complete end after.phase
   pub all : done ≡ false → ahead_of new ≡ []
   pub closed : done ≡ true → after.begun ≡ false
   pub number : begun_lines after ≤ begun_lines before + count
   pub ready : IsReady after.phase after.triples
 
--- a front of these bytes, within the room, ends with the one bad line
-pub record HasBadFront (end : End) (bytes ahead : List ℕ) (room : ℕ) (fault : Fault) : Type 0 where
-  pub front : List ℕ
+-- a prefix of these bytes, within the room, ends with the one bad line
+pub record HasBadPrefix (end : End) (bytes ahead : List ℕ) (room : ℕ) (fault : Fault) : Type 0 where
+  pub prefix : List ℕ
   pub rest : List ℕ
-  pub ahead_is : ahead ≡ front ++ rest
-  pub short : length front ≤ room
-  pub ends : EndsBad end fault (bytes ++ front)
+  pub ahead_is : ahead ≡ prefix ++ rest
+  pub short : length prefix ≤ room
+  pub ends : EndsBad end fault (bytes ++ prefix)
 
 -- why the bytes ahead are refused
 abbrev pub Refuses : End → List ℕ → List ℕ → ℕ → ReadError → Type 0
-Refuses end bytes ahead room (errors.Malformed line kind) = HasBadFront end bytes ahead room (record { line = line; kind = kind }) × (is_limit kind ≡ false)
-Refuses end bytes ahead room (errors.Limit line kind) = HasBadFront end bytes ahead room (record { line = line; kind = kind }) × (is_limit kind ≡ true)
-Refuses end bytes ahead room errors.TooLong = (room < length ahead) × (line_faults end (lines false (bytes ++ take room ahead)) ≡ []) × LacksLines end (lines false (bytes ++ take room ahead))
+Refuses end bytes ahead room (errors.Malformed line kind) = HasBadPrefix end bytes ahead room
+    (record { line = line; kind = kind }) × (is_limit kind ≡ false)
+Refuses end bytes ahead room (errors.Limit line kind) = HasBadPrefix end bytes ahead room
+    (record { line = line; kind = kind }) × (is_limit kind ≡ true)
+Refuses end bytes ahead room errors.TooLong = (room < length ahead)
+    × (line_faults end (lines false (bytes ++ take room ahead)) ≡ [])
+    × LacksLines end (lines false (bytes ++ take room ahead))
 Refuses end bytes ahead room errors.ReadFault = ⊥
 Refuses end bytes ahead room errors.OutOfMemory = Unit {0}
 
 -- why bytes are refused with which the input ended
 abbrev pub RefusesAtEnd : End → List ℕ → ReadError → Type 0
-RefusesAtEnd end bytes (errors.Malformed line kind) = (first_fault end true bytes ≡ Some (record { line = line; kind = kind })) × (behind line bytes ≡ []) × (is_limit kind ≡ false)
-RefusesAtEnd end bytes (errors.Limit line kind) = (first_fault end true bytes ≡ Some (record { line = line; kind = kind })) × (behind line bytes ≡ []) × (is_limit kind ≡ true)
+RefusesAtEnd end bytes (errors.Malformed line kind) = (first_fault end true bytes
+    ≡ Some (record { line = line; kind = kind })) × (behind line bytes ≡ [])
+    × (is_limit kind ≡ false)
+RefusesAtEnd end bytes (errors.Limit line kind) = (first_fault end true bytes
+    ≡ Some (record { line = line; kind = kind })) × (behind line bytes ≡ [])
+    × (is_limit kind ≡ true)
 RefusesAtEnd end bytes errors.TooLong = ⊥
 RefusesAtEnd end bytes errors.ReadFault = ⊥
 RefusesAtEnd end bytes errors.OutOfMemory = Unit {0}
 
 -- how a stop is answered
 abbrev pub refusal_of : Stop → ReadError
-refusal_of (stops.Bad line kind) = if is_limit kind then errors.Limit line kind else errors.Malformed line kind
+refusal_of (stops.Bad line kind) =
+    if is_limit kind
+    then errors.Limit line kind
+    else errors.Malformed line kind
 refusal_of stops.Memory = errors.OutOfMemory
-
--- the call over a source that tells its bytes
-abbrev pub call_of : Window → ℕ → ℕ → List ℕ → List ℕ → Call
-call_of w failures_before failures_after before after = record {
-  room = w.room;
-  ahead = ahead_of w;
-  before = before;
-  after = after;
-  failures_before = failures_before;
-  failures_after = failures_after;
-}
 
 -- what holds of the call, where the source tells its bytes
 abbrev pub OnCallOf : Window → Device → (Call → Type 0) → Type 0
-OnCallOf w source P = WhereTold source.before source.after
-    (λ before after. P (call_of w source.failed_before source.failed_after before after))
+OnCallOf w source P = WhereKnown source.before source.after
+    (λ before after.
+    P (call_on w.room (ahead_of w) source.failed_before source.failed_after before after))
 
 -- what was used was counted, and so were its LFs
 pub record HasCounted (old new : Window) (before after : List ℕ) : Type 0 where
   pub bytes : new.room + length (ahead_of old ++ before) ≡ old.room + length (ahead_of new ++ after)
-  pub lfs : new.lines + count_by is_lf (ahead_of new ++ after) ≡ old.lines + count_by is_lf (ahead_of old ++ before)
+  pub lfs : new.lines + count_by is_lf (ahead_of new ++ after)
+      ≡ old.lines + count_by is_lf (ahead_of old ++ before)
 
 -- what a reading leaves of a window, whatever it answers
 pub record KeepsWindow (old new : Window) : Type 0 where
@@ -114,7 +118,8 @@ pub record KeepsWindow (old new : Window) : Type 0 where
   pub counts : new.lines + new.room ≤ old.lines + old.room
 
 -- what a reading of a matrix answers, of a source that tells its bytes
-pub record Answers (end : End) (call : Call) (new : Window) (result : Result entries.Entries ReadError) : Type 0 where
+pub record Answers (end : End) (call : Call) (new : Window)
+    (result : Result entries.Entries ReadError) : Type 0 where
   pub answer : IsAnswer end call (ahead_of new ++ call.after) result
   pub near : IsNear call result
   pub short : FellShort end call result

@@ -3,12 +3,12 @@
 ghost use Rattle.std.specs.Prelude.{◌≡◌, ◌≤◌, ◌<◌, ◌+◌, ◌++◌, ◌↔◌, [], length, IfErr, IfOk, MatchResult, OnOk, IsOk, IsTrue, true, false};
 ghost use Rattle.std.specs.List.{count_by};
 ghost use Rattle.std.specs.Result.{IsErrOf};
-ghost use Rattle.sp_ports.specs.Bytes.{GivesFront, IsAtEnd, WhereTold};
+ghost use Rattle.sp_ports.specs.Bytes.{GivesPrefix, IsAtEnd, WhereKnown};
 ghost use Rattle.sp_ports.specs.Device.{seen};
 ghost use Rattle.mm_defs.specs.Words.{is_lf};
 ghost use Rattle.mm_reader.specs.Inputs.{FailsByReadFault, OnCall};
 ghost use Rattle.mm_defs.specs.File.{Fault};
-ghost use Rattle.mm_defs.specs.Calls.{first_bad, FellShort, HasItsKind, IsAnswer, IsNear, IsRest, JudgesNoLine, LacksLf, RefusesRest, TakesAtMostOnePast, Tells};
+ghost use Rattle.mm_defs.specs.Calls.{first_bad, FellShort, HasItsKind, IsAnswer, IsNear, IsRest, JudgesNoLine, LacksLf, RefusesRest, TakesAtMostOnePast, IsAnswerTo};
 
 use crate::reader::matrix;
 use crate::rest::rest;
@@ -45,7 +45,15 @@ impl Input {
     /// Nothing was taken. The input may use so many bytes of its source in all, and takes at most one more, which shows
     /// that there are more. It takes memory for its buffer.
     pub fn new(alloc: Global, limit: u64) -> Result<Input, OutOfMemory>
-        ensures { IfOk result (λ input. input ≡ record { limit = limit; taken = 0; ahead = []; at_end = false; lines = 0; good = true }) }
+        ensures { IfOk result
+            (λ input. input ≡ record {
+              limit = limit;
+              taken = 0;
+              ahead = [];
+              at_end = false;
+              lines = 0;
+              good = true;
+            }) }
     {
         let buffer = new_buffer(alloc)?;
         Ok(Input {
@@ -110,8 +118,9 @@ pub fn read_matrix<S: Source>(
         IsAnswer end call (input.new.ahead ++ call.after) result) }
 
     // A bad line is answered, and the first one.
-    ensures bad { OnCall input.old (seen S.left S.faults source.old source.new) (λ call. (fault : Fault) →
-        first_bad end call ≡ Some fault → Tells fault result) }
+    ensures bad { OnCall input.old (seen S.left S.faults source.old source.new)
+        (λ call. (fault : Fault) →
+        first_bad end call ≡ Some fault → IsAnswerTo fault result) }
     ensures near { OnCall input.old (seen S.left S.faults source.old source.new) (λ call.
         IsNear call result) }
 
@@ -123,8 +132,9 @@ pub fn read_matrix<S: Source>(
         FellShort end call result) }
 
     // What is left is the end of what there was. At most one byte was taken past the limit, and at `TooLong` it was.
-    ensures gave { GivesFront (S.left source.old) (S.left source.new) }
-    ensures most { OnCall input.old (seen S.left S.faults source.old source.new) TakesAtMostOnePast }
+    ensures gave { GivesPrefix (S.left source.old) (S.left source.new) }
+    ensures most { OnCall input.old
+        (seen S.left S.faults source.old source.new) TakesAtMostOnePast }
     ensures most_taken { input.new.taken ≤ input.new.limit + 1 }
     ensures past { IsErrOf result ReadError.TooLong → input.new.taken ≡ input.new.limit + 1 }
 
@@ -138,13 +148,15 @@ pub fn read_matrix<S: Source>(
 
     // A read has given none where the file was read to its end, and where the last line used has no LF.
     ensures ended { OnOk result (end ≡ End.File → IsTrue input.new.at_end) }
-    ensures last_line { OnOk result (WhereTold (S.left source.old) (S.left source.new) (λ before after.
+    ensures last_line { OnOk result
+        (WhereKnown (S.left source.old) (S.left source.new) (λ before after.
         LacksLf (input.old.ahead ++ before) (input.new.ahead ++ after) → IsTrue input.new.at_end)) }
 
     // Whatever the answer is, the LFs of what was used were counted, and the bytes that were taken.
-    ensures lines { WhereTold (S.left source.old) (S.left source.new) (λ before after.
-        input.new.lines + count_by is_lf (input.new.ahead ++ after) ≡ input.old.lines + count_by is_lf (input.old.ahead ++ before)) }
-    ensures taken { WhereTold (S.left source.old) (S.left source.new) (λ before after.
+    ensures lines { WhereKnown (S.left source.old) (S.left source.new) (λ before after.
+        input.new.lines + count_by is_lf (input.new.ahead ++ after)
+        ≡ input.old.lines + count_by is_lf (input.old.ahead ++ before)) }
+    ensures taken { WhereKnown (S.left source.old) (S.left source.new) (λ before after.
         input.new.taken + length after ≡ input.old.taken + length before) }
 
     ensures good { IsTrue input.new.good ↔ IsOk result }
@@ -173,14 +185,16 @@ pub fn read_rest<S: Source>(
 
     // What each answer says of the bytes.
     ensures answer { OnCall input.old (seen S.left S.faults source.old source.new) (λ call.
-        MatchResult result (λ v. IsRest call (input.new.ahead ++ call.after) v.items) (RefusesRest call)) }
+        MatchResult result (λ v. IsRest call (input.new.ahead ++ call.after) v.items)
+        (RefusesRest call)) }
 
     // No line is judged.
     ensures unjudged { IfErr result JudgesNoLine }
 
     // What is left is the end of what there was. At most one byte was taken past the limit, and at `TooLong` it was.
-    ensures gave { GivesFront (S.left source.old) (S.left source.new) }
-    ensures most { OnCall input.old (seen S.left S.faults source.old source.new) TakesAtMostOnePast }
+    ensures gave { GivesPrefix (S.left source.old) (S.left source.new) }
+    ensures most { OnCall input.old
+        (seen S.left S.faults source.old source.new) TakesAtMostOnePast }
     ensures most_taken { input.new.taken ≤ input.new.limit + 1 }
     ensures past { IsErrOf result ReadError.TooLong → input.new.taken ≡ input.new.limit + 1 }
 
@@ -196,9 +210,10 @@ pub fn read_rest<S: Source>(
     ensures ended { OnOk result (IsTrue input.new.at_end) }
 
     // Whatever the answer is, the LFs of what was used were counted, and the bytes that were taken.
-    ensures lines { WhereTold (S.left source.old) (S.left source.new) (λ before after.
-        input.new.lines + count_by is_lf (input.new.ahead ++ after) ≡ input.old.lines + count_by is_lf (input.old.ahead ++ before)) }
-    ensures taken { WhereTold (S.left source.old) (S.left source.new) (λ before after.
+    ensures lines { WhereKnown (S.left source.old) (S.left source.new) (λ before after.
+        input.new.lines + count_by is_lf (input.new.ahead ++ after)
+        ≡ input.old.lines + count_by is_lf (input.old.ahead ++ before)) }
+    ensures taken { WhereKnown (S.left source.old) (S.left source.new) (λ before after.
         input.new.taken + length after ≡ input.old.taken + length before) }
 
     ensures good { IsTrue input.new.good ↔ IsOk result }

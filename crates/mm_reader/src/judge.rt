@@ -147,7 +147,8 @@ fn is_general(symmetry: Symmetry) -> bool
 
 /// Judges the numbers of the size line, of which the greatest stands for all that do not fit.
 fn limits(header: Header, rows: u64, cols: u64, count: u64) -> Result<Size, Kind>
-    ensures judged { (s : Size) → rows ≡ capped s.rows → cols ≡ capped s.cols → count ≡ capped s.count
+    ensures judged { (s : Size) → rows ≡ capped s.rows → cols ≡ capped s.cols
+        → count ≡ capped s.count
         → Judged (size_limits header s) s result }
     ensures within { IfOk result (IsWithin header) }
 {
@@ -253,7 +254,8 @@ pub fn judge_place(
 /// Judges the value, which is 0 where the field is not integer.
 fn value_of(field: Field, value: Option<Integer>) -> Result<i64, Kind>
     ensures judged { (w : Word) → (is_integer_field field ≡ true → ReadsInteger w value)
-        → Judged (value_rules field w) (if is_integer_field field then integer w else pos 0) result }
+        → Judged (value_rules field w)
+        (if is_integer_field field then integer w else pos 0) result }
     ensures none { IfOk result (λ v. is_integer_field field ≡ false → v ≡ pos 0) }
     ensures small { IfOk result (λ v. nat_abs v ≤ MAX_VALUE) }
 {
@@ -265,7 +267,8 @@ fn value_of(field: Field, value: Option<Integer>) -> Result<i64, Kind>
 
 /// Judges the value of an integer file.
 fn judge_integer(value: Option<Integer>) -> Result<i64, Kind>
-    ensures judged { (w : Word) → ReadsInteger w value → Judged (value_rules Field.Integer w) (integer w) result }
+    ensures judged { (w : Word) → ReadsInteger w value
+        → Judged (value_rules Field.Integer w) (integer w) result }
     ensures small { IfOk result (λ v. nat_abs v ≤ MAX_VALUE) }
 {
     let Integer { minus, magnitude } = match value {

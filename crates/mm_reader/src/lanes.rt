@@ -78,7 +78,8 @@ fn digits_at_once(bytes: &[u8], from: usize, count: usize) -> u64
 #[inline(always)]
 fn joined(word: u64) -> u64
     requires { word < 2 ^ 60 }
-    ensures { (ds : List ℕ) → length ds ≡ 8 → Each1 (λ d. d ≤ 9) ds → word ≡ number_l 256 ds → result ≡ number_from_digits 10 ds }
+    ensures { (ds : List ℕ) → length ds ≡ 8 → Each1 (λ d. d ≤ 9) ds → word ≡ number_l 256 ds
+        → result ≡ number_from_digits 10 ds }
 {
     let twos = (word * 10 + (word >> 8)) & 0x00ff_00ff_00ff_00ff;
     let fours = (twos * 100 + (twos >> 16)) & 0x0000_ffff_0000_ffff;

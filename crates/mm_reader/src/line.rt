@@ -53,7 +53,8 @@ impl Token {
 
     /// One more byte of the word.
     pub fn push(&mut self, byte: u8)
-        ensures { (b : ℕ) (bs : List ℕ) → self.old ≡ token_of (b ∷ bs) → self.new ≡ token_of ((b ∷ bs) ++ byte ∷ []) }
+        ensures { (b : ℕ) (bs : List ℕ) → self.old ≡ token_of (b ∷ bs)
+            → self.new ≡ token_of ((b ∷ bs) ++ byte ∷ []) }
     {
         self.text.push(byte);
         self.number.push(byte);
@@ -104,7 +105,8 @@ impl LineSoFar {
     /// A word begins.
     fn begin(&mut self, byte: u8)
         requires { is_blank byte ≡ false }
-        ensures { (line : List ℕ) → self.old.inside ≡ false → IsLine self.old.tokens self.old.count self.old.inside line
+        ensures { (line : List ℕ) → self.old.inside ≡ false
+            → IsLine self.old.tokens self.old.count self.old.inside line
             → IsLine self.new.tokens self.new.count self.new.inside (line ++ byte ∷ []) }
     {
         self.inside = true;
@@ -119,7 +121,8 @@ impl LineSoFar {
     /// The last word goes on.
     fn go_on(&mut self, byte: u8)
         requires { is_blank byte ≡ false }
-        ensures { (line : List ℕ) → self.old.inside ≡ true → IsLine self.old.tokens self.old.count self.old.inside line
+        ensures { (line : List ℕ) → self.old.inside ≡ true
+            → IsLine self.old.tokens self.old.count self.old.inside line
             → IsLine self.new.tokens self.new.count self.new.inside (line ++ byte ∷ []) }
     {
         if self.count == 0 {
@@ -148,7 +151,7 @@ impl LineSoFar {
         if self.count == 0 {
             return true;
         }
-        self.tokens[0].text.front() == b'%'
+        self.tokens[0].text.first() == b'%'
     }
 
     /// Whether a word is this text.

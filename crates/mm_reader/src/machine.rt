@@ -62,7 +62,8 @@ pub fn is_complete(end: End, phase: Phase) -> bool
 
 /// Line 1 has come.
 fn after_banner(line: &LineSoFar) -> Result<Phase, Stop>
-    ensures steps { (end : End) (bytes : List ℕ) (t : Entries) → IsLine line.now.tokens line.now.count line.now.inside bytes
+    ensures steps { (end : End) (bytes : List ℕ) (t : Entries)
+        → IsLine line.now.tokens line.now.count line.now.inside bytes
         → Steps end (bytes ∷ []) t result }
     ensures ready { (t : Entries) → IfOk result (λ phase. IsReady phase t) }
 {
@@ -80,8 +81,10 @@ fn after_size(
     number: u64,
     triples: &mut Triples,
 ) -> Result<Phase, Stop>
-    ensures steps { (end : End) (ls : List (List ℕ)) (bytes : List ℕ) → IsLine line.now.tokens line.now.count line.now.inside bytes
-        → HasBanner header ls → later_lines ls ≡ [] → line_faults end ls ≡ [] → number ≡ length ls + 1
+    ensures steps { (end : End) (ls : List (List ℕ)) (bytes : List ℕ)
+        → IsLine line.now.tokens line.now.count line.now.inside bytes
+        → HasBanner header ls → later_lines ls ≡ [] → line_faults end ls ≡ []
+        → number ≡ length ls + 1
         → Steps end (ls ++ bytes ∷ []) triples.new result }
     ensures ready { IfOk result (λ phase. IsReady phase triples.new) }
 {
@@ -113,8 +116,10 @@ fn after_entry(
     triples: &mut Triples,
 ) -> Result<Phase, Stop>
     requires { HasRoom header size done triples.old }
-    ensures steps { (end : End) (ls : List (List ℕ)) (bytes : List ℕ) → IsLine line.now.tokens line.now.count line.now.inside bytes
-        → HasBanner header ls → HasEntries header size done triples.old (later_lines ls) → line_faults end ls ≡ [] → number ≡ length ls + 1
+    ensures steps { (end : End) (ls : List (List ℕ)) (bytes : List ℕ)
+        → IsLine line.now.tokens line.now.count line.now.inside bytes
+        → HasBanner header ls → HasEntries header size done triples.old (later_lines ls)
+        → line_faults end ls ≡ [] → number ≡ length ls + 1
         → is_complete end (Phase.Entries header size done) ≡ false
         → Steps end (ls ++ bytes ∷ []) triples.new result }
     ensures ready { IfOk result (λ phase. IsReady phase triples.new) }
@@ -151,7 +156,9 @@ fn add(symmetry: Symmetry, entry: Entry, triples: &mut Triples) -> Result<(), Ou
     requires few { length triples.old.items < 4294967290 }
     requires value { is_integer_field triples.old.field ≡ false → entry.value ≡ pos 0 }
     requires small { nat_abs entry.value ≤ max_value }
-    ensures { OnOk result (triples.new ≡ with_entries triples.old (triple_of entry ∷ mirror symmetry (triple_of entry))) }
+    ensures { OnOk result
+        (triples.new ≡ with_entries triples.old
+        (triple_of entry ∷ mirror symmetry (triple_of entry))) }
 {
     let Entry { row, col, value } = entry;
     triples.push(row, col, value)?;
@@ -205,7 +212,8 @@ fn next_phase(
     triples: &mut Triples,
 ) -> Result<Phase, Stop>
     requires { IsReady phase triples.old }
-    ensures steps { (end : End) (ls : List (List ℕ)) (bytes : List ℕ) → IsLine line.now.tokens line.now.count line.now.inside bytes
+    ensures steps { (end : End) (ls : List (List ℕ)) (bytes : List ℕ)
+        → IsLine line.now.tokens line.now.count line.now.inside bytes
         → HasLines end phase triples.old ls → number ≡ length ls + 1 → is_complete end phase ≡ false
         → Steps end (ls ++ bytes ∷ []) triples.new result }
     ensures ready { IfOk result (λ next. IsReady next triples.new) }
@@ -226,9 +234,12 @@ fn end_line(alloc: Global, m: &mut Machine) -> Result<(), Stop>
     ensures ready { OnOk result (IsReady m.new.phase m.new.triples) }
     ensures number { OnOk result (begun_lines m.new ≡ m.old.number + 1) }
     ensures closed { OnOk result (m.new.begun ≡ false) }
-    ensures steps { (end : End) (ls : List (List ℕ)) (bytes : List ℕ) → IsLine m.old.line.tokens m.old.line.count m.old.line.inside bytes
-        → HasLines end m.old.phase m.old.triples ls → m.old.number ≡ length ls → is_complete end m.old.phase ≡ false
-        → MatchResult result (λ _. IsBetween end m.new (ls ++ bytes ∷ [])) (StopsAt end (ls ++ bytes ∷ [])) }
+    ensures steps { (end : End) (ls : List (List ℕ)) (bytes : List ℕ)
+        → IsLine m.old.line.tokens m.old.line.count m.old.line.inside bytes
+        → HasLines end m.old.phase m.old.triples ls → m.old.number ≡ length ls
+        → is_complete end m.old.phase ≡ false
+        → MatchResult result (λ _. IsBetween end m.new (ls ++ bytes ∷ []))
+        (StopsAt end (ls ++ bytes ∷ [])) }
 {
     let number = m.number + 1;
     let phase = match next_phase(alloc, m.phase, &m.line, number, &mut m.triples) {
@@ -248,9 +259,13 @@ fn take(alloc: Global, m: &mut Machine, byte: u8) -> Result<(), Stop>
     requires room { begun_lines m.old < 2 ^ 64 - 1 }
     ensures ready { OnOk result (IsReady m.new.phase m.new.triples) }
     ensures number { OnOk result (begun_lines m.new ≤ begun_lines m.old + 1) }
-    ensures steps { (end : End) (bytes : List ℕ) → IsAfter end m.old bytes → is_complete end m.old.phase ≡ false
-        → MatchResult result (λ _. IsAfter end m.new (bytes ++ byte ∷ [])) (StopsIn end (bytes ++ byte ∷ [])) }
-    ensures open { (end : End) → OnOk result (is_complete end m.old.phase ≡ false → is_complete end m.new.phase ≡ true → m.new.begun ≡ false) }
+    ensures steps { (end : End) (bytes : List ℕ) → IsAfter end m.old bytes
+        → is_complete end m.old.phase ≡ false
+        → MatchResult result (λ _. IsAfter end m.new (bytes ++ byte ∷ []))
+        (StopsIn end (bytes ++ byte ∷ [])) }
+    ensures open { (end : End)
+        → OnOk result (is_complete end m.old.phase ≡ false → is_complete end m.new.phase ≡ true
+        → m.new.begun ≡ false) }
 {
     if byte == b'\n' {
         return end_line(alloc, m);
@@ -285,8 +300,10 @@ fn after_plain(
 ) -> Result<Phase, Stop>
     requires room { HasRoom header size done triples.old }
     requires low { done < size.count }
-    ensures steps { (end : End) (ls : List (List ℕ)) (piece : List ℕ) (at : ℕ) (p : IsPlainLine header.field piece at plain)
-        → HasBanner header ls → HasEntries header size done triples.old (later_lines ls) → line_faults end ls ≡ [] → number ≡ length ls + 1
+    ensures steps { (end : End) (ls : List (List ℕ)) (piece : List ℕ) (at : ℕ)
+        (p : IsPlainLine header.field piece at plain)
+        → HasBanner header ls → HasEntries header size done triples.old (later_lines ls)
+        → line_faults end ls ≡ [] → number ≡ length ls + 1
         → Steps end (ls ++ p.line ∷ []) triples.new result }
     ensures ready { IfOk result (λ phase. IsReady phase triples.new) }
     ensures phase { IfOk result (λ phase. phase ≡ Phase.Entries header size (done + 1)) }
@@ -374,7 +391,8 @@ pub fn feed(alloc: Global, m: &mut Machine, end: End, piece: &[u8]) -> Result<us
     ensures whole { IfOk result (λ n. is_complete end m.new.phase ≡ false → n ≡ length piece.now) }
     ensures closed { OnOk result (is_complete end m.new.phase ≡ true → m.new.begun ≡ false) }
     ensures steps { (bytes : List ℕ) → IsAfter end m.old bytes
-        → MatchResult result (λ n. IsAfter end m.new (bytes ++ take n piece.now)) (StopsWithin end bytes piece.now) }
+        → MatchResult result (λ n. IsAfter end m.new (bytes ++ take n piece.now))
+        (StopsWithin end bytes piece.now) }
 {
     let mut at = 0;
     while at < piece.len() {
@@ -393,7 +411,8 @@ pub fn feed(alloc: Global, m: &mut Machine, end: End, piece: &[u8]) -> Result<us
 pub fn finish(alloc: Global, m: &mut Machine) -> Result<(), Stop>
     requires ready { IsReady m.old.phase m.old.triples }
     requires room { begun_lines m.old < 2 ^ 64 }
-    ensures { (end : End) (bytes : List ℕ) → IsAfter end m.old bytes → is_complete end m.old.phase ≡ false
+    ensures { (end : End) (bytes : List ℕ) → IsAfter end m.old bytes
+        → is_complete end m.old.phase ≡ false
         → MatchResult result (λ _. Reads bytes end m.new.triples []) (StopsAtEnd end bytes) }
 {
     if !m.begun {
@@ -407,7 +426,8 @@ pub fn finish(alloc: Global, m: &mut Machine) -> Result<(), Stop>
 
 /// What is missing at the end of the input.
 fn missing(phase: Phase, number: u64) -> Result<(), Stop>
-    ensures { (end : End) (t : Entries) (ls : List (List ℕ)) → HasLines end phase t ls → number ≡ length ls
+    ensures { (end : End) (t : Entries) (ls : List (List ℕ)) → HasLines end phase t ls
+        → number ≡ length ls
         → MatchResult result (λ _. IsAll end phase t ls) (Lacks end ls) }
 {
     match phase {

@@ -44,7 +44,8 @@ impl Number {
 
     /// One more byte of the word.
     pub fn push(&mut self, byte: u8)
-        ensures { (b : ℕ) (bs : List ℕ) → self.old ≡ number_facts (b ∷ bs) → self.new ≡ number_facts ((b ∷ bs) ++ byte ∷ []) }
+        ensures { (b : ℕ) (bs : List ℕ) → self.old ≡ number_facts (b ∷ bs)
+            → self.new ≡ number_facts ((b ∷ bs) ++ byte ∷ []) }
     {
         self.take(byte);
     }

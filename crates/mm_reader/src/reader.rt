@@ -2,7 +2,7 @@
 
 ghost use Rattle.std.specs.Prelude.{◌≡◌, ◌<◌, ◌+◌, ◌++◌, ◌^◌, ℕ, List, false, length, IfOk, IfErr, MatchResult, OnOk, IsTrue, []};
 ghost use Rattle.std.specs.Result.{IsErrOf};
-ghost use Rattle.sp_ports.specs.Bytes.{GivesFront, IsAtEnd, WhereTold};
+ghost use Rattle.sp_ports.specs.Bytes.{GivesPrefix, IsAtEnd, WhereKnown};
 ghost use Rattle.sp_ports.specs.Device.{seen};
 ghost use Rattle.mm_defs.specs.File.{Reads};
 ghost use Rattle.mm_defs.specs.Calls.{HasItsKind, LacksLf, TakesAtMostOnePast};
@@ -46,7 +46,8 @@ fn consume(alloc: Global, m: &mut Machine, end: End, window: &mut Window) -> Res
     ensures ok { IfOk result (Consumes end window.old window.new m.old m.new) }
     ensures used { UsesSome window.old window.new }
     ensures past { IsErrOf result ReadError.TooLong → IsOnePast window.new }
-    ensures err { (bytes : List ℕ) → IsAfter end m.old bytes → IfErr result (Refuses end bytes (ahead_of window.old) window.old.room) }
+    ensures err { (bytes : List ℕ) → IsAfter end m.old bytes
+        → IfErr result (Refuses end bytes (ahead_of window.old) window.old.room) }
 {
     if (window.to - window.from) as u64 > window.room {
         return consume_to_limit(alloc, m, end, window);
@@ -78,7 +79,8 @@ fn consume_to_limit(
     ensures ok { IfOk result (Consumes end window.old window.new m.old m.new) }
     ensures used { UsesSome window.old window.new }
     ensures past { IsErrOf result ReadError.TooLong → IsOnePast window.new }
-    ensures err { (bytes : List ℕ) → IsAfter end m.old bytes → IfErr result (Refuses end bytes (ahead_of window.old) window.old.room) }
+    ensures err { (bytes : List ℕ) → IsAfter end m.old bytes
+        → IfErr result (Refuses end bytes (ahead_of window.old) window.old.room) }
 {
     let to = window.from + window.room as usize;
     let before = m.number;
@@ -125,21 +127,25 @@ pub fn matrix<S: Source>(
 ) -> Result<Triples, ReadError>
     requires window { IsWindow window.old }
     requires at_end { IsTrue window.old.at_end → IsAtEnd (S.left source.old) }
-    ensures told { OnCallOf window.old (seen S.left S.faults source.old source.new) (λ call.
+    ensures known { OnCallOf window.old (seen S.left S.faults source.old source.new) (λ call.
         Answers end call window.new result) }
     ensures kind { HasItsKind result }
-    ensures gave { GivesFront (S.left source.old) (S.left source.new) }
-    ensures most { OnCallOf window.old (seen S.left S.faults source.old source.new) TakesAtMostOnePast }
+    ensures gave { GivesPrefix (S.left source.old) (S.left source.new) }
+    ensures most { OnCallOf window.old
+        (seen S.left S.faults source.old source.new) TakesAtMostOnePast }
     ensures cause { FailsByReadFault (seen S.left S.faults source.old source.new) result }
-    ensures counted { WhereTold (S.left source.old) (S.left source.new) (λ before after. HasCounted window.old window.new before after) }
+    ensures counted { WhereKnown (S.left source.old) (S.left source.new)
+        (λ before after. HasCounted window.old window.new before after) }
     ensures past { IsErrOf result ReadError.TooLong → IsOnePast window.new }
     ensures window { KeepsWindow window.old window.new }
     ensures at_end { IsTrue window.new.at_end → IsAtEnd (S.left source.new) }
     ensures unasked { IsTrue window.old.at_end → source.new ≡ source.old }
     ensures stays { IsTrue window.old.at_end → IsTrue window.new.at_end }
     ensures ended { OnOk result (end ≡ End.File → IsTrue window.new.at_end) }
-    ensures last_line { OnOk result (WhereTold (S.left source.old) (S.left source.new) (λ before after.
-        LacksLf (ahead_of window.old ++ before) (ahead_of window.new ++ after) → IsTrue window.new.at_end)) }
+    ensures last_line { OnOk result
+        (WhereKnown (S.left source.old) (S.left source.new) (λ before after.
+        LacksLf (ahead_of window.old ++ before) (ahead_of window.new ++ after)
+        → IsTrue window.new.at_end)) }
 {
     let mut m = match start(alloc) {
         Err(_) => return Err(ReadError::OutOfMemory),

@@ -3,7 +3,7 @@
 ghost use Rattle.std.specs.Prelude.{◌≡◌, ◌≤◌, ◌<◌, ◌+◌, ◌++◌, length, IfErr, MatchResult, OnErr, OnOk, IsTrue};
 ghost use Rattle.std.specs.List.{count_by};
 ghost use Rattle.std.specs.Result.{IsErrOf};
-ghost use Rattle.sp_ports.specs.Bytes.{GivesFront, IsAtEnd, WhereTold};
+ghost use Rattle.sp_ports.specs.Bytes.{GivesPrefix, IsAtEnd, WhereKnown};
 ghost use Rattle.sp_ports.specs.Device.{seen};
 ghost use Rattle.mm_defs.specs.Words.{is_lf};
 ghost use Rattle.mm_defs.specs.Calls.{IsRest, JudgesNoLine, RefusesRest, TakesAtMostOnePast};
@@ -54,13 +54,16 @@ pub fn rest<S: Source>(
 ) -> Result<Vec<u8>, ReadError>
     requires window { IsWindow window.old }
     requires at_end { IsTrue window.old.at_end → IsAtEnd (S.left source.old) }
-    ensures told { OnCallOf window.old (seen S.left S.faults source.old source.new) (λ call.
-        MatchResult result (λ v. IsRest call (ahead_of window.new ++ call.after) v.items) (RefusesRest call)) }
+    ensures known { OnCallOf window.old (seen S.left S.faults source.old source.new) (λ call.
+        MatchResult result (λ v. IsRest call (ahead_of window.new ++ call.after) v.items)
+        (RefusesRest call)) }
     ensures unjudged { IfErr result JudgesNoLine }
-    ensures gave { GivesFront (S.left source.old) (S.left source.new) }
-    ensures most { OnCallOf window.old (seen S.left S.faults source.old source.new) TakesAtMostOnePast }
+    ensures gave { GivesPrefix (S.left source.old) (S.left source.new) }
+    ensures most { OnCallOf window.old
+        (seen S.left S.faults source.old source.new) TakesAtMostOnePast }
     ensures cause { FailsByReadFault (seen S.left S.faults source.old source.new) result }
-    ensures counted { WhereTold (S.left source.old) (S.left source.new) (λ before after. HasCounted window.old window.new before after) }
+    ensures counted { WhereKnown (S.left source.old) (S.left source.new)
+        (λ before after. HasCounted window.old window.new before after) }
     ensures past { IsErrOf result ReadError.TooLong → IsOnePast window.new }
     ensures window { KeepsWindow window.old window.new }
     ensures at_end { IsTrue window.new.at_end → IsAtEnd (S.left source.new) }

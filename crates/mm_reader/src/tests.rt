@@ -387,7 +387,7 @@ fn refused_at(
 }
 
 #[test]
-fn bad_values_are_told(rt: HostRuntime) -> Result<(), Fail> {
+fn bad_values_are_known(rt: HostRuntime) -> Result<(), Fail> {
     let alloc = rt.alloc();
     let real = b"%%MatrixMarket matrix coordinate real general\n9 9 9\n9 9 .5\n".as_slice();
     let complex = b"%%MatrixMarket matrix coordinate complex general\n9 9 9\n9 9 1 0\n".as_slice();
@@ -415,7 +415,7 @@ fn bad_values_are_told(rt: HostRuntime) -> Result<(), Fail> {
 }
 
 #[test]
-fn bad_integers_are_told(rt: HostRuntime) -> Result<(), Fail> {
+fn bad_integers_are_known(rt: HostRuntime) -> Result<(), Fail> {
     let alloc = rt.alloc();
     let integer = b"%%MatrixMarket matrix coordinate integer skew-symmetric\n9 9 9\n9 8 7\n";
     let table = [
@@ -448,7 +448,7 @@ fn bad_integers_are_told(rt: HostRuntime) -> Result<(), Fail> {
 }
 
 #[test]
-fn the_first_bad_line_is_told(rt: HostRuntime) -> Result<(), Fail> {
+fn the_first_bad_line_is_reported(rt: HostRuntime) -> Result<(), Fail> {
     let alloc = rt.alloc();
     let table = [
         (b"1 1 1\n2 1\n".as_slice(), 3, Kind::RowRange),

@@ -48,7 +48,7 @@ impl Text {
     }
 
     /// The first byte, or 0 where there is none.
-    pub fn front(&self) -> u8
+    pub fn first(&self) -> u8
         ensures { result ≡ slice_index self.now 0 }
     {
         if self.len == 0 { 0 } else { self.bytes[0] }

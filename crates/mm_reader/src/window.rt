@@ -63,12 +63,13 @@ fn most_wanted(room: u64) -> usize
     BUFFER
 }
 
-/// Reads at most so many bytes into the front of the buffer.
+/// Reads at most so many bytes into the start of the buffer.
 fn read_some<S: Source>(source: &mut S, buffer: &mut [u8], most: usize) -> Result<usize, Failed>
     requires some { 0 < most }
     requires fits { most ≤ length buffer.old }
     ensures bound { IfOk result (λ k. k ≤ most) }
-    ensures bytes { IfOk result (λ k. Gives (S.left source.old) (S.left source.new) (take k buffer.new)) }
+    ensures bytes { IfOk result
+        (λ k. Gives (S.left source.old) (S.left source.new) (take k buffer.new)) }
     ensures end { IfOk result (λ k. k ≡ 0 → IsAtEnd (S.left source.new)) }
     ensures kept { OnErr result (S.left source.new ≡ S.left source.old) }
     ensures cause { FailsByReads (seen S.left S.faults source.old source.new) result }
@@ -80,7 +81,8 @@ fn read_some<S: Source>(source: &mut S, buffer: &mut [u8], most: usize) -> Resul
 pub fn refill<S: Source>(window: &mut Window, source: &mut S) -> Result<usize, Failed>
     requires window { IsWindow window.old }
     ensures window { IsWindow window.new }
-    ensures bytes { IfOk result (λ k. Gives (S.left source.old) (S.left source.new) (ahead_of window.new)) }
+    ensures bytes { IfOk result
+        (λ k. Gives (S.left source.old) (S.left source.new) (ahead_of window.new)) }
     ensures count { IfOk result (λ k. k ≡ length (ahead_of window.new)) }
     ensures some { IfOk result (λ k. IsFalse window.new.at_end → 0 < k) }
     ensures end { IfOk result (λ k. IsTrue window.new.at_end → IsAtEnd (S.left source.new)) }

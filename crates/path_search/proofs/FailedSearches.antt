@@ -1,25 +1,23 @@
 -- What a failed search, and a search whose marks were taken away, leave of the marks.
-use Rattle.std.proofs.Common.{◌≡◌, ◌∙◌, ℕ, zero, suc, Bool, true, false, List, [], ◌∷◌, length, slice_index_or, refl, sym, ap, subst, ⊎_elim, arith}
-use Rattle.bip_defs.specs.Lists.{Among, IsMarked}
-use Rattle.bip_defs.specs.Marks.{AreClosed, IsExplored}
+use Rattle.std.proofs.Common.{◌≡◌, ◌∙◌, ℕ, zero, suc, Bool, true, false, List, [], ◌∷◌, length, slice_index_or, refl, sym, ap, ⊎_elim, arith}
 use Rattle.bip_defs.specs.Matrix.{Matrix, Place}
 use Rattle.bip_defs.proofs.Sets.{number_among}
 use Rattle.path_search.specs.Search.{Exhausts, Fails, HasMarked, Unmarks}
 use Rattle.path_search.proofs.MarkLemmas.{Grows, explored_grows}
 
-marked_grows_to : (seen : List ℕ) (old new : List Bool) → HasMarked seen old new → Grows old new
-marked_grows_to seen old new k r h = ⊎_elim (λ g. k.marked r g) (λ g. k.others r g ∙ h) (number_among r seen)
+marked_grows_to : (visited : List ℕ) (old new : List Bool) → HasMarked visited old new → Grows old new
+marked_grows_to visited old new k r h = ⊎_elim (λ g. k.marked r g) (λ g. k.others r g ∙ h) (number_among r visited)
 
 -- the rows that a failed search has marked lead nowhere
-pub search_failed : (a : Matrix) (m : List Place) (seen : List ℕ) (old new : List Bool) (root : ℕ) → HasMarked seen old new → Exhausts a m new seen root → Fails a m old new root
-search_failed a m seen old new root k spent = record {
+pub search_failed : (a : Matrix) (m : List Place) (visited : List ℕ) (old new : List Bool) (root : ℕ) → HasMarked visited old new → Exhausts a m new visited root → Fails a m old new root
+search_failed a m visited old new root k spent = record {
   marked = grows;
-  closed = λ closed r h. ⊎_elim (λ g. spent.of_mates r g) (λ g. let (d, p, explored) = closed r (sym (k.others r g) ∙ h) in (d, p, explored_grows a old new d grows explored)) (number_among r seen);
+  closed = λ closed r h. ⊎_elim (λ g. spent.of_mates r g) (λ g. let (d, p, explored) = closed r (sym (k.others r g) ∙ h) in (d, p, explored_grows a old new d grows explored)) (number_among r visited);
   of_root = spent.of_root;
 }
   where
     grows : Grows old new
-    grows = marked_grows_to seen old new k
+    grows = marked_grows_to visited old new k
 
 -- lists of one length that have the same at each place
 same_marks : (xs ys : List Bool) → length xs ≡ length ys → ((r : ℕ) → slice_index_or xs r false ≡ slice_index_or ys r false) → xs ≡ ys
@@ -29,8 +27,8 @@ same_marks (x ∷ xs) [] e same = absurd (omega arith)
 same_marks (x ∷ xs) (y ∷ ys) e same = ap (λ (b : Bool). b ∷ xs) (same zero) ∙ ap (λ (zs : List Bool). y ∷ zs) (same_marks xs ys (omega arith) (λ r. same (suc r)))
 
 -- the marks are those from before the search
-pub marks_restored : (seen : List ℕ) (start old new : List Bool) → HasMarked seen start old → Unmarks seen old new → new ≡ start
-marks_restored seen start old new k u = same_marks new start (u.size ∙ k.size) (λ r. ⊎_elim (λ g. unmarked (slice_index_or new r false) (slice_index_or start r false) (u.gone r g) (k.fresh r g)) (λ g. u.others r g ∙ k.others r g) (number_among r seen))
+pub marks_restored : (visited : List ℕ) (start old new : List Bool) → HasMarked visited start old → Unmarks visited old new → new ≡ start
+marks_restored visited start old new k u = same_marks new start (u.size ∙ k.size) (λ r. ⊎_elim (λ g. unmarked (slice_index_or new r false) (slice_index_or start r false) (u.gone r g) (k.fresh r g)) (λ g. u.others r g ∙ k.others r g) (number_among r visited))
   where
     unmarked : (x y : Bool) → ¬ (x ≡ true) → ¬ (y ≡ true) → x ≡ y
     unmarked true y nx ny = absurd (nx refl)

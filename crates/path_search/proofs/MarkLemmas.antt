@@ -37,12 +37,12 @@ pub marks_none : (marks : List Bool) → HasMarked [] marks marks
 marks_none marks = record { size = refl; fresh = λ r h. absurd h; marked = λ r h. absurd h; others = λ r h. refl }
 
 -- one row more
-pub marks_more : (seen : List ℕ) (start now : List Bool) (r : ℕ) → r < length now → ¬ IsMarked now r → HasMarked seen start now → HasMarked (seen ++ r ∷ []) start (set now r true)
-marks_more seen start now r lt un k = record {
+pub marks_more : (visited : List ℕ) (start now : List Bool) (r : ℕ) → r < length now → ¬ IsMarked now r → HasMarked visited start now → HasMarked (visited ++ r ∷ []) start (set now r true)
+marks_more visited start now r lt un k = record {
   size = length-set now r true ∙ k.size;
-  fresh = λ x h. ⊎_elim (λ g. k.fresh x g) (λ (e : x ≡ r). λ s. ⊎_elim (λ g. un (k.marked r g)) (λ g. un (k.others r g ∙ subst (λ y. IsMarked start y) e s)) (number_among r seen)) (among_last x r seen h);
-  marked = λ x h. ⊎_elim (λ g. marked_grows now r lt x (k.marked x g)) (λ (e : x ≡ r). subst (λ y. IsMarked (set now r true) y) (sym e) (marked_now now r lt)) (among_last x r seen h);
-  others = λ x nh. unmoved now r x (λ (e : x ≡ r). nh (among_right x seen (r ∷ []) (inl e))) ∙ k.others x (λ g. nh (among_left x seen (r ∷ []) g));
+  fresh = λ x h. ⊎_elim (λ g. k.fresh x g) (λ (e : x ≡ r). λ s. ⊎_elim (λ g. un (k.marked r g)) (λ g. un (k.others r g ∙ subst (λ y. IsMarked start y) e s)) (number_among r visited)) (among_last x r visited h);
+  marked = λ x h. ⊎_elim (λ g. marked_grows now r lt x (k.marked x g)) (λ (e : x ≡ r). subst (λ y. IsMarked (set now r true) y) (sym e) (marked_now now r lt)) (among_last x r visited h);
+  others = λ x nh. unmoved now r x (λ (e : x ≡ r). nh (among_right x visited (r ∷ []) (inl e))) ∙ k.others x (λ g. nh (among_left x visited (r ∷ []) g));
 }
 
 -- HasMarked that are taken away.

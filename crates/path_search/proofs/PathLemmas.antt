@@ -1,138 +1,126 @@
--- The path that a tree has found, from its end on.
-use Rattle.std.proofs.Common.{◌≡◌, ◌⊎◌, ◌∙◌, ℕ, ◌<◌, List, [], ◌∷◌, ◌++◌, length, reverse, refl, sym, ap, subst, inl, inr, ⊎_elim, arith}
-use Rattle.std.proofs.lemmas.List.{length-map, length-reverse, reverse-append}
+-- The path that a tree has found, followed back over the queue.
+use Rattle.std.proofs.Common.{◌≡◌, ◌⊎◌, ◌∙◌, ℕ, zero, suc, ◌<◌, ◌≤◌, List, [], ◌∷◌, length, slice_index_or, refl, sym, ap, subst, inl, inr, ⊎_elim, arith}
+use Rattle.std.proofs.lemmas.List.{get_or_default, length-map}
 use Rattle.bip_defs.specs.Lists.{Among, AreDistinct}
 use Rattle.bip_defs.specs.Matching.{IsMatching, cols_of, rows_of}
-use Rattle.bip_defs.specs.Matrix.{AreEntries, IsEntry, Matrix, Place, cols}
-use Rattle.bip_defs.specs.Paths.{Alternates, BeginsUnmatched}
-use Rattle.bip_defs.proofs.Sets.{col_among, one_col, one_row, row_among, row_pair}
-use Rattle.path_search.specs.Forests.{IsFound, IsForest, IsLeafOf, Traces, Trees, reached_at, reached_cols}
-use Rattle.path_search.specs.declared.reached.Reached.{Reached}
+use Rattle.bip_defs.specs.Matrix.{IsEntry, Matrix, Place, cols}
+use Rattle.bip_defs.specs.Paths.{IsAugmenting}
 use Rattle.bip_defs.proofs.Full.{few_below}
+use Rattle.bip_defs.proofs.Sets.{col_among, col_pair, number_among, one_col, one_row, place_among, row_pair}
+use Rattle.bip_graph.specs.Matching.{IsMatchingOf, Pairing}
+use Rattle.bip_graph.specs.Parents.{AreTrees, HasDepth, IsAncestor, IsTraced, child, itself, parent, root}
+use Rattle.path_search.specs.Forests.{AreRooted, HasParent, IsFound, IsForest, IsLeafOf, IsRooted, Traces, Trees, reached_at, reached_cols}
+use Rattle.path_search.specs.declared.reached.Reached.{Reached}
 use Rattle.path_search.proofs.Queues.{one_place}
 
--- the first pair's column
-abbrev pub HasHead : ℕ → List Place → Type 0
-HasHead c [] = ⊥
-HasHead c (p ∷ path) = p.1 ≡ c
+-- what was reached, at its place
+reached_place : (q : List Reached) (x : Reached) → Among x q → (i : ℕ) × (i < length q) × (reached_at q i ≡ x)
+reached_place q x h = place_among x (record { col = 0; from = 0; root = 0 }) q h
 
--- the row is the path's last, or its mate stands in the tree behind the place
-abbrev pub IsBehind : List Place → List Reached → ℕ → ℕ → ℕ → ℕ → Type 0
-IsBehind m q root leaf place r = (r ≡ leaf) ⊎ ((i : ℕ) × (place < i) × (i < length q) × ((reached_at q i).root ≡ root) × Among (r, (reached_at q i).col) m)
+-- what is read at a place within the queue
+pub read_at : (q : List Reached) (i : ℕ) (x : Reached) → x ≡ slice_index_or q i x → i < length q → x ≡ reached_at q i
+read_at q i x e lt = e ∙ get_or_default q i x (record { col = 0; from = 0; root = 0 }) lt
 
--- a path from the column at the place to an unmatched row
-pub record IsBack (a : Matrix) (m : List Place) (q : List Reached) (root leaf place : ℕ) (path : List Place) : Type 0 where
-  pub within : place < length q
-  pub tree : (reached_at q place).root ≡ root
-  pub head : HasHead (reached_at q place).col path
-  pub alternates : Alternates m path
-  pub entries : AreEntries a path
-  pub rows_differ : AreDistinct (rows_of path)
-  pub behind : (r : ℕ) → Among r (rows_of path) → IsBehind m q root leaf place r
+pub read_any : (q : List Reached) (i : ℕ) (x : Reached) → i < length q → reached_at q i ≡ slice_index_or q i x
+read_any q i x lt = get_or_default q i (record { col = 0; from = 0; root = 0 }) x lt
 
-back_start : (a : Matrix) (m : List Place) (q : List Reached) (root leaf place : ℕ) → place < length q → (reached_at q place).root ≡ root → IsEntry a leaf (reached_at q place).col → ¬ Among leaf (rows_of m) → IsBack a m q root leaf place ((leaf, (reached_at q place).col) ∷ [])
-back_start a m q root leaf place lt tree entry free = record {
-  within = lt;
-  tree = tree;
-  head = refl;
-  alternates = free;
-  entries = λ r c h. ⊎_elim (λ (e : (r, c) ≡ (leaf, (reached_at q place).col)). subst (λ (p : Place). IsEntry a p.0 p.1) (sym e) entry) (λ k. absurd k) h;
-  rows_differ = (λ h. h, tt);
-  behind = λ r h. ⊎_elim (λ (e : r ≡ leaf). inl e) (λ k. absurd k) h;
-}
-
--- a pair more in front of the path
-alternates_more : (m : List Place) (r c d : ℕ) (path : List Place) → HasHead d path → Among (r, d) m → Alternates m path → Alternates m ((r, c) ∷ path)
-alternates_more m r c d [] head h alt = absurd head
-alternates_more m r c d (s ∷ path) head h alt = (subst (λ x. Among {X = Place} (r, x) m) (sym head) h, alt)
-
--- the mate of the column at the place, and the column that led there
-back_more : (a : Matrix) (m : List Place) (q : List Reached) (root leaf place row : ℕ) (path : List Place) → IsMatching a m → AreDistinct (reached_cols q) → IsFound a m q place → ¬ Among root (cols_of m) → ¬ Among leaf (rows_of m) → IsBack a m q root leaf place path → Among (row, (reached_at q place).col) m → ((reached_at q place).from < place) × IsBack a m q root leaf (reached_at q place).from ((row, (reached_at q (reached_at q place).from).col) ∷ path)
-back_more a m q root leaf place row path k differ found no_root no_leaf b mate = by found
-  where
-    new : ¬ Among row (rows_of path)
-    new h = ⊎_elim (λ (e : row ≡ leaf). no_leaf (subst (λ x. Among x (rows_of m)) e (row_among row (reached_at q place).col m mate))) (λ (i, later, within, tree, pair). let e = one_place q place i differ b.within within (one_col m k.rows_differ row (reached_at q place).col (reached_at q i).col mate pair) in absurd (omega arith)) (b.behind row h)
-
-    by : IsFound a m q place → ((reached_at q place).from < place) × IsBack a m q root leaf (reached_at q place).from ((row, (reached_at q (reached_at q place).from).col) ∷ path)
-    by (inl e) = absurd (no_root (subst (λ x. Among x (cols_of m)) (e ∙ b.tree) (col_among row (reached_at q place).col m mate)))
-    by (inr (earlier, tree, r, pair, entry)) =
-        let same : r ≡ row = one_row m k.cols_differ r row (reached_at q place).col pair mate in (
-          earlier,
-          record {
-            within = (let lt = b.within in omega arith);
-            tree = tree ∙ b.tree;
-            head = refl;
-            alternates = alternates_more m row (reached_at q (reached_at q place).from).col (reached_at q place).col path b.head mate b.alternates;
-            entries = λ t c h. ⊎_elim (λ (e : (t, c) ≡ (row, (reached_at q (reached_at q place).from).col)). subst (λ (p : Place). IsEntry a p.0 p.1) (sym e) (subst (λ x. IsEntry a x (reached_at q (reached_at q place).from).col) same entry)) (λ g. b.entries t c g) h;
-            rows_differ = (new, b.rows_differ);
-            behind = λ t h. ⊎_elim (λ (e : t ≡ row). inr (place, earlier, b.within, b.tree, subst (λ x. Among {X = Place} (x, (reached_at q place).col) m) (sym e) mate)) (λ g. ⊎_elim (λ (e : t ≡ leaf). inl e) (λ (i, later, within, of, pair). inr (i, (let lt = later in omega arith), within, of, pair)) (b.behind t g)) h;
-          },
-        )
-
--- the path has come to an unmatched column
-back_end : (a : Matrix) (m : List Place) (q : List Reached) (root leaf place : ℕ) (path : List Place) → IsFound a m q place → IsBack a m q root leaf place path → ¬ Among (reached_at q place).col (cols_of m) → Traces a m q root leaf path
-back_end a m q root leaf place path found b free = record {
-  augmenting = record { begins = begins path b.head; alternates = b.alternates; rows_differ = b.rows_differ };
-  entries = b.entries;
-  from_root = from path b.head;
-  in_tree = λ r h. ⊎_elim (λ (e : r ≡ leaf). inl e) (λ (i, later, within, tree, pair). inr (i, within, tree, pair)) (b.behind r h);
+pub forest_rooted : (a : Matrix) (m : Pairing) (t : Trees) → IsMatchingOf a m → IsForest a m.pairs t → AreRooted m t.queue
+forest_rooted a m t k f = record {
+  in_range = λ x h. let (i, lt, e) = reached_place t.queue x h in rw k.cols (subst (λ (y : Reached). y.col < cols a) e (f.in_range i lt).0);
+  distinct = f.cols_differ;
+  rooted = λ i lt free. rooted i (f.found i lt free);
 }
   where
-    begins : (ps : List Place) → HasHead (reached_at q place).col ps → BeginsUnmatched m ps
-    begins [] h = absurd h
-    begins (p ∷ ps) h = subst (λ c. ¬ Among c (cols_of m)) (sym h) free
+    rooted : (i : ℕ) → IsFound a m.pairs t.queue i → IsRooted t.queue i
+    rooted i (inl e) = inl e
+    rooted i (inr (before, tree, r, pair, entry)) = inr (before, tree)
 
-    at_root : IsFound a m q place → (reached_at q place).col ≡ root
-    at_root (inl e) = e ∙ b.tree
-    at_root (inr (earlier, tree, r, pair, entry)) = absurd (free (col_among r (reached_at q place).col m pair))
+pub rooted_trees : (m : List Place) (q : List Reached) → AreDistinct (rows_of m) → AreDistinct (cols_of m) → AreDistinct (reached_cols q) → AreTrees m (HasParent m q)
+rooted_trees m q rows columns differ = record {
+  rows_differ = rows;
+  cols_differ = columns;
+  one_parent = λ r c d (i, in_i, free, p, before, tree, e) (j, in_j, free2, s, before2, tree2, f). sym e ∙ ap (λ n. (reached_at q (reached_at q n).from).col) (one_place q i j differ in_i in_j (one_col m rows r (reached_at q i).col (reached_at q j).col p s)) ∙ f;
+}
 
-    from : (ps : List Place) → HasHead (reached_at q place).col ps → Among root (cols_of ps)
-    from [] h = absurd h
-    from (p ∷ ps) h = inl (sym (h ∙ at_root found))
+-- a matched column whose root is unmatched, and its parent
+parent_at : (m : Pairing) (q : List Reached) (i r : ℕ) → AreRooted m q → i < length q → ¬ Among (reached_at q i).root (cols_of m.pairs) → Among (r, (reached_at q i).col) m.pairs → HasParent m.pairs q r (reached_at q (reached_at q i).from).col
+parent_at m q i r k lt free pair = by (k.rooted i lt free)
+  where
+    by : IsRooted q i → HasParent m.pairs q r (reached_at q (reached_at q i).from).col
+    by (inl e) = absurd (free (subst (λ c. Among c (cols_of m.pairs)) e (col_among r (reached_at q i).col m.pairs pair)))
+    by (inr (before, tree)) = (i, lt, free, pair, before, tree, refl)
 
--- What is kept at each read_place: the pairs so far, from the unmatched row on, and what was reached at the place.
+pub parent_of : (m : Pairing) (q : List Reached) (x : Reached) (r : ℕ) → AreRooted m q → Among x q → ¬ Among x.root (cols_of m.pairs) → Among (r, x.col) m.pairs → (x.from < length q) × HasParent m.pairs q r (reached_at q x.from).col × (¬ Among (reached_at q x.from).root (cols_of m.pairs))
+parent_of m q x r k h free pair =
+    let (i, lt, e) = reached_place q x h in
+    subst (λ (y : Reached). ¬ Among y.root (cols_of m.pairs) → Among {X = Place} (r, y.col) m.pairs → (y.from < length q) × HasParent m.pairs q r (reached_at q y.from).col × (¬ Among (reached_at q y.from).root (cols_of m.pairs))) e (at i lt) free pair
+  where
+    at : (i : ℕ) → i < length q → ¬ Among (reached_at q i).root (cols_of m.pairs) → Among {X = Place} (r, (reached_at q i).col) m.pairs → ((reached_at q i).from < length q) × HasParent m.pairs q r (reached_at q (reached_at q i).from).col × (¬ Among (reached_at q (reached_at q i).from).root (cols_of m.pairs))
+    at i lt free p = by (k.rooted i lt free)
+      where
+        by : IsRooted q i → ((reached_at q i).from < length q) × HasParent m.pairs q r (reached_at q (reached_at q i).from).col × (¬ Among (reached_at q (reached_at q i).from).root (cols_of m.pairs))
+        by (inl e) = absurd (free (subst (λ c. Among c (cols_of m.pairs)) e (col_among r (reached_at q i).col m.pairs p)))
+        by (inr (before, tree)) = (omega arith, parent_at m q i r k lt free p, λ g. free (subst (λ c. Among c (cols_of m.pairs)) tree g))
 
-pub record IsTracing (a : Matrix) (m : List Place) (root leaf : ℕ) (t now : Trees) (place : ℕ) (column : Reached) : Type 0 where
-  pub back : IsBack a m t.queue root leaf place (reverse now.path)
-  pub read : reached_at t.queue place ≡ column
-  pub same : now ≡ record t { path = now.path }
+-- the column at each place of a tree whose root is unmatched has a depth
+rooted_within : (bound : ℕ) (m : Pairing) (q : List Reached) (i : ℕ) → AreRooted m q → i < bound → i < length q → ¬ Among (reached_at q i).root (cols_of m.pairs) → (n : ℕ) × HasDepth m.pairs (HasParent m.pairs q) (reached_at q i).col n
+rooted_within zero m q i k lt within free = absurd (omega arith)
+rooted_within (suc bound) m q i k lt within free = by (rooted_within bound m q (reached_at q i).from k) (k.rooted i within free)
+  where
+    by : ((reached_at q i).from < bound → (reached_at q i).from < length q → ¬ Among (reached_at q (reached_at q i).from).root (cols_of m.pairs) → (n : ℕ) × HasDepth m.pairs (HasParent m.pairs q) (reached_at q (reached_at q i).from).col n) → IsRooted q i → (n : ℕ) × HasDepth m.pairs (HasParent m.pairs q) (reached_at q i).col n
+    by up (inl e) = (0, root (λ h. free (subst (λ c. Among c (cols_of m.pairs)) e h)))
+    by up (inr (before, tree)) = ⊎_elim (λ h. let (r, p) = col_pair (reached_at q i).col m.pairs h in let (n, deep) = up (omega arith) (omega arith) (λ g. free (subst (λ c. Among c (cols_of m.pairs)) tree g)) in (suc n, child r p (i, within, free, p, before, tree, refl) deep)) (λ off. (0, root off)) (number_among (reached_at q i).col (cols_of m.pairs))
 
-pub tracing_start : (a : Matrix) (m : List Place) (t now : Trees) (leaf place : ℕ) (column : Reached) → place < length t.queue → IsLeafOf a m t (reached_at t.queue place).col leaf → column ≡ reached_at t.queue place → now ≡ record t { path = (leaf, column.col) ∷ [] } → IsTracing a m (reached_at t.queue place).root leaf t now place column
-tracing_start a m t now leaf place column lt l e same = subst (λ (x : Trees). IsTracing a m (reached_at t.queue place).root leaf t x place column) (sym same) (record {
-  back = subst (λ (x : Reached). IsBack a m t.queue (reached_at t.queue place).root leaf place ((leaf, x.col) ∷ [])) (sym e) (back_start a m t.queue (reached_at t.queue place).root leaf place lt refl l.entry l.unmatched);
-  read = sym e;
-  same = refl;
-})
+pub rooted_depth : (m : Pairing) (q : List Reached) (i : ℕ) → AreRooted m q → i < length q → ¬ Among (reached_at q i).root (cols_of m.pairs) → (n : ℕ) × HasDepth m.pairs (HasParent m.pairs q) (reached_at q i).col n
+rooted_depth m q i k lt free = rooted_within (suc i) m q i k (omega arith) lt free
 
--- the column is in range
-pub tracing_in : (a : Matrix) (m : List Place) (root leaf : ℕ) (t now : Trees) (place : ℕ) (column : Reached) → IsForest a m t → IsTracing a m root leaf t now place column → column.col < cols a
-tracing_in a m root leaf t now place column f s = subst (λ (x : Reached). x.col < cols a) s.read (f.in_range place s.back.within).0
+-- an ancestor stands in the same tree
+ancestor_place : (m : List Place) (q : List Reached) (place d : ℕ) → AreDistinct (rows_of m) → AreDistinct (reached_cols q) → place < length q → IsAncestor m (HasParent m q) (reached_at q place).col d → (i : ℕ) × (i < length q) × ((reached_at q i).root ≡ (reached_at q place).root) × ((reached_at q i).col ≡ d)
+ancestor_place m q place d rows differ lt itself = (place, lt, refl, refl)
+ancestor_place m q place d rows differ lt (parent {d = c} r above pair (i, in_i, free, p, before, tree, e)) =
+    let (j, in_j, same, is) = ancestor_place m q place c rows differ lt above in
+    let one : i ≡ j = one_place q i j differ in_i in_j (one_col m rows r (reached_at q i).col c p pair ∙ sym is) in
+    ((reached_at q i).from, omega arith, tree ∙ ap (λ n. (reached_at q n).root) one ∙ same, e)
 
-found_here : (a : Matrix) (m : List Place) (root leaf : ℕ) (t now : Trees) (place : ℕ) (column : Reached) → IsForest a m t → ¬ Among root (cols_of m) → IsTracing a m root leaf t now place column → IsFound a m t.queue place
-found_here a m root leaf t now place column f free s = f.found place s.back.within (subst (λ x. ¬ Among x (cols_of m)) (sym s.back.tree) free)
+-- what is followed back from an unmatched row in which the column at the place has an entry
+pub traces : (a : Matrix) (m : List Place) (t : Trees) (place leaf : ℕ) (path : List Place) → IsMatching a m → IsForest a m t → place < length t.queue → IsLeafOf a m t (reached_at t.queue place).col leaf → ¬ Among (reached_at t.queue place).root (cols_of m) → IsAugmenting m path → ((p : Place) → Among p path → IsTraced m (HasParent m t.queue) leaf (reached_at t.queue place).col p) → Traces a m t.queue (reached_at t.queue place).root leaf path
+traces a m t place leaf path k f lt l free aug traced = record {
+  augmenting = aug;
+  entries = λ r c h. entry r c (traced (r, c) h);
+  from_root = from path aug traced;
+  in_tree = λ r h. let (c, p) = row_pair r path h in in_tree r c (traced (r, c) p);
+}
+  where
+    entry_of : (r c : ℕ) (i : ℕ) → Among {X = Place} (r, (reached_at t.queue i).col) m → ¬ Among (reached_at t.queue i).root (cols_of m) → (reached_at t.queue (reached_at t.queue i).from).col ≡ c → IsFound a m t.queue i → IsEntry a r c
+    entry_of r c i pair off e (inl same) = absurd (off (subst (λ d. Among d (cols_of m)) same (col_among r (reached_at t.queue i).col m pair)))
+    entry_of r c i pair off e (inr (before, tree, s, mate, on)) = subst (IsEntry a r) e (subst (λ x. IsEntry a x (reached_at t.queue (reached_at t.queue i).from).col) (one_row m k.cols_differ s r (reached_at t.queue i).col mate pair) on)
 
-tracing_back : (a : Matrix) (m : List Place) (root leaf : ℕ) (t now : Trees) (place : ℕ) (column : Reached) (row : ℕ) → IsMatching a m → IsForest a m t → ¬ Among root (cols_of m) → ¬ Among leaf (rows_of m) → IsTracing a m root leaf t now place column → Among (row, column.col) m → ((reached_at t.queue place).from < place) × IsBack a m t.queue root leaf (reached_at t.queue place).from ((row, (reached_at t.queue (reached_at t.queue place).from).col) ∷ reverse now.path)
-tracing_back a m root leaf t now place column row k f free no_leaf s mate = back_more a m t.queue root leaf place row (reverse now.path) k f.cols_differ (found_here a m root leaf t now place column f free s) free no_leaf s.back (subst (λ (x : Reached). Among {X = Place} (row, x.col) m) (sym s.read) mate)
+    entry : (r c : ℕ) → IsTraced m (HasParent m t.queue) leaf (reached_at t.queue place).col (r, c) → IsEntry a r c
+    entry r c (inl e) = subst (λ (p : Place). IsEntry a p.0 p.1) (sym e) l.entry
+    entry r c (inr (d, above, mate, (i, in_i, off, pair, before, tree, e))) = entry_of r c i pair off e (f.found i in_i off)
 
-pub tracing_earlier : (a : Matrix) (m : List Place) (root leaf : ℕ) (t now : Trees) (place : ℕ) (column : Reached) (row : ℕ) → IsMatching a m → IsForest a m t → ¬ Among root (cols_of m) → ¬ Among leaf (rows_of m) → IsTracing a m root leaf t now place column → Among (row, column.col) m → (column.from < place) × (column.from < length t.queue)
-tracing_earlier a m root leaf t now place column row k f free no_leaf s mate =
-    let more = tracing_back a m root leaf t now place column row k f free no_leaf s mate in
-    subst (λ (x : Reached). (x.from < place) × (x.from < length t.queue)) s.read (more.0, more.1.within)
+    in_tree : (r c : ℕ) → IsTraced m (HasParent m t.queue) leaf (reached_at t.queue place).col (r, c) → (r ≡ leaf) ⊎ ((i : ℕ) × (i < length t.queue) × ((reached_at t.queue i).root ≡ (reached_at t.queue place).root) × Among (r, (reached_at t.queue i).col) m)
+    in_tree r c (inl e) = inl (ap (λ (p : Place). p.0) e)
+    in_tree r c (inr (d, above, mate, up)) = let (i, in_i, same, is) = ancestor_place m t.queue place d k.rows_differ f.cols_differ lt above in inr (i, in_i, same, subst (λ x. Among {X = Place} (r, x) m) (sym is) mate)
 
--- there is room for one pair more
-pub tracing_room : (a : Matrix) (m : List Place) (root leaf : ℕ) (t now : Trees) (place : ℕ) (column : Reached) (row : ℕ) → IsMatching a m → IsForest a m t → ¬ Among root (cols_of m) → ¬ Among leaf (rows_of m) → IsTracing a m root leaf t now place column → Among (row, column.col) m → length now.path < length t.marks
-tracing_room a m root leaf t now place column row k f free no_leaf s mate =
-    let b = (tracing_back a m root leaf t now place column row k f free no_leaf s mate).1 in
-    let path : List Place = (row, (reached_at t.queue (reached_at t.queue place).from).col) ∷ reverse now.path in
-    let le = few_below a.rows (rows_of path) b.rows_differ (λ r h. let (c, p) = row_pair r path h in (b.entries r c p).0) in
-    omega (arith, le, length-map path (λ (p : Place). p.0), length-reverse now.path, f.rows_are)
+    is_root : (c : ℕ) → ¬ Among c (cols_of m) → IsAncestor m (HasParent m t.queue) (reached_at t.queue place).col c → c ≡ (reached_at t.queue place).root
+    is_root c off above = let (i, in_i, same, is) = ancestor_place m t.queue place c k.rows_differ f.cols_differ lt above in by i same is (f.found i in_i (subst (λ x. ¬ Among x (cols_of m)) (sym same) free))
+      where
+        by : (i : ℕ) → (reached_at t.queue i).root ≡ (reached_at t.queue place).root → (reached_at t.queue i).col ≡ c → IsFound a m t.queue i → c ≡ (reached_at t.queue place).root
+        by i same is (inl e) = sym is ∙ e ∙ same
+        by i same is (inr (before, tree, r, pair, on)) = absurd (off (subst (λ x. Among x (cols_of m)) is (col_among r (reached_at t.queue i).col m pair)))
 
-pub tracing_more : (a : Matrix) (m : List Place) (root leaf : ℕ) (t now new : Trees) (place : ℕ) (column next : Reached) (row : ℕ) → IsMatching a m → IsForest a m t → ¬ Among root (cols_of m) → ¬ Among leaf (rows_of m) → IsTracing a m root leaf t now place column → Among (row, column.col) m → next ≡ reached_at t.queue column.from → new ≡ record now { path = now.path ++ (row, next.col) ∷ [] } → IsTracing a m root leaf t new column.from next
-tracing_more a m root leaf t now new place column next row k f free no_leaf s mate e same = subst (λ (x : Trees). IsTracing a m root leaf t x column.from next) (sym same) (record {
-  back = subst (λ (ps : List Place). IsBack a m t.queue root leaf column.from ps) (sym (reverse-append now.path ((row, next.col) ∷ []))) (subst (λ (x : Reached). IsBack a m t.queue root leaf column.from ((row, x.col) ∷ reverse now.path)) (sym e) (subst (λ (x : Reached). IsBack a m t.queue root leaf x.from ((row, (reached_at t.queue x.from).col) ∷ reverse now.path)) s.read (tracing_back a m root leaf t now place column row k f free no_leaf s mate).1));
-  read = sym e;
-  same = ap (λ (x : Trees). record x { path = now.path ++ (row, next.col) ∷ [] }) s.same;
-})
+    above_of : (p : Place) → IsTraced m (HasParent m t.queue) leaf (reached_at t.queue place).col p → IsAncestor m (HasParent m t.queue) (reached_at t.queue place).col p.1
+    above_of p (inl e) = subst (λ (x : Place). IsAncestor m (HasParent m t.queue) (reached_at t.queue place).col x.1) (sym e) itself
+    above_of p (inr (d, above, mate, up)) = parent p.0 above mate up
 
-pub tracing_end : (a : Matrix) (m : List Place) (root leaf : ℕ) (t now : Trees) (place : ℕ) (column : Reached) → IsForest a m t → ¬ Among root (cols_of m) → IsTracing a m root leaf t now place column → ¬ Among column.col (cols_of m) → Traces a m t.queue root leaf (reverse now.path)
-tracing_end a m root leaf t now place column f free s unmatched = back_end a m t.queue root leaf place (reverse now.path) (found_here a m root leaf t now place column f free s) s.back (subst (λ (x : Reached). ¬ Among x.col (cols_of m)) (sym s.read) unmatched)
+    from : (ps : List Place) → IsAugmenting m ps → ((p : Place) → Among p ps → IsTraced m (HasParent m t.queue) leaf (reached_at t.queue place).col p) → Among (reached_at t.queue place).root (cols_of ps)
+    from [] aug traced = absurd aug.begins
+    from (p ∷ ps) aug traced = inl (sym (is_root p.1 aug.begins (above_of p (traced p (inl refl)))))
+
+-- the path has room: an unmatched row is none of the matched ones
+pub path_fits : (a : Matrix) (m : List Place) (t : Trees) (c leaf : ℕ) {n room : ℕ} → IsMatching a m → IsForest a m t → IsLeafOf a m t c leaf → n ≡ length t.marks → n ≤ room → length m < room
+path_fits a m t c leaf k f l long fits =
+    let in_range = l.entry.0 in
+    let few = few_below a.rows (leaf ∷ rows_of m) (l.unmatched, k.rows_differ) (λ r h. ⊎_elim (λ (e : r ≡ leaf). subst (λ x. x < a.rows) (sym e) in_range) (λ g. let (d, p) = row_pair r m g in (k.entries r d p).0) h) in
+    omega (arith, few, long, fits, f.rows_are, length-map m (λ (p : Place). p.0))

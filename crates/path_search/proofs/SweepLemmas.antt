@@ -21,10 +21,10 @@ forest_short a m t f = let le = few_below (cols a) (reached_cols t.queue) f.cols
 
 -- a column is looked through, and no unmatched row is found
 pub no_path_more : (a : Matrix) (m : List Place) (root : ℕ) (old new : Trees) (place : ℕ) → HaveNoPath a m old place → place < length old.queue → ¬ Among root (cols_of m) → Spreads root old new → LeadOn m old new → IsExplored a new.marks (reached_at old.queue place).col → HaveNoPath a m new (suc place)
-no_path_more a m root old new place f lt free s on shut = record {
+no_path_more a m root old new place f lt free s on explored = record {
   unmatched = λ c below un. spread_among root old new c s (f.unmatched c below un);
   roots_unmatched = λ i in_i. let (more, e, all) = s.more in ⊎_elim (λ g. let (j, in_j, at) = place_among (reached_at new.queue i) none old.queue g in subst (λ (x : Reached). ¬ Among x.root (cols_of m)) at (f.roots_unmatched j in_j)) (λ g. subst (λ x. ¬ Among x (cols_of m)) (sym (all (reached_at new.queue i) g)) free) (among_either (reached_at new.queue i) old.queue more (subst (λ (q : List Reached). Among (reached_at new.queue i) q) e (among_at new.queue i none in_i)));
-  explored = λ i below. ⊎_elim (λ (e : i ≡ place). subst (λ (x : Reached). IsExplored a new.marks x.col) (sym (ap (λ j. reached_at new.queue j) e ∙ spread_at root old new place s lt)) shut) (λ (ne : i ≢ place). subst (λ (x : Reached). IsExplored a new.marks x.col) (sym (spread_at root old new i s (omega arith))) (explored_grows a old.marks new.marks (reached_at old.queue i).col s.marked (f.explored i (omega arith)))) (number_same i place);
+  explored = λ i below. ⊎_elim (λ (e : i ≡ place). subst (λ (x : Reached). IsExplored a new.marks x.col) (sym (ap (λ j. reached_at new.queue j) e ∙ spread_at root old new place s lt)) explored) (λ (ne : i ≢ place). subst (λ (x : Reached). IsExplored a new.marks x.col) (sym (spread_at root old new i s (omega arith))) (explored_grows a old.marks new.marks (reached_at old.queue i).col s.marked (f.explored i (omega arith)))) (number_same i place);
   leads_on = λ r h. ⊎_elim (λ g. let (d, pair, had) = f.leads_on r g in (d, pair, spread_among root old new d s had)) (λ g. g) (on r h);
 }
   where
@@ -33,13 +33,13 @@ no_path_more a m root old new place f lt free s on shut = record {
 
 -- where no path was found the marked rows cover what their mates have
 pub no_path_maximum : (a : Matrix) (m : List Place) (t : Trees) (place : ℕ) → IsMatching a m → HaveNoPath a m t place → length t.queue ≤ place → IsMaximum a m
-no_path_maximum a m t place k f le = closed_maximum a m t.marks k out (λ c lt free. shut_reached c (f.unmatched c lt free))
+no_path_maximum a m t place k f le = closed_maximum a m t.marks k out (λ c lt free. explored_reached c (f.unmatched c lt free))
   where
-    shut_reached : (c : ℕ) → Among c (reached_cols t.queue) → IsExplored a t.marks c
-    shut_reached c h = let (i, lt, e) = place_of t.queue c h in subst (λ x. IsExplored a t.marks x) e (f.explored i (omega arith))
+    explored_reached : (c : ℕ) → Among c (reached_cols t.queue) → IsExplored a t.marks c
+    explored_reached c h = let (i, lt, e) = place_of t.queue c h in subst (λ x. IsExplored a t.marks x) e (f.explored i (omega arith))
 
     out : AreClosed a m t.marks
-    out r h = let (d, pair, had) = f.leads_on r h in (d, pair, shut_reached d had)
+    out r h = let (d, pair, had) = f.leads_on r h in (d, pair, explored_reached d had)
 
 -- the matching is as at the start, and the columns before the place have been looked through, or it has grown
 abbrev pub HasGrown : Matrix → Pairing → Pairing → Trees → ℕ → Type 0

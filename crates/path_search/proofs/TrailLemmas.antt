@@ -1,10 +1,10 @@
 -- Paths from a root to where a search stands.
 use Rattle.std.proofs.Common.{◌≡◌, ◌≢◌, ◌∙◌, ℕ, suc, ◌<◌, ◌≤◌, Bool, true, false, List, [], ◌∷◌, ◌++◌, length, slice_index, refl, sym, ap, subst, inl, inr, ⊎_elim, arith}
-use Rattle.bip_defs.specs.Lists.{Among, AreDistinct, IsMarked}
+use Rattle.bip_defs.specs.Lists.{Among, IsMarked}
 use Rattle.bip_defs.specs.Matching.{cols_of, rows_of}
 use Rattle.bip_defs.specs.Matrix.{AreEntries, IsEntry, Matrix, Place, column}
 use Rattle.bip_defs.specs.Paths.{Alternates, BeginsUnmatched}
-use Rattle.bip_defs.proofs.Sets.{among_last, number_same, place_among, row_among}
+use Rattle.bip_defs.proofs.Sets.{number_same, place_among, row_among}
 use Rattle.bip_defs.specs.Marks.{IsExplored}
 use Rattle.path_search.specs.Trails.{HasPassed, Trail, read_place}
 use Rattle.path_search.proofs.MarkLemmas.{Grows}
@@ -26,7 +26,7 @@ passed_more reversed marks rows k p h j lt within = ⊎_elim (λ (e : j ≡ k). 
 pub passed_grows : (reversed : Bool) (old new : List Bool) (rows : List ℕ) (k : ℕ) → Grows old new → HasPassed reversed old rows k → HasPassed reversed new rows k
 passed_grows reversed old new rows k g p j lt within = g _ (p j lt within)
 
--- reading from the end twice is reading from the front
+-- reading from the end twice is reading from the start
 read_back : (reversed : Bool) (n i : ℕ) → i < n → (read_place reversed n i < n) × (read_place reversed n (read_place reversed n i) ≡ i)
 read_back true n i lt = (omega arith, omega arith)
 read_back false n i lt = (lt, refl)

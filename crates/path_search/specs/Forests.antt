@@ -24,16 +24,42 @@ reached_cols q = map (λ (x : Reached). x.col) q
 
 -- the column at the place is the root of its tree, or has its mate in the list of an earlier column of the tree
 abbrev pub IsFound : Matrix → List Place → List Reached → ℕ → Type 0
-IsFound a m q i = ((reached_at q i).col ≡ (reached_at q i).root) ⊎ (((reached_at q i).from < i) × ((reached_at q (reached_at q i).from).root ≡ (reached_at q i).root) × (r : ℕ) × Among (r, (reached_at q i).col) m × IsEntry a r (reached_at q (reached_at q i).from).col)
+IsFound a m q i = ((reached_at q i).col ≡ (reached_at q i).root)
+    ⊎ (((reached_at q i).from < i)
+    × ((reached_at q (reached_at q i).from).root ≡ (reached_at q i).root) × (r : ℕ)
+    × Among (r, (reached_at q i).col) m × IsEntry a r (reached_at q (reached_at q i).from).col)
+
+-- the row's mate stands in the queue behind the column, its parent, in a tree whose root is unmatched
+abbrev pub HasParent : List Place → List Reached → ℕ → ℕ → Type 0
+HasParent m q r d = (i : ℕ) × (i < length q) × (¬ Among (reached_at q i).root (cols_of m))
+    × Among (r, (reached_at q i).col) m × ((reached_at q i).from < i)
+    × ((reached_at q (reached_at q i).from).root ≡ (reached_at q i).root)
+    × ((reached_at q (reached_at q i).from).col ≡ d)
+
+-- the column at the place is the root of its tree, or stands behind an earlier column of the tree
+abbrev pub IsRooted : List Reached → ℕ → Type 0
+IsRooted q i = ((reached_at q i).col ≡ (reached_at q i).root)
+    ⊎ (((reached_at q i).from < i)
+    × ((reached_at q (reached_at q i).from).root ≡ (reached_at q i).root))
+
+-- distinct columns, of which each whose root is unmatched has its tree before it
+pub record AreRooted (m : Pairing) (q : List Reached) : Type 0 where
+  pub in_range : (x : Reached) → Among x q → x.col < m.cols
+  pub distinct : AreDistinct (reached_cols q)
+  pub rooted : (i : ℕ) → i < length q → ¬ Among (reached_at q i).root (cols_of m.pairs)
+      → IsRooted q i
 
 -- trees of distinct columns, whose mates are marked. A tree whose root has a mate by now is done with
 pub record IsForest (a : Matrix) (m : List Place) (t : Trees) : Type 0 where
   pub rows_are : length t.marks ≡ a.rows
   pub cols_are : t.cols ≡ cols a
-  pub in_range : (i : ℕ) → i < length t.queue → ((reached_at t.queue i).col < cols a) × ((reached_at t.queue i).root < cols a)
+  pub in_range : (i : ℕ) → i < length t.queue
+      → ((reached_at t.queue i).col < cols a) × ((reached_at t.queue i).root < cols a)
   pub cols_differ : AreDistinct (reached_cols t.queue)
-  pub mates_marked : (r c : ℕ) → Among (r, c) m → Among c (reached_cols t.queue) → IsMarked t.marks r
-  pub found : (i : ℕ) → i < length t.queue → ¬ Among (reached_at t.queue i).root (cols_of m) → IsFound a m t.queue i
+  pub mates_marked : (r c : ℕ) → Among (r, c) m → Among c (reached_cols t.queue)
+      → IsMarked t.marks r
+  pub found : (i : ℕ) → i < length t.queue → ¬ Among (reached_at t.queue i).root (cols_of m)
+      → IsFound a m t.queue i
 
 -- the row's mate was reached
 abbrev pub LeadsOn : List Place → List Reached → ℕ → Type 0
@@ -42,14 +68,16 @@ LeadsOn m q r = (d : ℕ) × Among (r, d) m × Among d (reached_cols q)
 -- no tree has found a path yet: all unmatched columns are roots, the columns before the place have been looked through, and each marked row leads on
 pub record HaveNoPath (a : Matrix) (m : List Place) (t : Trees) (place : ℕ) : Type 0 where
   pub unmatched : (c : ℕ) → c < cols a → ¬ Among c (cols_of m) → Among c (reached_cols t.queue)
-  pub roots_unmatched : (i : ℕ) → i < length t.queue → ¬ Among (reached_at t.queue i).root (cols_of m)
+  pub roots_unmatched : (i : ℕ) → i < length t.queue
+      → ¬ Among (reached_at t.queue i).root (cols_of m)
   pub explored : (i : ℕ) → i < place → IsExplored a t.marks (reached_at t.queue i).col
   pub leads_on : (r : ℕ) → IsMarked t.marks r → LeadsOn m t.queue r
 
 -- more columns were reached from the tree of this root, and more rows marked
 pub record Spreads (root : ℕ) (old new : Trees) : Type 0 where
   pub cols_stay : new.cols ≡ old.cols
-  pub more : (more : List Reached) × (new.queue ≡ old.queue ++ more) × ((x : Reached) → Among x more → x.root ≡ root)
+  pub more : (more : List Reached) × (new.queue ≡ old.queue ++ more)
+      × ((x : Reached) → Among x more → x.root ≡ root)
   pub marked : (r : ℕ) → IsMarked old.marks r → IsMarked new.marks r
 
 -- each row that was marked since leads on
@@ -64,16 +92,27 @@ pub record IsLeafOf (a : Matrix) (m : List Place) (t : Trees) (c r : ℕ) : Type
 
 -- a marked row stays as it is; another is marked, and its mate is reached, or it has none
 abbrev pub Visits : List Place → ℕ → ℕ → ℕ → Trees → Trees → Bool → Type 0
-Visits m r place root old new true = (¬ IsMarked old.marks r) × (¬ Among r (rows_of m)) × (new ≡ record old { marks = set old.marks r true })
-Visits m r place root old new false = (IsMarked old.marks r × (new ≡ old)) ⊎ ((¬ IsMarked old.marks r) × (d : ℕ) × Among (r, d) m × (new ≡ record old { marks = set old.marks r true; queue = old.queue ++ record { col = d; from = place; root = root } ∷ [] }))
+Visits m r place root old new true = (¬ IsMarked old.marks r) × (¬ Among r (rows_of m))
+    × (new ≡ record old { marks = set old.marks r true })
+Visits m r place root old new false = (IsMarked old.marks r × (new ≡ old))
+    ⊎ ((¬ IsMarked old.marks r) × (d : ℕ) × Among (r, d) m
+    × (new ≡ record old {
+      marks = set old.marks r true;
+      queue = old.queue ++ record { col = d; from = place; root = root } ∷ [];
+    }))
 
 -- an augmenting path of entries from the root, whose rows but its last have their mates in the tree of this root
-pub record Traces (a : Matrix) (m : List Place) (q : List Reached) (root leaf : ℕ) (path : List Place) : Type 0 where
+pub record Traces (a : Matrix) (m : List Place) (q : List Reached) (root leaf : ℕ)
+    (path : List Place) : Type 0 where
   pub augmenting : IsAugmenting m path
   pub entries : AreEntries a path
   pub from_root : Among root (cols_of path)
-  pub in_tree : (r : ℕ) → Among r (rows_of path) → (r ≡ leaf) ⊎ ((i : ℕ) × (i < length q) × ((reached_at q i).root ≡ root) × Among (r, (reached_at q i).col) m)
+  pub in_tree : (r : ℕ) → Among r (rows_of path) → (r ≡ leaf)
+      ⊎ ((i : ℕ) × (i < length q) × ((reached_at q i).root ≡ root)
+      × Among (r, (reached_at q i).col) m)
 
 -- the matching stays, and one column more has been looked through, or it grows
 abbrev pub Progresses : Matrix → Pairing → Pairing → Trees → Trees → ℕ → Type 0
-Progresses a m n old new place = ((n ≡ m) × (HaveNoPath a m.pairs old place → HaveNoPath a m.pairs new (suc place))) ⊎ (length m.pairs < length n.pairs)
+Progresses a m n old new place = ((n ≡ m)
+    × (HaveNoPath a m.pairs old place → HaveNoPath a m.pairs new (suc place)))
+    ⊎ (length m.pairs < length n.pairs)

@@ -8,13 +8,13 @@ use Rattle.bip_defs.specs.Paths.{IsAugmenting}
 
 -- the number of columns, the mark of each row, the column where the last search began, the path that it stands on with a
 -- place in each column's list, and the rows that it has marked
-pub record Searching : Type 0 where
+pub record SearchState : Type 0 where
   pub cols : ℕ
   pub marks : List Bool
   pub root : ℕ
   pub path : List Place
   pub places : List ℕ
-  pub seen : List ℕ
+  pub visited : List ℕ
 
 -- the rows of the list were marked, which were not before, and no others
 pub record HasMarked (rows : List ℕ) (old new : List Bool) : Type 0 where
@@ -24,17 +24,19 @@ pub record HasMarked (rows : List ℕ) (old new : List Bool) : Type 0 where
   pub others : (r : ℕ) → ¬ Among r rows → slice_index_or new r false ≡ slice_index_or old r false
 
 -- an augmenting path of entries with the root on it, whose matched rows were not marked
-pub record Finds (a : Matrix) (m : List Place) (marks : List Bool) (root : ℕ) (path : List Place) : Type 0 where
+pub record Finds (a : Matrix) (m : List Place) (marks : List Bool) (root : ℕ)
+    (path : List Place) : Type 0 where
   pub augmenting : IsAugmenting m path
   pub entries : AreEntries a path
   pub from_root : Among root (cols_of path)
   pub fresh : (r : ℕ) → Among r (rows_of path) → Among r (rows_of m) → ¬ IsMarked marks r
 
 -- no unmarked row is left to which a walk leads: the root's entries are in marked rows, and so are those of the mates of
--- the rows that were seen
-pub record Exhausts (a : Matrix) (m : List Place) (marks : List Bool) (seen : List ℕ) (root : ℕ) : Type 0 where
+-- the rows that were visited
+pub record Exhausts (a : Matrix) (m : List Place) (marks : List Bool) (visited : List ℕ)
+    (root : ℕ) : Type 0 where
   pub of_root : IsExplored a marks root
-  pub of_mates : (r : ℕ) → Among r seen → (d : ℕ) × Among (r, d) m × IsExplored a marks d
+  pub of_mates : (r : ℕ) → Among r visited → (d : ℕ) × Among (r, d) m × IsExplored a marks d
 
 -- the rows of the list lost their marks, and no others
 pub record Unmarks (rows : List ℕ) (old new : List Bool) : Type 0 where

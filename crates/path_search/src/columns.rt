@@ -10,7 +10,7 @@ ghost use Rattle.path_search.specs.Trails.{HasPassed, read_place};
 use bip_graph::{Matching, Opposite};
 use sp_ids::{Id, Row};
 
-// The place at which a list is read as its k-th, from its front or from its end.
+// The place at which a list is read as its k-th, from its start or from its end.
 fn place_of(reversed: bool, len: usize, k: usize) -> usize
     requires { k < len }
     ensures place { result ≡ read_place reversed len k }
@@ -19,11 +19,12 @@ fn place_of(reversed: bool, len: usize, k: usize) -> usize
     if reversed { len - 1 - k } else { k }
 }
 
-/// The row that is read as the list's k-th, from its front or from its end.
+/// The row that is read as the list's k-th, from its start or from its end.
 pub fn row_at<F: Id>(rows: &[F], k: usize, reversed: bool) -> Row
     requires { k < length rows.now }
     ensures among { Among result (map F.number rows.now) }
-    ensures at { result ≡ slice_index (map F.number rows.now) (read_place reversed (length (map F.number rows.now)) k) }
+    ensures at { result ≡ slice_index (map F.number rows.now)
+        (read_place reversed (length (map F.number rows.now)) k) }
 {
     Row(rows[place_of(reversed, rows.len(), k)].number())
 }
@@ -33,7 +34,10 @@ pub fn next_unmarked<F: Id>(rows: &[F], marks: &[bool], place: usize, reversed: 
     requires in_range { (r : ℕ) → Among r (map F.number rows.now) → r < length marks.now }
     requires passed { HasPassed reversed marks.now (map F.number rows.now) place }
     ensures passed { HasPassed reversed marks.now (map F.number rows.now) result }
-    ensures unmarked { result < length rows.now → ¬ IsMarked marks.now (slice_index (map F.number rows.now) (read_place reversed (length (map F.number rows.now)) result)) }
+    ensures unmarked { result < length rows.now
+        → ¬ IsMarked marks.now
+        (slice_index (map F.number rows.now)
+        (read_place reversed (length (map F.number rows.now)) result)) }
 {
     let mut at = place;
     while at < rows.len() {
@@ -50,7 +54,8 @@ pub fn next_unmarked<F: Id>(rows: &[F], marks: &[bool], place: usize, reversed: 
 pub fn unmatched_row<F: Opposite>(rows: &[F], matching: &Matching, look: &mut u32) -> Option<Row>
     requires in_range { (r : ℕ) → Among r (map F.number rows.now) → r < (F.seen matching.now).rows }
     requires few { length rows.now < 2 ^ 32 }
-    ensures { IfSome result (λ r. Among r (map F.number rows.now) × (¬ Among r (rows_of (F.seen matching.now).pairs))) }
+    ensures { IfSome result
+        (λ r. Among r (map F.number rows.now) × (¬ Among r (rows_of (F.seen matching.now).pairs))) }
 {
     let mut at = *look as usize;
     while at < rows.len() {

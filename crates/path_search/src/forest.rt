@@ -10,12 +10,12 @@ ghost use Rattle.bip_graph.specs.Matching.{IsMatchingOf, Pairing};
 ghost use Rattle.path_search.specs.Forests.{HaveNoPath, IsForest, IsLeafOf, LeadOn, Progresses, Spreads, Traces, Visits, reached_at};
 
 use crate::columns::{put, unmark_all};
-use crate::reached::Reached;
-use bip_graph::{Matching, Opposite};
+use crate::reached::{Reached, RootedQueue};
+use bip_graph::{Matching, Opposite, trace_back};
 use sp_ids::{Col, OutOfMemory, Row};
 use sp_pattern::Side;
 use std::alloc::Global;
-use std::marker::Model;
+use std::marker::{Model, PhantomData};
 
 /// Trees of alternating paths that grow from all unmatched columns at once, each until it finds an unmatched row.
 ///
@@ -34,9 +34,15 @@ impl Model for Forest {
 
     ghost Value = { Trees };
 
-    ghost view = { λ f. record { cols = f.cols; marks = f.marks.items; queue = f.queue.items; path = f.path.items } };
+    ghost view = { λ f. record {
+      cols = f.cols;
+      marks = f.marks.items;
+      queue = f.queue.items;
+      path = f.path.items;
+    } };
 
-    ghost invariant = { λ f. (f.cols ≤ vec_capacity f.queue) × (length f.marks.items ≤ vec_capacity f.path) };
+    ghost invariant = { λ f. (f.cols ≤ vec_capacity f.queue)
+        × (length f.marks.items ≤ vec_capacity f.path) };
 }
 
 impl Forest {
@@ -104,33 +110,18 @@ impl Forest {
         self.queue[place as usize]
     }
 
-    fn start_path(&mut self)
-        ensures { self.new ≡ record self.old { path = [] } }
-    {
-        self.path.clear();
-    }
-
-    fn step(&mut self, row: Row, col: Col)
-        requires { length self.old.path < length self.old.marks }
-        ensures { self.new ≡ record self.old { path = self.old.path ++ (row, col) ∷ [] } }
-    {
-        put(&mut self.path, (row, col));
-    }
-
-    fn turn_path(&mut self)
-        ensures { self.new ≡ record self.old { path = reverse self.old.path } }
-    {
-        self.path.as_mut_slice().reverse();
-    }
-
     // Exchanges the path, and leaves something else in its place.
     fn flip<F: Opposite>(&mut self, matching: &mut Matching)
-        requires in_range { (r c : ℕ) → Among (r, c) self.old.path → (r < (F.seen matching.old).rows) × (c < (F.seen matching.old).cols) }
+        requires in_range { (r c : ℕ) → Among (r, c) self.old.path
+            → (r < (F.seen matching.old).rows) × (c < (F.seen matching.old).cols) }
         requires path { IsAugmenting (F.seen matching.old).pairs self.old.path }
         ensures same { self.new ≡ record self.old { path = self.new.path } }
-        ensures pairs { Exchanges self.old.path (F.seen matching.old).pairs (F.seen matching.new).pairs }
-        ensures size { length (F.seen matching.new).pairs ≡ suc (length (F.seen matching.old).pairs) }
-        ensures matching { (a : Matrix) → IsMatchingOf a (F.seen matching.old) → AreEntries a self.old.path → IsMatchingOf a (F.seen matching.new) }
+        ensures pairs { Exchanges self.old.path (F.seen matching.old).pairs
+            (F.seen matching.new).pairs }
+        ensures size { length (F.seen matching.new).pairs
+            ≡ suc (length (F.seen matching.old).pairs) }
+        ensures matching { (a : Matrix) → IsMatchingOf a (F.seen matching.old)
+            → AreEntries a self.old.path → IsMatchingOf a (F.seen matching.new) }
         ensures covered { Covers (F.seen matching.old).pairs (F.seen matching.new).pairs }
     {
         F::exchange(matching, self.path.as_mut_slice());
@@ -169,7 +160,8 @@ impl Forest {
     ) -> bool
         requires row { row < length self.old.marks }
         requires matching_rows { (F.seen matching.now).rows ≡ length self.old.marks }
-        requires room { (d : ℕ) → Among (row, d) (F.seen matching.now).pairs → ¬ IsMarked self.old.marks row → length self.old.queue < self.old.cols }
+        requires room { (d : ℕ) → Among (row, d) (F.seen matching.now).pairs
+            → ¬ IsMarked self.old.marks row → length self.old.queue < self.old.cols }
         ensures { Visits (F.seen matching.now).pairs row place root self.old self.new result }
     {
         if self.is_marked(row) {
@@ -205,7 +197,8 @@ impl Forest {
         requires root { (reached_at self.old.queue place).root ≡ root }
         ensures forest { IsForest (S.matrix side.now) (F.seen matching.now).pairs self.new }
         ensures spreads { Spreads root self.old self.new }
-        ensures found { IfSome result (IsLeafOf (S.matrix side.now) (F.seen matching.now).pairs self.new col) }
+        ensures found { IfSome result
+            (IsLeafOf (S.matrix side.now) (F.seen matching.now).pairs self.new col) }
         ensures explored { IfNone result (IsExplored (S.matrix side.now) self.new.marks col) }
         ensures lead_on { IfNone result (LeadOn (F.seen matching.now).pairs self.old self.new) }
     {
@@ -230,22 +223,21 @@ impl Forest {
         requires matching { IsMatchingOf (S.matrix side.now) (F.seen matching.now) }
         requires forest { IsForest (S.matrix side.now) (F.seen matching.now).pairs self.old }
         requires place { place < length self.old.queue }
-        requires leaf { IsLeafOf (S.matrix side.now) (F.seen matching.now).pairs self.old (reached_at self.old.queue place).col row }
-        requires unmatched { ¬ Among (reached_at self.old.queue place).root (cols_of (F.seen matching.now).pairs) }
+        requires leaf { IsLeafOf (S.matrix side.now) (F.seen matching.now).pairs self.old
+            (reached_at self.old.queue place).col row }
+        requires unmatched { ¬ Among (reached_at self.old.queue place).root
+            (cols_of (F.seen matching.now).pairs) }
         ensures same { self.new ≡ record self.old { path = self.new.path } }
-        ensures path { Traces (S.matrix side.now) (F.seen matching.now).pairs self.old.queue (reached_at self.old.queue place).root row self.new.path }
+        ensures path { Traces (S.matrix side.now) (F.seen matching.now).pairs self.old.queue
+            (reached_at self.old.queue place).root row self.new.path }
     {
-        let _cols = side.cols();
-        self.start_path();
-        let mut at = place;
-        let mut column = self.at(at);
-        self.step(row, column.col);
-        while let Some(back) = F::row_of(matching, column.col) {
-            at = column.from;
-            column = self.at(at);
-            self.step(back, column.col);
-        }
-        self.turn_path();
+        let columns = self.queue.as_slice();
+        let trees = RootedQueue::<F> {
+            matching,
+            columns,
+            opposite: PhantomData,
+        };
+        trace_back(&trees, row, columns[place as usize], &mut self.path);
     }
 
     // Exchanges the path that a tree has found to an unmatched row in which the column at a place has an entry.
@@ -259,13 +251,16 @@ impl Forest {
         requires matching { IsMatchingOf (S.matrix side.now) (F.seen matching.old) }
         requires forest { IsForest (S.matrix side.now) (F.seen matching.old).pairs self.old }
         requires place { place < length self.old.queue }
-        requires leaf { IsLeafOf (S.matrix side.now) (F.seen matching.old).pairs self.old (reached_at self.old.queue place).col row }
-        requires unmatched { ¬ Among (reached_at self.old.queue place).root (cols_of (F.seen matching.old).pairs) }
+        requires leaf { IsLeafOf (S.matrix side.now) (F.seen matching.old).pairs self.old
+            (reached_at self.old.queue place).col row }
+        requires unmatched { ¬ Among (reached_at self.old.queue place).root
+            (cols_of (F.seen matching.old).pairs) }
         ensures queue { self.new.queue ≡ self.old.queue }
         ensures forest { IsForest (S.matrix side.now) (F.seen matching.new).pairs self.new }
         ensures matching { IsMatchingOf (S.matrix side.now) (F.seen matching.new) }
         ensures covered { Covers (F.seen matching.old).pairs (F.seen matching.new).pairs }
-        ensures size { length (F.seen matching.new).pairs ≡ suc (length (F.seen matching.old).pairs) }
+        ensures size { length (F.seen matching.new).pairs
+            ≡ suc (length (F.seen matching.old).pairs) }
     {
         self.trace(side, matching, row, place);
         self.flip::<F>(matching);
@@ -280,7 +275,8 @@ impl Forest {
         ensures queue { length self.old.queue ≤ length self.new.queue }
         ensures matching { IsMatchingOf (S.matrix side.now) (F.seen matching.new) }
         ensures covered { Covers (F.seen matching.old).pairs (F.seen matching.new).pairs }
-        ensures progresses { Progresses (S.matrix side.now) (F.seen matching.old) (F.seen matching.new) self.old self.new place }
+        ensures progresses { Progresses (S.matrix side.now) (F.seen matching.old)
+            (F.seen matching.new) self.old self.new place }
     {
         let column = self.at(place);
         match F::row_of(matching, column.root) {
@@ -310,7 +306,9 @@ impl Forest {
         ensures covered { Covers (F.seen matching.old).pairs (F.seen matching.new).pairs }
 
         // Where the matching hasn't grown it was maximum.
-        ensures maximum { ((F.seen matching.new ≡ F.seen matching.old) × IsMaximum (S.matrix side.now) (F.seen matching.old).pairs) ⊎ (length (F.seen matching.old).pairs < length (F.seen matching.new).pairs) }
+        ensures maximum { ((F.seen matching.new ≡ F.seen matching.old)
+            × IsMaximum (S.matrix side.now) (F.seen matching.old).pairs)
+            ⊎ (length (F.seen matching.old).pairs < length (F.seen matching.new).pairs) }
     {
         // Places fit, since there are no more than columns.
         let _cols = side.cols();

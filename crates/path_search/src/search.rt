@@ -28,18 +28,27 @@ pub struct Search {
     root: Col,
     path: Vec<(Row, Col)>,
     places: Vec<u32>,
-    seen: Vec<Row>,
+    visited: Vec<Row>,
 }
 
 impl Model for Search {
     ghost use Rattle.std.specs.Prelude.{length, vec_capacity, ◌≤◌};
-    ghost use Rattle.path_search.specs.Search.{Searching};
+    ghost use Rattle.path_search.specs.Search.{SearchState};
 
-    ghost Value = { Searching };
+    ghost Value = { SearchState };
 
-    ghost view = { λ s. record { cols = length s.look.items; marks = s.marks.items; root = s.root; path = s.path.items; places = s.places.items; seen = s.seen.items } };
+    ghost view = { λ s. record {
+      cols = length s.look.items;
+      marks = s.marks.items;
+      root = s.root;
+      path = s.path.items;
+      places = s.places.items;
+      visited = s.visited.items;
+    } };
 
-    ghost invariant = { λ s. (length s.marks.items ≤ vec_capacity s.path) × (length s.marks.items ≤ vec_capacity s.places) × (length s.marks.items ≤ vec_capacity s.seen) };
+    ghost invariant = { λ s. (length s.marks.items ≤ vec_capacity s.path)
+        × (length s.marks.items ≤ vec_capacity s.places)
+        × (length s.marks.items ≤ vec_capacity s.visited) };
 }
 
 impl Search {
@@ -54,36 +63,40 @@ impl Search {
         let marks = vec![in alloc; false; room]?;
         let path = Vec::with_capacity(alloc, room)?;
         let places = Vec::with_capacity(alloc, room)?;
-        let seen = Vec::with_capacity(alloc, room)?;
+        let visited = Vec::with_capacity(alloc, room)?;
         Ok(Search {
             look,
             marks,
             root: Col(0),
             path,
             places,
-            seen,
+            visited,
         })
     }
 
     // Puts the search at a column, with nothing on its path.
     fn start(&mut self, root: Col)
-        ensures { self.new ≡ record self.old { root = root; path = []; places = []; seen = [] } }
+        ensures { self.new ≡ record self.old { root = root; path = []; places = []; visited = [] } }
     {
         self.root = root;
         self.path.clear();
         self.places.clear();
-        self.seen.clear();
+        self.visited.clear();
     }
 
     // Marks a row, and goes to it.
     fn enter(&mut self, row: Row, col: Col)
         requires row { row < length self.old.marks }
-        requires room { length self.old.seen < length self.old.marks }
-        requires shorter { length self.old.path ≤ length self.old.seen }
-        ensures { self.new ≡ record self.old { marks = set self.old.marks row true; seen = self.old.seen ++ row ∷ []; path = self.old.path ++ (row, col) ∷ [] } }
+        requires room { length self.old.visited < length self.old.marks }
+        requires shorter { length self.old.path ≤ length self.old.visited }
+        ensures { self.new ≡ record self.old {
+          marks = set self.old.marks row true;
+          visited = self.old.visited ++ row ∷ [];
+          path = self.old.path ++ (row, col) ∷ [];
+        } }
     {
         self.marks[row.0 as usize] = true;
-        put(&mut self.seen, row);
+        put(&mut self.visited, row);
         put(&mut self.path, (row, col));
     }
 
@@ -106,7 +119,12 @@ impl Search {
     // Leaves the path's last pair: the place from where its column is left to be read.
     fn back(&mut self) -> Option<Stand>
         requires { length self.old.path ≡ length self.old.places }
-        ensures some { IfSome result (λ s. (r : ℕ) × (self.old ≡ record self.new { path = self.new.path ++ (r, s.col) ∷ []; places = self.new.places ++ s.place ∷ [] })) }
+        ensures some { IfSome result
+            (λ s. (r : ℕ) × (self.old
+            ≡ record self.new {
+              path = self.new.path ++ (r, s.col) ∷ [];
+              places = self.new.places ++ s.place ∷ [];
+            })) }
         ensures none { IfNone result ((self.new ≡ self.old) × (self.old.path ≡ [])) }
     {
         let place = self.places.pop()?;
@@ -125,7 +143,9 @@ impl Search {
         requires looks { self.old.cols ≡ cols (S.matrix side.now) }
         requires col { col < cols (S.matrix side.now) }
         ensures same { self.new ≡ self.old }
-        ensures found { IfSome result (λ r. IsEntry (S.matrix side.now) r col × (¬ Among r (rows_of (F.seen matching.now).pairs))) }
+        ensures found { IfSome result
+            (λ r. IsEntry (S.matrix side.now) r col
+            × (¬ Among r (rows_of (F.seen matching.now).pairs))) }
     {
         // A column has no more rows than fit.
         let _rows = side.rows();
@@ -139,7 +159,10 @@ impl Search {
         requires in_range { (r : ℕ) → Among r (map F.number rows.now) → r < length self.now.marks }
         requires passed { HasPassed reversed self.now.marks (map F.number rows.now) place }
         ensures passed { HasPassed reversed self.now.marks (map F.number rows.now) result }
-        ensures unmarked { result < length rows.now → ¬ IsMarked self.now.marks (slice_index (map F.number rows.now) (read_place reversed (length (map F.number rows.now)) result)) }
+        ensures unmarked { result < length rows.now
+            → ¬ IsMarked self.now.marks
+            (slice_index (map F.number rows.now)
+            (read_place reversed (length (map F.number rows.now)) result)) }
     {
         next_unmarked(rows, self.marks.as_slice(), place as usize, reversed)
     }
@@ -153,8 +176,10 @@ impl Search {
         reversed: bool,
     ) -> Step
         requires matching { IsMatchingOf (S.matrix side.now) (F.seen matching.now) }
-        requires search { StandsAt (S.matrix side.now) (F.seen matching.now).pairs reversed self.old at.col at.place }
-        ensures { Descends (S.matrix side.now) (F.seen matching.now).pairs reversed self.old self.new at.col result }
+        requires search { StandsAt (S.matrix side.now)
+            (F.seen matching.now).pairs reversed self.old at.col at.place }
+        ensures { Descends (S.matrix side.now)
+            (F.seen matching.now).pairs reversed self.old self.new at.col result }
     {
         let rows = side.rows_of(at.col);
         let place = self.next_place(rows, at.place, reversed);
@@ -184,8 +209,10 @@ impl Search {
         reversed: bool,
     ) -> Step
         requires matching { IsMatchingOf (S.matrix side.now) (F.seen matching.now) }
-        requires search { StandsAt (S.matrix side.now) (F.seen matching.now).pairs reversed self.old at.col at.place }
-        ensures { Descends (S.matrix side.now) (F.seen matching.now).pairs reversed self.old self.new at.col result }
+        requires search { StandsAt (S.matrix side.now)
+            (F.seen matching.now).pairs reversed self.old at.col at.place }
+        ensures { Descends (S.matrix side.now)
+            (F.seen matching.now).pairs reversed self.old self.new at.col result }
     {
         if at.place == 0 {
             if let Some(row) = self.look_ahead(side, matching, at.col) {
@@ -205,8 +232,10 @@ impl Search {
         reversed: bool,
     ) -> Step
         requires matching { IsMatchingOf (S.matrix side.now) (F.seen matching.now) }
-        requires search { StandsAt (S.matrix side.now) (F.seen matching.now).pairs reversed self.old at.col at.place }
-        ensures { Advances (S.matrix side.now) (F.seen matching.now).pairs reversed self.old self.new result }
+        requires search { StandsAt (S.matrix side.now)
+            (F.seen matching.now).pairs reversed self.old at.col at.place }
+        ensures { Advances (S.matrix side.now)
+            (F.seen matching.now).pairs reversed self.old self.new result }
     {
         match self.visit(side, matching, at, reversed) {
             Step::Stuck => match self.back() {
@@ -231,9 +260,13 @@ impl Search {
         requires root { root < cols (S.matrix side.now) }
         requires unmatched { ¬ Among root (cols_of (F.seen matching.now).pairs) }
         ensures cols { self.new.cols ≡ self.old.cols }
-        ensures marks { HasMarked self.new.seen self.old.marks self.new.marks }
-        ensures found { OnTrue result (Finds (S.matrix side.now) (F.seen matching.now).pairs self.old.marks root self.new.path) }
-        ensures failed { OnFalse result (Exhausts (S.matrix side.now) (F.seen matching.now).pairs self.new.marks self.new.seen root) }
+        ensures marks { HasMarked self.new.visited self.old.marks self.new.marks }
+        ensures found { OnTrue result
+            (Finds (S.matrix side.now)
+            (F.seen matching.now).pairs self.old.marks root self.new.path) }
+        ensures failed { OnFalse result
+            (Exhausts (S.matrix side.now)
+            (F.seen matching.now).pairs self.new.marks self.new.visited root) }
     {
         // The rows fit, and so do the places in a column's list.
         let _rows = side.rows();
@@ -253,12 +286,16 @@ impl Search {
 
     // Exchanges the path, and leaves something else in its place.
     fn flip<F: Opposite>(&mut self, matching: &mut Matching)
-        requires in_range { (r c : ℕ) → Among (r, c) self.old.path → (r < (F.seen matching.old).rows) × (c < (F.seen matching.old).cols) }
+        requires in_range { (r c : ℕ) → Among (r, c) self.old.path
+            → (r < (F.seen matching.old).rows) × (c < (F.seen matching.old).cols) }
         requires path { IsAugmenting (F.seen matching.old).pairs self.old.path }
         ensures same { self.new ≡ record self.old { path = self.new.path } }
-        ensures pairs { Exchanges self.old.path (F.seen matching.old).pairs (F.seen matching.new).pairs }
-        ensures size { length (F.seen matching.new).pairs ≡ suc (length (F.seen matching.old).pairs) }
-        ensures matching { (a : Matrix) → IsMatchingOf a (F.seen matching.old) → AreEntries a self.old.path → IsMatchingOf a (F.seen matching.new) }
+        ensures pairs { Exchanges self.old.path (F.seen matching.old).pairs
+            (F.seen matching.new).pairs }
+        ensures size { length (F.seen matching.new).pairs
+            ≡ suc (length (F.seen matching.old).pairs) }
+        ensures matching { (a : Matrix) → IsMatchingOf a (F.seen matching.old)
+            → AreEntries a self.old.path → IsMatchingOf a (F.seen matching.new) }
         ensures covered { Covers (F.seen matching.old).pairs (F.seen matching.new).pairs }
     {
         F::exchange(matching, self.path.as_mut_slice());
@@ -283,13 +320,17 @@ impl Search {
         requires root { root < cols (S.matrix side.now) }
         requires unmatched { ¬ Among root (cols_of (F.seen matching.old).pairs) }
         ensures cols { self.new.cols ≡ self.old.cols }
-        ensures marks { HasMarked self.new.seen self.old.marks self.new.marks }
+        ensures marks { HasMarked self.new.visited self.old.marks self.new.marks }
         ensures matching { IsMatchingOf (S.matrix side.now) (F.seen matching.new) }
         ensures covered { Covers (F.seen matching.old).pairs (F.seen matching.new).pairs }
-        ensures found { OnTrue result (Augments root self.old.marks (F.seen matching.old).pairs (F.seen matching.new).pairs) }
+        ensures found { OnTrue result
+            (Augments root self.old.marks (F.seen matching.old).pairs (F.seen matching.new).pairs) }
 
         // Without a path the matching stays, and the rows that were marked are of no use to any other path.
-        ensures failed { OnFalse result ((F.seen matching.new ≡ F.seen matching.old) × Fails (S.matrix side.now) (F.seen matching.old).pairs self.old.marks self.new.marks root) }
+        ensures failed { OnFalse result
+            ((F.seen matching.new ≡ F.seen matching.old)
+            × Fails (S.matrix side.now)
+            (F.seen matching.old).pairs self.old.marks self.new.marks root) }
     {
         if !self.find(side, matching, root, reversed) {
             return false;
@@ -300,13 +341,14 @@ impl Search {
 
     /// Takes the marks of the last search away.
     pub fn forget(&mut self)
-        requires { (start : List Bool) × HasMarked self.old.seen start self.old.marks }
+        requires { (start : List Bool) × HasMarked self.old.visited start self.old.marks }
         ensures cols { self.new.cols ≡ self.old.cols }
 
         // The marks are those from before the search.
-        ensures marks { (start : List Bool) → HasMarked self.old.seen start self.old.marks → self.new.marks ≡ start }
+        ensures marks { (start : List Bool) → HasMarked self.old.visited start self.old.marks
+            → self.new.marks ≡ start }
     {
-        unmark(self.marks.as_mut_slice(), self.seen.as_slice());
+        unmark(self.marks.as_mut_slice(), self.visited.as_slice());
     }
 
     /// Takes all marks away.

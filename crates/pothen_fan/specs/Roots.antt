@@ -24,4 +24,5 @@ pub record FindsNone (a : Matrix) (m : List Place) (old new : List Bool) (root :
 
 -- the matching stayed, since no path begins at the root, or it grew
 abbrev pub Extends : Matrix → Pairing → Pairing → List Bool → List Bool → ℕ → Type 0
-Extends a m n old new root = ((n ≡ m) × FindsNone a m.pairs old new root) ⊎ (length m.pairs < length n.pairs)
+Extends a m n old new root = ((n ≡ m) × FindsNone a m.pairs old new root)
+    ⊎ (length m.pairs < length n.pairs)

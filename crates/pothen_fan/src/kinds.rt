@@ -53,10 +53,13 @@ impl Phases {
         requires ready { AreReady (S.matrix side.now) (F.seen matching.old) self.old }
         ensures ready { AreReady (S.matrix side.now) (F.seen matching.new) self.new }
         ensures covered { Covers (F.seen matching.old).pairs (F.seen matching.new).pairs }
-        ensures grown { IsTrue result ↔ (length (F.seen matching.old).pairs < length (F.seen matching.new).pairs) }
+        ensures grown { IsTrue result
+            ↔ (length (F.seen matching.old).pairs < length (F.seen matching.new).pairs) }
 
         // Where the matching hasn't grown it was maximum.
-        ensures maximum { ((F.seen matching.new ≡ F.seen matching.old) × IsMaximum (S.matrix side.now) (F.seen matching.old).pairs) ⊎ (length (F.seen matching.old).pairs < length (F.seen matching.new).pairs) }
+        ensures maximum { ((F.seen matching.new ≡ F.seen matching.old)
+            × IsMaximum (S.matrix side.now) (F.seen matching.old).pairs)
+            ⊎ (length (F.seen matching.old).pairs < length (F.seen matching.new).pairs) }
     {
         let before = F::size(matching);
         self.search(side, matching);
@@ -70,7 +73,9 @@ impl Phases {
         requires ready { AreReady (S.matrix side.now) (F.seen matching.old) self.old }
         ensures ready { AreReady (S.matrix side.now) (F.seen matching.new) self.new }
         ensures covered { Covers (F.seen matching.old).pairs (F.seen matching.new).pairs }
-        ensures maximum { ((F.seen matching.new ≡ F.seen matching.old) × IsMaximum (S.matrix side.now) (F.seen matching.old).pairs) ⊎ (length (F.seen matching.old).pairs < length (F.seen matching.new).pairs) }
+        ensures maximum { ((F.seen matching.new ≡ F.seen matching.old)
+            × IsMaximum (S.matrix side.now) (F.seen matching.old).pairs)
+            ⊎ (length (F.seen matching.old).pairs < length (F.seen matching.new).pairs) }
     {
         if self.breadth_first {
             self.forest.sweep(side, matching);
@@ -83,7 +88,8 @@ impl Phases {
 
     // Turns to the other kind after a phase that matched less than half of the roots that were unmatched, rounded down.
     fn choose(&mut self, growth: usize)
-        ensures { self.new ≡ record self.old { breadth_first = self.new.breadth_first; unmatched = self.new.unmatched } }
+        ensures { self.new ≡ record self.old
+            { breadth_first = self.new.breadth_first; unmatched = self.new.unmatched } }
     {
         if growth < self.unmatched / 2 {
             self.breadth_first = !self.breadth_first;

@@ -28,7 +28,8 @@ fn is_root<F: Opposite, S: Side<F>>(side: &S, matching: &Matching, col: Col) -> 
 /// How many unmatched columns have entries.
 pub fn count_roots<F: Opposite, S: Side<F>>(side: &S, matching: &Matching) -> u32
     requires { (F.seen matching.now).cols ≡ cols (S.matrix side.now) }
-    ensures { (w : List ℕ) × Lists (IsRoot (S.matrix side.now) (F.seen matching.now).pairs) w × (result ≡ length w) }
+    ensures { (w : List ℕ) × Lists (IsRoot (S.matrix side.now) (F.seen matching.now).pairs) w
+        × (result ≡ length w) }
 {
     let mut count = 0;
     for col in 0..side.cols() {
@@ -46,7 +47,8 @@ pub fn roots<F: Opposite, S: Side<F>>(
     matching: &Matching,
 ) -> Result<Vec<Col>, OutOfMemory>
     requires { (F.seen matching.now).cols ≡ cols (S.matrix side.now) }
-    ensures { IfOk result (λ roots. Lists (IsRoot (S.matrix side.now) (F.seen matching.now).pairs) roots.items) }
+    ensures { IfOk result
+        (λ roots. Lists (IsRoot (S.matrix side.now) (F.seen matching.now).pairs) roots.items) }
 {
     let mut roots = Vec::new(alloc);
     for number in 0..side.cols() {
@@ -75,7 +77,9 @@ pub fn sweep<F: Opposite, S: Side<F>>(
     ensures covered { Covers (F.seen matching.old).pairs (F.seen matching.new).pairs }
 
     // Where the matching hasn't grown it was maximum.
-    ensures maximum { ((F.seen matching.new ≡ F.seen matching.old) × IsMaximum (S.matrix side.now) (F.seen matching.old).pairs) ⊎ (length (F.seen matching.old).pairs < length (F.seen matching.new).pairs) }
+    ensures maximum { ((F.seen matching.new ≡ F.seen matching.old)
+        × IsMaximum (S.matrix side.now) (F.seen matching.old).pairs)
+        ⊎ (length (F.seen matching.old).pairs < length (F.seen matching.new).pairs) }
 {
     search.clear();
     for root in roots {
@@ -99,7 +103,8 @@ fn extend<F: Opposite, S: Side<F>>(
     ensures rows { length search.new.marks ≡ length search.old.marks }
     ensures cols { search.new.cols ≡ search.old.cols }
     ensures covered { Covers (F.seen matching.old).pairs (F.seen matching.new).pairs }
-    ensures extends { Extends (S.matrix side.now) (F.seen matching.old) (F.seen matching.new) search.old.marks search.new.marks root }
+    ensures extends { Extends (S.matrix side.now) (F.seen matching.old)
+        (F.seen matching.new) search.old.marks search.new.marks root }
 {
     match F::row_of(matching, root) {
         Some(_) => {}

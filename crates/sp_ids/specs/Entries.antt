@@ -28,7 +28,12 @@ values t = map (λ (t : Triple). t.value) t.items
 
 -- the entries with one more at their end
 abbrev pub with_entry : Entries → Triple → Entries
-with_entry t item = record { rows = t.rows; cols = t.cols; field = t.field; items = t.items ++ item ∷ [] }
+with_entry t item = record {
+  rows = t.rows;
+  cols = t.cols;
+  field = t.field;
+  items = t.items ++ item ∷ [];
+}
 
 -- the place is in a matrix of so many rows and columns
 abbrev pub IsInside : ℕ → ℕ → ℕ × ℕ → Type 0

@@ -12,7 +12,12 @@ items_of (p ∷ ps) [] = record { row = p.0; col = p.1; value = pos 0 } ∷ item
 items_of (p ∷ ps) (v ∷ vs) = record { row = p.0; col = p.1; value = v } ∷ items_of ps vs
 
 abbrev pub entries_of : Inside → Entries
-entries_of t = record { rows = t.rows; cols = t.cols; field = t.field; items = items_of t.places.items t.values.items }
+entries_of t = record {
+  rows = t.rows;
+  cols = t.cols;
+  field = t.field;
+  items = items_of t.places.items t.values.items;
+}
 
 -- the places are in range, there are less than 2^32 of them, and values stand beside them where the field is integer
 pub record IsStored (t : Inside) : Type 0 where

@@ -46,7 +46,8 @@ impl Model for Triples {
 impl Triples {
     /// No entries, of a matrix with so many rows and columns and a file of this field. It takes no memory yet.
     pub fn new(alloc: Global, rows: u32, cols: u32, field: Field) -> Result<Triples, OutOfMemory>
-        ensures { IfOk result (λ t. t ≡ record { rows = rows; cols = cols; field = field; items = [] }) }
+        ensures { IfOk result
+            (λ t. t ≡ record { rows = rows; cols = cols; field = field; items = [] }) }
     {
         Ok(Triples {
             rows,
@@ -63,7 +64,8 @@ impl Triples {
         requires col { col < self.old.cols }
         requires few { length self.old.items < 4294967295 }
         requires value { self.old.field ≢ Integer → value ≡ pos 0 }
-        ensures ok { OnOk result (self.new ≡ with_entry self.old (record { row = row; col = col; value = value })) }
+        ensures ok { OnOk result
+            (self.new ≡ with_entry self.old (record { row = row; col = col; value = value })) }
         ensures err { OnErr result (self.new ≡ self.old) }
     {
         self.places.push((row, col))?;

@@ -4,7 +4,7 @@ use Rattle.std.proofs.lemmas.List.{take-append-drop}
 use Rattle.std.proofs.lemmas.Slice.{between_to_end}
 use Rattle.std.specs.List.{between}
 use Rattle.sp_ports.specs.Bytes.{Takes}
-use Rattle.sp_ports.specs.Device.{Device, IsNext, Took, TookFront, both}
+use Rattle.sp_ports.specs.Device.{Device, IsNext, Took, TookPrefix, both}
 
 takes_both : (old mid new : Option (List ℕ)) (first second : List ℕ)
     → Takes old mid first → Takes mid new second → Takes old new (first ++ second)
@@ -20,16 +20,16 @@ took_both d e first second next one two = record {
   steady = two.steady ∙ next.1 ∙ one.steady;
 }
 
-pub took_front : (d e : Device) (first text : List ℕ)
-    → IsNext d e → Took d first → TookFront e text → TookFront (both d e) (first ++ text)
-took_front d e first text next one two =
-    let (front, rest, is, takes) = two.bytes in
+pub took_prefix : (d e : Device) (first text : List ℕ)
+    → IsNext d e → Took d first → TookPrefix e text → TookPrefix (both d e) (first ++ text)
+took_prefix d e first text next one two =
+    let (prefix, rest, is, takes) = two.bytes in
     record {
       bytes = (
-        first ++ front,
+        first ++ prefix,
         rest,
-        ap (λ (t : List ℕ). first ++ t) is ∙ sym (append_assoc first front rest),
-        takes_both d.before d.after e.after first front one.bytes (rw (← next.0) takes),
+        ap (λ (t : List ℕ). first ++ t) is ∙ sym (append_assoc first prefix rest),
+        takes_both d.before d.after e.after first prefix one.bytes (rw (← next.0) takes),
       );
       counts = record {
         later = omega (arith, two.counts.later, next.1, one.steady);
@@ -38,7 +38,7 @@ took_front d e first text next one two =
       fault = rw (← (next.1 ∙ one.steady)) two.fault;
     }
 
--- the front and the rest
+-- the prefix and the rest
 pub split_at : (k : ℕ) (xs : List ℕ) → xs ≡ take k xs ++ between k (length xs) xs
 split_at k xs =
     sym (take-append-drop k xs) ∙ ap (λ (r : List ℕ). take k xs ++ r) (sym (between_to_end xs k (length xs) (omega arith)))

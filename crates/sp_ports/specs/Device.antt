@@ -1,6 +1,6 @@
 -- A device, seen before a call and after it.
 use Rattle.std.specs.Prelude.{◌≡◌, ◌≤◌, ◌<◌, ◌+◌, ◌-◌, ◌^◌, ◌⊎◌, ℕ, List, Option, None, Some, Result, Ok, Err, OnOk, OnErr, min}
-use Rattle.sp_ports.specs.Bytes.{Takes, TakesFront}
+use Rattle.sp_ports.specs.Bytes.{Takes, TakesPrefix}
 
 -- the bytes that it tells, and how often it has failed
 pub record Device : Type 0 where
@@ -47,7 +47,8 @@ abbrev pub HasWriteFault : Device → Type 0
 HasWriteFault d = Rose d.failed_before d.failed_after
 
 -- At Ok no call of it has failed, and an Err has its cause.
-pub record FailsOnly {T E : Type 0} (d : Device) (cause : Type 0) (result : Result T E) : Type 0 where
+pub record FailsOnly {T E : Type 0} (d : Device) (cause : Type 0)
+    (result : Result T E) : Type 0 where
   pub counts : FailsOnceAtMost d
   pub steady : OnOk result (IsSteady d)
   pub failed : OnErr result cause
@@ -71,20 +72,20 @@ pub record Took (d : Device) (text : List ℕ) : Type 0 where
   pub bytes : Takes d.before d.after text
   pub steady : IsSteady d
 
--- it failed, and took a front of the text
-pub record TookFront (d : Device) (text : List ℕ) : Type 0 where
-  pub bytes : TakesFront d.before d.after text
+-- it failed, and took a prefix of the text
+pub record TookPrefix (d : Device) (text : List ℕ) : Type 0 where
+  pub bytes : TakesPrefix d.before d.after text
   pub counts : FailsOnceAtMost d
   pub fault : HasWriteFault d
 
 -- the text was written: all of it at Ok, and at Err as much of it as the device took before it failed
 abbrev pub Writes : {T E : Type 0} → Device → List ℕ → Result T E → Type 0
 Writes d text (Ok v) = Took d text
-Writes d text (Err e) = TookFront d text
+Writes d text (Err e) = TookPrefix d text
 
 -- the same, where the outcome is not told
 abbrev pub WroteAsFar : Device → List ℕ → Type 0
-WroteAsFar d text = Took d text ⊎ TookFront d text
+WroteAsFar d text = Took d text ⊎ TookPrefix d text
 
 -- ---- one call after another
 

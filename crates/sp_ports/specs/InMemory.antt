@@ -47,5 +47,5 @@ pub record SteadyStore : Type 0 where
   pub dropped : Bool
 
 -- Once it has dropped a byte it tells none.
-abbrev pub told : SteadyStore → Option (List ℕ)
-told s = if s.dropped then None else Some s.kept
+abbrev pub kept_bytes : SteadyStore → Option (List ℕ)
+kept_bytes s = if s.dropped then None else Some s.kept

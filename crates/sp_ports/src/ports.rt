@@ -2,7 +2,7 @@
 
 ghost use Rattle.std.specs.Prelude.{◌≡◌, ◌<◌, ◌≤◌, ◌++◌, ℕ, List, Option, length, take, IfOk, OnErr};
 ghost use Rattle.sp_ports.specs.Bytes.{Gives, IsAtEnd, Takes};
-ghost use Rattle.sp_ports.specs.Device.{Device, FailsByReads, FailsByWrites, IsNext, Took, TookFront, Writes, both, seen};
+ghost use Rattle.sp_ports.specs.Device.{Device, FailsByReads, FailsByWrites, IsNext, Took, TookPrefix, Writes, both, seen};
 
 /// A device did not do what it was asked.
 #[derive(Clone, Copy, Debug, PartialEq, Eq)]
@@ -16,7 +16,7 @@ pub trait Source {
     /// How often a read has failed.
     ghost faults: { Self → ℕ };
 
-    /// Moves bytes from the front of what is left into the buffer, and tells how many. 0 for a buffer that is not empty
+    /// Moves bytes from the start of what is left into the buffer, and tells how many. 0 for a buffer that is not empty
     /// comes only at the end. `Failed` comes only where the count of faults rose, and then nothing was moved. A call counts
     /// one fault at most.
     fn read(&mut self, buf: &mut [u8]) -> Result<usize, Failed>
@@ -36,12 +36,13 @@ pub trait Sink {
     /// How often a call has failed.
     ghost faults: { Self → ℕ };
 
-    /// Takes bytes from the front of the piece, and tells how many: at least one of a piece that is not empty. `Failed`
+    /// Takes bytes from the start of the piece, and tells how many: at least one of a piece that is not empty. `Failed`
     /// comes only where the count of faults rose, and then nothing was taken.
     fn write(&mut self, piece: &[u8]) -> Result<usize, Failed>
         ensures bound { IfOk result (λ k. k ≤ length piece.now) }
         ensures some { IfOk result (λ k. 0 < length piece.now → 0 < k) }
-        ensures bytes { IfOk result (λ k. Takes (taken self.old) (taken self.new) (take k piece.now)) }
+        ensures bytes { IfOk result
+            (λ k. Takes (taken self.old) (taken self.new) (take k piece.now)) }
         ensures kept { OnErr result (taken self.new ≡ taken self.old) }
         ensures cause { FailsByWrites (seen taken faults self.old self.new) result };
 
@@ -52,7 +53,7 @@ pub trait Sink {
 }
 
 /// Writes all of the bytes, in as many calls as the sink asks. After `Failed`, which comes only where a call failed, a
-/// front of them was taken, and no call was made after the one that failed. It takes no memory.
+/// prefix of them was taken, and no call was made after the one that failed. It takes no memory.
 pub fn write_all<K: Sink>(out: &mut K, bytes: &[u8]) -> Result<(), Failed>
     ensures { Writes (seen K.taken K.faults out.old out.new) bytes.now result }
 {
@@ -69,9 +70,9 @@ pub fn taken_in_turn()
     // Both texts, where no call failed.
     ensures both { (d e : Device) (first second : List ℕ) → IsNext d e
         → Took d first → Took e second → Took (both d e) (first ++ second) }
-    // The first, and a front of the other, where its call failed.
-    ensures front { (d e : Device) (first second : List ℕ) → IsNext d e
-        → Took d first → TookFront e second → TookFront (both d e) (first ++ second) }
+    // The first, and a prefix of the other, where its call failed.
+    ensures prefix { (d e : Device) (first second : List ℕ) → IsNext d e
+        → Took d first → TookPrefix e second → TookPrefix (both d e) (first ++ second) }
 {}
 
 #[cfg(test)]
@@ -93,7 +94,7 @@ mod tests {
     }
 
     #[test]
-    fn a_front_is_written_up_to_the_failing_call(rt: HostRuntime) -> Result<(), Fail> {
+    fn a_prefix_is_written_up_to_the_failing_call(rt: HostRuntime) -> Result<(), Fail> {
         let alloc = rt.alloc();
         let mut sink = MemSink::new(alloc, 9, 2, [3].to_vec(alloc)?)?;
         assert_eq!(rt; write_all(&mut sink, b"abcdefgh"), Err(Failed));

@@ -4,7 +4,7 @@ ghost use Rattle.std.specs.Prelude.{◌≡◌, ◌<◌, ◌≤◌, ◌+◌, ◌-
 ghost use Rattle.std.specs.Vec.{vec_capacity};
 ghost use Rattle.sp_ports.specs.Bytes.{Takes};
 ghost use Rattle.sp_ports.specs.Device.{FailsByWrites, seen};
-ghost use Rattle.sp_ports.specs.InMemory.{bytes_of, failures_of, number_after, told};
+ghost use Rattle.sp_ports.specs.InMemory.{bytes_of, failures_of, number_after, kept_bytes};
 
 use crate::calls::Numbers;
 use crate::{Failed, Sink};
@@ -29,7 +29,14 @@ impl Model for MemSink {
 
     ghost use Rattle.sp_ports.specs.Kept.{IsStore};
 
-    ghost view = { λ s. record { taken = s.kept.items; room = s.room; piece = s.piece; failing = s.calls.failing; next = s.calls.next; failed = s.failed } };
+    ghost view = { λ s. record {
+      taken = s.kept.items;
+      room = s.room;
+      piece = s.piece;
+      failing = s.calls.failing;
+      next = s.calls.next;
+      failed = s.failed;
+    } };
 
     ghost invariant = { IsStore };
 }
@@ -44,7 +51,15 @@ impl MemSink {
         failing: Vec<u64>,
     ) -> Result<MemSink, OutOfMemory>
         requires { 0 < piece }
-        ensures { IfOk result (λ s. s ≡ record { taken = []; room = room; piece = piece; failing = failing.items; next = 0; failed = 0 }) }
+        ensures { IfOk result
+            (λ s. s ≡ record {
+              taken = [];
+              room = room;
+              piece = piece;
+              failing = failing.items;
+              next = 0;
+              failed = 0;
+            }) }
     {
         Ok(MemSink {
             kept: Vec::with_capacity(alloc, room)?,
@@ -78,11 +93,20 @@ impl Sink for MemSink {
     /// Takes as many bytes as it has room for, but at most a piece. Exactly the listed calls fail, and those for which no
     /// room is left.
     fn write(&mut self, piece: &[u8]) -> Result<usize, Failed>
-        ensures fails { IsErr result ↔ (Contains self.old.failing self.old.next ⊎ (length self.old.taken ≡ self.old.room)) }
-        ensures count { IfOk result (λ k. k ≡ min (length piece.now) (min self.old.piece (self.old.room - length self.old.taken))) }
+        ensures fails { IsErr result
+            ↔ (Contains self.old.failing self.old.next ⊎ (length self.old.taken ≡ self.old.room)) }
+        ensures count { IfOk result
+            (λ k. k ≡ min (length piece.now)
+            (min self.old.piece (self.old.room - length self.old.taken))) }
         ensures some { IfOk result (λ k. 0 < length piece.now → 0 < k) }
-        ensures ok { IfOk result (λ k. self.new ≡ record self.old { taken = self.old.taken ++ take k piece.now; next = number_after self.old.next }) }
-        ensures err { OnErr result (self.new ≡ record self.old { next = number_after self.old.next; failed = min (self.old.failed + 1) (2 ^ 64 - 1) }) }
+        ensures ok { IfOk result
+            (λ k. self.new ≡ record self.old
+            { taken = self.old.taken ++ take k piece.now; next = number_after self.old.next }) }
+        ensures err { OnErr result
+            (self.new ≡ record self.old {
+              next = number_after self.old.next;
+              failed = min (self.old.failed + 1) (2 ^ 64 - 1);
+            }) }
         ensures cause { FailsByWrites (seen bytes_of failures_of self.old self.new) result }
     {
         if self.calls.fails_next() {
@@ -99,8 +123,13 @@ impl Sink for MemSink {
     /// Changes no byte. Exactly the listed calls fail.
     fn flush(&mut self) -> Result<(), Failed>
         ensures fails { IsErr result ↔ Contains self.old.failing self.old.next }
-        ensures ok { OnOk result (self.new ≡ record self.old { next = number_after self.old.next }) }
-        ensures err { OnErr result (self.new ≡ record self.old { next = number_after self.old.next; failed = min (self.old.failed + 1) (2 ^ 64 - 1) }) }
+        ensures ok { OnOk result
+            (self.new ≡ record self.old { next = number_after self.old.next }) }
+        ensures err { OnErr result
+            (self.new ≡ record self.old {
+              next = number_after self.old.next;
+              failed = min (self.old.failed + 1) (2 ^ 64 - 1);
+            }) }
         ensures cause { FailsByWrites (seen bytes_of failures_of self.old self.new) result }
     {
         if self.calls.fails_next() {
@@ -141,7 +170,12 @@ impl Model for SteadySink {
 
     ghost use Rattle.sp_ports.specs.Kept.{IsSteadyStore};
 
-    ghost view = { λ s. record { kept = s.kept.items; room = s.room; piece = s.piece; dropped = s.dropped } };
+    ghost view = { λ s. record {
+      kept = s.kept.items;
+      room = s.room;
+      piece = s.piece;
+      dropped = s.dropped;
+    } };
 
     ghost invariant = { IsSteadyStore };
 }
@@ -150,7 +184,8 @@ impl SteadySink {
     /// A sink with room for `room` bytes that takes at most `piece` of them in a call. It takes its memory now.
     pub fn new(alloc: Global, room: usize, piece: usize) -> Result<SteadySink, OutOfMemory>
         requires { 0 < piece }
-        ensures { IfOk result (λ s. s ≡ record { kept = []; room = room; piece = piece; dropped = false }) }
+        ensures { IfOk result
+            (λ s. s ≡ record { kept = []; room = room; piece = piece; dropped = false }) }
     {
         Ok(SteadySink {
             kept: Vec::with_capacity(alloc, room)?,
@@ -170,7 +205,7 @@ impl SteadySink {
 
 impl Sink for SteadySink {
     // Once it has dropped a byte it tells none.
-    ghost taken = { told };
+    ghost taken = { kept_bytes };
 
     ghost faults = { λ s. 0 };
 
@@ -179,7 +214,8 @@ impl Sink for SteadySink {
         ensures succeeds { IsOk result }
         ensures some { IfOk result (λ k. 0 < length piece.now → 0 < k) }
         ensures bound { IfOk result (λ k. k ≤ length piece.now) }
-        ensures bytes { IfOk result (λ k. Takes (told self.old) (told self.new) (take k piece.now)) }
+        ensures bytes { IfOk result
+            (λ k. Takes (kept_bytes self.old) (kept_bytes self.new) (take k piece.now)) }
         ensures keeps { IfOk result (λ k. length self.old.kept < self.old.room →
             (k ≡ min (length piece.now) (min self.old.piece (self.old.room - length self.old.kept)))
             × (self.new ≡ record self.old { kept = self.old.kept ++ take k piece.now })) }

@@ -25,7 +25,13 @@ impl Model for MemSource {
 
     ghost use Rattle.sp_ports.specs.Kept.{IsFeed};
 
-    ghost view = { λ s. record { left = drop s.at s.bytes.items; piece = s.piece; failing = s.calls.failing; next = s.calls.next; failed = s.failed } };
+    ghost view = { λ s. record {
+      left = drop s.at s.bytes.items;
+      piece = s.piece;
+      failing = s.calls.failing;
+      next = s.calls.next;
+      failed = s.failed;
+    } };
 
     ghost invariant = { IsFeed };
 }
@@ -35,7 +41,13 @@ impl MemSource {
     /// numbers, from 0, are in `failing` fail. It takes no memory.
     pub fn new(bytes: Vec<u8>, piece: usize, failing: Vec<u64>) -> MemSource
         requires { 0 < piece }
-        ensures { result ≡ record { left = bytes.items; piece = piece; failing = failing.items; next = 0; failed = 0 } }
+        ensures { result ≡ record {
+          left = bytes.items;
+          piece = piece;
+          failing = failing.items;
+          next = 0;
+          failed = 0;
+        } }
     {
         MemSource {
             bytes,
@@ -62,10 +74,15 @@ impl Source for MemSource {
     /// Gives as many bytes as the buffer has room for, but at most a piece. Exactly the listed calls fail.
     fn read(&mut self, buf: &mut [u8]) -> Result<usize, Failed>
         ensures fails { IsErr result ↔ Contains self.old.failing self.old.next }
-        ensures count { IfOk result (λ k. k ≡ min (length self.old.left) (min self.old.piece (length buf.old))) }
+        ensures count { IfOk result
+            (λ k. k ≡ min (length self.old.left) (min self.old.piece (length buf.old))) }
         ensures bytes { IfOk result (λ k. take k buf.new ≡ take k self.old.left) }
-        ensures ok { IfOk result (λ k. self.new ≡ record self.old { left = drop k self.old.left; next = number_after self.old.next }) }
-        ensures err { OnErr result (self.new ≡ record self.old { next = number_after self.old.next; failed = self.old.failed + 1 }) }
+        ensures ok { IfOk result
+            (λ k. self.new ≡ record self.old
+            { left = drop k self.old.left; next = number_after self.old.next }) }
+        ensures err { OnErr result
+            (self.new ≡ record self.old
+            { next = number_after self.old.next; failed = self.old.failed + 1 }) }
         // No bytes come only at the end, or into no room.
         ensures end { IfOk result (λ k. k ≡ 0 → 0 < length buf.old → self.old.left ≡ []) }
     {
@@ -131,7 +148,8 @@ impl Source for SteadySource {
     /// Gives as many bytes as the buffer has room for, but at most a piece.
     fn read(&mut self, buf: &mut [u8]) -> Result<usize, Failed>
         ensures succeeds { IsOk result }
-        ensures count { IfOk result (λ k. k ≡ min (length self.old.left) (min self.old.piece (length buf.old))) }
+        ensures count { IfOk result
+            (λ k. k ≡ min (length self.old.left) (min self.old.piece (length buf.old))) }
         ensures bytes { IfOk result (λ k. take k buf.new ≡ take k self.old.left) }
         ensures ok { IfOk result (λ k. self.new ≡ record self.old { left = drop k self.old.left }) }
         // No bytes come only at the end, or into no room.

@@ -3,8 +3,9 @@ use Rattle.std.proofs.Common.{◌≡◌, ◌≢◌, ◌∙◌, ℕ, ◌+◌, ◌
 use Rattle.std.proofs.lemmas.List.{get_or_default}
 use Rattle.bip_defs.specs.Lists.{Among, IsRising}
 use Rattle.bip_defs.proofs.Sets.{among_last, among_left, below_each_from, below_each_sound, among_right, number_same}
-use Rattle.square_components.specs.Numbers.{look, none}
-use Rattle.square_components.specs.Steps.{AreUpTo, Numbers}
+use Rattle.bip_graph.specs.Matching.{none}
+use Rattle.square_components.specs.Numbers.{look}
+use Rattle.square_components.specs.Steps.{AreUpTo, AssignsNumber}
 
 -- what indexing read, as the clauses say it
 pub look_read : (xs : List ℕ) (i x : ℕ) → i < length xs → x ≡ get_or xs i x → look xs i ≡ x
@@ -12,10 +13,10 @@ look_read xs i x lt e = get_or_default xs i none x lt ∙ sym e
 
 -- Numbers.
 
-pub numbers_none : (stack : List ℕ) (b e k : ℕ) (old : List ℕ) → e ≤ b → Numbers stack b e k old old
+pub numbers_none : (stack : List ℕ) (b e k : ℕ) (old : List ℕ) → e ≤ b → AssignsNumber stack b e k old old
 numbers_none stack b e k old le = record { long = refl; given = λ i l lt. absurd (omega arith); others = λ c h. refl }
 
-pub numbers_more : (stack : List ℕ) (b e k : ℕ) (old new : List ℕ) → Numbers stack b e k old new → b ≤ e → get_or stack e 0 < length new → Numbers stack b (e + 1) k old (set new (get_or stack e 0) k)
+pub numbers_more : (stack : List ℕ) (b e k : ℕ) (old new : List ℕ) → AssignsNumber stack b e k old new → b ≤ e → get_or stack e 0 < length new → AssignsNumber stack b (e + 1) k old (set new (get_or stack e 0) k)
 numbers_more stack b e k old new n le within = record {
   long = length-set new (get_or stack e 0) k ∙ n.long;
   given = λ i l lt. ⊎_elim
@@ -37,8 +38,8 @@ rising_end (z ∷ xs) y x h (inl e) = subst (λ w. w < y) (sym e) (below_each_so
 rising_end (z ∷ xs) y x h (inr g) = rising_end xs y x h.1 g
 
 -- no element is above the last
-pub rising_most : (xs front : List ℕ) (y x : ℕ) → IsRising xs → xs ≡ front ++ y ∷ [] → Among x xs → x ≤ y
-rising_most xs front y x h e g = ⊎_elim (λ k. let lt = rising_end front y x (subst IsRising e h) k in omega arith) (λ (f : x ≡ y). omega arith) (among_last x y front (subst (Among x) e g))
+pub rising_most : (xs prefix : List ℕ) (y x : ℕ) → IsRising xs → xs ≡ prefix ++ y ∷ [] → Among x xs → x ≤ y
+rising_most xs prefix y x h e g = ⊎_elim (λ k. let lt = rising_end prefix y x (subst IsRising e h) k in omega arith) (λ (f : x ≡ y). omega arith) (among_last x y prefix (subst (Among x) e g))
 
 -- what is left of starts of which those above t are taken off
 pub record IsCut (t : ℕ) (old new : List ℕ) : Type 0 where
@@ -50,16 +51,16 @@ pub record IsCut (t : ℕ) (old new : List ℕ) : Type 0 where
 pub cut_none : (t : ℕ) (old : List ℕ) → IsRising old → IsCut t old old
 cut_none t old h = record { kept = λ b g le. g; only = λ b g. g; rising = h; fewer = omega arith }
 
-pub cut_more : (t : ℕ) (old new front : List ℕ) (y : ℕ) → IsCut t old new → new ≡ front ++ y ∷ [] → t < y → IsCut t old front
-cut_more t old new front y c e lt = record {
-  kept = λ b g le. ⊎_elim (λ h. h) (λ (f : b ≡ y). absurd (omega arith)) (among_last b y front (subst (Among b) e (c.kept b g le)));
-  only = λ b g. c.only b (subst (Among b) (sym e) (among_left b front (y ∷ []) g));
-  rising = rising_front front y (subst IsRising e c.rising);
-  fewer = let l = ap length e in let z = length-append front (y ∷ []) in let f = c.fewer in omega arith;
+pub cut_more : (t : ℕ) (old new prefix : List ℕ) (y : ℕ) → IsCut t old new → new ≡ prefix ++ y ∷ [] → t < y → IsCut t old prefix
+cut_more t old new prefix y c e lt = record {
+  kept = λ b g le. ⊎_elim (λ h. h) (λ (f : b ≡ y). absurd (omega arith)) (among_last b y prefix (subst (Among b) e (c.kept b g le)));
+  only = λ b g. c.only b (subst (Among b) (sym e) (among_left b prefix (y ∷ []) g));
+  rising = rising_front prefix y (subst IsRising e c.rising);
+  fewer = let l = ap length e in let z = length-append prefix (y ∷ []) in let f = c.fewer in omega arith;
 }
 
-pub cut_end : (t : ℕ) (old new front : List ℕ) (y : ℕ) → IsCut t old new → new ≡ front ++ y ∷ [] → y ≤ t → AreUpTo t old new
-cut_end t old new front y c e le = record { kept = c.kept; only = λ b g. (c.only b g, let m = rising_most new front y b c.rising e g in omega arith); rising = c.rising; fewer = c.fewer }
+pub cut_end : (t : ℕ) (old new prefix : List ℕ) (y : ℕ) → IsCut t old new → new ≡ prefix ++ y ∷ [] → y ≤ t → AreUpTo t old new
+cut_end t old new prefix y c e le = record { kept = c.kept; only = λ b g. (c.only b g, let m = rising_most new prefix y b c.rising e g in omega arith); rising = c.rising; fewer = c.fewer }
 
 pub cut_all : (t : ℕ) (old new : List ℕ) → IsCut t old new → new ≡ [] → AreUpTo t old new
 cut_all t old new c e = record { kept = c.kept; only = λ b g. absurd (subst (Among b) e g); rising = c.rising; fewer = c.fewer }

@@ -5,21 +5,22 @@ use Rattle.bip_defs.specs.Matching.{IsMaximum}
 use Rattle.bip_defs.specs.Matrix.{IsEntry, Matrix, Place, column}
 use Rattle.bip_defs.specs.Parts.{IsSquareCol}
 use Rattle.bip_defs.proofs.Sets.{col_among, col_pair, number_same, one_row, place_among}
-use Rattle.square_components.specs.Numbers.{AreNumbered, look, none}
-use Rattle.square_components.specs.Stacks.{AreMatesOf, Falls, IsSearch, State, target}
+use Rattle.bip_graph.specs.Matching.{none}
+use Rattle.square_components.specs.Numbers.{AreNumbered, look}
+use Rattle.square_components.specs.Stacks.{AreMatesOf, Falls, IsDepthFirst, PathState, target}
 use Rattle.square_components.specs.Stacks as names
-use Rattle.square_components.specs.Steps.{ArePairs}
+use Rattle.square_components.specs.Steps.{AreMatesIn}
 
-mate_among : (a : Matrix) (m pairs : List Place) (mates : List ℕ) (r c : ℕ) → AreMatesOf a m mates → ArePairs pairs mates → Among (r, c) m → Among (r, c) pairs
+mate_among : (a : Matrix) (m pairs : List Place) (mates : List ℕ) (r c : ℕ) → AreMatesOf a m mates → AreMatesIn pairs mates → Among (r, c) m → Among (r, c) pairs
 mate_among a m pairs mates r c k are h =
     let e = k.complete r c h in
     subst (λ x. Among (r, x) pairs) e (are r (λ z. let lt = (k.perfect.only_cols c (col_among r c m h)).0 in let f = k.few in omega arith))
 
 -- where all square columns were entered and the path is empty, each has its number
-numbered : (a : Matrix) (mates : List ℕ) (s : State) (c : ℕ) → IsSearch a mates s → s.stack ≡ [] → look s.place c ≢ none → look s.number c ≢ none
+numbered : (a : Matrix) (mates : List ℕ) (s : PathState) (c : ℕ) → IsDepthFirst a mates s → s.stack ≡ [] → look s.place c ≢ none → look s.number c ≢ none
 numbered a mates s c k empty placed e = let lt = (k.state.placed c placed e).0 in let z : length s.stack ≡ 0 = ap length empty in omega arith
 
-pub ends : (a : Matrix) (pairs : List Place) (mates : List ℕ) (s : State) → IsMaximum a pairs → ArePairs pairs mates → IsSearch a mates s → s.stack ≡ [] → ((c : ℕ) → IsSquareCol a c → look s.place c ≢ none) → AreNumbered a pairs s.number s.count
+pub ends : (a : Matrix) (pairs : List Place) (mates : List ℕ) (s : PathState) → IsMaximum a pairs → AreMatesIn pairs mates → IsDepthFirst a mates s → s.stack ≡ [] → ((c : ℕ) → IsSquareCol a c → look s.place c ≢ none) → AreNumbered a pairs s.number s.count
 ends a pairs mates s max are k empty placed = record {
   long = k.state.number_long;
   square = k.pairs;

@@ -6,20 +6,21 @@ use Rattle.bip_defs.specs.Matrix.{Matrix, Place, cols}
 use Rattle.bip_defs.specs.Parts.{IsSquareCol}
 use Rattle.bip_defs.specs.Walks.{Walk}
 use Rattle.bip_defs.proofs.Sets.{among_last, among_left, among_right, number_same}
-use Rattle.square_components.specs.Numbers.{look, none}
-use Rattle.square_components.specs.Stacks.{Clear, Falls, IsOn, IsState, Settled, State, degree, falls, finished, nowhere, stacked, target}
+use Rattle.bip_graph.specs.Matching.{none}
+use Rattle.square_components.specs.Numbers.{look}
+use Rattle.square_components.specs.Stacks.{Clear, Falls, IsOn, IsState, Settled, PathState, degree, falls, finished, nowhere, stacked, target}
 use Rattle.square_components.specs.Stacks as names
-use Rattle.square_components.specs.Steps.{Numbers, finishing}
+use Rattle.square_components.specs.Steps.{AssignsNumber, finishing}
 use Rattle.square_components.proofs.Changes.{rising_end, rising_front}
 use Rattle.square_components.proofs.StackLemmas.{less, on_once}
 
-abbrev IsIn : State → ℕ → ℕ → Type 0
+abbrev IsIn : PathState → ℕ → ℕ → Type 0
 IsIn s b c = (i : ℕ) × (b ≤ i) × (i < length s.stack) × (get_or s.stack i 0 ≡ c)
 
-abbrev IsOut : State → ℕ → ℕ → Type 0
+abbrev IsOut : PathState → ℕ → ℕ → Type 0
 IsOut s b c = (i : ℕ) → b ≤ i → i < length s.stack → get_or s.stack i 0 ≢ c
 
-in_or_out : (a : Matrix) (m : List Place) (mates : List ℕ) (s : State) (b c : ℕ) → IsState a m mates s → length s.stack ≤ none → IsIn s b c ⊎ IsOut s b c
+in_or_out : (a : Matrix) (m : List Place) (mates : List ℕ) (s : PathState) (b c : ℕ) → IsState a m mates s → length s.stack ≤ none → IsIn s b c ⊎ IsOut s b c
 in_or_out a m mates s b c k small = ⊎_elim
     (λ (lt : look s.place c < b). inr (λ i le li e. let p = place_at i li e in omega arith))
     (λ (ge : b ≤ look s.place c). ⊎_elim
@@ -34,7 +35,7 @@ in_or_out a m mates s b c k small = ⊎_elim
     place_at : (i : ℕ) → i < length s.stack → get_or s.stack i 0 ≡ c → look s.place c ≡ i
     place_at i li e = subst (λ x. look s.place x ≡ i) e (k.on i li).place
 
-pub emitted : (a : Matrix) (m : List Place) (mates : List ℕ) (s : State) (b : ℕ) (starts number : List ℕ) → IsState a m mates s → length s.stack ≤ none → cols a ≤ none → s.starts ≡ starts ++ b ∷ [] → ((i : ℕ) → Among i s.todo → i < b) → Numbers s.stack b (length s.stack) s.count s.number number → IsState a m mates (finishing s b starts number)
+pub emitted : (a : Matrix) (m : List Place) (mates : List ℕ) (s : PathState) (b : ℕ) (starts number : List ℕ) → IsState a m mates s → length s.stack ≤ none → cols a ≤ none → s.starts ≡ starts ++ b ∷ [] → ((i : ℕ) → Among i s.todo → i < b) → AssignsNumber s.stack b (length s.stack) s.count s.number number → IsState a m mates (finishing s b starts number)
 emitted a m mates s b starts number k small few_cols split before numbered = record {
   left_long = k.left_long;
   place_long = k.place_long;

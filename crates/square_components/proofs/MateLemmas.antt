@@ -7,7 +7,8 @@ use Rattle.bip_defs.specs.Matrix.{Matrix, Place, cols}
 use Rattle.bip_defs.specs.Parts.{IsSquareRow}
 use Rattle.bip_defs.proofs.Sets.{number_same, place_among}
 use Rattle.bip_defs.proofs.Square.{in_rows, in_rows_among, in_rows_back, square_pairs_perfect}
-use Rattle.square_components.specs.Numbers.{look, none}
+use Rattle.bip_graph.specs.Matching.{none}
+use Rattle.square_components.specs.Numbers.{look}
 use Rattle.square_components.specs.Stacks.{AreMatesOf}
 use Rattle.square_components.proofs.SearchLemmas.{look_none}
 

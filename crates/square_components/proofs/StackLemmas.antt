@@ -10,8 +10,9 @@ use Rattle.bip_defs.specs.Parts.{IsSquareCol}
 use Rattle.bip_defs.specs.Walks.{Walk, stay}
 use Rattle.bip_defs.proofs.Reaching.{walk_join}
 use Rattle.bip_defs.proofs.Sets.{among_last, among_left, among_right, number_same, rising_last}
-use Rattle.square_components.specs.Numbers.{look, none}
-use Rattle.square_components.specs.Stacks.{Clear, IsOn, IsState, Settled, State, degree, finished, free, nowhere, one_free, stacked, target}
+use Rattle.bip_graph.specs.Matching.{none}
+use Rattle.square_components.specs.Numbers.{look}
+use Rattle.square_components.specs.Stacks.{Clear, IsOn, IsState, Settled, PathState, degree, finished, free, nowhere, one_free, stacked, target}
 use Rattle.square_components.specs.Steps.{AreUpTo, advancing, entering, leaving, merging}
 use Rattle.square_components.proofs.Changes.{rising_front}
 
@@ -38,7 +39,7 @@ less_free place d at fresh lt ne =
 
 -- A column is entered.
 
-pub entered : (a : Matrix) (m : List Place) (mates : List ℕ) (s : State) (d : ℕ) → IsState a m mates s → IsSquareCol a d → look s.place d ≡ none → length s.stack < none → ((i : ℕ) → i < length s.stack → Walk a m (get_or s.stack i 0) d) → IsState a m mates (entering s d (degree a d))
+pub entered : (a : Matrix) (m : List Place) (mates : List ℕ) (s : PathState) (d : ℕ) → IsState a m mates s → IsSquareCol a d → look s.place d ≡ none → length s.stack < none → ((i : ℕ) → i < length s.stack → Walk a m (get_or s.stack i 0) d) → IsState a m mates (entering s d (degree a d))
 entered a m mates s d k square fresh small reach = record {
   left_long = length-set s.left d (degree a d) ∙ k.left_long;
   place_long = length-set s.place d (length s.stack) ∙ k.place_long;
@@ -151,12 +152,12 @@ entered a m mates s d k square fresh small reach = record {
         (number_same i (length s.stack))
 
 -- places of the stack have distinct columns
-pub on_once : (a : Matrix) (m : List Place) (mates : List ℕ) (s : State) (i j : ℕ) → IsState a m mates s → i < length s.stack → j < length s.stack → get_or s.stack i 0 ≡ get_or s.stack j 0 → i ≡ j
+pub on_once : (a : Matrix) (m : List Place) (mates : List ℕ) (s : PathState) (i j : ℕ) → IsState a m mates s → i < length s.stack → j < length s.stack → get_or s.stack i 0 ≡ get_or s.stack j 0 → i ≡ j
 on_once a m mates s i j k li lj e = sym (k.on i li).place ∙ ap (look s.place) e ∙ (k.on j lj).place
 
 -- An entry of the column at the last component's place p is looked at.
 
-pub advanced : (a : Matrix) (m : List Place) (mates : List ℕ) (s : State) (p l : ℕ) → IsState a m mates s → p < length s.stack → get_or s.left (get_or s.stack p 0) 0 ≡ l + 1 → Settled s p (target a mates (get_or s.stack p 0) l) → IsState a m mates (advancing s (get_or s.stack p 0) l)
+pub advanced : (a : Matrix) (m : List Place) (mates : List ℕ) (s : PathState) (p l : ℕ) → IsState a m mates s → p < length s.stack → get_or s.left (get_or s.stack p 0) 0 ≡ l + 1 → Settled s p (target a mates (get_or s.stack p 0) l) → IsState a m mates (advancing s (get_or s.stack p 0) l)
 advanced a m mates s p l k lt e settled = record {
   left_long = length-set s.left (get_or s.stack p 0) l ∙ k.left_long;
   place_long = k.place_long;
@@ -214,10 +215,10 @@ advanced a m mates s p l k lt e settled = record {
 -- The components after the place t are joined to that of t.
 
 -- the walks from each column of the stack to one of the last component
-pub to_top : (a : Matrix) (m : List Place) (mates : List ℕ) (s : State) (p i : ℕ) → IsState a m mates s → p < length s.stack → ((b : ℕ) → Among b s.starts → b ≤ p) → i < length s.stack → Walk a m (get_or s.stack i 0) (get_or s.stack p 0)
+pub to_top : (a : Matrix) (m : List Place) (mates : List ℕ) (s : PathState) (p i : ℕ) → IsState a m mates s → p < length s.stack → ((b : ℕ) → Among b s.starts → b ≤ p) → i < length s.stack → Walk a m (get_or s.stack i 0) (get_or s.stack p 0)
 to_top a m mates s p i k lt top li = k.walks i p li lt (λ b h z. absurd (let y = top b h in omega arith))
 
-pub merged : (a : Matrix) (m : List Place) (mates : List ℕ) (s : State) (starts : List ℕ) (p t : ℕ) → IsState a m mates s → p < length s.stack → ((b : ℕ) → Among b s.starts → b ≤ p) → t < length s.stack → Walk a m (get_or s.stack p 0) (get_or s.stack t 0) → AreUpTo t s.starts starts → IsState a m mates (merging s starts)
+pub merged : (a : Matrix) (m : List Place) (mates : List ℕ) (s : PathState) (starts : List ℕ) (p t : ℕ) → IsState a m mates s → p < length s.stack → ((b : ℕ) → Among b s.starts → b ≤ p) → t < length s.stack → Walk a m (get_or s.stack p 0) (get_or s.stack t 0) → AreUpTo t s.starts starts → IsState a m mates (merging s starts)
 merged a m mates s starts p t k lt top within onto up = record {
   left_long = k.left_long;
   place_long = k.place_long;
@@ -259,7 +260,7 @@ merged a m mates s starts p t k lt top within onto up = record {
 
 -- A column without entries left is done with.
 
-pub left_off : (a : Matrix) (m : List Place) (mates : List ℕ) (s : State) (todo : List ℕ) (p : ℕ) → IsState a m mates s → s.todo ≡ todo ++ p ∷ [] → get_or s.left (get_or s.stack p 0) 0 ≡ 0 → IsState a m mates (leaving s todo)
+pub left_off : (a : Matrix) (m : List Place) (mates : List ℕ) (s : PathState) (todo : List ℕ) (p : ℕ) → IsState a m mates s → s.todo ≡ todo ++ p ∷ [] → get_or s.left (get_or s.stack p 0) 0 ≡ 0 → IsState a m mates (leaving s todo)
 left_off a m mates s todo p k e done = record {
   left_long = k.left_long;
   place_long = k.place_long;

@@ -5,10 +5,7 @@ use Rattle.bip_defs.specs.Components.{AreComponents}
 use Rattle.bip_defs.specs.Lists.{Among}
 use Rattle.bip_defs.specs.Matrix.{Matrix, Place, cols}
 use Rattle.bip_defs.specs.Parts.{IsSquareCol}
-
--- stands for no number
-abbrev pub none : ℕ
-none = 4294967295
+use Rattle.bip_graph.specs.Matching.{none}
 
 -- the number of a column, or none
 abbrev pub look : List ℕ → ℕ → ℕ
@@ -16,7 +13,8 @@ look numbers c = slice_index_or numbers c none
 
 -- the square part's pairs among those of a maximum matching, and for each column the number of its strong component, of
 -- so many
-pub record AreNumbered (a : Matrix) (pairs : List Place) (numbers : List ℕ) (count : ℕ) : Type 0 where
+pub record AreNumbered (a : Matrix) (pairs : List Place) (numbers : List ℕ)
+    (count : ℕ) : Type 0 where
   pub long : length numbers ≡ cols a
   pub square : List Place
   pub perfect : IsPerfect a square

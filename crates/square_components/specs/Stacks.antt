@@ -5,12 +5,13 @@ use Rattle.bip_defs.specs.Lists.{Among, IsRising}
 use Rattle.bip_defs.specs.Matrix.{Matrix, Place, cols, column}
 use Rattle.bip_defs.specs.Parts.{IsSquareCol}
 use Rattle.bip_defs.specs.Walks.{Walk}
-use Rattle.square_components.specs.Numbers.{look, none}
+use Rattle.bip_graph.specs.Matching.{none}
+use Rattle.square_components.specs.Numbers.{look}
 
 -- the columns that are not finished in the order in which they were entered; the places at which the components so far
 -- start; the places of those that are not left yet; for each column how many of its entries are left to look at, its place, and
 -- its number once it is finished; and how many components are finished
-pub record State : Type 0 where
+pub record PathState : Type 0 where
   pub stack : List ℕ
   pub starts : List ℕ
   pub todo : List ℕ
@@ -39,7 +40,7 @@ abbrev pub Clear : List ℕ → ℕ → ℕ → Type 0
 Clear starts j i = (b : ℕ) → Among b starts → j < b → i < b
 
 -- where an entry of the column at the place i leads to: nowhere in the square part, to a finished column, or to one of its own component or a later one
-pub data Settled (s : State) (i d : ℕ) : Type 0 where
+pub data Settled (s : PathState) (i d : ℕ) : Type 0 where
   nowhere : d ≡ none → Settled s i d
   finished : look s.number d ≢ none → Settled s i d
   stacked : look s.place d ≢ none → Clear s.starts (look s.place d) i → Settled s i d
@@ -49,7 +50,7 @@ pub data Falls (number : List ℕ) (c d : ℕ) : Type 0 where
   nowhere : d ≡ none → Falls number c d
   falls : look number d ≢ none → look number d ≤ look number c → Falls number c d
 
-pub record IsOn (a : Matrix) (s : State) (i c : ℕ) : Type 0 where
+pub record IsOn (a : Matrix) (s : PathState) (i c : ℕ) : Type 0 where
   pub square : IsSquareCol a c
   pub place : look s.place c ≡ i
   pub number : look s.number c ≡ none
@@ -59,28 +60,34 @@ abbrev pub one_free : ℕ → ℕ
 one_free p = if nat_eq p none then 1 else 0
 
 -- how many columns were not entered yet
-abbrev pub free : State → ℕ
+abbrev pub free : PathState → ℕ
 free s = sum_by one_free s.place
 
 -- what falls with each step
-abbrev pub work : State → ℕ
+abbrev pub work : PathState → ℕ
 work s = free s + free s + length s.todo
 
-pub record IsState (a : Matrix) (m : List Place) (mates : List ℕ) (s : State) : Type 0 where
+pub record IsState (a : Matrix) (m : List Place) (mates : List ℕ) (s : PathState) : Type 0 where
   pub left_long : length s.left ≡ cols a
   pub place_long : length s.place ≡ cols a
   pub number_long : length s.number ≡ cols a
   pub on : (i : ℕ) → i < length s.stack → IsOn a s i (slice_index s.stack i)
-  pub placed : (c : ℕ) → look s.place c ≢ none → look s.number c ≡ none → (look s.place c < length s.stack) × (slice_index s.stack (look s.place c) ≡ c)
+  pub placed : (c : ℕ) → look s.place c ≢ none → look s.number c ≡ none
+      → (look s.place c < length s.stack) × (slice_index s.stack (look s.place c) ≡ c)
   pub visited : (c : ℕ) → look s.number c ≢ none → look s.place c ≢ none
-  pub walks : (i j : ℕ) → i < length s.stack → j < length s.stack → Clear s.starts j i → Walk a m (slice_index s.stack i) (slice_index s.stack j)
-  pub scanned : (i x : ℕ) → i < length s.stack → slice_index s.left (slice_index s.stack i) ≤ x → x < degree a (slice_index s.stack i) → Settled s i (target a mates (slice_index s.stack i) x)
+  pub walks : (i j : ℕ) → i < length s.stack → j < length s.stack → Clear s.starts j i
+      → Walk a m (slice_index s.stack i) (slice_index s.stack j)
+  pub scanned : (i x : ℕ) → i < length s.stack → slice_index s.left (slice_index s.stack i) ≤ x
+      → x < degree a (slice_index s.stack i)
+      → Settled s i (target a mates (slice_index s.stack i) x)
   pub square : (c : ℕ) → look s.number c ≢ none → IsSquareCol a c
-  pub falling : (c x : ℕ) → look s.number c ≢ none → x < degree a c → Falls s.number c (target a mates c x)
+  pub falling : (c x : ℕ) → look s.number c ≢ none → x < degree a c
+      → Falls s.number c (target a mates c x)
   pub below : (c : ℕ) → look s.number c ≢ none → look s.number c < s.count
   pub used : (k : ℕ) → k < s.count → (c : ℕ) × (look s.number c ≡ k)
   pub joined : (c d : ℕ) → look s.number c ≢ none → look s.number c ≡ look s.number d → Walk a m c d
-  pub waiting : (i : ℕ) → i < length s.stack → slice_index s.left (slice_index s.stack i) ≢ 0 → Among i s.todo
+  pub waiting : (i : ℕ) → i < length s.stack → slice_index s.left (slice_index s.stack i) ≢ 0
+      → Among i s.todo
   pub todo_in : (i : ℕ) → Among i s.todo → i < length s.stack
   pub todo_rises : IsRising s.todo
   pub starts_in : (b : ℕ) → Among b s.starts → b < length s.stack
@@ -91,7 +98,7 @@ pub record IsState (a : Matrix) (m : List Place) (mates : List ℕ) (s : State) 
   pub few_todo : length s.todo + free s ≤ cols a
 
 -- a state between two steps: each component that is not finished starts at a column that is not left
-pub record IsSearch (a : Matrix) (mates : List ℕ) (s : State) : Type 0 where
+pub record IsDepthFirst (a : Matrix) (mates : List ℕ) (s : PathState) : Type 0 where
   pub pairs : List Place
   pub mates_of : AreMatesOf a pairs mates
   pub state : IsState a pairs mates s

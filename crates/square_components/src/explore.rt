@@ -4,9 +4,10 @@ ghost use Rattle.std.specs.Prelude.{◌≡◌, ◌≢◌, ℕ, ◌<◌, [], slic
 ghost use Rattle.bip_defs.specs.Lists.{Among};
 ghost use Rattle.bip_defs.specs.Matrix.{cols};
 ghost use Rattle.bip_defs.specs.Parts.{IsSquareCol};
-ghost use Rattle.square_components.specs.Numbers.{look, none};
-ghost use Rattle.square_components.specs.Stacks.{IsSearch, degree, work};
-ghost use Rattle.square_components.specs.Steps.{EndsWith, LeadsOn, StaysPlaced};
+ghost use Rattle.bip_graph.specs.Matching.{none};
+ghost use Rattle.square_components.specs.Numbers.{look};
+ghost use Rattle.square_components.specs.Stacks.{IsDepthFirst, degree, work};
+ghost use Rattle.square_components.specs.Steps.{IsLast, HasTreeEdge, StaysPlaced};
 
 use crate::search::Search;
 use sp_ids::Col;
@@ -15,10 +16,10 @@ use sp_pattern::Pattern;
 impl Search {
     /// Searches from each of these square columns that an earlier one does not lead to.
     pub fn explore_all(&mut self, pattern: &Pattern, mates: &[u32], cols: &[Col])
-        requires search { IsSearch pattern.now mates.now self.old }
+        requires search { IsDepthFirst pattern.now mates.now self.old }
         requires empty { self.old.stack ≡ [] }
         requires cols { (c : ℕ) → Among c cols.now → IsSquareCol pattern.now c }
-        ensures search { IsSearch pattern.now mates.now self.new }
+        ensures search { IsDepthFirst pattern.now mates.now self.new }
         ensures empty { self.new.stack ≡ [] }
         ensures placed { (c : ℕ) → Among c cols.now → look self.new.place c ≢ none }
     {
@@ -31,11 +32,11 @@ impl Search {
 
     // Enters a column and all columns that it leads to, and finishes their components.
     fn explore(&mut self, pattern: &Pattern, mates: &[u32], root: Col)
-        requires search { IsSearch pattern.now mates.now self.old }
+        requires search { IsDepthFirst pattern.now mates.now self.old }
         requires empty { self.old.stack ≡ [] }
         requires square { IsSquareCol pattern.now root }
         requires fresh { look self.old.place root ≡ none }
-        ensures search { IsSearch pattern.now mates.now self.new }
+        ensures search { IsDepthFirst pattern.now mates.now self.new }
         ensures empty { self.new.stack ≡ [] }
         ensures root { look self.new.place root ≢ none }
         ensures placed { StaysPlaced self.old self.new }
@@ -48,9 +49,9 @@ impl Search {
 
     // Goes on from the column at the last place to do to a column that was not entered, or leaves it.
     fn advance(&mut self, pattern: &Pattern, mates: &[u32], at: u32)
-        requires search { IsSearch pattern.now mates.now self.old }
-        requires at { EndsWith self.old.todo at }
-        ensures search { IsSearch pattern.now mates.now self.new }
+        requires search { IsDepthFirst pattern.now mates.now self.old }
+        requires at { IsLast self.old.todo at }
+        ensures search { IsDepthFirst pattern.now mates.now self.new }
         ensures placed { StaysPlaced self.old self.new }
         ensures less { work self.new < work self.old }
     {
@@ -63,12 +64,14 @@ impl Search {
     // Looks at the entries that are left of the column at the last place to do, up to one that leads to a column that was
     // not entered.
     fn scan(&mut self, pattern: &Pattern, mates: &[u32], at: u32) -> Option<Col>
-        requires search { IsSearch pattern.now mates.now self.old }
-        requires at { EndsWith self.old.todo at }
-        ensures search { IsSearch pattern.now mates.now self.new }
-        ensures path { self.new ≡ record self.old { left = self.new.left; starts = self.new.starts } }
-        ensures found { IfSome result (λ d. LeadsOn pattern.now mates.now self.new at d) }
-        ensures none { IfNone result (slice_index self.new.left (slice_index self.new.stack at) ≡ 0) }
+        requires search { IsDepthFirst pattern.now mates.now self.old }
+        requires at { IsLast self.old.todo at }
+        ensures search { IsDepthFirst pattern.now mates.now self.new }
+        ensures path { self.new
+            ≡ record self.old { left = self.new.left; starts = self.new.starts } }
+        ensures found { IfSome result (λ d. HasTreeEdge pattern.now mates.now self.new at d) }
+        ensures none { IfNone result
+            (slice_index self.new.left (slice_index self.new.stack at) ≡ 0) }
     {
         let col = self.col_at(at);
         let rows = pattern.rows_of(Col(col));

@@ -40,7 +40,8 @@ pub fn strong_components(
 ) -> Result<Components, OutOfMemory>
     requires maximum { IsMaximumOf pattern.now matching.now }
     requires parts { ArePartsOf pattern.now (parts_of parts.now) }
-    ensures { IfOk result (λ s. AreNumbered pattern.now matching.now.pairs s.numbers.items s.count) }
+    ensures { IfOk result
+        (λ s. AreNumbered pattern.now matching.now.pairs s.numbers.items s.count) }
 {
     let mates = square_mates(alloc, pattern, matching, parts.sr.as_slice())?;
     let mut search = Search::new(alloc, pattern.cols())?;

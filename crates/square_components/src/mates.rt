@@ -5,10 +5,10 @@ ghost use Rattle.bip_defs.specs.Lists.{Among, Lists};
 ghost use Rattle.bip_defs.specs.Matching.{IsMatching};
 ghost use Rattle.bip_defs.specs.Matrix.{Matrix, Place};
 ghost use Rattle.bip_defs.specs.Parts.{IsSquareRow};
-ghost use Rattle.bip_graph.specs.Matching.{IsMaximumOf};
-ghost use Rattle.square_components.specs.Numbers.{look, none};
+ghost use Rattle.bip_graph.specs.Matching.{IsMaximumOf, none};
+ghost use Rattle.square_components.specs.Numbers.{look};
 ghost use Rattle.square_components.specs.Stacks.{AreMatesOf};
-ghost use Rattle.square_components.specs.Steps.{ArePairs};
+ghost use Rattle.square_components.specs.Steps.{AreMatesIn};
 
 use crate::search::NONE;
 use bip_graph::Matching;
@@ -26,7 +26,7 @@ pub fn square_mates(
     requires maximum { IsMaximumOf pattern.now matching.now }
     requires square { Lists (IsSquareRow pattern.now) rows.now }
     ensures mates { IfOk result (λ v. (m : List Place) × AreMatesOf pattern.now m v.items) }
-    ensures pairs { IfOk result (λ v. ArePairs matching.now.pairs v.items) }
+    ensures pairs { IfOk result (λ v. AreMatesIn matching.now.pairs v.items) }
 {
     pattern.is_pattern();
     let mut mates = vec![in alloc; NONE; pattern.rows() as usize]?;
@@ -40,7 +40,8 @@ pub fn square_mates(
 fn mate_of(matching: &Matching, row: Row) -> u32
     requires row { row < matching.now.rows }
     ensures sound { result ≢ none → Among (row, result) matching.now.pairs }
-    ensures complete { (a : Matrix) (d : ℕ) → IsMatching a matching.now.pairs → Among (row, d) matching.now.pairs → result ≡ d }
+    ensures complete { (a : Matrix) (d : ℕ) → IsMatching a matching.now.pairs
+        → Among (row, d) matching.now.pairs → result ≡ d }
 {
     match matching.col_of(row) {
         Some(col) => col.0,

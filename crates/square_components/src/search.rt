@@ -2,9 +2,10 @@
 
 ghost use Rattle.std.specs.Prelude.{◌≡◌, ◌≢◌, ℕ, ◌+◌, ◌<◌, ◌≤◌, ◌++◌, List, [], ◌∷◌, length, slice_index, vec_capacity, IfNone, IfOk, IfSome, MatchBool};
 ghost use Rattle.bip_defs.specs.Lists.{Among, IsRising};
-ghost use Rattle.square_components.specs.Numbers.{look, none};
-ghost use Rattle.square_components.specs.Stacks.{State};
-ghost use Rattle.square_components.specs.Steps.{AreUpTo, EndsWith, HasRoom, Leaves, Numbers, Settles, advancing, beginning, entering, finishing, merging};
+ghost use Rattle.bip_graph.specs.Matching.{none};
+ghost use Rattle.square_components.specs.Numbers.{look};
+ghost use Rattle.square_components.specs.Stacks.{PathState};
+ghost use Rattle.square_components.specs.Steps.{AreUpTo, IsLast, HasRoom, Leaves, AssignsNumber, Settles, advancing, beginning, entering, finishing, merging};
 
 use sp_ids::OutOfMemory;
 use std::alloc::Global;
@@ -28,13 +29,23 @@ pub struct Search {
 
 impl Model for Search {
     ghost use Rattle.std.specs.Prelude.{length, vec_capacity, ◌≤◌};
-    ghost use Rattle.square_components.specs.Stacks.{State};
+    ghost use Rattle.square_components.specs.Stacks.{PathState};
 
-    ghost Value = { State };
+    ghost Value = { PathState };
 
-    ghost view = { λ s. record { stack = s.stack.items; starts = s.starts.items; todo = s.todo.items; left = s.left.items; place = s.place.items; number = s.number.items; count = s.count } };
+    ghost view = { λ s. record {
+      stack = s.stack.items;
+      starts = s.starts.items;
+      todo = s.todo.items;
+      left = s.left.items;
+      place = s.place.items;
+      number = s.number.items;
+      count = s.count;
+    } };
 
-    ghost invariant = { λ s. (length s.place.items ≤ vec_capacity s.stack) × (length s.place.items ≤ vec_capacity s.starts) × (length s.place.items ≤ vec_capacity s.todo) };
+    ghost invariant = { λ s. (length s.place.items ≤ vec_capacity s.stack)
+        × (length s.place.items ≤ vec_capacity s.starts)
+        × (length s.place.items ≤ vec_capacity s.todo) };
 }
 
 impl Search {
@@ -62,7 +73,7 @@ impl Search {
 
     /// The last place that is not left yet.
     pub fn top(&self) -> Option<u32>
-        ensures some { IfSome result (λ at. EndsWith self.now.todo at) }
+        ensures some { IfSome result (λ at. IsLast self.now.todo at) }
         ensures none { IfNone result (self.now.todo ≡ []) }
     {
         last(self.todo.as_slice())
@@ -87,7 +98,8 @@ impl Search {
     /// Whether a column was entered.
     pub fn is_placed(&self, col: u32) -> bool
         requires { col < length self.now.place }
-        ensures { MatchBool result (look self.now.place col ≢ none) (look self.now.place col ≡ none) }
+        ensures { MatchBool result (look self.now.place col ≢ none)
+            (look self.now.place col ≡ none) }
     {
         self.place[col as usize] != NONE
     }
@@ -120,7 +132,8 @@ impl Search {
         requires place { next ≢ none → next < length self.old.place }
         requires number { next ≢ none → next < length self.old.number }
         requires starts { IsRising self.old.starts }
-        ensures { MatchBool result (Settles self.old next self.new) ((self.new ≡ self.old) × (next ≢ none) × (look self.old.place next ≡ none)) }
+        ensures { MatchBool result (Settles self.old next self.new)
+            ((self.new ≡ self.old) × (next ≢ none) × (look self.old.place next ≡ none)) }
     {
         if next == NONE || self.number[next as usize] != NONE {
             return true;
@@ -144,11 +157,12 @@ impl Search {
 
     /// Leaves the column at the last place to do, and finishes its component if it starts there.
     pub fn leave(&mut self, at: u32)
-        requires at { EndsWith self.old.todo at }
+        requires at { IsLast self.old.todo at }
         requires starts { self.old.starts ≢ [] }
         requires on { at < length self.old.stack }
         requires count { self.old.count < none }
-        requires cols { (i : ℕ) → i < length self.old.stack → slice_index self.old.stack i < length self.old.number }
+        requires cols { (i : ℕ) → i < length self.old.stack
+            → slice_index self.old.stack i < length self.old.number }
         ensures { Leaves self.old at self.new }
     {
         cut(&mut self.todo);
@@ -160,18 +174,20 @@ impl Search {
     // Where the last component starts.
     fn last_start(&self) -> u32
         requires { self.now.starts ≢ [] }
-        ensures { EndsWith self.now.starts result }
+        ensures { IsLast self.now.starts result }
     {
         self.starts[self.starts.len() - 1]
     }
 
     // Numbers the columns of the last component, which starts at `start`, and takes them off the path.
     fn finish(&mut self, start: u32)
-        requires start { EndsWith self.old.starts start }
+        requires start { IsLast self.old.starts start }
         requires on { start < length self.old.stack }
         requires count { self.old.count < none }
-        requires cols { (i : ℕ) → i < length self.old.stack → slice_index self.old.stack i < length self.old.number }
-        ensures numbers { Numbers self.old.stack start (length self.old.stack) self.old.count self.old.number self.new.number }
+        requires cols { (i : ℕ) → i < length self.old.stack
+            → slice_index self.old.stack i < length self.old.number }
+        ensures numbers { AssignsNumber self.old.stack start
+            (length self.old.stack) self.old.count self.old.number self.new.number }
         ensures starts { self.old.starts ≡ self.new.starts ++ start ∷ [] }
         ensures same { self.new ≡ finishing self.old start self.new.starts self.new.number }
     {
@@ -206,7 +222,7 @@ fn put(list: &mut Vec<u32>, item: u32)
 
 // The last of a list.
 fn last(list: &[u32]) -> Option<u32>
-    ensures some { IfSome result (λ x. EndsWith list.now x) }
+    ensures some { IfSome result (λ x. IsLast list.now x) }
     ensures none { IfNone result (list.now ≡ []) }
 {
     match list.last() {
@@ -217,7 +233,8 @@ fn last(list: &[u32]) -> Option<u32>
 
 // Takes the last off a list.
 fn cut(list: &mut Vec<u32>)
-    ensures items { (front : List ℕ) (x : ℕ) → list.old.items ≡ front ++ x ∷ [] → list.new.items ≡ front }
+    ensures items { (prefix : List ℕ) (x : ℕ) → list.old.items ≡ prefix ++ x ∷ []
+        → list.new.items ≡ prefix }
     ensures capacity { vec_capacity list.old ≤ vec_capacity list.new }
 {
     let _last = list.pop();
@@ -241,7 +258,7 @@ fn drop_above(starts: &mut Vec<u32>, at: u32)
 fn number_from(stack: &[u32], start: usize, number: &mut [u32], count: u32)
     requires start { start ≤ length stack.now }
     requires cols { (i : ℕ) → i < length stack.now → slice_index stack.now i < length number.old }
-    ensures { Numbers stack.now start (length stack.now) count number.old number.new }
+    ensures { AssignsNumber stack.now start (length stack.now) count number.old number.new }
 {
     for at in start..stack.len() {
         number[stack[at] as usize] = count;

@@ -3,7 +3,7 @@ use Rattle.bip_defs.specs.Matching.{IsMaximum}
 use Rattle.bip_graph.specs.Matching.{IsMatchingOf}
 use Rattle.bip_graph.specs.Decompositions.{parts_of}
 use Rattle.btf_check.specs.Reasons.{ArePaired, TellsBlocks}
-use Rattle.btf_text.specs.ReportRead.{told}
+use Rattle.btf_text.specs.ReportRead.{contents}
 use Rattle.btf_check.proofs.Comparisons.{all_met, first_blocks, tells_blocks, told_blocks}
 use Rattle.btf_check.proofs.ReasonLemmas.{report_of_met}
 use Rattle.btf_check.proofs.PairLemmas.{paired_matching}
@@ -27,12 +27,12 @@ returns-then-not-same_blocks g c =
     let paired : ArePaired c.args.pattern.now c.as_slice.result.now = search rules in
     let max = c.in_ok-is_maximum.ensures.0 c.if-not-branch.false in
     let parts = c.in_ok-tells_parts.ensures.0 c.if-not-branch-2.false in
-    let none : ¬ TellsBlocks c.args.pattern.now (told c.args.report.now) =
+    let none : ¬ TellsBlocks c.args.pattern.now (contents c.args.report.now) =
     elim c.then-not-same_blocks.branch [
-      | then-not-same_blocks-via-then-not-same_blocks w ↦ λ tells. true≢false (sym (c.same_blocks.ensures.1 (told_blocks c.args.pattern.now c.in-Some.matching.pairs (parts_of c.in_ok-parts.parts) (told c.args.report.now) c.in_ok-blocks.blocks max c.in_ok-parts.ensures c.in_ok-blocks.ensures tells)) ∙ w.if-not-same_blocks.true)
+      | then-not-same_blocks-via-then-not-same_blocks w ↦ λ tells. true≢false (sym (c.same_blocks.ensures.1 (told_blocks c.args.pattern.now c.in-Some.matching.pairs (parts_of c.in_ok-parts.parts) (contents c.args.report.now) c.in_ok-blocks.blocks max c.in_ok-parts.ensures c.in_ok-blocks.ensures tells)) ∙ w.if-not-same_blocks.true)
       | then-not-same_blocks-via-else-not-same_blocks+then-not-has_orders w ↦ λ tells. true≢false (sym (w.has_orders.ensures.1 tells.orders) ∙ w.if-not-has_orders.true)
     ] in
-    first_blocks c.args.pattern.now (told c.args.report.now) c.args.report.now.pairs.items refl (subst (ArePaired c.args.pattern.now) c.as_slice.ensures.value paired) (subst (IsMaximum c.args.pattern.now) (same ∙ c.as_slice.ensures.value) max) parts none
+    first_blocks c.args.pattern.now (contents c.args.report.now) c.args.report.now.pairs.items refl (subst (ArePaired c.args.pattern.now) c.as_slice.ensures.value paired) (subst (IsMaximum c.args.pattern.now) (same ∙ c.as_slice.ensures.value) max) parts none
 
 pub returns : goal.returns
 returns g c =
@@ -40,5 +40,5 @@ returns g c =
     let paired : ArePaired c.args.pattern.now c.as_slice.result.now = search rules in
     let max = c.in_ok-is_maximum.ensures.0 c.if-not-branch.false in
     let parts = c.in_ok-tells_parts.ensures.0 c.if-not-branch-2.false in
-    let blocks = tells_blocks c.args.pattern.now (told c.args.report.now) c.in_ok-blocks.blocks c.in_ok-blocks.ensures (c.same_blocks.ensures.0 c.if-not-same_blocks.false) (c.has_orders.ensures.0 c.if-not-has_orders.false) in
-    report_of_met c.args.pattern.now (told c.args.report.now) c.args.report.now.pairs.items refl c.requires.rising (all_met c.args.pattern.now (told c.args.report.now) c.args.report.now.pairs.items refl (subst (ArePaired c.args.pattern.now) c.as_slice.ensures.value paired) (subst (IsMaximum c.args.pattern.now) (same ∙ c.as_slice.ensures.value) max) parts blocks)
+    let blocks = tells_blocks c.args.pattern.now (contents c.args.report.now) c.in_ok-blocks.blocks c.in_ok-blocks.ensures (c.same_blocks.ensures.0 c.if-not-same_blocks.false) (c.has_orders.ensures.0 c.if-not-has_orders.false) in
+    report_of_met c.args.pattern.now (contents c.args.report.now) c.args.report.now.pairs.items refl c.requires.rising (all_met c.args.pattern.now (contents c.args.report.now) c.args.report.now.pairs.items refl (subst (ArePaired c.args.pattern.now) c.as_slice.ensures.value paired) (subst (IsMaximum c.args.pattern.now) (same ∙ c.as_slice.ensures.value) max) parts blocks)

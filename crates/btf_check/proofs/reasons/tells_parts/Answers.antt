@@ -7,7 +7,7 @@ use Rattle.bip_defs.specs.Blocks.{all_cols, all_rows}
 use Rattle.bip_graph.specs.Decompositions.{parts_of}
 use Rattle.btf_check.specs.ReportParts.{HasOuterParts, HasSizes}
 use Rattle.btf_check.specs.Reasons.{TellsParts}
-use Rattle.btf_text.specs.ReportRead.{told}
+use Rattle.btf_text.specs.ReportRead.{contents}
 use Rattle.btf_check.proofs.Comparisons.{answer_weaker, once_back, once_same, tells_parts, told_cols, told_outer, told_rows}
 use Rattle.btf_check.proofs.reasons.tells_parts.Goals as goal
 
@@ -15,7 +15,7 @@ pub returns-then-not-has_outer_parts : goal.returns-then-not-has_outer_parts
 returns-then-not-has_outer_parts c = (
   λ t. absurd (true≢false (sym t)),
   λ tells.
-      let outer : HasOuterParts (parts_of c.args.parts.now) (told c.args.report.now) = told_outer c.args.pattern.now (parts_of c.args.parts.now) (told c.args.report.now) c.requires.parts tells in
+      let outer : HasOuterParts (parts_of c.args.parts.now) (contents c.args.report.now) = told_outer c.args.pattern.now (parts_of c.args.parts.now) (contents c.args.report.now) c.requires.parts tells in
       search rules,
 )
 
@@ -29,7 +29,7 @@ pub returns-then-not-branch : goal.returns-then-not-branch
 returns-then-not-branch c = (
   λ t. absurd (true≢false (sym t)),
   λ tells. absurd (true≢false (sym (c.in_ok-are_once.ensures.1 (once_same (parts_of c.args.parts.now).square_rows (all_rows c.args.report.now.blocks) _ _ (map-id c.as_slice.result.now ∙ c.as_slice.ensures.value) (map-id c.all_rows-rows.result.now ∙ c.all_rows-rows.ensures)
-      (told_rows c.args.pattern.now (parts_of c.args.parts.now) (told c.args.report.now) c.requires.parts tells))) ∙ c.if-not-branch.true)),
+      (told_rows c.args.pattern.now (parts_of c.args.parts.now) (contents c.args.report.now) c.requires.parts tells))) ∙ c.if-not-branch.true)),
 )
 
 pub are_once-requires-2-clause-below : goal.are_once-requires-2-clause-below
@@ -42,9 +42,9 @@ pub returns : goal.returns
 returns c =
     let a = c.args.pattern.now in
     let p = parts_of c.args.parts.now in
-    let r = told c.args.report.now in
-    let sizes : HasSizes c.args.pattern.now c.args.matching.now.pairs (told c.args.report.now) = search rules in
-    let outer : HasOuterParts (parts_of c.args.parts.now) (told c.args.report.now) = search rules in
+    let r = contents c.args.report.now in
+    let sizes : HasSizes c.args.pattern.now c.args.matching.now.pairs (contents c.args.report.now) = search rules in
+    let outer : HasOuterParts (parts_of c.args.parts.now) (contents c.args.report.now) = search rules in
     let rows = once_back p.square_rows (all_rows c.args.report.now.blocks) _ _ (map-id c.as_slice.result.now ∙ c.as_slice.ensures.value) (map-id c.all_rows-rows.result.now ∙ c.all_rows-rows.ensures) (c.in_ok-are_once.ensures.0 c.if-not-branch.false) in
     let cols_are = map-id c.as_slice-2.result.now ∙ c.as_slice-2.ensures.value in
     let list_is = map-id c.all_cols-cols.result.now ∙ c.all_cols-cols.ensures in

@@ -1,5 +1,5 @@
 use Rattle.std.proofs.Common.{refl}
-use Rattle.btf_text.proofs.BufferLaws.{failed_before, handed_front, handed_on}
+use Rattle.btf_text.proofs.BufferLaws.{failed_before, prefix_passed, handed_on}
 use Rattle.btf_text.proofs.buffer.write_kept.Goals as goal
 
 pub returns-then-failed : goal.returns-then-failed
@@ -12,5 +12,5 @@ returns-in-Ok g c taken faults text p =
 
 pub returns-in-Err : goal.returns-in-Err
 returns-in-Err g c taken faults text p =
-    handed_front text _ _ c.if-failed.false
-    (λ piece took. c.taken_in_turn.ensures.front _ _ piece _ (refl, refl) took c.in-Err.ensures) p
+    prefix_passed text _ _ c.if-failed.false
+    (λ piece took. c.taken_in_turn.ensures.prefix _ _ piece _ (refl, refl) took c.in-Err.ensures) p

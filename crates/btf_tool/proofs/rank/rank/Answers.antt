@@ -1,5 +1,5 @@
 use Rattle.std.proofs.Common.{List, ℕ, [], refl}
-use Rattle.sp_ports.specs.Device.{Took, TookFront, seen}
+use Rattle.sp_ports.specs.Device.{Took, TookPrefix, seen}
 use Rattle.btf_words.specs.declared.jobs.Job.TheVariants.{Rank}
 use Rattle.btf_tool.specs.Runs.{JobSays}
 use Rattle.btf_tool.specs.declared.answers.Answer.TheVariants.{Positive}
@@ -14,7 +14,7 @@ returns-in_err-hand_on-clause-says g c =
     as_refusal _ WriteFault (JobSays Rank input out) c.from_residual-in_err-hand_on.ensures.1
     (job_not_written Rank Positive input out _ c.in_ok-triples.triples [] _ tt c.in_ok-triples.ensures.read c.in_ok-triples.ensures.counts
     c.in_ok-answer.ensures.matrix (refl, rank_answers _ _ _ _ _ c.in_ok-answer.ensures)
-    (same_text (λ (t : List ℕ). TookFront out t) _ _ _ _ _ _ c.as_slice-rows.ensures.value c.as_slice-cols.ensures.value
+    (same_text (λ (t : List ℕ). TookPrefix out t) _ _ _ _ _ _ c.as_slice-rows.ensures.value c.as_slice-cols.ensures.value
     (c.in_err-hand_on.ensures _ _ _ c.write_rank-written.ensures)))
 
 pub returns-clause-says : goal.returns-clause-says

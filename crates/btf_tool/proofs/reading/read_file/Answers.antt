@@ -1,7 +1,7 @@
 use Rattle.std.proofs.Common.{◌++◌, ap, subst, IfErr, Ok, Err}
-use Rattle.sp_ports.specs.Bytes.{WhereTold}
+use Rattle.sp_ports.specs.Bytes.{WhereKnown}
 use Rattle.sp_ports.specs.Device.{seen}
-use Rattle.mm_defs.specs.Calls.{Intake, IsAnswer, call_on}
+use Rattle.mm_defs.specs.Calls.{Intake, IsAnswer, call_on, room}
 use Rattle.mm_defs.specs.declared.answers.End.TheVariants.{File}
 use Rattle.btf_tool.specs.Refusals.{refusal_for}
 use Rattle.btf_tool.specs.Runs.{IsUnread}
@@ -13,8 +13,8 @@ pub returns-clause-read : goal.returns-clause-read
 returns-clause-read g c =
     let e = c.in_ok-read_matrix.ensures in
     file_read (seen g.S.Source.left g.S.Source.faults c.args.input.now c.read_matrix.new.source) c.read_matrix.new.input.ahead c.in_ok-read_matrix.field-0
-    (subst (λ (i : Intake). WhereTold (g.S.Source.left c.args.input.now) (g.S.Source.left c.read_matrix.new.source)
-    (λ before after. IsAnswer File (call_on i (g.S.Source.faults c.args.input.now) (g.S.Source.faults c.read_matrix.new.source) before after) (c.read_matrix.new.input.ahead ++ after) (Ok c.in_ok-read_matrix.field-0)))
+    (subst (λ (i : Intake). WhereKnown (g.S.Source.left c.args.input.now) (g.S.Source.left c.read_matrix.new.source)
+    (λ before after. IsAnswer File (call_on (room i) i.ahead (g.S.Source.faults c.args.input.now) (g.S.Source.faults c.read_matrix.new.source) before after) (c.read_matrix.new.input.ahead ++ after) (Ok c.in_ok-read_matrix.field-0)))
     c.in_ok-bytes.ensures e.answer)
     e.cause.steady
 

@@ -2,20 +2,20 @@ use Rattle.std.proofs.Common.{◌<◌, [], refl, sym, ◌∙◌, arith, subst}
 use Rattle.sp_ports.specs.Device.{SourceRose}
 use Rattle.mm_defs.specs.declared.answers.ReadError.TheVariants as errors
 use Rattle.mm_reader.specs.Windows.{ahead_of}
-use Rattle.mm_reader.proofs.Exits.{rose_since, exit_refused, exit_fault, exit_done, exit_end, memory_told, closed_used, file_open, on_ok, refused_kind, refused_no_fault, ended_kind, ended_no_fault, ended_in_room, same_error, turn_smaller, all_used}
-use Rattle.mm_reader.proofs.Progress.{fed_start, fed_consumed, fed_refilled, none_used, more_used, not_refilled, keeps, counted_told, most_told, closed_told, at_end_told}
+use Rattle.mm_reader.proofs.Exits.{rose_since, exit_refused, exit_fault, exit_done, exit_end, memory_known, closed_used, file_open, on_ok, refused_kind, refused_no_fault, ended_kind, ended_no_fault, ended_in_room, same_error, turn_smaller, all_used}
+use Rattle.mm_reader.proofs.Progress.{fed_start, fed_consumed, fed_refilled, none_used, more_used, not_refilled, keeps, counted_known, most_known, closed_known, at_end_known}
 use Rattle.mm_reader.proofs.reader.matrix.Goals as goal
 
 pub returns-in-Err : goal.returns-in-Err
 returns-in-Err g c =
     let h = none_used c.args.window.now (g.S.Source.left c.args.source.now) in
     record {
-      told = memory_told c.args.end c.args.window.now c.args.window.now _ _ _;
+      known = memory_known c.args.end c.args.window.now c.args.window.now _ _ _;
       kind = tt;
-      gave = (h.gave, h.told);
-      most = most_told c.args.window.now c.args.window.now [] (g.S.Source.faults c.args.source.now) (g.S.Source.faults c.args.source.now) _ _ h c.requires.window;
+      gave = (h.gave, h.known);
+      most = most_known c.args.window.now c.args.window.now [] (g.S.Source.faults c.args.source.now) (g.S.Source.faults c.args.source.now) _ _ h c.requires.window;
       cause = record { counts = record { later = omega arith; once = omega arith }; steady = tt; failed = λ e. absurd cc };
-      counted = counted_told c.args.window.now c.args.window.now [] _ _ h;
+      counted = counted_known c.args.window.now c.args.window.now [] _ _ h;
       past = λ e. absurd cc;
       window = keeps c.args.window.now c.args.window.now [] _ _ h c.requires.window;
       at_end = c.requires.at_end;
@@ -35,12 +35,12 @@ returns-in-Err-consume g c =
     let u = e.used.1 in
     let h = more_used c.args.window.now c.reading.window c.consume.new.window (g.S.Source.left c.args.source.now) (g.S.Source.left c.reading.source) i.fed.used i.fed.so_far e.used.0 u in
     record {
-      told = exit_refused c.args.end c.args.window.now (g.S.Source.faults c.args.source.now) (g.S.Source.faults c.reading.source) c.reading.m c.reading.window i.window c.consume.new.window _ _ c.in-Err-consume.error i.fed e.err;
+      known = exit_refused c.args.end c.args.window.now (g.S.Source.faults c.args.source.now) (g.S.Source.faults c.reading.source) c.reading.m c.reading.window i.window c.consume.new.window _ _ c.in-Err-consume.error i.fed e.err;
       kind = refused_kind _ _ _ _ _ (e.err i.fed.used i.fed.stands);
-      gave = (h.gave, h.told);
-      most = most_told c.args.window.now c.consume.new.window _ (g.S.Source.faults c.args.source.now) (g.S.Source.faults c.reading.source) _ _ h e.window;
+      gave = (h.gave, h.known);
+      most = most_known c.args.window.now c.consume.new.window _ (g.S.Source.faults c.args.source.now) (g.S.Source.faults c.reading.source) _ _ h e.window;
       cause = record { counts = record { later = omega (arith, i.steady); once = omega (arith, i.steady) }; steady = tt; failed = λ x. absurd (refused_no_fault _ _ _ _ _ (e.err i.fed.used i.fed.stands) x) };
-      counted = counted_told c.args.window.now c.consume.new.window _ _ _ h;
+      counted = counted_known c.args.window.now c.consume.new.window _ _ _ h;
       past = λ x. e.past (same_error c.in-Err-consume.error errors.TooLong x);
       window = keeps c.args.window.now c.consume.new.window _ _ _ h e.window;
       at_end = λ t. i.at_end (rw (← u.at_end_same) t);
@@ -59,20 +59,20 @@ returns-then-done g c =
     let closed = closed_used c.args.end c.consume.new.m f.used f.stands (e.ok.closed c.if-done.true) in
     let h = f.so_far in
     record {
-      told = exit_done c.args.end c.args.window.now (g.S.Source.faults c.args.source.now) (g.S.Source.faults c.reading.source) c.consume.new.m c.consume.new.window e.window
+      known = exit_done c.args.end c.args.window.now (g.S.Source.faults c.args.source.now) (g.S.Source.faults c.reading.source) c.consume.new.m c.consume.new.window e.window
           _ _ c.triples_of.result f (sym e.ok.done_is ∙ c.if-done.true) closed c.triples_of.ensures;
       kind = tt;
-      gave = (h.gave, h.told);
-      most = most_told c.args.window.now c.consume.new.window f.used (g.S.Source.faults c.args.source.now) (g.S.Source.faults c.reading.source) _ _ h e.window;
+      gave = (h.gave, h.known);
+      most = most_known c.args.window.now c.consume.new.window f.used (g.S.Source.faults c.args.source.now) (g.S.Source.faults c.reading.source) _ _ h e.window;
       cause = record { counts = record { later = omega (arith, i.steady); once = omega (arith, i.steady) }; steady = i.steady; failed = λ x. absurd cc };
-      counted = counted_told c.args.window.now c.consume.new.window f.used _ _ h;
+      counted = counted_known c.args.window.now c.consume.new.window f.used _ _ h;
       past = λ x. absurd cc;
       window = keeps c.args.window.now c.consume.new.window f.used _ _ h e.window;
       at_end = λ t. i.at_end (rw (← u.at_end_same) t);
       unasked = λ t. (i.unasked t).1;
       stays = λ t. rw u.at_end_same ((i.unasked t).0);
       ended = λ x. absurd (file_open c.args.end c.consume.new.m.phase x (sym e.ok.done_is ∙ c.if-done.true));
-      last_line = closed_told c.args.window.now c.consume.new.window f.used _ _ h closed;
+      last_line = closed_known c.args.window.now c.consume.new.window f.used _ _ h closed;
     }
 
 pub returns-then-window : goal.returns-then-window
@@ -84,20 +84,20 @@ returns-then-window g c =
     let h = f.so_far in
     let answer = c.conclude.ensures c.args.end f.used f.stands (sym e.ok.done_is ∙ c.if-done.false) in
     record {
-      told = exit_end c.args.end c.args.window.now (g.S.Source.faults c.args.source.now) (g.S.Source.faults c.reading.source) c.consume.new.m c.consume.new.window e.window
+      known = exit_end c.args.end c.args.window.now (g.S.Source.faults c.args.source.now) (g.S.Source.faults c.reading.source) c.consume.new.m c.consume.new.window e.window
           _ _ c.conclude.result f (e.ok.all c.if-done.false) (i.at_end (rw (← u.at_end_same) c.if-window.true)) i.steady (sym e.ok.done_is ∙ c.if-done.false) c.conclude.ensures;
       kind = ended_kind _ c.args.end f.used c.conclude.result answer;
-      gave = (h.gave, h.told);
-      most = most_told c.args.window.now c.consume.new.window f.used (g.S.Source.faults c.args.source.now) (g.S.Source.faults c.reading.source) _ _ h e.window;
+      gave = (h.gave, h.known);
+      most = most_known c.args.window.now c.consume.new.window f.used (g.S.Source.faults c.args.source.now) (g.S.Source.faults c.reading.source) _ _ h e.window;
       cause = record { counts = record { later = omega (arith, i.steady); once = omega (arith, i.steady) }; steady = on_ok _ c.conclude.result i.steady; failed = λ x. absurd (ended_no_fault _ c.args.end f.used c.conclude.result answer x) };
-      counted = counted_told c.args.window.now c.consume.new.window f.used _ _ h;
+      counted = counted_known c.args.window.now c.consume.new.window f.used _ _ h;
       past = λ x. absurd (ended_in_room _ c.args.end f.used c.conclude.result answer x);
       window = keeps c.args.window.now c.consume.new.window f.used _ _ h e.window;
       at_end = λ t. i.at_end (rw (← u.at_end_same) t);
       unasked = λ t. (i.unasked t).1;
       stays = λ t. c.if-window.true;
       ended = on_ok _ c.conclude.result (λ x. c.if-window.true);
-      last_line = on_ok _ c.conclude.result (at_end_told c.args.window.now c.consume.new.window f.used _ _ h c.if-window.true);
+      last_line = on_ok _ c.conclude.result (at_end_known c.args.window.now c.consume.new.window f.used _ _ h c.if-window.true);
     }
 
 pub returns-in-Err-refill : goal.returns-in-Err-refill
@@ -110,15 +110,15 @@ returns-in-Err-refill g c =
     let none = e.ok.all c.if-done.false in
     let h = not_refilled c.args.window.now c.consume.new.window c.refill.new.window (g.S.Source.left c.args.source.now) (g.S.Source.left c.reading.source) f.used f.so_far (g.S.Source.left c.refill.new.source) none r.kept r.none r.room r.lines in
     let s : SourceRose (g.S.Source.left c.args.source.now) (g.S.Source.faults c.args.source.now) (g.S.Source.faults c.refill.new.source) =
-    rose_since (g.S.Source.left c.args.source.now) (g.S.Source.left c.reading.source) i.fed.so_far.gave _ (g.S.Source.faults c.reading.source) _ i.fed.so_far.told i.steady r.cause.failed in
+    rose_since (g.S.Source.left c.args.source.now) (g.S.Source.left c.reading.source) i.fed.so_far.gave _ (g.S.Source.faults c.reading.source) _ i.fed.so_far.known i.steady r.cause.failed in
     record {
-      told = rw r.kept (exit_fault c.args.end c.args.window.now (g.S.Source.faults c.args.source.now) (g.S.Source.faults c.refill.new.source) c.consume.new.m c.consume.new.window e.window c.refill.new.window
+      known = rw r.kept (exit_fault c.args.end c.args.window.now (g.S.Source.faults c.args.source.now) (g.S.Source.faults c.refill.new.source) c.consume.new.m c.consume.new.window e.window c.refill.new.window
           (g.S.Source.left c.args.source.now) (g.S.Source.left c.reading.source) f none (sym e.ok.done_is ∙ c.if-done.false) s);
       kind = tt;
-      gave = (h.gave, h.told);
-      most = most_told c.args.window.now c.refill.new.window f.used (g.S.Source.faults c.args.source.now) (g.S.Source.faults c.refill.new.source) _ _ h r.window;
+      gave = (h.gave, h.known);
+      most = most_known c.args.window.now c.refill.new.window f.used (g.S.Source.faults c.args.source.now) (g.S.Source.faults c.refill.new.source) _ _ h r.window;
       cause = record { counts = record { later = omega (arith, i.steady, r.cause.counts.later); once = omega (arith, i.steady, r.cause.counts.once) }; steady = tt; failed = λ x. s };
-      counted = counted_told c.args.window.now c.refill.new.window f.used _ _ h;
+      counted = counted_known c.args.window.now c.refill.new.window f.used _ _ h;
       past = λ x. absurd cc;
       window = keeps c.args.window.now c.refill.new.window f.used _ _ h r.window;
       at_end = λ t. rw r.kept (i.at_end (rw (← u.at_end_same, ← r.same) t));

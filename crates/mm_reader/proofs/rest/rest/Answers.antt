@@ -2,7 +2,7 @@ use Rattle.std.proofs.Common.{List, ℕ, ◌<◌, refl, sym, subst, ◌∙◌, a
 use Rattle.sp_ports.specs.Device.{SourceRose}
 use Rattle.mm_reader.specs.declared.window.Window.{Window}
 use Rattle.mm_reader.proofs.Exits.{rose_since, turn_smaller}
-use Rattle.mm_reader.proofs.Progress.{HasUsed, none_used, all_taken, refilled, not_refilled, keeps, counted_told, most_told}
+use Rattle.mm_reader.proofs.Progress.{HasUsed, none_used, all_taken, refilled, not_refilled, keeps, counted_known, most_known}
 use Rattle.mm_reader.proofs.RestLaws.{rest_refused, rest_fault, rest_read, past_ahead, refused_no_rest_fault, unjudged}
 use Rattle.mm_reader.proofs.rest.rest.Goals as goal
 
@@ -12,12 +12,12 @@ returns-in-Err g c =
     let e = c.in-Err.ensures in
     let h = subst (λ (x : Window). HasUsed c.args.window.now x (g.S.Source.left c.args.source.now) (g.S.Source.left c.reading.source) c.reading.bytes.items) (sym e.same) i.so_far in
     record {
-      told = rest_refused c.args.window.now (g.S.Source.faults c.args.source.now) (g.S.Source.faults c.reading.source) c.reading.bytes.items c.reading.window _ _ c.in-Err.error i.so_far e.err;
+      known = rest_refused c.args.window.now (g.S.Source.faults c.args.source.now) (g.S.Source.faults c.reading.source) c.reading.bytes.items c.reading.window _ _ c.in-Err.error i.so_far e.err;
       unjudged = unjudged c.reading.window c.in-Err.error e.err;
-      gave = (h.gave, h.told);
-      most = most_told c.args.window.now c.take_ahead.new.window c.reading.bytes.items (g.S.Source.faults c.args.source.now) (g.S.Source.faults c.reading.source) _ _ h e.window.window;
+      gave = (h.gave, h.known);
+      most = most_known c.args.window.now c.take_ahead.new.window c.reading.bytes.items (g.S.Source.faults c.args.source.now) (g.S.Source.faults c.reading.source) _ _ h e.window.window;
       cause = record { counts = record { later = omega (arith, i.steady); once = omega (arith, i.steady) }; steady = tt; failed = λ x. absurd (refused_no_rest_fault _ c.reading.window c.in-Err.error e.err x) };
-      counted = counted_told c.args.window.now c.take_ahead.new.window c.reading.bytes.items _ _ h;
+      counted = counted_known c.args.window.now c.take_ahead.new.window c.reading.bytes.items _ _ h;
       past = λ x. rw e.same (past_ahead _ c.reading.window i.window c.in-Err.error e.err x);
       window = keeps c.args.window.now c.take_ahead.new.window c.reading.bytes.items _ _ h e.window.window;
       at_end = λ t. i.at_end (rw (← e.at_end) t);
@@ -32,12 +32,12 @@ returns-then-window g c =
     let e = c.in_default.ensures in
     let h = all_taken c.args.window.now c.reading.window c.take_ahead.new.window (g.S.Source.left c.args.source.now) (g.S.Source.left c.reading.source) c.reading.bytes.items i.so_far c.take_ahead.new.bytes.items e.ok in
     record {
-      told = rest_read c.args.window.now (g.S.Source.faults c.args.source.now) (g.S.Source.faults c.reading.source) c.take_ahead.new.bytes.items c.take_ahead.new.window _ _ h e.ok.ahead_is (i.at_end (rw (← e.at_end) c.if-window.true)) i.steady;
+      known = rest_read c.args.window.now (g.S.Source.faults c.args.source.now) (g.S.Source.faults c.reading.source) c.take_ahead.new.bytes.items c.take_ahead.new.window _ _ h e.ok.ahead_is (i.at_end (rw (← e.at_end) c.if-window.true)) i.steady;
       unjudged = tt;
-      gave = (h.gave, h.told);
-      most = most_told c.args.window.now c.take_ahead.new.window c.take_ahead.new.bytes.items (g.S.Source.faults c.args.source.now) (g.S.Source.faults c.reading.source) _ _ h e.window.window;
+      gave = (h.gave, h.known);
+      most = most_known c.args.window.now c.take_ahead.new.window c.take_ahead.new.bytes.items (g.S.Source.faults c.args.source.now) (g.S.Source.faults c.reading.source) _ _ h e.window.window;
       cause = record { counts = record { later = omega (arith, i.steady); once = omega (arith, i.steady) }; steady = i.steady; failed = λ x. absurd cc };
-      counted = counted_told c.args.window.now c.take_ahead.new.window c.take_ahead.new.bytes.items _ _ h;
+      counted = counted_known c.args.window.now c.take_ahead.new.window c.take_ahead.new.bytes.items _ _ h;
       past = λ x. absurd cc;
       window = keeps c.args.window.now c.take_ahead.new.window c.take_ahead.new.bytes.items _ _ h e.window.window;
       at_end = λ t. i.at_end (rw (← e.at_end) t);
@@ -54,14 +54,14 @@ returns-in-Err-refill g c =
     let r = c.in-Err-refill.ensures in
     let h = not_refilled c.args.window.now c.take_ahead.new.window c.refill.new.window (g.S.Source.left c.args.source.now) (g.S.Source.left c.reading.source) c.take_ahead.new.bytes.items k (g.S.Source.left c.refill.new.source) e.ok.ahead_is r.kept r.none r.room r.lines in
     let s : SourceRose (g.S.Source.left c.args.source.now) (g.S.Source.faults c.args.source.now) (g.S.Source.faults c.refill.new.source) =
-    rose_since (g.S.Source.left c.args.source.now) (g.S.Source.left c.reading.source) i.so_far.gave _ (g.S.Source.faults c.reading.source) _ i.so_far.told i.steady r.cause.failed in
+    rose_since (g.S.Source.left c.args.source.now) (g.S.Source.left c.reading.source) i.so_far.gave _ (g.S.Source.faults c.reading.source) _ i.so_far.known i.steady r.cause.failed in
     record {
-      told = rest_fault c.args.window.now (g.S.Source.faults c.args.source.now) (g.S.Source.faults c.refill.new.source) c.take_ahead.new.bytes.items c.refill.new.window _ _ h r.none s;
+      known = rest_fault c.args.window.now (g.S.Source.faults c.args.source.now) (g.S.Source.faults c.refill.new.source) c.take_ahead.new.bytes.items c.refill.new.window _ _ h r.none s;
       unjudged = tt;
-      gave = (h.gave, h.told);
-      most = most_told c.args.window.now c.refill.new.window c.take_ahead.new.bytes.items (g.S.Source.faults c.args.source.now) (g.S.Source.faults c.refill.new.source) _ _ h r.window;
+      gave = (h.gave, h.known);
+      most = most_known c.args.window.now c.refill.new.window c.take_ahead.new.bytes.items (g.S.Source.faults c.args.source.now) (g.S.Source.faults c.refill.new.source) _ _ h r.window;
       cause = record { counts = record { later = omega (arith, i.steady, r.cause.counts.later); once = omega (arith, i.steady, r.cause.counts.once) }; steady = tt; failed = λ x. s };
-      counted = counted_told c.args.window.now c.refill.new.window c.take_ahead.new.bytes.items _ _ h;
+      counted = counted_known c.args.window.now c.refill.new.window c.take_ahead.new.bytes.items _ _ h;
       past = λ x. absurd cc;
       window = keeps c.args.window.now c.refill.new.window c.take_ahead.new.bytes.items _ _ h r.window;
       at_end = λ t. rw r.kept (i.at_end (rw (← e.at_end, ← r.same) t));

@@ -3,6 +3,7 @@ use Rattle.sp_ids.specs.declared.events.Event.TheVariants.{Claim}
 use Rattle.forest_core.specs.Events.{IsLegal}
 use Rattle.forest_core.specs.Inside.{state_of, tables_of}
 use Rattle.bip_defs.specs.Forest.{RootOf, State}
+use Rattle.forest_core.proofs.AdoptedMatchings.{adopted_claim}
 use Rattle.forest_core.proofs.RunLemmas.{claim_grows_at}
 use Rattle.forest_core.proofs.StoredForests.{claim_room, stored_claim_at}
 use Rattle.forest_core.proofs.forest.Forest.claim.Goals as goal
@@ -27,8 +28,9 @@ invariant_of-self c =
     let legal = subst (λ (s : State). IsLegal s (Claim c.args.row c.args.col)) (sym c.self.view_is) c.requires in
     let root = subst (λ (s : State). RootOf s.base s.claims c.root-root.result c.args.col) (sym c.self.view_is) c.root-root.ensures.root in
     let long : c.args.row < length c.self.inside.claimed.roots = (let lt = legal.1.0 in let rows = c.self.invariant.0.holders_long in let same = c.is_alike.ensures.long in omega (arith, lt, rows, same)) in
-    let room = c.self.invariant.1 in (
-      stored_claim_at (state_of c.self.inside) _ (tables_of c.self.inside) _ c.args.row c.args.col c.root-root.result _ _ c.self.invariant.0 long legal root c.put-2.ensures.items c.put-3.ensures.items c.put.ensures.holders c.put.ensures.roots,
+    let room = c.self.invariant.1 in
+    let stored = stored_claim_at (state_of c.self.inside) _ (tables_of c.self.inside) _ c.args.row c.args.col c.root-root.result _ _ c.self.invariant.0 long legal root c.put-2.ensures.items c.put-3.ensures.items c.put.ensures.holders c.put.ensures.roots in (
+      stored,
       record {
         claims = (let le = room.claims in let more = c.put-2.ensures.capacity in omega (arith, le, more));
         claim_roots = (let le = room.claim_roots in let more = c.put-3.ensures.capacity in omega (arith, le, more));
@@ -36,6 +38,7 @@ invariant_of-self c =
         leaves = room.leaves;
         flipped = room.flipped;
       },
+      adopted_claim (state_of c.self.inside) _ (c.args.row, c.args.col) c.self.inside.adopted c.self.invariant.0.sound stored.sound c.put-2.ensures.items c.self.invariant.2,
     )
 
 pub returns-clause-grows : goal.returns-clause-grows

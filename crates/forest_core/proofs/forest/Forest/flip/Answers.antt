@@ -4,6 +4,7 @@ use Rattle.sp_ids.specs.declared.events.Event.TheVariants.{Flip}
 use Rattle.forest_core.specs.Events.{IsLegal}
 use Rattle.forest_core.specs.Inside.{state_of, tables_of}
 use Rattle.bip_defs.specs.Forest.{State}
+use Rattle.forest_core.proofs.AdoptedMatchings.{adopted_flip}
 use Rattle.forest_core.proofs.StoredForests.{flip_room, root_with_leaf, stored_flip_at}
 use Rattle.forest_core.proofs.forest.Forest.flip.Goals as goal
 
@@ -28,4 +29,5 @@ invariant_of-self c =
     let room = c.self.invariant.1 in (
       stored_flip_at (state_of c.self.inside) _ (tables_of c.self.inside) _ c.args.root _ c.self.invariant.0 legal c.put.ensures.items (ap (λ (i : ℕ). set c.self.inside.marks.items i true) c.number.ensures),
       record { claims = room.claims; claim_roots = room.claim_roots; path = room.path; leaves = room.leaves; flipped = (let le = room.flipped in let more = c.put.ensures.capacity in omega (arith, le, more)) },
+      adopted_flip (state_of c.self.inside) _ c.args.root c.self.inside.adopted c.put.ensures.items c.self.invariant.2,
     )

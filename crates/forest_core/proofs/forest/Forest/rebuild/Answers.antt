@@ -6,7 +6,7 @@ use Rattle.forest_core.specs.Inside.{state_of, tables_of}
 use Rattle.bip_defs.specs.Forest.{State}
 use Rattle.forest_core.proofs.Currents.{current_grown}
 use Rattle.forest_core.proofs.Renewals.{are_cleared, claims_within, exchanged_by, leaves_within, marks_within, stored_rebuild_at}
-use Rattle.forest_core.proofs.PathLemmas.{written_back}
+use Rattle.bip_defs.proofs.Sets.{written_over}
 use Rattle.forest_core.proofs.forest.Forest.rebuild.Goals as goal
 
 pub clear_claims-requires-clause-rows : goal.clear_claims-requires-clause-rows
@@ -28,7 +28,7 @@ clear_leaves-requires-clause-marks c = rw (c.as_mut_slice.ensures.value, c.as_sl
 
 -- the base matching has become the current one
 exchanged : (c : goal.After-clear-4) → IsExchanged (state_of c.self.inside) (state_of c.self.inside).flipped c.exchange.new.base
-exchanged c = exchanged_by (state_of c.self.inside) _ _ (tables_of c.self.inside) _ c.self.invariant.0 c.as_slice-roots.ensures.value c.exchange.ensures.exchanged
+exchanged c = exchanged_by (state_of c.self.inside) _ _ c.self.inside.adopted (tables_of c.self.inside) _ c.self.invariant.0 c.self.invariant.2 c.as_slice-roots.ensures.value c.exchange.ensures.exchanged
 
 pub invariant_of-self : goal.invariant_of-self
 invariant_of-self c =
@@ -36,7 +36,7 @@ invariant_of-self c =
     let room = c.self.invariant.1 in
     let long : c.self.inside.marks.len ≡ length c.self.inside.marks.items = search rules in
     let same : length c.clear_leaves.new.marks ≡ length c.self.inside.marks.items = c.clear_leaves.auto.marks ∙ ap length c.as_mut_slice.ensures.value in
-    let marks = written_back c.self.inside.marks.items c.clear_leaves.new.marks c.self.inside.marks.len same long in (
+    let marks = written_over c.clear_leaves.new.marks c.self.inside.marks.items c.self.inside.marks.len same long in (
       stored_rebuild_at (state_of c.self.inside) _ c.exchange.new.base (tables_of c.self.inside) _ _ _ _ k (exchanged c) (are_cleared (tables_of c.self.inside) _ _ c.clear.ensures.items c.clear-2.ensures.items c.clear_claims.ensures.holders c.is_alike.ensures.alike c.clear_leaves.ensures.leaf_of (rw marks c.clear_leaves.ensures.marks) c.clear_claims.ensures.long c.clear_leaves.ensures.long (ap length marks ∙ same)) c.clear.ensures.items c.clear-3.ensures.items c.clear-4.ensures.items,
       record {
         claims = (let le = room.claims in let more = c.clear.ensures.capacity in omega (arith, le, more));
@@ -45,6 +45,7 @@ invariant_of-self c =
         leaves = (let le = room.leaves in let more = c.clear-3.ensures.capacity in omega (arith, le, more));
         flipped = (let le = room.flipped in let more = c.clear-4.ensures.capacity in omega (arith, le, more));
       },
+      rw c.exchange.ensures.adopted tt,
     )
 
 pub returns-clause-renewed : goal.returns-clause-renewed

@@ -4,6 +4,7 @@ use Rattle.sp_ids.specs.declared.events.Event.TheVariants.{Win}
 use Rattle.forest_core.specs.Events.{IsLegal}
 use Rattle.forest_core.specs.Inside.{state_of, tables_of}
 use Rattle.bip_defs.specs.Forest.{State}
+use Rattle.forest_core.proofs.AdoptedMatchings.{adopted_win}
 use Rattle.forest_core.proofs.RunLemmas.{win_grows_at}
 use Rattle.forest_core.proofs.StoredForests.{claim_in_range, root_in_range, stored_win_at, win_room}
 use Rattle.forest_core.proofs.forest.Forest.win.Goals as goal
@@ -30,10 +31,12 @@ put-requires-2 c =
 pub invariant_of-self : goal.invariant_of-self
 invariant_of-self c =
     let legal = subst (λ (s : State). IsLegal s (Win c.args.root c.args.leaf)) (sym c.self.view_is) c.requires in
-    let room = c.self.invariant.1 in (
-      stored_win_at (state_of c.self.inside) _ (tables_of c.self.inside) _ c.args.root c.args.leaf _ c.self.invariant.0 legal c.put-2.ensures.items
-          (c.put.ensures ∙ ap (λ (i : ℕ). set c.self.inside.leaf_of i (Some c.number-2.result)) c.number.ensures ∙ ap (λ (x : ℕ). set c.self.inside.leaf_of c.args.root (Some x)) c.number-2.ensures),
+    let room = c.self.invariant.1 in
+    let stored = stored_win_at (state_of c.self.inside) _ (tables_of c.self.inside) _ c.args.root c.args.leaf _ c.self.invariant.0 legal c.put-2.ensures.items
+    (c.put.ensures ∙ ap (λ (i : ℕ). set c.self.inside.leaf_of i (Some c.number-2.result)) c.number.ensures ∙ ap (λ (x : ℕ). set c.self.inside.leaf_of c.args.root (Some x)) c.number-2.ensures) in (
+      stored,
       record { claims = room.claims; claim_roots = room.claim_roots; path = room.path; leaves = (let le = room.leaves in let more = c.put-2.ensures.capacity in omega (arith, le, more)); flipped = room.flipped },
+      adopted_win (state_of c.self.inside) _ (c.args.root, c.args.leaf) c.self.inside.adopted c.self.invariant.0.sound stored.sound c.put-2.ensures.items c.self.invariant.2,
     )
 
 pub returns-clause-grows : goal.returns-clause-grows

@@ -1,23 +1,32 @@
-use Rattle.std.proofs.Common.{◌≡◌, ◌∙◌, ◌<◌, ap, length, subst, sym}
+use Rattle.std.proofs.Common.{◌≡◌, ◌∙◌, ap, length}
+use Rattle.bip_defs.proofs.Sets.{among_at}
 use Rattle.path_search.specs.Forests.{Trees, reached_at}
-use Rattle.path_search.proofs.PathLemmas.{tracing_earlier, tracing_end, tracing_more, tracing_room}
+use Rattle.path_search.proofs.PathLemmas.{forest_rooted, path_fits, read_at, rooted_depth, rooted_trees, traces}
 use Rattle.path_search.proofs.forest.Forest.trace.Goals as goal
 
-pub at-column-requires-in-Some : goal.at-column-requires-in-Some
-at-column-requires-in-Some g c = rw c.loop-back.invariant.same (tracing_earlier _ _ _ c.args.row _ _ _ _ c.in-Some.back c.requires.matching.matching c.requires.forest c.requires.unmatched c.requires.leaf.unmatched c.loop-back.invariant c.in-Some.ensures.found).1
+pub trace_back-requires-clause-trees : goal.trace_back-requires-clause-trees
+trace_back-requires-clause-trees g c =
+    let queue = c.as_slice-columns.ensures.value ∙ ap (λ (t : Trees). t.queue) c.self.view_is in
+    rw queue (rooted_trees _ c.args.self.now.queue c.requires.matching.matching.rows_differ c.requires.matching.matching.cols_differ c.requires.forest.cols_differ)
 
-pub step-requires-in-Some : goal.step-requires-in-Some
-step-requires-in-Some g c =
-    let room = tracing_room _ _ _ c.args.row _ _ _ _ c.in-Some.back c.requires.matching.matching c.requires.forest c.requires.unmatched c.requires.leaf.unmatched c.loop-back.invariant c.in-Some.ensures.found in
-    subst (λ marks. length c.loop-back.self.path < length marks) (sym (ap (λ (t : Trees). t.marks) c.loop-back.invariant.same)) room
+pub trace_back-requires-clause-kept : goal.trace_back-requires-clause-kept
+trace_back-requires-clause-kept g c =
+    let queue = c.as_slice-columns.ensures.value ∙ ap (λ (t : Trees). t.queue) c.self.view_is in
+    let read : c.index-columns-place.result ≡ reached_at c.args.self.now.queue c.args.place = read_at _ _ _ (rw (← queue) c.index-columns-place.is) c.requires.place in
+    rw (queue, read) (forest_rooted _ _ _ c.requires.matching c.requires.forest, among_at _ _ _ c.requires.place, c.requires.unmatched)
 
-pub loop-back-smaller : goal.loop-back-smaller
-loop-back-smaller g c = (tracing_earlier _ _ _ c.args.row _ _ _ _ c.in-Some.back c.requires.matching.matching c.requires.forest c.requires.unmatched c.requires.leaf.unmatched c.loop-back.invariant c.in-Some.ensures.found).0
+pub trace_back-requires-clause-depth : goal.trace_back-requires-clause-depth
+trace_back-requires-clause-depth g c =
+    let queue = c.as_slice-columns.ensures.value ∙ ap (λ (t : Trees). t.queue) c.self.view_is in
+    let read : c.index-columns-place.result ≡ reached_at c.args.self.now.queue c.args.place = read_at _ _ _ (rw (← queue) c.index-columns-place.is) c.requires.place in
+    rw (queue, read) (rooted_depth _ _ _ (forest_rooted _ _ _ c.requires.matching c.requires.forest) c.requires.place c.requires.unmatched)
 
-pub loop-back-preserved : goal.loop-back-preserved
-loop-back-preserved g c =
-    let next : c.at-column-in-Some.result ≡ reached_at c.args.self.now.queue c.loop-back.column.from = c.at-column-in-Some.ensures ∙ ap (λ (t : Trees). reached_at t.queue c.loop-back.column.from) c.loop-back.invariant.same in
-    tracing_more _ _ _ c.args.row _ _ _ _ _ _ c.in-Some.back c.requires.matching.matching c.requires.forest c.requires.unmatched c.requires.leaf.unmatched c.loop-back.invariant c.in-Some.ensures.found next c.step-in-Some.ensures
+pub trace_back-requires-clause-room : goal.trace_back-requires-clause-room
+trace_back-requires-clause-room g c =
+    path_fits _ _ _ _ _ c.requires.matching.matching c.requires.forest c.requires.leaf (ap (λ (t : Trees). length t.marks) c.self.view_is) c.self.invariant.1
 
 pub returns-clause-path : goal.returns-clause-path
-returns-clause-path g c = rw c.turn_path.ensures (tracing_end _ _ _ c.args.row _ _ _ _ c.requires.forest c.requires.unmatched c.loop-back.invariant c.in_default.ensures.none)
+returns-clause-path g c =
+    let queue = c.as_slice-columns.ensures.value ∙ ap (λ (t : Trees). t.queue) c.self.view_is in
+    let read : c.index-columns-place.result ≡ reached_at c.as_slice-columns.result.now c.args.place = read_at c.as_slice-columns.result.now c.args.place _ c.index-columns-place.is (rw queue c.requires.place) in
+    traces _ _ c.args.self.now c.args.place c.args.row c.trace_back.new.path.items c.requires.matching.matching c.requires.forest c.requires.place c.requires.leaf c.requires.unmatched c.trace_back.ensures.path (rw (← queue, ← read) c.trace_back.ensures.pairs)

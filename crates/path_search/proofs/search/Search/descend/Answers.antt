@@ -3,7 +3,7 @@ use Rattle.std.proofs.Math.ListN.{length-set}
 use Rattle.std.proofs.lemmas.List.{length-map}
 use Rattle.bip_defs.specs.Matrix.{IsEntry}
 use Rattle.bip_defs.specs.Lists.{IsMarked}
-use Rattle.path_search.proofs.Steps.{column_short, goes_down_by, onward_entered, passed_all_by, reaches_entered, seen_room, unmarked_unseen}
+use Rattle.path_search.proofs.Steps.{column_short, goes_down_by, onward_entered, passed_all_by, reaches_entered, visited_room, unmarked_unvisited}
 use Rattle.path_search.proofs.TrailLemmas.{trail_length}
 use Rattle.path_search.proofs.search.Search.descend.Goals as goal
 
@@ -21,7 +21,7 @@ enter-requires-clause-room g c =
     let f = c.requires.search in
     let e : IsEntry (g.S.Side.matrix c.args.side.now) c.row_at-row.result c.args.at.col = c.rows_of-rows.ensures.rows.sound _ c.row_at-row.ensures.among in
     let un : ¬ IsMarked c.args.self.now.marks c.row_at-row.result = subst (λ x. ¬ IsMarked c.args.self.now.marks x) (sym c.row_at-row.ensures.at) (c.next_place-place.ensures.unmarked c.if-place-rows.false) in
-    let room = seen_room _ _ _ _ _ _ _ f e.0 (unmarked_unseen _ _ _ _ _ _ _ f un) in
+    let room = visited_room _ _ _ _ _ _ _ f e.0 (unmarked_unvisited _ _ _ _ _ _ _ f un) in
     rw f.rows_are (omega arith)
 
 pub col_of-requires : goal.col_of-requires
@@ -45,7 +45,7 @@ note-requires g c = record {
       let f = c.requires.search in
       let e : IsEntry (g.S.Side.matrix c.args.side.now) c.row_at-row.result c.args.at.col = c.rows_of-rows.ensures.rows.sound _ c.row_at-row.ensures.among in
       let un : ¬ IsMarked c.args.self.now.marks c.row_at-row.result = subst (λ x. ¬ IsMarked c.args.self.now.marks x) (sym c.row_at-row.ensures.at) (c.next_place-place.ensures.unmarked c.if-place-rows.false) in
-      let room = seen_room _ _ _ _ _ _ _ f e.0 (unmarked_unseen _ _ _ _ _ _ _ f un) in
+      let room = visited_room _ _ _ _ _ _ _ f e.0 (unmarked_unvisited _ _ _ _ _ _ _ f un) in
       let same = trail_length _ _ _ _ _ _ _ _ f.trail in
       let le = f.path_shorter in
       let marks = f.rows_are in

@@ -7,7 +7,7 @@ use Rattle.path_search.proofs.search.Search.find.Given as goal
 abbrev pub invariant-loop-next : goal.invariant-loop-next
 invariant-loop-next g l = record {
   search : StandsAt (g.S.Side.matrix l.side) (g.F.Opposite.seen l.matching).pairs l.reversed l.self l.at.col l.at.place;
-  marks : HasMarked l.self.seen l.fn.self.marks l.self.marks;
+  marks : HasMarked l.self.visited l.fn.self.marks l.self.marks;
   root : l.self.root ≡ l.fn.root;
   cols : l.self.cols ≡ l.fn.self.cols;
 }

@@ -1,5 +1,5 @@
 use Rattle.std.proofs.Common.{refl, arith}
-use Rattle.path_search.proofs.Steps.{reaches_end, seen_room, unmatched_unseen}
+use Rattle.path_search.proofs.Steps.{reaches_end, visited_room, unmatched_unvisited}
 use Rattle.path_search.proofs.search.Search.visit.Goals as goal
 
 pub end-requires : goal.end-requires
@@ -7,7 +7,7 @@ end-requires g c = record {
   room =
       let f = c.requires.search in
       let free = c.in-Some.ensures.found in
-      let room = seen_room _ _ _ _ _ _ _ f free.0.0 (unmatched_unseen _ _ _ _ _ _ _ f free.1) in
+      let room = visited_room _ _ _ _ _ _ _ f free.0.0 (unmatched_unvisited _ _ _ _ _ _ _ f free.1) in
       let le = f.path_shorter in
       let e = f.rows_are in
       rw c.look_ahead.ensures.same (omega arith);

@@ -1,6 +1,6 @@
 use Rattle.std.proofs.Common.{◌≡◌, ◌<◌, ap, arith, sym, subst}
-use Rattle.square_components.specs.Stacks.{IsSearch, State, degree, work}
-use Rattle.square_components.specs.Steps.{EndsWith, entering}
+use Rattle.square_components.specs.Stacks.{IsDepthFirst, PathState, degree, work}
+use Rattle.square_components.specs.Steps.{IsLast, entering}
 use Rattle.square_components.proofs.SearchLemmas.{count_few, entered_same, enters_next, has_room, has_start, leaves, less_entered, next_square, top_in}
 use Rattle.square_components.proofs.search.Search.advance.Goals as goal
 
@@ -21,24 +21,24 @@ enter-requires-clause-room c =
 
 pub leave-requires-clause-starts : goal.leave-requires-clause-starts
 leave-requires-clause-starts c =
-    let last : EndsWith c.scan.new.self.todo c.args.at = subst (λ x. EndsWith x c.args.at) (sym (ap (λ (s : State). s.todo) c.in-None.ensures.path)) c.requires.at in
+    let last : IsLast c.scan.new.self.todo c.args.at = subst (λ x. IsLast x c.args.at) (sym (ap (λ (s : PathState). s.todo) c.in-None.ensures.path)) c.requires.at in
     has_start _ _ _ _ c.in-None.ensures.search last
 
 pub leave-requires-clause-on : goal.leave-requires-clause-on
 leave-requires-clause-on c =
-    let last : EndsWith c.scan.new.self.todo c.args.at = subst (λ x. EndsWith x c.args.at) (sym (ap (λ (s : State). s.todo) c.in-None.ensures.path)) c.requires.at in
+    let last : IsLast c.scan.new.self.todo c.args.at = subst (λ x. IsLast x c.args.at) (sym (ap (λ (s : PathState). s.todo) c.in-None.ensures.path)) c.requires.at in
     top_in _ _ _ _ c.in-None.ensures.search last
 
 pub leave-requires-clause-count : goal.leave-requires-clause-count
 leave-requires-clause-count c =
-    let last : EndsWith c.scan.new.self.todo c.args.at = subst (λ x. EndsWith x c.args.at) (sym (ap (λ (s : State). s.todo) c.in-None.ensures.path)) c.requires.at in
+    let last : IsLast c.scan.new.self.todo c.args.at = subst (λ x. IsLast x c.args.at) (sym (ap (λ (s : PathState). s.todo) c.in-None.ensures.path)) c.requires.at in
     count_few _ _ _ _ c.in-None.ensures.search last
 
 pub returns-in-Some-clause-search : goal.returns-in-Some-clause-search
 returns-in-Some-clause-search c =
-    let last : EndsWith c.scan.new.self.todo c.args.at = subst (λ x. EndsWith x c.args.at) (sym (ap (λ (s : State). s.todo) c.in-Some.ensures.path)) c.requires.at in
+    let last : IsLast c.scan.new.self.todo c.args.at = subst (λ x. IsLast x c.args.at) (sym (ap (λ (s : PathState). s.todo) c.in-Some.ensures.path)) c.requires.at in
     let h : c.enter.new.self ≡ entering c.scan.new.self c.in-Some.next (degree c.args.pattern.now c.in-Some.next) = entered_same _ _ _ _ _ _ c.next.view_is c.entries_of.ensures c.enter.ensures in
-    subst (IsSearch c.args.pattern.now c.args.mates.now) (sym h) (enters_next _ _ _ _ _ c.in-Some.ensures.search last c.in-Some.ensures.found)
+    subst (IsDepthFirst c.args.pattern.now c.args.mates.now) (sym h) (enters_next _ _ _ _ _ c.in-Some.ensures.search last c.in-Some.ensures.found)
 
 pub returns-in-Some-clause-less : goal.returns-in-Some-clause-less
 returns-in-Some-clause-less c =

@@ -1,6 +1,7 @@
 use Rattle.std.proofs.Common.{◌≡◌, ◌≢◌, [], sym, subst, rules}
-use Rattle.square_components.specs.Numbers.{look, none}
-use Rattle.square_components.specs.Stacks.{IsSearch, degree}
+use Rattle.bip_graph.specs.Matching.{none}
+use Rattle.square_components.specs.Numbers.{look}
+use Rattle.square_components.specs.Stacks.{IsDepthFirst, degree}
 use Rattle.square_components.specs.Steps.{StaysPlaced, entering}
 use Rattle.square_components.proofs.SearchLemmas.{entered_placed, entered_same, enters_first, path_empty}
 use Rattle.square_components.proofs.search.Search.explore.Goals as goal
@@ -11,7 +12,7 @@ loop-at-init c =
     let h : c.enter.new.self ≡ entering c.args.self.now c.args.root (degree a c.args.root) = entered_same _ _ _ _ _ _ c.root.view_is c.entries_of.ensures c.enter.ensures in
     let (stays, placed) = entered_placed a c.args.mates.now c.args.self.now c.args.root (degree a c.args.root) c.requires.search c.requires.square c.requires.fresh in
     record {
-      search = subst (IsSearch a c.args.mates.now) (sym h) (enters_first _ _ _ _ c.requires.search c.requires.square c.requires.fresh c.requires.empty);
+      search = subst (IsDepthFirst a c.args.mates.now) (sym h) (enters_first _ _ _ _ c.requires.search c.requires.square c.requires.fresh c.requires.empty);
       root = subst (λ s. look s.place c.args.root ≢ none) (sym h) placed;
       placed = subst (StaysPlaced c.args.self.now) (sym h) stays;
     }

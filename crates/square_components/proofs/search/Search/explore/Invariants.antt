@@ -1,12 +1,13 @@
 use Rattle.std.proofs.Common.{◌≢◌}
-use Rattle.square_components.specs.Numbers.{look, none}
-use Rattle.square_components.specs.Stacks.{IsSearch, work}
+use Rattle.bip_graph.specs.Matching.{none}
+use Rattle.square_components.specs.Numbers.{look}
+use Rattle.square_components.specs.Stacks.{IsDepthFirst, work}
 use Rattle.square_components.specs.Steps.{StaysPlaced}
 use Rattle.square_components.proofs.search.Search.explore.Given as goal
 
 abbrev pub invariant-loop-at : goal.invariant-loop-at
 invariant-loop-at l = record {
-  search : IsSearch l.pattern l.mates l.self;
+  search : IsDepthFirst l.pattern l.mates l.self;
   root : look l.self.place l.fn.root ≢ none;
   placed : StaysPlaced l.fn.self l.self;
 }

@@ -1,6 +1,7 @@
 use Rattle.std.proofs.Common.{◌≢◌, arith, subst}
 use Rattle.bip_defs.proofs.Sets.{place_among}
-use Rattle.square_components.specs.Numbers.{look, none}
+use Rattle.bip_graph.specs.Matching.{none}
+use Rattle.square_components.specs.Numbers.{look}
 use Rattle.square_components.proofs.Scans.{item_among}
 use Rattle.square_components.proofs.search.Search.explore_all.Goals as goal
 

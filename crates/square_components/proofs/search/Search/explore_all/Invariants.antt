@@ -1,11 +1,12 @@
 use Rattle.std.proofs.Common.{◌≡◌, ◌≢◌, ℕ, ◌<◌, [], slice_index}
-use Rattle.square_components.specs.Numbers.{look, none}
-use Rattle.square_components.specs.Stacks.{IsSearch}
+use Rattle.bip_graph.specs.Matching.{none}
+use Rattle.square_components.specs.Numbers.{look}
+use Rattle.square_components.specs.Stacks.{IsDepthFirst}
 use Rattle.square_components.proofs.search.Search.explore_all.Given as goal
 
 abbrev pub invariant-loop-col : goal.invariant-loop-col
 invariant-loop-col l = record {
-  search : IsSearch l.pattern l.mates l.self;
+  search : IsDepthFirst l.pattern l.mates l.self;
   empty : l.self.stack ≡ [];
   placed : (k : ℕ) → k < l.col-index → look l.self.place (slice_index l.cols k) ≢ none;
 }

@@ -1,5 +1,5 @@
 use Rattle.std.proofs.Common.{◌-◌, ap, arith, get_or, length, sym, subst}
-use Rattle.square_components.specs.Steps.{LeadsOn}
+use Rattle.square_components.specs.Steps.{HasTreeEdge}
 use Rattle.square_components.proofs.Scans.{IsScan, row_in, scan_begins, scan_found, scan_left, scan_next, scan_range, target_read}
 use Rattle.square_components.proofs.SearchLemmas.{top_in}
 use Rattle.square_components.proofs.search.Search.scan.Goals as goal
@@ -45,7 +45,7 @@ returns-then-not-settle-clause-found c =
     let e = ap length c.rows_of-rows.ensures.column in
     let leads = target_read _ _ _ _ _ _ _ _ k.search c.rows_of-rows.ensures.rows c.rows_of-rows.ensures.column (omega arith) c.row.view_is c.index-rows-left.is in
     let (same, some, fresh) = c.if-not-settle.ensures in
-    subst (λ s. LeadsOn c.args.pattern.now c.args.mates.now s c.args.at (get_or c.args.mates.now c.row.inside.0 0)) (sym same)
+    subst (λ s. HasTreeEdge c.args.pattern.now c.args.mates.now s c.args.at (get_or c.args.mates.now c.row.inside.0 0)) (sym same)
     (scan_found _ _ _ _ _ _ _ _ _ k (omega arith) leads some fresh)
 
 pub loop-left-preserved : goal.loop-left-preserved

@@ -1,8 +1,0 @@
-use Rattle.std.proofs.Common.{refl}
-use Rattle.mm_defs.specs.Words.{words, lines}
-use Rattle.mm_defs.specs.File.{line_faults, first_fault}
-use Rattle.mm_defs.proofs.worked.worked_fronts.Goals as goal
-
-pub returns : goal.returns
-unfolding words lines line_faults first_fault
-returns c = refl
