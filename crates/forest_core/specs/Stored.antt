@@ -26,6 +26,11 @@ abbrev pub HasRootAt : List (Option ℕ) → List Place → List ℕ → ℕ →
 HasRootAt roots claims xs i = beside roots (slice_index_or claims i (0, 0)).0
     ≡ Some (slice_index_or xs i 0)
 
+-- the list has the root of the claimed row at the same place as the claim
+abbrev pub IsRootOfClaim : State → List ℕ → ℕ → Type 0
+IsRootOfClaim s xs i =
+    IsRootOfRow s.base s.claims (slice_index_or xs i 0) (slice_index_or s.claims i (0, 0)).0
+
 -- of each claim its row's root, in the order of the claims
 pub record AreClaimRoots (roots : List (Option ℕ)) (claims : List Place)
     (xs : List ℕ) : Type 0 where

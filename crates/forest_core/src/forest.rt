@@ -9,6 +9,7 @@ ghost use Rattle.forest_core.specs.Current.{IsCurrent, base_of};
 ghost use Rattle.forest_core.specs.Events.{AreFlipped, AreKept, Becomes, Grows, IsClosed, IsLegal, IsRenewed, Runs};
 ghost use Rattle.forest_core.specs.Exchanged.{AreExchanged, all_flipped, flip_events, unflipped};
 ghost use Rattle.forest_core.specs.Sound.{IsSound};
+ghost use Rattle.forest_core.specs.Stored.{IsRootOfClaim};
 ghost use Rattle.bip_defs.specs.Forest.{InForest, IsRootOfRow, IsUsedUp, RootOf, new_forest, roots_of};
 ghost use Rattle.sp_ids.specs.declared.events.Event.TheVariants.{Claim, Win, Flip, Graft, Rebuild, Done};
 
@@ -113,6 +114,14 @@ impl<'p> Forest<'p> {
         ensures { result.now ≡ self.now.claims }
     {
         self.claims.as_slice()
+    }
+
+    /// The root of each claim's tree, in the order of the claims.
+    pub fn claim_roots(&self) -> &[Col]
+        ensures long { length result.now ≡ length self.now.claims }
+        ensures roots { (i : ℕ) → i < length self.now.claims → IsRootOfClaim self.now result.now i }
+    {
+        self.claim_roots.as_slice()
     }
 
     /// The roots with a leaf, each with its leaf, in the order in which these were won.
@@ -258,8 +267,8 @@ impl<'p> Forest<'p> {
         }
     }
 
-    // Whether a row has a mate in the base matching.
-    fn is_matched(&self, row: Row) -> bool
+    /// Whether a row has a mate in the base matching.
+    pub fn is_matched(&self, row: Row) -> bool
         requires { row < self.now.matrix.rows }
         ensures { IsTrue result ↔ Among row (rows_of self.now.base) }
     {
