@@ -1,0 +1,188 @@
+-- Places with their mirror images, and flat lists that grow part by part.
+use Rattle.std.proofs.Common.{◌≡◌, ◌≢◌, ◌⊎◌, ◌∙◌, ℕ, ◌+◌, ◌-◌, ◌<◌, ◌≤◌, List, [], ◌∷◌, ◌++◌, length, filter, get_or, map, nat_lt, take, drop, refl, sym, ap, arith, inl, inr, ⊎_elim, take_all, append_assoc, true, false, if◌then◌else◌}
+use Rattle.std.proofs.Math.Decide.{dec_lt}
+use Rattle.std.proofs.Math.Seq.{drop-append_seam, get_or-append_seam}
+use Rattle.std.proofs.lemmas.List.{drop-append-le, get_or_append_left, length-append, length-drop, take-append-le, take_more, get_or_default, get_or-map, length-map}
+use Rattle.std.specs.List.{slice_range}
+use Rattle.bip_defs.specs.Lists.{Among}
+use Rattle.bip_defs.specs.Matrix.{Place}
+use Rattle.bip_defs.proofs.Sets.{among_either, among_left, among_right, number_same}
+use Rattle.bip_defs.proofs.Slices.{slice_none}
+use Rattle.sp_pattern.specs.Mirror.{AreSymmetric, HasPieces, both_sides, lower, lowered}
+use Rattle.std.proofs.lemmas.Bool.Decides.{nat_tests}
+use Rattle.bip_defs.specs.Matching.{transposed_places}
+use Rattle.bip_defs.proofs.Transposed.{turned_length}
+use Rattle.sp_pattern.specs.Pairs.{pair_at}
+use Rattle.sp_pattern.specs.Stored.{AreStarts, piece}
+use Rattle.std.proofs.lemmas.List.Sums.{count_by-le-length, length-filter}
+use Rattle.sp_pattern.proofs.Cuts.{length-slice_range, start_within}
+
+-- Places beside their mirror images.
+
+symmetric_append : (xs ys : List Place) → AreSymmetric xs → AreSymmetric ys → AreSymmetric (xs ++ ys)
+symmetric_append xs ys sx sy r c h = ⊎_elim (λ (k : Among (r, c) xs). among_left (c, r) xs ys (sx r c k)) (λ (k : Among (r, c) ys). among_right (c, r) xs ys (sy r c k)) (among_either (r, c) xs ys h)
+
+symmetric_one : (p : Place) → p.0 ≡ p.1 → AreSymmetric (p ∷ [])
+symmetric_one p e r c (inl k) = inl (λ t. ((ap (λ (z : Place). z.1) k ∙ sym e) t, (ap (λ (z : Place). z.0) k ∙ e) t))
+symmetric_one p e r c (inr k) = elim k [ ]
+
+symmetric_two : (p q : Place) → q.0 ≡ p.1 → q.1 ≡ p.0 → AreSymmetric (p ∷ q ∷ [])
+symmetric_two p q a b r c (inl k) = inr (inl (λ t. ((ap (λ (z : Place). z.1) k ∙ sym a) t, (ap (λ (z : Place). z.0) k ∙ sym b) t)))
+symmetric_two p q a b r c (inr (inl k)) = inl (λ t. ((ap (λ (z : Place). z.1) k ∙ b) t, (ap (λ (z : Place). z.0) k ∙ a) t))
+symmetric_two p q a b r c (inr (inr k)) = elim k [ ]
+
+row_read : (ps : List Place) (k : ℕ) (d : Place) (r : ℕ) → k < length ps → r ≡ (get_or ps k d).0 → r ≡ (get_or ps k (0, 0)).0
+row_read ps k d r lt e = e ∙ ap (λ (z : Place). z.0) (get_or_default ps k d (0, 0) lt)
+
+col_read : (ps : List Place) (k : ℕ) (d : Place) (c : ℕ) → k < length ps → c ≡ (get_or ps k d).1 → c ≡ (get_or ps k (0, 0)).1
+col_read ps k d c lt e = e ∙ ap (λ (z : Place). z.1) (get_or_default ps k d (0, 0) lt)
+
+-- one place more, which stands on the diagonal
+pub mirrored_one : (ps : List Place) (k : ℕ) (d e : Place) (r c : ℕ) → k < length ps → r ≡ (get_or ps k d).0 → c ≡ (get_or ps k e).1 → r ≡ c → AreSymmetric (take k ps) → AreSymmetric (take (k + 1) ps)
+mirrored_one ps k d e r c lt row col same s =
+    rw (take_more ps k (0, 0) lt) (symmetric_append (take k ps) (get_or ps k (0, 0) ∷ []) s (symmetric_one (get_or ps k (0, 0)) (sym (row_read ps k d r lt row) ∙ (same ∙ col_read ps k e c lt col))))
+
+-- two places more, one the mirror image of the other
+pub mirrored_two : (ps : List Place) (k : ℕ) (d e f g : Place) (r c row_after col_after : ℕ) → k + 1 < length ps → r ≡ (get_or ps k d).0 → c ≡ (get_or ps k e).1 → row_after ≡ (get_or ps (k + 1) f).0 → col_after ≡ (get_or ps (k + 1) g).1
+    → row_after ≡ c → col_after ≡ r → AreSymmetric (take k ps) → AreSymmetric (take (k + 1 + 1) ps)
+mirrored_two ps k d e f g r c ra ca lt row col row_after col_after a b s =
+    let here : k < length ps = omega arith in
+    let p = get_or ps k (0, 0) in
+    let q = get_or ps (k + 1) (0, 0) in
+    let both : take (k + 1 + 1) ps ≡ (take k ps ++ p ∷ []) ++ q ∷ [] = take_more ps (k + 1) (0, 0) lt ∙ ap (λ xs. xs ++ q ∷ []) (take_more ps k (0, 0) here) in
+    rw (both, append_assoc) (symmetric_append (take k ps) (p ∷ q ∷ []) s (symmetric_two p q
+    (sym (row_read ps (k + 1) f ra lt row_after) ∙ (a ∙ col_read ps k e c here col))
+    (sym (col_read ps (k + 1) g ca lt col_after) ∙ (b ∙ row_read ps k d r here row))))
+
+-- Places on and below the diagonal.
+
+pub less_test : (x y : ℕ) → x < y → nat_lt x y ≡ true
+less_test x y lt = grind (arith, nat_tests)
+
+pub test_less : (x y : ℕ) → nat_lt x y ≡ true → x < y
+test_less x y t = grind (arith, nat_tests)
+
+other_test : (x y : ℕ) → y ≤ x → nat_lt x y ≡ false
+other_test x y le = grind (arith, nat_tests)
+
+pub lower_above : (p : Place) → p.0 < p.1 → lower p ≡ (p.1, p.0)
+lower_above p lt = ap (λ b. if b then (p.1, p.0) else p) (less_test p.0 p.1 lt)
+
+pub lower_same : (p : Place) → p.1 ≤ p.0 → lower p ≡ p
+lower_same p le = ap (λ b. if b then (p.1, p.0) else p) (other_test p.0 p.1 le)
+
+lower_at : (ps : List Place) (k : ℕ) → k < length ps → pair_at (transposed_places (lowered ps)) k ≡ ((lower (get_or ps k (0, 0))).1, (lower (get_or ps k (0, 0))).0)
+lower_at ps k lt =
+    let long = length-map {B = Place} ps lower in
+    get_or-map (λ (q : Place). (q.1, q.0)) (lowered ps) k (0, 0) (0, 0) (omega (arith, lt, long)) ∙ ap (λ (q : Place). (q.1, q.0)) (get_or-map lower ps k (0, 0) (0, 0) lt)
+
+length-lowered : (ps : List Place) → length (transposed_places (lowered ps)) ≡ length ps
+length-lowered ps = turned_length (lowered ps) ∙ length-map ps lower
+
+-- what is read of a place above the diagonal, and of another one
+pub read_above : (ps : List Place) (k : ℕ) (d e : Place) (r c : ℕ) → k < length (transposed_places (lowered ps)) → r ≡ (get_or ps k d).0 → c ≡ (get_or ps k e).1 → r < c → ◌≡◌ {A = Place} (r, c) (pair_at (transposed_places (lowered ps)) k)
+read_above ps k d e r c lt row col above =
+    let long = length-lowered ps in
+    let here : k < length ps = omega (arith, lt, long) in
+    let p = get_or ps k (0, 0) in
+    let a = row_read ps k d r here row in
+    let b = col_read ps k e c here col in
+    (λ t. (a t, b t)) ∙ sym (lower_at ps k here ∙ ap (λ (q : Place). (q.1, q.0)) (lower_above p (omega (arith, a, b, above))))
+
+pub read_lower : (ps : List Place) (k : ℕ) (d e : Place) (r c : ℕ) → k < length (transposed_places (lowered ps)) → r ≡ (get_or ps k d).0 → c ≡ (get_or ps k e).1 → c ≤ r → ◌≡◌ {A = Place} (c, r) (pair_at (transposed_places (lowered ps)) k)
+read_lower ps k d e r c lt row col below =
+    let long = length-lowered ps in
+    let here : k < length ps = omega (arith, lt, long) in
+    let p = get_or ps k (0, 0) in
+    let a = row_read ps k d r here row in
+    let b = col_read ps k e c here col in
+    (λ t. (b t, a t)) ∙ sym (lower_at ps k here ∙ ap (λ (q : Place). (q.1, q.0)) (lower_same p (omega (arith, a, b, below))))
+
+-- Flat lists that grow.
+
+slice_front : {X : Type 0} (xs ys : List X) (a b : ℕ) → b ≤ length xs → slice_range (xs ++ ys) a b ≡ slice_range xs a b
+slice_front xs ys a b le = by (dec_lt b a)
+  where
+    by : Dec (b < a) → slice_range (xs ++ ys) a b ≡ slice_range xs a b
+    by (yes lt) = slice_none (xs ++ ys) a b (omega arith) ∙ sym (slice_none xs a b (omega arith))
+    by (no nlt) =
+        let long = length-drop a xs in
+        ap (take (b - a)) (drop-append-le a xs ys (omega arith)) ∙ take-append-le (b - a) (drop a xs) ys (omega (arith, long))
+
+slice_back : {X : Type 0} (xs ys : List X) (b : ℕ) → b ≡ length (xs ++ ys) → slice_range (xs ++ ys) (length xs) b ≡ ys
+slice_back xs ys b e =
+    let both = length-append xs ys in
+    ap (take (b - length xs)) (drop-append_seam xs ys) ∙ take_all (b - length xs) ys (omega (arith, e, both))
+
+pub pieces_start : (pieces : ℕ → List ℕ) → HasPieces 0 pieces (0 ∷ []) []
+pieces_start pieces = record {
+  long = refl;
+  cut = record { one = omega arith; first = refl; rise = λ i lt. absurd (omega arith); last = refl };
+  parts = λ i lt. absurd (omega arith);
+}
+
+-- one part more
+pub pieces_more : (m : ℕ) (pieces : ℕ → List ℕ) (starts flat part : List ℕ) (end : ℕ) → HasPieces m pieces starts flat → part ≡ pieces m → end ≡ length (flat ++ part) → HasPieces (m + 1) pieces (starts ++ end ∷ []) (flat ++ part)
+pieces_more m pieces starts flat part end h is e = record {
+  long = let n = length-append starts (end ∷ []) in let l = h.long in omega (arith, n, l);
+  cut = record {
+    one = let n = length-append starts (end ∷ []) in omega (arith, n);
+    first = let l = h.long in before 0 (omega (arith, l)) ∙ h.cut.first;
+    rise = rises;
+    last = let n = length-append starts (end ∷ []) in let at : length (starts ++ end ∷ []) - 1 ≡ length starts = omega (arith, n) in rw at (get_or-append_seam starts end [] 0 ∙ e);
+  };
+  parts = all;
+}
+  where
+    before : (i : ℕ) → i < length starts → get_or (starts ++ end ∷ []) i 0 ≡ get_or starts i 0
+    before i lt = get_or_append_left starts (end ∷ []) 0 i lt
+
+    last : get_or starts m 0 ≡ length flat
+    last = let l = h.long in let at : length starts - 1 ≡ m = omega (arith, l) in ap (λ i. get_or starts i 0) (sym at) ∙ h.cut.last
+
+    after : get_or (starts ++ end ∷ []) (m + 1) 0 ≡ end
+    after = ap (λ i. get_or (starts ++ end ∷ []) i 0) (sym h.long) ∙ get_or-append_seam starts end [] 0
+
+    rises : (i : ℕ) → i + 1 < length (starts ++ end ∷ []) → get_or (starts ++ end ∷ []) i 0 ≤ get_or (starts ++ end ∷ []) (i + 1) 0
+    rises i lt = by (number_same i m)
+      where
+        by : (i ≡ m) ⊎ (i ≢ m) → get_or (starts ++ end ∷ []) i 0 ≤ get_or (starts ++ end ∷ []) (i + 1) 0
+        by (inl same) = let l = h.long in let a = before m (omega (arith, l)) in let n = length-append flat part in rw same (omega (arith, a, last, after, n, e))
+        by (inr ne) =
+            let l = h.long in
+            let n = length-append starts (end ∷ []) in
+            let a = before i (omega (arith, l, n, lt, ne)) in
+            let b = before (i + 1) (omega (arith, l, n, lt, ne)) in
+            let up = h.cut.rise i (omega (arith, l, n, lt, ne)) in
+            omega (arith, a, b, up)
+
+    all : (i : ℕ) → i < m + 1 → piece (starts ++ end ∷ []) (flat ++ part) i ≡ pieces i
+    all i lt = by (number_same i m)
+      where
+        by : (i ≡ m) ⊎ (i ≢ m) → piece (starts ++ end ∷ []) (flat ++ part) i ≡ pieces i
+        by (inl same) =
+            let l = h.long in
+            let a = before m (omega (arith, l)) ∙ last in
+            rw (same, a, after) (slice_back flat part end e ∙ is)
+        by (inr ne) =
+            let l = h.long in
+            let a = before i (omega (arith, l, lt, ne)) in
+            let b = before (i + 1) (omega (arith, l, lt, ne)) in
+            rw (a, b) (slice_front flat part (get_or starts i 0) (get_or starts (i + 1) 0) (start_within starts flat h.cut (i + 1) (omega (arith, l, lt, ne))) ∙ h.parts i (omega (arith, lt, ne)))
+
+-- how long what stands of one number is
+pub both_length : (cs rs us vs : List ℕ) (i : ℕ) → AreStarts cs rs → AreStarts us vs → i + 1 < length cs → i + 1 < length us → length (both_sides cs rs us vs i) + (get_or us i 0 + get_or cs i 0) ≤ get_or us (i + 1) 0 + get_or cs (i + 1) 0
+both_length cs rs us vs i by_col by_row lt below =
+    let first = length-filter (λ j. nat_lt j i) (piece us vs i) in
+    let few = count_by-le-length (λ j. nat_lt j i) (piece us vs i) in
+    let row = length-slice_range vs (get_or us i 0) (get_or us (i + 1) 0) (start_within us vs by_row (i + 1) below) in
+    let col = length-slice_range rs (get_or cs i 0) (get_or cs (i + 1) 0) (start_within cs rs by_col (i + 1) lt) in
+    let both = length-append (filter (λ j. nat_lt j i) (piece us vs i)) (piece cs rs i) in
+    let up = by_row.rise i below in
+    let across = by_col.rise i lt in
+    omega (arith, first, few, row, col, both, up, across)
+
+-- the numbers after a part more
+pub both_more : {X : Type 0} (f : X → ℕ) (cs rs us vs : List ℕ) (i : ℕ) (old : List ℕ) (before after : List X) (row col : List ℕ) → row ≡ piece us vs i → col ≡ piece cs rs i → map f before ≡ old ++ filter (λ j. nat_lt j i) row → map f after ≡ map f before ++ col → map f after ≡ old ++ both_sides cs rs us vs i
+both_more f cs rs us vs i old before after row col er ec b a =
+    a ∙ (λ t. (b ∙ ap (λ xs. old ++ filter (λ j. nat_lt j i) xs) er) t ++ ec t) ∙ append_assoc old (filter (λ j. nat_lt j i) (piece us vs i)) (piece cs rs i)

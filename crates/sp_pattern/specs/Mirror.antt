@@ -1,0 +1,30 @@
+-- Places with their mirror images, and a symmetric matrix from its entries on and below the diagonal.
+use Rattle.std.specs.Prelude.{◌≡◌, ℕ, ◌+◌, ◌<◌, ◌≤◌, List, ◌++◌, length, map, filter, nat_lt, if◌then◌else◌}
+use Rattle.bip_defs.specs.Lists.{Among}
+use Rattle.bip_defs.specs.Matrix.{IsEntry, Matrix, Place}
+use Rattle.sp_pattern.specs.Stored.{AreStarts, piece}
+
+-- the place, or its mirror image, whichever is not above the diagonal
+abbrev pub lower : Place → Place
+lower p = if nat_lt p.0 p.1 then (p.1, p.0) else p
+
+abbrev pub lowered : List Place → List Place
+lowered ps = map lower ps
+
+-- the mirror image of each place is one of them too
+abbrev pub AreSymmetric : List Place → Type 0
+AreSymmetric ps = (r c : ℕ) → Among (r, c) ps → Among (c, r) ps
+
+-- no entry is above the diagonal
+abbrev pub IsLower : Matrix → Type 0
+IsLower a = (r c : ℕ) → IsEntry a r c → c ≤ r
+
+-- of a column and a row of the same number: what stands above the diagonal in the row, and then the column
+abbrev pub both_sides : List ℕ → List ℕ → List ℕ → List ℕ → ℕ → List ℕ
+both_sides col_starts col_rows row_starts row_cols i = filter (λ j. nat_lt j i) (piece row_starts row_cols i) ++ piece col_starts col_rows i
+
+-- the flat list is cut into m parts, and these are they
+pub record HasPieces (m : ℕ) (pieces : ℕ → List ℕ) (starts flat : List ℕ) : Type 0 where
+  pub long : length starts ≡ m + 1
+  pub cut : AreStarts starts flat
+  pub parts : (i : ℕ) → i < m → piece starts flat i ≡ pieces i
