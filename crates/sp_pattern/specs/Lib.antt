@@ -1,5 +1,4 @@
 pub mod Load
-pub mod Mirror
 pub mod Pairs
 pub mod Stored
 pub mod WeightErrors

@@ -5,7 +5,6 @@ mod compress;
 mod ends;
 mod laws;
 mod load;
-mod mirror;
 mod pairs;
 mod pattern;
 mod pieces;
