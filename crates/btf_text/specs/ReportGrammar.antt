@@ -115,18 +115,24 @@ unfoldable pub lists_at : ℕ → ℕ → List ℕ → Option ((List ℕ × List
 lists_at m n bytes = do
   rows ← list_at (codes "rows") bytes
   cols ← list_at (codes "columns") rows.1
-  if length rows.0 == m && length cols.0 == n then (if rises rows.0 && rises cols.0 then Some ((rows.0, cols.0), cols.1) else None) else None
+  if length rows.0 == m && length cols.0 == n
+      then (if rises rows.0 && rises cols.0 then Some ((rows.0, cols.0), cols.1) else None)
+      else None
 
 unfoldable pub part_at : List ℕ → List ℕ → Option ((List ℕ × List ℕ) × List ℕ)
 part_at word bytes = do
   sizes ← two_at word bytes
-  if sizes.0.0 == 0 && sizes.0.1 == 0 then Some (([], []), sizes.1) else lists_at sizes.0.0 sizes.0.1 sizes.1
+  if sizes.0.0 == 0 && sizes.0.1 == 0
+      then Some (([], []), sizes.1)
+      else lists_at sizes.0.0 sizes.0.1 sizes.1
 
 -- the block of this number, of at most so many rows
 unfoldable pub block_at : ℕ → ℕ → List ℕ → Option ((List ℕ × List ℕ) × List ℕ)
 block_at number room bytes = do
   head ← two_at (codes "block") bytes
-  if head.0.0 == number && (nat_lt 0 head.0.1 && nat_lt head.0.1 (suc room)) then lists_at head.0.1 head.0.1 head.1 else None
+  if head.0.0 == number && (nat_lt 0 head.0.1 && nat_lt head.0.1 (suc room))
+      then lists_at head.0.1 head.0.1 head.1
+      else None
 
 -- so many blocks from this number on, of at most so many rows in all
 unfoldable pub blocks_at : ℕ → ℕ → ℕ → List ℕ → Option (List Block × List ℕ)
