@@ -1,5 +1,5 @@
 -- Both orders of the same places are a pattern.
-use Rattle.std.proofs.Common.{◌≡◌, ◌∙◌, ℕ, ◌-◌, ◌<◌, ◌^◌, List, [], length, map, sym, ap, arith, subst, ◌∷◌, inl, inr}
+use Rattle.std.proofs.Common.{◌≡◌, ◌∙◌, ℕ, ◌-◌, ◌<◌, ◌≤◌, ◌^◌, List, [], length, map, sym, ap, arith, subst, ◌∷◌, inl, inr}
 use Rattle.std.specs.List.{AllByRecursion}
 use Rattle.sp_ids.specs.Entries.{IsInside}
 use Rattle.std.proofs.Math.Decide.{dec_lt}
@@ -46,11 +46,12 @@ module _ (rows cols : ℕ) (P : ℕ → ℕ → Type 0) (cs rs us vs : List ℕ)
       let lt = within.1 in
       (omega (arith, tall, below), subst (Among r) (sym (get_or-pieces cs rs c [] (omega (arith, long, lt)))) ((by_col.parts c lt).complete r p))
 
-  pub both_orders : rows < 2 ^ 32 → cols < 2 ^ 32 → length rs < 2 ^ 32 → AreOrders cs rs us vs
-  both_orders few_rows few_cols few = record {
+  pub both_orders : rows < 2 ^ 32 → cols < 2 ^ 32 → length rs < 2 ^ 32 → length vs ≡ length rs → AreOrders cs rs us vs
+  both_orders few_rows few_cols few same = record {
     few_cols = let l = by_col.long in omega (arith, l);
     few_rows = let l = by_row.long in omega (arith, l);
     few_entries = few;
+    same_length = same;
     by_col = by_col.cut;
     by_row = by_row.cut;
     rows = λ c lt. lists_same (λ r. P r c) (λ r. IsEntry (stored cs rs us) r c) (piece cs rs c) (λ r h. entry_back r c h) (λ r h. entry_over r c h) (by_col.parts c (let l = by_col.long in omega (arith, l)));
@@ -74,9 +75,10 @@ of_columns rows cols ps cs rs us vs o t few_rows few_cols few =
     let long = by_col.long in
     let inside : AreInside cols rows ps = λ p h. o.order.inside p ((o.same p).1 h) in
     let same : length cs - 1 ≡ cols = omega (arith, long) in
-    let by_row = turned_parts cols rows ps cs rs us vs o (t o.order.pairs (rw same (order_table cols rows cs rs o.order))) in
+    let turned_pairs = t o.order.pairs (rw same (order_table cols rows cs rs o.order)) in
+    let by_row = turned_parts cols rows ps cs rs us vs o turned_pairs in
     let within : (r c : ℕ) → Among (c, r) ps → (r < rows) × (c < cols) = λ r c h. ((inside (c, r) h).1, (inside (c, r) h).0) in
-    let orders = both_orders rows cols (λ r c. Among (c, r) ps) cs rs us vs by_col by_row within few_rows few_cols few in
+    let orders = both_orders rows cols (λ r c. Among (c, r) ps) cs rs us vs by_col by_row within few_rows few_cols few (order_turned_length cols rows cs rs us vs o.order turned_pairs) in
     (orders, both_places rows cols (λ r c. Among (c, r) ps) cs rs us vs by_col by_row within (transposed_places ps) (λ r c h. turned_among c r ps h) (λ r c h. turned_back c r ps h) orders)
 
 -- an order is one of its own pairs
@@ -88,7 +90,7 @@ order_itself m n starts flat o = record {
 }
 
 pub of_rows : (rows cols : ℕ) (ps : List Pair) (cs rs us vs : List ℕ) → IsOrderOf rows cols ps us vs → IsTurned (length us - 1) cols us vs cs rs → AreInside rows cols ps
-    → rows < 2 ^ 32 → cols < 2 ^ 32 → length ps < 2 ^ 32 → AreOrders cs rs us vs × HasPlaces rows cols ps (stored cs rs us)
+    → rows < 2 ^ 32 → cols < 2 ^ 32 → length ps < 2 ^ 32 → AreOrders cs rs us vs × HasPlaces rows cols ps (stored cs rs us) × (length rs ≤ length ps)
 of_rows rows cols ps cs rs us vs o t inside few_rows few_cols few =
     let by_row = order_parts rows cols ps us vs o in
     let long = by_row.long in
@@ -97,8 +99,8 @@ of_rows rows cols ps cs rs us vs o t inside few_rows few_cols few =
     let by_col = turned_parts rows cols ps us vs cs rs o turned_pairs in
     let same_length = order_turned_length rows cols us vs cs rs o.order turned_pairs in
     let within : (r c : ℕ) → Among (r, c) ps → (r < rows) × (c < cols) = λ r c h. inside (r, c) h in
-    let orders = both_orders rows cols (λ r c. Among (r, c) ps) cs rs us vs by_col by_row within few_rows few_cols (let f = o.few in omega (arith, f, same_length, few)) in
-    (orders, both_places rows cols (λ r c. Among (r, c) ps) cs rs us vs by_col by_row within ps (λ r c h. h) (λ r c h. h) orders)
+    let orders = both_orders rows cols (λ r c. Among (r, c) ps) cs rs us vs by_col by_row within few_rows few_cols (let f = o.few in omega (arith, f, same_length, few)) (sym same_length) in
+    (orders, both_places rows cols (λ r c. Among (r, c) ps) cs rs us vs by_col by_row within ps (λ r c h. h) (λ r c h. h) orders, (let f = o.few in omega (arith, f, same_length)))
 
 -- The same, as the calls say it.
 
@@ -127,7 +129,7 @@ order_numbers m n ps starts flat o = subst (λ xs. IsOrderOf m n ps starts xs) (
 
 pub made_by_rows : (rows cols : ℕ) (ps : List Pair) (cs rs us vs lent_starts lent_flat : List ℕ) → IsOrderOf rows cols ps us (map itself vs) → lent_starts ≡ us → lent_flat ≡ vs
     → IsTurned (length lent_starts - 1) cols lent_starts (map itself lent_flat) cs (map itself rs) → AreInside rows cols ps
-    → rows < 2 ^ 32 → cols < 2 ^ 32 → length ps < 2 ^ 32 → AreOrders cs rs us vs × HasPlaces rows cols ps (stored cs rs us)
+    → rows < 2 ^ 32 → cols < 2 ^ 32 → length ps < 2 ^ 32 → AreOrders cs rs us vs × HasPlaces rows cols ps (stored cs rs us) × (length rs ≤ length ps)
 made_by_rows rows cols ps cs rs us vs ss ff o es ef t inside few_rows few_cols few =
     of_rows rows cols ps cs rs us vs (subst (λ xs. IsOrderOf rows cols ps us xs) (map-id vs) o)
     (subst (λ xs. IsTurned (length us - 1) cols us xs cs rs) (map-id vs)
@@ -147,6 +149,9 @@ pub inside_places : (rows cols : ℕ) (ps : List Place) → AllByRecursion (IsIn
 inside_places rows cols [] all p h = elim h [ ]
 inside_places rows cols (q ∷ ps) all p (inl e) = let first = ap (λ (z : Pair). z.0) e in let second = ap (λ (z : Pair). z.1) e in let a = all.0.0 in let b = all.0.1 in (omega (arith, first, a), omega (arith, second, b))
 inside_places rows cols (q ∷ ps) all p (inr h) = inside_places rows cols ps all.1 p h
+
+pub pairs_turned : (m n : ℕ) (ps : List Pair) → AreInside m n ps → AreInside n m (transposed_places ps)
+pairs_turned m n ps inside p h = let within = inside (p.1, p.0) (turned_back p.1 p.0 ps h) in (within.1, within.0)
 
 pub from_turned_twice : (rows cols m n : ℕ) (ps qs : List Place) (a : Matrix) → m ≡ rows → n ≡ cols → ps ≡ qs → HasPlaces m n (transposed_places (transposed_places ps)) a → HasPlaces rows cols qs a
 from_turned_twice rows cols m n ps qs a em en same h = rw (← em, ← en, ← same) (subst (λ xs. HasPlaces m n xs a) (turned_twice ps) h)

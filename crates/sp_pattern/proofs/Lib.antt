@@ -1,6 +1,8 @@
 pub mod Both
 pub mod Cuts
 pub mod LoadLemmas
+pub mod MirrorLemmas
+pub mod Mirrored
 pub mod Numbers
 pub mod Orders
 pub mod Packed

@@ -1,9 +1,5 @@
 -- Places with their mirror images, and flat lists that grow part by part.
-<<<<<<< HEAD
-use Rattle.std.proofs.Common.{◌≡◌, ◌≢◌, ◌⊎◌, ◌∙◌, ℕ, zero, suc, ◌+◌, ◌-◌, ◌<◌, ◌≤◌, List, [], ◌∷◌, ◌++◌, length, filter, get_or, map, nat_lt, take, drop, refl, sym, ap, arith, subst, inl, inr, ⊎_elim, take_all, append_assoc, true, false, if◌then◌else◌}
-=======
 use Rattle.std.proofs.Common.{◌≡◌, ◌≢◌, ◌⊎◌, ◌∙◌, ℕ, ◌+◌, ◌-◌, ◌<◌, ◌≤◌, List, [], ◌∷◌, ◌++◌, length, filter, get_or, map, nat_lt, take, drop, refl, sym, ap, arith, inl, inr, ⊎_elim, take_all, append_assoc, true, false, if◌then◌else◌}
->>>>>>> a5f72ebf33e91ebb32a1aafb20639af730cbf7df
 use Rattle.std.proofs.Math.Decide.{dec_lt}
 use Rattle.std.proofs.Math.Seq.{drop-append_seam, get_or-append_seam}
 use Rattle.std.proofs.lemmas.List.{drop-append-le, get_or_append_left, length-append, length-drop, take-append-le, take_more, get_or_default, get_or-map, length-map}
@@ -12,11 +8,7 @@ use Rattle.bip_defs.specs.Lists.{Among}
 use Rattle.bip_defs.specs.Matrix.{Place}
 use Rattle.bip_defs.proofs.Sets.{among_either, among_left, among_right, number_same}
 use Rattle.bip_defs.proofs.Slices.{slice_none}
-<<<<<<< HEAD
-use Rattle.sp_pattern.specs.Mirror.{AreSymmetric, HasPieces, IsLower, both_sides, lower, lowered}
-=======
 use Rattle.sp_pattern.specs.Mirror.{AreSymmetric, HasPieces, both_sides, lower, lowered}
->>>>>>> a5f72ebf33e91ebb32a1aafb20639af730cbf7df
 use Rattle.std.proofs.lemmas.Bool.Decides.{nat_tests}
 use Rattle.bip_defs.specs.Matching.{transposed_places}
 use Rattle.bip_defs.proofs.Transposed.{turned_length}

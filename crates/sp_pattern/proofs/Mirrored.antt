@@ -1,21 +1,10 @@
 -- A symmetric matrix from its entries on and below the diagonal.
-<<<<<<< HEAD
-use Rattle.std.proofs.Common.{◌≡◌, ◌≢◌, ◌⊎◌, ◌∙◌, ◌↔◌, ℕ, ◌+◌, ◌-◌, ◌<◌, ◌≤◌, ◌^◌, List, [], ◌∷◌, ◌++◌, length, filter, map, nat_lt, refl, sym, ap, arith, subst, inl, inr, ⊎_elim}
-use Rattle.std.proofs.Math.Decide.{dec_lt}
-use Rattle.std.proofs.lemmas.List.{map-id}
-use Rattle.bip_defs.specs.Lists.{Among, IsRising, Lists}
-use Rattle.bip_defs.specs.Matching.{transposed_places}
-use Rattle.bip_defs.specs.Matrix.{HasPlaces, IsEntry, Matrix, Place, cols, entry_count}
-use Rattle.bip_defs.proofs.Sets.{among_either, among_left, among_map, among_map_back, among_right, below_each_from, below_each_sound, entry_col, filter_complete, filter_sound, lists_same, number_same, rising_filter}
-use Rattle.bip_defs.proofs.Transposed.{turned_back}
-=======
 use Rattle.std.proofs.Common.{◌≡◌, ◌⊎◌, ◌∙◌, ℕ, ◌+◌, ◌-◌, ◌<◌, ◌≤◌, ◌^◌, List, [], ◌∷◌, ◌++◌, length, filter, map, nat_lt, refl, sym, ap, arith, subst, inl, inr, ⊎_elim}
 use Rattle.std.proofs.Math.Decide.{dec_lt}
 use Rattle.std.proofs.lemmas.List.{map-id}
 use Rattle.bip_defs.specs.Lists.{Among, IsRising, Lists}
 use Rattle.bip_defs.specs.Matrix.{HasPlaces, IsEntry, Matrix, Place, cols, entry_count}
 use Rattle.bip_defs.proofs.Sets.{among_either, among_left, among_map, among_map_back, among_right, below_each_from, below_each_sound, entry_col, filter_complete, filter_sound, lists_same, rising_filter}
->>>>>>> a5f72ebf33e91ebb32a1aafb20639af730cbf7df
 use Rattle.sp_pattern.specs.Mirror.{AreSymmetric, HasPieces, IsLower, both_sides, lower, lowered}
 use Rattle.sp_pattern.specs.Pairs.{AreInside, AreParts}
 use Rattle.sp_pattern.specs.Stored.{AreOrders, piece, pieces, stored}

@@ -1,4 +1,5 @@
 pub mod Load
+pub mod Mirror
 pub mod Pairs
 pub mod Stored
 pub mod WeightErrors

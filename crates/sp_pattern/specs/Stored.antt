@@ -30,6 +30,7 @@ pub record AreOrders (col_starts col_rows row_starts row_cols : List ℕ) : Type
   pub few_cols : length col_starts ≤ 2 ^ 32
   pub few_rows : length row_starts ≤ 2 ^ 32
   pub few_entries : length col_rows < 2 ^ 32
+  pub same_length : length row_cols ≡ length col_rows
   pub by_col : AreStarts col_starts col_rows
   pub by_row : AreStarts row_starts row_cols
   pub rows : (c : ℕ) → c + 1 < length col_starts → Lists (λ r. IsEntry (stored col_starts col_rows row_starts) r c) (piece col_starts col_rows c)

@@ -5,6 +5,7 @@ mod compress;
 mod ends;
 mod laws;
 mod load;
+mod mirror;
 mod pairs;
 mod pattern;
 mod pieces;

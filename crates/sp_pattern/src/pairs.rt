@@ -2,6 +2,7 @@
 
 ghost use Rattle.std.specs.Prelude.{◌≡◌, ◌+◌, ◌<◌, ◌↔◌, IsTrue, ℕ, List, length, map};
 ghost use Rattle.bip_defs.specs.Matching.{transposed_places};
+ghost use Rattle.sp_pattern.specs.Mirror.{lowered};
 ghost use Rattle.sp_pattern.specs.Pairs.{AreSorted, in_blocks, pair_at, with_zero};
 
 use sp_ids::{Col, Id, Row};
@@ -53,6 +54,52 @@ impl Pairs for ByRow<'_> {
     fn at(&self, k: usize) -> (u32, u32) {
         let (row, col) = self.places[k];
         (row.0, col.0)
+    }
+}
+
+/// The places on and below the diagonal that the places or their mirror images are, with the column as the outer number.
+#[derive(Clone, Copy)]
+pub struct LowerByCol<'a> {
+    pub places: &'a [(Row, Col)],
+}
+
+impl Pairs for LowerByCol<'_> {
+    ghost pairs = { λ s. transposed_places (lowered s.places.now) };
+
+    fn len(&self) -> usize {
+        self.places.len()
+    }
+
+    fn at(&self, k: usize) -> (u32, u32) {
+        let (row, col) = self.places[k];
+        if row.0 < col.0 {
+            (row.0, col.0)
+        } else {
+            (col.0, row.0)
+        }
+    }
+}
+
+/// The same places, with the row as the outer number.
+#[derive(Clone, Copy)]
+pub struct LowerByRow<'a> {
+    pub places: &'a [(Row, Col)],
+}
+
+impl Pairs for LowerByRow<'_> {
+    ghost pairs = { λ s. lowered s.places.now };
+
+    fn len(&self) -> usize {
+        self.places.len()
+    }
+
+    fn at(&self, k: usize) -> (u32, u32) {
+        let (row, col) = self.places[k];
+        if row.0 < col.0 {
+            (col.0, row.0)
+        } else {
+            (row.0, col.0)
+        }
     }
 }
 

@@ -2,15 +2,18 @@
 
 ghost use Rattle.std.specs.Prelude.{◌≡◌, ◌<◌, ◌^◌, ◌↔◌, IsTrue, IfOk, List, length, ◌+◌, ◌≤◌};
 ghost use Rattle.bip_defs.specs.Matching.{transposed_places};
+ghost use Rattle.sp_pattern.specs.Mirror.{AreSymmetric, IsLower, lowered};
 ghost use Rattle.sp_pattern.specs.Pairs.{AreInside, AreSorted, IsOrder, IsOrderOf, Pair};
 ghost use Rattle.bip_defs.specs.Lists.{IsRising, Lists};
-ghost use Rattle.bip_defs.specs.Matrix.{IsEntry, HasPlaces, cols, column, row_list, entry_count};
-ghost use Rattle.sp_ids.specs.Entries.{places};
+ghost use Rattle.bip_defs.specs.Matrix.{IsEntry, HasPlaces, Place, cols, column, row_list, entry_count};
+ghost use Rattle.sp_ids.specs.Entries.{IsInside, places};
+ghost use Rattle.std.specs.List.{AllByRecursion};
 ghost use Rattle.sp_pattern.specs.Stored.{IsPattern};
 ghost use Rattle.sp_pattern.specs.Weights.{position, start_of};
 
 use crate::compress::compress;
-use crate::pairs::{ByCol, ByRow, Pairs, are_sorted};
+use crate::mirror::{are_mirrored, as_cols, both_halves};
+use crate::pairs::{ByCol, ByRow, LowerByCol, LowerByRow, Pairs, are_sorted};
 use crate::pieces::part;
 use crate::sort::sorted;
 use crate::transpose::transpose;
@@ -18,6 +21,9 @@ use sp_ids::{Col, OutOfMemory, Row, Triples};
 use std::alloc::Global;
 use std::marker::Model;
 use std::thread::Threads;
+
+// The number from which on twice as many no longer fit 32 bits.
+const HALF: usize = 2147483648;
 
 /// Which places of a matrix have entries, each of them once, by columns and by rows.
 ///
@@ -47,12 +53,13 @@ impl Model for Pattern {
 impl Pattern {
     /// The pattern of the places of these entries. A place that is given several times is one entry.
     ///
-    /// Entries that stand neither by columns nor by rows are sorted by as many threads as `rt` has processors; where it
-    /// starts none, the calling thread sorts them, and the pattern is the same. Beside the pattern it takes at most 8 bytes
-    /// an entry, those that are given several times and the mirror images of a symmetric file counted too: while they are
-    /// sorted, or else while the second order is derived from the first, and then 4 bytes more for each 4,096 rows or
-    /// columns. Answers `OutOfMemory` where there is no memory for that or for the pattern. Work: linear in the entries,
-    /// the rows and the columns, and the sort.
+    /// Entries that stand with their mirror images, as those of a symmetric file, are made of those on and below the
+    /// diagonal. What stands neither by columns nor by rows is sorted by as many threads as `rt` has processors; where it
+    /// starts none, the calling thread sorts, and the pattern is the same. Beside the pattern it takes at most 8 bytes an
+    /// entry, those that are given several times and the mirror images of a symmetric file counted too: while they are
+    /// sorted, or while the second order is derived from the first, and then 4 bytes more for each 4,096 rows or columns,
+    /// and for a symmetric file 4 for each row. Answers `OutOfMemory` where there is no memory for that or for the
+    /// pattern. Work: linear in the entries, the rows and the columns, and the sort.
     pub fn build<R: Threads + Sync>(
         rt: &R,
         alloc: Global,
@@ -68,8 +75,64 @@ impl Pattern {
         if are_sorted(&ByRow { places }) {
             return Pattern::from_rows(alloc, rows, cols, ByRow { places });
         }
-        let sorted = sorted(rt, alloc, places)?;
+        if rows == cols && places.len() < HALF && are_mirrored(places) {
+            let lower = Pattern::lower_part(rt, alloc, rows, places)?;
+            return lower.with_mirror(alloc, places.len());
+        }
+        let sorted = sorted(rt, alloc, &ByCol { places })?;
         Pattern::from_columns(alloc, rows, cols, sorted)
+    }
+
+    // Of a square matrix, the places on and below the diagonal that these places or their mirror images are.
+    fn lower_part<R: Threads + Sync>(
+        rt: &R,
+        alloc: Global,
+        n: u32,
+        places: &[(Row, Col)],
+    ) -> Result<Pattern, OutOfMemory>
+        requires inside { AllByRecursion (IsInside n n) places.now }
+        requires few { length places.now < 2 ^ 32 }
+        ensures places { IfOk result (HasPlaces n n (lowered places.now)) }
+        ensures few { IfOk result (λ a. entry_count a ≤ length places.now) }
+    {
+        let by_col = LowerByCol { places };
+        if are_sorted(&by_col) {
+            return Pattern::from_columns(alloc, n, n, by_col);
+        }
+        let by_row = LowerByRow { places };
+        if are_sorted(&by_row) {
+            return Pattern::from_rows(alloc, n, n, by_row);
+        }
+        let sorted = sorted(rt, alloc, &by_col)?;
+        Pattern::from_columns(alloc, n, n, sorted)
+    }
+
+    // The pattern with the mirror images of its entries, none of which is above the diagonal. `room` is for how many
+    // entries memory is taken at once.
+    fn with_mirror(self, alloc: Global, room: usize) -> Result<Pattern, OutOfMemory>
+        requires square { self.rows ≡ cols self }
+        requires lower { IsLower self }
+        requires few { entry_count self < 2 ^ 31 }
+        ensures { IfOk result (λ a. (ps : List Place) → AreSymmetric ps
+            → HasPlaces self.rows (cols self) (lowered ps) self
+            → HasPlaces self.rows (cols self) ps a) }
+    {
+        let (col_starts, col_rows) = both_halves::<Row>(
+            alloc,
+            self.col_starts.as_slice(),
+            self.col_rows.as_slice(),
+            self.row_starts.as_slice(),
+            self.row_cols.as_slice(),
+            room,
+        )?;
+        let row_starts = col_starts.as_slice().to_vec(alloc)?;
+        let row_cols = as_cols(alloc, col_rows.as_slice())?;
+        Ok(Pattern {
+            col_starts,
+            col_rows,
+            row_starts,
+            row_cols,
+        })
     }
 
     // The pattern of pairs of a column and a row, in order. The pairs are let go as soon as they are compressed.
@@ -82,7 +145,8 @@ impl Pattern {
         requires sorted { AreSorted (P.pairs pairs) }
         requires inside { AreInside cols rows (P.pairs pairs) }
         requires few { length (P.pairs pairs) < 2 ^ 32 }
-        ensures { IfOk result (HasPlaces rows cols (transposed_places (P.pairs pairs))) }
+        ensures places { IfOk result (HasPlaces rows cols (transposed_places (P.pairs pairs))) }
+        ensures few { IfOk result (λ a. entry_count a ≤ length (P.pairs pairs)) }
     {
         let (col_starts, col_rows) = compress::<P, Row>(alloc, &pairs, cols, rows)?;
         drop(pairs);
@@ -99,9 +163,10 @@ impl Pattern {
     ) -> Result<Pattern, OutOfMemory>
         requires order { IsOrder cols rows col_starts.items col_rows.items }
         requires few { length col_rows.items < 2 ^ 32 }
-        ensures { IfOk result (λ a. (ps : List Pair)
+        ensures places { IfOk result (λ a. (ps : List Pair)
             → IsOrderOf cols rows ps col_starts.items col_rows.items
             → HasPlaces rows cols (transposed_places ps) a) }
+        ensures few { IfOk result (λ a. entry_count a ≡ length col_rows.items) }
     {
         let (row_starts, row_cols) = transpose::<Col, Row>(
             alloc,
@@ -127,7 +192,8 @@ impl Pattern {
         requires sorted { AreSorted (P.pairs pairs) }
         requires inside { AreInside rows cols (P.pairs pairs) }
         requires few { length (P.pairs pairs) < 2 ^ 32 }
-        ensures { IfOk result (HasPlaces rows cols (P.pairs pairs)) }
+        ensures places { IfOk result (HasPlaces rows cols (P.pairs pairs)) }
+        ensures few { IfOk result (λ a. entry_count a ≤ length (P.pairs pairs)) }
     {
         let (row_starts, row_cols) = compress::<P, Col>(alloc, &pairs, rows, cols)?;
         drop(pairs);

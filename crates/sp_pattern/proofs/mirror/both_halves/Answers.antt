@@ -1,10 +1,5 @@
-<<<<<<< HEAD
-use Rattle.std.proofs.Common.{◌≡◌, ◌+◌, ◌≤◌, ◌++◌, ap, arith, get_or, length, length-append, map, refl, ◌∙◌}
-use Rattle.sp_pattern.specs.Mirror.{HasPieces, both_sides}
-=======
 use Rattle.std.proofs.Common.{◌+◌, ap, arith, length, length-append, map, refl, ◌∙◌}
 use Rattle.sp_pattern.specs.Mirror.{both_sides}
->>>>>>> a5f72ebf33e91ebb32a1aafb20639af730cbf7df
 use Rattle.sp_pattern.proofs.Cuts.{start_within}
 use Rattle.sp_pattern.proofs.MirrorLemmas.{both_length, both_more, pieces_more}
 use Rattle.sp_pattern.proofs.Numbers.{length_numbers}

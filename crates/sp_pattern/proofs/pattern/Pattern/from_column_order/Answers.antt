@@ -1,6 +1,7 @@
 use Rattle.std.proofs.Common.{arith}
 use Rattle.std.proofs.lemmas.List.{map-id}
 use Rattle.sp_pattern.proofs.Both.{lent_order, made_by_columns, order_itself}
+use Rattle.sp_pattern.proofs.Shape.{orders_entries}
 use Rattle.sp_pattern.proofs.Sides.{order_inside, order_table}
 use Rattle.sp_pattern.proofs.pattern.Pattern.from_column_order.Goals as goal
 
@@ -17,5 +18,8 @@ transpose-requires-clause-inside c =
 pub invariant_of-result : goal.invariant_of-result
 invariant_of-result c = (made_by_columns c.args.rows c.args.cols _ _ _ _ _ _ _ (order_itself _ _ _ _ c.requires.order) c.as_slice.ensures.value c.as_slice-2.ensures.value c.in_ok-row_starts.ensures (let f = c.ranges.rows in omega (arith, f)) (let f = c.ranges.cols in omega (arith, f)) c.requires.few).0
 
-pub returns : goal.returns
-returns c = λ ps o. (made_by_columns c.args.rows c.args.cols ps _ _ _ _ _ _ o c.as_slice.ensures.value c.as_slice-2.ensures.value c.in_ok-row_starts.ensures (let f = c.ranges.rows in omega (arith, f)) (let f = c.ranges.cols in omega (arith, f)) c.requires.few).1
+pub returns-clause-places : goal.returns-clause-places
+returns-clause-places c = λ ps o. (made_by_columns c.args.rows c.args.cols ps _ _ _ _ _ _ o c.as_slice.ensures.value c.as_slice-2.ensures.value c.in_ok-row_starts.ensures (let f = c.ranges.rows in omega (arith, f)) (let f = c.ranges.cols in omega (arith, f)) c.requires.few).1
+
+pub returns-clause-few : goal.returns-clause-few
+returns-clause-few c = orders_entries _ _ _ _ (made_by_columns c.args.rows c.args.cols _ _ _ _ _ _ _ (order_itself _ _ _ _ c.requires.order) c.as_slice.ensures.value c.as_slice-2.ensures.value c.in_ok-row_starts.ensures (let f = c.ranges.rows in omega (arith, f)) (let f = c.ranges.cols in omega (arith, f)) c.requires.few).0

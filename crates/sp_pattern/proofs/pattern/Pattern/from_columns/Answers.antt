@@ -9,5 +9,8 @@ from_column_order-requires-clause-order g c = (order_numbers _ _ _ _ _ c.in_ok-c
 pub from_column_order-requires-clause-few : goal.from_column_order-requires-clause-few
 from_column_order-requires-clause-few g c = let few = c.requires.few in let f = (order_numbers _ _ _ _ _ c.in_ok-col_starts.ensures).few in omega (arith, few, f)
 
-pub returns : goal.returns
-returns g c = IfOk-weaker c.from_column_order.result _ _ (λ a h. h (g.P.Pairs.pairs c.args.pairs) (order_numbers _ _ _ _ _ c.in_ok-col_starts.ensures)) c.from_column_order.ensures
+pub returns-clause-places : goal.returns-clause-places
+returns-clause-places g c = IfOk-weaker c.from_column_order.result _ _ (λ a h. h (g.P.Pairs.pairs c.args.pairs) (order_numbers _ _ _ _ _ c.in_ok-col_starts.ensures)) c.from_column_order.ensures.places
+
+pub returns-clause-few : goal.returns-clause-few
+returns-clause-few g c = IfOk-weaker c.from_column_order.result _ _ (λ a h. let f = (order_numbers _ _ _ _ _ c.in_ok-col_starts.ensures).few in omega (arith, f, h)) c.from_column_order.ensures.few

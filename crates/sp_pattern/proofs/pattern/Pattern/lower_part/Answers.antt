@@ -1,12 +1,5 @@
-<<<<<<< HEAD
-use Rattle.std.proofs.Common.{arith, refl}
-use Rattle.std.proofs.lemmas.Result.{IfOk-weaker}
-use Rattle.bip_defs.proofs.Transposed.{turned_twice}
-use Rattle.sp_pattern.specs.Mirror.{lowered}
-=======
 use Rattle.std.proofs.Common.{refl}
 use Rattle.std.proofs.lemmas.Result.{IfOk-weaker}
->>>>>>> a5f72ebf33e91ebb32a1aafb20639af730cbf7df
 use Rattle.sp_pattern.proofs.Both.{from_turned_twice, inside_places, pairs_turned}
 use Rattle.sp_pattern.proofs.Mirrored.{lowered_inside}
 use Rattle.sp_pattern.proofs.Packed.{same_inside, same_places}
