@@ -7,7 +7,7 @@ use Rattle.bip_defs.specs.Paths.{Alternates, BeginsUnmatched, Exchanges, Gives, 
 use Rattle.bip_defs.proofs.Exchange.{adds_pair, drops_gives, drops_pair, exchange_one, exchange_rest, rest_augments}
 use Rattle.bip_defs.proofs.Sets.{col_among, col_pair, distinct_pairs, drops_gone, drops_length, drops_only, drops_rows, row_among, row_pair, taken}
 use Rattle.forest_core.specs.Current.{IsCurrent, IsPairAfter, OnPath}
-use Rattle.forest_core.specs.Paths.{IsPath, with_flipped}
+use Rattle.forest_core.specs.Paths.{ArePathPairs, IsPath, with_flipped}
 use Rattle.forest_core.specs.Sound.{IsSound}
 use Rattle.bip_defs.specs.Forest.{RootOf, State, roots_of}
 use Rattle.forest_core.proofs.RootPaths.{has_path}
@@ -19,7 +19,7 @@ use Rattle.forest_core.proofs.Roots.{claims_entries, one_claim, one_path, one_ro
 pub stays_matched : (s : State) → IsSound s → (xs : List ℕ) (now : List Place) (x r c : ℕ) → IsCurrent (with_flipped s xs) now → ¬ Among x xs → OnPath s.base s.claims s.leaves x r → Among (r, c) s.base → Among (r, c) now
 stays_matched s k xs now x r c cur off on m = (cur.pairs (r, c)).1 (inr (m, λ (y, f, w). off (subst (λ z. Among z xs) (one_path s k w on) f)))
 
-stays_unmatched_row : (s : State) → IsSound s → (xs : List ℕ) (now : List Place) (x r : ℕ) → IsCurrent (with_flipped s xs) now → ¬ Among x xs → OnPath s.base s.claims s.leaves x r → ¬ Among r (rows_of s.base) → ¬ Among r (rows_of now)
+pub stays_unmatched_row : (s : State) → IsSound s → (xs : List ℕ) (now : List Place) (x r : ℕ) → IsCurrent (with_flipped s xs) now → ¬ Among x xs → OnPath s.base s.claims s.leaves x r → ¬ Among r (rows_of s.base) → ¬ Among r (rows_of now)
 stays_unmatched_row s k xs now x r cur off on free h =
     let (c, p) = row_pair r now h in
     ⊎_elim (λ (g, (y, f, w)). off (subst (λ z. Among z xs) (one_path s k w on) f)) (λ (g, n). free (row_among r c s.base g)) ((cur.pairs (r, c)).0 p)
@@ -51,11 +51,11 @@ path_augments s k xs now x path cur off b = record {
         let (r, p) = col_pair c now g in
         n (col_among r c s.base (was_matched s k xs now x r c cur off (root_of_claimer s k x q c (path_root s k (b.on_path q (row_among q c path on))) (b.claimed (q, c) on)) p))
 
-pub path_entries : (s : State) → IsSound s → (x : ℕ) (path : List Place) → IsPath s x path → AreEntries s.matrix path
+pub path_entries : (s : State) → IsSound s → (x : ℕ) (path : List Place) → ArePathPairs s x path → AreEntries s.matrix path
 path_entries s k x path b r c h = claims_entries s.matrix s.base [] s.claims k.claims r c (b.claimed (r, c) h)
 
 -- the path of one root more is exchanged
-pub current_more : (s : State) → IsSound s → (xs ys : List ℕ) (now new : List Place) (x : ℕ) (path : List Place) → IsCurrent (with_flipped s xs) now → ¬ Among x xs → IsPath s x path → Exchanges path now new → AreDistinct new → ((y : ℕ) → Among y ys ↔ ((y ≡ x) ⊎ Among y xs)) → IsCurrent (with_flipped s ys) new
+pub current_more : (s : State) → IsSound s → (xs ys : List ℕ) (now new : List Place) (x : ℕ) (path : List Place) → IsCurrent (with_flipped s xs) now → ¬ Among x xs → ArePathPairs s x path → Exchanges path now new → AreDistinct new → ((y : ℕ) → Among y ys ↔ ((y ≡ x) ⊎ Among y xs)) → IsCurrent (with_flipped s ys) new
 current_more s k xs ys now new x path cur off b ex once more = record { pairs = λ p. (over p, back p); once = once }
   where
     over : (p : Place) → Among p new → IsPairAfter s ys p
@@ -109,8 +109,9 @@ grown s k (x ∷ xs) d within =
     let (m, g) = grown s k xs d.1 (λ y h. within y (inr h)) in
     let (r, h) = row_of_root x (within x (inl refl)) in
     let (path, b) = has_path s k x r h in
-    let (n, l, e, ex) = exchanged s.matrix path m g.matching (path_entries s k x path b) (path_augments s k xs m x path g.current d.0 b) in
-    (n, record { current = current_more s k xs (x ∷ xs) m n x path g.current d.0 b ex (distinct_pairs n l.rows_differ) (λ y. (λ i. i, λ i. i)); matching = l; size = (let before = g.size in omega arith) })
+    let ps : ArePathPairs s x path = record { claimed = b.claimed; on_path = b.on_path; complete = b.complete } in
+    let (n, l, e, ex) = exchanged s.matrix path m g.matching (path_entries s k x path ps) (path_augments s k xs m x path g.current d.0 b) in
+    (n, record { current = current_more s k xs (x ∷ xs) m n x path g.current d.0 ps ex (distinct_pairs n l.rows_differ) (λ y. (λ i. i, λ i. i)); matching = l; size = (let before = g.size in omega arith) })
   where
     row_of_root : (x : ℕ) → Among x (roots_of s.leaves) → (r : ℕ) × Among (x, r) s.leaves
     row_of_root x h = row_pair x s.leaves h

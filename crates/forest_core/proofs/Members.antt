@@ -1,14 +1,9 @@
 -- Lists that grow at their end, and lists of the same members.
-use Rattle.std.proofs.Common.{◌≡◌, ◌∙◌, ℕ, ◌<◌, ◌≤◌, Bool, true, false, not, Option, None, Some, IfSome, IfNone, List, [], ◌∷◌, ◌++◌, length, map, slice_index_or, refl, sym, ap, subst, inl, inr, ⊎_elim, arith, true≢false}
+use Rattle.std.proofs.Common.{◌≡◌, ℕ, ◌<◌, Bool, true, false, not, Option, None, Some, IfSome, IfNone, List, [], ◌∷◌, ◌++◌, length, map, slice_index_or, refl, sym, ap, subst, inl, inr, arith, true≢false}
 use Rattle.bip_defs.specs.Lists.{Among, AreDistinct}
 use Rattle.bip_defs.specs.Matching.{IsMatching}
-use Rattle.bip_defs.specs.Matrix.{Matrix, Place, upto}
-use Rattle.std.proofs.lemmas.List.{get_or_default}
-use Rattle.bip_defs.proofs.Sets.{among_at, among_last, among_map_back, few_distinct, one_col, one_row, upto_complete, upto_length}
-
-pub distinct_last : {X : Type 0} (xs : List X) (x : X) → AreDistinct xs → ¬ Among x xs → AreDistinct (xs ++ x ∷ [])
-distinct_last [] x a n = (λ h. h, tt)
-distinct_last (y ∷ xs) x a n = (λ h. ⊎_elim a.0 (λ (e : y ≡ x). n (inl (sym e))) (among_last y x xs h), distinct_last xs x a.1 (λ h. n (inr h)))
+use Rattle.bip_defs.specs.Matrix.{Matrix, Place}
+use Rattle.bip_defs.proofs.Sets.{among_at, among_map_back, few_distinct, one_col, one_row}
 
 pub map_last : {X Y : Type 0} (f : X → Y) (xs : List X) (x : X) → map f (xs ++ x ∷ []) ≡ map f xs ++ f x ∷ []
 map_last f [] x = refl
@@ -30,17 +25,9 @@ same_matching a m n k once over = record {
 pub same_length : (m n : List Place) → AreDistinct m → AreDistinct n → ((p : Place) → Among p m → Among p n) → ((p : Place) → Among p n → Among p m) → length m ≡ length n
 same_length m n a b over back = let le = few_distinct m n a over in let ge = few_distinct n m b back in omega (arith, le, ge)
 
--- distinct numbers below n are at most n
-pub distinct_below : (n : ℕ) (xs : List ℕ) → AreDistinct xs → ((x : ℕ) → Among x xs → x < n) → length xs ≤ n
-distinct_below n xs a below = let le = few_distinct xs (upto n) a (λ x h. upto_complete 0 n x (omega arith) (let lt = below x h in omega arith)) in omega (arith, le, upto_length 0 n)
-
 -- what was read at a place is on the list
 pub read_among : {X : Type 0} (x : X) (xs : List X) (k : ℕ) → k < length xs → x ≡ slice_index_or xs k x → Among x xs
 read_among x xs k lt e = subst (λ y. Among y xs) (sym e) (among_at xs k x lt)
-
--- and it is the list's element, whatever stands past its end
-pub read_at : {X : Type 0} (x d : X) (xs : List X) (k : ℕ) → k < length xs → x ≡ slice_index_or xs k x → x ≡ slice_index_or xs k d
-read_at x d xs k lt e = e ∙ get_or_default xs k x d lt
 
 -- Answers of code.
 

@@ -1,95 +1,117 @@
 -- Following a root's path up from its leaf, and exchanging it.
-use Rattle.std.proofs.Common.{◌≡◌, ◌⊎◌, ◌↔◌, ◌∙◌, ℕ, zero, suc, ◌+◌, ◌<◌, ◌≤◌, List, [], ◌∷◌, ◌++◌, take, drop, drop_of_length-le, length, reverse, slice_index_or, Option, None, Some, refl, sym, ap, subst, inl, inr, ⊎_elim, arith}
-use Rattle.std.proofs.lemmas.List.{append-nil, length-map, length-reverse, reverse-append, take_all, take_more}
+use Rattle.std.proofs.Common.{◌≡◌, ◌⊎◌, ◌↔◌, ◌∙◌, ℕ, zero, suc, ◌+◌, ◌<◌, ◌≤◌, List, [], ◌∷◌, ◌++◌, take, length, slice_index_or, Option, None, Some, refl, sym, ap, subst, inl, inr, ⊎_elim, arith}
+use Rattle.std.proofs.lemmas.List.{length-map, take_more}
 use Rattle.bip_defs.specs.Lists.{Among, AreDistinct}
 use Rattle.bip_defs.specs.Matching.{IsMatching, cols_of, rows_of}
 use Rattle.bip_defs.specs.Matrix.{Place, cols}
-use Rattle.bip_defs.specs.Paths.{Exchanges, IsAugmenting}
-use Rattle.bip_defs.proofs.Sets.{among_at, among_last, among_left, among_right, col_among, col_pair, distinct_pairs, entry_col, row_among, row_pair}
+use Rattle.bip_defs.specs.Paths.{Alternates, Exchanges, IsAugmenting}
+use Rattle.bip_defs.proofs.Sets.{among_last, among_left, among_right, apart_from_front, col_among, col_pair, distinct_pairs, entry_col, one_col, one_row, row_among, row_pair}
 use Rattle.bip_graph.specs.Matching.{Pairing}
-use Rattle.forest_core.specs.Current.{OnPath, up}
+use Rattle.bip_graph.specs.Parents.{AreTrees, HasDepth, IsAncestor, IsTraced, child, itself, parent, root}
+use Rattle.forest_core.specs.Current.{OnPath, leaf, up}
 use Rattle.forest_core.specs.Adopted.{CanExchange, IsAdopted, Replaces}
 use Rattle.forest_core.specs.declared.adopted.Adopted.{Adopted}
-use Rattle.forest_core.specs.Paths.{CanTrace, IsExchanged, IsPath}
+use Rattle.forest_core.specs.Paths.{ArePathPairs, CanTrace, HasHolder, IsColOfTrees, IsExchanged}
 use Rattle.forest_core.specs.Sound.{IsSound}
-use Rattle.bip_defs.specs.Forest.{State}
+use Rattle.bip_defs.specs.Forest.{RootOf, State, above, itself as own_root}
 use Rattle.forest_core.specs.Tables.{beside}
-use Rattle.forest_core.proofs.RootPaths.{IsClimb, climb_end, climb_more, climb_start, starts_among}
-use Rattle.forest_core.proofs.Currents.{current_more, none_flipped, path_augments, path_entries, stays_matched, was_matched}
+use Rattle.forest_core.proofs.Currents.{current_more, none_flipped, path_entries, stays_matched, stays_unmatched_row, was_matched}
 use Rattle.bip_defs.proofs.Full.{few_below}
-use Rattle.forest_core.proofs.Roots.{earlier}
-use Rattle.forest_core.proofs.StoredForests.{claim_in_range, leaf_in_range}
+use Rattle.forest_core.proofs.Roots.{one_claim, path_root, root_of_claimer}
+use Rattle.forest_core.proofs.StoredForests.{beside_within, claim_in_range, leaf_in_range}
 
--- a list that was written over another of its length
-pub written_back : {X : Type 0} (xs ys : List X) (n : ℕ) → length ys ≡ length xs → n ≡ length xs → take n (ys ++ drop (length ys) xs) ≡ ys
-written_back xs ys n same long = ap (λ zs. take n (ys ++ zs)) (drop_of_length-le xs (let le : length xs ≤ length ys = omega arith in le)) ∙ ap (take n) (append-nil ys) ∙ take_all n ys (omega arith)
+-- What the trees of the claims are to a search for the path.
 
--- How long a climb is.
-
-climb_short : (s : State) → IsSound s → (x r c : ℕ) (path : List Place) → IsClimb s x r c path → length path ≤ s.matrix.rows
-climb_short s k x r c path b = let le = few_below s.matrix.rows (rows_of path) b.rows_differ (λ q h. let (d, p) = row_pair q path h in (claim_in_range s k q d (b.claimed (q, d) p)).0) in omega (arith, le, length-map path (λ (p : Place). p.0))
-
--- Climbing.
-
--- the path that was followed, backwards, ends with the column
-pub record IsClimbing (s : State) (x c : ℕ) (path : List Place) : Type 0 where
-  pub row : ℕ
-  pub climb : IsClimb s x row c (reverse path)
-
-pub leaf_held : (s : State) (xs : List ℕ) (x : ℕ) (m : Pairing) (holders : List (Option ℕ)) (leaf : ℕ) → CanTrace s xs x m holders leaf → (leaf < length holders) × (v : ℕ) × (beside holders leaf ≡ Some v)
-leaf_held s xs x m holders leaf t =
-    let (d, h, w) = (t.sound.leaves x leaf t.leaf_is).in_tree in
-    (let lt = (claim_in_range s t.sound leaf d h).0 in let l = t.long in omega arith, d, (t.held leaf d).1 h)
-
-pub climbing_start : (s : State) (xs : List ℕ) (x : ℕ) (m : Pairing) (holders : List (Option ℕ)) (leaf c : ℕ) → CanTrace s xs x m holders leaf → beside holders leaf ≡ Some c → IsClimbing s x c ((leaf, c) ∷ [])
-climbing_start s xs x m holders leaf c t e = record { row = leaf; climb = climb_start s t.sound x leaf c t.leaf_is ((t.held leaf c).0 e) }
-
-pub climbing_col : (s : State) (xs : List ℕ) (x : ℕ) (m : Pairing) (holders : List (Option ℕ)) (leaf c : ℕ) (path : List Place) → CanTrace s xs x m holders leaf → IsClimbing s x c path → c < m.cols
-climbing_col s xs x m holders leaf c path t b = let lt = (claim_in_range s t.sound b.row c b.climb.claim).1 in let e = t.exchanged.matching.cols in omega arith
-
--- the row above was matched with the column in the base, and is claimed
-above : (s : State) (xs : List ℕ) (x : ℕ) (m : Pairing) (holders : List (Option ℕ)) (leaf c q : ℕ) (path : List Place) → CanTrace s xs x m holders leaf → IsClimbing s x c path → Among (q, c) m.pairs → Among (q, c) s.base
-above s xs x m holders leaf c q path t b h = was_matched s t.sound xs m.pairs x q c t.exchanged.current t.not_yet b.climb.root h
-
-pub above_held : (s : State) (xs : List ℕ) (x : ℕ) (m : Pairing) (holders : List (Option ℕ)) (leaf c q : ℕ) (path : List Place) → CanTrace s xs x m holders leaf → IsClimbing s x c path → Among (q, c) m.pairs → (q < length holders) × (v : ℕ) × (beside holders q ≡ Some v)
-above_held s xs x m holders leaf c q path t b h =
-    let (on, lower) = earlier s t.sound b.row c q b.climb.claim (above s xs x m holders leaf c q path t b h) in
-    let (d, g) = row_pair q s.claims on in
-    (let lt = (claim_in_range s t.sound q d g).0 in let l = t.long in omega arith, d, (t.held q d).1 g)
-
-reverse_last : (path : List Place) (p : Place) → reverse (path ++ p ∷ []) ≡ p ∷ reverse path
-reverse_last path p = reverse-append path (p ∷ [])
-
-pub climbing_more : (s : State) (xs : List ℕ) (x : ℕ) (m : Pairing) (holders : List (Option ℕ)) (leaf c q d : ℕ) (path : List Place) → CanTrace s xs x m holders leaf → IsClimbing s x c path → Among (q, c) m.pairs → beside holders q ≡ Some d → IsClimbing s x d (path ++ (q, d) ∷ [])
-climbing_more s xs x m holders leaf c q d path t b h e = record {
-  row = q;
-  climb = subst (IsClimb s x q d) (sym (reverse_last path (q, d))) (climb_more s t.sound x b.row c q d (reverse path) b.climb (above s xs x m holders leaf c q path t b h) ((t.held q d).0 e));
+pub trace_trees : (s : State) (xs : List ℕ) (x : ℕ) (m : Pairing) (holders : List (Option ℕ)) (l : ℕ) → CanTrace s xs x m holders l → AreTrees m.pairs (HasHolder holders)
+trace_trees s xs x m holders l t = record {
+  rows_differ = t.exchanged.matching.matching.rows_differ;
+  cols_differ = t.exchanged.matching.matching.cols_differ;
+  one_parent = λ r c d h g. one_claim s t.sound r c d ((t.held r c).0 h) ((t.held r d).0 g);
 }
 
--- there is room for another pair
-pub climbing_room : (s : State) (xs : List ℕ) (x : ℕ) (m : Pairing) (holders : List (Option ℕ)) (leaf c q d : ℕ) (path : List Place) → CanTrace s xs x m holders leaf → IsClimbing s x c path → Among (q, c) m.pairs → beside holders q ≡ Some d → length path < length holders
-climbing_room s xs x m holders leaf c q d path t b h e =
-    let more = climbing_more s xs x m holders leaf c q d path t b h e in
-    let le = climb_short s t.sound x more.row d (reverse (path ++ (q, d) ∷ [])) more.climb in
-    let same : length (reverse (path ++ (q, d) ∷ [])) ≡ suc (length (reverse path)) = ap length (reverse_last path (q, d)) in
-    omega (arith, le, same, length-reverse path, t.long)
-
--- a column without a mate is the root
-pub climbing_end : (s : State) (xs : List ℕ) (x : ℕ) (m : Pairing) (holders : List (Option ℕ)) (leaf c : ℕ) (path : List Place) → CanTrace s xs x m holders leaf → IsClimbing s x c path → ¬ Among c (cols_of m.pairs) → IsPath s x (reverse path)
-climbing_end s xs x m holders leaf c path t b n = climb_end s t.sound x b.row c (reverse path) b.climb free
+pub trace_col : (s : State) (xs : List ℕ) (x : ℕ) (m : Pairing) (holders : List (Option ℕ)) (l r c : ℕ) → CanTrace s xs x m holders l → HasHolder holders r c → IsColOfTrees m holders c
+trace_col s xs x m holders l r c t h = record { in_range = below r c h; holders_in_range = below; cols_differ = t.exchanged.matching.matching.cols_differ }
   where
-    free : ¬ Among c (cols_of s.base)
-    free h =
-        let (q, g) = col_pair c s.base h in
-        let on : OnPath s.base s.claims s.leaves x q = up b.row c (b.climb.on_path b.row (row_among b.row c (reverse path) (starts_among (b.row, c) (reverse path) b.climb.starts))) b.climb.claim g in
-        n (col_among q c m.pairs (stays_matched s t.sound xs m.pairs x q c t.exchanged.current t.not_yet on g))
+    below : (q d : ℕ) → HasHolder holders q d → d < m.cols
+    below q d g = let lt = (claim_in_range s t.sound q d ((t.held q d).0 g)).1 in let e = t.exchanged.matching.cols in omega arith
+
+pub leaf_held : (s : State) (xs : List ℕ) (x : ℕ) (m : Pairing) (holders : List (Option ℕ)) (l : ℕ) → CanTrace s xs x m holders l → (l < length holders) × (c : ℕ) × HasHolder holders l c
+leaf_held s xs x m holders l t =
+    let (c, h, w) = (t.sound.leaves x l t.leaf_is).in_tree in
+    (beside_within holders l c ((t.held l c).1 h), c, (t.held l c).1 h)
+
+pub leaf_free : (s : State) (xs : List ℕ) (x : ℕ) (m : Pairing) (holders : List (Option ℕ)) (r : ℕ) → CanTrace s xs x m holders r → ¬ Among r (rows_of m.pairs)
+leaf_free s xs x m holders r t = stays_unmatched_row s t.sound xs m.pairs x r t.exchanged.current t.not_yet (leaf t.leaf_is) (t.sound.leaves x r t.leaf_is).leaf_unmatched
+
+-- the leaf has no mate, so some row has none
+pub trace_room : (s : State) (xs : List ℕ) (x : ℕ) (m : Pairing) (holders : List (Option ℕ)) (l : ℕ) → CanTrace s xs x m holders l → length m.pairs < length holders
+trace_room s xs x m holders l t =
+    let e = t.exchanged.matching.matching in
+    let below : (r : ℕ) → Among r (l ∷ rows_of m.pairs) → r < s.matrix.rows = λ r h. ⊎_elim (λ (f : r ≡ l). (let lt = (leaf_in_range s t.sound x l t.leaf_is).1 in omega arith)) (λ g. let (c, p) = row_pair r m.pairs g in (e.entries r c p).0) h in
+    let le = few_below s.matrix.rows (l ∷ rows_of m.pairs) (leaf_free s xs x m holders l t, e.rows_differ) below in
+    omega (arith, le, length-map m.pairs (λ (p : Place). p.0), t.long)
+
+-- each column of the root's tree on its path has a depth
+depth_at : (s : State) (xs : List ℕ) (x : ℕ) (m : Pairing) (holders : List (Option ℕ)) (l : ℕ) → CanTrace s xs x m holders l → {c : ℕ} → RootOf s.base s.claims x c → (r : ℕ) → OnPath s.base s.claims s.leaves x r → Among (r, c) s.claims → (n : ℕ) × HasDepth m.pairs (HasHolder holders) c n
+depth_at s xs x m holders l t (own_root free) r on h = (0, root (λ g. let (q, p) = col_pair x m.pairs g in free (col_among q x s.base (was_matched s t.sound xs m.pairs x q x t.exchanged.current t.not_yet (own_root free) p))))
+depth_at s xs x m holders l t {c = c} (above {d = d} q p g w) r on h =
+    let up_there = up r c on h p in
+    let (n, deep) = depth_at s xs x m holders l t w q up_there g in
+    (suc n, child q (stays_matched s t.sound xs m.pairs x q c t.exchanged.current t.not_yet up_there p) ((t.held q d).1 g) deep)
+
+pub leaf_depth : (s : State) (xs : List ℕ) (x : ℕ) (m : Pairing) (holders : List (Option ℕ)) (r c : ℕ) → CanTrace s xs x m holders r → HasHolder holders r c → (n : ℕ) × HasDepth m.pairs (HasHolder holders) c n
+leaf_depth s xs x m holders r c t e = let h = (t.held r c).0 e in depth_at s xs x m holders r t (root_of_claimer s t.sound x r c (t.sound.leaves x r t.leaf_is).in_tree h) r (leaf t.leaf_is) h
+
+-- the mate of a column that has a depth was claimed
+pub parent_held : (m : List Place) (holders : List (Option ℕ)) (c r : ℕ) → AreDistinct (cols_of m) → (n : ℕ) × HasDepth m (HasHolder holders) c n → Among (r, c) m → (d : ℕ) × HasHolder holders r d
+parent_held m holders c r differ (zero, root free) h = absurd (free (col_among r c m h))
+parent_held m holders c r differ (suc n, child {d = d} q p e deep) h = (d, subst (λ z. HasHolder holders z d) (one_row m differ q r c p h) e)
+
+-- What was followed back from the leaf is the root's path.
+
+-- the mate of a column that claimed a row of the path
+mate_on_path : (s : State) (xs : List ℕ) (x : ℕ) (m : Pairing) (holders : List (Option ℕ)) (l : ℕ) → CanTrace s xs x m holders l → (r c q : ℕ) → OnPath s.base s.claims s.leaves x r → Among (r, c) s.claims → Among (q, c) m.pairs → OnPath s.base s.claims s.leaves x q
+mate_on_path s xs x m holders l t r c q on h p = up r c on h (was_matched s t.sound xs m.pairs x q c t.exchanged.current t.not_yet (root_of_claimer s t.sound x r c (path_root s t.sound on) h) p)
+
+-- each column above the leaf claimed a row of the path
+claimed_on_path : (s : State) (xs : List ℕ) (x : ℕ) (m : Pairing) (holders : List (Option ℕ)) (r c : ℕ) → CanTrace s xs x m holders r → HasHolder holders r c → {d : ℕ} → IsAncestor m.pairs (HasHolder holders) c d → (q : ℕ) × OnPath s.base s.claims s.leaves x q × Among (q, d) s.claims
+claimed_on_path s xs x m holders r c t e itself = (r, leaf t.leaf_is, (t.held r c).0 e)
+claimed_on_path s xs x m holders r c t e (parent {d = b} {e = a} q below p f) =
+    let (o, on, h) = claimed_on_path s xs x m holders r c t e below in
+    (q, mate_on_path s xs x m holders r t o b q on h p, (t.held q a).0 f)
+
+-- the mate of a column on an alternating path is the row before it
+
+row_before : (m : List Place) (p : Place) (path : List Place) → AreDistinct (cols_of m) → Alternates m (p ∷ path) → (r c q : ℕ) → Among (r, c) path → Among (q, c) m → Among q (rows_of (p ∷ path))
+row_before m p [] differ alt r c q h g = absurd h
+row_before m p (o ∷ path) differ alt r c q (inl e) g = inl (one_row m differ q p.0 o.1 (subst (λ (z : Place). Among {X = Place} (q, z.1) m) e g) alt.0)
+row_before m p (o ∷ path) differ alt r c q (inr h) g = inr (row_before m o path differ alt.1 r c q h g)
+
+mate_before : (m path : List Place) → AreDistinct (cols_of m) → IsAugmenting m path → (r c q : ℕ) → Among (r, c) path → Among (q, c) m → Among q (rows_of path)
+mate_before m [] differ a r c q h g = absurd h
+mate_before m (p ∷ path) differ a r c q (inl e) g = absurd (a.begins (subst (λ (z : Place). Among z.1 (cols_of m)) e (col_among q c m g)))
+mate_before m (p ∷ path) differ a r c q (inr h) g = row_before m p path differ a.alternates r c q h g
+
+pub path_pairs : (s : State) (xs : List ℕ) (x : ℕ) (m : Pairing) (holders : List (Option ℕ)) (r c : ℕ) (path : List Place) → CanTrace s xs x m holders r → HasHolder holders r c → IsAugmenting m.pairs path → Among (r, c) path → ((p : Place) → Among p path → IsTraced m.pairs (HasHolder holders) r c p) → ArePathPairs s x path
+path_pairs s xs x m holders r c path t e a last traced = record { claimed = claimed; on_path = λ q h. let (d, i) = row_pair q path h in on_pair (q, d) i; complete = λ q w. complete w }
+  where
+    claimed : (p : Place) → Among p path → Among p s.claims
+    claimed p h = ⊎_elim (λ (f : p ≡ (r, c)). subst (λ (z : Place). Among z s.claims) (sym f) ((t.held r c).0 e)) (λ (d, below, g, f). (t.held p.0 p.1).0 f) (traced p h)
+
+    on_pair : (p : Place) → Among p path → OnPath s.base s.claims s.leaves x p.0
+    on_pair p h = ⊎_elim
+        (λ (f : p ≡ (r, c)). subst (λ (z : Place). OnPath s.base s.claims s.leaves x z.0) (sym f) (leaf t.leaf_is))
+        (λ (d, below, g, f). let (o, on, i) = claimed_on_path s xs x m holders r c t e below in mate_on_path s xs x m holders r t o d p.0 on i g)
+        (traced p h)
+
+    complete : {q : ℕ} → OnPath s.base s.claims s.leaves x q → Among q (rows_of path)
+    complete {q = q} (leaf h) = subst (λ z. Among z (rows_of path)) (one_col s.leaves t.sound.roots_differ x r q t.leaf_is h) (row_among r c path last)
+    complete {q = q} (up o d w h g) =
+        let (b, i) = row_pair o path (complete w) in
+        let j : Among (o, d) path = subst (λ z. Among {X = Place} (o, z) path) (one_claim s t.sound o b d (claimed (o, b) i) h) i in
+        mate_before m.pairs path t.exchanged.matching.matching.cols_differ a o d q j (stays_matched s t.sound xs m.pairs x q d t.exchanged.current t.not_yet (up o d w h g) g)
 
 -- Exchanging one path after another.
-
-distinct_at : (xs : List ℕ) (i d : ℕ) → AreDistinct xs → i < length xs → ¬ Among (slice_index_or xs i d) (take i xs)
-distinct_at [] i d a lt = absurd (omega arith)
-distinct_at (x ∷ xs) zero d a lt = λ h. h
-distinct_at (x ∷ xs) (suc i) d a lt = λ h. ⊎_elim (λ (e : slice_index_or xs i d ≡ x). a.0 (subst (λ z. Among z xs) e (among_at xs i d (omega arith)))) (distinct_at xs i d a.1 (omega arith)) h
 
 none_exchanged : (s : State) → IsSound s → (m : Pairing) → m ≡ record { rows = s.matrix.rows; cols = cols s.matrix; pairs = s.base } → IsExchanged s [] m
 none_exchanged s k m e = subst (IsExchanged s []) (sym e) (record {
@@ -113,26 +135,23 @@ root_held s m adopted holders leaf_of roots x e h =
     let (r, g) = row_pair x s.leaves on in
     (let lt = (leaf_in_range s e.sound x r g).0 in let l = e.cols_long in omega arith, r, (e.won x r).1 g)
 
-pub can_trace : (s : State) (m now : Pairing) (adopted : Option Adopted) (holders leaf_of : List (Option ℕ)) (roots : List ℕ) (i x leaf : ℕ) → CanExchange s m adopted holders leaf_of roots → IsExchanged s (take i roots) now → i < length roots → x ≡ slice_index_or roots i x → beside leaf_of x ≡ Some leaf → CanTrace s (take i roots) x now holders leaf
-can_trace s m now adopted holders leaf_of roots i x leaf e g lt at is = record {
+pub can_trace : (s : State) (m now : Pairing) (adopted : Option Adopted) (holders leaf_of : List (Option ℕ)) (roots : List ℕ) (i x l : ℕ) → CanExchange s m adopted holders leaf_of roots → IsExchanged s (take i roots) now → i < length roots → x ≡ slice_index_or roots i x → beside leaf_of x ≡ Some l → CanTrace s (take i roots) x now holders l
+can_trace s m now adopted holders leaf_of roots i x l e g lt at is = record {
   sound = e.sound;
   long = e.rows_long;
   held = e.held;
   exchanged = g;
-  not_yet = subst (λ z. ¬ Among z (take i roots)) (sym at) (distinct_at roots i x (subst AreDistinct e.roots_are e.sound.flipped_differ) lt);
-  leaf_is = (e.won x leaf).0 is;
+  not_yet = subst (λ z. ¬ Among z (take i roots)) (sym at) (apart_from_front i x roots lt (subst AreDistinct e.roots_are e.sound.flipped_differ));
+  leaf_is = (e.won x l).0 is;
 }
 
-pub path_in_range : (s : State) (xs : List ℕ) (x : ℕ) (m : Pairing) (holders : List (Option ℕ)) (leaf : ℕ) (path : List Place) → CanTrace s xs x m holders leaf → IsPath s x path → (r c : ℕ) → Among (r, c) path → (r < m.rows) × (c < m.cols)
-path_in_range s xs x m holders leaf path t b r c h =
+pub path_in_range : (s : State) (xs : List ℕ) (x : ℕ) (m : Pairing) (holders : List (Option ℕ)) (l : ℕ) (path : List Place) → CanTrace s xs x m holders l → ArePathPairs s x path → (r c : ℕ) → Among (r, c) path → (r < m.rows) × (c < m.cols)
+path_in_range s xs x m holders l path t b r c h =
     let e = path_entries s t.sound x path b r c h in
     (let lt = e.0 in let l = t.exchanged.matching.rows in omega arith, let lt = entry_col s.matrix r c e in let l = t.exchanged.matching.cols in omega arith)
 
-pub path_flips : (s : State) (xs : List ℕ) (x : ℕ) (m : Pairing) (holders : List (Option ℕ)) (leaf : ℕ) (path : List Place) → CanTrace s xs x m holders leaf → IsPath s x path → IsAugmenting m.pairs path
-path_flips s xs x m holders leaf path t b = path_augments s t.sound xs m.pairs x path t.exchanged.current t.not_yet b
-
-pub exchanging_more : (s : State) (m new : Pairing) (holders : List (Option ℕ)) (roots : List ℕ) (i x leaf : ℕ) (path : List Place) → CanTrace s (take i roots) x m holders leaf → i < length roots → x ≡ slice_index_or roots i x → IsPath s x path → Exchanges path m.pairs new.pairs → (new.rows ≡ m.rows) × (new.cols ≡ m.cols) → IsMatching s.matrix new.pairs → IsExchanged s (take (i + 1) roots) new
-exchanging_more s m new holders roots i x leaf path t lt at b ex sizes k = record {
+pub exchanging_more : (s : State) (m new : Pairing) (holders : List (Option ℕ)) (roots : List ℕ) (i x l : ℕ) (path : List Place) → CanTrace s (take i roots) x m holders l → i < length roots → x ≡ slice_index_or roots i x → ArePathPairs s x path → Exchanges path m.pairs new.pairs → (new.rows ≡ m.rows) × (new.cols ≡ m.cols) → IsMatching s.matrix new.pairs → IsExchanged s (take (i + 1) roots) new
+exchanging_more s m new holders roots i x l path t lt at b ex sizes k = record {
   current = current_more s t.sound (take i roots) (take (i + 1) roots) m.pairs new.pairs x path t.exchanged.current t.not_yet b ex (distinct_pairs new.pairs k.rows_differ) members;
   matching = record { rows = sizes.0 ∙ t.exchanged.matching.rows; cols = sizes.1 ∙ t.exchanged.matching.cols; matching = k };
 }

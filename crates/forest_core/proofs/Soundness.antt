@@ -3,7 +3,7 @@ use Rattle.std.proofs.Common.{◌≡◌, ◌⊎◌, ◌∙◌, ℕ, ◌+◌, Lis
 use Rattle.bip_defs.specs.Lists.{Among, AreDistinct}
 use Rattle.bip_defs.specs.Matching.{IsMatching, cols_of, rows_of}
 use Rattle.bip_defs.specs.Matrix.{IsEntry, Matrix, Place}
-use Rattle.bip_defs.proofs.Sets.{among_last, among_left, among_right}
+use Rattle.bip_defs.proofs.Sets.{among_last, among_left, among_right, distinct_last}
 use Rattle.forest_core.specs.Current.{IsCurrent}
 use Rattle.forest_core.specs.Events.{IsLegal, IsRenewed, Becomes, Runs, flips}
 use Rattle.forest_core.specs.Sound.{AreClaims, IsLeaf, IsSound}
@@ -12,7 +12,7 @@ use Rattle.sp_ids.specs.declared.events.Event.{Event}
 use Rattle.sp_ids.specs.declared.events.Event.TheVariants.{Claim, Win, Flip, Graft, Rebuild, Done}
 use Rattle.forest_core.proofs.Currents.{current_grown, current_some}
 use Rattle.forest_core.proofs.Grafts.{kept_claims}
-use Rattle.forest_core.proofs.Members.{distinct_last, map_last}
+use Rattle.forest_core.proofs.Members.{map_last}
 use Rattle.forest_core.proofs.Roots.{root_more}
 
 pub new_forest_sound : (a : Matrix) (m : List Place) → IsMatching a m → IsSound (new_forest a m)

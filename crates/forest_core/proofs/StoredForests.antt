@@ -3,19 +3,19 @@ use Rattle.std.proofs.Common.{◌≡◌, ◌≢◌, ◌⊎◌, ◌↔◌, ◌∙
 use Rattle.std.proofs.lemmas.List.{length-map, get_or-set_other, get_or-set_same, get_or_append_left, get_or_past, get_or_push}
 use Rattle.bip_defs.specs.Lists.{Among}
 use Rattle.bip_defs.specs.Matching.{rows_of}
-use Rattle.bip_defs.specs.Matrix.{Matrix, Place, cols}
+use Rattle.bip_defs.specs.Matrix.{Place, cols}
 use Rattle.bip_defs.proofs.Full.{few_below}
 use Rattle.bip_defs.proofs.Sets.{among_at, among_last, among_left, among_right, col_among, entry_col, number_same, one_row, row_among, row_pair}
-use Rattle.bip_graph.specs.Matching.{IsMatchingOf, Pairing}
+use Rattle.bip_graph.specs.Matching.{Pairing}
 use Rattle.sp_ids.specs.declared.events.Event.TheVariants.{Claim, Win, Flip}
 use Rattle.forest_core.specs.Events.{IsLegal}
 use Rattle.forest_core.specs.Sound.{IsSound}
-use Rattle.bip_defs.specs.Forest.{InForest, IsRootOfRow, RootOf, State, above, itself, new_forest, roots_of}
+use Rattle.bip_defs.specs.Forest.{InForest, IsRootOfRow, RootOf, State, above, itself, roots_of}
 use Rattle.forest_core.specs.Stored.{AreClaimRoots, AreMarks, AreRowTrees, HasRootAt, IsStored, Tables}
 use Rattle.forest_core.specs.Tables.{Claimed, IsTableOf, beside}
 use Rattle.forest_core.proofs.Roots.{claims_differ, claims_entries, has_root, one_root_of_row, root_more, root_of_claimer}
-use Rattle.forest_core.proofs.Soundness.{claimed_sound, flipped_sound, in_tree_more, new_forest_sound, won_sound}
-use Rattle.forest_core.proofs.TableLemmas.{IsMadeTo, not_none, some_same, table_none, table_put}
+use Rattle.forest_core.proofs.Soundness.{claimed_sound, flipped_sound, in_tree_more, won_sound}
+use Rattle.forest_core.proofs.TableLemmas.{IsMadeTo, not_none, some_same, table_put}
 
 -- What is known of a table's pairs.
 
@@ -120,24 +120,6 @@ marks_more xs marks x are lt y = ⊎_elim same other (number_same y x)
     )
 
 -- The events that let trees grow.
-
-pub stored_new : (a : Matrix) (m : Pairing) (t : Tables) → IsMatchingOf a m → length t.claimed.holders ≡ a.rows → t.claim_roots ≡ [] → length t.leaf_of ≡ cols a → length t.marks ≡ cols a
-    → ((r : ℕ) → beside t.claimed.holders r ≡ None) → ((r : ℕ) → beside t.claimed.roots r ≡ None) → ((x : ℕ) → beside t.leaf_of x ≡ None) → ((x : ℕ) → slice_index_or t.marks x false ≡ false) → IsStored (new_forest a m.pairs) m t
-stored_new a m t k hl cl ll ml hn rn ln mn = record {
-  sound = new_forest_sound a m.pairs k.matching;
-  base_is = λ i. record { rows = k.rows i; cols = k.cols i; pairs = m.pairs };
-  holders_long = hl;
-  leaves_long = ll;
-  marks_long = ml;
-  held = table_none t.claimed.holders hn;
-  rooted = λ r x. (λ e. absurd (not_none (sym (rn r) ∙ e)), λ (c, h, w). absurd h);
-  listed = record { long = ap length cl; are = λ i lt. absurd (omega (arith, lt)) };
-  won = table_none t.leaf_of ln;
-  marked = λ x. (λ e. absurd (true_false (sym e ∙ mn x)), λ h. absurd h);
-}
-  where
-    true_false : true ≡ false → ⊥
-    true_false e = cc
 
 -- one claim more, of a row that was not claimed
 claim_roots_more : (roots : List (Option ℕ)) (claims : List Place) (xs : List ℕ) (r c x : ℕ) → AreClaimRoots roots claims xs → ¬ Among r (rows_of claims) → r < length roots → AreClaimRoots (set roots r (Some x)) (claims ++ (r, c) ∷ []) (xs ++ x ∷ [])

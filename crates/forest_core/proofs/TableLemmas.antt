@@ -27,13 +27,6 @@ seen_at f xs t k x seen = subst (λ u. k < length u → x ≡ get_or xs k x → 
 pub seen_none : {W : Type 0} (f : W → Option ℕ) (xs : List W) (t : List (Option ℕ)) (k : ℕ) (x : W) → map f xs ≡ t → k < length t → x ≡ get_or xs k x → f x ≡ None → None ≡ beside t k
 seen_none f xs t k x seen lt e n = sym (seen_at f xs t k x seen lt e ∙ n)
 
-pub seen_some : {W : Type 0} (f : W → Option ℕ) (xs : List W) (t : List (Option ℕ)) (k : ℕ) (x : W) (v : ℕ) → map f xs ≡ t → k < length t → x ≡ get_or xs k x → f x ≡ Some v → Some v ≡ beside t k
-seen_some f xs t k x v seen lt e n = sym (seen_at f xs t k x seen lt e ∙ n)
-
--- where a number stands it is the one that is read
-pub seen_there : (xs : List ℕ) (t : List (Option ℕ)) (k x : ℕ) → map read xs ≡ t → k < length t → x ≡ get_or xs k x → (v : ℕ) × (beside t k ≡ Some v) → beside t k ≡ Some x
-seen_there xs t k x seen lt e (v, s) = ⊎_elim (λ (n : x ≡ 4294967295). absurd (not_none (seen_none read xs t k x seen lt e (read_none x n) ∙ s))) (λ n. seen_at read xs t k x seen lt e ∙ read_some x n) (number_same x 4294967295)
-
 pub seen_put : {W : Type 0} (f : W → Option ℕ) (xs : List W) (t : List (Option ℕ)) (k : ℕ) (w : W) (o : Option ℕ) → map f xs ≡ t → f w ≡ o → map f (set xs k w) ≡ set t k o
 seen_put f xs t k w o seen e = map-set f xs k w ∙ ap (set (map f xs) k) e ∙ ap (λ u. set u k o) seen
 
@@ -109,11 +102,6 @@ table_clear pairs new t k of lt gone over back j w = ⊎_elim same other (number
 pub record IsWithin (pairs : List Place) (t : List (Option ℕ)) : Type 0 where
   pub held : (k v : ℕ) → beside t k ≡ Some v → Among (k, v) pairs
 
-pub within_clear : (p : Place) (pairs : List Place) (t : List (Option ℕ)) (k : ℕ) → IsWithin (p ∷ pairs) t → k ≡ p.0 → k < length t → IsWithin pairs (set t k None)
-within_clear p pairs t k of e lt = record {
-  held = λ j v h. ⊎_elim (λ (f : j ≡ k). absurd (not_none (sym (beside_same t k None lt) ∙ ap (beside (set t k None)) (sym f) ∙ h))) (λ ne. ⊎_elim (λ (g : (j, v) ≡ p). absurd (ne (ap (λ (q : Place). q.0) g ∙ sym e))) (λ g. g) (of.held j v (sym (beside_other t j k None ne) ∙ h))) (number_same j k);
-}
-
 pub within_none : (t : List (Option ℕ)) → IsWithin [] t → IsTableOf [] t
 within_none t of k v = (λ h. of.held k v h, λ h. absurd h)
 
@@ -126,9 +114,6 @@ table_none t none k v = (λ e. absurd (not_none (sym (none k) ∙ e)), λ h. abs
 pub record IsMadeTo (P : ℕ → ℕ → Type 0) (n : ℕ) (t : List (Option ℕ)) : Type 0 where
   pub long : length t ≡ n
   pub are : (k v : ℕ) → k < n → (beside t k ≡ Some v) ↔ P k v
-
-pub made_start : (P : ℕ → ℕ → Type 0) → IsMadeTo P 0 []
-made_start P = record { long = refl; are = λ k v lt. absurd (omega (arith, lt)) }
 
 -- one number more
 pub made_more : (P : ℕ → ℕ → Type 0) (n : ℕ) (t : List (Option ℕ)) (o : Option ℕ) → IsMadeTo P n t → ((v : ℕ) → (o ≡ Some v) ↔ P n v) → IsMadeTo P (n + 1) (t ++ o ∷ [])

@@ -10,7 +10,7 @@ use Rattle.forest_core.specs.Events.{AreKept}
 use Rattle.forest_core.proofs.Currents.{current_grown}
 use Rattle.forest_core.proofs.Renewals.{claims_within, exchanged_by, kept_stored, leaves_within, marks_within, same_claim_roots, roots_within, stored_graft_at}
 use Rattle.forest_core.proofs.Roots.{claims_differ}
-use Rattle.forest_core.proofs.PathLemmas.{written_back}
+use Rattle.bip_defs.proofs.Sets.{written_over}
 use Rattle.forest_core.proofs.forest.Forest.graft.Goals as goal
 
 pub keep-kept-requires-clause-rows : goal.keep-kept-requires-clause-rows
@@ -48,13 +48,13 @@ left : (c : goal.After-clear-2) → c.truncate.new.self.items ≡ take c.keep-ke
 left c =
     let long : c.self.inside.claims.len ≡ length c.self.inside.claims.items = search rules in
     let same : length c.keep-kept.new.claims ≡ length c.self.inside.claims.items = c.keep-kept.auto.claims ∙ ap length c.as_mut_slice-claims.ensures.value in
-    c.truncate.ensures.items ∙ ap (take c.keep-kept.result) (written_back c.self.inside.claims.items c.keep-kept.new.claims c.self.inside.claims.len same long)
+    c.truncate.ensures.items ∙ ap (take c.keep-kept.result) (written_over c.keep-kept.new.claims c.self.inside.claims.items c.self.inside.claims.len same long)
 
 left_roots : (c : goal.After-clear-2) → c.truncate-2.new.self.items ≡ take c.keep-kept.result c.keep-kept.new.roots
 left_roots c =
     let long : c.self.inside.claim_roots.len ≡ length c.self.inside.claim_roots.items = search rules in
     let same : length c.keep-kept.new.roots ≡ length c.self.inside.claim_roots.items = c.keep-kept.auto.roots ∙ ap length c.as_mut_slice-roots.ensures.value in
-    c.truncate-2.ensures.items ∙ ap (take c.keep-kept.result) (written_back c.self.inside.claim_roots.items c.keep-kept.new.roots c.self.inside.claim_roots.len same long)
+    c.truncate-2.ensures.items ∙ ap (take c.keep-kept.result) (written_over c.keep-kept.new.roots c.self.inside.claim_roots.items c.self.inside.claim_roots.len same long)
 
 left_are : (c : goal.After-clear-2) → c.truncate.new.self.items ≡ kept c.self.inside.claimed.roots c.self.inside.leaf_of c.self.inside.claims.items
 left_are c = left c ∙ c.keep-kept.ensures.claims ∙ ap (kept c.self.inside.claimed.roots c.self.inside.leaf_of) c.as_mut_slice-claims.ensures.value
@@ -66,7 +66,7 @@ invariant_of-self c =
     let e = c.keep-kept.ensures in
     let long : c.self.inside.marks.len ≡ length c.self.inside.marks.items = search rules in
     let same : length c.clear_leaves.new.marks ≡ length c.self.inside.marks.items = c.clear_leaves.auto.marks ∙ ap length c.as_mut_slice.ensures.value in
-    let marks = written_back c.self.inside.marks.items c.clear_leaves.new.marks c.self.inside.marks.len same long in (
+    let marks = written_over c.clear_leaves.new.marks c.self.inside.marks.items c.self.inside.marks.len same long in (
       stored_graft_at (state_of c.self.inside) _ c.exchange.new.base (tables_of c.self.inside) _ _ _ _ k (exchanged c) (record {
         held = rw (left c) e.holders;
         alike = c.is_alike.ensures.alike;

@@ -6,7 +6,7 @@ use Rattle.forest_core.specs.Inside.{state_of, tables_of}
 use Rattle.bip_defs.specs.Forest.{State}
 use Rattle.forest_core.proofs.Currents.{current_grown}
 use Rattle.forest_core.proofs.Renewals.{are_cleared, claims_within, exchanged_by, leaves_within, marks_within, stored_rebuild_at}
-use Rattle.forest_core.proofs.PathLemmas.{written_back}
+use Rattle.bip_defs.proofs.Sets.{written_over}
 use Rattle.forest_core.proofs.forest.Forest.rebuild.Goals as goal
 
 pub clear_claims-requires-clause-rows : goal.clear_claims-requires-clause-rows
@@ -36,7 +36,7 @@ invariant_of-self c =
     let room = c.self.invariant.1 in
     let long : c.self.inside.marks.len ≡ length c.self.inside.marks.items = search rules in
     let same : length c.clear_leaves.new.marks ≡ length c.self.inside.marks.items = c.clear_leaves.auto.marks ∙ ap length c.as_mut_slice.ensures.value in
-    let marks = written_back c.self.inside.marks.items c.clear_leaves.new.marks c.self.inside.marks.len same long in (
+    let marks = written_over c.clear_leaves.new.marks c.self.inside.marks.items c.self.inside.marks.len same long in (
       stored_rebuild_at (state_of c.self.inside) _ c.exchange.new.base (tables_of c.self.inside) _ _ _ _ k (exchanged c) (are_cleared (tables_of c.self.inside) _ _ c.clear.ensures.items c.clear-2.ensures.items c.clear_claims.ensures.holders c.is_alike.ensures.alike c.clear_leaves.ensures.leaf_of (rw marks c.clear_leaves.ensures.marks) c.clear_claims.ensures.long c.clear_leaves.ensures.long (ap length marks ∙ same)) c.clear.ensures.items c.clear-3.ensures.items c.clear-4.ensures.items,
       record {
         claims = (let le = room.claims in let more = c.clear.ensures.capacity in omega (arith, le, more));
