@@ -7,8 +7,10 @@ mod Keeps
 mod ListedWords
 mod Openings
 mod Reseated
+mod SeatLemmas
 mod SeatNumbers
 mod SettledWords
 mod Shown
 mod StepRules
 mod WordCodes
+mod WorkerLemmas

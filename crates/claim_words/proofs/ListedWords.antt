@@ -1,5 +1,5 @@
 -- What a list that accounts for words tells of them.
-use Rattle.std.proofs.Common.{◌≡◌, ◌≢◌, ◌∙◌, ◌⊎◌, ℕ, zero, suc, ◌+◌, ◌<◌, ◌≤◌, Option, None, Some, List, [], ◌∷◌, map, flat_map, length, refl, sym, ap, subst, inl, inr, ⊎_elim, arith, eq-eqb, ne_eqb}
+use Rattle.std.proofs.Common.{◌≡◌, ◌≢◌, ◌∙◌, ◌⊎◌, ℕ, zero, suc, ◌<◌, ◌≤◌, Option, None, Some, List, [], ◌∷◌, map, flat_map, length, refl, sym, ap, subst, inl, inr, ⊎_elim, arith, eq-eqb, ne_eqb}
 use Rattle.bip_defs.specs.Lists.{Among, AreDistinct}
 use Rattle.bip_defs.proofs.Sets.{among_left, among_right, number_same, few_distinct, upto_complete, upto_length, among_map_back}
 use Rattle.claim_words.specs.Accounts.{Accounts, first_listed, is_added, listed_word, times, value_or}
@@ -10,8 +10,6 @@ use Rattle.claim_words.specs.Settles.{Settles, SettlesAll}
 use Rattle.claim_words.proofs.AccountLemmas.{not_some, one_else, one_here, some_same}
 use Rattle.std.proofs.lemmas.List.{length-map}
 use Rattle.bip_defs.specs.Matrix.{upto}
-use Rattle.claim_words.specs.WorkerState.{HaveGrown, WorkerState, fresh_claims_of, fresh_wins_of, listed_by_workers}
-use Rattle.claim_words.proofs.Flat.{times_append}
 
 -- How often a word is listed.
 
@@ -154,23 +152,3 @@ seen_col rows roots words l row col a h = held_from rows words.rows l.claims row
 
 pub seen_leaf : (rows roots : List (Option ℕ)) (words : Words) (l : Listed) (root leaf : ℕ) → Settles rows roots words l → Among (root_word root (Some leaf)) l.seen → (held roots root ≡ Some leaf) ⊎ Among (root, leaf) l.wins
 seen_leaf rows roots words l root leaf a h = held_from roots words.roots l.wins root leaf a.wins (a.seen (root_word root (Some leaf)) h)
-
--- Fresh lists.
-
-pub grown_claims : (before after : List WorkerState) (i : ℕ) → HaveGrown before after → times i (listed_by_workers after).claims ≡ times i (listed_by_workers before).claims + times i (fresh_claims_of after)
-grown_claims [] [] i grown = refl
-grown_claims [] (w ∷ ws) i grown = absurd grown
-grown_claims (v ∷ vs) [] i grown = absurd grown
-grown_claims (v ∷ vs) (w ∷ ws) i (claims, wins, grown) =
-    let rest = grown_claims vs ws i grown in
-    let own = ap (times i) claims ∙ times_append i v.seat.listed.claims w.fresh_claims in
-    omega (arith, rest, own, times_append i w.seat.listed.claims (listed_by_workers ws).claims, times_append i v.seat.listed.claims (listed_by_workers vs).claims, times_append i w.fresh_claims (fresh_claims_of ws))
-
-pub grown_wins : (before after : List WorkerState) (i : ℕ) → HaveGrown before after → times i (listed_by_workers after).wins ≡ times i (listed_by_workers before).wins + times i (fresh_wins_of after)
-grown_wins [] [] i grown = refl
-grown_wins [] (w ∷ ws) i grown = absurd grown
-grown_wins (v ∷ vs) [] i grown = absurd grown
-grown_wins (v ∷ vs) (w ∷ ws) i (claims, wins, grown) =
-    let rest = grown_wins vs ws i grown in
-    let own = ap (times i) wins ∙ times_append i v.seat.listed.wins w.fresh_wins in
-    omega (arith, rest, own, times_append i w.seat.listed.wins (listed_by_workers ws).wins, times_append i v.seat.listed.wins (listed_by_workers vs).wins, times_append i w.fresh_wins (fresh_wins_of ws))

@@ -53,7 +53,7 @@ nothing_added : (o : Option ℕ) → 0 ≡ is_added o o
 nothing_added None = refl
 nothing_added (Some x) = refl
 
-accounts_none : (opened : List (Option ℕ)) → Accounts opened opened []
+pub accounts_none : (opened : List (Option ℕ)) → Accounts opened opened []
 accounts_none opened = record {
   as_many = refl;
   stays = λ i x e. e;

@@ -13,6 +13,10 @@ pub record Words : Type 0 where
   pub rows : List (Option ℕ)
   pub roots : List (Option ℕ)
 
+-- what they hold when the board is opened
+abbrev pub opened_words : Board → Words
+opened_words b = record { rows = b.rows; roots = b.roots }
+
 -- what the word of a number holds; none past the last word
 abbrev pub held : List (Option ℕ) → ℕ → Option ℕ
 held words i = slice_index_or words i None

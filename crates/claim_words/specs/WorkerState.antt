@@ -1,8 +1,8 @@
 -- A worker: a seat, and what it listed since it was settled.
 use Rattle.std.specs.Prelude.{ℕ, ◌+◌, List, [], ◌∷◌, Option, flat_map, map, ◌≡◌, ◌++◌}
 use Rattle.claim_words.specs.Board.{Board}
-use Rattle.claim_words.specs.Listed.{Sight, with_written, Listed, all_listed}
-use Rattle.claim_words.specs.Seat.{AreAllSeats, Seat, after_claim, after_look, after_win, first_seat, new_seat, gathered, lists_of}
+use Rattle.claim_words.specs.Listed.{Sight, with_written, Listed, all_listed, followed_by}
+use Rattle.claim_words.specs.Seat.{AreAllSeats, Seat, after_claim, after_look, after_win, first_seat, new_seat, gathered, lists_of, with_listed}
 
 -- the claims and the wins that it listed since it was settled, in order
 pub record WorkerState : Type 0 where
@@ -56,12 +56,24 @@ fresh_claims_of ws = flat_map (λ (w : WorkerState). w.fresh_claims) ws
 abbrev pub fresh_wins_of : List WorkerState → List (ℕ × ℕ)
 fresh_wins_of ws = flat_map (λ (w : WorkerState). w.fresh_wins) ws
 
--- each worker's seat lists, behind what it listed before, what is in the worker's fresh lists
+-- a worker whose seat has listed more; its fresh lists have what was claimed and won too
+abbrev pub with_more : WorkerState → Listed → WorkerState
+with_more w l = record {
+  seat = with_listed w.seat (followed_by w.seat.listed l);
+  fresh_claims = w.fresh_claims ++ l.claims;
+  fresh_wins = w.fresh_wins ++ l.wins;
+}
+
+-- a worker has listed more since then, or as much
+abbrev pub HasGrown : WorkerState → WorkerState → Type 0
+HasGrown v w = (l : Listed) × (w ≡ with_more v l)
+
+-- so has each of these, one by one
 abbrev pub HaveGrown : List WorkerState → List WorkerState → Type 0
 HaveGrown [] [] = Unit {0}
 HaveGrown [] (w ∷ ws) = ⊥
 HaveGrown (v ∷ vs) [] = ⊥
-HaveGrown (v ∷ vs) (w ∷ ws) = (w.seat.listed.claims ≡ v.seat.listed.claims ++ w.fresh_claims) × (w.seat.listed.wins ≡ v.seat.listed.wins ++ w.fresh_wins) × HaveGrown vs ws
+HaveGrown (v ∷ vs) (w ∷ ws) = HasGrown v w × HaveGrown vs ws
 
 -- what the seats of all workers list together
 abbrev pub listed_by_workers : List WorkerState → Listed

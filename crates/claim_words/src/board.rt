@@ -36,9 +36,11 @@ impl Model for ClaimBoard {
 
     ghost use Rattle.claim_words.specs.Stored.{IsLaid, board_in};
 
-    ghost view = { λ b. board_in b.table.shared.table_id b.table.shared.key.rows b.table.shared.key.words.value.items };
+    ghost view = { λ b. board_in b.table.shared.table_id b.table.shared.key.rows
+        b.table.shared.key.words.value.items };
 
-    ghost invariant = { λ b. IsLaid b.table.shared.table_id b.rows b.table.shared.key.rows b.table.shared.key.words.value.items };
+    ghost invariant = { λ b. IsLaid b.table.shared.table_id b.rows b.table.shared.key.rows
+        b.table.shared.key.words.value.items };
 }
 
 // What a word holds.
@@ -97,7 +99,8 @@ fn code<I: Id>(value: Option<I>) -> u64
 // Adds the words that hold these values.
 fn lay<I: Id>(words: &mut Vec<u64>, values: &[Option<I>]) -> Result<(), OutOfMemory>
     requires { AllFit words.old.items }
-    ensures words { OnOk result (words.new.items ≡ words.old.items ++ map (code_by I.number) values.now) }
+    ensures words { OnOk result
+        (words.new.items ≡ words.old.items ++ map (code_by I.number) values.now) }
     ensures fit { OnOk result (AllFit words.new.items) }
 {
     for value in values {
@@ -253,7 +256,8 @@ impl ClaimBoard {
     pub(crate) fn join(&self, first: &mut ClaimSeat, last: ClaimSeat)
         requires first { first.old ≡ first_seat self.now (1 + last.number) first.old.listed }
         requires last { last.board ≡ self.now }
-        ensures { first.new ≡ first_seat self.now last.number (followed_by last.listed first.old.listed) }
+        ensures { first.new
+            ≡ first_seat self.now last.number (followed_by last.listed first.old.listed) }
     {
         let ClaimSeat { seat } = last;
         self.table
@@ -265,7 +269,8 @@ impl ClaimBoard {
     pub(crate) fn account(&self, first: &mut ClaimSeat)
         requires { first.old ≡ first_seat self.now 1 first.old.listed }
         ensures same { first.new ≡ first.old }
-        ensures words { (words : Words) × Settles self.now.rows self.now.roots words first.old.listed }
+        ensures words { (words : Words)
+            × Settles self.now.rows self.now.roots words first.old.listed }
     {
         self.table.shared.load::<SpareLoad>(&mut first.seat, 0);
     }

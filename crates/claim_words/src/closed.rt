@@ -29,7 +29,8 @@ impl Model for Closed {
 
     ghost view = { λ c. decoded c.rows (slots_items c.words.words) };
 
-    ghost invariant = { λ c. IsFull c.words.words × (slots_len c.words.slots ≡ 0) × IsLeft c.rows (slots_items c.words.words) };
+    ghost invariant = { λ c. IsFull c.words.words × (slots_len c.words.slots ≡ 0)
+        × IsLeft c.rows (slots_items c.words.words) };
 }
 
 impl Closed {

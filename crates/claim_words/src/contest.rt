@@ -151,17 +151,22 @@ fn contend_by_four<R: Threads + Wait + Sync>(
     requires lower { Contests board.now zero.old.seat × Contests board.now one.old.seat }
     requires upper { Contests board.now two.old.seat × Contests board.now three.old.seat }
     ensures lower { IsSameSeat zero.old.seat zero.new.seat × IsSameSeat one.old.seat one.new.seat }
-    ensures upper { IsSameSeat two.old.seat two.new.seat × IsSameSeat three.old.seat three.new.seat }
+    ensures upper { IsSameSeat two.old.seat two.new.seat
+        × IsSameSeat three.old.seat three.new.seat }
 {
     let (first, second) = join_mut(
         rt,
         &mut || -> Result<(), OutOfMemory>
-            requires { IsSync R.row × Contests board.now zero.now.seat × Contests board.now one.now.seat }
-            ensures { IsSameSeat zero.entry.now.seat zero.exit.now.seat × IsSameSeat one.entry.now.seat one.exit.now.seat }
+            requires { IsSync R.row × Contests board.now zero.now.seat
+                × Contests board.now one.now.seat }
+            ensures { IsSameSeat zero.entry.now.seat zero.exit.now.seat
+                × IsSameSeat one.entry.now.seat one.exit.now.seat }
         { contend_by_two(rt, board, zero, one, counts) },
         &mut || -> Result<(), OutOfMemory>
-            requires { IsSync R.row × Contests board.now two.now.seat × Contests board.now three.now.seat }
-            ensures { IsSameSeat two.entry.now.seat two.exit.now.seat × IsSameSeat three.entry.now.seat three.exit.now.seat }
+            requires { IsSync R.row × Contests board.now two.now.seat
+                × Contests board.now three.now.seat }
+            ensures { IsSameSeat two.entry.now.seat two.exit.now.seat
+                × IsSameSeat three.entry.now.seat three.exit.now.seat }
         { contend_by_two(rt, board, two, three, counts) },
     );
     first.and(second)
@@ -240,7 +245,8 @@ fn board_for_four(
     alloc: Global,
 ) -> Result<(ClaimBoard, Contender, Contender, Contender, Contender), OutOfMemory>
     ensures board { IfOk result (λ b. IsContested b.0) }
-    ensures seats { IfOk result (λ b. b.1.seat ∷ b.2.seat ∷ b.3.seat ∷ b.4.seat ∷ [] ≡ new_seats b.0 4) }
+    ensures seats { IfOk result (λ b. b.1.seat ∷ b.2.seat ∷ b.3.seat ∷ b.4.seat ∷ []
+        ≡ new_seats b.0 4) }
 {
     let (board, mut seats) = ClaimBoard::new(alloc, &[None; 1000], &[None; 4], 4)?;
     let Some(three) = seats.pop() else {

@@ -2,10 +2,10 @@
 
 ghost use Rattle.std.specs.Prelude.{◌≡◌, ◌+◌, length};
 ghost use Rattle.claim_words.specs.Board.{Words};
-ghost use Rattle.claim_words.specs.Listed.{all_listed, followed_by};
-ghost use Rattle.claim_words.specs.Seat.{AreNumbered, first_seat, lists_of};
+ghost use Rattle.claim_words.specs.Listed.{followed_by};
+ghost use Rattle.claim_words.specs.Seat.{AreNumbered, first_seat};
 ghost use Rattle.claim_words.specs.Settles.{Settles, SettlesAll};
-ghost use Rattle.claim_words.specs.WorkerState.{AreAllWorkers, after_gather, fresh_lists, re_seated, seats_of};
+ghost use Rattle.claim_words.specs.WorkerState.{AreAllWorkers, after_gather, fresh_lists, listed_by_workers, re_seated, seats_of};
 
 use crate::board::ClaimBoard;
 use crate::seat::ClaimSeat;
@@ -21,7 +21,8 @@ impl ClaimBoard {
         ensures workers { workers.new ≡ after_gather self.now workers.old }
         ensures all { AreAllWorkers self.now workers.new }
         ensures fresh { fresh_lists workers.new ≡ fresh_lists workers.old }
-        ensures words { (words : Words) × SettlesAll self.now words (seats_of workers.old) × SettlesAll self.now words (seats_of workers.new) }
+        ensures words { (words : Words) × SettlesAll self.now words (seats_of workers.old)
+            × SettlesAll self.now words (seats_of workers.new) }
     {
         let Some((first, others)) = workers.split_first_mut() else {
             unreachable!()
@@ -36,9 +37,11 @@ impl ClaimBoard {
     fn renew(&self, first: &mut ClaimSeat, others: &mut [Worker])
         requires first { first.old ≡ first_seat self.now (1 + length others.old) first.old.listed }
         requires others { AreNumbered self.now 1 (seats_of others.old) }
-        ensures first { first.new ≡ first_seat self.now (1 + length others.old) (followed_by (all_listed (lists_of (seats_of others.old))) first.old.listed) }
+        ensures first { first.new ≡ first_seat self.now (1 + length others.old)
+            (followed_by (listed_by_workers others.old) first.old.listed) }
         ensures others { others.new ≡ re_seated self.now 1 others.old }
-        ensures words { (words : Words) × Settles self.now.rows self.now.roots words first.new.listed }
+        ensures words { (words : Words)
+            × Settles self.now.rows self.now.roots words first.new.listed }
     {
         let Some((last, rest)) = others.split_last_mut() else {
             self.account(first);

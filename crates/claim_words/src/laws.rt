@@ -1,29 +1,38 @@
 //! Laws on lists that account for words.
 
-ghost use Rattle.std.specs.Prelude.{◌≡◌, ◌⊎◌, ℕ, ◌+◌, ◌≤◌, List, [], ◌++◌, Option, None, Some, length, map};
-ghost use Rattle.bip_defs.specs.Lists.{Among, AreDistinct};
+ghost use Rattle.std.specs.Prelude.{◌≡◌, ◌⊎◌, ℕ, ◌+◌, ◌≤◌, List, ◌++◌, Option, None, Some, length};
+ghost use Rattle.bip_defs.specs.Lists.{Among, AreDistinct, numbers_of};
 ghost use Rattle.claim_words.specs.Accounts.{Accounts, listed_word, times};
-ghost use Rattle.claim_words.specs.Board.{Board, Words, held};
+ghost use Rattle.claim_words.specs.Board.{Board, Words, held, opened_words};
 ghost use Rattle.claim_words.specs.Listed.{Listed, root_word, row_word};
-ghost use Rattle.claim_words.specs.Seat.{KnowsRoot, KnowsRow, Seat, lists_of};
+ghost use Rattle.claim_words.specs.Seat.{AreAllSeats, KnowsRoot, KnowsRow, Seat, new_seats};
 ghost use Rattle.claim_words.specs.Settles.{Settles, SettlesAll};
-ghost use Rattle.claim_words.specs.WorkerState.{HaveGrown, WorkerState, fresh_claims_of, fresh_wins_of, listed_by_workers};
 
 /// Where a list accounts for words, each word is the value with which it was opened, or else what is listed for it. So lists
 /// that account for the same words list the same, and a list accounts for no other words.
 pub fn words_are_listed()
-    ensures word { (opened now : List (Option ℕ)) (listed : List (ℕ × ℕ)) (i : ℕ) → Accounts opened now listed → held now i ≡ listed_word opened listed i }
-    ensures same_lists { (opened now : List (Option ℕ)) (listed other : List (ℕ × ℕ)) (i : ℕ) → Accounts opened now listed → Accounts opened now other → listed_word opened listed i ≡ listed_word opened other i }
-    ensures same_words { (opened now other : List (Option ℕ)) (listed : List (ℕ × ℕ)) → Accounts opened now listed → Accounts opened other listed → now ≡ other }
+    ensures word { (opened now : List (Option ℕ)) (listed : List (ℕ × ℕ)) (i : ℕ)
+        → Accounts opened now listed → held now i ≡ listed_word opened listed i }
+    ensures same_lists { (opened now : List (Option ℕ)) (listed other : List (ℕ × ℕ)) (i : ℕ)
+        → Accounts opened now listed → Accounts opened now other
+        → listed_word opened listed i ≡ listed_word opened other i }
+    ensures same_words { (opened now other : List (Option ℕ)) (listed : List (ℕ × ℕ))
+        → Accounts opened now listed → Accounts opened other listed → now ≡ other }
 {}
 
 /// Where a list accounts for words, a word that is listed was opened empty and holds what is listed, and is listed once; a
 /// word that holds a value was opened with it, or is listed with it. So no more words are listed than there are.
 pub fn listed_words_stand()
-    ensures stands { (opened now : List (Option ℕ)) (listed : List (ℕ × ℕ)) (i x : ℕ) → Accounts opened now listed → Among (i, x) listed → (held opened i ≡ None) × (held now i ≡ Some x) }
-    ensures from { (opened now : List (Option ℕ)) (listed : List (ℕ × ℕ)) (i x : ℕ) → Accounts opened now listed → held now i ≡ Some x → (held opened i ≡ Some x) ⊎ Among (i, x) listed }
-    ensures once { (opened now : List (Option ℕ)) (listed : List (ℕ × ℕ)) → Accounts opened now listed → AreDistinct (map (λ (p : ℕ × ℕ). p.0) listed) }
-    ensures few { (opened now : List (Option ℕ)) (listed : List (ℕ × ℕ)) → Accounts opened now listed → length listed ≤ length opened }
+    ensures stands { (opened now : List (Option ℕ)) (listed : List (ℕ × ℕ)) (i x : ℕ)
+        → Accounts opened now listed → Among (i, x) listed
+        → (held opened i ≡ None) × (held now i ≡ Some x) }
+    ensures from { (opened now : List (Option ℕ)) (listed : List (ℕ × ℕ)) (i x : ℕ)
+        → Accounts opened now listed → held now i ≡ Some x
+        → (held opened i ≡ Some x) ⊎ Among (i, x) listed }
+    ensures once { (opened now : List (Option ℕ)) (listed : List (ℕ × ℕ))
+        → Accounts opened now listed → AreDistinct (numbers_of listed) }
+    ensures few { (opened now : List (Option ℕ)) (listed : List (ℕ × ℕ))
+        → Accounts opened now listed → length listed ≤ length opened }
 {}
 
 /// How often a word is listed adds up over lists; a word is listed where some value is listed for it. A list in which no word
@@ -32,22 +41,32 @@ pub fn times_add_up()
     ensures append { (i : ℕ) (xs ys : List (ℕ × ℕ)) → times i (xs ++ ys) ≡ times i xs + times i ys }
     ensures listed { (i x : ℕ) (xs : List (ℕ × ℕ)) → Among (i, x) xs → 1 ≤ times i xs }
     ensures some { (i : ℕ) (xs : List (ℕ × ℕ)) → 1 ≤ times i xs → (x : ℕ) × Among (i, x) xs }
-    ensures distinct { (xs : List (ℕ × ℕ)) → ((i : ℕ) → times i xs ≤ 1) → AreDistinct (map (λ (p : ℕ × ℕ). p.0) xs) }
-    ensures once { (i : ℕ) (xs : List (ℕ × ℕ)) → AreDistinct (map (λ (p : ℕ × ℕ). p.0) xs) → times i xs ≤ 1 }
+    ensures distinct { (xs : List (ℕ × ℕ)) → ((i : ℕ) → times i xs ≤ 1)
+        → AreDistinct (numbers_of xs) }
+    ensures once { (i : ℕ) (xs : List (ℕ × ℕ)) → AreDistinct (numbers_of xs) → times i xs ≤ 1 }
 {}
 
 /// Where the lists of all seats account for the words, what one of them knows of a word is what the word holds: it is the
 /// value with which the word was opened, or is listed for it.
 pub fn known_values_stand()
-    ensures rows { (b : Board) (words : Words) (ss : List Seat) (s : Seat) (row col : ℕ) → SettlesAll b words ss → Among s ss → s.board ≡ b → KnowsRow s row col → held words.rows row ≡ Some col }
-    ensures roots { (b : Board) (words : Words) (ss : List Seat) (s : Seat) (root leaf : ℕ) → SettlesAll b words ss → Among s ss → s.board ≡ b → KnowsRoot s root leaf → held words.roots root ≡ Some leaf }
-    ensures seen_col { (rows roots : List (Option ℕ)) (words : Words) (l : Listed) (row col : ℕ) → Settles rows roots words l → Among (row_word row (Some col)) l.seen → (held rows row ≡ Some col) ⊎ Among (row, col) l.claims }
-    ensures seen_leaf { (rows roots : List (Option ℕ)) (words : Words) (l : Listed) (root leaf : ℕ) → Settles rows roots words l → Among (root_word root (Some leaf)) l.seen → (held roots root ≡ Some leaf) ⊎ Among (root, leaf) l.wins }
+    ensures rows { (b : Board) (words : Words) (ss : List Seat) (s : Seat) (row col : ℕ)
+        → SettlesAll b words ss → Among s ss → s.board ≡ b → KnowsRow s row col
+        → held words.rows row ≡ Some col }
+    ensures roots { (b : Board) (words : Words) (ss : List Seat) (s : Seat) (root leaf : ℕ)
+        → SettlesAll b words ss → Among s ss → s.board ≡ b → KnowsRoot s root leaf
+        → held words.roots root ≡ Some leaf }
+    ensures seen_col { (rows roots : List (Option ℕ)) (words : Words) (l : Listed) (row col : ℕ)
+        → Settles rows roots words l → Among (row_word row (Some col)) l.seen
+        → (held rows row ≡ Some col) ⊎ Among (row, col) l.claims }
+    ensures seen_leaf { (rows roots : List (Option ℕ)) (words : Words) (l : Listed) (root leaf : ℕ)
+        → Settles rows roots words l → Among (root_word root (Some leaf)) l.seen
+        → (held roots root ≡ Some leaf) ⊎ Among (root, leaf) l.wins }
 {}
 
-/// Where each worker's seat lists, behind what it listed before, what is in the worker's fresh lists, all seats together list
-/// a word as often as before and as it is in all fresh lists.
-pub fn fresh_lists_add_up()
-    ensures claims { (before after : List WorkerState) (i : ℕ) → HaveGrown before after → times i (listed_by_workers after).claims ≡ times i (listed_by_workers before).claims + times i (fresh_claims_of after) }
-    ensures wins { (before after : List WorkerState) (i : ℕ) → HaveGrown before after → times i (listed_by_workers after).wins ≡ times i (listed_by_workers before).wins + times i (fresh_wins_of after) }
+/// New seats are as many as were asked for, and at least one of them is all seats of the board. What they list, which is
+/// nothing, accounts for the words as they were when the board was opened.
+pub fn new_seats_are_all()
+    ensures all { (b : Board) (seats : ℕ) → 1 ≤ seats → AreAllSeats b (new_seats b seats) }
+    ensures many { (b : Board) (seats : ℕ) → length (new_seats b seats) ≡ seats }
+    ensures words { (b : Board) (seats : ℕ) → SettlesAll b (opened_words b) (new_seats b seats) }
 {}

@@ -131,7 +131,8 @@ fn two_threads_on_one_row(rt: HostRuntime) -> Result<(), Fail> {
 // A board of two rows and a root, and its two workers.
 fn board_with_workers(alloc: Global) -> Result<(ClaimBoard, Worker, Worker), OutOfMemory>
     ensures board { IfOk result (λ b. (length b.0.rows ≡ 2) × (length b.0.roots ≡ 1)) }
-    ensures workers { IfOk result (λ b. (b.1 ≡ seated (first_seat b.0 2 nothing)) × (b.2 ≡ seated (new_seat b.0 1))) }
+    ensures workers { IfOk result (λ b. (b.1 ≡ seated (first_seat b.0 2 nothing))
+        × (b.2 ≡ seated (new_seat b.0 1))) }
 {
     let (board, zero, one) = board_for_two(alloc, &[None, None], &[None])?;
     Ok((board, Worker::new(alloc, zero), Worker::new(alloc, one)))
@@ -145,7 +146,8 @@ fn gather_for_two(
 ) -> Result<(Worker, Worker), OutOfMemory>
     requires { AreAllWorkers board.now (zero ∷ one ∷ []) }
     ensures all { IfOk result (λ r. AreAllWorkers board.now (r.0 ∷ r.1 ∷ [])) }
-    ensures fresh { IfOk result (λ r. fresh_lists (r.0 ∷ r.1 ∷ []) ≡ fresh_lists (zero ∷ one ∷ [])) }
+    ensures fresh { IfOk result (λ r. fresh_lists (r.0 ∷ r.1 ∷ [])
+        ≡ fresh_lists (zero ∷ one ∷ [])) }
 {
     let mut workers = Vec::new(alloc);
     workers.push(zero)?;

@@ -30,7 +30,11 @@ impl Model for Worker {
     ghost use Rattle.std.specs.Prelude.{◌≡◌, Some};
     ghost use Rattle.claim_words.specs.Stored.{seat_in};
 
-    ghost view = { λ w. record { seat = seat_in w.seat; fresh_claims = w.fresh_claims.items; fresh_wins = w.fresh_wins.items } };
+    ghost view = { λ w. record {
+      seat = seat_in w.seat;
+      fresh_claims = w.fresh_claims.items;
+      fresh_wins = w.fresh_wins.items;
+    } };
 
     ghost invariant = { λ w. w.seat ≡ Some (seat_in w.seat) };
 }
@@ -62,8 +66,10 @@ impl Worker {
     pub fn claim(&mut self, board: &ClaimBoard, row: Row, col: Col) -> Result<Claimed, OutOfMemory>
         requires seat { self.old.seat.board ≡ board.now }
         requires row { row < length board.now.rows }
-        ensures ok { IfOk result (λ answer. self.new ≡ work_after_claim self.old row col (col_before answer)) }
-        ensures known { IfOk result (λ answer. (x : ℕ) → KnowsRow self.old.seat row x → col_before answer ≡ Some x) }
+        ensures ok { IfOk result (λ a. self.new
+            ≡ work_after_claim self.old row col (col_before a)) }
+        ensures known { IfOk result (λ a. (x : ℕ) → KnowsRow self.old.seat row x
+            → col_before a ≡ Some x) }
         ensures err { OnErr result (self.new ≡ self.old) }
     {
         self.fresh_claims.reserve(1)?;
@@ -82,8 +88,10 @@ impl Worker {
     pub fn win(&mut self, board: &ClaimBoard, root: Col, leaf: Row) -> Result<Won, OutOfMemory>
         requires seat { self.old.seat.board ≡ board.now }
         requires root { root < length board.now.roots }
-        ensures ok { IfOk result (λ answer. self.new ≡ work_after_win self.old root leaf (leaf_before answer)) }
-        ensures known { IfOk result (λ answer. (x : ℕ) → KnowsRoot self.old.seat root x → leaf_before answer ≡ Some x) }
+        ensures ok { IfOk result (λ a. self.new
+            ≡ work_after_win self.old root leaf (leaf_before a)) }
+        ensures known { IfOk result (λ a. (x : ℕ) → KnowsRoot self.old.seat root x
+            → leaf_before a ≡ Some x) }
         ensures err { OnErr result (self.new ≡ self.old) }
     {
         self.fresh_wins.reserve(1)?;

@@ -1,0 +1,96 @@
+//! Laws on workers: what they list, step by step, and what they know.
+
+ghost use Rattle.std.specs.Prelude.{◌≡◌, ◌↔◌, ◌⊎◌, ℕ, ◌+◌, List, [], ◌++◌, Option, Some, length, map};
+ghost use Rattle.bip_defs.specs.Lists.{Among};
+ghost use Rattle.claim_words.specs.Accounts.{times, value_or};
+ghost use Rattle.claim_words.specs.Board.{Board};
+ghost use Rattle.claim_words.specs.Listed.{Listed, Sight, claimed, followed_by, looked, nothing, root_word, row_word, won};
+ghost use Rattle.claim_words.specs.Seat.{KnowsRoot, KnowsRow, Seat, after_claim, after_look, after_win};
+ghost use Rattle.claim_words.specs.WorkerState.{AreAllWorkers, HasGrown, HaveGrown, WorkerState, fresh_claims_of, fresh_lists, fresh_wins_of, listed_by_workers, seated, seats_of, settled, with_more, work_after_claim, work_after_look, work_after_win};
+
+/// What each step of a worker adds to what it lists. Of two steps, what the second adds stands behind what the first does.
+pub fn steps_add_to_lists()
+    ensures none { (w : WorkerState) → with_more w nothing ≡ w }
+    ensures both { (w : WorkerState) (l m : Listed)
+        → with_more (with_more w l) m ≡ with_more w (followed_by l m) }
+    ensures claim { (w : WorkerState) (row col : ℕ) (found : Option ℕ)
+        → work_after_claim w row col found ≡ with_more w (claimed nothing row col found) }
+    ensures win { (w : WorkerState) (root leaf : ℕ) (found : Option ℕ)
+        → work_after_win w root leaf found ≡ with_more w (won nothing root leaf found) }
+    ensures look { (w : WorkerState) (sight : Sight)
+        → work_after_look w sight ≡ with_more w (looked nothing sight) }
+{}
+
+/// Workers that have grown have grown since any earlier time, each of two rows of workers as both together. They stay as many
+/// as they were, and all workers of their board.
+pub fn workers_grow()
+    ensures here { (ws : List WorkerState) → HaveGrown ws ws }
+    ensures on { (us vs ws : List WorkerState) → HaveGrown us vs → HaveGrown vs ws
+        → HaveGrown us ws }
+    ensures both { (vs ws xs ys : List WorkerState) → HaveGrown vs ws → HaveGrown xs ys
+        → HaveGrown (vs ++ xs) (ws ++ ys) }
+    ensures many { (vs ws : List WorkerState) → HaveGrown vs ws → length ws ≡ length vs }
+    ensures all { (b : Board) (vs ws : List WorkerState) → HaveGrown vs ws → AreAllWorkers b vs
+        → AreAllWorkers b ws }
+{}
+
+/// A worker knows what it knew before, and what a claim, a win or a look has told it: the value that was found, or else the
+/// one that was written.
+pub fn workers_know_more()
+    ensures row { (v w : WorkerState) (row x : ℕ) → HasGrown v w → KnowsRow v.seat row x
+        → KnowsRow w.seat row x }
+    ensures root { (v w : WorkerState) (root x : ℕ) → HasGrown v w → KnowsRoot v.seat root x
+        → KnowsRoot w.seat root x }
+    ensures claim { (s : Seat) (row col x : ℕ) (found : Option ℕ)
+        → value_or found (Some col) ≡ Some x → KnowsRow (after_claim s row col found) row x }
+    ensures win { (s : Seat) (root leaf x : ℕ) (found : Option ℕ)
+        → value_or found (Some leaf) ≡ Some x → KnowsRoot (after_win s root leaf found) root x }
+    ensures look_row { (s : Seat) (row x : ℕ)
+        → KnowsRow (after_look s (row_word row (Some x))) row x }
+    ensures look_root { (s : Seat) (root x : ℕ)
+        → KnowsRoot (after_look s (root_word root (Some x))) root x }
+{}
+
+/// Where workers have grown, all seats together list a word more often by as much as all fresh lists do.
+pub fn fresh_lists_add_up()
+    ensures claims { (before after : List WorkerState) (i : ℕ) → HaveGrown before after
+        → times i (listed_by_workers after).claims + times i (fresh_claims_of before)
+        ≡ times i (listed_by_workers before).claims + times i (fresh_claims_of after) }
+    ensures wins { (before after : List WorkerState) (i : ℕ) → HaveGrown before after
+        → times i (listed_by_workers after).wins + times i (fresh_wins_of before)
+        ≡ times i (listed_by_workers before).wins + times i (fresh_wins_of after) }
+{}
+
+/// Where workers with empty fresh lists have grown, all seats together list what they listed before and what stands in fresh
+/// lists, and nothing else.
+pub fn fresh_lists_are_listed()
+    ensures claims { (before after : List WorkerState) (p : ℕ × ℕ) → HaveGrown before after
+        → fresh_claims_of before ≡ [] → Among p (listed_by_workers after).claims
+        ↔ (Among p (listed_by_workers before).claims ⊎ Among p (fresh_claims_of after)) }
+    ensures wins { (before after : List WorkerState) (p : ℕ × ℕ) → HaveGrown before after
+        → fresh_wins_of before ≡ [] → Among p (listed_by_workers after).wins
+        ↔ (Among p (listed_by_workers before).wins ⊎ Among p (fresh_wins_of after)) }
+{}
+
+/// The fresh lists of all workers are those of one row of workers and then those of the other; workers with the same fresh
+/// lists have the same together.
+pub fn fresh_lists_join()
+    ensures claims { (vs ws : List WorkerState)
+        → fresh_claims_of (vs ++ ws) ≡ fresh_claims_of vs ++ fresh_claims_of ws }
+    ensures wins { (vs ws : List WorkerState)
+        → fresh_wins_of (vs ++ ws) ≡ fresh_wins_of vs ++ fresh_wins_of ws }
+    ensures same_claims { (vs ws : List WorkerState) → fresh_lists vs ≡ fresh_lists ws
+        → fresh_claims_of vs ≡ fresh_claims_of ws }
+    ensures same_wins { (vs ws : List WorkerState) → fresh_lists vs ≡ fresh_lists ws
+        → fresh_wins_of vs ≡ fresh_wins_of ws }
+{}
+
+/// Workers that take seats have these, and workers that are settled keep theirs; their fresh lists are empty.
+pub fn seats_stay()
+    ensures seated { (ss : List Seat) → seats_of (map seated ss) ≡ ss }
+    ensures seated_claims { (ss : List Seat) → fresh_claims_of (map seated ss) ≡ [] }
+    ensures seated_wins { (ss : List Seat) → fresh_wins_of (map seated ss) ≡ [] }
+    ensures settled { (ws : List WorkerState) → seats_of (map settled ws) ≡ seats_of ws }
+    ensures settled_claims { (ws : List WorkerState) → fresh_claims_of (map settled ws) ≡ [] }
+    ensures settled_wins { (ws : List WorkerState) → fresh_wins_of (map settled ws) ≡ [] }
+{}

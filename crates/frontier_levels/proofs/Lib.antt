@@ -1,0 +1,2 @@
+mod BoardLemmas
+mod EventLemmas

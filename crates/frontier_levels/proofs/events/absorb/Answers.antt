@@ -1,0 +1,19 @@
+use Rattle.std.proofs.Common.{List, sym, subst}
+use Rattle.bip_defs.specs.Forest.{State}
+use Rattle.claim_words.specs.WorkerState.{WorkerState, fresh_claims_of, fresh_wins_of}
+use Rattle.forest_core.specs.Events.{Runs}
+use Rattle.level_sharing.specs.Agreement.{Agree}
+use Rattle.sp_ids.specs.Events.{win_events}
+use Rattle.frontier_levels.proofs.EventLemmas.{level_runs, with_leaves}
+use Rattle.frontier_levels.proofs.events.absorb.Goals as goal
+
+pub make_claims-requires : goal.make_claims-requires
+make_claims-requires c = (level_runs _ (fresh_claims_of c.args.workers.now) (fresh_wins_of c.args.workers.now) c.requires).0
+
+pub make_wins-requires : goal.make_wins-requires
+make_wins-requires c =
+    let wins = (level_runs _ (fresh_claims_of c.args.workers.now) (fresh_wins_of c.args.workers.now) c.requires).1 in
+    subst (λ (s : State). Runs s (win_events (fresh_wins_of c.args.workers.now)) (with_leaves s (fresh_wins_of c.args.workers.now))) (sym c.make_claims.ensures) wins
+
+pub returns-clause-agree : goal.returns-clause-agree
+returns-clause-agree c = λ b shows. subst (λ (ws : List WorkerState). Agree b ws c.make_wins.new.forest.claims c.make_wins.new.forest.leaves) (sym c.settle.ensures) (c.settled_workers_agree.ensures b c.args.workers.now _ _ shows)

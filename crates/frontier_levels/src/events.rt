@@ -1,0 +1,88 @@
+//! The events of a level, made on the forest.
+
+ghost use Rattle.std.specs.Prelude.{◌≡◌, ◌++◌, map};
+ghost use Rattle.claim_words.specs.Board.{Board};
+ghost use Rattle.claim_words.specs.WorkerState.{fresh_claims_of, fresh_wins_of, settled};
+ghost use Rattle.forest_core.specs.Events.{Runs};
+ghost use Rattle.level_sharing.specs.Agreement.{Agree, Shows};
+ghost use Rattle.level_sharing.specs.Growth.{fresh_events, grown};
+ghost use Rattle.sp_ids.specs.Events.{claim_events, win_events};
+
+use claim_words::Worker;
+use forest_core::Forest;
+use level_sharing::settled_workers_agree;
+use sp_ids::{Col, Row};
+
+/// Makes the workers' fresh claims on the forest, in the order of workers, and then their fresh wins, and settles the workers.
+/// Where board and workers showed the forest that this leaves, they agree with it.
+///
+/// Takes no memory. Work: constant for each fresh claim and win.
+pub fn absorb(forest: &mut Forest, workers: &mut [Worker])
+    requires { Runs forest.old (fresh_events workers.old) (grown forest.old workers.old) }
+    ensures forest { forest.new ≡ grown forest.old workers.old }
+    ensures workers { workers.new ≡ map settled workers.old }
+    ensures agree { (b : Board) → Shows b workers.old forest.new.claims forest.new.leaves
+        → Agree b workers.new forest.new.claims forest.new.leaves }
+{
+    settled_workers_agree();
+    make_claims(forest, workers);
+    make_wins(forest, workers);
+    settle(workers);
+}
+
+// Makes the fresh claims of these workers.
+fn make_claims(forest: &mut Forest, workers: &[Worker])
+    requires { Runs forest.old (claim_events (fresh_claims_of workers.now))
+        (record forest.old { claims = forest.old.claims ++ fresh_claims_of workers.now }) }
+    ensures { forest.new
+        ≡ record forest.old { claims = forest.old.claims ++ fresh_claims_of workers.now } }
+{
+    for worker in workers {
+        make_claims_of(forest, worker.fresh_claims());
+    }
+}
+
+// Makes these claims.
+fn make_claims_of(forest: &mut Forest, claims: &[(Row, Col)])
+    requires { Runs forest.old (claim_events claims.now)
+        (record forest.old { claims = forest.old.claims ++ claims.now }) }
+    ensures { forest.new ≡ record forest.old { claims = forest.old.claims ++ claims.now } }
+{
+    for claim in claims {
+        let (row, col) = *claim;
+        forest.claim(row, col);
+    }
+}
+
+// Makes the fresh wins of these workers.
+fn make_wins(forest: &mut Forest, workers: &[Worker])
+    requires { Runs forest.old (win_events (fresh_wins_of workers.now))
+        (record forest.old { leaves = forest.old.leaves ++ fresh_wins_of workers.now }) }
+    ensures { forest.new
+        ≡ record forest.old { leaves = forest.old.leaves ++ fresh_wins_of workers.now } }
+{
+    for worker in workers {
+        make_wins_of(forest, worker.fresh_wins());
+    }
+}
+
+// Makes these wins.
+fn make_wins_of(forest: &mut Forest, wins: &[(Col, Row)])
+    requires { Runs forest.old (win_events wins.now)
+        (record forest.old { leaves = forest.old.leaves ++ wins.now }) }
+    ensures { forest.new ≡ record forest.old { leaves = forest.old.leaves ++ wins.now } }
+{
+    for win in wins {
+        let (root, leaf) = *win;
+        forest.win(root, leaf);
+    }
+}
+
+// Settles each worker.
+fn settle(workers: &mut [Worker])
+    ensures { workers.new ≡ map settled workers.old }
+{
+    for worker in workers.iter_mut() {
+        worker.settle();
+    }
+}
