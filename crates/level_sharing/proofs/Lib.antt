@@ -1,3 +1,6 @@
-pub mod Members
+pub mod EachLemmas
+pub mod GrownForests
+pub mod LevelLemmas
 pub mod NewWords
-pub mod SettledWorkers
+pub mod ProgressLemmas
+pub mod ShareLemmas

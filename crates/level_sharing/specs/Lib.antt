@@ -1,3 +1,6 @@
 pub mod Agreement
+pub mod Each
 pub mod Growth
+pub mod Level
+pub mod Progress
 pub mod Shares

@@ -1,40 +1,58 @@
-//! Laws on boards and workers that agree with a forest.
+//! Laws on boards and workers that agree with a forest, and on shares.
 
-ghost use Rattle.std.specs.Prelude.{ℕ, List, ◌++◌, map};
+ghost use Rattle.std.specs.Prelude.{ℕ, ◌<◌, List, ◌++◌, map};
+ghost use Rattle.bip_defs.specs.Lists.{Among, AreNew};
 ghost use Rattle.claim_words.specs.Board.{Board, Words};
 ghost use Rattle.claim_words.specs.Settles.{SettlesAll};
 ghost use Rattle.claim_words.specs.WorkerState.{HaveGrown, WorkerState, fresh_claims_of, fresh_wins_of, seats_of, settled};
-ghost use Rattle.bip_defs.specs.Lists.{AreNew};
 ghost use Rattle.level_sharing.specs.Agreement.{Agree, HoldThese, Shows};
+ghost use Rattle.level_sharing.specs.Shares.{share_of};
 
-use claim_words::{fresh_lists_add_up, listed_words_stand, times_add_up};
+use claim_words::{
+    fresh_lists_add_up, fresh_lists_are_listed, listed_words_stand, seats_stay, times_add_up,
+};
 
-/// Board and workers agreed with a forest, and since then each worker's seat lists what is in its fresh lists beside what it
-/// listed before. Then the fresh claims are of rows that were unclaimed, each once, the fresh wins of roots without a leaf,
-/// each once, and the words hold the old claims and leaves with the fresh ones and nothing else.
+/// Board and workers agreed with a forest, and since then the workers have listed more. Then the fresh claims are of rows that
+/// were unclaimed, each once, the fresh wins of roots without a leaf, each once, and the words hold the old claims and leaves
+/// with the fresh ones and nothing else.
 pub fn fresh_lists_are_new()
     ensures claims { (b : Board) (words : Words) (before after : List WorkerState)
-        (claims leaves : List (ℕ × ℕ)) → Agree b before claims leaves → HaveGrown before after
+        (claims leaves : List (ℕ × ℕ)) → Agree b before claims leaves
+        → HaveGrown before after
         → SettlesAll b words (seats_of after) → AreNew claims (fresh_claims_of after) }
     ensures wins { (b : Board) (words : Words) (before after : List WorkerState)
-        (claims leaves : List (ℕ × ℕ)) → Agree b before claims leaves → HaveGrown before after
+        (claims leaves : List (ℕ × ℕ)) → Agree b before claims leaves
+        → HaveGrown before after
         → SettlesAll b words (seats_of after) → AreNew leaves (fresh_wins_of after) }
     ensures rows { (b : Board) (words : Words) (before after : List WorkerState)
-        (claims leaves : List (ℕ × ℕ)) → Agree b before claims leaves → HaveGrown before after
+        (claims leaves : List (ℕ × ℕ)) → Agree b before claims leaves
+        → HaveGrown before after
         → SettlesAll b words (seats_of after)
         → HoldThese (claims ++ fresh_claims_of after) words.rows }
     ensures roots { (b : Board) (words : Words) (before after : List WorkerState)
-        (claims leaves : List (ℕ × ℕ)) → Agree b before claims leaves → HaveGrown before after
+        (claims leaves : List (ℕ × ℕ)) → Agree b before claims leaves
+        → HaveGrown before after
         → SettlesAll b words (seats_of after)
         → HoldThese (leaves ++ fresh_wins_of after) words.roots }
 {
     listed_words_stand();
     times_add_up();
     fresh_lists_add_up();
+    fresh_lists_are_listed();
 }
 
 /// Workers that show the claims and the leaves of a forest agree with it once they are settled.
 pub fn settled_workers_agree()
     ensures { (b : Board) (ws : List WorkerState) (claims leaves : List (ℕ × ℕ))
         → Shows b ws claims leaves → Agree b (map settled ws) claims leaves }
+{
+    seats_stay();
+}
+
+/// The shares of so many workers cover a list, and have nothing else.
+pub fn shares_cover_a_list()
+    ensures cover { (xs : List ℕ) (workers x : ℕ) → 0 < workers → Among x xs
+        → (i : ℕ) × (i < workers) × Among x (share_of xs workers i) }
+    ensures within { (xs : List ℕ) (workers i x : ℕ)
+        → Among x (share_of xs workers i) → Among x xs }
 {}

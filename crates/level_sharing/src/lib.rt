@@ -1,10 +1,24 @@
-//! What all levels of the search by many workers share: when a board of words and its workers agree with the claims and the
-//! leaves of a forest, each worker's share of a list, and what the workers' fresh lists tell after a level.
+//! What all levels of the search by many workers share: the work of many at once, by joins over halves; each worker's share of
+//! a list; when a board of words and its workers agree with the claims and the leaves of a forest; what a worker lists and
+//! knows, step by step; and what a level does to the forest.
 //!
 //! Levels of such a search are those of Azad, Buluç and Pothen, Computing maximum cardinality matchings in parallel on
 //! bipartite graphs via tree-grafting, 2017.
 #![tactic(auto)]
 
 mod laws;
+mod levels;
+mod shares;
+mod steps;
+#[cfg(test)]
+mod tests;
+mod work;
 
-pub use laws::{fresh_lists_are_new, settled_workers_agree};
+pub use laws::{fresh_lists_are_new, settled_workers_agree, shares_cover_a_list};
+pub use levels::{
+    levels_are_legal, levels_are_shown, levels_go_through_columns, levels_go_through_rows,
+    levels_keep_to_shares,
+};
+pub use shares::{share, share_start};
+pub use steps::{progress_keeps_seats, steps_are_progress, steps_are_remembered};
+pub use work::{Work, work_at_once};

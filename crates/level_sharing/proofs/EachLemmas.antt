@@ -1,0 +1,41 @@
+-- What holds of each element of two lists, one after the other.
+use Rattle.std.proofs.Common.{◌≡◌, ℕ, suc, ◌+◌, List, [], ◌∷◌, ◌++◌, length, sym, subst, arith, length-append, Result, Ok, Err, OnOk}
+use Rattle.level_sharing.specs.Each.{AreReady, EachFrom, EachPairFrom}
+
+behind : (n k : ℕ) → suc n + k ≡ n + suc k
+behind n k = omega arith
+
+pub each_front : {X : Type 0} (P : ℕ → X → Type 0) (n : ℕ) (xs ys : List X) → EachFrom P n (xs ++ ys) → EachFrom P n xs
+each_front P n [] ys h = tt
+each_front P n (x ∷ xs) ys (p, h) = (p, each_front P (suc n) xs ys h)
+
+pub each_back : {X : Type 0} (P : ℕ → X → Type 0) (n : ℕ) (xs ys : List X) → EachFrom P n (xs ++ ys) → EachFrom P (n + length xs) ys
+each_back P n [] ys h = subst (λ k. EachFrom P k ys) (let e : n ≡ n + 0 = omega arith in e) h
+each_back P n (x ∷ xs) ys (p, h) = subst (λ k. EachFrom P k ys) (behind n (length xs)) (each_back P (suc n) xs ys h)
+
+pub each_pair_append : {X : Type 0} (P : ℕ → X → X → Type 0) (n : ℕ) (xs xs' ys ys' : List X) → EachPairFrom P n xs xs' → EachPairFrom P (n + length xs) ys ys' → EachPairFrom P n (xs ++ ys) (xs' ++ ys')
+each_pair_append P n [] [] ys ys' f b = subst (λ k. EachPairFrom P k ys ys') (let e : n + 0 ≡ n = omega arith in e) b
+each_pair_append P n [] (x' ∷ xs') ys ys' f b = absurd f
+each_pair_append P n (x ∷ xs) [] ys ys' f b = absurd f
+each_pair_append P n (x ∷ xs) (x' ∷ xs') ys ys' (p, f) b = (p, each_pair_append P (suc n) xs xs' ys ys' f (subst (λ k. EachPairFrom P k ys ys') (sym (behind n (length xs))) b))
+
+pub ready_front : {X : Type 0} (P : ℕ → X → Type 0) (n : ℕ) (xs ys : List X) → AreReady P n (xs ++ ys) → AreReady P n xs
+ready_front P n xs ys h = record {
+  few = let few = h.few in let l = length-append xs ys in omega (arith, few, l);
+  each = each_front P n xs ys h.each;
+}
+
+pub ready_back : {X : Type 0} (P : ℕ → X → Type 0) (n m : ℕ) (xs ys : List X) → m ≡ n + length xs → AreReady P n (xs ++ ys) → AreReady P m ys
+ready_back P n m xs ys e h = record {
+  few = let few = h.few in let l = length-append xs ys in omega (arith, few, l, e);
+  each = subst (λ k. EachFrom P k ys) (sym e) (each_back P n xs ys h.each);
+}
+
+-- the pairs of a whole, from those of both halves
+pub each_pair_halves : {X : Type 0} (P : ℕ → X → X → Type 0) (n m : ℕ) (front front' back back' whole : List X) → whole ≡ front ++ back → m ≡ n + length front
+    → EachPairFrom P n front front' → EachPairFrom P m back back' → EachPairFrom P n whole (front' ++ back')
+each_pair_halves P n m front front' back back' whole w e f b = subst (λ xs. EachPairFrom P n xs (front' ++ back')) (sym w) (each_pair_append P n front front' back back' f (subst (λ k. EachPairFrom P k back back') e b))
+
+pub ok_then : {A E P Q : Type 0} (r : Result A E) → (P → Q) → OnOk r P → OnOk r Q
+ok_then (Ok a) f p = f p
+ok_then (Err e) f p = tt

@@ -1,0 +1,23 @@
+use Rattle.level_sharing.proofs.GrownForests.{LevelLaws, level_told, leaves, new_claims_of, new_wins_of, places}
+use Rattle.level_sharing.proofs.levels.levels_are_legal.Goals as goal
+
+laws : goal.After-known_values_stand → LevelLaws
+laws c = record {
+  all = c.workers_grow.ensures.all;
+  same_claims = c.fresh_lists_join.ensures.same_claims;
+  same_wins = c.fresh_lists_join.ensures.same_wins;
+  claims = c.fresh_lists_are_new.ensures.claims;
+  wins = c.fresh_lists_are_new.ensures.wins;
+  rows = c.fresh_lists_are_new.ensures.rows;
+  roots = c.fresh_lists_are_new.ensures.roots;
+  row_known = c.known_values_stand.ensures.rows;
+  root_known = c.known_values_stand.ensures.roots;
+}
+
+pub returns : goal.returns
+returns c = record {
+  claims = λ l. new_claims_of l (level_told (laws c) l);
+  places = λ l. places l (level_told (laws c) l);
+  wins = λ l. new_wins_of l (level_told (laws c) l);
+  leaves = λ l. leaves l (level_told (laws c) l);
+}

@@ -1,0 +1,26 @@
+use Rattle.std.proofs.Common.{ℕ, Option, None, Some, List, refl, subst}
+use Rattle.bip_defs.specs.Lists.{Among}
+use Rattle.bip_defs.specs.Matrix.{Place}
+use Rattle.claim_words.specs.WorkerState.{WorkerState, work_after_claim, work_after_win}
+use Rattle.level_sharing.specs.Progress.{KnowsHolder, KnowsLeaf}
+use Rattle.level_sharing.proofs.ProgressLemmas.{holder_known, won_known}
+use Rattle.level_sharing.proofs.steps.steps_are_remembered.Goals as goal
+
+after_claim : goal.After-workers_know_more → (w : WorkerState) (r c : ℕ) (found : Option ℕ) → KnowsHolder (work_after_claim w r c found) r
+after_claim t w r c None = (c, t.workers_know_more.ensures.claim w.seat r c c None refl)
+after_claim t w r c (Some d) = (d, t.workers_know_more.ensures.claim w.seat r c d (Some d) refl)
+
+after_win : goal.After-workers_know_more → (w : WorkerState) (x r : ℕ) (found : Option ℕ) → KnowsLeaf (work_after_win w x r found) x
+after_win t w x r None = (r, t.workers_know_more.ensures.win w.seat x r r None refl)
+after_win t w x r (Some q) = (q, t.workers_know_more.ensures.win w.seat x r q (Some q) refl)
+
+pub returns : goal.returns
+returns c = let known = c.workers_know_more.ensures in record {
+  holder = λ s own v w r. holder_known s own v w r (λ d. known.row v w r d);
+  won = λ s own v w d. won_known s own v w d (λ x r. known.root v w x r);
+  claim = after_claim c;
+  win = after_win c;
+  look_row = λ w r d. (d, known.look_row w.seat r d);
+  look_root = λ w x r. (r, known.look_root w.seat x r);
+  settled = λ s own v w p e h r d m free. won_known s own v w d (λ x q. known.root v w x q) p (h r d (subst (λ (l : List Place). Among (r, d) l) e m) free);
+}

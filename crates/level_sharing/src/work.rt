@@ -1,0 +1,100 @@
+//! Workers that do their work at once.
+
+ghost use Rattle.std.specs.Prelude.{◌≡◌, ℕ, ◌+◌, ◌<◌, ◌^◌, ◌++◌, length, OnOk};
+ghost use Rattle.std.specs.Thread.{IsSync};
+ghost use Rattle.level_sharing.specs.Each.{AreReady, EachFrom, EachPairFrom};
+
+use sp_ports::Gate;
+use std::thread::{Threads, join_mut};
+
+/// What each of several workers does, beside the others. A worker keeps a `T` for itself. It may have to end early, by an `E`:
+/// this is `Infallible` where no worker has to.
+pub trait Work<T, E>: Sync {
+    /// A worker with this number may begin.
+    ghost can_begin: { Self → ℕ → T → Type 0 };
+
+    /// What the worker with this number leaves, always.
+    ghost leaves: { Self → ℕ → T → T → Type 0 };
+
+    /// What it leaves besides where it did not end early.
+    ghost completes: { Self → ℕ → T → T → Type 0 };
+
+    /// The worker with this number does its part.
+    fn run(&self, number: u32, worker: &mut T) -> Result<(), E>
+        requires { can_begin self.now number worker.old }
+        ensures always { leaves self.now number worker.old worker.new }
+        ensures ok { OnOk result (completes self.now number worker.old worker.new) };
+}
+
+/// Each worker does its part, at once with the others as far as threads can be had.
+///
+/// The workers are numbered from 0 in the order of the slice. Each calls `gate.arrive` with its number once, before its part.
+/// Want of a thread changes nothing: then one part is done after the other. Answers the fault of the first worker that ended
+/// early; all the others did their parts nonetheless. Work: one thread is started for each worker but the first.
+pub fn work_at_once<R: Threads + Sync, G: Gate, T: Send, E: Send + Drop, W: Work<T, E>>(
+    rt: &R,
+    gate: &G,
+    work: &W,
+    workers: &mut [T],
+) -> Result<(), E>
+    requires few { length workers.old < 2 ^ 32 }
+    requires begin { EachFrom (W.can_begin work.now) 0 workers.old }
+    ensures always { EachPairFrom (W.leaves work.now) 0 workers.old workers.new }
+    ensures ok { OnOk result (EachPairFrom (W.completes work.now) 0 workers.old workers.new) }
+{
+    work_from(rt, gate, work, 0, workers)
+}
+
+// The same of workers of which the first has this number.
+fn work_from<R: Threads + Sync, G: Gate, T: Send, E: Send + Drop, W: Work<T, E>>(
+    rt: &R,
+    gate: &G,
+    work: &W,
+    first: u32,
+    workers: &mut [T],
+) -> Result<(), E>
+    requires { AreReady (W.can_begin work.now) first workers.old }
+    ensures always { EachPairFrom (W.leaves work.now) first workers.old workers.new }
+    ensures ok { OnOk result (EachPairFrom (W.completes work.now) first workers.old workers.new) }
+{
+    if workers.is_empty() {
+        return Ok(());
+    }
+    if workers.len() == 1 {
+        gate.arrive(first);
+        return work.run(first, &mut workers[0]);
+    }
+    let half = workers.len() / 2;
+    let (front, back) = workers.split_at_mut(half);
+    let next = first + half as u32;
+    halves_are_ready(work, first, next, front, back);
+    let (low, high) = join_mut(
+        rt,
+        &mut || -> Result<(), E>
+            requires { IsSync R.row × IsSync G.row × IsSync W.row
+                × (0 < length front.now) × AreReady (W.can_begin work.now) first front.now }
+            ensures { EachPairFrom (W.leaves work.entry.now) first front.entry.now front.exit.now
+                × OnOk result
+                (EachPairFrom (W.completes work.entry.now) first front.entry.now front.exit.now) }
+        { work_from(rt, gate, work, first, front) },
+        &mut || -> Result<(), E>
+            requires { IsSync R.row × IsSync G.row × IsSync W.row
+                × (0 < length back.now) × AreReady (W.can_begin work.now) next back.now }
+            ensures { EachPairFrom (W.leaves work.entry.now) next back.entry.now back.exit.now
+                × OnOk result
+                (EachPairFrom (W.completes work.entry.now) next back.entry.now back.exit.now) }
+        { work_from(rt, gate, work, next, back) },
+    );
+    low?;
+    high
+}
+
+// The workers of both halves are ready, where those of the whole are.
+fn halves_are_ready<T, E, W: Work<T, E>>(work: &W, first: u32, next: u32, front: &[T], back: &[T])
+    requires whole { AreReady (W.can_begin work.now) first (front.now ++ back.now) }
+    requires next { next ≡ first + length front.now }
+    requires some { (0 < length front.now) × (0 < length back.now) }
+    ensures front { AreReady (W.can_begin work.now) first front.now }
+    ensures back { AreReady (W.can_begin work.now) next back.now }
+    ensures some { (0 < length front.now) × (0 < length back.now) }
+{}
