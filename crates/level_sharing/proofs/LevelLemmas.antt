@@ -1,12 +1,14 @@
 -- What a level does to the forest, from what each worker has done.
-use Rattle.std.proofs.Common.{◌≡◌, ◌∙◌, ℕ, suc, List, [], ◌∷◌, ◌++◌, refl, sym, ap, subst}
+use Rattle.std.proofs.Common.{◌≡◌, ◌∙◌, ℕ, suc, ◌+◌, List, [], ◌∷◌, ◌++◌, length, refl, sym, ap, subst, arith}
 use Rattle.bip_defs.specs.Forest.{State}
 use Rattle.bip_defs.specs.Lists.{Among, numbers_of}
 use Rattle.bip_defs.specs.Matrix.{Place}
 use Rattle.bip_defs.proofs.Sets.{row_among}
-use Rattle.claim_words.specs.WorkerState.{HaveGrown, WorkerState, fresh_claims_of, fresh_lists, fresh_wins_of}
+use Rattle.claim_words.specs.Board.{Board}
+use Rattle.claim_words.specs.Seat.{AreNumbered}
+use Rattle.claim_words.specs.WorkerState.{AreAllWorkers, seats_of, HaveGrown, WorkerState, fresh_claims_of, fresh_lists, fresh_wins_of}
 use Rattle.level_sharing.specs.Each.{EachFrom, EachPairFrom}
-use Rattle.level_sharing.specs.Progress.{Progress}
+use Rattle.level_sharing.specs.Progress.{IsAtStart, Progress}
 use Rattle.level_sharing.proofs.ProgressLemmas.{fresh_claims_grow, fresh_wins_grow}
 use Rattle.level_sharing.specs.Shares.{KeepsTo, Share}
 
@@ -86,3 +88,27 @@ keep_same own i [] [] e h = tt
 keep_same own i [] (u ∷ us) e h = absurd cc
 keep_same own i (w ∷ ws) [] e h = absurd cc
 keep_same own i (w ∷ ws) (u ∷ us) e (h, hs) = let one = head_same _ _ _ _ e in (keeps_same (own i) w u (claims_of_one w u one) (wins_of_one w u one) h, keep_same own (suc i) ws us (tail_same _ _ _ _ e) hs)
+
+-- Workers at the start of a level.
+
+start_from : (s : State) (b : Board) (many number : ℕ) (ws : List WorkerState) → number + length ws ≡ many → AreNumbered b number (seats_of ws) → fresh_claims_of ws ≡ [] → EachFrom (λ (i : ℕ). λ (w : WorkerState). IsAtStart s b many i w) number ws
+start_from s b many number [] e h none = tt
+start_from s b many number (w ∷ ws) e (board, is_number, h) none = (
+  record {
+    few = omega (arith, e);
+    seat = board;
+    settled = λ r c m. absurd (subst (λ (l : List Place). Among (r, c) l) (none_left w.fresh_claims (fresh_claims_of ws) none) m);
+  },
+  start_from s b many (suc number) ws (omega (arith, e)) (let same : 1 + number ≡ suc number = omega arith in subst (λ n. AreNumbered b n (seats_of ws)) same h) (none_right w.fresh_claims (fresh_claims_of ws) none),
+)
+
+pub at_start : (s : State) (b : Board) (ws : List WorkerState) → AreAllWorkers b ws → fresh_claims_of ws ≡ [] → EachFrom (λ (i : ℕ). λ (w : WorkerState). IsAtStart s b (length ws) i w) 0 ws
+at_start s b [] h none = absurd h
+at_start s b (w ∷ ws) (board, zero_is, count, h) none = (
+  record {
+    few = omega arith;
+    seat = board;
+    settled = λ r c m. absurd (subst (λ (l : List Place). Among (r, c) l) (none_left w.fresh_claims (fresh_claims_of ws) none) m);
+  },
+  start_from s b (length (w ∷ ws)) 1 ws (omega arith) h (none_right w.fresh_claims (fresh_claims_of ws) none),
+)

@@ -2,12 +2,13 @@
 use Rattle.std.proofs.Common.{◌≡◌, ◌∙◌, ℕ, List, [], ◌∷◌, ◌++◌, Option, None, Some, refl, sym, ap, subst, ⊎_elim, inl, inr}
 use Rattle.bip_defs.specs.Forest.{InForest, State}
 use Rattle.bip_defs.specs.Lists.{Among}
+use Rattle.bip_defs.specs.Matching.{rows_of}
 use Rattle.bip_defs.specs.Matrix.{IsEntry, Place}
 use Rattle.bip_defs.proofs.Sets.{among_either, among_left}
 use Rattle.claim_words.specs.Listed.{Listed, claimed, followed_by, nothing, won}
 use Rattle.claim_words.specs.Seat.{KnowsRoot, KnowsRow}
 use Rattle.claim_words.specs.WorkerState.{HasGrown, WorkerState, with_more, work_after_claim, work_after_win}
-use Rattle.level_sharing.specs.Progress.{IsLeafFor, KnowsHolder, KnowsWon, Progress}
+use Rattle.level_sharing.specs.Progress.{HasSettled, IsLeafFor, KnowsHolder, KnowsWon, Progress}
 use Rattle.level_sharing.specs.Shares.{IsOwn, Share}
 
 one : {X : Type 0} (P : X → Type 0) (x : X) → P x → (y : X) → Among y (x ∷ []) → P y
@@ -42,6 +43,9 @@ progress_on s own v w u both p q = record {
   leaves = λ x r m. ⊎_elim (λ k. leaf_stays s own w u x r q (p.leaves x r k)) (λ k. q.leaves x r k) (among_either (x, r) p.more.wins q.more.wins m);
 }
 
+pub progress_wider : (s : State) (own wide : Share) (v w : WorkerState) → ((r c : ℕ) → IsOwn own (r, c) → IsOwn wide (r, c)) → Progress s own v w → Progress s wide v w
+progress_wider s own wide v w over p = record { more = p.more; grown = p.grown; own_claims = λ z m. over z.0 z.1 (p.own_claims z m); entries = p.entries; leaves = p.leaves }
+
 pub progress_claim : (s : State) (own : Share) (w : WorkerState) (r c : ℕ) (found : Option ℕ) → work_after_claim w r c found ≡ with_more w (claimed nothing r c found) → IsOwn own (r, c) → IsEntry s.matrix r c → InForest s c → Progress s own w (work_after_claim w r c found)
 progress_claim s own w r c None e mine entry inside = record {
   more = claimed nothing r c None;
@@ -69,3 +73,25 @@ holder_known s own v w r more p (c, k) = (c, more c (p.more, p.grown) k)
 
 pub won_known : (s : State) (own : Share) (v w : WorkerState) (c : ℕ) → ((x r : ℕ) → HasGrown v w → KnowsRoot v.seat x r → KnowsRoot w.seat x r) → Progress s own v w → KnowsWon s v c → KnowsWon s w c
 won_known s own v w c more p (x, root, (r, k)) = (x, root, (r, more x r (p.more, p.grown) k))
+
+-- What a worker has claimed is settled.
+
+settled_on : (s : State) (v w : WorkerState) → ((x r : ℕ) → KnowsRoot v.seat x r → KnowsRoot w.seat x r) → HasSettled s v → (r c : ℕ) → Among (r, c) v.fresh_claims → ¬ Among r (rows_of s.base) → KnowsWon s w c
+settled_on s v w more h r c m free = let (x, root, (q, k)) = h r c m free in (x, root, (q, more x q k))
+
+pub settled_same : (s : State) (v w : WorkerState) → ((x r : ℕ) → KnowsRoot v.seat x r → KnowsRoot w.seat x r) → w.fresh_claims ≡ v.fresh_claims → HasSettled s v → HasSettled s w
+settled_same s v w more e h r c m = settled_on s v w more h r c (subst (λ (l : List Place). Among (r, c) l) e m)
+
+-- one claim more
+pub settled_one : (s : State) (v w : WorkerState) (r c : ℕ) → ((x q : ℕ) → KnowsRoot v.seat x q → KnowsRoot w.seat x q) → w.fresh_claims ≡ v.fresh_claims ++ (r, c) ∷ [] → (¬ Among r (rows_of s.base) → KnowsWon s w c) → HasSettled s v → HasSettled s w
+settled_one s v w r c more e new h q d m free = ⊎_elim
+    (λ k. settled_on s v w more h q d k free)
+    (λ k. one (λ (p : ℕ × ℕ). (¬ Among p.0 (rows_of s.base)) → KnowsWon s w p.1) (r, c) new (q, d) k free)
+    (among_either (q, d) v.fresh_claims ((r, c) ∷ []) (subst (λ (l : List Place). Among (q, d) l) e m))
+
+-- a win changes nothing of what a worker knows of rows
+pub holder_over_win : (w : WorkerState) (x r q : ℕ) (found : Option ℕ) → KnowsHolder w q → KnowsHolder (work_after_win w x r found) q
+holder_over_win w x r q None k = k
+holder_over_win w x r q (Some d) (c, inl opened) = (c, inl opened)
+holder_over_win w x r q (Some d) (c, inr (inl listed)) = (c, inr (inl listed))
+holder_over_win w x r q (Some d) (c, inr (inr seen)) = (c, inr (inr (among_left _ w.seat.listed.seen _ seen)))

@@ -1,10 +1,11 @@
 -- What one worker does in a level, and what it knows. All of it speaks of the forest as it was before the level, and of this
 -- worker's lists alone.
-use Rattle.std.specs.Prelude.{◌≡◌, ◌⊎◌, ℕ, List}
+use Rattle.std.specs.Prelude.{◌≡◌, ◌⊎◌, ℕ, ◌<◌, Bool, true, false, List}
 use Rattle.bip_defs.specs.Forest.{InForest, RootOf, State}
 use Rattle.bip_defs.specs.Lists.{Among}
 use Rattle.bip_defs.specs.Matching.{rows_of}
 use Rattle.bip_defs.specs.Matrix.{IsEntry, Place}
+use Rattle.claim_words.specs.Board.{Board}
 use Rattle.claim_words.specs.Listed.{Listed}
 use Rattle.claim_words.specs.Seat.{KnowsRoot, KnowsRow}
 use Rattle.claim_words.specs.WorkerState.{WorkerState, with_more}
@@ -38,12 +39,35 @@ KnowsWon s w c = (x : ℕ) × RootOf s.base s.claims x c × KnowsLeaf w x
 abbrev pub HasSettled : State → WorkerState → Type 0
 HasSettled s w = (r c : ℕ) → Among (r, c) w.fresh_claims → ¬ Among r (rows_of s.base) → KnowsWon s w c
 
--- it is through with these columns: of each it knows that its root has a leaf, or that all its rows are held
+-- a worker of so many that is at the start of a level: it has a seat of this board and a number, and nothing left to settle
+pub record IsAtStart (s : State) (b : Board) (workers number : ℕ) (w : WorkerState) : Type 0 where
+  pub few : number < workers
+  pub seat : w.seat.board ≡ b
+  pub settled : HasSettled s w
+
+-- of a column it knows that its root has a leaf, or that all its rows are held
+abbrev pub IsThroughColumn : State → WorkerState → ℕ → Type 0
+IsThroughColumn s w c = KnowsWon s w c ⊎ ((r : ℕ) → IsEntry s.matrix r c → KnowsHolder w r)
+
+-- it is through with all these columns
 pub record IsThroughColumns (s : State) (share : List ℕ) (w : WorkerState) : Type 0 where
   pub settled : HasSettled s w
-  pub columns : (c : ℕ) → Among c share → KnowsWon s w c ⊎ ((r : ℕ) → IsEntry s.matrix r c → KnowsHolder w r)
+  pub columns : (c : ℕ) → Among c share → IsThroughColumn s w c
 
--- it is through with these rows: each is held, or the root of each column of the forest with an entry in it has a leaf
+-- of a row it knows that it is held, or that the root of each column of the forest with an entry in it has a leaf
+abbrev pub IsThroughRow : State → WorkerState → ℕ → Type 0
+IsThroughRow s w r = KnowsHolder w r ⊎ ((c : ℕ) → IsEntry s.matrix r c → InForest s c → KnowsWon s w c)
+
+-- it is through with all these rows
 pub record IsThroughRows (s : State) (share : List ℕ) (w : WorkerState) : Type 0 where
   pub settled : HasSettled s w
-  pub rows : (r : ℕ) → Among r share → KnowsHolder w r ⊎ ((c : ℕ) → IsEntry s.matrix r c → InForest s c → KnowsWon s w c)
+  pub rows : (r : ℕ) → Among r share → IsThroughRow s w r
+
+-- a worker may claim this row for this column, whose root this is; and whether the row has no base mate
+pub record CanClaim (s : State) (own : Share) (row col root : ℕ) (free : Bool) : Type 0 where
+  pub is_own : IsOwn own (row, col)
+  pub entry : IsEntry s.matrix row col
+  pub inside : InForest s col
+  pub rooted : RootOf s.base s.claims root col
+  pub mated : free ≡ false → Among row (rows_of s.base)
+  pub is_free : free ≡ true → ¬ Among row (rows_of s.base)

@@ -6,6 +6,7 @@
 //! bipartite graphs via tree-grafting, 2017.
 #![tactic(auto)]
 
+mod claims;
 mod laws;
 mod levels;
 mod shares;
@@ -14,11 +15,15 @@ mod steps;
 mod tests;
 mod work;
 
+pub use claims::claim_row;
 pub use laws::{fresh_lists_are_new, settled_workers_agree, shares_cover_a_list};
 pub use levels::{
     levels_are_legal, levels_are_shown, levels_go_through_columns, levels_go_through_rows,
     levels_keep_to_shares,
 };
 pub use shares::{share, share_start};
-pub use steps::{progress_keeps_seats, steps_are_progress, steps_are_remembered};
+pub use steps::{
+    progress_keeps_seats, steps_are_progress, steps_are_remembered, steps_settle,
+    workers_are_at_the_start, workers_stay_through,
+};
 pub use work::{Work, work_at_once};

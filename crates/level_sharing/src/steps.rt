@@ -1,13 +1,17 @@
 //! Laws on the steps of one worker.
 
-ghost use Rattle.std.specs.Prelude.{◌≡◌, ℕ, List, Option, Some};
-ghost use Rattle.bip_defs.specs.Forest.{InForest, State};
+ghost use Rattle.std.specs.Prelude.{◌≡◌, ℕ, List, Option, None, Some, length};
+ghost use Rattle.bip_defs.specs.Forest.{InForest, RootOf, State};
+ghost use Rattle.bip_defs.specs.Lists.{Among};
+ghost use Rattle.bip_defs.specs.Matching.{rows_of};
 ghost use Rattle.bip_defs.specs.Matrix.{IsEntry};
 ghost use Rattle.claim_words.specs.Board.{Board};
 ghost use Rattle.claim_words.specs.Listed.{Sight, root_word, row_word};
 ghost use Rattle.claim_words.specs.WorkerState.{AreAllWorkers, WorkerState, work_after_claim, work_after_look, work_after_win};
+ghost use Rattle.level_sharing.specs.Agreement.{Agree};
+ghost use Rattle.level_sharing.specs.Each.{EachFrom};
 ghost use Rattle.level_sharing.specs.Level.{HaveProgressed};
-ghost use Rattle.level_sharing.specs.Progress.{HasSettled, IsLeafFor, KnowsHolder, KnowsLeaf, KnowsWon, Progress};
+ghost use Rattle.level_sharing.specs.Progress.{HasSettled, IsAtStart, IsLeafFor, IsThroughColumn, IsThroughRow, KnowsHolder, KnowsLeaf, KnowsWon, Progress};
 ghost use Rattle.level_sharing.specs.Shares.{IsOwn, Share};
 
 use claim_words::{steps_add_to_lists, workers_grow, workers_know_more};
@@ -17,6 +21,9 @@ pub fn steps_are_progress()
     ensures here { (s : State) (own : Share) (w : WorkerState) → Progress s own w w }
     ensures on { (s : State) (own : Share) (v w u : WorkerState)
         → Progress s own v w → Progress s own w u → Progress s own v u }
+    ensures wider { (s : State) (own wide : Share) (v w : WorkerState)
+        → ((r c : ℕ) → IsOwn own (r, c) → IsOwn wide (r, c))
+        → Progress s own v w → Progress s wide v w }
     ensures look { (s : State) (own : Share) (w : WorkerState) (sight : Sight)
         → Progress s own w (work_after_look w sight) }
     ensures claim { (s : State) (own : Share) (w : WorkerState) (r c : ℕ) (found : Option ℕ)
@@ -43,11 +50,43 @@ pub fn steps_are_remembered()
         → KnowsHolder (work_after_look w (row_word r (Some c))) r }
     ensures look_root { (w : WorkerState) (x r : ℕ)
         → KnowsLeaf (work_after_look w (root_word x (Some r))) x }
-    ensures settled { (s : State) (own : Share) (v w : WorkerState) → Progress s own v w
-        → w.fresh_claims ≡ v.fresh_claims → HasSettled s v → HasSettled s w }
 {
     workers_know_more();
 }
+
+/// A worker that has settled what it has claimed has so after a look and after a claim that another column was before it with,
+/// and where it gets a row with a base mate; where it gets another, it has so once it wins the root for it.
+pub fn steps_settle()
+    ensures look { (s : State) (w : WorkerState) (sight : Sight) → HasSettled s w
+        → HasSettled s (work_after_look w sight) }
+    ensures held { (s : State) (w : WorkerState) (r c holder : ℕ) → HasSettled s w
+        → HasSettled s (work_after_claim w r c (Some holder)) }
+    ensures mated { (s : State) (w : WorkerState) (r c : ℕ) → HasSettled s w
+        → Among r (rows_of s.base) → HasSettled s (work_after_claim w r c None) }
+    ensures won { (s : State) (w : WorkerState) (x r c : ℕ) (found : Option ℕ) → HasSettled s w
+        → RootOf s.base s.claims x c
+        → HasSettled s (work_after_win (work_after_claim w r c None) x r found) }
+{
+    steps_add_to_lists();
+    workers_know_more();
+}
+
+/// What a worker is through with it stays through with.
+pub fn workers_stay_through()
+    ensures column { (s : State) (own : Share) (v w : WorkerState) (c : ℕ) → Progress s own v w
+        → IsThroughColumn s v c → IsThroughColumn s w c }
+    ensures row { (s : State) (own : Share) (v w : WorkerState) (r : ℕ) → Progress s own v w
+        → IsThroughRow s v r → IsThroughRow s w r }
+{
+    steps_are_remembered();
+}
+
+/// Workers that agree with a forest, board and all, are at the start of a level.
+pub fn workers_are_at_the_start()
+    ensures { (s : State) (b : Board) (ws : List WorkerState) (claims leaves : List (ℕ × ℕ))
+        → Agree b ws claims leaves
+        → EachFrom (λ (i : ℕ). λ (w : WorkerState). IsAtStart s b (length ws) i w) 0 ws }
+{}
 
 /// Workers that have made progress have all seats of the board still, in the order of their numbers.
 pub fn progress_keeps_seats()

@@ -1,6 +1,4 @@
-use Rattle.std.proofs.Common.{ℕ, Option, None, Some, List, refl, subst}
-use Rattle.bip_defs.specs.Lists.{Among}
-use Rattle.bip_defs.specs.Matrix.{Place}
+use Rattle.std.proofs.Common.{ℕ, Option, None, Some, refl}
 use Rattle.claim_words.specs.WorkerState.{WorkerState, work_after_claim, work_after_win}
 use Rattle.level_sharing.specs.Progress.{KnowsHolder, KnowsLeaf}
 use Rattle.level_sharing.proofs.ProgressLemmas.{holder_known, won_known}
@@ -22,5 +20,4 @@ returns c = let known = c.workers_know_more.ensures in record {
   win = after_win c;
   look_row = λ w r d. (d, known.look_row w.seat r d);
   look_root = λ w x r. (r, known.look_root w.seat x r);
-  settled = λ s own v w p e h r d m free. won_known s own v w d (λ x q. known.root v w x q) p (h r d (subst (λ (l : List Place). Among (r, d) l) e m) free);
 }

@@ -1,0 +1,47 @@
+//! A worker claims a row.
+
+ghost use Rattle.std.specs.Prelude.{◌≡◌, ℕ, ◌<◌, length, IsTrue, IfOk, OnOk};
+ghost use Rattle.bip_defs.specs.Forest.{State};
+ghost use Rattle.level_sharing.specs.Progress.{CanClaim, HasSettled, KnowsHolder, KnowsLeaf, Progress};
+ghost use Rattle.level_sharing.specs.Shares.{Share};
+
+use crate::steps::{steps_are_progress, steps_are_remembered, steps_settle};
+use claim_words::{ClaimBoard, Claimed, Worker};
+use sp_ids::{Col, OutOfMemory, Row};
+
+/// A worker claims a row for a column of the forest. Where it gets the row, and the row is free, without a base mate, it wins the
+/// column's root for it. Tells whether it knows then that the root has a leaf.
+///
+/// In either case it knows a holder of the row then. Answers `OutOfMemory` where one of its fresh lists can't grow; what is
+/// listed then stands. Work: two exchanges at most.
+pub fn claim_row(
+    board: &ClaimBoard,
+    worker: &mut Worker,
+    row: Row,
+    col: Col,
+    root: Col,
+    free: bool,
+) -> Result<bool, OutOfMemory>
+    requires seat { worker.old.seat.board ≡ board.now }
+    requires range { (row < length board.now.rows) × (root < length board.now.roots) }
+    ensures progress { (s : State) (own : Share) → CanClaim s own row col root free
+        → Progress s own worker.old worker.new }
+    ensures settled { OnOk result ((s : State) (own : Share) → CanClaim s own row col root free
+        → HasSettled s worker.old → HasSettled s worker.new) }
+    ensures holder { OnOk result (KnowsHolder worker.new row) }
+    ensures leaf { IfOk result (λ won. IsTrue won → KnowsLeaf worker.new root) }
+{
+    steps_are_progress();
+    steps_are_remembered();
+    steps_settle();
+    match worker.claim(board, row, col)? {
+        Claimed::Held(_) => Ok(false),
+        Claimed::Mine => {
+            if !free {
+                return Ok(false);
+            }
+            worker.win(board, root, row)?;
+            Ok(true)
+        }
+    }
+}

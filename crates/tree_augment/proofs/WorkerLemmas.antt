@@ -1,0 +1,69 @@
+-- All workers at once.
+use Rattle.std.proofs.Common.{◌≡◌, ℕ, suc, ◌+◌, ◌≤◌, List, [], ◌∷◌, length, refl, sym, subst, inl, inr, arith}
+use Rattle.std.specs.List.{AllZip}
+use Rattle.bip_defs.specs.Forest.{State}
+use Rattle.bip_defs.specs.Lists.{Among}
+use Rattle.flip_words.specs.Board.{Board, col_vertex}
+use Rattle.flip_words.specs.Seat.{AreAllSeats, AreNumbered, HasSetTo, IsRightful, IsSameSeat, Seat, Took}
+use Rattle.level_sharing.specs.Each.{EachFrom, EachPairFrom}
+use Rattle.tree_augment.specs.Augmented.{ExchangesItsPaths, HaveAugmented, IsOnTakenPath}
+use Rattle.tree_augment.specs.ForestBoards.{IsBoardOf}
+use Rattle.tree_augment.specs.Rounds.{CanGoRound, HasGoneRound}
+
+-- Seats that have taken nothing.
+
+module _ {t : Seat} (own : IsRightful t) (none : t.listed.taken ≡ []) where
+  took_none : (x : ℕ) → ¬ Took t x
+  took_none x h = subst (Among (x, t.number)) none h
+
+  set_none : (v mate : ℕ) → ¬ HasSetTo t v mate
+  set_none v mate h = let (x, tree, took) = own.sets v mate h in took_none x took
+
+  pub no_paths : (s : State) (b : Board) → ExchangesItsPaths s b t
+  no_paths s b = record {
+    taken = λ x h. absurd (took_none x h);
+    rows = λ r c lt. (λ h. absurd (set_none r c h), λ (h : IsOnTakenPath s t (r, c)). absurd (took_none h.0 h.1));
+    cols = λ r c. (λ h. absurd (set_none (col_vertex b c) r h), λ (h : IsOnTakenPath s t (r, c)). absurd (took_none h.0 h.1));
+  }
+
+numbered_boards : {b : Board} (n : ℕ) (ts : List Seat) → AreNumbered b n ts → (t : Seat) → Among t ts → t.board ≡ b
+numbered_boards n [] all t h = absurd h
+numbered_boards {b = b} n (u ∷ ts) all t (inl e) = subst (λ (z : Seat). z.board ≡ b) (sym e) all.0
+numbered_boards n (u ∷ ts) all t (inr h) = numbered_boards (1 + n) ts all.2 t h
+
+all_boards : {b : Board} (ts : List Seat) → AreAllSeats b ts → (t : Seat) → Among t ts → t.board ≡ b
+all_boards [] n t h = absurd n
+all_boards {b = b} (u ∷ ts) all t (inl e) = subst (λ (z : Seat). z.board ≡ b) (sym e) all.0
+all_boards (u ∷ ts) all t (inr h) = numbered_boards 1 ts all.3 t h
+
+ready_from : {s : State} {b : Board} (workers n : ℕ) (ts : List Seat) → IsBoardOf s b → n + length ts ≤ workers → ((t : Seat) → Among t ts → (t.board ≡ b) × (t.listed.taken ≡ [])) → EachFrom (λ k t. CanGoRound s b workers k t) n ts
+ready_from workers n [] of few each = tt
+ready_from workers n (t ∷ ts) of few each = (
+  record { board = of; few = omega (arith, few); seat = (each t (inl refl)).0; none_taken = (each t (inl refl)).1 },
+  ready_from workers (suc n) ts of (omega (arith, few)) (λ u h. each u (inr h)),
+)
+
+pub ready : {s : State} {b : Board} (ts : List Seat) → IsBoardOf s b → AreAllSeats b ts → ((t : Seat) → Among t ts → t.listed.taken ≡ []) → EachFrom (λ k t. CanGoRound s b (length ts) k t) 0 ts
+ready ts of all none = ready_from (length ts) 0 ts of (omega arith) (λ t h. (all_boards ts all t h, none t h))
+
+-- Seats after their rounds.
+
+same_seats : (s : State) (b : Board) (n : ℕ) (ts us : List Seat) → EachPairFrom (λ k t u. HasGoneRound s b t u) n ts us → AllZip IsSameSeat ts us
+same_seats s b n [] [] h = tt
+same_seats s b n [] (u ∷ us) h = h
+same_seats s b n (t ∷ ts) [] h = h
+same_seats s b n (t ∷ ts) (u ∷ us) h = (h.0.same, same_seats s b (suc n) ts us h.1)
+
+gone : {s : State} {b : Board} (n : ℕ) (ts us : List Seat) → EachPairFrom (λ k t u. HasGoneRound s b t u) n ts us → (u : Seat) → Among u us → (t : Seat) × HasGoneRound s b t u
+gone n [] [] h u i = absurd i
+gone n [] (v ∷ us) h u i = absurd h
+gone n (t ∷ ts) [] h u i = absurd h
+gone {s = s} {b = b} n (t ∷ ts) (v ∷ us) h u (inl e) = (t, subst (HasGoneRound s b t) (sym e) h.0)
+gone n (t ∷ ts) (v ∷ us) h u (inr i) = gone (suc n) ts us h.1 u i
+
+pub augmented : {s : State} {b : Board} (ts us : List Seat) → EachPairFrom (λ k t u. HasGoneRound s b t u) 0 ts us → (AllZip IsSameSeat ts us → AreAllSeats b us) → HaveAugmented s b us
+augmented {s = s} {b = b} ts us h all = record {
+  all = all (same_seats s b 0 ts us h);
+  met = λ u x i leaf. (gone 0 ts us h u i).1.met x leaf;
+  paths = λ u i. (gone 0 ts us h u i).1.paths;
+}

@@ -1,0 +1,36 @@
+use Rattle.std.proofs.Common.{ap, length, ◌∙◌, ◌++◌, List, Option, subst, sym, ℕ}
+use Rattle.bip_graph.specs.Matching.{Pairing}
+use Rattle.flip_words.specs.Board.{AreTrees, IsOpenedFrom}
+use Rattle.flip_words.specs.Seat.{AreAllSeats, Seat}
+use Rattle.tree_augment.specs.Augmented.{HaveTakenNone}
+use Rattle.tree_augment.proofs.OpeningLemmas.{col_trees_fit, new_count, new_taken_none, opened_board, row_trees_fit}
+use Rattle.tree_augment.proofs.opening.open.Goals as goal
+
+pub new-requires-clause-row_tree : goal.new-requires-clause-row_tree
+new-requires-clause-row_tree c =
+    let s = c.args.forest.now in
+    let k = c.is_sound.ensures in
+    subst (λ (p : Pairing × List (Option ℕ)). AreTrees p.0.rows p.0.cols p.1) (λ i. (sym c.base.ensures i, sym c.as_slice.ensures.value i))
+    (row_trees_fit s c.in_ok-row_trees.row_trees.items (λ x r w. (c.rows_have_one_root.ensures.in_range s x r k w).0) c.in_ok-row_trees.ensures.long c.in_ok-row_trees.ensures.roots)
+
+pub new-requires-clause-col_tree : goal.new-requires-clause-col_tree
+new-requires-clause-col_tree c =
+    let s = c.args.forest.now in
+    let k = c.is_sound.ensures in
+    subst (λ (p : Pairing × List (Option ℕ)). AreTrees p.0.cols p.0.cols p.1) (λ i. (sym c.base.ensures i, sym c.as_slice-2.ensures.value i))
+    (col_trees_fit s c.in_ok-col_trees.col_trees.items (λ x d w lt. c.columns_have_one_root.ensures.in_range s x d k w lt) c.in_ok-col_trees.ensures.long c.in_ok-col_trees.ensures.roots)
+
+pub returns-clause-board : goal.returns-clause-board
+returns-clause-board c =
+    opened_board c.in_ok-row_trees.row_trees.items c.in_ok-col_trees.col_trees.items
+    (subst (λ (p : Pairing × List (Option ℕ)). IsOpenedFrom p.0 p.1 c.in_ok-new.field-0.0) (λ i. (c.base.ensures i, c.as_slice.ensures.value i ++ c.as_slice-2.ensures.value i)) c.in_ok-new.ensures.board)
+    c.in_ok-row_trees.ensures.long c.in_ok-row_trees.ensures.roots c.in_ok-col_trees.ensures.roots
+
+pub returns-clause-all : goal.returns-clause-all
+returns-clause-all c = subst (AreAllSeats c.in_ok-new.field-0.0) (sym c.in_ok-new.ensures.seats) (c.new_seats_are_all.ensures c.in_ok-new.field-0.0 c.args.seats c.requires.seats.0)
+
+pub returns-clause-count : goal.returns-clause-count
+returns-clause-count c = ap (λ (ts : List Seat). length ts) c.in_ok-new.ensures.seats ∙ new_count c.in_ok-new.field-0.0 c.args.seats
+
+pub returns-clause-none_taken : goal.returns-clause-none_taken
+returns-clause-none_taken c = subst HaveTakenNone (sym c.in_ok-new.ensures.seats) (new_taken_none c.in_ok-new.field-0.0 c.args.seats)

@@ -1,0 +1,4 @@
+pub mod Augmented
+pub mod ForestBoards
+pub mod Rounds
+pub mod Walks

@@ -1,0 +1,39 @@
+//! The walk over the path of one root.
+
+ghost use Rattle.std.specs.Prelude.{◌≡◌, ℕ, ◌<◌, Some};
+ghost use Rattle.bip_defs.specs.Lists.{Among};
+ghost use Rattle.flip_words.specs.Board.{held};
+ghost use Rattle.flip_words.specs.Seat.{HasSet, Took};
+ghost use Rattle.tree_augment.specs.Augmented.{HasExchanged};
+ghost use Rattle.tree_augment.specs.ForestBoards.{IsBoardOf};
+
+use flip_words::{FlipBoard, FlipSeat};
+use forest_core::{Forest, claims_are_in_the_forest, leaves_end_paths};
+use sp_ids::{Col, Row};
+
+/// Exchanges the path of a root on the board, from its leaf up, for a seat that took the root's tree and has set none of its
+/// vertices. Work: two looks and two sets for each row of the path.
+pub fn exchange(forest: &Forest, board: &FlipBoard, seat: &mut FlipSeat, root: Col, leaf: Row)
+    requires board { IsBoardOf forest.now board.now }
+    requires seat { seat.old.board ≡ board.now }
+    requires leaf { Among (root, leaf) forest.now.leaves }
+    requires took { Took seat.old root }
+    requires unset { (v : ℕ) → held board.now.trees v ≡ Some root → ¬ HasSet seat.old v }
+    ensures { HasExchanged forest.now board.now root seat.old seat.new }
+{
+    forest.is_sound();
+    claims_are_in_the_forest();
+    leaves_end_paths();
+    let mut row = leaf;
+    loop {
+        let Some(col) = forest.holder(row) else {
+            unreachable!()
+        };
+        board.set_row(seat, root, row, col);
+        board.set_col(seat, root, col, row);
+        match forest.base_row(col) {
+            Some(next) => row = next,
+            None => return,
+        }
+    }
+}

@@ -1,0 +1,79 @@
+//! All workers at once.
+
+ghost use Rattle.std.specs.Prelude.{◌≡◌, ℕ, ◌*◌, ◌/◌, ◌<◌, ◌≤◌, [], length};
+ghost use Rattle.flip_words.specs.Seat.{AreAllSeats};
+ghost use Rattle.sp_ids.specs.Limits.{max_workers};
+ghost use Rattle.tree_augment.specs.Augmented.{HaveAugmented, HaveTakenNone};
+ghost use Rattle.tree_augment.specs.ForestBoards.{IsBoardOf};
+
+use crate::rounds::go_round;
+use flip_words::{FlipBoard, FlipSeat, seats_stay_all};
+use forest_core::Forest;
+use level_sharing::{Work, work_at_once};
+use sp_ports::Gate;
+use std::convert::Infallible;
+use std::thread::Threads;
+
+// What each of so many workers does: its round over the roots with a leaf, from the start of its share of them on.
+#[derive(Drop)]
+struct Rounds<'a, 'p> {
+    forest: &'a Forest<'p>,
+    board: &'a FlipBoard,
+    workers: usize,
+}
+
+impl<'a, 'p> Work<FlipSeat, Infallible> for Rounds<'a, 'p> {
+    ghost use Rattle.tree_augment.specs.Rounds.{CanGoRound, HasGoneRound};
+
+    ghost can_begin = { λ w number t. CanGoRound w.forest.now w.board.now w.workers number t };
+
+    ghost leaves = { λ w number t u. HasGoneRound w.forest.now w.board.now t u };
+
+    ghost completes = { λ w number t u. HasGoneRound w.forest.now w.board.now t u };
+
+    fn run(&self, number: u32, seat: &mut FlipSeat) -> Result<(), Infallible> {
+        seat.is_rightful();
+        let from = share_start(self.forest.leaves().len(), self.workers, number as usize);
+        go_round(self.forest, self.board, seat, from);
+        Ok(())
+    }
+}
+
+// Where the share of a worker begins.
+fn share_start(len: usize, workers: usize, number: usize) -> usize
+    requires { (0 < workers) × (number ≤ workers) }
+    ensures start { result ≡ number * len / workers }
+    ensures within { result ≤ len }
+{
+    (number as u128 * len as u128 / workers as u128) as usize
+}
+
+/// Exchanges the path of each root with a leaf on a board that was opened from the forest, on which nothing is taken yet, by
+/// as many workers as there are seats.
+///
+/// Of w workers, the worker i goes once round the roots with a leaf in their order, from the place `i * l / w` of a list of l
+/// of them on, and exchanges the path of each whose tree no seat took before. It calls `gate.arrive(i)` once, before its
+/// round. Workers run at once as far as threads can be had. Takes no memory and waits for nothing but the gate. Work: each
+/// worker looks once at each root with a leaf; two looks and two sets for each row of a path.
+pub fn augment<R: Threads + Sync, G: Gate>(
+    rt: &R,
+    forest: &Forest,
+    board: &FlipBoard,
+    seats: &mut [FlipSeat],
+    gate: &G,
+)
+    requires board { IsBoardOf forest.now board.now }
+    requires none_flipped { forest.now.flipped ≡ [] }
+    requires few { length seats.old ≤ max_workers }
+    requires all { AreAllSeats board.now seats.old }
+    requires none_taken { HaveTakenNone seats.old }
+    ensures { HaveAugmented forest.entry.now board.entry.now seats.new }
+{
+    seats_stay_all();
+    let rounds = Rounds {
+        forest,
+        board,
+        workers: seats.len(),
+    };
+    let _done = work_at_once(rt, gate, &rounds, seats);
+}
