@@ -1,4 +1,5 @@
--- Matchings that were adopted: the paths of what mates are exchanged, and what later events leave of it.
+-- Matchings that were adopted: the paths of what mates are exchanged, and what later events leave
+-- of it.
 use Rattle.std.proofs.Common.{◌≡◌, ◌↔◌, ◌∙◌, ℕ, ◌<◌, List, [], ◌∷◌, ◌++◌, length, length-append, take, Option, None, Some, sym, subst, inl, inr, arith}
 use Rattle.std.proofs.lemmas.List.{take-append-le, take_all}
 use Rattle.bip_defs.specs.Lists.{Among, AreDistinct, IsRising}

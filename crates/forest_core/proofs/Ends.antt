@@ -1,4 +1,5 @@
--- A settled forest in which nothing is left to be claimed: its columns are those that walks reach from unmatched ones.
+-- A settled forest in which nothing is left to be claimed: its columns are those that walks reach
+-- from unmatched ones.
 use Rattle.std.proofs.Common.{◌≡◌, ℕ, ◌<◌, ◌≤◌, List, [], ◌∷◌, ◌++◌, length, refl, subst, inl, inr, ⊎_elim, arith}
 use Rattle.std.proofs.Math.Decide.{dec_lt}
 use Rattle.bip_defs.specs.Lists.{Among, Lists}

@@ -32,7 +32,8 @@ apart (x ∷ xs) ys p c a (inl (inl e)) = a.0 (subst (λ z. Among z (rows_of (xs
 apart (x ∷ xs) ys p c a (inl (inr h)) = apart xs ys p c a.1 (inl h)
 apart (x ∷ xs) ys p c a (inr h) = apart xs ys p c a.1 (inr h)
 
--- the claims before the place were looked at, and those that stay stand in front, each with its root
+-- the claims before the place were looked at, and those that stay stand in front, each with its
+-- root
 pub record IsKeeping (roots leaf_of : List (Option ℕ)) (old now : List Place) (xs : List ℕ) (t : Claimed) (i stay : ℕ) : Type 0 where
   pub within : stay ≤ i
   pub front : take stay now ≡ kept roots leaf_of (take i old)

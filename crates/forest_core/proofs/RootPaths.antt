@@ -17,7 +17,7 @@ Starts p [] = ⊥
 Starts p (q ∷ path) = q ≡ p
 
 -- the part of a root's path from the row r, which the column c claimed, to the leaf
-pub record IsClimb (s : State) (x r c : ℕ) (path : List Place) : Type 0 where
+pub record IsPathEnd (s : State) (x r c : ℕ) (path : List Place) : Type 0 where
   pub starts : Starts (r, c) path
   pub claim : Among (r, c) s.claims
   pub root : RootOf s.base s.claims x c
@@ -33,8 +33,8 @@ pub record IsClimb (s : State) (x r c : ℕ) (path : List Place) : Type 0 where
 one_leaf : (s : State) → IsSound s → (x q r : ℕ) → Among (x, q) s.leaves → Among (x, r) s.leaves → q ≡ r
 one_leaf s k x q r h g = one_col s.leaves k.roots_differ x q r h g
 
-pub climb_start : (s : State) → IsSound s → (x r c : ℕ) → Among (x, r) s.leaves → Among (r, c) s.claims → IsClimb s x r c ((r, c) ∷ [])
-climb_start s k x r c h g = record {
+pub end_at_leaf : (s : State) → IsSound s → (x r c : ℕ) → Among (x, r) s.leaves → Among (r, c) s.claims → IsPathEnd s x r c ((r, c) ∷ [])
+end_at_leaf s k x r c h g = record {
   starts = refl;
   claim = g;
   root = root_of_claimer s k x r c (k.leaves x r h).in_tree g;
@@ -56,8 +56,8 @@ starts_among p [] s = absurd s
 starts_among p (q ∷ path) s = inl (sym s)
 
 -- one row further up
-pub climb_more : (s : State) → IsSound s → (x r c q d : ℕ) (path : List Place) → IsClimb s x r c path → Among (q, c) s.base → Among (q, d) s.claims → IsClimb s x q d ((q, d) ∷ path)
-climb_more s k x r c q d path b m g = record {
+pub end_more : (s : State) → IsSound s → (x r c q d : ℕ) (path : List Place) → IsPathEnd s x r c path → Among (q, c) s.base → Among (q, d) s.claims → IsPathEnd s x q d ((q, d) ∷ path)
+end_more s k x r c q d path b m g = record {
   starts = refl;
   claim = g;
   root = root_of_claimer s k x q d (root_above s k q b.root m) g;
@@ -80,9 +80,9 @@ climb_more s k x r c q d path b m g = record {
     up_there e u n (inl f) = inl (one_row s.base k.base.cols_differ u q c (subst (λ z. Among {X = Place} (u, z) s.base) f n) m)
     up_there e u n (inr h) = inr h
 
--- a column without a base mate ends the climb
-pub climb_end : (s : State) → IsSound s → (x r c : ℕ) (path : List Place) → IsClimb s x r c path → ¬ Among c (cols_of s.base) → IsPath s x path
-climb_end s k x r c path b free = record {
+-- a column without a base mate is the root
+pub end_at_root : (s : State) → IsSound s → (x r c : ℕ) (path : List Place) → IsPathEnd s x r c path → ¬ Among c (cols_of s.base) → IsPath s x path
+end_at_root s k x r c path b free = record {
   begins = begins path b.starts;
   alternates = b.alternates;
   claimed = b.claimed;
@@ -102,10 +102,10 @@ climb_end s k x r c path b free = record {
         let same : e ≡ d = one_claim s k q e d (b.claimed (q, e) h) g in
         ⊎_elim (λ (f : d ≡ c). absurd (free (subst (λ z. Among z (cols_of s.base)) f (col_among t d s.base m)))) (λ n. n) (b.closed q d t (subst (λ z. Among {X = Place} (q, z) path) same h) m)
 
-climb : (s : State) → IsSound s → (x : ℕ) {c : ℕ} → RootOf s.base s.claims x c → (r : ℕ) (path : List Place) → IsClimb s x r c path → (whole : List Place) × IsPath s x whole
-climb s k x {c = c} (itself free) r path b = (path, climb_end s k x r c path b free)
-climb s k x {c = c} (above {d = d} q m g w) r path b = climb s k x w q ((q, d) ∷ path) (climb_more s k x r c q d path b m g)
+path_from : (s : State) → IsSound s → (x : ℕ) {c : ℕ} → RootOf s.base s.claims x c → (r : ℕ) (path : List Place) → IsPathEnd s x r c path → (whole : List Place) × IsPath s x whole
+path_from s k x {c = c} (itself free) r path b = (path, end_at_root s k x r c path b free)
+path_from s k x {c = c} (above {d = d} q m g w) r path b = path_from s k x w q ((q, d) ∷ path) (end_more s k x r c q d path b m g)
 
 -- each root with a leaf has a path
 pub has_path : (s : State) → IsSound s → (x : ℕ) → (r : ℕ) → Among (x, r) s.leaves → (path : List Place) × IsPath s x path
-has_path s k x r h = let (c, g, w) = (k.leaves x r h).in_tree in climb s k x w r ((r, c) ∷ []) (climb_start s k x r c h g)
+has_path s k x r h = let (c, g, w) = (k.leaves x r h).in_tree in path_from s k x w r ((r, c) ∷ []) (end_at_leaf s k x r c h g)

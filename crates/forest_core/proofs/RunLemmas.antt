@@ -4,13 +4,14 @@ use Rattle.bip_defs.specs.Lists.{Among}
 use Rattle.bip_defs.specs.Matching.{Covers, cols_of, rows_of}
 use Rattle.bip_defs.specs.Matrix.{IsEntry, Matrix, Place, cols}
 use Rattle.bip_defs.proofs.Sets.{among_left, col_among, col_pair, number_among, one_col, row_among, row_pair}
-use Rattle.sp_ids.specs.Events.{claims_then_wins, win_events}
+use Rattle.sp_ids.specs.Events.{claim_events, claims_then_wins, win_events}
+use Rattle.std.proofs.lemmas.List.{append_assoc, append-nil}
 use Rattle.sp_ids.specs.declared.events.Event.{Event}
 use Rattle.sp_ids.specs.declared.events.Event.TheVariants.{Claim, Win, Flip, Graft, Rebuild, Done}
 use Rattle.forest_core.specs.Current.{IsCurrent, OnPath, leaf, up}
 use Rattle.forest_core.specs.Events.{AreClaimsAndWins, Becomes, Grows, IsLegal, LeadsTo, Runs}
 use Rattle.forest_core.specs.Sound.{IsSound}
-use Rattle.bip_defs.specs.Forest.{InForest, RootOf, State, roots_of}
+use Rattle.bip_defs.specs.Forest.{InForest, RootOf, State, grown_by, roots_of}
 use Rattle.forest_core.proofs.Roots.{path_root, root_more}
 use Rattle.forest_core.proofs.Soundness.{event_sound, run_last, run_matrix}
 
@@ -45,7 +46,8 @@ covers_same m n e = record { rows = λ r h. subst (λ (ps : List Place). Among r
 covers_on : (m n o : List Place) → Covers m n → Covers n o → Covers m o
 covers_on m n o h g = record { rows = λ r i. g.rows r (h.rows r i); cols = λ c i. g.cols c (h.cols c i) }
 
--- a row on an exchanged path goes to the column that claimed it, and its base mate to the next row of the path
+-- a row on an exchanged path goes to the column that claimed it, and its base mate to the next row
+-- of the path
 pub current_covers : (s : State) (now : List Place) → IsSound s → IsCurrent s now → Covers s.base now
 current_covers s now k cur = record {
   rows = λ r h. ⊎_elim (λ g. g) (λ gone. absurd (row r h gone)) (number_among r (rows_of now));
@@ -149,3 +151,22 @@ wins_grow (p ∷ wins) = wins_grow wins
 pub claims_then_wins_grow : (claims wins : List (ℕ × ℕ)) → AreClaimsAndWins (claims_then_wins claims wins)
 claims_then_wins_grow [] wins = wins_grow wins
 claims_then_wins_grow (p ∷ claims) wins = claims_then_wins_grow claims wins
+
+-- The lists that claims and wins leave.
+
+nothing_added : (s t : State) → t ≡ s → t ≡ grown_by s [] []
+nothing_added s t e = e ∙ ap (λ (ps : List Place). record s { claims = ps }) (sym (append-nil s.claims)) ∙ ap (λ (ls : List (ℕ × ℕ)). record s { claims = s.claims ++ []; leaves = ls }) (sym (append-nil s.leaves))
+
+pub claims_stand : (s t : State) (ps : List Place) → Runs s (claim_events ps) t → t ≡ grown_by s ps []
+claims_stand s t [] h = nothing_added s t h
+claims_stand s t (p ∷ ps) (l, u, e, rest) =
+    claims_stand u t ps rest
+    ∙ ap (λ (v : State). grown_by v ps []) e
+    ∙ ap (λ (qs : List Place). record s { claims = qs; leaves = s.leaves ++ [] }) (append_assoc s.claims (p ∷ []) ps)
+
+pub wins_stand : (s t : State) (ps : List (ℕ × ℕ)) → Runs s (win_events ps) t → t ≡ grown_by s [] ps
+wins_stand s t [] h = nothing_added s t h
+wins_stand s t (p ∷ ps) (l, u, e, rest) =
+    wins_stand u t ps rest
+    ∙ ap (λ (v : State). grown_by v [] ps) e
+    ∙ ap (λ (ls : List (ℕ × ℕ)). record s { claims = s.claims ++ []; leaves = ls }) (append_assoc s.leaves (p ∷ []) ps)

@@ -18,7 +18,8 @@ IsClosed s = (c : ℕ) → InForest s c → IsUsedUp s c
 
 abbrev pub IsLegal : State → Event → Type 0
 IsLegal s (Claim r c) = (¬ Among r (rows_of s.claims)) × IsEntry s.matrix r c × InForest s c
-IsLegal s (Win x r) = (¬ Among x (cols_of s.base)) × (¬ Among x (roots_of s.leaves)) × (¬ Among r (rows_of s.base)) × IsRootOfRow s.base s.claims x r
+IsLegal s (Win x r) = (¬ Among x (cols_of s.base)) × (¬ Among x (roots_of s.leaves))
+    × (¬ Among r (rows_of s.base)) × IsRootOfRow s.base s.claims x r
 IsLegal s (Flip x) = Among x (roots_of s.leaves) × (¬ Among x s.flipped)
 IsLegal s Graft = AreFlipped s
 IsLegal s Rebuild = AreFlipped s
@@ -27,7 +28,8 @@ IsLegal s Done = (s.leaves ≡ []) × IsClosed s
 -- the claims whose root has no leaf, in their order
 pub data AreKept (s : State) : List Place → List Place → Type 0 where
   none : AreKept s [] []
-  keeps : {ps qs : List Place} (p : Place) → (¬ IsWon s p.0) → AreKept s ps qs → AreKept s (p ∷ ps) (p ∷ qs)
+  keeps : {ps qs : List Place} (p : Place) → (¬ IsWon s p.0) → AreKept s ps qs
+      → AreKept s (p ∷ ps) (p ∷ qs)
   drops : {ps qs : List Place} (p : Place) → IsWon s p.0 → AreKept s ps qs → AreKept s (p ∷ ps) qs
 
 -- the current matching becomes the base, with these claims, and no leaves and flipped roots
@@ -65,7 +67,8 @@ AreClaimsAndWins (Graft ∷ es) = ⊥
 AreClaimsAndWins (Rebuild ∷ es) = ⊥
 AreClaimsAndWins (Done ∷ es) = ⊥
 
--- legal events lead from s to t, both have the same base matching and flipped roots, and what there was in s there is in t
+-- legal events lead from s to t, both have the same base matching and flipped roots, and what there
+-- was in s there is in t
 pub record Grows (s t : State) : Type 0 where
   pub legal : LeadsTo s t
   pub matrix : t.matrix ≡ s.matrix

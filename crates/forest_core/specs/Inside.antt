@@ -15,10 +15,22 @@ pub record HasRoom (f : Inside) : Type 0 where
   pub flipped : cols f.pattern.now ≤ vec_capacity f.flipped
 
 abbrev pub state_of : Inside → State
-state_of f = record { matrix = f.pattern.now; base = f.base.pairs; claims = f.claims.items; leaves = f.leaves.items; flipped = f.flipped.items }
+state_of f = record {
+  matrix = f.pattern.now;
+  base = f.base.pairs;
+  claims = f.claims.items;
+  leaves = f.leaves.items;
+  flipped = f.flipped.items;
+}
 
 abbrev pub tables_of : Inside → Tables
-tables_of f = record { claimed = f.claimed; claim_roots = f.claim_roots.items; leaf_of = f.leaf_of; marks = f.marks.items }
+tables_of f = record {
+  claimed = f.claimed;
+  claim_roots = f.claim_roots.items;
+  leaf_of = f.leaf_of;
+  marks = f.marks.items;
+}
 
 abbrev pub IsForest : Inside → Type 0
-IsForest f = IsStored (state_of f) f.base (tables_of f) × HasRoom f × IsAdopted (state_of f) f.adopted
+IsForest f = IsStored (state_of f) f.base (tables_of f) × HasRoom f
+    × IsAdopted (state_of f) f.adopted

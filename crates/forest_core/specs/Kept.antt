@@ -1,6 +1,7 @@
 -- Which claims stay when a forest is renewed.
-use Rattle.std.specs.Prelude.{ℕ, Bool, false, List, Option, None, Some, filter, is_some, not}
+use Rattle.std.specs.Prelude.{ℕ, Bool, false, List, Option, None, Some, filter, is_some, not, take}
 use Rattle.bip_defs.specs.Matrix.{Place}
+use Rattle.forest_core.specs.Stored.{AreClaimRoots}
 use Rattle.forest_core.specs.Tables.{beside}
 
 -- whether a root has a leaf, where there is a root
@@ -11,6 +12,10 @@ root_has_leaf leaf_of (Some x) = is_some (beside leaf_of x)
 -- whether the root of the claimed row has no leaf
 abbrev pub stays : List (Option ℕ) → List (Option ℕ) → Place → Bool
 stays roots leaf_of p = not (root_has_leaf leaf_of (beside roots p.0))
+
+-- the first n of the roots are those of the first n claims
+abbrev pub AreFirstRoots : ℕ → List (Option ℕ) → List Place → List ℕ → Type 0
+AreFirstRoots n roots claims xs = AreClaimRoots roots (take n claims) (take n xs)
 
 abbrev pub kept : List (Option ℕ) → List (Option ℕ) → List Place → List Place
 kept roots leaf_of claims = filter (stays roots leaf_of) claims

@@ -4,7 +4,9 @@ pub mod Events
 pub mod Exchanged
 pub mod Inside
 pub mod Kept
+pub mod Made
 pub mod Paths
+pub mod RowClaims
 pub mod Sound
 pub mod Stored
 pub mod Tables

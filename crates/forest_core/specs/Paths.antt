@@ -27,7 +27,7 @@ pub record ArePathPairs (s : State) (x : ℕ) (pairs : List Place) : Type 0 wher
 
 -- the same forest with these roots flipped
 abbrev pub with_flipped : State → List ℕ → State
-with_flipped s xs = record { matrix = s.matrix; base = s.base; claims = s.claims; leaves = s.leaves; flipped = xs }
+with_flipped s xs = record s { flipped = xs }
 
 -- the base matching with the paths of these roots exchanged
 pub record IsExchanged (s : State) (xs : List ℕ) (m : Pairing) : Type 0 where
@@ -35,7 +35,8 @@ pub record IsExchanged (s : State) (xs : List ℕ) (m : Pairing) : Type 0 where
   pub matching : IsMatchingOf s.matrix m
 
 -- the leaf is that of a root whose path is not exchanged yet
-pub record CanTrace (s : State) (xs : List ℕ) (x : ℕ) (m : Pairing) (holders : List (Option ℕ)) (leaf : ℕ) : Type 0 where
+pub record CanTrace (s : State) (xs : List ℕ) (x : ℕ) (m : Pairing)
+    (holders : List (Option ℕ)) (leaf : ℕ) : Type 0 where
   pub sound : IsSound s
   pub long : length holders ≡ s.matrix.rows
   pub held : IsTableOf s.claims holders

@@ -5,11 +5,13 @@ use Rattle.bip_defs.specs.Matching.{IsMatching, cols_of, rows_of}
 use Rattle.bip_defs.specs.Matrix.{IsEntry, Matrix, Place}
 use Rattle.bip_defs.specs.Forest.{IsRootOfRow, State, roots_of}
 
--- each claim, after those of the rows before it, is of a row that was not claimed, at an entry whose column is unmatched in
--- the base or has its base row claimed before
+-- each claim, after those of the rows before it, is of a row that was not claimed, at an entry
+-- whose column is unmatched in the base or has its base row claimed before
 abbrev pub AreClaims : Matrix → List Place → List ℕ → List Place → Type 0
 AreClaims a base before [] = Unit {0}
-AreClaims a base before (p ∷ claims) = (¬ Among p.0 before) × IsEntry a p.0 p.1 × ((¬ Among p.1 (cols_of base)) ⊎ ((r : ℕ) × Among (r, p.1) base × Among r before)) × AreClaims a base (before ++ p.0 ∷ []) claims
+AreClaims a base before (p ∷ claims) = (¬ Among p.0 before) × IsEntry a p.0 p.1
+    × ((¬ Among p.1 (cols_of base)) ⊎ ((r : ℕ) × Among (r, p.1) base × Among r before))
+    × AreClaims a base (before ++ p.0 ∷ []) claims
 
 -- the leaf is a claimed row of the root's tree; neither the root nor the leaf has a base mate
 pub record IsLeaf (s : State) (x r : ℕ) : Type 0 where

@@ -20,19 +20,20 @@ const NONE: RowClaim = RowClaim {
     root: u32::MAX,
 };
 
-/// For each row the column that claimed it and the root of its tree, or neither. It keeps 8 bytes for each.
+/// For each row the column that claimed it and the root of its tree, or neither. It keeps 8 bytes
+/// for each.
 #[derive(Drop)]
 pub struct ClaimTable {
     rows: Vec<RowClaim>,
 }
 
 impl Model for ClaimTable {
-    ghost use Rattle.std.specs.Prelude.{map};
-    ghost use Rattle.forest_core.specs.Tables.{Claimed, holder_in, root_in};
+    ghost use Rattle.forest_core.specs.RowClaims.{claimed_by};
+    ghost use Rattle.forest_core.specs.Tables.{Claimed};
 
     ghost Value = { Claimed };
 
-    ghost view = { λ t. record { holders = map (λ w. holder_in w.holder) t.rows.items; roots = map (λ w. root_in w.holder w.root) t.rows.items } };
+    ghost view = { λ t. claimed_by t.rows.items };
 }
 
 impl ClaimTable {

@@ -5,10 +5,11 @@ ghost use Rattle.bip_defs.specs.Lists.{Among};
 ghost use Rattle.bip_defs.specs.Matching.{rows_of, cols_of};
 ghost use Rattle.bip_defs.specs.Matrix.{cols};
 ghost use Rattle.bip_graph.specs.Matching.{IsMatchingOf};
-ghost use Rattle.forest_core.specs.Current.{IsCurrent};
-ghost use Rattle.forest_core.specs.Events.{AreFlipped, AreKept, Grows, IsClosed, IsLegal, IsRenewed, Runs};
-ghost use Rattle.forest_core.specs.Exchanged.{AreExchanged, flip_events, unflipped};
+ghost use Rattle.forest_core.specs.Current.{IsCurrent, base_of};
+ghost use Rattle.forest_core.specs.Events.{AreFlipped, AreKept, Becomes, Grows, IsClosed, IsLegal, IsRenewed, Runs};
+ghost use Rattle.forest_core.specs.Exchanged.{AreExchanged, all_flipped, flip_events, unflipped};
 ghost use Rattle.forest_core.specs.Sound.{IsSound};
+ghost use Rattle.forest_core.specs.Stored.{IsRootOfClaim};
 ghost use Rattle.bip_defs.specs.Forest.{InForest, IsRootOfRow, IsUsedUp, RootOf, new_forest, roots_of};
 ghost use Rattle.sp_ids.specs.declared.events.Event.TheVariants.{Claim, Win, Flip, Graft, Rebuild, Done};
 
@@ -26,11 +27,13 @@ use std::marker::Model;
 
 /// Alternating trees that grow from the columns that are unmatched in a base matching.
 ///
-/// A column of the forest claims rows in which it has entries, and with a row comes its base mate. A root wins a claimed row
-/// that is unmatched, its leaf; its path from there is then exchanged, at the latest when the base matching is renewed.
+/// A column of the forest claims rows in which it has entries, and with a row comes its base mate.
+/// A root wins a claimed row that is unmatched, its leaf; its path from there is then exchanged, at
+/// the latest when the base matching is renewed.
 ///
-/// It takes all its memory when it is made: 28 bytes a row and 17 a column, beside the matching. Mates that it adopts, 4 bytes
-/// a row and 4 a column, it keeps beside the base matching until that is renewed.
+/// It takes all its memory when it is made: 28 bytes a row and 17 a column, beside the matching.
+/// Mates that it adopts, 4 bytes a row and 4 a column, it keeps beside the base matching until that
+/// is renewed.
 #[derive(Drop)]
 pub struct Forest<'p> {
     pattern: &'p Pattern,
@@ -65,8 +68,8 @@ impl<'p> Model for Forest<'p> {
 impl<'p> Forest<'p> {
     /// The forest over a matching of entries of the pattern: no row is claimed.
     ///
-    /// Answers `OutOfMemory` where the room for all later claims and leaves can't be had. Work: one write for each row and
-    /// column.
+    /// Answers `OutOfMemory` where the room for all later claims and leaves can't be had. Work: one
+    /// write for each row and column.
     pub fn new(
         alloc: Global,
         pattern: &'p Pattern,
@@ -101,7 +104,7 @@ impl<'p> Forest<'p> {
 
     /// The base matching. Flips don't change it; a graft or a rebuild renews it.
     pub fn base(&self) -> &Matching
-        ensures { result.now ≡ record { rows = self.now.matrix.rows; cols = cols self.now.matrix; pairs = self.now.base } }
+        ensures { result.now ≡ base_of self.now }
     {
         &self.base
     }
@@ -111,6 +114,14 @@ impl<'p> Forest<'p> {
         ensures { result.now ≡ self.now.claims }
     {
         self.claims.as_slice()
+    }
+
+    /// The root of each claim's tree, in the order of the claims.
+    pub fn claim_roots(&self) -> &[Col]
+        ensures long { length result.now ≡ length self.now.claims }
+        ensures roots { (i : ℕ) → i < length self.now.claims → IsRootOfClaim self.now result.now i }
+    {
+        self.claim_roots.as_slice()
     }
 
     /// The roots with a leaf, each with its leaf, in the order in which these were won.
@@ -199,8 +210,8 @@ impl<'p> Forest<'p> {
 
     /// Whether an event is legal. Any row and column may be asked for.
     ///
-    /// Work: for `Graft` and `Rebuild` one look at each leaf, for `Done` at most one at each entry; for a `Claim` the look-up
-    /// of an entry; constant for the others.
+    /// Work: for `Graft` and `Rebuild` one look at each leaf, for `Done` at most one at each entry;
+    /// for a `Claim` the look-up of an entry; constant for the others.
     pub fn may(&self, event: Event) -> bool
         ensures { IsTrue result ↔ IsLegal self.now event }
     {
@@ -256,8 +267,8 @@ impl<'p> Forest<'p> {
         }
     }
 
-    // Whether a row has a mate in the base matching.
-    fn is_matched(&self, row: Row) -> bool
+    /// Whether a row has a mate in the base matching.
+    pub fn is_matched(&self, row: Row) -> bool
         requires { row < self.now.matrix.rows }
         ensures { IsTrue result ↔ Among row (rows_of self.now.base) }
     {
@@ -311,7 +322,8 @@ impl<'p> Forest<'p> {
         true
     }
 
-    /// Whether nothing is left to be claimed: there are no leaves, and each entry of a column in the forest has a claimed row.
+    /// Whether nothing is left to be claimed: there are no leaves, and each entry of a column in
+    /// the forest has a claimed row.
     ///
     /// Work: at most one look at each entry.
     pub fn done(&self) -> bool
@@ -360,11 +372,12 @@ impl<'p> Forest<'p> {
         }
     }
 
-    /// A column of the forest claims a row in which it has an entry. Takes no memory. Work: constant.
+    /// A column of the forest claims a row in which it has an entry. Takes no memory. Work:
+    /// constant.
     pub fn claim(&mut self, row: Row, col: Col)
         requires { IsLegal self.old (Claim row col) }
         ensures grows { Grows self.old self.new }
-        ensures claims { self.new ≡ record self.old { claims = self.old.claims ++ (row, col) ∷ [] } }
+        ensures claims { Becomes self.old (Claim row col) self.new }
     {
         let root = self.root(col);
         self.pattern.is_pattern();
@@ -374,19 +387,21 @@ impl<'p> Forest<'p> {
         put(&mut self.claim_roots, root);
     }
 
-    /// A root takes a claimed row of its tree, which has no base mate, as its leaf. Takes no memory. Work: constant.
+    /// A root takes a claimed row of its tree, which has no base mate, as its leaf. Takes no
+    /// memory. Work: constant.
     pub fn win(&mut self, root: Col, leaf: Row)
         requires { IsLegal self.old (Win root leaf) }
         ensures grows { Grows self.old self.new }
-        ensures leaves { self.new ≡ record self.old { leaves = self.old.leaves ++ (root, leaf) ∷ [] } }
+        ensures leaves { Becomes self.old (Win root leaf) self.new }
     {
         self.pattern.is_pattern();
         self.leaf_of.put(root.number(), leaf.number());
         put(&mut self.leaves, (root, leaf));
     }
 
-    /// Exchanges the path of a root with a leaf: it belongs to the current matching from now on. The base matching stays.
-    /// Takes no memory. Work: constant; the matching itself is written when it is asked for.
+    /// Exchanges the path of a root with a leaf: it belongs to the current matching from now on.
+    /// The base matching stays. Takes no memory. Work: constant; the matching itself is written
+    /// when it is asked for.
     pub fn flip(&mut self, root: Col)
         requires { IsLegal self.old (Flip root) }
         ensures { self.new ≡ record self.old { flipped = self.old.flipped ++ root ∷ [] } }
@@ -395,15 +410,16 @@ impl<'p> Forest<'p> {
         put(&mut self.flipped, root);
     }
 
-    /// Flips each root with a leaf that is not flipped, in the order of the leaves, where the exchange itself is made already:
-    /// the mates are those of the base matching with the path of every leaf exchanged. They are kept, and no path of these
-    /// roots is exchanged again. The base matching stays.
+    /// Flips each root with a leaf that is not flipped, in the order of the leaves, where the
+    /// exchange itself is made already: the mates are those of the base matching with the path of
+    /// every leaf exchanged. They are kept, and no path of these roots is exchanged again. The base
+    /// matching stays.
     ///
     /// Takes no memory. Work: one look at each leaf and one read for each column.
     pub fn adopt(&mut self, mates: Mates)
         requires exchanged { AreExchanged self.old mates }
         ensures flips { Runs self.old (flip_events (unflipped self.old)) self.new }
-        ensures flipped { self.new ≡ record self.old { flipped = self.old.flipped ++ unflipped self.old } }
+        ensures flipped { self.new ≡ all_flipped self.old }
         ensures all { AreFlipped self.new }
         ensures size { length self.new.flipped ≡ length self.old.leaves }
     {
@@ -418,7 +434,7 @@ impl<'p> Forest<'p> {
 
     // Flips each root with a leaf that is not flipped.
     fn flip_all(&mut self)
-        ensures { self.new ≡ record self.old { flipped = self.old.flipped ++ unflipped self.old } }
+        ensures { self.new ≡ all_flipped self.old }
     {
         self.is_sound();
         for i in 0..self.leaves().len() {
@@ -429,10 +445,11 @@ impl<'p> Forest<'p> {
         }
     }
 
-    /// The current matching becomes the base, and the claims of trees without a leaf stay: the others, the leaves and the
-    /// flipped roots are gone.
+    /// The current matching becomes the base, and the claims of trees without a leaf stay: the
+    /// others, the leaves and the flipped roots are gone.
     ///
-    /// Takes no memory. Work: one look at each claim and each leaf, and three writes at most for each pair of a path.
+    /// Takes no memory. Work: one look at each claim and each leaf, and three writes at most for
+    /// each pair of the path of a root that was flipped after the last adoption.
     pub fn graft(&mut self)
         requires { IsLegal self.old Graft }
         ensures renewed { IsRenewed self.old self.new }
@@ -496,7 +513,8 @@ impl<'p> Forest<'p> {
 
     /// The current matching: the base matching with the paths of the flipped roots exchanged.
     ///
-    /// Takes no memory. Work: three writes at most for each pair of the path of a flipped root.
+    /// Takes no memory. Work: three writes at most for each pair of the path of a root that was
+    /// flipped after the last adoption.
     pub fn into_matching(self) -> Matching
         ensures current { IsCurrent self.entry result.pairs }
         ensures matching { IsMatchingOf self.entry.matrix result }

@@ -10,7 +10,7 @@ ghost use Rattle.forest_core.specs.Events.{AreClaimsAndWins, Becomes, Grows, IsL
 ghost use Rattle.forest_core.specs.Paths.{IsPath};
 ghost use Rattle.forest_core.specs.Sound.{IsSound};
 ghost use Rattle.bip_defs.specs.Forest.{InForest, IsRested, IsRootOfRow, IsSettled, RootOf, State, grown_by, new_forest};
-ghost use Rattle.sp_ids.specs.Events.{claims_then_wins};
+ghost use Rattle.sp_ids.specs.Events.{claim_events, claims_then_wins, win_events};
 ghost use Rattle.sp_ids.specs.declared.events.Event.{Event};
 ghost use Rattle.sp_ids.specs.declared.events.Event.TheVariants.{Claim, Done, Graft, Rebuild, Win};
 
@@ -20,45 +20,53 @@ pub fn events_keep_sound()
     ensures runs { (s t : State) (es : List Event) → IsSound s → Runs s es t → IsSound t }
 {}
 
-/// Runs one after the other are a run, over the same matrix, and a run splits wherever its events are cut.
+/// Runs one after the other are a run, over the same matrix, and a run splits wherever its events
+/// are cut.
 pub fn runs_join()
     ensures here { (s : State) → LeadsTo s s }
-    ensures event { (s t u : State) (e : Event) → LeadsTo s t → IsLegal t e → Becomes t e u → LeadsTo s u }
-    ensures runs { (s t u : State) (es ds : List Event) → Runs s es t → Runs t ds u → Runs s (es ++ ds) u }
+    ensures event { (s t u : State) (e : Event) → LeadsTo s t → IsLegal t e → Becomes t e u
+        → LeadsTo s u }
+    ensures runs { (s t u : State) (es ds : List Event) → Runs s es t → Runs t ds u
+        → Runs s (es ++ ds) u }
     ensures on { (s t u : State) → LeadsTo s t → LeadsTo t u → LeadsTo s u }
     ensures split { (s u : State) (es ds : List Event) → Runs s (es ++ ds) u
         → (t : State) × Runs s es t × Runs t ds u }
     ensures matrix { (s t : State) → LeadsTo s t → t.matrix ≡ s.matrix }
 {}
 
-/// No event changes the matrix, and claims and wins don't change the base matching nor what is flipped.
+/// No event changes the matrix, and claims and wins don't change the base matching nor what is
+/// flipped.
 pub fn events_keep_the_matrix()
     ensures event { (s t : State) (e : Event) → Becomes s e t → t.matrix ≡ s.matrix }
     ensures run { (s t : State) (es : List Event) → Runs s es t → t.matrix ≡ s.matrix }
-    ensures base { (s t : State) (es : List Event) → AreClaimsAndWins es → Runs s es t → t.base ≡ s.base }
+    ensures base { (s t : State) (es : List Event) → AreClaimsAndWins es → Runs s es t
+        → t.base ≡ s.base }
     ensures flipped { (s t : State) (es : List Event) → AreClaimsAndWins es → Runs s es t
         → t.flipped ≡ s.flipped }
     ensures pairs { (claims wins : List (ℕ × ℕ)) → AreClaimsAndWins (claims_then_wins claims wins) }
 {}
 
-/// Whatever is matched stays matched: legal events leave no row and no column of the base matching uncovered, nor does the
-/// exchange of the paths of flipped roots.
+/// Whatever is matched stays matched: legal events leave no row and no column of the base matching
+/// uncovered, nor does the exchange of the paths of flipped roots.
 pub fn events_keep_covered()
     ensures runs { (s t : State) → IsSound s → LeadsTo s t → Covers s.base t.base }
     ensures current { (s : State) (m : List Place) → IsSound s → IsCurrent s m → Covers s.base m }
 {}
 
-/// Trees only grow by claims and wins: what is in the forest stays in it with its root, what is won or used up stays so.
+/// Trees only grow by claims and wins: what is in the forest stays in it with its root, what is won
+/// or used up stays so.
 pub fn claims_and_wins_grow()
     ensures here { (s : State) → Grows s s }
     ensures on { (s t u : State) → Grows s t → Grows t u → Grows s u }
-    ensures claim { (s t : State) (r c : ℕ) → IsLegal s (Claim r c) → Becomes s (Claim r c) t → Grows s t }
-    ensures win { (s t : State) (x r : ℕ) → IsLegal s (Win x r) → Becomes s (Win x r) t → Grows s t }
+    ensures claim { (s t : State) (r c : ℕ) → IsLegal s (Claim r c) → Becomes s (Claim r c) t
+        → Grows s t }
+    ensures win { (s t : State) (x r : ℕ) → IsLegal s (Win x r) → Becomes s (Win x r) t
+        → Grows s t }
     ensures runs { (s t : State) (es : List Event) → AreClaimsAndWins es → Runs s es t → Grows s t }
 {}
 
-/// Claims are of distinct rows, at most as many as there are rows, each at a place of the matrix and by a column that is in
-/// the forest.
+/// Claims are of distinct rows, at most as many as there are rows, each at a place of the matrix
+/// and by a column that is in the forest.
 pub fn claims_are_in_the_forest()
     ensures rows_differ { (s : State) → IsSound s → AreDistinct (rows_of s.claims) }
     ensures few { (s : State) → IsSound s → length s.claims ≤ s.matrix.rows }
@@ -67,7 +75,8 @@ pub fn claims_are_in_the_forest()
     ensures inside { (s : State) (r c : ℕ) → IsSound s → Among (r, c) s.claims → InForest s c }
 {}
 
-/// A root with a leaf is in range, as its leaf is, and has a path. Each row of the path is of the root's tree.
+/// A root with a leaf is in range, as its leaf is, and has a path. Each row of the path is of the
+/// root's tree.
 pub fn leaves_end_paths()
     ensures in_range { (s : State) (x r : ℕ) → IsSound s → Among (x, r) s.leaves
         → (x < cols s.matrix) × (r < s.matrix.rows) }
@@ -77,20 +86,23 @@ pub fn leaves_end_paths()
         → IsRootOfRow s.base s.claims x r }
 {}
 
-/// A column in the forest has a root, and one only: a column of the matrix that is unmatched in the base. No other column
-/// has one.
+/// A column in the forest has a root, and one only: a column of the matrix that is unmatched in the
+/// base. No other column has one.
 pub fn columns_have_one_root()
-    ensures some { (s : State) (c : ℕ) → IsSound s → InForest s c → (x : ℕ) × RootOf s.base s.claims x c }
+    ensures some { (s : State) (c : ℕ) → IsSound s → InForest s c
+        → (x : ℕ) × RootOf s.base s.claims x c }
     ensures one { (s : State) (x y c : ℕ) → IsSound s → RootOf s.base s.claims x c
         → RootOf s.base s.claims y c → x ≡ y }
-    ensures in_range { (s : State) (x c : ℕ) → IsSound s → RootOf s.base s.claims x c → c < cols s.matrix
-        → x < cols s.matrix }
-    ensures unmatched { (s : State) (x c : ℕ) → RootOf s.base s.claims x c → ¬ Among x (cols_of s.base) }
-    ensures inside { (s : State) (x c : ℕ) → RootOf s.base s.claims x c → c < cols s.matrix → InForest s c }
+    ensures in_range { (s : State) (x c : ℕ) → IsSound s → RootOf s.base s.claims x c
+        → c < cols s.matrix → x < cols s.matrix }
+    ensures unmatched { (s : State) (x c : ℕ) → RootOf s.base s.claims x c
+        → ¬ Among x (cols_of s.base) }
+    ensures inside { (s : State) (x c : ℕ) → RootOf s.base s.claims x c → c < cols s.matrix
+        → InForest s c }
 {}
 
-/// A claimed row has a root, and one only, which is in range: that of the column that claimed it, and of its base mate. The
-/// base mate of a column in the forest is claimed.
+/// A claimed row has a root, and one only, which is in range: that of the column that claimed it,
+/// and of its base mate. The base mate of a column in the forest is claimed.
 pub fn rows_have_one_root()
     ensures some { (s : State) (r : ℕ) → IsSound s → Among r (rows_of s.claims)
         → (x : ℕ) × IsRootOfRow s.base s.claims x r }
@@ -100,28 +112,30 @@ pub fn rows_have_one_root()
         → (x < cols s.matrix) × (r < s.matrix.rows) }
     ensures claimer { (s : State) (x r c : ℕ) → IsSound s → IsRootOfRow s.base s.claims x r
         → Among (r, c) s.claims → RootOf s.base s.claims x c }
-    ensures mate { (s : State) (x r c : ℕ) → IsSound s → RootOf s.base s.claims x c → Among (r, c) s.base
-        → IsRootOfRow s.base s.claims x r }
+    ensures mate { (s : State) (x r c : ℕ) → IsSound s → RootOf s.base s.claims x c
+        → Among (r, c) s.base → IsRootOfRow s.base s.claims x r }
     ensures claimed { (s : State) (r c : ℕ) → IsSound s → Among (r, c) s.base → InForest s c
         → Among r (rows_of s.claims) }
 {}
 
-/// A sound forest has one current matching, up to the order of its pairs: it is a matching of entries, larger than the base
-/// by the number of flipped roots. In a run from a new forest it has grown with each flip, and with no other event.
+/// A sound forest has one current matching, up to the order of its pairs: it is a matching of
+/// entries, larger than the base by the number of flipped roots. In a run from a new forest it has
+/// grown with each flip, and with no other event.
 pub fn current_is_a_matching()
     ensures some { (s : State) → IsSound s → (m : List Place) × IsCurrent s m }
-    ensures matching { (s : State) (m : List Place) → IsSound s → IsCurrent s m → IsMatching s.matrix m }
+    ensures matching { (s : State) (m : List Place) → IsSound s → IsCurrent s m
+        → IsMatching s.matrix m }
     ensures size { (s : State) (m : List Place) → IsSound s → IsCurrent s m
         → length m ≡ length s.base + length s.flipped }
     ensures grown { (a : Matrix) (m n : List Place) (es : List Event) (s : State) → IsMatching a m
         → Runs (new_forest a m) es s → IsCurrent s n → length n ≡ length m + flips es }
 {}
 
-/// Where nothing is left to be claimed and the forest is settled, the current matching is maximum, and the columns in the
-/// forest are the horizontal columns, a Hall set.
+/// Where nothing is left to be claimed and the forest is settled, the current matching is maximum,
+/// and the columns in the forest are the horizontal columns, a Hall set.
 pub fn done_is_maximum()
-    ensures witness { (s : State) (m : List Place) (w : List ℕ) → IsSound s → IsSettled s → IsLegal s Done
-        → IsCurrent s m → Lists (InForest s) w → IsWitness s.matrix m w }
+    ensures witness { (s : State) (m : List Place) (w : List ℕ) → IsSound s → IsSettled s
+        → IsLegal s Done → IsCurrent s m → Lists (InForest s) w → IsWitness s.matrix m w }
     ensures base { (s : State) → IsSound s → IsSettled s → IsLegal s Done → s.flipped ≡ []
         → IsMaximum s.matrix s.base }
 {}
@@ -139,8 +153,16 @@ pub fn settled_without_wins()
         → IsSettled s ↔ ((x r : ℕ) → ¬ IsLegal s (Win x r)) }
 {}
 
-/// Claims of new rows by columns that are in the forest, and then wins of new roots, each with a claimed row of its tree as
-/// leaf, are legal events in whatever order they stand.
+/// Claims lead to the forest with these claims more, and wins to that with these leaves more.
+pub fn pairs_stand_in_their_lists()
+    ensures claims { (s t : State) (ps : List Place) → Runs s (claim_events ps) t
+        → t ≡ grown_by s ps [] }
+    ensures wins { (s t : State) (ps : List (ℕ × ℕ)) → Runs s (win_events ps) t
+        → t ≡ grown_by s [] ps }
+{}
+
+/// Claims of new rows by columns that are in the forest, and then wins of new roots, each with a
+/// claimed row of its tree as leaf, are legal events in whatever order they stand.
 pub fn new_pairs_run()
     ensures { (s : State) (claims : List Place) (wins : List (ℕ × ℕ)) → AreNew s.claims claims
         → ((r c : ℕ) → Among (r, c) claims → IsEntry s.matrix r c × InForest s c)

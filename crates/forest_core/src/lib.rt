@@ -1,8 +1,8 @@
-//! The forest of alternating trees in which many workers search for augmenting paths at once, as a machine of events: each
-//! event is one step of one worker.
+//! The forest of alternating trees in which many workers search for augmenting paths at once, as a
+//! machine of events: each event is one step of one worker.
 //!
-//! The trees are those of Azad, Buluç and Pothen, Computing maximum cardinality matchings in parallel on bipartite graphs via
-//! tree-grafting, 2017.
+//! The trees are those of Azad, Buluç and Pothen, Computing maximum cardinality matchings in
+//! parallel on bipartite graphs via tree-grafting, 2017.
 #![tactic(auto)]
 
 mod adopted;
@@ -20,7 +20,7 @@ pub use forest::Forest;
 pub use laws::{
     claims_and_wins_grow, claims_are_in_the_forest, columns_have_one_root, current_is_a_matching,
     done_is_maximum, events_keep_covered, events_keep_sound, events_keep_the_matrix,
-    forests_are_rested, leaves_end_paths, new_pairs_run, rows_have_one_root, runs_join,
-    settled_without_wins,
+    forests_are_rested, leaves_end_paths, new_pairs_run, pairs_stand_in_their_lists,
+    rows_have_one_root, runs_join, settled_without_wins,
 };
 pub use runs::every_run;

@@ -1,7 +1,8 @@
 //! What a forest holds as lists by row and by column, with which boards of words are opened.
 //!
-//! The forest's tables have 4 or 8 bytes a row or column, and an `Option` of a row or column has 8: to lend such a list the
-//! forest would have to keep it beside its table. So each call fills a new list, in one pass.
+//! The forest's tables have 4 or 8 bytes a row or column, and an `Option` of a row or column has 8:
+//! to lend such a list the forest would have to keep it beside its table. So each call fills a new
+//! list, in one pass.
 
 ghost use Rattle.std.specs.Prelude.{◌≡◌, length, IfOk};
 ghost use Rattle.bip_defs.specs.Matrix.{cols};
@@ -63,7 +64,8 @@ impl<'p> Forest<'p> {
 
     /// By column the root of its tree, where the column is in the forest.
     ///
-    /// Answers `OutOfMemory` where 8 bytes a column can't be had. Work: one look at each column and at its mate.
+    /// Answers `OutOfMemory` where 8 bytes a column can't be had. Work: one look at each column and
+    /// at its mate.
     pub fn col_trees(&self, alloc: Global) -> Result<Vec<Option<Col>>, OutOfMemory>
         ensures long { IfOk result (λ list. length list.items ≡ cols self.now.matrix) }
         ensures roots { IfOk result (λ list. AreColTrees self.now list.items) }

@@ -46,17 +46,19 @@ impl Parents for Trees<'_> {
 // Follows a root's path up from its leaf, and leaves it in order from the root.
 fn trace(matching: &Matching, claimed: &ClaimTable, leaf: Row, path: &mut Vec<(Row, Col)>)
     requires room { length claimed.now.holders ≤ vec_capacity path.old }
-    requires forest { (s : State) × (xs : List ℕ) × (x : ℕ) × CanTrace s xs x matching.now claimed.now.holders leaf }
+    requires forest { (s : State) × (xs : List ℕ) × (x : ℕ)
+        × CanTrace s xs x matching.now claimed.now.holders leaf }
     ensures augments { IsAugmenting matching.now.pairs path.new.items }
-    ensures pairs { (s : State) (xs : List ℕ) (x : ℕ) → CanTrace s xs x matching.now claimed.now.holders leaf → ArePathPairs s x path.new.items }
+    ensures pairs { (s : State) (xs : List ℕ) (x : ℕ)
+        → CanTrace s xs x matching.now claimed.now.holders leaf → ArePathPairs s x path.new.items }
     ensures room { length claimed.now.holders ≤ vec_capacity path.new }
 {
     let trees = Trees { matching, claimed };
     trace_back(&trees, leaf, claimed.holder_at(leaf), path);
 }
 
-/// Exchanges the paths of these roots, but of those whose paths are exchanged in an adopted matching, which then stands in
-/// the base's place.
+/// Exchanges the paths of these roots, but of those whose paths are exchanged in an adopted
+/// matching, which then stands in the base's place.
 pub fn exchange(
     base: &mut Matching,
     adopted: &mut Option<Adopted>,
@@ -66,8 +68,11 @@ pub fn exchange(
     path: &mut Vec<(Row, Col)>,
 )
     requires room { length claimed.now.holders ≤ vec_capacity path.old }
-    requires forest { (s : State) × CanExchange s base.old adopted.old claimed.now.holders leaf_of.now roots.now }
-    ensures exchanged { (s : State) → CanExchange s base.old adopted.old claimed.now.holders leaf_of.now roots.now → IsExchanged s roots.now base.new }
+    requires forest { (s : State)
+        × CanExchange s base.old adopted.old claimed.now.holders leaf_of.now roots.now }
+    ensures exchanged { (s : State)
+        → CanExchange s base.old adopted.old claimed.now.holders leaf_of.now roots.now
+        → IsExchanged s roots.now base.new }
     ensures adopted { adopted.new ≡ None }
     ensures room { length claimed.now.holders ≤ vec_capacity path.new }
 {

@@ -1,9 +1,9 @@
 //! What stays of a forest when its base matching is renewed.
 
 ghost use Rattle.std.specs.Prelude.{◌≡◌, ◌↔◌, ℕ, ◌<◌, List, Bool, Some, true, false, [], length, take, slice_index_or, IsTrue};
-ghost use Rattle.bip_defs.specs.Lists.{Among, AreDistinct};
+ghost use Rattle.bip_defs.specs.Lists.{Among, AreDistinct, IsMarked};
 ghost use Rattle.bip_defs.specs.Matching.{rows_of};
-ghost use Rattle.forest_core.specs.Kept.{kept};
+ghost use Rattle.forest_core.specs.Kept.{AreFirstRoots, kept};
 ghost use Rattle.bip_defs.specs.Forest.{roots_of};
 ghost use Rattle.forest_core.specs.Stored.{AreClaimRoots, AreMarks};
 ghost use Rattle.forest_core.specs.Tables.{IsTableOf, beside};
@@ -12,8 +12,8 @@ use crate::claim_table::ClaimTable;
 use crate::table::Table;
 use sp_ids::{Col, Id, Row};
 
-/// Moves the claims whose root has no leaf to the front, in their order, each with its root, and takes the others' rows
-/// back. How many stay.
+/// Moves the claims whose root has no leaf to the front, in their order, each with its root, and
+/// takes the others' rows back. How many stay.
 pub fn keep(
     claims: &mut [(Row, Col)],
     roots: &mut [Col],
@@ -26,9 +26,10 @@ pub fn keep(
     requires differ { AreDistinct (rows_of claims.old) }
     requires holders { IsTableOf claims.old claimed.old.holders }
     ensures claims { take result claims.new ≡ kept claimed.old.roots leaf_of.now claims.old }
-    ensures roots { AreClaimRoots claimed.old.roots (take result claims.new) (take result roots.new) }
+    ensures roots { AreFirstRoots result claimed.old.roots claims.new roots.new }
     ensures holders { IsTableOf (take result claims.new) claimed.new.holders }
-    ensures same { (r c : ℕ) → Among (r, c) (take result claims.new) → beside claimed.new.roots r ≡ beside claimed.old.roots r }
+    ensures same { (r c : ℕ) → Among (r, c) (take result claims.new)
+        → beside claimed.new.roots r ≡ beside claimed.old.roots r }
     ensures long { length claimed.new.holders ≡ length claimed.old.holders }
 {
     let mut stay: usize = 0;
@@ -47,7 +48,8 @@ pub fn keep(
 
 /// Takes back all rows that are claimed.
 ///
-/// Where more than one row in 16 is claimed the table is written anew in order: for each claim it would cost more.
+/// Where more than one row in 16 is claimed the table is written anew in order: for each claim it
+/// would cost more.
 pub fn clear_claims(claims: &[(Row, Col)], claimed: &mut ClaimTable)
     requires rows { (r c : ℕ) → Among (r, c) claims.now → r < length claimed.old.holders }
     requires holders { IsTableOf claims.now claimed.old.holders }
@@ -65,9 +67,10 @@ pub fn clear_claims(claims: &[(Row, Col)], claimed: &mut ClaimTable)
 
 /// Takes the leaves and the marks of these roots away.
 pub fn clear_leaves(leaves: &[(Col, Row)], leaf_of: &mut Table, marks: &mut [bool])
-    requires cols { (x r : ℕ) → Among (x, r) leaves.now → (x < length leaf_of.old) × (x < length marks.old) }
+    requires cols { (x r : ℕ) → Among (x, r) leaves.now
+        → (x < length leaf_of.old) × (x < length marks.old) }
     requires leaf_of { IsTableOf leaves.now leaf_of.old }
-    requires marks { (x : ℕ) → slice_index_or marks.old x false ≡ true → Among x (roots_of leaves.now) }
+    requires marks { (x : ℕ) → IsMarked marks.old x → Among x (roots_of leaves.now) }
     ensures leaf_of { IsTableOf [] leaf_of.new }
     ensures marks { AreMarks [] marks.new }
     ensures long { length leaf_of.new ≡ length leaf_of.old }

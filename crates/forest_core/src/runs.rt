@@ -5,7 +5,8 @@ ghost use Rattle.bip_defs.specs.Matching.{IsMatching};
 ghost use Rattle.bip_defs.specs.Matrix.{Place};
 ghost use Rattle.bip_graph.specs.Matching.{IsMatchingOf};
 ghost use Rattle.forest_core.specs.Current.{IsCurrent};
-ghost use Rattle.forest_core.specs.Events.{IsLegal, Becomes, Runs, flips};
+ghost use Rattle.forest_core.specs.Events.{IsLegal, Becomes};
+ghost use Rattle.forest_core.specs.Made.{AreMade, IsGrownBy, IsLongest};
 ghost use Rattle.forest_core.specs.Sound.{IsSound};
 ghost use Rattle.bip_defs.specs.Forest.{new_forest};
 ghost use Rattle.sp_ids.specs.declared.events.Event.TheVariants.{Done};
@@ -31,7 +32,8 @@ fn make(forest: &mut Forest, event: Event)
     }
 }
 
-/// Makes events on a new forest, up to the first that is not legal. The forest that they leave, and how many were made.
+/// Makes events on a new forest, up to the first that is not legal. The forest that they leave, and
+/// how many were made.
 ///
 /// Answers `OutOfMemory` where the forest can't be had. Work: as of `may` and of the events.
 pub fn every_run<'p>(
@@ -41,13 +43,13 @@ pub fn every_run<'p>(
     events: &[Event],
 ) -> Result<(Forest<'p>, usize), OutOfMemory>
     requires matching { IsMatchingOf pattern.now matching }
-    ensures made { IfOk result (λ o. Runs (new_forest pattern.entry.now matching.pairs) (take o.1 events.now) o.0) }
-    ensures longest { IfOk result (λ o. (o.1 ≤ length events.now) × (o.1 < length events.now → ¬ IsLegal o.0 (slice_index_or events.now o.1 Done))) }
+    ensures made { IfOk result (AreMade (new_forest pattern.entry.now matching.pairs) events.now) }
+    ensures longest { IfOk result (IsLongest events.now) }
     ensures pattern { IfOk result (λ o. o.0.matrix ≡ pattern.entry.now) }
     ensures sound { IfOk result (λ o. IsSound o.0) }
 
     // The current matching is one of entries, larger than the first by the number of flips.
-    ensures current { IfOk result (λ o. (m : List Place) × IsCurrent o.0 m × IsMatching pattern.entry.now m × (length m ≡ length matching.pairs + flips (take o.1 events.now))) }
+    ensures current { IfOk result (IsGrownBy pattern.entry.now matching.pairs events.now) }
 {
     let mut forest = Forest::new(alloc, pattern, matching)?;
     for (made, event) in events.iter().enumerate() {
