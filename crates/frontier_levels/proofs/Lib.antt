@@ -1,2 +1,4 @@
 mod BoardLemmas
 mod EventLemmas
+mod SearchLemmas
+mod LevelLemmas

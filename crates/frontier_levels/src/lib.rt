@@ -7,6 +7,9 @@
 
 mod boards;
 mod events;
+mod levels;
+mod search;
 
 pub use boards::open;
 pub use events::absorb;
+pub use levels::top_down;

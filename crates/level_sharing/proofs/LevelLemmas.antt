@@ -89,6 +89,12 @@ keep_same own i [] (u ∷ us) e h = absurd cc
 keep_same own i (w ∷ ws) [] e h = absurd cc
 keep_same own i (w ∷ ws) (u ∷ us) e (h, hs) = let one = head_same _ _ _ _ e in (keeps_same (own i) w u (claims_of_one w u one) (wins_of_one w u one) h, keep_same own (suc i) ws us (tail_same _ _ _ _ e) hs)
 
+pub as_many : (ws us : List WorkerState) → fresh_lists us ≡ fresh_lists ws → length us ≡ length ws
+as_many [] [] e = refl
+as_many [] (u ∷ us) e = absurd cc
+as_many (w ∷ ws) [] e = absurd cc
+as_many (w ∷ ws) (u ∷ us) e = ap suc (as_many ws us (tail_same _ _ _ _ e))
+
 -- Workers at the start of a level.
 
 start_from : (s : State) (b : Board) (many number : ℕ) (ws : List WorkerState) → number + length ws ≡ many → AreNumbered b number (seats_of ws) → fresh_claims_of ws ≡ [] → EachFrom (λ (i : ℕ). λ (w : WorkerState). IsAtStart s b many i w) number ws

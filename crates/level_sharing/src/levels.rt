@@ -1,6 +1,6 @@
 //! Laws on whole levels.
 
-ghost use Rattle.std.specs.Prelude.{◌⊎◌, ℕ, List, ◌++◌};
+ghost use Rattle.std.specs.Prelude.{◌≡◌, ◌⊎◌, ℕ, List, ◌++◌, length};
 ghost use Rattle.bip_defs.specs.Forest.{HasWon, InForest, IsRootOfRow, IsSettled, IsUsedUp};
 ghost use Rattle.bip_defs.specs.Lists.{Among, AreNew};
 ghost use Rattle.bip_defs.specs.Matching.{cols_of, rows_of};
@@ -13,10 +13,13 @@ ghost use Rattle.level_sharing.specs.Shares.{KeepToShares};
 use crate::laws::fresh_lists_are_new;
 use claim_words::{fresh_lists_join, known_values_stand, workers_grow};
 
-/// In a level each worker claims and wins of its own share alone.
+/// In a level each worker claims and wins of its own share alone, and the workers stay as many.
 pub fn levels_keep_to_shares()
-    ensures { (l : Level) → KeepToShares l.own l.gathered }
-{}
+    ensures shares { (l : Level) → KeepToShares l.own l.gathered }
+    ensures many { (l : Level) → length l.gathered ≡ length l.before }
+{
+    workers_grow();
+}
 
 /// A level is legal: its fresh claims are of new rows, at places of the matrix and by columns that are in the forest, and its
 /// fresh wins are of new roots, each with a row of its tree as leaf that has no base mate.

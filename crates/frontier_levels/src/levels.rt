@@ -1,0 +1,99 @@
+//! One level of the search, from the frontier down.
+
+ghost use Rattle.std.specs.Prelude.{◌≡◌, ◌⊎◌, ℕ, ◌≤◌, length, OnOk};
+ghost use Rattle.bip_defs.specs.Forest.{HasWon, InForest, IsSettled, IsUsedUp};
+ghost use Rattle.bip_defs.specs.Lists.{Among};
+ghost use Rattle.bip_defs.specs.Matrix.{cols};
+ghost use Rattle.forest_core.specs.Events.{Runs};
+ghost use Rattle.level_sharing.specs.Agreement.{Agree, Shows};
+ghost use Rattle.level_sharing.specs.Growth.{fresh_events, grown};
+ghost use Rattle.level_sharing.specs.Shares.{KeepToColumns};
+
+use crate::search::search;
+use claim_words::{ClaimBoard, Worker};
+use forest_core::{Forest, new_pairs_run};
+use level_sharing::{
+    Work, levels_are_legal, levels_are_shown, levels_go_through_columns, levels_keep_to_shares,
+    progress_keeps_seats, share, shares_cover_a_list, work_at_once, workers_are_at_the_start,
+};
+use sp_ids::{Col, OutOfMemory};
+use sp_ports::Gate;
+use std::thread::Threads;
+
+/// Each worker goes through its share of the frontier: from each column whose root has no leaf yet it claims the rows that
+/// nobody holds, and wins the root for the first of them that has no base mate.
+///
+/// Of w workers, the worker i has the places from `i * l / w` up to `(i + 1) * l / w` of a frontier of l columns; it calls
+/// `gate.arrive(i)` once, whether its share is empty or not. Workers run at once as far as threads can be had, and want of a
+/// thread changes nothing. Answers `OutOfMemory` where a fresh list can't grow: what is listed then stands, and the level is
+/// not done. Memory: 8 bytes for each fresh claim and win. Work: at most one look at each entry of the frontier's columns.
+///
+/// The search is the top-down step of Azad, Buluç and Pothen, Computing maximum cardinality matchings in parallel on
+/// bipartite graphs via tree-grafting, 2017.
+pub fn top_down<R: Threads + Sync, G: Gate>(
+    rt: &R,
+    forest: &Forest,
+    board: &ClaimBoard,
+    frontier: &[Col],
+    workers: &mut [Worker],
+    gate: &G,
+) -> Result<(), OutOfMemory>
+    requires few { length workers.old ≤ 64 }
+    requires agree { Agree board.now workers.old forest.now.claims forest.now.leaves }
+    requires rows { length board.now.rows ≡ forest.now.matrix.rows }
+    requires roots { length board.now.roots ≡ cols forest.now.matrix }
+    requires settled { IsSettled forest.now }
+    requires inside { (c : ℕ) → Among c frontier.now → InForest forest.now c }
+    ensures legal { Runs forest.entry.now (fresh_events workers.new) (grown forest.entry.now workers.new) }
+    ensures words { Shows board.entry.now workers.new (grown forest.entry.now workers.new).claims
+        (grown forest.entry.now workers.new).leaves }
+    ensures shares { KeepToColumns frontier.entry.now workers.new }
+    ensures settled { OnOk result (IsSettled (grown forest.entry.now workers.new)) }
+    ensures frontier { OnOk result ((c : ℕ) → Among c frontier.entry.now
+        → HasWon (grown forest.entry.now workers.new) c
+        ⊎ IsUsedUp (grown forest.entry.now workers.new) c) }
+{
+    workers_are_at_the_start();
+    progress_keeps_seats();
+    levels_are_legal();
+    levels_are_shown();
+    levels_keep_to_shares();
+    levels_go_through_columns();
+    new_pairs_run();
+    let down = TopDown {
+        forest,
+        board,
+        frontier,
+        workers: workers.len(),
+    };
+    let result = work_at_once(rt, gate, &down, workers);
+    board.gather(workers);
+    result
+}
+
+// What each worker does in a level.
+#[derive(Drop)]
+struct TopDown<'a, 'p> {
+    forest: &'a Forest<'p>,
+    board: &'a ClaimBoard,
+    frontier: &'a [Col],
+    workers: usize,
+}
+
+impl<'a, 'p> Work<Worker, OutOfMemory> for TopDown<'a, 'p> {
+    ghost use Rattle.frontier_levels.specs.Search.{IsSearch};
+    ghost use Rattle.level_sharing.specs.Progress.{IsAtStart, IsThroughColumns, Progress};
+    ghost use Rattle.level_sharing.specs.Shares.{share_of, shares_by_columns};
+
+    ghost can_begin = { λ t i w. IsSearch t.forest.now t.board.now t.frontier.now × IsAtStart t.forest.now t.board.now t.workers i w };
+
+    ghost leaves = { λ t i v w. Progress t.forest.now (shares_by_columns t.frontier.now t.workers i) v w };
+
+    ghost completes = { λ t i v w. IsThroughColumns t.forest.now (share_of t.frontier.now t.workers i) w };
+
+    fn run(&self, number: u32, worker: &mut Worker) -> Result<(), OutOfMemory> {
+        shares_cover_a_list();
+        let share = share(self.frontier, self.workers, number as usize);
+        search(self.forest, self.board, share, worker)
+    }
+}
