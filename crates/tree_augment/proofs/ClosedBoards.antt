@@ -1,5 +1,5 @@
 -- What a board closes with once its seats have augmented a forest.
-use Rattle.std.proofs.Common.{◌≡◌, ◌⊎◌, ◌↔◌, ◌∙◌, ℕ, ◌+◌, ◌<◌, List, [], ◌∷◌, Option, Some, refl, sym, ap, subst, inl, inr, ⊎_elim}
+use Rattle.std.proofs.Common.{◌≡◌, ◌⊎◌, ◌↔◌, ◌∙◌, ℕ, ◌+◌, ◌<◌, List, [], ◌∷◌, Some, refl, sym, ap, subst, inl, inr, ⊎_elim}
 use Rattle.bip_defs.specs.Forest.{IsRootOfRow, State, roots_of}
 use Rattle.bip_defs.specs.Lists.{Among, AreDistinct, numbers_of}
 use Rattle.bip_defs.specs.Matching.{rows_of}
@@ -14,9 +14,6 @@ use Rattle.forest_core.specs.Exchanged.{AreExchanged}
 use Rattle.forest_core.specs.Sound.{IsSound}
 use Rattle.tree_augment.specs.Augmented.{HaveAugmented}
 use Rattle.tree_augment.specs.ForestBoards.{IsBoardOf}
-
-some_same : {x y : ℕ} → ◌≡◌ {A = Option ℕ} (Some x) (Some y) → x ≡ y
-some_same e = cc
 
 -- one of these seats has set the vertex, or none has
 abbrev IsSetBySome : List Seat → ℕ → Type 0
@@ -56,7 +53,7 @@ module _ {s : State} {b : Board} {ts : List Seat} {m : Mated} (k : IsSound s) (o
           let mate : mate_in m.rows r ≡ Some d = after.row_set t r d i lt set in
           let (x, took, (on, claim)) = ((done.paths t i).rows r d lt).0 set in
           let on_path : IsOnPathOf s (roots_of s.leaves) r = (x, (done.paths t i).taken x took, on) in (
-            λ e. inl (subst (λ z. Among {X = Place} (r, z) s.claims) (some_same (sym mate ∙ e)) claim, on_path),
+            λ e. let both = sym mate ∙ e in let same : d ≡ c = cc in inl (subst (λ z. Among {X = Place} (r, z) s.claims) same claim, on_path),
             λ p. ⊎_elim (λ (q : Among (r, c) s.claims × IsOnPathOf s (roots_of s.leaves) r). mate ∙ ap (λ (z : ℕ). Some z) (one_col s.claims once r d c claim q.0)) (λ (q : Among (r, c) s.base × (¬ IsOnPathOf s (roots_of s.leaves) r)). absurd (q.1 on_path)) p,
           )
 
@@ -82,7 +79,7 @@ module _ {s : State} {b : Board} {ts : List Seat} {m : Mated} (k : IsSound s) (o
           let mate : mate_in m.cols c ≡ Some q = after.col_set t q c i set in
           let (x, took, (on, claim)) = ((done.paths t i).cols q c).0 set in
           let on_path : (z : ℕ) → OnPath s.base s.claims s.leaves x z → IsOnPathOf s (roots_of s.leaves) z = λ z w. (x, (done.paths t i).taken x took, w) in (
-            λ e. let same : q ≡ r = some_same (sym mate ∙ e) in inl (subst (λ z. Among {X = Place} (z, c) s.claims) same claim, on_path r (subst (OnPath s.base s.claims s.leaves x) same on)),
+            λ e. let both = sym mate ∙ e in let same : q ≡ r = cc in inl (subst (λ z. Among {X = Place} (z, c) s.claims) same claim, on_path r (subst (OnPath s.base s.claims s.leaves x) same on)),
             λ p. ⊎_elim
                 (λ (w : Among (r, c) s.claims × IsOnPathOf s (roots_of s.leaves) r). let (u, j, sets) = path_col r c w.1 w.0 in after.col_set u r c j sets)
                 (λ (w : Among (r, c) s.base × (¬ IsOnPathOf s (roots_of s.leaves) r)). absurd (w.1 (on_path r (up q c on claim w.0)))) p,

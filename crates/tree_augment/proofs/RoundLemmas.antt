@@ -1,5 +1,5 @@
 -- One worker's round over the roots with a leaf.
-use Rattle.std.proofs.Common.{◌≡◌, ◌⊎◌, ◌↔◌, ◌∙◌, ℕ, ◌+◌, ◌<◌, ◌≤◌, List, [], ◌∷◌, ◌++◌, take, drop, get_or, take-append-drop, None, Option, Some, length, refl, sym, ap, subst, inl, inr, ⊎_elim}
+use Rattle.std.proofs.Common.{◌≡◌, ◌⊎◌, ◌↔◌, ◌∙◌, ℕ, ◌+◌, ◌<◌, ◌≤◌, List, [], ◌∷◌, ◌++◌, take, drop, get_or, take-append-drop, None, Some, length, refl, sym, ap, subst, inl, inr, ⊎_elim}
 use Rattle.bip_defs.specs.Forest.{State, roots_of}
 use Rattle.bip_defs.specs.Lists.{Among}
 use Rattle.bip_defs.specs.Matrix.{Place}
@@ -7,13 +7,8 @@ use Rattle.std.proofs.lemmas.List.{take_all, take_more}
 use Rattle.bip_defs.proofs.Sets.{among_either, among_last, among_left, among_right, row_among, row_pair}
 use Rattle.flip_words.specs.Board.{Board, col_vertex, held}
 use Rattle.flip_words.specs.Seat.{HasSeen, HasSet, HasSetTo, IsRightful, KnowsTaker, Seat, Took, after_take}
-use Rattle.tree_augment.specs.Augmented.{ExchangesItsPaths, HasExchanged, HasMet, IsLater, IsOnTakenPath, IsPathPair}
-
-some_same : {x y : ℕ} → ◌≡◌ {A = Option ℕ} (Some x) (Some y) → x ≡ y
-some_same e = cc
-
-not_none : {x : ℕ} → ◌≡◌ {A = Option ℕ} None (Some x) → ⊥
-not_none e = cc
+use Rattle.tree_augment.specs.Augmented.{ExchangesItsPaths, HasMet, IsOnTakenPath, IsPathPair}
+use Rattle.tree_augment.specs.Rounds.{HasExchanged, IsLater}
 
 -- A seat that takes a tree.
 
@@ -24,8 +19,10 @@ takes t x e = subst (λ (v : Seat). Took v x) (sym e) (among_right (x, t.number)
 pub not_set_yet : {b : Board} {t u : Seat} {x : ℕ} → IsRightful t → t.board ≡ b → ((number : ℕ) → KnowsTaker t x number → None ≡ Some number) → u ≡ after_take t x None → (v : ℕ) → held b.trees v ≡ Some x → ¬ HasSet u v
 not_set_yet {b = b} {t = t} {x = x} own of known e v tree (mate, h) =
     let (y, his, took) = own.sets v mate (subst (λ (z : Seat). HasSetTo z v mate) e h) in
-    let same : y ≡ x = some_same (sym his ∙ ap (λ (a : Board). held a.trees v) of ∙ tree) in
-    not_none (known t.number (inl (subst (λ i. Among (i, t.number) t.listed.taken) same took)))
+    let roots = sym his ∙ ap (λ (a : Board). held a.trees v) of ∙ tree in
+    let same : y ≡ x = cc in
+    let found = known t.number (inl (subst (λ i. Among (i, t.number) t.listed.taken) same took)) in
+    cc
 
 module _ {s : State} {b : Board} {x : ℕ} (t : Seat) {m u : Seat} (e : m ≡ after_take t x None) (h : HasExchanged s b x m u) where
   same_number : u.number ≡ t.number

@@ -8,13 +8,39 @@ use Rattle.bip_defs.specs.Matrix.{Place, cols, upto}
 use Rattle.bip_defs.specs.Paths.{Alternates, BeginsUnmatched}
 use Rattle.bip_defs.proofs.Sets.{among_either, among_last, among_left, among_right, col_among, col_pair, few_distinct, one_col, one_row, row_among, row_pair, upto_complete, upto_length}
 use Rattle.flip_words.specs.Board.{Board, col_vertex, held}
-use Rattle.flip_words.specs.Seat.{HasSet, HasSetTo, Seat, Took, after_set}
+use Rattle.flip_words.specs.Seat.{HasSet, HasSetTo, Seat, Took, after_set, with_listed}
 use Rattle.forest_core.specs.Current.{OnPath, leaf}
 use Rattle.forest_core.specs.Paths.{IsPath}
 use Rattle.forest_core.specs.Sound.{IsSound}
-use Rattle.tree_augment.specs.Augmented.{HasExchanged, IsPathPair}
+use Rattle.tree_augment.specs.Augmented.{IsPathPair}
+use Rattle.tree_augment.specs.Rounds.{HasExchanged}
 use Rattle.tree_augment.specs.ForestBoards.{IsBoardOf}
-use Rattle.tree_augment.specs.Walks.{HasComeTo, IsAt, joined_at, sets_on, with_sets}
+
+-- a path of which the walk has come over `done` and not yet over `rest`, whose last pair stands first
+abbrev joined_at : List Place → List Place → List Place
+joined_at [] done = done
+joined_at (p ∷ rest) done = joined_at rest (p ∷ done)
+
+-- what is set on a walk over these pairs, the last one first: each row to the column, and the column, a vertex after so many
+-- rows, to the row
+abbrev sets_on : ℕ → List Place → List (ℕ × ℕ)
+sets_on rows [] = []
+sets_on rows (p ∷ path) = sets_on rows path ++ (p.0, p.1) ∷ (rows + p.1, p.0) ∷ []
+
+-- the seat after it set these too
+abbrev with_sets : Seat → List (ℕ × ℕ) → Seat
+with_sets t more = with_listed t (record { taken = t.listed.taken; seen = t.listed.seen; sets = t.listed.sets ++ more; looks = t.listed.looks })
+
+-- the walk over the path of the root x has come to the row r, which the column c claimed, and the seat t has set what lies behind
+pub record IsAt (s : State) (b : Board) (x r c : ℕ) (t u : Seat) : Type 0 where
+  pub rest : List Place
+  pub done : List Place
+  pub path : IsPath s x (joined_at rest ((r, c) ∷ done))
+  pub seat : u ≡ with_sets t (sets_on b.rows done)
+
+-- so does a walk that has come to the row, whatever column claimed it
+abbrev pub HasComeTo : State → Board → ℕ → ℕ → Seat → Seat → Type 0
+HasComeTo s b x r t u = (c : ℕ) × IsAt s b x r c t u
 
 -- Paths in two parts.
 

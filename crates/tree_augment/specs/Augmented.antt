@@ -4,7 +4,7 @@ use Rattle.bip_defs.specs.Forest.{State, roots_of}
 use Rattle.bip_defs.specs.Lists.{Among}
 use Rattle.bip_defs.specs.Matrix.{Place}
 use Rattle.flip_words.specs.Board.{Board, col_vertex}
-use Rattle.flip_words.specs.Seat.{AreAllSeats, HasSeen, HasSetTo, IsSameSeat, Seat, Took}
+use Rattle.flip_words.specs.Seat.{AreAllSeats, HasSeen, HasSetTo, Seat, Took}
 use Rattle.forest_core.specs.Current.{OnPath}
 
 -- a row on the path of a root, with the column that claimed it, which is its mate once the path is exchanged
@@ -35,16 +35,3 @@ pub record HaveAugmented (s : State) (b : Board) (ts : List Seat) : Type 0 where
   pub all : AreAllSeats b ts
   pub met : (t : Seat) (x : ℕ) → Among t ts → Among x (roots_of s.leaves) → HasMet t x
   pub paths : (t : Seat) → Among t ts → ExchangesItsPaths s b t
-
--- the same seat, which has still met all roots that it had met
-pub record IsLater (t u : Seat) : Type 0 where
-  pub same : IsSameSeat t u
-  pub met : (x : ℕ) → HasMet t x → HasMet u x
-
--- The same seat, after it set the vertices of the path of a root
-pub record HasExchanged (s : State) (b : Board) (x : ℕ) (t u : Seat) : Type 0 where
-  pub same : IsSameSeat t u
-  pub taken : u.listed.taken ≡ t.listed.taken
-  pub seen : u.listed.seen ≡ t.listed.seen
-  pub rows : (r c : ℕ) → r < b.rows → HasSetTo u r c ↔ (HasSetTo t r c ⊎ IsPathPair s x (r, c))
-  pub cols : (r c : ℕ) → HasSetTo u (col_vertex b c) r ↔ (HasSetTo t (col_vertex b c) r ⊎ IsPathPair s x (r, c))

@@ -1,4 +1,3 @@
 pub mod Augmented
 pub mod ForestBoards
 pub mod Rounds
-pub mod Walks

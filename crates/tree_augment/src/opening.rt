@@ -34,11 +34,11 @@ pub fn open(
     new_seats_are_all();
     let row_trees = forest.row_trees(alloc)?;
     let col_trees = forest.col_trees(alloc)?;
-    Ok(FlipBoard::new(
+    FlipBoard::new(
         alloc,
         forest.base(),
         row_trees.as_slice(),
         col_trees.as_slice(),
         seats,
-    )?)
+    )
 }

@@ -3,8 +3,9 @@
 ghost use Rattle.std.specs.Prelude.{◌≡◌, ℕ, ◌≤◌, length};
 ghost use Rattle.bip_defs.specs.Forest.{roots_of};
 ghost use Rattle.bip_defs.specs.Lists.{Among};
-ghost use Rattle.tree_augment.specs.Augmented.{ExchangesItsPaths, HasMet, IsLater};
+ghost use Rattle.tree_augment.specs.Augmented.{ExchangesItsPaths, HasMet};
 ghost use Rattle.tree_augment.specs.ForestBoards.{IsBoardOf};
+ghost use Rattle.tree_augment.specs.Rounds.{IsLater};
 
 use crate::walk::exchange;
 use flip_words::{FlipBoard, FlipSeat, Taken};

@@ -4,8 +4,8 @@ ghost use Rattle.std.specs.Prelude.{◌≡◌, ℕ, ◌<◌, Some};
 ghost use Rattle.bip_defs.specs.Lists.{Among};
 ghost use Rattle.flip_words.specs.Board.{held};
 ghost use Rattle.flip_words.specs.Seat.{HasSet, Took};
-ghost use Rattle.tree_augment.specs.Augmented.{HasExchanged};
 ghost use Rattle.tree_augment.specs.ForestBoards.{IsBoardOf};
+ghost use Rattle.tree_augment.specs.Rounds.{HasExchanged};
 
 use flip_words::{FlipBoard, FlipSeat};
 use forest_core::{Forest, claims_are_in_the_forest, leaves_end_paths};

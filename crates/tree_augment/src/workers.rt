@@ -1,6 +1,6 @@
 //! All workers at once.
 
-ghost use Rattle.std.specs.Prelude.{◌≡◌, ℕ, ◌*◌, ◌/◌, ◌<◌, ◌≤◌, [], length};
+ghost use Rattle.std.specs.Prelude.{◌≡◌, ◌≤◌, [], length};
 ghost use Rattle.flip_words.specs.Seat.{AreAllSeats};
 ghost use Rattle.sp_ids.specs.Limits.{max_workers};
 ghost use Rattle.tree_augment.specs.Augmented.{HaveAugmented, HaveTakenNone};
@@ -9,7 +9,7 @@ ghost use Rattle.tree_augment.specs.ForestBoards.{IsBoardOf};
 use crate::rounds::go_round;
 use flip_words::{FlipBoard, FlipSeat, seats_stay_all};
 use forest_core::Forest;
-use level_sharing::{Work, work_at_once};
+use level_sharing::{Work, share_start, work_at_once};
 use sp_ports::Gate;
 use std::convert::Infallible;
 use std::thread::Threads;
@@ -39,15 +39,6 @@ impl<'a, 'p> Work<FlipSeat, Infallible> for Rounds<'a, 'p> {
     }
 }
 
-// Where the share of a worker begins.
-fn share_start(len: usize, workers: usize, number: usize) -> usize
-    requires { (0 < workers) × (number ≤ workers) }
-    ensures start { result ≡ number * len / workers }
-    ensures within { result ≤ len }
-{
-    (number as u128 * len as u128 / workers as u128) as usize
-}
-
 /// Exchanges the path of each root with a leaf on a board that was opened from the forest, on which nothing is taken yet, by
 /// as many workers as there are seats.
 ///
@@ -75,5 +66,5 @@ pub fn augment<R: Threads + Sync, G: Gate>(
         board,
         workers: seats.len(),
     };
-    let _done = work_at_once(rt, gate, &rounds, seats);
+    let Ok(()) = work_at_once(rt, gate, &rounds, seats);
 }

@@ -3,7 +3,7 @@ use Rattle.bip_graph.specs.Matching.{Pairing}
 use Rattle.flip_words.specs.Board.{AreTrees, IsOpenedFrom}
 use Rattle.flip_words.specs.Seat.{AreAllSeats, Seat}
 use Rattle.tree_augment.specs.Augmented.{HaveTakenNone}
-use Rattle.tree_augment.proofs.OpeningLemmas.{col_trees_fit, new_count, new_taken_none, opened_board, row_trees_fit}
+use Rattle.tree_augment.proofs.OpeningLemmas.{col_trees_fit, if_ok, new_count, new_taken_none, opened_board, row_trees_fit}
 use Rattle.tree_augment.proofs.opening.open.Goals as goal
 
 pub new-requires-clause-row_tree : goal.new-requires-clause-row_tree
@@ -22,15 +22,15 @@ new-requires-clause-col_tree c =
 
 pub returns-clause-board : goal.returns-clause-board
 returns-clause-board c =
-    opened_board c.in_ok-row_trees.row_trees.items c.in_ok-col_trees.col_trees.items
-    (subst (λ (p : Pairing × List (Option ℕ)). IsOpenedFrom p.0 p.1 c.in_ok-new.field-0.0) (λ i. (c.base.ensures i, c.as_slice.ensures.value i ++ c.as_slice-2.ensures.value i)) c.in_ok-new.ensures.board)
-    c.in_ok-row_trees.ensures.long c.in_ok-row_trees.ensures.roots c.in_ok-col_trees.ensures.roots
+    if_ok c.new.result (λ b o. opened_board c.in_ok-row_trees.row_trees.items c.in_ok-col_trees.col_trees.items
+    (subst (λ (p : Pairing × List (Option ℕ)). IsOpenedFrom p.0 p.1 b.0) (λ i. (c.base.ensures i, c.as_slice.ensures.value i ++ c.as_slice-2.ensures.value i)) o)
+    c.in_ok-row_trees.ensures.long c.in_ok-row_trees.ensures.roots c.in_ok-col_trees.ensures.roots) c.new.ensures.board
 
 pub returns-clause-all : goal.returns-clause-all
-returns-clause-all c = subst (AreAllSeats c.in_ok-new.field-0.0) (sym c.in_ok-new.ensures.seats) (c.new_seats_are_all.ensures c.in_ok-new.field-0.0 c.args.seats c.requires.seats.0)
+returns-clause-all c = if_ok c.new.result (λ b are. subst (AreAllSeats b.0) (sym are) (c.new_seats_are_all.ensures b.0 c.args.seats c.requires.seats.0)) c.new.ensures.seats
 
 pub returns-clause-count : goal.returns-clause-count
-returns-clause-count c = ap (λ (ts : List Seat). length ts) c.in_ok-new.ensures.seats ∙ new_count c.in_ok-new.field-0.0 c.args.seats
+returns-clause-count c = if_ok c.new.result (λ b are. ap (λ (ts : List Seat). length ts) are ∙ new_count b.0 c.args.seats) c.new.ensures.seats
 
 pub returns-clause-none_taken : goal.returns-clause-none_taken
-returns-clause-none_taken c = subst HaveTakenNone (sym c.in_ok-new.ensures.seats) (new_taken_none c.in_ok-new.field-0.0 c.args.seats)
+returns-clause-none_taken c = if_ok c.new.result (λ b are. subst HaveTakenNone (sym are) (new_taken_none b.0 c.args.seats)) c.new.ensures.seats

@@ -1,6 +1,7 @@
 use Rattle.std.proofs.Common.{ℕ, take}
 use Rattle.bip_defs.specs.Lists.{Among}
-use Rattle.tree_augment.specs.Augmented.{ExchangesItsPaths, HasMet, IsLater}
+use Rattle.tree_augment.specs.Augmented.{ExchangesItsPaths, HasMet}
+use Rattle.tree_augment.specs.Rounds.{IsLater}
 use Rattle.tree_augment.proofs.rounds.visit_each.Given as goal
 
 abbrev pub invariant-loop-root : goal.invariant-loop-root

@@ -1,6 +1,5 @@
 use Rattle.std.proofs.Common.{◌+◌, ◌*◌, ◌-◌, length}
-use Rattle.tree_augment.specs.Walks.{HasComeTo}
-use Rattle.tree_augment.proofs.WalkLemmas.{CanWalk}
+use Rattle.tree_augment.proofs.WalkLemmas.{CanWalk, HasComeTo}
 use Rattle.tree_augment.proofs.walk.exchange.Given as goal
 
 abbrev pub invariant-loop-col : goal.invariant-loop-col
