@@ -1,0 +1,73 @@
+//! One level of the search, from free rows up.
+
+ghost use Rattle.std.specs.Prelude.{◌≡◌, ◌⊎◌, ℕ, ◌<◌, ◌≤◌, length, OnOk};
+ghost use Rattle.bip_defs.specs.Forest.{HasWon, InForest, IsSettled};
+ghost use Rattle.bip_defs.specs.Lists.{Among};
+ghost use Rattle.bip_defs.specs.Matching.{rows_of};
+ghost use Rattle.bip_defs.specs.Matrix.{IsEntry, cols};
+ghost use Rattle.forest_core.specs.Events.{Runs};
+ghost use Rattle.level_sharing.specs.Agreement.{Agree, Shows};
+ghost use Rattle.level_sharing.specs.Growth.{fresh_events, grown};
+ghost use Rattle.level_sharing.specs.Shares.{KeepToRows};
+
+use crate::search::Search;
+use claim_words::{ClaimBoard, Worker};
+use forest_core::{Forest, new_pairs_run};
+use level_sharing::{
+    levels_are_legal, levels_are_shown, levels_go_through_rows, levels_keep_to_shares,
+    progress_keeps_seats, work_at_once, workers_are_at_the_start,
+};
+use sp_ids::{OutOfMemory, Row};
+use sp_ports::Gate;
+use std::thread::Threads;
+
+/// Each worker goes through its share of the free rows: it looks through a row's columns for one that is in the forest and whose
+/// root has no leaf yet, claims the row for this column, and wins the root for the row where that has no base mate.
+///
+/// Of w workers, the worker i has the places from `i * l / w` up to `(i + 1) * l / w` of l free rows; it calls `gate.arrive(i)`
+/// once, whether its share is empty or not. Workers run at once as far as threads can be had. A free row may be given twice, or
+/// be claimed: then nothing comes of it. Answers `OutOfMemory` where a fresh list can't grow: what is listed then stands, and
+/// the level is not done. Work: at most one look at each entry of the free rows, and a thread for each worker but the first.
+pub fn attach<R: Threads + Sync, G: Gate>(
+    rt: &R,
+    forest: &Forest,
+    board: &ClaimBoard,
+    free: &[Row],
+    workers: &mut [Worker],
+    gate: &G,
+) -> Result<(), OutOfMemory>
+    requires few { length workers.old ≤ 64 }
+    requires agree { Agree board.now workers.old forest.now.claims forest.now.leaves }
+    requires board_rows { length board.now.rows ≡ forest.now.matrix.rows }
+    requires board_roots { length board.now.roots ≡ cols forest.now.matrix }
+    requires settled { IsSettled forest.now }
+    requires rows { (r : ℕ) → Among r free.now → r < forest.now.matrix.rows }
+    ensures legal { Runs forest.entry.now (fresh_events workers.new)
+        (grown forest.entry.now workers.new) }
+    ensures words { Shows board.entry.now workers.new
+        (grown forest.entry.now workers.new).claims (grown forest.entry.now workers.new).leaves }
+    ensures shares { KeepToRows free.entry.now workers.new }
+    ensures settled { OnOk result (IsSettled (grown forest.entry.now workers.new)) }
+    ensures rows { OnOk result ((r c : ℕ) → Among r free.entry.now
+        → IsEntry forest.entry.now.matrix r c → InForest forest.entry.now c
+        → Among r (rows_of (grown forest.entry.now workers.new).claims)
+        ⊎ HasWon (grown forest.entry.now workers.new) c) }
+{
+    new_pairs_run();
+    workers_are_at_the_start();
+    progress_keeps_seats();
+    levels_keep_to_shares();
+    levels_are_legal();
+    levels_are_shown();
+    levels_go_through_rows();
+    let count = workers.len();
+    let search = Search {
+        forest,
+        board,
+        free,
+        workers: count,
+    };
+    let result = work_at_once(rt, gate, &search, workers);
+    board.gather(workers);
+    result
+}
