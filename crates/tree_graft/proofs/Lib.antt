@@ -1,3 +1,5 @@
 mod AugmentLemmas
+mod FrontierLemmas
+mod LevelLemmas
 mod PhaseLemmas
 mod SearchLemmas

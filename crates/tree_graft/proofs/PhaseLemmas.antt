@@ -1,5 +1,5 @@
 -- What a phase leaves, and phases one after the other.
-use Rattle.std.proofs.Common.{◌≡◌, ◌≢◌, ◌↔◌, ◌∙◌, ℕ, ◌+◌, ◌-◌, ◌<◌, ◌≤◌, Bool, true, false, if◌then◌else◌, IsTrue, nat_lt, true≢false, List, [], ◌∷◌, length, refl, sym, ap, subst, arith}
+use Rattle.std.proofs.Common.{◌≡◌, ◌≢◌, ◌↔◌, ◌∙◌, ℕ, ◌+◌, ◌-◌, ◌<◌, Bool, true, false, if◌then◌else◌, IsTrue, nat_lt, true≢false, List, [], ◌∷◌, length, Result, Ok, Err, IfOk, refl, sym, ap, subst, arith}
 use Rattle.std.proofs.Math.Decide.{dec_lt}
 use Rattle.std.proofs.lemmas.Bool.{lt-ltb, ltb-true}
 use Rattle.bip_defs.specs.Matching.{Covers, IsMatching, IsMaximum}
@@ -77,3 +77,8 @@ told_none k e = by (dec_lt 0 k)
     by : Dec (0 < k) → k ≡ 0
     by (yes lt) = absurd (true≢false (sym (lt-ltb 0 k lt) ∙ e))
     by (no nlt) = omega arith
+
+-- what both clauses on an answer tell together
+pub if_ok_both : {X Y : Type 0} (r : Result X Y) (P Q S : X → Type 0) → ((x : X) → P x → Q x → S x) → IfOk r P → IfOk r Q → IfOk r S
+if_ok_both (Ok x) P Q S f p q = f x p q
+if_ok_both (Err e) P Q S f p q = tt

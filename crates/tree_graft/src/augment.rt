@@ -1,27 +1,114 @@
 //! The exchange of all paths of a phase.
 
-ghost use Rattle.std.specs.Prelude.{◌≡◌, ◌+◌, [], length};
-ghost use Rattle.forest_core.specs.Events.{LeadsTo};
-ghost use Rattle.bip_defs.specs.Forest.{IsRested};
+ghost use Rattle.std.specs.Prelude.{◌≡◌, ◌+◌, ◌<◌, ◌≤◌, ◌^◌, [], length, IfOk, OnOk};
+ghost use Rattle.bip_defs.specs.Forest.{IsRested, IsSettled};
+ghost use Rattle.forest_core.specs.Events.{AreFlipped, LeadsTo};
+ghost use Rattle.forest_core.specs.Exchanged.{AreExchanged};
+ghost use Rattle.sp_ids.specs.Limits.{max_workers};
 
-use forest_core::{Forest, forests_are_rested, runs_join};
+use crate::frontiers::{claim_count, is_won};
+use crate::switches::keeps_trees;
+use bip_graph::Mates;
+use forest_core::{
+    Forest, claims_are_in_the_forest, columns_have_one_root, forests_are_rested, runs_join,
+};
+use sp_ids::OutOfMemory;
+use sp_ports::Gate;
+use std::alloc::Global;
+use std::thread::Threads;
+use tree_augment::{closed_mates_are_exchanged, open};
 
-/// Exchanges the path of each root with a leaf, and frees all rows. How many paths there were.
-pub fn augment(forest: &mut Forest) -> u32
-    requires { forest.old.flipped ≡ [] }
+/// Exchanges the path of each root with a leaf, by workers at once, and then keeps the trees without a leaf or frees all rows.
+/// Gives the number of these paths. Answers `OutOfMemory` where a board of mates can't be had; the forest is then as it was.
+pub fn augment<R: Threads + Sync, G: Gate>(
+    rt: &R,
+    alloc: Global,
+    forest: &mut Forest,
+    workers: u32,
+    gate: &G,
+) -> Result<u32, OutOfMemory>
+    requires workers { (1 ≤ workers) × (workers ≤ max_workers) }
+    requires flipped { forest.old.flipped ≡ [] }
+    requires settled { IsSettled forest.old }
+    ensures legal { LeadsTo forest.old forest.new }
+    ensures rested { OnOk result (IsRested forest.new) }
+    ensures paths { IfOk result (λ k. k ≡ length forest.old.leaves) }
+    ensures growth { IfOk result (λ k. length forest.new.base ≡ length forest.old.base + k) }
+{
+    runs_join();
+    let before = forest.base().size();
+    let keeps = trees_stay(forest);
+    let mates = exchanged_mates(rt, alloc, forest, workers, gate)?;
+    forest.adopt(mates);
+    renew(forest, keeps);
+    Ok(forest.base().size() - before)
+}
+
+// The mates of the base matching with the path of each root with a leaf exchanged.
+fn exchanged_mates<R: Threads + Sync, G: Gate>(
+    rt: &R,
+    alloc: Global,
+    forest: &Forest,
+    workers: u32,
+    gate: &G,
+) -> Result<Mates, OutOfMemory>
+    requires workers { (1 ≤ workers) × (workers ≤ max_workers) }
+    requires flipped { forest.now.flipped ≡ [] }
+    ensures { IfOk result (λ mates. AreExchanged forest.now mates) }
+{
+    forest.is_sound();
+    closed_mates_are_exchanged();
+    let (board, mut seats) = open(alloc, forest, workers)?;
+    tree_augment::augment(rt, forest, &board, seats.as_mut_slice(), gate);
+    match board.close(alloc, seats) {
+        Ok(mates) => Ok(mates),
+        Err(_back) => Err(OutOfMemory),
+    }
+}
+
+// Makes the current matching the base, and keeps the trees without a leaf or none.
+fn renew(forest: &mut Forest, keeps: bool)
+    requires flipped { AreFlipped forest.old }
+    requires settled { IsSettled forest.old }
     ensures legal { LeadsTo forest.old forest.new }
     ensures rested { IsRested forest.new }
-    ensures paths { result ≡ length forest.old.leaves }
-    ensures growth { length forest.new.base ≡ length forest.old.base + result }
+    ensures growth { length forest.new.base ≡ length forest.old.base + length forest.old.flipped }
 {
     forest.is_sound();
     runs_join();
     forests_are_rested();
-    let before = forest.base().size();
-    for at in 0..forest.leaves().len() {
-        let (root, _) = forest.leaves()[at];
-        forest.flip(root);
+    if keeps {
+        forest.graft();
+    } else {
+        forest.rebuild();
     }
-    forest.rebuild();
-    forest.base().size() - before
+}
+
+// Whether the trees without a leaf are to be kept: by how many columns stand in them, and how many rows the others free.
+fn trees_stay(forest: &Forest) -> bool {
+    forest.is_sound();
+    claims_are_in_the_forest();
+    columns_have_one_root();
+    let cols = forest.pattern().cols();
+    let claims = claim_count(forest);
+    let freed = freed_rows(forest);
+    let roots = cols - forest.base().size() - forest.leaves().len() as u32;
+    let kept = roots.saturating_add(claims - freed);
+    keeps_trees(kept, freed)
+}
+
+// How many rows are claimed in trees with a leaf.
+fn freed_rows(forest: &Forest) -> u32
+    requires { length forest.now.claims < 2 ^ 32 }
+    ensures { result ≤ length forest.now.claims }
+{
+    forest.is_sound();
+    claims_are_in_the_forest();
+    let mut freed: u32 = 0;
+    for (row, _) in forest.claims() {
+        if is_won(forest, *row) {
+            freed += 1;
+        }
+    }
+    freed
 }

@@ -1,27 +1,39 @@
-//! The search of a phase, level by level.
+//! The search of a phase, level by level, by workers who share a board of words.
 
-ghost use Rattle.std.specs.Prelude.{◌≡◌, ◌⊎◌, ℕ, List, [], ◌++◌, false, IsTrue, IfOk, OnOk};
-ghost use Rattle.bip_defs.specs.Lists.{Among, Lists};
-ghost use Rattle.bip_defs.specs.Matching.{cols_of, rows_of};
+ghost use Rattle.std.specs.Prelude.{◌≡◌, ℕ, ◌+◌, ◌<◌, ◌≤◌, [], false, length, IfOk, OnOk};
+ghost use Rattle.bip_defs.specs.Forest.{InForest, IsRested, IsSettled};
+ghost use Rattle.bip_defs.specs.Lists.{Among};
+ghost use Rattle.bip_defs.specs.Matching.{cols_of};
 ghost use Rattle.bip_defs.specs.Matrix.{IsEntry};
 ghost use Rattle.bip_graph.specs.Matching.{IsMatchingOf};
-ghost use Rattle.forest_core.specs.Events.{Grows, IsLegal};
-ghost use Rattle.bip_defs.specs.Forest.{InForest, IsRested, IsSettled, RootOf, roots_of};
-ghost use Rattle.sp_ids.specs.declared.events.Event.TheVariants.{Claim};
-ghost use Rattle.tree_graft.specs.Search.{IsScanned, IsSearch};
+ghost use Rattle.claim_words.specs.Board.{Board};
+ghost use Rattle.claim_words.specs.WorkerState.{AreAllWorkers, fresh_claims_of, seats_of};
+ghost use Rattle.forest_core.specs.Events.{Grows, Runs};
+ghost use Rattle.level_sharing.specs.Agreement.{Agree, Shows};
+ghost use Rattle.level_sharing.specs.Growth.{fresh_events, grown};
+ghost use Rattle.sp_ids.specs.Limits.{max_workers};
+ghost use Rattle.tree_graft.specs.Search.{AreMatesOf, AreOfNewClaims, IsFrontier, IsScanned, IsSearched, levels_left};
 
+use crate::frontiers::{claim_count, mates_of, unclaimed_rows, unmatched_columns};
+use crate::switches::goes_top_down;
 use bip_graph::Matching;
-use forest_core::{Forest, claims_and_wins_grow, columns_have_one_root};
+use bottom_up::attach;
+use claim_words::{ClaimBoard, ClaimSeat, Worker};
+use forest_core::{Forest, claims_and_wins_grow, claims_are_in_the_forest, columns_have_one_root};
+use frontier_levels::{absorb, open, top_down};
 use sp_ids::{Col, OutOfMemory, Row};
 use sp_pattern::Pattern;
+use sp_ports::Gate;
 use std::alloc::Global;
+use std::thread::Threads;
 
 /// Whether a tree can grow at all: whether a column without a mate has an entry. Takes no memory.
 ///
 /// Work: one look at each column.
 pub fn can_grow(pattern: &Pattern, matching: &Matching) -> bool
     requires { IsMatchingOf pattern.now matching.now }
-    ensures { result ≡ false → (r c : ℕ) → IsEntry pattern.now r c → Among c (cols_of matching.now.pairs) }
+    ensures { result ≡ false
+        → (r c : ℕ) → IsEntry pattern.now r c → Among c (cols_of matching.now.pairs) }
 {
     for number in 0..pattern.cols() {
         let col = Col(number);
@@ -32,97 +44,202 @@ pub fn can_grow(pattern: &Pattern, matching: &Matching) -> bool
     false
 }
 
-/// Lets the trees grow until each has a leaf or has nothing left to claim.
+/// Lets the trees grow until each has a leaf or has nothing left to claim, and closes the board on which the workers did so.
 ///
-/// The first level is all columns in the forest, each further one the base mates of the rows that were claimed by the level
-/// before it. Answers `OutOfMemory` where 4 bytes a column can't be had.
-pub fn grow(alloc: Global, forest: &mut Forest) -> Result<(), OutOfMemory>
-    requires { IsRested forest.old }
+/// Answers `OutOfMemory` where the board, the lists of columns and rows or a worker's list can't be had; what was claimed and
+/// won until then stands in the forest. The lists are taken once, with room for all columns and all rows.
+pub fn grow<R: Threads + Sync, G: Gate>(
+    rt: &R,
+    alloc: Global,
+    forest: &mut Forest,
+    workers: u32,
+    gate: &G,
+) -> Result<(), OutOfMemory>
+    requires workers { (1 ≤ workers) × (workers ≤ max_workers) }
+    requires rested { IsRested forest.old }
     ensures grown { Grows forest.old forest.new }
     ensures settled { OnOk result (IsSettled forest.new) }
     ensures scanned { OnOk result ((c : ℕ) → InForest forest.new c → IsScanned forest.new c) }
 {
-    forest.is_sound();
     claims_and_wins_grow();
-    // The levels one after the other.
-    let mut frontier = first_level(alloc, forest)?;
-    let mut at: usize = 0;
-    while at < frontier.len() {
-        let col = frontier[at];
-        scan(forest, &mut frontier, col)?;
-        at += 1;
-    }
-    Ok(())
+    let mut frontier = Vec::with_capacity(alloc, forest.pattern().cols() as usize)?;
+    let mut free = Vec::with_capacity(alloc, forest.pattern().rows() as usize)?;
+    let (board, mut list) = open(alloc, forest, workers)?;
+    search(
+        rt,
+        forest,
+        &board,
+        list.as_mut_slice(),
+        &mut frontier,
+        &mut free,
+        gate,
+    )?;
+    close(alloc, board, list)
 }
 
-// All columns in the forest, with room for those that may still come into it.
-fn first_level(alloc: Global, forest: &Forest) -> Result<Vec<Col>, OutOfMemory>
-    ensures { IfOk result (λ level. Lists (InForest forest.now) level.items) }
-{
-    let cols = forest.pattern().cols();
-    let mut level = Vec::with_capacity(alloc, cols as usize)?;
-    for number in 0..cols {
-        if forest.is_inside(Col(number)) {
-            level.push(Col(number))?;
-        }
-    }
-    Ok(level)
-}
-
-// A column claims the unclaimed rows in which it has entries, until its root has a leaf.
-fn scan(forest: &mut Forest, frontier: &mut Vec<Col>, col: Col) -> Result<(), OutOfMemory>
-    requires search { IsSearch forest.old frontier.old.items }
-    requires inside { InForest forest.old col }
-    ensures grown { Grows forest.old forest.new }
-    ensures search { OnOk result (IsSearch forest.new frontier.new.items) }
-    ensures scanned { OnOk result (IsScanned forest.new col) }
-    ensures further { OnOk result ((cs : List ℕ) × (frontier.new.items ≡ frontier.old.items ++ cs)) }
-{
-    claims_and_wins_grow();
-    let root = forest.root(col);
-    if forest.has_leaf(root) {
-        return Ok(());
-    }
-    let rows = forest.pattern().rows_of(col);
-    for row in rows {
-        if !forest.is_claimed(*row) && wins(forest, frontier, root, *row, col)? {
-            return Ok(());
-        }
-    }
-    Ok(())
-}
-
-// A column claims an unclaimed row. Whether the row is now its root's leaf; else its base mate is in the forest.
-fn wins(
+// Levels, one after the other, until the frontier is empty.
+fn search<R: Threads + Sync, G: Gate>(
+    rt: &R,
     forest: &mut Forest,
+    board: &ClaimBoard,
+    workers: &mut [Worker],
     frontier: &mut Vec<Col>,
-    root: Col,
-    row: Row,
-    col: Col,
-) -> Result<bool, OutOfMemory>
-    requires search { IsSearch forest.old frontier.old.items }
-    requires claim { IsLegal forest.old (Claim row col) }
-    requires root { RootOf forest.old.base forest.old.claims root col }
-    requires no_leaf { ¬ Among root (roots_of forest.old.leaves) }
+    free: &mut Vec<Row>,
+    gate: &G,
+) -> Result<(), OutOfMemory>
+    requires { IsSearched board.now workers.old forest.old }
     ensures grown { Grows forest.old forest.new }
-    ensures search { OnOk result (IsSearch forest.new frontier.new.items) }
-    ensures claimed { OnOk result (Among row (rows_of forest.new.claims)) }
-    ensures won { IfOk result (λ won. (IsTrue won × Among root (roots_of forest.new.leaves))
-        ⊎ ((won ≡ false) × (forest.new.leaves ≡ forest.old.leaves))) }
-    ensures further { OnOk result ((cs : List ℕ) × (frontier.new.items ≡ frontier.old.items ++ cs)) }
+    ensures search { OnOk result (IsSearched board.entry.now workers.new forest.new) }
+    ensures scanned { OnOk result ((c : ℕ) → InForest forest.new c → IsScanned forest.new c) }
+{
+    claims_and_wins_grow();
+    claims_are_in_the_forest();
+    first_frontier(rt, forest, board, workers, frontier, free, gate)?;
+    while !frontier.as_slice().is_empty() {
+        level(rt, forest, board, workers, frontier, free, gate)?;
+        forest.is_sound();
+    }
+    Ok(())
+}
+
+// The first frontier: all columns without a base mate, or what the unclaimed rows bring where there are trees already.
+fn first_frontier<R: Threads + Sync, G: Gate>(
+    rt: &R,
+    forest: &mut Forest,
+    board: &ClaimBoard,
+    workers: &mut [Worker],
+    frontier: &mut Vec<Col>,
+    free: &mut Vec<Row>,
+    gate: &G,
+) -> Result<(), OutOfMemory>
+    requires { IsSearched board.now workers.old forest.old }
+    ensures grown { Grows forest.old forest.new }
+    ensures search { OnOk result (IsSearched board.entry.now workers.new forest.new) }
+    ensures frontier { OnOk result (IsFrontier forest.new frontier.new.items) }
+{
+    claims_and_wins_grow();
+    if forest.claims().is_empty() {
+        unmatched_columns(forest, frontier)
+    } else {
+        level_up(rt, forest, board, workers, frontier, free, gate)
+    }
+}
+
+// One level, down or up.
+fn level<R: Threads + Sync, G: Gate>(
+    rt: &R,
+    forest: &mut Forest,
+    board: &ClaimBoard,
+    workers: &mut [Worker],
+    frontier: &mut Vec<Col>,
+    free: &mut Vec<Row>,
+    gate: &G,
+) -> Result<(), OutOfMemory>
+    requires search { IsSearched board.now workers.old forest.old }
+    requires frontier { IsFrontier forest.old frontier.old.items }
+    ensures grown { Grows forest.old forest.new }
+    ensures search { OnOk result (IsSearched board.entry.now workers.new forest.new) }
+    ensures frontier { OnOk result (IsFrontier forest.new frontier.new.items) }
+    ensures more { OnOk result (AreOfNewClaims forest.old frontier.new.items forest.new) }
 {
     forest.is_sound();
-    claims_and_wins_grow();
-    columns_have_one_root();
-    forest.claim(row, col);
-    match forest.base_col(row) {
-        Some(mate) => {
-            frontier.push(mate)?;
-            Ok(false)
-        }
-        None => {
-            forest.win(root, row);
-            Ok(true)
-        }
+    claims_are_in_the_forest();
+    let unclaimed = forest.pattern().rows() - claim_count(forest);
+    if goes_top_down(frontier.as_slice().len() as u32, unclaimed) {
+        level_down(rt, forest, board, workers, frontier, gate)
+    } else {
+        level_up(rt, forest, board, workers, frontier, free, gate)
     }
+}
+
+// One level from the frontier down.
+fn level_down<R: Threads + Sync, G: Gate>(
+    rt: &R,
+    forest: &mut Forest,
+    board: &ClaimBoard,
+    workers: &mut [Worker],
+    frontier: &mut Vec<Col>,
+    gate: &G,
+) -> Result<(), OutOfMemory>
+    requires search { IsSearched board.now workers.old forest.old }
+    requires frontier { IsFrontier forest.old frontier.old.items }
+    ensures grown { Grows forest.old forest.new }
+    ensures search { OnOk result (IsSearched board.entry.now workers.new forest.new) }
+    ensures frontier { OnOk result (IsFrontier forest.new frontier.new.items) }
+    ensures more { OnOk result (AreOfNewClaims forest.old frontier.new.items forest.new) }
+{
+    claims_and_wins_grow();
+    claims_are_in_the_forest();
+    let done = top_down(rt, forest, board, frontier.as_slice(), workers, gate);
+    let next = end_level(forest, workers, frontier);
+    forest.is_sound();
+    done?;
+    next
+}
+
+// One level from all unclaimed rows up.
+fn level_up<R: Threads + Sync, G: Gate>(
+    rt: &R,
+    forest: &mut Forest,
+    board: &ClaimBoard,
+    workers: &mut [Worker],
+    frontier: &mut Vec<Col>,
+    free: &mut Vec<Row>,
+    gate: &G,
+) -> Result<(), OutOfMemory>
+    requires { IsSearched board.now workers.old forest.old }
+    ensures grown { Grows forest.old forest.new }
+    ensures search { OnOk result (IsSearched board.entry.now workers.new forest.new) }
+    ensures frontier { OnOk result (IsFrontier forest.new frontier.new.items) }
+    ensures more { OnOk result (AreOfNewClaims forest.old frontier.new.items forest.new) }
+{
+    claims_and_wins_grow();
+    claims_are_in_the_forest();
+    columns_have_one_root();
+    unclaimed_rows(forest, free)?;
+    let done = attach(rt, forest, board, free.as_slice(), workers, gate);
+    let next = end_level(forest, workers, frontier);
+    forest.is_sound();
+    done?;
+    next
+}
+
+// Makes what the workers claimed and won in a level on the forest, and puts the base mates of the rows that were claimed in
+// place of the frontier, but for those whose root has a leaf.
+fn end_level(
+    forest: &mut Forest,
+    workers: &mut [Worker],
+    frontier: &mut Vec<Col>,
+) -> Result<(), OutOfMemory>
+    requires { Runs forest.old (fresh_events workers.old) (grown forest.old workers.old) }
+    ensures forest { forest.new ≡ grown forest.old workers.old }
+    ensures agree { (b : Board) → Shows b workers.old forest.new.claims forest.new.leaves
+        → Agree b workers.new forest.new.claims forest.new.leaves }
+    ensures mates { OnOk result (AreMatesOf forest.new (fresh_claims_of workers.old) frontier.new.items) }
+{
+    let before = forest.claims().len();
+    absorb(forest, workers);
+    mates_of(forest, &forest.claims()[before..], frontier)
+}
+
+// Closes the board with the seats of all workers.
+fn close(alloc: Global, board: ClaimBoard, workers: Vec<Worker>) -> Result<(), OutOfMemory>
+    requires { AreAllWorkers board workers.items }
+{
+    let seats = seats_of_all(alloc, workers)?;
+    match board.close(seats) {
+        Ok(_words) => Ok(()),
+        Err(_back) => Err(OutOfMemory),
+    }
+}
+
+// The seats of these workers.
+fn seats_of_all(alloc: Global, workers: Vec<Worker>) -> Result<Vec<ClaimSeat>, OutOfMemory>
+    ensures { IfOk result (λ seats. seats.items ≡ seats_of workers.items) }
+{
+    let mut seats = Vec::with_capacity(alloc, workers.len())?;
+    for worker in workers {
+        seats.push(worker.into_seat())?;
+    }
+    Ok(seats)
 }

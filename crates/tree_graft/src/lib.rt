@@ -1,13 +1,15 @@
 //! Maximum matchings by phases in which alternating trees grow from all unmatched columns at once, each until it has an
-//! augmenting path.
+//! augmenting path, by many workers who share the words of a board.
 //!
-//! The trees grow level by level, and a tree whose path is found grows no further (Azad, Buluç and Pothen, Computing maximum
-//! cardinality matchings in parallel on bipartite graphs via tree-grafting, 2017). Their trees without a path are kept for
-//! the next phase; here all trees grow anew after a phase that has found paths.
+//! The trees grow level by level, from their last columns down or from the unclaimed rows up, and a tree whose path is found
+//! grows no further. Trees without a path are kept for the next phase, where that is worth while (Azad, Buluç and Pothen,
+//! Computing maximum cardinality matchings in parallel on bipartite graphs via tree-grafting, 2017).
 #![tactic(auto)]
 
 mod augment;
+mod frontiers;
 mod levels;
+mod switches;
 
 ghost use Rattle.std.specs.Prelude.{◌≡◌, ◌↔◌, ◌+◌, ◌≤◌, length, IfOk};
 ghost use Rattle.bip_defs.specs.Matching.{Covers, IsMaximum};
@@ -19,6 +21,7 @@ ghost use Rattle.sp_ids.specs.declared.events.Event.TheVariants.{Done};
 
 use crate::augment::augment;
 use crate::levels::{can_grow, grow};
+pub use crate::switches::{goes_top_down, keeps_trees};
 use bip_graph::Matching;
 use forest_core::{
     Forest, done_is_maximum, events_keep_covered, events_keep_sound, forests_are_rested, runs_join,
@@ -32,11 +35,15 @@ use std::thread::Threads;
 /// One phase: the trees grow until each has a leaf or has nothing left to claim, and then the paths of all roots with a leaf
 /// are exchanged. Gives the number of these paths: 0 exactly where the base matching was maximum.
 ///
-/// The forest must be rested, and there may be 1 to 64 workers. After a phase that gives 0 the claims stay; after any other
-/// nothing is claimed. Neither the number of workers nor the gate has an effect yet. Answers `OutOfMemory` where there is no
-/// memory for 4 bytes a column; the forest is then one that legal events lead to. A forest without claims whose unmatched
-/// columns have no entries takes none. Work: each column and each of its entries is looked at once at most, and three writes
-/// at most for each pair of a path.
+/// The forest must be rested, and there may be 1 to 64 workers. They share each level and the exchange of the paths, and each
+/// calls `gate.arrive` once in each of these, whether its share is empty or not. A level goes down from the frontier where
+/// `goes_top_down` says so, and else up from all unclaimed rows; with claims a phase begins by a level up. After a phase that
+/// gives 0 the claims stay; after any other those of trees without a leaf do where `keeps_trees` says so, and else none.
+///
+/// Answers `OutOfMemory` where its boards and lists can't be had, at most 28 bytes a row and 40 a column at a time, or the
+/// workers' lists, 8 bytes for each claim and win of a level; the forest is then one that legal events lead to. A forest
+/// without claims whose unmatched columns have no entries takes none. Work: a few looks at each row and column; in each level
+/// at most one look at each entry of the frontier's columns, or of the unclaimed rows; and a few writes for each pair of a path.
 pub fn phase<R: Threads + Sync, G: Gate>(
     rt: &R,
     alloc: Global,
@@ -60,19 +67,19 @@ pub fn phase<R: Threads + Sync, G: Gate>(
     if forest.claims().is_empty() && !can_grow(forest.pattern(), forest.base()) {
         return Ok(0);
     }
-    grow(alloc, forest)?;
+    grow(rt, alloc, forest, workers, gate)?;
     if forest.leaves().is_empty() {
         return Ok(0);
     }
-    Ok(augment(forest))
+    augment(rt, alloc, forest, workers, gate)
 }
 
 /// A maximum matching, in which every row and column that was matched before is matched.
 ///
-/// The matching must be of the pattern's entries and sizes, and there may be 1 to 64 workers. Neither their number nor the
-/// gate has an effect yet. Answers `OutOfMemory` where there is no memory for 28 bytes a row and 21 a column; the matching is
-/// dropped then. Where each column that has an entry is matched it takes no memory. Work: at most one pass over the entries
-/// for each phase, of which all but the last make the matching larger.
+/// The matching must be of the pattern's entries and sizes, and there may be 1 to 64 workers. Answers `OutOfMemory` where there
+/// is no memory for the forest and a phase, at most 56 bytes a row and 57 a column, or for the workers' lists; the matching is
+/// dropped then. Where each column that has an entry is matched it takes no memory. Work: phases, of which all but the last
+/// make the matching larger.
 pub fn complete<R: Threads + Sync, G: Gate>(
     rt: &R,
     alloc: Global,

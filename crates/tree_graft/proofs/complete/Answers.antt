@@ -1,8 +1,7 @@
-use Rattle.std.proofs.Common.{◌≡◌, ◌∙◌, ap, subst, sym, true≢false, refl, not, false}
+use Rattle.std.proofs.Common.{◌∙◌, ap, subst, sym, true≢false, refl}
 use Rattle.bip_defs.specs.Matching.{IsMatching}
 use Rattle.bip_defs.specs.Matrix.{Matrix, cols}
 use Rattle.forest_core.specs.Events.{LeadsTo}
-use Rattle.forest_core.specs.Sound.{IsSound}
 use Rattle.bip_defs.specs.Forest.{IsRested, State, new_forest}
 use Rattle.tree_graft.proofs.PhaseLemmas.{covers_on, last_phase, lead_matching, left_maximum, phases_fall, told_none, told_some}
 use Rattle.tree_graft.proofs.SearchLemmas.{nothing_to_claim}

@@ -1,9 +1,9 @@
-use Rattle.std.proofs.Common.{◌∙◌, ◌==◌, List, ap, length, refl, subst, sym, true≢false}
+use Rattle.std.proofs.Common.{◌≡◌, ◌↔◌, ◌∙◌, ◌==◌, ◌+◌, [], List, ap, length, refl, subst, sym, true≢false}
 use Rattle.bip_defs.specs.Lists.{Among}
-use Rattle.bip_defs.specs.Matching.{cols_of}
+use Rattle.bip_defs.specs.Matching.{IsMaximum, cols_of}
 use Rattle.bip_defs.specs.Matrix.{IsEntry, Matrix, Place}
 use Rattle.bip_graph.specs.Matching.{Pairing}
-use Rattle.tree_graft.proofs.PhaseLemmas.{lead_matching, was_maximum, was_not_maximum}
+use Rattle.tree_graft.proofs.PhaseLemmas.{if_ok_both, lead_matching, was_maximum, was_not_maximum}
 use Rattle.tree_graft.proofs.SearchLemmas.{closed, none_listed, nothing_to_claim}
 use Rattle.tree_graft.proofs.phase.Goals as goal
 
@@ -35,4 +35,5 @@ returns-clause-maximum g c =
     let grown = c.in_ok-grow.ensures.grown in
     let legal = c.runs_join.ensures.on c.args.forest.now c.grow.new.forest c.augment.new.forest grown.legal c.augment.ensures.legal in
     let matching = lead_matching c.events_keep_sound.ensures.runs c.runs_join.ensures.matrix c.args.forest.now c.augment.new.forest c.is_sound.ensures legal in
-    was_not_maximum c.args.forest.now c.grow.new.forest c.augment.new.forest c.augment.result matching grown (λ e. true≢false (sym (c.is_empty-2.ensures ∙ ap (λ (ls : List Place). length ls == 0) (c.leaves.ensures ∙ e)) ∙ c.if-is_empty-2.false)) c.augment.ensures.paths c.augment.ensures.growth
+    let some = λ (e : c.grow.new.forest.leaves ≡ []). true≢false (sym (c.is_empty-2.ensures ∙ ap (λ (ls : List Place). length ls == 0) (c.leaves.ensures ∙ e)) ∙ c.if-is_empty-2.false) in
+    if_ok_both c.augment.result (λ k. k ≡ length c.grow.new.forest.leaves) (λ k. length c.augment.new.forest.base ≡ length c.grow.new.forest.base + k) (λ k. (k ≡ 0) ↔ IsMaximum c.args.forest.now.matrix c.args.forest.now.base) (λ k paths growth. was_not_maximum c.args.forest.now c.grow.new.forest c.augment.new.forest k matching grown some paths growth) c.augment.ensures.paths c.augment.ensures.growth

@@ -1,7 +1,7 @@
-use Rattle.std.proofs.Common.{◌≡◌, ◌≢◌, ◌<◌, ◌∙◌, ℕ, ap, arith, not, refl, subst, sym, ⊎_elim}
+use Rattle.std.proofs.Common.{◌≡◌, ◌≢◌, ◌∙◌, ap, arith, not, subst, sym, ⊎_elim}
 use Rattle.bip_defs.specs.Lists.{Among}
 use Rattle.bip_defs.specs.Matching.{cols_of}
-use Rattle.bip_defs.specs.Matrix.{IsEntry, Place, cols}
+use Rattle.bip_defs.specs.Matrix.{IsEntry, Place}
 use Rattle.bip_defs.proofs.Sets.{col_among, entry_col, number_same}
 use Rattle.tree_graft.proofs.SearchLemmas.{none_among, some_holds}
 use Rattle.tree_graft.proofs.levels.can_grow.Goals.{else-is_none-via-then-is_none+else-not-is_empty, else-is_none-via-else-is_none}

@@ -1,0 +1,134 @@
+-- Levels of a search: what is scanned after each, the columns of the next, and why there is a last.
+use Rattle.std.proofs.Common.{◌≡◌, ◌⊎◌, ◌∙◌, ◌==◌, ℕ, ◌+◌, ◌^◌, ◌<◌, ◌≤◌, true, false, true≢false, List, [], ◌∷◌, ◌++◌, length, refl, sym, ap, subst, inl, inr, ⊎_elim, arith, length-append}
+use Rattle.std.proofs.lemmas.Bool.{eqb-true}
+use Rattle.std.proofs.lemmas.List.{map-append}
+use Rattle.bip_defs.specs.Lists.{Among, Lists}
+use Rattle.bip_defs.specs.Matching.{IsMatching, cols_of, rows_of}
+use Rattle.bip_defs.specs.Matrix.{IsEntry, Matrix, Place, cols}
+use Rattle.bip_defs.proofs.Full.{few_below}
+use Rattle.bip_defs.proofs.Sets.{among_either, among_last, among_left, among_right, entry_col, number_among, one_col, rising_distinct, row_among, row_pair}
+use Rattle.bip_defs.specs.Forest.{HasWon, InForest, IsWon, RootOf, State, above, roots_of}
+use Rattle.forest_core.specs.Events.{Grows}
+use Rattle.tree_graft.specs.Search.{AreMatesOf, IsFrontier, IsScanned, levels_left}
+
+-- what is scanned stays scanned
+pub scanned_more : (s t : State) → Grows s t → (c : ℕ) → IsScanned s c → IsScanned t c
+scanned_more s t g c (inl won) = inl (g.won c won)
+scanned_more s t g c (inr all) = inr (g.used_up c all)
+
+-- The first frontier.
+
+pub unmatched_are_frontier : (s : State) (f : List ℕ) → s.claims ≡ [] → cols s.matrix < 2 ^ 32 → Lists (λ c. (c < cols s.matrix) × (¬ Among c (cols_of s.base))) f → IsFrontier s f
+unmatched_are_frontier s f none few k = record {
+  few = let short = few_below (cols s.matrix) f (rising_distinct f k.rising) (λ c h. (k.sound c h).0) in omega (arith, short, few);
+  inside = λ c h. ((k.sound c h).0, inl (k.sound c h).1);
+  others = λ c i. inl (root c i);
+}
+  where
+    root : (c : ℕ) → InForest s c → Among c f
+    root c (lt, inl free) = k.complete c (lt, free)
+    root c (lt, inr (r, m, h)) = absurd (subst (λ (ps : List Place). Among r (rows_of ps)) none h)
+
+-- A level: every column that was in the forest is scanned.
+
+-- after a level from the frontier
+pub all_scanned : (s t : State) (f : List ℕ) → IsFrontier s f → Grows s t → ((c : ℕ) → Among c f → IsScanned t c) → (c : ℕ) → InForest s c → IsScanned t c
+all_scanned s t f k g scanned c i = ⊎_elim (λ h. scanned c h) (λ h. scanned_more s t g c h) (k.others c i)
+
+-- a column in the forest has a root, and one only
+abbrev pub HaveRoots : State → Type 0
+HaveRoots s = (c : ℕ) → InForest s c → (x : ℕ) × RootOf s.base s.claims x c
+
+abbrev pub HaveOneRoot : State → Type 0
+HaveOneRoot s = (x y c : ℕ) → RootOf s.base s.claims x c → RootOf s.base s.claims y c → x ≡ y
+
+still_claimed : (s t : State) → Grows s t → (r : ℕ) → Among r (rows_of s.claims) → Among r (rows_of t.claims)
+still_claimed s t g r h = let (d, i) = row_pair r s.claims h in row_among r d t.claims (g.claims (r, d) i)
+
+-- a column is scanned where each of its rows is claimed or its root has a leaf
+won_or_used_up : (t : State) → HaveOneRoot t → (x c : ℕ) → RootOf t.base t.claims x c → ((r : ℕ) → IsEntry t.matrix r c → Among r (rows_of t.claims) ⊎ HasWon t c) → IsScanned t c
+won_or_used_up t one x c w rows = ⊎_elim (λ l. inl (x, w, l)) (λ none. inr (λ r e. ⊎_elim (λ h. h) (λ (y, v, l). absurd (none (subst (λ z. Among z (roots_of t.leaves)) (one y x c v w) l))) (rows r e))) (number_among x (roots_of t.leaves))
+
+-- after a level from all unclaimed rows
+pub all_attached : (s t : State) (free : List ℕ) → HaveRoots t → HaveOneRoot t → Grows s t → ((r : ℕ) → r < s.matrix.rows → ¬ Among r (rows_of s.claims) → Among r free) → ((r c : ℕ) → Among r free → IsEntry s.matrix r c → InForest s c → Among r (rows_of t.claims) ⊎ HasWon t c) → (c : ℕ) → InForest s c → IsScanned t c
+all_attached s t free some one g unclaimed attached c i = let (x, w) = some c (g.inside c i) in won_or_used_up t one x c w row
+  where
+    row : (r : ℕ) → IsEntry t.matrix r c → Among r (rows_of t.claims) ⊎ HasWon t c
+    row r e =
+        let here = subst (λ (a : Matrix). IsEntry a r c) g.matrix e in
+        ⊎_elim (λ h. inl (still_claimed s t g r h)) (λ n. attached r c (unclaimed r here.0 n) here i) (number_among r (rows_of s.claims))
+
+-- The next frontier.
+
+claimed_or_last : (s t : State) (last : List Place) → t.claims ≡ s.claims ++ last → (r : ℕ) → Among r (rows_of t.claims) → Among r (rows_of s.claims) ⊎ Among r (rows_of last)
+claimed_or_last s t last e r h = among_either r (rows_of s.claims) (rows_of last) (subst (Among r) (ap rows_of e ∙ map-append (λ (p : Place). p.0) s.claims last) h)
+
+pub last_claimed : (s t : State) (last : List Place) → t.claims ≡ s.claims ++ last → (r : ℕ) → Among r (rows_of last) → Among r (rows_of t.claims)
+last_claimed s t last e r h = subst (Among r) (sym (ap rows_of e ∙ map-append (λ (p : Place). p.0) s.claims last)) (among_right r (rows_of s.claims) (rows_of last) h)
+
+pub next_is_frontier : (s t : State) (last : List Place) (f : List ℕ) → IsMatching t.matrix t.base → Grows s t → t.claims ≡ s.claims ++ last → length t.claims < 2 ^ 32 → ((c : ℕ) → InForest s c → IsScanned t c) → AreMatesOf t last f → IsFrontier t f
+next_is_frontier s t last f k g e few scanned mates = record {
+  few = let short = mates.few in let long = ap (λ (ps : List Place). length ps) e ∙ length-append s.claims last in omega (arith, few, short, long);
+  inside = λ c h. let (r, l, m) = mates.sound c h in (entry_col t.matrix r c (k.entries r c m), inr (r, m, last_claimed s t last e r l));
+  others = λ c i. others c i;
+}
+  where
+    before : (c : ℕ) → InForest s c → Among c f ⊎ IsScanned t c
+    before c i = inr (scanned c i)
+
+    others : (c : ℕ) → InForest t c → Among c f ⊎ IsScanned t c
+    others c (lt, inl free) = before c (subst (λ (a : Matrix). c < cols a) g.matrix lt, inl (subst (λ (m : List Place). ¬ Among c (cols_of m)) g.base free))
+    others c (lt, inr (r, m, h)) = ⊎_elim
+        (λ l. before c (subst (λ (a : Matrix). c < cols a) g.matrix lt, inr (r, subst (λ (n : List Place). Among (r, c) n) g.base m, l)))
+        (λ l. ⊎_elim (λ (i : Among c f). inl i) (λ (w : HasWon t c). inr (inl w)) (mates.complete r c l m))
+        (claimed_or_last s t last e r h)
+
+-- The last level.
+
+pub scanned_at_end : (s : State) (f : List ℕ) → (length f == 0) ≡ true → IsFrontier s f → (c : ℕ) → InForest s c → IsScanned s c
+scanned_at_end s [] e k c i = ⊎_elim (λ h. absurd h) (λ h. h) (k.others c i)
+scanned_at_end s (d ∷ ds) e k c i = absurd (let zero : length (d ∷ ds) ≡ 0 = eqb-true (length (d ∷ ds)) 0 e in omega arith)
+
+-- each level claims a row or is the last
+pub levels_fall : (s t : State) (f g : List ℕ) → (length f == 0) ≡ false → t.matrix ≡ s.matrix → length t.claims ≤ t.matrix.rows → length s.claims + length g ≤ length t.claims → levels_left t g < levels_left s f
+levels_fall s t [] g ne same few more = absurd (true≢false ne)
+levels_fall s t (d ∷ ds) [] ne same few more = let rows = ap (λ (a : Matrix). a.rows) same in omega (arith, rows, few, more)
+levels_fall s t (d ∷ ds) (h ∷ hs) ne same few more = let rows = ap (λ (a : Matrix). a.rows) same in omega (arith, rows, few, more)
+
+-- The mates of one claimed row after the other.
+
+rows_more : (last : List Place) (p : Place) (r : ℕ) → Among r (rows_of (last ++ p ∷ [])) → Among r (rows_of last) ⊎ (r ≡ p.0)
+rows_more last p r h = among_last r p.0 (rows_of last) (subst (Among r) (map-append (λ (q : Place). q.0) last (p ∷ [])) h)
+
+rows_had : (last : List Place) (p : Place) (r : ℕ) → Among r (rows_of last) → Among r (rows_of (last ++ p ∷ []))
+rows_had last p r h = subst (Among r) (sym (map-append (λ (q : Place). q.0) last (p ∷ []))) (among_left r (rows_of last) (p.0 ∷ []) h)
+
+row_last : (last : List Place) (p : Place) → Among p.0 (rows_of (last ++ p ∷ []))
+row_last last p = subst (Among p.0) (sym (map-append (λ (q : Place). q.0) last (p ∷ []))) (among_right p.0 (rows_of last) (p.0 ∷ []) (inl refl))
+
+pub no_mates : (s : State) → AreMatesOf s [] []
+no_mates s = record { few = omega arith; sound = λ c h. absurd h; complete = λ r c h m. absurd h }
+
+-- the mate is put on the list
+pub mates_more : (s : State) (last : List Place) (f : List ℕ) (p : Place) (d : ℕ) → IsMatching s.matrix s.base → AreMatesOf s last f → Among (p.0, d) s.base → AreMatesOf s (last ++ p ∷ []) (f ++ d ∷ [])
+mates_more s last f p d k mates n = record {
+  few = let le = mates.few in omega (arith, le, length-append last (p ∷ []), length-append f (d ∷ []));
+  sound = λ c h. ⊎_elim (λ i. let (r, l, m) = mates.sound c i in (r, rows_had last p r l, m)) (λ (e : c ≡ d). (p.0, row_last last p, subst (λ z. Among {X = Place} (p.0, z) s.base) (sym e) n)) (among_last c d f h);
+  complete = λ r c h m. ⊎_elim (λ l. ⊎_elim (λ i. inl (among_left c f (d ∷ []) i)) (λ w. inr w) (mates.complete r c l m)) (λ (e : r ≡ p.0). inl (among_right c f (d ∷ []) (inl (one_col s.base k.rows_differ p.0 c d (subst (λ z. Among {X = Place} (z, c) s.base) e m) n)))) (rows_more last p r h);
+}
+
+-- the row's root has a leaf
+pub mates_won : (s : State) (last : List Place) (f : List ℕ) (p : Place) → AreMatesOf s last f → IsWon s p.0 → AreMatesOf s (last ++ p ∷ []) f
+mates_won s last f p mates (x, (d, i, w), l) = record {
+  few = let le = mates.few in omega (arith, le, length-append last (p ∷ []));
+  sound = λ c h. let (r, g, m) = mates.sound c h in (r, rows_had last p r g, m);
+  complete = λ r c h m. ⊎_elim (λ g. mates.complete r c g m) (λ (e : r ≡ p.0). inr (x, above p.0 (subst (λ z. Among {X = Place} (z, c) s.base) e m) i w, l)) (rows_more last p r h);
+}
+
+-- the row has no base mate
+pub mates_same : (s : State) (last : List Place) (f : List ℕ) (p : Place) → AreMatesOf s last f → ¬ Among p.0 (rows_of s.base) → AreMatesOf s (last ++ p ∷ []) f
+mates_same s last f p mates free = record {
+  few = let le = mates.few in omega (arith, le, length-append last (p ∷ []));
+  sound = λ c h. let (r, g, m) = mates.sound c h in (r, rows_had last p r g, m);
+  complete = λ r c h m. ⊎_elim (λ g. mates.complete r c g m) (λ (e : r ≡ p.0). absurd (free (subst (λ z. Among z (rows_of s.base)) e (row_among r c s.base m)))) (rows_more last p r h);
+}
