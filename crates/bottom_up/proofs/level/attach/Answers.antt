@@ -1,4 +1,4 @@
-use Rattle.std.proofs.Common.{length, ◌∙◌}
+use Rattle.std.proofs.Common.{length}
 use Rattle.std.proofs.lemmas.Result.{on_ok_weaker}
 use Rattle.level_sharing.specs.Shares.{shares_of_rows}
 use Rattle.bottom_up.proofs.LevelLemmas.{keep_to_rows, level_of}
@@ -16,7 +16,7 @@ returns g c =
     record {
       legal = c.new_pairs_run.ensures c.args.forest.now _ _ (c.levels_are_legal.ensures.claims level) (c.levels_are_legal.ensures.places level) (c.levels_are_legal.ensures.wins level) (c.levels_are_legal.ensures.leaves level);
       words = c.levels_are_shown.ensures level;
-      shares = keep_to_rows c.args.free.now (length c.args.workers.now) c.gather.new.workers (c.gather.auto.workers ∙ c.work_at_once-result.auto.workers) (c.levels_keep_to_shares.ensures level);
+      shares = keep_to_rows c.args.free.now (length c.args.workers.now) c.gather.new.workers (c.levels_keep_to_shares.ensures.many level) (c.levels_keep_to_shares.ensures.shares level);
       settled = on_ok_weaker c.work_at_once-result.result (λ through. c.levels_go_through_rows.ensures.settled level c.args.free.now through c.requires.settled) c.work_at_once-result.ensures.ok;
       rows = on_ok_weaker c.work_at_once-result.result (λ through r d. c.levels_go_through_rows.ensures.rows level c.args.free.now r d through) c.work_at_once-result.ensures.ok;
     }
