@@ -45,9 +45,12 @@ impl Model for FlipBoard {
     ghost use Rattle.flip_words.specs.Rule.{opened_in};
     ghost use Rattle.flip_words.specs.Stored.{IsLaid, board_in};
 
-    ghost view = { λ b. board_in b.table.shared.table_id (opened_in b.table.shared.key.rows b.table.shared.key.cols b.table.shared.key.words.value.items) };
+    ghost view = { λ b. board_in b.table.shared.table_id
+        (opened_in b.table.shared.key.rows b.table.shared.key.cols
+        b.table.shared.key.words.value.items) };
 
-    ghost invariant = { λ b. IsLaid b.table.shared.table_id b.rows b.cols b.table.shared.key.rows b.table.shared.key.cols b.table.shared.key.words.value.items };
+    ghost invariant = { λ b. IsLaid b.table.shared.table_id b.rows b.cols
+        b.table.shared.key.rows b.table.shared.key.cols b.table.shared.key.words.value.items };
 }
 
 // Each of these seats has taken itself what it lists as taken, and set vertices of such trees
@@ -87,7 +90,8 @@ impl FlipBoard {
         requires seats { (1 ≤ seats) × (seats ≤ max_workers) }
         requires row_tree { AreTrees matching.now.rows matching.now.cols row_tree.now }
         requires col_tree { AreTrees matching.now.cols matching.now.cols col_tree.now }
-        ensures board { IfOk result (λ b. IsOpenedFrom matching.now (row_tree.now ++ col_tree.now) b.0) }
+        ensures board { IfOk result
+            (λ b. IsOpenedFrom matching.now (row_tree.now ++ col_tree.now) b.0) }
         ensures seats { IfOk result (λ b. b.1.items ≡ new_seats b.0 seats) }
     {
         let words = lay_words(alloc, matching, row_tree, col_tree)?;
@@ -104,7 +108,8 @@ impl FlipBoard {
         cols: u32,
     ) -> Result<(FlipBoard, TableSeat), OutOfMemory>
         requires { AreOpening rows cols words.now.items }
-        ensures board { IfOk result (λ b. b.0 ≡ board_in b.0.id (opened_in rows cols words.now.items)) }
+        ensures board { IfOk result
+            (λ b. b.0 ≡ board_in b.0.id (opened_in rows cols words.now.items)) }
         ensures seat { IfOk result (λ b. b.1 ≡ first_seat b.0 1 nothing) }
     {
         let (rows, cols) = (rows as usize, cols as usize);
@@ -161,7 +166,8 @@ impl FlipBoard {
     fn join(&self, first: &mut TableSeat, last: TableSeat)
         requires first { first.old ≡ first_seat self.now (1 + last.number) first.old.listed }
         requires last { last.board ≡ self.now }
-        ensures { first.new ≡ first_seat self.now last.number (followed_by last.listed first.old.listed) }
+        ensures { first.new
+            ≡ first_seat self.now last.number (followed_by last.listed first.old.listed) }
     {
         let TableSeat { seat } = last;
         self.table

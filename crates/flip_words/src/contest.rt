@@ -82,17 +82,20 @@ fn contend_by_four<R: Threads + Sync>(
     requires lower { HasVisited board.now 0 zero.old × HasVisited board.now 0 one.old }
     requires upper { HasVisited board.now 0 two.old × HasVisited board.now 0 three.old }
     ensures lower { Visits board.now 100 zero.old zero.new × Visits board.now 100 one.old one.new }
-    ensures upper { Visits board.now 100 two.old two.new × Visits board.now 100 three.old three.new }
+    ensures upper { Visits board.now 100 two.old two.new
+        × Visits board.now 100 three.old three.new }
 {
     let (first, second) = join_mut(
         rt,
         &mut || -> u32
-            requires { IsSync R.row × HasVisited board.now 0 zero.now × HasVisited board.now 0 one.now }
+            requires { IsSync R.row × HasVisited board.now 0 zero.now
+                × HasVisited board.now 0 one.now }
             ensures { Visits board.entry.now 100 zero.entry.now zero.exit.now
                 × Visits board.entry.now 100 one.entry.now one.exit.now }
         { contend_by_two(rt, board, zero, one) },
         &mut || -> u32
-            requires { IsSync R.row × HasVisited board.now 0 two.now × HasVisited board.now 0 three.now }
+            requires { IsSync R.row × HasVisited board.now 0 two.now
+                × HasVisited board.now 0 three.now }
             ensures { Visits board.entry.now 100 two.entry.now two.exit.now
                 × Visits board.entry.now 100 three.entry.now three.exit.now }
         { contend_by_two(rt, board, two, three) },

@@ -49,7 +49,8 @@ pub(crate) fn lay_words(
 ) -> Result<Vec<u64>, OutOfMemory>
     requires row_tree { AreTrees matching.now.rows matching.now.cols row_tree.now }
     requires col_tree { AreTrees matching.now.cols matching.now.cols col_tree.now }
-    ensures { IfOk result (λ words. AreLaid matching.now (row_tree.now ++ col_tree.now) words.items) }
+    ensures { IfOk result
+        (λ words. AreLaid matching.now (row_tree.now ++ col_tree.now) words.items) }
 {
     // `size` tells the proof that rows and columns differ.
     let _size = matching.size();

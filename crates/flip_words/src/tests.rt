@@ -17,7 +17,8 @@ use std::thread::{Threads, join_mut};
 // seats.
 fn board_for_two(alloc: Global) -> Result<(FlipBoard, FlipSeat, FlipSeat), OutOfMemory>
     ensures sizes { IfOk result (λ b. (b.0.rows ≡ 3) × (b.0.cols ≡ 3)) }
-    ensures trees { IfOk result (λ b. b.0.trees ≡ Some 1 ∷ Some 1 ∷ None ∷ Some 0 ∷ Some 1 ∷ Some 1 ∷ []) }
+    ensures trees { IfOk result
+        (λ b. b.0.trees ≡ Some 1 ∷ Some 1 ∷ None ∷ Some 0 ∷ Some 1 ∷ Some 1 ∷ []) }
     ensures seats { IfOk result (λ b. (b.1 ≡ first_seat b.0 2 nothing) × (b.2 ≡ new_seat b.0 1)) }
 {
     let mut matching = Matching::empty(alloc, 3, 3)?;

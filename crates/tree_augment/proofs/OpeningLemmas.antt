@@ -5,10 +5,11 @@ use Rattle.std.proofs.Math.ListN.{get_or-append}
 use Rattle.bip_defs.specs.Forest.{IsRootOfRow, RootOf, State}
 use Rattle.bip_defs.specs.Matrix.{cols}
 use Rattle.flip_words.specs.Board.{AreTrees, Board, IsOpenedFrom, col_vertex, held}
+use Rattle.forest_core.specs.Current.{base_of}
 use Rattle.forest_core.specs.Stored.{AreColTrees, AreRowTrees}
 use Rattle.flip_words.specs.Seat.{Seat, more_seats, new_seats}
 use Rattle.tree_augment.specs.Augmented.{HaveTakenNone}
-use Rattle.tree_augment.specs.ForestBoards.{IsBoardOf, base_of}
+use Rattle.tree_augment.specs.ForestBoards.{IsBoardOf}
 
 pub row_trees_fit : (s : State) (trees : List (Option ℕ)) → ((x r : ℕ) → IsRootOfRow s.base s.claims x r → x < cols s.matrix) → length trees ≡ s.matrix.rows → AreRowTrees s trees → AreTrees s.matrix.rows (cols s.matrix) trees
 row_trees_fit s trees range long are = record { as_many = long; roots = λ v x e. range x v ((are v x).0 e) }

@@ -1,14 +1,14 @@
 -- One worker's round over the roots with a leaf.
-use Rattle.std.proofs.Common.{◌≡◌, ◌⊎◌, ◌↔◌, ◌∙◌, ℕ, ◌+◌, ◌<◌, ◌≤◌, List, [], ◌∷◌, ◌++◌, take, drop, get_or, take-append-drop, None, Some, length, refl, sym, ap, subst, inl, inr, ⊎_elim}
+use Rattle.std.proofs.Common.{◌≡◌, ◌⊎◌, ◌↔◌, ◌∙◌, ℕ, ◌+◌, ◌<◌, ◌≤◌, List, [], ◌∷◌, ◌++◌, take, drop, get_or, take-append-drop, append_assoc, None, Some, length, refl, sym, ap, subst, inl, inr, ⊎_elim}
 use Rattle.bip_defs.specs.Forest.{State, roots_of}
 use Rattle.bip_defs.specs.Lists.{Among}
 use Rattle.bip_defs.specs.Matrix.{Place}
-use Rattle.std.proofs.lemmas.List.{take_all, take_more}
+use Rattle.std.proofs.lemmas.List.{append-nil, map-append, take_all, take_more}
 use Rattle.bip_defs.proofs.Sets.{among_either, among_last, among_left, among_right, row_among, row_pair}
 use Rattle.flip_words.specs.Board.{Board, col_vertex, held}
-use Rattle.flip_words.specs.Seat.{HasSeen, HasSet, HasSetTo, IsRightful, KnowsTaker, Seat, Took, after_take}
-use Rattle.tree_augment.specs.Augmented.{ExchangesItsPaths, HasMet, IsOnTakenPath, IsPathPair}
-use Rattle.tree_augment.specs.Rounds.{HasExchanged, IsLater}
+use Rattle.flip_words.specs.Seat.{HasSet, HasSetTo, IsRightful, KnowsTaker, Seat, Took, after_take}
+use Rattle.tree_augment.specs.Augmented.{AreAsked, ExchangesItsPaths, HasAsked, HasMet, IsOnTakenPath, IsPathPair, none, saw, took}
+use Rattle.tree_augment.specs.Rounds.{AsksFor, HasExchanged}
 
 -- A seat that takes a tree.
 
@@ -18,10 +18,10 @@ takes t x e = subst (λ (v : Seat). Took v x) (sym e) (among_right (x, t.number)
 -- it has set no vertex of a tree that it did not know to be taken
 pub not_set_yet : {b : Board} {t u : Seat} {x : ℕ} → IsRightful t → t.board ≡ b → ((number : ℕ) → KnowsTaker t x number → None ≡ Some number) → u ≡ after_take t x None → (v : ℕ) → held b.trees v ≡ Some x → ¬ HasSet u v
 not_set_yet {b = b} {t = t} {x = x} own of known e v tree (mate, h) =
-    let (y, his, took) = own.sets v mate (subst (λ (z : Seat). HasSetTo z v mate) e h) in
+    let (y, his, mine) = own.sets v mate (subst (λ (z : Seat). HasSetTo z v mate) e h) in
     let roots = sym his ∙ ap (λ (a : Board). held a.trees v) of ∙ tree in
     let same : y ≡ x = cc in
-    let found = known t.number (inl (subst (λ i. Among (i, t.number) t.listed.taken) same took)) in
+    let found = known t.number (inl (subst (λ i. Among (i, t.number) t.listed.taken) same mine)) in
     cc
 
 module _ {s : State} {b : Board} {x : ℕ} (t : Seat) {m u : Seat} (e : m ≡ after_take t x None) (h : HasExchanged s b x m u) where
@@ -63,17 +63,18 @@ module _ {s : State} {b : Board} {x : ℕ} (t : Seat) {m u : Seat} (e : m ≡ af
     );
   }
 
-  seen_still : (y number : ℕ) → HasSeen t y number → HasSeen u y number
-  seen_still y number g = subst (Among (y, number)) (sym (h.seen ∙ ap (λ (v : Seat). v.listed.seen) e)) g
-
-  pub took_later : IsLater t u
-  took_later = record {
+  pub took_asked : AsksFor (x ∷ []) t u
+  took_asked = record {
     same = record {
       board = h.same.board ∙ ap (λ (v : Seat). v.board) e;
-      number = h.same.number ∙ ap (λ (v : Seat). v.number) e;
+      number = same_number;
       seats = h.same.seats ∙ ap (λ (v : Seat). v.seats) e;
     };
-    met = λ y g. ⊎_elim (λ i. inl (took_still y i)) (λ k. inr (k.0, seen_still y k.0 k.1)) g;
+    taken = (x, t.number) ∷ [];
+    seen = [];
+    asked = took x none;
+    took = lists;
+    saw = h.seen ∙ ap (λ (v : Seat). v.listed.seen) e ∙ sym (append-nil t.listed.seen);
   }
 
 -- A seat that sees which seat took a tree.
@@ -81,38 +82,86 @@ module _ {s : State} {b : Board} {x : ℕ} (t : Seat) {m u : Seat} (e : m ≡ af
 pub saw_paths : {s : State} {b : Board} (t : Seat) {u : Seat} (x number : ℕ) → u ≡ after_take t x (Some number) → ExchangesItsPaths s b t → ExchangesItsPaths s b u
 saw_paths {s = s} {b = b} t x number e was = subst (ExchangesItsPaths s b) (sym e) (record { taken = was.taken; rows = was.rows; cols = was.cols })
 
-pub saw_met : (t : Seat) {u : Seat} (x number : ℕ) → u ≡ after_take t x (Some number) → HasMet u x
-saw_met t x number e = subst (λ (v : Seat). HasMet v x) (sym e) (inr (number, among_right (x, number) t.listed.seen ((x, number) ∷ []) (inl refl)))
-
-pub saw_later : (t : Seat) {u : Seat} (x number : ℕ) → u ≡ after_take t x (Some number) → IsLater t u
-saw_later t x number e = subst (IsLater t) (sym e) (record {
+pub saw_asked : (t : Seat) {u : Seat} (x number : ℕ) → u ≡ after_take t x (Some number) → AsksFor (x ∷ []) t u
+saw_asked t x number e = subst (AsksFor (x ∷ []) t) (sym e) (record {
   same = record { board = refl; number = refl; seats = refl };
-  met = λ y g. ⊎_elim (λ i. inl i) (λ k. inr (k.0, among_left (y, k.0) t.listed.seen ((x, number) ∷ []) k.1)) g;
+  taken = [];
+  seen = (x, number) ∷ [];
+  asked = saw x number none;
+  took = sym (append-nil t.listed.taken);
+  saw = refl;
 })
 
 -- Many visits.
 
-pub still_later : {t u v : Seat} → IsLater t u → IsLater u v → IsLater t v
-still_later a b = record { same = record { board = b.same.board ∙ a.same.board; number = b.same.number ∙ a.same.number; seats = b.same.seats ∙ a.same.seats }; met = λ x h. b.met x (a.met x h) }
+asked_then : {n : ℕ} {xs ys : List ℕ} {ts us ss vs : List (ℕ × ℕ)} → AreAsked n xs ts ss → AreAsked n ys us vs → AreAsked n (xs ++ ys) (ts ++ us) (ss ++ vs)
+asked_then none b = b
+asked_then (took x a) b = took x (asked_then a b)
+asked_then (saw x holder a) b = saw x holder (asked_then a b)
 
-pub no_later : (t : Seat) → IsLater t t
-no_later t = record { same = record { board = refl; number = refl; seats = refl }; met = λ x h. h }
+pub asks_none : (t : Seat) → AsksFor [] t t
+asks_none t = record {
+  same = record { board = refl; number = refl; seats = refl };
+  taken = [];
+  seen = [];
+  asked = none;
+  took = sym (append-nil t.listed.taken);
+  saw = sym (append-nil t.listed.seen);
+}
 
--- one root more was met
-pub met_more : {t u : Seat} (i : ℕ) (part : List Place) (p : Place) → i < length part → p ≡ get_or part i p → ((x r : ℕ) → Among (x, r) (take i part) → HasMet t x) → IsLater t u → HasMet u p.0 → (x r : ℕ) → Among (x, r) (take (i + 1) part) → HasMet u x
-met_more {u = u} i part p lt is met later now x r h =
+pub asks_then : {xs ys : List ℕ} {t u v : Seat} → AsksFor xs t u → AsksFor ys u v → AsksFor (xs ++ ys) t v
+asks_then {ys = ys} {t = t} a b = record {
+  same = record { board = b.same.board ∙ a.same.board; number = b.same.number ∙ a.same.number; seats = b.same.seats ∙ a.same.seats };
+  taken = a.taken ++ b.taken;
+  seen = a.seen ++ b.seen;
+  asked = asked_then a.asked (subst (λ n. AreAsked n ys b.taken b.seen) a.same.number b.asked);
+  took = b.took ∙ ap (λ ps. ps ++ b.taken) a.took ∙ append_assoc t.listed.taken a.taken b.taken;
+  saw = b.saw ∙ ap (λ ps. ps ++ b.seen) a.saw ∙ append_assoc t.listed.seen a.seen b.seen;
+}
+
+-- one root more was asked for
+pub asks_more : {t u v : Seat} (i : ℕ) (part : List Place) (p : Place) → i < length part → p ≡ get_or part i p → AsksFor (roots_of (take i part)) t u → AsksFor (p.0 ∷ []) u v → AsksFor (roots_of (take (i + 1) part)) t v
+asks_more {t = t} {v = v} i part p lt is a b =
     let more = take_more part i p lt ∙ ap (λ (q : Place). take i part ++ q ∷ []) (sym is) in
-    ⊎_elim (λ g. later.met x (met x r g)) (λ (e : (x, r) ≡ p). subst (HasMet u) (sym (ap (λ (q : Place). q.0) e)) now) (among_last (x, r) p (take i part) (subst (Among (x, r)) more h))
+    subst (λ xs. AsksFor xs t v) (sym (ap roots_of more ∙ map-append (λ (q : Place). q.0) (take i part) (p ∷ []))) (asks_then a b)
 
-pub met_all : (t : Seat) (i : ℕ) (part : List Place) → length part ≤ i → ((x r : ℕ) → Among (x, r) (take i part) → HasMet t x) → (x : ℕ) → Among x (roots_of part) → HasMet t x
-met_all t i part le met x h = let (r, g) = row_pair x part h in met x r (subst (Among {X = Place} (x, r)) (sym (take_all i part le)) g)
+pub asks_all : {t u : Seat} (i : ℕ) (part : List Place) → length part ≤ i → AsksFor (roots_of (take i part)) t u → AsksFor (roots_of part) t u
+asks_all {t = t} {u = u} i part le a = subst (λ ps. AsksFor (roots_of ps) t u) (take_all i part le) a
 
 -- The two parts of a round.
 
 pub among_back : (i : ℕ) (p : Place) (whole : List Place) → Among p (drop i whole) → Among p whole
 among_back i p whole h = subst (Among p) (take-append-drop i whole) (among_right p (take i whole) (drop i whole) h)
 
-pub met_parts : (u : Seat) (i : ℕ) (whole : List Place) → ((x : ℕ) → Among x (roots_of (take i whole)) → HasMet u x) → ((x : ℕ) → Among x (roots_of (drop i whole)) → HasMet u x) → (x : ℕ) → Among x (roots_of whole) → HasMet u x
-met_parts u i whole front back x h =
+pub asks_round : {t u v : Seat} (front back : List Place) → AsksFor (roots_of back) t u → AsksFor (roots_of front) u v → AsksFor (roots_of (back ++ front)) t v
+asks_round {t = t} {v = v} front back a b = subst (λ xs. AsksFor xs t v) (sym (map-append (λ (q : Place). q.0) back front)) (asks_then a b)
+
+-- each root with a leaf stands in the round
+pub round_has : (i : ℕ) (x : ℕ) (whole : List Place) → Among x (roots_of whole) → Among x (roots_of (drop i whole ++ take i whole))
+round_has i x whole h =
     let (r, g) = row_pair x whole h in
-    ⊎_elim (λ k. front x (row_among x r (take i whole) k)) (λ k. back x (row_among x r (drop i whole) k)) (among_either (x, r) (take i whole) (drop i whole) (subst (Among {X = Place} (x, r)) (sym (take-append-drop i whole)) g))
+    row_among x r (drop i whole ++ take i whole)
+    (⊎_elim (λ k. among_right (x, r) (drop i whole) (take i whole) k) (λ k. among_left (x, r) (drop i whole) (take i whole) k) (among_either (x, r) (take i whole) (drop i whole) (subst (Among {X = Place} (x, r)) (sym (take-append-drop i whole)) g)))
+
+-- What a seat asked for it took, or saw taken.
+
+asked_listed : {n : ℕ} {xs : List ℕ} {ts ss : List (ℕ × ℕ)} (x : ℕ) → AreAsked n xs ts ss → Among x xs → Among (x, n) ts ⊎ ((k : ℕ) × Among (x, k) ss)
+asked_listed x none h = absurd h
+asked_listed {n = n} x (took y a) (inl e) = inl (inl (λ i. (e i, n)))
+asked_listed x (took y a) (inr h) = ⊎_elim (λ g. inl (inr g)) (λ g. inr g) (asked_listed x a h)
+asked_listed x (saw y k a) (inl e) = inr (k, inl (λ i. (e i, k)))
+asked_listed x (saw y k a) (inr h) = ⊎_elim (λ g. inl g) (λ g. inr (g.0, inr g.1)) (asked_listed x a h)
+
+pub asked_met : {xs : List ℕ} {t u : Seat} (x : ℕ) → AsksFor xs t u → Among x xs → HasMet u x
+asked_met {t = t} {u = u} x a h =
+    ⊎_elim
+    (λ g. inl (subst (λ n. Among (x, n) u.listed.taken) (sym a.same.number) (subst (Among (x, t.number)) (sym a.took) (among_right (x, t.number) t.listed.taken a.taken g))))
+    (λ g. inr (g.0, subst (Among (x, g.0)) (sym a.saw) (among_right (x, g.0) t.listed.seen a.seen g.1))) (asked_listed x a.asked h)
+
+pub has_asked : {xs : List ℕ} {t u : Seat} → t.listed.taken ≡ [] → AsksFor xs t u → HasAsked xs u
+has_asked {xs = xs} {t = t} {u = u} none_taken a = record {
+  before = t.listed.seen;
+  seen = a.seen;
+  saw = a.saw;
+  asked = subst (λ n. AreAsked n xs u.listed.taken a.seen) (sym a.same.number) (subst (λ ps. AreAsked t.number xs ps a.seen) (sym (a.took ∙ ap (λ ps. ps ++ a.taken) none_taken)) a.asked);
+}

@@ -1,14 +1,16 @@
 -- All workers at once.
-use Rattle.std.proofs.Common.{◌≡◌, ℕ, suc, ◌+◌, ◌≤◌, List, [], ◌∷◌, length, refl, sym, subst, inl, inr, arith}
+use Rattle.std.proofs.Common.{◌≡◌, ℕ, suc, ◌+◌, ◌*◌, ◌/◌, ◌≤◌, List, [], ◌∷◌, length, refl, sym, subst, inl, inr, arith}
 use Rattle.std.specs.List.{AllZip}
-use Rattle.bip_defs.specs.Forest.{State}
+use Rattle.std.proofs.lemmas.Slice.Zip.{AllZip-long}
+use Rattle.bip_defs.specs.Forest.{State, roots_of}
 use Rattle.bip_defs.specs.Lists.{Among}
 use Rattle.flip_words.specs.Board.{Board, col_vertex}
 use Rattle.flip_words.specs.Seat.{AreAllSeats, AreNumbered, HasSetTo, IsRightful, IsSameSeat, Seat, Took}
 use Rattle.level_sharing.specs.Each.{EachFrom, EachPairFrom}
-use Rattle.tree_augment.specs.Augmented.{ExchangesItsPaths, HaveAugmented, IsOnTakenPath}
+use Rattle.tree_augment.specs.Augmented.{ExchangesItsPaths, HasAsked, HaveAugmented, HaveTakenNone, IsOnTakenPath, once_round}
 use Rattle.tree_augment.specs.ForestBoards.{IsBoardOf}
 use Rattle.tree_augment.specs.Rounds.{CanGoRound, HasGoneRound}
+use Rattle.tree_augment.proofs.RoundLemmas.{asked_met, has_asked, round_has}
 
 -- Seats that have taken nothing.
 
@@ -48,22 +50,30 @@ ready ts of all none = ready_from (length ts) 0 ts of (omega arith) (λ t h. (al
 
 -- Seats after their rounds.
 
-same_seats : (s : State) (b : Board) (n : ℕ) (ts us : List Seat) → EachPairFrom (λ k t u. HasGoneRound s b t u) n ts us → AllZip IsSameSeat ts us
-same_seats s b n [] [] h = tt
-same_seats s b n [] (u ∷ us) h = h
-same_seats s b n (t ∷ ts) [] h = h
-same_seats s b n (t ∷ ts) (u ∷ us) h = (h.0.same, same_seats s b (suc n) ts us h.1)
+module _ (s : State) (b : Board) (workers : ℕ) where
+  same_seats : (n : ℕ) (ts us : List Seat) → EachPairFrom (λ k t u. HasGoneRound s b workers k t u) n ts us → AllZip IsSameSeat ts us
+  same_seats n [] [] h = tt
+  same_seats n [] (u ∷ us) h = h
+  same_seats n (t ∷ ts) [] h = h
+  same_seats n (t ∷ ts) (u ∷ us) h = (h.0.asked.same, same_seats (suc n) ts us h.1)
 
-gone : {s : State} {b : Board} (n : ℕ) (ts us : List Seat) → EachPairFrom (λ k t u. HasGoneRound s b t u) n ts us → (u : Seat) → Among u us → (t : Seat) × HasGoneRound s b t u
-gone n [] [] h u i = absurd i
-gone n [] (v ∷ us) h u i = absurd h
-gone n (t ∷ ts) [] h u i = absurd h
-gone {s = s} {b = b} n (t ∷ ts) (v ∷ us) h u (inl e) = (t, subst (HasGoneRound s b t) (sym e) h.0)
-gone n (t ∷ ts) (v ∷ us) h u (inr i) = gone (suc n) ts us h.1 u i
+  gone : (n : ℕ) (ts us : List Seat) → EachPairFrom (λ k t u. HasGoneRound s b workers k t u) n ts us → (u : Seat) → Among u us → (k : ℕ) × (t : Seat) × HasGoneRound s b workers k t u
+  gone n [] [] h u i = absurd i
+  gone n [] (v ∷ us) h u i = absurd h
+  gone n (t ∷ ts) [] h u i = absurd h
+  gone n (t ∷ ts) (v ∷ us) h u (inl e) = (n, t, subst (HasGoneRound s b workers n t) (sym e) h.0)
+  gone n (t ∷ ts) (v ∷ us) h u (inr i) = gone (suc n) ts us h.1 u i
 
-pub augmented : {s : State} {b : Board} (ts us : List Seat) → EachPairFrom (λ k t u. HasGoneRound s b t u) 0 ts us → (AllZip IsSameSeat ts us → AreAllSeats b us) → HaveAugmented s b us
-augmented {s = s} {b = b} ts us h all = record {
-  all = all (same_seats s b 0 ts us h);
-  met = λ u x i leaf. (gone 0 ts us h u i).1.met x leaf;
-  paths = λ u i. (gone 0 ts us h u i).1.paths;
+  rounds : (n : ℕ) (ts us : List Seat) → EachPairFrom (λ k t u. HasGoneRound s b workers k t u) n ts us → HaveTakenNone ts → EachFrom (λ (k : ℕ). HasAsked (roots_of (once_round s.leaves workers k))) n us
+  rounds n [] [] h none = tt
+  rounds n [] (u ∷ us) h none = absurd h
+  rounds n (t ∷ ts) [] h none = absurd h
+  rounds n (t ∷ ts) (u ∷ us) h none = (has_asked (none t (inl refl)) h.0.asked, rounds (suc n) ts us h.1 (λ v i. none v (inr i)))
+
+pub augmented : {s : State} {b : Board} (ts us : List Seat) → HaveTakenNone ts → EachPairFrom (λ k t u. HasGoneRound s b (length ts) k t u) 0 ts us → (AllZip IsSameSeat ts us → AreAllSeats b us) → HaveAugmented s b us
+augmented {s = s} {b = b} ts us none h all = record {
+  all = all (same_seats s b (length ts) 0 ts us h);
+  rounds = subst (λ n. EachFrom (λ (k : ℕ). HasAsked (roots_of (once_round s.leaves n k))) 0 us) (sym (AllZip-long IsSameSeat ts us (same_seats s b (length ts) 0 ts us h))) (rounds s b (length ts) 0 ts us h none);
+  met = λ u x i leaf. let (k, t, went) = gone s b (length ts) 0 ts us h u i in asked_met x went.asked (round_has (k * length s.leaves / length ts) x s.leaves leaf);
+  paths = λ u i. let (k, t, went) = gone s b (length ts) 0 ts us h u i in went.paths;
 }

@@ -1,13 +1,8 @@
 -- A flip board that was opened from a forest.
 use Rattle.std.specs.Prelude.{◌≡◌, ◌↔◌, ℕ, ◌<◌, Some}
 use Rattle.bip_defs.specs.Forest.{IsRootOfRow, RootOf, State}
-use Rattle.bip_defs.specs.Matrix.{cols}
-use Rattle.bip_graph.specs.Matching.{Pairing}
 use Rattle.flip_words.specs.Board.{Board, IsOpenedFrom, col_vertex, held}
-
--- the base matching of a forest
-abbrev pub base_of : State → Pairing
-base_of s = record { rows = s.matrix.rows; cols = cols s.matrix; pairs = s.base }
+use Rattle.forest_core.specs.Current.{base_of}
 
 -- The board was opened with the mates of the forest's base matching and with its trees: the tree of each row and of each column
 -- is that of its root in the forest

@@ -1,16 +1,19 @@
 -- One worker's round over the roots with a leaf, and its visit of each.
-use Rattle.std.specs.Prelude.{◌≡◌, ◌⊎◌, ◌↔◌, ℕ, ◌<◌, []}
+use Rattle.std.specs.Prelude.{◌≡◌, ◌⊎◌, ◌↔◌, ℕ, ◌<◌, List, [], ◌++◌}
 use Rattle.bip_defs.specs.Forest.{State, roots_of}
-use Rattle.bip_defs.specs.Lists.{Among}
 use Rattle.flip_words.specs.Board.{Board, col_vertex}
 use Rattle.flip_words.specs.Seat.{HasSetTo, IsSameSeat, Seat}
-use Rattle.tree_augment.specs.Augmented.{ExchangesItsPaths, HasMet, IsPathPair}
+use Rattle.tree_augment.specs.Augmented.{AreAsked, ExchangesItsPaths, IsPathPair, once_round}
 use Rattle.tree_augment.specs.ForestBoards.{IsBoardOf}
 
--- the same seat, which has still met all roots that it had met
-pub record IsLater (t u : Seat) : Type 0 where
+-- the same seat, after it asked for these trees in their order
+pub record AsksFor (xs : List ℕ) (t u : Seat) : Type 0 where
   pub same : IsSameSeat t u
-  pub met : (x : ℕ) → HasMet t x → HasMet u x
+  pub taken : List (ℕ × ℕ)
+  pub seen : List (ℕ × ℕ)
+  pub asked : AreAsked t.number xs taken seen
+  pub took : u.listed.taken ≡ t.listed.taken ++ taken
+  pub saw : u.listed.seen ≡ t.listed.seen ++ seen
 
 -- the same seat, after it set the vertices of the path of a root
 pub record HasExchanged (s : State) (b : Board) (x : ℕ) (t u : Seat) : Type 0 where
@@ -27,8 +30,7 @@ pub record CanGoRound (s : State) (b : Board) (workers number : ℕ) (t : Seat) 
   pub seat : t.board ≡ b
   pub none_taken : t.listed.taken ≡ []
 
--- the same seat, after its round
-pub record HasGoneRound (s : State) (b : Board) (t u : Seat) : Type 0 where
-  pub same : IsSameSeat t u
-  pub met : (x : ℕ) → Among x (roots_of s.leaves) → HasMet u x
+-- the same seat, after its round as the worker of this number
+pub record HasGoneRound (s : State) (b : Board) (workers number : ℕ) (t u : Seat) : Type 0 where
+  pub asked : AsksFor (roots_of (once_round s.leaves workers number)) t u
   pub paths : ExchangesItsPaths s b u

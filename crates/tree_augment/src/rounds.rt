@@ -1,11 +1,11 @@
 //! One worker's part: a round over all roots with a leaf.
 
-ghost use Rattle.std.specs.Prelude.{◌≡◌, ℕ, ◌≤◌, length};
+ghost use Rattle.std.specs.Prelude.{◌≡◌, ℕ, ◌≤◌, [], ◌∷◌, ◌++◌, drop, length, take};
 ghost use Rattle.bip_defs.specs.Forest.{roots_of};
 ghost use Rattle.bip_defs.specs.Lists.{Among};
-ghost use Rattle.tree_augment.specs.Augmented.{ExchangesItsPaths, HasMet};
+ghost use Rattle.tree_augment.specs.Augmented.{ExchangesItsPaths};
 ghost use Rattle.tree_augment.specs.ForestBoards.{IsBoardOf};
-ghost use Rattle.tree_augment.specs.Rounds.{IsLater};
+ghost use Rattle.tree_augment.specs.Rounds.{AsksFor};
 
 use crate::walk::exchange;
 use flip_words::{FlipBoard, FlipSeat, Taken};
@@ -19,8 +19,7 @@ fn visit(forest: &Forest, board: &FlipBoard, seat: &mut FlipSeat, root: Col, lea
     requires leaf { Among (root, leaf) forest.now.leaves }
     requires paths { ExchangesItsPaths forest.now board.now seat.old }
     ensures paths { ExchangesItsPaths forest.now board.now seat.new }
-    ensures met { HasMet seat.new root }
-    ensures later { IsLater seat.old seat.new }
+    ensures asked { AsksFor (root ∷ []) seat.old seat.new }
 {
     forest.is_sound();
     leaves_end_paths();
@@ -38,8 +37,7 @@ fn visit_each(forest: &Forest, board: &FlipBoard, seat: &mut FlipSeat, part: &[(
     requires leaves { (x r : ℕ) → Among (x, r) part.now → Among (x, r) forest.now.leaves }
     requires paths { ExchangesItsPaths forest.now board.now seat.old }
     ensures paths { ExchangesItsPaths forest.now board.now seat.new }
-    ensures met { (x : ℕ) → Among x (roots_of part.now) → HasMet seat.new x }
-    ensures later { IsLater seat.old seat.new }
+    ensures asked { AsksFor (roots_of part.now) seat.old seat.new }
 {
     for (root, leaf) in part {
         visit(forest, board, seat, *root, *leaf);
@@ -53,8 +51,8 @@ pub fn go_round(forest: &Forest, board: &FlipBoard, seat: &mut FlipSeat, from: u
     requires seat { seat.old.board ≡ board.now }
     requires paths { ExchangesItsPaths forest.now board.now seat.old }
     ensures paths { ExchangesItsPaths forest.now board.now seat.new }
-    ensures met { (x : ℕ) → Among x (roots_of forest.now.leaves) → HasMet seat.new x }
-    ensures later { IsLater seat.old seat.new }
+    ensures asked { AsksFor (roots_of (drop from forest.now.leaves ++ take from forest.now.leaves))
+        seat.old seat.new }
 {
     let (before, after) = forest.leaves().split_at(from);
     visit_each(forest, board, seat, after);

@@ -27,9 +27,9 @@ impl<'a, 'p> Work<FlipSeat, Infallible> for Rounds<'a, 'p> {
 
     ghost can_begin = { λ w number t. CanGoRound w.forest.now w.board.now w.workers number t };
 
-    ghost leaves = { λ w number t u. HasGoneRound w.forest.now w.board.now t u };
+    ghost leaves = { λ w number t u. HasGoneRound w.forest.now w.board.now w.workers number t u };
 
-    ghost completes = { λ w number t u. HasGoneRound w.forest.now w.board.now t u };
+    ghost completes = { λ w number t u. HasGoneRound w.forest.now w.board.now w.workers number t u };
 
     fn run(&self, number: u32, seat: &mut FlipSeat) -> Result<(), Infallible> {
         seat.is_rightful();

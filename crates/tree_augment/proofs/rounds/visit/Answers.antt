@@ -1,6 +1,6 @@
-use Rattle.std.proofs.Common.{inl, ◌<◌, subst, sym}
+use Rattle.std.proofs.Common.{◌<◌, subst, sym}
 use Rattle.bip_defs.proofs.Sets.{row_among}
-use Rattle.tree_augment.proofs.RoundLemmas.{not_set_yet, saw_later, saw_met, saw_paths, takes, took_it, took_later, took_paths}
+use Rattle.tree_augment.proofs.RoundLemmas.{not_set_yet, saw_asked, saw_paths, takes, took_asked, took_paths}
 use Rattle.tree_augment.proofs.rounds.visit.Goals as goal
 
 pub take-requires-clause-root : goal.take-requires-clause-root
@@ -15,17 +15,11 @@ exchange-requires-clause-unset c = not_set_yet c.is_rightful.ensures c.requires.
 pub returns-in-Mine-clause-paths : goal.returns-in-Mine-clause-paths
 returns-in-Mine-clause-paths c = took_paths c.args.seat.now c.in-Mine.ensures.seat c.exchange.ensures (row_among c.args.root c.args.leaf c.args.forest.now.leaves c.requires.leaf) c.requires.paths
 
-pub returns-in-Mine-clause-met : goal.returns-in-Mine-clause-met
-returns-in-Mine-clause-met c = inl (took_it c.args.seat.now c.in-Mine.ensures.seat c.exchange.ensures)
-
-pub returns-in-Mine-clause-later : goal.returns-in-Mine-clause-later
-returns-in-Mine-clause-later c = took_later c.args.seat.now c.in-Mine.ensures.seat c.exchange.ensures
-
 pub returns-in-Held-clause-paths : goal.returns-in-Held-clause-paths
 returns-in-Held-clause-paths c = saw_paths c.args.seat.now c.args.root _ c.in-Held.ensures.seat c.requires.paths
 
-pub returns-in-Held-clause-met : goal.returns-in-Held-clause-met
-returns-in-Held-clause-met c = saw_met c.args.seat.now c.args.root _ c.in-Held.ensures.seat
+pub returns-in-Mine-clause-asked : goal.returns-in-Mine-clause-asked
+returns-in-Mine-clause-asked c = took_asked c.args.seat.now c.in-Mine.ensures.seat c.exchange.ensures
 
-pub returns-in-Held-clause-later : goal.returns-in-Held-clause-later
-returns-in-Held-clause-later c = saw_later c.args.seat.now c.args.root _ c.in-Held.ensures.seat
+pub returns-in-Held-clause-asked : goal.returns-in-Held-clause-asked
+returns-in-Held-clause-asked c = saw_asked c.args.seat.now c.args.root _ c.in-Held.ensures.seat

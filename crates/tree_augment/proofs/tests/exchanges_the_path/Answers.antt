@@ -1,4 +1,4 @@
-use Rattle.std.proofs.Common.{◌≡◌, ◌∙◌, ap}
+use Rattle.std.proofs.Common.{◌∙◌, ap}
 use Rattle.bip_defs.specs.Matrix.{Matrix, cols}
 use Rattle.tree_augment.proofs.tests.exchanges_the_path.Goals as goal
 
