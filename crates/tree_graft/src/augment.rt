@@ -6,7 +6,7 @@ ghost use Rattle.forest_core.specs.Events.{AreFlipped, LeadsTo};
 ghost use Rattle.forest_core.specs.Exchanged.{AreExchanged};
 ghost use Rattle.sp_ids.specs.Limits.{max_workers};
 
-use crate::frontiers::{claim_count, is_won};
+use crate::frontiers::claim_count;
 use crate::switches::keeps_trees;
 use bip_graph::Mates;
 use forest_core::{
@@ -102,11 +102,9 @@ fn freed_rows(forest: &Forest) -> u32
     requires { length forest.now.claims < 2 ^ 32 }
     ensures { result ≤ length forest.now.claims }
 {
-    forest.is_sound();
-    claims_are_in_the_forest();
     let mut freed: u32 = 0;
-    for (row, _) in forest.claims() {
-        if is_won(forest, *row) {
+    for root in forest.claim_roots() {
+        if forest.has_leaf(*root) {
             freed += 1;
         }
     }

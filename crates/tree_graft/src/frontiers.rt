@@ -60,8 +60,8 @@ pub fn mates_of(
     Ok(())
 }
 
-/// Whether the root of a claimed row has a leaf.
-pub fn is_won(forest: &Forest, row: Row) -> bool
+// Whether the root of a claimed row has a leaf.
+fn is_won(forest: &Forest, row: Row) -> bool
     requires { row < forest.now.matrix.rows }
     ensures { IsTrue result → IsWon forest.now row }
 {

@@ -1,5 +1,5 @@
 use Rattle.std.proofs.Common.{◌≤◌}
 use Rattle.tree_graft.proofs.augment.freed_rows.Given as goal
 
-abbrev pub invariant-loop-row : goal.invariant-loop-row
-invariant-loop-row l = l.freed ≤ l.row-index
+abbrev pub invariant-loop-root : goal.invariant-loop-root
+invariant-loop-root l = l.freed ≤ l.root-index
