@@ -24,11 +24,12 @@ enum Engine {
     TreeGraft(u32),
 }
 
-const ENGINES: [Engine; 5] = [
+const ENGINES: [Engine; 6] = [
     Engine::Mc21,
     Engine::PothenFan,
     Engine::TreeGraft(1),
     Engine::TreeGraft(2),
+    Engine::TreeGraft(3),
     Engine::TreeGraft(64),
 ];
 
