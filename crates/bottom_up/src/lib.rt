@@ -7,5 +7,7 @@
 
 mod level;
 mod search;
+#[cfg(test)]
+mod tests;
 
 pub use level::attach;

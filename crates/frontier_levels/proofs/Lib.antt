@@ -1,4 +1,3 @@
-mod BoardLemmas
 mod EventLemmas
 mod SearchLemmas
 mod LevelLemmas

@@ -5,8 +5,9 @@ ghost use Rattle.bip_defs.specs.Matrix.{cols};
 ghost use Rattle.claim_words.specs.WorkerState.{seated};
 ghost use Rattle.level_sharing.specs.Agreement.{Agree};
 
-use claim_words::{ClaimBoard, ClaimSeat, Worker, new_seats_are_all, seats_stay};
+use claim_words::{ClaimBoard, ClaimSeat, Worker, new_seats_are_all};
 use forest_core::Forest;
+use level_sharing::new_workers_agree;
 use sp_ids::OutOfMemory;
 use std::alloc::Global;
 
@@ -25,7 +26,7 @@ pub fn open(
     ensures roots { IfOk result (λ o. length o.0.roots ≡ cols forest.now.matrix) }
 {
     new_seats_are_all();
-    seats_stay();
+    new_workers_agree();
     let holders = forest.row_holders(alloc)?;
     let leaves = forest.root_leaves(alloc)?;
     let (board, seats) = ClaimBoard::new(alloc, holders.as_slice(), leaves.as_slice(), workers)?;

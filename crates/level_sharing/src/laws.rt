@@ -1,15 +1,17 @@
 //! Laws on boards and workers that agree with a forest, and on shares.
 
-ghost use Rattle.std.specs.Prelude.{ℕ, ◌<◌, List, ◌++◌, map};
+ghost use Rattle.std.specs.Prelude.{ℕ, ◌<◌, ◌≤◌, List, ◌++◌, map};
 ghost use Rattle.bip_defs.specs.Lists.{Among, AreNew};
 ghost use Rattle.claim_words.specs.Board.{Board, Words};
+ghost use Rattle.claim_words.specs.Seat.{new_seats};
 ghost use Rattle.claim_words.specs.Settles.{SettlesAll};
-ghost use Rattle.claim_words.specs.WorkerState.{HaveGrown, WorkerState, fresh_claims_of, fresh_wins_of, seats_of, settled};
+ghost use Rattle.claim_words.specs.WorkerState.{HaveGrown, WorkerState, fresh_claims_of, fresh_wins_of, seated, seats_of, settled};
 ghost use Rattle.level_sharing.specs.Agreement.{Agree, HoldThese, Shows};
 ghost use Rattle.level_sharing.specs.Shares.{share_of};
 
 use claim_words::{
-    fresh_lists_add_up, fresh_lists_are_listed, listed_words_stand, seats_stay, times_add_up,
+    fresh_lists_add_up, fresh_lists_are_listed, listed_words_stand, new_seats_are_all, seats_stay,
+    times_add_up,
 };
 
 /// Board and workers agreed with a forest, and since then the workers have listed more. Then the fresh claims are of rows that
@@ -46,6 +48,16 @@ pub fn settled_workers_agree()
     ensures { (b : Board) (ws : List WorkerState) (claims leaves : List (ℕ × ℕ))
         → Shows b ws claims leaves → Agree b (map settled ws) claims leaves }
 {
+    seats_stay();
+}
+
+/// New workers agree with a forest, each on a new seat of a board that was opened with the claims and the leaves of the forest.
+pub fn new_workers_agree()
+    ensures { (b : Board) (seats : ℕ) (claims leaves : List (ℕ × ℕ)) → 1 ≤ seats
+        → HoldThese claims b.rows → HoldThese leaves b.roots
+        → Agree b (map seated (new_seats b seats)) claims leaves }
+{
+    new_seats_are_all();
     seats_stay();
 }
 
