@@ -282,21 +282,15 @@ fn reports_that_promise_more_than_they_hold(rt: HostRuntime) -> Result<(), Fail>
     Ok(())
 }
 
-// A number of ten million digits, and as many bytes that are no line.
+// A number of ten million digits.
 #[test]
-fn lines_of_ten_million_bytes(rt: HostRuntime) -> Result<(), Fail> {
-    for (front, byte) in [
-        ("btf 1\nmatrix 4 4 ", b'7'),
-        ("btf 1\nmatrix ", b'0'),
-        ("", b'x'),
-    ] {
-        let mut text = front.as_bytes().to_vec(rt.alloc())?;
-        text.reserve(10_000_000)?;
-        for _ in 0..10_000_000 {
-            text.push(byte)?;
-        }
-        let found = verdict(&rt, text.as_slice())?;
-        assert_eq!(rt; found.as_slice(), b"invalid 1\n".as_slice());
+fn a_number_of_ten_million_digits(rt: HostRuntime) -> Result<(), Fail> {
+    let mut text = b"btf 1\nmatrix 4 4 ".to_vec(rt.alloc())?;
+    text.reserve(10_000_000)?;
+    for _ in 0..10_000_000 {
+        text.push(b'7')?;
     }
+    let found = verdict(&rt, text.as_slice())?;
+    assert_eq!(rt; found.as_slice(), b"invalid 1\n".as_slice());
     Ok(())
 }
