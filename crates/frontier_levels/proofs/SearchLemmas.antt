@@ -1,8 +1,18 @@
--- What a search from the frontier down has done so far.
-use Rattle.std.proofs.Common.{◌≡◌, ◌∙◌, ℕ, ◌+◌, ◌<◌, List, [], ◌∷◌, ◌++◌, length, take, slice_index_or, sym, ap, subst, ⊎_elim, inl, inr}
+-- What a search from the frontier down has gathered and claimed so far.
+use Rattle.std.proofs.Common.{◌≡◌, ◌∙◌, ◌⊎◌, ℕ, ◌+◌, ◌<◌, List, [], ◌∷◌, ◌++◌, length, take, slice_index_or, Result, Ok, Err, OnOk, refl, sym, ap, subst, inl, inr, ⊎_elim}
 use Rattle.std.proofs.lemmas.List.{take_more}
+use Rattle.bip_defs.specs.Forest.{State}
 use Rattle.bip_defs.specs.Lists.{Among}
-use Rattle.bip_defs.proofs.Sets.{among_last}
+use Rattle.bip_defs.specs.Matrix.{column}
+use Rattle.bip_defs.proofs.Sets.{among_last, among_left, among_right}
+use Rattle.claim_words.specs.Board.{Board}
+use Rattle.claim_words.specs.Listed.{Sight}
+use Rattle.claim_words.specs.WorkerState.{WorkerState, work_after_look}
+use Rattle.frontier_levels.specs.Search.{HasGathered, IsCoveredColumn, StaysCovered}
+use Rattle.level_sharing.specs.Candidates.{IsCovered, IsDecided}
+use Rattle.level_sharing.specs.Progress.{CanClaim, HasSettled, IsThroughColumn, KnowsHolder, KnowsLeaf}
+use Rattle.level_sharing.specs.Shares.{by_columns}
+use Rattle.level_sharing.specs.declared.candidate.Candidate.{Candidate}
 
 -- what holds of the first k of a list and of the next holds of the first k + 1
 pub one_more : {X : Type 0} (P : X → Type 0) (xs : List X) (k : ℕ) (x : X) → k < length xs → x ≡ slice_index_or xs k x → ((y : X) → Among y (take k xs) → P y) → P x → (y : X) → Among y (take (k + 1) xs) → P y
@@ -10,7 +20,62 @@ one_more P xs k x inside e had new y m =
     let grown : take (k + 1) xs ≡ take k xs ++ x ∷ [] = take_more xs k x inside ∙ ap (λ z. take k xs ++ z ∷ []) (sym e) in
     ⊎_elim (had y) (λ same. subst P (sym same) new) (among_last y x (take k xs) (subst (λ l. Among y l) grown m))
 
--- what is on a list of one that is on another list is on this
-pub only : {X : Type 0} (y x : X) (xs : List X) → Among x xs → Among y (x ∷ []) → Among y xs
-only y x xs listed (inl e) = subst (λ z. Among z xs) (sym e) listed
-only y x xs listed (inr h) = absurd h
+pub ok_both : {A E P Q R : Type 0} (r : Result A E) → (P → Q → R) → OnOk r P → OnOk r Q → OnOk r R
+ok_both (Ok a) f p q = f p q
+ok_both (Err e) f p q = tt
+
+-- Candidates.
+
+-- nothing is gathered
+pub none_gathered : (s : State) (b : Board) (share : List ℕ) (w : WorkerState) → w.seat.board ≡ b → HasSettled s w → HasGathered s b share w []
+none_gathered s b share w seat settled = record { seat = seat; settled = settled; candidates = λ x m. absurd m; on_board = λ x m. absurd m }
+
+-- after a look
+pub gathered_after_look : (s : State) (b : Board) (share : List ℕ) (w : WorkerState) (xs : List Candidate) (sight : Sight) → HasSettled s (work_after_look w sight) → HasGathered s b share w xs → HasGathered s b share (work_after_look w sight) xs
+gathered_after_look s b share w xs sight settled g = record { seat = g.seat; settled = settled; candidates = g.candidates; on_board = g.on_board }
+
+-- one candidate more
+pub gathered_more : (s : State) (b : Board) (share : List ℕ) (w : WorkerState) (xs : List Candidate) (x : Candidate) → CanClaim s (by_columns share) x.row x.col x.root x.free → (x.row < length b.rows) × (x.root < length b.roots) → HasGathered s b share w xs → HasGathered s b share w (xs ++ x ∷ [])
+gathered_more s b share w xs x can on_board g = record {
+  seat = g.seat;
+  settled = g.settled;
+  candidates = λ y m. ⊎_elim (λ k. g.candidates y k) (λ (e : y ≡ x). subst (λ (z : Candidate). CanClaim s (by_columns share) z.row z.col z.root z.free) (sym e) can) (among_last y x xs m);
+  on_board = λ y m. ⊎_elim (λ k. g.on_board y k) (λ (e : y ≡ x). subst (λ (z : Candidate). (z.row < length b.rows) × (z.root < length b.roots)) (sym e) on_board) (among_last y x xs m);
+}
+
+-- What is covered.
+
+pub stays_known : (v w : WorkerState) (xs : List Candidate) → ((r : ℕ) → KnowsHolder v r → KnowsHolder w r) → ((x : ℕ) → KnowsLeaf v x → KnowsLeaf w x) → StaysCovered v xs w xs
+stays_known v w xs holder leaf r x (inl (inl h)) = inl (inl (holder r h))
+stays_known v w xs holder leaf r x (inl (inr k)) = inl (inr (leaf x k))
+stays_known v w xs holder leaf r x (inr c) = inr c
+
+pub stays_more : (w : WorkerState) (xs : List Candidate) (x : Candidate) → StaysCovered w xs w (xs ++ x ∷ [])
+stays_more w xs x r root (inl d) = inl d
+stays_more w xs x r root (inr (y, m, e, f)) = inr (y, among_left y xs (x ∷ []) m, e, f)
+
+pub covered_last : (w : WorkerState) (xs : List Candidate) (x : Candidate) → IsCovered w (xs ++ x ∷ []) x.row x.root
+covered_last w xs x = inr (x, among_right x xs (x ∷ []) (inl refl), refl, refl)
+
+pub column_stays : (s : State) (v w : WorkerState) (xs ys : List Candidate) (c : ℕ) → ((x : ℕ) → KnowsLeaf v x → KnowsLeaf w x) → StaysCovered v xs w ys → IsCoveredColumn s v xs c → IsCoveredColumn s w ys c
+column_stays s v w xs ys c leaf stays (x, root, inl k) = (x, root, inl (leaf x k))
+column_stays s v w xs ys c leaf stays (x, root, inr all) = (x, root, inr (λ r m. stays r x (all r m)))
+
+-- each row of a list is held or the root has a leaf: the root has a leaf, or all rows are held
+all_or_leaf : (w : WorkerState) (x : ℕ) (rows : List ℕ) → ((r : ℕ) → Among r rows → IsDecided w r x) → KnowsLeaf w x ⊎ ((r : ℕ) → Among r rows → KnowsHolder w r)
+all_or_leaf w x [] f = inr (λ r m. absurd m)
+all_or_leaf w x (r ∷ rows) f = ⊎_elim
+    (λ (held_by : KnowsHolder w r). ⊎_elim
+    (λ (leaf : KnowsLeaf w x). inl leaf)
+    (λ (all : (q : ℕ) → Among q rows → KnowsHolder w q). inr (λ q m. ⊎_elim (λ (e : q ≡ r). subst (λ z. KnowsHolder w z) (sym e) held_by) (λ k. all q k) m))
+    (all_or_leaf w x rows (λ q m. f q (inr m))))
+    (λ (leaf : KnowsLeaf w x). inl leaf)
+    (f r (inl refl))
+
+-- once the candidates are claimed
+pub through_column : (s : State) (v w : WorkerState) (xs : List Candidate) (c : ℕ) → ((x : ℕ) → KnowsLeaf v x → KnowsLeaf w x) → ((r x : ℕ) → IsCovered v xs r x → IsDecided w r x) → IsCoveredColumn s v xs c → IsThroughColumn s w c
+through_column s v w xs c leaf decided (x, root, inl k) = inl (x, root, leaf x k)
+through_column s v w xs c leaf decided (x, root, inr all) = ⊎_elim
+    (λ (k : KnowsLeaf w x). inl (x, root, k))
+    (λ (held_by : (r : ℕ) → Among r (column s.matrix c) → KnowsHolder w r). inr (λ r e. held_by r e.1))
+    (all_or_leaf w x (column s.matrix c) (λ r m. decided r x (all r m)))

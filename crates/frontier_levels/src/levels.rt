@@ -9,7 +9,7 @@ ghost use Rattle.level_sharing.specs.Agreement.{Agree, Shows};
 ghost use Rattle.level_sharing.specs.Growth.{fresh_events, grown};
 ghost use Rattle.level_sharing.specs.Shares.{KeepToColumns};
 
-use crate::search::search;
+use crate::search::Search;
 use claim_words::{ClaimBoard, Worker};
 use forest_core::{Forest, new_pairs_run};
 use level_sharing::{
@@ -26,7 +26,8 @@ use std::thread::Threads;
 /// Of w workers, the worker i has the places from `i * l / w` up to `(i + 1) * l / w` of a frontier of l columns; it calls
 /// `gate.arrive(i)` once, whether its share is empty or not. Workers run at once as far as threads can be had, and want of a
 /// thread changes nothing. Answers `OutOfMemory` where a fresh list can't grow: what is listed then stands, and the level is
-/// not done. Memory: 8 bytes for each fresh claim and win. Work: at most one look at each entry of the frontier's columns.
+/// not done. Memory: 8 bytes for each fresh claim and win, and 8 KiB of the stack for each worker. Work: one look at each entry
+/// of the frontier's columns, and one more look and two exchanges at most for each row that nobody is seen to hold.
 ///
 /// The search is the top-down step of Azad, Buluç and Pothen, Computing maximum cardinality matchings in parallel on
 /// bipartite graphs via tree-grafting, 2017.
@@ -44,7 +45,8 @@ pub fn top_down<R: Threads + Sync, G: Gate>(
     requires roots { length board.now.roots ≡ cols forest.now.matrix }
     requires settled { IsSettled forest.now }
     requires inside { (c : ℕ) → Among c frontier.now → InForest forest.now c }
-    ensures legal { Runs forest.entry.now (fresh_events workers.new) (grown forest.entry.now workers.new) }
+    ensures legal { Runs forest.entry.now (fresh_events workers.new)
+        (grown forest.entry.now workers.new) }
     ensures words { Shows board.entry.now workers.new (grown forest.entry.now workers.new).claims
         (grown forest.entry.now workers.new).leaves }
     ensures shares { KeepToColumns frontier.entry.now workers.new }
@@ -85,15 +87,23 @@ impl<'a, 'p> Work<Worker, OutOfMemory> for TopDown<'a, 'p> {
     ghost use Rattle.level_sharing.specs.Progress.{IsAtStart, IsThroughColumns, Progress};
     ghost use Rattle.level_sharing.specs.Shares.{share_of, shares_by_columns};
 
-    ghost can_begin = { λ t i w. IsSearch t.forest.now t.board.now t.frontier.now × IsAtStart t.forest.now t.board.now t.workers i w };
+    ghost can_begin = { λ t i w. IsSearch t.forest.now t.board.now t.frontier.now
+        × IsAtStart t.forest.now t.board.now t.workers i w };
 
-    ghost leaves = { λ t i v w. Progress t.forest.now (shares_by_columns t.frontier.now t.workers i) v w };
+    ghost leaves = { λ t i v w.
+        Progress t.forest.now (shares_by_columns t.frontier.now t.workers i) v w };
 
-    ghost completes = { λ t i v w. IsThroughColumns t.forest.now (share_of t.frontier.now t.workers i) w };
+    ghost completes = { λ t i v w.
+        IsThroughColumns t.forest.now (share_of t.frontier.now t.workers i) w };
 
     fn run(&self, number: u32, worker: &mut Worker) -> Result<(), OutOfMemory> {
         shares_cover_a_list();
         let share = share(self.frontier, self.workers, number as usize);
-        search(self.forest, self.board, share, worker)
+        let search = Search {
+            forest: self.forest,
+            board: self.board,
+            share,
+        };
+        search.run(worker)
     }
 }

@@ -1,119 +1,170 @@
 //! One worker's search in a level from the frontier down.
 
-ghost use Rattle.std.specs.Prelude.{◌≡◌, ◌<◌, true, false, [], ◌∷◌, IsTrue, IfOk, OnOk};
-ghost use Rattle.bip_defs.specs.Forest.{InForest, RootOf};
+ghost use Rattle.std.specs.Prelude.{◌≡◌, ℕ, ◌<◌, true, false, OnOk};
+ghost use Rattle.arrayvec.specs.ArrayVec.{array_vec_len};
+ghost use Rattle.bip_defs.specs.Forest.{RootOf};
 ghost use Rattle.bip_defs.specs.Lists.{Among};
 ghost use Rattle.bip_defs.specs.Matching.{rows_of};
-ghost use Rattle.bip_defs.specs.Matrix.{IsEntry, cols};
-ghost use Rattle.frontier_levels.specs.Search.{IsSearch};
-ghost use Rattle.level_sharing.specs.Progress.{HasSettled, IsThroughColumn, IsThroughColumns, KnowsHolder, KnowsLeaf, Progress};
+ghost use Rattle.bip_defs.specs.Matrix.{IsEntry, cols, column};
+ghost use Rattle.frontier_levels.specs.Search.{HasGathered, IsCoveredColumn, IsSearch, StaysCovered};
+ghost use Rattle.level_sharing.specs.Candidates.{IsCovered};
+ghost use Rattle.level_sharing.specs.Progress.{HasSettled, IsThroughColumns, Progress};
 ghost use Rattle.level_sharing.specs.Shares.{by_columns};
 
+use arrayvec::ArrayVec;
 use claim_words::{ClaimBoard, Worker};
 use forest_core::Forest;
-use level_sharing::{
-    claim_row, steps_are_progress, steps_are_remembered, steps_settle, workers_stay_through,
-};
+use level_sharing::{Candidate, claim_all, steps_are_progress, steps_are_remembered, steps_settle};
 use sp_ids::{Col, OutOfMemory, Row};
 
-// A worker goes through these columns.
-pub(crate) fn search(
-    forest: &Forest,
-    board: &ClaimBoard,
-    share: &[Col],
-    worker: &mut Worker,
-) -> Result<(), OutOfMemory>
-    requires search { IsSearch forest.now board.now share.now }
-    requires seat { worker.old.seat.board ≡ board.now }
-    requires settled { HasSettled forest.now worker.old }
-    ensures progress { Progress forest.now (by_columns share.now) worker.old worker.new }
-    ensures through { OnOk result (IsThroughColumns forest.now share.now worker.new) }
-{
-    steps_are_progress();
-    workers_stay_through();
-    for col in share {
-        visit(forest, board, *col, worker)?;
-    }
-    Ok(())
+/// A worker's search through its share of the frontier. It gathers the rows that it may claim, with looks alone, and claims
+/// them once there are 512, or no column is left.
+#[derive(Drop)]
+pub(crate) struct Search<'a, 'p> {
+    pub forest: &'a Forest<'p>,
+    pub board: &'a ClaimBoard,
+    pub share: &'a [Col],
 }
 
-// A worker goes through one column. It passes over a column whose root has a leaf.
-fn visit(
-    forest: &Forest,
-    board: &ClaimBoard,
-    col: Col,
-    worker: &mut Worker,
-) -> Result<(), OutOfMemory>
-    requires search { IsSearch forest.now board.now (col ∷ []) }
-    requires seat { worker.old.seat.board ≡ board.now }
-    requires settled { HasSettled forest.now worker.old }
-    ensures progress { Progress forest.now (by_columns (col ∷ [])) worker.old worker.new }
-    ensures settled { OnOk result (HasSettled forest.now worker.new) }
-    ensures through { OnOk result (IsThroughColumn forest.now worker.new col) }
-{
-    steps_are_progress();
-    steps_are_remembered();
-    steps_settle();
-    let root = forest.root(col);
-    match worker.look_root(board, root) {
-        Some(_) => Ok(()),
-        None => scan(forest, board, col, root, worker),
+impl<'a, 'p> Search<'a, 'p> {
+    /// The worker goes through all its columns.
+    pub fn run(&self, worker: &mut Worker) -> Result<(), OutOfMemory>
+        requires search { IsSearch self.now.forest.now self.now.board.now self.now.share.now }
+        requires seat { worker.old.seat.board ≡ self.now.board.now }
+        requires settled { HasSettled self.now.forest.now worker.old }
+        ensures progress { Progress self.now.forest.now (by_columns self.now.share.now) worker.old worker.new }
+        ensures through { OnOk result (IsThroughColumns self.now.forest.now self.now.share.now worker.new) }
+    {
+        steps_are_progress();
+        steps_are_remembered();
+        let mut candidates = ArrayVec::new();
+        for col in self.share {
+            self.gather(*col, worker, &mut candidates)?;
+        }
+        claim_all(self.board, worker, candidates.as_slice())
     }
-}
 
-// A column claims rows until its root has a leaf or no row is left.
-fn scan(
-    forest: &Forest,
-    board: &ClaimBoard,
-    col: Col,
-    root: Col,
-    worker: &mut Worker,
-) -> Result<(), OutOfMemory>
-    requires search { IsSearch forest.now board.now (col ∷ []) }
-    requires seat { worker.old.seat.board ≡ board.now }
-    requires root { RootOf forest.now.base forest.now.claims root col }
-    requires in_range { root < cols forest.now.matrix }
-    requires settled { HasSettled forest.now worker.old }
-    ensures progress { Progress forest.now (by_columns (col ∷ [])) worker.old worker.new }
-    ensures settled { OnOk result (HasSettled forest.now worker.new) }
-    ensures through { OnOk result (IsThroughColumn forest.now worker.new col) }
-{
-    steps_are_progress();
-    steps_are_remembered();
-    for row in forest.pattern().rows_of(col) {
-        if claims_leaf(forest, board, *row, col, root, worker)? {
-            return Ok(());
+    // It gathers the rows of one column, unless the column's root has a leaf.
+    fn gather(
+        &self,
+        col: Col,
+        worker: &mut Worker,
+        candidates: &mut ArrayVec<Candidate, 512>,
+    ) -> Result<(), OutOfMemory>
+        requires search { IsSearch self.now.forest.now self.now.board.now self.now.share.now }
+        requires col { Among col self.now.share.now }
+        requires gathered { HasGathered self.now.forest.now self.now.board.now self.now.share.now
+            worker.old candidates.old.items }
+        ensures progress { Progress self.now.forest.now (by_columns self.now.share.now) worker.old worker.new }
+        ensures gathered { OnOk result (HasGathered self.now.forest.now self.now.board.now
+            self.now.share.now worker.new candidates.new.items) }
+        ensures stays { OnOk result
+            (StaysCovered worker.old candidates.old.items worker.new candidates.new.items) }
+        ensures column { OnOk result
+            (IsCoveredColumn self.now.forest.now worker.new candidates.new.items col) }
+    {
+        steps_are_progress();
+        steps_are_remembered();
+        steps_settle();
+        let root = self.forest.root(col);
+        match worker.look_root(self.board, root) {
+            Some(_) => Ok(()),
+            None => self.gather_rows(col, root, worker, candidates),
         }
     }
-    Ok(())
-}
 
-// A worker claims a row for a column if nobody is seen to hold it. Tells whether it knows then that the root has a leaf.
-fn claims_leaf(
-    forest: &Forest,
-    board: &ClaimBoard,
-    row: Row,
-    col: Col,
-    root: Col,
-    worker: &mut Worker,
-) -> Result<bool, OutOfMemory>
-    requires search { IsSearch forest.now board.now (col ∷ []) }
-    requires seat { worker.old.seat.board ≡ board.now }
-    requires entry { IsEntry forest.now.matrix row col }
-    requires root { RootOf forest.now.base forest.now.claims root col }
-    requires in_range { root < cols forest.now.matrix }
-    requires settled { HasSettled forest.now worker.old }
-    ensures progress { Progress forest.now (by_columns (col ∷ [])) worker.old worker.new }
-    ensures settled { OnOk result (HasSettled forest.now worker.new) }
-    ensures holder { OnOk result (KnowsHolder worker.new row) }
-    ensures leaf { IfOk result (λ won. IsTrue won → KnowsLeaf worker.new root) }
-{
-    steps_are_progress();
-    steps_are_remembered();
-    steps_settle();
-    match worker.look_row(board, row) {
-        Some(_) => Ok(false),
-        None => claim_row(board, worker, row, col, root, is_free(forest, row)),
+    // It gathers the rows of a column whose root this is.
+    fn gather_rows(
+        &self,
+        col: Col,
+        root: Col,
+        worker: &mut Worker,
+        candidates: &mut ArrayVec<Candidate, 512>,
+    ) -> Result<(), OutOfMemory>
+        requires search { IsSearch self.now.forest.now self.now.board.now self.now.share.now }
+        requires col { Among col self.now.share.now }
+        requires root { RootOf self.now.forest.now.base self.now.forest.now.claims root col }
+        requires in_range { root < cols self.now.forest.now.matrix }
+        requires gathered { HasGathered self.now.forest.now self.now.board.now self.now.share.now
+            worker.old candidates.old.items }
+        ensures progress { Progress self.now.forest.now (by_columns self.now.share.now) worker.old worker.new }
+        ensures gathered { OnOk result (HasGathered self.now.forest.now self.now.board.now
+            self.now.share.now worker.new candidates.new.items) }
+        ensures stays { OnOk result
+            (StaysCovered worker.old candidates.old.items worker.new candidates.new.items) }
+        ensures rows { OnOk result ((r : ℕ) → Among r (column self.now.forest.now.matrix col)
+            → IsCovered worker.new candidates.new.items r root) }
+    {
+        steps_are_progress();
+        for row in self.forest.pattern().rows_of(col) {
+            self.gather_row(*row, col, root, worker, candidates)?;
+        }
+        Ok(())
+    }
+
+    // It gathers a row, unless the row is seen to be held.
+    fn gather_row(
+        &self,
+        row: Row,
+        col: Col,
+        root: Col,
+        worker: &mut Worker,
+        candidates: &mut ArrayVec<Candidate, 512>,
+    ) -> Result<(), OutOfMemory>
+        requires search { IsSearch self.now.forest.now self.now.board.now self.now.share.now }
+        requires col { Among col self.now.share.now }
+        requires entry { IsEntry self.now.forest.now.matrix row col }
+        requires root { RootOf self.now.forest.now.base self.now.forest.now.claims root col }
+        requires in_range { root < cols self.now.forest.now.matrix }
+        requires gathered { HasGathered self.now.forest.now self.now.board.now self.now.share.now
+            worker.old candidates.old.items }
+        ensures progress { Progress self.now.forest.now (by_columns self.now.share.now) worker.old worker.new }
+        ensures gathered { OnOk result (HasGathered self.now.forest.now self.now.board.now
+            self.now.share.now worker.new candidates.new.items) }
+        ensures stays { OnOk result
+            (StaysCovered worker.old candidates.old.items worker.new candidates.new.items) }
+        ensures row { OnOk result (IsCovered worker.new candidates.new.items row root) }
+    {
+        steps_are_progress();
+        steps_are_remembered();
+        steps_settle();
+        match worker.look_row(self.board, row) {
+            Some(_) => Ok(()),
+            None => {
+                self.make_room(worker, candidates)?;
+                let free = is_free(self.forest, row);
+                candidates.push(Candidate {
+                    row,
+                    col,
+                    root,
+                    free,
+                });
+                Ok(())
+            }
+        }
+    }
+
+    // It claims the candidates where no more of them fit.
+    fn make_room(
+        &self,
+        worker: &mut Worker,
+        candidates: &mut ArrayVec<Candidate, 512>,
+    ) -> Result<(), OutOfMemory>
+        requires gathered { HasGathered self.now.forest.now self.now.board.now self.now.share.now
+            worker.old candidates.old.items }
+        ensures progress { Progress self.now.forest.now (by_columns self.now.share.now) worker.old worker.new }
+        ensures gathered { OnOk result (HasGathered self.now.forest.now self.now.board.now
+            self.now.share.now worker.new candidates.new.items) }
+        ensures stays { OnOk result
+            (StaysCovered worker.old candidates.old.items worker.new candidates.new.items) }
+        ensures room { OnOk result (array_vec_len candidates.new < 512) }
+    {
+        steps_are_progress();
+        if candidates.is_full() {
+            claim_all(self.board, worker, candidates.as_slice())?;
+            candidates.clear();
+        }
+        Ok(())
     }
 }
 

@@ -1,3 +1,4 @@
+pub mod CandidateLemmas
 pub mod EachLemmas
 pub mod GrownForests
 pub mod LevelLemmas

@@ -1,4 +1,5 @@
 pub mod Agreement
+pub mod Candidates
 pub mod Each
 pub mod Growth
 pub mod Level

@@ -28,6 +28,7 @@ pub fn claim_row(
         → Progress s own worker.old worker.new }
     ensures settled { OnOk result ((s : State) (own : Share) → CanClaim s own row col root free
         → HasSettled s worker.old → HasSettled s worker.new) }
+    ensures seat { worker.new.seat.board ≡ worker.old.seat.board }
     ensures holder { OnOk result (KnowsHolder worker.new row) }
     ensures leaf { IfOk result (λ won. IsTrue won → KnowsLeaf worker.new root) }
 {

@@ -6,6 +6,8 @@
 //! bipartite graphs via tree-grafting, 2017.
 #![tactic(auto)]
 
+mod candidate;
+mod candidates;
 mod claims;
 mod laws;
 mod levels;
@@ -15,6 +17,8 @@ mod steps;
 mod tests;
 mod work;
 
+pub use candidate::Candidate;
+pub use candidates::claim_all;
 pub use claims::claim_row;
 pub use laws::{
     fresh_lists_are_new, new_workers_agree, settled_workers_agree, shares_cover_a_list,

@@ -40,6 +40,8 @@ pub fn steps_are_progress()
 pub fn steps_are_remembered()
     ensures holder { (s : State) (own : Share) (v w : WorkerState) (r : ℕ)
         → Progress s own v w → KnowsHolder v r → KnowsHolder w r }
+    ensures leaf { (s : State) (own : Share) (v w : WorkerState) (x : ℕ)
+        → Progress s own v w → KnowsLeaf v x → KnowsLeaf w x }
     ensures won { (s : State) (own : Share) (v w : WorkerState) (c : ℕ)
         → Progress s own v w → KnowsWon s v c → KnowsWon s w c }
     ensures claim { (w : WorkerState) (r c : ℕ) (found : Option ℕ)

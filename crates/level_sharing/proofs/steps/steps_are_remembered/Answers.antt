@@ -15,6 +15,7 @@ after_win t w x r (Some q) = (q, t.workers_know_more.ensures.win w.seat x r q (S
 pub returns : goal.returns
 returns c = let known = c.workers_know_more.ensures in record {
   holder = λ s own v w r. holder_known s own v w r (λ d. known.row v w r d);
+  leaf = λ s own v w x p leaf. (leaf.0, known.root v w x leaf.0 (p.more, p.grown) leaf.1);
   won = λ s own v w d. won_known s own v w d (λ x r. known.root v w x r);
   claim = after_claim c;
   win = after_win c;

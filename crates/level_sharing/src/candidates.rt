@@ -1,0 +1,78 @@
+//! Rows that a worker may claim, gathered before any of them is claimed.
+
+ghost use Rattle.std.specs.Prelude.{◌≡◌, ℕ, ◌<◌, length, OnOk};
+ghost use Rattle.bip_defs.specs.Forest.{State};
+ghost use Rattle.level_sharing.specs.Candidates.{AreCandidates, AreOnBoard, IsCovered, IsDecided};
+ghost use Rattle.level_sharing.specs.Progress.{CanClaim, HasSettled, Progress};
+ghost use Rattle.level_sharing.specs.Shares.{Share};
+
+use crate::candidate::Candidate;
+use crate::claims::claim_row;
+use crate::steps::{steps_are_progress, steps_are_remembered, steps_settle};
+use claim_words::{ClaimBoard, Worker, workers_know_more};
+use sp_ids::OutOfMemory;
+
+/// A worker claims these candidates, in their order, and passes over those whose root has a leaf by then. An exchange makes the
+/// processor wait for what it has begun to load: so many looks first and then many claims are faster than each claim after its
+/// look.
+///
+/// Afterwards it knows a holder of each row, or a leaf of its root. Answers `OutOfMemory` where one of its fresh lists can't
+/// grow; what is listed then stands. Work: one look and two exchanges at most for each.
+pub fn claim_all(
+    board: &ClaimBoard,
+    worker: &mut Worker,
+    candidates: &[Candidate],
+) -> Result<(), OutOfMemory>
+    requires seat { worker.old.seat.board ≡ board.now }
+    requires on_board { AreOnBoard board.now candidates.now }
+    ensures progress { (s : State) (own : Share) → AreCandidates s own candidates.now
+        → Progress s own worker.old worker.new }
+    ensures settled { OnOk result ((s : State) (own : Share) → AreCandidates s own candidates.now
+        → HasSettled s worker.old → HasSettled s worker.new) }
+    ensures seat { worker.new.seat.board ≡ worker.old.seat.board }
+    ensures decided { OnOk result ((s : State) (own : Share) → AreCandidates s own candidates.now
+        → (row root : ℕ) → IsCovered worker.old candidates.now row root
+        → IsDecided worker.new row root) }
+{
+    steps_are_progress();
+    workers_know_more();
+    for candidate in candidates {
+        claim_one(board, worker, *candidate)?;
+    }
+    Ok(())
+}
+
+// A worker claims one candidate, unless its root has a leaf.
+fn claim_one(
+    board: &ClaimBoard,
+    worker: &mut Worker,
+    candidate: Candidate,
+) -> Result<(), OutOfMemory>
+    requires seat { worker.old.seat.board ≡ board.now }
+    requires range { (candidate.row < length board.now.rows) × (candidate.root < length board.now.roots) }
+    ensures progress { (s : State) (own : Share)
+        → CanClaim s own candidate.row candidate.col candidate.root candidate.free
+        → Progress s own worker.old worker.new }
+    ensures settled { OnOk result ((s : State) (own : Share)
+        → CanClaim s own candidate.row candidate.col candidate.root candidate.free
+        → HasSettled s worker.old → HasSettled s worker.new) }
+    ensures seat { worker.new.seat.board ≡ worker.old.seat.board }
+    ensures decided { OnOk result (IsDecided worker.new candidate.row candidate.root) }
+{
+    steps_are_progress();
+    steps_are_remembered();
+    steps_settle();
+    let Candidate {
+        row,
+        col,
+        root,
+        free,
+    } = candidate;
+    match worker.look_root(board, root) {
+        Some(_) => Ok(()),
+        None => {
+            claim_row(board, worker, row, col, root, free)?;
+            Ok(())
+        }
+    }
+}
