@@ -7,22 +7,16 @@ mod analyse;
 #[cfg(test)]
 mod check;
 #[cfg(test)]
-mod devices;
-#[cfg(test)]
 mod diagonal;
 #[cfg(test)]
 mod engine;
-#[cfg(test)]
-mod files;
-#[cfg(test)]
-mod hostile;
 #[cfg(test)]
 mod load;
 #[cfg(test)]
 mod rank;
 #[cfg(test)]
-mod runs;
+mod refusals;
 #[cfg(test)]
-mod words;
+mod runs;
 #[cfg(test)]
 mod workers;
