@@ -31,7 +31,7 @@ const REFUSED: [(&str, Status, &str); 17] = [
         "btf: malformed line 1: NoSize\n",
     ),
     (
-        "%%MatrixMarket matrix coordinate pattern general\n16777217 1 0\n",
+        "%%MatrixMarket matrix coordinate pattern general\n134217729 1 0\n",
         Status::Limit,
         "btf: limit line 2: Rows\n",
     ),
