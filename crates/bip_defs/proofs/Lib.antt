@@ -1,5 +1,6 @@
 pub mod Below
 pub mod Closed
+pub mod Connected
 pub mod Counts
 pub mod Covers
 pub mod Duality

@@ -1,5 +1,6 @@
 pub mod Blocks
 pub mod Components
+pub mod ConnectedComponents
 pub mod Decomposition
 pub mod Forest
 pub mod Lists

@@ -75,9 +75,9 @@ bad_sizes =
     ∷ (pattern_file (codes "% a comment" ∷ [] ∷ []), at 3 kinds.NoSize)
     ∷ (pattern_file (codes "2 2" ∷ []), at 2 kinds.SizeWords)
     ∷ (pattern_file (codes "2 2 -1" ∷ []), at 2 kinds.SizeNumber)
-    ∷ (pattern_file (codes "16777217 1 0" ∷ []), at 2 kinds.Rows)
+    ∷ (pattern_file (codes "134217729 1 0" ∷ []), at 2 kinds.Rows)
     ∷ (pattern_file ((replicate 400 57 ++ codes " 1 0") ∷ []), at 2 kinds.Rows)
-    ∷ (pattern_file (codes "1 16777217 0" ∷ []), at 2 kinds.Columns)
+    ∷ (pattern_file (codes "1 134217729 0" ∷ []), at 2 kinds.Columns)
     ∷ (pattern_file (codes "1 1 134217729" ∷ []), at 2 kinds.Entries)
     ∷ (text (symmetric_banner ∷ codes "2 3 0" ∷ []), at 2 kinds.NotSquare)
     ∷ []

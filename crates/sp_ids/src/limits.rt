@@ -1,10 +1,10 @@
 //! How large an input may be.
 
 /// The most rows that a matrix may have.
-pub const MAX_ROWS: u32 = 16_777_216;
+pub const MAX_ROWS: u32 = 134_217_728;
 
 /// The most columns that a matrix may have.
-pub const MAX_COLS: u32 = 16_777_216;
+pub const MAX_COLS: u32 = 134_217_728;
 
 /// The most entry lines that a file may have.
 pub const MAX_ENTRY_LINES: u32 = 134_217_728;
