@@ -2,6 +2,7 @@ pub mod Blocks
 pub mod Components
 pub mod Decomposition
 pub mod Forest
+pub mod LeastMatching
 pub mod Lists
 pub mod Marks
 pub mod Matching
