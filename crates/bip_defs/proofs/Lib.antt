@@ -7,6 +7,7 @@ pub mod Duality
 pub mod Exchange
 pub mod Fine
 pub mod Full
+pub mod LeastMatching
 pub mod Paired
 pub mod Queues
 pub mod Reaching

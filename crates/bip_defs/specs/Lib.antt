@@ -3,6 +3,7 @@ pub mod Components
 pub mod ConnectedComponents
 pub mod Decomposition
 pub mod Forest
+pub mod LeastMatching
 pub mod Lists
 pub mod Marks
 pub mod Matching

@@ -150,6 +150,20 @@ impl Matching {
         self.size += 1;
     }
 
+    /// Parts a pair: its row and its column have no mate then, and all other pairs stay.
+    pub fn unpair(&mut self, row: Row, col: Col)
+        requires { Among (row, col) self.old.pairs }
+        ensures pairs { (p : Place) → Among p self.new.pairs
+            ↔ (Among p self.old.pairs × (p.0 ≢ row)) }
+        ensures size { length self.old.pairs ≡ suc (length self.new.pairs) }
+        ensures sizes { (self.new.rows ≡ self.old.rows) × (self.new.cols ≡ self.old.cols) }
+    {
+        let (at_row, at_col) = (row.0 as usize, col.0 as usize);
+        self.row_of_col[at_col] = NONE;
+        self.col_of_row[at_row] = NONE;
+        self.size -= 1;
+    }
+
     // Gives a matched row to an unmatched column. The column that had it has no mate then.
     fn give(&mut self, row: Row, col: Col)
         requires row_in_range { row < self.old.rows }
