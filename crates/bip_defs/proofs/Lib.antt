@@ -1,4 +1,5 @@
 pub mod Below
+pub mod BottleneckLemmas
 pub mod Closed
 pub mod Connected
 pub mod Counts

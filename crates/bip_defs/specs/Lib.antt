@@ -1,4 +1,5 @@
 pub mod Blocks
+pub mod Bottleneck
 pub mod Components
 pub mod ConnectedComponents
 pub mod Decomposition

@@ -18,6 +18,7 @@ ghost use Rattle.bip_defs.specs.Searches.{AreReadOff};
 ghost use Rattle.bip_defs.specs.Walks.{IsReached};
 ghost use Rattle.bip_defs.specs.Witness.{IsWitness};
 
+pub mod bottleneck;
 pub mod connected_components;
 pub mod examples;
 pub mod triangular_form;
