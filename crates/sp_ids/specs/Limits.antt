@@ -9,7 +9,7 @@ max_rows = 134217728
 abbrev pub max_cols : ℕ
 max_cols = 134217728
 
--- the most entry lines that a file may have
+-- the most entry lines that a file may have, or values of an array file
 abbrev pub max_entry_lines : ℕ
 max_entry_lines = 134217728
 
