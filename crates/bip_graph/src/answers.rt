@@ -15,6 +15,15 @@ pub struct Parts {
     pub vc: Vec<Col>,
 }
 
+/// The connected components of the horizontal and of the vertical part: the rows and columns of each that chains of entries
+/// of the part join, both lists rising. Horizontal components stand by their least columns, vertical ones by their least
+/// rows. A row or a column of a part that has no entry in it is a component by itself, so one of the two lists may be empty.
+#[derive(Drop)]
+pub struct Components {
+    pub horizontal: Blocks,
+    pub vertical: Blocks,
+}
+
 /// The decomposition of a matrix of m rows, n columns and e entries: its rank, its coarse parts and the fine blocks of
 /// its square part.
 #[derive(Drop)]

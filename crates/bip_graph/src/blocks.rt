@@ -1,4 +1,4 @@
-//! The fine blocks of a square part, in their order.
+//! Lists of blocks: the fine blocks of a square part, or the connected components of another one.
 
 ghost use Rattle.std.specs.Prelude.{◌≡◌, ◌↔◌, ◌+◌, ◌<◌, ◌≤◌, ◌^◌, ◌++◌, [], ◌∷◌, length, slice_index, slice_range, IfOk, IsTrue, OnErr, OnOk};
 ghost use Rattle.bip_defs.specs.Blocks.{all_cols, all_rows, block_at};
@@ -8,7 +8,7 @@ use sp_ids::{Col, OutOfMemory, Row};
 use std::alloc::Global;
 use std::marker::Model;
 
-/// A list of blocks. A block is a list of rows and a list of columns.
+/// A list of blocks. A block is a list of rows and a list of columns: a fine block, or a connected component.
 ///
 /// The rows of all blocks lie one after another in one array, and so do the columns: it keeps 4 bytes a row, 4 a column
 /// and 8 a block.
