@@ -80,7 +80,8 @@ impl Rest {
         })
     }
 
-    /// The pair that is taken next, or none where no entry has both its row and its column unmatched.
+    /// The pair that is taken next, or none where no entry has both its row and its column
+    /// unmatched.
     pub fn choose(&mut self, pattern: &Pattern) -> Option<(Row, Col)>
         requires rest { IsUnmatchedRest pattern.now self.old }
         requires ones { HasOnes self.old }
