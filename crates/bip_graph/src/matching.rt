@@ -4,7 +4,7 @@ ghost use Rattle.std.specs.Prelude.{◌≡◌, ◌≢◌, ◌↔◌, ◌⊎◌, 
 ghost use Rattle.bip_defs.specs.Lists.{Among, AreDistinct, IsRising, option_at};
 ghost use Rattle.bip_defs.specs.Matching.{Covers, IsMatching, rows_of, cols_of};
 ghost use Rattle.bip_defs.specs.Matrix.{AreEntries, Matrix, Place};
-ghost use Rattle.bip_defs.specs.Paths.{Exchanges, Gives, IsAugmenting};
+ghost use Rattle.bip_defs.specs.Paths.{Exchanges, Reassigns, IsAugmenting};
 ghost use Rattle.bip_graph.specs.Mates.{AreMutual};
 ghost use Rattle.bip_graph.specs.Matching.{Pairing, pairs_of};
 
@@ -139,7 +139,7 @@ impl Matching {
         requires col_in_range { col < self.old.cols }
         requires row_free { ¬ Among row (rows_of self.old.pairs) }
         requires col_free { ¬ Among col (cols_of self.old.pairs) }
-        ensures pairs { Gives (row, col) self.old.pairs self.new.pairs }
+        ensures pairs { Reassigns (row, col) self.old.pairs self.new.pairs }
         ensures added { (p : Place) → Among p self.new.pairs
             ↔ ((p ≡ (row, col)) ⊎ Among p self.old.pairs) }
         ensures size { length self.new.pairs ≡ suc (length self.old.pairs) }
@@ -170,7 +170,7 @@ impl Matching {
         requires col_in_range { col < self.old.cols }
         requires row_taken { Among row (rows_of self.old.pairs) }
         requires col_free { ¬ Among col (cols_of self.old.pairs) }
-        ensures pairs { Gives (row, col) self.old.pairs self.new.pairs }
+        ensures pairs { Reassigns (row, col) self.old.pairs self.new.pairs }
         ensures cols_differ { AreDistinct (cols_of self.old.pairs) }
         ensures size { length self.new.pairs ≡ length self.old.pairs }
         ensures sizes { (self.new.rows ≡ self.old.rows) × (self.new.cols ≡ self.old.cols) }
