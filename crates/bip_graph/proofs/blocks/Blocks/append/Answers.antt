@@ -1,6 +1,6 @@
 use Rattle.std.proofs.Common.{◌≡◌, ◌∙◌, ◌+◌, ◌++◌, [], ◌∷◌, length, rules, ap, arith, length-append}
 use Rattle.bip_graph.proofs.Offsets.{grown_shown, grown_stretches, seen_all_cols, seen_all_rows}
-use Rattle.bip_graph.proofs.blocks.Blocks.push.Goals as goal
+use Rattle.bip_graph.proofs.blocks.Blocks.append.Goals as goal
 
 pub overflow_cast-len : goal.overflow_cast-len
 overflow_cast-len c =
