@@ -5,6 +5,7 @@ pub mod Connected
 pub mod Counts
 pub mod Covers
 pub mod Duality
+pub mod EditLemmas
 pub mod Exchange
 pub mod Fine
 pub mod Full

@@ -3,6 +3,7 @@ pub mod Bottleneck
 pub mod Components
 pub mod ConnectedComponents
 pub mod Decomposition
+pub mod EditedMatrix
 pub mod Forest
 pub mod LeastMatching
 pub mod Lists

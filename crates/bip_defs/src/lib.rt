@@ -20,6 +20,7 @@ ghost use Rattle.bip_defs.specs.Witness.{IsWitness};
 
 pub mod bottleneck;
 pub mod connected_components;
+pub mod edited_matrix;
 pub mod examples;
 pub mod triangular_form;
 
