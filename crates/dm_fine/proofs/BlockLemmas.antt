@@ -245,4 +245,3 @@ are_blocks a m numbers n rs r cs c ks small matching s g h ordered = record {
           let long = s.long in
           (q.other, q.row, q.col, q.on, (h.parts j jt).complete q.col (omega (arith, within, long), q.is), q.entry);
     }
-

@@ -38,10 +38,10 @@ pub record AreOrders (col_starts col_rows row_starts row_cols : List ℕ) : Type
   pub by_row : AreStarts row_starts row_cols
   pub rows : (c : ℕ) → c + 1 < length col_starts
       → Lists (λ r. IsEntry (stored col_starts col_rows row_starts) r c)
-        (piece col_starts col_rows c)
+      (piece col_starts col_rows c)
   pub cols : (r : ℕ) → r + 1 < length row_starts
       → Lists (λ c. IsEntry (stored col_starts col_rows row_starts) r c)
-        (piece row_starts row_cols r)
+      (piece row_starts row_cols r)
 
 -- what holds of the matrix of each pattern: its sizes fit 32 bits, and each column's list is the
 -- rising one of its entries
