@@ -1,9 +1,9 @@
 % Brings a matrix to block upper triangular form with btf.
 %
-%     octave --no-gui --eval "addpath examples; permute('crates/btf/out/btf', 'examples/process.mtx')"
+%     octave --no-gui --eval "addpath examples; block_form('crates/btf/out/btf', 'examples/process.mtx')"
 %
 % Reads the report's orders, which count from 1 as Octave does, and shows the matrix before and after.
-function permute(btf, path)
+function block_form(btf, path)
   [status, report] = system([btf ' analyse --order < ' path]);
   if status ~= 0
     error('btf ended with status %d', status);

@@ -1,6 +1,6 @@
 """Brings a matrix to block upper triangular form with btf, and solves with it block by block.
 
-    python3 examples/permute.py crates/btf/out/btf examples/process.mtx
+    python3 examples/block_form.py crates/btf/out/btf examples/process.mtx
 
 SciPy reads the file, permutes the matrix and factorises the diagonal blocks.
 """
