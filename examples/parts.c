@@ -20,10 +20,10 @@ int main(int count, char **words) {
     while (getline(&line, &room, report) > 0) {
         long first, second;
         if (sscanf(line, "horizontal %ld %ld", &first, &second) == 2) {
-            printf("%ld unknowns have no equation of their own\n", second - first);
+            printf("unknowns without an equation of their own: %ld\n", second - first);
             part = "too few equations";
         } else if (sscanf(line, "vertical %ld %ld", &first, &second) == 2) {
-            printf("%ld equations have no unknown of their own\n", first - second);
+            printf("equations without an unknown of their own: %ld\n", first - second);
             part = "too many equations";
         } else if (strncmp(line, "square ", 7) == 0 || strstr(line, "_components ") != NULL) {
             part = "";

@@ -1,10 +1,11 @@
 -- The connected components of a part stand in one list.
-use Rattle.std.proofs.Common.{◌≡◌, ℕ, ◌<◌, List, [], ◌∷◌, map, refl, sym, ap, ap₂, inl, inr, ⊎_elim, arith}
+use Rattle.std.proofs.Common.{subst, ◌≡◌, ◌↔◌, ℕ, ◌<◌, List, [], ◌∷◌, map, refl, sym, ap, ap₂, inl, inr, ⊎_elim, arith}
 use Rattle.bip_defs.specs.Blocks.{Block, ColAt, RowAt, Vertex, least_col}
-use Rattle.bip_defs.specs.ConnectedComponents.{AreConnectedComponents, AreOrderedComponents, Components, IsComponentWith, IsHorizontalVertex, IsVerticalVertex, Joined, alone, least_row, to_col, to_row}
+use Rattle.bip_defs.specs.ConnectedComponents.{AreConnectedComponents, AreOrderedComponents, Components, IsComponentWith, IsConnectedComponent, IsHorizontalVertex, IsVerticalVertex, Joined, alone, least_row, to_col, to_row}
 use Rattle.bip_defs.specs.Lists.{Among, IsRising}
-use Rattle.bip_defs.specs.Matrix.{Matrix}
-use Rattle.bip_defs.proofs.Sets.{among_map, below_each_sound, lists_same, lists_unique}
+use Rattle.bip_defs.specs.Matrix.{IsTransposeOf, Matrix}
+use Rattle.bip_defs.proofs.Transposed.{transpose_back, turned_vertical, turned_vertical_col, vertical_col_turned, vertical_turned}
+use Rattle.bip_defs.proofs.Sets.{among_map, among_map_back, below_each_sound, lists_same, lists_unique}
 
 -- Chains.
 
@@ -68,3 +69,58 @@ same_components a c d x y = λ i. record {
   horizontal = one_order_of_components a (IsHorizontalVertex a) least_col c.horizontal d.horizontal x.horizontal y.horizontal i;
   vertical = one_order_of_components a (IsVerticalVertex a) least_row c.vertical d.vertical x.vertical y.vertical i;
 }
+
+-- The transpose.
+
+abbrev turned : Vertex → Vertex
+turned (RowAt r) = ColAt r
+turned (ColAt c) = RowAt c
+
+turned_twice : (v : Vertex) → turned (turned v) ≡ v
+turned_twice (RowAt r) = refl
+turned_twice (ColAt c) = refl
+
+-- columns for rows and rows for columns
+abbrev pub turned_block : Block → Block
+turned_block b = record { rows = b.cols; cols = b.rows }
+
+-- a part of b is a part of its transpose a, with columns for rows
+abbrev AreTurned : (Vertex → Type 0) → (Vertex → Type 0) → Type 0
+AreTurned P Q = (v : Vertex) → P v ↔ Q (turned v)
+
+turned_back : (P Q : Vertex → Type 0) → AreTurned P Q → AreTurned Q P
+turned_back P Q s v = (λ q. (s (turned v)).1 (subst Q (sym (turned_twice v)) q), λ p. subst Q (turned_twice v) ((s (turned v)).0 p))
+
+joined_turned : (a b : Matrix) (P Q : Vertex → Type 0) → IsTransposeOf a b → AreTurned P Q → {u v : Vertex} → Joined a P u v → Joined b Q (turned u) (turned v)
+joined_turned a b P Q t s alone = alone
+joined_turned a b P Q t s (to_col {r = r} {c = c} y e p q) = to_row (joined_turned a b P Q t s y) (t.over r c e) ((s (ColAt c)).0 q) ((s (RowAt r)).0 p)
+joined_turned a b P Q t s (to_row {r = r} {c = c} y e p q) = to_col (joined_turned a b P Q t s y) (t.over r c e) ((s (ColAt c)).0 q) ((s (RowAt r)).0 p)
+
+turned_component : (a b : Matrix) (P Q : Vertex → Type 0) (v : Vertex) (d : Block) → IsTransposeOf a b → AreTurned P Q → IsComponentWith b Q v d → IsComponentWith a P (turned v) (turned_block d)
+turned_component a b P Q v d t s k = record {
+  inside = (turned_back P Q s v).0 k.inside;
+  rows = lists_same (λ c. Joined b Q v (ColAt c)) (λ r. Joined a P (turned v) (RowAt r)) d.cols (λ r y. over y) (λ r y. subst (λ u. Joined b Q u (ColAt r)) (turned_twice v) (joined_turned a b P Q t s y)) k.cols;
+  cols = lists_same (λ r. Joined b Q v (RowAt r)) (λ c. Joined a P (turned v) (ColAt c)) d.rows (λ c y. over y) (λ c y. subst (λ u. Joined b Q u (RowAt c)) (turned_twice v) (joined_turned a b P Q t s y)) k.rows;
+}
+  where
+    over : {w : Vertex} → Joined b Q v w → Joined a P (turned v) (turned w)
+    over y = joined_turned b a Q P (transpose_back a b t) (turned_back P Q s) y
+
+turned_least : (bs : List Block) → map least_row (map turned_block bs) ≡ map least_col bs
+turned_least [] = refl
+turned_least (b ∷ bs) = ap (λ (ns : List ℕ). least_col b ∷ ns) (turned_least bs)
+
+turned_components : (a b : Matrix) (P Q : Vertex → Type 0) (bs : List Block) → IsTransposeOf a b → AreTurned P Q → AreOrderedComponents b Q least_col bs → AreOrderedComponents a P least_row (map turned_block bs)
+turned_components a b P Q bs t s x = record {
+  sound = λ d h. let (e, on, is) = among_map_back turned_block d bs h in subst (IsConnectedComponent a P) is (let k = x.sound e on in (turned k.0, turned_component a b P Q k.0 e t s k.1));
+  complete = λ d k. among_map turned_block (turned_block d) bs (x.complete (turned_block d) (turned k.0, turned_component b a Q P k.0 d (transpose_back a b t) (turned_back P Q s) k.1));
+  rising = subst IsRising (sym (turned_least bs)) x.rising;
+}
+
+vertical_is_turned : (a b : Matrix) → IsTransposeOf a b → AreTurned (IsVerticalVertex a) (IsHorizontalVertex b)
+vertical_is_turned a b t (RowAt r) = (vertical_turned a b r t, turned_vertical a b r t)
+vertical_is_turned a b t (ColAt c) = (vertical_col_turned a b c t, turned_vertical_col a b c t)
+
+-- the horizontal components of the transpose are the vertical ones
+pub vertical_components : (a b : Matrix) (bs : List Block) → IsTransposeOf a b → AreOrderedComponents b (IsHorizontalVertex b) least_col bs → AreOrderedComponents a (IsVerticalVertex a) least_row (map turned_block bs)
+vertical_components a b bs t x = turned_components a b (IsVerticalVertex a) (IsHorizontalVertex b) bs t (vertical_is_turned a b t) x

@@ -3,9 +3,9 @@ use Rattle.bip_defs.specs.Matching.{IsMatching}
 use Rattle.bip_defs.specs.Matrix.{Matrix, cols}
 use Rattle.forest_core.specs.Events.{LeadsTo}
 use Rattle.bip_defs.specs.Forest.{IsRested, State, new_forest}
-use Rattle.tree_graft.proofs.PhaseLemmas.{covers_on, last_phase, lead_matching, left_maximum, phases_fall, told_none, told_some}
+use Rattle.tree_graft.proofs.PhaseLemmas.{covers_on, last_phase, lead_matching, left_maximum, phases_fall, known_none, known_some}
 use Rattle.tree_graft.proofs.SearchLemmas.{nothing_to_claim}
-use Rattle.tree_graft.proofs.complete.Goals as goal
+use Rattle.tree_graft.proofs.complete_by_phases.Goals as goal
 
 pub returns-then-not-can_grow-clause-maximum : goal.returns-then-not-can_grow-clause-maximum
 returns-then-not-can_grow-clause-maximum g c =
@@ -35,7 +35,7 @@ loop-grows-smaller g c =
     let k = c.loop-grows.invariant in
     let sound = c.events_keep_sound.ensures.runs first c.loop-grows.forest k.legal.0 (c.events_keep_sound.ensures.new c.args.pattern.now c.args.matching.pairs c.requires.matching.matching) k.legal.1 in
     let matching = lead_matching c.events_keep_sound.ensures.runs c.runs_join.ensures.matrix c.loop-grows.forest c.phase.new.forest sound c.phase.ensures.legal in
-    rw c.loop-grows-test.true (phases_fall c.args.pattern.now c.loop-grows.forest c.phase.new.forest c.in_ok-grows.field-0 _ matching (c.runs_join.ensures.matrix first c.loop-grows.forest k.legal) c.in_ok-grows.ensures.growth (told_some c.in_ok-grows.field-0))
+    rw c.loop-grows-test.true (phases_fall c.args.pattern.now c.loop-grows.forest c.phase.new.forest c.in_ok-grows.field-0 _ matching (c.runs_join.ensures.matrix first c.loop-grows.forest k.legal) c.in_ok-grows.ensures.growth (known_some c.in_ok-grows.field-0))
 
 pub loop-grows-preserved : goal.loop-grows-preserved
 loop-grows-preserved g c =
@@ -47,7 +47,7 @@ loop-grows-preserved g c =
     record {
       rested = e.rested;
       legal = c.runs_join.ensures.on first c.loop-grows.forest c.phase.new.forest k.legal c.phase.ensures.legal;
-      last = λ none. last_phase c.args.pattern.now c.loop-grows.forest c.phase.new.forest c.in_ok-grows.field-0 matching (c.runs_join.ensures.matrix first c.loop-grows.forest k.legal) e.growth e.maximum (told_none c.in_ok-grows.field-0 none);
+      last = λ none. last_phase c.args.pattern.now c.loop-grows.forest c.phase.new.forest c.in_ok-grows.field-0 matching (c.runs_join.ensures.matrix first c.loop-grows.forest k.legal) e.growth e.maximum (known_none c.in_ok-grows.field-0 none);
     }
 
 pub returns-clause-maximum : goal.returns-clause-maximum
