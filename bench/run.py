@@ -58,16 +58,13 @@ COMPILED = {
 }
 
 
-def build(work, job):
-    """The generator and the job's peers, compiled where they are older than their source."""
-    for name in ["generate", "mumps_diagonal" if job == "diagonal" else "peers"]:
-        program, source = os.path.join(work, name), os.path.join(HERE, name + ".cpp")
-        newest = max(os.path.getmtime(path) for path in (source, os.path.join(HERE, "columns.hpp")))
-        if os.path.exists(program) and os.path.getmtime(program) > newest:
-            continue
-        done = subprocess.run(["g++", "-O3", "-std=c++17", "-o", program, source] + COMPILED[name])
-        if done.returncode != 0 and name == "generate":
-            sys.exit("run.py: the generator does not compile")
+def build(work, name):
+    """A program in C++, compiled where it is older than its source. Whether it compiled."""
+    program, source = os.path.join(work, name), os.path.join(HERE, name + ".cpp")
+    newest = max(os.path.getmtime(path) for path in (source, os.path.join(HERE, "columns.hpp")))
+    if os.path.exists(program) and os.path.getmtime(program) > newest:
+        return True
+    return subprocess.run(["g++", "-O3", "-std=c++17", "-o", program, source] + COMPILED[name]).returncode == 0
 
 
 def matrix(work, family, entries):
@@ -157,7 +154,9 @@ def main():
     options.entries = options.entries or entries
     options.peers = options.peers or peers
     os.makedirs(options.work, exist_ok=True)
-    build(options.work, options.job)
+    if not build(options.work, "generate"):
+        sys.exit("run.py: the generator does not compile")
+    build(options.work, "mumps_diagonal" if options.job == "diagonal" else "peers")
     tools = programs(options)
     print("| file | entries | " + " | ".join(f"{name} ns" for name in tools) + " | ratio to the best peer | btf bytes an entry |")
     print("|---|---|" + "---|" * (len(tools) + 2))
@@ -195,4 +194,5 @@ def main():
     sys.exit(1 if differs else 0)
 
 
-main()
+if __name__ == "__main__":
+    main()

@@ -4,8 +4,8 @@ use Rattle.bip_defs.specs.Lists.{Among}
 use Rattle.bip_defs.specs.Matching.{cols_of, rows_of}
 use Rattle.bip_defs.specs.Matrix.{IsEntry, Matrix, Place, cols}
 
--- the matrix, the base matching, the claims in order, the leaves in order (each with its root before it), and the roots whose
--- paths were exchanged
+-- the matrix, the base matching, the claims in order, the leaves in order (each with its root
+-- before it), and the roots whose paths were exchanged
 pub record State : Type 0 where
   pub matrix : Matrix
   pub base : List Place
@@ -26,13 +26,15 @@ roots_of leaves = map (λ (p : ℕ × ℕ). p.0) leaves
 
 -- a column of the forest: unmatched in the base, or its base row is claimed
 abbrev pub InForest : State → ℕ → Type 0
-InForest s c = (c < cols s.matrix) × ((¬ Among c (cols_of s.base)) ⊎ ((r : ℕ) × Among (r, c) s.base × Among r (rows_of s.claims)))
+InForest s c = (c < cols s.matrix) × ((¬ Among c (cols_of s.base))
+    ⊎ ((r : ℕ) × Among (r, c) s.base × Among r (rows_of s.claims)))
 
--- the root of a column that is unmatched in the base is the column; of any other it is the root of the column that claimed
--- its base row
+-- the root of a column that is unmatched in the base is the column; of any other it is the root of
+-- the column that claimed its base row
 pub data RootOf (base claims : List Place) (x : ℕ) : ℕ → Type 0 where
   itself : (¬ Among x (cols_of base)) → RootOf base claims x x
-  above : {c d : ℕ} (r : ℕ) → Among (r, c) base → Among (r, d) claims → RootOf base claims x d → RootOf base claims x c
+  above : {c d : ℕ} (r : ℕ) → Among (r, c) base → Among (r, d) claims → RootOf base claims x d
+      → RootOf base claims x c
 
 -- the root of a claimed row is that of the column that claimed it
 abbrev pub IsRootOfRow : List Place → List Place → ℕ → ℕ → Type 0

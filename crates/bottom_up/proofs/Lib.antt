@@ -1,2 +1,3 @@
+mod CandidateLemmas
 mod LevelLemmas
 mod SearchLemmas

@@ -16,12 +16,6 @@ pub record HasLooked (s : State) (cols : List ℕ) (v w : WorkerState) : Type 0 
   pub settled : HasSettled s w
   pub won : (c : ℕ) → Among c cols → InForest s c → KnowsWon s w c
 
--- it has tried these rows of its own
-pub record HasTried (s : State) (own rows : List ℕ) (v w : WorkerState) : Type 0 where
-  pub progress : Progress s (of_rows own) v w
-  pub settled : HasSettled s w
-  pub through : (r : ℕ) → Among r rows → IsThroughRow s w r
-
 pub same_board : (s : State) (own : Share) (v w : WorkerState) → Progress s own v w → w.seat.board ≡ v.seat.board
 same_board s own v w p = ap (λ (u : WorkerState). u.seat.board) p.grown
 
@@ -31,11 +25,6 @@ item_among xs i x lt is = subst (λ y. Among y xs) (sym is) (among_at xs i x lt)
 -- a column of a row's entries
 pub entry_at : (a b : Matrix) (r : ℕ) (cols : List ℕ) (i c : ℕ) → a ≡ b → Lists (λ d. IsEntry a r d) cols → i < length cols → c ≡ get_or cols i c → IsEntry b r c
 entry_at a b r cols i c same lists lt is = subst (λ (m : Matrix). IsEntry m r c) same (lists.sound c (item_among cols i c lt is))
-
--- such a column of the forest may claim the row
-pub can_claim : (a : Matrix) (s : State) (own : Share) (r : ℕ) (cols : List ℕ) (i c x : ℕ) (free : Bool) → a ≡ s.matrix → Lists (λ d. IsEntry a r d) cols → i < length cols → c ≡ get_or cols i c → InForest s c → RootOf s.base s.claims x c
-    → (free ≡ true → ¬ Among r (rows_of s.base)) → (free ≡ false → Among r (rows_of s.base)) → IsOwn own (r, c) → CanClaim s own r c x free
-can_claim a s own r cols i c x free same lists lt is inside root unmatched mated mine = record { is_own = mine; entry = entry_at a s.matrix r cols i c same lists lt is; inside = inside; rooted = root; mated = mated; is_free = unmatched }
 
 -- what holds of the first of a list, and of one more
 pub one_more : (P : ℕ → Type 0) (xs : List ℕ) (i x : ℕ) → ((y : ℕ) → Among y (take i xs) → P y) → i < length xs → x ≡ get_or xs i x → P x → (y : ℕ) → Among y (take (i + 1) xs) → P y

@@ -21,17 +21,19 @@ use sp_ids::{OutOfMemory, Row};
 use sp_ports::Gate;
 use std::thread::Threads;
 
-/// Each worker goes through its share of the free rows: among a row's columns it looks for one that is in the forest and whose
-/// root has no leaf yet, claims the row for this column, and wins the root for the row where that has no base mate.
+/// Each worker goes through its share of the free rows: among a row's columns it looks for one that
+/// is in the forest and whose root has no leaf yet, claims the row for this column, and wins the
+/// root for the row where that has no base mate.
 ///
-/// Of w workers, the worker i has the places from `i * l / w` up to `(i + 1) * l / w` of a list of l free rows; it calls
-/// `gate.arrive(i)` once, whether its share is empty or not. Workers run at once as far as threads can be had, and want of a
-/// thread changes nothing. A row that is claimed already, or is listed twice, is not claimed again. Answers `OutOfMemory` where
-/// a fresh list can't grow: what is listed then stands, and the level is not done. Memory: 8 bytes for each fresh claim and
-/// win. Work: at most one look at each entry of the free rows.
+/// Of w workers, the worker i has the places from `i * l / w` up to `(i + 1) * l / w` of a list of
+/// l free rows; it calls `gate.arrive(i)` once, whether its share is empty or not. Workers run at
+/// once as far as threads can be had, and want of a thread changes nothing. A row that is claimed
+/// already, or is listed twice, is not claimed again. Answers `OutOfMemory` where a fresh list
+/// can't grow: what is listed then stands, and the level is not done. Memory: 8 bytes for each
+/// fresh claim and win. Work: at most one look at each entry of the free rows.
 ///
-/// The search is the bottom-up step of Azad, Buluç and Pothen, Computing maximum cardinality matchings in parallel on
-/// bipartite graphs via tree-grafting, 2017.
+/// The search is the bottom-up step of Azad, Buluç and Pothen, Computing maximum cardinality
+/// matchings in parallel on bipartite graphs via tree-grafting, 2017.
 pub fn attach<R: Threads + Sync, G: Gate>(
     rt: &R,
     forest: &Forest,

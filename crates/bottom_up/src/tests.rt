@@ -44,8 +44,8 @@ fn one_pair<R: Abort + AllocGlobal>(rt: &R, pattern: &Pattern) -> Result<Matchin
     Ok(matching)
 }
 
-// Row 0 was matched with column 2. Column 1 claimed row 0 and column 2 row 1, and the path from there to column 1 was
-// exchanged.
+// Row 0 was matched with column 2. Column 1 claimed row 0 and column 2 row 1, and the path from
+// there to column 1 was exchanged.
 fn forest_after_a_graft<'p, R: Abort + AllocGlobal>(
     rt: &R,
     pattern: &'p Pattern,
@@ -118,7 +118,8 @@ fn level<R: Abort + AllocGlobal + Threads + Sync, G: Gate>(
     Ok(workers)
 }
 
-// The columns 1 and 2 are matched with the rows 0 and 1 now, no row is claimed, and of the columns only 0 is in the forest.
+// The columns 1 and 2 are matched with the rows 0 and 1 now, no row is claimed, and of the columns
+// only 0 is in the forest.
 #[test]
 fn a_column_claims_the_row_that_is_free_again(rt: HostRuntime) -> Result<(), Fail> {
     let pattern = matrix(&rt)?;

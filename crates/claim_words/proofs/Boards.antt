@@ -32,11 +32,11 @@ pub root_in_range : (id : TableId) (rows : ℕ) (opened : List ℕ) (b : Board) 
 root_in_range id rows opened b root board lt = subst (λ (d : Board). root < length d.roots) (sym board) lt
 
 -- the word of a root stands behind those of the rows
-pub root_at : (told rows : ℕ) (opened : List ℕ) (known : List (Option ℕ)) (x root : ℕ) → told ≡ rows → 1 + told ≤ length opened → known ≡ rows_in told opened → x ≡ root → 1 + rows + x ≡ 1 + length known + root
-root_at told rows opened known x root is there same e = let many = ap length same ∙ rows_long told opened there in omega (arith, many, is, e)
+pub root_at : (fact rows : ℕ) (opened : List ℕ) (known : List (Option ℕ)) (x root : ℕ) → fact ≡ rows → 1 + fact ≤ length opened → known ≡ rows_in fact opened → x ≡ root → 1 + rows + x ≡ 1 + length known + root
+root_at fact rows opened known x root is there same e = let many = ap length same ∙ rows_long fact opened there in omega (arith, many, is, e)
 
-pub root_word_below : (id : TableId) (told rows root : ℕ) (opened : List ℕ) → IsLaid id rows told opened → root < length (roots_in told opened) → 1 + rows + root < id.words
-root_word_below id told rows root opened a lt = subst₂ (λ m i. 1 + m + root < i) a.rows_told (sym a.all) (root_below told opened root lt)
+pub root_word_below : (id : TableId) (fact rows root : ℕ) (opened : List ℕ) → IsLaid id rows fact opened → root < length (roots_in fact opened) → 1 + rows + root < id.words
+root_word_below id fact rows root opened a lt = subst₂ (λ m i. 1 + m + root < i) a.rows_known (sym a.all) (root_below fact opened root lt)
 
 -- a row or a column is its number
 pub numbered : (o : Option ℕ) → option_map (λ (x : ℕ). x) o ≡ o
@@ -44,5 +44,5 @@ numbered None = refl
 numbered (Some x) = refl
 
 -- the spare word
-pub some_words : (id : TableId) (told rows : ℕ) (opened : List ℕ) → IsLaid id rows told opened → 0 < id.words
-some_words id told rows opened a = let all = a.all in let there = a.rows_there in omega (arith, all, there)
+pub some_words : (id : TableId) (fact rows : ℕ) (opened : List ℕ) → IsLaid id rows fact opened → 0 < id.words
+some_words id fact rows opened a = let all = a.all in let there = a.rows_there in omega (arith, all, there)

@@ -35,17 +35,17 @@ root_held n ws now x root w view lt e at = subst (λ (m : Words). root < length 
 -- What the last seat is told.
 
 pub left : {S : Type 0} (n rows : ℕ) (opened words : List ℕ) (xs : List S) (id : ℕ) (v : Option Known) → n ≡ rows → 1 + n ≤ length opened → Final (Seen (Kept n opened) id v) words xs → IsLeft rows words
-left n rows opened words xs id v told there (s, (kept, at), same, long, homes) = record {
+left n rows opened words xs id v fact there (s, (kept, at), same, long, homes) = record {
   fits = subst AllFit same kept.fits;
-  rows_there = let many = sym (ap length same) ∙ kept.as_many in omega (arith, many, told, there);
+  rows_there = let many = sym (ap length same) ∙ kept.as_many in omega (arith, many, fact, there);
 }
 
-pub last_told : {S : Type 0} (n rows : ℕ) (opened words : List ℕ) (xs : List S) (id : ℕ) (table : Rattle.atomic_table.specs.Seated.TableId) (me : Me S (Option Known)) (b : Board) (ss : List Seat)
+pub last_known : {S : Type 0} (n rows : ℕ) (opened words : List ℕ) (xs : List S) (id : ℕ) (table : Rattle.atomic_table.specs.Seated.TableId) (me : Me S (Option Known)) (b : Board) (ss : List Seat)
     → IsOpen me → n ≡ rows → shown table (known me.0) ≡ first_seat b 1 (gathered ss) → Final (Seen (Kept n opened) id me.0) words xs → SettlesAll b (decoded rows words) ss
-last_told n rows opened words xs id table me b ss live told view (s, (kept, at), same, long, homes) =
+last_known n rows opened words xs id table me b ss live fact view (s, (kept, at), same, long, homes) =
     settles_gathered b.rows b.roots (decoded rows words) ss
     (subst (λ (t : Seat). Settles t.board.rows t.board.roots (decoded rows words) t.listed) view
-    (subst (λ m. Settles (known me.0).rows (known me.0).roots (decoded m words) (known me.0).listed) told
+    (subst (λ m. Settles (known me.0).rows (known me.0).roots (decoded m words) (known me.0).listed) fact
     (subst (λ ws. Settles (known me.0).rows (known me.0).roots (decoded n ws) (known me.0).listed) same account)))
   where
     there : get_elem? s.views id ≡ some (Some (known me.0))

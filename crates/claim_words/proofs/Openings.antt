@@ -92,8 +92,8 @@ opens n words spare fits = record {
 }
 
 -- the words of these values, as they are lent and as they are told
-pub opens_laid : {S : Type 0} (n : ℕ) (rows roots : List (Option ℕ)) (words lent told : List ℕ) → words ≡ words_for rows roots → AllFit words → lent ≡ words → told ≡ words → Kept n told (opening {S = S} lent [] (opener n told))
-opens_laid {S = S} n rows roots words lent told laid fits as_lent as_told = subst₂ (λ a b. Kept n a (opening {S = S} b [] (opener n a))) (sym as_told) (sym as_lent) (opens n words (ap (λ ws. slice_index ws 0) laid) fits)
+pub opens_laid : {S : Type 0} (n : ℕ) (rows roots : List (Option ℕ)) (words lent fact : List ℕ) → words ≡ words_for rows roots → AllFit words → lent ≡ words → fact ≡ words → Kept n fact (opening {S = S} lent [] (opener n fact))
+opens_laid {S = S} n rows roots words lent fact laid fits as_lent as_known = subst₂ (λ a b. Kept n a (opening {S = S} b [] (opener n a))) (sym as_known) (sym as_lent) (opens n words (ap (λ ws. slice_index ws 0) laid) fits)
 
 pub read_again : (n : ℕ) (words : List ℕ) (rows roots : List (Option ℕ)) → n ≡ length rows → words ≡ words_for rows roots → (rows_in n words ≡ rows) × (roots_in n words ≡ roots)
 read_again n words rows roots e f = subst₂ (λ m ws. (rows_in m ws ≡ rows) × (roots_in m ws ≡ roots)) (sym e) (sym f) (rows_again rows roots, roots_again rows roots)

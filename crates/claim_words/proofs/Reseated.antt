@@ -93,9 +93,9 @@ gathered_listed b w ws = λ i. record {
 pub gathered_words : (b : Board) (ws others : List WorkerState) (first : WorkerState) (s : Seat) → ws ≡ first ∷ others → s ≡ first_seat b (1 + length others) (followed_by (all_listed (lists_of (seats_of others))) first.seat.listed)
     → (words : Words) × Settles b.rows b.roots words s.listed → (words : Words) × SettlesAll b words (seats_of ws) × SettlesAll b words (seats_of (after_gather b ws))
 gathered_words b ws others first s e is (words, a) =
-    let told : Settles b.rows b.roots words (gathered (seats_of (first ∷ others))) = subst (λ (t : Seat). Settles b.rows b.roots words t.listed) is a in
+    let fact : Settles b.rows b.roots words (gathered (seats_of (first ∷ others))) = subst (λ (t : Seat). Settles b.rows b.roots words t.listed) is a in
     subst (λ vs. (now : Words) × SettlesAll b now (seats_of vs) × SettlesAll b now (seats_of (after_gather b vs))) (sym e) (
       words,
-      settles_gathered b.rows b.roots words (seats_of (first ∷ others)) told,
-      subst (Settles b.rows b.roots words) (sym (gathered_listed b first others)) told,
+      settles_gathered b.rows b.roots words (seats_of (first ∷ others)) fact,
+      subst (Settles b.rows b.roots words) (sym (gathered_listed b first others)) fact,
     )

@@ -15,7 +15,7 @@ use Rattle.claim_words.proofs.AccountLemmas.{not_some, one_else, one_here}
 use Rattle.claim_words.proofs.Flat.{times_append}
 
 pub open_after : {S : Type 0} {me now : Me S (Option Known)} {k : Known} {Knew : ℕ → Type 0} {l : Listed} {found : ℕ} → IsOpen me → Tells k Knew l found me now → IsOpen now
-open_after live told = subst IsOpen (sym told.after_is) (refl, live.1)
+open_after live fact = subst IsOpen (sym fact.after_is) (refl, live.1)
 
 -- a word of which no value is listed is not listed
 unlisted : (i : ℕ) (ps : List (ℕ × ℕ)) → ((x : ℕ) → ¬ Among (i, x) ps) → times i ps ≡ 0
@@ -33,35 +33,35 @@ module _ {S : Type 0} (table after : TableId) (me now : Me S (Option Known)) (s 
   -- what a claim ensures: the seat lists what the step found, a value that it knew was found, and what it got is listed once
   pub claim_answer : (row col found : ℕ) (answer : Option ℕ) → answer ≡ value_of found → Tells (known me.0) (KnewRow (known me.0) row) (claimed (known me.0).listed row col (value_of found)) found me now
       → (shown after (known now.0) ≡ after_claim s row col answer) × ((x : ℕ) → KnowsRow s row x → answer ≡ Some x) × (answer ≡ None → times row (known now.0).listed.claims ≡ 1)
-  claim_answer row col found answer e told = (seat, knows, (λ none. subst (λ (t : Seat). times row t.listed.claims ≡ 1) (sym seat) (subst (λ o. times row (after_claim s row col o).listed.claims ≡ 1) (sym none) (times_last row col s.listed.claims (λ y h. not_some (sym none ∙ knows y (inr (inl h))))))))
+  claim_answer row col found answer e fact = (seat, knows, (λ none. subst (λ (t : Seat). times row t.listed.claims ≡ 1) (sym seat) (subst (λ o. times row (after_claim s row col o).listed.claims ≡ 1) (sym none) (times_last row col s.listed.claims (λ y h. not_some (sym none ∙ knows y (inr (inl h))))))))
     where
       seat : shown after (known now.0) ≡ after_claim s row col answer
-      seat = subst (λ o. shown after (known now.0) ≡ after_claim s row col o) (sym e) (shown_after (λ l. claimed l row col (value_of found)) told.after_is)
+      seat = subst (λ o. shown after (known now.0) ≡ after_claim s row col o) (sym e) (shown_after (λ l. claimed l row col (value_of found)) fact.after_is)
 
       knows : (x : ℕ) → KnowsRow s row x → answer ≡ Some x
-      knows x knew = e ∙ told.same x (subst (λ t. KnowsRow t row x) (sym view) knew)
+      knows x knew = e ∙ fact.same x (subst (λ t. KnowsRow t row x) (sym view) knew)
 
   pub win_answer : (root leaf found : ℕ) (answer : Option ℕ) → answer ≡ value_of found → Tells (known me.0) (KnewRoot (known me.0) root) (won (known me.0).listed root leaf (value_of found)) found me now
       → (shown after (known now.0) ≡ after_win s root leaf answer) × ((x : ℕ) → KnowsRoot s root x → answer ≡ Some x) × (answer ≡ None → times root (known now.0).listed.wins ≡ 1)
-  win_answer root leaf found answer e told = (seat, knows, (λ none. subst (λ (t : Seat). times root t.listed.wins ≡ 1) (sym seat) (subst (λ o. times root (after_win s root leaf o).listed.wins ≡ 1) (sym none) (times_last root leaf s.listed.wins (λ y h. not_some (sym none ∙ knows y (inr (inl h))))))))
+  win_answer root leaf found answer e fact = (seat, knows, (λ none. subst (λ (t : Seat). times root t.listed.wins ≡ 1) (sym seat) (subst (λ o. times root (after_win s root leaf o).listed.wins ≡ 1) (sym none) (times_last root leaf s.listed.wins (λ y h. not_some (sym none ∙ knows y (inr (inl h))))))))
     where
       seat : shown after (known now.0) ≡ after_win s root leaf answer
-      seat = subst (λ o. shown after (known now.0) ≡ after_win s root leaf o) (sym e) (shown_after (λ l. won l root leaf (value_of found)) told.after_is)
+      seat = subst (λ o. shown after (known now.0) ≡ after_win s root leaf o) (sym e) (shown_after (λ l. won l root leaf (value_of found)) fact.after_is)
 
       knows : (x : ℕ) → KnowsRoot s root x → answer ≡ Some x
-      knows x knew = e ∙ told.same x (subst (λ t. KnowsRoot t root x) (sym view) knew)
+      knows x knew = e ∙ fact.same x (subst (λ t. KnowsRoot t root x) (sym view) knew)
 
   -- what a look ensures
   pub row_answer : (row found : ℕ) (answer : Option ℕ) → answer ≡ value_of found → Tells (known me.0) (KnewRow (known me.0) row) (looked (known me.0).listed (row_word row (value_of found))) found me now
       → (shown after (known now.0) ≡ after_look s (row_word row answer)) × ((x : ℕ) → KnowsRow s row x → answer ≡ Some x)
-  row_answer row found answer e told = (
-    subst (λ o. shown after (known now.0) ≡ after_look s (row_word row o)) (sym e) (shown_after (λ l. looked l (row_word row (value_of found))) told.after_is),
-    (λ x knew. e ∙ told.same x (subst (λ t. KnowsRow t row x) (sym view) knew)),
+  row_answer row found answer e fact = (
+    subst (λ o. shown after (known now.0) ≡ after_look s (row_word row o)) (sym e) (shown_after (λ l. looked l (row_word row (value_of found))) fact.after_is),
+    (λ x knew. e ∙ fact.same x (subst (λ t. KnowsRow t row x) (sym view) knew)),
   )
 
   pub root_answer : (root found : ℕ) (answer : Option ℕ) → answer ≡ value_of found → Tells (known me.0) (KnewRoot (known me.0) root) (looked (known me.0).listed (root_word root (value_of found))) found me now
       → (shown after (known now.0) ≡ after_look s (root_word root answer)) × ((x : ℕ) → KnowsRoot s root x → answer ≡ Some x)
-  root_answer root found answer e told = (
-    subst (λ o. shown after (known now.0) ≡ after_look s (root_word root o)) (sym e) (shown_after (λ l. looked l (root_word root (value_of found))) told.after_is),
-    (λ x knew. e ∙ told.same x (subst (λ t. KnowsRoot t root x) (sym view) knew)),
+  root_answer root found answer e fact = (
+    subst (λ o. shown after (known now.0) ≡ after_look s (root_word root o)) (sym e) (shown_after (λ l. looked l (root_word root (value_of found))) fact.after_is),
+    (λ x knew. e ∙ fact.same x (subst (λ t. KnowsRoot t root x) (sym view) knew)),
   )

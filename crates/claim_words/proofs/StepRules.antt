@@ -28,9 +28,9 @@ module _ {S : Type 0} (n : ℕ) (opened : List ℕ) (slots id : ℕ) (me : Me S 
   of_operands P i x p k j y e f g = subst (λ m. P m j y) (known_same (sym live.0 ∙ e)) (subst (λ a. P (known me.0) a y) f (subst (λ b. P (known me.0) i b) g p))
 
   -- what a word told that was found as the rule has it
-  told : (Knew : ℕ → Type 0) (s : State S (Option Known)) (i x : ℕ) (now : Listed) → Kept n opened s → slice_index s.words i ≡ x → ((y : ℕ) → Knew y → value_of (slice_index s.words i) ≡ Some y)
+  fact : (Knew : ℕ → Type 0) (s : State S (Option Known)) (i x : ℕ) (now : Listed) → Kept n opened s → slice_index s.words i ≡ x → ((y : ℕ) → Knew y → value_of (slice_index s.words i) ≡ Some y)
       → Tells (known me.0) Knew now x me (knowing (known me.0) now, me.1)
-  told Knew s i x now kept e stands = record {
+  fact Knew s i x now kept e stands = record {
     fits = subst (λ m. m ≤ 4294967296) e (kept.fits i);
     same = λ y knew. sym (ap value_of e) ∙ stands y knew;
     after_is = refl;
@@ -47,7 +47,7 @@ module _ {S : Type 0} (n : ℕ) (opened : List ℕ) (slots id : ℕ) (me : Me S 
 
       tells : (x : ℕ) → slice_index s.words (1 + row) ≡ x → TellsClaim (step slots (1 + row) 0 (1 + col) none) me x (knowing (known me.0) (claimed (known me.0).listed row col (value_of x)), me.1)
       tells x e k r c same at_row as_col = of_operands (λ m i y. Tells m (KnewRow m i) (claimed m.listed i y (value_of x)) x me (knowing (known me.0) (claimed (known me.0).listed row col (value_of x)), me.1)) row col
-          (told (KnewRow (known me.0) row) s (1 + row) x (claimed (known me.0).listed row col (value_of x)) kept e (λ y. row_stands n opened s kept id (known me.0) there row y lt)) k r c same (omega arith) (omega arith)
+          (fact (KnewRow (known me.0) row) s (1 + row) x (claimed (known me.0).listed row col (value_of x)) kept e (λ y. row_stands n opened s kept id (known me.0) there row y lt)) k r c same (omega arith) (omega arith)
 
       by : (x : ℕ) → slice_index s.words (1 + row) ≡ x → Result x
       by zero e = (knowing (known me.0) (claimed (known me.0).listed row col None), keeps, tt, kept_claim n opened s kept id (known me.0) there row col lt (omega arith) e, tells zero e)
@@ -75,7 +75,7 @@ module _ {S : Type 0} (n : ℕ) (opened : List ℕ) (slots id : ℕ) (me : Me S 
 
       tells : TellsRow (step slots (1 + row) 0 0 none) me (slice_index s.words (1 + row)) (knowing (known me.0) (looked (known me.0).listed (row_word row (value_of (slice_index s.words (1 + row))))), me.1)
       tells k r same at_row = of_operands (λ m i y. Tells m (KnewRow m i) (looked m.listed (row_word i (value_of (slice_index s.words (1 + row))))) (slice_index s.words (1 + row)) me (knowing (known me.0) (looked (known me.0).listed (row_word row (value_of (slice_index s.words (1 + row))))), me.1)) row 0
-          (told (KnewRow (known me.0) row) s (1 + row) (slice_index s.words (1 + row)) (looked (known me.0).listed (row_word row (value_of (slice_index s.words (1 + row))))) kept refl (λ y. row_stands n opened s kept id (known me.0) there row y lt)) k r 0 same (omega arith) refl
+          (fact (KnewRow (known me.0) row) s (1 + row) (slice_index s.words (1 + row)) (looked (known me.0).listed (row_word row (value_of (slice_index s.words (1 + row))))) kept refl (λ y. row_stands n opened s kept id (known me.0) there row y lt)) k r 0 same (omega arith) refl
 
   -- the rows are as many as the board has
   rows_are : (s : State S (Option Known)) → Kept n opened s → get_elem? s.views id ≡ some me.0 → 1 + n ≤ length opened → (k : Known) → me.0 ≡ Some k → length k.rows ≡ n
@@ -93,7 +93,7 @@ module _ {S : Type 0} (n : ℕ) (opened : List ℕ) (slots id : ℕ) (me : Me S 
 
       tells : (x : ℕ) → slice_index s.words (1 + n + root) ≡ x → TellsWin (step slots (1 + n + root) 0 (1 + leaf) none) me x (knowing (known me.0) (won (known me.0).listed root leaf (value_of x)), me.1)
       tells x e k r c same at_root as_leaf = of_operands (λ m i y. Tells m (KnewRoot m i) (won m.listed i y (value_of x)) x me (knowing (known me.0) (won (known me.0).listed root leaf (value_of x)), me.1)) root leaf
-          (told (KnewRoot (known me.0) root) s (1 + n + root) x (won (known me.0).listed root leaf (value_of x)) kept e (λ y. root_stands n opened s kept id (known me.0) there root y lt)) k r c same (let many = rows_are s kept at le k same in omega (arith, many, at_root)) (omega arith)
+          (fact (KnewRoot (known me.0) root) s (1 + n + root) x (won (known me.0).listed root leaf (value_of x)) kept e (λ y. root_stands n opened s kept id (known me.0) there root y lt)) k r c same (let many = rows_are s kept at le k same in omega (arith, many, at_root)) (omega arith)
 
       by : (x : ℕ) → slice_index s.words (1 + n + root) ≡ x → Result x
       by zero e = (knowing (known me.0) (won (known me.0).listed root leaf None), keeps, tt, kept_win n opened s kept id (known me.0) there root leaf lt (omega arith) e, tells zero e)
@@ -121,7 +121,7 @@ module _ {S : Type 0} (n : ℕ) (opened : List ℕ) (slots id : ℕ) (me : Me S 
 
       tells : TellsRoot (step slots (1 + n + root) 0 0 none) me (slice_index s.words (1 + n + root)) (knowing (known me.0) (looked (known me.0).listed (root_word root (value_of (slice_index s.words (1 + n + root))))), me.1)
       tells k r same at_root = of_operands (λ m i y. Tells m (KnewRoot m i) (looked m.listed (root_word i (value_of (slice_index s.words (1 + n + root))))) (slice_index s.words (1 + n + root)) me (knowing (known me.0) (looked (known me.0).listed (root_word root (value_of (slice_index s.words (1 + n + root))))), me.1)) root 0
-          (told (KnewRoot (known me.0) root) s (1 + n + root) (slice_index s.words (1 + n + root)) (looked (known me.0).listed (root_word root (value_of (slice_index s.words (1 + n + root))))) kept refl (λ y. root_stands n opened s kept id (known me.0) there root y lt)) k r 0 same (let many = rows_are s kept at le k same in omega (arith, many, at_root)) refl
+          (fact (KnewRoot (known me.0) root) s (1 + n + root) (slice_index s.words (1 + n + root)) (looked (known me.0).listed (root_word root (value_of (slice_index s.words (1 + n + root))))) kept refl (λ y. root_stands n opened s kept id (known me.0) there root y lt)) k r 0 same (let many = rows_are s kept at le k same in omega (arith, many, at_root)) refl
 
   -- the same where the board has the number of rows by itself
 

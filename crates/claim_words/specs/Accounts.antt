@@ -1,4 +1,5 @@
--- How lists of claims, or of wins, account for words: each entry of a list is a word and the value that it got.
+-- How lists of claims, or of wins, account for words: each entry of a list is a word and the value
+-- that it got.
 use Rattle.std.specs.Prelude.{◌≡◌, ℕ, ◌+◌, ◌==◌, if◌then◌else◌, List, [], ◌∷◌, Option, None, Some, length}
 use Rattle.bip_defs.specs.Lists.{Among}
 use Rattle.claim_words.specs.Board.{held}
@@ -14,8 +15,8 @@ is_added None None = 0
 is_added None (Some x) = 1
 is_added (Some y) now = 0
 
--- A word that was opened with a value holds it, and is not listed. A word that was opened empty is empty and not listed, or
--- holds the value that is listed for it, once
+-- A word that was opened with a value holds it, and is not listed. A word that was opened empty is
+-- empty and not listed, or holds the value that is listed for it, once
 pub record Accounts (opened now : List (Option ℕ)) (listed : List (ℕ × ℕ)) : Type 0 where
   pub as_many : length now ≡ length opened
   pub stays : (i x : ℕ) → held opened i ≡ Some x → held now i ≡ Some x
@@ -31,6 +32,7 @@ abbrev pub value_or : Option ℕ → Option ℕ → Option ℕ
 value_or None other = other
 value_or (Some x) other = Some x
 
--- what the lists tell of a word: the value with which it was opened, or else the one that is listed for it
+-- what the lists tell of a word: the value with which it was opened, or else the one that is listed
+-- for it
 abbrev pub listed_word : List (Option ℕ) → List (ℕ × ℕ) → ℕ → Option ℕ
 listed_word opened listed i = value_or (held opened i) (first_listed i listed)

@@ -1,9 +1,11 @@
--- A board of shared words. Each row has a word, which a column claims, and each root has one, which a leaf wins.
+-- A board of shared words. Each row has a word, which a column claims, and each root has one, which
+-- a leaf wins.
 use Rattle.std.specs.Prelude.{ℕ, List, Option}
 use Rattle.atomic_table.specs.Seated.{TableId}
 use Rattle.bip_defs.specs.Lists.{option_at}
 
--- the table of shared words in which a board stands, and what the words of the rows and of the roots held when it was opened
+-- the table of shared words in which a board stands, and what the words of the rows and of the
+-- roots held when it was opened
 pub record Board : Type 0 where
   pub id : TableId
   pub rows : List (Option ℕ)

@@ -6,7 +6,8 @@ pub data Sight : Type 0 where
   row_word : (row : ℕ) (col : Option ℕ) → Sight
   root_word : (root : ℕ) (leaf : Option ℕ) → Sight
 
--- the rows that were claimed, each with its column, the roots that were won, each with its leaf, and what was seen, in order
+-- the rows that were claimed, each with its column, the roots that were won, each with its leaf,
+-- and what was seen, in order
 pub record Listed : Type 0 where
   pub claims : List (ℕ × ℕ)
   pub wins : List (ℕ × ℕ)
@@ -51,7 +52,11 @@ looked l sight = record { claims = l.claims; wins = l.wins; seen = l.seen ++ sig
 
 -- two lists of each kind one after the other
 abbrev pub followed_by : Listed → Listed → Listed
-followed_by l m = record { claims = l.claims ++ m.claims; wins = l.wins ++ m.wins; seen = l.seen ++ m.seen }
+followed_by l m = record {
+  claims = l.claims ++ m.claims;
+  wins = l.wins ++ m.wins;
+  seen = l.seen ++ m.seen;
+}
 
 -- all of these, one after the other
 abbrev pub all_listed : List Listed → Listed

@@ -4,7 +4,8 @@ use Rattle.bip_defs.specs.Lists.{Among}
 use Rattle.claim_words.specs.Board.{Board, held}
 use Rattle.claim_words.specs.Listed.{Listed, Sight, claimed, looked, nothing, root_word, row_word, won, all_listed, followed_by}
 
--- its board, its number, how many seats the board has (which the seat 0 alone keeps), and what it lists
+-- its board, its number, how many seats the board has (which the seat 0 alone keeps), and what it
+-- lists
 pub record Seat : Type 0 where
   pub board : Board
   pub number : ℕ
@@ -40,13 +41,16 @@ after_look s sight = with_listed s (looked s.listed sight)
 abbrev pub IsSameSeat : Seat → Seat → Type 0
 IsSameSeat s t = (t.board ≡ s.board) × (t.number ≡ s.number) × (t.seats ≡ s.seats)
 
--- What a seat knows of a word: it was opened with this value, or the seat lists the value, or has seen it.
+-- What a seat knows of a word: it was opened with this value, or the seat lists the value, or has
+-- seen it.
 
 abbrev pub KnowsRow : Seat → ℕ → ℕ → Type 0
-KnowsRow s row col = (held s.board.rows row ≡ Some col) ⊎ (Among (row, col) s.listed.claims ⊎ Among (row_word row (Some col)) s.listed.seen)
+KnowsRow s row col = (held s.board.rows row ≡ Some col)
+    ⊎ (Among (row, col) s.listed.claims ⊎ Among (row_word row (Some col)) s.listed.seen)
 
 abbrev pub KnowsRoot : Seat → ℕ → ℕ → Type 0
-KnowsRoot s root leaf = (held s.board.roots root ≡ Some leaf) ⊎ (Among (root, leaf) s.listed.wins ⊎ Among (root_word root (Some leaf)) s.listed.seen)
+KnowsRoot s root leaf = (held s.board.roots root ≡ Some leaf)
+    ⊎ (Among (root, leaf) s.listed.wins ⊎ Among (root_word root (Some leaf)) s.listed.seen)
 
 -- All seats of a board.
 
@@ -76,4 +80,5 @@ AreNumbered b number (s ∷ ss) = (s.board ≡ b) × (s.number ≡ number) × Ar
 -- all seats of this board, in the order of their numbers
 abbrev pub AreAllSeats : Board → List Seat → Type 0
 AreAllSeats b [] = ⊥
-AreAllSeats b (s ∷ others) = (s.board ≡ b) × (s.number ≡ 0) × (s.seats ≡ 1 + length others) × AreNumbered b 1 others
+AreAllSeats b (s ∷ others) = (s.board ≡ b) × (s.number ≡ 0) × (s.seats ≡ 1 + length others)
+    × AreNumbered b 1 others

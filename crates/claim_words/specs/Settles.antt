@@ -13,7 +13,8 @@ Stands words (row_word row (Some col)) = held words.rows row ≡ Some col
 Stands words (root_word root None) = Unit {0}
 Stands words (root_word root (Some leaf)) = held words.roots root ≡ Some leaf
 
--- The lists account for all words of a board that was opened with these values, and each value that was seen stands
+-- The lists account for all words of a board that was opened with these values, and each value that
+-- was seen stands
 pub record Settles (rows roots : List (Option ℕ)) (words : Words) (l : Listed) : Type 0 where
   pub claims : Accounts rows words.rows l.claims
   pub wins : Accounts roots words.roots l.wins

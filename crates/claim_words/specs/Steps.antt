@@ -9,18 +9,28 @@ use Rattle.claim_words.specs.Rule.{Known}
 use Rattle.claim_words.specs.Settles.{Settles}
 
 abbrev pub knowing : Known → Listed → Option Known
-knowing k l = Some (record { rows = k.rows; roots = k.roots; number = k.number; seats = k.seats; listed = l })
+knowing k l = Some (record {
+  rows = k.rows;
+  roots = k.roots;
+  number = k.number;
+  seats = k.seats;
+  listed = l;
+})
 
 -- the seat knew of a value of the row's word, or of the root's
 
 abbrev pub KnewRow : Known → ℕ → ℕ → Type 0
-KnewRow k row col = (held k.rows row ≡ Some col) ⊎ (Among (row, col) k.listed.claims ⊎ Among (row_word row (Some col)) k.listed.seen)
+KnewRow k row col = (held k.rows row ≡ Some col)
+    ⊎ (Among (row, col) k.listed.claims ⊎ Among (row_word row (Some col)) k.listed.seen)
 
 abbrev pub KnewRoot : Known → ℕ → ℕ → Type 0
-KnewRoot k root leaf = (held k.roots root ≡ Some leaf) ⊎ (Among (root, leaf) k.listed.wins ⊎ Among (root_word root (Some leaf)) k.listed.seen)
+KnewRoot k root leaf = (held k.roots root ≡ Some leaf)
+    ⊎ (Among (root, leaf) k.listed.wins ⊎ Among (root_word root (Some leaf)) k.listed.seen)
 
--- What a step on a word tells: the number found fits, a value that the seat knew is what was found, and the seat has these lists now
-pub record Tells {S : Type 0} (k : Known) (Knew : ℕ → Type 0) (now : Listed) (found : ℕ) (before after : Me S (Option Known)) : Type 0 where
+-- What a step on a word tells: the number found fits, a value that the seat knew is what was found,
+-- and the seat has these lists now
+pub record Tells {S : Type 0} (k : Known) (Knew : ℕ → Type 0) (now : Listed) (found : ℕ)
+    (before after : Me S (Option Known)) : Type 0 where
   pub fits : found ≤ 4294967296
   pub same : (x : ℕ) → Knew x → value_of found ≡ Some x
   pub after_is : after ≡ (knowing k now, before.1)
@@ -28,12 +38,14 @@ pub record Tells {S : Type 0} (k : Known) (Knew : ℕ → Type 0) (now : Listed)
 module _ {S : Type 0} where
   -- an exchange of a row's word
   abbrev pub TellsClaim : Step S → Me S (Option Known) → ℕ → Me S (Option Known) → Type 0
-  TellsClaim st before found after = (k : Known) (row col : ℕ) → before.0 ≡ Some k → st.word ≡ 1 + row → st.second ≡ 1 + col
+  TellsClaim st before found after = (k : Known) (row col : ℕ) → before.0 ≡ Some k
+      → st.word ≡ 1 + row → st.second ≡ 1 + col
       → Tells k (KnewRow k row) (claimed k.listed row col (value_of found)) found before after
 
   -- an exchange of a root's word
   abbrev pub TellsWin : Step S → Me S (Option Known) → ℕ → Me S (Option Known) → Type 0
-  TellsWin st before found after = (k : Known) (root leaf : ℕ) → before.0 ≡ Some k → st.word ≡ 1 + length k.rows + root → st.second ≡ 1 + leaf
+  TellsWin st before found after = (k : Known) (root leaf : ℕ) → before.0 ≡ Some k
+      → st.word ≡ 1 + length k.rows + root → st.second ≡ 1 + leaf
       → Tells k (KnewRoot k root) (won k.listed root leaf (value_of found)) found before after
 
   -- a load of a row's word
@@ -43,25 +55,46 @@ module _ {S : Type 0} where
 
   -- a load of a root's word
   abbrev pub TellsRoot : Step S → Me S (Option Known) → ℕ → Me S (Option Known) → Type 0
-  TellsRoot st before found after = (k : Known) (root : ℕ) → before.0 ≡ Some k → st.word ≡ 1 + length k.rows + root
-      → Tells k (KnewRoot k root) (looked k.listed (root_word root (value_of found))) found before after
+  TellsRoot st before found after = (k : Known) (root : ℕ) → before.0 ≡ Some k
+      → st.word ≡ 1 + length k.rows + root
+      → Tells k (KnewRoot k root) (looked k.listed (root_word root (value_of found)))
+      found before after
 
   -- a load of the spare word by the seat 0 while no other is left: its lists account for all words
   abbrev pub TellsAll : Step S → Me S (Option Known) → ℕ → Me S (Option Known) → Type 0
-  TellsAll st before found after = (after ≡ before) × ((k : Known) → before.0 ≡ Some k → (words : Words) × Settles k.rows k.roots words k.listed)
+  TellsAll st before found after = (after ≡ before)
+      × ((k : Known) → before.0 ≡ Some k → (words : Words) × Settles k.rows k.roots words k.listed)
 
 -- The seat 0 splits off a seat with the next number.
 
 abbrev pub counting_more : Option Known → Option Known
 counting_more None = None
-counting_more (Some k) = Some (record { rows = k.rows; roots = k.roots; number = k.number; seats = 1 + k.seats; listed = k.listed })
+counting_more (Some k) = Some (record {
+  rows = k.rows;
+  roots = k.roots;
+  number = k.number;
+  seats = 1 + k.seats;
+  listed = k.listed;
+})
 
 abbrev pub newcomer : Option Known → Option Known
 newcomer None = None
-newcomer (Some k) = Some (record { rows = k.rows; roots = k.roots; number = k.seats; seats = 0; listed = nothing })
+newcomer (Some k) = Some (record {
+  rows = k.rows;
+  roots = k.roots;
+  number = k.seats;
+  seats = 0;
+  listed = nothing;
+})
 
 -- the seat 0 takes in the lists of the seat with the highest number, before its own
 abbrev pub joined : Option Known → Option Known → Option Known
 joined None w = None
 joined (Some k) None = Some k
-joined (Some k) (Some j) = Some (record { rows = k.rows; roots = k.roots; number = k.number; seats = k.seats - 1; listed = followed_by j.listed k.listed })
+joined (Some k) (Some j) = Some (record {
+  rows = k.rows;
+  roots = k.roots;
+  number = k.number;
+  seats = k.seats - 1;
+  listed = followed_by j.listed k.listed;
+})

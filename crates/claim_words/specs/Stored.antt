@@ -9,7 +9,12 @@ use Rattle.claim_words.specs.Seat.{Seat}
 
 -- what a seat of this table shows
 abbrev pub shown : TableId → Known → Seat
-shown id k = record { board = record { id = id; rows = k.rows; roots = k.roots }; number = k.number; seats = k.seats; listed = k.listed }
+shown id k = record {
+  board = record { id = id; rows = k.rows; roots = k.roots };
+  number = k.number;
+  seats = k.seats;
+  listed = k.listed;
+}
 
 -- a seat that was not joined to another, and holds no slot
 abbrev pub IsOpen : {S : Type 0} → Me S (Option Known) → Type 0
@@ -17,22 +22,36 @@ IsOpen me = (me.0 ≡ Some (known me.0)) × (me.1 ≡ [])
 
 -- a board in this table, which was opened with these words
 abbrev pub board_in : TableId → ℕ → List ℕ → Board
-board_in id rows opened = record { id = id; rows = rows_in rows opened; roots = roots_in rows opened }
+board_in id rows opened = record {
+  id = id;
+  rows = rows_in rows opened;
+  roots = roots_in rows opened;
+}
 
--- the table has the words with which it was opened, and of these the spare word and so many rows' words
-pub record IsLaid (id : TableId) (rows told : ℕ) (opened : List ℕ) : Type 0 where
+-- the table has the words with which it was opened, and of these the spare word and so many rows'
+-- words
+pub record IsLaid (id : TableId) (rows known_rows : ℕ) (opened : List ℕ) : Type 0 where
   pub all : id.words ≡ length opened
   pub no_slots : id.slots ≡ 0
   pub few : length opened < 2 ^ 63
-  pub rows_told : told ≡ rows
-  pub rows_there : 1 + told ≤ length opened
+  pub rows_known : known_rows ≡ rows
+  pub rows_there : 1 + known_rows ≤ length opened
 
--- the words of a closed board: the spare word and so many rows' words are among them, and each word fits
+-- the words of a closed board: the spare word and so many rows' words are among them, and each word
+-- fits
 pub record IsLeft (rows : ℕ) (words : List ℕ) : Type 0 where
   pub fits : AllFit words
   pub rows_there : 1 + rows ≤ length words
 
 -- the seat of a worker
 abbrev pub seat_in : Option Seat → Seat
-seat_in None = shown (record { words = 0; slots = 0; views_name = 0; atom = 0; block = 0; offset = 0; slot_names = [] }) nobody
+seat_in None = shown (record {
+  words = 0;
+  slots = 0;
+  views_name = 0;
+  atom = 0;
+  block = 0;
+  offset = 0;
+  slot_names = [];
+}) nobody
 seat_in (Some s) = s

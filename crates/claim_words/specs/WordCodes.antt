@@ -1,4 +1,5 @@
--- How a board's words are kept: the spare word first, then the words of the rows, then those of the roots. A word is 0 where it is empty, and else 1 more than its value.
+-- How a board's words are kept: the spare word first, then the words of the rows, then those of the
+-- roots. A word is 0 where it is empty, and else 1 more than its value.
 use Rattle.std.specs.Prelude.{ℕ, zero, suc, ◌+◌, List, Option, None, Some, map, take, drop, ◌≤◌, ◌∷◌, ◌++◌, slice_index}
 use Rattle.claim_words.specs.Board.{Words}
 

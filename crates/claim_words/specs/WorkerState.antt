@@ -83,7 +83,8 @@ listed_by_workers ws = all_listed (lists_of (seats_of ws))
 abbrev pub fresh_lists : List WorkerState → List (List (ℕ × ℕ) × List (ℕ × ℕ))
 fresh_lists ws = map (λ (w : WorkerState). (w.fresh_claims, w.fresh_wins)) ws
 
--- Workers whose seats were gathered: the seat 0 lists what all seats did, and the others list nothing. The fresh lists stay.
+-- Workers whose seats were gathered: the seat 0 lists what all seats did, and the others list
+-- nothing. The fresh lists stay.
 
 -- workers with new seats, from this number on
 abbrev pub re_seated : Board → ℕ → List WorkerState → List WorkerState
@@ -92,4 +93,5 @@ re_seated b number (w ∷ ws) = with_seat w (new_seat b number) ∷ re_seated b 
 
 abbrev pub after_gather : Board → List WorkerState → List WorkerState
 after_gather b [] = []
-after_gather b (w ∷ others) = with_seat w (first_seat b w.seat.seats (gathered (seats_of (w ∷ others)))) ∷ re_seated b 1 others
+after_gather b (w ∷ others) =
+    with_seat w (first_seat b w.seat.seats (gathered (seats_of (w ∷ others)))) ∷ re_seated b 1 others

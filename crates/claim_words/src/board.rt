@@ -21,8 +21,8 @@ use std::alloc::Global;
 use std::marker::Model;
 use std::snapshot::Snapshot;
 
-/// A word for each row, which a column claims, and a word for each root, which a leaf wins. It keeps 8 bytes a word, and one
-/// word more. Threads share it by `&`, each with a seat of its own.
+/// A word for each row, which a column claims, and a word for each root, which a leaf wins. It
+/// keeps 8 bytes a word, and one word more. Threads share it by `&`, each with a seat of its own.
 #[derive(Drop)]
 pub struct ClaimBoard {
     pub(crate) table: Table<(), View, Opening, EachWordOnce, Global>,
@@ -109,7 +109,8 @@ fn lay<I: Id>(words: &mut Vec<u64>, values: &[Option<I>]) -> Result<(), OutOfMem
     Ok(())
 }
 
-// The words of a board that is opened with these values: the spare word, the rows' words and the roots' words.
+// The words of a board that is opened with these values: the spare word, the rows' words and the
+// roots' words.
 fn laid(alloc: Global, rows: &[Option<Col>], roots: &[Option<Row>]) -> Result<Vec<u64>, OutOfMemory>
     ensures words { IfOk result (λ words. words.items ≡ words_for rows.now roots.now) }
     ensures fit { IfOk result (λ words. AllFit words.items) }
@@ -122,8 +123,8 @@ fn laid(alloc: Global, rows: &[Option<Col>], roots: &[Option<Row>]) -> Result<Ve
 }
 
 impl ClaimBoard {
-    /// A board whose words hold these values, the rows' and the roots', and so many seats, numbered from 0. Answers
-    /// `OutOfMemory` where 8 bytes a word, twice for a moment, can't be had.
+    /// A board whose words hold these values, the rows' and the roots', and so many seats, numbered
+    /// from 0. Answers `OutOfMemory` where 8 bytes a word, twice for a moment, can't be had.
     pub fn new(
         alloc: Global,
         rows: &[Option<Col>],
@@ -179,9 +180,10 @@ impl ClaimBoard {
         Ok(seats)
     }
 
-    /// Claims a row for a column, by one exchange of the row's word. `Mine`: the word was empty, holds the column from now on,
-    /// and the seat lists it once. `Held`: the word held this column and holds it for good, and the seat has seen it. A seat
-    /// that knows what the word holds is told that. It takes no memory and does not wait.
+    /// Claims a row for a column, by one exchange of the row's word. `Mine`: the word was empty,
+    /// holds the column from now on, and the seat lists it once. `Held`: the word held this column
+    /// and holds it for good, and the seat has seen it. A seat that knows what the word holds is
+    /// told that. It takes no memory and does not wait.
     pub fn claim(&self, seat: &mut ClaimSeat, row: Row, col: Col) -> Claimed
         requires seat { seat.old.board ≡ self.now }
         requires row { row < length self.now.rows }
@@ -196,9 +198,10 @@ impl ClaimBoard {
         claimed(value(found))
     }
 
-    /// Wins a root for a leaf, by one exchange of the root's word. `Mine`: the word was empty, holds the leaf from now on, and
-    /// the seat lists it once. `Held`: the word held this leaf and holds it for good, and the seat has seen it. A seat that
-    /// knows what the word holds is told that. It takes no memory and does not wait.
+    /// Wins a root for a leaf, by one exchange of the root's word. `Mine`: the word was empty,
+    /// holds the leaf from now on, and the seat lists it once. `Held`: the word held this leaf and
+    /// holds it for good, and the seat has seen it. A seat that knows what the word holds is told
+    /// that. It takes no memory and does not wait.
     pub fn win(&self, seat: &mut ClaimSeat, root: Col, leaf: Row) -> Won
         requires seat { seat.old.board ≡ self.now }
         requires root { root < length self.now.roots }
@@ -213,8 +216,9 @@ impl ClaimBoard {
         won(value(found))
     }
 
-    /// The column that holds a row, if any, by one load of the row's word, which the seat has seen from now on. A seat that
-    /// knows what the word holds is told that. It takes no memory and does not wait.
+    /// The column that holds a row, if any, by one load of the row's word, which the seat has seen
+    /// from now on. A seat that knows what the word holds is told that. It takes no memory and does
+    /// not wait.
     pub fn look_row(&self, seat: &mut ClaimSeat, row: Row) -> Option<Col>
         requires seat { seat.old.board ≡ self.now }
         requires row { row < length self.now.rows }
@@ -227,8 +231,9 @@ impl ClaimBoard {
         identified(holder)
     }
 
-    /// The leaf that a root has, if any, by one load of the root's word, which the seat has seen from now on. A seat that
-    /// knows what the word holds is told that. It takes no memory and does not wait.
+    /// The leaf that a root has, if any, by one load of the root's word, which the seat has seen
+    /// from now on. A seat that knows what the word holds is told that. It takes no memory and does
+    /// not wait.
     pub fn look_root(&self, seat: &mut ClaimSeat, root: Col) -> Option<Row>
         requires seat { seat.old.board ≡ self.now }
         requires root { root < length self.now.roots }
@@ -265,7 +270,8 @@ impl ClaimBoard {
             .join_seat::<TakesIn>(&mut first.seat, seat);
     }
 
-    // The seat 0, once no other is left, is told by a load of the spare word that its lists account for all words.
+    // The seat 0, once no other is left, is told by a load of the spare word that its lists account
+    // for all words.
     pub(crate) fn account(&self, first: &mut ClaimSeat)
         requires { first.old ≡ first_seat self.now 1 first.old.listed }
         ensures same { first.new ≡ first.old }

@@ -61,9 +61,10 @@ impl Drop for Closed {
 }
 
 impl ClaimBoard {
-    /// Closes the board, once all its seats are there, in the order of their numbers: each word that was opened with a value
-    /// holds it and no seat lists it, each other word is empty and listed by no seat, or holds what one seat lists for it,
-    /// once, and each value that was seen stands. It takes no memory, and an `Err` would hand all back.
+    /// Closes the board, once all its seats are there, in the order of their numbers: each word
+    /// that was opened with a value holds it and no seat lists it, each other word is empty and
+    /// listed by no seat, or holds what one seat lists for it, once, and each value that was seen
+    /// stands. It takes no memory, and an `Err` would hand all back.
     pub fn close(self, seats: Vec<ClaimSeat>) -> Result<Closed, (ClaimBoard, Vec<ClaimSeat>)>
         requires { AreAllSeats self seats.items }
         ensures ok { IfOk result (λ words. SettlesAll self words seats.items) }

@@ -1,4 +1,5 @@
-//! A board of 1,000 rows and 4 roots that four seats contest at once: each claims every row and wins each root.
+//! A board of 1,000 rows and 4 roots that four seats contest at once: each claims every row and
+//! wins each root.
 
 ghost use Rattle.std.specs.Prelude.{◌≡◌, [], ◌∷◌, length, IfOk};
 ghost use Rattle.std.specs.Thread.{IsSync};

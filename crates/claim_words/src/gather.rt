@@ -12,10 +12,11 @@ use crate::seat::ClaimSeat;
 use crate::worker::Worker;
 
 impl ClaimBoard {
-    /// Gathers what the seats of all workers list in the seat 0, and gives the other workers new seats, which list nothing.
-    /// So it is told, as `close` is, what the words hold: each word that was opened with a value holds it and no seat lists
-    /// it, each other word is empty and listed by no seat, or holds what one seat lists for it, once, and each value that
-    /// was seen stands. The fresh lists stay. It takes no memory.
+    /// Gathers what the seats of all workers list in the seat 0, and gives the other workers new
+    /// seats, which list nothing. So it is told, as `close` is, what the words hold: each word that
+    /// was opened with a value holds it and no seat lists it, each other word is empty and listed
+    /// by no seat, or holds what one seat lists for it, once, and each value that was seen stands.
+    /// The fresh lists stay. It takes no memory.
     pub fn gather(&self, workers: &mut [Worker])
         requires { AreAllWorkers self.now workers.old }
         ensures workers { workers.new ≡ after_gather self.now workers.old }
@@ -33,7 +34,8 @@ impl ClaimBoard {
         self.renew(seat, others);
     }
 
-    // The seat 0 takes in the seats of the other workers, the highest number first, and splits off new ones.
+    // The seat 0 takes in the seats of the other workers, the highest number first, and splits off
+    // new ones.
     fn renew(&self, first: &mut ClaimSeat, others: &mut [Worker])
         requires first { first.old ≡ first_seat self.now (1 + length others.old) first.old.listed }
         requires others { AreNumbered self.now 1 (seats_of others.old) }

@@ -8,8 +8,9 @@ ghost use Rattle.claim_words.specs.Listed.{Listed, root_word, row_word};
 ghost use Rattle.claim_words.specs.Seat.{AreAllSeats, KnowsRoot, KnowsRow, Seat, new_seats};
 ghost use Rattle.claim_words.specs.Settles.{Settles, SettlesAll};
 
-/// Where a list accounts for words, each word is the value with which it was opened, or else what is listed for it. So lists
-/// that account for the same words list the same, and a list accounts for no other words.
+/// Where a list accounts for words, each word is the value with which it was opened, or else what
+/// is listed for it. So lists that account for the same words list the same, and a list accounts
+/// for no other words.
 pub fn words_are_listed()
     ensures word { (opened now : List (Option ℕ)) (listed : List (ℕ × ℕ)) (i : ℕ)
         → Accounts opened now listed → held now i ≡ listed_word opened listed i }
@@ -20,8 +21,9 @@ pub fn words_are_listed()
         → Accounts opened now listed → Accounts opened other listed → now ≡ other }
 {}
 
-/// Where a list accounts for words, a word that is listed was opened empty and holds what is listed, and is listed once; a
-/// word that holds a value was opened with it, or is listed with it. So no more words are listed than there are.
+/// Where a list accounts for words, a word that is listed was opened empty and holds what is
+/// listed, and is listed once; a word that holds a value was opened with it, or is listed with it.
+/// So no more words are listed than there are.
 pub fn listed_words_stand()
     ensures stands { (opened now : List (Option ℕ)) (listed : List (ℕ × ℕ)) (i x : ℕ)
         → Accounts opened now listed → Among (i, x) listed
@@ -35,8 +37,8 @@ pub fn listed_words_stand()
         → Accounts opened now listed → length listed ≤ length opened }
 {}
 
-/// How often a word is listed adds up over lists; a word is listed where some value is listed for it. A list in which no word
-/// stands twice lists each word at most once, and the other way round.
+/// How often a word is listed adds up over lists; a word is listed where some value is listed for
+/// it. A list in which no word stands twice lists each word at most once, and the other way round.
 pub fn times_add_up()
     ensures append { (i : ℕ) (xs ys : List (ℕ × ℕ)) → times i (xs ++ ys) ≡ times i xs + times i ys }
     ensures listed { (i x : ℕ) (xs : List (ℕ × ℕ)) → Among (i, x) xs → 1 ≤ times i xs }
@@ -46,8 +48,8 @@ pub fn times_add_up()
     ensures once { (i : ℕ) (xs : List (ℕ × ℕ)) → AreDistinct (numbers_of xs) → times i xs ≤ 1 }
 {}
 
-/// Where the lists of all seats account for the words, what one of them knows of a word is what the word holds: it is the
-/// value with which the word was opened, or is listed for it.
+/// Where the lists of all seats account for the words, what one of them knows of a word is what the
+/// word holds: it is the value with which the word was opened, or is listed for it.
 pub fn known_values_stand()
     ensures rows { (b : Board) (words : Words) (ss : List Seat) (s : Seat) (row col : ℕ)
         → SettlesAll b words ss → Among s ss → s.board ≡ b → KnowsRow s row col
@@ -63,8 +65,8 @@ pub fn known_values_stand()
         → (held roots root ≡ Some leaf) ⊎ Among (root, leaf) l.wins }
 {}
 
-/// New seats are as many as were asked for, and at least one of them is all seats of the board. What they list, which is
-/// nothing, accounts for the words as they were when the board was opened.
+/// New seats are as many as were asked for, and at least one of them is all seats of the board.
+/// What they list, which is nothing, accounts for the words as they were when the board was opened.
 pub fn new_seats_are_all()
     ensures all { (b : Board) (seats : ℕ) → 1 ≤ seats → AreAllSeats b (new_seats b seats) }
     ensures many { (b : Board) (seats : ℕ) → length (new_seats b seats) ≡ seats }

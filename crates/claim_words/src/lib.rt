@@ -1,8 +1,10 @@
-//! A board of shared words, one for each row and one for each root, on which threads claim rows and win roots at once.
+//! A board of shared words, one for each row and one for each root, on which threads claim rows and
+//! win roots at once.
 //!
-//! Each word goes to one seat, once. A claim is one compare-exchange and a look is one load; no call waits or tries again.
-//! The board serves the search for augmenting paths by many workers of Azad, Buluç and Pothen, Computing maximum
-//! cardinality matchings in parallel on bipartite graphs via tree-grafting, 2017.
+//! Each word goes to one seat, once. A claim is one compare-exchange and a look is one load; no
+//! call waits or tries again. The board serves the search for augmenting paths by many workers of
+//! Azad, Buluç and Pothen, Computing maximum cardinality matchings in parallel on bipartite graphs
+//! via tree-grafting, 2017.
 #![tactic(auto)]
 
 mod answers;

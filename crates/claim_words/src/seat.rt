@@ -4,7 +4,8 @@ use crate::views::View;
 use atomic_table::Seat;
 use std::marker::Model;
 
-/// A seat at a board, with which one thread claims, wins and looks. Its lists are in proofs alone: a seat takes no memory.
+/// A seat at a board, with which one thread claims, wins and looks. Its lists are in proofs alone:
+/// a seat takes no memory.
 #[derive(Drop)]
 pub struct ClaimSeat {
     pub(crate) seat: Seat<(), View>,

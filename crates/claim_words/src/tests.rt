@@ -101,7 +101,7 @@ fn claim_at_once<R: Threads>(
 }
 
 // The number of the column that a claim was told of.
-fn told(answer: Claimed) -> Option<u32> {
+fn holder_of(answer: Claimed) -> Option<u32> {
     match answer {
         Claimed::Mine => None,
         Claimed::Held(col) => Some(col.number()),
@@ -110,7 +110,7 @@ fn told(answer: Claimed) -> Option<u32> {
 
 // The column that got the row, where one of the two did and the other was told so.
 fn winner(zero: Claimed, one: Claimed) -> Option<Col> {
-    match (told(zero), told(one)) {
+    match (holder_of(zero), holder_of(one)) {
         (None, Some(0)) => Some(Col(0)),
         (Some(1), None) => Some(Col(1)),
         _ => None,

@@ -1,4 +1,5 @@
-//! What a seat knows, and what a board's table is told when it is opened. Both are read by proofs alone.
+//! What a seat knows, and what a board's table is told when it is opened. Both are read by proofs
+//! alone.
 
 use std::marker::Model;
 use std::snapshot::Snapshot;

@@ -13,7 +13,8 @@ use sp_ids::{Col, OutOfMemory, Row};
 use std::alloc::Global;
 use std::marker::Model;
 
-/// A seat, and what it claimed and won since it was settled last. It keeps 8 bytes for each of these.
+/// A seat, and what it claimed and won since it was settled last. It keeps 8 bytes for each of
+/// these.
 #[derive(Drop)]
 pub struct Worker {
     // It is taken out while the seats are gathered, and at no other time.
@@ -61,8 +62,8 @@ impl Worker {
         }
     }
 
-    /// Claims a row for a column, as the board does, and notes what is got in the fresh list. Answers `OutOfMemory` where that
-    /// list can't grow; then no step was made.
+    /// Claims a row for a column, as the board does, and notes what is got in the fresh list.
+    /// Answers `OutOfMemory` where that list can't grow; then no step was made.
     pub fn claim(&mut self, board: &ClaimBoard, row: Row, col: Col) -> Result<Claimed, OutOfMemory>
         requires seat { self.old.seat.board ≡ board.now }
         requires row { row < length board.now.rows }
@@ -83,8 +84,8 @@ impl Worker {
         Ok(answer)
     }
 
-    /// Wins a root for a leaf, as the board does, and notes what is got in the fresh list. Answers `OutOfMemory` where that
-    /// list can't grow; then no step was made.
+    /// Wins a root for a leaf, as the board does, and notes what is got in the fresh list. Answers
+    /// `OutOfMemory` where that list can't grow; then no step was made.
     pub fn win(&mut self, board: &ClaimBoard, root: Col, leaf: Row) -> Result<Won, OutOfMemory>
         requires seat { self.old.seat.board ≡ board.now }
         requires root { root < length board.now.roots }

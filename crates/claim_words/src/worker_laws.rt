@@ -8,7 +8,8 @@ ghost use Rattle.claim_words.specs.Listed.{Listed, Sight, claimed, followed_by, 
 ghost use Rattle.claim_words.specs.Seat.{KnowsRoot, KnowsRow, Seat, after_claim, after_look, after_win};
 ghost use Rattle.claim_words.specs.WorkerState.{AreAllWorkers, HasGrown, HaveGrown, WorkerState, fresh_claims_of, fresh_lists, fresh_wins_of, listed_by_workers, seated, seats_of, settled, with_more, work_after_claim, work_after_look, work_after_win};
 
-/// What each step of a worker adds to what it lists. Of two steps, what the second adds stands behind what the first does.
+/// What each step of a worker adds to what it lists. Of two steps, what the second adds stands
+/// behind what the first does.
 pub fn steps_add_to_lists()
     ensures none { (w : WorkerState) → with_more w nothing ≡ w }
     ensures both { (w : WorkerState) (l m : Listed)
@@ -21,8 +22,8 @@ pub fn steps_add_to_lists()
         → work_after_look w sight ≡ with_more w (looked nothing sight) }
 {}
 
-/// Workers that have grown have grown since any earlier time, each of two rows of workers as both together. They stay as many
-/// as they were, and all workers of their board.
+/// Workers that have grown have grown since any earlier time, each of two rows of workers as both
+/// together. They stay as many as they were, and all workers of their board.
 pub fn workers_grow()
     ensures here { (ws : List WorkerState) → HaveGrown ws ws }
     ensures on { (us vs ws : List WorkerState) → HaveGrown us vs → HaveGrown vs ws
@@ -34,8 +35,8 @@ pub fn workers_grow()
         → AreAllWorkers b ws }
 {}
 
-/// A worker knows what it knew before, and what a claim, a win or a look has told it: the value that was found, or else the
-/// one that was written.
+/// A worker knows what it knew before, and what a claim, a win or a look has told it: the value
+/// that was found, or else the one that was written.
 pub fn workers_know_more()
     ensures row { (v w : WorkerState) (row x : ℕ) → HasGrown v w → KnowsRow v.seat row x
         → KnowsRow w.seat row x }
@@ -51,7 +52,8 @@ pub fn workers_know_more()
         → KnowsRoot (after_look s (root_word root (Some x))) root x }
 {}
 
-/// Where workers have grown, all seats together list a word more often by as much as all fresh lists do.
+/// Where workers have grown, all seats together list a word more often by as much as all fresh
+/// lists do.
 pub fn fresh_lists_add_up()
     ensures claims { (before after : List WorkerState) (i : ℕ) → HaveGrown before after
         → times i (listed_by_workers after).claims + times i (fresh_claims_of before)
@@ -61,8 +63,8 @@ pub fn fresh_lists_add_up()
         ≡ times i (listed_by_workers before).wins + times i (fresh_wins_of after) }
 {}
 
-/// Where workers with empty fresh lists have grown, all seats together list what they listed before and what stands in fresh
-/// lists, and nothing else.
+/// Where workers with empty fresh lists have grown, all seats together list what they listed before
+/// and what stands in fresh lists, and nothing else.
 pub fn fresh_lists_are_listed()
     ensures claims { (before after : List WorkerState) (p : ℕ × ℕ) → HaveGrown before after
         → fresh_claims_of before ≡ [] → Among p (listed_by_workers after).claims
@@ -72,8 +74,8 @@ pub fn fresh_lists_are_listed()
         ↔ (Among p (listed_by_workers before).wins ⊎ Among p (fresh_wins_of after)) }
 {}
 
-/// The fresh lists of all workers are those of one row of workers and then those of the other; workers with the same fresh
-/// lists have the same together.
+/// The fresh lists of all workers are those of one row of workers and then those of the other;
+/// workers with the same fresh lists have the same together.
 pub fn fresh_lists_join()
     ensures claims { (vs ws : List WorkerState)
         → fresh_claims_of (vs ++ ws) ≡ fresh_claims_of vs ++ fresh_claims_of ws }
@@ -85,7 +87,8 @@ pub fn fresh_lists_join()
         → fresh_wins_of vs ≡ fresh_wins_of ws }
 {}
 
-/// Workers that take seats have these, and workers that are settled keep theirs; their fresh lists are empty.
+/// Workers that take seats have these, and workers that are settled keep theirs; their fresh lists
+/// are empty.
 pub fn seats_stay()
     ensures seated { (ss : List Seat) → seats_of (map seated ss) ≡ ss }
     ensures seated_claims { (ss : List Seat) → fresh_claims_of (map seated ss) ≡ [] }

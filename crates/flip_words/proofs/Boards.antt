@@ -28,15 +28,15 @@ open_after live e = subst IsOpen (sym e) (refl, live.1)
 
 -- Where words stand.
 
-pub taker_place : {id : TableId} {rows cols told_rows told_cols : ℕ} {opened : List ℕ} → IsLaid id rows cols told_rows told_cols opened → (root : ℕ) → root < told_cols → 1 + root < id.words
+pub taker_place : {id : TableId} {rows cols known_rows known_cols : ℕ} {opened : List ℕ} → IsLaid id rows cols known_rows known_cols opened → (root : ℕ) → root < known_cols → 1 + root < id.words
 taker_place laid root lt = omega (arith, laid.all, laid.many)
 
-pub vertex_place : {id : TableId} {rows cols told_rows told_cols : ℕ} {opened : List ℕ} → IsLaid id rows cols told_rows told_cols opened → (v : ℕ) → v < length (opened_in told_rows told_cols opened).mates → 1 + cols + v < id.words
-vertex_place {told_cols = told_cols} {opened = opened} laid v lt = omega (arith, laid.all, laid.many, laid.cols_told, lt, vertices_long told_cols opened)
+pub vertex_place : {id : TableId} {rows cols known_rows known_cols : ℕ} {opened : List ℕ} → IsLaid id rows cols known_rows known_cols opened → (v : ℕ) → v < length (opened_in known_rows known_cols opened).mates → 1 + cols + v < id.words
+vertex_place {known_cols = known_cols} {opened = opened} laid v lt = omega (arith, laid.all, laid.many, laid.cols_known, lt, vertices_long known_cols opened)
 
 -- the seat knows where the word is
 pub vertex_word_is : {table id : TableId} {k : Known} {o : Opened} {cols : ℕ} → IsOf table id k o → o.cols ≡ cols → (v : ℕ) → 1 + cols + v ≡ 1 + k.opened.cols + v
-vertex_word_is of told v = ap (λ n. 1 + n + v) (sym told ∙ ap (λ (p : Opened). p.cols) (sym of.same_opened))
+vertex_word_is of fact v = ap (λ n. 1 + n + v) (sym fact ∙ ap (λ (p : Opened). p.cols) (sym of.same_opened))
 
 -- What a seat has done, as its view has it.
 

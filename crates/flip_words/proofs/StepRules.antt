@@ -40,15 +40,15 @@ module _ {S : Type 0} (rows cols : ℕ) (opened : List ℕ) (slots id : ℕ) (me
       Result : ℕ → Type 0
       Result x = (w : Option Known) × (a : Act S) × Valid s.homes me.1 a × Kept rows cols opened (stepped s (1 + root) (either (x == 0) (1 + number) x) id me.1 w a) × TellsTake (step slots (1 + root) 0 (1 + number) none) me x (w, carried_after me.1 a)
 
-      told : (x : ℕ) → slice_index s.words (1 + root) ≡ x → TellsTaken (known me.0) root x me (knowing (known me.0) (took (known me.0).listed root (known me.0).number (value_of x)), me.1)
-      told x e = record {
+      fact : (x : ℕ) → slice_index s.words (1 + root) ≡ x → TellsTaken (known me.0) root x me (knowing (known me.0) (took (known me.0).listed root (known me.0).number (value_of x)), me.1)
+      fact x e = record {
         fits = subst (λ n. n ≤ half) e (kept.fits root lt);
         same = λ n knew. sym (ap value_of e) ∙ taker_stands rows cols opened s kept id (known me.0) (there s at) root n lt knew;
         after_is = refl;
       }
 
       tells : (x : ℕ) → slice_index s.words (1 + root) ≡ x → TellsTake (step slots (1 + root) 0 (1 + number) none) me x (knowing (known me.0) (took (known me.0).listed root (known me.0).number (value_of x)), me.1)
-      tells x e k r same at_root = of_word (λ m i. TellsTaken m i x me (knowing (known me.0) (took (known me.0).listed root (known me.0).number (value_of x)), me.1)) root (told x e) k r same (omega arith)
+      tells x e k r same at_root = of_word (λ m i. TellsTaken m i x me (knowing (known me.0) (took (known me.0).listed root (known me.0).number (value_of x)), me.1)) root (fact x e) k r same (omega arith)
 
       by : (x : ℕ) → slice_index s.words (1 + root) ≡ x → Result x
       by zero e = (
@@ -71,12 +71,12 @@ module _ {S : Type 0} (rows cols : ℕ) (opened : List ℕ) (slots id : ℕ) (me
   allows_set_at : (v root mate stored : ℕ) → v < length (mates_in cols opened) → IsOfTaken (trees_in cols opened) (known me.0).listed v → held (trees_in cols opened) v ≡ Some root → ((x : ℕ) → ¬ Among (v, x) (known me.0).listed.sets) → 1 + mate < half
       → stored ≡ vertex_word (Some root) (Some mate) → stored % half - 1 ≡ mate
       → Allows (Kept rows cols opened) slots id me (1 + cols + v) (λ _. stored) (λ _. TellsSet (step slots (1 + cols + v) stored 0 none) me stored)
-  allows_set_at v root mate stored lt of tree unset few is told s kept many at fits = (
+  allows_set_at v root mate stored lt of tree unset few is fact s kept many at fits = (
     knowing (known me.0) (put (known me.0).listed v (stored % half - 1)),
     keeps,
     tt,
     subst (λ w. Kept rows cols opened (with_words s (set s.words (1 + cols + v) w) (set s.views id (knowing (known me.0) (put (known me.0).listed v (stored % half - 1)))))) (sym is)
-        (subst (λ n. Kept rows cols opened (with_words s (set s.words (1 + cols + v) (vertex_word (Some root) (Some mate))) (set s.views id (knowing (known me.0) (put (known me.0).listed v n))))) (sym told)
+        (subst (λ n. Kept rows cols opened (with_words s (set s.words (1 + cols + v) (vertex_word (Some root) (Some mate))) (set s.views id (knowing (known me.0) (put (known me.0).listed v n))))) (sym fact)
         (kept_put rows cols opened s kept id (known me.0) (there s at) v root of.1 mate lt tree taken unset few)),
     (λ k w same at_vertex. of_word (λ m i. ◌≡◌ {A = Me S (Option Known)} (knowing (known me.0) (put (known me.0).listed v (stored % half - 1)), me.1) (knowing m (put m.listed i (stored % half - 1)), me.1)) v refl k w same (vertex_is s kept at k v w same at_vertex)),
   )
@@ -87,7 +87,7 @@ module _ {S : Type 0} (rows cols : ℕ) (opened : List ℕ) (slots id : ℕ) (me
   pub allows_set : (n v root mate stored : ℕ) → cols ≡ n → v < length (mates_in cols opened) → IsOfTaken (trees_in cols opened) (known me.0).listed v → held (trees_in cols opened) v ≡ Some root → ((x : ℕ) → ¬ Among (v, x) (known me.0).listed.sets) → 1 + mate < half
       → stored ≡ vertex_word (Some root) (Some mate) → stored % half - 1 ≡ mate
       → Allows (Kept rows cols opened) slots id me (1 + n + v) (λ _. stored) (λ _. TellsSet (step slots (1 + n + v) stored 0 none) me stored)
-  allows_set n v root mate stored same lt of tree unset few is told = subst (λ m. Allows (Kept rows cols opened) slots id me (1 + m + v) (λ _. stored) (λ _. TellsSet (step slots (1 + m + v) stored 0 none) me stored)) same (allows_set_at v root mate stored lt of tree unset few is told)
+  allows_set n v root mate stored same lt of tree unset few is fact = subst (λ m. Allows (Kept rows cols opened) slots id me (1 + m + v) (λ _. stored) (λ _. TellsSet (step slots (1 + m + v) stored 0 none) me stored)) same (allows_set_at v root mate stored lt of tree unset few is fact)
 
   allows_look_at : (v : ℕ) → v < length (mates_in cols opened) → Allows (Kept rows cols opened) slots id me (1 + cols + v) (λ x. x) (TellsLook (step slots (1 + cols + v) 0 0 none) me)
   allows_look_at v lt s kept many at fits = (
@@ -96,14 +96,14 @@ module _ {S : Type 0} (rows cols : ℕ) (opened : List ℕ) (slots id : ℕ) (me
     tt,
     subst (λ ws. Kept rows cols opened (with_words s ws (set s.views id (knowing (known me.0) (looked (known me.0).listed v (mate_of (slice_index s.words (1 + cols + v)))))))) (sym (set-get_or s.words (1 + cols + v) 0))
         (kept_look rows cols opened s kept id (known me.0) (there s at) v (mate_of (slice_index s.words (1 + cols + v)))),
-    (λ k w same at_vertex. of_word (λ m i. TellsMate m i (slice_index s.words (1 + cols + v)) me (knowing (known me.0) (looked (known me.0).listed v (mate_of (slice_index s.words (1 + cols + v)))), me.1)) v told k w same (vertex_is s kept at k v w same at_vertex)),
+    (λ k w same at_vertex. of_word (λ m i. TellsMate m i (slice_index s.words (1 + cols + v)) me (knowing (known me.0) (looked (known me.0).listed v (mate_of (slice_index s.words (1 + cols + v)))), me.1)) v fact k w same (vertex_is s kept at k v w same at_vertex)),
   )
     where
       opened_is : (known me.0).opened ≡ opened_in rows cols opened
       opened_is = kept.seats.opened id (known me.0) (there s at)
 
-      told : TellsMate (known me.0) v (slice_index s.words (1 + cols + v)) me (knowing (known me.0) (looked (known me.0).listed v (mate_of (slice_index s.words (1 + cols + v)))), me.1)
-      told = record {
+      fact : TellsMate (known me.0) v (slice_index s.words (1 + cols + v)) me (knowing (known me.0) (looked (known me.0).listed v (mate_of (slice_index s.words (1 + cols + v)))), me.1)
+      fact = record {
         set = λ mate h. mate_stands rows cols opened s kept id (known me.0) (there s at) v mate lt h;
         alone = λ of unset. mate_stays rows cols opened s kept id (known me.0) (there s at) v lt (subst (λ o. IsOfTaken o.trees (known me.0).listed v) opened_is of) unset ∙ ap (λ o. held o.mates v) (sym opened_is);
         after_is = refl;

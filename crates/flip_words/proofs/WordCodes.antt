@@ -69,8 +69,8 @@ pub tree_coded : (tree mate : Option ℕ) → code_of mate < half → tree_of (v
 tree_coded tree mate lt = ap value_of (div-mul-add (code_of tree) half (code_of mate) lt) ∙ value_coded tree
 
 -- the lower half of a word tells the mate
-pub mate_told : (tree : Option ℕ) (mate : ℕ) → 1 + mate < half → vertex_word tree (Some mate) % half - 1 ≡ mate
-mate_told tree mate lt = ap (λ n. n - 1) (mod-mul-add (code_of tree) half (1 + mate) lt) ∙ (let e : 1 + mate - 1 ≡ mate = omega arith in e)
+pub mate_known : (tree : Option ℕ) (mate : ℕ) → 1 + mate < half → vertex_word tree (Some mate) % half - 1 ≡ mate
+mate_known tree mate lt = ap (λ n. n - 1) (mod-mul-add (code_of tree) half (1 + mate) lt) ∙ (let e : 1 + mate - 1 ≡ mate = omega arith in e)
 
 pub takers_long : (cols : ℕ) (ws : List ℕ) → 1 + cols ≤ length ws → length (takers_in cols ws) ≡ cols
 takers_long cols ws le =

@@ -1,11 +1,14 @@
--- A board of shared words on which paths are exchanged. Each vertex has a word with its mate and the root of its tree, and each tree has a word with the seat that took it.
--- Vertices are numbered: the rows first, then the columns, so that column c is the vertex rows + c. A tree has the number of its root, a column.
+-- A board of shared words on which paths are exchanged. Each vertex has a word with its mate and
+-- the root of its tree, and each tree has a word with the seat that took it. Vertices are numbered:
+-- the rows first, then the columns, so that column c is the vertex rows + c. A tree has the number
+-- of its root, a column.
 use Rattle.std.specs.Prelude.{◌≡◌, ◌↔◌, ℕ, ◌+◌, ◌<◌, List, Option, Some, length}
 use Rattle.atomic_table.specs.Seated.{TableId}
 use Rattle.bip_defs.specs.Lists.{Among, option_at}
 use Rattle.bip_graph.specs.Matching.{Pairing}
 
--- the table of shared words in which a board stands, the numbers of rows and columns, and for each vertex the mate with which it was opened and the root of its tree
+-- the table of shared words in which a board stands, the numbers of rows and columns, and for each
+-- vertex the mate with which it was opened and the root of its tree
 pub record Board : Type 0 where
   pub id : TableId
   pub rows : ℕ

@@ -1,4 +1,5 @@
--- The board that four seats contest in a test: a hundred trees, each of the row and the column of its number.
+-- The board that four seats contest in a test: a hundred trees, each of the row and the column of
+-- its number.
 use Rattle.std.specs.Prelude.{◌≡◌, ◌⊎◌, ℕ, ◌+◌, ◌<◌, ◌≤◌, Some}
 use Rattle.flip_words.specs.Board.{Board, held}
 use Rattle.flip_words.specs.Seat.{HasSet, IsSameSeat, Seat}

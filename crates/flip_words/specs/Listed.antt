@@ -1,8 +1,9 @@
 -- What a seat lists.
 use Rattle.std.specs.Prelude.{ℕ, List, [], ◌∷◌, ◌++◌, Option, None, Some, flat_map}
 
--- the trees that were taken, each with the number of its taker; the trees that were seen taken, each with its taker; the vertices
--- that were set, each with its mate; and the vertices that were looked at, each with the mate, or none, that it had then: all in order
+-- the trees that were taken, each with the number of its taker; the trees that were seen taken,
+-- each with its taker; the vertices that were set, each with its mate; and the vertices that were
+-- looked at, each with the mate, or none, that it had then: all in order
 pub record Listed : Type 0 where
   pub taken : List (ℕ × ℕ)
   pub seen : List (ℕ × ℕ)
@@ -33,15 +34,30 @@ took l root number found = record {
 
 -- after a set of a vertex
 abbrev pub put : Listed → ℕ → ℕ → Listed
-put l vertex mate = record { taken = l.taken; seen = l.seen; sets = l.sets ++ (vertex, mate) ∷ []; looks = l.looks }
+put l vertex mate = record {
+  taken = l.taken;
+  seen = l.seen;
+  sets = l.sets ++ (vertex, mate) ∷ [];
+  looks = l.looks;
+}
 
 -- after a look at a vertex
 abbrev pub looked : Listed → ℕ → Option ℕ → Listed
-looked l vertex mate = record { taken = l.taken; seen = l.seen; sets = l.sets; looks = l.looks ++ (vertex, mate) ∷ [] }
+looked l vertex mate = record {
+  taken = l.taken;
+  seen = l.seen;
+  sets = l.sets;
+  looks = l.looks ++ (vertex, mate) ∷ [];
+}
 
 -- two lists of each kind one after the other
 abbrev pub followed_by : Listed → Listed → Listed
-followed_by l m = record { taken = l.taken ++ m.taken; seen = l.seen ++ m.seen; sets = l.sets ++ m.sets; looks = l.looks ++ m.looks }
+followed_by l m = record {
+  taken = l.taken ++ m.taken;
+  seen = l.seen ++ m.seen;
+  sets = l.sets ++ m.sets;
+  looks = l.looks ++ m.looks;
+}
 
 -- all of these, one after the other
 abbrev pub all_listed : List Listed → Listed

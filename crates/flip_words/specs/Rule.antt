@@ -1,4 +1,5 @@
--- The rule of a board's table: what is true of its words and of what all seats know, between any two steps.
+-- The rule of a board's table: what is true of its words and of what all seats know, between any
+-- two steps.
 use Rattle.std.specs.Prelude.{◌≡◌, ℕ, zero, suc, ◌+◌, ◌<◌, ◌≤◌, ◌==◌, if◌then◌else◌, List, [], Option, None, Some, length, map, slice_index, sum_by}
 use mathlib.Core.Option.{some}
 use lib.ListN.{get_elem?}
@@ -9,7 +10,8 @@ use Rattle.flip_words.specs.Board.{held}
 use Rattle.flip_words.specs.WordCodes.{half, mates_in, takers_in, trees_in}
 use Rattle.flip_words.specs.Listed.{Listed, all_listed, nothing}
 
--- the numbers of rows and columns of a board, and the mates and trees of its vertices when it was opened
+-- the numbers of rows and columns of a board, and the mates and trees of its vertices when it was
+-- opened
 pub record Opened : Type 0 where
   pub rows : ℕ
   pub cols : ℕ
@@ -18,9 +20,15 @@ pub record Opened : Type 0 where
 
 -- of a board that was opened with these words
 abbrev pub opened_in : ℕ → ℕ → List ℕ → Opened
-opened_in rows cols words = record { rows = rows; cols = cols; mates = mates_in cols words; trees = trees_in cols words }
+opened_in rows cols words = record {
+  rows = rows;
+  cols = cols;
+  mates = mates_in cols words;
+  trees = trees_in cols words;
+}
 
--- what a seat knows: what its board was opened with, its number, how many seats there are (which the seat 0 alone keeps), and its lists
+-- what a seat knows: what its board was opened with, its number, how many seats there are (which
+-- the seat 0 alone keeps), and its lists
 pub record Known : Type 0 where
   pub opened : Opened
   pub number : ℕ
@@ -30,7 +38,12 @@ pub record Known : Type 0 where
 -- The view of a seat; none once it was joined to another.
 
 abbrev pub nobody : Known
-nobody = record { opened = record { rows = 0; cols = 0; mates = []; trees = [] }; number = 0; seats = 0; listed = nothing }
+nobody = record {
+  opened = record { rows = 0; cols = 0; mates = []; trees = [] };
+  number = 0;
+  seats = 0;
+  listed = nothing;
+}
 
 abbrev pub known : Option Known → Known
 known None = nobody
@@ -50,33 +63,45 @@ below n zero = 0
 below zero (suc count) = 1
 below (suc n) (suc count) = below n count
 
--- Of each number below the count there is one seat, and no other seat is left. The seat 0 keeps the count
+-- Of each number below the count there is one seat, and no other seat is left. The seat 0 keeps the
+-- count
 pub record AreSeated (o : Opened) (views : List (Option Known)) : Type 0 where
   pub count : ℕ
   pub some_seat : 1 ≤ count
   pub numbers : (n : ℕ) → sum_by (has_number n) views ≡ below n count
-  pub keeps_count : (id : ℕ) (k : Known) → get_elem? views id ≡ some (Some k) → k.number ≡ 0 → k.seats ≡ count
+  pub keeps_count : (id : ℕ) (k : Known) → get_elem? views id ≡ some (Some k) → k.number ≡ 0
+      → k.seats ≡ count
   pub opened : (id : ℕ) (k : Known) → get_elem? views id ≡ some (Some k) → k.opened ≡ o
 
 -- the vertex is of a tree that is listed as taken
 abbrev pub IsOfTaken : List (Option ℕ) → Listed → ℕ → Type 0
-IsOfTaken trees l vertex = (root : ℕ) × (number : ℕ) × (held trees vertex ≡ Some root) × Among (root, number) l.taken
+IsOfTaken trees l vertex = (root : ℕ) × (number : ℕ) × (held trees vertex ≡ Some root)
+    × Among (root, number) l.taken
 
 -- each vertex that was set is of a tree that the same lists name as taken
 abbrev pub SetsItsOwn : List (Option ℕ) → Listed → Type 0
 SetsItsOwn trees l = (vertex mate : ℕ) → Among (vertex, mate) l.sets → IsOfTaken trees l vertex
 
--- The spare word stays empty, a tree's word fits, no vertex changes its tree, the seats are numbered, the lists of all seats account for
--- the takers of trees and for the mates, and no seat sets a vertex of a tree that it did not take
-pub record Kept {S : Type 0} (rows cols : ℕ) (opened : List ℕ) (s : State S (Option Known)) : Type 0 where
+-- The spare word stays empty, a tree's word fits, no vertex changes its tree, the seats are
+-- numbered, the lists of all seats account for the takers of trees and for the mates, and no seat
+-- sets a vertex of a tree that it did not take
+pub record Kept {S : Type 0} (rows cols : ℕ) (opened : List ℕ)
+    (s : State S (Option Known)) : Type 0 where
   pub spare : slice_index s.words 0 ≡ 0
   pub as_many : length s.words ≡ length opened
   pub fits : (root : ℕ) → root < cols → slice_index s.words (1 + root) ≤ half
   pub trees : trees_in cols s.words ≡ trees_in cols opened
   pub seats : AreSeated (opened_in rows cols opened) s.views
-  pub settles : Settles cols (mates_in cols opened) (takers_in cols s.words) (mates_in cols s.words) (all_listed (map listed_by s.views))
-  pub owners : (id : ℕ) (v : Option Known) → get_elem? s.views id ≡ some v → SetsItsOwn (trees_in cols opened) (listed_by v)
+  pub settles : Settles cols (mates_in cols opened) (takers_in cols s.words) (mates_in cols s.words)
+      (all_listed (map listed_by s.views))
+  pub owners : (id : ℕ) (v : Option Known) → get_elem? s.views id ≡ some v
+      → SetsItsOwn (trees_in cols opened) (listed_by v)
 
 -- the first seat of a board that is opened with these words
 abbrev pub opener : ℕ → ℕ → List ℕ → Option Known
-opener rows cols opened = Some (record { opened = opened_in rows cols opened; number = 0; seats = 1; listed = nothing })
+opener rows cols opened = Some (record {
+  opened = opened_in rows cols opened;
+  number = 0;
+  seats = 1;
+  listed = nothing;
+})

@@ -4,7 +4,8 @@ use Rattle.bip_defs.specs.Lists.{Among}
 use Rattle.flip_words.specs.Board.{Board, held}
 use Rattle.flip_words.specs.Listed.{Listed, looked, nothing, put, took}
 
--- its board, its number, how many seats the board has (which the seat 0 alone keeps), and what it lists
+-- its board, its number, how many seats the board has (which the seat 0 alone keeps), and what it
+-- lists
 pub record Seat : Type 0 where
   pub board : Board
   pub number : ℕ
@@ -88,7 +89,8 @@ AreNumbered b number (s ∷ ss) = (s.board ≡ b) × (s.number ≡ number) × Ar
 -- all seats of this board, in the order of their numbers
 abbrev pub AreAllSeats : Board → List Seat → Type 0
 AreAllSeats b [] = ⊥
-AreAllSeats b (s ∷ others) = (s.board ≡ b) × (s.number ≡ 0) × (s.seats ≡ 1 + length others) × AreNumbered b 1 others
+AreAllSeats b (s ∷ others) = (s.board ≡ b) × (s.number ≡ 0) × (s.seats ≡ 1 + length others)
+    × AreNumbered b 1 others
 
 -- the same seat, whatever it lists
 pub record IsSameSeat (s t : Seat) : Type 0 where

@@ -11,44 +11,69 @@ use Rattle.flip_words.specs.Rule.{IsOfTaken, Known}
 abbrev pub knowing : Known → Listed → Option Known
 knowing k l = Some (record { opened = k.opened; number = k.number; seats = k.seats; listed = l })
 
--- A take: the number found fits, a taker that the seat knew is the one that was found, and the tree or its taker is listed
-pub record TellsTaken {S : Type 0} (k : Known) (root found : ℕ) (before after : Me S (Option Known)) : Type 0 where
+-- A take: the number found fits, a taker that the seat knew is the one that was found, and the tree
+-- or its taker is listed
+pub record TellsTaken {S : Type 0} (k : Known) (root found : ℕ)
+    (before after : Me S (Option Known)) : Type 0 where
   pub fits : found ≤ half
-  pub same : (number : ℕ) → Among (root, number) k.listed.taken ⊎ Among (root, number) k.listed.seen → value_of found ≡ Some number
+  pub same : (number : ℕ) → Among (root, number) k.listed.taken ⊎ Among (root, number) k.listed.seen
+      → value_of found ≡ Some number
   pub after_is : after ≡ (knowing k (took k.listed root k.number (value_of found)), before.1)
 
--- A look: the mate that the seat set there is what was found, or the opened one where it set none and took the tree, and the mate is listed
-pub record TellsMate {S : Type 0} (k : Known) (vertex found : ℕ) (before after : Me S (Option Known)) : Type 0 where
+-- A look: the mate that the seat set there is what was found, or the opened one where it set none
+-- and took the tree, and the mate is listed
+pub record TellsMate {S : Type 0} (k : Known) (vertex found : ℕ)
+    (before after : Me S (Option Known)) : Type 0 where
   pub set : (mate : ℕ) → Among (vertex, mate) k.listed.sets → mate_of found ≡ Some mate
-  pub alone : IsOfTaken k.opened.trees k.listed vertex → ((mate : ℕ) → ¬ Among (vertex, mate) k.listed.sets) → mate_of found ≡ held k.opened.mates vertex
+  pub alone : IsOfTaken k.opened.trees k.listed vertex
+      → ((mate : ℕ) → ¬ Among (vertex, mate) k.listed.sets)
+      → mate_of found ≡ held k.opened.mates vertex
   pub after_is : after ≡ (knowing k (looked k.listed vertex (mate_of found)), before.1)
 
 module _ {S : Type 0} where
   -- an exchange of a tree's word
   abbrev pub TellsTake : Step S → Me S (Option Known) → ℕ → Me S (Option Known) → Type 0
-  TellsTake st before found after = (k : Known) (root : ℕ) → before.0 ≡ Some k → st.word ≡ 1 + root → TellsTaken k root found before after
+  TellsTake st before found after = (k : Known) (root : ℕ) → before.0 ≡ Some k → st.word ≡ 1 + root
+      → TellsTaken k root found before after
 
   -- a store of a vertex's word, whose lower half tells the mate
   abbrev pub TellsSet : Step S → Me S (Option Known) → ℕ → Me S (Option Known) → Type 0
-  TellsSet st before stored after = (k : Known) (vertex : ℕ) → before.0 ≡ Some k → st.word ≡ 1 + k.opened.cols + vertex
+  TellsSet st before stored after = (k : Known) (vertex : ℕ) → before.0 ≡ Some k
+      → st.word ≡ 1 + k.opened.cols + vertex
       → after ≡ (knowing k (put k.listed vertex (st.first % half - 1)), before.1)
 
   -- a load of a vertex's word
   abbrev pub TellsLook : Step S → Me S (Option Known) → ℕ → Me S (Option Known) → Type 0
-  TellsLook st before found after = (k : Known) (vertex : ℕ) → before.0 ≡ Some k → st.word ≡ 1 + k.opened.cols + vertex → TellsMate k vertex found before after
+  TellsLook st before found after = (k : Known) (vertex : ℕ) → before.0 ≡ Some k
+      → st.word ≡ 1 + k.opened.cols + vertex → TellsMate k vertex found before after
 
 -- The seat 0 splits off a seat with the next number.
 
 abbrev pub counting_more : Option Known → Option Known
 counting_more None = None
-counting_more (Some k) = Some (record { opened = k.opened; number = k.number; seats = 1 + k.seats; listed = k.listed })
+counting_more (Some k) = Some (record {
+  opened = k.opened;
+  number = k.number;
+  seats = 1 + k.seats;
+  listed = k.listed;
+})
 
 abbrev pub newcomer : Option Known → Option Known
 newcomer None = None
-newcomer (Some k) = Some (record { opened = k.opened; number = k.seats; seats = 0; listed = nothing })
+newcomer (Some k) = Some (record {
+  opened = k.opened;
+  number = k.seats;
+  seats = 0;
+  listed = nothing;
+})
 
 -- the seat 0 takes in the lists of the seat with the highest number, before its own
 abbrev pub joined : Option Known → Option Known → Option Known
 joined None w = None
 joined (Some k) None = Some k
-joined (Some k) (Some j) = Some (record { opened = k.opened; number = k.number; seats = k.seats - 1; listed = followed_by j.listed k.listed })
+joined (Some k) (Some j) = Some (record {
+  opened = k.opened;
+  number = k.number;
+  seats = k.seats - 1;
+  listed = followed_by j.listed k.listed;
+})

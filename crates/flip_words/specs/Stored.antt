@@ -16,21 +16,28 @@ board_in id o = record { id = id; rows = o.rows; cols = o.cols; mates = o.mates;
 
 -- what a seat of this table shows
 abbrev pub shown : TableId → Known → Seat
-shown id k = record { board = board_in id k.opened; number = k.number; seats = k.seats; listed = k.listed }
+shown id k = record {
+  board = board_in id k.opened;
+  number = k.number;
+  seats = k.seats;
+  listed = k.listed;
+}
 
 -- a seat that was not joined to another, and holds no slot
 abbrev pub IsOpen : {S : Type 0} → Me S (Option Known) → Type 0
 IsOpen me = (me.0 ≡ Some (known me.0)) × (me.1 ≡ [])
 
--- The table has the words with which it was opened: the spare word, those of so many trees, and those of so many rows and columns
-pub record IsLaid (id : TableId) (rows cols told_rows told_cols : ℕ) (opened : List ℕ) : Type 0 where
+-- The table has the words with which it was opened: the spare word, those of so many trees, and
+-- those of so many rows and columns
+pub record IsLaid (id : TableId) (rows cols known_rows known_cols : ℕ)
+    (opened : List ℕ) : Type 0 where
   pub all : id.words ≡ length opened
   pub no_slots : id.slots ≡ 0
-  pub many : length opened ≡ 1 + told_cols + (told_rows + told_cols)
+  pub many : length opened ≡ 1 + known_cols + (known_rows + known_cols)
   pub few_rows : rows < 2 ^ 32
   pub few_cols : cols < 2 ^ 32
-  pub rows_told : told_rows ≡ rows
-  pub cols_told : told_cols ≡ cols
+  pub rows_known : known_rows ≡ rows
+  pub cols_known : known_cols ≡ cols
 
 -- the words of a board that is closed, for which these lists account
 pub record AreLeft (b : Board) (l : Listed) (words : List ℕ) : Type 0 where

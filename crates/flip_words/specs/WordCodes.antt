@@ -1,5 +1,7 @@
--- How a board's words are kept: the spare word first, then the words of the trees, then those of the vertices.
--- A tree's word is 0, or 1 more than the number of the seat that took the tree. A vertex's word has the tree in its upper half and the mate in its lower half, each 0 for none and else 1 more than its number.
+-- How a board's words are kept: the spare word first, then the words of the trees, then those of
+-- the vertices. A tree's word is 0, or 1 more than the number of the seat that took the tree. A
+-- vertex's word has the tree in its upper half and the mate in its lower half, each 0 for none and
+-- else 1 more than its number.
 use Rattle.std.specs.Prelude.{ℕ, zero, suc, ◌+◌, ◌*◌, ◌/◌, ◌%◌, List, Option, None, Some, map, take, drop}
 
 -- one more than the largest number of half a word

@@ -36,7 +36,7 @@ apart (x ∷ xs) ys p c a (inr h) = apart xs ys p c a.1 (inr h)
 -- root
 pub record IsKeeping (roots leaf_of : List (Option ℕ)) (old now : List Place) (xs : List ℕ) (t : Claimed) (i stay : ℕ) : Type 0 where
   pub within : stay ≤ i
-  pub front : take stay now ≡ kept roots leaf_of (take i old)
+  pub prefix : take stay now ≡ kept roots leaf_of (take i old)
   pub rest : drop i now ≡ drop i old
   pub table : IsTableOf (kept roots leaf_of (take i old) ++ drop i old) t.holders
   pub long : length xs ≡ length now
@@ -46,7 +46,7 @@ pub record IsKeeping (roots leaf_of : List (Option ℕ)) (old now : List Place) 
 pub keeping_start : (leaf_of : List (Option ℕ)) (old : List Place) (xs : List ℕ) (t : Claimed) → IsTableOf old t.holders → AreClaimRoots t.roots old xs → IsKeeping t.roots leaf_of old old xs t 0 0
 keeping_start leaf_of old xs t of are = record {
   within = omega arith;
-  front = refl;
+  prefix = refl;
   rest = refl;
   table = of;
   long = are.long;
@@ -85,8 +85,8 @@ root_here roots leaf_of old now xs t i stay p x k lt is at =
     ap (λ (q : Place). beside roots q.0) (get_or_read now i p lt is (0, 0)) ∙ k.rooted i (inr (omega arith)) lt ∙ ap (λ (y : ℕ). Some y) (sym (get_or_read xs i x (omega (arith, lt, k.long)) at 0))
 
 -- whether that root has a leaf, as it is told
-pub leaf_told : (roots leaf_of : List (Option ℕ)) (p : Place) (x : ℕ) (o : Option ℕ) (told b : Bool) → beside roots p.0 ≡ Some x → o ≡ beside leaf_of x → told ≡ is_some o → told ≡ b → root_has_leaf leaf_of (beside roots p.0) ≡ b
-leaf_told roots leaf_of p x o told b root e f g = ap (root_has_leaf leaf_of) root ∙ ap is_some (sym e) ∙ sym f ∙ g
+pub leaf_known : (roots leaf_of : List (Option ℕ)) (p : Place) (x : ℕ) (o : Option ℕ) (fact b : Bool) → beside roots p.0 ≡ Some x → o ≡ beside leaf_of x → fact ≡ is_some o → fact ≡ b → root_has_leaf leaf_of (beside roots p.0) ≡ b
+leaf_known roots leaf_of p x o fact b root e f g = ap (root_has_leaf leaf_of) root ∙ ap is_some (sym e) ∙ sym f ∙ g
 
 -- numbers below n
 abbrev pub AreBelow : ℕ → List ℕ → Type 0
@@ -106,7 +106,7 @@ pub keeping_won : (roots leaf_of : List (Option ℕ)) (old now : List Place) (xs
     → IsKeeping roots leaf_of old now xs u (i + 1) stay
 keeping_won roots leaf_of old now xs t u i stay p k at won differ lt holders_are roots_are = record {
   within = (let le = k.within in omega arith);
-  front = k.front ∙ sym gone;
+  prefix = k.prefix ∙ sym gone;
   rest = at.same;
   table = subst (λ h. IsTableOf (kept roots leaf_of (take (i + 1) old) ++ drop (i + 1) old) h) (sym holders_are) (subst (λ qs. IsTableOf (qs ++ drop (i + 1) old) (set t.holders p.0 None)) (sym gone) (table_clear (keep ++ drop i old) (keep ++ drop (i + 1) old) t.holders p.0 k.table lt not_there over back));
   long = k.long;
@@ -143,7 +143,7 @@ keeping_won roots leaf_of old now xs t u i stay p k at won differ lt holders_are
 pub keeping_stays : (roots leaf_of : List (Option ℕ)) (old now : List Place) (xs : List ℕ) (t : Claimed) (i stay : ℕ) (p : Place) (x : ℕ) → IsKeeping roots leaf_of old now xs t i stay → IsAt old now i p → beside roots p.0 ≡ Some x → root_has_leaf leaf_of (beside roots p.0) ≡ false → i < length now → IsKeeping roots leaf_of old (set now stay p) (set xs stay x) t (i + 1) (stay + 1)
 keeping_stays roots leaf_of old now xs t i stay p x k at root not_won lt = record {
   within = (let le = k.within in omega arith);
-  front = take_more_set now stay p below ∙ ap (λ qs. qs ++ p ∷ []) k.front ∙ sym more;
+  prefix = take_more_set now stay p below ∙ ap (λ qs. qs ++ p ∷ []) k.prefix ∙ sym more;
   rest = drop-set-lt (i + 1) now stay p (let le = k.within in omega arith) ∙ at.same;
   table = subst (λ qs. IsTableOf qs t.holders) whole k.table;
   long = length-set xs stay x ∙ k.long ∙ sym (length-set now stay p);
@@ -171,17 +171,17 @@ at_among old now i p at = subst (Among p) (take-append-drop i old) (among_right 
 
 -- all claims were looked at
 pub keeping_end : (roots leaf_of : List (Option ℕ)) (old now : List Place) (xs : List ℕ) (t : Claimed) (i stay : ℕ) → IsKeeping roots leaf_of old now xs t i stay → length old ≤ i → take stay now ≡ kept roots leaf_of old
-keeping_end roots leaf_of old now xs t i stay k le = k.front ∙ ap (kept roots leaf_of) (take_all i old le)
+keeping_end roots leaf_of old now xs t i stay k le = k.prefix ∙ ap (kept roots leaf_of) (take_all i old le)
 
 -- and the claims that stay are those of the front
-whole_front : (roots leaf_of : List (Option ℕ)) (old now : List Place) (xs : List ℕ) (t : Claimed) (i stay : ℕ) → IsKeeping roots leaf_of old now xs t i stay → length old ≤ i → kept roots leaf_of (take i old) ++ drop i old ≡ take stay now
-whole_front roots leaf_of old now xs t i stay k le = ap (λ qs. kept roots leaf_of (take i old) ++ qs) (drop_of_length-le old le) ∙ append-nil (kept roots leaf_of (take i old)) ∙ sym k.front
+whole_prefix : (roots leaf_of : List (Option ℕ)) (old now : List Place) (xs : List ℕ) (t : Claimed) (i stay : ℕ) → IsKeeping roots leaf_of old now xs t i stay → length old ≤ i → kept roots leaf_of (take i old) ++ drop i old ≡ take stay now
+whole_prefix roots leaf_of old now xs t i stay k le = ap (λ qs. kept roots leaf_of (take i old) ++ qs) (drop_of_length-le old le) ∙ append-nil (kept roots leaf_of (take i old)) ∙ sym k.prefix
 
 pub keeping_table : (roots leaf_of : List (Option ℕ)) (old now : List Place) (xs : List ℕ) (t : Claimed) (i stay : ℕ) → IsKeeping roots leaf_of old now xs t i stay → length old ≤ i → IsTableOf (take stay now) t.holders
-keeping_table roots leaf_of old now xs t i stay k le = subst (λ qs. IsTableOf qs t.holders) (whole_front roots leaf_of old now xs t i stay k le) k.table
+keeping_table roots leaf_of old now xs t i stay k le = subst (λ qs. IsTableOf qs t.holders) (whole_prefix roots leaf_of old now xs t i stay k le) k.table
 
 pub keeping_same : (roots leaf_of : List (Option ℕ)) (old now : List Place) (xs : List ℕ) (t : Claimed) (i stay : ℕ) → IsKeeping roots leaf_of old now xs t i stay → length old ≤ i → (r c : ℕ) → Among (r, c) (take stay now) → beside t.roots r ≡ beside roots r
-keeping_same roots leaf_of old now xs t i stay k le r c h = k.same r c (subst (Among (r, c)) (sym (whole_front roots leaf_of old now xs t i stay k le)) h)
+keeping_same roots leaf_of old now xs t i stay k le r c h = k.same r c (subst (Among (r, c)) (sym (whole_prefix roots leaf_of old now xs t i stay k le)) h)
 
 pub keeping_roots : (roots leaf_of : List (Option ℕ)) (old now : List Place) (xs : List ℕ) (t : Claimed) (i stay : ℕ) → IsKeeping roots leaf_of old now xs t i stay → stay ≤ length now → AreClaimRoots roots (take stay now) (take stay xs)
 keeping_roots roots leaf_of old now xs t i stay k le = record {

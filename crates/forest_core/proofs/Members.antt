@@ -44,5 +44,5 @@ is_not true n = absurd (n refl)
 is_not false n = refl
 
 -- no other answer than true, where false is told
-pub told_false : {P : Type 0} → false ≡ true → P
-told_false e = absurd (true≢false (sym e))
+pub known_false : {P : Type 0} → false ≡ true → P
+known_false e = absurd (true≢false (sym e))

@@ -30,7 +30,7 @@ runs_on s t u (e ∷ es) ds (l, v, k, rest) g = (l, v, k, runs_on v t u es ds re
 
 pub runs_split : (s u : State) (es ds : List Event) → Runs s (es ++ ds) u → (t : State) × Runs s es t × Runs t ds u
 runs_split s u [] ds h = (s, refl, h)
-runs_split s u (e ∷ es) ds (l, v, k, rest) = let (t, front, back) = runs_split v u es ds rest in (t, (l, v, k, front), back)
+runs_split s u (e ∷ es) ds (l, v, k, rest) = let (t, prefix, suffix) = runs_split v u es ds rest in (t, (l, v, k, prefix), suffix)
 
 pub leads_on : (s t u : State) → LeadsTo s t → LeadsTo t u → LeadsTo s u
 leads_on s t u (es, h) (ds, g) = (es ++ ds, runs_on s t u es ds h g)

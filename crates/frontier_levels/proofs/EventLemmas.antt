@@ -11,7 +11,7 @@ use Rattle.sp_ids.specs.declared.events.Event.TheVariants.{Claim, Win}
 -- a run of some events and then of others is a run of each
 pub runs_split : (s t : State) (es ds : List Event) → Runs s (es ++ ds) t → (u : State) × Runs s es u × Runs u ds t
 runs_split s t [] ds r = (s, refl, r)
-runs_split s t (e ∷ es) ds (legal, v, becomes, r) = let (u, front, back) = runs_split v t es ds r in (u, (legal, v, becomes, front), back)
+runs_split s t (e ∷ es) ds (legal, v, becomes, r) = let (u, prefix, suffix) = runs_split v t es ds r in (u, (legal, v, becomes, prefix), suffix)
 
 -- One kind of event, of which each adds a pair to one of the forest's lists.
 module _ (event : ℕ × ℕ → Event) (add : State → List (ℕ × ℕ) → State)
@@ -24,9 +24,9 @@ module _ (event : ℕ × ℕ → Event) (add : State → List (ℕ × ℕ) → S
   -- a run of the events of some pairs and then of other events
   pub split_at : (s t : State) (ps : List (ℕ × ℕ)) (ds : List Event) → Runs s (map event ps ++ ds) t → Runs s (map event ps) (add s ps) × Runs (add s ps) ds t
   split_at s t ps ds r =
-      let (u, front, back) = runs_split s t (map event ps) ds r in
-      let is : u ≡ add s ps = added s u ps front in
-      (subst (Runs s (map event ps)) is front, subst (λ (v : State). Runs v ds t) is back)
+      let (u, prefix, suffix) = runs_split s t (map event ps) ds r in
+      let is : u ≡ add s ps = added s u ps prefix in
+      (subst (Runs s (map event ps)) is prefix, subst (λ (v : State). Runs v ds t) is suffix)
 
   -- in a run each event is legal after those before it
   pub next_legal : (s t : State) (ps : List (ℕ × ℕ)) (i : ℕ) (p d : ℕ × ℕ) → Runs s (map event ps) t → i < length ps → p ≡ get_or ps i d → IsLegal (add s (take i ps)) (event p)
@@ -49,8 +49,8 @@ module _ (event : ℕ × ℕ → Event) (add : State → List (ℕ × ℕ) → S
     pub next_runs : (s t : State) (ws : List W) (i : ℕ) (w d : W) → Runs s (map event (flat_map pairs ws)) t → i < length ws → w ≡ get_or ws i d
         → Runs (add s (flat_map pairs (take i ws))) (map event (pairs w)) (add (add s (flat_map pairs (take i ws))) (pairs w))
     next_runs s t ws i w d r lt is =
-        let (front, back) = split_at s t (flat_map pairs (take i ws)) (map event (pairs w) ++ map event (flat_map pairs (drop (i + 1) ws))) (subst (λ es. Runs s es t) parts r) in
-        (split_at (add s (flat_map pairs (take i ws))) t (pairs w) (map event (flat_map pairs (drop (i + 1) ws))) back).0
+        let (prefix, suffix) = split_at s t (flat_map pairs (take i ws)) (map event (pairs w) ++ map event (flat_map pairs (drop (i + 1) ws))) (subst (λ es. Runs s es t) parts r) in
+        (split_at (add s (flat_map pairs (take i ws))) t (pairs w) (map event (flat_map pairs (drop (i + 1) ws))) suffix).0
       where
         rest : ws ≡ take i ws ++ w ∷ drop (i + 1) ws
         rest = sym (take-append-drop i ws) ∙ ap (λ vs. take i ws ++ vs) (drop_more ws i d lt ∙ ap (λ v. v ∷ drop (i + 1) ws) (sym is))
@@ -104,7 +104,7 @@ level_runs s claims wins r = split_at claim_event with_claims no_claims more_cla
 module _ {X : Type 0} (change : X → X) where
   -- the elements before the i-th are changed, and the others are not
   pub record IsChangedTo (i : ℕ) (was now : List X) : Type 0 where
-    pub front : take i now ≡ map change (take i was)
+    pub prefix : take i now ≡ map change (take i was)
     pub rest : drop i now ≡ drop i was
     pub long : length now ≡ length was
 
@@ -117,7 +117,7 @@ module _ {X : Type 0} (change : X → X) where
       -- the next element is still as it was
       let same : get_or now i d ≡ get_or was i d = heads_same (sym (drop_more now i d below) ∙ changed.rest ∙ drop_more was i d lt) in
       record {
-        front = take_more_set now i y below ∙ ap₂ (λ xs z. xs ++ z ∷ []) changed.front (new ∙ ap change same) ∙ sym (map-append change (take i was) (get_or was i d ∷ [])) ∙ ap (map change) (sym (take_more was i d lt));
+        prefix = take_more_set now i y below ∙ ap₂ (λ xs z. xs ++ z ∷ []) changed.prefix (new ∙ ap change same) ∙ sym (map-append change (take i was) (get_or was i d ∷ [])) ∙ ap (map change) (sym (take_more was i d lt));
         rest = drop-set-lt (i + 1) now i y (omega arith) ∙ drop_more_same now was i changed.rest;
         long = length-set now i y ∙ changed.long;
       }

@@ -18,7 +18,7 @@ all_may_begin s b cols many n (w ∷ ws) is (h, hs) = ((is, h), all_may_begin s 
 -- a level from the frontier down
 abbrev pub level_down : (s : State) (b : Board) (cols : List ℕ) (before after gathered : List WorkerState) → Agree b before s.claims s.leaves → HaveProgressed s (shares_by_columns cols (length before)) before after
     → AreAllWorkers b gathered → fresh_lists gathered ≡ fresh_lists after → (words : Words) × SettlesAll b words (seats_of after) × SettlesAll b words (seats_of gathered) → Level
-level_down s b cols before after gathered agree progress all_workers fresh told = record {
+level_down s b cols before after gathered agree progress all_workers fresh fact = record {
   board = b;
   forest = s;
   own = shares_by_columns cols (length before);
@@ -29,7 +29,7 @@ level_down s b cols before after gathered agree progress all_workers fresh told 
   progress = progress;
   all_workers = all_workers;
   fresh = fresh;
-  words = told.0;
-  settles = told.1;
-  settles_gathered = told.2;
+  words = fact.0;
+  settles = fact.1;
+  settles_gathered = fact.2;
 }

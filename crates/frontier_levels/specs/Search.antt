@@ -16,8 +16,10 @@ pub record IsSearch (s : State) (b : Board) (frontier : List ℕ) : Type 0 where
   pub roots : length b.roots ≡ cols s.matrix
   pub inside : (c : ℕ) → Among c frontier → InForest s c
 
--- a worker with a seat of the board, which has settled what it has claimed, and candidates by columns of its share
-pub record HasGathered (s : State) (b : Board) (share : List ℕ) (w : WorkerState) (xs : List Candidate) : Type 0 where
+-- a worker with a seat of the board, which has settled what it has claimed, and candidates by
+-- columns of its share
+pub record HasGathered (s : State) (b : Board) (share : List ℕ) (w : WorkerState)
+    (xs : List Candidate) : Type 0 where
   pub seat : w.seat.board ≡ b
   pub settled : HasSettled s w
   pub candidates : AreCandidates s (by_columns share) xs
@@ -29,4 +31,5 @@ StaysCovered v xs w ys = (row root : ℕ) → IsCovered v xs row root → IsCove
 
 -- the column's root has a leaf, as the worker knows, or each of the column's rows is covered
 abbrev pub IsCoveredColumn : State → WorkerState → List Candidate → ℕ → Type 0
-IsCoveredColumn s w xs c = (x : ℕ) × RootOf s.base s.claims x c × (KnowsLeaf w x ⊎ ((r : ℕ) → Among r (column s.matrix c) → IsCovered w xs r x))
+IsCoveredColumn s w xs c = (x : ℕ) × RootOf s.base s.claims x c
+    × (KnowsLeaf w x ⊎ ((r : ℕ) → Among r (column s.matrix c) → IsCovered w xs r x))

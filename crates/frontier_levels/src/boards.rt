@@ -11,9 +11,11 @@ use level_sharing::new_workers_agree;
 use sp_ids::OutOfMemory;
 use std::alloc::Global;
 
-/// A board whose words hold the claims and the leaves of a forest, and so many workers, each with a seat.
+/// A board whose words hold the claims and the leaves of a forest, and so many workers, each with a
+/// seat.
 ///
-/// Answers `OutOfMemory` where 24 bytes a row and column can't be had; 8 of them stay. Work: one look at each row and column.
+/// Answers `OutOfMemory` where 24 bytes a row and column can't be had; 8 of them stay. Work: one
+/// look at each row and column.
 pub fn open(
     alloc: Global,
     forest: &Forest,

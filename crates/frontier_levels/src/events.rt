@@ -13,8 +13,9 @@ use forest_core::Forest;
 use level_sharing::settled_workers_agree;
 use sp_ids::{Col, Row};
 
-/// Makes the workers' fresh claims on the forest, in the order of workers, and then their fresh wins, and settles the workers.
-/// Where board and workers showed the forest that this leaves, they agree with it.
+/// Makes the workers' fresh claims on the forest, in the order of workers, and then their fresh
+/// wins, and settles the workers. Where board and workers showed the forest that this leaves, they
+/// agree with it.
 ///
 /// Takes no memory. Work: constant for each fresh claim and win.
 pub fn absorb(forest: &mut Forest, workers: &mut [Worker])

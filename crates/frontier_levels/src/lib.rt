@@ -1,8 +1,8 @@
-//! Levels of the search for augmenting paths by many workers: boards are opened from a forest, and what the workers claim and
-//! win is made on the forest.
+//! Levels of the search for augmenting paths by many workers: boards are opened from a forest, and
+//! what the workers claim and win is made on the forest.
 //!
-//! The search is that of Azad, Buluç and Pothen, Computing maximum cardinality matchings in parallel on bipartite graphs via
-//! tree-grafting, 2017.
+//! The search is that of Azad, Buluç and Pothen, Computing maximum cardinality matchings in
+//! parallel on bipartite graphs via tree-grafting, 2017.
 #![tactic(auto)]
 
 mod boards;

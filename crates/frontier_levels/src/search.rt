@@ -17,8 +17,8 @@ use forest_core::Forest;
 use level_sharing::{Candidate, claim_all, steps_are_progress, steps_are_remembered, steps_settle};
 use sp_ids::{Col, OutOfMemory, Row};
 
-/// A worker's search through its share of the frontier. It gathers the rows that it may claim, with looks alone, and claims
-/// them once there are 512, or no column is left.
+/// A worker's search through its share of the frontier. It gathers the rows that it may claim, with
+/// looks alone, and claims them once there are 512, or no column is left.
 #[derive(Drop)]
 pub(crate) struct Search<'a, 'p> {
     pub forest: &'a Forest<'p>,
@@ -32,8 +32,10 @@ impl<'a, 'p> Search<'a, 'p> {
         requires search { IsSearch self.now.forest.now self.now.board.now self.now.share.now }
         requires seat { worker.old.seat.board ≡ self.now.board.now }
         requires settled { HasSettled self.now.forest.now worker.old }
-        ensures progress { Progress self.now.forest.now (by_columns self.now.share.now) worker.old worker.new }
-        ensures through { OnOk result (IsThroughColumns self.now.forest.now self.now.share.now worker.new) }
+        ensures progress { Progress self.now.forest.now
+            (by_columns self.now.share.now) worker.old worker.new }
+        ensures through { OnOk result
+            (IsThroughColumns self.now.forest.now self.now.share.now worker.new) }
     {
         steps_are_progress();
         steps_are_remembered();
@@ -55,7 +57,8 @@ impl<'a, 'p> Search<'a, 'p> {
         requires col { Among col self.now.share.now }
         requires gathered { HasGathered self.now.forest.now self.now.board.now self.now.share.now
             worker.old candidates.old.items }
-        ensures progress { Progress self.now.forest.now (by_columns self.now.share.now) worker.old worker.new }
+        ensures progress { Progress self.now.forest.now
+            (by_columns self.now.share.now) worker.old worker.new }
         ensures gathered { OnOk result (HasGathered self.now.forest.now self.now.board.now
             self.now.share.now worker.new candidates.new.items) }
         ensures stays { OnOk result
@@ -87,7 +90,8 @@ impl<'a, 'p> Search<'a, 'p> {
         requires in_range { root < cols self.now.forest.now.matrix }
         requires gathered { HasGathered self.now.forest.now self.now.board.now self.now.share.now
             worker.old candidates.old.items }
-        ensures progress { Progress self.now.forest.now (by_columns self.now.share.now) worker.old worker.new }
+        ensures progress { Progress self.now.forest.now
+            (by_columns self.now.share.now) worker.old worker.new }
         ensures gathered { OnOk result (HasGathered self.now.forest.now self.now.board.now
             self.now.share.now worker.new candidates.new.items) }
         ensures stays { OnOk result
@@ -118,7 +122,8 @@ impl<'a, 'p> Search<'a, 'p> {
         requires in_range { root < cols self.now.forest.now.matrix }
         requires gathered { HasGathered self.now.forest.now self.now.board.now self.now.share.now
             worker.old candidates.old.items }
-        ensures progress { Progress self.now.forest.now (by_columns self.now.share.now) worker.old worker.new }
+        ensures progress { Progress self.now.forest.now
+            (by_columns self.now.share.now) worker.old worker.new }
         ensures gathered { OnOk result (HasGathered self.now.forest.now self.now.board.now
             self.now.share.now worker.new candidates.new.items) }
         ensures stays { OnOk result
@@ -152,7 +157,8 @@ impl<'a, 'p> Search<'a, 'p> {
     ) -> Result<(), OutOfMemory>
         requires gathered { HasGathered self.now.forest.now self.now.board.now self.now.share.now
             worker.old candidates.old.items }
-        ensures progress { Progress self.now.forest.now (by_columns self.now.share.now) worker.old worker.new }
+        ensures progress { Progress self.now.forest.now
+            (by_columns self.now.share.now) worker.old worker.new }
         ensures gathered { OnOk result (HasGathered self.now.forest.now self.now.board.now
             self.now.share.now worker.new candidates.new.items) }
         ensures stays { OnOk result

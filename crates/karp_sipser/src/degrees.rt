@@ -24,8 +24,8 @@ pub fn of_one(alloc: Global, degrees: &[u32]) -> Result<IntSet, OutOfMemory>
     Ok(ones)
 }
 
-/// The least vertex of degree one, which is taken out of the set. Others that the set still has but whose degree is no
-/// longer one are taken out too.
+/// The least vertex of degree one, which is taken out of the set. Others that the set still has but
+/// whose degree is no longer one are taken out too.
 pub fn take_of_one(degrees: &[u32], ones: &mut IntSet) -> Option<u32>
     requires bound { ones.old.bound ≡ length degrees.now }
     requires ones { HoldsOnes degrees.now ones.old.members }
@@ -74,8 +74,8 @@ pub fn first_with_degree<I: Id>(degrees: &[u32], ids: &[I]) -> I
     unreachable!()
 }
 
-/// Lowers the degrees of these rows or columns by one, but for those that have none, and puts those that come to one
-/// into the set.
+/// Lowers the degrees of these rows or columns by one, but for those that have none, and puts those
+/// that come to one into the set.
 pub fn lower<I: Id>(degrees: &mut [u32], ids: &[I], ones: &mut IntSet)
     requires rising { IsRising (map I.number ids.now) }
     requires in_range { (x : ℕ) → Among x (map I.number ids.now) → x < length degrees.old }
@@ -98,8 +98,8 @@ pub fn lower<I: Id>(degrees: &mut [u32], ids: &[I], ones: &mut IntSet)
     }
 }
 
-/// Leaves out a row or column that is matched now: it has no degree, and those of `ids`, its kind beside its mate, have
-/// one less. `others` tells whether others of these may have a degree.
+/// Leaves out a row or column that is matched now: it has no degree, and those of `ids`, its kind
+/// beside its mate, have one less. `others` tells whether others of these may have a degree.
 pub fn leave_out<I: Id>(degrees: &mut [u32], matched: I, ids: &[I], others: bool, ones: &mut IntSet)
     requires rising { IsRising (map I.number ids.now) }
     requires in_range { (x : ℕ) → Among x (map I.number ids.now) → x < length degrees.old }

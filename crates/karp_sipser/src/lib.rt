@@ -1,4 +1,5 @@
-//! The start of Karp and Sipser: a maximal matching that takes rows and columns with one unmatched neighbour first.
+//! The start of Karp and Sipser: a maximal matching that takes rows and columns with one unmatched
+//! neighbour first.
 #![tactic(auto)]
 
 mod degrees;
@@ -18,14 +19,15 @@ use std::alloc::Global;
 
 /// A maximal matching to start a search from (Karp and Sipser 1981).
 ///
-/// Of the unmatched rest it takes again and again: the least column with exactly one unmatched neighbour, with that row;
-/// else the least row with exactly one unmatched neighbour, with that column; else the least column that has an unmatched
-/// neighbour, with the least such row. A pair of the first two kinds is in some maximum matching of what was left
+/// Of the unmatched rest it takes again and again: the least column with exactly one unmatched
+/// neighbour, with that row; else the least row with exactly one unmatched neighbour, with that
+/// column; else the least column that has an unmatched neighbour, with the least such row. A pair
+/// of the first two kinds is in some maximum matching of what was left
 /// ([`only_neighbours_lose_nothing`]), so the start is often maximum or nearly so.
 ///
-/// Answers `OutOfMemory` where its tables can't be had: 8 bytes a row and 8 a column for the matching and the degrees, and
-/// an eighth of a byte each for the waiting ones. Work: each entry is looked at four times at most, and each row and column
-/// goes in and out of a set once at most.
+/// Answers `OutOfMemory` where its tables can't be had: 8 bytes a row and 8 a column for the
+/// matching and the degrees, and an eighth of a byte each for the waiting ones. Work: each entry is
+/// looked at four times at most, and each row and column goes in and out of a set once at most.
 pub fn start(alloc: Global, pattern: &Pattern) -> Result<Matching, OutOfMemory>
     ensures start { IfOk result (λ m. IsStart pattern.now m.pairs) }
     ensures matching { IfOk result (IsMatchingOf pattern.now) }

@@ -19,22 +19,22 @@ each_pair_append P n [] (x' ∷ xs') ys ys' f b = absurd f
 each_pair_append P n (x ∷ xs) [] ys ys' f b = absurd f
 each_pair_append P n (x ∷ xs) (x' ∷ xs') ys ys' (p, f) b = (p, each_pair_append P (suc n) xs xs' ys ys' f (subst (λ k. EachPairFrom P k ys ys') (sym (behind n (length xs))) b))
 
-pub ready_front : {X : Type 0} (P : ℕ → X → Type 0) (n : ℕ) (xs ys : List X) → AreReady P n (xs ++ ys) → AreReady P n xs
-ready_front P n xs ys h = record {
+pub ready_prefix : {X : Type 0} (P : ℕ → X → Type 0) (n : ℕ) (xs ys : List X) → AreReady P n (xs ++ ys) → AreReady P n xs
+ready_prefix P n xs ys h = record {
   few = let few = h.few in let l = length-append xs ys in omega (arith, few, l);
   each = each_front P n xs ys h.each;
 }
 
-pub ready_back : {X : Type 0} (P : ℕ → X → Type 0) (n m : ℕ) (xs ys : List X) → m ≡ n + length xs → AreReady P n (xs ++ ys) → AreReady P m ys
-ready_back P n m xs ys e h = record {
+pub ready_suffix : {X : Type 0} (P : ℕ → X → Type 0) (n m : ℕ) (xs ys : List X) → m ≡ n + length xs → AreReady P n (xs ++ ys) → AreReady P m ys
+ready_suffix P n m xs ys e h = record {
   few = let few = h.few in let l = length-append xs ys in omega (arith, few, l, e);
   each = subst (λ k. EachFrom P k ys) (sym e) (each_back P n xs ys h.each);
 }
 
 -- the pairs of a whole, from those of both halves
-pub each_pair_halves : {X : Type 0} (P : ℕ → X → X → Type 0) (n m : ℕ) (front front' back back' whole : List X) → whole ≡ front ++ back → m ≡ n + length front
-    → EachPairFrom P n front front' → EachPairFrom P m back back' → EachPairFrom P n whole (front' ++ back')
-each_pair_halves P n m front front' back back' whole w e f b = subst (λ xs. EachPairFrom P n xs (front' ++ back')) (sym w) (each_pair_append P n front front' back back' f (subst (λ k. EachPairFrom P k back back') e b))
+pub each_pair_halves : {X : Type 0} (P : ℕ → X → X → Type 0) (n m : ℕ) (prefix prefix' suffix suffix' whole : List X) → whole ≡ prefix ++ suffix → m ≡ n + length prefix
+    → EachPairFrom P n prefix prefix' → EachPairFrom P m suffix suffix' → EachPairFrom P n whole (prefix' ++ suffix')
+each_pair_halves P n m prefix prefix' suffix suffix' whole w e f b = subst (λ xs. EachPairFrom P n xs (prefix' ++ suffix')) (sym w) (each_pair_append P n prefix prefix' suffix suffix' f (subst (λ k. EachPairFrom P k suffix suffix') e b))
 
 pub ok_then : {A E P Q : Type 0} (r : Result A E) → (P → Q) → OnOk r P → OnOk r Q
 ok_then (Ok a) f p = f p

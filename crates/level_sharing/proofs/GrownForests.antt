@@ -97,8 +97,8 @@ pub record LevelLaws : Type 0 where
   pub row_known : (b : Board) (words : Words) (ss : List Seat) (v : Seat) (row col : ℕ) → SettlesAll b words ss → Among v ss → v.board ≡ b → KnowsRow v row col → held words.rows row ≡ Some col
   pub root_known : (b : Board) (words : Words) (ss : List Seat) (v : Seat) (root leaf : ℕ) → SettlesAll b words ss → Among v ss → v.board ≡ b → KnowsRoot v root leaf → held words.roots root ≡ Some leaf
 
-pub level_told : LevelLaws → (l : Level) → LevelTold l
-level_told laws l =
+pub level_known : LevelLaws → (l : Level) → LevelTold l
+level_known laws l =
     let grow = lists_grow l.forest l.own 0 l.before l.after l.progress in record {
       all = laws.all l.board l.before l.after grow l.agree.shows.all_workers;
       same_claims = laws.same_claims l.gathered l.after l.fresh;

@@ -47,7 +47,7 @@ fresh_new l opened was now old before after fresh x holds = record {
 }
 
 pub words_extended : (l : WordLaws) (opened was now : List (Option ℕ)) (old before after fresh : List (ℕ × ℕ)) → IsExtended opened was now before after fresh → HoldThese old was → HoldThese (old ++ fresh) now
-words_extended l opened was now old before after fresh x holds i v = (to, back)
+words_extended l opened was now old before after fresh x holds i v = (to, suffix)
   where
     was_old : held was i ≡ Some v → Among (i, v) (old ++ fresh)
     was_old e = among_left (i, v) old fresh ((holds i v).0 e)
@@ -65,8 +65,8 @@ words_extended l opened was now old before after fresh x holds i v = (to, back)
         (number_same (times i before) 0))
         (l.from opened now after i v x.at_last e)
 
-    back : Among (i, v) (old ++ fresh) → held now i ≡ Some v
-    back h = ⊎_elim
+    suffix : Among (i, v) (old ++ fresh) → held now i ≡ Some v
+    suffix h = ⊎_elim
         (λ k. ⊎_elim (λ (o : held opened i ≡ Some v). x.at_last.stays i v o) (λ m. x.at_last.stands i v (x.had (i, v) m)) (l.from opened was before i v x.at_first ((holds i v).1 k)))
         (λ k. x.at_last.stands i v (x.new (i, v) k))
         (among_either (i, v) old fresh h)

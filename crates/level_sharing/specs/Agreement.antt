@@ -9,8 +9,9 @@ use Rattle.claim_words.specs.WorkerState.{AreAllWorkers, WorkerState, fresh_clai
 abbrev pub HoldThese : List (ℕ × ℕ) → List (Option ℕ) → Type 0
 HoldThese pairs words = (i x : ℕ) → (held words i ≡ Some x) ↔ Among (i, x) pairs
 
--- The workers' seats are all seats of the board, in the order of their numbers, and the words that they list are these claims,
--- each a row with its column, and these leaves, each a root with its leaf
+-- The workers' seats are all seats of the board, in the order of their numbers, and the words that
+-- they list are these claims, each a row with its column, and these leaves, each a root with its
+-- leaf
 pub record Shows (b : Board) (ws : List WorkerState) (claims leaves : List (ℕ × ℕ)) : Type 0 where
   pub all_workers : AreAllWorkers b ws
   pub words : Words

@@ -22,4 +22,5 @@ IsDecided w row root = KnowsHolder w row ⊎ KnowsLeaf w root
 
 -- or the row is a candidate for the root
 abbrev pub IsCovered : WorkerState → List Candidate → ℕ → ℕ → Type 0
-IsCovered w xs row root = IsDecided w row root ⊎ ((x : Candidate) × Among x xs × (x.row ≡ row) × (x.root ≡ root))
+IsCovered w xs row root = IsDecided w row root
+    ⊎ ((x : Candidate) × Among x xs × (x.row ≡ row) × (x.root ≡ root))

@@ -1,4 +1,5 @@
--- What holds of each of a list's elements, one by one. The elements are numbered, and the first has the number n.
+-- What holds of each of a list's elements, one by one. The elements are numbered, and the first has
+-- the number n.
 use Rattle.std.specs.Prelude.{ℕ, suc, ◌+◌, ◌<◌, ◌^◌, List, [], ◌∷◌, length}
 
 abbrev pub EachFrom : {X : Type 0} → (ℕ → X → Type 0) → ℕ → List X → Type 0

@@ -12,10 +12,12 @@ use Rattle.level_sharing.specs.Shares.{Share, share_of}
 
 -- each worker, by its number, has made progress with its own
 abbrev pub HaveProgressed : State → (ℕ → Share) → List WorkerState → List WorkerState → Type 0
-HaveProgressed s own before after = EachPairFrom (λ (i : ℕ). λ (v w : WorkerState). Progress s (own i) v w) 0 before after
+HaveProgressed s own before after = EachPairFrom
+    (λ (i : ℕ). λ (v w : WorkerState). Progress s (own i) v w) 0 before after
 
--- Board and workers agreed with the forest. Then the workers went through the level, each with its own share, and at last their
--- seats were gathered. This left the fresh lists, and told the words that the lists account for
+-- Board and workers agreed with the forest. Then the workers went through the level, each with its
+-- own share, and at last their seats were gathered. This left the fresh lists, and told the words
+-- that the lists account for
 pub record Level : Type 0 where
   pub board : Board
   pub forest : State
@@ -37,7 +39,9 @@ forest_after l = grown l.forest l.gathered
 
 -- each worker is through with its share of these columns, or of these rows
 abbrev pub AreThroughColumns : Level → List ℕ → Type 0
-AreThroughColumns l cols = EachPairFrom (λ (i : ℕ). λ (v w : WorkerState). IsThroughColumns l.forest (share_of cols (length l.before) i) w) 0 l.before l.after
+AreThroughColumns l cols = EachPairFrom (λ (i : ℕ). λ (v w : WorkerState).
+    IsThroughColumns l.forest (share_of cols (length l.before) i) w) 0 l.before l.after
 
 abbrev pub AreThroughRows : Level → List ℕ → Type 0
-AreThroughRows l rows = EachPairFrom (λ (i : ℕ). λ (v w : WorkerState). IsThroughRows l.forest (share_of rows (length l.before) i) w) 0 l.before l.after
+AreThroughRows l rows = EachPairFrom (λ (i : ℕ). λ (v w : WorkerState).
+    IsThroughRows l.forest (share_of rows (length l.before) i) w) 0 l.before l.after

@@ -1,5 +1,5 @@
--- What one worker does in a level, and what it knows. All of it speaks of the forest as it was before the level, and of this
--- worker's lists alone.
+-- What one worker does in a level, and what it knows. All of it speaks of the forest as it was
+-- before the level, and of this worker's lists alone.
 use Rattle.std.specs.Prelude.{◌≡◌, ◌⊎◌, ℕ, ◌<◌, Bool, true, false, List}
 use Rattle.bip_defs.specs.Forest.{InForest, RootOf, State}
 use Rattle.bip_defs.specs.Lists.{Among}
@@ -13,10 +13,11 @@ use Rattle.level_sharing.specs.Shares.{IsOwn, Share}
 
 -- the row has no base mate, and the worker has claimed it for a column of this root's tree
 abbrev pub IsLeafFor : State → WorkerState → ℕ → ℕ → Type 0
-IsLeafFor s w x r = (¬ Among r (rows_of s.base)) × ((c : ℕ) × Among (r, c) w.fresh_claims × RootOf s.base s.claims x c)
+IsLeafFor s w x r = (¬ Among r (rows_of s.base))
+    × ((c : ℕ) × Among (r, c) w.fresh_claims × RootOf s.base s.claims x c)
 
--- From one state of a worker to a later one: what it has listed since. Each claim is of the worker's own share and legal in the
--- forest, and each win is of such a leaf
+-- From one state of a worker to a later one: what it has listed since. Each claim is of the
+-- worker's own share and legal in the forest, and each win is of such a leaf
 pub record Progress (s : State) (own : Share) (v w : WorkerState) : Type 0 where
   pub more : Listed
   pub grown : w ≡ with_more v more
@@ -37,9 +38,11 @@ KnowsWon s w c = (x : ℕ) × RootOf s.base s.claims x c × KnowsLeaf w x
 
 -- what it has claimed without a base mate is in trees of whose root it knows a leaf
 abbrev pub HasSettled : State → WorkerState → Type 0
-HasSettled s w = (r c : ℕ) → Among (r, c) w.fresh_claims → ¬ Among r (rows_of s.base) → KnowsWon s w c
+HasSettled s w = (r c : ℕ) → Among (r, c) w.fresh_claims → ¬ Among r (rows_of s.base)
+    → KnowsWon s w c
 
--- a worker of so many that is at the start of a level: it has a seat of this board and a number, and nothing left to settle
+-- a worker of so many that is at the start of a level: it has a seat of this board and a number,
+-- and nothing left to settle
 pub record IsAtStart (s : State) (b : Board) (workers number : ℕ) (w : WorkerState) : Type 0 where
   pub few : number < workers
   pub seat : w.seat.board ≡ b
@@ -54,16 +57,19 @@ pub record IsThroughColumns (s : State) (share : List ℕ) (w : WorkerState) : T
   pub settled : HasSettled s w
   pub columns : (c : ℕ) → Among c share → IsThroughColumn s w c
 
--- of a row it knows that it is held, or that the root of each column of the forest with an entry in it has a leaf
+-- of a row it knows that it is held, or that the root of each column of the forest with an entry in
+-- it has a leaf
 abbrev pub IsThroughRow : State → WorkerState → ℕ → Type 0
-IsThroughRow s w r = KnowsHolder w r ⊎ ((c : ℕ) → IsEntry s.matrix r c → InForest s c → KnowsWon s w c)
+IsThroughRow s w r = KnowsHolder w r
+    ⊎ ((c : ℕ) → IsEntry s.matrix r c → InForest s c → KnowsWon s w c)
 
 -- it is through with all these rows
 pub record IsThroughRows (s : State) (share : List ℕ) (w : WorkerState) : Type 0 where
   pub settled : HasSettled s w
   pub rows : (r : ℕ) → Among r share → IsThroughRow s w r
 
--- a worker may claim this row for this column, whose root this is; and whether the row has no base mate
+-- a worker may claim this row for this column, whose root this is; and whether the row has no base
+-- mate
 pub record CanClaim (s : State) (own : Share) (row col root : ℕ) (free : Bool) : Type 0 where
   pub is_own : IsOwn own (row, col)
   pub entry : IsEntry s.matrix row col

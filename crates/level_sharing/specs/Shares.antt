@@ -5,7 +5,8 @@ use Rattle.bip_defs.specs.Matrix.{Place}
 use Rattle.claim_words.specs.WorkerState.{WorkerState}
 use Rattle.level_sharing.specs.Each.{EachFrom}
 
--- of so many workers, the share of the worker i: its places from `i * l / workers` on, up to `(i + 1) * l / workers`, of l
+-- of so many workers, the share of the worker i: its places from `i * l / workers` on, up to `(i +
+-- 1) * l / workers`, of l
 abbrev pub share_of : {X : Type 0} → List X → ℕ → ℕ → List X
 share_of xs workers i = slice_range xs (i * length xs / workers) ((i + 1) * length xs / workers)
 
@@ -18,7 +19,8 @@ abbrev pub IsOwn : Share → Place → Type 0
 IsOwn (by_columns cols) p = Among p.1 cols
 IsOwn (of_rows rows) p = Among p.0 rows
 
--- each fresh claim of a worker is of its own, and each of its fresh wins has the row of one of its own fresh claims as leaf
+-- each fresh claim of a worker is of its own, and each of its fresh wins has the row of one of its
+-- own fresh claims as leaf
 pub record KeepsTo (own : Share) (w : WorkerState) : Type 0 where
   pub claims : (p : Place) → Among p w.fresh_claims → IsOwn own p
   pub wins : (p : ℕ × ℕ) → Among p w.fresh_wins → Among p.1 (numbers_of w.fresh_claims)

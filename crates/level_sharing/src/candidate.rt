@@ -2,7 +2,8 @@
 
 use sp_ids::{Col, Row};
 
-/// A row that a worker may claim for a column, whose root this is; and whether the row has no base mate.
+/// A row that a worker may claim for a column, whose root this is; and whether the row has no base
+/// mate.
 #[derive(Clone, Copy, Debug)]
 pub struct Candidate {
     pub row: Row,

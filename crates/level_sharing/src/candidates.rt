@@ -12,12 +12,13 @@ use crate::steps::{steps_are_progress, steps_are_remembered, steps_settle};
 use claim_words::{ClaimBoard, Worker, workers_know_more};
 use sp_ids::OutOfMemory;
 
-/// A worker claims these candidates, in their order, and passes over those whose root has a leaf by then. An exchange makes the
-/// processor wait for what it has begun to load: so many looks first and then many claims are faster than each claim after its
-/// look.
+/// A worker claims these candidates, in their order, and passes over those whose root has a leaf by
+/// then. An exchange makes the processor wait for what it has begun to load: so many looks first
+/// and then many claims are faster than each claim after its look.
 ///
-/// Afterwards it knows a holder of each row, or a leaf of its root. Answers `OutOfMemory` where one of its fresh lists can't
-/// grow; what is listed then stands. Work: one look and two exchanges at most for each.
+/// Afterwards it knows a holder of each row, or a leaf of its root. Answers `OutOfMemory` where one
+/// of its fresh lists can't grow; what is listed then stands. Work: one look and two exchanges at
+/// most for each.
 pub fn claim_all(
     board: &ClaimBoard,
     worker: &mut Worker,
@@ -49,7 +50,8 @@ fn claim_one(
     candidate: Candidate,
 ) -> Result<(), OutOfMemory>
     requires seat { worker.old.seat.board ≡ board.now }
-    requires range { (candidate.row < length board.now.rows) × (candidate.root < length board.now.roots) }
+    requires range { (candidate.row < length board.now.rows)
+        × (candidate.root < length board.now.roots) }
     ensures progress { (s : State) (own : Share)
         → CanClaim s own candidate.row candidate.col candidate.root candidate.free
         → Progress s own worker.old worker.new }

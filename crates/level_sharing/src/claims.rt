@@ -9,11 +9,12 @@ use crate::steps::{steps_are_progress, steps_are_remembered, steps_settle};
 use claim_words::{ClaimBoard, Claimed, Worker};
 use sp_ids::{Col, OutOfMemory, Row};
 
-/// A worker claims a row for a column of the forest. Where it gets the row, and the row is free, without a base mate, it wins the
-/// column's root for it. Tells whether it knows then that the root has a leaf.
+/// A worker claims a row for a column of the forest. Where it gets the row, and the row is free,
+/// without a base mate, it wins the column's root for it. Tells whether it knows then that the root
+/// has a leaf.
 ///
-/// In either case it knows a holder of the row then. Answers `OutOfMemory` where one of its fresh lists can't grow; what is
-/// listed then stands. Work: two exchanges at most.
+/// In either case it knows a holder of the row then. Answers `OutOfMemory` where one of its fresh
+/// lists can't grow; what is listed then stands. Work: two exchanges at most.
 pub fn claim_row(
     board: &ClaimBoard,
     worker: &mut Worker,

@@ -14,9 +14,9 @@ use claim_words::{
     times_add_up,
 };
 
-/// Board and workers agreed with a forest, and since then the workers have listed more. Then the fresh claims are of rows that
-/// were unclaimed, each once, the fresh wins of roots without a leaf, each once, and the words hold the old claims and leaves
-/// with the fresh ones and nothing else.
+/// Board and workers agreed with a forest, and since then the workers have listed more. Then the
+/// fresh claims are of rows that were unclaimed, each once, the fresh wins of roots without a leaf,
+/// each once, and the words hold the old claims and leaves with the fresh ones and nothing else.
 pub fn fresh_lists_are_new()
     ensures claims { (b : Board) (words : Words) (before after : List WorkerState)
         (claims leaves : List (ℕ × ℕ)) → Agree b before claims leaves
@@ -51,7 +51,8 @@ pub fn settled_workers_agree()
     seats_stay();
 }
 
-/// New workers agree with a forest, each on a new seat of a board that was opened with the claims and the leaves of the forest.
+/// New workers agree with a forest, each on a new seat of a board that was opened with the claims
+/// and the leaves of the forest.
 pub fn new_workers_agree()
     ensures { (b : Board) (seats : ℕ) (claims leaves : List (ℕ × ℕ)) → 1 ≤ seats
         → HoldThese claims b.rows → HoldThese leaves b.roots

@@ -21,8 +21,9 @@ pub fn levels_keep_to_shares()
     workers_grow();
 }
 
-/// A level is legal: its fresh claims are of new rows, at places of the matrix and by columns that are in the forest, and its
-/// fresh wins are of new roots, each with a row of its tree as leaf that has no base mate.
+/// A level is legal: its fresh claims are of new rows, at places of the matrix and by columns that
+/// are in the forest, and its fresh wins are of new roots, each with a row of its tree as leaf that
+/// has no base mate.
 pub fn levels_are_legal()
     ensures claims { (l : Level) → AreNew l.forest.claims (fresh_claims_of l.gathered) }
     ensures places { (l : Level) (r c : ℕ) → Among (r, c) (fresh_claims_of l.gathered)
@@ -40,7 +41,8 @@ pub fn levels_are_legal()
 
 /// After a level board and workers show the forest that the level leaves.
 pub fn levels_are_shown()
-    ensures { (l : Level) → Shows l.board l.gathered (forest_after l).claims (forest_after l).leaves }
+    ensures { (l : Level)
+        → Shows l.board l.gathered (forest_after l).claims (forest_after l).leaves }
 {
     fresh_lists_join();
     workers_grow();
@@ -48,8 +50,8 @@ pub fn levels_are_shown()
     known_values_stand();
 }
 
-/// A level of which each worker is through with its share of these columns leaves a settled forest settled, and each of the
-/// columns has a root with a leaf, or all its rows are claimed.
+/// A level of which each worker is through with its share of these columns leaves a settled forest
+/// settled, and each of the columns has a root with a leaf, or all its rows are claimed.
 pub fn levels_go_through_columns()
     ensures settled { (l : Level) (cols : List ℕ) → AreThroughColumns l cols
         → IsSettled l.forest → IsSettled (forest_after l) }
@@ -62,8 +64,9 @@ pub fn levels_go_through_columns()
     known_values_stand();
 }
 
-/// A level of which each worker is through with its share of these rows leaves a settled forest settled, and each of the rows
-/// is claimed, or the root of each column with an entry in it that was in the forest has a leaf.
+/// A level of which each worker is through with its share of these rows leaves a settled forest
+/// settled, and each of the rows is claimed, or the root of each column with an entry in it that
+/// was in the forest has a leaf.
 pub fn levels_go_through_rows()
     ensures settled { (l : Level) (rows : List ℕ) → AreThroughRows l rows
         → IsSettled l.forest → IsSettled (forest_after l) }

@@ -1,9 +1,10 @@
-//! What all levels of the search by many workers share: the work of many at once, by joins over halves; each worker's share of
-//! a list; when a board of words and its workers agree with the claims and the leaves of a forest; what a worker lists and
-//! knows, step by step; and what a level does to the forest.
+//! What all levels of the search by many workers share: the work of many at once, by joins over
+//! halves; each worker's share of a list; when a board of words and its workers agree with the
+//! claims and the leaves of a forest; what a worker lists and knows, step by step; and what a level
+//! does to the forest.
 //!
-//! Levels of such a search are those of Azad, Buluç and Pothen, Computing maximum cardinality matchings in parallel on
-//! bipartite graphs via tree-grafting, 2017.
+//! Levels of such a search are those of Azad, Buluç and Pothen, Computing maximum cardinality
+//! matchings in parallel on bipartite graphs via tree-grafting, 2017.
 #![tactic(auto)]
 
 mod candidate;

@@ -35,8 +35,8 @@ pub fn steps_are_progress()
     steps_add_to_lists();
 }
 
-/// What a worker knows of a word it knows from then on. A claim and a win tell what the word holds, and so does a look that
-/// finds a value.
+/// What a worker knows of a word it knows from then on. A claim and a win tell what the word holds,
+/// and so does a look that finds a value.
 pub fn steps_are_remembered()
     ensures holder { (s : State) (own : Share) (v w : WorkerState) (r : ℕ)
         → Progress s own v w → KnowsHolder v r → KnowsHolder w r }
@@ -56,8 +56,9 @@ pub fn steps_are_remembered()
     workers_know_more();
 }
 
-/// A worker that has settled what it has claimed has so after a look and after a claim that another column was before it with,
-/// and where it gets a row with a base mate; where it gets another, it has so once it wins the root for it.
+/// A worker that has settled what it has claimed has so after a look and after a claim that another
+/// column was before it with, and where it gets a row with a base mate; where it gets another, it
+/// has so once it wins the root for it.
 pub fn steps_settle()
     ensures look { (s : State) (w : WorkerState) (sight : Sight) → HasSettled s w
         → HasSettled s (work_after_look w sight) }
@@ -90,7 +91,8 @@ pub fn workers_are_at_the_start()
         → EachFrom (λ (i : ℕ). λ (w : WorkerState). IsAtStart s b (length ws) i w) 0 ws }
 {}
 
-/// Workers that have made progress have all seats of the board still, in the order of their numbers.
+/// Workers that have made progress have all seats of the board still, in the order of their
+/// numbers.
 pub fn progress_keeps_seats()
     ensures { (s : State) (own : ℕ → Share) (b : Board) (before after : List WorkerState)
         → HaveProgressed s own before after → AreAllWorkers b before → AreAllWorkers b after }

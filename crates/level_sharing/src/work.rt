@@ -7,8 +7,8 @@ ghost use Rattle.level_sharing.specs.Each.{AreReady, EachFrom, EachPairFrom};
 use sp_ports::Gate;
 use std::thread::{Threads, join_mut};
 
-/// What each of several workers does, beside the others. A worker keeps a `T` for itself. It may have to end early, by an `E`:
-/// this is `Infallible` where no worker has to.
+/// What each of several workers does, beside the others. A worker keeps a `T` for itself. It may
+/// have to end early, by an `E`: this is `Infallible` where no worker has to.
 pub trait Work<T, E>: Sync {
     /// A worker with this number may begin.
     ghost can_begin: { Self → ℕ → T → Type 0 };
@@ -28,9 +28,10 @@ pub trait Work<T, E>: Sync {
 
 /// Each worker does its part, at once with the others as far as threads can be had.
 ///
-/// The workers are numbered from 0 in the order of the slice. Each calls `gate.arrive` with its number once, before its part.
-/// Want of a thread changes nothing: then one part is done after the other. Answers the fault of the first worker that ended
-/// early; all the others did their parts nonetheless. Work: one thread is started for each worker but the first.
+/// The workers are numbered from 0 in the order of the slice. Each calls `gate.arrive` with its
+/// number once, before its part. Want of a thread changes nothing: then one part is done after the
+/// other. Answers the fault of the first worker that ended early; all the others did their parts
+/// nonetheless. Work: one thread is started for each worker but the first.
 pub fn work_at_once<R: Threads + Sync, G: Gate, T: Send, E: Send + Drop, W: Work<T, E>>(
     rt: &R,
     gate: &G,
@@ -65,36 +66,42 @@ fn work_from<R: Threads + Sync, G: Gate, T: Send, E: Send + Drop, W: Work<T, E>>
         return work.run(first, &mut workers[0]);
     }
     let half = workers.len() / 2;
-    let (front, back) = workers.split_at_mut(half);
+    let (prefix, suffix) = workers.split_at_mut(half);
     let next = first + half as u32;
-    halves_are_ready(work, first, next, front, back);
+    halves_are_ready(work, first, next, prefix, suffix);
     let (low, high) = join_mut(
         rt,
         &mut || -> Result<(), E>
             requires { IsSync R.row × IsSync G.row × IsSync W.row
-                × (0 < length front.now) × AreReady (W.can_begin work.now) first front.now }
-            ensures { EachPairFrom (W.leaves work.entry.now) first front.entry.now front.exit.now
+                × (0 < length prefix.now) × AreReady (W.can_begin work.now) first prefix.now }
+            ensures { EachPairFrom (W.leaves work.entry.now) first prefix.entry.now prefix.exit.now
                 × OnOk result
-                (EachPairFrom (W.completes work.entry.now) first front.entry.now front.exit.now) }
-        { work_from(rt, gate, work, first, front) },
+                (EachPairFrom (W.completes work.entry.now) first prefix.entry.now prefix.exit.now) }
+        { work_from(rt, gate, work, first, prefix) },
         &mut || -> Result<(), E>
             requires { IsSync R.row × IsSync G.row × IsSync W.row
-                × (0 < length back.now) × AreReady (W.can_begin work.now) next back.now }
-            ensures { EachPairFrom (W.leaves work.entry.now) next back.entry.now back.exit.now
+                × (0 < length suffix.now) × AreReady (W.can_begin work.now) next suffix.now }
+            ensures { EachPairFrom (W.leaves work.entry.now) next suffix.entry.now suffix.exit.now
                 × OnOk result
-                (EachPairFrom (W.completes work.entry.now) next back.entry.now back.exit.now) }
-        { work_from(rt, gate, work, next, back) },
+                (EachPairFrom (W.completes work.entry.now) next suffix.entry.now suffix.exit.now) }
+        { work_from(rt, gate, work, next, suffix) },
     );
     low?;
     high
 }
 
 // The workers of both halves are ready, where those of the whole are.
-fn halves_are_ready<T, E, W: Work<T, E>>(work: &W, first: u32, next: u32, front: &[T], back: &[T])
-    requires whole { AreReady (W.can_begin work.now) first (front.now ++ back.now) }
-    requires next { next ≡ first + length front.now }
-    requires some { (0 < length front.now) × (0 < length back.now) }
-    ensures front { AreReady (W.can_begin work.now) first front.now }
-    ensures back { AreReady (W.can_begin work.now) next back.now }
-    ensures some { (0 < length front.now) × (0 < length back.now) }
+fn halves_are_ready<T, E, W: Work<T, E>>(
+    work: &W,
+    first: u32,
+    next: u32,
+    prefix: &[T],
+    suffix: &[T],
+)
+    requires whole { AreReady (W.can_begin work.now) first (prefix.now ++ suffix.now) }
+    requires next { next ≡ first + length prefix.now }
+    requires some { (0 < length prefix.now) × (0 < length suffix.now) }
+    ensures prefix { AreReady (W.can_begin work.now) first prefix.now }
+    ensures suffix { AreReady (W.can_begin work.now) next suffix.now }
+    ensures some { (0 < length prefix.now) × (0 < length suffix.now) }
 {}

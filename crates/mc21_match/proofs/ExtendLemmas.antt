@@ -6,10 +6,10 @@ use Rattle.bip_defs.specs.Matching.{Covers, cols_of}
 use Rattle.bip_defs.specs.Matrix.{Matrix}
 use Rattle.bip_defs.proofs.Below.{below_more}
 use Rattle.bip_graph.specs.Matching.{Pairing}
-use Rattle.mc21_match.specs.Searched.{IsSearched}
+use Rattle.mc21_match.specs.Searched.{AreTriedBelow}
 use Rattle.path_search.specs.Search.{Augments, Fails, HasMarked, SearchState}
 
-pub searched_matched : (a : Matrix) (m : Pairing) (s : SearchState) (n : ℕ) → IsSearched a m s n → Among n (cols_of m.pairs) → IsSearched a m s (n + 1)
+pub searched_matched : (a : Matrix) (m : Pairing) (s : SearchState) (n : ℕ) → AreTriedBelow a m s n → Among n (cols_of m.pairs) → AreTriedBelow a m s (n + 1)
 searched_matched a m s n k on = record {
   rows = k.rows;
   cols = k.cols;
@@ -18,7 +18,7 @@ searched_matched a m s n k on = record {
 }
 
 -- a path was exchanged, and the marks are those from before its search
-pub searched_found : (a : Matrix) (m g : Pairing) (s t u : SearchState) (n : ℕ) → IsSearched a m s n → t.cols ≡ s.cols → u.cols ≡ t.cols → HasMarked t.visited s.marks t.marks → ((start : List Bool) → HasMarked t.visited start t.marks → u.marks ≡ start) → Covers m.pairs g.pairs → Augments n s.marks m.pairs g.pairs → IsSearched a g u (n + 1)
+pub searched_found : (a : Matrix) (m g : Pairing) (s t u : SearchState) (n : ℕ) → AreTriedBelow a m s n → t.cols ≡ s.cols → u.cols ≡ t.cols → HasMarked t.visited s.marks t.marks → ((start : List Bool) → HasMarked t.visited start t.marks → u.marks ≡ start) → Covers m.pairs g.pairs → Augments n s.marks m.pairs g.pairs → AreTriedBelow a g u (n + 1)
 searched_found a m g s t u n k looks after marks restored covers found = record {
   rows = ap length same ∙ k.rows;
   cols = after ∙ looks ∙ k.cols;
@@ -29,8 +29,8 @@ searched_found a m g s t u n k looks after marks restored covers found = record 
     same : u.marks ≡ s.marks
     same = restored s.marks marks
 
-pub searched_failed : (a : Matrix) (m g : Pairing) (s t : SearchState) (n : ℕ) → IsSearched a m s n → t.cols ≡ s.cols → HasMarked t.visited s.marks t.marks → g ≡ m → Fails a m.pairs s.marks t.marks n → IsSearched a g t (n + 1)
-searched_failed a m g s t n k looks marks same fails = subst (λ p. IsSearched a p t (n + 1)) (sym same) (record {
+pub searched_failed : (a : Matrix) (m g : Pairing) (s t : SearchState) (n : ℕ) → AreTriedBelow a m s n → t.cols ≡ s.cols → HasMarked t.visited s.marks t.marks → g ≡ m → Fails a m.pairs s.marks t.marks n → AreTriedBelow a g t (n + 1)
+searched_failed a m g s t n k looks marks same fails = subst (λ p. AreTriedBelow a p t (n + 1)) (sym same) (record {
   rows = marks.size ∙ k.rows;
   cols = looks ∙ k.cols;
   closed = fails.closed k.closed;

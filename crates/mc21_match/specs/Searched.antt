@@ -7,9 +7,9 @@ use Rattle.bip_defs.specs.Matrix.{Matrix, cols}
 use Rattle.bip_graph.specs.Matching.{Pairing}
 use Rattle.path_search.specs.Search.{SearchState}
 
--- all columns below n were searched from: no augmenting path leads through a marked row, then or later, or begins at one of
--- those columns that is unmatched
-pub record IsSearched (a : Matrix) (m : Pairing) (s : SearchState) (n : ℕ) : Type 0 where
+-- all columns below n were searched from: no augmenting path leads through a marked row, then or
+-- later, or begins at one of those columns that is unmatched
+pub record AreTriedBelow (a : Matrix) (m : Pairing) (s : SearchState) (n : ℕ) : Type 0 where
   pub rows : length s.marks ≡ a.rows
   pub cols : s.cols ≡ cols a
   pub closed : AreClosed a m.pairs s.marks

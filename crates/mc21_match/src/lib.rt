@@ -1,16 +1,17 @@
-//! Maximum matchings by one depth-first search from each unmatched column, after Duff's MC21 (1981).
+//! Maximum matchings by one depth-first search from each unmatched column, after Duff's MC21
+//! (1981).
 //!
-//! Each column's list is looked through for an unmatched row before the search goes deeper (cheap assignment), from where
-//! the last look-ahead ended: rows that were found matched stay matched. The rows that a failed search has visited are left
-//! out of all later ones, since no augmenting path leads through them, then or later: all failed searches together look at
-//! each entry once.
+//! Each column's list is looked through for an unmatched row before the search goes deeper (cheap
+//! assignment), from where the last look-ahead ended: rows that were found matched stay matched.
+//! The rows that a failed search has visited are left out of all later ones, since no augmenting
+//! path leads through them, then or later: all failed searches together look at each entry once.
 #![tactic(auto)]
 
 ghost use Rattle.std.specs.Prelude.{◌+◌, ◌<◌, IfOk};
 ghost use Rattle.bip_defs.specs.Matching.{Covers};
 ghost use Rattle.bip_defs.specs.Matrix.{cols};
 ghost use Rattle.bip_graph.specs.Matching.{IsMatchingOf, IsMaximumOf, Pairing};
-ghost use Rattle.mc21_match.specs.Searched.{IsSearched};
+ghost use Rattle.mc21_match.specs.Searched.{AreTriedBelow};
 
 use bip_graph::Matching;
 use path_search::Search;
@@ -20,9 +21,10 @@ use std::alloc::Global;
 
 /// A maximum matching, in which every row and column that was matched before is matched.
 ///
-/// The matching must be of the pattern's entries and sizes. Answers `OutOfMemory` where there is no memory for 17 bytes a
-/// row and 4 a column; the matching is dropped then. Work: one pass over the entries for all failed searches together, one
-/// for all look-aheads, and at most one for each successful search (Duff 1981).
+/// The matching must be of the pattern's entries and sizes. Answers `OutOfMemory` where there is no
+/// memory for 17 bytes a row and 4 a column; the matching is dropped then. Work: one pass over the
+/// entries for all failed searches together, one for all look-aheads, and at most one for each
+/// successful search (Duff 1981).
 pub fn complete(
     alloc: Global,
     pattern: &Pattern,
@@ -44,8 +46,8 @@ pub fn complete(
 fn extend(search: &mut Search, pattern: &Pattern, matching: &mut Matching, root: Col)
     requires root { root < cols pattern.now }
     requires matching { IsMatchingOf pattern.now matching.old }
-    requires searched { IsSearched pattern.now matching.old search.old root }
-    ensures searched { IsSearched pattern.now matching.new search.new (root + 1) }
+    requires searched { AreTriedBelow pattern.now matching.old search.old root }
+    ensures searched { AreTriedBelow pattern.now matching.new search.new (root + 1) }
     ensures matching { IsMatchingOf pattern.now matching.new }
     ensures covered { Covers matching.old.pairs matching.new.pairs }
 {

@@ -27,9 +27,9 @@ pub enum Kind {
     SizeWords,
     /// Size line: one of its words is not a number.
     SizeNumber,
-    /// Size line: more than 16,777,216 rows.
+    /// Size line: more than 134,217,728 rows.
     Rows,
-    /// Size line: more than 16,777,216 columns.
+    /// Size line: more than 134,217,728 columns.
     Columns,
     /// Size line: more than 134,217,728 entry lines, or so many values of an array file.
     Entries,

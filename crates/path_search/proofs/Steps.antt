@@ -8,7 +8,7 @@ use Rattle.bip_defs.proofs.Sets.{among_last, among_left, among_right, distinct_l
 use Rattle.path_search.specs.Advances.{Continues, Onward, HasFound}
 use Rattle.bip_defs.specs.Marks.{IsExplored}
 use Rattle.path_search.specs.Search.{Exhausts, SearchState}
-use Rattle.path_search.specs.Trails.{StandsAt, HasPassed, Trail, read_place}
+use Rattle.path_search.specs.Trails.{IsSearchAt, HasPassed, Trail, read_place}
 use Rattle.bip_defs.proofs.Full.{few_below}
 use Rattle.path_search.proofs.MarkLemmas.{marked_below, marked_grows, marked_now, marks_more, explored_grows}
 use Rattle.path_search.proofs.TrailLemmas.{passed_all, passed_more, passed_none, rows_last, passed_grows, trail_alternates, trail_back, trail_begins, trail_empty, trail_entries, trail_grows, trail_matched, trail_on, trail_root}
@@ -28,7 +28,7 @@ noted s k = record s { places = s.places ++ k ∷ [] }
 abbrev pub left_from : SearchState → ℕ → ℕ → ℕ → SearchState
 left_from s r d j = record s { path = s.path ++ (r, d) ∷ []; places = s.places ++ j ∷ [] }
 
-pub search_starts : (a : Matrix) (m : List Place) (reversed : Bool) (s : SearchState) (root : ℕ) → s.cols ≡ cols a → length s.marks ≡ a.rows → a.rows < 2 ^ 32 → root < cols a → ¬ Among root (cols_of m) → StandsAt a m reversed (started s root) root 0
+pub search_starts : (a : Matrix) (m : List Place) (reversed : Bool) (s : SearchState) (root : ℕ) → s.cols ≡ cols a → length s.marks ≡ a.rows → a.rows < 2 ^ 32 → root < cols a → ¬ Among root (cols_of m) → IsSearchAt a m reversed (started s root) root 0
 search_starts a m reversed s root cs rs few lt free = record {
   cols_are = cs;
   rows_are = rs;
@@ -45,14 +45,14 @@ search_starts a m reversed s root cs rs few lt free = record {
   path_shorter = omega arith;
 }
 
-pub unmarked_unvisited : (a : Matrix) (m : List Place) (reversed : Bool) (s : SearchState) (c k r : ℕ) → StandsAt a m reversed s c k → ¬ IsMarked s.marks r → ¬ Among r s.visited
+pub unmarked_unvisited : (a : Matrix) (m : List Place) (reversed : Bool) (s : SearchState) (c k r : ℕ) → IsSearchAt a m reversed s c k → ¬ IsMarked s.marks r → ¬ Among r s.visited
 unmarked_unvisited a m reversed s c k r f un h = un (f.visited_marked r h)
 
-pub unmatched_unvisited : (a : Matrix) (m : List Place) (reversed : Bool) (s : SearchState) (c k r : ℕ) → StandsAt a m reversed s c k → ¬ Among r (rows_of m) → ¬ Among r s.visited
+pub unmatched_unvisited : (a : Matrix) (m : List Place) (reversed : Bool) (s : SearchState) (c k r : ℕ) → IsSearchAt a m reversed s c k → ¬ Among r (rows_of m) → ¬ Among r s.visited
 unmatched_unvisited a m reversed s c k r f free h = ⊎_elim (λ g. free (trail_matched a m reversed s.marks s.root c s.path s.places r f.trail g)) (λ g. free (row_among r g.0 m g.1)) (f.finished r h)
 
 -- there is room for one row more
-pub visited_room : (a : Matrix) (m : List Place) (reversed : Bool) (s : SearchState) (c k r : ℕ) → StandsAt a m reversed s c k → r < a.rows → ¬ Among r s.visited → suc (length s.visited) ≤ a.rows
+pub visited_room : (a : Matrix) (m : List Place) (reversed : Bool) (s : SearchState) (c k r : ℕ) → IsSearchAt a m reversed s c k → r < a.rows → ¬ Among r s.visited → suc (length s.visited) ≤ a.rows
 visited_room a m reversed s c k r f lt un = few_below a.rows (r ∷ s.visited) (un, f.visited_differ) (λ x h. ⊎_elim (λ (e : x ≡ r). omega arith) (λ g. let below = marked_below s.marks x (f.visited_marked x g) in let e = f.rows_are in omega arith) h)
 
 pub onward_entered : (s : SearchState) (r c : ℕ) → r < length s.marks → ¬ IsMarked s.marks r → Onward s (entered s r c)
@@ -63,7 +63,7 @@ onward_entered s r c lt un = record { cols_stay = refl; root_stays = refl; marks
 row_on_path : (path : List Place) (x r c : ℕ) → Among x (rows_of (path ++ (r, c) ∷ [])) → Among x (rows_of path) ⊎ (x ≡ r)
 row_on_path path x r c h = among_last x r (rows_of path) (subst (λ xs. Among x xs) (rows_last path (r, c)) h)
 
-pub reaches_end : (a : Matrix) (m : List Place) (reversed : Bool) (s : SearchState) (c k r : ℕ) → StandsAt a m reversed s c k → IsEntry a r c → ¬ Among r (rows_of m) → HasFound a m (ended s r c)
+pub reaches_end : (a : Matrix) (m : List Place) (reversed : Bool) (s : SearchState) (c k r : ℕ) → IsSearchAt a m reversed s c k → IsEntry a r c → ¬ Among r (rows_of m) → HasFound a m (ended s r c)
 reaches_end a m reversed s c k r f e free = record {
   augmenting = record {
     begins = trail_begins a m reversed s.marks s.root c r s.path s.places f.trail f.root_unmatched;
@@ -75,14 +75,14 @@ reaches_end a m reversed s c k r f e free = record {
   visited = λ x h matched. ⊎_elim (λ g. f.path_visited x g) (λ (g : x ≡ r). absurd (free (subst (λ y. Among y (rows_of m)) g matched))) (row_on_path s.path x r c h);
 }
 
-pub reaches_entered : (a : Matrix) (m : List Place) (reversed : Bool) (s : SearchState) (c k r : ℕ) → StandsAt a m reversed s c k → IsEntry a r c → ¬ Among r (rows_of m) → HasFound a m (entered s r c)
+pub reaches_entered : (a : Matrix) (m : List Place) (reversed : Bool) (s : SearchState) (c k r : ℕ) → IsSearchAt a m reversed s c k → IsEntry a r c → ¬ Among r (rows_of m) → HasFound a m (entered s r c)
 reaches_entered a m reversed s c k r f e free =
     let g = reaches_end a m reversed s c k r f e free in
     record { augmenting = g.augmenting; entries = g.entries; from_root = g.from_root; visited = λ x h matched. among_left x s.visited (r ∷ []) (g.visited x h matched) }
 
 -- Down.
 
-pub goes_down : (a : Matrix) (m : List Place) (reversed : Bool) (s : SearchState) (c k r d i j : ℕ) → IsMatching a m → StandsAt a m reversed s c k → IsEntry a r c → ¬ IsMarked s.marks r → Among (r, d) m → HasPassed reversed s.marks (column a c) i → r ≡ slice_index (column a c) (read_place reversed (length (column a c)) i) → j ≡ suc i → Continues a m reversed s (noted (entered s r c) j) d 0
+pub goes_down : (a : Matrix) (m : List Place) (reversed : Bool) (s : SearchState) (c k r d i j : ℕ) → IsMatching a m → IsSearchAt a m reversed s c k → IsEntry a r c → ¬ IsMarked s.marks r → Among (r, d) m → HasPassed reversed s.marks (column a c) i → r ≡ slice_index (column a c) (read_place reversed (length (column a c)) i) → j ≡ suc i → Continues a m reversed s (noted (entered s r c) j) d 0
 goes_down a m reversed s c k r d i j matching f e un mate passed at next = record {
   onward = let on = onward_entered s r c lt un in record { cols_stay = refl; root_stays = refl; marks = on.marks };
   search = record {
@@ -117,7 +117,7 @@ goes_down a m reversed s c k r d i j matching f e un mate passed at next = recor
 
 -- Back.
 
-pub goes_back : (a : Matrix) (m : List Place) (reversed : Bool) (t : SearchState) (c k r d j : ℕ) → StandsAt a m reversed (left_from t r d j) c k → IsExplored a t.marks c → Continues a m reversed (left_from t r d j) t d j
+pub goes_back : (a : Matrix) (m : List Place) (reversed : Bool) (t : SearchState) (c k r d j : ℕ) → IsSearchAt a m reversed (left_from t r d j) c k → IsExplored a t.marks c → Continues a m reversed (left_from t r d j) t d j
 goes_back a m reversed t c k r d j f explored = record {
   onward = record { cols_stay = refl; root_stays = refl; marks = λ start h. h };
   search = record {
@@ -147,7 +147,7 @@ goes_back a m reversed t c k r d j f explored = record {
 
 -- The end.
 
-pub search_fails : (a : Matrix) (m : List Place) (reversed : Bool) (s : SearchState) (c k : ℕ) → StandsAt a m reversed s c k → IsExplored a s.marks c → s.path ≡ [] → Exhausts a m s.marks s.visited s.root
+pub search_fails : (a : Matrix) (m : List Place) (reversed : Bool) (s : SearchState) (c k : ℕ) → IsSearchAt a m reversed s c k → IsExplored a s.marks c → s.path ≡ [] → Exhausts a m s.marks s.visited s.root
 search_fails a m reversed s c k f explored empty = record {
   of_root = subst (λ x. IsExplored a s.marks x) (sym (trail_empty a m reversed s.marks s.root c s.places (subst (λ (path : List Place). Trail a m reversed s.marks s.root path s.places c) empty f.trail))) explored;
   of_mates = λ r h. ⊎_elim (λ g. absurd (subst (λ (path : List Place). Among r (rows_of path)) empty g)) (λ g. g) (f.finished r h);
@@ -155,7 +155,7 @@ search_fails a m reversed s c k f explored empty = record {
 
 -- The same, where the column's list is lent.
 
-pub goes_down_by : (a : Matrix) (m : List Place) (reversed : Bool) (s : SearchState) (c k r d i j : ℕ) (rows : List ℕ) → IsMatching a m → StandsAt a m reversed s c k → IsEntry a r c → ¬ IsMarked s.marks r → Among (r, d) m → rows ≡ column a c → HasPassed reversed s.marks rows i → r ≡ slice_index rows (read_place reversed (length rows) i) → j ≡ suc i → Continues a m reversed s (noted (entered s r c) j) d 0
+pub goes_down_by : (a : Matrix) (m : List Place) (reversed : Bool) (s : SearchState) (c k r d i j : ℕ) (rows : List ℕ) → IsMatching a m → IsSearchAt a m reversed s c k → IsEntry a r c → ¬ IsMarked s.marks r → Among (r, d) m → rows ≡ column a c → HasPassed reversed s.marks rows i → r ≡ slice_index rows (read_place reversed (length rows) i) → j ≡ suc i → Continues a m reversed s (noted (entered s r c) j) d 0
 goes_down_by a m reversed s c k r d i j rows matching f e un mate same = subst (λ (xs : List ℕ). HasPassed reversed s.marks xs i → r ≡ slice_index xs (read_place reversed (length xs) i) → j ≡ suc i → Continues a m reversed s (noted (entered s r c) j) d 0) (sym same) (λ passed at next. goes_down a m reversed s c k r d i j matching f e un mate passed at next)
 
 pub passed_all_by : (a : Matrix) (reversed : Bool) (marks : List Bool) (c k : ℕ) (rows : List ℕ) → rows ≡ column a c → length rows ≤ k → HasPassed reversed marks rows k → IsExplored a marks c
@@ -165,5 +165,5 @@ passed_all_by a reversed marks c k rows same = subst (λ (xs : List ℕ). length
 pub column_short : (a : Matrix) (rows : List ℕ) (c : ℕ) → Lists (λ r. IsEntry a r c) rows → length rows ≤ a.rows
 column_short a rows c l = few_below a.rows rows (rising_distinct rows l.rising) (λ r h. (l.sound r h).0)
 
-pub goes_back_by : (a : Matrix) (m : List Place) (reversed : Bool) (s t : SearchState) (c k r d j : ℕ) → s ≡ left_from t r d j → StandsAt a m reversed s c k → IsExplored a s.marks c → Continues a m reversed s t d j
-goes_back_by a m reversed s t c k r d j e = subst (λ z. StandsAt a m reversed z c k → IsExplored a z.marks c → Continues a m reversed z t d j) (sym e) (λ f explored. goes_back a m reversed t c k r d j f explored)
+pub goes_back_by : (a : Matrix) (m : List Place) (reversed : Bool) (s t : SearchState) (c k r d j : ℕ) → s ≡ left_from t r d j → IsSearchAt a m reversed s c k → IsExplored a s.marks c → Continues a m reversed s t d j
+goes_back_by a m reversed s t c k r d j e = subst (λ z. IsSearchAt a m reversed z c k → IsExplored a z.marks c → Continues a m reversed z t d j) (sym e) (λ f explored. goes_back a m reversed t c k r d j f explored)

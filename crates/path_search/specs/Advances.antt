@@ -6,11 +6,12 @@ use Rattle.bip_defs.specs.Matching.{cols_of, rows_of}
 use Rattle.bip_defs.specs.Matrix.{AreEntries, Matrix, Place}
 use Rattle.bip_defs.specs.Paths.{IsAugmenting}
 use Rattle.path_search.specs.Search.{Exhausts, HasMarked, SearchState}
-use Rattle.path_search.specs.Trails.{StandsAt}
+use Rattle.path_search.specs.Trails.{IsSearchAt}
 use Rattle.path_search.specs.declared.step.Step.{Step}
 use Rattle.path_search.specs.declared.step.Step.TheVariants.{Found, On, Stuck}
 
--- the same search goes on: the rows that it has visited since its start are those that it has marked since
+-- the same search goes on: the rows that it has visited since its start are those that it has
+-- marked since
 pub record Onward (old new : SearchState) : Type 0 where
   pub cols_stay : new.cols ≡ old.cols
   pub root_stays : new.root ≡ old.root
@@ -31,7 +32,7 @@ steps_left a s = (a.rows - length s.visited) + (a.rows - length s.visited) + len
 pub record Continues (a : Matrix) (m : List Place) (reversed : Bool) (old new : SearchState)
     (c k : ℕ) : Type 0 where
   pub onward : Onward old new
-  pub search : StandsAt a m reversed new c k
+  pub search : IsSearchAt a m reversed new c k
   pub falls : steps_left a new < steps_left a old
 
 -- a step down from a column

@@ -8,7 +8,8 @@ use Rattle.bip_defs.specs.Paths.{IsAugmenting}
 use Rattle.bip_graph.specs.Matching.{Pairing}
 use Rattle.path_search.specs.declared.reached.Reached.{Reached}
 
--- the number of columns, the mark of each row, the columns that were reached so far, and the path that was found last
+-- the number of columns, the mark of each row, the columns that were reached so far, and the path
+-- that was found last
 pub record Trees : Type 0 where
   pub cols : ℕ
   pub marks : List Bool
@@ -22,14 +23,16 @@ reached_at q i = slice_index_or q i (record { col = 0; from = 0; root = 0 })
 abbrev pub reached_cols : List Reached → List ℕ
 reached_cols q = map (λ (x : Reached). x.col) q
 
--- the column at the place is the root of its tree, or has its mate in the list of an earlier column of the tree
+-- the column at the place is the root of its tree, or has its mate in the list of an earlier column
+-- of the tree
 abbrev pub IsFound : Matrix → List Place → List Reached → ℕ → Type 0
 IsFound a m q i = ((reached_at q i).col ≡ (reached_at q i).root)
     ⊎ (((reached_at q i).from < i)
     × ((reached_at q (reached_at q i).from).root ≡ (reached_at q i).root) × (r : ℕ)
     × Among (r, (reached_at q i).col) m × IsEntry a r (reached_at q (reached_at q i).from).col)
 
--- the row's mate stands in the queue behind the column, its parent, in a tree whose root is unmatched
+-- the row's mate stands in the queue behind the column, its parent, in a tree whose root is
+-- unmatched
 abbrev pub HasParent : List Place → List Reached → ℕ → ℕ → Type 0
 HasParent m q r d = (i : ℕ) × (i < length q) × (¬ Among (reached_at q i).root (cols_of m))
     × Among (r, (reached_at q i).col) m × ((reached_at q i).from < i)
@@ -49,7 +52,8 @@ pub record AreRooted (m : Pairing) (q : List Reached) : Type 0 where
   pub rooted : (i : ℕ) → i < length q → ¬ Among (reached_at q i).root (cols_of m.pairs)
       → IsRooted q i
 
--- trees of distinct columns, whose mates are marked. A tree whose root has a mate by now is done with
+-- trees of distinct columns, whose mates are marked. A tree whose root has a mate by now is done
+-- with
 pub record IsForest (a : Matrix) (m : List Place) (t : Trees) : Type 0 where
   pub rows_are : length t.marks ≡ a.rows
   pub cols_are : t.cols ≡ cols a
@@ -65,7 +69,8 @@ pub record IsForest (a : Matrix) (m : List Place) (t : Trees) : Type 0 where
 abbrev pub LeadsOn : List Place → List Reached → ℕ → Type 0
 LeadsOn m q r = (d : ℕ) × Among (r, d) m × Among d (reached_cols q)
 
--- no tree has found a path yet: all unmatched columns are roots, the columns before the place have been looked through, and each marked row leads on
+-- no tree has found a path yet: all unmatched columns are roots, the columns before the place have
+-- been looked through, and each marked row leads on
 pub record HaveNoPath (a : Matrix) (m : List Place) (t : Trees) (place : ℕ) : Type 0 where
   pub unmatched : (c : ℕ) → c < cols a → ¬ Among c (cols_of m) → Among c (reached_cols t.queue)
   pub roots_unmatched : (i : ℕ) → i < length t.queue
@@ -101,7 +106,8 @@ Visits m r place root old new false = (IsMarked old.marks r × (new ≡ old))
       queue = old.queue ++ record { col = d; from = place; root = root } ∷ [];
     }))
 
--- an augmenting path of entries from the root, whose rows but its last have their mates in the tree of this root
+-- an augmenting path of entries from the root, whose rows but its last have their mates in the tree
+-- of this root
 pub record Traces (a : Matrix) (m : List Place) (q : List Reached) (root leaf : ℕ)
     (path : List Place) : Type 0 where
   pub augmenting : IsAugmenting m path

@@ -6,8 +6,8 @@ use Rattle.bip_defs.specs.Matching.{cols_of, rows_of}
 use Rattle.bip_defs.specs.Matrix.{AreEntries, Matrix, Place}
 use Rattle.bip_defs.specs.Paths.{IsAugmenting}
 
--- the number of columns, the mark of each row, the column where the last search began, the path that it stands on with a
--- place in each column's list, and the rows that it has marked
+-- the number of columns, the mark of each row, the column where the last search began, the path
+-- that it stands on with a place in each column's list, and the rows that it has marked
 pub record SearchState : Type 0 where
   pub cols : ℕ
   pub marks : List Bool
@@ -31,8 +31,8 @@ pub record Finds (a : Matrix) (m : List Place) (marks : List Bool) (root : ℕ)
   pub from_root : Among root (cols_of path)
   pub fresh : (r : ℕ) → Among r (rows_of path) → Among r (rows_of m) → ¬ IsMarked marks r
 
--- no unmarked row is left to which a walk leads: the root's entries are in marked rows, and so are those of the mates of
--- the rows that were visited
+-- no unmarked row is left to which a walk leads: the root's entries are in marked rows, and so are
+-- those of the mates of the rows that were visited
 pub record Exhausts (a : Matrix) (m : List Place) (marks : List Bool) (visited : List ℕ)
     (root : ℕ) : Type 0 where
   pub of_root : IsExplored a marks root

@@ -15,7 +15,8 @@ abbrev pub HasPassed : Bool → List Bool → List ℕ → ℕ → Type 0
 HasPassed reversed marks rows k = (j : ℕ) → j < k → j < length rows
     → IsMarked marks (slice_index rows (read_place reversed (length rows) j))
 
--- the path leads from a column to another: each pair is an entry, its row's mate is the next column, and the rows of its column up to its place are marked
+-- the path leads from a column to another: each pair is an entry, its row's mate is the next
+-- column, and the rows of its column up to its place are marked
 abbrev pub Trail : Matrix → List Place → Bool → List Bool → ℕ → List Place → List ℕ → ℕ → Type 0
 Trail a m reversed marks from [] [] to = from ≡ to
 Trail a m reversed marks from [] (k ∷ places) to = ⊥
@@ -25,7 +26,7 @@ Trail a m reversed marks from (p ∷ path) (k ∷ places) to = (p.1 ≡ from) ×
     × Trail a m reversed marks d path places to
 
 -- a search that stands at the k-th row of column c
-pub record StandsAt (a : Matrix) (m : List Place) (reversed : Bool) (s : SearchState)
+pub record IsSearchAt (a : Matrix) (m : List Place) (reversed : Bool) (s : SearchState)
     (c k : ℕ) : Type 0 where
   pub cols_are : s.cols ≡ cols a
   pub rows_are : length s.marks ≡ a.rows

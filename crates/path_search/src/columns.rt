@@ -50,7 +50,8 @@ pub fn next_unmarked<F: Id>(rows: &[F], marks: &[bool], place: usize, reversed: 
     at
 }
 
-/// An unmatched row of the list, from `look` on, which moves past all that were looked at: matched rows stay matched.
+/// An unmatched row of the list, from `look` on, which moves past all that were looked at: matched
+/// rows stay matched.
 pub fn unmatched_row<F: Opposite>(rows: &[F], matching: &Matching, look: &mut u32) -> Option<Row>
     requires in_range { (r : ℕ) → Among r (map F.number rows.now) → r < (F.seen matching.now).rows }
     requires few { length rows.now < 2 ^ 32 }

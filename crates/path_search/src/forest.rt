@@ -17,7 +17,8 @@ use sp_pattern::Side;
 use std::alloc::Global;
 use std::marker::{Model, PhantomData};
 
-/// Trees of alternating paths that grow from all unmatched columns at once, each until it finds an unmatched row.
+/// Trees of alternating paths that grow from all unmatched columns at once, each until it finds an
+/// unmatched row.
 ///
 /// It keeps 9 bytes a row and 12 a column.
 #[derive(Drop)]
@@ -149,7 +150,8 @@ impl Forest {
         }
     }
 
-    // Marks a row in which the column at a place has an entry, and reaches the row's mate. Whether it has none.
+    // Marks a row in which the column at a place has an entry, and reaches the row's mate. Whether
+    // it has none.
     fn visit<F: Opposite, S: Side<F>>(
         &mut self,
         side: &S,
@@ -212,7 +214,8 @@ impl Forest {
         None
     }
 
-    // Follows a tree back from an unmatched row in which the column at a place has an entry, and keeps the path.
+    // Follows a tree back from an unmatched row in which the column at a place has an entry, and
+    // keeps the path.
     fn trace<F: Opposite, S: Side<F>>(
         &mut self,
         side: &S,
@@ -240,7 +243,8 @@ impl Forest {
         trace_back(&trees, row, columns[place as usize], &mut self.path);
     }
 
-    // Exchanges the path that a tree has found to an unmatched row in which the column at a place has an entry.
+    // Exchanges the path that a tree has found to an unmatched row in which the column at a place
+    // has an entry.
     fn exchange<F: Opposite, S: Side<F>>(
         &mut self,
         side: &S,
@@ -266,7 +270,8 @@ impl Forest {
         self.flip::<F>(matching);
     }
 
-    // Looks through the list of the column at a place, unless its tree is done with, and exchanges a path that ends there.
+    // Looks through the list of the column at a place, unless its tree is done with, and exchanges
+    // a path that ends there.
     fn grow<F: Opposite, S: Side<F>>(&mut self, side: &S, matching: &mut Matching, place: u32)
         requires matching { IsMatchingOf (S.matrix side.now) (F.seen matching.old) }
         requires forest { IsForest (S.matrix side.now) (F.seen matching.old).pairs self.old }
@@ -290,12 +295,14 @@ impl Forest {
         }
     }
 
-    /// Searches breadth-first from all unmatched columns at once, and exchanges the augmenting paths that it finds.
+    /// Searches breadth-first from all unmatched columns at once, and exchanges the augmenting
+    /// paths that it finds.
     ///
-    /// From each unmatched column grows a tree of alternating paths, which ends at the first unmatched row that it comes to
-    /// (Azad, Buluç and Pothen 2017). Each row is in one tree at most, so the paths have no vertex in common. Where there
-    /// is no path the matching was maximum. Takes no memory. Work: one look at each row and column, and at each entry once
-    /// at most.
+    /// From each unmatched column grows a tree of alternating paths, which ends at the first
+    /// unmatched row that it comes to (Azad, Buluç and Pothen 2017). Each row is in one tree at
+    /// most, so the paths have no vertex in common. Where there is no path the matching was
+    /// maximum. Takes no memory. Work: one look at each row and column, and at each entry once at
+    /// most.
     pub fn sweep<F: Opposite, S: Side<F>>(&mut self, side: &S, matching: &mut Matching)
         requires rows { length self.old.marks ≡ (S.matrix side.now).rows }
         requires cols { self.old.cols ≡ cols (S.matrix side.now) }

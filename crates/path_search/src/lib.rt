@@ -1,4 +1,5 @@
-//! Searches for augmenting paths: depth-first from one column, and breadth-first from all unmatched columns.
+//! Searches for augmenting paths: depth-first from one column, and breadth-first from all unmatched
+//! columns.
 //!
 //! They see a pattern from its columns, or from its rows as its transpose.
 #![tactic(auto)]

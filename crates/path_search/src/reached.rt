@@ -20,7 +20,8 @@ pub struct Reached {
     pub root: Col,
 }
 
-/// The columns that were reached, and the matching as a side sees it. A tree whose root has a mate by now is left out.
+/// The columns that were reached, and the matching as a side sees it. A tree whose root has a mate
+/// by now is left out.
 #[derive(Drop)]
 pub struct RootedQueue<'s, F: Opposite> {
     pub matching: &'s Matching,

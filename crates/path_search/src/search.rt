@@ -9,7 +9,7 @@ ghost use Rattle.bip_defs.specs.Paths.{Exchanges, IsAugmenting};
 ghost use Rattle.bip_graph.specs.Matching.{IsMatchingOf, Pairing};
 ghost use Rattle.path_search.specs.Search.{Augments, Exhausts, Fails, Finds, HasMarked};
 ghost use Rattle.path_search.specs.Advances.{Advances, Descends};
-ghost use Rattle.path_search.specs.Trails.{HasPassed, StandsAt, read_place};
+ghost use Rattle.path_search.specs.Trails.{HasPassed, IsSearchAt, read_place};
 
 use crate::columns::{next_unmarked, put, row_at, unmark, unmark_all, unmatched_row};
 use crate::step::{Stand, Step};
@@ -19,8 +19,8 @@ use sp_pattern::Side;
 use std::alloc::Global;
 use std::marker::Model;
 
-/// What searches for augmenting paths keep from one to the next: marks of rows, and how far each column's list was looked
-/// through for an unmatched row.
+/// What searches for augmenting paths keep from one to the next: marks of rows, and how far each
+/// column's list was looked through for an unmatched row.
 #[derive(Drop)]
 pub struct Search {
     look: Vec<u32>,
@@ -176,7 +176,7 @@ impl Search {
         reversed: bool,
     ) -> Step
         requires matching { IsMatchingOf (S.matrix side.now) (F.seen matching.now) }
-        requires search { StandsAt (S.matrix side.now)
+        requires search { IsSearchAt (S.matrix side.now)
             (F.seen matching.now).pairs reversed self.old at.col at.place }
         ensures { Descends (S.matrix side.now)
             (F.seen matching.now).pairs reversed self.old self.new at.col result }
@@ -209,7 +209,7 @@ impl Search {
         reversed: bool,
     ) -> Step
         requires matching { IsMatchingOf (S.matrix side.now) (F.seen matching.now) }
-        requires search { StandsAt (S.matrix side.now)
+        requires search { IsSearchAt (S.matrix side.now)
             (F.seen matching.now).pairs reversed self.old at.col at.place }
         ensures { Descends (S.matrix side.now)
             (F.seen matching.now).pairs reversed self.old self.new at.col result }
@@ -232,7 +232,7 @@ impl Search {
         reversed: bool,
     ) -> Step
         requires matching { IsMatchingOf (S.matrix side.now) (F.seen matching.now) }
-        requires search { StandsAt (S.matrix side.now)
+        requires search { IsSearchAt (S.matrix side.now)
             (F.seen matching.now).pairs reversed self.old at.col at.place }
         ensures { Advances (S.matrix side.now)
             (F.seen matching.now).pairs reversed self.old self.new result }
@@ -301,12 +301,13 @@ impl Search {
         F::exchange(matching, self.path.as_mut_slice());
     }
 
-    /// Searches from an unmatched column, and exchanges the augmenting path that it finds. Whether it found one.
+    /// Searches from an unmatched column, and exchanges the augmenting path that it finds. Whether
+    /// it found one.
     ///
-    /// The search is depth-first with look-ahead, through rows that are not marked, and marks each row that it goes down
-    /// over. An unmatched row that look-ahead finds ends the path and is not marked.
-    /// Where `reversed` holds, each column's list is read from its end. Work: the entries of the columns that it comes to,
-    /// and of all look-aheads together each entry once.
+    /// The search is depth-first with look-ahead, through rows that are not marked, and marks each
+    /// row that it goes down over. An unmatched row that look-ahead finds ends the path and is not
+    /// marked. Where `reversed` holds, each column's list is read from its end. Work: the entries
+    /// of the columns that it comes to, and of all look-aheads together each entry once.
     pub fn augment<F: Opposite, S: Side<F>>(
         &mut self,
         side: &S,
@@ -326,7 +327,8 @@ impl Search {
         ensures found { OnTrue result
             (Augments root self.old.marks (F.seen matching.old).pairs (F.seen matching.new).pairs) }
 
-        // Without a path the matching stays, and the rows that were marked are of no use to any other path.
+        // Without a path the matching stays, and the rows that were marked are of no use to any
+        // other path.
         ensures failed { OnFalse result
             ((F.seen matching.new ≡ F.seen matching.old)
             × Fails (S.matrix side.now)

@@ -1,5 +1,6 @@
 -- What the searches of a phase leave.
-use Rattle.std.proofs.Common.{◌≡◌, ◌⊎◌, ◌↔◌, ◌∙◌, ℕ, ◌+◌, ◌-◌, ◌<◌, Bool, true, false, if◌then◌else◌, IsTrue, List, [], ◌∷◌, ◌++◌, length, refl, sym, ap, true≢false, subst, inl, inr, ⊎_elim, arith}
+use Rattle.std.proofs.Common.{◌≡◌, ◌⊎◌, ◌↔◌, ◌∙◌, ℕ, ◌+◌, ◌-◌, ◌<◌, ◌≤◌, Bool, true, false, if◌then◌else◌, IsTrue, List, [], ◌∷◌, ◌++◌, length, refl, sym, ap, true≢false, subst, subst₂, inl, inr, ⊎_elim, arith}
+use Rattle.std.proofs.lemmas.List.{length-map}
 use Rattle.std.specs.Bool.{OnFalse, OnTrue}
 use Rattle.bip_defs.specs.Lists.{Among, IsMarked}
 use Rattle.bip_defs.specs.Marks.{AreClosed, IsExplored}
@@ -50,19 +51,41 @@ extends_either a m n old new root false found failed = extends_failed a m n old 
 
 -- a phase that has not grown the matching is the last
 pub last_phase : (a : Matrix) (start m : Pairing) (grew : Bool) → (IsTrue grew ↔ (length start.pairs < length m.pairs)) → ((m ≡ start) × IsMaximum a start.pairs) ⊎ (length start.pairs < length m.pairs) → grew ≡ false → IsMaximum a m.pairs
-last_phase a start m grew told (inl same) e = subst (λ (p : Pairing). IsMaximum a p.pairs) (sym same.0) same.1
-last_phase a start m grew told (inr more) e = absurd (true≢false (sym (told.1 more) ∙ e))
+last_phase a start m grew fact (inl same) e = subst (λ (p : Pairing). IsMaximum a p.pairs) (sym same.0) same.1
+last_phase a start m grew fact (inr more) e = absurd (true≢false (sym (fact.1 more) ∙ e))
 
 -- the columns without a pair, and one while phases go on, fall
 pub phases_fall : (a : Matrix) (start m : Pairing) (grew : Bool) → (IsTrue grew ↔ (length start.pairs < length m.pairs)) → ((m ≡ start) × IsMaximum a start.pairs) ⊎ (length start.pairs < length m.pairs) → IsMatching a m.pairs → (cols a - length m.pairs) + (if grew then 1 else 0) < (cols a - length start.pairs) + 1
-phases_fall a start m true told out k = let more = told.0 refl in let le = matching_few a m.pairs k in omega arith
-phases_fall a start m false told (inl same) k = let e = ap (λ (p : Pairing). length p.pairs) same.0 in omega arith
-phases_fall a start m false told (inr more) k = absurd (true≢false (sym (told.1 more)))
+phases_fall a start m true fact out k = let more = fact.0 refl in let le = matching_few a m.pairs k in omega arith
+phases_fall a start m false fact (inl same) k = let e = ap (λ (p : Pairing). length p.pairs) same.0 in omega arith
+phases_fall a start m false fact (inr more) k = absurd (true≢false (sym (fact.1 more)))
+
+-- Phases that go on while they pay.
+
+pub growth_falls : (a : Matrix) (start m : Pairing) (growth : ℕ) (on : Bool) → length m.pairs ≡ length start.pairs + growth → (IsTrue on → 0 < growth) → IsMatching a m.pairs → (cols a - length m.pairs) + (if on then 1 else 0) < (cols a - length start.pairs) + 1
+growth_falls a start m growth true grown some k = let more = some refl in let le = matching_few a m.pairs k in omega arith
+growth_falls a start m growth false grown some k = omega arith
+
+pub growth_ends : (a : Matrix) (first start m : Pairing) → length first.pairs ≤ length start.pairs → ((m ≡ start) × IsMaximum a start.pairs) ⊎ (length start.pairs < length m.pairs) → IsMaximum a m.pairs ⊎ (length first.pairs < length m.pairs)
+growth_ends a first start m le (inl same) = inl (subst (λ (p : Pairing). IsMaximum a p.pairs) (sym same.0) same.1)
+growth_ends a first start m le (inr more) = inr (omega arith)
 
 -- Seen from the rows.
 
 pub transposed_matching : (a : Matrix) (m : Pairing) → IsMatchingOf a m → IsMatchingOf (transpose a) (transposed m)
 transposed_matching a m k = record { rows = k.cols; cols = k.rows ∙ sym (transpose_cols a); matching = turned_matching a (transpose a) m.pairs (transpose_is a) k.matching }
+
+pub straight_matching : (a : Matrix) (m : Pairing) → IsMatchingOf (transpose a) (transposed m) → IsMatchingOf a m
+straight_matching a m k = record {
+  rows = k.cols ∙ transpose_cols a;
+  cols = k.rows;
+  matching = subst (λ (z : List Place). IsMatching a z) (turned_twice m.pairs) (turned_matching (transpose a) a (transposed_places m.pairs) (transpose_back a (transpose a) (transpose_is a)) k.matching);
+}
+
+-- a matching of the transpose that is maximum, or longer than another, is so of the matrix
+pub straight_longer : (a : Matrix) (start m : Pairing) → IsMaximum (transpose a) (transposed_places m.pairs) ⊎ (length (transposed_places start.pairs) < length (transposed_places m.pairs)) → IsMaximum a m.pairs ⊎ (length start.pairs < length m.pairs)
+straight_longer a start m (inl max) = inl (subst (λ (z : List Place). IsMaximum a z) (turned_twice m.pairs) (turned_maximum (transpose a) a (transposed_places m.pairs) (transpose_back a (transpose a) (transpose_is a)) max))
+straight_longer a start m (inr more) = inr (subst₂ (λ n k. n < k) (length-map start.pairs (λ (p : Place). (p.1, p.0))) (length-map m.pairs (λ (p : Place). (p.1, p.0))) more)
 
 pub straight_maximum : (a : Matrix) (m : Pairing) → IsMaximumOf (transpose a) (transposed m) → IsMaximumOf a m
 straight_maximum a m k = record { matching = record { rows = k.matching.cols ∙ transpose_cols a; cols = k.matching.rows; matching = max.matching }; maximum = max }

@@ -5,7 +5,8 @@ use Rattle.bip_graph.specs.Matching.{IsMatchingOf, Pairing}
 use Rattle.pothen_fan.specs.Roots.{HoldRoots}
 use Rattle.pothen_fan.specs.declared.kinds.Phases.{Phases}
 
--- a matching of the matrix, searches of its sizes, and its unmatched columns with entries among the roots
+-- a matching of the matrix, searches of its sizes, and its unmatched columns with entries among the
+-- roots
 pub record AreReady (a : Matrix) (m : Pairing) (p : Phases) : Type 0 where
   pub matching : IsMatchingOf a m
   pub search_rows : length p.search.marks ≡ a.rows

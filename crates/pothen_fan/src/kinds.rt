@@ -86,7 +86,8 @@ impl Phases {
         self.reversed = !self.reversed;
     }
 
-    // Turns to the other kind after a phase that matched less than half of the roots that were unmatched, rounded down.
+    // Turns to the other kind after a phase that matched less than half of the roots that were
+    // unmatched, rounded down.
     fn choose(&mut self, growth: usize)
         ensures { self.new ≡ record self.old
             { breadth_first = self.new.breadth_first; unmatched = self.new.unmatched } }

@@ -1,34 +1,38 @@
 //! Maximum matchings by phases of searches for augmenting paths.
 //!
-//! Phases search from the columns or from the rows: from the side on which fewer unmatched ones have entries, since most
-//! searches from the other side are bound to fail, and such a search looks at all that it reaches (Davis 2006 compares the
-//! sides of the matrix, before any is matched). What follows is said of columns; from the rows it is the same for the
-//! transpose.
+//! Phases search from the columns or from the rows: from the side on which fewer unmatched ones
+//! have entries, since most searches from the other side are bound to fail, and such a search looks
+//! at all that it reaches (Davis 2006 compares the sides of the matrix, before any is matched).
+//! What follows is said of columns; from the rows it is the same for the transpose.
 //!
-//! A depth-first phase, after Pothen and Fan (1990), searches once from each unmatched column, and goes down over each row
-//! at most once. Each column's list is looked through for an unmatched row before the search goes deeper, from where the
-//! last look-ahead ended: rows that were found matched stay matched. So a phase is at most two passes over the entries. A
-//! row that was found by look-ahead may be gone over by a later search of the phase, so unlike theirs the paths of a phase
-//! need not be disjoint. Phases turn the direction in which lists are read (Azad, Halappanavar, Rajamanickam, Boman, Khan
-//! and Pothen 2012).
+//! A depth-first phase, after Pothen and Fan (1990), searches once from each unmatched column, and
+//! goes down over each row at most once. Each column's list is looked through for an unmatched row
+//! before the search goes deeper, from where the last look-ahead ended: rows that were found
+//! matched stay matched. So a phase is at most two passes over the entries. A row that was found by
+//! look-ahead may be gone over by a later search of the phase, so unlike theirs the paths of a
+//! phase need not be disjoint. Phases turn the direction in which lists are read (Azad,
+//! Halappanavar, Rajamanickam, Boman, Khan and Pothen 2012).
 //!
-//! A breadth-first phase grows a tree from each unmatched column, all of them side by side and each until it finds an
-//! unmatched row (Azad, Buluç and Pothen 2017, whose trees are grafted between phases and here grow anew). Its paths are
-//! short, but unlike those of Hopcroft and Karp (1973) they need not be the shortest, nor as many as there can be.
+//! A breadth-first phase grows a tree from each unmatched column, all of them side by side and each
+//! until it finds an unmatched row (Azad, Buluç and Pothen 2017, whose trees are grafted between
+//! phases and here grow anew). Its paths are short, but unlike those of Hopcroft and Karp (1973)
+//! they need not be the shortest, nor as many as there can be.
 //!
-//! Depth-first phases are few where most of them find many paths, breadth-first phases where few columns are left whose
-//! paths are long. So after a phase that has matched less than half of the unmatched columns that have entries, rounded
-//! down, the next is of the other kind.
+//! Depth-first phases are few where most of them find many paths, breadth-first phases where few
+//! columns are left whose paths are long. So after a phase that has matched less than half of the
+//! unmatched columns that have entries, rounded down, the next is of the other kind.
 #![tactic(auto)]
 
 mod kinds;
+mod longer;
 mod sweep;
 
-ghost use Rattle.std.specs.Prelude.{◌≡◌, ◌↔◌, ◌+◌, length, IfOk, OnErr};
+ghost use Rattle.std.specs.Prelude.{◌≡◌, ◌⊎◌, ◌↔◌, ◌+◌, ◌<◌, length, IfOk, OnErr};
 ghost use Rattle.bip_defs.specs.Matching.{Covers, IsMaximum};
 ghost use Rattle.bip_graph.specs.Matching.{IsMatchingOf, IsMaximumOf, Pairing};
 
 use crate::kinds::complete_from;
+use crate::longer::lengthen_from;
 use crate::sweep::{count_roots, roots, sweep};
 use bip_graph::Matching;
 use path_search::Search;
@@ -36,12 +40,13 @@ use sp_ids::OutOfMemory;
 use sp_pattern::{FromRows, Pattern};
 use std::alloc::Global;
 
-/// One depth-first phase from the columns. Gives by how much the matching has grown: 0 exactly where it was maximum, and
-/// then it stays as it was.
+/// One depth-first phase from the columns. Gives by how much the matching has grown: 0 exactly
+/// where it was maximum, and then it stays as it was.
 ///
-/// The matching must be of the pattern's entries and sizes, and no row or column loses its mate without a new one. Answers
-/// `OutOfMemory` where there is no memory for 17 bytes a row, 4 a column and 4 an unmatched column that has entries; the
-/// matching is as before then. Work: at most two passes over the entries, one of look-ahead and one of the searches.
+/// The matching must be of the pattern's entries and sizes, and no row or column loses its mate
+/// without a new one. Answers `OutOfMemory` where there is no memory for 17 bytes a row, 4 a column
+/// and 4 an unmatched column that has entries; the matching is as before then. Work: at most two
+/// passes over the entries, one of look-ahead and one of the searches.
 pub fn phase(alloc: Global, pattern: &Pattern, matching: &mut Matching) -> Result<u32, OutOfMemory>
     requires matching { IsMatchingOf pattern.now matching.old }
     ensures matching { IsMatchingOf pattern.now matching.new }
@@ -60,11 +65,12 @@ pub fn phase(alloc: Global, pattern: &Pattern, matching: &mut Matching) -> Resul
 
 /// A maximum matching, in which every row and column that was matched before is matched.
 ///
-/// Phases search from the side on which fewer unmatched rows or columns have entries, and from the columns where they are
-/// as many. The matching must be of the pattern's entries and sizes. Answers `OutOfMemory` where there is no memory for
-/// 16 bytes a vertex of the side that is searched from, 4 more where it is unmatched and has entries, and 26 a vertex of
-/// the other side; the matching is dropped then. Work: one look at each row and column, and at most two passes over the
-/// entries for each phase, of which all but the last make the matching larger.
+/// Phases search from the side on which fewer unmatched rows or columns have entries, and from the
+/// columns where they are as many. The matching must be of the pattern's entries and sizes. Answers
+/// `OutOfMemory` where there is no memory for 16 bytes a vertex of the side that is searched from,
+/// 4 more where it is unmatched and has entries, and 26 a vertex of the other side; the matching is
+/// dropped then. Work: one look at each row and column, and at most two passes over the entries for
+/// each phase, of which all but the last make the matching larger.
 pub fn complete(
     alloc: Global,
     pattern: &Pattern,
@@ -79,5 +85,34 @@ pub fn complete(
         complete_from(alloc, &from_rows, matching)
     } else {
         complete_from(alloc, pattern, matching)
+    }
+}
+
+/// A longer matching, in which every row and column that was matched before is matched, unless the
+/// matching was maximum: then it is as long.
+///
+/// It makes depth-first phases, at least one, from the side that `complete` searches from, and
+/// another after each that has matched at least half of what was unmatched and has entries. So it
+/// need not end at a maximum matching: it takes what is found fast. The matching must be of the
+/// pattern's entries and sizes. Answers `OutOfMemory` where there is no memory for 4 bytes a vertex
+/// of the side that is searched from, 4 more where it is unmatched and has entries, and 17 a vertex
+/// of the other side; the matching is dropped then. Work: one look at each row and column, and at
+/// most two passes over the entries for each phase.
+pub fn lengthen(
+    alloc: Global,
+    pattern: &Pattern,
+    matching: Matching,
+) -> Result<Matching, OutOfMemory>
+    requires matching { IsMatchingOf pattern.now matching }
+    ensures matching { IfOk result (λ m. IsMatchingOf pattern.now m) }
+    ensures longer { IfOk result (λ m. IsMaximum pattern.now m.pairs
+        ⊎ (length matching.pairs < length m.pairs)) }
+    ensures covered { IfOk result (λ m. Covers matching.pairs m.pairs) }
+{
+    let from_rows = FromRows { pattern };
+    if count_roots(&from_rows, &matching) < count_roots(pattern, &matching) {
+        lengthen_from(alloc, &from_rows, matching)
+    } else {
+        lengthen_from(alloc, pattern, matching)
     }
 }

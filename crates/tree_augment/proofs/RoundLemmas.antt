@@ -133,8 +133,8 @@ asks_all {t = t} {u = u} i part le a = subst (λ ps. AsksFor (roots_of ps) t u) 
 pub among_back : (i : ℕ) (p : Place) (whole : List Place) → Among p (drop i whole) → Among p whole
 among_back i p whole h = subst (Among p) (take-append-drop i whole) (among_right p (take i whole) (drop i whole) h)
 
-pub asks_round : {t u v : Seat} (front back : List Place) → AsksFor (roots_of back) t u → AsksFor (roots_of front) u v → AsksFor (roots_of (back ++ front)) t v
-asks_round {t = t} {v = v} front back a b = subst (λ xs. AsksFor xs t v) (sym (map-append (λ (q : Place). q.0) back front)) (asks_then a b)
+pub asks_round : {t u v : Seat} (prefix suffix : List Place) → AsksFor (roots_of suffix) t u → AsksFor (roots_of prefix) u v → AsksFor (roots_of (suffix ++ prefix)) t v
+asks_round {t = t} {v = v} prefix suffix a b = subst (λ xs. AsksFor xs t v) (sym (map-append (λ (q : Place). q.0) suffix prefix)) (asks_then a b)
 
 -- each root with a leaf stands in the round
 pub round_has : (i : ℕ) (x : ℕ) (whole : List Place) → Among x (roots_of whole) → Among x (roots_of (drop i whole ++ take i whole))

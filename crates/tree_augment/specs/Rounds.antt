@@ -21,7 +21,8 @@ pub record HasExchanged (s : State) (b : Board) (x : ℕ) (t u : Seat) : Type 0 
   pub taken : u.listed.taken ≡ t.listed.taken
   pub seen : u.listed.seen ≡ t.listed.seen
   pub rows : (r c : ℕ) → r < b.rows → HasSetTo u r c ↔ (HasSetTo t r c ⊎ IsPathPair s x (r, c))
-  pub cols : (r c : ℕ) → HasSetTo u (col_vertex b c) r ↔ (HasSetTo t (col_vertex b c) r ⊎ IsPathPair s x (r, c))
+  pub cols : (r c : ℕ) → HasSetTo u (col_vertex b c) r
+      ↔ (HasSetTo t (col_vertex b c) r ⊎ IsPathPair s x (r, c))
 
 -- of so many workers, the one with this number has a seat that has taken nothing
 pub record CanGoRound (s : State) (b : Board) (workers number : ℕ) (t : Seat) : Type 0 where

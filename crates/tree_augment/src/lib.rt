@@ -1,8 +1,9 @@
-//! The paths of all roots with a leaf are exchanged at once, by many workers on a board of shared words.
+//! The paths of all roots with a leaf are exchanged at once, by many workers on a board of shared
+//! words.
 //!
-//! Each worker goes once round the roots with a leaf and exchanges the path of each whose tree nobody took before. The
-//! augmentation by many workers is that of Azad, Buluç and Pothen, Computing maximum cardinality matchings in parallel on
-//! bipartite graphs via tree-grafting, 2017.
+//! Each worker goes once round the roots with a leaf and exchanges the path of each whose tree
+//! nobody took before. The augmentation by many workers is that of Azad, Buluç and Pothen,
+//! Computing maximum cardinality matchings in parallel on bipartite graphs via tree-grafting, 2017.
 #![tactic(auto)]
 
 mod laws;

@@ -11,12 +11,12 @@ use forest_core::{Forest, columns_have_one_root, rows_have_one_root};
 use sp_ids::OutOfMemory;
 use std::alloc::Global;
 
-/// A board with the mates of the forest's base matching and with its trees, on which nothing is taken or set, and so many
-/// seats, from 1 to 64.
+/// A board with the mates of the forest's base matching and with its trees, on which nothing is
+/// taken or set, and so many seats, from 1 to 64.
 ///
-/// Answers `OutOfMemory` where the board can't be had, which keeps 8 bytes for each row and 16 for each column, or for a
-/// moment as much again and 8 bytes for each row and each column. Work: one look at each row and each column, and one write
-/// for each word.
+/// Answers `OutOfMemory` where the board can't be had, which keeps 8 bytes for each row and 16 for
+/// each column, or for a moment as much again and 8 bytes for each row and each column. Work: one
+/// look at each row and each column, and one write for each word.
 pub fn open(
     alloc: Global,
     forest: &Forest,

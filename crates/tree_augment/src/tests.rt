@@ -93,7 +93,8 @@ fn claim<R: Abort>(rt: &R, forest: &mut Forest, row: Row, col: Col)
     forest.claim(row, col);
 }
 
-// The forest over that matching in which column 1 has claimed row 0 and column 2 row 1, the leaf of root 1.
+// The forest over that matching in which column 1 has claimed row 0 and column 2 row 1, the leaf of
+// root 1.
 fn forest_of_one_path<'p, R: Abort + AllocGlobal>(
     rt: &R,
     pattern: &'p Pattern,

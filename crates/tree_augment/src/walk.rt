@@ -11,8 +11,8 @@ use flip_words::{FlipBoard, FlipSeat};
 use forest_core::{Forest, claims_are_in_the_forest, leaves_end_paths};
 use sp_ids::{Col, Row};
 
-/// Exchanges the path of a root on the board, from its leaf up, for a seat that took the root's tree and has set none of its
-/// vertices. Work: two looks and two sets for each row of the path.
+/// Exchanges the path of a root on the board, from its leaf up, for a seat that took the root's
+/// tree and has set none of its vertices. Work: two looks and two sets for each row of the path.
 pub fn exchange(forest: &Forest, board: &FlipBoard, seat: &mut FlipSeat, root: Col, leaf: Row)
     requires board { IsBoardOf forest.now board.now }
     requires seat { seat.old.board ≡ board.now }

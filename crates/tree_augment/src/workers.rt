@@ -14,7 +14,8 @@ use sp_ports::Gate;
 use std::convert::Infallible;
 use std::thread::Threads;
 
-// What each of so many workers does: its round over the roots with a leaf, from the start of its share of them on.
+// What each of so many workers does: its round over the roots with a leaf, from the start of its
+// share of them on.
 #[derive(Drop)]
 struct Rounds<'a, 'p> {
     forest: &'a Forest<'p>,
@@ -39,13 +40,14 @@ impl<'a, 'p> Work<FlipSeat, Infallible> for Rounds<'a, 'p> {
     }
 }
 
-/// Exchanges the path of each root with a leaf on a board that was opened from the forest, on which nothing is taken yet, by
-/// as many workers as there are seats.
+/// Exchanges the path of each root with a leaf on a board that was opened from the forest, on which
+/// nothing is taken yet, by as many workers as there are seats.
 ///
-/// Of w workers, the worker i goes once round the roots with a leaf in their order, from the place `i * l / w` of a list of l
-/// of them on, and exchanges the path of each whose tree no seat took before. It calls `gate.arrive(i)` once, before its
-/// round. Workers run at once as far as threads can be had. Takes no memory and waits for nothing but the gate. Work: each
-/// worker looks once at each root with a leaf; two looks and two sets for each row of a path.
+/// Of w workers, the worker i goes once round the roots with a leaf in their order, from the place
+/// `i * l / w` of a list of l of them on, and exchanges the path of each whose tree no seat took
+/// before. It calls `gate.arrive(i)` once, before its round. Workers run at once as far as threads
+/// can be had. Takes no memory and waits for nothing but the gate. Work: each worker looks once at
+/// each root with a leaf; two looks and two sets for each row of a path.
 pub fn augment<R: Threads + Sync, G: Gate>(
     rt: &R,
     forest: &Forest,

@@ -11,7 +11,7 @@ use Rattle.claim_words.specs.Board.{Board}
 use Rattle.claim_words.specs.WorkerState.{WorkerState, fresh_claims_of, fresh_wins_of}
 use Rattle.level_sharing.specs.Agreement.{Agree}
 use Rattle.level_sharing.specs.Growth.{fresh_events, grown}
-use Rattle.tree_graft.specs.Search.{IsSearched}
+use Rattle.tree_graft.specs.Search.{IsReadyForLevel}
 
 -- the law that claims and wins let a forest grow
 abbrev pub GrowByRuns : Type 0
@@ -30,8 +30,8 @@ pub level_grows : GrowByRuns → (s t : State) (ws : List WorkerState) → Runs 
 level_grows grow s t ws runs e = subst (Grows s) (sym e) (grow s (grown s ws) (fresh_events ws) (are_claims_and_wins (fresh_claims_of ws) (fresh_wins_of ws)) runs)
 
 -- the settled workers and the board agree with the forest after the level
-pub searched_on : (b : Board) (before ws vs : List WorkerState) (s t : State) → IsSearched b before s → t ≡ grown s ws → length vs ≤ max_workers → Agree b vs t.claims t.leaves → IsSettled (grown s ws) → IsSearched b vs t
-searched_on b before ws vs s t k e few agree done = subst (IsSearched b vs) (sym e) (record {
+pub searched_on : (b : Board) (before ws vs : List WorkerState) (s t : State) → IsReadyForLevel b before s → t ≡ grown s ws → length vs ≤ max_workers → Agree b vs t.claims t.leaves → IsSettled (grown s ws) → IsReadyForLevel b vs t
+searched_on b before ws vs s t k e few agree done = subst (IsReadyForLevel b vs) (sym e) (record {
   few = few;
   small = k.small;
   agree = subst (λ (u : State). Agree b vs u.claims u.leaves) e agree;

@@ -48,16 +48,16 @@ was_not_maximum s t u k matching g ne paths growth = (λ none. absurd (omega (ar
 
 -- a phase that has found no path is the last
 pub last_phase : (a : Matrix) (s t : State) (k : ℕ) → IsMatching s.matrix t.base → s.matrix ≡ a → length t.base ≡ length s.base + k → (k ≡ 0) ↔ IsMaximum s.matrix s.base → k ≡ 0 → IsMaximum a t.base
-last_phase a s t k matching e growth told none = subst (λ (b : Matrix). IsMaximum b t.base) e (same_size_maximum s.matrix s.base t.base (told.0 none) matching (omega (arith, growth, none)))
+last_phase a s t k matching e growth fact none = subst (λ (b : Matrix). IsMaximum b t.base) e (same_size_maximum s.matrix s.base t.base (fact.0 none) matching (omega (arith, growth, none)))
 
 -- the columns without a base mate, and one while phases go on, fall
 pub phases_fall : (a : Matrix) (s t : State) (k : ℕ) (more : Bool) → IsMatching s.matrix t.base → s.matrix ≡ a → length t.base ≡ length s.base + k → (IsTrue more ↔ (0 < k)) → (cols a - length t.base) + (if more then 1 else 0) < (cols a - length s.base) + 1
-phases_fall a s t k true matching e growth told =
+phases_fall a s t k true matching e growth fact =
     let le = matching_few s.matrix t.base matching in
     let same = ap (λ (b : Matrix). cols b) e in
-    let some = told.0 refl in
+    let some = fact.0 refl in
     omega (arith, le, same, growth, some)
-phases_fall a s t k false matching e growth told = omega (arith, growth)
+phases_fall a s t k false matching e growth fact = omega (arith, growth)
 
 -- the matching that is left is as long as the base, since no root is flipped
 pub left_maximum : (a : Matrix) (s : State) (n : List Place) → IsRested s → IsMaximum a s.base → s.matrix ≡ a → IsMatching s.matrix n → length n ≡ length s.base + length s.flipped → IsMaximum a n
@@ -68,11 +68,11 @@ covers_on m n o h g = record { rows = λ r i. g.rows r (h.rows r i); cols = λ c
 
 -- Answers of code.
 
-pub told_some : (k : ℕ) → IsTrue (nat_lt 0 k) ↔ (0 < k)
-told_some k = (λ h. ltb-true 0 k h, λ lt. lt-ltb 0 k lt)
+pub known_some : (k : ℕ) → IsTrue (nat_lt 0 k) ↔ (0 < k)
+known_some k = (λ h. ltb-true 0 k h, λ lt. lt-ltb 0 k lt)
 
-pub told_none : (k : ℕ) → nat_lt 0 k ≡ false → k ≡ 0
-told_none k e = by (dec_lt 0 k)
+pub known_none : (k : ℕ) → nat_lt 0 k ≡ false → k ≡ 0
+known_none k e = by (dec_lt 0 k)
   where
     by : Dec (0 < k) → k ≡ 0
     by (yes lt) = absurd (true≢false (sym (lt-ltb 0 k lt) ∙ e))

@@ -31,10 +31,11 @@ pub record IsFrontier (s : State) (frontier : List ℕ) : Type 0 where
 pub record AreMatesOf (s : State) (last : List Place) (columns : List ℕ) : Type 0 where
   pub few : length columns ≤ length last
   pub sound : (c : ℕ) → Among c columns → (r : ℕ) × Among r (rows_of last) × Among (r, c) s.base
-  pub complete : (r c : ℕ) → Among r (rows_of last) → Among (r, c) s.base → Among c columns ⊎ HasWon s c
+  pub complete : (r c : ℕ) → Among r (rows_of last) → Among (r, c) s.base
+      → Among c columns ⊎ HasWon s c
 
 -- a settled forest of 32-bit sizes, with a board and workers who agree with it
-pub record IsSearched (b : Board) (ws : List WorkerState) (s : State) : Type 0 where
+pub record IsReadyForLevel (b : Board) (ws : List WorkerState) (s : State) : Type 0 where
   pub few : length ws ≤ max_workers
   pub small : (s.matrix.rows < 2 ^ 32) × (cols s.matrix < 2 ^ 32)
   pub agree : Agree b ws s.claims s.leaves

@@ -18,8 +18,9 @@ use std::alloc::Global;
 use std::thread::Threads;
 use tree_augment::{closed_mates_are_exchanged, open};
 
-/// Exchanges the path of each root with a leaf, by workers at once, and then keeps the trees without a leaf or frees all rows.
-/// Gives the number of these paths. Answers `OutOfMemory` where a board of mates can't be had; the forest is then as it was.
+/// Exchanges the path of each root with a leaf, by workers at once, and then keeps the trees
+/// without a leaf or frees all rows. Gives the number of these paths. Answers `OutOfMemory` where a
+/// board of mates can't be had; the forest is then as it was.
 pub fn augment<R: Threads + Sync, G: Gate>(
     rt: &R,
     alloc: Global,
@@ -84,7 +85,8 @@ fn renew(forest: &mut Forest, keeps: bool)
     }
 }
 
-// Whether the trees without a leaf are to be kept: by how many columns stand in them, and how many rows the others free.
+// Whether the trees without a leaf are to be kept: by how many columns stand in them, and how many
+// rows the others free.
 fn trees_stay(forest: &Forest) -> bool {
     forest.is_sound();
     claims_are_in_the_forest();

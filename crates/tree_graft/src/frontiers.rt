@@ -41,7 +41,8 @@ pub fn mates_of(
     claims: &[(Row, Col)],
     columns: &mut Vec<Col>,
 ) -> Result<(), OutOfMemory>
-    requires claimed { (r : ℕ) → Among r (rows_of claims.now) → Among r (rows_of forest.now.claims) }
+    requires claimed { (r : ℕ) → Among r (rows_of claims.now)
+        → Among r (rows_of forest.now.claims) }
     ensures { OnOk result (AreMatesOf forest.now claims.now columns.new.items) }
 {
     forest.is_sound();

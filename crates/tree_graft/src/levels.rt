@@ -12,7 +12,7 @@ ghost use Rattle.forest_core.specs.Events.{Grows, Runs};
 ghost use Rattle.level_sharing.specs.Agreement.{Agree, Shows};
 ghost use Rattle.level_sharing.specs.Growth.{fresh_events, grown};
 ghost use Rattle.sp_ids.specs.Limits.{max_workers};
-ghost use Rattle.tree_graft.specs.Search.{AreMatesOf, AreOfNewClaims, IsFrontier, IsScanned, IsSearched, levels_left};
+ghost use Rattle.tree_graft.specs.Search.{AreMatesOf, AreOfNewClaims, IsFrontier, IsScanned, IsReadyForLevel, levels_left};
 
 use crate::frontiers::{claim_count, mates_of, unclaimed_rows, unmatched_columns};
 use crate::switches::goes_top_down;
@@ -44,10 +44,12 @@ pub fn can_grow(pattern: &Pattern, matching: &Matching) -> bool
     false
 }
 
-/// Lets the trees grow until each has a leaf or has nothing left to claim, and closes the board on which the workers did so.
+/// Lets the trees grow until each has a leaf or has nothing left to claim, and closes the board on
+/// which the workers did so.
 ///
-/// Answers `OutOfMemory` where the board, the lists of columns and rows or a worker's list can't be had; what was claimed and
-/// won until then stands in the forest. The lists are taken once, with room for all columns and all rows.
+/// Answers `OutOfMemory` where the board, the lists of columns and rows or a worker's list can't be
+/// had; what was claimed and won until then stands in the forest. The lists are taken once, with
+/// room for all columns and all rows.
 pub fn grow<R: Threads + Sync, G: Gate>(
     rt: &R,
     alloc: Global,
@@ -87,9 +89,9 @@ fn search<R: Threads + Sync, G: Gate>(
     free: &mut Vec<Row>,
     gate: &G,
 ) -> Result<(), OutOfMemory>
-    requires { IsSearched board.now workers.old forest.old }
+    requires { IsReadyForLevel board.now workers.old forest.old }
     ensures grown { Grows forest.old forest.new }
-    ensures search { OnOk result (IsSearched board.entry.now workers.new forest.new) }
+    ensures search { OnOk result (IsReadyForLevel board.entry.now workers.new forest.new) }
     ensures scanned { OnOk result ((c : ℕ) → InForest forest.new c → IsScanned forest.new c) }
 {
     claims_and_wins_grow();
@@ -102,7 +104,8 @@ fn search<R: Threads + Sync, G: Gate>(
     Ok(())
 }
 
-// The first frontier: all columns without a base mate, or what the unclaimed rows bring where there are trees already.
+// The first frontier: all columns without a base mate, or what the unclaimed rows bring where there
+// are trees already.
 fn first_frontier<R: Threads + Sync, G: Gate>(
     rt: &R,
     forest: &mut Forest,
@@ -112,9 +115,9 @@ fn first_frontier<R: Threads + Sync, G: Gate>(
     free: &mut Vec<Row>,
     gate: &G,
 ) -> Result<(), OutOfMemory>
-    requires { IsSearched board.now workers.old forest.old }
+    requires { IsReadyForLevel board.now workers.old forest.old }
     ensures grown { Grows forest.old forest.new }
-    ensures search { OnOk result (IsSearched board.entry.now workers.new forest.new) }
+    ensures search { OnOk result (IsReadyForLevel board.entry.now workers.new forest.new) }
     ensures frontier { OnOk result (IsFrontier forest.new frontier.new.items) }
 {
     claims_and_wins_grow();
@@ -135,10 +138,10 @@ fn level<R: Threads + Sync, G: Gate>(
     free: &mut Vec<Row>,
     gate: &G,
 ) -> Result<(), OutOfMemory>
-    requires search { IsSearched board.now workers.old forest.old }
+    requires search { IsReadyForLevel board.now workers.old forest.old }
     requires frontier { IsFrontier forest.old frontier.old.items }
     ensures grown { Grows forest.old forest.new }
-    ensures search { OnOk result (IsSearched board.entry.now workers.new forest.new) }
+    ensures search { OnOk result (IsReadyForLevel board.entry.now workers.new forest.new) }
     ensures frontier { OnOk result (IsFrontier forest.new frontier.new.items) }
     ensures more { OnOk result (AreOfNewClaims forest.old frontier.new.items forest.new) }
 {
@@ -161,10 +164,10 @@ fn level_down<R: Threads + Sync, G: Gate>(
     frontier: &mut Vec<Col>,
     gate: &G,
 ) -> Result<(), OutOfMemory>
-    requires search { IsSearched board.now workers.old forest.old }
+    requires search { IsReadyForLevel board.now workers.old forest.old }
     requires frontier { IsFrontier forest.old frontier.old.items }
     ensures grown { Grows forest.old forest.new }
-    ensures search { OnOk result (IsSearched board.entry.now workers.new forest.new) }
+    ensures search { OnOk result (IsReadyForLevel board.entry.now workers.new forest.new) }
     ensures frontier { OnOk result (IsFrontier forest.new frontier.new.items) }
     ensures more { OnOk result (AreOfNewClaims forest.old frontier.new.items forest.new) }
 {
@@ -187,9 +190,9 @@ fn level_up<R: Threads + Sync, G: Gate>(
     free: &mut Vec<Row>,
     gate: &G,
 ) -> Result<(), OutOfMemory>
-    requires { IsSearched board.now workers.old forest.old }
+    requires { IsReadyForLevel board.now workers.old forest.old }
     ensures grown { Grows forest.old forest.new }
-    ensures search { OnOk result (IsSearched board.entry.now workers.new forest.new) }
+    ensures search { OnOk result (IsReadyForLevel board.entry.now workers.new forest.new) }
     ensures frontier { OnOk result (IsFrontier forest.new frontier.new.items) }
     ensures more { OnOk result (AreOfNewClaims forest.old frontier.new.items forest.new) }
 {
@@ -204,8 +207,8 @@ fn level_up<R: Threads + Sync, G: Gate>(
     next
 }
 
-// Makes what the workers claimed and won in a level on the forest, and puts the base mates of the rows that were claimed in
-// place of the frontier, but for those whose root has a leaf.
+// Makes what the workers claimed and won in a level on the forest, and puts the base mates of the
+// rows that were claimed in place of the frontier, but for those whose root has a leaf.
 fn end_level(
     forest: &mut Forest,
     workers: &mut [Worker],
@@ -215,7 +218,8 @@ fn end_level(
     ensures forest { forest.new ≡ grown forest.old workers.old }
     ensures agree { (b : Board) → Shows b workers.old forest.new.claims forest.new.leaves
         → Agree b workers.new forest.new.claims forest.new.leaves }
-    ensures mates { OnOk result (AreMatesOf forest.new (fresh_claims_of workers.old) frontier.new.items) }
+    ensures mates { OnOk result (AreMatesOf forest.new
+        (fresh_claims_of workers.old) frontier.new.items) }
 {
     let before = forest.claims().len();
     absorb(forest, workers);

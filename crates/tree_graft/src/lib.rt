@@ -1,9 +1,10 @@
-//! Maximum matchings by phases in which alternating trees grow from all unmatched columns at once, each until it has an
-//! augmenting path, by many workers who share the words of a board.
+//! Maximum matchings by phases in which alternating trees grow from all unmatched columns at once,
+//! each until it has an augmenting path, by many workers who share the words of a board.
 //!
-//! The trees grow level by level, from their last columns down or from the unclaimed rows up, and a tree whose path is found
-//! grows no further. Trees without a path are kept for the next phase, where that is worth while (Azad, Buluç and Pothen,
-//! Computing maximum cardinality matchings in parallel on bipartite graphs via tree-grafting, 2017).
+//! The trees grow level by level, from their last columns down or from the unclaimed rows up, and a
+//! tree whose path is found grows no further. Trees without a path are kept for the next phase,
+//! where that is worth while (Azad, Buluç and Pothen, Computing maximum cardinality matchings in
+//! parallel on bipartite graphs via tree-grafting, 2017).
 #![tactic(auto)]
 
 mod augment;
@@ -21,29 +22,36 @@ ghost use Rattle.sp_ids.specs.declared.events.Event.TheVariants.{Done};
 
 use crate::augment::augment;
 use crate::levels::{can_grow, grow};
+use crate::switches::is_small;
 pub use crate::switches::{goes_top_down, keeps_trees};
 use bip_graph::Matching;
 use forest_core::{
     Forest, done_is_maximum, events_keep_covered, events_keep_sound, forests_are_rested, runs_join,
 };
+use pothen_fan::lengthen;
 use sp_ids::OutOfMemory;
 use sp_pattern::Pattern;
 use sp_ports::Gate;
 use std::alloc::Global;
 use std::thread::Threads;
 
-/// One phase: the trees grow until each has a leaf or has nothing left to claim, and then the paths of all roots with a leaf
-/// are exchanged. Gives the number of these paths: 0 exactly where the base matching was maximum.
+/// One phase: the trees grow until each has a leaf or has nothing left to claim, and then the paths
+/// of all roots with a leaf are exchanged. Gives the number of these paths: 0 exactly where the
+/// base matching was maximum.
 ///
-/// The forest must be rested, and there may be 1 to 64 workers. They share each level and the exchange of the paths, and each
-/// calls `gate.arrive` once in each of these, whether its share is empty or not. A level goes down from the frontier where
-/// `goes_top_down` says so, and else up from all unclaimed rows; with claims a phase begins by a level up. After a phase that
-/// gives 0 the claims stay; after any other those of trees without a leaf do where `keeps_trees` says so, and else none.
+/// The forest must be rested, and there may be 1 to 64 workers. They share each level and the
+/// exchange of the paths, and each calls `gate.arrive` once in each of these, whether its share is
+/// empty or not. A level goes down from the frontier where `goes_top_down` says so, and else up
+/// from all unclaimed rows; with claims a phase begins by a level up. After a phase that gives 0
+/// the claims stay; after any other those of trees without a leaf do where `keeps_trees` says so,
+/// and else none.
 ///
-/// Answers `OutOfMemory` where its boards and lists can't be had, at most 28 bytes a row and 40 a column at a time, or the
-/// workers' lists, 8 bytes for each claim and win of a level; the forest is then one that legal events lead to. A forest
-/// without claims whose unmatched columns have no entries takes none. Work: a few looks at each row and column; in each level
-/// at most one look at each entry of the frontier's columns, or of the unclaimed rows; and a few writes for each pair of a path.
+/// Answers `OutOfMemory` where its boards and lists can't be had, at most 28 bytes a row and 40 a
+/// column at a time, or the workers' lists, 8 bytes for each claim and win of a level; the forest
+/// is then one that legal events lead to. A forest without claims whose unmatched columns have no
+/// entries takes none. Work: a few looks at each row and column; in each level at most one look at
+/// each entry of the frontier's columns, or of the unclaimed rows; and a few writes for each pair
+/// of a path.
 pub fn phase<R: Threads + Sync, G: Gate>(
     rt: &R,
     alloc: Global,
@@ -76,11 +84,40 @@ pub fn phase<R: Threads + Sync, G: Gate>(
 
 /// A maximum matching, in which every row and column that was matched before is matched.
 ///
-/// The matching must be of the pattern's entries and sizes, and there may be 1 to 64 workers. Answers `OutOfMemory` where there
-/// is no memory for the forest and a phase, at most 56 bytes a row and 57 a column, or for the workers' lists; the matching is
-/// dropped then. Where each column that has an entry is matched it takes no memory. Work: phases, of which all but the last
-/// make the matching larger.
+/// The matching must be of the pattern's entries and sizes, and there may be 1 to 64 workers. Of a
+/// pattern with more than 10,000 rows or columns the matching is first made longer by depth-first
+/// phases on the calling thread, as long as these match many: most of what a good start leaves is
+/// found so, at less cost than a board. Then phases by workers follow, until one gives 0, unless
+/// each column that has an entry is matched by then.
+///
+/// Answers `OutOfMemory` where there is no memory for the forest and a phase, at most 56 bytes a
+/// row and 57 a column, or for the workers' lists; the matching is dropped then. The depth-first
+/// phases take at most 17 bytes a row or column, before the forest is made. Where each column that
+/// has an entry is matched it takes no memory. Work: phases, of which all but the last make the
+/// matching larger.
 pub fn complete<R: Threads + Sync, G: Gate>(
+    rt: &R,
+    alloc: Global,
+    pattern: &Pattern,
+    matching: Matching,
+    workers: u32,
+    gate: &G,
+) -> Result<Matching, OutOfMemory>
+    requires some { 1 ≤ workers }
+    requires few { workers ≤ max_workers }
+    requires matching { IsMatchingOf pattern.now matching }
+    ensures maximum { IfOk result (λ m. IsMaximumOf pattern.now m) }
+    ensures covered { IfOk result (λ m. Covers matching.pairs m.pairs) }
+{
+    if is_small(pattern) || !can_grow(pattern, &matching) {
+        return complete_by_phases(rt, alloc, pattern, matching, workers, gate);
+    }
+    let longer = lengthen(alloc, pattern, matching)?;
+    complete_by_phases(rt, alloc, pattern, longer, workers, gate)
+}
+
+// A maximum matching by phases of the workers, until one gives 0.
+fn complete_by_phases<R: Threads + Sync, G: Gate>(
     rt: &R,
     alloc: Global,
     pattern: &Pattern,

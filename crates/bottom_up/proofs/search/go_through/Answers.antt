@@ -1,32 +1,39 @@
-use Rattle.std.proofs.Common.{subst, sym}
+use Rattle.std.proofs.Common.{List, subst, sym}
 use Rattle.std.proofs.lemmas.List.{take_all}
 use Rattle.bip_defs.specs.Lists.{Among}
-use Rattle.level_sharing.specs.Progress.{IsThroughRow}
+use Rattle.bottom_up.specs.Candidates.{HasGathered, IsCovered}
 use Rattle.level_sharing.specs.Shares.{of_rows}
+use Rattle.level_sharing.specs.declared.candidate.Candidate.{Candidate}
+use Rattle.bottom_up.proofs.CandidateLemmas.{none_gathered, ok_both}
 use Rattle.bottom_up.proofs.SearchLemmas.{item_among, one_more}
 use Rattle.bottom_up.proofs.search.go_through.Goals as goal
 
-pub find-requires-clause-row : goal.find-requires-clause-row
-find-requires-clause-row c = c.requires.over.rows c.row-item.result (item_among _ _ _ c.loop-row-test.true c.row-item.is)
+pub gather-requires-clause-row : goal.gather-requires-clause-row
+gather-requires-clause-row c = item_among _ _ _ c.loop-row-test.true c.row-item.is
 
-pub returns-in_err-find-clause-progress : goal.returns-in_err-find-clause-progress
-returns-in_err-find-clause-progress c =
-    let own = item_among _ _ _ c.loop-row-test.true c.row-item.is in
-    c.steps_are_progress.ensures.on _ _ _ _ _ c.loop-row.invariant.progress (c.find.ensures.progress (of_rows c.args.rows.now) (λ d. own))
+pub returns-in_err-gather-clause-progress : goal.returns-in_err-gather-clause-progress
+returns-in_err-gather-clause-progress c = c.steps_are_progress.ensures.on _ _ _ _ _ c.loop-row.invariant.progress c.gather.ensures.progress
 
 pub loop-row-preserved : goal.loop-row-preserved
 loop-row-preserved c =
-    let own = item_among _ _ _ c.loop-row-test.true c.row-item.is in
-    let step = c.find.ensures.progress (of_rows c.args.rows.now) (λ d. own) in
+    let step = c.in_ok-gather.ensures in
     record {
-      progress = c.steps_are_progress.ensures.on _ _ _ _ _ c.loop-row.invariant.progress step;
-      settled = c.in_ok-find.ensures.settled;
-      through = one_more (IsThroughRow c.args.forest.now c.find.new.worker) c.args.rows.now c.loop-row.row-index c.row-item.result
-          (λ r h. c.workers_stay_through.ensures.row c.args.forest.now (of_rows c.args.rows.now) _ _ r step (c.loop-row.invariant.through r h)) c.loop-row-test.true c.row-item.is c.in_ok-find.ensures.through;
+      progress = c.steps_are_progress.ensures.on _ _ _ _ _ c.loop-row.invariant.progress step.progress;
+      gathered = step.gathered;
+      covered = one_more (λ r. IsCovered c.args.forest.now c.gather.new.worker c.gather.new.candidates.items r) c.args.rows.now c.loop-row.row-index c.row-item.result
+          (λ r h. step.stays r (c.loop-row.invariant.covered r h)) c.loop-row-test.true c.row-item.is step.row;
     }
 
+pub claim_each-requires-clause-gathered : goal.claim_each-requires-clause-gathered
+claim_each-requires-clause-gathered c = subst (λ (l : List Candidate). HasGathered c.args.forest.now c.args.board.now c.args.rows.now c.loop-row.worker l) (sym c.as_slice.ensures.value) c.loop-row.invariant.gathered
+
+pub returns-clause-progress : goal.returns-clause-progress
+returns-clause-progress c = c.steps_are_progress.ensures.on _ _ _ _ _ c.loop-row.invariant.progress c.claim_each.ensures.progress
+
 pub returns-clause-through : goal.returns-clause-through
-returns-clause-through c = record {
-  settled = c.loop-row.invariant.settled;
-  rows = λ r h. c.loop-row.invariant.through r (subst (Among r) (sym (take_all _ _ c.loop-row-test.false)) h);
-}
+returns-clause-through c = ok_both c.claim_each.result
+    (λ settled through. record {
+      settled = settled;
+      rows = λ r h. through r (subst (λ (l : List Candidate). IsCovered c.args.forest.now c.loop-row.worker l r) (sym c.as_slice.ensures.value) (c.loop-row.invariant.covered r (subst (Among r) (sym (take_all _ _ c.loop-row-test.false)) h)));
+    })
+    c.claim_each.ensures.settled c.claim_each.ensures.through

@@ -2,7 +2,7 @@ use Rattle.std.proofs.Common.{◌≡◌, ◌<◌, ◌∙◌, ◌≤◌, Some, ap
 use Rattle.std.proofs.lemmas.List.{length-set}
 use Rattle.bip_defs.proofs.Sets.{among_at}
 use Rattle.forest_core.specs.Tables.{beside}
-use Rattle.forest_core.proofs.KeptClaims.{IsAt, at_among, below_set, is_at, keeping_end, keeping_roots, keeping_same, keeping_start, keeping_stays, keeping_table, keeping_won, leaf_told, root_below_here, root_here}
+use Rattle.forest_core.proofs.KeptClaims.{IsAt, at_among, below_set, is_at, keeping_end, keeping_roots, keeping_same, keeping_start, keeping_stays, keeping_table, keeping_won, leaf_known, root_below_here, root_here}
 use Rattle.forest_core.proofs.renew.keep.Goals as goal
 use Rattle.forest_core.proofs.renew.keep.Goals.{then-is_some, else-is_some}
 
@@ -44,12 +44,12 @@ clear-requires c =
 pub loop-i-preserved : goal.loop-i-preserved
 loop-i-preserved c = elim c.if-is_some.branch [
   | then-is_some w ↦ rw (w.claims-is, w.roots-is, w.claimed-is, w.stay-is) (record {
-    keeping = keeping_won _ _ _ _ _ _ _ _ _ c.index-claims-i.result c.loop-i.invariant.keeping (at c) (leaf_told c.args.claimed.now.roots c.args.leaf_of.now c.index-claims-i.result c.index-roots-i.result c.get.result c.is_some.result _ (root c) (rw c.number.ensures at c.get.ensures) c.is_some.ensures w.if-is_some.true) c.requires.differ (let lt = c.requires.rows _ _ (at_among _ _ _ _ (at c)) in let long = c.loop-i.invariant.long in omega (arith, lt, long)) w.clear.ensures.holders w.clear.ensures.roots;
+    keeping = keeping_won _ _ _ _ _ _ _ _ _ c.index-claims-i.result c.loop-i.invariant.keeping (at c) (leaf_known c.args.claimed.now.roots c.args.leaf_of.now c.index-claims-i.result c.index-roots-i.result c.get.result c.is_some.result _ (root c) (rw c.number.ensures at c.get.ensures) c.is_some.ensures w.if-is_some.true) c.requires.differ (let lt = c.requires.rows _ _ (at_among _ _ _ _ (at c)) in let long = c.loop-i.invariant.long in omega (arith, lt, long)) w.clear.ensures.holders w.clear.ensures.roots;
     in_range = c.loop-i.invariant.in_range;
     long = (let same = ap length w.clear.ensures.holders ∙ length-set _ _ _ in same ∙ c.loop-i.invariant.long);
   })
   | else-is_some w ↦ rw (w.claims-is, w.roots-is, w.claimed-is, w.stay-is) (record {
-    keeping = keeping_stays _ _ _ _ _ _ _ _ c.index-claims-i.result c.index-roots-i.result c.loop-i.invariant.keeping (at c) (root c) (leaf_told c.args.claimed.now.roots c.args.leaf_of.now c.index-claims-i.result c.index-roots-i.result c.get.result c.is_some.result _ (root c) (rw c.number.ensures at c.get.ensures) c.is_some.ensures w.if-is_some.false) (within c);
+    keeping = keeping_stays _ _ _ _ _ _ _ _ c.index-claims-i.result c.index-roots-i.result c.loop-i.invariant.keeping (at c) (root c) (leaf_known c.args.claimed.now.roots c.args.leaf_of.now c.index-claims-i.result c.index-roots-i.result c.get.result c.is_some.result _ (root c) (rw c.number.ensures at c.get.ensures) c.is_some.ensures w.if-is_some.false) (within c);
     in_range = below_set _ c.loop-i.roots _ c.index-roots-i.result c.loop-i.invariant.in_range (in_range c);
     long = c.loop-i.invariant.long;
   })

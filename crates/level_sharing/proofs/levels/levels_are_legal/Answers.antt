@@ -1,4 +1,4 @@
-use Rattle.level_sharing.proofs.GrownForests.{LevelLaws, level_told, leaves, new_claims_of, new_wins_of, places}
+use Rattle.level_sharing.proofs.GrownForests.{LevelLaws, level_known, leaves, new_claims_of, new_wins_of, places}
 use Rattle.level_sharing.proofs.levels.levels_are_legal.Goals as goal
 
 laws : goal.After-known_values_stand → LevelLaws
@@ -16,8 +16,8 @@ laws c = record {
 
 pub returns : goal.returns
 returns c = record {
-  claims = λ l. new_claims_of l (level_told (laws c) l);
-  places = λ l. places l (level_told (laws c) l);
-  wins = λ l. new_wins_of l (level_told (laws c) l);
-  leaves = λ l. leaves l (level_told (laws c) l);
+  claims = λ l. new_claims_of l (level_known (laws c) l);
+  places = λ l. places l (level_known (laws c) l);
+  wins = λ l. new_wins_of l (level_known (laws c) l);
+  leaves = λ l. leaves l (level_known (laws c) l);
 }

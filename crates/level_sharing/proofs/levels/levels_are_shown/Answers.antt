@@ -1,4 +1,4 @@
-use Rattle.level_sharing.proofs.GrownForests.{LevelLaws, level_told, shown}
+use Rattle.level_sharing.proofs.GrownForests.{LevelLaws, level_known, shown}
 use Rattle.level_sharing.proofs.levels.levels_are_shown.Goals as goal
 
 laws : goal.After-known_values_stand → LevelLaws
@@ -15,4 +15,4 @@ laws c = record {
 }
 
 pub returns : goal.returns
-returns c = λ l. shown l (level_told (laws c) l)
+returns c = λ l. shown l (level_known (laws c) l)

@@ -1,4 +1,4 @@
-use Rattle.level_sharing.proofs.GrownForests.{LevelLaws, level_told, columns_after, settled_after}
+use Rattle.level_sharing.proofs.GrownForests.{LevelLaws, level_known, columns_after, settled_after}
 use Rattle.level_sharing.proofs.levels.levels_go_through_columns.Goals as goal
 
 laws : goal.After-known_values_stand → LevelLaws
@@ -16,6 +16,6 @@ laws c = record {
 
 pub returns : goal.returns
 returns c = record {
-  settled = λ l cols through. settled_after l _ (λ i v w q. q.settled) (level_told (laws c) l) through;
-  columns = λ l cols x. columns_after l cols x (level_told (laws c) l);
+  settled = λ l cols through. settled_after l _ (λ i v w q. q.settled) (level_known (laws c) l) through;
+  columns = λ l cols x. columns_after l cols x (level_known (laws c) l);
 }

@@ -1,4 +1,4 @@
-use Rattle.level_sharing.proofs.GrownForests.{LevelLaws, level_told, rows_after, settled_after}
+use Rattle.level_sharing.proofs.GrownForests.{LevelLaws, level_known, rows_after, settled_after}
 use Rattle.level_sharing.proofs.levels.levels_go_through_rows.Goals as goal
 
 laws : goal.After-known_values_stand → LevelLaws
@@ -16,6 +16,6 @@ laws c = record {
 
 pub returns : goal.returns
 returns c = record {
-  settled = λ l rows through. settled_after l _ (λ i v w q. q.settled) (level_told (laws c) l) through;
-  rows = λ l rows r x. rows_after l rows r x (level_told (laws c) l);
+  settled = λ l rows through. settled_after l _ (λ i v w q. q.settled) (level_known (laws c) l) through;
+  rows = λ l rows r x. rows_after l rows r x (level_known (laws c) l);
 }

@@ -22,4 +22,4 @@ loop-number-preserved c = λ r x lt e. ⊎_elim
     (number_same x c.loop-number.number)
 
 pub returns : goal.returns
-returns c = λ told r x e. c.loop-number.invariant r x (omega (arith, entry_col c.args.pattern.now r x e, c.loop-number-test.false, c.cols-number-end.ensures)) e
+returns c = λ fact r x e. c.loop-number.invariant r x (omega (arith, entry_col c.args.pattern.now r x e, c.loop-number-test.false, c.cols-number-end.ensures)) e

@@ -1,11 +1,11 @@
 use Rattle.forest_core.specs.Events.{Grows}
-use Rattle.tree_graft.specs.Search.{IsFrontier, IsSearched, levels_left}
+use Rattle.tree_graft.specs.Search.{IsFrontier, IsReadyForLevel, levels_left}
 use Rattle.tree_graft.proofs.levels.search.Given as goal
 
 abbrev pub invariant-loop-forest : goal.invariant-loop-forest
 invariant-loop-forest g l = record {
   grown : Grows l.fn.forest l.forest;
-  search : IsSearched l.board l.workers l.forest;
+  search : IsReadyForLevel l.board l.workers l.forest;
   frontier : IsFrontier l.forest l.frontier.items;
 }
 

@@ -23,7 +23,7 @@ invariant_of-seat c = open_after c.seat.invariant (c.compare_exchange-found.ensu
 
 pub returns : goal.returns
 returns c =
-    let told = c.compare_exchange-found.ensures.2 _ c.args.row c.args.col c.seat.invariant.0 (ap (λ n. 1 + n) c.number.ensures) (ap (λ n. 1 + n) c.number-2.ensures) in
+    let fact = c.compare_exchange-found.ensures.2 _ c.args.row c.args.col c.seat.invariant.0 (ap (λ n. 1 + n) c.number.ensures) (ap (λ n. 1 + n) c.number-2.ensures) in
     let a = claim_answer c.seat.inside.seat.table_id c.compare_exchange-found.new.seat.table_id c.seat.inside.seat.me c.compare_exchange-found.new.seat.me c.args.seat.now
-    c.compare_exchange-found.ensures.0 c.seat.view_is c.args.row c.args.col c.compare_exchange-found.result (col_before c.claimed.result) (c.claimed.ensures ∙ c.value.ensures) told in
+    c.compare_exchange-found.ensures.0 c.seat.view_is c.args.row c.args.col c.compare_exchange-found.result (col_before c.claimed.result) (c.claimed.ensures ∙ c.value.ensures) fact in
     record { seat = a.0; known = a.1; once = a.2 }

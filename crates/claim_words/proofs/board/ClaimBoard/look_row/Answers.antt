@@ -22,7 +22,7 @@ invariant_of-seat c = open_after c.seat.invariant (c.load-found.ensures.2 _ _ c.
 
 pub returns : goal.returns
 returns c =
-    let told = c.load-found.ensures.2 _ c.args.row c.seat.invariant.0 (ap (λ n. 1 + n) c.number.ensures) in
+    let fact = c.load-found.ensures.2 _ c.args.row c.seat.invariant.0 (ap (λ n. 1 + n) c.number.ensures) in
     let a = row_answer c.seat.inside.seat.table_id c.load-found.new.seat.table_id c.seat.inside.seat.me c.load-found.new.seat.me c.args.seat.now
-    c.load-found.ensures.0 c.seat.view_is c.args.row c.load-found.result c.identified.result (sym (numbered c.identified.result) ∙ c.identified.ensures ∙ c.value-holder.ensures) told in
+    c.load-found.ensures.0 c.seat.view_is c.args.row c.load-found.result c.identified.result (sym (numbered c.identified.result) ∙ c.identified.ensures ∙ c.value-holder.ensures) fact in
     record { seat = a.0; known = a.1 }

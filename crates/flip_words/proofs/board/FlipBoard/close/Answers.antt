@@ -10,8 +10,8 @@ use Rattle.flip_words.proofs.board.FlipBoard.close.Goals as goal
 
 pub returns-clause-ok : goal.returns-clause-ok
 returns-clause-ok c =
-    let rows : c.self.inside.rows ≡ c.args.self.rows = sym c.self.invariant.rows_told ∙ ap (λ (b : Board). b.rows) c.self.view_is in
-    let cols : c.self.inside.cols ≡ c.args.self.cols = sym c.self.invariant.cols_told ∙ ap (λ (b : Board). b.cols) c.self.view_is in
+    let rows : c.self.inside.rows ≡ c.args.self.rows = sym c.self.invariant.rows_known ∙ ap (λ (b : Board). b.rows) c.self.view_is in
+    let cols : c.self.inside.cols ≡ c.args.self.cols = sym c.self.invariant.cols_known ∙ ap (λ (b : Board). b.cols) c.self.view_is in
     settles_all c.args.self c.args.seats.items _ _ _ c.end-words.ensures.words (ap (λ (s : Seat). s.listed) c.join_all-whole.ensures)
     (subst (λ ss. (s : Seat) → Among s ss → IsRightful s) c.as_slice.ensures.value c.are_rightful.ensures)
     (subst (λ (p : ℕ × ℕ). AreSized c.read_mates.new.mates p.0 p.1) (λ i. (rows i, cols i)) c.read_mates.ensures.sizes)

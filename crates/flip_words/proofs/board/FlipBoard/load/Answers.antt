@@ -13,18 +13,18 @@ pub load-requires : goal.load-requires
 load-requires c =
     let of = is_of c.seat.view_is c.requires.seat c.self.view_is in
     let lt : c.args.vertex < length (mates_in c.self.inside.table.shared.key.cols c.self.inside.table.shared.key.words.value.items) = subst (λ (b : Board). c.args.vertex < length b.mates) (sym c.self.view_is) c.requires.vertex in
-    (of.same_table, vertex_place c.self.invariant c.args.vertex lt, allows_look _ _ _ _ _ _ c.seat.invariant c.self.inside.cols c.args.vertex c.self.invariant.cols_told lt)
+    (of.same_table, vertex_place c.self.invariant c.args.vertex lt, allows_look _ _ _ _ _ _ c.seat.invariant c.self.inside.cols c.args.vertex c.self.invariant.cols_known lt)
 
-told : (c : goal.After-mate) → TellsMate (known c.seat.inside.seat.me.0) c.args.vertex c.load.result c.seat.inside.seat.me c.load.new.seat.me
-told c = c.load.ensures.2 (known c.seat.inside.seat.me.0) c.args.vertex c.seat.invariant.0 (vertex_word_is (is_of c.seat.view_is c.requires.seat c.self.view_is) c.self.invariant.cols_told c.args.vertex)
+fact : (c : goal.After-mate) → TellsMate (known c.seat.inside.seat.me.0) c.args.vertex c.load.result c.seat.inside.seat.me c.load.new.seat.me
+fact c = c.load.ensures.2 (known c.seat.inside.seat.me.0) c.args.vertex c.seat.invariant.0 (vertex_word_is (is_of c.seat.view_is c.requires.seat c.self.view_is) c.self.invariant.cols_known c.args.vertex)
 
 pub invariant_of-seat : goal.invariant_of-seat
-invariant_of-seat c = open_after c.seat.invariant (told c).after_is
+invariant_of-seat c = open_after c.seat.invariant (fact c).after_is
 
 pub returns-clause-set : goal.returns-clause-set
-returns-clause-set c = λ x h. c.mate.ensures.mate ∙ (told c).set x (subst (λ (s : Seat). Among (c.args.vertex, x) s.listed.sets) (sym c.seat.view_is) h)
+returns-clause-set c = λ x h. c.mate.ensures.mate ∙ (fact c).set x (subst (λ (s : Seat). Among (c.args.vertex, x) s.listed.sets) (sym c.seat.view_is) h)
 
 pub returns-clause-unset : goal.returns-clause-unset
 returns-clause-unset c = λ l.
-    c.mate.ensures.mate ∙ (told c).alone (of_taken c.seat.view_is c.args.vertex l.0) (never_set c.seat.view_is c.args.vertex l.1)
+    c.mate.ensures.mate ∙ (fact c).alone (of_taken c.seat.view_is c.args.vertex l.0) (never_set c.seat.view_is c.args.vertex l.1)
     ∙ ap (λ (s : Seat). held s.board.mates c.args.vertex) c.seat.view_is ∙ ap (λ (b : Board). held b.mates c.args.vertex) c.requires.seat

@@ -7,7 +7,7 @@ use Rattle.flip_words.proofs.board.FlipBoard.look_col.Goals as goal
 
 -- the vertex of the column
 at : (c : goal.After-as_row) → c.self.inside.rows + c.number.result ≡ c.args.self.now.rows + c.args.col
-at c = λ i. (sym c.self.invariant.rows_told ∙ ap (λ (b : Board). b.rows) c.self.view_is) i + c.number.ensures i
+at c = λ i. (sym c.self.invariant.rows_known ∙ ap (λ (b : Board). b.rows) c.self.view_is) i + c.number.ensures i
 
 pub invariant_of-seat : goal.invariant_of-seat
 invariant_of-seat c = (c.seat.invariant.0 ∙ sym (ap (λ (s : Seat). s.number) c.load.ensures.seat), subst IsRightful (sym c.load.ensures.seat) (rightful_look _ _ _ c.seat.invariant.1))

@@ -7,5 +7,5 @@ use Rattle.flip_words.proofs.board.FlipBoard.set_col.Goals as goal
 pub invariant_of-seat : goal.invariant_of-seat
 invariant_of-seat c = (
   c.seat.invariant.0 ∙ sym (ap (λ (s : Seat). s.number) c.store.ensures),
-  rightful_set (c.args.self.now.rows + c.args.col) _ _ c.seat.view_is c.store.ensures (λ i. (sym c.self.invariant.rows_told ∙ ap (λ (b : Board). b.rows) c.self.view_is) i + c.number.ensures i) c.requires.seat c.requires.tree c.requires.took c.seat.invariant.1,
+  rightful_set (c.args.self.now.rows + c.args.col) _ _ c.seat.view_is c.store.ensures (λ i. (sym c.self.invariant.rows_known ∙ ap (λ (b : Board). b.rows) c.self.view_is) i + c.number.ensures i) c.requires.seat c.requires.tree c.requires.took c.seat.invariant.1,
 )

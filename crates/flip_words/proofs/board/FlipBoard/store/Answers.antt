@@ -9,7 +9,7 @@ use Rattle.flip_words.specs.Steps.{knowing}
 use Rattle.flip_words.specs.Stored.{shown}
 use Rattle.flip_words.proofs.StepRules.{allows_set}
 use Rattle.flip_words.proofs.Boards.{is_of, never_set, of_taken, open_after, vertex_place, vertex_word_is}
-use Rattle.flip_words.proofs.WordCodes.{mate_told}
+use Rattle.flip_words.proofs.WordCodes.{mate_known}
 use Rattle.flip_words.proofs.board.FlipBoard.store.Goals as goal
 
 pub store-requires : goal.store-requires
@@ -21,17 +21,17 @@ store-requires c =
     let taken = subst (λ (o : Opened). IsOfTaken o.trees (known c.seat.inside.seat.me.0).listed c.args.vertex) of.same_opened (of_taken c.seat.view_is c.args.vertex took) in (
       of.same_table,
       vertex_place c.self.invariant c.args.vertex lt,
-      allows_set _ _ _ _ _ _ c.seat.invariant c.self.inside.cols c.args.vertex c.args.root c.args.mate _ c.self.invariant.cols_told lt taken tree (never_set c.seat.view_is c.args.vertex c.requires.unset) c.requires.mate
-          refl (mate_told (Some c.args.root) c.args.mate c.requires.mate),
+      allows_set _ _ _ _ _ _ c.seat.invariant c.self.inside.cols c.args.vertex c.args.root c.args.mate _ c.self.invariant.cols_known lt taken tree (never_set c.seat.view_is c.args.vertex c.requires.unset) c.requires.mate
+          refl (mate_known (Some c.args.root) c.args.mate c.requires.mate),
     )
 
-told : (c : goal.After-store) → ◌≡◌ {A = Me (Unit {0}) (Option Known)} c.store.new.seat.me (knowing (known c.seat.inside.seat.me.0) (put (known c.seat.inside.seat.me.0).listed c.args.vertex c.args.mate), c.seat.inside.seat.me.1)
-told c =
-    c.store.ensures.2 (known c.seat.inside.seat.me.0) c.args.vertex c.seat.invariant.0 (vertex_word_is (is_of c.seat.view_is c.requires.seat c.self.view_is) c.self.invariant.cols_told c.args.vertex)
-    ∙ (λ i. (knowing (known c.seat.inside.seat.me.0) (put (known c.seat.inside.seat.me.0).listed c.args.vertex (mate_told (Some c.args.root) c.args.mate c.requires.mate i)), c.seat.inside.seat.me.1))
+fact : (c : goal.After-store) → ◌≡◌ {A = Me (Unit {0}) (Option Known)} c.store.new.seat.me (knowing (known c.seat.inside.seat.me.0) (put (known c.seat.inside.seat.me.0).listed c.args.vertex c.args.mate), c.seat.inside.seat.me.1)
+fact c =
+    c.store.ensures.2 (known c.seat.inside.seat.me.0) c.args.vertex c.seat.invariant.0 (vertex_word_is (is_of c.seat.view_is c.requires.seat c.self.view_is) c.self.invariant.cols_known c.args.vertex)
+    ∙ (λ i. (knowing (known c.seat.inside.seat.me.0) (put (known c.seat.inside.seat.me.0).listed c.args.vertex (mate_known (Some c.args.root) c.args.mate c.requires.mate i)), c.seat.inside.seat.me.1))
 
 pub invariant_of-seat : goal.invariant_of-seat
-invariant_of-seat c = open_after c.seat.invariant (told c)
+invariant_of-seat c = open_after c.seat.invariant (fact c)
 
 pub returns : goal.returns
-returns c = (λ i. shown (c.store.ensures.0 i) (known (told c i).0)) ∙ ap (λ (s : Seat). after_set s c.args.vertex c.args.mate) c.seat.view_is
+returns c = (λ i. shown (c.store.ensures.0 i) (known (fact c i).0)) ∙ ap (λ (s : Seat). after_set s c.args.vertex c.args.mate) c.seat.view_is

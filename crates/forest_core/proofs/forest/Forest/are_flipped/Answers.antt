@@ -4,7 +4,7 @@ use Rattle.bip_defs.specs.Lists.{Among}
 use Rattle.bip_defs.specs.Matrix.{Place}
 use Rattle.bip_defs.proofs.Sets.{among_last, row_among}
 use Rattle.bip_defs.specs.Forest.{roots_of}
-use Rattle.forest_core.proofs.Members.{map_last, read_among, told_false}
+use Rattle.forest_core.proofs.Members.{map_last, read_among, known_false}
 use Rattle.forest_core.proofs.StoredForests.{leaf_in_range}
 use Rattle.forest_core.proofs.forest.Forest.are_flipped.Goals as goal
 
@@ -15,7 +15,7 @@ flipped-requires c =
 
 pub returns-then-not-flipped : goal.returns-then-not-flipped
 returns-then-not-flipped c = (
-  λ h. told_false h,
+  λ h. known_false h,
   λ all.
       let on = read_among _ c.leaves-leaves.result.now _ c.loop-root-test.true c.loop-root-item.is in
       let root = row_among _ _ c.args.self.now.leaves (subst (Among c.loop-root-item.result) c.leaves-leaves.ensures on) in

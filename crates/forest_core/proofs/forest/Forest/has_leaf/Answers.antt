@@ -1,13 +1,13 @@
 use Rattle.std.proofs.Common.{ap, arith, refl}
 use Rattle.bip_defs.specs.Matrix.{Matrix, cols}
 use Rattle.bip_defs.proofs.Sets.{row_among}
-use Rattle.forest_core.proofs.Members.{told_false}
+use Rattle.forest_core.proofs.Members.{known_false}
 use Rattle.forest_core.proofs.StoredForests.{root_with_leaf}
 use Rattle.forest_core.proofs.forest.Forest.has_leaf.Goals as goal
 
 pub returns-then-number-cols-clause-leaf : goal.returns-then-number-cols-clause-leaf
 returns-then-number-cols-clause-leaf c = (
-  λ h. told_false h,
+  λ h. known_false h,
   λ h.
       let lt = root_with_leaf c.args.self.now c.args.root c.is_sound.ensures h in
       absurd (omega (arith, lt, c.if-number-cols.true, c.cols.ensures, ap (λ (a : Matrix). cols a) c.pattern.ensures, c.number.ensures)),

@@ -2,13 +2,13 @@ use Rattle.std.proofs.Common.{◌≡◌, ◌≢◌, ◌<◌, ◌∙◌, ap, arit
 use Rattle.bip_defs.specs.Matrix.{IsEntry, Matrix, cols}
 use Rattle.bip_defs.proofs.Sets.{number_same}
 use Rattle.bip_defs.specs.Forest.{InForest}
-use Rattle.forest_core.proofs.Members.{told_false}
+use Rattle.forest_core.proofs.Members.{known_false}
 use Rattle.forest_core.proofs.forest.Forest.is_closed.Goals.{else-is_inside-via-then-is_inside+else-not-is_used_up, else-is_inside-via-else-is_inside}
 use Rattle.forest_core.proofs.forest.Forest.is_closed.Goals as goal
 
 pub returns-then-not-is_used_up : goal.returns-then-not-is_used_up
 returns-then-not-is_used_up c = (
-  λ h. told_false h,
+  λ h. known_false h,
   λ all. absurd (true≢false (sym (c.is_used_up.ensures.1 (all c.loop-number.number (c.is_inside.ensures.0 c.if-is_inside.true))) ∙ c.if-not-is_used_up.true)),
 )
 

@@ -3,14 +3,14 @@ use Rattle.std.proofs.lemmas.Bool.{eqb-true}
 use Rattle.bip_defs.specs.Matrix.{Matrix}
 use Rattle.bip_defs.proofs.Sets.{row_among}
 use Rattle.bip_defs.specs.Forest.{IsRootOfRow}
-use Rattle.forest_core.proofs.Members.{told_false}
+use Rattle.forest_core.proofs.Members.{known_false}
 use Rattle.forest_core.proofs.Roots.{one_root_of_row}
 use Rattle.forest_core.proofs.StoredForests.{claim_in_range}
 use Rattle.forest_core.proofs.forest.Forest.is_in_tree.Goals as goal
 
 pub returns-then-number-rows-clause-tree : goal.returns-then-number-rows-clause-tree
 returns-then-number-rows-clause-tree c = (
-  λ h. told_false h,
+  λ h. known_false h,
   λ t.
       let lt = (claim_in_range c.args.self.now c.is_sound.ensures c.args.row t.0 t.1).0 in
       absurd (omega (arith, lt, c.if-number-rows.true, c.rows.ensures, ap (λ (a : Matrix). a.rows) c.pattern.ensures, c.number.ensures)),
@@ -23,4 +23,4 @@ returns-in-Some-clause-tree c = (
 )
 
 pub returns-in-None-clause-tree : goal.returns-in-None-clause-tree
-returns-in-None-clause-tree c = (λ h. told_false h, λ t. absurd (c.in-None.ensures.none (row_among c.args.row t.0 c.args.self.now.claims t.1)))
+returns-in-None-clause-tree c = (λ h. known_false h, λ t. absurd (c.in-None.ensures.none (row_among c.args.row t.0 c.args.self.now.claims t.1)))

@@ -4,7 +4,7 @@ use Rattle.bip_defs.specs.Lists.{Among}
 use Rattle.bip_defs.specs.Matching.{rows_of}
 use Rattle.bip_defs.specs.Matrix.{IsEntry, Matrix}
 use Rattle.bip_defs.proofs.Sets.{among_last}
-use Rattle.forest_core.proofs.Members.{read_among, told_false}
+use Rattle.forest_core.proofs.Members.{read_among, known_false}
 use Rattle.forest_core.proofs.forest.Forest.is_used_up.Goals as goal
 
 pub is_claimed-requires : goal.is_claimed-requires
@@ -14,7 +14,7 @@ is_claimed-requires c =
 
 pub returns-then-not-is_claimed : goal.returns-then-not-is_claimed
 returns-then-not-is_claimed c = (
-  λ h. told_false h,
+  λ h. known_false h,
   λ all.
       let e = c.rows_of-rows.ensures.rows.sound _ (read_among _ c.rows_of-rows.result.now _ c.loop-row-test.true c.row-item.is) in
       absurd (true≢false (sym (c.is_claimed.ensures.1 (all c.row-item.result (subst (λ (a : Matrix). IsEntry a c.row-item.result c.args.col) c.pattern.ensures e))) ∙ c.if-not-is_claimed.true)),

@@ -1,0 +1,107 @@
+#!/usr/bin/env python3
+"""Runs `btf` with the engine `graft`, by several numbers of workers, beside the engine `pf` on the same files,
+interleaved, and prints a table.
+
+    bench/engines.py --btf crates/btf/out/btf [--btf OLD] [--work DIR] [--entries 1000000] [--families circuit,er27]
+                     [--workers 1,2,4] [--repeats 5] [--limit SECONDS]
+
+It wants g++ for the generator of the files, which are those of `bench/run.py`, and go to DIR (by default bench-work in
+the system's folder for temporary files). Times are those of whole processes of `btf analyse`, from a file in the page
+cache to a text in a file: the least of the repeats, by the wall clock and in processor seconds (user and system, all
+threads). In each field of the table: wall and processor nanoseconds an entry, in brackets the ratio of both to `pf`, and
+then peak bytes an entry. With several programs each has its own lines. All must write the same text; a difference is told
+and makes the exit status 1. The machine's load at the start of each file stands in the last column.
+"""
+import argparse
+import os
+import resource
+import subprocess
+import sys
+import tempfile
+import time
+
+from run import PATTERNS, build, matrix
+
+
+def entries_of(path):
+    """How many entries a file has."""
+    with open(path, "rb") as file:
+        file.readline()
+        return int(file.readline().split()[2])
+
+
+def once(command, path, out, limit):
+    """Wall and processor seconds and peak bytes of one run, or none where it took too long or failed."""
+    with open(path, "rb") as file, open(out, "wb") as text:
+        begin = time.monotonic()
+        child = subprocess.Popen(command, stdin=file, stdout=text, stderr=subprocess.DEVNULL,
+                                 preexec_fn=lambda: resource.setrlimit(resource.RLIMIT_CPU, (limit, limit)))
+        _, status, usage = os.wait4(child.pid, 0)
+        child.returncode = status
+        wall = time.monotonic() - begin
+    return (wall, usage.ru_utime + usage.ru_stime, usage.ru_maxrss * 1024) if status == 0 else None
+
+
+def runs(options, path):
+    """For each program the least of its repeats by each engine, and all texts that were written."""
+    engines = [("pf", [])] + [(f"graft {w}", ["--workers", w]) for w in options.workers.split(",")]
+    least, texts = {}, set()
+    for _ in range(options.repeats):
+        for program in options.btf:
+            for name, words in engines:
+                out = os.path.join(options.work, "engine.out")
+                done = once([program, "analyse", "--engine", name.split()[0]] + words, path, out, options.limit)
+                if done is None:
+                    continue
+                with open(out, "rb") as text:
+                    texts.add(text.read())
+                before = least.get((program, name), done)
+                least[program, name] = tuple(min(pair) for pair in zip(before, done))
+    return [name for name, _ in engines], least, texts
+
+
+def cell(done, base, entries):
+    """One field of the table."""
+    if done is None:
+        return "-"
+    wall, processor, peak = done
+    ratio = f" ({wall / base[0]:.2f}, {processor / base[1]:.2f})" if base and base is not done else ""
+    return f"{wall * 1e9 / entries:.0f}, {processor * 1e9 / entries:.0f}{ratio}, {peak / entries:.0f}"
+
+
+def main():
+    parser = argparse.ArgumentParser(description=__doc__, formatter_class=argparse.RawDescriptionHelpFormatter)
+    parser.add_argument("--btf", required=True, action="append")
+    parser.add_argument("--work", default=os.path.join(tempfile.gettempdir(), "bench-work"))
+    parser.add_argument("--entries", default="1000000")
+    parser.add_argument("--families", default=PATTERNS)
+    parser.add_argument("--workers", default="1,2,4")
+    parser.add_argument("--repeats", type=int, default=5)
+    parser.add_argument("--limit", type=int, default=60)
+    options = parser.parse_args()
+    os.makedirs(options.work, exist_ok=True)
+    if not build(options.work, "generate"):
+        sys.exit("engines.py: the generator does not compile")
+    heads, differs = None, False
+    for family in options.families.split(","):
+        for size in options.entries.split(","):
+            path = matrix(options.work, family, int(size))
+            entries = entries_of(path)
+            load = os.getloadavg()[0]
+            names, least, texts = runs(options, path)
+            if heads is None:
+                heads = ["family", "entries"] + (["program"] if len(options.btf) > 1 else []) + names + ["load"]
+                print("| " + " | ".join(heads) + " |\n|" + "---|" * len(heads))
+            for program in options.btf:
+                fields = [family, str(entries)] + ([program] if len(options.btf) > 1 else [])
+                base = least.get((program, "pf"))
+                fields += [cell(least.get((program, name)), base, entries) for name in names]
+                print("| " + " | ".join(fields + [f"{load:.0f}"]) + " |", flush=True)
+            if len(texts) > 1:
+                print(f"engines.py: texts differ on {path}", file=sys.stderr)
+                differs = True
+    sys.exit(1 if differs else 0)
+
+
+if __name__ == "__main__":
+    main()
