@@ -4,7 +4,7 @@ use Rattle.std.proofs.Math.Decide.{dec_lt}
 use Rattle.bip_defs.specs.Lists.{Among, AreDistinct}
 use Rattle.bip_defs.specs.Matching.{IsMatching, IsMaximum, cols_of, rows_of}
 use Rattle.bip_defs.specs.Matrix.{AreEntries, IsEntry, Matrix, Place}
-use Rattle.bip_defs.specs.Paths.{Alternates, BeginsUnmatched, Exchanges, Gives, IsAugmenting}
+use Rattle.bip_defs.specs.Paths.{Alternates, BeginsUnmatched, Exchanges, Reassigns, IsAugmenting}
 use Rattle.bip_defs.specs.Witness.{IsAugmentingPath}
 use Rattle.bip_defs.proofs.Sets.{Drops, among_at, col_among, col_pair, drops_cols, drops_distinct, drops_gone, drops_kept, drops_length, drops_only, drops_rows, number_among, one_col, one_row, row_among, row_pair, taken}
 
@@ -25,7 +25,7 @@ drops_pair a d k = record {
 }
 
 -- a row given from one column to another
-pub drops_gives : (r c d : ℕ) (m n : List Place) → AreDistinct (rows_of m) → Drops (r, d) m n → Gives (r, c) m ((r, c) ∷ n)
+pub drops_gives : (r c d : ℕ) (m n : List Place) → AreDistinct (rows_of m) → Drops (r, d) m n → Reassigns (r, c) m ((r, c) ∷ n)
 drops_gives r c d m n a out p = (over, back)
   where
     over : (p ≡ (r, c)) ⊎ Among p n → (p ≡ (r, c)) ⊎ (Among p m × (p.0 ≢ r))
@@ -38,13 +38,13 @@ drops_gives r c d m n a out p = (over, back)
 
 -- One step along a path.
 
-still_alternates : (p : Place) (old now path : List Place) → Gives p old now → ¬ Among p.0 (rows_of path) → Alternates old path → Alternates now path
+still_alternates : (p : Place) (old now path : List Place) → Reassigns p old now → ¬ Among p.0 (rows_of path) → Alternates old path → Alternates now path
 still_alternates p old now [] g off h = h
 still_alternates p old now (q ∷ []) g off h = λ k. let (c, in_now) = row_pair q.0 now k in ⊎_elim (λ (e : (q.0, c) ≡ p). off (inl (sym (ap (λ (z : Place). z.0) e)))) (λ f. h (row_among q.0 c old f.0)) ((g (q.0, c)).0 in_now)
 still_alternates p old now (q ∷ s ∷ path) g off h = ((g (q.0, s.1)).1 (inr (h.0, λ (e : q.0 ≡ p.0). off (inl (sym e)))), still_alternates p old now (s ∷ path) g (λ k. off (inr k)) h.1)
 
 -- once the first row of an augmenting path is given to the first column, the rest is augmenting
-pub rest_augments : (p q : Place) (path old now : List Place) → AreDistinct (cols_of old) → IsAugmenting old (p ∷ q ∷ path) → Gives p old now → IsAugmenting now (q ∷ path)
+pub rest_augments : (p q : Place) (path old now : List Place) → AreDistinct (cols_of old) → IsAugmenting old (p ∷ q ∷ path) → Reassigns p old now → IsAugmenting now (q ∷ path)
 rest_augments p q path old now differ aug g = record {
   begins = λ k. let (r, in_now) = col_pair q.1 now k in ⊎_elim (λ (e : (r, q.1) ≡ p). aug.begins (subst (λ x. Among x (cols_of old)) (ap (λ (z : Place). z.1) e) (col_among p.0 q.1 old aug.alternates.0))) (λ f. f.1 (one_row old differ r p.0 q.1 f.0 aug.alternates.0)) ((g (r, q.1)).0 in_now);
   alternates = still_alternates p old now (q ∷ path) g aug.rows_differ.0 aug.alternates.1;
@@ -52,7 +52,7 @@ rest_augments p q path old now differ aug g = record {
 }
 
 -- a row is given and the rest exchanged: the path is exchanged
-pub exchange_rest : (p : Place) (path old now new : List Place) → ¬ Among p.0 (rows_of path) → Gives p old now → Exchanges path now new → Exchanges (p ∷ path) old new
+pub exchange_rest : (p : Place) (path old now new : List Place) → ¬ Among p.0 (rows_of path) → Reassigns p old now → Exchanges path now new → Exchanges (p ∷ path) old new
 exchange_rest p path old now new off g x q = (over, back)
   where
     over : Among q new → ((q ≡ p) ⊎ Among q path) ⊎ (Among q old × (¬ ((q.0 ≡ p.0) ⊎ Among q.0 (rows_of path))))
@@ -64,7 +64,7 @@ exchange_rest p path old now new off g x q = (over, back)
     back (inr f) = (x q).1 (inr ((g q).1 (inr (f.0, λ e. f.1 (inl e))), λ k. f.1 (inr k)))
 
 -- one pair given is a path of one pair exchanged
-pub exchange_one : (p : Place) (old new : List Place) → Gives p old new → Exchanges (p ∷ []) old new
+pub exchange_one : (p : Place) (old new : List Place) → Reassigns p old new → Exchanges (p ∷ []) old new
 exchange_one p old new g q = (over, back)
   where
     over : Among q new → ((q ≡ p) ⊎ ⊥) ⊎ (Among q old × (¬ ((q.0 ≡ p.0) ⊎ ⊥)))
@@ -145,7 +145,7 @@ pub flipping_row_free : (path old now : List Place) (k : ℕ) → Flipping path 
 flipping_row_free path old now k f e = subst (Alternates now) (left_last path k e) f.left.alternates
 
 -- the row at the place goes to its column
-pub flipping_step : (path old now next : List Place) (k : ℕ) → Flipping path old now k → suc k < length path → AreDistinct (cols_of now) → Gives (pair_at path k) now next → Flipping path old next (suc k)
+pub flipping_step : (path old now next : List Place) (k : ℕ) → Flipping path old now k → suc k < length path → AreDistinct (cols_of now) → Reassigns (pair_at path k) now next → Flipping path old next (suc k)
 flipping_step path old now next k f lt differ g = record {
   left = subst (IsAugmenting next) (sym (left_at path (suc k) lt)) (rest_augments (pair_at path k) (pair_at path (suc k)) (drop (suc (suc k)) path) now next differ here g);
   whole = λ new x. f.whole new (subst (λ z. Exchanges z now new) (sym (left_at path k (omega arith))) (exchange_rest (pair_at path k) (drop (suc k) path) now next new off g x));
@@ -159,7 +159,7 @@ flipping_step path old now next k f lt differ g = record {
     off = (subst (λ z. AreDistinct (rows_of z)) (left_at path k (omega arith)) f.left.rows_differ).0
 
 -- the last row becomes matched
-pub flipping_end : (path old now new : List Place) (k : ℕ) → Flipping path old now k → suc k ≡ length path → Gives (pair_at path k) now new → Exchanges path old new
+pub flipping_end : (path old now new : List Place) (k : ℕ) → Flipping path old now k → suc k ≡ length path → Reassigns (pair_at path k) now new → Exchanges path old new
 flipping_end path old now new k f e g = f.whole new (subst (λ z. Exchanges z now new) (sym (left_last path k e)) (exchange_one (pair_at path k) now new g))
 
 -- An augmenting path shows a longer matching.

@@ -1,11 +1,16 @@
 pub mod Below
+pub mod BottleneckLemmas
 pub mod Closed
+pub mod Connected
 pub mod Counts
 pub mod Covers
 pub mod Duality
+pub mod EditLemmas
 pub mod Exchange
 pub mod Fine
 pub mod Full
+pub mod FullMatchings
+pub mod LeastMatching
 pub mod Paired
 pub mod Queues
 pub mod Reaching

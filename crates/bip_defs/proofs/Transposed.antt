@@ -17,7 +17,7 @@ row_list_lists a r lt = lists_same (λ c. (c < cols a) × (list_any (nat_eq r) (
 pub row_list_unique : (a : Matrix) (r : ℕ) (cs : List ℕ) → r < a.rows → Lists (λ c. IsEntry a r c) cs → cs ≡ row_list a r
 row_list_unique a r cs lt h = lists_unique (λ c. IsEntry a r c) cs (row_list a r) h (row_list_lists a r lt)
 
-upto_at : (k n i d : ℕ) → i < n → slice_index_or (upto_from k n) i d ≡ k + i
+pub upto_at : (k n i d : ℕ) → i < n → slice_index_or (upto_from k n) i d ≡ k + i
 upto_at k zero i d lt = absurd (omega arith)
 upto_at k (suc n) zero d lt = omega arith
 upto_at k (suc n) (suc i) d lt = upto_at (suc k) n i d (omega arith) ∙ omega arith

@@ -1,7 +1,11 @@
 pub mod Blocks
+pub mod Bottleneck
 pub mod Components
+pub mod ConnectedComponents
 pub mod Decomposition
+pub mod EditedMatrix
 pub mod Forest
+pub mod LeastMatching
 pub mod Lists
 pub mod Marks
 pub mod Matching

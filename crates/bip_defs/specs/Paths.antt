@@ -26,5 +26,5 @@ Exchanges path old new = (p : Place) → Among p new
     ↔ (Among p path ⊎ (Among p old × (¬ Among p.0 (rows_of path))))
 
 -- new is old with the row given to the column
-abbrev pub Gives : Place → List Place → List Place → Type 0
-Gives p old new = (q : Place) → Among q new ↔ ((q ≡ p) ⊎ (Among q old × (q.0 ≢ p.0)))
+abbrev pub Reassigns : Place → List Place → List Place → Type 0
+Reassigns p old new = (q : Place) → Among q new ↔ ((q ≡ p) ⊎ (Among q old × (q.0 ≢ p.0)))

@@ -8,8 +8,9 @@ ghost use Rattle.std.specs.Prelude.{◌≡◌, ◌+◌, ◌<◌, ◌↔◌, ℕ,
 ghost use Rattle.bip_defs.specs.Blocks.{Block, IsBlock, IsPerfect};
 ghost use Rattle.bip_defs.specs.Components.{AreComponents, IsComponent};
 ghost use Rattle.bip_defs.specs.Decomposition.{Decomposition, IsDecompositionOf};
-ghost use Rattle.bip_defs.specs.Lists.{Among, Lists};
-ghost use Rattle.bip_defs.specs.Matching.{IsHallSet, IsMatching, IsMaximum, IsRank, transposed_places};
+ghost use Rattle.bip_defs.specs.LeastMatching.{IsLeastMaximum, code};
+ghost use Rattle.bip_defs.specs.Lists.{Among, IsRising, Lists};
+ghost use Rattle.bip_defs.specs.Matching.{IsHallSet, IsMatching, IsMaximum, IsRank, cols_of, transposed_places};
 ghost use Rattle.bip_defs.specs.Matrix.{AreEntries, HasPlaces, IsEntry, IsTransposeOf, Matrix, Place, cols, neighbours, row_list, transpose};
 ghost use Rattle.bip_defs.specs.Parts.{ArePartsOf, IsHorizontalCol, IsHorizontalRow, IsSquareCol, IsVerticalCol, IsVerticalRow, Parts};
 ghost use Rattle.bip_defs.specs.Paths.{IsAugmenting};
@@ -17,6 +18,9 @@ ghost use Rattle.bip_defs.specs.Searches.{AreReadOff};
 ghost use Rattle.bip_defs.specs.Walks.{IsReached};
 ghost use Rattle.bip_defs.specs.Witness.{IsWitness};
 
+pub mod bottleneck;
+pub mod connected_components;
+pub mod edited_matrix;
 pub mod examples;
 pub mod triangular_form;
 
@@ -127,6 +131,16 @@ pub fn one_parts()
 pub fn one_decomposition()
     ensures { (a : Matrix) (d e : Decomposition) → IsDecompositionOf a d → IsDecompositionOf a e
         → d ≡ e }
+{}
+
+/// Two least maximum matchings of a matrix have one code and the same pairs, and listed by column they are equal.
+pub fn one_least_matching()
+    ensures code { (a : Matrix) (m n : List Place) → IsLeastMaximum a m → IsLeastMaximum a n
+        → code a m ≡ code a n }
+    ensures pairs { (a : Matrix) (m n : List Place) (p : Place) → IsLeastMaximum a m
+        → IsLeastMaximum a n → Among p m ↔ Among p n }
+    ensures by_column { (a : Matrix) (m n : List Place) → IsLeastMaximum a m → IsLeastMaximum a n
+        → IsRising (cols_of m) → IsRising (cols_of n) → m ≡ n }
 {}
 
 /// The places determine the matrix.

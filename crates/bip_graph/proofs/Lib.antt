@@ -8,6 +8,7 @@ pub mod MateArrays
 pub mod Members
 pub mod Mutual
 pub mod Offsets
+pub mod PairParted
 pub mod PartlyExchanged
 pub mod QueueTrees
 pub mod Reports

@@ -3,7 +3,7 @@ use Rattle.std.proofs.Common.{◌≡◌, ◌≢◌, ◌∙◌, ℕ, ◌<◌, Lis
 use Rattle.std.proofs.lemmas.List.{get_or_read}
 use Rattle.bip_defs.specs.Lists.{Among, AreDistinct, IsRising}
 use Rattle.bip_defs.specs.Matching.{cols_of, rows_of}
-use Rattle.bip_defs.specs.Paths.{Gives}
+use Rattle.bip_defs.specs.Paths.{Reassigns}
 use Rattle.bip_defs.proofs.Sets.{row_pair}
 use Rattle.bip_graph.specs.Matching.{AreMates, Pairing, none, pairs_of}
 use Rattle.bip_graph.proofs.Arrays.{cols_rising, missed, read, stored, unread}
@@ -72,5 +72,5 @@ taken_from {xs = xs} {ys = ys} {n = n} {j = j} {i = i} {r = r} {c = c} {x = x} m
         let same : d ≡ x = sym (back xs ys n r d m k).1 ∙ read_at ys j r x e row_in g in
         record { mates = m; row_in = row_in; col_in = col_in; mate = read_at ys j r x e row_in g; mate_in = subst (λ z. z < length xs) same is.0; mate_has = subst (λ z. get_or xs z 0 ≡ r) same is.1; col_free = missed xs c col_in nc }
 
-pub seen_gives : {xs ys new : List ℕ} {n : ℕ} {v : Pairing} {j i r c : ℕ} → AreMates xs ys n → shown xs ys ≡ v → j ≡ r → i ≡ c → IsHanded xs new j i → j < length ys → Gives (r, c) v.pairs (pairs_of new)
-seen_gives {xs = xs} {ys = ys} {new = new} {n = n} {j = j} {i = i} {r = r} {c = c} m seen e f h lt = subst (λ (w : Pairing). Gives (r, c) w.pairs (pairs_of new)) seen (subst (λ r. Gives (r, c) (pairs_of xs) (pairs_of new)) e (subst (λ c. Gives (j, c) (pairs_of xs) (pairs_of new)) f (handed_gives xs new ys n j i m h lt)))
+pub seen_gives : {xs ys new : List ℕ} {n : ℕ} {v : Pairing} {j i r c : ℕ} → AreMates xs ys n → shown xs ys ≡ v → j ≡ r → i ≡ c → IsHanded xs new j i → j < length ys → Reassigns (r, c) v.pairs (pairs_of new)
+seen_gives {xs = xs} {ys = ys} {new = new} {n = n} {j = j} {i = i} {r = r} {c = c} m seen e f h lt = subst (λ (w : Pairing). Reassigns (r, c) w.pairs (pairs_of new)) seen (subst (λ r. Reassigns (r, c) (pairs_of xs) (pairs_of new)) e (subst (λ c. Reassigns (j, c) (pairs_of xs) (pairs_of new)) f (handed_gives xs new ys n j i m h lt)))

@@ -4,7 +4,7 @@ use Rattle.std.proofs.lemmas.List.{get_or_default}
 use Rattle.bip_defs.specs.Lists.{Among, AreDistinct}
 use Rattle.bip_defs.specs.Matching.{cols_of, rows_of}
 use Rattle.bip_defs.specs.Matrix.{Place}
-use Rattle.bip_defs.specs.Paths.{Exchanges, Gives, IsAugmenting}
+use Rattle.bip_defs.specs.Paths.{Exchanges, Reassigns, IsAugmenting}
 use Rattle.bip_defs.proofs.Exchange.{Flipping, flipping_col_free, flipping_end, flipping_in_range, flipping_row_free, flipping_row_taken, flipping_start, flipping_step, pair_at}
 use Rattle.bip_defs.proofs.Sets.{among_at}
 use Rattle.bip_graph.specs.Matching.{Pairing}
@@ -44,9 +44,9 @@ pub halfway_row_free : {path : List Place} {old now : Pairing} {k : ℕ} {step :
 halfway_row_free {path = path} {old = old} {now = now} {k = k} is h e = subst (λ (p : Place). ¬ Among p.0 (rows_of now.pairs)) (sym (at is h)) (flipping_row_free path old.pairs now.pairs k h.flipping e)
 
 -- one pair more
-pub halfway_more : {path : List Place} {old now next : Pairing} {k : ℕ} {step : Place} → step ≡ get_or path k step → IsHalfway path old now k → k < length path - 1 → AreDistinct (cols_of now.pairs) → Gives (step.0, step.1) now.pairs next.pairs → length next.pairs ≡ length now.pairs → (next.rows ≡ now.rows) × (next.cols ≡ now.cols) → IsHalfway path old next (k + 1)
+pub halfway_more : {path : List Place} {old now next : Pairing} {k : ℕ} {step : Place} → step ≡ get_or path k step → IsHalfway path old now k → k < length path - 1 → AreDistinct (cols_of now.pairs) → Reassigns (step.0, step.1) now.pairs next.pairs → length next.pairs ≡ length now.pairs → (next.rows ≡ now.rows) × (next.cols ≡ now.cols) → IsHalfway path old next (k + 1)
 halfway_more {path = path} {old = old} {now = now} {next = next} {k = k} is h lt differ g count sizes = record {
-  flipping = subst (Flipping path old.pairs next.pairs) (let e : suc k ≡ k + 1 = omega arith in e) (flipping_step path old.pairs now.pairs next.pairs k h.flipping (omega arith) differ (subst (λ (p : Place). Gives (p.0, p.1) now.pairs next.pairs) (at is h) g));
+  flipping = subst (Flipping path old.pairs next.pairs) (let e : suc k ≡ k + 1 = omega arith in e) (flipping_step path old.pairs now.pairs next.pairs k h.flipping (omega arith) differ (subst (λ (p : Place). Reassigns (p.0, p.1) now.pairs next.pairs) (at is h) g));
   rows = sizes.0 ∙ h.rows;
   cols = sizes.1 ∙ h.cols;
   count = count ∙ h.count;
@@ -59,5 +59,5 @@ halfway_last {path = path} {old = old} {now = now} {k = k} h le ge = subst (IsHa
 pub last_place : {path : List Place} {old now : Pairing} → IsHalfway path old now (length path - 1) → suc (length path - 1) ≡ length path
 last_place h = let lt = halfway_within h in omega arith
 
-pub halfway_end : {path : List Place} {old now : Pairing} (new : List Place) {step : Place} → step ≡ get_or path (length path - 1) step → IsHalfway path old now (length path - 1) → Gives (step.0, step.1) now.pairs new → Exchanges path old.pairs new
-halfway_end {path = path} {old = old} {now = now} new is h g = flipping_end path old.pairs now.pairs new (length path - 1) h.flipping (last_place h) (subst (λ (p : Place). Gives (p.0, p.1) now.pairs new) (at is h) g)
+pub halfway_end : {path : List Place} {old now : Pairing} (new : List Place) {step : Place} → step ≡ get_or path (length path - 1) step → IsHalfway path old now (length path - 1) → Reassigns (step.0, step.1) now.pairs new → Exchanges path old.pairs new
+halfway_end {path = path} {old = old} {now = now} new is h g = flipping_end path old.pairs now.pairs new (length path - 1) h.flipping (last_place h) (subst (λ (p : Place). Reassigns (p.0, p.1) now.pairs new) (at is h) g)

@@ -3,7 +3,7 @@ use Rattle.std.proofs.Common.{◌≡◌, ◌≢◌, ◌⊎◌, ◌↔◌, ◌∙
 use Rattle.bip_defs.specs.Lists.{Among}
 use Rattle.bip_defs.specs.Matching.{rows_of}
 use Rattle.bip_defs.specs.Matrix.{Place}
-use Rattle.bip_defs.specs.Paths.{Gives}
+use Rattle.bip_defs.specs.Paths.{Reassigns}
 use Rattle.bip_defs.proofs.Sets.{number_same, row_among}
 use Rattle.bip_graph.specs.Matching.{AreMates, LeadsBack, none, pairs_of}
 use Rattle.bip_graph.proofs.Arrays.{one_more_from, one_less_from, few_pairs, read, stored}
@@ -63,7 +63,7 @@ handed_mates old new ys n m r c mates h lt count = record {
   count = count;
 }
 
-pub handed_gives : (old new ys : List ℕ) (n r c : ℕ) → AreMates old ys n → IsHanded old new r c → r < length ys → Gives (r, c) (pairs_of old) (pairs_of new)
+pub handed_gives : (old new ys : List ℕ) (n r c : ℕ) → AreMates old ys n → IsHanded old new r c → r < length ys → Reassigns (r, c) (pairs_of old) (pairs_of new)
 handed_gives old new ys n r c m h lt q = (over, return)
   where
     over : Among q (pairs_of new) → (q ≡ (r, c)) ⊎ (Among q (pairs_of old) × (q.0 ≢ r))
@@ -85,7 +85,7 @@ handed_gives old new ys n r c m h lt q = (over, return)
         stored new q.0 q.1 (let lt = is.0 in omega (arith, h.same_length)) (h.kept q.1 is.0 apart (λ e. k.1 (sym is.1 ∙ e)) ∙ is.1) is.2
 
 -- where the row had no mate, all pairs stay
-pub gives_adds : (r c : ℕ) (old new : List Place) → Gives (r, c) old new → ¬ Among r (rows_of old) → (p : Place) → Among p new ↔ ((p ≡ (r, c)) ⊎ Among p old)
+pub gives_adds : (r c : ℕ) (old new : List Place) → Reassigns (r, c) old new → ¬ Among r (rows_of old) → (p : Place) → Among p new ↔ ((p ≡ (r, c)) ⊎ Among p old)
 gives_adds r c old new g nh p = (λ h. ⊎_elim (λ e. inl e) (λ k. inr k.0) ((g p).0 h), λ h. (g p).1 (⊎_elim (λ e. inl e) (λ k. inr (k, λ (e : p.0 ≡ r). nh (subst (λ x. Among x (rows_of old)) e (row_among p.0 p.1 old k)))) h))
 
 -- A row without a mate, and a column without one.

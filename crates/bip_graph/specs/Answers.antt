@@ -1,5 +1,6 @@
 -- What the texts of a matrix say: each is the text of its rank, parts and blocks as they are defined.
 use Rattle.std.specs.Prelude.{◌≡◌, ℕ, Bool, true, false, List, [], ◌∷◌, ◌++◌, Option, None, Some}
+use Rattle.bip_defs.specs.ConnectedComponents.{AreConnectedComponents, Components}
 use Rattle.bip_defs.specs.Decomposition.{Decomposition, IsDecompositionOf}
 use Rattle.bip_defs.specs.Lists.{IsRising, Lists}
 use Rattle.bip_defs.specs.Matching.{IsMaximum, IsRank, cols_of}
@@ -30,10 +31,11 @@ where_asked true x = Some x
 where_asked false x = None
 
 -- what is reported of a matrix: its decomposition, and what else is asked for
-abbrev pub report_of : Matrix → Decomposition → Bool → Option (List Place) → Report
-report_of a d order pairs = record {
+abbrev pub report_of : Matrix → Decomposition → Option Components → Bool → Option (List Place) → Report
+report_of a d components order pairs = record {
   sizes = sizes_of a;
   rank = d.rank;
+  components = components;
   horizontal_rows = d.parts.horizontal_rows;
   horizontal_cols = d.parts.horizontal_cols;
   blocks = d.blocks;
@@ -50,19 +52,27 @@ ArePairs a true None = ⊥
 ArePairs a false (Some m) = ⊥
 ArePairs a false None = Unit {0}
 
--- the report of a matrix, with pairs or without
-pub record IsAnalysis (a : Matrix) (order pairs : Bool) (text : List ℕ) : Type 0 where
+-- version 1 has no components, version 2 those of the matrix in their order
+abbrev pub AreOfVersion : Matrix → ℕ → Option Components → Type 0
+AreOfVersion a version None = version ≡ 1
+AreOfVersion a version (Some c) = (version ≡ 2) × AreConnectedComponents a c
+
+-- the report of a matrix in this version, with pairs or without
+pub record IsAnalysis (a : Matrix) (version : ℕ) (order pairs : Bool)
+    (text : List ℕ) : Type 0 where
   pub decomposition : Decomposition
   pub is_decomposition : IsDecompositionOf a decomposition
+  pub components : Option Components
+  pub of_version : AreOfVersion a version components
   pub matching : Option (List Place)
   pub are_pairs : ArePairs a pairs matching
-  pub spelled : text ≡ report_text (report_of a decomposition order matching)
+  pub spelled : text ≡ report_text (report_of a decomposition components order matching)
 
 -- the report without pairs, and before its end the lines of a maximum matching
-pub record IsWithPairs (a : Matrix) (order : Bool) (text : List ℕ) : Type 0 where
+pub record IsWithPairs (a : Matrix) (version : ℕ) (order : Bool) (text : List ℕ) : Type 0 where
   pub prefix : List ℕ
   pub matching : List Place
   pub is_maximum : IsMaximum a matching
   pub is_rising : IsRising (cols_of matching)
-  pub is_report : IsAnalysis a order false (prefix ++ text_of (end_line ∷ []))
+  pub is_report : IsAnalysis a version order false (prefix ++ text_of (end_line ∷ []))
   pub spelled : text ≡ prefix ++ text_of (pair_lines (Some matching)) ++ text_of (end_line ∷ [])

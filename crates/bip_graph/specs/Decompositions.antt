@@ -1,8 +1,10 @@
 -- What the answers show: the values that the definitions speak of.
 use Rattle.std.specs.Prelude.{◌≡◌}
+use Rattle.bip_defs.specs.ConnectedComponents as connected
 use Rattle.bip_defs.specs.Decomposition as whole
 use Rattle.bip_defs.specs.Matrix.{Matrix, cols, entry_count}
 use Rattle.bip_defs.specs.Parts as coarse
+use Rattle.bip_graph.specs.declared.answers.Components.{Components}
 use Rattle.bip_graph.specs.declared.answers.Decomposition.{Decomposition}
 use Rattle.bip_graph.specs.declared.answers.Parts.{Parts}
 
@@ -16,6 +18,10 @@ parts_of p = record {
   vertical_rows = p.vr.items;
   vertical_cols = p.vc.items;
 }
+
+-- both lists
+abbrev pub components_of : Components → connected.Components
+components_of c = record { horizontal = c.horizontal; vertical = c.vertical }
 
 -- the rank, the parts and the blocks
 abbrev pub decomposition_of : Decomposition → whole.Decomposition

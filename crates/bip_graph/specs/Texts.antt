@@ -3,6 +3,7 @@ use Rattle.std.specs.Prelude.{ℕ, suc, ◌+◌, ◌==◌, if◌then◌else◌, 
 use Rattle.std.specs.List.{flat_map, sum_by}
 use Rattle.std.specs.Fmt.{decimal}
 use Rattle.bip_defs.specs.Blocks.{Block}
+use Rattle.bip_defs.specs.ConnectedComponents.{Components}
 use Rattle.bip_defs.specs.Matrix.{Matrix, Place, cols, entry_count}
 
 -- a word, and numbers behind it
@@ -64,10 +65,11 @@ rank_text s k rows cols = text_of (rank_lines s k rows cols)
 
 -- ---- the report
 
--- what a report says; the orders and the pairs may be left out
+-- what a report says; version 1 has no components, and the orders and the pairs may be left out
 pub record Report : Type 0 where
   pub sizes : Sizes
   pub rank : ℕ
+  pub components : Option Components
   pub horizontal_rows : List ℕ
   pub horizontal_cols : List ℕ
   pub blocks : List Block
@@ -91,6 +93,34 @@ square_line bs = line (codes "square") (square_size bs ∷ length bs ∷ [])
 abbrev pub square_lines : List Block → List TextLine
 square_lines bs = square_line bs ∷ block_lines 1 bs
 
+-- the components of a part from number i on: their numbers, the lengths of their lists, and the lists, empty or not
+abbrev pub component_lines : ℕ → List Block → List TextLine
+component_lines i [] = []
+component_lines i (b ∷ bs) = line (codes "component") (i ∷ length b.rows ∷ length b.cols ∷ [])
+    ∷ lists b.rows b.cols ++ component_lines (suc i) bs
+
+-- how many components a part has, and they
+abbrev pub numbered_components : List ℕ → List Block → List TextLine
+numbered_components word bs = line word (length bs ∷ []) ∷ component_lines 1 bs
+
+-- the horizontal components, in version 2
+abbrev pub horizontal_components : Option Components → List TextLine
+horizontal_components None = []
+horizontal_components (Some c) = numbered_components (codes "horizontal_components") c.horizontal
+
+-- the vertical ones
+abbrev pub vertical_components : Option Components → List TextLine
+vertical_components None = []
+vertical_components (Some c) = numbered_components (codes "vertical_components") c.vertical
+
+-- a report with components is of version 2, and without them of version 1
+abbrev pub version_of : {X : Type 0} → Option X → ℕ
+version_of None = 1
+version_of (Some x) = 2
+
+abbrev pub version_line : Option Components → TextLine
+version_line components = line (codes "btf") (version_of components ∷ [])
+
 abbrev pub order_lines : Option (List ℕ × List ℕ) → List TextLine
 order_lines None = []
 order_lines (Some orders) = line (codes "row_order") (counted orders.0)
@@ -106,12 +136,14 @@ pair_lines (Some pairs) = line (codes "pairs") (length pairs ∷ []) ∷ map pai
 
 abbrev pub report_lines : Report → List TextLine
 report_lines r =
-    line (codes "btf") (1 ∷ [])
+    version_line r.components
     ∷ matrix_line r.sizes
     ∷ rank_line r.rank
     ∷ part (codes "horizontal") r.horizontal_rows r.horizontal_cols
+    ++ horizontal_components r.components
     ++ square_lines r.blocks
     ++ part (codes "vertical") r.vertical_rows r.vertical_cols
+    ++ vertical_components r.components
     ++ order_lines r.orders
     ++ pair_lines r.pairs
     ++ end_line ∷ []

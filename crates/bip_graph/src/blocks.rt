@@ -1,4 +1,4 @@
-//! The fine blocks of a square part, in their order.
+//! Lists of blocks: the fine blocks of a square part, or the connected components of another one.
 
 ghost use Rattle.std.specs.Prelude.{◌≡◌, ◌↔◌, ◌+◌, ◌<◌, ◌≤◌, ◌^◌, ◌++◌, [], ◌∷◌, length, slice_index, slice_range, IfOk, IsTrue, OnErr, OnOk};
 ghost use Rattle.bip_defs.specs.Blocks.{all_cols, all_rows, block_at};
@@ -8,7 +8,7 @@ use sp_ids::{Col, OutOfMemory, Row};
 use std::alloc::Global;
 use std::marker::Model;
 
-/// A list of blocks. A block is a list of rows and a list of columns.
+/// A list of blocks. A block is a list of rows and a list of columns: a fine block, or a connected component.
 ///
 /// The rows of all blocks lie one after another in one array, and so do the columns: it keeps 4 bytes a row, 4 a column
 /// and 8 a block.
@@ -113,8 +113,31 @@ impl Blocks {
 
     /// Appends a block of these rows and columns.
     ///
-    /// Answers `OutOfMemory` where there is no room for it, and then the list stays as it is. Work: one copy of both.
+    /// Answers `OutOfMemory` where there is no room for it, and then the list stays as it is; a list has no room for 2^32
+    /// rows or columns in all. Work: one copy of both.
     pub fn push(&mut self, rows: &[Row], cols: &[Col]) -> Result<(), OutOfMemory>
+        ensures ok { OnOk result
+            (self.new ≡ self.old ++ record { rows = rows.now; cols = cols.now } ∷ []) }
+        ensures err { OnErr result (self.new ≡ self.old) }
+    {
+        if !self.can_hold(rows.len(), cols.len()) {
+            return Err(OutOfMemory);
+        }
+        self.append(rows, cols)
+    }
+
+    // Whether so many rows and columns more are less than 2^32 of each in all.
+    fn can_hold(&self, rows: usize, cols: usize) -> bool
+        requires few { (rows < 2 ^ 63) × (cols < 2 ^ 63) }
+        ensures rows { IsTrue result → length (all_rows self.now) + rows < 2 ^ 32 }
+        ensures cols { IsTrue result → length (all_cols self.now) + cols < 2 ^ 32 }
+    {
+        let limit = u32::MAX as usize;
+        self.all_rows().len() + rows <= limit && self.all_cols().len() + cols <= limit
+    }
+
+    // Appends a block.
+    fn append(&mut self, rows: &[Row], cols: &[Col]) -> Result<(), OutOfMemory>
         requires few_rows { length (all_rows self.old) + length rows.now < 2 ^ 32 }
         requires few_cols { length (all_cols self.old) + length cols.now < 2 ^ 32 }
         ensures ok { OnOk result

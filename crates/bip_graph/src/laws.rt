@@ -9,14 +9,14 @@ pub fn one_rank_text()
     ensures { (a : Matrix) (s t : List ℕ) → IsRankText a s → IsRankText a t → s ≡ t }
 {}
 
-/// Two reports of one matrix under the same options, without pairs, are the same bytes.
+/// Two reports of one matrix in one version under the same options, without pairs, are the same bytes.
 pub fn one_report()
-    ensures { (a : Matrix) (order : Bool) (s t : List ℕ) → IsAnalysis a order false s
-        → IsAnalysis a order false t → s ≡ t }
+    ensures { (a : Matrix) (version : ℕ) (order : Bool) (s t : List ℕ)
+        → IsAnalysis a version order false s → IsAnalysis a version order false t → s ≡ t }
 {}
 
 /// The reports with pairs are the one without them, with the lines of any maximum matching before its end.
 pub fn pairs_before_the_end()
-    ensures { (a : Matrix) (order : Bool) (t : List ℕ) → IsAnalysis a order true t
-        ↔ IsWithPairs a order t }
+    ensures { (a : Matrix) (version : ℕ) (order : Bool) (t : List ℕ)
+        → IsAnalysis a version order true t ↔ IsWithPairs a version order t }
 {}

@@ -4,7 +4,7 @@ ghost use Rattle.std.specs.Prelude.{◌≡◌, ◌≢◌, ◌↔◌, ◌⊎◌, 
 ghost use Rattle.bip_defs.specs.Lists.{Among, AreDistinct, IsRising, option_at};
 ghost use Rattle.bip_defs.specs.Matching.{Covers, IsMatching, rows_of, cols_of};
 ghost use Rattle.bip_defs.specs.Matrix.{AreEntries, Matrix, Place};
-ghost use Rattle.bip_defs.specs.Paths.{Exchanges, Gives, IsAugmenting};
+ghost use Rattle.bip_defs.specs.Paths.{Exchanges, Reassigns, IsAugmenting};
 ghost use Rattle.bip_graph.specs.Mates.{AreMutual};
 ghost use Rattle.bip_graph.specs.Matching.{Pairing, pairs_of};
 
@@ -139,7 +139,7 @@ impl Matching {
         requires col_in_range { col < self.old.cols }
         requires row_free { ¬ Among row (rows_of self.old.pairs) }
         requires col_free { ¬ Among col (cols_of self.old.pairs) }
-        ensures pairs { Gives (row, col) self.old.pairs self.new.pairs }
+        ensures pairs { Reassigns (row, col) self.old.pairs self.new.pairs }
         ensures added { (p : Place) → Among p self.new.pairs
             ↔ ((p ≡ (row, col)) ⊎ Among p self.old.pairs) }
         ensures size { length self.new.pairs ≡ suc (length self.old.pairs) }
@@ -150,13 +150,27 @@ impl Matching {
         self.size += 1;
     }
 
+    /// Parts a pair: its row and its column have no mate then, and all other pairs stay.
+    pub fn unpair(&mut self, row: Row, col: Col)
+        requires { Among (row, col) self.old.pairs }
+        ensures pairs { (p : Place) → Among p self.new.pairs
+            ↔ (Among p self.old.pairs × (p.0 ≢ row)) }
+        ensures size { length self.old.pairs ≡ suc (length self.new.pairs) }
+        ensures sizes { (self.new.rows ≡ self.old.rows) × (self.new.cols ≡ self.old.cols) }
+    {
+        let (at_row, at_col) = (row.0 as usize, col.0 as usize);
+        self.row_of_col[at_col] = NONE;
+        self.col_of_row[at_row] = NONE;
+        self.size -= 1;
+    }
+
     // Gives a matched row to an unmatched column. The column that had it has no mate then.
     fn give(&mut self, row: Row, col: Col)
         requires row_in_range { row < self.old.rows }
         requires col_in_range { col < self.old.cols }
         requires row_taken { Among row (rows_of self.old.pairs) }
         requires col_free { ¬ Among col (cols_of self.old.pairs) }
-        ensures pairs { Gives (row, col) self.old.pairs self.new.pairs }
+        ensures pairs { Reassigns (row, col) self.old.pairs self.new.pairs }
         ensures cols_differ { AreDistinct (cols_of self.old.pairs) }
         ensures size { length self.new.pairs ≡ length self.old.pairs }
         ensures sizes { (self.new.rows ≡ self.old.rows) × (self.new.cols ≡ self.old.cols) }

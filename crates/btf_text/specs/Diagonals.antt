@@ -47,7 +47,7 @@ abbrev pub diagonal_text : Weighing → Heaviest → List ℕ
 diagonal_text w answer = text_of (diagonal_lines w answer)
 
 -- the pairs of a diagonal are entries of the matrix
-abbrev pub HasEntries : Matrix → Heaviest → Type 0
-HasEntries a Rectangular = Unit {0}
-HasEntries a (Singular rank hall) = Unit {0}
-HasEntries a (Diagonal pairs u v sum) = AreEntries a pairs.items
+abbrev pub PairsAreEntries : Matrix → Heaviest → Type 0
+PairsAreEntries a Rectangular = Unit {0}
+PairsAreEntries a (Singular rank hall) = Unit {0}
+PairsAreEntries a (Diagonal pairs u v sum) = AreEntries a pairs.items

@@ -19,9 +19,9 @@ abbrev pub Stops : {Y : Type 0} → Stop → Option Y → Type 0
 Stops Memory read = Unit {0}
 Stops Other read = read ≡ None
 
-abbrev pub Gives : {X Y : Type 0} → (X → Y) → Result X Stop → Option Y → Type 0
-Gives view (Ok x) read = read ≡ Some (view x)
-Gives view (Err e) read = Stops e read
+abbrev pub ReadsAs : {X Y : Type 0} → (X → Y) → Result X Stop → Option Y → Type 0
+ReadsAs view (Ok x) read = read ≡ Some (view x)
+ReadsAs view (Err e) read = Stops e read
 
 -- ---- words and numbers
 

@@ -5,7 +5,7 @@ ghost use Rattle.std.specs.Fmt.{signed_decimal};
 ghost use Rattle.bip_defs.specs.Lists.{Among, IsRising};
 ghost use Rattle.bip_defs.specs.Matrix.{AreEntries, IsEntry, neighbours, touches};
 ghost use Rattle.bip_graph.specs.Texts.{counted, line, spaced};
-ghost use Rattle.btf_text.specs.Diagonals.{HasEntries, diagonal_lines, diagonal_text, entry_line, signed_line, singular_lines, weighed_lines};
+ghost use Rattle.btf_text.specs.Diagonals.{PairsAreEntries, diagonal_lines, diagonal_text, entry_line, signed_line, singular_lines, weighed_lines};
 ghost use Rattle.btf_text.specs.Buffered.{Appends, AppendsLines};
 ghost use Rattle.sp_ports.specs.Device.{Writes, seen};
 
@@ -166,7 +166,7 @@ fn put_answer<K: Sink>(
     weights: &Weights,
 )
     requires weights { weights.now.matrix ≡ pattern.now }
-    requires entries { HasEntries pattern.now answer.now }
+    requires entries { PairsAreEntries pattern.now answer.now }
     ensures { AppendsLines (seen K.taken K.faults out.old out.new) buf.old buf.new
         (diagonal_lines weights.now answer.now) }
 {
@@ -204,7 +204,7 @@ pub fn write_diagonal<K: Sink>(
     weights: &Weights,
 ) -> Result<(), Failed>
     requires weights { weights.now.matrix ≡ pattern.now }
-    requires entries { HasEntries pattern.now answer.now }
+    requires entries { PairsAreEntries pattern.now answer.now }
     ensures { Writes (seen K.taken K.faults out.old out.new)
         (diagonal_text weights.now answer.now) result }
 {

@@ -2,7 +2,7 @@
 
 ghost use Rattle.std.specs.Prelude.{◌≡◌, IfOk, IsTrue};
 ghost use Rattle.bip_defs.specs.Matrix.{AreEntries};
-ghost use Rattle.btf_text.specs.Diagonals.{HasEntries};
+ghost use Rattle.btf_text.specs.Diagonals.{PairsAreEntries};
 ghost use Rattle.sp_ids.specs.declared.triples.Field.TheVariants.{Integer};
 
 use crate::{TextBuf, write_diagonal};
@@ -45,7 +45,7 @@ fn are_entries(pattern: &Pattern, pairs: &[(Row, Col)]) -> bool
 
 /// Whether the pairs of a diagonal are entries.
 fn has_entries(pattern: &Pattern, answer: &Heaviest) -> bool
-    ensures { IsTrue result → HasEntries pattern.now answer.now }
+    ensures { IsTrue result → PairsAreEntries pattern.now answer.now }
 {
     match answer {
         Heaviest::Rectangular => true,

@@ -1,7 +1,7 @@
 //! Words, numbers and lines of a report that is read.
 
 ghost use Rattle.std.specs.Prelude.{◌≡◌, suc, length, map};
-ghost use Rattle.btf_text.specs.ReportGrammar.{Gives, digits_on, field_at, id_of, ids_at, line_end, list_at, number_at, one_at, rises, two_at, word_at};
+ghost use Rattle.btf_text.specs.ReportGrammar.{ReadsAs, digits_on, field_at, id_of, ids_at, line_end, list_at, number_at, one_at, rises, two_at, word_at};
 
 use crate::stop::Stop;
 use sp_ids::Id;
@@ -10,7 +10,7 @@ use std::alloc::Global;
 /// What is behind a word.
 #[tactic(auto, unfolding(crate::specs::ReportGrammar::word_at))]
 pub(crate) fn word_at<'a>(bytes: &'a [u8], word: &[u8]) -> Result<&'a [u8], Stop>
-    ensures { Gives (λ x. x.now) result (word_at word.now bytes.now) }
+    ensures { ReadsAs (λ x. x.now) result (word_at word.now bytes.now) }
 {
     if !bytes.starts_with(word) {
         return Err(Stop::Other);
@@ -21,14 +21,14 @@ pub(crate) fn word_at<'a>(bytes: &'a [u8], word: &[u8]) -> Result<&'a [u8], Stop
 /// What is behind the end of a line.
 #[tactic(auto, unfolding(crate::specs::ReportGrammar::line_end))]
 pub(crate) fn line_end(bytes: &[u8]) -> Result<&[u8], Stop>
-    ensures { Gives (λ x. x.now) result (line_end bytes.now) }
+    ensures { ReadsAs (λ x. x.now) result (line_end bytes.now) }
 {
     word_at(bytes, b"\n")
 }
 
 /// A number goes on with the digits that stand there.
 fn digits_on(first: u32, bytes: &[u8]) -> Result<(u32, &[u8]), Stop>
-    ensures { Gives (λ x. (x.0, x.1.now)) result (digits_on first bytes.now) }
+    ensures { ReadsAs (λ x. (x.0, x.1.now)) result (digits_on first bytes.now) }
 {
     let mut value = first;
     for at in 0..bytes.len() {
@@ -48,7 +48,7 @@ fn digits_on(first: u32, bytes: &[u8]) -> Result<(u32, &[u8]), Stop>
 /// A number below 2^32, and what is behind it. Behind a leading zero no digit is read.
 #[tactic(auto, unfolding(crate::specs::ReportGrammar::number_at))]
 pub(crate) fn number_at(bytes: &[u8]) -> Result<(u32, &[u8]), Stop>
-    ensures { Gives (λ x. (x.0, x.1.now)) result (number_at bytes.now) }
+    ensures { ReadsAs (λ x. (x.0, x.1.now)) result (number_at bytes.now) }
 {
     let [digit, rest @ ..] = bytes else {
         return Err(Stop::Other);
@@ -65,7 +65,7 @@ pub(crate) fn number_at(bytes: &[u8]) -> Result<(u32, &[u8]), Stop>
 /// A space and a number.
 #[tactic(auto, unfolding(crate::specs::ReportGrammar::field_at))]
 pub(crate) fn field_at(bytes: &[u8]) -> Result<(u32, &[u8]), Stop>
-    ensures { Gives (λ x. (x.0, x.1.now)) result (field_at bytes.now) }
+    ensures { ReadsAs (λ x. (x.0, x.1.now)) result (field_at bytes.now) }
 {
     let rest = word_at(bytes, b" ")?;
     number_at(rest)
@@ -74,7 +74,7 @@ pub(crate) fn field_at(bytes: &[u8]) -> Result<(u32, &[u8]), Stop>
 /// The place from 0 of a row or column that counts from 1.
 #[tactic(auto, unfolding(crate::specs::ReportGrammar::id_of))]
 pub(crate) fn id_of(number: u32, rest: &[u8]) -> Result<(u32, &[u8]), Stop>
-    ensures { Gives (λ x. (x.0, x.1.now)) result (id_of (number, rest.now)) }
+    ensures { ReadsAs (λ x. (x.0, x.1.now)) result (id_of (number, rest.now)) }
 {
     if number == 0 {
         return Err(Stop::Other);
@@ -85,7 +85,7 @@ pub(crate) fn id_of(number: u32, rest: &[u8]) -> Result<(u32, &[u8]), Stop>
 /// A line of a word and one number.
 #[tactic(auto, unfolding(crate::specs::ReportGrammar::one_at))]
 pub(crate) fn one_at<'a>(bytes: &'a [u8], word: &[u8]) -> Result<(u32, &'a [u8]), Stop>
-    ensures { Gives (λ x. (x.0, x.1.now)) result (one_at word.now bytes.now) }
+    ensures { ReadsAs (λ x. (x.0, x.1.now)) result (one_at word.now bytes.now) }
 {
     let rest = word_at(bytes, word)?;
     let (a, rest) = field_at(rest)?;
@@ -96,7 +96,7 @@ pub(crate) fn one_at<'a>(bytes: &'a [u8], word: &[u8]) -> Result<(u32, &'a [u8])
 /// A line of a word and two numbers.
 #[tactic(auto, unfolding(crate::specs::ReportGrammar::two_at))]
 pub(crate) fn two_at<'a>(bytes: &'a [u8], word: &[u8]) -> Result<((u32, u32), &'a [u8]), Stop>
-    ensures { Gives (λ x. (x.0, x.1.now)) result (two_at word.now bytes.now) }
+    ensures { ReadsAs (λ x. (x.0, x.1.now)) result (two_at word.now bytes.now) }
 {
     let rest = word_at(bytes, word)?;
     let (a, rest) = field_at(rest)?;
@@ -107,7 +107,7 @@ pub(crate) fn two_at<'a>(bytes: &'a [u8], word: &[u8]) -> Result<((u32, u32), &'
 
 /// The rows or columns of a line, up to its end.
 fn ids_at<N: Id>(alloc: Global, bytes: &[u8]) -> Result<(Vec<N>, &[u8]), Stop>
-    ensures { Gives (λ x. (map N.number x.0.items, x.1.now)) result
+    ensures { ReadsAs (λ x. (map N.number x.0.items, x.1.now)) result
         (ids_at (suc (length bytes.now)) bytes.now) }
 {
     let mut ids = Vec::new(alloc);
@@ -129,7 +129,7 @@ pub(crate) fn list_at<'a, N: Id>(
     bytes: &'a [u8],
     word: &[u8],
 ) -> Result<(Vec<N>, &'a [u8]), Stop>
-    ensures { Gives (λ x. (map N.number x.0.items, x.1.now)) result (list_at word.now bytes.now) }
+    ensures { ReadsAs (λ x. (map N.number x.0.items, x.1.now)) result (list_at word.now bytes.now) }
 {
     let rest = word_at(bytes, word)?;
     ids_at(alloc, rest)

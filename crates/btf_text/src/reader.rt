@@ -4,7 +4,7 @@ ghost use Rattle.std.specs.Prelude.{◌≡◌, IfOk, IfSome, IfNone};
 ghost use Rattle.bip_graph.specs.Texts as texts;
 ghost use Rattle.bip_graph.specs.Texts.{report_text};
 ghost use Rattle.btf_text.specs.Readable.{IsReadable};
-ghost use Rattle.btf_text.specs.ReportGrammar.{Gives, head_at, report_at, sizes_at, tail_at};
+ghost use Rattle.btf_text.specs.ReportGrammar.{ReadsAs, head_at, report_at, sizes_at, tail_at};
 ghost use Rattle.btf_text.specs.ReportRead.{GivesSquareByBlocks, orders_in, contents};
 
 use crate::numerals::{field_at, line_end, one_at, word_at};
@@ -35,7 +35,7 @@ pub struct Report {
 /// The numbers of rows, columns and entries.
 #[tactic(auto, unfolding(crate::specs::ReportGrammar::sizes_at))]
 fn sizes_at(bytes: &[u8]) -> Result<((u32, u32, u32), &[u8]), Stop>
-    ensures { Gives (λ x. (record { rows = x.0.0; cols = x.0.1; entries = x.0.2 }, x.1.now)) result
+    ensures { ReadsAs (λ x. (record { rows = x.0.0; cols = x.0.1; entries = x.0.2 }, x.1.now)) result
         (sizes_at bytes.now) }
 {
     let rest = word_at(bytes, b"matrix")?;
@@ -49,7 +49,7 @@ fn sizes_at(bytes: &[u8]) -> Result<((u32, u32, u32), &[u8]), Stop>
 /// What stands in front of the parts: the sizes of the matrix and its rank.
 #[tactic(auto, unfolding(crate::specs::ReportGrammar::head_at))]
 fn head_at(bytes: &[u8]) -> Result<(((u32, u32, u32), u32), &[u8]), Stop>
-    ensures { Gives (λ x.
+    ensures { ReadsAs (λ x.
         ((record { rows = x.0.0.0; cols = x.0.0.1; entries = x.0.0.2 }, x.0.1), x.1.now)) result
         (head_at bytes.now) }
 {
@@ -69,7 +69,7 @@ struct Tail {
 /// What stands behind the parts: orders and pairs, up to the end of the bytes.
 #[tactic(auto, unfolding(crate::specs::ReportGrammar::tail_at))]
 fn tail_at(alloc: Global, bytes: &[u8]) -> Result<Tail, Stop>
-    ensures { Gives (λ t. (orders_in t.orders, t.pairs.items)) result (tail_at bytes.now) }
+    ensures { ReadsAs (λ t. (orders_in t.orders, t.pairs.items)) result (tail_at bytes.now) }
 {
     let (orders, rest) = orders_at(alloc, bytes)?;
     let (pairs, rest) = pairs_at(alloc, rest)?;
@@ -83,7 +83,7 @@ fn tail_at(alloc: Global, bytes: &[u8]) -> Result<Tail, Stop>
 /// The report that the bytes are.
 #[tactic(auto, unfolding(crate::specs::ReportGrammar::report_at))]
 fn report_at(alloc: Global, bytes: &[u8]) -> Result<Report, Stop>
-    ensures gives { Gives contents result (report_at bytes.now) }
+    ensures gives { ReadsAs contents result (report_at bytes.now) }
     ensures square { IfOk result GivesSquareByBlocks }
 {
     let (((m, n, e), rank), rest) = head_at(bytes)?;

@@ -3,7 +3,7 @@
 ghost use Rattle.std.specs.Prelude.{◌≡◌, ◌<◌, ◌≤◌, ◌+◌, ◌^◌, length, map, Some};
 ghost use Rattle.bip_defs.specs.Matching.{cols_of};
 ghost use Rattle.bip_defs.specs.Blocks.{all_cols, all_rows};
-ghost use Rattle.btf_text.specs.ReportGrammar.{Gives, block_at, blocks_at, both_orders_at, lists_at, orders_at, pair_at, pair_list_at, pairs_at, part_at, rises, square_at};
+ghost use Rattle.btf_text.specs.ReportGrammar.{ReadsAs, block_at, blocks_at, both_orders_at, lists_at, orders_at, pair_at, pair_list_at, pairs_at, part_at, rises, square_at};
 ghost use Rattle.btf_text.specs.ReportRead.{orders_in};
 
 use crate::numerals::{field_at, id_of, line_end, list_at, number_at, one_at, rises, two_at};
@@ -20,7 +20,7 @@ fn lists_at(
     m: u32,
     n: u32,
 ) -> Result<((Vec<Row>, Vec<Col>), &[u8]), Stop>
-    ensures { Gives (λ x. ((x.0.0.items, x.0.1.items), x.1.now)) result (lists_at m n bytes.now) }
+    ensures { ReadsAs (λ x. ((x.0.0.items, x.0.1.items), x.1.now)) result (lists_at m n bytes.now) }
 {
     let (rows, rest) = list_at::<Row>(alloc, bytes, b"rows")?;
     let (cols, rest) = list_at::<Col>(alloc, rest, b"columns")?;
@@ -40,7 +40,7 @@ pub(crate) fn part_at<'a>(
     bytes: &'a [u8],
     word: &[u8],
 ) -> Result<((Vec<Row>, Vec<Col>), &'a [u8]), Stop>
-    ensures { Gives (λ x. ((x.0.0.items, x.0.1.items), x.1.now)) result
+    ensures { ReadsAs (λ x. ((x.0.0.items, x.0.1.items), x.1.now)) result
         (part_at word.now bytes.now) }
 {
     let ((m, n), rest) = two_at(bytes, word)?;
@@ -58,7 +58,7 @@ fn block_at(
     number: u32,
     room: u32,
 ) -> Result<((Vec<Row>, Vec<Col>), &[u8]), Stop>
-    ensures { Gives (λ x. ((x.0.0.items, x.0.1.items), x.1.now)) result
+    ensures { ReadsAs (λ x. ((x.0.0.items, x.0.1.items), x.1.now)) result
         (block_at number room bytes.now) }
 {
     let ((written, size), rest) = two_at(bytes, b"block")?;
@@ -70,7 +70,7 @@ fn block_at(
 
 /// So many blocks, numbered from 1, of at most so many rows in all.
 fn blocks_at(alloc: Global, bytes: &[u8], count: u32, room: u32) -> Result<(Blocks, &[u8]), Stop>
-    ensures { Gives (λ x. (x.0, x.1.now)) result (blocks_at count 1 room bytes.now) }
+    ensures { ReadsAs (λ x. (x.0, x.1.now)) result (blocks_at count 1 room bytes.now) }
 {
     let mut read = Blocks::new(alloc);
     let mut rest = bytes;
@@ -87,7 +87,7 @@ fn blocks_at(alloc: Global, bytes: &[u8], count: u32, room: u32) -> Result<(Bloc
 /// The number of rows in blocks, the number of blocks, and the blocks.
 #[tactic(auto, unfolding(crate::specs::ReportGrammar::square_at))]
 pub(crate) fn square_at(alloc: Global, bytes: &[u8]) -> Result<(Blocks, &[u8]), Stop>
-    ensures { Gives (λ x. (x.0, x.1.now)) result (square_at bytes.now) }
+    ensures { ReadsAs (λ x. (x.0, x.1.now)) result (square_at bytes.now) }
 {
     let ((size, count), rest) = two_at(bytes, b"square")?;
     let (blocks, rest) = blocks_at(alloc, rest, count, size)?;
@@ -100,7 +100,7 @@ pub(crate) fn square_at(alloc: Global, bytes: &[u8]) -> Result<(Blocks, &[u8]), 
 /// Both orders.
 #[tactic(auto, unfolding(crate::specs::ReportGrammar::both_orders_at))]
 fn both_orders_at(alloc: Global, bytes: &[u8]) -> Result<((Vec<Row>, Vec<Col>), &[u8]), Stop>
-    ensures { Gives (λ x. (Some (x.0.0.items, x.0.1.items), x.1.now)) result
+    ensures { ReadsAs (λ x. (Some (x.0.0.items, x.0.1.items), x.1.now)) result
         (both_orders_at bytes.now) }
 {
     let (rows, rest) = list_at::<Row>(alloc, bytes, b"row_order")?;
@@ -114,7 +114,7 @@ pub(crate) fn orders_at(
     alloc: Global,
     bytes: &[u8],
 ) -> Result<(Option<(Vec<Row>, Vec<Col>)>, &[u8]), Stop>
-    ensures { Gives (λ x. (orders_in x.0, x.1.now)) result (orders_at bytes.now) }
+    ensures { ReadsAs (λ x. (orders_in x.0, x.1.now)) result (orders_at bytes.now) }
 {
     if !bytes.starts_with(b"row_order") {
         return Ok((None, bytes));
@@ -126,7 +126,7 @@ pub(crate) fn orders_at(
 /// The line of a pair: the places from 0 of its row and its column.
 #[tactic(auto, unfolding(crate::specs::ReportGrammar::pair_at))]
 fn pair_at(bytes: &[u8]) -> Result<((u32, u32), &[u8]), Stop>
-    ensures { Gives (λ x. ((x.0.0, x.0.1), x.1.now)) result (pair_at bytes.now) }
+    ensures { ReadsAs (λ x. ((x.0.0, x.0.1), x.1.now)) result (pair_at bytes.now) }
 {
     let (number, rest) = number_at(bytes)?;
     let (row, rest) = id_of(number, rest)?;
@@ -138,7 +138,7 @@ fn pair_at(bytes: &[u8]) -> Result<((u32, u32), &[u8]), Stop>
 
 /// The lines of so many pairs.
 fn pair_list_at(alloc: Global, bytes: &[u8], count: u32) -> Result<(Vec<(Row, Col)>, &[u8]), Stop>
-    ensures { Gives (λ x. (x.0.items, x.1.now)) result (pair_list_at count bytes.now) }
+    ensures { ReadsAs (λ x. (x.0.items, x.1.now)) result (pair_list_at count bytes.now) }
 {
     let mut pairs = Vec::new(alloc);
     let mut rest = bytes;
@@ -168,7 +168,7 @@ fn cols_rise(pairs: &[(Row, Col)]) -> bool
 /// The number of pairs, and their lines.
 #[tactic(auto, unfolding(crate::specs::ReportGrammar::pairs_at))]
 pub(crate) fn pairs_at(alloc: Global, bytes: &[u8]) -> Result<(Vec<(Row, Col)>, &[u8]), Stop>
-    ensures { Gives (λ x. (x.0.items, x.1.now)) result (pairs_at bytes.now) }
+    ensures { ReadsAs (λ x. (x.0.items, x.1.now)) result (pairs_at bytes.now) }
 {
     let (count, rest) = one_at(bytes, b"pairs")?;
     let (pairs, rest) = pair_list_at(alloc, rest, count)?;

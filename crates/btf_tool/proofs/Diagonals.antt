@@ -5,7 +5,7 @@ use Rattle.bip_defs.specs.Matrix.{AreEntries, Matrix, Place, cols}
 use Rattle.bip_defs.proofs.Uniqueness.{same_matrix, same_rank}
 use Rattle.bip_graph.specs.declared.answers.Heaviest.{Heaviest}
 use Rattle.bip_graph.specs.declared.answers.Heaviest.TheVariants.{Diagonal, Rectangular, Singular}
-use Rattle.btf_text.specs.Diagonals.{HasEntries}
+use Rattle.btf_text.specs.Diagonals.{PairsAreEntries}
 use Rattle.btf_tool.specs.declared.answers.Answer.{Answer}
 use Rattle.btf_tool.specs.declared.answers.Answer.TheVariants.{Negative, Positive}
 use Rattle.btf_tool.specs.Diagonals.{IsDiagonalText, answer_on}
@@ -116,7 +116,7 @@ needs_ends t status not = record {
 }
 
 -- the pairs of a diagonal are entries
-pub heaviest_entries : (w : Weighing) (a : Matrix) (h : Heaviest) → w.matrix ≡ a → IsHeaviest w h → HasEntries a h
+pub heaviest_entries : (w : Weighing) (a : Matrix) (h : Heaviest) → w.matrix ≡ a → IsHeaviest w h → PairsAreEntries a h
 heaviest_entries w a Rectangular of is = tt
 heaviest_entries w a (Singular rank hall) of is = tt
 heaviest_entries w a (Diagonal pairs u v sum) of is = subst (λ (x : Matrix). AreEntries x pairs.items) of is.full.matching.entries

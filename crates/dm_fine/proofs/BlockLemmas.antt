@@ -14,11 +14,12 @@ use Rattle.sp_pattern.specs.Stored.{piece}
 use Rattle.bip_graph.specs.Matching.{none}
 use Rattle.square_components.specs.Numbers.{AreNumbered, look}
 use Rattle.dm_fine.specs.BlockOrder.{AreOrdered, Follow}
-use Rattle.dm_fine.specs.Groups.{AreApart, AreGroups, AreRowGroups, StandsAt, block_of}
+use Rattle.dm_fine.specs.Groups.{AreApart, AreRowGroups}
+use Rattle.id_groups.specs.Groups.{AreGroups, StandsAt, block_of}
 use Rattle.dm_fine.specs.InDegrees.{IsGathered, least_of, row_edges, edges_at, edges_into}
 use Rattle.dm_fine.proofs.Gathered.{least_stands}
 use Rattle.dm_fine.proofs.OrderLemmas.{follow_distinct, follow_fresh, follow_range}
-use Rattle.dm_fine.proofs.GroupParts.{groups_apart, joined, joined_few}
+use Rattle.dm_fine.proofs.GroupParts.{groups_apart}
 use Rattle.dm_fine.proofs.Sums.{sum_from, sum_some}
 use Rattle.dm_fine.proofs.InDegrees.{edges_hit, edges_miss, edges_own_j}
 
@@ -244,9 +245,3 @@ are_blocks a m numbers n rs r cs c ks small matching s g h ordered = record {
           let long = s.long in
           (q.other, q.row, q.col, q.on, (h.parts j jt).complete q.col (omega (arith, within, long), q.is), q.entry);
     }
-
--- the rows and the columns of all components are few enough
-pub all_few : (n count limit : ℕ) (starts flat ks : List ℕ) (w : ℕ → ℕ → ℕ) (least : ℕ → ℕ) → n < limit → AreApart n count starts flat → AreOrdered count w least ks → length (joined starts flat ks) < limit
-all_few n count limit starts flat ks w least small apart ordered =
-    let few = joined_few n count starts flat ks apart (follow_distinct count w least [] ks ordered.follow) (λ k on. follow_range count w least [] ks k ordered.follow on) in
-    omega (arith, few, small)

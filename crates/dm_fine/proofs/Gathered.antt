@@ -5,7 +5,7 @@ use Rattle.bip_defs.specs.Matrix.{Matrix, cols, row_list}
 use Rattle.bip_defs.proofs.Sets.{among_at}
 use Rattle.sp_pattern.specs.Stored.{piece}
 use Rattle.dm_fine.specs.BlockOrder.{Follow}
-use Rattle.dm_fine.specs.Groups.{AreGroups, StandsAt}
+use Rattle.id_groups.specs.Groups.{AreGroups, StandsAt}
 use Rattle.dm_fine.specs.InDegrees.{AreReady, HaveLeast, IsGathered, least_of, edges_at, edges_into, row_edges}
 use Rattle.dm_fine.proofs.OrderLemmas.{AreLeft, IsTaken, taken_next}
 use Rattle.dm_fine.proofs.Sums.{sum_none}

@@ -8,7 +8,8 @@ use Rattle.bip_defs.specs.Matrix.{Matrix, cols, column, entry_count, row_list, u
 use Rattle.bip_defs.proofs.Sets.{among_either, among_test, few_distinct, filter_distinct, filter_sound, rising_distinct, upto_length, upto_lists}
 use Rattle.bip_defs.proofs.Counts.{distinct_append}
 use Rattle.sp_pattern.specs.Stored.{piece}
-use Rattle.dm_fine.specs.Groups.{AreApart, AreGroups}
+use Rattle.dm_fine.specs.Groups.{AreApart}
+use Rattle.id_groups.specs.Groups.{AreGroups}
 use Rattle.dm_fine.specs.InDegrees.{row_edges, edges_at, edges_into}
 use Rattle.dm_fine.proofs.Sums.{sum_covered, sum_le, sum_places, sum_swapped, sum_same}
 

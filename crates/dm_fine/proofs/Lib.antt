@@ -1,9 +1,7 @@
 pub mod BlockLemmas
 pub mod Gathered
-pub mod GroupLemmas
 pub mod GroupParts
 pub mod InDegrees
-pub mod ListedBlocks
 pub mod MateLemmas
 pub mod OrderLemmas
 pub mod Sums

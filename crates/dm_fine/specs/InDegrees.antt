@@ -3,7 +3,8 @@ use Rattle.std.specs.Prelude.{◌≡◌, ◌≢◌, ◌⊎◌, ℕ, ◌+◌, ◌
 use Rattle.bip_defs.specs.Lists.{Among}
 use Rattle.bip_defs.specs.Matrix.{Matrix, cols, row_list}
 use Rattle.sp_pattern.specs.Stored.{piece}
-use Rattle.dm_fine.specs.Groups.{AreApart, AreGroups}
+use Rattle.dm_fine.specs.Groups.{AreApart}
+use Rattle.id_groups.specs.Groups.{AreGroups}
 
 -- one where the number is j, and j is not the row's own component
 abbrev pub edges_at : ℕ → ℕ → ℕ → ℕ

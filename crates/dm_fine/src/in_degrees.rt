@@ -7,7 +7,7 @@ ghost use Rattle.dm_fine.specs.InDegrees.{MoreSources, HaveLeast, least_of, row_
 ghost use Rattle.dm_fine.specs.Groups.{AreApart};
 ghost use Rattle.sp_pattern.specs.Stored.{piece};
 
-use crate::groups::Groups;
+use id_groups::Groups;
 use int_set::IntSet;
 use sp_ids::{Col, OutOfMemory, Row};
 use sp_pattern::Pattern;

@@ -1,7 +1,6 @@
 //! The fine blocks of a matrix's square part, in their order.
 #![tactic(auto)]
 
-mod groups;
 mod in_degrees;
 mod listed;
 mod mates;
@@ -13,11 +12,11 @@ ghost use Rattle.bip_defs.specs.Parts.{ArePartsOf};
 ghost use Rattle.bip_graph.specs.Matching.{IsMaximumOf};
 ghost use Rattle.bip_graph.specs.Decompositions.{parts_of};
 
-use crate::groups::gather;
 use crate::listed::listed;
 use crate::mates::mates;
 use crate::order::order;
 use bip_graph::{Blocks, Matching, Parts};
+use id_groups::gather;
 use sp_ids::OutOfMemory;
 use sp_pattern::Pattern;
 use square_components::strong_components;

@@ -1,13 +1,11 @@
 //! The components as a list of blocks.
 
-ghost use Rattle.std.specs.Prelude.{◌≡◌, ◌+◌, ◌<◌, ◌^◌, ℕ, map, length, IfOk};
-ghost use Rattle.std.specs.List.{flat_map};
+ghost use Rattle.std.specs.Prelude.{◌≡◌, ◌+◌, ◌<◌, ℕ, map, length, IfOk};
 ghost use Rattle.bip_defs.specs.Lists.{Among};
-ghost use Rattle.dm_fine.specs.Groups.{block_of};
-ghost use Rattle.sp_pattern.specs.Stored.{piece};
+ghost use Rattle.id_groups.specs.Groups.{block_of};
 
-use crate::groups::Groups;
 use bip_graph::Blocks;
+use id_groups::Groups;
 use sp_ids::{Col, OutOfMemory, Row};
 use std::alloc::Global;
 
@@ -20,10 +18,6 @@ pub fn listed(
 ) -> Result<Blocks, OutOfMemory>
     requires rows { (k : ℕ) → Among k order.now → k + 1 < length rows.now.starts.items }
     requires cols { (k : ℕ) → Among k order.now → k + 1 < length cols.now.starts.items }
-    requires few_rows { length
-        (flat_map (piece rows.now.starts.items rows.now.places.items) order.now) < 2 ^ 32 }
-    requires few_cols { length
-        (flat_map (piece cols.now.starts.items cols.now.places.items) order.now) < 2 ^ 32 }
     ensures { IfOk result
         (λ b. b ≡ map (block_of rows.now.starts.items rows.now.places.items cols.now.starts.items
         cols.now.places.items) order.now) }

@@ -4,8 +4,8 @@ ghost use Rattle.std.specs.Prelude.{◌≡◌, ℕ, ◌<◌, ◌^◌, length, If
 ghost use Rattle.bip_defs.specs.Lists.{Among};
 ghost use Rattle.dm_fine.specs.Groups.{AreOfMates, AreRowGroups, IsOfMate};
 
-use crate::groups::{Groups, gather};
 use bip_graph::Matching;
+use id_groups::{Groups, gather};
 use sp_ids::{OutOfMemory, Row};
 use std::alloc::Global;
 

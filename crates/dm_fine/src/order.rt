@@ -5,8 +5,8 @@ ghost use Rattle.bip_defs.specs.Matrix.{row_list};
 ghost use Rattle.dm_fine.specs.BlockOrder.{AreOrdered};
 ghost use Rattle.dm_fine.specs.InDegrees.{AreReady, HaveLeast, IsGathered, least_of, edges_into};
 
-use crate::groups::Groups;
 use crate::in_degrees;
+use id_groups::Groups;
 use int_set::IntSet;
 use sp_ids::{Col, OutOfMemory, Row};
 use sp_pattern::Pattern;

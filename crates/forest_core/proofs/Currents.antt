@@ -3,7 +3,7 @@ use Rattle.std.proofs.Common.{◌≡◌, ◌⊎◌, ◌↔◌, ◌∙◌, ℕ, s
 use Rattle.bip_defs.specs.Lists.{Among, AreDistinct}
 use Rattle.bip_defs.specs.Matching.{IsMatching, cols_of, rows_of}
 use Rattle.bip_defs.specs.Matrix.{AreEntries, Matrix, Place}
-use Rattle.bip_defs.specs.Paths.{Alternates, BeginsUnmatched, Exchanges, Gives, IsAugmenting}
+use Rattle.bip_defs.specs.Paths.{Alternates, BeginsUnmatched, Exchanges, Reassigns, IsAugmenting}
 use Rattle.bip_defs.proofs.Exchange.{adds_pair, drops_gives, drops_pair, exchange_one, exchange_rest, rest_augments}
 use Rattle.bip_defs.proofs.Sets.{col_among, col_pair, distinct_pairs, drops_gone, drops_length, drops_only, drops_rows, row_among, row_pair, taken}
 use Rattle.forest_core.specs.Current.{IsCurrent, IsPairAfter, OnPath}
@@ -80,11 +80,11 @@ exchanged : (a : Matrix) (path m : List Place) → IsMatching a m → AreEntries
 exchanged a [] m k e aug = absurd aug.begins
 exchanged a (p ∷ []) m k e aug = (p ∷ m, adds_pair a p.0 p.1 m k (e p.0 p.1 (inl refl)) aug.alternates aug.begins, refl, exchange_one p m (p ∷ m) gives)
   where
-    gives : Gives p m (p ∷ m)
+    gives : Reassigns p m (p ∷ m)
     gives q = (λ h. ⊎_elim (λ (f : q ≡ p). inl f) (λ g. inr (g, λ (f : q.0 ≡ p.0). aug.alternates (subst (λ z. Among z (rows_of m)) f (row_among q.0 q.1 m g)))) h, λ h. ⊎_elim (λ (f : q ≡ p). inl f) (λ g. inr g.0) h)
 exchanged a (p ∷ q ∷ path) m k e aug =
     let (n, d) = taken (p.0, q.1) m aug.alternates.0 in
-    let gives : Gives p m (p ∷ n) = drops_gives p.0 p.1 q.1 m n k.rows_differ d in
+    let gives : Reassigns p m (p ∷ n) = drops_gives p.0 p.1 q.1 m n k.rows_differ d in
     let step : IsMatching a (p ∷ n) = adds_pair a p.0 p.1 n (drops_pair a d k) (e p.0 p.1 (inl refl)) (drops_gone (drops_rows d) k.rows_differ) (λ h. let (r, g) = col_pair p.1 n h in aug.begins (col_among r p.1 m (drops_only d (r, p.1) g))) in
     let (more, l, s, ex) = exchanged a (q ∷ path) (p ∷ n) step (λ r c h. e r c (inr h)) (rest_augments p q path m (p ∷ n) k.cols_differ aug gives) in
     (more, l, s ∙ ap suc (sym (drops_length d)), exchange_rest p (q ∷ path) m (p ∷ n) more aug.rows_differ.0 gives ex)

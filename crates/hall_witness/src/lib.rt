@@ -4,9 +4,11 @@
 mod answer;
 mod engine;
 mod search;
+mod steps;
 mod witness;
 
 pub use answer::Reach;
 pub use engine::plain;
 pub use search::reached;
-pub use witness::reach;
+pub use steps::Steps;
+pub use witness::{reach, reach_in};

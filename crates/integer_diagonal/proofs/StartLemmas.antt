@@ -12,7 +12,7 @@ use Rattle.bip_defs.proofs.Sets.{among_at, col_among, col_pair, entry_col, numbe
 use Rattle.bip_graph.specs.Matching.{Pairing}
 use Rattle.integer_diagonal.proofs.Cheap.{entry_cheap}
 use Rattle.integer_diagonal.specs.Duals.{IsAssigned, Priced, cheap, cost, dual, paid, top}
-use Rattle.integer_diagonal.specs.FirstPrices.{AreFirstDuals, AreFirstPrices, IsMet}
+use Rattle.integer_diagonal.specs.FirstPrices.{AreFirstDuals, AreFirstPrices, IsTight}
 use Rattle.sp_pattern.specs.Weights.{Weighing, weight_at}
 
 -- The dual variables.
@@ -60,10 +60,10 @@ weight_below w n most weights r k on =
     let below = k.bound j inside in
     omega (arith, is, below)
 
-dual_met : (w : Weighing) (n most : ℕ) (weights : List ℕ) → AreColumn w n weights most → IsMet w n (top + (top - most))
+dual_met : (w : Weighing) (n most : ℕ) (weights : List ℕ) → AreColumn w n weights most → IsTight w n (top + (top - most))
 dual_met w n most weights k = by k.met
   where
-    by : (most ≡ 0) ⊎ Among most weights → IsMet w n (top + (top - most))
+    by : (most ≡ 0) ⊎ Among most weights → IsTight w n (top + (top - most))
     by (inl zero_is) = inl (omega (arith, zero_is))
     by (inr on) =
         let (j, within, at) = place_among most 0 weights on in
@@ -78,7 +78,7 @@ duals_more w n most os weights l k = record {
   high = λ c lt. at_each (λ c o. top ≤ o) (omega arith) l.high c lt (number_same c n);
   small = λ r c lt e. small r c lt e (number_same c n);
   covers = λ r c lt. at_each (λ c o. IsEntry w.matrix r c → o ≤ top + cost w r c) (λ e. let low = weight_below w n most weights r k e.1 in omega (arith, low)) (λ c below. l.covers r c below) c lt (number_same c n);
-  met = λ c lt. at_each (IsMet w) (dual_met w n most weights k) l.met c lt (number_same c n);
+  met = λ c lt. at_each (IsTight w) (dual_met w n most weights k) l.met c lt (number_same c n);
 }
   where
     last : ℕ

@@ -6,8 +6,8 @@ use Rattle.integer_diagonal.specs.Duals.{cost, top}
 use Rattle.sp_pattern.specs.Weights.{Weighing, weight_at}
 
 -- an entry costs so much less the greatest of all costs, or it is twice that
-abbrev pub IsMet : Weighing → ℕ → ℕ → Type 0
-IsMet w c o = (o ≡ top + top) ⊎ ((r : ℕ) × Among r (column w.matrix c) × (top + cost w r c ≡ o))
+abbrev pub IsTight : Weighing → ℕ → ℕ → Type 0
+IsTight w c o = (o ≡ top + top) ⊎ ((r : ℕ) × Among r (column w.matrix c) × (top + cost w r c ≡ o))
 
 -- of the first k columns: the least cost of an entry, and the greatest of all costs
 pub record AreFirstDuals (w : Weighing) (k : ℕ) (duals : List ℕ) : Type 0 where
@@ -16,7 +16,7 @@ pub record AreFirstDuals (w : Weighing) (k : ℕ) (duals : List ℕ) : Type 0 wh
   pub high : (c : ℕ) → c < k → top ≤ slice_index duals c
   pub small : (r c : ℕ) → c < k → IsEntry w.matrix r c → weight_at w r c ≤ top
   pub covers : (r c : ℕ) → c < k → IsEntry w.matrix r c → slice_index duals c ≤ top + cost w r c
-  pub met : (c : ℕ) → c < k → IsMet w c (slice_index duals c)
+  pub met : (c : ℕ) → c < k → IsTight w c (slice_index duals c)
 
 -- no entry of the first k columns costs less than its column's dual variable
 pub record AreFirstPrices (w : Weighing) (k : ℕ) (duals prices : List ℕ) : Type 0 where

@@ -5,7 +5,7 @@ use Rattle.karp_sipser.specs.Counts.{AreDegrees, HoldsOnes, HoldsOnesBut}
 use Rattle.karp_sipser.specs.declared.rest.Rest.{Rest}
 
 -- the degrees are those of the matching, and no column before next_col has one
-pub record IsRest (a : Matrix) (rest : Rest) : Type 0 where
+pub record IsUnmatchedRest (a : Matrix) (rest : Rest) : Type 0 where
   pub same_rows : rest.matching.rows ≡ a.rows
   pub same_cols : rest.matching.cols ≡ cols a
   pub degrees : AreDegrees a rest.matching.pairs rest.col_degrees.items rest.row_degrees.items

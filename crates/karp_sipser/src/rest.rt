@@ -5,7 +5,7 @@ ghost use Rattle.bip_defs.specs.Lists.{Among};
 ghost use Rattle.bip_defs.specs.Matrix.{cols, Place};
 ghost use Rattle.bip_defs.specs.Start.{IsFree, IsChoice};
 ghost use Rattle.karp_sipser.specs.Counts.{IsCount};
-ghost use Rattle.karp_sipser.specs.Rest.{HasOnes, HasOnesBut, IsRest};
+ghost use Rattle.karp_sipser.specs.Rest.{HasOnes, HasOnesBut, IsUnmatchedRest};
 
 use crate::degrees::{first_with_degree, leave_out, next_with_degree, of_one, take_of_one};
 use bip_graph::Matching;
@@ -60,7 +60,7 @@ fn row_degrees(alloc: Global, pattern: &Pattern) -> Result<Vec<u32>, OutOfMemory
 impl Rest {
     /// Nothing is matched.
     pub fn new(alloc: Global, pattern: &Pattern) -> Result<Rest, OutOfMemory>
-        ensures rest { IfOk result (IsRest pattern.now) }
+        ensures rest { IfOk result (IsUnmatchedRest pattern.now) }
         ensures ones { IfOk result HasOnes }
         ensures empty { IfOk result (λ rest. rest.matching.pairs ≡ []) }
     {
@@ -83,12 +83,12 @@ impl Rest {
     /// The pair that is taken next, or none where no entry has both its row and its column
     /// unmatched.
     pub fn choose(&mut self, pattern: &Pattern) -> Option<(Row, Col)>
-        requires rest { IsRest pattern.now self.old }
+        requires rest { IsUnmatchedRest pattern.now self.old }
         requires ones { HasOnes self.old }
         ensures none { IfNone result
             ((r c : ℕ) → ¬ IsFree pattern.now self.old.matching.pairs r c) }
         ensures choice { IfSome result (IsChoice pattern.now self.old.matching.pairs) }
-        ensures rest { IsRest pattern.now self.new }
+        ensures rest { IsUnmatchedRest pattern.now self.new }
         ensures ones { IfSome result (λ p. HasOnesBut p self.new) }
         ensures forward { self.old.next_col ≤ self.new.next_col }
         ensures matching { self.new.matching ≡ self.old.matching }
@@ -114,10 +114,10 @@ impl Rest {
 
     /// Takes a pair.
     pub fn take(&mut self, pattern: &Pattern, row: Row, col: Col)
-        requires rest { IsRest pattern.now self.old }
+        requires rest { IsUnmatchedRest pattern.now self.old }
         requires ones { HasOnesBut (row, col) self.old }
         requires free { IsFree pattern.now self.old.matching.pairs row col }
-        ensures rest { IsRest pattern.now self.new }
+        ensures rest { IsUnmatchedRest pattern.now self.new }
         ensures ones { HasOnes self.new }
         ensures pairs { (p : Place) → Among p self.new.matching.pairs
             ↔ ((p ≡ (row, col)) ⊎ Among p self.old.matching.pairs) }

@@ -6,8 +6,8 @@ use Rattle.sp_ids.specs.Entries as entries
 use Rattle.mm_defs.specs.declared.answers.End.{End}
 use Rattle.mm_defs.specs.declared.answers.End.TheVariants.{File, LastEntry}
 use Rattle.mm_defs.specs.Words.{Line, words, is_lf, is_skipped, lines, numbered, kept}
-use Rattle.mm_defs.specs.Header.{size}
-use Rattle.mm_defs.specs.File.{Fault, Reads, later_lines, size_lines, entry_lines, matrix_lines, last_number, missing, no_banner, line_faults, faults, rest_of, behind}
+use Rattle.mm_defs.specs.Header.{header, size}
+use Rattle.mm_defs.specs.File.{Fault, Reads, header_of, later_lines, size_lines, entry_lines, matrix_lines, last_number, missing, no_banner, line_faults, faults, rest_of, behind}
 use Rattle.mm_defs.specs.Calls.{LacksLines}
 use Rattle.mm_defs.proofs.Behind.{length-lines, length-behind}
 use Rattle.mm_defs.proofs.Lines.{lines-append}
@@ -72,11 +72,11 @@ take-prefix n xs ys h =
     let e : n ≡ length xs + (n - length xs) = omega arith in
     ap (λ k. take k (xs ++ ys)) e ∙ take-append-add xs ys (n - length xs)
 
-enough : (ls : List (List ℕ)) (s : Line) (es : List Line) → later_lines ls ≡ s ∷ es → nat_lt (length es) (size s.words).count ≡ false → missing ls ≡ []
+enough : (ls : List (List ℕ)) (s : Line) (es : List Line) → later_lines ls ≡ s ∷ es → nat_lt (length es) (size (header_of ls) s.words).count ≡ false → missing ls ≡ []
 enough ls s es e few =
-    let h : (size s.words).count ≤ length es = ltb-false _ _ few in
-    let k : length (take (size s.words).count es) ≡ (size s.words).count = length-take-le (size s.words).count es h in
-    let n : nat_lt (size s.words).count (size s.words).count ≡ false = le-ltb (size s.words).count (size s.words).count (omega arith) in
+    let h : (size (header_of ls) s.words).count ≤ length es = ltb-false _ _ few in
+    let k : length (take (size (header_of ls) s.words).count es) ≡ (size (header_of ls) s.words).count = length-take-le (size (header_of ls) s.words).count es h in
+    let n : nat_lt (size (header_of ls) s.words).count (size (header_of ls) s.words).count ≡ false = le-ltb (size (header_of ls) s.words).count (size (header_of ls) s.words).count (omega arith) in
     rw e (rw (k, n) refl)
 
 -- lines behind which no line of the matrix stands
@@ -90,22 +90,22 @@ module _ (first : List ℕ) (others more : List (List ℕ)) (whole : missing ((f
   no_size : (ms : List Line) → AllFrom (2 + length others) ms → later_lines ((first ∷ others) ++ more) ≡ ms → ⊥
   no_size [] h e = let k = rw e at whole in cc
   no_size (m ∷ ms) h e =
-      let r = from-take (2 + length others) (size m.words).count ms h.1 in
-      let n = last-from (2 + length others) m (take (size m.words).count ms) (h.0, r) in
+      let r = from-take (2 + length others) (size (header (words first)) m.words).count ms h.1 in
+      let n = last-from (2 + length others) m (take (size (header (words first)) m.words).count ms) (h.0, r) in
       let k = rw e at low in
       omega arith
 
-  no_entry : (s : Line) (es ms : List Line) → AllFrom (2 + length others) ms → later_lines ((first ∷ others) ++ more) ≡ s ∷ (es ++ ms) → nat_lt (length es) (size s.words).count ≡ true → ⊥
+  no_entry : (s : Line) (es ms : List Line) → AllFrom (2 + length others) ms → later_lines ((first ∷ others) ++ more) ≡ s ∷ (es ++ ms) → nat_lt (length es) (size (header (words first)) s.words).count ≡ true → ⊥
   no_entry s es [] h e few =
-      let lt : length es < (size s.words).count = ltb-true _ _ few in
-      let all : take (size s.words).count (es ++ []) ≡ es = ap (take (size s.words).count) (append-nil es) ∙ take_all (size s.words).count es (omega arith) in
+      let lt : length es < (size (header (words first)) s.words).count = ltb-true _ _ few in
+      let all : take (size (header (words first)) s.words).count (es ++ []) ≡ es = ap (take (size (header (words first)) s.words).count) (append-nil es) ∙ take_all (size (header (words first)) s.words).count es (omega arith) in
       let k = rw (e, all, few) at whole in
       cc
   no_entry s es (m ∷ ms) h e few =
-      let lt : length es < (size s.words).count = ltb-true _ _ few in
-      let n : ℕ = (size s.words).count - length es - 1 in
-      let one : (size s.words).count - length es ≡ suc n = omega arith in
-      let all : take (size s.words).count (es ++ m ∷ ms) ≡ es ++ m ∷ take n ms = take-prefix (size s.words).count es (m ∷ ms) (omega arith) ∙ ap (λ k. es ++ take k (m ∷ ms)) one in
+      let lt : length es < (size (header (words first)) s.words).count = ltb-true _ _ few in
+      let n : ℕ = (size (header (words first)) s.words).count - length es - 1 in
+      let one : (size (header (words first)) s.words).count - length es ≡ suc n = omega arith in
+      let all : take (size (header (words first)) s.words).count (es ++ m ∷ ms) ≡ es ++ m ∷ take n ms = take-prefix (size (header (words first)) s.words).count es (m ∷ ms) (omega arith) ∙ ap (λ k. es ++ take k (m ∷ ms)) one in
       let r = from-take (2 + length others) n ms h.1 in
       let f = last-from (2 + length others) m (take n ms) (h.0, r) in
       let a = last_number-append (s ∷ es) m (take n ms) in
@@ -115,13 +115,13 @@ module _ (first : List ℕ) (others more : List (List ℕ)) (whole : missing ((f
   pub no_later : missing (first ∷ others) ≡ []
   no_later = by (later_lines (first ∷ others)) refl
     where
-      of_count : (s : Line) (es : List Line) → later_lines (first ∷ others) ≡ s ∷ es → (few : Bool) → nat_lt (length es) (size s.words).count ≡ few → missing (first ∷ others) ≡ []
+      of_count : (s : Line) (es : List Line) → later_lines (first ∷ others) ≡ s ∷ es → (few : Bool) → nat_lt (length es) (size (header (words first)) s.words).count ≡ few → missing (first ∷ others) ≡ []
       of_count s es e true few = absurd (no_entry s es extra (numbered-from (2 + length others) (2 + length others) more (omega arith)) (later ∙ ap (λ (t : List Line). t ++ extra) e) few)
       of_count s es e false few = enough (first ∷ others) s es e few
 
       by : (ls : List Line) → later_lines (first ∷ others) ≡ ls → missing (first ∷ others) ≡ []
       by [] e = absurd (no_size extra (numbered-from (2 + length others) (2 + length others) more (omega arith)) (later ∙ ap (λ (t : List Line). t ++ extra) e))
-      by (s ∷ es) e = of_count s es e (nat_lt (length es) (size s.words).count) refl
+      by (s ∷ es) e = of_count s es e (nat_lt (length es) (size (header (words first)) s.words).count) refl
 
 -- ---- bytes that hold the matrix
 

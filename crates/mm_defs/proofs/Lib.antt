@@ -1,4 +1,5 @@
 pub mod AnswerLemmas
+pub mod ArrayLemmas
 pub mod Behind
 pub mod Enough
 pub mod Lines

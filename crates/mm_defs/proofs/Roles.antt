@@ -90,17 +90,18 @@ walk-push_past end rules (suc n) (k ∷ ls) l h =
 -- by the first line, and the later ones that are not skipped
 abbrev pub faults_of : End → Line → List Line → List Fault
 faults_of end b [] = fault_by banner_rules b
-faults_of end b (s ∷ es) = fault_by banner_rules b ++ fault_by (size_rules (header b.words)) s ++ walk end (entry_rules (header b.words) (size s.words)) (size s.words).count es
+faults_of end b (s ∷ es) = fault_by banner_rules b ++ fault_by (size_rules (header b.words)) s ++ walk end (entry_rules (header b.words) (size (header b.words) s.words)) (size (header b.words) s.words).count es
 
 sum_is : (end : End) (b : Line) (later : List Line)
     → faults_by banner_rules (b ∷ [])
     ++ faults_by (size_rules (header b.words)) (take 1 later)
-    ++ faults_by (entry_rules (header b.words) (size (words_of_first (take 1 later)))) (take (size (words_of_first (take 1 later))).count (drop 1 later))
-    ++ trailing end (drop (size (words_of_first (take 1 later))).count (drop 1 later))
+    ++ faults_by (entry_rules (header b.words) (size (header b.words) (words_of_first (take 1 later)))) (take (size (header b.words) (words_of_first (take 1 later))).count (drop 1 later))
+    ++ trailing end (drop (size (header b.words) (words_of_first (take 1 later))).count (drop 1 later))
     ≡ faults_of end b later
-sum_is end b [] = simp (trailing-none end, append-nil)
+sum_is end b [] =
+    simp (append-nil, append_assoc) (ap (λ (t : List Fault). fault_by banner_rules b ++ t) (walk-is end (entry_rules (header b.words) (size (header b.words) [])) (size (header b.words) []).count []) ∙ append-nil (fault_by banner_rules b))
 sum_is end b (s ∷ es) =
-    simp (append-nil, append_assoc) (ap (λ (t : List Fault). fault_by banner_rules b ++ (fault_by (size_rules (header b.words)) s ++ t)) (walk-is end (entry_rules (header b.words) (size s.words)) (size s.words).count es))
+    simp (append-nil, append_assoc) (ap (λ (t : List Fault). fault_by banner_rules b ++ (fault_by (size_rules (header b.words)) s ++ t)) (walk-is end (entry_rules (header b.words) (size (header b.words) s.words)) (size (header b.words) s.words).count es))
 
 pub line_faults-is : (end : End) (first : List ℕ) (others : List (List ℕ)) → line_faults end (first ∷ others) ≡ faults_of end (line_at 1 first) (later_lines (first ∷ others))
 unfolding line_faults
@@ -113,9 +114,9 @@ line_faults-none LastEntry = refl
 
 faults_of-append : (end : End) (b : Line) (ls ms : List Line) → (more : List Fault) × (faults_of end b (ls ++ ms) ≡ faults_of end b ls ++ more)
 faults_of-append end b [] [] = ([], sym (append-nil (fault_by banner_rules b)))
-faults_of-append end b [] (s ∷ es) = (fault_by (size_rules (header b.words)) s ++ walk end (entry_rules (header b.words) (size s.words)) (size s.words).count es, simp append_assoc)
+faults_of-append end b [] (s ∷ es) = (fault_by (size_rules (header b.words)) s ++ walk end (entry_rules (header b.words) (size (header b.words) s.words)) (size (header b.words) s.words).count es, simp append_assoc)
 faults_of-append end b (s ∷ es) ms =
-    let r = walk-append end (entry_rules (header b.words) (size s.words)) (size s.words).count es ms in
+    let r = walk-append end (entry_rules (header b.words) (size (header b.words) s.words)) (size (header b.words) s.words).count es ms in
     (r.0, ap (λ (t : List Fault). fault_by banner_rules b ++ fault_by (size_rules (header b.words)) s ++ t) r.1 ∙ simp append_assoc)
 
 -- the faults of a prefix stay the first ones
@@ -147,16 +148,16 @@ module _ (end : End) (first : List ℕ) (others : List (List ℕ)) (l : List ℕ
   size_comes e = pushed ∙ rw (line_faults-is end first others, e) (simp append-nil)
 
   -- it is an entry line
-  pub entry_comes : (s : Line) (es : List Line) → later_lines (first ∷ others) ≡ s ∷ es → length es < (size s.words).count
-      → line_faults end ((first ∷ others) ++ l ∷ []) ≡ line_faults end (first ∷ others) ++ fault_by (entry_rules (header (words first)) (size s.words)) (line_at n l)
+  pub entry_comes : (s : Line) (es : List Line) → later_lines (first ∷ others) ≡ s ∷ es → length es < (size (header (words first)) s.words).count
+      → line_faults end ((first ∷ others) ++ l ∷ []) ≡ line_faults end (first ∷ others) ++ fault_by (entry_rules (header (words first)) (size (header (words first)) s.words)) (line_at n l)
   entry_comes s es e h =
-      pushed ∙ rw (line_faults-is end first others, e) (simp append_assoc (ap (λ (t : List Fault). fault_by banner_rules (line_at 1 first) ++ (fault_by (size_rules (header (words first))) s ++ t)) (walk-push end (entry_rules (header (words first)) (size s.words)) (size s.words).count es (line_at n l) h)))
+      pushed ∙ rw (line_faults-is end first others, e) (simp append_assoc (ap (λ (t : List Fault). fault_by banner_rules (line_at 1 first) ++ (fault_by (size_rules (header (words first))) s ++ t)) (walk-push end (entry_rules (header (words first)) (size (header (words first)) s.words)) (size (header (words first)) s.words).count es (line_at n l) h)))
 
   -- it follows the entry lines
-  pub trailing_comes : (s : Line) (es : List Line) → later_lines (first ∷ others) ≡ s ∷ es → length es ≡ (size s.words).count
+  pub trailing_comes : (s : Line) (es : List Line) → later_lines (first ∷ others) ≡ s ∷ es → length es ≡ (size (header (words first)) s.words).count
       → line_faults end ((first ∷ others) ++ l ∷ []) ≡ line_faults end (first ∷ others) ++ trailing end (line_at n l ∷ [])
   trailing_comes s es e h =
-      pushed ∙ rw (line_faults-is end first others, e) (simp append_assoc (ap (λ (t : List Fault). fault_by banner_rules (line_at 1 first) ++ (fault_by (size_rules (header (words first))) s ++ t)) (walk-push_past end (entry_rules (header (words first)) (size s.words)) (size s.words).count es (line_at n l) h)))
+      pushed ∙ rw (line_faults-is end first others, e) (simp append_assoc (ap (λ (t : List Fault). fault_by banner_rules (line_at 1 first) ++ (fault_by (size_rules (header (words first))) s ++ t)) (walk-push_past end (entry_rules (header (words first)) (size (header (words first)) s.words)) (size (header (words first)) s.words).count es (line_at n l) h)))
 
 -- ---- lines behind the matrix
 
@@ -169,12 +170,12 @@ walk-past end rules (suc n) (l ∷ ls) ms h =
     ap (λ (t : List Fault). fault_by rules l ++ t) (walk-past end rules n ls ms h2) ∙ sym (append_assoc (fault_by rules l) (walk end rules n ls) (trailing end ms))
 
 -- they are not judged, where the matrix ends with its last entry
-pub line_faults-past : (first : List ℕ) (others ms : List (List ℕ)) (s : Line) (es : List Line) → later_lines (first ∷ others) ≡ s ∷ es → length es ≡ (size s.words).count
+pub line_faults-past : (first : List ℕ) (others ms : List (List ℕ)) (s : Line) (es : List Line) → later_lines (first ∷ others) ≡ s ∷ es → length es ≡ (size (header (words first)) s.words).count
     → line_faults LastEntry ((first ∷ others) ++ ms) ≡ line_faults LastEntry (first ∷ others)
 line_faults-past first others ms s es e h =
     let more : List Line = kept (numbered (2 + length others) ms) in
     let k : later_lines ((first ∷ others) ++ ms) ≡ s ∷ (es ++ more) = later_lines-append first others ms ∙ ap (λ (t : List Line). t ++ more) e in
-    let w = walk-past LastEntry (entry_rules (header (words first)) (size s.words)) (size s.words).count es more h in
+    let w = walk-past LastEntry (entry_rules (header (words first)) (size (header (words first)) s.words)) (size (header (words first)) s.words).count es more h in
     line_faults-is LastEntry first (others ++ ms) ∙ ap (faults_of LastEntry (line_at 1 first)) k
-    ∙ ap (λ (t : List Fault). fault_by banner_rules (line_at 1 first) ++ fault_by (size_rules (header (words first))) s ++ t) (w ∙ append-nil (walk LastEntry (entry_rules (header (words first)) (size s.words)) (size s.words).count es))
+    ∙ ap (λ (t : List Fault). fault_by banner_rules (line_at 1 first) ++ fault_by (size_rules (header (words first))) s ++ t) (w ∙ append-nil (walk LastEntry (entry_rules (header (words first)) (size (header (words first)) s.words)) (size (header (words first)) s.words).count es))
     ∙ ap (faults_of LastEntry (line_at 1 first)) (sym e) ∙ sym (line_faults-is LastEntry first others)

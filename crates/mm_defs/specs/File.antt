@@ -1,12 +1,14 @@
 -- Which lines of a file are what, its first fault, and what a good file says.
-use Rattle.std.specs.Prelude.{◌≡◌, ℕ, pos, neg_ℤ, zero, suc, Bool, true, false, if◌then◌else◌, ◌==◌, ◌-◌, nat_lt, List, [], ◌∷◌, ◌++◌, length, take, drop, map, slice_get, Option}
+use Rattle.std.specs.Prelude.{◌≡◌, ℕ, ℤ, pos, neg_ℤ, nat_abs, zero, suc, Bool, true, false, if◌then◌else◌, ◌==◌, ◌-◌, nat_lt, List, [], ◌∷◌, ◌++◌, length, take, drop, map, slice_get, Option}
 use Rattle.std.specs.Option.{option_map, option_to_list}
-use Rattle.std.specs.List.{flat_map}
+use Rattle.std.specs.List.{flat_map, zip}
 use Rattle.sp_ids.specs.declared.triples.Field as field
 use Rattle.sp_ids.specs.Entries as entries
 use Rattle.sp_ids.specs.Entries.{Triple}
 use Rattle.mm_defs.specs.declared.answers.End.{End}
 use Rattle.mm_defs.specs.declared.answers.End.TheVariants.{File, LastEntry}
+use Rattle.mm_defs.specs.declared.header.Format.{Format}
+use Rattle.mm_defs.specs.declared.header.Format.TheVariants.{Coordinate, Array}
 use Rattle.mm_defs.specs.declared.header.Header.{Header}
 use Rattle.mm_defs.specs.declared.header.Size.{Size}
 use Rattle.mm_defs.specs.declared.header.Symmetry as symmetry
@@ -14,6 +16,7 @@ use Rattle.mm_defs.specs.declared.header.Symmetry.TheVariants.{General, Symmetri
 use Rattle.mm_defs.specs.declared.kinds.Kind.{Kind}
 use Rattle.mm_defs.specs.declared.kinds.Kind.TheVariants.{NoBanner, Trailing, NoSize, MissingEntries}
 use Rattle.mm_defs.specs.Words.{Word, Line, word, is_lf, lines, numbered, kept}
+use Rattle.mm_defs.specs.Arrays.{array_places}
 use Rattle.mm_defs.specs.Numbers.{number, integer}
 use Rattle.mm_defs.specs.Header.{is_integer_field, header, size}
 use Rattle.mm_defs.specs.Faults.{Rule, first_kind, banner_rules, size_rules, entry_rules}
@@ -39,8 +42,9 @@ abbrev pub header_of : List (List ℕ) → Header
 header_of ls = header (words_of_first (banner_lines ls))
 
 abbrev pub size_of : List (List ℕ) → Size
-size_of ls = size (words_of_first (size_lines ls))
+size_of ls = size (header_of ls) (words_of_first (size_lines ls))
 
+-- the entry lines, or the value lines of an array file
 abbrev pub entry_lines : List (List ℕ) → List Line
 entry_lines ls = take (size_of ls).count (drop 1 (later_lines ls))
 
@@ -124,16 +128,33 @@ triple_at f i j w = record {
 abbrev pub triple : Header → List Word → Triple
 triple h ws = triple_at h.field (number (word ws 0)) (number (word ws 1)) (word ws 2)
 
--- an entry line stands for its place and the mirror
-abbrev pub triples : Header → Line → List Triple
-triples h l = triple h l.words ∷ mirror h.symmetry (triple h l.words)
+-- the value of a place in an array file: where it is 0, the place is no entry
+abbrev pub placed : ℕ × ℕ → ℤ → List Triple
+placed p v =
+    if nat_abs v == 0
+    then []
+    else record { row = p.0; col = p.1; value = v } ∷ []
+
+-- the triples that the lines say: an entry line says its place, and the value lines go over the places of the file's
+-- values in order
+abbrev pub said : Format → Header → Size → List Line → List Triple
+said Coordinate h s ls = map (λ (l : Line). triple h l.words) ls
+said Array h s ls = flat_map (λ (x : (ℕ × ℕ) × Line). placed x.0 (integer (word x.1.words 0)))
+    (zip (array_places h.symmetry s.rows s.cols) ls)
+
+-- each of them, and behind it its mirror
+abbrev pub with_mirrors : symmetry.Symmetry → List Triple → List Triple
+with_mirrors y ts = flat_map (λ (t : Triple). t ∷ mirror y t) ts
+
+abbrev pub items : Header → Size → List Line → List Triple
+items h s ls = with_mirrors h.symmetry (said h.format h s ls)
 
 unfoldable pub entries_of : List (List ℕ) → entries.Entries
 entries_of ls = record {
   rows = (size_of ls).rows;
   cols = (size_of ls).cols;
   field = (header_of ls).field;
-  items = flat_map (triples (header_of ls)) (entry_lines ls);
+  items = items (header_of ls) (size_of ls) (entry_lines ls);
 }
 
 -- ---- what follows
@@ -150,7 +171,7 @@ last_number [] = 1
 last_number (l ∷ []) = l.number
 last_number (l ∷ m ∷ ls) = last_number (m ∷ ls)
 
--- the lines of the matrix: the size line and the entry lines
+-- the lines of the matrix: the size line and the entry lines or value lines
 abbrev pub matrix_lines : List (List ℕ) → List Line
 matrix_lines ls = size_lines ls ++ entry_lines ls
 

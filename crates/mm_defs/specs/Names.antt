@@ -1,16 +1,16 @@
 -- How the kinds of faults are spelt.
 use Rattle.std.specs.Prelude.{ℕ, List, codes}
 use Rattle.mm_defs.specs.declared.kinds.Kind.{Kind}
-use Rattle.mm_defs.specs.declared.kinds.Kind.TheVariants.{NoBanner, HeaderWords, Object, ArrayFormat, Format, Field, Symmetry, Combination, SizeWords, SizeNumber, Rows, Columns, Entries, NotSquare, EntryWords, RowNumber, ColumnNumber, RowRange, ColumnRange, ValueNumber, Value, UpperEntry, DiagonalEntry, Trailing, NoSize, MissingEntries}
+use Rattle.mm_defs.specs.declared.kinds.Kind.TheVariants.{NoBanner, HeaderWords, Object, Format, Field, Symmetry, ArrayField, Combination, SizeWords, SizeNumber, Rows, Columns, Entries, NotSquare, EntryWords, RowNumber, ColumnNumber, RowRange, ColumnRange, ValueNumber, Value, UpperEntry, DiagonalEntry, Trailing, NoSize, MissingEntries}
 
 abbrev pub kind_name : Kind → List ℕ
 kind_name NoBanner = codes "NoBanner"
 kind_name HeaderWords = codes "HeaderWords"
 kind_name Object = codes "Object"
-kind_name ArrayFormat = codes "ArrayFormat"
 kind_name Format = codes "Format"
 kind_name Field = codes "Field"
 kind_name Symmetry = codes "Symmetry"
+kind_name ArrayField = codes "ArrayField"
 kind_name Combination = codes "Combination"
 kind_name SizeWords = codes "SizeWords"
 kind_name SizeNumber = codes "SizeNumber"

@@ -1,5 +1,5 @@
 -- Files, and what has to be found in them. Each list is compared with what the definitions compute.
-use Rattle.std.specs.Prelude.{ℕ, pos, negsuc, true, if◌then◌else◌, ◌==◌, List, [], ◌∷◌, ◌++◌, length, replicate, codes, Option, Some, None}
+use Rattle.std.specs.Prelude.{ℕ, ℤ, pos, negsuc, true, if◌then◌else◌, ◌==◌, List, [], ◌∷◌, ◌++◌, length, replicate, codes, Option, Some, None}
 use Rattle.std.specs.List.{flat_map}
 use Rattle.sp_ids.specs.Entries as entries
 use Rattle.sp_ids.specs.Entries.{Triple}
@@ -27,11 +27,29 @@ symmetric_banner = codes "%%MatrixMarket matrix coordinate pattern symmetric"
 abbrev pub skew_banner : List ℕ
 skew_banner = codes "%%MatrixMarket matrix coordinate integer skew-symmetric"
 
+abbrev pub array_banner : List ℕ
+array_banner = codes "%%MatrixMarket matrix array integer general"
+
+abbrev pub symmetric_array_banner : List ℕ
+symmetric_array_banner = codes "%%MatrixMarket matrix Array integer symmetric"
+
+abbrev pub skew_array_banner : List ℕ
+skew_array_banner = codes "%%MatrixMarket matrix array INTEGER skew-symmetric"
+
 abbrev pub pattern_file : List (List ℕ) → List ℕ
 pattern_file ls = text (pattern_banner ∷ ls)
 
 abbrev pub integer_file : List (List ℕ) → List ℕ
 integer_file ls = text (integer_banner ∷ ls)
+
+abbrev pub array_file : List (List ℕ) → List ℕ
+array_file ls = text (array_banner ∷ ls)
+
+abbrev pub symmetric_array : List (List ℕ) → List ℕ
+symmetric_array ls = text (symmetric_array_banner ∷ ls)
+
+abbrev pub skew_array : List (List ℕ) → List ℕ
+skew_array ls = text (skew_array_banner ∷ ls)
 
 -- ---- files that are refused
 
@@ -55,10 +73,13 @@ bad_banners =
       at 1 kinds.HeaderWords,
     )
     ∷ (text (codes "%%MatrixMarket vector array real general" ∷ []), at 1 kinds.Object)
-    ∷ (text (codes "%%MatrixMarket matrix array real general" ∷ []), at 1 kinds.ArrayFormat)
     ∷ (text (codes "%%MatrixMarket matrix dense real general" ∷ []), at 1 kinds.Format)
     ∷ (text (codes "%%MatrixMarket matrix coordinate boolean general" ∷ []), at 1 kinds.Field)
     ∷ (text (codes "%%MatrixMarket matrix coordinate pattern triangular" ∷ []), at 1 kinds.Symmetry)
+    ∷ (text (codes "%%MatrixMarket matrix array real triangular" ∷ []), at 1 kinds.Symmetry)
+    ∷ (text (codes "%%MatrixMarket matrix array real general" ∷ []), at 1 kinds.ArrayField)
+    ∷ (text (codes "%%MatrixMarket matrix array pattern hermitian" ∷ []), at 1 kinds.ArrayField)
+    ∷ (text (codes "%%MatrixMarket matrix array integer hermitian" ∷ []), at 1 kinds.Combination)
     ∷ (
       text (codes "%%MatrixMarket matrix coordinate pattern hermitian" ∷ []),
       at 1 kinds.Combination,
@@ -75,11 +96,21 @@ bad_sizes =
     ∷ (pattern_file (codes "% a comment" ∷ [] ∷ []), at 3 kinds.NoSize)
     ∷ (pattern_file (codes "2 2" ∷ []), at 2 kinds.SizeWords)
     ∷ (pattern_file (codes "2 2 -1" ∷ []), at 2 kinds.SizeNumber)
-    ∷ (pattern_file (codes "16777217 1 0" ∷ []), at 2 kinds.Rows)
+    ∷ (pattern_file (codes "134217729 1 0" ∷ []), at 2 kinds.Rows)
     ∷ (pattern_file ((replicate 400 57 ++ codes " 1 0") ∷ []), at 2 kinds.Rows)
-    ∷ (pattern_file (codes "1 16777217 0" ∷ []), at 2 kinds.Columns)
+    ∷ (pattern_file (codes "1 134217729 0" ∷ []), at 2 kinds.Columns)
     ∷ (pattern_file (codes "1 1 134217729" ∷ []), at 2 kinds.Entries)
     ∷ (text (symmetric_banner ∷ codes "2 3 0" ∷ []), at 2 kinds.NotSquare)
+    ∷ (array_file (codes "2 2 4" ∷ []), at 2 kinds.SizeWords)
+    ∷ (array_file (codes "2 x" ∷ []), at 2 kinds.SizeNumber)
+    ∷ (array_file (codes "134217729 0" ∷ []), at 2 kinds.Rows)
+    ∷ (array_file (codes "0 134217729" ∷ []), at 2 kinds.Columns)
+    ∷ (array_file (codes "20000 20000" ∷ []), at 2 kinds.Entries)
+    ∷ (symmetric_array (codes "16384 16384" ∷ []), at 2 kinds.Entries)
+    ∷ (symmetric_array (codes "16384 0" ∷ []), at 2 kinds.Entries)
+    ∷ (symmetric_array (codes "16383 16384" ∷ []), at 2 kinds.NotSquare)
+    ∷ (skew_array (codes "16385 16385" ∷ []), at 2 kinds.Entries)
+    ∷ (skew_array (codes "16384 0" ∷ []), at 2 kinds.NotSquare)
     ∷ []
 
 abbrev pub bad_entries : List Refused
@@ -107,6 +138,25 @@ bad_entries =
     ∷ (pattern_file (codes "1 1 2" ∷ codes "1 1" ∷ [] ∷ codes "%" ∷ []), at 5 kinds.MissingEntries)
     ∷ []
 
+abbrev pub bad_values : List Refused
+bad_values =
+    (array_file (codes "1 1" ∷ codes "1 1" ∷ []), at 3 kinds.EntryWords)
+    ∷ (array_file (codes "1 1" ∷ codes "5.0" ∷ []), at 3 kinds.ValueNumber)
+    ∷ (array_file (codes "1 2" ∷ codes "0" ∷ codes "-" ∷ []), at 4 kinds.ValueNumber)
+    ∷ (array_file (codes "1 1" ∷ codes "9223372036854775808" ∷ []), at 3 kinds.Value)
+    ∷ (array_file (codes "1 1" ∷ codes "-9223372036854775808" ∷ []), at 3 kinds.Value)
+    ∷ (array_file (codes "2 2" ∷ codes "1" ∷ codes "2" ∷ codes "3" ∷ []), at 5 kinds.MissingEntries)
+    ∷ (array_file (codes "1 1" ∷ codes "0" ∷ codes "0" ∷ []), at 4 kinds.Trailing)
+    ∷ (symmetric_array (codes "2 2" ∷ codes "0" ∷ codes "4" ∷ []), at 4 kinds.MissingEntries)
+    ∷ (
+      symmetric_array (codes "2 2" ∷ codes "0" ∷ codes "4" ∷ codes "0" ∷ codes "0" ∷ []),
+      at 6 kinds.Trailing,
+    )
+    ∷ (skew_array (codes "2 2" ∷ []), at 2 kinds.MissingEntries)
+    ∷ (skew_array (codes "1 1" ∷ codes "0" ∷ []), at 3 kinds.Trailing)
+    ∷ (array_file (codes "0 3" ∷ codes "% c" ∷ codes "0" ∷ []), at 4 kinds.Trailing)
+    ∷ []
+
 -- ---- files that are read
 
 abbrev pub matrix : ℕ → ℕ → Field → List Triple → entries.Entries
@@ -114,6 +164,9 @@ matrix rows cols f items = record { rows = rows; cols = cols; field = f; items =
 
 abbrev pub place : ℕ → ℕ → Triple
 place row col = record { row = row; col = col; value = pos 0 }
+
+abbrev pub valued : ℕ → ℕ → ℤ → Triple
+valued row col value = record { row = row; col = col; value = value }
 
 abbrev pub ReadFile : Type 0
 ReadFile = List ℕ × Option entries.Entries
@@ -178,6 +231,44 @@ good_files =
     )
     ∷ []
 
+-- a dense matrix column by column, or its lower triangle; a value 0 is no entry
+abbrev pub good_arrays : List ReadFile
+good_arrays = (
+  array_file (codes "2 2" ∷ codes "0" ∷ codes "4" ∷ codes "5" ∷ codes "0" ∷ []),
+  Some (matrix 2 2 field.Integer (valued 1 0 (pos 4) ∷ valued 0 1 (pos 5) ∷ [])),
+)
+    ∷ (
+      symmetric_array (codes "2 2" ∷ codes "0" ∷ codes "4" ∷ codes "0" ∷ []),
+      Some (matrix 2 2 field.Integer (valued 1 0 (pos 4) ∷ valued 0 1 (pos 4) ∷ [])),
+    )
+    ∷ (
+      skew_array (codes "2 2" ∷ codes "-4" ∷ []),
+      Some (matrix 2 2 field.Integer (valued 1 0 (negsuc 3) ∷ valued 0 1 (pos 4) ∷ [])),
+    )
+    ∷ (
+      array_file (codes "2 3" ∷ codes "1" ∷ codes "+2" ∷ [] ∷ codes " 03 " ∷ codes "-0" ∷ codes "% c"
+          ∷ codes "-5" ∷ codes "6" ∷ []),
+      Some (matrix 2 3 field.Integer (valued 0 0 (pos 1) ∷ valued 1 0 (pos 2) ∷ valued 0 1 (pos 3)
+          ∷ valued 0 2 (negsuc 4) ∷ valued 1 2 (pos 6) ∷ [])),
+    )
+    ∷ (
+      symmetric_array (codes "3 3" ∷ codes "1" ∷ codes "2" ∷ codes "3" ∷ codes "4" ∷ codes "5"
+          ∷ codes "6" ∷ []),
+      Some (matrix 3 3 field.Integer (valued 0 0 (pos 1) ∷ valued 1 0 (pos 2) ∷ valued 0 1 (pos 2)
+          ∷ valued 2 0 (pos 3) ∷ valued 0 2 (pos 3) ∷ valued 1 1 (pos 4) ∷ valued 2 1 (pos 5)
+          ∷ valued 1 2 (pos 5) ∷ valued 2 2 (pos 6) ∷ [])),
+    )
+    ∷ (
+      skew_array (codes "3 3" ∷ codes "1" ∷ codes "0" ∷ codes "3" ∷ []),
+      Some (matrix 3 3 field.Integer (valued 1 0 (pos 1) ∷ valued 0 1 (negsuc 0) ∷ valued 2 1 (pos 3)
+          ∷ valued 1 2 (negsuc 2) ∷ [])),
+    )
+    ∷ (array_file (codes "0 3" ∷ []), Some (matrix 0 3 field.Integer []))
+    ∷ (array_file (codes "3 0" ∷ []), Some (matrix 3 0 field.Integer []))
+    ∷ (skew_array (codes "1 1" ∷ []), Some (matrix 1 1 field.Integer []))
+    ∷ (symmetric_array (codes "0 0" ∷ []), Some (matrix 0 0 field.Integer []))
+    ∷ []
+
 -- ---- what follows a matrix
 
 abbrev pub Followed : Type 0
@@ -195,6 +286,8 @@ followed_files =
     ∷ (pattern_file (codes "0 0 0" ∷ []) ++ codes "btf", codes "btf")
     ∷ (pattern_banner ++ 10 ∷ codes "1 1 1" ++ 10 ∷ codes "1 1", [])
     ∷ (smallest_file, [])
+    ∷ (array_file (codes "1 2" ∷ codes "0" ∷ codes "7" ∷ []) ++ codes "8", codes "8")
+    ∷ (skew_array (codes "1 1" ∷ []) ++ codes "btf", codes "btf")
     ∷ []
 
 -- ---- bytes that are not all of an input

@@ -13,29 +13,30 @@ pub enum Kind {
     HeaderWords,
     /// Line 1: the object is not `matrix`.
     Object,
-    /// Line 1: the format is `array`.
-    ArrayFormat,
     /// Line 1: the format is neither `array` nor `coordinate`.
     Format,
     /// Line 1: the field is none of `real`, `complex`, `integer`, `pattern`.
     Field,
     /// Line 1: the symmetry is none of `general`, `symmetric`, `skew-symmetric`, `hermitian`.
     Symmetry,
+    /// Line 1: the format is `array`, and the field is not `integer`.
+    ArrayField,
     /// Line 1: no file of this field may have this symmetry.
     Combination,
-    /// Size line: it does not have three words.
+    /// Size line: it does not have three words, or two in an array file.
     SizeWords,
     /// Size line: one of its words is not a number.
     SizeNumber,
-    /// Size line: more than 16,777,216 rows.
+    /// Size line: more than 134,217,728 rows.
     Rows,
-    /// Size line: more than 16,777,216 columns.
+    /// Size line: more than 134,217,728 columns.
     Columns,
-    /// Size line: more than 134,217,728 entry lines.
+    /// Size line: more than 134,217,728 entry lines, or so many values of an array file.
     Entries,
     /// Size line: as many rows as columns are needed, since the symmetry is not general.
     NotSquare,
-    /// Entry line: it does not have two words and the field's value words.
+    /// Entry line: it does not have two words and the field's value words. Value line of an array file: it does not have
+    /// one word.
     EntryWords,
     /// Entry line: the first word is not a number.
     RowNumber,
@@ -45,19 +46,19 @@ pub enum Kind {
     RowRange,
     /// Entry line: the column is 0 or past the last column.
     ColumnRange,
-    /// Entry line of an integer file: the third word is not an integer.
+    /// Entry line of an integer file: the third word is not an integer. Value line: its word is none.
     ValueNumber,
-    /// Entry line of an integer file: the magnitude is above 9,223,372,036,854,775,807.
+    /// Entry line of an integer file, or value line: the magnitude is above 9,223,372,036,854,775,807.
     Value,
     /// Entry line: it stands above the diagonal, and the symmetry is not general.
     UpperEntry,
     /// Entry line: it stands on the diagonal of a skew-symmetric file.
     DiagonalEntry,
-    /// A line that is not skipped follows the last entry line.
+    /// A line that is not skipped follows the last entry line or value line.
     Trailing,
     /// The input ends without a size line.
     NoSize,
-    /// The input ends with too few entry lines.
+    /// The input ends with too few entry lines or value lines.
     MissingEntries,
 }
 
@@ -70,10 +71,10 @@ impl Kind {
             Kind::NoBanner => "NoBanner",
             Kind::HeaderWords => "HeaderWords",
             Kind::Object => "Object",
-            Kind::ArrayFormat => "ArrayFormat",
             Kind::Format => "Format",
             Kind::Field => "Field",
             Kind::Symmetry => "Symmetry",
+            Kind::ArrayField => "ArrayField",
             Kind::Combination => "Combination",
             Kind::SizeWords => "SizeWords",
             Kind::SizeNumber => "SizeNumber",

@@ -1,9 +1,12 @@
 //! Laws on bad lines, good files and answers.
 
-ghost use Rattle.std.specs.Prelude.{◌≡◌, ◌≤◌, ◌<◌, ◌-◌, ℕ, Bool, List, [], ◌++◌, length, take, Result, true, false};
+ghost use Rattle.std.specs.Prelude.{◌≡◌, ◌≤◌, ◌<◌, ◌+◌, ◌-◌, ℕ, Bool, List, [], ◌++◌, length, take, slice_index_or, Result, true, false};
 ghost use Rattle.sp_ids.specs.Entries.{Entries};
 ghost use Rattle.mm_defs.specs.declared.answers.End.{End};
 ghost use Rattle.mm_defs.specs.declared.answers.ReadError.{ReadError};
+ghost use Rattle.mm_defs.specs.declared.header.Symmetry.{Symmetry};
+ghost use Rattle.mm_defs.specs.declared.header.Symmetry.TheVariants.{General};
+ghost use Rattle.mm_defs.specs.Arrays.{HasValue, array_places, first_row, following, value_count};
 ghost use Rattle.mm_defs.specs.Words.{lines};
 ghost use Rattle.mm_defs.specs.File.{Fault, Reads, faults, first_fault};
 ghost use Rattle.mm_defs.specs.Calls.{Call, offered, first_bad, IsAnswer, FellShort, LacksLines, IsAnswerTo, IsRefusal, IsOkOrNoMemory, IsTooLongOrNoMemory};
@@ -68,4 +71,23 @@ pub fn bad_file_is_refused()
         → IsAnswer end call rest result
         → ((t : Entries) (follows : List ℕ) → Reads (offered call) end t follows → ⊥)
         → call.failures_after ≡ call.failures_before → IsRefusal result }
+{}
+
+/// An array file has as many values as its size line says.
+pub fn array_values_are_counted()
+    ensures general { (rows cols : ℕ) → length (array_places General rows cols)
+        ≡ value_count General rows cols }
+    ensures square { (y : Symmetry) (n : ℕ) → length (array_places y n n) ≡ value_count y n n }
+{}
+
+/// The places of an array file's values follow one another, and none of them is past the last row or column or in the
+/// part of the matrix that other values tell.
+pub fn array_places_follow()
+    ensures first { (y : Symmetry) (rows cols : ℕ) → 0 < length (array_places y rows cols)
+        → slice_index_or (array_places y rows cols) 0 (0, 0) ≡ (first_row y 0, 0) }
+    ensures next { (y : Symmetry) (rows cols k : ℕ) → k + 1 < length (array_places y rows cols)
+        → slice_index_or (array_places y rows cols) (k + 1) (0, 0)
+        ≡ following y rows (slice_index_or (array_places y rows cols) k (0, 0)) }
+    ensures inside { (y : Symmetry) (rows cols k : ℕ) → k < length (array_places y rows cols)
+        → HasValue y rows cols (slice_index_or (array_places y rows cols) k (0, 0)) }
 {}

@@ -3,11 +3,11 @@
 ghost use Rattle.std.specs.Prelude.{◌≡◌, List, [], true, false, map};
 ghost use Rattle.mm_defs.specs.Words.{lines};
 ghost use Rattle.mm_defs.specs.File.{first_fault, faults, rest_of};
-ghost use Rattle.mm_defs.specs.Worked.{Refused, ReadFile, Followed, bad_banners, bad_sizes, bad_entries, good_files, read, followed_files, prefixes};
+ghost use Rattle.mm_defs.specs.Worked.{Refused, ReadFile, Followed, bad_banners, bad_sizes, bad_entries, bad_values, good_files, good_arrays, read, followed_files, prefixes};
 
 use crate::End;
 
-/// The first fault of files whose banner, size line, entry lines or end are bad.
+/// The first fault of files whose banner, size line, entry lines, value lines or end are bad.
 pub fn worked_refusals()
     ensures banners { map (λ (row : Refused). first_fault End.File true row.0) bad_banners
         ≡ map (λ (row : Refused). row.1) bad_banners }
@@ -15,12 +15,16 @@ pub fn worked_refusals()
         ≡ map (λ (row : Refused). row.1) bad_sizes }
     ensures entries { map (λ (row : Refused). first_fault End.File true row.0) bad_entries
         ≡ map (λ (row : Refused). row.1) bad_entries }
+    ensures values { map (λ (row : Refused). first_fault End.File true row.0) bad_values
+        ≡ map (λ (row : Refused). row.1) bad_values }
 {}
 
 /// The entries of good files.
 pub fn worked_files()
-    ensures { map (λ (row : ReadFile). read row.0) good_files
+    ensures coordinate { map (λ (row : ReadFile). read row.0) good_files
         ≡ map (λ (row : ReadFile). row.1) good_files }
+    ensures array { map (λ (row : ReadFile). read row.0) good_arrays
+        ≡ map (λ (row : ReadFile). row.1) good_arrays }
 {}
 
 /// What follows a matrix that ends with its last entry, where further lines are not judged.

@@ -7,16 +7,22 @@ mod analyse;
 #[cfg(test)]
 mod check;
 #[cfg(test)]
+mod devices;
+#[cfg(test)]
 mod diagonal;
 #[cfg(test)]
 mod engine;
+#[cfg(test)]
+mod files;
+#[cfg(test)]
+mod hostile;
 #[cfg(test)]
 mod load;
 #[cfg(test)]
 mod rank;
 #[cfg(test)]
-mod refusals;
-#[cfg(test)]
 mod runs;
+#[cfg(test)]
+mod words;
 #[cfg(test)]
 mod workers;

@@ -3,13 +3,13 @@ use Rattle.std.specs.Prelude.{ℕ}
 
 -- the most rows that a matrix of a file may have
 abbrev pub max_rows : ℕ
-max_rows = 16777216
+max_rows = 134217728
 
 -- the most columns that a matrix of a file may have
 abbrev pub max_cols : ℕ
-max_cols = 16777216
+max_cols = 134217728
 
--- the most entry lines that a file may have
+-- the most entry lines that a file may have, or values of an array file
 abbrev pub max_entry_lines : ℕ
 max_entry_lines = 134217728
 

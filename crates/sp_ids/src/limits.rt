@@ -1,12 +1,12 @@
 //! How large an input may be.
 
 /// The most rows that a matrix may have.
-pub const MAX_ROWS: u32 = 16_777_216;
+pub const MAX_ROWS: u32 = 134_217_728;
 
 /// The most columns that a matrix may have.
-pub const MAX_COLS: u32 = 16_777_216;
+pub const MAX_COLS: u32 = 134_217_728;
 
-/// The most entry lines that a file may have.
+/// The most entry lines that a file may have, or values of an array file.
 pub const MAX_ENTRY_LINES: u32 = 134_217_728;
 
 /// The greatest magnitude of an integer value, and of the sum of a place's values.

@@ -24,7 +24,7 @@ order_parts m n ps starts flat o = record {
   cut = order_starts m n starts flat o.order;
   parts = λ i lt. subst (Lists (λ j. Among (i, j) ps)) (sym (order_piece m n starts flat o.order i lt))
       (lists_same (λ j. Among (i, j) o.order.pairs) (λ j. Among (i, j) ps) (inners_of i o.order.pairs)
-      (λ j h. (o.same (i, j)).0 h) (λ j h. (o.same (i, j)).1 h) (inners_lists i o.order.pairs o.order.front.rising));
+      (λ j h. (o.same (i, j)).0 h) (λ j h. (o.same (i, j)).1 h) (inners_lists i o.order.pairs o.order.compressed.rising));
 }
 
 module _ (rows cols : ℕ) (P : ℕ → ℕ → Type 0) (cs rs us vs : List ℕ) (by_col : AreParts cols (λ c r. P r c) cs rs) (by_row : AreParts rows P us vs) (inside : (r c : ℕ) → P r c → (r < rows) × (c < cols)) where
@@ -86,7 +86,7 @@ pub order_itself : (m n : ℕ) (starts flat : List ℕ) (o : IsOrder m n starts 
 order_itself m n starts flat o = record {
   order = o;
   same = λ p. ((λ h. h), λ h. h);
-  few = let same = ap length o.front.numbers ∙ length-inners o.pairs in omega (arith, same);
+  few = let same = ap length o.compressed.numbers ∙ length-inners o.pairs in omega (arith, same);
 }
 
 pub of_rows : (rows cols : ℕ) (ps : List Pair) (cs rs us vs : List ℕ) → IsOrderOf rows cols ps us vs → IsTurned (length us - 1) cols us vs cs rs → AreInside rows cols ps

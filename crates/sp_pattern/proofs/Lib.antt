@@ -7,6 +7,7 @@ pub mod Numbers
 pub mod Orders
 pub mod Packed
 pub mod PlacedPairs
+pub mod RestrictLemmas
 pub mod Shape
 pub mod Sides
 pub mod SplitLemmas

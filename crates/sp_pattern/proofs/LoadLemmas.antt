@@ -9,8 +9,8 @@ use Rattle.bip_defs.specs.Matrix.{Place, upto, upto_from}
 use Rattle.bip_defs.proofs.Sets.{among_either, among_last, among_left, among_right, below_each_sound, number_same, upto_complete, upto_sound}
 use Rattle.bip_defs.proofs.Transposed.{turned_among, turned_back, turned_length}
 use Rattle.sp_pattern.specs.Load.{IsOneOf, after_one, distinct_of, load_column, load_places}
-use Rattle.sp_pattern.specs.Pairs.{IsBefore, IsFront, IsOrderOf, Pair}
-use Rattle.sp_pattern.proofs.Orders.{front_empty, front_push}
+use Rattle.sp_pattern.specs.Pairs.{IsBefore, IsCompressed, IsOrderOf, Pair}
+use Rattle.sp_pattern.proofs.Orders.{compressed_empty, compressed_push}
 
 -- Remainders.
 
@@ -105,20 +105,20 @@ distinct_three a b c ab bc = by (number_same b a) (number_same c b)
 abbrev pub with_outer : ℕ → List ℕ → List Pair
 with_outer i js = map (λ (j : ℕ). (i, j)) js
 
-with_outer_over : (i : ℕ) (js : List ℕ) (p : Pair) → Among p (with_outer i js) → (p.0 ≡ i) × Among p.1 js
+pub with_outer_over : (i : ℕ) (js : List ℕ) (p : Pair) → Among p (with_outer i js) → (p.0 ≡ i) × Among p.1 js
 with_outer_over i [] p h = elim h [ ]
 with_outer_over i (j ∷ js) p (inl e) = (ap (λ (z : Pair). z.0) e, inl (ap (λ (z : Pair). z.1) e))
 with_outer_over i (j ∷ js) p (inr h) = let both = with_outer_over i js p h in (both.0, inr both.1)
 
-with_outer_back : (i : ℕ) (js : List ℕ) (j : ℕ) → Among j js → Among (i, j) (with_outer i js)
+pub with_outer_back : (i : ℕ) (js : List ℕ) (j : ℕ) → Among j js → Among (i, j) (with_outer i js)
 with_outer_back i [] j h = elim h [ ]
 with_outer_back i (k ∷ js) j (inl e) = inl (ap (λ (x : ℕ). (i, x)) e)
 with_outer_back i (k ∷ js) j (inr h) = inr (with_outer_back i js j h)
 
-front_extend : (ds : List Pair) (starts flat : List ℕ) (i : ℕ) (js : List ℕ) → length starts ≡ i + 1 → IsRising js → ((q : Pair) (x : ℕ) → Among q ds → Among x js → IsBefore q (i, x)) → IsFront ds starts flat → IsFront (ds ++ with_outer i js) starts (flat ++ js)
-front_extend ds starts flat i [] long up above f = rw (append-nil ds, append-nil flat) f
-front_extend ds starts flat i (j ∷ js) long up above f =
-    let rest = front_extend (ds ++ (i, j) ∷ []) starts (flat ++ j ∷ []) i js long up.1 next (front_push ds starts flat (i, j) long (λ q h. above q j h (inl refl)) f) in
+pub compressed_extend : (ds : List Pair) (starts flat : List ℕ) (i : ℕ) (js : List ℕ) → length starts ≡ i + 1 → IsRising js → ((q : Pair) (x : ℕ) → Among q ds → Among x js → IsBefore q (i, x)) → IsCompressed ds starts flat → IsCompressed (ds ++ with_outer i js) starts (flat ++ js)
+compressed_extend ds starts flat i [] long up above f = rw (append-nil ds, append-nil flat) f
+compressed_extend ds starts flat i (j ∷ js) long up above f =
+    let rest = compressed_extend (ds ++ (i, j) ∷ []) starts (flat ++ j ∷ []) i js long up.1 next (compressed_push ds starts flat (i, j) long (λ q h. above q j h (inl refl)) f) in
     rw (append_assoc ds ((i, j) ∷ []) (with_outer i js), append_assoc flat (j ∷ []) js) at rest
   where
     next : (q : Pair) (x : ℕ) → Among q (ds ++ (i, j) ∷ []) → Among x js → IsBefore q (i, x)
@@ -129,7 +129,7 @@ front_extend ds starts flat i (j ∷ js) long up above f =
 -- the first k columns stand in the flat list
 pub record IsLoading (size seed k : ℕ) (starts flat : List ℕ) : Type 0 where
   pub pairs : List Pair
-  pub front : IsFront pairs starts flat
+  pub compressed : IsCompressed pairs starts flat
   pub long : length starts ≡ k
   pub members : (p : Pair) → Among p pairs ↔ ((p.0 < k) × IsLoadRow size seed p.0 p.1)
   pub few : length flat ≤ 3 * k
@@ -137,18 +137,18 @@ pub record IsLoading (size seed k : ℕ) (starts flat : List ℕ) : Type 0 where
 pub loading_start : (size seed : ℕ) → IsLoading size seed 0 [] []
 loading_start size seed = record {
   pairs = [];
-  front = front_empty;
+  compressed = compressed_empty;
   long = refl;
   members = λ p. ((λ h. elim h [ ]), λ h. absurd (let lt = h.0 in omega (arith, lt)));
   few = omega arith;
 }
 
 pub loading_step : (size seed k : ℕ) (starts opened flat longer : List ℕ) (a b c : ℕ) → IsLoading size seed k starts flat → length opened ≡ k + 1
-    → ((ds : List Pair) → IsFront ds starts flat → IsFront ds opened flat) → longer ≡ flat ++ distinct_of a b c → (a ≤ b) × (b ≤ c)
+    → ((ds : List Pair) → IsCompressed ds starts flat → IsCompressed ds opened flat) → longer ≡ flat ++ distinct_of a b c → (a ≤ b) × (b ≤ c)
     → ((x : ℕ) → IsOneOf a b c x ↔ IsLoadRow size seed k x) → IsLoading size seed (k + 1) opened longer
-loading_step size seed k starts opened flat longer a b c l long front more order same = record {
+loading_step size seed k starts opened flat longer a b c l long kept more order same = record {
   pairs = l.pairs ++ with_outer k js;
-  front = rw more (front_extend l.pairs opened flat k js long three.rising above (front l.pairs l.front));
+  compressed = rw more (compressed_extend l.pairs opened flat k js long three.rising above (kept l.pairs l.compressed));
   long = long;
   members = λ p. (over p, back p);
   few = let f = l.few in let t = three.few in rw (more, length-append) (omega (arith, f, t));
@@ -179,12 +179,12 @@ loading_step size seed k starts opened flat longer a b c l long front more order
         by (inr ne) = among_left p l.pairs (with_outer k (distinct_of a b c)) ((l.members p).1 (let lt = h.0 in omega (arith, lt, ne), h.1))
 
 pub loading_end : (size seed k : ℕ) (starts opened flat : List ℕ) → 0 < size → IsLoading size seed k starts flat → k ≡ size → length opened ≡ size + 1
-    → ((ds : List Pair) → IsFront ds starts flat → IsFront ds opened flat) → IsOrderOf size size (transposed_places (load_places size seed)) opened flat
-loading_end size seed k starts opened flat some l done long front = record {
+    → ((ds : List Pair) → IsCompressed ds starts flat → IsCompressed ds opened flat) → IsOrderOf size size (transposed_places (load_places size seed)) opened flat
+loading_end size seed k starts opened flat some l done long kept = record {
   order = record {
     pairs = l.pairs;
     long = long;
-    front = front l.pairs l.front;
+    compressed = kept l.pairs l.compressed;
     inside = λ p h. let both = (l.members p).0 h in (let lt = both.0 in omega (arith, lt, done), load_row_below size seed p.0 p.1 some both.1);
   };
   same = λ p. (

@@ -100,8 +100,8 @@ read_lower ps k d e r c lt row col below =
 
 -- Flat lists that grow.
 
-slice_front : {X : Type 0} (xs ys : List X) (a b : ℕ) → b ≤ length xs → slice_range (xs ++ ys) a b ≡ slice_range xs a b
-slice_front xs ys a b le = by (dec_lt b a)
+slice_prefix : {X : Type 0} (xs ys : List X) (a b : ℕ) → b ≤ length xs → slice_range (xs ++ ys) a b ≡ slice_range xs a b
+slice_prefix xs ys a b le = by (dec_lt b a)
   where
     by : Dec (b < a) → slice_range (xs ++ ys) a b ≡ slice_range xs a b
     by (yes lt) = slice_none (xs ++ ys) a b (omega arith) ∙ sym (slice_none xs a b (omega arith))
@@ -168,7 +168,7 @@ pieces_more m pieces starts flat part end h is e = record {
             let l = h.long in
             let a = before i (omega (arith, l, lt, ne)) in
             let b = before (i + 1) (omega (arith, l, lt, ne)) in
-            rw (a, b) (slice_front flat part (get_or starts i 0) (get_or starts (i + 1) 0) (start_within starts flat h.cut (i + 1) (omega (arith, l, lt, ne))) ∙ h.parts i (omega (arith, lt, ne)))
+            rw (a, b) (slice_prefix flat part (get_or starts i 0) (get_or starts (i + 1) 0) (start_within starts flat h.cut (i + 1) (omega (arith, l, lt, ne))) ∙ h.parts i (omega (arith, lt, ne)))
 
 -- how long what stands of one number is
 pub both_length : (cs rs us vs : List ℕ) (i : ℕ) → AreStarts cs rs → AreStarts us vs → i + 1 < length cs → i + 1 < length us → length (both_sides cs rs us vs i) + (get_or us i 0 + get_or cs i 0) ≤ get_or us (i + 1) 0 + get_or cs (i + 1) 0

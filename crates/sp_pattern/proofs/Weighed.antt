@@ -1,5 +1,5 @@
 -- Where entries stand, and their weights.
-use Rattle.std.proofs.Common.{◌≡◌, ◌≢◌, ◌⊎◌, ◌∙◌, ℕ, zero, suc, ◌+◌, ◌-◌, ◌<◌, ◌≤◌, List, [], ◌∷◌, length, get_or, take, drop, nat_eq, if◌then◌else◌, refl, sym, ap, arith, subst, inl, inr, ⊎_elim, sum_by, eq-eqb, false, Ok, Err, nat_cmp, slice_index_or}
+use Rattle.std.proofs.Common.{◌≡◌, ◌≢◌, ◌⊎◌, ◌∙◌, ℕ, zero, suc, ◌+◌, ◌-◌, ◌<◌, ◌≤◌, List, [], ◌∷◌, length, get_or, take, drop, nat_eq, if◌then◌else◌, refl, sym, ap, arith, subst, inl, inr, ⊎_elim, sum_by, eq-eqb, false, Ok, Err, is_ok, nat_cmp, slice_index_or, true≢false}
 use Rattle.std.proofs.Math.Decide.{dec_lt}
 use Rattle.std.proofs.Math.Numerals.{suc-eq-add-one}
 use Rattle.std.proofs.lemmas.List.{get_or-take, get_or-drop, get_or_default, length-take, take_all}
@@ -16,7 +16,7 @@ use Rattle.bip_defs.proofs.Sets.{among_at, below_each_sound, entry_col, number_s
 use Rattle.sp_pattern.specs.Stored.{AreOrders, AreStarts, pieces, stored}
 use Rattle.sp_pattern.specs.Weights.{Weighing, place_in, position, start_of, weight_at, weights_in}
 use Rattle.sp_pattern.proofs.Cuts.{get_or-pieces, length-pieces, length-slice_range, start_within}
-use Rattle.sp_pattern.proofs.Shape.{col_fits, orders_columns, piece_column, rising_step}
+use Rattle.sp_pattern.proofs.Shape.{col_fits, found_iff, orders_columns, piece_column, rising_step}
 
 -- The starts are the numbers of entries before each column.
 
@@ -34,10 +34,10 @@ sum_before {X = X} starts flat s (suc c) lt =
 
 -- How many numbers stand before one.
 
-place_same_here : (x y : ℕ) (ys : List ℕ) → x ≡ y → place_in x (y ∷ ys) ≡ 0
+pub place_same_here : (x y : ℕ) (ys : List ℕ) → x ≡ y → place_in x (y ∷ ys) ≡ 0
 place_same_here x y ys e = ap (λ t. if t then zero else suc (place_in x ys)) (eq-eqb x y e)
 
-place_later : (x y : ℕ) (ys : List ℕ) → x ≢ y → place_in x (y ∷ ys) ≡ suc (place_in x ys)
+pub place_later : (x y : ℕ) (ys : List ℕ) → x ≢ y → place_in x (y ∷ ys) ≡ suc (place_in x ys)
 place_later x y ys ne = ap (λ t. if t then zero else suc (place_in x ys)) (test_other x y ne)
   where
     test_other : (x y : ℕ) → x ≢ y → nat_eq x y ≡ false
@@ -96,6 +96,26 @@ found_in_span cs rs us vs a r c from to found o is e begins ends h =
     let listed : Lists (λ s. IsEntry a s c) (column a c) = rw (← is) (orders_columns cs rs us vs o c) in
     let rows : slice_range rs from to ≡ column a c = rw (begins, ends) (span_column cs rs us vs a c o is (entry_col a r c e)) in
     found_place (λ s. IsEntry a s c) (column a c) r found listed e (subst (λ xs. IsBinarySearchResult (λ y. nat_cmp y r) xs found) rows h)
+
+-- what is found is an entry, where it stands
+pub span_found : (cs rs us vs : List ℕ) (a : Matrix) (r c from to : ℕ) (found : Result ℕ ℕ) (k : ℕ) → AreOrders cs rs us vs → stored cs rs us ≡ a → c < cols a → from ≡ start_of a c → to ≡ start_of a (c + 1)
+    → IsBinarySearchResult (λ y. nat_cmp y r) (slice_range rs from to) found → found ≡ Ok k → IsEntry a r c × (from + k ≡ position a r c)
+span_found cs rs us vs a r c from to found k o is lt begins ends h ok =
+    let listed : Lists (λ s. IsEntry a s c) (column a c) = rw (← is) (orders_columns cs rs us vs o c) in
+    let rows : slice_range rs from to ≡ column a c = rw (begins, ends) (span_column cs rs us vs a c o is lt) in
+    let here : IsBinarySearchResult (λ y. nat_cmp y r) (column a c) (Ok k) = subst (λ z. IsBinarySearchResult (λ y. nat_cmp y r) (column a c) z) ok (subst (λ xs. IsBinarySearchResult (λ y. nat_cmp y r) xs found) rows h) in
+    let s = searched (column a c) r (Ok k) here (rising_step (column a c) listed.rising) in
+    let entry : IsEntry a r c = listed.sound r (subst (λ y. Among y (column a c)) s.1 (among_at (column a c) k 0 s.0)) in
+    let at : k ≡ place_in r (column a c) = found_place (λ s. IsEntry a s c) (column a c) r (Ok k) listed entry here in
+    (entry, λ i. begins i + at i)
+
+pub span_missed : (cs rs us vs : List ℕ) (a : Matrix) (r c from to : ℕ) (found : Result ℕ ℕ) (k : ℕ) → AreOrders cs rs us vs → stored cs rs us ≡ a → from ≡ start_of a c → to ≡ start_of a (c + 1)
+    → IsBinarySearchResult (λ y. nat_cmp y r) (slice_range rs from to) found → found ≡ Err k → IsEntry a r c → ⊥
+span_missed cs rs us vs a r c from to found k o is begins ends h err e =
+    let listed : Lists (λ s. IsEntry a s c) (column a c) = rw (← is) (orders_columns cs rs us vs o c) in
+    let rows : slice_range rs from to ≡ column a c = rw (begins, ends) (span_column cs rs us vs a c o is (entry_col a r c e)) in
+    let there = (found_iff (λ s. IsEntry a s c) (column a c) r found listed (subst (λ xs. IsBinarySearchResult (λ y. nat_cmp y r) xs found) rows h)).1 e in
+    true≢false (sym there ∙ ap is_ok err)
 
 pub start_le : (a : Matrix) (c : ℕ) → start_of a c ≤ entry_count a
 start_le a c = sum_by-take-le length a.columns c

@@ -5,7 +5,9 @@ use Rattle.bip_defs.specs.Matrix.{Place, upto}
 
 -- the three places of column j: the sums are those of whole numbers
 abbrev pub load_column : ℕ → ℕ → ℕ → List Place
-load_column size seed j = ((2 * j + seed) % size, j) ∷ ((3 * j + 2 * seed) % size, j) ∷ ((5 * j + 3 * seed) % size, j) ∷ []
+load_column size seed j =
+    ((2 * j + seed) % size, j) ∷ ((3 * j + 2 * seed) % size, j)
+    ∷ ((5 * j + 3 * seed) % size, j) ∷ []
 
 -- the places of all columns, of which some may be the same
 abbrev pub load_places : ℕ → ℕ → List Place

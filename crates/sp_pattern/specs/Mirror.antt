@@ -1,4 +1,5 @@
--- Places with their mirror images, and a symmetric matrix from its entries on and below the diagonal.
+-- Places with their mirror images, and a symmetric matrix from its entries on and below the
+-- diagonal.
 use Rattle.std.specs.Prelude.{◌≡◌, ℕ, ◌+◌, ◌<◌, ◌≤◌, List, ◌++◌, length, map, filter, nat_lt, if◌then◌else◌}
 use Rattle.bip_defs.specs.Lists.{Among}
 use Rattle.bip_defs.specs.Matrix.{IsEntry, Matrix, Place}
@@ -19,9 +20,11 @@ AreSymmetric ps = (r c : ℕ) → Among (r, c) ps → Among (c, r) ps
 abbrev pub IsLower : Matrix → Type 0
 IsLower a = (r c : ℕ) → IsEntry a r c → c ≤ r
 
--- of a column and a row of the same number: what stands above the diagonal in the row, and then the column
+-- of a column and a row of the same number: what stands above the diagonal in the row, and then the
+-- column
 abbrev pub both_sides : List ℕ → List ℕ → List ℕ → List ℕ → ℕ → List ℕ
-both_sides col_starts col_rows row_starts row_cols i = filter (λ j. nat_lt j i) (piece row_starts row_cols i) ++ piece col_starts col_rows i
+both_sides col_starts col_rows row_starts row_cols i =
+    filter (λ j. nat_lt j i) (piece row_starts row_cols i) ++ piece col_starts col_rows i
 
 -- the flat list is cut into m parts, and these are they
 pub record HasPieces (m : ℕ) (pieces : ℕ → List ℕ) (starts flat : List ℕ) : Type 0 where

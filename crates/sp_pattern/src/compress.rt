@@ -1,7 +1,7 @@
 //! Pairs in order, compressed: a start for each outer number, and one flat list of inner numbers.
 
 ghost use Rattle.std.specs.Prelude.{◌≡◌, ◌+◌, ◌<◌, ◌≤◌, ◌^◌, ℕ, List, length, map, IfOk, OnOk};
-ghost use Rattle.sp_pattern.specs.Pairs.{AreInside, AreSorted, IsFront, IsOrderOf, Pair};
+ghost use Rattle.sp_pattern.specs.Pairs.{AreInside, AreSorted, IsCompressed, IsOrderOf, Pair};
 
 use crate::pairs::Pairs;
 use sp_ids::{Id, OutOfMemory};
@@ -11,8 +11,8 @@ use std::alloc::Global;
 pub fn open(starts: &mut Vec<u32>, outer: u32, end: u32) -> Result<(), OutOfMemory>
     requires { length starts.old.items ≤ outer + 1 }
     ensures opened { OnOk result (length starts.new.items ≡ outer + 1) }
-    ensures front { OnOk result ((ds : List Pair) (flat : List ℕ) → length flat ≡ end
-        → IsFront ds starts.old.items flat → IsFront ds starts.new.items flat) }
+    ensures compressed { OnOk result ((ds : List Pair) (flat : List ℕ) → length flat ≡ end
+        → IsCompressed ds starts.old.items flat → IsCompressed ds starts.new.items flat) }
 {
     while starts.len() <= outer as usize {
         starts.push(end)?;
@@ -20,7 +20,8 @@ pub fn open(starts: &mut Vec<u32>, outer: u32, end: u32) -> Result<(), OutOfMemo
     Ok(())
 }
 
-/// The pairs, each of them once. Work: one look at each pair, and one write for each that differs and each outer number.
+/// The pairs, each of them once. Work: one look at each pair, and one write for each that differs
+/// and each outer number.
 pub fn compress<P: Pairs, I: Id>(
     alloc: Global,
     pairs: &P,
@@ -30,7 +31,8 @@ pub fn compress<P: Pairs, I: Id>(
     requires sorted { AreSorted (P.pairs pairs.now) }
     requires inside { AreInside outer inner (P.pairs pairs.now) }
     requires few { length (P.pairs pairs.now) < 2 ^ 32 }
-    ensures { IfOk result (λ o. IsOrderOf outer inner (P.pairs pairs.now) o.0.items (map I.number o.1.items)) }
+    ensures { IfOk result (λ o.
+        IsOrderOf outer inner (P.pairs pairs.now) o.0.items (map I.number o.1.items)) }
 {
     let len = pairs.len();
     let mut starts = Vec::with_capacity(alloc, outer as usize + 1)?;

@@ -9,9 +9,11 @@ mod mirror;
 mod pairs;
 mod pattern;
 mod pieces;
+mod restrict;
 mod side;
 mod sort;
 mod split;
+mod sums;
 #[cfg(test)]
 mod tests;
 mod transpose;
@@ -21,5 +23,5 @@ pub use laws::search_finds_members;
 pub use load::load_matrix;
 pub use pattern::Pattern;
 pub use pieces::part;
-pub use side::{FromRows, Side};
+pub use side::{FromRows, Neighbours, Side};
 pub use weights::{WeightError, Weights};

@@ -31,8 +31,8 @@ pub fn are_mirrored(places: &[(Row, Col)]) -> bool
     true
 }
 
-/// The columns of a symmetric matrix, which are its rows too, from the columns and the rows of its entries on and below
-/// the diagonal. `room` is for how many entries memory is taken at once.
+/// The columns of a symmetric matrix, which are its rows too, from the columns and the rows of its
+/// entries on and below the diagonal. `room` is for how many entries memory is taken at once.
 pub fn both_halves<I: Id>(
     alloc: Global,
     col_starts: &[u32],

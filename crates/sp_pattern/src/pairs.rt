@@ -57,7 +57,8 @@ impl Pairs for ByRow<'_> {
     }
 }
 
-/// The places on and below the diagonal that the places or their mirror images are, with the column as the outer number.
+/// The places on and below the diagonal that the places or their mirror images are, with the column
+/// as the outer number.
 #[derive(Clone, Copy)]
 pub struct LowerByCol<'a> {
     pub places: &'a [(Row, Col)],

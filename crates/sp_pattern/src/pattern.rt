@@ -1,6 +1,6 @@
 //! The pattern of a matrix.
 
-ghost use Rattle.std.specs.Prelude.{◌≡◌, ◌<◌, ◌^◌, ◌↔◌, IsTrue, IfOk, List, length, ◌+◌, ◌≤◌};
+ghost use Rattle.std.specs.Prelude.{◌≡◌, ◌<◌, ◌^◌, ◌↔◌, IsTrue, IfOk, IfNone, IfSome, List, length, ◌+◌, ◌≤◌};
 ghost use Rattle.bip_defs.specs.Matching.{transposed_places};
 ghost use Rattle.sp_pattern.specs.Mirror.{AreSymmetric, IsLower, lowered};
 ghost use Rattle.sp_pattern.specs.Pairs.{AreInside, AreSorted, IsOrder, IsOrderOf, Pair};
@@ -27,9 +27,10 @@ const HALF: usize = 2147483648;
 
 /// Which places of a matrix have entries, each of them once, by columns and by rows.
 ///
-/// Compressed sparse columns and compressed sparse rows side by side (Duff, Erisman and Reid 1986). It keeps 8 bytes an
-/// entry and 4 bytes a row and a column, and at most 4 bytes more each time that a place was given again: of the two
-/// lists, the one that is made first keeps its room for all that was given.
+/// Compressed sparse columns and compressed sparse rows side by side (Duff, Erisman and Reid 1986).
+/// It keeps 8 bytes an entry and 4 bytes a row and a column, and at most 4 bytes more each time
+/// that a place was given again: of the two lists, the one that is made first keeps its room for
+/// all that was given.
 #[derive(Drop)]
 pub struct Pattern {
     col_starts: Vec<u32>,
@@ -47,19 +48,23 @@ impl Model for Pattern {
 
     ghost view = { λ p. stored p.col_starts.items p.col_rows.items p.row_starts.items };
 
-    ghost invariant = { λ p. AreOrders p.col_starts.items p.col_rows.items p.row_starts.items p.row_cols.items };
+    ghost invariant = { λ p.
+        AreOrders p.col_starts.items p.col_rows.items p.row_starts.items p.row_cols.items };
 }
 
 impl Pattern {
-    /// The pattern of the places of these entries. A place that is given several times is one entry.
+    /// The pattern of the places of these entries. A place that is given several times is one
+    /// entry.
     ///
-    /// Entries that stand with their mirror images, as those of a symmetric file, are made of those on and below the
-    /// diagonal. What stands neither by columns nor by rows is sorted by as many threads as `rt` has processors; where it
-    /// starts none, the calling thread sorts, and the pattern is the same. Beside the pattern it takes at most 8 bytes an
-    /// entry, those that are given several times and the mirror images of a symmetric file counted too: while they are
-    /// sorted, or while the second order is derived from the first, and then 4 bytes more for each 4,096 rows or columns,
-    /// and for a symmetric file 4 for each row. Answers `OutOfMemory` where there is no memory for that or for the
-    /// pattern. Work: linear in the entries, the rows and the columns, and the sort.
+    /// Entries that stand with their mirror images, as those of a symmetric file, are made of those
+    /// on and below the diagonal. What stands neither by columns nor by rows is sorted by as many
+    /// threads as `rt` has processors; where it starts none, the calling thread sorts, and the
+    /// pattern is the same. Beside the pattern it takes at most 8 bytes an entry, those that are
+    /// given several times and the mirror images of a symmetric file counted too: while they are
+    /// sorted, or while the second order is derived from the first, and then 4 bytes more for each
+    /// 4,096 rows or columns, and for a symmetric file 8 for each row. Answers `OutOfMemory` where
+    /// there is no memory for that or for the pattern. Work: linear in the entries, the rows and
+    /// the columns, and the sort.
     pub fn build<R: Threads + Sync>(
         rt: &R,
         alloc: Global,
@@ -83,7 +88,8 @@ impl Pattern {
         Pattern::from_columns(alloc, rows, cols, sorted)
     }
 
-    // Of a square matrix, the places on and below the diagonal that these places or their mirror images are.
+    // Of a square matrix, the places on and below the diagonal that these places or their mirror
+    // images are.
     fn lower_part<R: Threads + Sync>(
         rt: &R,
         alloc: Global,
@@ -107,8 +113,8 @@ impl Pattern {
         Pattern::from_columns(alloc, n, n, sorted)
     }
 
-    // The pattern with the mirror images of its entries, none of which is above the diagonal. `room` is for how many
-    // entries memory is taken at once.
+    // The pattern with the mirror images of its entries, none of which is above the diagonal.
+    // `room` is for how many entries memory is taken at once.
     fn with_mirror(self, alloc: Global, room: usize) -> Result<Pattern, OutOfMemory>
         requires square { self.rows ≡ cols self }
         requires lower { IsLower self }
@@ -135,7 +141,8 @@ impl Pattern {
         })
     }
 
-    // The pattern of pairs of a column and a row, in order. The pairs are let go as soon as they are compressed.
+    // The pattern of pairs of a column and a row, in order. The pairs are let go as soon as they
+    // are compressed.
     fn from_columns<P: Pairs>(
         alloc: Global,
         rows: u32,
@@ -284,7 +291,24 @@ impl Pattern {
         from + rows.binary_search(&row).unwrap_or(0)
     }
 
-    /// The entry that stands there, in the order of all columns. Work: one look at each column up to its own.
+    /// Where a place stands, in the order of all columns, if it is an entry.
+    pub(crate) fn find(&self, row: Row, col: Col) -> Option<usize>
+        ensures some { IfSome result
+            (λ at. IsEntry self.now row col × (at ≡ position self.now row col)) }
+        ensures none { IfNone result (¬ IsEntry self.now row col) }
+    {
+        if self.cols() <= col.0 {
+            return None;
+        }
+        let (from, to) = self.span(col);
+        match self.col_rows.as_slice()[from..to].binary_search(&row) {
+            Ok(k) => Some(from + k),
+            Err(_) => None,
+        }
+    }
+
+    /// The entry that stands there, in the order of all columns. Work: one look at each column up
+    /// to its own.
     pub(crate) fn place_at(&self, at: usize) -> (Row, Col)
         requires { at < entry_count self.now }
         ensures entry { IsEntry self.now result.0 result.1 }
@@ -306,7 +330,8 @@ impl Pattern {
         col.0 < self.cols() && self.rows_of(col).binary_search(&row).is_ok()
     }
 
-    /// Its sizes fit 32 bits, and each column's list is the rising one of its entries: a fact for proofs, at no cost.
+    /// Its sizes fit 32 bits, and each column's list is the rising one of its entries: a fact for
+    /// proofs, at no cost.
     pub fn is_pattern(&self)
         ensures { IsPattern self.now }
     {

@@ -7,11 +7,12 @@ ghost use Rattle.bip_defs.specs.Matrix.{IsEntry, Matrix, cols, column, transpose
 use crate::pattern::Pattern;
 use sp_ids::{Col, Id, Row};
 
-/// A matrix, seen from one side. What begins at the columns of the matrix that is seen serves both sides.
+/// A matrix, seen from one side. What begins at the columns of the matrix that is seen serves both
+/// sides.
 ///
-/// A pattern itself is seen from its columns, as the matrix that it is; [`FromRows`] sees its transpose. In all methods
-/// rows and columns are those of the matrix that is seen. `Far` is what the lists of a column's rows hold: `Row` from the
-/// columns, `Col` from the rows.
+/// A pattern itself is seen from its columns, as the matrix that it is; [`FromRows`] sees its
+/// transpose. In all methods rows and columns are those of the matrix that is seen. `Far` is what
+/// the lists of a column's rows hold: `Row` from the columns, `Col` from the rows.
 pub trait Side<Far: Id> {
     /// The matrix that is seen.
     ghost matrix: { Self → Matrix };
@@ -30,6 +31,13 @@ pub trait Side<Far: Id> {
         ensures rows { Lists (λ r. IsEntry (matrix self.now) r col) (map Far.number result.now) }
         ensures column { map Far.number result.now ≡ column (matrix self.now) col };
 }
+
+/// A set of places within a number of rows and columns, which lends the rows of each column: all
+/// that a search from the columns asks of a matrix. A pattern is one, and so is whatever is seen as
+/// a [`Side`] from its columns.
+pub trait Neighbours: Side<Row> {}
+
+impl<N: Side<Row>> Neighbours for N {}
 
 impl Side<Row> for Pattern {
     ghost matrix = { λ a. a };

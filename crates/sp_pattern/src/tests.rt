@@ -134,7 +134,8 @@ fn far_apart<R: Abort + AllocGlobal>(
     Ok(triples)
 }
 
-// Since 513 times 511 is -1 modulo 131072, the column 0 has an entry in each row 511 t, for t from 0 to 15.
+// Since 513 times 511 is -1 modulo 131072, the column 0 has an entry in each row 511 t, for t from
+// 0 to 15.
 #[test]
 fn many_places_far_apart(rt: HostRuntime) -> Result<(), Fail> {
     let pattern = Pattern::build(&rt, rt.alloc(), &far_apart(&rt, 131072, 2097152)?)?;
@@ -191,5 +192,63 @@ fn a_sum_past_the_limit(rt: HostRuntime) -> Result<(), Fail> {
         col: Col(0),
     };
     assert_eq!(rt; refused, Some(expected));
+    Ok(())
+}
+
+// The values of the place (1, 0) add up to 0, those of (0, 0) and (0, 1) do not.
+#[test]
+fn places_that_add_up_to_zero(rt: HostRuntime) -> Result<(), Fail> {
+    let mut triples = Triples::new(rt.alloc(), 2, 2, Field::Integer)?;
+    triples.push(Row(1), Col(0), 9223372036854775807)?;
+    triples.push(Row(0), Col(1), -1)?;
+    triples.push(Row(0), Col(0), 9223372036854775807)?;
+    triples.push(Row(1), Col(0), -9223372036854775807)?;
+    triples.push(Row(0), Col(0), 1)?;
+    triples.push(Row(1), Col(1), 0)?;
+    let pattern = Pattern::build_nonzero(&rt, rt.alloc(), &triples)?;
+    assert_eq!(rt; (pattern.rows(), pattern.cols()), (2, 2));
+    assert_eq!(rt; pattern.entries(), 2);
+    assert_eq!(rt; pattern.has(Row(0), Col(0)), true);
+    assert_eq!(rt; pattern.has(Row(0), Col(1)), true);
+    let refused = Weights::build(rt.alloc(), &pattern, &triples).err();
+    let expected = WeightError::SumLimit {
+        row: Row(0),
+        col: Col(0),
+    };
+    assert_eq!(rt; refused, Some(expected));
+    Ok(())
+}
+
+// A place that is no entry of the pattern is passed over, whatever its values add up to.
+#[test]
+fn weights_of_some_of_the_places(rt: HostRuntime) -> Result<(), Fail> {
+    let mut triples = Triples::new(rt.alloc(), 2, 2, Field::Integer)?;
+    triples.push(Row(1), Col(1), 9223372036854775807)?;
+    triples.push(Row(0), Col(0), -6)?;
+    triples.push(Row(1), Col(1), 9223372036854775807)?;
+    let mut some = Triples::new(rt.alloc(), 1, 1, Field::Pattern)?;
+    some.push(Row(0), Col(0), 0)?;
+    let pattern = Pattern::build(&rt, rt.alloc(), &some)?;
+    let weights = Weights::build(rt.alloc(), &pattern, &triples)?;
+    assert_eq!(rt; pattern.has(Row(0), Col(0)), true);
+    assert_eq!(rt; weights.weights_of(Col(0)), [6].as_slice());
+    Ok(())
+}
+
+#[test]
+fn entries_above_a_weight(rt: HostRuntime) -> Result<(), Fail> {
+    let mut triples = Triples::new(rt.alloc(), 2, 2, Field::Integer)?;
+    triples.push(Row(0), Col(0), 12)?;
+    triples.push(Row(0), Col(1), -6)?;
+    triples.push(Row(1), Col(0), 5)?;
+    triples.push(Row(1), Col(1), 1)?;
+    let pattern = Pattern::build(&rt, rt.alloc(), &triples)?;
+    let weights = Weights::build(rt.alloc(), &pattern, &triples)?;
+    let above = pattern.above(rt.alloc(), &weights, 5)?;
+    assert_eq!(rt; (above.rows(), above.cols()), (2, 2));
+    assert_eq!(rt; above.entries(), 2);
+    assert_eq!(rt; above.rows_of(Col(0)), [Row(0)].as_slice());
+    assert_eq!(rt; above.rows_of(Col(1)), [Row(0)].as_slice());
+    assert_eq!(rt; above.cols_of(Row(1)).is_empty(), true);
     Ok(())
 }

@@ -1,14 +1,13 @@
 //! The weights of a pattern's entries.
 
-ghost use Rattle.std.specs.Prelude.{◌≡◌, ◌+◌, ◌+ℤ◌, ◌<◌, ◌≤◌, ◌^◌, FitsSigned, ℕ, ℤ, pos, IfOk, IfErr, IfNone, IfSome, length, map, replicate, slice_index, slice_index_or};
-ghost use Rattle.std.specs.Int.{w128};
+ghost use Rattle.std.specs.Prelude.{◌≡◌, ◌<◌, ◌≤◌, ℕ, pos, IfOk, IfErr, IfNone, IfSome, length, map, slice_index, slice_index_or};
 ghost use Rattle.std.specs.Int.RustNames.{unsigned_abs};
-ghost use Rattle.bip_defs.specs.Matrix.{HasPlaces, IsEntry, cols, column, entry_count};
-ghost use Rattle.sp_ids.specs.Entries.{places};
+ghost use Rattle.bip_defs.specs.Matrix.{IsEntry, cols, column, entry_count};
 ghost use Rattle.sp_ids.specs.declared.triples.Field.TheVariants.{Integer};
-ghost use Rattle.sp_pattern.specs.Weights.{AreSums, AreWeightsOf, AreWithin, weight_at, weight_limit, weights_in};
+ghost use Rattle.sp_pattern.specs.Weights.{AreWeightsOf, AreWithin, weight_at, weight_limit, weights_in};
 
 use crate::Pattern;
+use crate::sums::sums_of;
 use sp_ids::{Col, MAX_VALUE, OutOfMemory, Row, Triples};
 use std::alloc::Global;
 use std::marker::Model;
@@ -16,14 +15,15 @@ use std::marker::Model;
 /// Why there are no weights.
 #[derive(Clone, Copy, Debug, PartialEq, Eq)]
 pub enum WeightError {
-    /// The sum of a place's values passes 9,223,372,036,854,775,807 in magnitude. Of all such places this is the one of
-    /// least column, and in it of least row.
+    /// The sum of an entry's values passes 9,223,372,036,854,775,807 in magnitude. Of all such
+    /// entries this is the one of least column, and in it of least row.
     SumLimit { row: Row, col: Col },
     /// There was not enough memory.
     OutOfMemory,
 }
 
-/// For each entry of a pattern the magnitude of the sum of the values that an integer file gives for its place.
+/// For each entry of a pattern the magnitude of the sum of the values that an integer file gives
+/// for its place.
 ///
 /// It keeps 8 bytes an entry, in the order of the pattern's columns.
 #[derive(Drop)]
@@ -45,7 +45,8 @@ impl<'p> Model for Weights<'p> {
 }
 
 impl<'p> Weights<'p> {
-    /// The weights of a column's entries, in the order in which `Pattern::rows_of` lends its rows, lent without copying.
+    /// The weights of a column's entries, in the order in which `Pattern::rows_of` lends its rows,
+    /// lent without copying.
     pub fn weights_of(&self, col: Col) -> &[u64]
         requires { col < cols self.now.matrix }
         ensures weights { result.now ≡ weights_in self.now col }
@@ -58,6 +59,14 @@ impl<'p> Weights<'p> {
         &self.weights.as_slice()[from..to]
     }
 
+    // The weights of all entries, column by column.
+    pub(crate) fn weights(&self) -> &[u64]
+        ensures weights { result.now ≡ self.now.weights }
+        ensures length { length result.now ≡ entry_count self.now.matrix }
+    {
+        self.weights.as_slice()
+    }
+
     /// The magnitude of the sum of an entry's values.
     pub fn weight(&self, row: Row, col: Col) -> u64
         requires { IsEntry self.now.matrix row col }
@@ -68,23 +77,25 @@ impl<'p> Weights<'p> {
 }
 
 impl<'p> Weights<'p> {
-    ghost use Rattle.sp_pattern.specs.WeightErrors.{IsRefusal};
+    ghost use Rattle.sp_pattern.specs.WeightErrors.{IsWeightError};
 
-    /// The weights of a pattern's entries, by the integer file that the pattern is of.
+    /// The weights of a pattern's entries, by a file of the field integer. An entry that the file
+    /// doesn't give weighs 0; a place that is no entry is passed over.
     ///
-    /// Answers `SumLimit` exactly where the sum of some place's values passes the limit in magnitude, and `OutOfMemory`
-    /// where there is no memory for the weights, or for 16 bytes an entry beside them while the values are added up.
-    /// Work: a search in its column for each entry of the file, and one look at each entry of the pattern.
+    /// Answers `SumLimit` exactly where the sum of some entry's values passes the limit in
+    /// magnitude, and `OutOfMemory` where there is no memory for the weights, or for 16 bytes an
+    /// entry beside them while the values are added up. Work: a search in its column for each entry
+    /// of the file, and one look at each entry of the pattern.
     pub fn build(
         alloc: Global,
         pattern: &'p Pattern,
         triples: &Triples,
     ) -> Result<Weights<'p>, WeightError>
-        requires integer { triples.now.field ≡ Integer }
-        requires pattern { HasPlaces triples.now.rows triples.now.cols (places triples.now) pattern.now }
+        requires { triples.now.field ≡ Integer }
         ensures weights { IfOk result (AreWeightsOf triples.now pattern.now) }
-        ensures refused { IfErr result (IsRefusal triples.now) }
+        ensures refused { IfErr result (IsWeightError triples.now pattern.now) }
     {
+        pattern.is_pattern();
         let Ok(sums) = sums_of(alloc, pattern, triples) else {
             return Err(WeightError::OutOfMemory);
         };
@@ -97,34 +108,6 @@ impl<'p> Weights<'p> {
         };
         Ok(Weights { pattern, weights })
     }
-}
-
-// The sums of the entries' values, in the order of the pattern's columns.
-fn sums_of(alloc: Global, pattern: &Pattern, triples: &Triples) -> Result<Vec<i128>, OutOfMemory>
-    requires integer { triples.now.field ≡ Integer }
-    requires pattern { HasPlaces triples.now.rows triples.now.cols (places triples.now) pattern.now }
-    ensures { IfOk result (λ s. AreSums triples.now.items pattern.now s.items) }
-{
-    let mut sums = zeros(alloc, pattern.entries())?;
-    for k in 0..triples.len() {
-        let (row, col) = triples.place(k);
-        let at = pattern.place_of(row, col);
-        sums[at] = added(sums[at], triples.value(k));
-    }
-    Ok(sums)
-}
-
-fn added(sum: i128, value: i64) -> i128
-    requires { FitsSigned w128 (sum +ℤ value) }
-    ensures { result ≡ sum +ℤ value }
-{
-    sum + value as i128
-}
-
-fn zeros(alloc: Global, count: u32) -> Result<Vec<i128>, OutOfMemory>
-    ensures { IfOk result (λ s. s.items ≡ replicate count (pos 0)) }
-{
-    Ok(vec![in alloc; 0; count as usize]?)
 }
 
 // Where the first sum stands that passes the limit.

@@ -1,10 +1,9 @@
-use Rattle.std.proofs.Common.{◌^◌, subst, sym, arith}
+use Rattle.std.proofs.Common.{subst, sym, arith}
 use Rattle.std.proofs.lemmas.List.{map-id}
 use Rattle.std.proofs.lemmas.Result.{IfOk-weaker}
 use Rattle.bip_defs.specs.Blocks.{AreBlocksOf}
-use Rattle.dm_fine.proofs.BlockLemmas.{all_few, are_blocks, gathered}
+use Rattle.dm_fine.proofs.BlockLemmas.{are_blocks, gathered}
 use Rattle.dm_fine.proofs.OrderLemmas.{follow_range}
-use Rattle.dm_fine.proofs.GroupParts.{groups_apart}
 use Rattle.dm_fine.proofs.fine.Goals as goal
 
 pub order-requires : goal.order-requires
@@ -23,19 +22,6 @@ pub listed-requires-clause-cols : goal.listed-requires-clause-cols
 listed-requires-clause-cols c =
     let ordered = rw (← c.as_slice.ensures.value) at c.in_ok-order.ensures in
     λ k on. let lt = follow_range _ _ _ _ _ k ordered.follow on in let long = c.in_ok-cols.ensures.long in omega (arith, lt, long)
-
-pub listed-requires-clause-few_rows : goal.listed-requires-clause-few_rows
-listed-requires-clause-few_rows c =
-    let by_row = rw c.requires.maximum.matching.rows at c.in_ok-rows.ensures in
-    let small = c.is_pattern.ensures.few_rows in
-    rw c.as_slice.ensures.value (all_few _ _ (2 ^ 32) _ _ _ _ _ (let long = by_row.mates.long in omega (arith, long, small)) (groups_apart by_row.of_rows _ _ _ by_row.groups) c.in_ok-order.ensures)
-
-pub listed-requires-clause-few_cols : goal.listed-requires-clause-few_cols
-listed-requires-clause-few_cols c =
-    let value = c.as_slice-numbers.ensures.value in
-    let by_col = rw (value, map-id) at c.in_ok-cols.ensures in
-    let small = c.is_pattern.ensures.few_cols in
-    rw c.as_slice.ensures.value (all_few _ _ (2 ^ 32) _ _ _ _ _ (let long = c.in_ok-components.ensures.long in omega (arith, long, small)) (groups_apart c.in_ok-components.components.numbers.items _ _ _ by_col) c.in_ok-order.ensures)
 
 pub returns : goal.returns
 returns c =

@@ -4,7 +4,7 @@ use Rattle.bip_defs.specs.Lists.{Among}
 use Rattle.bip_defs.specs.Matrix.{Matrix, Place, cols}
 use Rattle.bip_graph.specs.Texts.{line}
 use Rattle.bip_graph.specs.declared.answers.Heaviest.TheVariants.{Diagonal}
-use Rattle.btf_text.specs.Diagonals.{HasEntries, diagonal_lines}
+use Rattle.btf_text.specs.Diagonals.{PairsAreEntries, diagonal_lines}
 use Rattle.btf_text.proofs.Parts.{lines_as}
 use Rattle.btf_text.proofs.Weighed.{same_weighed}
 use Rattle.btf_text.proofs.diagonal.put_answer.Goals as goal
@@ -12,7 +12,7 @@ use Rattle.btf_text.proofs.diagonal.put_answer.Goals as goal
 pub put_weighed-requires : goal.put_weighed-requires
 put_weighed-requires g c r col on =
     let d = c.in-Diagonal in
-    let entries : HasEntries c.args.pattern.now (Diagonal d.pairs d.u d.v d.sum) = subst (HasEntries c.args.pattern.now) d.is c.requires.entries in
+    let entries : PairsAreEntries c.args.pattern.now (Diagonal d.pairs d.u d.v d.sum) = subst (PairsAreEntries c.args.pattern.now) d.is c.requires.entries in
     rw c.requires.weights (entries r col (subst (λ (ps : List Place). Among (r, col) ps) c.as_slice-in-Diagonal.ensures.value on))
 
 pub returns-in-Rectangular : goal.returns-in-Rectangular

@@ -1,5 +1,5 @@
 use Rattle.std.proofs.Common.{◌≡◌, map, take}
-use Rattle.dm_fine.specs.Groups.{block_of}
+use Rattle.id_groups.specs.Groups.{block_of}
 use Rattle.dm_fine.proofs.listed.listed.Given as goal
 
 abbrev pub invariant-loop-k : goal.invariant-loop-k

@@ -14,3 +14,7 @@ returns-clause-sizes c = refl
 pub returns-clause-entries : goal.returns-clause-entries
 unfolding words lines line_faults first_fault
 returns-clause-entries c = refl
+
+pub returns-clause-values : goal.returns-clause-values
+unfolding words lines line_faults first_fault
+returns-clause-values c = refl

@@ -1,5 +1,5 @@
 use Rattle.std.proofs.Common.{length-append, arith}
-use Rattle.sp_pattern.proofs.Orders.{front_open}
+use Rattle.sp_pattern.proofs.Orders.{compressed_open}
 use Rattle.sp_pattern.proofs.compress.open.Goals as goal
 
 pub loop-starts-preserved : goal.loop-starts-preserved
@@ -8,5 +8,5 @@ loop-starts-preserved c =
     let inv = c.loop-starts.invariant in
     record {
       room = rw (items, length-append) (let le = c.loop-starts-test.true in let n = c.len.ensures in let ok = c.loop-starts.starts.ok in omega (arith, le, n, ok));
-      front = λ ds flat long f. rw items (front_open ds c.loop-starts.starts.items flat c.args.end long (inv.front ds flat long f));
+      compressed = λ ds flat long f. rw items (compressed_open ds c.loop-starts.starts.items flat c.args.end long (inv.compressed ds flat long f));
     }

@@ -1,0 +1,186 @@
+//! Devices that fail in one call, have little room, or do what is asked.
+
+use crate::runs::{
+    Devices, SMALLEST, SMALLEST_RANK, SMALLEST_REPORT, STEADY, expect, outcome_of, run_over,
+};
+use sp_ids::Status;
+use sp_ports::{NoGate, SteadySink, SteadySource};
+use std::process::Abort;
+use std::test::Fail;
+use std::thread::Threads;
+
+// The 59 bytes come in six pieces, and call 6 tells the end.
+#[test]
+fn each_read_fails_in_turn(rt: HostRuntime) -> Result<(), Fail> {
+    for job in ["rank", "analyse"] {
+        for call in 0u64..7 {
+            let devices = Devices {
+                failing_reads: &[call],
+                ..STEADY
+            };
+            let found = outcome_of(&rt, &[job], SMALLEST.as_bytes(), &devices)?;
+            assert_eq!(rt; found.status, Status::ReadFault, "{job}, call {call}");
+            assert_eq!(rt; found.out.bytes(), b"".as_slice(), "{job}, call {call}");
+            assert_eq!(rt; found.err.bytes(), b"btf: read fault\n".as_slice());
+            assert_eq!(rt; found.input.failed_calls(), 1, "{job}, call {call}");
+        }
+    }
+    Ok(())
+}
+
+/// An entry line more than told, in 63 bytes.
+const TRAILING: &str = "%%MatrixMarket matrix coordinate pattern general\n1 1 1\n1 1\n1 1\n";
+
+/// An entry line less than told.
+const LACKING: &str = "%%MatrixMarket matrix coordinate pattern general\n1 1 2\n1 1\n";
+
+// A line is judged once its end was given. So the last line of 63 is told where call 63 fails, and not where call 62 does; an
+// entry line is missing only at the end of the input, which a failed call is not.
+#[test]
+fn a_line_is_judged_where_its_end_was_given(rt: HostRuntime) -> Result<(), Fail> {
+    let fault = "btf: read fault\n";
+    let trailing = "btf: malformed line 4: Trailing\n";
+    let banner = "btf: malformed line 1: NoBanner\n";
+    let (lost, bad) = (Status::ReadFault, Status::Malformed);
+    let runs = [
+        (TRAILING, 1usize, 62u64, lost, fault),
+        (TRAILING, 1, 63, bad, trailing),
+        (LACKING, 4096, 1, lost, fault),
+        ("%%NotIt\n", 8, 1, bad, banner),
+    ];
+    for (file, piece, call, status, line) in runs {
+        let devices = Devices {
+            piece,
+            failing_reads: &[call],
+            ..STEADY
+        };
+        for job in ["rank", "analyse"] {
+            expect(&rt, &[job], file, &devices, status, "", line)?;
+        }
+    }
+    Ok(())
+}
+
+/// Writes the report of one entry to a device that fails, and compares how much of it was taken.
+fn report_is_cut<R: Threads + Abort + AllocGlobal + Sync>(
+    rt: &R,
+    devices: &Devices<'_>,
+    taken: usize,
+) -> Result<(), Fail> {
+    let found = outcome_of(rt, &["analyse"], SMALLEST.as_bytes(), devices)?;
+    assert_eq!(rt; found.status, Status::WriteFault, "{taken} bytes");
+    assert!(rt; SMALLEST_REPORT.as_bytes().starts_with(found.out.bytes()));
+    assert_eq!(rt; found.out.bytes().len(), taken);
+    assert_eq!(rt; found.err.bytes(), b"btf: write fault\n".as_slice());
+    Ok(())
+}
+
+// The 96 bytes of the report go out ten a call; call 10 hands them on.
+#[test]
+fn each_write_fails_in_turn(rt: HostRuntime) -> Result<(), Fail> {
+    for (call, taken) in (0u64..11).zip((0usize..96).step_by(10).chain([96])) {
+        let devices = Devices {
+            failing_writes: &[call],
+            ..STEADY
+        };
+        report_is_cut(&rt, &devices, taken)?;
+    }
+    Ok(())
+}
+
+#[test]
+fn a_sink_with_little_room_takes_what_it_can(rt: HostRuntime) -> Result<(), Fail> {
+    let little = Devices { room: 50, ..STEADY };
+    report_is_cut(&rt, &little, 50)?;
+    let small = Devices { room: 12, ..STEADY };
+    expect(
+        &rt,
+        &["rank"],
+        SMALLEST,
+        &small,
+        Status::WriteFault,
+        "matrix 1 1 1",
+        "btf: write fault\n",
+    )
+}
+
+// The line of a refusal may be lost, whole or in part: the status stays.
+#[test]
+fn lines_of_refusals_may_be_lost(rt: HostRuntime) -> Result<(), Fail> {
+    let both = Devices {
+        failing_writes: &[0],
+        err_room: 0,
+        ..STEADY
+    };
+    expect(
+        &rt,
+        &["analyse"],
+        SMALLEST,
+        &both,
+        Status::WriteFault,
+        "",
+        "",
+    )?;
+    let little = Devices {
+        err_room: 5,
+        ..STEADY
+    };
+    expect(
+        &rt,
+        &["analyse"],
+        "",
+        &little,
+        Status::Malformed,
+        "",
+        "btf: ",
+    )
+}
+
+// Calls of 10 bytes write the 39 bytes of `rank` in 4, the 96 of `analyse` in 10, the 6 of `check` in 1, the 59 of `load` in 6
+// and the 16 of `diagonal` in 2. The one after them hands the text on, and is the last.
+#[test]
+fn a_text_is_handed_on_once(rt: HostRuntime) -> Result<(), Fail> {
+    let judged =
+        "%%MatrixMarket matrix coordinate pattern general\n1 1 1\n1 1\nbtf 1\nmatrix 1 1 1\nrank 1\nhorizontal 0 0\nsquare 1 1\nblock 1 1\nrows 1\ncolumns 1\nvertical 0 0\npairs 1\n1 1\nend\n";
+    let tall = "%%MatrixMarket matrix coordinate integer general\n2 1 1\n1 1 1\n";
+    let summary = "matrix 1 1 1\nrank 1\nhorizontal 0 0\nsquare 1 1\nvertical 0 0\n";
+    let (yes, no) = (Status::Ok, Status::Negative);
+    let load = ["load", "--size", "1", "--seed", "5"];
+    let runs: [(&[&str], &str, &str, Status, u8); 5] = [
+        (&["rank"], SMALLEST, SMALLEST_RANK, yes, 4),
+        (&["analyse"], SMALLEST, SMALLEST_REPORT, yes, 10),
+        (&["check"], judged, "valid\n", yes, 1),
+        (&load, "", summary, yes, 6),
+        (&["diagonal"], tall, "rectangular 2 1\n", no, 2),
+    ];
+    for (words, file, text, status, writes) in runs {
+        let writes = u64::from(writes);
+        let flush = Devices {
+            failing_writes: &[writes],
+            ..STEADY
+        };
+        let lost = "btf: write fault\n";
+        expect(&rt, words, file, &flush, Status::WriteFault, text, lost)?;
+        let later = Devices {
+            failing_writes: &[writes + 1],
+            ..STEADY
+        };
+        expect(&rt, words, file, &later, status, text, "")?;
+    }
+    Ok(())
+}
+
+#[test]
+fn steady_devices(rt: HostRuntime) -> Result<(), Fail> {
+    let alloc = rt.alloc();
+    for (job, text) in [("rank", SMALLEST_RANK), ("analyse", SMALLEST_REPORT)] {
+        let mut input = SteadySource::new(SMALLEST.as_bytes().to_vec(alloc)?, 10);
+        let mut out = SteadySink::new(alloc, 4096, 10)?;
+        let mut err = SteadySink::new(alloc, 4096, 10)?;
+        let status = run_over(&rt, &[job], &mut input, &mut out, &mut err, &NoGate)?;
+        assert_eq!(rt; status, Status::Ok, "{job}");
+        assert_eq!(rt; out.bytes(), text.as_bytes(), "{job}");
+        assert_eq!(rt; err.bytes(), b"".as_slice(), "{job}");
+    }
+    Ok(())
+}
