@@ -9,6 +9,7 @@ pub mod EditLemmas
 pub mod Exchange
 pub mod Fine
 pub mod Full
+pub mod FullMatchings
 pub mod LeastMatching
 pub mod Paired
 pub mod Queues
