@@ -54,3 +54,24 @@ pub enum Heaviest {
         sum: i128,
     },
 }
+
+/// A perfect matching whose least weight is greatest, or why the matrix has none.
+#[derive(Drop)]
+pub enum Bottleneck {
+    /// The matrix has not as many rows as columns.
+    Rectangular,
+    /// No perfect matching: the rank, and the columns that some maximum matching misses, rising.
+    Singular {
+        rank: u32,
+        hall: Vec<Col>,
+    },
+    /// The pairs, rising by column, and the least of their weights, which is 0 of no pairs. `hall`
+    /// are the columns, rising, that some maximum matching of the entries above that weight misses:
+    /// they are more than their neighbours there, so that every perfect matching has a pair of at
+    /// most that weight.
+    Best {
+        pairs: Vec<(Row, Col)>,
+        least: u64,
+        hall: Vec<Col>,
+    },
+}

@@ -12,7 +12,7 @@ mod orders;
 mod surplus;
 mod trace;
 
-pub use answers::{Components, Decomposition, Heaviest, Parts};
+pub use answers::{Bottleneck, Components, Decomposition, Heaviest, Parts};
 pub use blocks::Blocks;
 pub use examples::lower_triangle_in_two_orders;
 pub use laws::{one_rank_text, one_report, pairs_before_the_end};

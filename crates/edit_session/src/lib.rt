@@ -1,0 +1,4 @@
+//! A session of edits of a matrix, whose maximum matching is kept up to date.
+#![tactic(auto)]
+
+mod arena;
