@@ -1,12 +1,12 @@
 -- Lines of the matrix, taken or refused.
-use Rattle.std.proofs.Common.{◌≡◌, ℕ, ℤ, ◌+◌, ◌<◌, false, List, [], ◌∷◌, length, refl, sym, ap, subst, ◌∙◌, Some, None, Result, Ok, Err, IfOk, IfErr, OnOk}
+use Rattle.std.proofs.Common.{◌≡◌, ℕ, ℤ, ◌+◌, ◌<◌, false, List, ◌∷◌, sym, ap, ◌∙◌, Some, None, Result, Ok, Err, IfOk, IfErr, OnOk}
 use Rattle.sp_ids.specs.Entries as entries
 use Rattle.mm_defs.specs.declared.answers.End.{End}
 use Rattle.mm_defs.specs.declared.header.Format.TheVariants.{Coordinate, Array}
 use Rattle.mm_defs.specs.declared.header.Header.{Header}
 use Rattle.mm_defs.specs.declared.header.Size.{Size}
 use Rattle.mm_defs.specs.declared.kinds.Kind.{Kind}
-use Rattle.mm_defs.specs.Words.{Word, word, words, is_skipped}
+use Rattle.mm_defs.specs.Words.{word, words, is_skipped}
 use Rattle.mm_defs.specs.Numbers.{integer}
 use Rattle.mm_defs.specs.Faults.{first_kind, entry_rules, coordinate_rules, array_rules}
 use Rattle.mm_defs.specs.File.{mirror, placed, triple, with_mirrors}
@@ -17,8 +17,8 @@ use Rattle.mm_reader.specs.declared.machine.Phase.TheVariants as phases
 use Rattle.mm_reader.specs.declared.machine.Stop.{Stop}
 use Rattle.mm_reader.specs.declared.machine.Stop.TheVariants as stops
 use Rattle.mm_reader.specs.Additions.{with_entries}
-use Rattle.mm_reader.specs.ArrayPlaces.{IsNext, place_of, said_next}
-use Rattle.mm_reader.specs.Judged.{Judged, JudgedEntry, IsWithin, triple_of}
+use Rattle.mm_reader.specs.ArrayPlaces.{place_of, said_next}
+use Rattle.mm_reader.specs.Judged.{JudgedEntry, triple_of}
 use Rattle.mm_reader.specs.Machine.{HasRoom, TakesLine}
 use Rattle.mm_reader.proofs.ArrayLaws.{entry_says, value_says, entry_rules_are, value_rules_are}
 use Rattle.mm_reader.proofs.StepLaws.{entry_good, entry_bad}

@@ -256,12 +256,12 @@ fn sizes_of_arrays_are_limited(rt: HostRuntime) -> Result<(), Fail> {
         ),
         (
             b"general".as_slice(),
-            b"16777216 16777216\n".as_slice(),
+            b"134217728 134217728\n".as_slice(),
             Kind::Entries,
         ),
         (
             b"general".as_slice(),
-            b"16777217 0\n".as_slice(),
+            b"134217729 0\n".as_slice(),
             Kind::Rows,
         ),
         (
@@ -271,7 +271,7 @@ fn sizes_of_arrays_are_limited(rt: HostRuntime) -> Result<(), Fail> {
         ),
         (
             b"general".as_slice(),
-            b"0 16777217\n".as_slice(),
+            b"0 134217729\n".as_slice(),
             Kind::Columns,
         ),
         (
@@ -286,7 +286,7 @@ fn sizes_of_arrays_are_limited(rt: HostRuntime) -> Result<(), Fail> {
         ),
         (
             b"symmetric".as_slice(),
-            b"16777216 16777216\n".as_slice(),
+            b"134217728 134217728\n".as_slice(),
             Kind::Entries,
         ),
         (
@@ -315,12 +315,12 @@ fn sizes_of_arrays_are_limited(rt: HostRuntime) -> Result<(), Fail> {
         (b"general".as_slice(), b"2\n".as_slice(), Kind::SizeWords),
         (
             b"general".as_slice(),
-            b"x 16777217\n".as_slice(),
+            b"x 134217729\n".as_slice(),
             Kind::SizeNumber,
         ),
         (
             b"general".as_slice(),
-            b"16777217 -2\n".as_slice(),
+            b"134217729 -2\n".as_slice(),
             Kind::SizeNumber,
         ),
         (

@@ -1,4 +1,4 @@
-use Rattle.std.proofs.Common.{◌<◌, sym, ◌∙◌, arith}
+use Rattle.std.proofs.Common.{sym, ◌∙◌}
 use Rattle.mm_reader.proofs.StepLaws.{entries_skipped, line_trails}
 use Rattle.mm_reader.proofs.machine.after_line.Goals as goal
 

@@ -1,4 +1,4 @@
-use Rattle.std.proofs.Common.{◌<◌, refl, sym, ap, subst, ◌∙◌, arith, ◌+◌, rules, to_z-of_z, SFits, w64}
+use Rattle.std.proofs.Common.{refl, sym, ap, subst, ◌∙◌, arith, ◌+◌, rules, to_z-of_z, SFits, w64}
 use Rattle.mm_defs.specs.File.{placed, with_mirrors}
 use Rattle.mm_reader.specs.Additions.{with_entries}
 use Rattle.mm_reader.specs.ArrayPlaces.{place_of}
