@@ -8,7 +8,7 @@ use Rattle.claim_words.specs.Board.{Board}
 use Rattle.claim_words.specs.WorkerState.{WorkerState}
 use Rattle.bottom_up.specs.Candidates.{HasGathered, IsCandidate, IsCovered, StaysCovered}
 use Rattle.level_sharing.specs.Progress.{CanClaim, HasSettled, IsThroughRow}
-use Rattle.level_sharing.specs.Shares.{IsOwn, Share, of_rows}
+use Rattle.level_sharing.specs.Shares.{IsOwn, Share}
 use Rattle.level_sharing.specs.declared.candidate.Candidate.{Candidate}
 
 -- what holds of the first k of a list and of the next holds of the first k + 1

@@ -1,14 +1,13 @@
 -- What one worker has done in the midst of its share.
-use Rattle.std.proofs.Common.{◌≡◌, ◌∙◌, ℕ, Bool, false, true, ◌+◌, ◌<◌, List, [], ◌∷◌, ◌++◌, get_or, length, take, sym, ap, subst, ⊎_elim}
+use Rattle.std.proofs.Common.{◌≡◌, ◌∙◌, ℕ, ◌+◌, ◌<◌, List, [], ◌∷◌, ◌++◌, get_or, length, take, sym, ap, subst, ⊎_elim}
 use Rattle.std.proofs.lemmas.List.{take_more}
-use Rattle.bip_defs.specs.Forest.{InForest, RootOf, State}
+use Rattle.bip_defs.specs.Forest.{InForest, State}
 use Rattle.bip_defs.specs.Lists.{Among, Lists}
-use Rattle.bip_defs.specs.Matching.{rows_of}
 use Rattle.bip_defs.specs.Matrix.{IsEntry, Matrix}
 use Rattle.bip_defs.proofs.Sets.{among_at, among_last}
 use Rattle.claim_words.specs.WorkerState.{WorkerState}
-use Rattle.level_sharing.specs.Progress.{CanClaim, HasSettled, IsThroughRow, KnowsWon, Progress}
-use Rattle.level_sharing.specs.Shares.{IsOwn, Share, of_rows}
+use Rattle.level_sharing.specs.Progress.{HasSettled, KnowsWon, Progress}
+use Rattle.level_sharing.specs.Shares.{Share}
 
 -- it has looked at these columns
 pub record HasLooked (s : State) (cols : List ℕ) (v w : WorkerState) : Type 0 where

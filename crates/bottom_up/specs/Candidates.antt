@@ -1,5 +1,5 @@
 -- Rows that a worker may claim, gathered before any of them is claimed.
-use Rattle.std.specs.Prelude.{◌≡◌, ◌⊎◌, ℕ, ◌<◌, Bool, true, false, List}
+use Rattle.std.specs.Prelude.{◌≡◌, ◌⊎◌, ℕ, ◌<◌, true, false, List}
 use Rattle.bip_defs.specs.Forest.{InForest, RootOf, State}
 use Rattle.bip_defs.specs.Lists.{Among}
 use Rattle.bip_defs.specs.Matching.{rows_of}

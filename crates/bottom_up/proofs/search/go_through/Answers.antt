@@ -2,9 +2,8 @@ use Rattle.std.proofs.Common.{List, subst, sym}
 use Rattle.std.proofs.lemmas.List.{take_all}
 use Rattle.bip_defs.specs.Lists.{Among}
 use Rattle.bottom_up.specs.Candidates.{HasGathered, IsCovered}
-use Rattle.level_sharing.specs.Shares.{of_rows}
 use Rattle.level_sharing.specs.declared.candidate.Candidate.{Candidate}
-use Rattle.bottom_up.proofs.CandidateLemmas.{none_gathered, ok_both}
+use Rattle.bottom_up.proofs.CandidateLemmas.{ok_both}
 use Rattle.bottom_up.proofs.SearchLemmas.{item_among, one_more}
 use Rattle.bottom_up.proofs.search.go_through.Goals as goal
 
