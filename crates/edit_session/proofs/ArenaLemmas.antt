@@ -278,3 +278,17 @@ widened_room slots spans i t now view = map-set room_of spans i t ∙ ap (λ (w 
 
 pub pushed_view : (slots more : List ℕ) (spans : List Span) (n : ℕ) (now : RoomyLists) → viewed slots spans ≡ now → AreSpans spans (length slots) → n ≡ length more → viewed (slots ++ more) (spans ++ record { start = length slots; len = n; room = n } ∷ []) ≡ with_list now more
 pushed_view slots more spans n now view h e = (λ i. record { lists = after_push slots more spans n h e i; room = (map-append room_of spans (record { start = length slots; len = n; room = n } ∷ []) ∙ ap (λ k. map room_of spans ++ k ∷ []) e) i }) ∙ ap (λ (w : RoomyLists). with_list w more) view
+
+pub filled_list : (slots : List ℕ) (spans : List Span) (i : ℕ) (now : RoomyLists) → viewed slots spans ≡ now → AreSpans spans (length slots) → i < length now.lists → length (list_at now i) ≤ get_or now.room i 0
+filled_list slots spans i now view h = subst (λ (w : RoomyLists). i < length w.lists → length (list_at w i) ≤ get_or w.room i 0) view
+    (λ less.
+    let lt : i < length spans = rw length-map at less in
+    let long = list_long slots spans i (span_at spans i) h lt refl in
+    let room = room_is spans i (span_at spans i) lt refl in
+    omega (arith, long, room, h.filled i))
+
+pub widened_has : (slots : List ℕ) (spans : List Span) (i : ℕ) (t : Span) (now : RoomyLists) → viewed slots spans ≡ now → i < length now.lists → get_or (map room_of (set spans i t)) i 0 ≡ Span.room t
+widened_has slots spans i t now view = subst (λ (w : RoomyLists). i < length w.lists → get_or (map room_of (set spans i t)) i 0 ≡ Span.room t) view
+    (λ less.
+    let lt : i < length spans = rw length-map at less in
+    room_is (set spans i t) i t (rw length-set lt) (sym (get_or-set_same spans i t nowhere lt)))

@@ -107,6 +107,7 @@ impl Arena {
         requires room { length (list_at self.old list) ≤ room }
         ensures lists { self.new.lists ≡ self.old.lists }
         ensures ok { OnOk result (self.new.room ≡ set self.old.room list room) }
+        ensures has { OnOk result (slice_index self.new.room list ≡ room) }
         ensures err { OnErr result (self.new.room ≡ self.old.room) }
     {
         let span = self.spans[list];
@@ -149,6 +150,7 @@ impl Arena {
         ensures lists { self.new.lists
             ≡ set self.old.lists list (remove (list_at self.old list) at) }
         ensures room { self.new.room ≡ self.old.room }
+        ensures filled { length (list_at self.old list) ≤ slice_index self.old.room list }
     {
         let span = self.spans[list];
         let end = span.start + span.len as usize;

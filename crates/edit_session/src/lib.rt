@@ -2,3 +2,7 @@
 #![tactic(auto)]
 
 mod arena;
+mod columns;
+mod session;
+
+pub use session::Session;

@@ -13,7 +13,7 @@ use Rattle.least_match.specs.Classes.{AreClasses, IsRival, IsSplit, class_of}
 use Rattle.least_match.specs.Extensions.{Excludes, Extends, HasAt}
 use Rattle.least_match.specs.Outcomes.{AreParted, AreScanned, AreScannedBack, BackwardDecides, ForwardDecides, IsIn}
 use Rattle.least_match.specs.Ready.{IsReady}
-use Rattle.least_match.specs.Trees.{AreTrees, IsTree}
+use Rattle.least_match.specs.Trees.{AreSearchTrees, IsTree}
 use Rattle.least_match.specs.declared.exchanges.Exchanges.{Exchanges}
 use Rattle.least_match.specs.declared.parts.Part.{Part}
 use Rattle.least_match.specs.declared.parts.Part.TheVariants.{Horizontal, Square, Vertical}
@@ -34,7 +34,7 @@ backward_inner a j Vertical h decides = absurd decides
 pub part_at : (a : Matrix) (parts : List Part) (j : ℕ) (p : Part) → AreParted a parts → j < cols a → p ≡ get_or parts j p → IsIn a j p
 part_at a parts j p k lt e = subst (IsIn a j) (sym (get_or_read parts j p (omega (arith, k.long)) e Square)) (k.each j lt)
 
-module _ (a : Matrix) (m : List Place) (j d r : ℕ) (classes : List ℕ) (count : ℕ) (f b : Queue) (p : Part) (k : AreClasses a m j classes count) (max : IsMaximum a m) (lt : j < cols a) (is : IsIn a j p) (t : AreTrees a m classes j d f b) (mate : Among (r, d) m) where
+module _ (a : Matrix) (m : List Place) (j d r : ℕ) (classes : List ℕ) (count : ℕ) (f b : Queue) (p : Part) (k : AreClasses a m j classes count) (max : IsMaximum a m) (lt : j < cols a) (is : IsIn a j p) (t : AreSearchTrees a m classes j d f b) (mate : Among (r, d) m) where
   j_on : Among j (heads b)
   j_on = subst (λ x. Among x (heads b)) t.backward_tree.root (head_at b 0 t.backward_tree.some)
 
@@ -78,8 +78,8 @@ one_tree a m classes j c p rival matched = record {
   behind = λ i some lt. absurd (omega (arith, some, lt));
 }
 
-pub trees_start : (a : Matrix) (m : List Place) (classes : List ℕ) (j d : ℕ) (f b : Queue) → f ≡ (d, 0) ∷ [] → b ≡ (j, 0) ∷ [] → j < d → d < cols a → class_of classes d ≡ class_of classes j → Among d (cols_of m) → Among j (cols_of m) → AreTrees a m classes j d f b
-trees_start a m classes j d f b e g lt within class matched own = subst (λ (x : Queue). AreTrees a m classes j d x b) (sym e) (subst (λ (y : Queue). AreTrees a m classes j d ((d, 0) ∷ []) y) (sym g) (record {
+pub trees_start : (a : Matrix) (m : List Place) (classes : List ℕ) (j d : ℕ) (f b : Queue) → f ≡ (d, 0) ∷ [] → b ≡ (j, 0) ∷ [] → j < d → d < cols a → class_of classes d ≡ class_of classes j → Among d (cols_of m) → Among j (cols_of m) → AreSearchTrees a m classes j d f b
+trees_start a m classes j d f b e g lt within class matched own = subst (λ (x : Queue). AreSearchTrees a m classes j d x b) (sym e) (subst (λ (y : Queue). AreSearchTrees a m classes j d ((d, 0) ∷ []) y) (sym g) (record {
   forward_tree = one_tree a m classes j d 0 (record { from = omega arith; within = within; class = class }) matched;
   forward_led = λ i some l. absurd (omega (arith, some, l));
   backward_tree = one_tree a m classes j j 0 (record { from = omega arith; within = omega arith; class = refl }) own;

@@ -3,7 +3,7 @@ use Rattle.std.proofs.Common.{◌≡◌, ◌≢◌, ◌⊎◌, ◌↔◌, ◌∙
 use Rattle.bip_defs.specs.Lists.{Among, AreDistinct}
 use Rattle.bip_defs.specs.Matching.{IsMatching, cols_of, rows_of}
 use Rattle.bip_defs.specs.Matrix.{AreEntries, IsEntry, Matrix, Place}
-use Rattle.bip_defs.specs.Paths.{Gives}
+use Rattle.bip_defs.specs.Paths.{Reassigns}
 use Rattle.bip_defs.specs.Queues.{Queue, at, heads}
 use Rattle.bip_defs.proofs.Queues.{head_at, one_place}
 use Rattle.bip_defs.proofs.Sets.{col_among, col_pair, one_col, one_row, row_among, row_pair}
@@ -11,11 +11,11 @@ use Rattle.least_match.specs.Exchanges.{AgreeBeside, Hangs, Swaps}
 use Rattle.least_match.specs.Trees.{IsLedTo, LeadsBack}
 
 -- a row's pair parted
-abbrev pub Parts : ℕ → List Place → List Place → Type 0
-Parts row m n = (p : Place) → Among p n ↔ (Among p m × (p.0 ≢ row))
+abbrev pub Unpairs : ℕ → List Place → List Place → Type 0
+Unpairs row m n = (p : Place) → Among p n ↔ (Among p m × (p.0 ≢ row))
 
 -- a pair parted and another one made
-pub parts_then_gives : (row s c : ℕ) (m n o : List Place) → ¬ Among s (rows_of n) → Parts row m n → Gives (s, c) n o → Swaps (s, c) row m o
+pub parts_then_gives : (row s c : ℕ) (m n o : List Place) → ¬ Among s (rows_of n) → Unpairs row m n → Reassigns (s, c) n o → Swaps (s, c) row m o
 parts_then_gives row s c m n o free f g q = (over, back)
   where
     over : Among q o → (q ≡ (s, c)) ⊎ (Among q m × (q.0 ≢ row))
@@ -26,16 +26,16 @@ parts_then_gives row s c m n o free f g q = (over, back)
     back (inr h) = let k = (f q).1 h in (g q).1 (inr (k, λ e. free (subst (λ x. Among x (rows_of n)) e (row_among q.0 q.1 n k))))
 
 -- the parted row and column have no mate
-pub parted_row : (row : ℕ) (m n : List Place) → Parts row m n → ¬ Among row (rows_of n)
+pub parted_row : (row : ℕ) (m n : List Place) → Unpairs row m n → ¬ Among row (rows_of n)
 parted_row row m n f h = let (c, p) = row_pair row n h in ((f (row, c)).0 p).1 refl
 
-pub parted_col : (row c : ℕ) (m n : List Place) → AreDistinct (cols_of m) → Parts row m n → Among (row, c) m → ¬ Among c (cols_of n)
+pub parted_col : (row c : ℕ) (m n : List Place) → AreDistinct (cols_of m) → Unpairs row m n → Among (row, c) m → ¬ Among c (cols_of n)
 parted_col row c m n differ f p h = let (s, q) = col_pair c n h in let k = (f (s, c)).0 q in k.1 (one_row m differ s row c k.0 p)
 
-pub parted_free : (row s : ℕ) (m n : List Place) → Parts row m n → ¬ Among s (rows_of m) → ¬ Among s (rows_of n)
+pub parted_free : (row s : ℕ) (m n : List Place) → Unpairs row m n → ¬ Among s (rows_of m) → ¬ Among s (rows_of n)
 parted_free row s m n f free h = let (c, p) = row_pair s n h in free (row_among s c m ((f (s, c)).0 p).0)
 
-pub parted_free_col : (row c : ℕ) (m n : List Place) → Parts row m n → ¬ Among c (cols_of m) → ¬ Among c (cols_of n)
+pub parted_free_col : (row c : ℕ) (m n : List Place) → Unpairs row m n → ¬ Among c (cols_of m) → ¬ Among c (cols_of n)
 parted_free_col row c m n f free h = let (r, p) = col_pair c n h in free (col_among r c m ((f (r, c)).0 p).0)
 
 -- Columns of the tree.
@@ -58,7 +58,7 @@ pub record HasHole (m0 m : List Place) (q : Queue) (i row : ℕ) : Type 0 where
   pub row_free : ¬ Among row (rows_of m)
   pub entries : (a : Matrix) → IsMatching a m0 → LeadsBack a m0 q → AreEntries a m
 
-pub hole_start : (m0 m : List Place) (q : Queue) (i row : ℕ) → AreDistinct (rows_of m0) → AreDistinct (cols_of m0) → Hangs m0 q → i < length q → Among (row, (at q i).0) m0 → Parts row m0 m → length m0 ≡ suc (length m) → HasHole m0 m q i row
+pub hole_start : (m0 m : List Place) (q : Queue) (i row : ℕ) → AreDistinct (rows_of m0) → AreDistinct (cols_of m0) → Hangs m0 q → i < length q → Among (row, (at q i).0) m0 → Unpairs row m0 m → length m0 ≡ suc (length m) → HasHole m0 m q i row
 hole_start m0 m q i row rows cols hangs lt p f size = record {
   within = lt;
   size = size;

@@ -10,7 +10,7 @@ use Rattle.bip_defs.proofs.Full.{few_below}
 use Rattle.bip_defs.proofs.Queues.{at_push, heads_push}
 use Rattle.bip_defs.proofs.Sets.{among_at, among_last, among_left, among_right, distinct_last, one_row}
 use Rattle.least_match.specs.Classes.{IsOther, IsRival}
-use Rattle.least_match.specs.Trees.{AreTrees, Enters, IsPrefix, IsScanned, IsScannedBack, IsTree, LeadsTo, Looks}
+use Rattle.least_match.specs.Trees.{AreSearchTrees, Enters, IsPrefix, IsScanned, IsScannedBack, IsTree, LeadsTo, Looks}
 use Rattle.least_match.specs.Outcomes.{AreScanned, AreScannedBack}
 use Rattle.least_match.proofs.TreeLemmas.{at_last}
 
@@ -56,9 +56,9 @@ related_more R q c p old lt new i some within = (each_place (Related R) q (c, p)
     last : Related R (q ++ (c, p) ∷ []) (length q)
     last = subst (λ (x : ℕ × ℕ). (x.1 < length q) × R (at (q ++ (c, p) ∷ []) x.1).0 x.0) (sym (at_last q (c, p))) (lt, subst (λ (x : ℕ × ℕ). R x.0 c) (sym (at_push q (c, p) p lt)) new)
 
-pub forward_more : (a : Matrix) (m : List Place) (classes : List ℕ) (j d c p : ℕ) (f f2 b : Queue) → AreTrees a m classes j d f b → Enters c p f f2 → ¬ Among c (heads b) → IsRival a classes j c → Among c (cols_of m) → p < length f → LeadsTo a m (at f p).0 c → AreTrees a m classes j d f2 b
-forward_more a m classes j d c p f f2 b t (inl e) off rival matched lt leads = subst (λ (z : Queue). AreTrees a m classes j d z b) (sym e.1) t
-forward_more a m classes j d c p f f2 b t (inr e) off rival matched lt leads = subst (λ (z : Queue). AreTrees a m classes j d z b) (sym e.1) (record {
+pub forward_more : (a : Matrix) (m : List Place) (classes : List ℕ) (j d c p : ℕ) (f f2 b : Queue) → AreSearchTrees a m classes j d f b → Enters c p f f2 → ¬ Among c (heads b) → IsRival a classes j c → Among c (cols_of m) → p < length f → LeadsTo a m (at f p).0 c → AreSearchTrees a m classes j d f2 b
+forward_more a m classes j d c p f f2 b t (inl e) off rival matched lt leads = subst (λ (z : Queue). AreSearchTrees a m classes j d z b) (sym e.1) t
+forward_more a m classes j d c p f f2 b t (inr e) off rival matched lt leads = subst (λ (z : Queue). AreSearchTrees a m classes j d z b) (sym e.1) (record {
   forward_tree = tree_more a m classes j d c p f t.forward_tree rival matched e.0 lt;
   forward_led = related_more (LeadsTo a m) f c p (λ i some l. (t.forward_tree.behind i some l, t.forward_led i some l)) lt leads;
   backward_tree = t.backward_tree;
@@ -66,9 +66,9 @@ forward_more a m classes j d c p f f2 b t (inr e) off rival matched lt leads = s
   apart = λ x h. ⊎_elim (λ g. t.apart x g) (λ e. subst (λ y. ¬ Among y (heads b)) (sym e) off) (among_last x c (heads f) (subst (Among x) (heads_push f c p) h));
 })
 
-pub backward_more : (a : Matrix) (m : List Place) (classes : List ℕ) (j d c p : ℕ) (f b b2 : Queue) → AreTrees a m classes j d f b → Enters c p b b2 → ¬ Among c (heads f) → IsRival a classes j c → Among c (cols_of m) → p < length b → LeadsTo a m c (at b p).0 → AreTrees a m classes j d f b2
-backward_more a m classes j d c p f b b2 t (inl e) off rival matched lt leads = subst (λ (z : Queue). AreTrees a m classes j d f z) (sym e.1) t
-backward_more a m classes j d c p f b b2 t (inr e) off rival matched lt leads = subst (λ (z : Queue). AreTrees a m classes j d f z) (sym e.1) (record {
+pub backward_more : (a : Matrix) (m : List Place) (classes : List ℕ) (j d c p : ℕ) (f b b2 : Queue) → AreSearchTrees a m classes j d f b → Enters c p b b2 → ¬ Among c (heads f) → IsRival a classes j c → Among c (cols_of m) → p < length b → LeadsTo a m c (at b p).0 → AreSearchTrees a m classes j d f b2
+backward_more a m classes j d c p f b b2 t (inl e) off rival matched lt leads = subst (λ (z : Queue). AreSearchTrees a m classes j d f z) (sym e.1) t
+backward_more a m classes j d c p f b b2 t (inr e) off rival matched lt leads = subst (λ (z : Queue). AreSearchTrees a m classes j d f z) (sym e.1) (record {
   forward_tree = t.forward_tree;
   forward_led = t.forward_led;
   backward_tree = tree_more a m classes j j c p b t.backward_tree rival matched e.0 lt;
@@ -141,12 +141,12 @@ pub looks_seen : (a : Matrix) (m : List Place) (classes : List ℕ) (j c p : ℕ
 looks_seen a m classes j c p q q2 other (inl o) = inl o.0
 looks_seen a m classes j c p q q2 other (inr l) = inr (entered_among c p q q2 l.3)
 
-pub looks_forward : (a : Matrix) (m : List Place) (classes : List ℕ) (j d c p : ℕ) (f f2 b : Queue) → AreTrees a m classes j d f b → Looks a m classes j c p f f2 b → p < length f → LeadsTo a m (at f p).0 c → AreTrees a m classes j d f2 b
-looks_forward a m classes j d c p f f2 b t (inl o) lt leads = subst (λ (z : Queue). AreTrees a m classes j d z b) (sym o.1) t
+pub looks_forward : (a : Matrix) (m : List Place) (classes : List ℕ) (j d c p : ℕ) (f f2 b : Queue) → AreSearchTrees a m classes j d f b → Looks a m classes j c p f f2 b → p < length f → LeadsTo a m (at f p).0 c → AreSearchTrees a m classes j d f2 b
+looks_forward a m classes j d c p f f2 b t (inl o) lt leads = subst (λ (z : Queue). AreSearchTrees a m classes j d z b) (sym o.1) t
 looks_forward a m classes j d c p f f2 b t (inr l) lt leads = forward_more a m classes j d c p f f2 b t l.3 l.2 l.0 l.1 lt leads
 
-pub looks_back : (a : Matrix) (m : List Place) (classes : List ℕ) (j d c p : ℕ) (f b b2 : Queue) → AreTrees a m classes j d f b → Looks a m classes j c p b b2 f → p < length b → LeadsTo a m c (at b p).0 → AreTrees a m classes j d f b2
-looks_back a m classes j d c p f b b2 t (inl o) lt leads = subst (λ (z : Queue). AreTrees a m classes j d f z) (sym o.1) t
+pub looks_back : (a : Matrix) (m : List Place) (classes : List ℕ) (j d c p : ℕ) (f b b2 : Queue) → AreSearchTrees a m classes j d f b → Looks a m classes j c p b b2 f → p < length b → LeadsTo a m c (at b p).0 → AreSearchTrees a m classes j d f b2
+looks_back a m classes j d c p f b b2 t (inl o) lt leads = subst (λ (z : Queue). AreSearchTrees a m classes j d f z) (sym o.1) t
 looks_back a m classes j d c p f b b2 t (inr l) lt leads = backward_more a m classes j d c p f b b2 t l.3 l.2 l.0 l.1 lt leads
 
 -- what was scanned stays so

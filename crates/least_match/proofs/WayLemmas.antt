@@ -3,7 +3,7 @@ use Rattle.std.proofs.Common.{◌≡◌, ◌≢◌, ◌⊎◌, ◌↔◌, ◌∙
 use Rattle.bip_defs.specs.Lists.{Among, AreDistinct}
 use Rattle.bip_defs.specs.Matching.{IsMatching, IsMaximum, cols_of, rows_of}
 use Rattle.bip_defs.specs.Matrix.{IsEntry, Matrix, Place}
-use Rattle.bip_defs.specs.Paths.{Gives}
+use Rattle.bip_defs.specs.Paths.{Reassigns}
 use Rattle.bip_defs.specs.Queues.{Queue, at, heads}
 use Rattle.bip_defs.proofs.Exchange.{adds_pair}
 use Rattle.bip_defs.proofs.Queues.{head_at}
@@ -11,8 +11,8 @@ use Rattle.bip_defs.proofs.Reaching.{same_size_maximum}
 use Rattle.bip_defs.proofs.Sets.{col_among, col_pair, number_among, one_col, one_row, row_among}
 use Rattle.least_match.specs.Exchanges.{AgreeBeside, Frees, Hangs, Swaps}
 use Rattle.least_match.specs.Extensions.{HasAt}
-use Rattle.least_match.specs.Trees.{AreTrees, IsLedTo, IsTree}
-use Rattle.least_match.proofs.ExchangeLemmas.{Parts, parted_col, parted_row}
+use Rattle.least_match.specs.Trees.{AreSearchTrees, IsLedTo, IsTree}
+use Rattle.least_match.proofs.ExchangeLemmas.{Unpairs, parted_col, parted_row}
 
 pub hangs : (a : Matrix) (m : List Place) (classes : List ℕ) (j first : ℕ) (q : Queue) → IsTree a m classes j first q → Hangs m q
 hangs a m classes j first q t = record { distinct = t.distinct; matched = t.matched; behind = t.behind }
@@ -24,7 +24,7 @@ pub record HasVacated (a : Matrix) (m n : List Place) (j : ℕ) (b : Queue) : Ty
   pub col_free : ¬ Among j (cols_of n)
   pub beside : AgreeBeside b m n
 
-module _ (a : Matrix) (m : List Place) (classes : List ℕ) (j d : ℕ) (f b : Queue) (k : IsMatching a m) (t : AreTrees a m classes j d f b) where
+module _ (a : Matrix) (m : List Place) (classes : List ℕ) (j d : ℕ) (f b : Queue) (k : IsMatching a m) (t : AreSearchTrees a m classes j d f b) where
   pub j_on : Among j (heads b)
   j_on = subst (λ x. Among x (heads b)) t.backward_tree.root (head_at b 0 t.backward_tree.some)
 
@@ -39,7 +39,7 @@ module _ (a : Matrix) (m : List Place) (classes : List ℕ) (j d : ℕ) (f b : Q
   below_b c lt h = let from = (t.backward_tree.rivals c h).from in omega arith
 
   -- the column alone is parted
-  pub parted_vacates : (n : List Place) (r : ℕ) → AreDistinct (rows_of n) → AreDistinct (cols_of n) → Among (r, j) m → Parts r m n → length m ≡ suc (length n) → HasVacated a m n j b
+  pub parted_vacates : (n : List Place) (r : ℕ) → AreDistinct (rows_of n) → AreDistinct (cols_of n) → Among (r, j) m → Unpairs r m n → length m ≡ suc (length n) → HasVacated a m n j b
   parted_vacates n r rows cols p parts size = record {
     matching = record { entries = λ s c h. k.entries s c ((parts (s, c)).0 h).0; rows_differ = rows; cols_differ = cols };
     size = size;
@@ -78,7 +78,7 @@ module _ (a : Matrix) (m : List Place) (classes : List ℕ) (j d : ℕ) (f b : Q
     }
 
     -- an unmatched column takes the row that was left, and the first column of the forward tree loses its own
-    pub taken_frees : (o u : List Place) (row col own r : ℕ) → AreDistinct (rows_of u) → AreDistinct (cols_of u) → j < col → ¬ Among col (cols_of m) → ¬ Among row (rows_of n) → IsEntry a row col → Gives (row, col) n o → length o ≡ suc (length n) → Among (own, (at f 0).0) o → Parts own o u → length o ≡ suc (length u) → Among (r, (at f 0).0) m → Frees a m j r u
+    pub taken_frees : (o u : List Place) (row col own r : ℕ) → AreDistinct (rows_of u) → AreDistinct (cols_of u) → j < col → ¬ Among col (cols_of m) → ¬ Among row (rows_of n) → IsEntry a row col → Reassigns (row, col) n o → length o ≡ suc (length n) → Among (own, (at f 0).0) o → Unpairs own o u → length o ≡ suc (length u) → Among (r, (at f 0).0) m → Frees a m j r u
     taken_frees o u row col own r rows cols behind fresh row_free e gives more has parts less p = record {
       matching = record { entries = λ s c h. entry s c ((parts (s, c)).0 h).0; rows_differ = rows; cols_differ = cols };
       size = v.size ∙ sym more ∙ less;
@@ -112,7 +112,7 @@ module _ (a : Matrix) (m : List Place) (classes : List ℕ) (j d : ℕ) (f b : Q
 -- Matchings with the row at the column.
 
 -- the pair is made
-pub frees_then_gives : (a : Matrix) (m n o : List Place) (j r : ℕ) → IsMaximum a m → Frees a m j r n → IsEntry a r j → AreDistinct (rows_of o) → AreDistinct (cols_of o) → Gives (r, j) n o → length o ≡ suc (length n) → HasAt a m j r o
+pub frees_then_gives : (a : Matrix) (m n o : List Place) (j r : ℕ) → IsMaximum a m → Frees a m j r n → IsEntry a r j → AreDistinct (rows_of o) → AreDistinct (cols_of o) → Reassigns (r, j) n o → length o ≡ suc (length n) → HasAt a m j r o
 frees_then_gives a m n o j r max x e rows cols gives size = record {
   extends = record {
     maximum = same_size_maximum a m o max (record { entries = λ s c h. ⊎_elim (λ g. subst (λ (z : Place). IsEntry a z.0 z.1) (sym g) e) (λ g. x.matching.entries s c g.0) ((gives (s, c)).0 h); rows_differ = rows; cols_differ = cols }) (size ∙ sym x.size);

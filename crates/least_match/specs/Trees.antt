@@ -39,7 +39,7 @@ IsScannedBack a m classes j q d = (r c : ℕ) → Among (r, d) m → IsEntry a r
     → IsOther classes j c ⊎ Among c (heads q)
 
 -- the trees of a search: from the column d, and to the column j, without a column in common
-pub record AreTrees (a : Matrix) (m : List Place) (classes : List ℕ) (j d : ℕ)
+pub record AreSearchTrees (a : Matrix) (m : List Place) (classes : List ℕ) (j d : ℕ)
     (forward backward : Queue) : Type 0 where
   pub forward_tree : IsTree a m classes j d forward
   pub forward_led : IsLedTo a m forward

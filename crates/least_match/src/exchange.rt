@@ -8,7 +8,7 @@ ghost use Rattle.bip_defs.specs.Queues.{at, heads};
 ghost use Rattle.bip_graph.specs.Matching.{IsMatchingOf, Pairing};
 ghost use Rattle.least_match.specs.Exchanges.{AgreeBeside, Frees, Hangs, Meets, Swaps};
 ghost use Rattle.least_match.specs.Tree.{Reached};
-ghost use Rattle.least_match.specs.Trees.{AreTrees, IsLedTo, LeadsBack};
+ghost use Rattle.least_match.specs.Trees.{AreSearchTrees, IsLedTo, LeadsBack};
 
 use crate::tree::Tree;
 use bip_graph::Matching;

@@ -11,7 +11,7 @@ ghost use Rattle.least_match.specs.Classes.{IsOther, IsRival};
 ghost use Rattle.least_match.specs.Exchanges.{Meets};
 ghost use Rattle.least_match.specs.Outcomes.{EndsAs, IsTurn};
 ghost use Rattle.least_match.specs.Tree.{Reached};
-ghost use Rattle.least_match.specs.Trees.{AreTrees, Enters, IsPrefix, IsScanned, IsScannedBack, LeadsTo, Looks};
+ghost use Rattle.least_match.specs.Trees.{AreSearchTrees, Enters, IsPrefix, IsScanned, IsScannedBack, LeadsTo, Looks};
 
 use crate::exchange::{Meeting, mate};
 use crate::parts::Part;
@@ -158,13 +158,13 @@ impl Rivals<'_> {
         requires cols { (forward.old.cols ≡ cols self.now.pattern.now)
             × (backward.now.cols ≡ cols self.now.pattern.now) }
         requires place { place < length forward.old.queue }
-        requires trees { (d : ℕ) × AreTrees self.now.pattern.now matching.now.pairs
+        requires trees { (d : ℕ) × AreSearchTrees self.now.pattern.now matching.now.pairs
             self.now.classes.now self.now.col d forward.old.queue backward.now.queue }
         ensures cols { forward.new.cols ≡ forward.old.cols }
         ensures grows { IsPrefix forward.old.queue forward.new.queue }
-        ensures trees { (d : ℕ) → AreTrees self.now.pattern.now matching.now.pairs
+        ensures trees { (d : ℕ) → AreSearchTrees self.now.pattern.now matching.now.pairs
             self.now.classes.now self.now.col d forward.old.queue backward.now.queue
-            → AreTrees self.now.pattern.now matching.now.pairs
+            → AreSearchTrees self.now.pattern.now matching.now.pairs
             self.now.classes.now self.now.col d forward.new.queue backward.now.queue }
         ensures found { IfSome result
             (Meets self.now.pattern.now matching.now.pairs self.now.col
@@ -197,13 +197,13 @@ impl Rivals<'_> {
         requires cols { (forward.now.cols ≡ cols self.now.pattern.now)
             × (backward.old.cols ≡ cols self.now.pattern.now) }
         requires place { place < length backward.old.queue }
-        requires trees { (d : ℕ) × AreTrees self.now.pattern.now matching.now.pairs
+        requires trees { (d : ℕ) × AreSearchTrees self.now.pattern.now matching.now.pairs
             self.now.classes.now self.now.col d forward.now.queue backward.old.queue }
         ensures cols { backward.new.cols ≡ backward.old.cols }
         ensures grows { IsPrefix backward.old.queue backward.new.queue }
-        ensures trees { (d : ℕ) → AreTrees self.now.pattern.now matching.now.pairs
+        ensures trees { (d : ℕ) → AreSearchTrees self.now.pattern.now matching.now.pairs
             self.now.classes.now self.now.col d forward.now.queue backward.old.queue
-            → AreTrees self.now.pattern.now matching.now.pairs
+            → AreSearchTrees self.now.pattern.now matching.now.pairs
             self.now.classes.now self.now.col d forward.now.queue backward.new.queue }
         ensures found { IfSome result
             (Meets self.now.pattern.now matching.now.pairs self.now.col
@@ -240,13 +240,13 @@ impl Rivals<'_> {
         requires own { Among self.now.col (cols_of matching.now.pairs) }
         requires cols { (forward.old.cols ≡ cols self.now.pattern.now)
             × (backward.old.cols ≡ cols self.now.pattern.now) }
-        requires trees { (d : ℕ) × AreTrees self.now.pattern.now matching.now.pairs
+        requires trees { (d : ℕ) × AreSearchTrees self.now.pattern.now matching.now.pairs
             self.now.classes.now self.now.col d forward.old.queue backward.old.queue }
         ensures cols { (forward.new.cols ≡ forward.old.cols)
             × (backward.new.cols ≡ backward.old.cols) }
-        ensures trees { (d : ℕ) → AreTrees self.now.pattern.now matching.now.pairs
+        ensures trees { (d : ℕ) → AreSearchTrees self.now.pattern.now matching.now.pairs
             self.now.classes.now self.now.col d forward.old.queue backward.old.queue
-            → AreTrees self.now.pattern.now matching.now.pairs
+            → AreSearchTrees self.now.pattern.now matching.now.pairs
             self.now.classes.now self.now.col d forward.new.queue backward.new.queue }
         ensures ends { EndsAs self.now.pattern.now matching.now.pairs self.now.classes.now
             self.now.col part forward.new.queue backward.new.queue result }

@@ -6,7 +6,7 @@ ghost use Rattle.bip_defs.specs.Queues.{at};
 ghost use Rattle.bip_graph.specs.Matching.{IsMatchingOf, Pairing};
 ghost use Rattle.least_match.specs.Exchanges.{Frees, Meets};
 ghost use Rattle.least_match.specs.Tree.{Reached};
-ghost use Rattle.least_match.specs.Trees.{AreTrees};
+ghost use Rattle.least_match.specs.Trees.{AreSearchTrees};
 
 use crate::exchange::{Meeting, part, shift, vacate};
 use crate::search::Rivals;
@@ -26,7 +26,7 @@ impl Rivals<'_> {
         meeting: Meeting,
     )
         requires matching { IsMatchingOf self.now.pattern.now matching.old }
-        requires trees { (d : ℕ) × AreTrees self.now.pattern.now matching.old.pairs
+        requires trees { (d : ℕ) × AreSearchTrees self.now.pattern.now matching.old.pairs
             self.now.classes.now self.now.col d forward.now.queue backward.now.queue }
         requires meets { Meets self.now.pattern.now matching.old.pairs self.now.col
             forward.now.queue backward.now.queue meeting }

@@ -1,6 +1,6 @@
 use Rattle.std.proofs.Common.{rules, refl}
 use Rattle.bip_defs.proofs.Sets.{written_over}
-use Rattle.edit_session.proofs.ArenaLemmas.{removed, same_room}
+use Rattle.edit_session.proofs.ArenaLemmas.{filled_list, removed, same_room}
 use Rattle.edit_session.proofs.arena.Arena.remove.Goals as goal
 
 pub returns-clause-lists : goal.returns-clause-lists
@@ -11,3 +11,6 @@ returns-clause-lists c =
 
 pub returns-clause-room : goal.returns-clause-room
 returns-clause-room c = same_room c.self.inside.slots.items c.self.inside.spans.items c.args.list c.index-span.result.now _ c.args.self.now c.self.view_is c.index-span.ensures c.requires.list refl
+
+pub returns-clause-filled : goal.returns-clause-filled
+returns-clause-filled c = filled_list c.self.inside.slots.items c.self.inside.spans.items c.args.list c.args.self.now c.self.view_is c.self.invariant c.requires.list

@@ -1,5 +1,5 @@
 use Rattle.std.proofs.Common.{rules, ap, ◌∙◌, get_or}
-use Rattle.edit_session.proofs.ArenaLemmas.{widened, widened_room}
+use Rattle.edit_session.proofs.ArenaLemmas.{widened, widened_has, widened_room}
 use Rattle.edit_session.proofs.arena.Arena.widen.Goals as goal
 
 pub returns-clause-lists : goal.returns-clause-lists
@@ -14,3 +14,6 @@ returns-clause-lists c =
 
 pub returns-clause-ok : goal.returns-clause-ok
 returns-clause-ok c = widened_room c.self.inside.slots.items c.self.inside.spans.items c.args.list _ c.args.self.now c.self.view_is
+
+pub returns-clause-has : goal.returns-clause-has
+returns-clause-has c = widened_has c.self.inside.slots.items c.self.inside.spans.items c.args.list _ c.args.self.now c.self.view_is c.requires.list

@@ -8,7 +8,7 @@ use Rattle.bip_defs.proofs.Queues.{head_at}
 use Rattle.bip_defs.proofs.Sets.{entry_col}
 use Rattle.least_match.specs.Classes.{IsOther}
 use Rattle.least_match.specs.Tree.{Reached}
-use Rattle.least_match.specs.Trees.{AreTrees}
+use Rattle.least_match.specs.Trees.{AreSearchTrees}
 use Rattle.least_match.proofs.SearchLemmas.{col_leads, col_stays, item_among, each_more, grown_at, grown_length, grows_more, looks_back, looks_prefix, looks_seen, seen_grown_back, seen_scanned_back}
 use Rattle.least_match.proofs.search.Rivals.scan_back.Goals as goal
 
@@ -25,7 +25,7 @@ pub look_back-requires-clause-leads : goal.look_back-requires-clause-leads
 look_back-requires-clause-leads c = col_leads _ _ c.cols_of-found.result.now c.loop-next.next-index c.next-item.result c.mate-row.result _ _ c.requires.matching.matching c.mate-row.ensures.row c.cols_of-found.ensures.cols c.next-item.is c.loop-next-test.true (col_stays _ _ c.args.place _ c.loop-next.invariant.grows c.requires.place c.at-col.ensures)
 
 pub returns-in-Some-clause-trees : goal.returns-in-Some-clause-trees
-returns-in-Some-clause-trees c = λ d t. subst (λ (z : Reached). AreTrees c.args.self.now.pattern.now c.args.matching.now.pairs c.args.self.now.classes.now c.args.self.now.col d c.args.forward.now.queue z.queue) (sym c.in-Some.ensures.same) (c.loop-next.invariant.trees d t)
+returns-in-Some-clause-trees c = λ d t. subst (λ (z : Reached). AreSearchTrees c.args.self.now.pattern.now c.args.matching.now.pairs c.args.self.now.classes.now c.args.self.now.col d c.args.forward.now.queue z.queue) (sym c.in-Some.ensures.same) (c.loop-next.invariant.trees d t)
 
 pub loop-next-preserved : goal.loop-next-preserved
 loop-next-preserved c =

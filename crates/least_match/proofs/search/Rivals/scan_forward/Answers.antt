@@ -6,7 +6,7 @@ use Rattle.bip_defs.specs.Queues.{at, heads}
 use Rattle.bip_defs.proofs.Queues.{head_at}
 use Rattle.least_match.specs.Classes.{IsOther}
 use Rattle.least_match.specs.Tree.{Reached}
-use Rattle.least_match.specs.Trees.{AreTrees}
+use Rattle.least_match.specs.Trees.{AreSearchTrees}
 use Rattle.least_match.proofs.SearchLemmas.{col_stays, row_entry, each_more, grown_at, grown_length, grows_more, leads_by, looks_forward, looks_prefix, looks_seen, seen_grown, seen_scanned}
 use Rattle.least_match.proofs.search.Rivals.scan_forward.Goals as goal
 
@@ -20,7 +20,7 @@ pub look_forward-requires-clause-entry : goal.look_forward-requires-clause-entry
 look_forward-requires-clause-entry c = row_entry _ c.rows_of-rows.result.now c.loop-row.row-index c.row-item.result _ _ c.rows_of-rows.ensures.rows c.row-item.is c.loop-row-test.true (col_stays _ _ c.args.place _ c.loop-row.invariant.grows c.requires.place c.at-col.ensures)
 
 pub returns-in-Some-clause-trees : goal.returns-in-Some-clause-trees
-returns-in-Some-clause-trees c = λ d t. subst (λ (z : Reached). AreTrees c.args.self.now.pattern.now c.args.matching.now.pairs c.args.self.now.classes.now c.args.self.now.col d z.queue c.args.backward.now.queue) (sym c.in-Some.ensures.same) (c.loop-row.invariant.trees d t)
+returns-in-Some-clause-trees c = λ d t. subst (λ (z : Reached). AreSearchTrees c.args.self.now.pattern.now c.args.matching.now.pairs c.args.self.now.classes.now c.args.self.now.col d z.queue c.args.backward.now.queue) (sym c.in-Some.ensures.same) (c.loop-row.invariant.trees d t)
 
 pub loop-row-preserved : goal.loop-row-preserved
 loop-row-preserved c =
