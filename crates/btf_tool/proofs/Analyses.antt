@@ -1,7 +1,8 @@
 -- What is found of a matrix is what its texts say.
-use Rattle.std.proofs.Common.{Bool, true, false, List, [], ◌∷◌, ◌≡◌, ◌∙◌, ℕ, ap, codes, refl}
+use Rattle.std.proofs.Common.{Bool, true, false, Option, List, [], ◌∷◌, ◌≡◌, ◌∙◌, ℕ, ap, codes, refl}
+use Rattle.bip_defs.specs.ConnectedComponents.{Components}
 use Rattle.bip_defs.specs.Matrix.{Matrix, Place, cols}
-use Rattle.bip_graph.specs.Answers.{ArePairs, IsAnalysis, report_of, where_asked}
+use Rattle.bip_graph.specs.Answers.{AreOfVersion, ArePairs, IsAnalysis, report_of, where_asked}
 use Rattle.bip_graph.specs.Decompositions.{Decomposes, decomposition_of}
 use Rattle.bip_graph.specs.Texts.{Sizes, matrix_line, rank_line, report_text, sizes_of, square_line, text_of}
 use Rattle.bip_graph.specs.declared.answers.Decomposition.{Decomposition}
@@ -9,11 +10,13 @@ use Rattle.btf_text.specs.Reports.{lengths_line, sizes_in, summary_text}
 use Rattle.btf_tool.specs.Analyses.{IsFoundIn}
 use Rattle.btf_tool.specs.Summaries.{IsSummary}
 
-pub analysis_answers : (a : Matrix) (d : Decomposition) (m : List Place) (order pairs : Bool) → IsFoundIn a d m
-    → IsAnalysis a order pairs (report_text (report_of a (decomposition_of d) order (where_asked pairs m)))
-analysis_answers a d m order pairs h = record {
+pub analysis_answers : (a : Matrix) (d : Decomposition) (m : List Place) (version : ℕ) (components : Option Components) (order pairs : Bool) → IsFoundIn a d m → AreOfVersion a version components
+    → IsAnalysis a version order pairs (report_text (report_of a (decomposition_of d) components order (where_asked pairs m)))
+analysis_answers a d m version components order pairs h of_version = record {
   decomposition = decomposition_of d;
   is_decomposition = h.decomposes.decomposition;
+  components = components;
+  of_version = of_version;
   matching = where_asked pairs m;
   are_pairs = as_asked pairs;
   spelled = refl;

@@ -20,17 +20,19 @@ use Rattle.bip_defs.specs.Matrix.{Matrix}
 use Rattle.bip_defs.proofs.Uniqueness.{same_matrix}
 use Rattle.btf_check.specs.Verdicts.{IsVerdict}
 use Rattle.btf_check.specs.declared.verdict.Verdict.{Verdict}
+use Rattle.sp_ids.specs.declared.triples.Field.TheVariants.{Integer}
 use Rattle.sp_pattern.specs.Stored.{IsPattern}
+use Rattle.sp_pattern.specs.Weights.{weight_limit, weight_of}
 use Rattle.btf_tool.specs.declared.answers.Answer.{Answer}
 use Rattle.btf_tool.specs.declared.answers.Answer.TheVariants.{Negative, Positive}
 use Rattle.btf_tool.specs.declared.refusals.Refusal.{Refusal}
 use Rattle.btf_tool.specs.declared.refusals.Refusal.TheVariants.{Usage, Malformed, Limit, TooLong, SumLimit, NeedsInteger, ReadFault, WriteFault, OutOfMemory}
 use Rattle.sp_ports.specs.Device.{Device, FailsOnceAtMost, HasReadFault, HasWriteFault, IsSteady, IsUntouched, WroteAsFar}
-use Rattle.btf_tool.specs.Jobs.{GavePrefix, IsAnswer as IsJobAnswer, IsMatrixOf, OfReading, ReadsFile, WasRead, Weighs, WithAnswer, WithFileAnswer, end_of, reading}
+use Rattle.btf_tool.specs.Jobs.{GavePrefix, IsAnswer as IsJobAnswer, IsFitFor, IsMatrixOf, NeedsIntegers, OfReading, ReadsFile, WasRead, Weighs, WithAnswer, WithFileAnswer, drops_of, end_of, reading}
 use Rattle.btf_tool.specs.VerdictText.{answer_of}
 use Rattle.btf_tool.specs.Refusals.{line_of, status_of, status_of_answer}
-use Rattle.btf_tool.specs.Runs.{ComesToDiagonal, ComesToNoWeights, Completes, EndsWell, HasCause, IsBadLine, IsGoodSoFar, IsOrNoMemory, IsTooLong, JobSays, NameMaker, Names, NamesReader, Run, Says, StaysKnown, WithFile, status_of_fault}
-use Rattle.btf_tool.proofs.Diagonals.{FullHasRank, comes_to_diagonal, has_weights, needs_ends, no_diagonal_memory, no_memory_for_weights, not_integer_refused, past_ends, past_refused}
+use Rattle.btf_tool.specs.Runs.{ComesToDiagonal, Completes, EndsWell, HasCause, IsBadLine, IsGoodSoFar, IsOrNoMemory, IsPast, IsTooLong, JobSays, NameMaker, Names, NamesReader, Run, Says, StaysKnown, WithFile, status_of_fault}
+use Rattle.btf_tool.proofs.Diagonals.{FullHasRank, comes_to_diagonal, no_diagonal_memory, no_sum_past, past_ends}
 
 -- what follows of what holds where bytes are told
 pub where_known : {P Q : List ℕ → List ℕ → Type 0} (before after : Option (List ℕ)) → WhereKnown before after P
@@ -78,18 +80,18 @@ made_named words job names maker = subst (λ (j : Job). ¬ ReadsFile j) (one_job
 
 -- a job that reads a file answered over it
 over_file : (job : Job) (answer : Answer) (input : Device) (P : List ℕ → Type 0) → ReadsFile job → WithAnswer job answer input P → WithFileAnswer job answer input P
-over_file Rank answer input P reads h = h
-over_file (Analyse search order pairs) answer input P reads h = h
-over_file Diagonal answer input P reads h = h
-over_file Check answer input P reads h = h
+over_file (Rank drop_zeros) answer input P reads h = h
+over_file (Analyse search report drop_zeros) answer input P reads h = h
+over_file (Diagonal drop_zeros) answer input P reads h = h
+over_file (Check drop_zeros) answer input P reads h = h
 over_file (Load size seed search) answer input P reads h = absurd reads
 
 -- a matrix that was made was answered as was asked
 made_positive : (job : Job) (answer : Answer) (input : Device) (P : List ℕ → Type 0) → ¬ ReadsFile job → WithAnswer job answer input P → answer ≡ Positive
-made_positive Rank answer input P makes h = absurd (makes tt)
-made_positive (Analyse search order pairs) answer input P makes h = absurd (makes tt)
-made_positive Diagonal answer input P makes h = absurd (makes tt)
-made_positive Check answer input P makes h = absurd (makes tt)
+made_positive (Rank drop_zeros) answer input P makes h = absurd (makes tt)
+made_positive (Analyse search report drop_zeros) answer input P makes h = absurd (makes tt)
+made_positive (Diagonal drop_zeros) answer input P makes h = absurd (makes tt)
+made_positive (Check drop_zeros) answer input P makes h = absurd (makes tt)
 made_positive (Load size seed search) answer input P makes h = h.1.positive
 
 -- what the law `one_verdict` says
@@ -99,17 +101,17 @@ HasOneVerdict = (a : Matrix) (bytes : List ℕ) (v w : Verdict) → IsPattern a 
 -- the answer over a good file is the one of that file
 ends_well : HasOneVerdict → FullHasRank → (job : Job) (call : Call) (answer : Answer) (text : List ℕ) (t : Entries) (rest : List ℕ) (status : Status) → ReadsFile job
     → IsJobAnswer job call answer text → Reads (offered call) (end_of job) t rest → IsOrNoMemory status (status_of_answer answer) → EndsWell job t rest status
-ends_well one_verdict full_rank Rank call answer text t rest status file h reads ends = subst (λ (x : Answer). IsOrNoMemory status (status_of_answer x)) h.is_text.0 ends
-ends_well one_verdict full_rank (Analyse search order pairs) call answer text t rest status file h reads ends = subst (λ (x : Answer). IsOrNoMemory status (status_of_answer x)) h.is_text.0 ends
-ends_well one_verdict full_rank Diagonal call answer text t rest status file h reads ends =
+ends_well one_verdict full_rank (Rank drop_zeros) call answer text t rest status file h reads ends = subst (λ (x : Answer). IsOrNoMemory status (status_of_answer x)) h.is_text.0 ends
+ends_well one_verdict full_rank (Analyse search report drop_zeros) call answer text t rest status file h reads ends = subst (λ (x : Answer). IsOrNoMemory status (status_of_answer x)) h.is_text.0 ends
+ends_well one_verdict full_rank (Diagonal drop_zeros) call answer text t rest status file h reads ends =
     let same : h.entries ≡ t = h.was_read.reads.entries ∙ sym reads.entries in
-    subst (λ (x : Entries). ComesToDiagonal x status) same (comes_to_diagonal full_rank h.entries h.matrix answer text status h.is_matrix h.is_text ends)
-ends_well one_verdict full_rank Check call answer text t rest status file h reads ends = record {
+    subst (λ (x : Entries). ComesToDiagonal drop_zeros x status) same (comes_to_diagonal full_rank drop_zeros h.entries h.matrix answer text status h.is_matrix h.is_text ends)
+ends_well one_verdict full_rank (Check drop_zeros) call answer text t rest status file h reads ends = record {
   comes = comes answer ends;
   right = λ a verdict matrix is_verdict.
       let same_t : h.entries ≡ t = h.was_read.reads.entries ∙ sym reads.entries in
       let same_rest : h.rest ≡ rest = h.was_read.reads.follows ∙ sym reads.follows in
-      let mine : IsMatrixOf t h.matrix = subst (λ (x : Entries). IsMatrixOf x h.matrix) same_t h.is_matrix in
+      let mine : IsMatrixOf drop_zeros t h.matrix = subst (λ (x : Entries). IsMatrixOf drop_zeros x h.matrix) same_t h.is_matrix in
       let same_a : h.matrix ≡ a = same_matrix _ _ _ h.matrix a mine matrix in
       let v : IsVerdict h.matrix h.rest h.is_text.verdict = h.is_text.is_verdict in
       let w : IsVerdict h.matrix h.rest verdict = subst (λ (bytes : List ℕ). IsVerdict h.matrix bytes verdict) (sym same_rest) (subst (λ (x : Matrix). IsVerdict x rest verdict) (sym same_a) is_verdict) in
@@ -123,15 +125,21 @@ ends_well one_verdict full_rank Check call answer text t rest status file h read
     comes Negative (inr none) = inr (inr none)
 ends_well one_verdict full_rank (Load size seed search) call answer text t rest status file h reads ends = absurd file
 
--- the file of a job that needs weights, and answered over it, has them
-answer_weighed : (job : Job) (call : Call) (answer : Answer) (text : List ℕ) (t : Entries) (rest : List ℕ) (status : Status)
-    → Weighs job → IsJobAnswer job call answer text → Reads (offered call) (end_of job) t rest → ComesToNoWeights t status
-answer_weighed Rank call answer text t rest status weighs h reads = absurd weighs
-answer_weighed (Analyse search order pairs) call answer text t rest status weighs h reads = absurd weighs
-answer_weighed Diagonal call answer text t rest status weighs h reads =
-    subst (λ (x : Entries). ComesToNoWeights x status) (h.was_read.reads.entries ∙ sym reads.entries) (has_weights h.entries h.matrix answer text status h.is_text)
-answer_weighed Check call answer text t rest status weighs h reads = absurd weighs
-answer_weighed (Load size seed search) call answer text t rest status weighs h reads = absurd weighs
+-- the file of a job that needs integers, and answered over it, is an integer file
+answer_integer : (job : Job) (call : Call) (answer : Answer) (text : List ℕ) (t : Entries) (rest : List ℕ) → NeedsIntegers job → IsJobAnswer job call answer text → Reads (offered call) (end_of job) t rest
+    → t.field ≡ Integer
+answer_integer job call answer text t rest needs h reads = subst (λ (x : Entries). x.field ≡ Integer) (h.was_read.reads.entries ∙ sym reads.entries) (h.is_fit needs)
+
+-- and no sum of a file that was weighed passes the limit
+answer_within : (job : Job) (call : Call) (answer : Answer) (text : List ℕ) (t : Entries) (rest : List ℕ) (r c : ℕ) → Weighs job → IsJobAnswer job call answer text → Reads (offered call) (end_of job) t rest
+    → weight_limit < weight_of t r c → ⊥
+answer_within (Rank drop_zeros) call answer text t rest r c weighs h reads past = weighs
+answer_within (Analyse search report drop_zeros) call answer text t rest r c weighs h reads past = weighs
+answer_within (Diagonal drop_zeros) call answer text t rest r c weighs h reads past =
+    no_sum_past drop_zeros h.entries h.matrix h.is_text.weighing r c h.is_matrix h.is_text.are_weights
+    (subst (λ (x : Entries). weight_limit < weight_of x r c) (sym (h.was_read.reads.entries ∙ sym reads.entries)) past)
+answer_within (Check drop_zeros) call answer text t rest r c weighs h reads past = weighs
+answer_within (Load size seed search) call answer text t rest r c weighs h reads past = weighs
 
 -- the job that the words name, in place of another that they name
 abbrev in_place : (words : List (List ℕ)) (one two : Job) → Names words one → Names words two → (P : Job → Type 0) → P one → P two
@@ -146,9 +154,11 @@ answered one_verdict full_rank r status P answer job names written ends = record
       (λ x y before h fault bad. let read = answer_read other (reading r.input x y) answer h.0 h.1 in
       absurd (bad_line_known (end_of other) (reading r.input x y) read.1 (Ok read.0) fault read.2 bad));
   good = λ other reader no_read no_write. where_known r.input.before r.input.after (over other reader)
-      (λ x y before h t rest reads few. ends_well one_verdict full_rank other (reading r.input x y) answer h.0 t rest status reader.1 h.1 reads (ends no_write));
-  unweighed = λ other reader weighs no_read. where_known r.input.before r.input.after (over other reader)
-      (λ x y before h t rest reads few. answer_weighed other (reading r.input x y) answer h.0 t rest status weighs h.1 reads);
+      (λ x y before h t rest reads few fit. ends_well one_verdict full_rank other (reading r.input x y) answer h.0 t rest status reader.1 h.1 reads (ends no_write));
+  other_field = λ other reader needs no_read. where_known r.input.before r.input.after (over other reader)
+      (λ x y before h t rest reads few not. absurd (not (answer_integer other (reading r.input x y) answer h.0 t rest needs h.1 reads)));
+  past = λ other reader weighs no_read. where_known r.input.before r.input.after (over other reader)
+      (λ x y before h t rest reads few integer row col past. absurd (answer_within other (reading r.input x y) answer h.0 t rest row col weighs h.1 reads past));
   not_good = λ other reader no_read. where_known r.input.before r.input.after (over other reader)
       (λ x y before h none. let read = answer_read other (reading r.input x y) answer h.0 h.1 in
       absurd (none read.0 read.1 read.2.reads h.1.was_read.within));
@@ -173,9 +183,11 @@ bad r status line kind limit said job names reads later is first = record {
   bad_line = λ other reader. where_known r.input.before r.input.after (of other reader)
       (λ x y before h fault two. inl (said ∙ kind_status line kind fault (first_bad (end_of other) (reading r.input x y)) limit h is two));
   good = λ other reader no_read no_write. where_known r.input.before r.input.after (of other reader)
-      (λ x y before h t rest reads few. absurd (not_answered (end_of other) limit (reading r.input x y) t rest h is reads few (steady r.input x before later no_read)));
-  unweighed = λ other reader weighs no_read. where_known r.input.before r.input.after (of other reader)
-      (λ x y before h t rest reads few. absurd (not_answered (end_of other) limit (reading r.input x y) t rest h is reads few (steady r.input x before later no_read)));
+      (λ x y before h t rest reads few fit. absurd (not_answered (end_of other) limit (reading r.input x y) t rest h is reads few (steady r.input x before later no_read)));
+  other_field = λ other reader needs no_read. where_known r.input.before r.input.after (of other reader)
+      (λ x y before h t rest reads few not. absurd (not_answered (end_of other) limit (reading r.input x y) t rest h is reads few (steady r.input x before later no_read)));
+  past = λ other reader weighs no_read. where_known r.input.before r.input.after (of other reader)
+      (λ x y before h t rest reads few integer row col past. absurd (not_answered (end_of other) limit (reading r.input x y) t rest h is reads few (steady r.input x before later no_read)));
   not_good = λ other reader no_read. where_known r.input.before r.input.after (of other reader) (λ x y before h none. inl (either limit said));
   too_many = λ other reader. where_known r.input.before r.input.after (of other reader)
       (λ x y before h none past. absurd (clash (first_bad (end_of other) (reading r.input x y)) _ none h));
@@ -198,53 +210,89 @@ bad r status line kind limit said job names reads later is first = record {
 
 -- a job that is out of memory ends as it may
 no_memory_ends : (job : Job) (t : Entries) (rest : List ℕ) (status : Status) → status ≡ statuses.OutOfMemory → EndsWell job t rest status
-no_memory_ends Rank t rest status said = inr said
-no_memory_ends (Analyse search order pairs) t rest status said = inr said
-no_memory_ends Diagonal t rest status said = no_diagonal_memory t status said
-no_memory_ends Check t rest status said = record { comes = inr (inr said); right = λ a verdict matrix is_verdict. inr said }
+no_memory_ends (Rank drop_zeros) t rest status said = inr said
+no_memory_ends (Analyse search report drop_zeros) t rest status said = inr said
+no_memory_ends (Diagonal drop_zeros) t rest status said = no_diagonal_memory drop_zeros t status said
+no_memory_ends (Check drop_zeros) t rest status said = record { comes = inr (inr said); right = λ a verdict matrix is_verdict. inr said }
 no_memory_ends (Load size seed search) t rest status said = inr said
 
--- a job that needs weights reads a file, and ends over it as one that has a diagonal
-weighs_reads : (job : Job) → Weighs job → ReadsFile job
-weighs_reads Rank weighs = absurd weighs
-weighs_reads (Analyse search order pairs) weighs = absurd weighs
-weighs_reads Diagonal weighs = tt
-weighs_reads Check weighs = absurd weighs
-weighs_reads (Load size seed search) weighs = absurd weighs
+-- a job that needs integers reads a file
+needs_reads : (job : Job) → NeedsIntegers job → ReadsFile job
+needs_reads (Rank drop_zeros) needs = tt
+needs_reads (Analyse search report drop_zeros) needs = tt
+needs_reads (Diagonal drop_zeros) needs = tt
+needs_reads (Check drop_zeros) needs = tt
+needs_reads (Load size seed search) needs = absurd needs
 
-weighs_ends : (job : Job) (t : Entries) (rest : List ℕ) (status : Status) → Weighs job → ComesToDiagonal t status → EndsWell job t rest status
-weighs_ends Rank t rest status weighs comes = absurd weighs
-weighs_ends (Analyse search order pairs) t rest status weighs comes = absurd weighs
-weighs_ends Diagonal t rest status weighs comes = comes
-weighs_ends Check t rest status weighs comes = absurd weighs
+-- a job that adds up values needs integers, and ends over its file as one that has a diagonal
+weighs_needs : (job : Job) → Weighs job → NeedsIntegers job
+weighs_needs (Rank drop_zeros) weighs = absurd weighs
+weighs_needs (Analyse search report drop_zeros) weighs = absurd weighs
+weighs_needs (Diagonal drop_zeros) weighs = tt
+weighs_needs (Check drop_zeros) weighs = absurd weighs
+weighs_needs (Load size seed search) weighs = absurd weighs
+
+weighs_ends : (job : Job) (t : Entries) (rest : List ℕ) (status : Status) → Weighs job → ComesToDiagonal (drops_of job) t status → EndsWell job t rest status
+weighs_ends (Rank drop_zeros) t rest status weighs comes = absurd weighs
+weighs_ends (Analyse search report drop_zeros) t rest status weighs comes = absurd weighs
+weighs_ends (Diagonal drop_zeros) t rest status weighs comes = comes
+weighs_ends (Check drop_zeros) t rest status weighs comes = absurd weighs
 weighs_ends (Load size seed search) t rest status weighs comes = absurd weighs
 
--- the run was refused since its file has no weights, by a job that needs them
-by_entries : (r : Run) (status : Status) (P : Entries → Type 0) (job : Job) → Names r.words job → Weighs job → WithFile job r.input P
-    → ((t : Entries) → P t → ComesToDiagonal t status) → ((t : Entries) → P t → ComesToNoWeights t status) → Completes r status
-by_entries r status P job names is file ends refuses = record {
+-- what a refusal over a good file has to answer to, for a job that does Q with a file of which P holds
+record AnswersTo (Q : Job → Type 0) (P : Job → Entries → Type 0) (status : Status) : Type 0 where
+  ends : (job : Job) (t : Entries) (rest : List ℕ) → Q job → P job t → IsFitFor job t → EndsWell job t rest status
+  other_field : (job : Job) (t : Entries) → P job t → ¬ (t.field ≡ Integer) → IsOrNoMemory status statuses.NeedsInteger
+  past : (job : Job) (t : Entries) → P job t → t.field ≡ Integer → IsOrNoMemory status statuses.Limit
+
+-- the run was refused for what its file gives
+by_entries : (r : Run) (status : Status) (Q : Job → Type 0) (P : Job → Entries → Type 0) (job : Job) → Names r.words job → ReadsFile job → Q job → WithFile job r.input (P job) → AnswersTo Q P status → Completes r status
+by_entries r status Q P job names file_read is file to = record {
   usage = λ not. absurd (not names.taken);
   bad_line = λ other reader. where_known r.input.before r.input.after (of other reader)
       (λ x y before h fault bad. absurd (bad_line_known (end_of other) (reading r.input x y) h.1 (Ok h.0) fault (all other (reading r.input x y) h.0 h.1 h.2) bad));
   good = λ other reader no_read no_write. where_known r.input.before r.input.after (of other reader)
-      (λ x y before h t rest reads few. weighs_ends other t rest status (weighs other reader)
-      (subst (λ (e : Entries). ComesToDiagonal e status) (h.2.reads.entries ∙ sym reads.entries) (ends h.0 h.3)));
-  unweighed = λ other reader _ no_read. where_known r.input.before r.input.after (of other reader)
-      (λ x y before h t rest reads few. subst (λ (e : Entries). ComesToNoWeights e status) (h.2.reads.entries ∙ sym reads.entries) (refuses h.0 h.3));
+      (λ x y before h t rest reads few fit. to.ends other t rest (does other reader) (subst (P other) (h.2.reads.entries ∙ sym reads.entries) h.3) fit);
+  other_field = λ other reader needs no_read. where_known r.input.before r.input.after (of other reader)
+      (λ x y before h t rest reads few not. to.other_field other t (subst (P other) (h.2.reads.entries ∙ sym reads.entries) h.3) not);
+  past = λ other reader weighs no_read. where_known r.input.before r.input.after (of other reader)
+      (λ x y before h t rest reads few integer row col past. to.past other t (subst (P other) (h.2.reads.entries ∙ sym reads.entries) h.3) integer);
   not_good = λ other reader no_read. where_known r.input.before r.input.after (of other reader) (λ x y before h none. absurd (none h.0 h.1 h.2.reads h.2.within));
   too_many = λ other reader. where_known r.input.before r.input.after (of other reader) (λ x y before h none past. absurd (not_past (reading r.input x y) h.2.within past));
   too_long = λ other reader no_read. where_known r.input.before r.input.after (of other reader) (λ x y before h past none. absurd (not_long x h.2.within past));
-  made = λ maker. absurd (made_named r.words job names maker (weighs_reads job is));
+  made = λ maker. absurd (made_named r.words job names maker file_read);
 }
   where
-    weighs : (other : Job) → NamesReader r.words other → Weighs other
-    weighs other reader = in_place r.words job other names reader.0 Weighs is
+    does : (other : Job) → NamesReader r.words other → Q other
+    does other reader = in_place r.words job other names reader.0 Q is
 
-    of : (other : Job) → NamesReader r.words other → WithFile other r.input P
-    of other reader = in_place r.words job other names reader.0 (λ (j : Job). WithFile j r.input P) file
+    of : (other : Job) → NamesReader r.words other → WithFile other r.input (P other)
+    of other reader = in_place r.words job other names reader.0 (λ (j : Job). WithFile j r.input (P j)) file
 
     all : (other : Job) (call : Call) (t : Entries) (rest : List ℕ) → WasRead (end_of other) call t rest → ReadsAll (end_of other) call t rest
     all other call t rest read = record { reads = read.reads; within = let w = read.within in omega (arith, w) }
+
+-- a sum past the limit
+abbrev PastLimit : ℕ → ℕ → Job → Entries → Type 0
+PastLimit row col job t = (t.field ≡ Integer) × IsPast (drops_of job) t row col
+
+past_answers : (row col : ℕ) (status : Status) → status ≡ statuses.Limit → AnswersTo Weighs (PastLimit row col) status
+past_answers row col status said = record {
+  ends = λ job t rest weighs h fit. weighs_ends job t rest status weighs (past_ends (drops_of job) t h.1.0 row col status h.1.2);
+  other_field = λ job t h not. absurd (not h.0);
+  past = λ job t h integer. inl said;
+}
+
+-- a file of another field
+abbrev OtherField : Job → Entries → Type 0
+OtherField job t = ¬ (t.field ≡ Integer)
+
+other_field_answers : (status : Status) → status ≡ statuses.NeedsInteger → AnswersTo NeedsIntegers OtherField status
+other_field_answers status said = record {
+  ends = λ job t rest needs not fit. absurd (not (fit needs));
+  other_field = λ job t not _. inl said;
+  past = λ job t not integer. absurd (not integer);
+}
 
 -- each refusal
 refused : HasOneVerdict → FullHasRank → (r : Run) (status : Status) (refusal : Refusal) → status ≡ status_of refusal → HasCause r refusal → Completes r status
@@ -252,7 +300,8 @@ refused one_verdict full_rank r status Usage said c = record {
   usage = λ _. inl said;
   bad_line = λ other reader. absurd (c.0 reader.0.taken);
   good = λ other reader. absurd (c.0 reader.0.taken);
-  unweighed = λ other reader. absurd (c.0 reader.0.taken);
+  other_field = λ other reader. absurd (c.0 reader.0.taken);
+  past = λ other reader. absurd (c.0 reader.0.taken);
   not_good = λ other reader. absurd (c.0 reader.0.taken);
   too_many = λ other reader. absurd (c.0 reader.0.taken);
   too_long = λ other reader. absurd (c.0 reader.0.taken);
@@ -264,9 +313,11 @@ refused one_verdict full_rank r status TooLong said c = record {
   usage = λ not. absurd (not c.1.taken);
   bad_line = λ other reader. where_known r.input.before r.input.after (of other reader) (λ x y before h fault two. absurd (clash (first_bad (end_of other) (reading r.input x y)) fault h.0 two));
   good = λ other reader no_read no_write. where_known r.input.before r.input.after (of other reader)
-      (λ x y before h t rest reads few. absurd (good_file_answer (end_of other) (reading r.input x y) [] (Err errors.TooLong) t rest h reads few (steady r.input x before c.2 no_read)));
-  unweighed = λ other reader weighs no_read. where_known r.input.before r.input.after (of other reader)
-      (λ x y before h t rest reads few. absurd (good_file_answer (end_of other) (reading r.input x y) [] (Err errors.TooLong) t rest h reads few (steady r.input x before c.2 no_read)));
+      (λ x y before h t rest reads few fit. absurd (good_file_answer (end_of other) (reading r.input x y) [] (Err errors.TooLong) t rest h reads few (steady r.input x before c.2 no_read)));
+  other_field = λ other reader needs no_read. where_known r.input.before r.input.after (of other reader)
+      (λ x y before h t rest reads few not. absurd (good_file_answer (end_of other) (reading r.input x y) [] (Err errors.TooLong) t rest h reads few (steady r.input x before c.2 no_read)));
+  past = λ other reader weighs no_read. where_known r.input.before r.input.after (of other reader)
+      (λ x y before h t rest reads few integer row col past. absurd (good_file_answer (end_of other) (reading r.input x y) [] (Err errors.TooLong) t rest h reads few (steady r.input x before c.2 no_read)));
   not_good = λ other reader no_read. where_known r.input.before r.input.after (of other reader) (λ x y before h none. inl (inr said));
   too_many = λ other reader. where_known r.input.before r.input.after (of other reader) (λ x y before h none past. inl said);
   too_long = λ other reader no_read. where_known r.input.before r.input.after (of other reader) (λ x y before h past none. inl said);
@@ -279,7 +330,8 @@ refused one_verdict full_rank r status ReadFault said c = record {
   usage = λ not. absurd (not c.1.taken);
   bad_line = λ other reader. where_known r.input.before r.input.after (of other reader) (λ x y before h fault two. absurd (clash (first_bad (end_of other) (reading r.input x y)) fault h.0 two));
   good = λ other reader no_read. absurd (no_read c.3.1);
-  unweighed = λ other reader weighs no_read. absurd (no_read c.3.1);
+  other_field = λ other reader needs no_read. absurd (no_read c.3.1);
+  past = λ other reader weighs no_read. absurd (no_read c.3.1);
   not_good = λ other reader no_read. absurd (no_read c.3.1);
   too_many = λ other reader. where_known r.input.before r.input.after (of other reader) (λ x y before h none past. let few = h.1 in absurd (omega (arith, few, past)));
   too_long = λ other reader no_read. absurd (no_read c.3.1);
@@ -288,14 +340,16 @@ refused one_verdict full_rank r status ReadFault said c = record {
   where
     of : (other : Job) → NamesReader r.words other → IsGoodSoFar (end_of other) r.input
     of other reader = in_place r.words c.0 other c.1 reader.0 (λ (j : Job). IsGoodSoFar (end_of j) r.input) c.3.2
-refused one_verdict full_rank r status (SumLimit row col) said c = by_entries r status _ c.0 c.1 c.3.0 c.3.2 (λ t h. past_ends t row col status h.1) (λ t h. past_refused t status said h.0)
-refused one_verdict full_rank r status NeedsInteger said c = by_entries r status _ c.0 c.1 c.3.0 c.3.2 (λ t not. needs_ends t status not) (λ t not. not_integer_refused t status said not)
+refused one_verdict full_rank r status (SumLimit row col) said c =
+    by_entries r status Weighs (PastLimit row col) c.0 c.1 (needs_reads c.0 (weighs_needs c.0 c.3.0)) c.3.0 c.3.2 (past_answers row col status said)
+refused one_verdict full_rank r status NeedsInteger said c = by_entries r status NeedsIntegers OtherField c.0 c.1 (needs_reads c.0 c.3.0) c.3.0 c.3.2 (other_field_answers status said)
 refused one_verdict full_rank r status WriteFault said c = answered one_verdict full_rank r status _ c.3.2.0 c.0 c.1 c.3.2.1 (λ no_write. absurd (no_write c.3.0))
 refused one_verdict full_rank r status OutOfMemory said c = record {
   usage = λ _. inr said;
   bad_line = λ other reader. where_known r.input.before r.input.after c.1 (λ x y before h fault two. inr said);
-  good = λ other reader no_read no_write. where_known r.input.before r.input.after c.1 (λ x y before h t rest reads few. no_memory_ends other t rest status said);
-  unweighed = λ other reader weighs no_read. where_known r.input.before r.input.after c.1 (λ x y before h t rest reads few. no_memory_for_weights t status said);
+  good = λ other reader no_read no_write. where_known r.input.before r.input.after c.1 (λ x y before h t rest reads few fit. no_memory_ends other t rest status said);
+  other_field = λ other reader needs no_read. where_known r.input.before r.input.after c.1 (λ x y before h t rest reads few not. inr said);
+  past = λ other reader weighs no_read. where_known r.input.before r.input.after c.1 (λ x y before h t rest reads few integer row col past. inr said);
   not_good = λ other reader no_read. where_known r.input.before r.input.after c.1 (λ x y before h none. inr said);
   too_many = λ other reader. where_known r.input.before r.input.after c.1 (λ x y before h none past. inr said);
   too_long = λ other reader no_read. where_known r.input.before r.input.after c.1 (λ x y before h past none. inr said);

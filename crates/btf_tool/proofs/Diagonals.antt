@@ -1,7 +1,11 @@
 -- How `diagonal` ends, from what it answers.
-use Rattle.std.proofs.Common.{◌≡◌, ◌∙◌, ◌<◌, ◌⊎◌, ℕ, List, arith, inl, inr, refl, subst, sym}
+use Rattle.std.proofs.Common.{◌≡◌, ◌∙◌, ◌<◌, ◌+ℤ◌, ◌&&◌, ◌⊎◌, ℕ, Bool, false, true, List, [], ◌∷◌, arith, if◌then◌else◌, inl, inr, map, nat_eq, nat_lt, refl, subst, sym}
+use Rattle.std.proofs.lemmas.Bool.Decides.{nat_tests}
+use Rattle.std.specs.Int.RustNames.{unsigned_abs}
+use Rattle.bip_defs.specs.Lists.{Among}
 use Rattle.bip_defs.specs.Matching.{IsRank}
-use Rattle.bip_defs.specs.Matrix.{AreEntries, Matrix, Place, cols}
+use Rattle.bip_defs.specs.Matrix.{AreEntries, IsEntry, Matrix, Place, cols}
+use Rattle.bip_defs.proofs.Sets.{filter_complete}
 use Rattle.bip_defs.proofs.Uniqueness.{same_matrix, same_rank}
 use Rattle.bip_graph.specs.declared.answers.Heaviest.{Heaviest}
 use Rattle.bip_graph.specs.declared.answers.Heaviest.TheVariants.{Diagonal, Rectangular, Singular}
@@ -11,14 +15,13 @@ use Rattle.btf_tool.specs.declared.answers.Answer.TheVariants.{Negative, Positiv
 use Rattle.btf_tool.specs.Diagonals.{IsDiagonalText, answer_on}
 use Rattle.btf_tool.specs.Jobs.{IsMatrixOf}
 use Rattle.btf_tool.specs.Refusals.{status_of_answer}
-use Rattle.btf_tool.specs.Runs.{ComesToDiagonal, ComesToNoWeights, IsOrNoMemory, IsWithin}
+use Rattle.btf_tool.specs.Runs.{ComesToDiagonal, IsOrNoMemory, IsWithin}
 use Rattle.integer_diagonal.specs.Heaviest.{IsHeaviest}
 use Rattle.integer_diagonal.specs.Prices.{IsFull}
-use Rattle.sp_ids.specs.Entries.{Entries}
+use Rattle.sp_ids.specs.Entries.{Entries, Triple, place, places}
 use Rattle.sp_ids.specs.declared.outcomes.Status.{Status}
 use Rattle.sp_ids.specs.declared.outcomes.Status.TheVariants as statuses
-use Rattle.sp_ids.specs.declared.triples.Field.TheVariants.{Integer}
-use Rattle.sp_pattern.specs.Weights.{IsFirstPast, Weighing}
+use Rattle.sp_pattern.specs.Weights.{AreWeightsOf, IsFirstPast, Weighing, sum_of, weight_limit, weight_of}
 
 -- what the law `full_matching_shows_rank` says
 abbrev pub FullHasRank : Type 0
@@ -47,18 +50,18 @@ some_full w (Singular r hall) is square rank =
 some_full w (Diagonal pairs u v sum) is square rank = refl
 
 -- the answer over the entries comes to their diagonal
-pub comes_to_diagonal : FullHasRank → (t : Entries) (a : Matrix) (answer : Answer) (text : List ℕ) (status : Status) → IsMatrixOf t a → IsDiagonalText t a answer text
-    → IsOrNoMemory status (status_of_answer answer) → ComesToDiagonal t status
-comes_to_diagonal full_rank t a answer text status of h ends = record {
-  comes = λ integer within. either answer ends;
-  rectangular = λ integer within b of_b not. ended Negative (none_rectangular h.weighing h.heaviest h.is_heaviest (λ e. not (subst (λ (x : Matrix). x.rows ≡ cols x) (same b of_b) e)));
-  singular = λ integer within b k of_b rank below. ended Negative
+pub comes_to_diagonal : FullHasRank → (drop_zeros : Bool) (t : Entries) (a : Matrix) (answer : Answer) (text : List ℕ) (status : Status) → IsMatrixOf drop_zeros t a → IsDiagonalText t a answer text
+    → IsOrNoMemory status (status_of_answer answer) → ComesToDiagonal drop_zeros t status
+comes_to_diagonal full_rank drop_zeros t a answer text status of h ends = record {
+  comes = λ within. either answer ends;
+  rectangular = λ within b of_b not. ended Negative (none_rectangular h.weighing h.heaviest h.is_heaviest (λ e. not (subst (λ (x : Matrix). x.rows ≡ cols x) (same b of_b) e)));
+  singular = λ within b k of_b rank below. ended Negative
       (none_singular full_rank h.weighing h.heaviest k h.is_heaviest (subst (λ (x : Matrix). IsRank x k) (sym (same b of_b)) rank) (subst (λ (x : Matrix). k < cols x) (sym (same b of_b)) below));
-  full = λ integer within b of_b square rank. ended Positive
+  full = λ within b of_b square rank. ended Positive
       (some_full h.weighing h.heaviest h.is_heaviest (subst (λ (x : Matrix). x.rows ≡ cols x) (sym (same b of_b)) square) (subst (λ (x : Matrix). IsRank x (cols x)) (sym (same b of_b)) rank));
 }
   where
-    same : (b : Matrix) → IsMatrixOf t b → h.weighing.matrix ≡ b
+    same : (b : Matrix) → IsMatrixOf drop_zeros t b → h.weighing.matrix ≡ b
     same b of_b = h.are_weights.matrix_is ∙ same_matrix _ _ _ a b of of_b
 
     either : (x : Answer) → IsOrNoMemory status (status_of_answer x) → (status ≡ statuses.Negative) ⊎ IsOrNoMemory status statuses.Ok
@@ -69,51 +72,55 @@ comes_to_diagonal full_rank t a answer text status of h ends = record {
     ended : (wanted : Answer) → answer_on h.heaviest ≡ wanted → IsOrNoMemory status (status_of_answer wanted)
     ended wanted is = subst (λ (x : Answer). IsOrNoMemory status (status_of_answer x)) (h.answer_is ∙ is) ends
 
--- a file whose values were added up has weights
-pub has_weights : (t : Entries) (a : Matrix) (answer : Answer) (text : List ℕ) (status : Status) → IsDiagonalText t a answer text → ComesToNoWeights t status
-has_weights t a answer text status h = record {
-  needs_integer = λ not. absurd (not h.integer);
-  past = λ integer r c past. let within = h.are_weights.within r c in absurd (omega (arith, within, past));
-}
+test_same : (x y : ℕ) → nat_eq x y ≡ true → x ≡ y
+test_same x y e = grind (arith, nat_tests)
 
-pub no_memory_for_weights : (t : Entries) (status : Status) → status ≡ statuses.OutOfMemory → ComesToNoWeights t status
-no_memory_for_weights t status said = record { needs_integer = λ not. inr said; past = λ integer r c past. inr said }
+test_above : (n : ℕ) → 0 < n → nat_lt 0 n ≡ true
+test_above n h = grind (arith, nat_tests)
 
-pub past_refused : (t : Entries) (status : Status) → status ≡ statuses.Limit → t.field ≡ Integer → ComesToNoWeights t status
-past_refused t status said integer = record { needs_integer = λ not. absurd (not integer); past = λ _ r c past. inl said }
+-- a place whose values do not add up to 0 is given
+given_place : (ts : List Triple) (r c : ℕ) → 0 < unsigned_abs (sum_of ts r c) → Among (r, c) (map place ts)
+given_place [] r c above = absurd (omega (arith, above))
+given_place (t ∷ ts) r c above = by (given_place ts r c) (nat_eq t.row r) refl (nat_eq t.col c) refl above
+  where
+    by : (0 < unsigned_abs (sum_of ts r c) → Among (r, c) (map place ts)) → (p : Bool) → nat_eq t.row r ≡ p → (q : Bool) → nat_eq t.col c ≡ q
+        → 0 < unsigned_abs (if p && q then t.value +ℤ sum_of ts r c else sum_of ts r c) → Among (r, c) (map place (t ∷ ts))
+    by later true e true f h = let same : t.row ≡ r = test_same t.row r e in let also : t.col ≡ c = test_same t.col c f in inl (λ i. (sym same i, sym also i))
+    by later true e false f h = inr (later h)
+    by later false e q f h = inr (later h)
 
-pub not_integer_refused : (t : Entries) (status : Status) → status ≡ statuses.NeedsInteger → ¬ (t.field ≡ Integer) → ComesToNoWeights t status
-not_integer_refused t status said not = record { needs_integer = λ _. inl said; past = λ integer r c past. absurd (not integer) }
+-- and an entry of the file's matrix, whether zeros are dropped or not
+entry_above : (drop_zeros : Bool) (t : Entries) (a : Matrix) (r c : ℕ) → IsMatrixOf drop_zeros t a → 0 < weight_of t r c → IsEntry a r c
+entry_above false t a r c of above = (of.entries r c).1 (given_place t.items r c above)
+entry_above true t a r c of above =
+    (of.entries r c).1 (filter_complete (λ (p : Place). nat_lt 0 (weight_of t p.0 p.1)) (r, c) (places t) (given_place t.items r c above) (test_above (weight_of t r c) above))
+
+-- where the entries have weights no place's sum passes the limit
+pub no_sum_past : (drop_zeros : Bool) (t : Entries) (a : Matrix) (w : Weighing) (r c : ℕ) → IsMatrixOf drop_zeros t a → AreWeightsOf t a w → weight_limit < weight_of t r c → ⊥
+no_sum_past drop_zeros t a w r c of weights past =
+    let within = weights.within r c (entry_above drop_zeros t a r c of (omega (arith, past))) in
+    omega (arith, within, past)
 
 -- where memory ran out
-pub no_diagonal_memory : (t : Entries) (status : Status) → status ≡ statuses.OutOfMemory → ComesToDiagonal t status
-no_diagonal_memory t status said = record {
-  comes = λ integer within. inr (inr said);
-  rectangular = λ integer within a of not. inr said;
-  singular = λ integer within a k of rank below. inr said;
-  full = λ integer within a of square rank. inr said;
+pub no_diagonal_memory : (drop_zeros : Bool) (t : Entries) (status : Status) → status ≡ statuses.OutOfMemory → ComesToDiagonal drop_zeros t status
+no_diagonal_memory drop_zeros t status said = record {
+  comes = λ within. inr (inr said);
+  rectangular = λ within a of not. inr said;
+  singular = λ within a k of rank below. inr said;
+  full = λ within a of square rank. inr said;
 }
 
 -- where a sum passes the limit
-pub past_ends : (t : Entries) (r c : ℕ) (status : Status) → IsFirstPast t r c → ComesToDiagonal t status
-past_ends t r c status first = record {
-  comes = λ _ within. absurd (too_large within);
-  rectangular = λ _ within a of not. absurd (too_large within);
-  singular = λ _ within a k of rank below. absurd (too_large within);
-  full = λ _ within a of square rank. absurd (too_large within);
+pub past_ends : (drop_zeros : Bool) (t : Entries) (a : Matrix) (r c : ℕ) (status : Status) → IsFirstPast t a r c → ComesToDiagonal drop_zeros t status
+past_ends drop_zeros t a r c status first = record {
+  comes = λ within. absurd (too_large within);
+  rectangular = λ within b of not. absurd (too_large within);
+  singular = λ within b k of rank below. absurd (too_large within);
+  full = λ within b of square rank. absurd (too_large within);
 }
   where
     too_large : IsWithin t → ⊥
     too_large within = let small = within r c in let past = first.past in omega (arith, small, past)
-
--- where the file is no integer file
-pub needs_ends : (t : Entries) (status : Status) → ¬ (t.field ≡ Integer) → ComesToDiagonal t status
-needs_ends t status not = record {
-  comes = λ integer within. absurd (not integer);
-  rectangular = λ integer within a of other. absurd (not integer);
-  singular = λ integer within a k of rank below. absurd (not integer);
-  full = λ integer within a of square rank. absurd (not integer);
-}
 
 -- the pairs of a diagonal are entries
 pub heaviest_entries : (w : Weighing) (a : Matrix) (h : Heaviest) → w.matrix ≡ a → IsHeaviest w h → PairsAreEntries a h

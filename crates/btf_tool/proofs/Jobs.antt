@@ -1,5 +1,5 @@
 -- What the steps of a job say together.
-use Rattle.std.proofs.Common.{◌≡◌, ℕ, List, [], Ok, Err, refl, sym, subst, Result}
+use Rattle.std.proofs.Common.{◌≡◌, ℕ, Bool, List, [], Ok, Err, refl, sym, subst, Result}
 use Rattle.std.specs.Result.{IsErrAnd}
 use Rattle.sp_ids.specs.Entries.{Entries}
 use Rattle.bip_defs.specs.Matrix.{Matrix}
@@ -23,9 +23,9 @@ use Rattle.btf_tool.specs.declared.answers.Answer.TheVariants.{Negative, Positiv
 use Rattle.btf_tool.specs.declared.refusals.Refusal.{Refusal}
 use Rattle.btf_tool.specs.declared.refusals.Refusal.TheVariants.{Usage, Malformed, Limit, TooLong, SumLimit, NeedsInteger, ReadFault, WriteFault, OutOfMemory}
 use Rattle.sp_ports.specs.Device.{Device, FailsOnceAtMost, IsUntouched, Took, TookPrefix}
-use Rattle.btf_tool.specs.Jobs.{IsMatrixOf, IsTextOf, MayAnswer, OfReading, ReadsFile, WasRead, WithAnswer, WithFileAnswer, end_of}
+use Rattle.btf_tool.specs.Jobs.{Holds, IsFitFor, IsMatrixOf, IsTextOf, MayAnswer, NeedsIntegers, OfReading, ReadsFile, WasRead, WithAnswer, WithFileAnswer, drops_of, end_of}
 use Rattle.btf_tool.specs.VerdictText.{IsVerdictText, answer_of, verdict_text}
-use Rattle.btf_tool.specs.Runs.{IsReadAs, IsUnread, JobSays}
+use Rattle.btf_tool.specs.Runs.{IsNoMatrix, IsReadAs, IsUnread, JobSays}
 use Rattle.btf_tool.proofs.Completeness.{untouched_counts, where_known}
 
 -- what holds of this refusal holds of a result that is it
@@ -50,40 +50,62 @@ file_refused job input out OutOfMemory reads says later same = (later, untouched
 pub no_memory : (job : Job) (input out : Device) (t : Entries) (rest : List ℕ) → IsReadAs (end_of job) input t rest → FailsOnceAtMost input → IsUntouched out → JobSays job input out (Err OutOfMemory)
 no_memory job input out t rest says later same = (later, untouched_counts out same, (where_known input.before input.after says.1 (λ x y before h. tt), same))
 
+-- a job that drops zeros needs integers
+drops_need : (job : Job) → Holds (drops_of job) → NeedsIntegers job
+drops_need (Rank drop_zeros) drops = drops
+drops_need (Analyse search report drop_zeros) drops = drops
+drops_need (Diagonal drop_zeros) drops = tt
+drops_need (Check drop_zeros) drops = drops
+drops_need (Load size seed search) drops = drops
+
+-- the file gives no matrix
+pub no_matrix : (job : Job) (input out : Device) (t : Entries) (rest : List ℕ) (refusal : Refusal) → IsReadAs (end_of job) input t rest → FailsOnceAtMost input → IsNoMatrix (drops_of job) t refusal
+    → IsUntouched out → JobSays job input out (Err refusal)
+no_matrix job input out t rest NeedsInteger says later why same =
+    (later, untouched_counts out same, (drops_need job why.0, says.0, where_known input.before input.after says.1 (λ x y before h. (t, rest, h, why.1)), same))
+no_matrix job input out t rest OutOfMemory says later why same = no_memory job input out t rest says later same
+no_matrix job input out t rest Usage says later why same = absurd why
+no_matrix job input out t rest (Malformed line kind) says later why same = absurd why
+no_matrix job input out t rest (Limit line kind) says later why same = absurd why
+no_matrix job input out t rest TooLong says later why same = absurd why
+no_matrix job input out t rest (SumLimit row col) says later why same = absurd why
+no_matrix job input out t rest ReadFault says later why same = absurd why
+no_matrix job input out t rest WriteFault says later why same = absurd why
+
 -- a job that reads a file answers over it
 from_file : (job : Job) (answer : Answer) (input : Device) (P : List ℕ → Type 0) → ReadsFile job → WithFileAnswer job answer input P → WithAnswer job answer input P
-from_file Rank answer input P reads h = h
-from_file (Analyse search order pairs) answer input P reads h = h
-from_file Diagonal answer input P reads h = h
-from_file Check answer input P reads h = h
+from_file (Rank drop_zeros) answer input P reads h = h
+from_file (Analyse search report drop_zeros) answer input P reads h = h
+from_file (Diagonal drop_zeros) answer input P reads h = h
+from_file (Check drop_zeros) answer input P reads h = h
 from_file (Load size seed search) answer input P reads h = absurd reads
 
 with_answer : (job : Job) (answer : Answer) (input : Device) (P : List ℕ → Type 0) (text : List ℕ) (t : Entries) (rest : List ℕ) (a : Matrix) → ReadsFile job → OfReading input (λ call. WasRead (end_of job) call t rest)
-    → IsMatrixOf t a → IsTextOf job t a rest answer text → P text → WithAnswer job answer input P
-with_answer job answer input P text t rest a reads read matrix is_text p =
+    → IsFitFor job t → IsMatrixOf (drops_of job) t a → IsTextOf job t a rest answer text → P text → WithAnswer job answer input P
+with_answer job answer input P text t rest a reads read fit matrix is_text p =
     from_file job answer input P reads
-    (where_known input.before input.after read (λ x y before h. (text, record { entries = t; rest = rest; matrix = a; was_read = h; is_matrix = matrix; is_text = is_text }, p)))
+    (where_known input.before input.after read (λ x y before h. (text, record { entries = t; rest = rest; matrix = a; was_read = h; is_fit = fit; is_matrix = matrix; is_text = is_text }, p)))
 
 -- a text of the job's is one of an answer that it may give
 may_answer : (job : Job) (answer : Answer) (t : Entries) (a : Matrix) (rest text : List ℕ) → IsTextOf job t a rest answer text → MayAnswer job answer
-may_answer Rank answer t a rest text h = subst (λ (x : Answer). MayAnswer Rank x) (sym h.0) tt
-may_answer (Analyse search order pairs) answer t a rest text h = subst (λ (x : Answer). MayAnswer (Analyse search order pairs) x) (sym h.0) tt
-may_answer Diagonal Positive t a rest text h = tt
-may_answer Diagonal Negative t a rest text h = tt
-may_answer Check Positive t a rest text h = tt
-may_answer Check Negative t a rest text h = tt
+may_answer (Rank drop_zeros) answer t a rest text h = subst (λ (x : Answer). MayAnswer (Rank drop_zeros) x) (sym h.0) tt
+may_answer (Analyse search report drop_zeros) answer t a rest text h = subst (λ (x : Answer). MayAnswer (Analyse search report drop_zeros) x) (sym h.0) tt
+may_answer (Diagonal drop_zeros) Positive t a rest text h = tt
+may_answer (Diagonal drop_zeros) Negative t a rest text h = tt
+may_answer (Check drop_zeros) Positive t a rest text h = tt
+may_answer (Check drop_zeros) Negative t a rest text h = tt
 may_answer (Load size seed search) answer t a rest text h = subst (λ (x : Answer). MayAnswer (Load size seed search) x) (sym h.0) tt
 
 -- the answer was written, or a write of it failed
-pub job_written : (job : Job) (answer : Answer) (input out : Device) (text : List ℕ) (t : Entries) (rest : List ℕ) (a : Matrix) → ReadsFile job → IsReadAs (end_of job) input t rest → IsMatrixOf t a
-    → IsTextOf job t a rest answer text → Took out text → JobSays job input out (Ok answer)
-job_written job answer input out text t rest a reads says matrix is_text took =
-    (may_answer job answer t a rest text is_text, says.0, took.steady, with_answer job answer input (Took out) text t rest a reads says.1 matrix is_text took)
+pub job_written : (job : Job) (answer : Answer) (input out : Device) (text : List ℕ) (t : Entries) (rest : List ℕ) (a : Matrix) → ReadsFile job → IsReadAs (end_of job) input t rest → IsFitFor job t
+    → IsMatrixOf (drops_of job) t a → IsTextOf job t a rest answer text → Took out text → JobSays job input out (Ok answer)
+job_written job answer input out text t rest a reads says fit matrix is_text took =
+    (may_answer job answer t a rest text is_text, says.0, took.steady, with_answer job answer input (Took out) text t rest a reads says.1 fit matrix is_text took)
 
 pub job_not_written : (job : Job) (answer : Answer) (input out : Device) (text : List ℕ) (t : Entries) (rest : List ℕ) (a : Matrix) → ReadsFile job → IsReadAs (end_of job) input t rest → FailsOnceAtMost input
-    → IsMatrixOf t a → IsTextOf job t a rest answer text → TookPrefix out text → JobSays job input out (Err WriteFault)
-job_not_written job answer input out text t rest a reads says counts matrix is_text prefix =
-    (counts, prefix.counts, (prefix.fault, says.0, (answer, with_answer job answer input (TookPrefix out) text t rest a reads says.1 matrix is_text prefix)))
+    → IsFitFor job t → IsMatrixOf (drops_of job) t a → IsTextOf job t a rest answer text → TookPrefix out text → JobSays job input out (Err WriteFault)
+job_not_written job answer input out text t rest a reads says counts fit matrix is_text prefix =
+    (counts, prefix.counts, (prefix.fault, says.0, (answer, with_answer job answer input (TookPrefix out) text t rest a reads says.1 fit matrix is_text prefix)))
 
 -- the text of the same lists
 pub same_text : (Q : List ℕ → Type 0) (s : Sizes) (k : ℕ) (rows others cols more : List ℕ) → rows ≡ others → cols ≡ more → Q (rank_text s k rows cols) → Q (rank_text s k others more)
@@ -91,8 +113,8 @@ same_text Q s k rows others cols more one two q =
     subst (λ (cs : List ℕ). Q (rank_text s k others cs)) two (subst (λ (rs : List ℕ). Q (rank_text s k rs cols)) one q)
 
 -- what `rank` finds is what its text says
-pub rank_answers : (t : Entries) (a : Matrix) (rank : ℕ) (rows cols : List ℕ) → IsRankOf t a rank rows cols → IsRankText a (rank_text (sizes_of a) rank rows cols)
-rank_answers t a rank rows cols h = record { rank = rank; rows = rows; cols = cols; is_rank = h.is_rank; are_rows = h.are_rows; are_cols = h.are_cols; spelled = refl }
+pub rank_answers : (a : Matrix) (rank : ℕ) (rows cols : List ℕ) → IsRankOf a rank rows cols → IsRankText a (rank_text (sizes_of a) rank rows cols)
+rank_answers a rank rows cols h = record { rank = rank; rows = rows; cols = cols; is_rank = h.is_rank; are_rows = h.are_rows; are_cols = h.are_cols; spelled = refl }
 
 -- the verdict is what its line says
 pub verdict_answers : (a : Matrix) (bytes : List ℕ) (verdict : Verdict) → IsPattern a → IsVerdict a bytes verdict → IsVerdictText a bytes (answer_of verdict) (verdict_text verdict)
@@ -101,15 +123,16 @@ verdict_answers a bytes verdict fits is = record { fits = fits; verdict = verdic
 -- ---- `diagonal`
 
 -- the file is no integer file
-pub not_integer : (input out : Device) (t : Entries) → IsReadAs File input t [] → FailsOnceAtMost input → ¬ (t.field ≡ Integer) → IsUntouched out → JobSays Diagonal input out (Err NeedsInteger)
-not_integer input out t says later not same = (later, untouched_counts out same, (tt, says.0, where_known input.before input.after says.1 (λ x y before h. (t, [], h, not)), same))
+pub not_integer : (drop_zeros : Bool) (input out : Device) (t : Entries) → IsReadAs File input t [] → FailsOnceAtMost input → ¬ (t.field ≡ Integer) → IsUntouched out
+    → JobSays (Diagonal drop_zeros) input out (Err NeedsInteger)
+not_integer drop_zeros input out t says later not same = (later, untouched_counts out same, (tt, says.0, where_known input.before input.after says.1 (λ x y before h. (t, [], h, not)), same))
 
 -- a sum passes the limit
-pub past_limit : (input out : Device) (t : Entries) (row col : ℕ) → IsReadAs File input t [] → FailsOnceAtMost input → t.field ≡ Integer → IsFirstPast t row col → IsUntouched out
-    → JobSays Diagonal input out (Err (SumLimit row col))
-past_limit input out t row col says later integer first same = (later, untouched_counts out same, (tt, says.0, where_known input.before input.after says.1 (λ x y before h. (t, [], h, (integer, first))), same))
+pub past_limit : (drop_zeros : Bool) (input out : Device) (t : Entries) (a : Matrix) (row col : ℕ) → IsReadAs File input t [] → FailsOnceAtMost input → t.field ≡ Integer → IsMatrixOf drop_zeros t a
+    → IsFirstPast t a row col → IsUntouched out → JobSays (Diagonal drop_zeros) input out (Err (SumLimit row col))
+past_limit drop_zeros input out t a row col says later integer matrix first same =
+    (later, untouched_counts out same, (tt, says.0, where_known input.before input.after says.1 (λ x y before h. (t, [], h, (integer, (a, matrix, first)))), same))
 
 -- the text is that of the answer
-pub diagonal_answers : (t : Entries) (a : Matrix) (w : Weighing) (h : Heaviest) → t.field ≡ Integer → AreWeightsOf t a w → IsHeaviest w h → IsDiagonalText t a (answer_on h) (diagonal_text w h)
-diagonal_answers t a w h integer weights heaviest =
-    record { integer = integer; weighing = w; are_weights = weights; heaviest = h; is_heaviest = heaviest; answer_is = refl; spelled = refl }
+pub diagonal_answers : (t : Entries) (a : Matrix) (w : Weighing) (h : Heaviest) → AreWeightsOf t a w → IsHeaviest w h → IsDiagonalText t a (answer_on h) (diagonal_text w h)
+diagonal_answers t a w h weights heaviest = record { weighing = w; are_weights = weights; heaviest = h; is_heaviest = heaviest; answer_is = refl; spelled = refl }

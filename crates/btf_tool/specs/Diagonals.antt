@@ -8,7 +8,6 @@ use Rattle.btf_tool.specs.declared.answers.Answer.{Answer}
 use Rattle.btf_tool.specs.declared.answers.Answer.TheVariants.{Negative, Positive}
 use Rattle.integer_diagonal.specs.Heaviest.{IsHeaviest}
 use Rattle.sp_ids.specs.Entries.{Entries}
-use Rattle.sp_ids.specs.declared.triples.Field.TheVariants.{Integer}
 use Rattle.sp_pattern.specs.Weights.{AreWeightsOf, Weighing}
 
 abbrev pub answer_on : Heaviest → Answer
@@ -16,10 +15,9 @@ answer_on Rectangular = Negative
 answer_on (Singular rank hall) = Negative
 answer_on (Diagonal pairs u v sum) = Positive
 
--- the text of a heaviest diagonal of an integer file's matrix, or of why there is none
+-- the text of a heaviest diagonal of a matrix, by the weights that its integer file gives, or of why there is none
 pub record IsDiagonalText (t : Entries) (a : Matrix) (answer : Answer)
     (text : List ℕ) : Type 0 where
-  pub integer : t.field ≡ Integer
   pub weighing : Weighing
   pub are_weights : AreWeightsOf t a weighing
   pub heaviest : Heaviest

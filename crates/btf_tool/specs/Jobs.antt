@@ -1,8 +1,9 @@
 -- What each job reads or makes, and what it answers.
-use Rattle.std.specs.Prelude.{◌≡◌, ◌≤◌, ◌+◌, ◌++◌, ℕ, Bool, true, false, List, [], length}
+use Rattle.std.specs.Prelude.{◌≡◌, ◌≤◌, ◌+◌, ◌++◌, ◌||◌, ℕ, Bool, true, false, List, [], length}
 use Rattle.sp_ids.specs.Entries.{Entries, places}
+use Rattle.sp_ids.specs.declared.triples.Field.TheVariants.{Integer}
 use Rattle.sp_ids.specs.Limits.{max_input_bytes}
-use Rattle.bip_defs.specs.Matrix.{Matrix, HasPlaces}
+use Rattle.bip_defs.specs.Matrix.{Matrix, HasPlaces, Place}
 use Rattle.bip_graph.specs.Answers.{IsAnalysis, IsRankText}
 use Rattle.btf_words.specs.declared.jobs.Job.{Job}
 use Rattle.btf_words.specs.declared.jobs.Job.TheVariants.{Rank, Analyse, Diagonal, Check, Load}
@@ -11,6 +12,7 @@ use Rattle.mm_defs.specs.Calls.{Call, call_on, offered}
 use Rattle.mm_defs.specs.declared.answers.End.{End}
 use Rattle.mm_defs.specs.declared.answers.End.TheVariants.{File, LastEntry}
 use Rattle.sp_ports.specs.Bytes.{WhereKnown}
+use Rattle.sp_pattern.specs.Weights.{nonzero_places}
 use Rattle.btf_tool.specs.declared.answers.Answer.{Answer}
 use Rattle.btf_tool.specs.declared.answers.Answer.TheVariants.{Negative, Positive}
 use Rattle.sp_ports.specs.Device.{Device}
@@ -26,23 +28,45 @@ pub record Traits : Type 0 where
   pub end : End
   -- it adds up the values of an integer file, and takes no other
   pub weighs : Bool
+  -- a place whose values add up to 0 is no entry of its matrix
+  pub drops : Bool
   -- it may answer that there is no such thing
   pub denies : Bool
 
 abbrev pub traits_of : Job → Traits
-traits_of Rank = record { reads = true; end = File; weighs = false; denies = false }
-traits_of (Analyse search order pairs) = record {
+traits_of (Rank drop_zeros) = record {
   reads = true;
   end = File;
   weighs = false;
+  drops = drop_zeros;
   denies = false;
 }
-traits_of Diagonal = record { reads = true; end = File; weighs = true; denies = true }
-traits_of Check = record { reads = true; end = LastEntry; weighs = false; denies = true }
+traits_of (Analyse search report drop_zeros) = record {
+  reads = true;
+  end = File;
+  weighs = false;
+  drops = drop_zeros;
+  denies = false;
+}
+traits_of (Diagonal drop_zeros) = record {
+  reads = true;
+  end = File;
+  weighs = true;
+  drops = drop_zeros;
+  denies = true;
+}
+traits_of (Check drop_zeros) = record {
+  reads = true;
+  end = LastEntry;
+  weighs = false;
+  drops = drop_zeros;
+  denies = true;
+}
 traits_of (Load size seed search) = record {
   reads = false;
   end = File;
   weighs = false;
+  drops = false;
   denies = false;
 }
 
@@ -58,6 +82,17 @@ end_of job = (traits_of job).end
 
 abbrev pub Weighs : Job → Type 0
 Weighs job = Holds (traits_of job).weighs
+
+abbrev pub drops_of : Job → Bool
+drops_of job = (traits_of job).drops
+
+-- it asks what values add up to, for weights or for zeros
+abbrev pub NeedsIntegers : Job → Type 0
+NeedsIntegers job = Holds ((traits_of job).weighs || (traits_of job).drops)
+
+-- the file is an integer file where the job needs one
+abbrev pub IsFitFor : Job → Entries → Type 0
+IsFitFor job t = NeedsIntegers job → t.field ≡ Integer
 
 abbrev pub MayAnswer : Job → Answer → Type 0
 MayAnswer job Positive = Unit {0}
@@ -85,26 +120,32 @@ pub record WasRead (end : End) (call : Call) (t : Entries) (rest : List ℕ) : T
   pub within : length (offered call) ≤ call.room
   pub to_the_end : call.after ≡ []
 
--- the matrix of the places that the entries give, each of them once
-abbrev pub IsMatrixOf : Entries → Matrix → Type 0
-IsMatrixOf t a = HasPlaces t.rows t.cols (places t) a
+-- where the file's matrix has entries: at all places that the file gives, or, where zeros are dropped, at those whose values do not add up to 0
+abbrev pub entry_places : Bool → Entries → List Place
+entry_places false t = places t
+entry_places true t = nonzero_places t
+
+-- the matrix with an entry at each of these places, and at no other
+abbrev pub IsMatrixOf : Bool → Entries → Matrix → Type 0
+IsMatrixOf drop_zeros t a = HasPlaces t.rows t.cols (entry_places drop_zeros t) a
 
 -- the text that a job answers over its file, the file's matrix and what followed the file, and whether it is what was asked for
 abbrev pub IsTextOf : Job → Entries → Matrix → List ℕ → Answer → List ℕ → Type 0
-IsTextOf Rank t a rest answer text = (answer ≡ Positive) × IsRankText a text
-IsTextOf (Analyse search order pairs) t a rest answer text = (answer ≡ Positive)
-    × IsAnalysis a order pairs text
-IsTextOf Diagonal t a rest answer text = IsDiagonalText t a answer text
-IsTextOf Check t a rest answer text = IsVerdictText a rest answer text
+IsTextOf (Rank drop_zeros) t a rest answer text = (answer ≡ Positive) × IsRankText a text
+IsTextOf (Analyse search report drop_zeros) t a rest answer text = (answer ≡ Positive)
+    × IsAnalysis a report.version report.order report.pairs text
+IsTextOf (Diagonal drop_zeros) t a rest answer text = IsDiagonalText t a answer text
+IsTextOf (Check drop_zeros) t a rest answer text = IsVerdictText a rest answer text
 IsTextOf (Load size seed search) t a rest answer text = (answer ≡ Positive) × IsSummary a text
 
--- a good file was read, with what follows it, and this is what the job answers
+-- a good file was read, of the field that the job needs, with what follows it, and this is what the job answers
 pub record IsAnswer (job : Job) (call : Call) (answer : Answer) (text : List ℕ) : Type 0 where
   pub entries : Entries
   pub rest : List ℕ
   pub matrix : Matrix
   pub was_read : WasRead (end_of job) call entries rest
-  pub is_matrix : IsMatrixOf entries matrix
+  pub is_fit : IsFitFor job entries
+  pub is_matrix : IsMatrixOf (drops_of job) entries matrix
   pub is_text : IsTextOf job entries matrix rest answer text
 
 -- a matrix was made, and this is its summary

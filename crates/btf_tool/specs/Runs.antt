@@ -1,5 +1,5 @@
 -- What a run was given, what came of it, and what each status says.
-use Rattle.std.specs.Prelude.{◌≡◌, ◌≤◌, ◌<◌, ◌⊎◌, ℕ, true, false, List, length, take, if◌then◌else◌, Some, None, Result, Ok, Err}
+use Rattle.std.specs.Prelude.{◌≡◌, ◌≤◌, ◌<◌, ◌⊎◌, ℕ, Bool, true, false, List, length, take, if◌then◌else◌, Some, None, Result, Ok, Err}
 use Rattle.sp_ids.specs.Entries.{Entries}
 use Rattle.sp_ids.specs.Limits.{max_input_bytes}
 use Rattle.sp_ids.specs.declared.outcomes.Status.{Status}
@@ -23,7 +23,7 @@ use Rattle.btf_tool.specs.declared.answers.Answer.TheVariants.{Negative, Positiv
 use Rattle.btf_tool.specs.declared.refusals.Refusal.{Refusal}
 use Rattle.btf_tool.specs.declared.refusals.Refusal.TheVariants.{Usage, Malformed, Limit, TooLong, SumLimit, NeedsInteger, ReadFault, WriteFault, OutOfMemory}
 use Rattle.sp_ports.specs.Device.{Device, FailsOnceAtMost, IsSteady, IsUntouched, HasReadFault, HasWriteFault, Took, TookPrefix, WroteAsFar}
-use Rattle.btf_tool.specs.Jobs.{IsMatrixOf, MayAnswer, OfReading, ReadsFile, WasRead, Weighs, WithAnswer, end_of}
+use Rattle.btf_tool.specs.Jobs.{Holds, IsFitFor, IsMatrixOf, MayAnswer, NeedsIntegers, OfReading, ReadsFile, WasRead, Weighs, WithAnswer, drops_of, end_of}
 use Rattle.btf_tool.specs.VerdictText.{answer_of}
 use Rattle.btf_tool.specs.Refusals.{line_of, status_of, status_of_answer}
 
@@ -84,6 +84,10 @@ abbrev pub WithFile : Job → Device → (Entries → Type 0) → Type 0
 WithFile job input P = OfReading input
     (λ call. (t : Entries) × (rest : List ℕ) × WasRead (end_of job) call t rest × P t)
 
+-- of the entries of the file's matrix whose sums pass the limit this is the first
+abbrev pub IsPast : Bool → Entries → ℕ → ℕ → Type 0
+IsPast drop_zeros t row col = (a : Matrix) × IsMatrixOf drop_zeros t a × IsFirstPast t a row col
+
 -- What a refusal of a job says of the input and of the output. Only a job that reads a file is refused for what it read.
 abbrev pub IsCause : Job → Device → Device → Refusal → Type 0
 -- the first bad line is not of the file's form
@@ -94,11 +98,12 @@ IsCause job input out (Limit line kind) = ReadsFile job × (is_limit kind ≡ tr
     × IsBadLine (end_of job) input (record { line = line; kind = kind }) × IsUntouched out
 -- no line is bad, and the input gave more bytes than it may have
 IsCause job input out TooLong = ReadsFile job × IsTooLong (end_of job) input × IsUntouched out
--- the sum of a place's values passes the limit, in the integer file of a job that adds them up
+-- the sum of an entry's values passes the limit, in the integer file of a job that adds them up
 IsCause job input out (SumLimit row col) = Weighs job × IsSteady input
-    × WithFile job input (λ t. (t.field ≡ Integer) × IsFirstPast t row col) × IsUntouched out
--- the file of such a job is no integer file
-IsCause job input out NeedsInteger = Weighs job × IsSteady input
+    × WithFile job input (λ t. (t.field ≡ Integer) × IsPast (drops_of job) t row col)
+    × IsUntouched out
+-- the file is no integer file, and the job needs one
+IsCause job input out NeedsInteger = NeedsIntegers job × IsSteady input
     × WithFile job input (λ t. ¬ (t.field ≡ Integer)) × IsUntouched out
 -- a read failed, no line that had ended is bad, and no more bytes came than the input may have
 IsCause job input out ReadFault = ReadsFile job × HasReadFault input
@@ -128,6 +133,13 @@ IsUnread end input (SumLimit row col) = ⊥
 IsUnread end input NeedsInteger = ⊥
 IsUnread end input WriteFault = ⊥
 IsUnread end input Usage = ⊥
+
+-- Why a good file gives no matrix.
+abbrev pub IsNoMatrix : Bool → Entries → Refusal → Type 0
+-- zeros are to be dropped, and it is no integer file
+IsNoMatrix drop_zeros t NeedsInteger = Holds drop_zeros × ¬ (t.field ≡ Integer)
+IsNoMatrix drop_zeros t OutOfMemory = Unit {0}
+IsNoMatrix drop_zeros t refusal = ⊥
 
 -- What the outcome of a job says of the input and of the output.
 abbrev pub JobSays : Job → Device → Device → Result Answer Refusal → Type 0
@@ -168,36 +180,30 @@ abbrev pub status_of_fault : Fault → Status
 status_of_fault fault = if is_limit fault.kind then statuses.Limit else statuses.Malformed
 
 -- the verdict on the bytes behind a good file comes, unless memory ran out
-pub record ComesToVerdict (t : Entries) (bytes : List ℕ) (status : Status) : Type 0 where
+pub record ComesToVerdict (drop_zeros : Bool) (t : Entries) (bytes : List ℕ)
+    (status : Status) : Type 0 where
   pub comes : (status ≡ statuses.Negative) ⊎ IsOrNoMemory status statuses.Ok
-  pub right : (a : Matrix) (verdict : Verdict) → IsMatrixOf t a → IsVerdict a bytes verdict
-      → IsOrNoMemory status (status_of_answer (answer_of verdict))
+  pub right : (a : Matrix) (verdict : Verdict) → IsMatrixOf drop_zeros t a
+      → IsVerdict a bytes verdict → IsOrNoMemory status (status_of_answer (answer_of verdict))
 
 -- no place's sum passes the limit
 abbrev pub IsWithin : Entries → Type 0
 IsWithin t = (r c : ℕ) → weight_of t r c ≤ weight_limit
 
--- a file that has no weights is refused for that, unless memory ran out
-pub record ComesToNoWeights (t : Entries) (status : Status) : Type 0 where
-  pub needs_integer : ¬ (t.field ≡ Integer) → IsOrNoMemory status statuses.NeedsInteger
-  pub past : t.field ≡ Integer → (r c : ℕ) → weight_limit < weight_of t r c
-      → IsOrNoMemory status statuses.Limit
-
--- the diagonal of a good file comes, or why there is none, unless memory ran out
-pub record ComesToDiagonal (t : Entries) (status : Status) : Type 0 where
-  pub comes : t.field ≡ Integer → IsWithin t → (status ≡ statuses.Negative)
-      ⊎ IsOrNoMemory status statuses.Ok
-  pub rectangular : t.field ≡ Integer → IsWithin t → (a : Matrix) → IsMatrixOf t a
-      → ¬ (a.rows ≡ cols a) → IsOrNoMemory status statuses.Negative
-  pub singular : t.field ≡ Integer → IsWithin t → (a : Matrix) (k : ℕ) → IsMatrixOf t a → IsRank a k
+-- the diagonal of a good integer file comes, or why there is none, unless memory ran out
+pub record ComesToDiagonal (drop_zeros : Bool) (t : Entries) (status : Status) : Type 0 where
+  pub comes : IsWithin t → (status ≡ statuses.Negative) ⊎ IsOrNoMemory status statuses.Ok
+  pub rectangular : IsWithin t → (a : Matrix) → IsMatrixOf drop_zeros t a → ¬ (a.rows ≡ cols a)
+      → IsOrNoMemory status statuses.Negative
+  pub singular : IsWithin t → (a : Matrix) (k : ℕ) → IsMatrixOf drop_zeros t a → IsRank a k
       → k < cols a → IsOrNoMemory status statuses.Negative
-  pub full : t.field ≡ Integer → IsWithin t → (a : Matrix) → IsMatrixOf t a → a.rows ≡ cols a
+  pub full : IsWithin t → (a : Matrix) → IsMatrixOf drop_zeros t a → a.rows ≡ cols a
       → IsRank a (cols a) → IsOrNoMemory status statuses.Ok
 
--- how a job ends over a good file, where no device failed
+-- how a job ends over a good file of the field that it needs, where no device failed
 abbrev pub EndsWell : Job → Entries → List ℕ → Status → Type 0
-EndsWell Diagonal t rest status = ComesToDiagonal t status
-EndsWell Check t rest status = ComesToVerdict t rest status
+EndsWell (Diagonal drop_zeros) t rest status = ComesToDiagonal drop_zeros t status
+EndsWell (Check drop_zeros) t rest status = ComesToVerdict drop_zeros t rest status
 EndsWell job t rest status = IsOrNoMemory status statuses.Ok
 
 pub record Completes (r : Run) (status : Status) : Type 0 where
@@ -207,16 +213,22 @@ pub record Completes (r : Run) (status : Status) : Type 0 where
   pub bad_line : (job : Job) → NamesReader r.words job
       → OfReading r.input (λ call. (fault : Fault) → first_bad (end_of job) call ≡ Some fault
       → IsOrNoMemory status (status_of_fault fault))
-  -- a good file within the limits is answered, where no device failed
+  -- a good file within the limits, of the field that the job needs, is answered, where no device failed
   pub good : (job : Job) → NamesReader r.words job → ¬ HasReadFault r.input → ¬ HasWriteFault r.out
       → OfReading r.input (λ call. (t : Entries) (rest : List ℕ)
       → Reads call.before (end_of job) t rest → length call.before ≤ max_input_bytes
-      → EndsWell job t rest status)
-  -- a good file without weights is refused for that by a job that needs them, whatever comes of writes
-  pub unweighed : (job : Job) → NamesReader r.words job → Weighs job → ¬ HasReadFault r.input
+      → IsFitFor job t → EndsWell job t rest status)
+  -- a good file of another field is refused for that by a job that needs integers, whatever comes of writes
+  pub other_field : (job : Job) → NamesReader r.words job → NeedsIntegers job
+      → ¬ HasReadFault r.input → OfReading r.input (λ call. (t : Entries) (rest : List ℕ)
+      → Reads call.before (end_of job) t rest → length call.before ≤ max_input_bytes
+      → ¬ (t.field ≡ Integer) → IsOrNoMemory status statuses.NeedsInteger)
+  -- so is a sum past the limit, by a job that adds up values
+  pub past : (job : Job) → NamesReader r.words job → Weighs job → ¬ HasReadFault r.input
       → OfReading r.input (λ call. (t : Entries) (rest : List ℕ)
       → Reads call.before (end_of job) t rest → length call.before ≤ max_input_bytes
-      → ComesToNoWeights t status)
+      → t.field ≡ Integer → (r c : ℕ) → weight_limit < weight_of t r c
+      → IsOrNoMemory status statuses.Limit)
   -- what is no good file within the limits is refused by its kind, where no read failed
   pub not_good : (job : Job) → NamesReader r.words job → ¬ HasReadFault r.input
       → OfReading r.input (λ call.

@@ -1,32 +1,37 @@
 //! The job `analyse`.
 
 ghost use Rattle.std.specs.Prelude.{IfOk};
-ghost use Rattle.bip_defs.specs.Matrix.{Matrix};
-ghost use Rattle.btf_words.specs.Words.{HasWorkers};
+ghost use Rattle.bip_defs.specs.Parts.{ArePartsOf};
+ghost use Rattle.bip_graph.specs.Answers.{AreOfVersion};
+ghost use Rattle.bip_graph.specs.Decompositions.{parts_of};
+ghost use Rattle.btf_text.specs.Reports.{components_in};
+ghost use Rattle.btf_words.specs.Words.{HasWorkers, IsVersion};
 ghost use Rattle.btf_words.specs.declared.jobs.Job.TheVariants.{Analyse};
-ghost use Rattle.btf_tool.specs.Analyses.{IsFoundIn};
 ghost use Rattle.sp_ports.specs.Device.{seen};
-ghost use Rattle.btf_tool.specs.Jobs.{GavePrefix, IsMatrixOf, OfReading};
+ghost use Rattle.btf_tool.specs.Jobs.{GavePrefix, OfReading};
 ghost use Rattle.btf_tool.specs.Runs.{JobSays};
 
 use crate::decompose::{Analysis, decompose};
+use crate::matrix::matrix_of;
 use crate::reading::read_file;
 use crate::writing::hand_on;
 use crate::{Answer, Refusal};
+use bip_graph::{Components, Parts};
 use btf_text::{TextBuf, write_report};
-use btf_words::Search;
-use sp_ids::{OutOfMemory, Triples};
+use btf_words::{ReportOptions, Search};
+use dm_coarse::components;
+use sp_ids::OutOfMemory;
 use sp_pattern::Pattern;
 use sp_ports::{Gate, Sink, Source};
 use std::alloc::Global;
 use std::thread::Threads;
 
-/// What an analysis is asked for: who searches, and whether the orders and the pairs are written.
+/// What an analysis is asked for: who searches, what its report has, and whether zeros are dropped.
 #[derive(Clone, Copy)]
 pub(crate) struct Options {
     pub(crate) search: Search,
-    pub(crate) order: bool,
-    pub(crate) pairs: bool,
+    pub(crate) report: ReportOptions,
+    pub(crate) drop_zeros: bool,
 }
 
 /// Reads a matrix and writes the report of its decomposition.
@@ -39,36 +44,52 @@ pub(crate) fn analyse<R: Threads + Sync, S: Source, O: Sink, G: Gate>(
     gate: &G,
 ) -> Result<Answer, Refusal>
     requires workers { HasWorkers options.search }
-    ensures says { JobSays (Analyse options.search options.order options.pairs)
+    requires version { IsVersion options.report.version }
+    ensures says { JobSays (Analyse options.search options.report options.drop_zeros)
         (seen S.left S.faults input.old input.new) (seen O.taken O.faults out.old out.new) result }
     ensures gave { OfReading (seen S.left S.faults input.old input.new) GavePrefix }
 {
     let triples = read_file(alloc, input)?;
-    let analysis = analysis_of(rt, alloc, triples, options.search, gate)?;
-    let mut buf = TextBuf::new(alloc)?;
-    let Options { order, pairs, .. } = options;
+    let pattern = matrix_of(rt, alloc, &triples, options.drop_zeros)?;
+    drop(triples);
+    let ReportOptions {
+        version,
+        order,
+        pairs,
+    } = options.report;
+    let analysis = decompose(rt, alloc, &pattern, options.search, gate)?;
     let Analysis {
         decomposition,
         matching,
     } = &analysis;
-    let written = write_report(out, &mut buf, decomposition, matching, order, pairs);
+    let components = components_for(alloc, version, &pattern, &decomposition.parts)?;
+    let mut buf = TextBuf::new(alloc)?;
+    let written = write_report(
+        out,
+        &mut buf,
+        decomposition,
+        components.as_ref(),
+        matching,
+        order,
+        pairs,
+    );
     hand_on(out, written)?;
     Ok(Answer::Positive)
 }
 
-/// The decomposition of the matrix of these entries, which are let go once the matrix stands.
-fn analysis_of<R: Threads + Sync, G: Gate>(
-    rt: &R,
+/// The connected components of the outer parts, where this version of the report has them.
+fn components_for(
     alloc: Global,
-    triples: Triples,
-    search: Search,
-    gate: &G,
-) -> Result<Analysis, OutOfMemory>
-    requires workers { HasWorkers search }
-    ensures { IfOk result
-        (λ s. (a : Matrix) × IsMatrixOf triples a × IsFoundIn a s.decomposition s.matching.pairs) }
+    version: u32,
+    pattern: &Pattern,
+    parts: &Parts,
+) -> Result<Option<Components>, OutOfMemory>
+    requires version { IsVersion version }
+    requires parts { ArePartsOf pattern.now (parts_of parts.now) }
+    ensures { IfOk result (λ c. AreOfVersion pattern.now version (components_in c)) }
 {
-    let pattern = Pattern::build(rt, alloc, &triples)?;
-    drop(triples);
-    decompose(rt, alloc, &pattern, search, gate)
+    if version == 1 {
+        return Ok(None);
+    }
+    Ok(Some(components(alloc, pattern, parts)?))
 }

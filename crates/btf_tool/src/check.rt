@@ -1,22 +1,18 @@
 //! The job `check`.
 
-ghost use Rattle.std.specs.Prelude.{◌≡◌, IfOk};
-ghost use Rattle.bip_defs.specs.Matrix.{Matrix};
-ghost use Rattle.btf_check.specs.Verdicts.{IsVerdict};
+ghost use Rattle.std.specs.Prelude.{◌≡◌};
 ghost use Rattle.btf_words.specs.declared.jobs.Job.TheVariants.{Check};
-ghost use Rattle.sp_pattern.specs.Stored.{IsPattern};
 ghost use Rattle.sp_ports.specs.Device.{Writes, seen};
-ghost use Rattle.btf_tool.specs.Jobs.{GavePrefix, IsMatrixOf, OfReading};
+ghost use Rattle.btf_tool.specs.Jobs.{GavePrefix, OfReading};
 ghost use Rattle.btf_tool.specs.VerdictText.{answer_of as answer_on, verdict_text};
 ghost use Rattle.btf_tool.specs.Runs.{JobSays};
 
+use crate::matrix::matrix_of;
 use crate::reading::{Followed, read_followed};
 use crate::writing::hand_on;
 use crate::{Answer, Refusal};
 use btf_check::{Verdict, judge};
 use btf_lines::invalid_line;
-use sp_ids::OutOfMemory;
-use sp_pattern::Pattern;
 use sp_ports::{Failed, Sink, Source, write_all};
 use std::alloc::Global;
 use std::thread::Threads;
@@ -25,35 +21,23 @@ use std::thread::Threads;
 pub(crate) fn check<R: Threads + Sync, S: Source, O: Sink>(
     rt: &R,
     alloc: Global,
+    drop_zeros: bool,
     input: &mut S,
     out: &mut O,
 ) -> Result<Answer, Refusal>
-    ensures says { JobSays Check (seen S.left S.faults input.old input.new)
+    ensures says { JobSays (Check drop_zeros) (seen S.left S.faults input.old input.new)
         (seen O.taken O.faults out.old out.new) result }
     ensures gave { OfReading (seen S.left S.faults input.old input.new) GavePrefix }
 {
     let file = read_followed(alloc, input)?;
-    let verdict = verdict_on(rt, alloc, file)?;
+    let Followed { triples, rest } = file;
+    let pattern = matrix_of(rt, alloc, &triples, drop_zeros)?;
+    drop(triples);
+    pattern.is_pattern();
+    let verdict = judge(rt, alloc, &pattern, rest.as_slice())?;
     let written = write_verdict(out, verdict);
     hand_on(out, written)?;
     Ok(answer_of(verdict))
-}
-
-/// The verdict on what follows a matrix. The entries are let go once the matrix stands.
-fn verdict_on<R: Threads + Sync>(
-    rt: &R,
-    alloc: Global,
-    file: Followed,
-) -> Result<Verdict, OutOfMemory>
-    ensures { IfOk result
-        (λ v. (a : Matrix) × IsMatrixOf file.triples a × IsPattern a
-        × IsVerdict a file.rest.items v) }
-{
-    let Followed { triples, rest } = file;
-    let pattern = Pattern::build(rt, alloc, &triples)?;
-    drop(triples);
-    pattern.is_pattern();
-    judge(rt, alloc, &pattern, rest.as_slice())
 }
 
 /// Whether the report is the one that was asked for.

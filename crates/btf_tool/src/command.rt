@@ -93,21 +93,21 @@ fn perform<R: Threads + Sync, S: Source, O: Sink, G: Gate>(
     ensures unread { ¬ ReadsFile job → IsUntouched (seen S.left S.faults input.old input.new) }
 {
     match job {
-        Job::Rank => rank(rt, alloc, input, out, gate),
+        Job::Rank { drop_zeros } => rank(rt, alloc, drop_zeros, input, out, gate),
         Job::Analyse {
             search,
-            order,
-            pairs,
+            report,
+            drop_zeros,
         } => {
             let options = Options {
                 search,
-                order,
-                pairs,
+                report,
+                drop_zeros,
             };
             analyse(rt, alloc, options, input, out, gate)
         }
-        Job::Diagonal => diagonal(rt, alloc, input, out),
-        Job::Check => check(rt, alloc, input, out),
+        Job::Diagonal { drop_zeros } => diagonal(rt, alloc, drop_zeros, input, out),
+        Job::Check { drop_zeros } => check(rt, alloc, drop_zeros, input, out),
         Job::Load { size, seed, search } => load(rt, alloc, size, seed, search, out, gate),
     }
 }

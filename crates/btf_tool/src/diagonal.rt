@@ -8,6 +8,7 @@ ghost use Rattle.btf_tool.specs.Jobs.{GavePrefix, OfReading};
 ghost use Rattle.btf_tool.specs.Refusals.{refusal_without_weights};
 ghost use Rattle.btf_tool.specs.Runs.{JobSays};
 
+use crate::matrix::matrix_of;
 use crate::reading::read_file;
 use crate::writing::hand_on;
 use crate::{Answer, Refusal};
@@ -15,7 +16,7 @@ use bip_graph::Heaviest;
 use btf_text::{TextBuf, write_diagonal};
 use integer_diagonal::heaviest;
 use sp_ids::Field;
-use sp_pattern::{Pattern, WeightError, Weights};
+use sp_pattern::{WeightError, Weights};
 use sp_ports::{Sink, Source};
 use std::alloc::Global;
 use std::thread::Threads;
@@ -24,10 +25,11 @@ use std::thread::Threads;
 pub(crate) fn diagonal<R: Threads + Sync, S: Source, O: Sink>(
     rt: &R,
     alloc: Global,
+    drop_zeros: bool,
     input: &mut S,
     out: &mut O,
 ) -> Result<Answer, Refusal>
-    ensures says { JobSays Diagonal (seen S.left S.faults input.old input.new)
+    ensures says { JobSays (Diagonal drop_zeros) (seen S.left S.faults input.old input.new)
         (seen O.taken O.faults out.old out.new) result }
     ensures gave { OfReading (seen S.left S.faults input.old input.new) GavePrefix }
 {
@@ -35,7 +37,7 @@ pub(crate) fn diagonal<R: Threads + Sync, S: Source, O: Sink>(
     let Field::Integer = triples.field() else {
         return Err(Refusal::NeedsInteger);
     };
-    let pattern = Pattern::build(rt, alloc, &triples)?;
+    let pattern = matrix_of(rt, alloc, &triples, drop_zeros)?;
     let weights = Weights::build(alloc, &pattern, &triples)?;
     drop(triples);
     let answer = heaviest(alloc, &pattern, &weights)?;

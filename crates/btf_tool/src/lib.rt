@@ -10,6 +10,7 @@ mod diagonal;
 mod engines;
 mod laws;
 mod load;
+mod matrix;
 mod neighbours;
 mod rank;
 mod reading;

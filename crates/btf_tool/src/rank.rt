@@ -11,6 +11,7 @@ ghost use Rattle.btf_tool.specs.Ranks.{IsRankOf};
 ghost use Rattle.btf_tool.specs.Runs.{JobSays};
 
 use crate::engines::solve;
+use crate::matrix::matrix_of;
 use crate::neighbours::neighbours;
 use crate::reading::read_file;
 use crate::writing::hand_on;
@@ -19,16 +20,15 @@ use bip_graph::Matching;
 use btf_text::{TextBuf, write_rank};
 use btf_words::Engine;
 use hall_witness::{Reach, reach};
-use sp_ids::{Col, OutOfMemory, Row, Triples};
+use sp_ids::{Col, OutOfMemory, Row};
 use sp_pattern::Pattern;
 use sp_ports::{Gate, Sink, Source};
 use std::alloc::Global;
 use std::thread::Threads;
 
-/// A matrix with its rank, and the rows and columns of its horizontal part.
+/// The rank of a matrix, and the rows and columns of its horizontal part.
 #[derive(Drop)]
 struct RankAnswer {
-    pattern: Pattern,
     rank: u32,
     rows: Vec<Row>,
     cols: Vec<Col>,
@@ -38,45 +38,41 @@ struct RankAnswer {
 pub(crate) fn rank<R: Threads + Sync, S: Source, O: Sink, G: Gate>(
     rt: &R,
     alloc: Global,
+    drop_zeros: bool,
     input: &mut S,
     out: &mut O,
     gate: &G,
 ) -> Result<Answer, Refusal>
-    ensures says { JobSays Rank (seen S.left S.faults input.old input.new)
+    ensures says { JobSays (Rank drop_zeros) (seen S.left S.faults input.old input.new)
         (seen O.taken O.faults out.old out.new) result }
     ensures gave { OfReading (seen S.left S.faults input.old input.new) GavePrefix }
 {
     let triples = read_file(alloc, input)?;
-    let answer = rank_of(rt, alloc, triples, gate)?;
+    let pattern = matrix_of(rt, alloc, &triples, drop_zeros)?;
+    drop(triples);
+    let answer = rank_of(rt, alloc, &pattern, gate)?;
     let mut buf = TextBuf::new(alloc)?;
     let (rows, cols) = (answer.rows.as_slice(), answer.cols.as_slice());
-    let written = write_rank(out, &mut buf, &answer.pattern, answer.rank, rows, cols);
+    let written = write_rank(out, &mut buf, &pattern, answer.rank, rows, cols);
     hand_on(out, written)?;
     Ok(Answer::Positive)
 }
 
-/// The rank and the horizontal part of the matrix of these entries, which are let go once the matrix stands.
+/// The rank and the horizontal part of a matrix.
 fn rank_of<R: Threads + Sync, G: Gate>(
     rt: &R,
     alloc: Global,
-    triples: Triples,
+    pattern: &Pattern,
     gate: &G,
 ) -> Result<RankAnswer, OutOfMemory>
-    ensures { IfOk result (λ s. IsRankOf triples s.pattern s.rank s.rows.items s.cols.items) }
+    ensures { IfOk result (λ s. IsRankOf pattern.now s.rank s.rows.items s.cols.items) }
 {
-    let pattern = Pattern::build(rt, alloc, &triples)?;
-    drop(triples);
-    let matching = solve(rt, alloc, &pattern, Engine::Pf, 1, gate)?;
+    let matching = solve(rt, alloc, pattern, Engine::Pf, 1, gate)?;
     let rank = matching.size();
-    let cols = horizontal_cols(alloc, &pattern, &matching)?;
+    let cols = horizontal_cols(alloc, pattern, &matching)?;
     drop(matching);
-    let rows = neighbours(alloc, &pattern, cols.as_slice())?;
-    Ok(RankAnswer {
-        pattern,
-        rank,
-        rows,
-        cols,
-    })
+    let rows = neighbours(alloc, pattern, cols.as_slice())?;
+    Ok(RankAnswer { rank, rows, cols })
 }
 
 /// The columns that some maximum matching misses.

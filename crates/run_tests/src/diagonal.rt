@@ -56,6 +56,15 @@ const FIVE_LESS_FIVE: Example<'static> = Example {
     front: "diagonal 1 0\n1 1 0\n",
 };
 
+/// The values of an array file: column 1 has 0 and 4, column 2 has 5 and 0.
+const FIVE_AND_FOUR_IN_COLUMNS: Example<'static> = Example {
+    file: "%%MatrixMarket matrix array integer general\n2 2\n0\n4\n5\n0\n",
+    size: 2,
+    entries: &[(1, 0, 4), (0, 1, 5)],
+    pairs: &[(1, 0, 4), (0, 1, 5)],
+    front: "diagonal 2 9\n2 1 4\n1 2 5\n",
+};
+
 /// The example file of weights. Its three diagonals weigh 3 + 1 + 7, 3 + 2 + 6 and 5 + 4 + 7.
 const WEIGHTS: Example<'static> = Example {
     file: "%%MatrixMarket matrix coordinate integer general\n% three rows and columns, with six diagonals of which three are there\n3 3 7\n1 1 3\n1 2 5\n2 1 -4\n2 2 1\n2 3 2\n3 2 6\n3 3 7\n",
@@ -118,6 +127,7 @@ fn heaviest_diagonals(rt: HostRuntime) -> Result<(), Fail> {
         SEVEN_BELOW_ZERO,
         ZERO_AND_THREE,
         FIVE_LESS_FIVE,
+        FIVE_AND_FOUR_IN_COLUMNS,
         WEIGHTS,
     ] {
         let (status, bytes) = answer(&rt, &["diagonal"], example.file.as_bytes())?;

@@ -5,11 +5,15 @@
 #[cfg(test)]
 mod analyse;
 #[cfg(test)]
+mod array_files;
+#[cfg(test)]
 mod check;
 #[cfg(test)]
 mod devices;
 #[cfg(test)]
 mod diagonal;
+#[cfg(test)]
+mod dropped_zeros;
 #[cfg(test)]
 mod engine;
 #[cfg(test)]

@@ -1,4 +1,6 @@
+use Rattle.std.proofs.Common.{List, ℕ, subst}
 use Rattle.sp_ports.specs.Device.{seen}
+use Rattle.btf_check.specs.Verdicts.{IsVerdict}
 use Rattle.btf_words.specs.declared.jobs.Job.TheVariants.{Check}
 use Rattle.btf_tool.specs.VerdictText.{answer_of}
 use Rattle.btf_tool.specs.Runs.{JobSays}
@@ -8,20 +10,25 @@ use Rattle.btf_tool.proofs.check.check.Goals as goal
 
 pub returns-in_err-hand_on-clause-says : goal.returns-in_err-hand_on-clause-says
 returns-in_err-hand_on-clause-says g c =
+    let job = Check c.args.drop_zeros in
     let input = seen g.S.Source.left g.S.Source.faults c.args.input.now c.read_followed.new.input in
     let out = seen g.O.Sink.taken g.O.Sink.faults c.args.out.now c.hand_on.new.out in
-    let (a, matrix, fits, is) = c.in_ok-verdict.ensures in
-    as_refusal _ WriteFault (JobSays Check input out) c.from_residual-in_err-hand_on.ensures.1
-    (job_not_written Check (answer_of c.in_ok-verdict.verdict) input out _ c.in_ok-file.file.triples c.in_ok-file.file.rest.items a tt
-    c.in_ok-file.ensures.read c.in_ok-file.ensures.counts matrix (verdict_answers a c.in_ok-file.file.rest.items c.in_ok-verdict.verdict fits is)
+    let verdict : IsVerdict c.in_ok-pattern.pattern c.in_ok-file.file.rest.items c.in_ok-verdict.verdict =
+    subst (λ (bytes : List ℕ). IsVerdict c.in_ok-pattern.pattern bytes c.in_ok-verdict.verdict) c.as_slice.ensures.value c.in_ok-verdict.ensures in
+    as_refusal _ WriteFault (JobSays job input out) c.from_residual-in_err-hand_on.ensures.1
+    (job_not_written job (answer_of c.in_ok-verdict.verdict) input out _ c.in_ok-file.file.triples c.in_ok-file.file.rest.items c.in_ok-pattern.pattern tt
+    c.in_ok-file.ensures.read c.in_ok-file.ensures.counts c.in_ok-pattern.ensures.fit c.in_ok-pattern.ensures.matrix
+    (verdict_answers c.in_ok-pattern.pattern c.in_ok-file.file.rest.items c.in_ok-verdict.verdict c.is_pattern.ensures verdict)
     (c.in_err-hand_on.ensures _ _ _ c.write_verdict-written.ensures))
 
 pub returns-clause-says : goal.returns-clause-says
 returns-clause-says g c =
     let input = seen g.S.Source.left g.S.Source.faults c.args.input.now c.read_followed.new.input in
     let out = seen g.O.Sink.taken g.O.Sink.faults c.args.out.now c.hand_on.new.out in
-    let (a, matrix, fits, is) = c.in_ok-verdict.ensures in
+    let verdict : IsVerdict c.in_ok-pattern.pattern c.in_ok-file.file.rest.items c.in_ok-verdict.verdict =
+    subst (λ (bytes : List ℕ). IsVerdict c.in_ok-pattern.pattern bytes c.in_ok-verdict.verdict) c.as_slice.ensures.value c.in_ok-verdict.ensures in
     rw c.answer_of.ensures
-    (job_written Check (answer_of c.in_ok-verdict.verdict) input out _ c.in_ok-file.file.triples c.in_ok-file.file.rest.items a tt
-    c.in_ok-file.ensures.read matrix (verdict_answers a c.in_ok-file.file.rest.items c.in_ok-verdict.verdict fits is)
+    (job_written (Check c.args.drop_zeros) (answer_of c.in_ok-verdict.verdict) input out _ c.in_ok-file.file.triples c.in_ok-file.file.rest.items c.in_ok-pattern.pattern tt
+    c.in_ok-file.ensures.read c.in_ok-pattern.ensures.fit c.in_ok-pattern.ensures.matrix
+    (verdict_answers c.in_ok-pattern.pattern c.in_ok-file.file.rest.items c.in_ok-verdict.verdict c.is_pattern.ensures verdict)
     (c.in_ok-hand_on.ensures _ _ _ c.write_verdict-written.ensures))

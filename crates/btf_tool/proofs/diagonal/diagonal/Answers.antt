@@ -15,13 +15,14 @@ write_diagonal-written-requires-clause-entries g c =
 
 pub returns-in_err-hand_on-clause-says : goal.returns-in_err-hand_on-clause-says
 returns-in_err-hand_on-clause-says g c =
+    let job = Diagonal c.args.drop_zeros in
     let input = seen g.S.Source.left g.S.Source.faults c.args.input.now c.read_file.new.input in
     let out = seen g.O.Sink.taken g.O.Sink.faults c.args.out.now c.hand_on.new.out in
     let integer : c.in_ok-triples.triples.field ≡ Integer = sym c.field.ensures ∙ c.in-Integer.is in
-    as_refusal _ WriteFault (JobSays Diagonal input out) c.from_residual-in_err-hand_on.ensures.1
-    (job_not_written Diagonal (answer_on c.in_ok-answer.answer) input out _ c.in_ok-triples.triples [] c.in_ok-pattern.pattern tt
-    c.in_ok-triples.ensures.read c.in_ok-triples.ensures.counts c.in_ok-pattern.ensures
-    (diagonal_answers _ _ c.in_ok-weights.weights c.in_ok-answer.answer integer c.in_ok-weights.ensures.weights c.in_ok-answer.ensures)
+    as_refusal _ WriteFault (JobSays job input out) c.from_residual-in_err-hand_on.ensures.1
+    (job_not_written job (answer_on c.in_ok-answer.answer) input out _ c.in_ok-triples.triples [] c.in_ok-pattern.pattern tt
+    c.in_ok-triples.ensures.read c.in_ok-triples.ensures.counts (λ _. integer) c.in_ok-pattern.ensures.matrix
+    (diagonal_answers _ _ c.in_ok-weights.weights c.in_ok-answer.answer c.in_ok-weights.ensures.weights c.in_ok-answer.ensures)
     (c.in_err-hand_on.ensures _ _ _ c.write_diagonal-written.ensures))
 
 pub returns-clause-says : goal.returns-clause-says
@@ -30,7 +31,7 @@ returns-clause-says g c =
     let out = seen g.O.Sink.taken g.O.Sink.faults c.args.out.now c.hand_on.new.out in
     let integer : c.in_ok-triples.triples.field ≡ Integer = sym c.field.ensures ∙ c.in-Integer.is in
     rw c.answer_of.ensures
-    (job_written Diagonal (answer_on c.in_ok-answer.answer) input out _ c.in_ok-triples.triples [] c.in_ok-pattern.pattern tt
-    c.in_ok-triples.ensures.read c.in_ok-pattern.ensures
-    (diagonal_answers _ _ c.in_ok-weights.weights c.in_ok-answer.answer integer c.in_ok-weights.ensures.weights c.in_ok-answer.ensures)
+    (job_written (Diagonal c.args.drop_zeros) (answer_on c.in_ok-answer.answer) input out _ c.in_ok-triples.triples [] c.in_ok-pattern.pattern tt
+    c.in_ok-triples.ensures.read (λ _. integer) c.in_ok-pattern.ensures.matrix
+    (diagonal_answers _ _ c.in_ok-weights.weights c.in_ok-answer.answer c.in_ok-weights.ensures.weights c.in_ok-answer.ensures)
     (c.in_ok-hand_on.ensures _ _ _ c.write_diagonal-written.ensures))

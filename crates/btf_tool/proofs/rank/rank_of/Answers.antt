@@ -9,9 +9,8 @@ neighbours-requires g c column h = (c.in_ok-cols.ensures.sound column (subst (λ
 
 pub returns : goal.returns
 returns g c = record {
-  matrix = c.in_ok-pattern.ensures;
   is_rank = (c.in_ok-matching.matching.pairs, c.in_ok-matching.ensures.maximum.maximum, sym c.size-rank.ensures.size);
   are_rows = horizontal_rows _ _ _ c.in_ok-cols.ensures
-      (subst (λ (w : List ℕ). Lists (Touches c.in_ok-pattern.pattern w) c.in_ok-rows.rows.items) c.as_slice.ensures.value c.in_ok-rows.ensures);
+      (subst (λ (w : List ℕ). Lists (Touches c.args.pattern.now w) c.in_ok-rows.rows.items) c.as_slice.ensures.value c.in_ok-rows.ensures);
   are_cols = c.in_ok-cols.ensures;
 }
