@@ -8,7 +8,7 @@ It is no part of the gate: it runs the program as it was built, over the real de
   nothing on standard output and the line `btf: out of memory`;
 - each read fails in turn: status 5, nothing on standard output, `btf: read fault`; a read that fails is never taken for
   the end of the input;
-- each write to standard output fails in turn: status 6, `btf: write fault`, and what was written is the front of the text;
+- each write to standard output fails in turn: status 6, `btf: write fault`, and what was written is a prefix of the text;
 - reads, and then writes, move a few bytes at a time: the job's own answer, so that nothing is lost;
 - no thread can be made, or one can't: the job's own answer.
 A closed or full standard output, one whose reader has gone, a folder as standard input and closed descriptors are tried
@@ -34,9 +34,10 @@ WEIGHTS = INTEGER + "2 2 4\n1 1 3\n1 2 5\n2 1 4\n2 2 1\n"
 # words, input, status, how the text on standard output begins
 JOBS = [
     (["rank"], THREE_PARTS, 0, "matrix 4 4 7\nrank 3\nhorizontal 1 2\n"),
-    (["analyse", "--engine", "graft", "--order", "--pairs"], THREE_PARTS, 0, "btf 1\nmatrix 4 4 7\nrank 3\n"),
-    (["analyse", "--engine", "pf", "--order", "--pairs"], THREE_PARTS, 0, "btf 1\nmatrix 4 4 7\nrank 3\n"),
-    (["analyse"], DIAGONAL, 0, "btf 1\nmatrix 6000 6000 6000\nrank 6000\n"),
+    (["analyse", "--engine", "graft", "--workers", "2", "--order", "--pairs"], THREE_PARTS, 0, "btf 2\nmatrix 4 4 7\nrank 3\n"),
+    (["analyse", "--engine", "pf", "--order", "--pairs"], THREE_PARTS, 0, "btf 2\nmatrix 4 4 7\nrank 3\n"),
+    (["analyse", "--report", "1"], DIAGONAL, 0, "btf 1\nmatrix 6000 6000 6000\nrank 6000\n"),
+    (["rank", "--drop-zeros"], WEIGHTS, 0, "matrix 2 2 4\nrank 2\nhorizontal 0 0\n"),
     (["diagonal"], WEIGHTS, 0, "diagonal 2 9\n2 1 4\n1 2 5\n"),
     (["check"], THREE_PARTS + REPORT, 0, "valid\n"),
     (["load", "--size", "30", "--seed", "0"], "", 0, "matrix 30 30 85\nrank 22\nhorizontal 22 30\nsquare 0 0\nvertical 8 0\n"),

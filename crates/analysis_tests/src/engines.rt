@@ -7,7 +7,7 @@ use crate::small::{are, has_pairs, matching_of};
 use crate::worked::{Worked, matrices, pairs_in, pattern_from, seen};
 use bip_graph::Matching;
 use hall_witness::{Reach, plain, reach};
-use pothen_fan::phase;
+use pothen_fan::{lengthen, phase};
 use sp_ids::OutOfMemory;
 use sp_pattern::Pattern;
 use sp_ports::NoGate;
@@ -81,7 +81,8 @@ fn is_maximum<R: Abort + AllocGlobal>(
     Ok(())
 }
 
-/// Every engine makes the matching maximum. The search gives a path where it is smaller.
+/// Every engine makes the matching maximum. The search gives a path where it is smaller, and then depth-first phases make
+/// it longer.
 fn all_complete<R: Abort + AllocGlobal + Threads + Sync>(
     rt: &R,
     pattern: &Pattern,
@@ -93,6 +94,8 @@ fn all_complete<R: Abort + AllocGlobal + Threads + Sync>(
     if matching.size() < found.rank {
         let has_path = matches!(reach(rt.alloc(), pattern, matching)?, Reach::Path(_));
         assert!(rt; has_path, "{}", found.name);
+        let longer = lengthen(rt.alloc(), pattern, matching.copy(rt.alloc())?)?;
+        assert!(rt; longer.size() > matching.size(), "{}", found.name);
     }
     for engine in ENGINES {
         let mut grown = completed(rt, engine, pattern, matching.copy(rt.alloc())?)?;

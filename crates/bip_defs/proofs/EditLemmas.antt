@@ -4,7 +4,7 @@ use Rattle.std.proofs.Math.Decide.{dec_lt}
 use Rattle.std.proofs.lemmas.Bool.Decides.{nat_tests}
 use Rattle.std.proofs.lemmas.List.{length-set, set-get_or, set-set, set_past}
 use Rattle.std.proofs.lemmas.List.Sums.{sum_by-cons}
-use Rattle.bip_defs.specs.EditedMatrix.{AreWithin, Clear, Edit, Set, edited, edited_places, places_after, with_entry, with_number, without_entry, without_number}
+use Rattle.bip_defs.specs.EditedMatrix.{AreWithin, Clear, Edit, Set, edited, edited_places, places_after, with_place, with_number, without_place, without_number}
 use Rattle.bip_defs.specs.Lists.{Among, IsRising, Lists}
 use Rattle.bip_defs.specs.Matching.{IsMatching, IsMaximum, IsRank, cols_of, rows_of}
 use Rattle.bip_defs.specs.Matrix.{HasPlaces, IsEntry, Matrix, Place, cols, column, entry_count}
@@ -124,42 +124,42 @@ changed_again a c xs ys e = (λ i. record { rows = a.rows; columns = set-set a.c
 
 -- Entries.
 
-pub with_entry_over : (a : Matrix) (p : Place) (r c : ℕ) → IsEntry (with_entry a p) r c → ((r, c) ≡ p) ⊎ IsEntry a r c
-with_entry_over a p r c e = by (changed_either a p.1 c (with_number p.0 (column a p.1)))
+pub with_place_over : (a : Matrix) (p : Place) (r c : ℕ) → IsEntry (with_place a p) r c → ((r, c) ≡ p) ⊎ IsEntry a r c
+with_place_over a p r c e = by (changed_either a p.1 c (with_number p.0 (column a p.1)))
   where
-    by : ((c ≡ p.1) × (p.1 < cols a) × (column (with_entry a p) c ≡ with_number p.0 (column a p.1))) ⊎ (((c ≢ p.1) ⊎ (cols a ≤ p.1)) × (column (with_entry a p) c ≡ column a c)) → ((r, c) ≡ p) ⊎ IsEntry a r c
+    by : ((c ≡ p.1) × (p.1 < cols a) × (column (with_place a p) c ≡ with_number p.0 (column a p.1))) ⊎ (((c ≢ p.1) ⊎ (cols a ≤ p.1)) × (column (with_place a p) c ≡ column a c)) → ((r, c) ≡ p) ⊎ IsEntry a r c
     by (inl k) = ⊎_elim (λ (f : r ≡ p.0). inl (λ i. (f i, k.0 i))) (λ g. inr (e.0, subst (λ d. Among r (column a d)) (sym k.0) g)) (with_over p.0 r (column a p.1) (subst (Among r) k.2 e.1))
     by (inr k) = inr (e.0, subst (Among r) k.1 e.1)
 
-pub with_entry_kept : (a : Matrix) (p : Place) (r c : ℕ) → IsEntry a r c → IsEntry (with_entry a p) r c
-with_entry_kept a p r c e = by (changed_either a p.1 c (with_number p.0 (column a p.1)))
+pub with_place_kept : (a : Matrix) (p : Place) (r c : ℕ) → IsEntry a r c → IsEntry (with_place a p) r c
+with_place_kept a p r c e = by (changed_either a p.1 c (with_number p.0 (column a p.1)))
   where
-    by : ((c ≡ p.1) × (p.1 < cols a) × (column (with_entry a p) c ≡ with_number p.0 (column a p.1))) ⊎ (((c ≢ p.1) ⊎ (cols a ≤ p.1)) × (column (with_entry a p) c ≡ column a c)) → IsEntry (with_entry a p) r c
+    by : ((c ≡ p.1) × (p.1 < cols a) × (column (with_place a p) c ≡ with_number p.0 (column a p.1))) ⊎ (((c ≢ p.1) ⊎ (cols a ≤ p.1)) × (column (with_place a p) c ≡ column a c)) → IsEntry (with_place a p) r c
     by (inl k) = (e.0, subst (Among r) (sym k.2) (with_back p.0 r (column a p.1) (inr (subst (λ d. Among r (column a d)) k.0 e.1))))
     by (inr k) = (e.0, subst (Among r) (sym k.1) e.1)
 
-pub with_entry_new : (a : Matrix) (p : Place) → p.0 < a.rows → p.1 < cols a → IsEntry (with_entry a p) p.0 p.1
-with_entry_new a p row col = (row, subst (Among p.0) (sym (changed_here a p.1 (with_number p.0 (column a p.1)) col)) (with_back p.0 p.0 (column a p.1) (inl refl)))
+pub with_place_new : (a : Matrix) (p : Place) → p.0 < a.rows → p.1 < cols a → IsEntry (with_place a p) p.0 p.1
+with_place_new a p row col = (row, subst (Among p.0) (sym (changed_here a p.1 (with_number p.0 (column a p.1)) col)) (with_back p.0 p.0 (column a p.1) (inl refl)))
 
-pub with_entry_entries : (a : Matrix) (p : Place) (r c : ℕ) → p.0 < a.rows → p.1 < cols a → IsEntry (with_entry a p) r c ↔ (((r, c) ≡ p) ⊎ IsEntry a r c)
-with_entry_entries a p r c row col = (with_entry_over a p r c, λ h. ⊎_elim (λ (e : (r, c) ≡ p). subst (λ (q : Place). IsEntry (with_entry a p) q.0 q.1) (sym e) (with_entry_new a p row col)) (λ k. with_entry_kept a p r c k) h)
+pub with_place_entries : (a : Matrix) (p : Place) (r c : ℕ) → p.0 < a.rows → p.1 < cols a → IsEntry (with_place a p) r c ↔ (((r, c) ≡ p) ⊎ IsEntry a r c)
+with_place_entries a p r c row col = (with_place_over a p r c, λ h. ⊎_elim (λ (e : (r, c) ≡ p). subst (λ (q : Place). IsEntry (with_place a p) q.0 q.1) (sym e) (with_place_new a p row col)) (λ k. with_place_kept a p r c k) h)
 
-pub without_entry_over : (a : Matrix) (p : Place) (r c : ℕ) → IsEntry (without_entry a p) r c → IsEntry a r c × ((r, c) ≢ p)
-without_entry_over a p r c e = by (changed_either a p.1 c (without_number p.0 (column a p.1)))
+pub without_place_over : (a : Matrix) (p : Place) (r c : ℕ) → IsEntry (without_place a p) r c → IsEntry a r c × ((r, c) ≢ p)
+without_place_over a p r c e = by (changed_either a p.1 c (without_number p.0 (column a p.1)))
   where
-    by : ((c ≡ p.1) × (p.1 < cols a) × (column (without_entry a p) c ≡ without_number p.0 (column a p.1))) ⊎ (((c ≢ p.1) ⊎ (cols a ≤ p.1)) × (column (without_entry a p) c ≡ column a c)) → IsEntry a r c × ((r, c) ≢ p)
+    by : ((c ≡ p.1) × (p.1 < cols a) × (column (without_place a p) c ≡ without_number p.0 (column a p.1))) ⊎ (((c ≢ p.1) ⊎ (cols a ≤ p.1)) × (column (without_place a p) c ≡ column a c)) → IsEntry a r c × ((r, c) ≢ p)
     by (inl k) = let (h, ne) = without_over p.0 r (column a p.1) (subst (Among r) k.2 e.1) in ((e.0, subst (λ d. Among r (column a d)) (sym k.0) h), λ f. ne (ap (λ (q : Place). q.0) f))
     by (inr k) = let f : IsEntry a r c = (e.0, subst (Among r) k.1 e.1) in (f, λ g. ⊎_elim (λ ne. ne (ap (λ (q : Place). q.1) g)) (λ le. omega (arith, le, entry_col a r c f, ap (λ (q : Place). q.1) g)) k.0)
 
-pub without_entry_back : (a : Matrix) (p : Place) (r c : ℕ) → IsEntry a r c → (r, c) ≢ p → IsEntry (without_entry a p) r c
-without_entry_back a p r c e ne = by (changed_either a p.1 c (without_number p.0 (column a p.1)))
+pub without_place_back : (a : Matrix) (p : Place) (r c : ℕ) → IsEntry a r c → (r, c) ≢ p → IsEntry (without_place a p) r c
+without_place_back a p r c e ne = by (changed_either a p.1 c (without_number p.0 (column a p.1)))
   where
-    by : ((c ≡ p.1) × (p.1 < cols a) × (column (without_entry a p) c ≡ without_number p.0 (column a p.1))) ⊎ (((c ≢ p.1) ⊎ (cols a ≤ p.1)) × (column (without_entry a p) c ≡ column a c)) → IsEntry (without_entry a p) r c
+    by : ((c ≡ p.1) × (p.1 < cols a) × (column (without_place a p) c ≡ without_number p.0 (column a p.1))) ⊎ (((c ≢ p.1) ⊎ (cols a ≤ p.1)) × (column (without_place a p) c ≡ column a c)) → IsEntry (without_place a p) r c
     by (inl k) = (e.0, subst (Among r) (sym k.2) (without_back p.0 r (column a p.1) (subst (λ d. Among r (column a d)) k.0 e.1) (λ f. ne (λ i. (f i, k.0 i)))))
     by (inr k) = (e.0, subst (Among r) (sym k.1) e.1)
 
-pub without_entry_entries : (a : Matrix) (p : Place) (r c : ℕ) → IsEntry (without_entry a p) r c ↔ (IsEntry a r c × ((r, c) ≢ p))
-without_entry_entries a p r c = (without_entry_over a p r c, λ h. without_entry_back a p r c h.0 h.1)
+pub without_place_entries : (a : Matrix) (p : Place) (r c : ℕ) → IsEntry (without_place a p) r c ↔ (IsEntry a r c × ((r, c) ≢ p))
+without_place_entries a p r c = (without_place_over a p r c, λ h. without_place_back a p r c h.0 h.1)
 
 -- Lists of the columns.
 
@@ -167,23 +167,23 @@ without_entry_entries a p r c = (without_entry_over a p r c, λ h. without_entry
 lists_from : (a : Matrix) (c : ℕ) → IsRising (column a c) → ((r : ℕ) → Among r (column a c) → r < a.rows) → Lists (λ r. IsEntry a r c) (column a c)
 lists_from a c rising below = record { rising = rising; sound = λ r h. (below r h, h); complete = λ r e. e.1 }
 
-pub with_lists : (a : Matrix) (p : Place) (c : ℕ) → p.0 < a.rows → ((c : ℕ) → Lists (λ r. IsEntry a r c) (column a c)) → Lists (λ r. IsEntry (with_entry a p) r c) (column (with_entry a p) c)
+pub with_lists : (a : Matrix) (p : Place) (c : ℕ) → p.0 < a.rows → ((c : ℕ) → Lists (λ r. IsEntry a r c) (column a c)) → Lists (λ r. IsEntry (with_place a p) r c) (column (with_place a p) c)
 with_lists a p c row l = by (changed_either a p.1 c (with_number p.0 (column a p.1)))
   where
-    by : ((c ≡ p.1) × (p.1 < cols a) × (column (with_entry a p) c ≡ with_number p.0 (column a p.1))) ⊎ (((c ≢ p.1) ⊎ (cols a ≤ p.1)) × (column (with_entry a p) c ≡ column a c)) → Lists (λ r. IsEntry (with_entry a p) r c) (column (with_entry a p) c)
-    by (inl k) = lists_from (with_entry a p) c (subst IsRising (sym k.2) (with_rising p.0 (column a p.1) (l p.1).rising)) (λ r h. ⊎_elim (λ (e : r ≡ p.0). rw e row) (λ g. ((l p.1).sound r g).0) (with_over p.0 r (column a p.1) (subst (Among r) k.2 h)))
-    by (inr k) = lists_from (with_entry a p) c (subst IsRising (sym k.1) (l c).rising) (λ r h. ((l c).sound r (subst (Among r) k.1 h)).0)
+    by : ((c ≡ p.1) × (p.1 < cols a) × (column (with_place a p) c ≡ with_number p.0 (column a p.1))) ⊎ (((c ≢ p.1) ⊎ (cols a ≤ p.1)) × (column (with_place a p) c ≡ column a c)) → Lists (λ r. IsEntry (with_place a p) r c) (column (with_place a p) c)
+    by (inl k) = lists_from (with_place a p) c (subst IsRising (sym k.2) (with_rising p.0 (column a p.1) (l p.1).rising)) (λ r h. ⊎_elim (λ (e : r ≡ p.0). rw e row) (λ g. ((l p.1).sound r g).0) (with_over p.0 r (column a p.1) (subst (Among r) k.2 h)))
+    by (inr k) = lists_from (with_place a p) c (subst IsRising (sym k.1) (l c).rising) (λ r h. ((l c).sound r (subst (Among r) k.1 h)).0)
 
-pub without_lists : (a : Matrix) (p : Place) (c : ℕ) → ((c : ℕ) → Lists (λ r. IsEntry a r c) (column a c)) → Lists (λ r. IsEntry (without_entry a p) r c) (column (without_entry a p) c)
+pub without_lists : (a : Matrix) (p : Place) (c : ℕ) → ((c : ℕ) → Lists (λ r. IsEntry a r c) (column a c)) → Lists (λ r. IsEntry (without_place a p) r c) (column (without_place a p) c)
 without_lists a p c l = by (changed_either a p.1 c (without_number p.0 (column a p.1)))
   where
-    by : ((c ≡ p.1) × (p.1 < cols a) × (column (without_entry a p) c ≡ without_number p.0 (column a p.1))) ⊎ (((c ≢ p.1) ⊎ (cols a ≤ p.1)) × (column (without_entry a p) c ≡ column a c)) → Lists (λ r. IsEntry (without_entry a p) r c) (column (without_entry a p) c)
-    by (inl k) = lists_from (without_entry a p) c (subst IsRising (sym k.2) (without_rising p.0 (column a p.1) (l p.1).rising)) (λ r h. ((l p.1).sound r (without_over p.0 r (column a p.1) (subst (Among r) k.2 h)).0).0)
-    by (inr k) = lists_from (without_entry a p) c (subst IsRising (sym k.1) (l c).rising) (λ r h. ((l c).sound r (subst (Among r) k.1 h)).0)
+    by : ((c ≡ p.1) × (p.1 < cols a) × (column (without_place a p) c ≡ without_number p.0 (column a p.1))) ⊎ (((c ≢ p.1) ⊎ (cols a ≤ p.1)) × (column (without_place a p) c ≡ column a c)) → Lists (λ r. IsEntry (without_place a p) r c) (column (without_place a p) c)
+    by (inl k) = lists_from (without_place a p) c (subst IsRising (sym k.2) (without_rising p.0 (column a p.1) (l p.1).rising)) (λ r h. ((l p.1).sound r (without_over p.0 r (column a p.1) (subst (Among r) k.2 h)).0).0)
+    by (inr k) = lists_from (without_place a p) c (subst IsRising (sym k.1) (l c).rising) (λ r h. ((l c).sound r (subst (Among r) k.1 h)).0)
 
 -- Places.
 
-pub with_places : (rows cols : ℕ) (ps : List Place) (a : Matrix) (p : Place) → HasPlaces rows cols ps a → p.0 < rows → p.1 < cols → HasPlaces rows cols (p ∷ ps) (with_entry a p)
+pub with_places : (rows cols : ℕ) (ps : List Place) (a : Matrix) (p : Place) → HasPlaces rows cols ps a → p.0 < rows → p.1 < cols → HasPlaces rows cols (p ∷ ps) (with_place a p)
 with_places rows cols ps a p h row col =
     let in_row : p.0 < a.rows = rw h.rows_are row in
     let in_col : p.1 < length a.columns = rw h.cols_are col in
@@ -191,8 +191,8 @@ with_places rows cols ps a p h row col =
       rows_are = h.rows_are;
       cols_are = changed_cols a p.1 (with_number p.0 (column a p.1)) ∙ h.cols_are;
       entries = λ r c. (
-        λ e. ⊎_elim (λ (f : (r, c) ≡ p). inl f) (λ k. inr ((h.entries r c).0 k)) (with_entry_over a p r c e),
-        λ k. (with_entry_entries a p r c in_row in_col).1 (⊎_elim (λ (f : (r, c) ≡ p). inl f) (λ g. inr ((h.entries r c).1 g)) k),
+        λ e. ⊎_elim (λ (f : (r, c) ≡ p). inl f) (λ k. inr ((h.entries r c).0 k)) (with_place_over a p r c e),
+        λ k. (with_place_entries a p r c in_row in_col).1 (⊎_elim (λ (f : (r, c) ≡ p). inl f) (λ g. inr ((h.entries r c).1 g)) k),
       );
       columns = λ c. with_lists a p c in_row h.columns;
     }
@@ -205,21 +205,21 @@ place_test p q = by (number_same q.0 p.0) (number_same q.1 p.1)
     by (inl e) (inr nf) = rw (eq-eqb q.0 p.0 e, ne_eqb q.1 p.1 nf) (λ (g : true ≡ true) h. nf (ap (λ (z : Place). z.1) h), λ ne. refl)
     by (inr ne) f = rw (ne_eqb q.0 p.0 ne) (λ (g : true ≡ true) h. ne (ap (λ (z : Place). z.0) h), λ nh. refl)
 
-pub without_places : (rows cols : ℕ) (ps : List Place) (a : Matrix) (p : Place) → HasPlaces rows cols ps a → HasPlaces rows cols (places_after ps (Clear p)) (without_entry a p)
+pub without_places : (rows cols : ℕ) (ps : List Place) (a : Matrix) (p : Place) → HasPlaces rows cols ps a → HasPlaces rows cols (places_after ps (Clear p)) (without_place a p)
 without_places rows cols ps a p h = record {
   rows_are = h.rows_are;
   cols_are = changed_cols a p.1 (without_number p.0 (column a p.1)) ∙ h.cols_are;
   entries = λ r c. (
-    λ e. let (k, ne) = without_entry_over a p r c e in filter_complete (λ (q : Place). not (nat_eq q.0 p.0 && nat_eq q.1 p.1)) (r, c) ps ((h.entries r c).0 k) ((place_test p (r, c)).1 ne),
-    λ k. let (g, t) = filter_sound (λ (q : Place). not (nat_eq q.0 p.0 && nat_eq q.1 p.1)) (r, c) ps k in without_entry_back a p r c ((h.entries r c).1 g) ((place_test p (r, c)).0 t),
+    λ e. let (k, ne) = without_place_over a p r c e in filter_complete (λ (q : Place). not (nat_eq q.0 p.0 && nat_eq q.1 p.1)) (r, c) ps ((h.entries r c).0 k) ((place_test p (r, c)).1 ne),
+    λ k. let (g, t) = filter_sound (λ (q : Place). not (nat_eq q.0 p.0 && nat_eq q.1 p.1)) (r, c) ps k in without_place_back a p r c ((h.entries r c).1 g) ((place_test p (r, c)).0 t),
   );
   columns = λ c. without_lists a p c h.columns;
 }
 
 pub edited_has_places : (rows cols : ℕ) (ps : List Place) (a : Matrix) (es : List Edit) → HasPlaces rows cols ps a → AreWithin rows cols es → HasPlaces rows cols (edited_places ps es) (edited a es)
 edited_has_places rows cols ps a [] h w = h
-edited_has_places rows cols ps a (Set p ∷ es) h w = edited_has_places rows cols (p ∷ ps) (with_entry a p) es (with_places rows cols ps a p h w.0.0 w.0.1) w.1
-edited_has_places rows cols ps a (Clear p ∷ es) h w = edited_has_places rows cols (places_after ps (Clear p)) (without_entry a p) es (without_places rows cols ps a p h) w.1
+edited_has_places rows cols ps a (Set p ∷ es) h w = edited_has_places rows cols (p ∷ ps) (with_place a p) es (with_places rows cols ps a p h w.0.0 w.0.1) w.1
+edited_has_places rows cols ps a (Clear p ∷ es) h w = edited_has_places rows cols (places_after ps (Clear p)) (without_place a p) es (without_places rows cols ps a p h) w.1
 
 -- How many entries there are.
 
@@ -240,26 +240,26 @@ changed_sum (y ∷ ys) (suc c) xs lt =
 pub changed_count : (a : Matrix) (c : ℕ) (xs : List ℕ) → c < cols a → entry_count (changed a c xs) + length (column a c) ≡ entry_count a + length xs
 changed_count a c xs lt = changed_sum a.columns c xs lt
 
-pub with_count : (a : Matrix) (p : Place) → ¬ IsEntry a p.0 p.1 → p.0 < a.rows → p.1 < cols a → entry_count (with_entry a p) ≡ suc (entry_count a)
+pub with_count : (a : Matrix) (p : Place) → ¬ IsEntry a p.0 p.1 → p.0 < a.rows → p.1 < cols a → entry_count (with_place a p) ≡ suc (entry_count a)
 with_count a p ne row col = omega (arith, changed_count a p.1 (with_number p.0 (column a p.1)) col, with_length p.0 (column a p.1) (λ h. ne (row, h)))
 
-pub without_count : (a : Matrix) (p : Place) → Lists (λ r. IsEntry a r p.1) (column a p.1) → IsEntry a p.0 p.1 → entry_count a ≡ suc (entry_count (without_entry a p))
+pub without_count : (a : Matrix) (p : Place) → Lists (λ r. IsEntry a r p.1) (column a p.1) → IsEntry a p.0 p.1 → entry_count a ≡ suc (entry_count (without_place a p))
 without_count a p l e = omega (arith, changed_count a p.1 (without_number p.0 (column a p.1)) (entry_col a p.0 p.1 e), without_length p.0 (column a p.1) l.rising e.1)
 
 -- Edits that change nothing, or are taken back.
 
-pub with_again : (a : Matrix) (p : Place) → Lists (λ r. IsEntry a r p.1) (column a p.1) → IsEntry a p.0 p.1 → with_entry a p ≡ a
+pub with_again : (a : Matrix) (p : Place) → Lists (λ r. IsEntry a r p.1) (column a p.1) → IsEntry a p.0 p.1 → with_place a p ≡ a
 with_again a p l e = changed_same a p.1 (with_number p.0 (column a p.1)) (with_present p.0 (column a p.1) l.rising e.1)
 
-pub without_none : (a : Matrix) (p : Place) → Lists (λ r. IsEntry a r p.1) (column a p.1) → ¬ IsEntry a p.0 p.1 → without_entry a p ≡ a
+pub without_none : (a : Matrix) (p : Place) → Lists (λ r. IsEntry a r p.1) (column a p.1) → ¬ IsEntry a p.0 p.1 → without_place a p ≡ a
 without_none a p l ne = changed_same a p.1 (without_number p.0 (column a p.1)) (without_absent p.0 (column a p.1) l.rising (λ h. ne (l.sound p.0 h)))
 
-pub with_comes_back : (a : Matrix) (p : Place) → Lists (λ r. IsEntry a r p.1) (column a p.1) → IsEntry a p.0 p.1 → with_entry (without_entry a p) p ≡ a
-with_comes_back a p l e = changed_again a p.1 (without_number p.0 (column a p.1)) (with_number p.0 (column (without_entry a p) p.1))
+pub with_comes_back : (a : Matrix) (p : Place) → Lists (λ r. IsEntry a r p.1) (column a p.1) → IsEntry a p.0 p.1 → with_place (without_place a p) p ≡ a
+with_comes_back a p l e = changed_again a p.1 (without_number p.0 (column a p.1)) (with_number p.0 (column (without_place a p) p.1))
     (ap (with_number p.0) (changed_here a p.1 (without_number p.0 (column a p.1)) (entry_col a p.0 p.1 e)) ∙ with_after_without p.0 (column a p.1) l.rising e.1)
 
-pub without_goes_back : (a : Matrix) (p : Place) → Lists (λ r. IsEntry a r p.1) (column a p.1) → ¬ IsEntry a p.0 p.1 → p.1 < cols a → without_entry (with_entry a p) p ≡ a
-without_goes_back a p l ne col = changed_again a p.1 (with_number p.0 (column a p.1)) (without_number p.0 (column (with_entry a p) p.1))
+pub without_goes_back : (a : Matrix) (p : Place) → Lists (λ r. IsEntry a r p.1) (column a p.1) → ¬ IsEntry a p.0 p.1 → p.1 < cols a → without_place (with_place a p) p ≡ a
+without_goes_back a p l ne col = changed_again a p.1 (with_number p.0 (column a p.1)) (without_number p.0 (column (with_place a p) p.1))
     (ap (without_number p.0) (changed_here a p.1 (with_number p.0 (column a p.1)) col) ∙ without_after_with p.0 (column a p.1) l.rising (λ h. ne (l.sound p.0 h)))
 
 -- Matchings.
@@ -280,38 +280,38 @@ one_more a b p m n over max k = by (is_among place_same p n)
         let same = moved b a n k (λ r c g e. ⊎_elim (λ (f : (r, c) ≡ p). absurd (nh (subst (λ q. Among q n) f g))) (λ l. l) (over r c e)) in
         omega (arith, max.longest n same)
 
-without_or_there : (a : Matrix) (p : Place) (r c : ℕ) → IsEntry a r c → ((r, c) ≡ p) ⊎ IsEntry (without_entry a p) r c
-without_or_there a p r c e = ⊎_elim (λ (f : (r, c) ≡ p). inl f) (λ ne. inr (without_entry_back a p r c e ne)) (place_same (r, c) p)
+without_or_there : (a : Matrix) (p : Place) (r c : ℕ) → IsEntry a r c → ((r, c) ≡ p) ⊎ IsEntry (without_place a p) r c
+without_or_there a p r c e = ⊎_elim (λ (f : (r, c) ≡ p). inl f) (λ ne. inr (without_place_back a p r c e ne)) (place_same (r, c) p)
 
-pub longer_is_maximum : (a : Matrix) (p : Place) (m n : List Place) → IsMaximum a m → IsMatching (with_entry a p) n → length n ≡ suc (length m) → IsMaximum (with_entry a p) n
-longer_is_maximum a p m n max k e = record { matching = k; longest = λ o l. omega (arith, e, one_more a (with_entry a p) p m o (with_entry_over a p) max l) }
+pub longer_is_maximum : (a : Matrix) (p : Place) (m n : List Place) → IsMaximum a m → IsMatching (with_place a p) n → length n ≡ suc (length m) → IsMaximum (with_place a p) n
+longer_is_maximum a p m n max k e = record { matching = k; longest = λ o l. omega (arith, e, one_more a (with_place a p) p m o (with_place_over a p) max l) }
 
-pub kept_with : (a : Matrix) (p : Place) (m : List Place) → IsMatching a m → IsMatching (with_entry a p) m
-kept_with a p m k = moved a (with_entry a p) m k (λ r c h e. with_entry_kept a p r c e)
+pub kept_with : (a : Matrix) (p : Place) (m : List Place) → IsMatching a m → IsMatching (with_place a p) m
+kept_with a p m k = moved a (with_place a p) m k (λ r c h e. with_place_kept a p r c e)
 
-pub pair_is_maximum : (a : Matrix) (p : Place) (m : List Place) → IsMaximum a m → p.0 < a.rows → p.1 < cols a → ¬ Among p.0 (rows_of m) → ¬ Among p.1 (cols_of m) → IsMaximum (with_entry a p) (p ∷ m)
-pair_is_maximum a p m max row col nr nc = longer_is_maximum a p m (p ∷ m) max (adds_pair (with_entry a p) p.0 p.1 m (kept_with a p m max.matching) (with_entry_new a p row col) nr nc) refl
+pub pair_is_maximum : (a : Matrix) (p : Place) (m : List Place) → IsMaximum a m → p.0 < a.rows → p.1 < cols a → ¬ Among p.0 (rows_of m) → ¬ Among p.1 (cols_of m) → IsMaximum (with_place a p) (p ∷ m)
+pair_is_maximum a p m max row col nr nc = longer_is_maximum a p m (p ∷ m) max (adds_pair (with_place a p) p.0 p.1 m (kept_with a p m max.matching) (with_place_new a p row col) nr nc) refl
 
-pub kept_without : (a : Matrix) (p : Place) (m : List Place) → IsMatching a m → ¬ Among p m → IsMatching (without_entry a p) m
-kept_without a p m k nh = moved a (without_entry a p) m k (λ r c h e. without_entry_back a p r c e (λ f. nh (subst (λ q. Among q m) f h)))
+pub kept_without : (a : Matrix) (p : Place) (m : List Place) → IsMatching a m → ¬ Among p m → IsMatching (without_place a p) m
+kept_without a p m k nh = moved a (without_place a p) m k (λ r c h e. without_place_back a p r c e (λ f. nh (subst (λ q. Among q m) f h)))
 
-pub had_before : (a : Matrix) (p : Place) (n : List Place) → IsMatching (without_entry a p) n → IsMatching a n
-had_before a p n k = moved (without_entry a p) a n k (λ r c h e. (without_entry_over a p r c e).0)
+pub had_before : (a : Matrix) (p : Place) (n : List Place) → IsMatching (without_place a p) n → IsMatching a n
+had_before a p n k = moved (without_place a p) a n k (λ r c h e. (without_place_over a p r c e).0)
 
-pub as_long_is_maximum : (a : Matrix) (p : Place) (m n : List Place) → IsMaximum a m → IsMatching (without_entry a p) n → length n ≡ length m → IsMaximum (without_entry a p) n
+pub as_long_is_maximum : (a : Matrix) (p : Place) (m n : List Place) → IsMaximum a m → IsMatching (without_place a p) n → length n ≡ length m → IsMaximum (without_place a p) n
 as_long_is_maximum a p m n max k e = record { matching = k; longest = λ o l. omega (arith, e, max.longest o (had_before a p o l)) }
 
-pub kept_is_maximum : (a : Matrix) (p : Place) (m : List Place) → IsMaximum a m → ¬ Among p m → IsMaximum (without_entry a p) m
+pub kept_is_maximum : (a : Matrix) (p : Place) (m : List Place) → IsMaximum a m → ¬ Among p m → IsMaximum (without_place a p) m
 kept_is_maximum a p m max nh = as_long_is_maximum a p m m max (kept_without a p m max.matching nh) refl
 
-pub with_rank : (a : Matrix) (p : Place) (k l : ℕ) → IsRank a k → IsRank (with_entry a p) l → (k ≤ l) × (l ≤ suc k)
+pub with_rank : (a : Matrix) (p : Place) (k l : ℕ) → IsRank a k → IsRank (with_place a p) l → (k ≤ l) × (l ≤ suc k)
 with_rank a p k l (m, max, e) (n, most, f) = (
   omega (arith, e, f, most.longest m (kept_with a p m max.matching)),
-  omega (arith, e, f, one_more a (with_entry a p) p m n (with_entry_over a p) max most.matching),
+  omega (arith, e, f, one_more a (with_place a p) p m n (with_place_over a p) max most.matching),
 )
 
-pub without_rank : (a : Matrix) (p : Place) (k l : ℕ) → IsRank a k → IsRank (without_entry a p) l → (l ≤ k) × (k ≤ suc l)
+pub without_rank : (a : Matrix) (p : Place) (k l : ℕ) → IsRank a k → IsRank (without_place a p) l → (l ≤ k) × (k ≤ suc l)
 without_rank a p k l (m, max, e) (n, most, f) = (
   omega (arith, e, f, max.longest n (had_before a p n most.matching)),
-  omega (arith, e, f, one_more (without_entry a p) a p n m (without_or_there a p) most max.matching),
+  omega (arith, e, f, one_more (without_place a p) a p n m (without_or_there a p) most max.matching),
 )

@@ -14,15 +14,15 @@ abbrev pub without_number : ℕ → List ℕ → List ℕ
 without_number x ys = filter (λ y. not (nat_eq y x)) ys
 
 -- the matrix with an entry at the place
-abbrev pub with_entry : Matrix → Place → Matrix
-with_entry a p = record {
+abbrev pub with_place : Matrix → Place → Matrix
+with_place a p = record {
   rows = a.rows;
   columns = slice_set a.columns p.1 (with_number p.0 (column a p.1));
 }
 
 -- the matrix without an entry at the place
-abbrev pub without_entry : Matrix → Place → Matrix
-without_entry a p = record {
+abbrev pub without_place : Matrix → Place → Matrix
+without_place a p = record {
   rows = a.rows;
   columns = slice_set a.columns p.1 (without_number p.0 (column a p.1));
 }
@@ -33,8 +33,8 @@ pub data Edit : Type 0 where
   Clear : Place → Edit
 
 abbrev pub after_edit : Matrix → Edit → Matrix
-after_edit a (Set p) = with_entry a p
-after_edit a (Clear p) = without_entry a p
+after_edit a (Set p) = with_place a p
+after_edit a (Clear p) = without_place a p
 
 -- the matrix after a list of edits, one after another
 abbrev pub edited : Matrix → List Edit → Matrix

@@ -1,12 +1,14 @@
 -- What the comparisons show of a report.
-use Rattle.std.proofs.Common.{◌≡◌, ℕ, List, Some, Result, Ok, Err, IfOk, length, refl, sym, subst, arith}
+use Rattle.std.proofs.Common.{◌≡◌, ◌↔◌, ℕ, List, Some, Result, Ok, Err, IfOk, length, refl, sym, subst, arith}
 use Rattle.std.specs.Prelude.{IfSome}
 use Rattle.bip_defs.specs.Blocks.{AreBlocksOf, Block, all_cols, all_rows}
+use Rattle.bip_defs.specs.ConnectedComponents.{AreConnectedComponents, Components}
 use Rattle.bip_defs.specs.Lists.{Lists}
 use Rattle.bip_defs.specs.Matching.{IsMaximum}
 use Rattle.bip_defs.specs.Matrix.{Matrix, Place}
 use Rattle.bip_defs.specs.Once.{ListsOnce}
 use Rattle.bip_defs.specs.Parts.{ArePartsOf, IsHorizontalCol, IsHorizontalRow, IsSquareCol, IsSquareRow, IsVerticalCol, IsVerticalRow, Parts}
+use Rattle.bip_defs.proofs.Connected.{same_components}
 use Rattle.bip_defs.proofs.Sets.{lists_unique}
 use Rattle.bip_defs.proofs.Square.{in_rows, square_pairs_perfect}
 use Rattle.bip_defs.proofs.Uniqueness.{one_blocks, same_rank}
@@ -79,26 +81,37 @@ answer_weaker P Q (Err e) f h = tt
 pub first_pairs : (a : Matrix) (r : Report) (ps : List Place) → r.pairs ≡ Some ps → ¬ ArePaired a ps → IsFirst (IsMet a r) 2
 first_pairs a r ps e none = record {
   fails = λ met. none (subst (λ o. IfSome o (ArePaired a)) e (met.pairs refl));
-  before = λ j lt. record { pairs = λ (f : j ≡ 2). absurd (omega arith); maximum = λ (f : j ≡ 3). absurd (omega arith); parts = λ (f : j ≡ 4). absurd (omega arith); blocks = λ (f : j ≡ 5). absurd (omega arith) };
+  before = λ j lt. record { pairs = λ (f : j ≡ 2). absurd (omega arith); maximum = λ (f : j ≡ 3). absurd (omega arith); parts = λ (f : j ≡ 4). absurd (omega arith); blocks = λ (f : j ≡ 5). absurd (omega arith); components = λ (f : j ≡ 6). absurd (omega arith) };
 }
 
 pub first_maximum : (a : Matrix) (r : Report) (ps : List Place) → r.pairs ≡ Some ps → ArePaired a ps → ¬ IsMaximum a ps → IsFirst (IsMet a r) 3
 first_maximum a r ps e paired none = record {
   fails = λ met. none (subst (λ o. IfSome o (IsMaximum a)) e (met.maximum refl));
-  before = λ j lt. record { pairs = λ (f : j ≡ 2). subst (λ o. IfSome o (ArePaired a)) (sym e) paired; maximum = λ (f : j ≡ 3). absurd (omega arith); parts = λ (f : j ≡ 4). absurd (omega arith); blocks = λ (f : j ≡ 5). absurd (omega arith) };
+  before = λ j lt. record { pairs = λ (f : j ≡ 2). subst (λ o. IfSome o (ArePaired a)) (sym e) paired; maximum = λ (f : j ≡ 3). absurd (omega arith); parts = λ (f : j ≡ 4). absurd (omega arith); blocks = λ (f : j ≡ 5). absurd (omega arith); components = λ (f : j ≡ 6). absurd (omega arith) };
 }
 
 pub first_parts : (a : Matrix) (r : Report) (ps : List Place) → r.pairs ≡ Some ps → ArePaired a ps → IsMaximum a ps → ¬ TellsParts a r → IsFirst (IsMet a r) 4
 first_parts a r ps e paired max none = record {
   fails = λ met. none (met.parts refl);
-  before = λ j lt. record { pairs = λ (f : j ≡ 2). subst (λ o. IfSome o (ArePaired a)) (sym e) paired; maximum = λ (f : j ≡ 3). subst (λ o. IfSome o (IsMaximum a)) (sym e) max; parts = λ (f : j ≡ 4). absurd (omega arith); blocks = λ (f : j ≡ 5). absurd (omega arith) };
+  before = λ j lt. record { pairs = λ (f : j ≡ 2). subst (λ o. IfSome o (ArePaired a)) (sym e) paired; maximum = λ (f : j ≡ 3). subst (λ o. IfSome o (IsMaximum a)) (sym e) max; parts = λ (f : j ≡ 4). absurd (omega arith); blocks = λ (f : j ≡ 5). absurd (omega arith); components = λ (f : j ≡ 6). absurd (omega arith) };
 }
 
 pub first_blocks : (a : Matrix) (r : Report) (ps : List Place) → r.pairs ≡ Some ps → ArePaired a ps → IsMaximum a ps → TellsParts a r → ¬ TellsBlocks a r → IsFirst (IsMet a r) 5
 first_blocks a r ps e paired max parts none = record {
   fails = λ met. none (met.blocks refl);
-  before = λ j lt. record { pairs = λ (f : j ≡ 2). subst (λ o. IfSome o (ArePaired a)) (sym e) paired; maximum = λ (f : j ≡ 3). subst (λ o. IfSome o (IsMaximum a)) (sym e) max; parts = λ (f : j ≡ 4). parts; blocks = λ (f : j ≡ 5). absurd (omega arith) };
+  before = λ j lt. record { pairs = λ (f : j ≡ 2). subst (λ o. IfSome o (ArePaired a)) (sym e) paired; maximum = λ (f : j ≡ 3). subst (λ o. IfSome o (IsMaximum a)) (sym e) max; parts = λ (f : j ≡ 4). parts; blocks = λ (f : j ≡ 5). absurd (omega arith); components = λ (f : j ≡ 6). absurd (omega arith) };
 }
 
-pub all_met : (a : Matrix) (r : Report) (ps : List Place) → r.pairs ≡ Some ps → ArePaired a ps → IsMaximum a ps → TellsParts a r → TellsBlocks a r → (k : ℕ) → IsMet a r k
-all_met a r ps e paired max parts blocks k = record { pairs = λ f. subst (λ o. IfSome o (ArePaired a)) (sym e) paired; maximum = λ f. subst (λ o. IfSome o (IsMaximum a)) (sym e) max; parts = λ f. parts; blocks = λ f. blocks }
+pub first_components : (a : Matrix) (r : Report) (ps : List Place) → r.pairs ≡ Some ps → ArePaired a ps → IsMaximum a ps → TellsParts a r → TellsBlocks a r → ¬ IfSome r.components (AreConnectedComponents a) → IsFirst (IsMet a r) 6
+first_components a r ps e paired max parts blocks none = record {
+  fails = λ met. none (met.components refl);
+  before = λ j lt. record { pairs = λ (f : j ≡ 2). subst (λ o. IfSome o (ArePaired a)) (sym e) paired; maximum = λ (f : j ≡ 3). subst (λ o. IfSome o (IsMaximum a)) (sym e) max; parts = λ (f : j ≡ 4). parts; blocks = λ (f : j ≡ 5). blocks; components = λ (f : j ≡ 6). absurd (omega arith) };
+}
+
+pub all_met : (a : Matrix) (r : Report) (ps : List Place) → r.pairs ≡ Some ps → ArePaired a ps → IsMaximum a ps → TellsParts a r → TellsBlocks a r → IfSome r.components (AreConnectedComponents a) → (k : ℕ) → IsMet a r k
+all_met a r ps e paired max parts blocks components k = record { pairs = λ f. subst (λ o. IfSome o (ArePaired a)) (sym e) paired; maximum = λ f. subst (λ o. IfSome o (IsMaximum a)) (sym e) max; parts = λ f. parts; blocks = λ f. blocks; components = λ f. components }
+
+-- The components.
+
+pub told_components : (a : Matrix) (c d : Components) → AreConnectedComponents a d → (c ≡ d) ↔ AreConnectedComponents a c
+told_components a c d own = (λ e. subst (AreConnectedComponents a) (sym e) own, λ told. same_components a c d told own)

@@ -3,6 +3,7 @@ use Rattle.std.proofs.Common.{◌≡◌, ◌∙◌, ℕ, ◌<◌, Bool, true, fa
 use Rattle.std.specs.List.{list_any}
 use Rattle.std.specs.Prelude.{IfSome}
 use Rattle.bip_defs.specs.Blocks.{AreBlocksOf, all_cols, all_rows}
+use Rattle.bip_defs.specs.ConnectedComponents.{AreConnectedComponents, Components}
 use Rattle.bip_defs.specs.Decomposition.{Decomposition, IsDecompositionOf}
 use Rattle.bip_defs.specs.Lists.{IsRising, Lists}
 use Rattle.bip_defs.specs.Matching.{IsMaximum, cols_of}
@@ -11,8 +12,8 @@ use Rattle.bip_defs.specs.Once.{ListsOnce}
 use Rattle.bip_defs.specs.Parts.{IsSquareCol, IsSquareRow}
 use Rattle.bip_defs.proofs.Sets.{among_test, filter_lists, lists_same}
 use Rattle.bip_defs.proofs.Together.{square_cols_once, square_rows_once}
-use Rattle.bip_graph.specs.Answers.{orders_of, report_of, where_asked}
-use Rattle.bip_graph.specs.Texts.{Report}
+use Rattle.bip_graph.specs.Answers.{AreOfVersion, orders_of, report_of, where_asked}
+use Rattle.bip_graph.specs.Texts.{Report, version_of}
 use Rattle.btf_check.specs.Reasons.{AreOrdersOf, IsMet, TellsParts}
 use Rattle.btf_check.specs.Verdicts.{IsReportOf}
 
@@ -25,8 +26,8 @@ sorted_lists P n xs below once = lists_same (λ x. (x < n) × (list_any (nat_eq 
 
 -- The law.
 
-is_met : (a : Matrix) (d : Decomposition) (order : Bool) (m : List Place) → IsDecompositionOf a d → IsMaximum a m → (k : ℕ) → IsMet a (report_of a d order (Some m)) k
-is_met a d order m whole max k = record {
+is_met : (a : Matrix) (d : Decomposition) (v : ℕ) (cs : Option Components) (order : Bool) (m : List Place) → IsDecompositionOf a d → AreOfVersion a v cs → IsMaximum a m → (k : ℕ) → IsMet a (report_of a d cs order (Some m)) k
+is_met a d v cs order m whole of_version max k = record {
   pairs = λ e. record { entries = max.matching.entries; rows_differ = max.matching.rows_differ };
   maximum = λ e. max;
   parts = λ e. record {
@@ -40,14 +41,19 @@ is_met a d order m whole max k = record {
     vertical_cols = whole.parts.vertical_cols;
   };
   blocks = λ e. record { blocks = whole.blocks; orders = in_order order };
+  components = λ e. listed cs of_version;
 }
   where
-    in_order : (b : Bool) → IfSome (where_asked b (orders_of d)) (AreOrdersOf (report_of a d order (Some m)))
+    in_order : (b : Bool) → IfSome (where_asked b (orders_of d)) (AreOrdersOf (report_of a d cs order (Some m)))
     in_order true = record { rows = refl; cols = refl }
     in_order false = tt
 
+    listed : (o : Option Components) → AreOfVersion a v o → IfSome o (AreConnectedComponents a)
+    listed None h = tt
+    listed (Some c) h = h.1
+
 pub met_of_report : (a : Matrix) (r : Report) → IsReportOf a r → (k : ℕ) → IsMet a r k
-met_of_report a r is k = subst (λ s. IsMet a s k) (sym is.same) (is_met a is.decomposition is.order is.matching is.is_decomposition is.maximum k)
+met_of_report a r is k = subst (λ s. IsMet a s k) (sym is.same) (is_met a is.decomposition is.version is.components is.order is.matching is.is_decomposition is.of_version is.maximum k)
 
 -- the decomposition that a report tells
 abbrev contents : Matrix → Report → Decomposition
@@ -86,10 +92,18 @@ same_orders : (r : Report) (both : List ℕ × List ℕ) → (both.0 ≡ r.horiz
 same_orders r both e f None h = refl
 same_orders r both e f (Some o) h = λ i. Some ((h.rows ∙ sym e) i, (h.cols ∙ sym f) i)
 
+-- the version of these components
+told_version : (a : Matrix) (o : Option Components) → IfSome o (AreConnectedComponents a) → AreOfVersion a (version_of o) o
+told_version a None h = refl
+told_version a (Some c) h = (refl, h)
+
 pub report_of_met : (a : Matrix) (r : Report) (pairs : List Place) → r.pairs ≡ Some pairs → IsRising (cols_of pairs) → ((k : ℕ) → IsMet a r k) → IsReportOf a r
 report_of_met a r pairs given rising met = record {
   decomposition = contents a r;
   is_decomposition = told_decomposition a r tells ((met 5).blocks refl).blocks;
+  version = version_of r.components;
+  components = r.components;
+  of_version = told_version a r.components ((met 6).components refl);
   order = with_orders r.orders;
   matching = pairs;
   maximum = subst (λ o. IfSome o (IsMaximum a)) given ((met 3).maximum refl);
@@ -97,6 +111,7 @@ report_of_met a r pairs given rising met = record {
   same = λ i. record {
     sizes = tells.sizes i;
     rank = r.rank;
+    components = r.components;
     horizontal_rows = r.horizontal_rows;
     horizontal_cols = r.horizontal_cols;
     blocks = r.blocks;

@@ -1,10 +1,11 @@
 -- The verdict on bytes follows from what they spell.
 use Rattle.std.proofs.Common.{◌≡◌, ◌∙◌, ℕ, ◌<◌, Bool, true, List, Option, Some, None, refl, sym, ap, subst, arith}
+use Rattle.bip_defs.specs.ConnectedComponents.{Components}
 use Rattle.bip_defs.specs.Lists.{IsRising}
 use Rattle.bip_defs.specs.Decomposition.{Decomposition, IsDecompositionOf}
 use Rattle.bip_defs.specs.Matching.{IsMatching, cols_of}
 use Rattle.bip_defs.specs.Matrix.{Matrix, Place}
-use Rattle.bip_graph.specs.Answers.{ArePairs, IsAnalysis, report_of}
+use Rattle.bip_graph.specs.Answers.{AreOfVersion, ArePairs, IsAnalysis, report_of}
 use Rattle.bip_graph.specs.Texts.{Report, report_text}
 use Rattle.btf_text.specs.Readable.{FitsText, IsReadable}
 use Rattle.sp_pattern.specs.Stored.{IsPattern}
@@ -20,7 +21,7 @@ HaveOneSpelling = (r s : Report) → IsReadable r → IsReadable s → report_te
 
 -- what the law `reports_can_be_read` says
 abbrev pub CanBeRead : Type 0
-CanBeRead = (a : Matrix) (d : Decomposition) (order : Bool) (m : List Place) → FitsText a → IsDecompositionOf a d → IsMatching a m → IsRising (cols_of m) → IsReadable (report_of a d order (Some m))
+CanBeRead = (a : Matrix) (d : Decomposition) (v : ℕ) (cs : Option Components) (order : Bool) (m : List Place) → FitsText a → IsDecompositionOf a d → AreOfVersion a v cs → IsMatching a m → IsRising (cols_of m) → IsReadable (report_of a d cs order (Some m))
 
 -- the bytes spell one report
 one_report : HaveOneSpelling → (bytes : List ℕ) (r s : Report) → Spells bytes r → Spells bytes s → r ≡ s
@@ -28,10 +29,13 @@ one_report one bytes r s h k = one r s h.readable k.readable (sym h.spelled ∙ 
 
 report_valid : (a : Matrix) (bytes : List ℕ) (r : Report) → bytes ≡ report_text r → IsReportOf a r → IsValid a bytes
 report_valid a bytes r spelled is = (
+  is.version,
   is.order,
   record {
     decomposition = is.decomposition;
     is_decomposition = is.is_decomposition;
+    components = is.components;
+    of_version = is.of_version;
     matching = Some is.matching;
     are_pairs = (is.maximum, is.rising);
     spelled = spelled ∙ ap report_text is.same;
@@ -40,7 +44,7 @@ report_valid a bytes r spelled is = (
 
 -- nothing is asked of a report under 0 or 1
 none_asked : (a : Matrix) (r : Report) (j : ℕ) → j < 2 → IsMet a r j
-none_asked a r j lt = record { pairs = λ (e : j ≡ 2). absurd (omega arith); maximum = λ (e : j ≡ 3). absurd (omega arith); parts = λ (e : j ≡ 4). absurd (omega arith); blocks = λ (e : j ≡ 5). absurd (omega arith) }
+none_asked a r j lt = record { pairs = λ (e : j ≡ 2). absurd (omega arith); maximum = λ (e : j ≡ 3). absurd (omega arith); parts = λ (e : j ≡ 4). absurd (omega arith); blocks = λ (e : j ≡ 5). absurd (omega arith); components = λ (e : j ≡ 6). absurd (omega arith) }
 
 pub no_report : (a : Matrix) (bytes : List ℕ) → ((r : Report) → IsReadable r → ¬ (bytes ≡ report_text r)) → IsVerdict a bytes (Invalid 1)
 no_report a bytes none = record {
@@ -63,21 +67,21 @@ judged one a bytes r (Invalid k) can spelled first = record {
 pub valid_by_met : (a : Matrix) (bytes : List ℕ) → ((k : ℕ) → IsMetBy a bytes k) → IsValid a bytes
 valid_by_met a bytes met = let (r, s) = (met 1).grammar refl in report_valid a bytes r s.spelled (report_of_met a r s.readable.pairs s.readable.with_pairs s.readable.are_pairs.rising (λ k. (met k).report r s))
 
-analysed : (a : Matrix) (bytes : List ℕ) (order : Bool) → IsAnalysis a order true bytes → (r : Report) × IsReportOf a r × (bytes ≡ report_text r)
-analysed a bytes order is = by is.matching is.are_pairs is.spelled
+analysed : (a : Matrix) (bytes : List ℕ) (v : ℕ) (order : Bool) → IsAnalysis a v order true bytes → (r : Report) × IsReportOf a r × (bytes ≡ report_text r)
+analysed a bytes v order is = by is.matching is.are_pairs is.spelled
   where
-    by : (o : Option (List Place)) → ArePairs a true o → bytes ≡ report_text (report_of a is.decomposition order o) → (r : Report) × IsReportOf a r × (bytes ≡ report_text r)
+    by : (o : Option (List Place)) → ArePairs a true o → bytes ≡ report_text (report_of a is.decomposition is.components order o) → (r : Report) × IsReportOf a r × (bytes ≡ report_text r)
     by None h e = absurd h
-    by (Some m) h e = (report_of a is.decomposition order (Some m), record { decomposition = is.decomposition; is_decomposition = is.is_decomposition; order = order; matching = m; maximum = h.0; rising = h.1; same = refl }, e)
+    by (Some m) h e = (report_of a is.decomposition is.components order (Some m), record { decomposition = is.decomposition; is_decomposition = is.is_decomposition; version = v; components = is.components; of_version = is.of_version; order = order; matching = m; maximum = h.0; rising = h.1; same = refl }, e)
 
 -- a pattern's numbers fit a text
 fits : (a : Matrix) → IsPattern a → FitsText a
 fits a pattern = record { rows = pattern.few_rows; columns = pattern.few_cols; entries = pattern.few_entries }
 
 pub met_by_valid : HaveOneSpelling → CanBeRead → (a : Matrix) (bytes : List ℕ) → IsPattern a → IsValid a bytes → (k : ℕ) → IsMetBy a bytes k
-met_by_valid one can a bytes pattern (order, is) k =
-    let (r, report, e) = analysed a bytes order is in
-    let this : Spells bytes r = record { readable = subst IsReadable (sym report.same) (can a report.decomposition report.order report.matching (fits a pattern) report.is_decomposition report.maximum.matching report.rising); spelled = e } in
+met_by_valid one can a bytes pattern (v, order, is) k =
+    let (r, report, e) = analysed a bytes v order is in
+    let this : Spells bytes r = record { readable = subst IsReadable (sym report.same) (can a report.decomposition report.version report.components report.order report.matching (fits a pattern) report.is_decomposition report.of_version report.maximum.matching report.rising); spelled = e } in
     record { grammar = λ e. (r, this); report = λ s h. subst (λ x. IsMet a x k) (one_report one bytes r s this h) (met_of_report a r report k) }
 
 -- What a report that was read leaves.

@@ -1,6 +1,7 @@
 -- What is asked of a report of a matrix, in the order in which it is judged.
 use Rattle.std.specs.Prelude.{◌≡◌, ℕ, List, ◌++◌, IfSome}
 use Rattle.bip_defs.specs.Blocks.{AreBlocksOf, all_cols, all_rows}
+use Rattle.bip_defs.specs.ConnectedComponents.{AreConnectedComponents}
 use Rattle.bip_defs.specs.Lists.{AreDistinct, Lists}
 use Rattle.bip_defs.specs.Matching.{IsMaximum, IsRank, rows_of}
 use Rattle.bip_defs.specs.Matrix.{AreEntries, Matrix, Place}
@@ -40,3 +41,4 @@ pub record IsMet (a : Matrix) (r : Report) (k : ℕ) : Type 0 where
   pub maximum : k ≡ 3 → IfSome r.pairs (IsMaximum a)
   pub parts : k ≡ 4 → TellsParts a r
   pub blocks : k ≡ 5 → TellsBlocks a r
+  pub components : k ≡ 6 → IfSome r.components (AreConnectedComponents a)

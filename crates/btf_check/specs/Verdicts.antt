@@ -1,25 +1,29 @@
 -- The verdict on the bytes of a report.
-use Rattle.std.specs.Prelude.{◌≡◌, ℕ, ◌<◌, Bool, true, List, Some}
+use Rattle.std.specs.Prelude.{◌≡◌, ℕ, ◌<◌, Bool, true, List, Option, Some}
+use Rattle.bip_defs.specs.ConnectedComponents.{Components}
 use Rattle.bip_defs.specs.Decomposition.{Decomposition, IsDecompositionOf}
 use Rattle.bip_defs.specs.Lists.{IsRising}
 use Rattle.bip_defs.specs.Matching.{IsMaximum, cols_of}
 use Rattle.bip_defs.specs.Matrix.{Matrix, Place}
-use Rattle.bip_graph.specs.Answers.{IsAnalysis, report_of}
+use Rattle.bip_graph.specs.Answers.{AreOfVersion, IsAnalysis, report_of}
 use Rattle.bip_graph.specs.Texts.{Report, report_text}
 use Rattle.btf_text.specs.Readable.{IsReadable}
 use Rattle.btf_check.specs.Reasons.{IsMet}
 use Rattle.btf_check.specs.declared.verdict.Verdict.{Verdict}
 use Rattle.btf_check.specs.declared.verdict.Verdict.TheVariants.{Invalid, Valid}
 
--- the report with pairs of the matrix, with orders or without
+-- the report with pairs of the matrix, in some version, with orders or without
 pub record IsReportOf (a : Matrix) (r : Report) : Type 0 where
   pub decomposition : Decomposition
   pub is_decomposition : IsDecompositionOf a decomposition
+  pub version : ℕ
+  pub components : Option Components
+  pub of_version : AreOfVersion a version components
   pub order : Bool
   pub matching : List Place
   pub maximum : IsMaximum a matching
   pub rising : IsRising (cols_of matching)
-  pub same : r ≡ report_of a decomposition order (Some matching)
+  pub same : r ≡ report_of a decomposition components order (Some matching)
 
 -- the first number at which what is asked does not hold
 pub record IsFirst (asked : ℕ → Type 0) (k : ℕ) : Type 0 where
@@ -41,9 +45,9 @@ pub record IsMetBy (a : Matrix) (bytes : List ℕ) (k : ℕ) : Type 0 where
   pub grammar : k ≡ 1 → (r : Report) × Spells bytes r
   pub report : (r : Report) → Spells bytes r → IsMet a r k
 
--- the bytes are the report with pairs of the matrix, with orders or without
+-- the bytes are the report with pairs of the matrix, in some version, with orders or without
 abbrev pub IsValid : Matrix → List ℕ → Type 0
-IsValid a bytes = (order : Bool) × IsAnalysis a order true bytes
+IsValid a bytes = (version : ℕ) × (order : Bool) × IsAnalysis a version order true bytes
 
 -- the bytes are valid, or the first reason that applies is told
 abbrev pub IsVerdict : Matrix → List ℕ → Verdict → Type 0

@@ -2,9 +2,10 @@
 
 ghost use Rattle.std.specs.Prelude.{◌≡◌, ◌↔◌, ℕ, ◌<◌, ◌++◌, map, IfOk, IsTrue};
 ghost use Rattle.bip_defs.specs.Lists.{Among, AreDistinct};
+ghost use Rattle.bip_graph.specs.Decompositions.{components_of};
 ghost use Rattle.btf_check.specs.ReportParts.{AreOnce};
 
-use bip_graph::Blocks;
+use bip_graph::{Blocks, Components};
 use sp_ids::{Col, Id, OutOfMemory, Row};
 use std::alloc::Global;
 
@@ -67,6 +68,13 @@ pub(crate) fn same_blocks(a: &Blocks, b: &Blocks) -> bool
         }
     }
     true
+}
+
+/// Whether two answers have the same components in the same order.
+pub(crate) fn same_components(a: &Components, b: &Components) -> bool
+    ensures { IsTrue result ↔ (components_of a.now ≡ components_of b.now) }
+{
+    same_blocks(&a.horizontal, &b.horizontal) && same_blocks(&a.vertical, &b.vertical)
 }
 
 /// Whether a list of rows is three others, one after another.

@@ -1,6 +1,7 @@
 //! What is asked of a report that was read.
 
 ghost use Rattle.std.specs.Prelude.{◌≡◌, ◌↔◌, IfOk, IfSome, IsTrue};
+ghost use Rattle.bip_defs.specs.ConnectedComponents.{AreConnectedComponents};
 ghost use Rattle.bip_defs.specs.Lists.{IsRising};
 ghost use Rattle.bip_defs.specs.Matching.{IsMaximum, cols_of};
 ghost use Rattle.bip_defs.specs.Parts.{ArePartsOf};
@@ -9,15 +10,16 @@ ghost use Rattle.btf_check.specs.ReportParts.{HasOuterParts, HasSizes};
 ghost use Rattle.btf_check.specs.Reasons.{AreOrdersOf, TellsParts};
 ghost use Rattle.btf_text.specs.ReportRead.{orders_in, contents};
 ghost use Rattle.btf_check.specs.Verdicts.{IsJudged};
+ghost use Rattle.btf_text.specs.Reports.{components_in};
 
 use crate::Verdict;
 use crate::compare::{
-    are_joined_cols, are_joined_rows, are_once, same_blocks, same_cols, same_rows,
+    are_joined_cols, are_joined_rows, are_once, same_blocks, same_cols, same_components, same_rows,
 };
 use crate::pairs::{is_maximum, matching_of};
 use bip_graph::{Matching, Parts};
 use btf_text::Report;
-use dm_coarse::coarse;
+use dm_coarse::{coarse, components};
 use dm_fine::fine;
 use sp_ids::{Col, OutOfMemory, Row};
 use sp_pattern::Pattern;
@@ -50,7 +52,29 @@ pub(crate) fn judge_report<R: Threads + Sync>(
     if !same_blocks(&report.blocks, &blocks) || !has_orders(report) {
         return Ok(Verdict::Invalid(5));
     }
+    if !tells_components(alloc, pattern, &parts, report)? {
+        return Ok(Verdict::Invalid(6));
+    }
     Ok(Verdict::Valid)
+}
+
+/// Whether the components, if the report has any, are those of a matrix whose parts are known, in their order.
+fn tells_components(
+    alloc: Global,
+    pattern: &Pattern,
+    parts: &Parts,
+    report: &Report,
+) -> Result<bool, OutOfMemory>
+    requires { ArePartsOf pattern.now (parts_of parts.now) }
+    ensures { IfOk result
+        (λ b. IsTrue b
+        ↔ IfSome (components_in report.now.components) (AreConnectedComponents pattern.now)) }
+{
+    let Some(told) = &report.components else {
+        return Ok(true);
+    };
+    let own = components(alloc, pattern, parts)?;
+    Ok(same_components(told, &own))
 }
 
 /// Whether the sizes, the rank and the coarse parts are those of a matrix, where a maximum matching and its parts are

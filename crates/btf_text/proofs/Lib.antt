@@ -1,5 +1,7 @@
 pub mod BlockLists
+pub mod Bodies
 pub mod BufferLaws
+pub mod ComponentLists
 pub mod Digits
 pub mod IdLists
 pub mod Limits

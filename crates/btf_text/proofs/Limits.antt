@@ -1,20 +1,23 @@
 -- The report of a matrix within the limits of a text can be read.
-use Rattle.std.proofs.Common.{◌≡◌, ◌<◌, ◌≤◌, ◌^◌, ℕ, suc, Bool, true, false, List, [], ◌∷◌, ◌++◌, length, Some, IfSome, refl, sym, ap, subst, inl, inr, ⊎_elim, arith}
+use Rattle.std.proofs.Common.{◌≡◌, ◌<◌, ◌≤◌, ◌+◌, ◌^◌, ℕ, suc, Bool, true, false, List, [], ◌∷◌, ◌++◌, length, map, Option, None, Some, IfSome, refl, sym, ap, subst, inl, inr, ⊎_elim, arith}
 use Rattle.std.specs.List.{AllByRecursion}
-use Rattle.bip_defs.specs.Blocks.{Block, Chain, ColAt, IsBlock, IsPerfect, RowAt, all_cols, all_rows}
+use Rattle.std.proofs.lemmas.List.{length-map}
+use Rattle.bip_defs.specs.Blocks.{Block, Chain, ColAt, IsBlock, IsPerfect, RowAt, Vertex, all_cols, all_rows, least_col}
 use Rattle.bip_defs.specs.Blocks.Chain.{by_col, by_row}
+use Rattle.bip_defs.specs.ConnectedComponents.{AreOrderedComponents, Components, IsComponentWith, IsConnectedComponent, IsHorizontalVertex, IsVerticalVertex, Joined, alone, least_row, to_col, to_row}
 use Rattle.bip_defs.specs.Decomposition.{Decomposition, IsDecompositionOf}
 use Rattle.bip_defs.specs.Lists.{Among, AreDistinct, IsRising, Lists}
 use Rattle.bip_defs.specs.Matching.{IsMatching, cols_of, rows_of}
 use Rattle.bip_defs.specs.Matrix.{Matrix, Place, cols, upto}
 use Rattle.bip_defs.specs.Parts.{IsHorizontalCol, IsHorizontalRow, IsVerticalCol, IsVerticalRow}
+use Rattle.bip_defs.proofs.Connected.{joined_inside}
 use Rattle.bip_defs.proofs.Counts.{distinct_append, horizontal_row_in_range, vertical_col_in_range}
-use Rattle.bip_defs.proofs.Sets.{among_either, col_pair, entry_col, few_distinct, one_col, one_row, pigeonhole, rising_distinct, row_pair, upto_length, upto_lists}
+use Rattle.bip_defs.proofs.Sets.{among_either, among_map_back, col_pair, entry_col, few_distinct, one_col, one_row, pigeonhole, rising_distinct, row_pair, upto_length, upto_lists}
 use Rattle.bip_defs.proofs.Square.{square_pairs_perfect}
-use Rattle.bip_defs.proofs.Uniqueness.{block_has_col, chain_back, chain_join, chain_square, class_same}
-use Rattle.bip_graph.specs.Answers.{orders_of, report_of, where_asked}
+use Rattle.bip_defs.proofs.Uniqueness.{block_has_col, chain_back, chain_join, chain_square, class_same, least_among}
+use Rattle.bip_graph.specs.Answers.{AreOfVersion, orders_of, report_of, where_asked}
 use Rattle.bip_graph.specs.Texts.{square_size}
-use Rattle.btf_text.specs.Readable.{AreBlocksLike, AreOrdersLike, FitsText, IsBlockLike, IsId, IsList, IsReadable}
+use Rattle.btf_text.specs.Readable.{AreBlocksLike, AreComponentsLike, AreNumberedLike, AreOrdersLike, FitsText, IsBlockLike, IsComponentLike, IsId, IsList, IsReadable}
 use Rattle.btf_text.proofs.BlockLists.{rows_of_blocks, size_more}
 
 -- ---- lists
@@ -105,6 +108,61 @@ blocks_fit a m bs perfect few_rows few_cols are apart =
       few_rows = omega (arith, few_rows, few, rows_of_blocks bs);
     }
 
+-- ---- components
+
+-- the part's rows and columns are the matrix's
+pub record IsInside (a : Matrix) (P : Vertex → Type 0) : Type 0 where
+  pub rows : (r : ℕ) → P (RowAt r) → r < a.rows
+  pub cols : (c : ℕ) → P (ColAt c) → c < cols a
+
+component_like : (a : Matrix) (P : Vertex → Type 0) (b : Block) → IsInside a P → a.rows < 2 ^ 32 → cols a < 2 ^ 32 → IsConnectedComponent a P b → IsComponentLike b
+component_like a P b inside few_rows few_cols x = record {
+  rows = list_fits (λ r. Joined a P x.0 (RowAt r)) a.rows b.rows few_rows x.1.rows (λ r y. inside.rows r (joined_inside a P x.1.inside y));
+  cols = list_fits (λ c. Joined a P x.0 (ColAt c)) (cols a) b.cols few_cols x.1.cols (λ c y. inside.cols c (joined_inside a P x.1.inside y));
+  some = some x.0 x.1;
+}
+  where
+    some : (v : Vertex) → IsComponentWith a P v b → 0 < length b.rows + length b.cols
+    some (RowAt r) k = let lt = some_among r b.rows (k.rows.complete r alone) in omega (arith, lt)
+    some (ColAt c) k = let lt = some_among c b.cols (k.cols.complete c alone) in omega (arith, lt)
+
+all_components_like : (a : Matrix) (P : Vertex → Type 0) (bs : List Block) → IsInside a P → a.rows < 2 ^ 32 → cols a < 2 ^ 32 → ((b : Block) → Among b bs → IsConnectedComponent a P b) → AllByRecursion IsComponentLike bs
+all_components_like a P [] inside few_rows few_cols are = tt
+all_components_like a P (b ∷ bs) inside few_rows few_cols are = (component_like a P b inside few_rows few_cols (are b (inl refl)), all_components_like a P bs inside few_rows few_cols (λ d on. are d (inr on)))
+
+numbered_like : (a : Matrix) (P : Vertex → Type 0) (least : Block → ℕ) (n : ℕ) (bs : List Block) → IsInside a P → a.rows < 2 ^ 32 → cols a < 2 ^ 32 → n < 2 ^ 32 → ((b : Block) → IsConnectedComponent a P b → least b < n) → AreOrderedComponents a P least bs → AreNumberedLike bs
+numbered_like a P least n bs inside few_rows few_cols small below x = record {
+  each = all_components_like a P bs inside few_rows few_cols x.sound;
+  few = (let le = few_below n (map least bs) (rising_distinct (map least bs) x.rising) (λ y on. let (b, among, is) = among_map_back least y bs on in rw (← is) (below b (x.sound b among))) in omega (arith, le, length-map bs least, small));
+}
+
+horizontal_inside : (a : Matrix) → IsInside a (IsHorizontalVertex a)
+horizontal_inside a = record { rows = horizontal_row_in_range a; cols = λ c h. h.0 }
+
+vertical_inside : (a : Matrix) → IsInside a (IsVerticalVertex a)
+vertical_inside a = record { rows = λ r h. h.0; cols = vertical_col_in_range a }
+
+least_col_below : (a : Matrix) (b : Block) → IsConnectedComponent a (IsHorizontalVertex a) b → least_col b < cols a
+least_col_below a b x = by x.0 x.1
+  where
+    by : (v : Vertex) → IsComponentWith a (IsHorizontalVertex a) v b → least_col b < cols a
+    by (ColAt c) k = (joined_inside a (IsHorizontalVertex a) k.inside (k.cols.sound (least_col b) (least_among b.cols (c, k.cols.complete c alone)))).0
+    by (RowAt r) k = let (c, h, e) = k.inside in (joined_inside a (IsHorizontalVertex a) k.inside (k.cols.sound (least_col b) (least_among b.cols (c, k.cols.complete c (to_col alone e k.inside h))))).0
+
+least_row_below : (a : Matrix) (b : Block) → IsConnectedComponent a (IsVerticalVertex a) b → least_row b < a.rows
+least_row_below a b x = by x.0 x.1
+  where
+    by : (v : Vertex) → IsComponentWith a (IsVerticalVertex a) v b → least_row b < a.rows
+    by (RowAt r) k = (joined_inside a (IsVerticalVertex a) k.inside (k.rows.sound (least_row b) (least_among b.rows (r, k.rows.complete r alone)))).0
+    by (ColAt c) k = let (r, h, e) = k.inside in (joined_inside a (IsVerticalVertex a) k.inside (k.rows.sound (least_row b) (least_among b.rows (r, k.rows.complete r (to_row alone e h k.inside))))).0
+
+components_fit : (a : Matrix) (v : ℕ) (o : Option Components) → a.rows < 2 ^ 32 → cols a < 2 ^ 32 → AreOfVersion a v o → IfSome o AreComponentsLike
+components_fit a v None few_rows few_cols is = tt
+components_fit a v (Some c) few_rows few_cols is = record {
+  horizontal = numbered_like a (IsHorizontalVertex a) least_col (cols a) c.horizontal (horizontal_inside a) few_rows few_cols few_cols (least_col_below a) is.1.horizontal;
+  vertical = numbered_like a (IsVerticalVertex a) least_row a.rows c.vertical (vertical_inside a) few_rows few_cols few_rows (least_row_below a) is.1.vertical;
+}
+
 -- ---- the whole
 
 asked_like : (order : Bool) (orders : List ℕ × List ℕ) → AreOrdersLike orders → IfSome (where_asked order orders) AreOrdersLike
@@ -120,8 +178,8 @@ few_pairs a m few_rows paired =
     let within = λ (r : ℕ) (on : Among r (rows_of m)). let (c, p) = row_pair r m on in (paired.entries r c p).0 in
     omega (arith, few_rows, few_below a.rows (rows_of m) paired.rows_differ within, as_many_rows m)
 
-pub can_be_read : (a : Matrix) (d : Decomposition) (order : Bool) (m : List Place) → FitsText a → IsDecompositionOf a d → IsMatching a m → IsRising (cols_of m) → IsReadable (report_of a d order (Some m))
-can_be_read a d order m fits is paired rising =
+pub can_be_read : (a : Matrix) (d : Decomposition) (v : ℕ) (cs : Option Components) (order : Bool) (m : List Place) → FitsText a → IsDecompositionOf a d → AreOfVersion a v cs → IsMatching a m → IsRising (cols_of m) → IsReadable (report_of a d cs order (Some m))
+can_be_read a d v cs order m fits is of_version paired rising =
     let (best, max, size) = is.rank in
     let parts = is.parts in
     let perfect = square_pairs_perfect a best d.parts.square_rows max parts.square_rows in
@@ -134,6 +192,7 @@ can_be_read a d order m fits is paired rising =
     record {
       sizes = record { rows = fits.rows; cols = fits.columns; entries = fits.entries };
       rank = omega (arith, few_pairs a best fits.rows max.matching, size);
+      components = components_fit a v cs fits.rows fits.columns of_version;
       horizontal_rows = hr;
       horizontal_cols = hc;
       blocks = blocks_fit a _ d.blocks perfect fits.rows fits.columns is.blocks.sound is.blocks.distinct;

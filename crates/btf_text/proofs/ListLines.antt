@@ -3,7 +3,7 @@ use Rattle.std.proofs.Common.{codes, decimal, ◌≡◌, ◌<◌, ◌≤◌, ◌
 use Rattle.std.specs.List.{AllByRecursion, starts_with}
 use Rattle.bip_graph.specs.Texts.{Sizes, counted, line, matrix_line, spaced, spelled}
 use Rattle.btf_text.specs.Readable.{IsId}
-use Rattle.btf_text.specs.ReportGrammar.{◌>>=◌, field_at, id_of, ids_at, line_end, list_at, one_at, sizes_at, two_at, word_at}
+use Rattle.btf_text.specs.ReportGrammar.{◌>>=◌, field_at, id_of, ids_at, line_end, list_at, one_at, sizes_at, three_at, two_at, word_at}
 use Rattle.btf_text.proofs.Spelled.{EndsNumber, bind_some, field_again, field_takes, id_again, id_takes, line_ends_number, some_is, space_ends, word_again, word_takes}
 
 -- a line in front of more bytes: its word, its numbers and its end
@@ -83,6 +83,42 @@ two_again word a b rest small_a small_b =
       word_again word ((32 ∷ decimal a) ++ ((32 ∷ decimal b) ++ 10 ∷ rest)),
       field_again a ((32 ∷ decimal b) ++ 10 ∷ rest) small_a (space_ends (decimal b ++ 10 ∷ rest)),
       field_again b (10 ∷ rest) small_b (line_ends_number rest),
+      end_again rest,
+    ) refl
+
+abbrev pub IsThreeLine : List ℕ → List ℕ → (ℕ × ℕ × ℕ) × List ℕ → Type 0
+IsThreeLine word bytes x = (bytes ≡ spelled (line word (x.0.0 ∷ x.0.1 ∷ x.0.2 ∷ [])) ++ x.1) × (x.0.0 < 2 ^ 32) × (x.0.1 < 2 ^ 32) × (x.0.2 < 2 ^ 32)
+
+pub three_takes : (word bytes : List ℕ) (x : (ℕ × ℕ × ℕ) × List ℕ) → three_at word bytes ≡ Some x → IsThreeLine word bytes x
+unfolding three_at
+three_takes word bytes x e =
+    let r = bind_some (word_at word bytes) (λ rest. field_at rest >>= λ a. field_at a.1 >>= λ b. field_at b.1 >>= λ d. line_end d.1 >>= λ after. Some ((a.0, b.0, d.0), after)) x e in
+    let a = bind_some (field_at r.0) (λ a. field_at a.1 >>= λ b. field_at b.1 >>= λ d. line_end d.1 >>= λ after. Some ((a.0, b.0, d.0), after)) x r.2 in
+    let b = bind_some (field_at a.0.1) (λ b. field_at b.1 >>= λ d. line_end d.1 >>= λ after. Some ((a.0.0, b.0, d.0), after)) x a.2 in
+    let d = bind_some (field_at b.0.1) (λ d. line_end d.1 >>= λ after. Some ((a.0.0, b.0.0, d.0), after)) x b.2 in
+    let z = bind_some (line_end d.0.1) (λ after. Some ((a.0.0, b.0.0, d.0.0), after)) x d.2 in
+    let fa = field_takes r.0 a.0 a.1 in
+    let fb = field_takes a.0.1 b.0 b.1 in
+    let fd = field_takes b.0.1 d.0 d.1 in
+    subst (IsThreeLine word bytes) (some_is ((a.0.0, b.0.0, d.0.0), z.0) x z.2) (
+      word_takes word bytes r.0 r.1
+          ∙ ap (λ (t : List ℕ). word ++ t) (fa.0
+          ∙ ap (λ (t : List ℕ). (32 ∷ decimal a.0.0) ++ t) (fb.0 ∙ ap (λ (t : List ℕ). (32 ∷ decimal b.0.0) ++ t) (fd.0 ∙ ap (λ (t : List ℕ). (32 ∷ decimal d.0.0) ++ t) (end_takes d.0.1 z.0 z.1))))
+          ∙ sym (three_before word a.0.0 b.0.0 d.0.0 z.0),
+      fa.1,
+      fb.1,
+      fd.1,
+    )
+
+pub three_again : (word : List ℕ) (a b c : ℕ) (rest : List ℕ) → a < 2 ^ 32 → b < 2 ^ 32 → c < 2 ^ 32 → three_at word (spelled (line word (a ∷ b ∷ c ∷ [])) ++ rest) ≡ Some ((a, b, c), rest)
+unfolding three_at
+three_again word a b c rest small_a small_b small_c =
+    ap (three_at word) (three_before word a b c rest)
+    ∙ rw (
+      word_again word ((32 ∷ decimal a) ++ ((32 ∷ decimal b) ++ ((32 ∷ decimal c) ++ 10 ∷ rest))),
+      field_again a ((32 ∷ decimal b) ++ ((32 ∷ decimal c) ++ 10 ∷ rest)) small_a (space_ends (decimal b ++ ((32 ∷ decimal c) ++ 10 ∷ rest))),
+      field_again b ((32 ∷ decimal c) ++ 10 ∷ rest) small_b (space_ends (decimal c ++ 10 ∷ rest)),
+      field_again c (10 ∷ rest) small_c (line_ends_number rest),
       end_again rest,
     ) refl
 

@@ -76,13 +76,13 @@ nothing_listed = record { ids_fit = tt; rising = tt; few = omega arith }
 both_none : (a b : ℕ) → (eqb a 0 && eqb b 0) ≡ true → (a ≡ 0) × (b ≡ 0)
 both_none a b e = let g = both (eqb a 0) (eqb b 0) e in (eqb-true a 0 g.0, eqb-true b 0 g.1)
 
-some_there : (a b : ℕ) → (eqb a 0 && eqb b 0) ≡ false → a + b ≢ 0
+pub some_there : (a b : ℕ) → (eqb a 0 && eqb b 0) ≡ false → a + b ≢ 0
 some_there a b e none =
     let no_a : a ≡ 0 = omega (arith, none) in
     let no_b : b ≡ 0 = omega (arith, none) in
     true≢false (sym (ap₂ (λ (x y : ℕ). eqb x 0 && eqb y 0) no_a no_b) ∙ e)
 
-not_both : (a b : ℕ) → a + b ≢ 0 → (eqb a 0 && eqb b 0) ≡ false
+pub not_both : (a b : ℕ) → a + b ≢ 0 → (eqb a 0 && eqb b 0) ≡ false
 not_both a b some = by (eqb a 0 && eqb b 0) refl
   where
     by : (t : Bool) → (eqb a 0 && eqb b 0) ≡ t → (eqb a 0 && eqb b 0) ≡ false

@@ -4,7 +4,7 @@ use Rattle.std.proofs.lemmas.List.{length-take-le, map-append, take_more}
 use Rattle.std.proofs.lemmas.Grind.{flat_map-append}
 use Rattle.bip_defs.specs.Blocks.{Block, block_at, no_block}
 use Rattle.bip_graph.specs.Answers.{where_asked}
-use Rattle.bip_graph.specs.Texts.{TextLine, block_lines, counted, line, lists, order_lines, spaced, spelled}
+use Rattle.bip_graph.specs.Texts.{TextLine, block_lines, component_lines, counted, line, lists, order_lines, spaced, spelled}
 use Rattle.btf_text.specs.Buffered.{AppendsLines, Buffered, since}
 use Rattle.btf_text.proofs.BufferLaws.{appends_none}
 use Rattle.btf_text.proofs.Parts.{same_ids}
@@ -25,6 +25,19 @@ pub blocks_go_on : (bs : List Block) (i n : ℕ) {rows cols : List ℕ} → i < 
 blocks_go_on bs i n inside number rows_are cols_are =
     ap₂ (λ (r c : List ℕ). block_lines 1 (take i bs) ++ (line (codes "block") (n ∷ length r ∷ []) ∷ lists r c)) rows_are cols_are
     ∙ sym (ap (block_lines 1) (take_more bs i no_block inside) ∙ blocks_more 1 n (take i bs) (block_at bs i) (omega (arith, number, length-take-le i bs (omega (arith, inside)))))
+
+components_more : (k n : ℕ) (bs : List Block) (b : Block) → n ≡ k + length bs
+    → component_lines k (bs ++ b ∷ []) ≡ component_lines k bs ++ (line (codes "component") (n ∷ length b.rows ∷ length b.cols ∷ []) ∷ lists b.rows b.cols)
+components_more k n [] b e = ap (λ (m : ℕ). line (codes "component") (m ∷ length b.rows ∷ length b.cols ∷ []) ∷ lists b.rows b.cols) (omega (arith, e))
+components_more k n (x ∷ xs) b e =
+    ap (λ (ls : List TextLine). line (codes "component") (k ∷ length x.rows ∷ length x.cols ∷ []) ∷ lists x.rows x.cols ++ ls) (components_more (suc k) n xs b (omega (arith, e)))
+
+-- one component more
+pub components_go_on : (bs : List Block) (i n : ℕ) {rows cols : List ℕ} → i < length bs → n ≡ suc i → rows ≡ (block_at bs i).rows → cols ≡ (block_at bs i).cols
+    → component_lines 1 (take i bs) ++ (line (codes "component") (n ∷ length rows ∷ length cols ∷ []) ∷ lists rows cols) ≡ component_lines 1 (take (i + 1) bs)
+components_go_on bs i n inside number rows_are cols_are =
+    ap₂ (λ (r c : List ℕ). component_lines 1 (take i bs) ++ (line (codes "component") (n ∷ length r ∷ length c ∷ []) ∷ lists r c)) rows_are cols_are
+    ∙ sym (ap (component_lines 1) (take_more bs i no_block inside) ∙ components_more 1 n (take i bs) (block_at bs i) (omega (arith, number, length-take-le i bs (omega (arith, inside)))))
 
 joined : {N : Type 0} (number : N → ℕ) (a b : List N) → spaced (counted (map number (a ++ b))) ≡ spaced (counted (map number a)) ++ spaced (counted (map number b))
 joined number a b =

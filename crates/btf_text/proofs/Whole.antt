@@ -1,5 +1,6 @@
 -- The report of an answer is the report of its matrix.
 use Rattle.std.proofs.Common.{◌≡◌, ◌∙◌, ℕ, Bool, List, Option, ap}
+use Rattle.bip_defs.specs.ConnectedComponents.{Components}
 use Rattle.bip_defs.specs.Matrix.{Matrix, Place, cols}
 use Rattle.bip_graph.specs.Answers.{orders_of, report_of, where_asked}
 use Rattle.bip_graph.specs.Decompositions.{Decomposes, decomposition_of}
@@ -14,13 +15,14 @@ same_sizes a d is =
     sized : ℕ → ℕ → ℕ → Sizes
     sized m n e = record { rows = m; cols = n; entries = e }
 
-pub same_report : (a : Matrix) (d : Decomposition) (order : Bool) (pairs : Option (List Place)) → Decomposes a d → reported d order pairs ≡ report_of a (decomposition_of d) order pairs
-same_report a d order pairs is = ap with_sizes (same_sizes a d is)
+pub same_report : (a : Matrix) (d : Decomposition) (components : Option Components) (order : Bool) (pairs : Option (List Place)) → Decomposes a d → reported d components order pairs ≡ report_of a (decomposition_of d) components order pairs
+same_report a d components order pairs is = ap with_sizes (same_sizes a d is)
   where
     with_sizes : Sizes → Report
     with_sizes s = record {
       sizes = s;
       rank = d.rank;
+      components = components;
       horizontal_rows = d.parts.hr.items;
       horizontal_cols = d.parts.hc.items;
       blocks = d.blocks;

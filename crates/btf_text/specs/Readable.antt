@@ -1,7 +1,8 @@
 -- Which reports can be read.
-use Rattle.std.specs.Prelude.{◌≡◌, ℕ, ◌<◌, ◌-◌, ◌^◌, List, length, Some, IfSome}
+use Rattle.std.specs.Prelude.{◌≡◌, ℕ, ◌<◌, ◌-◌, ◌+◌, ◌^◌, List, length, Some, IfSome}
 use Rattle.std.specs.List.{AllByRecursion}
 use Rattle.bip_defs.specs.Blocks.{Block}
+use Rattle.bip_defs.specs.ConnectedComponents.{Components}
 use Rattle.bip_defs.specs.Lists.{IsRising}
 use Rattle.bip_defs.specs.Matching.{cols_of, rows_of}
 use Rattle.bip_defs.specs.Matrix.{Matrix, Place, cols, entry_count}
@@ -33,6 +34,20 @@ pub record AreBlocksLike (bs : List Block) : Type 0 where
   pub few : IsNumber (length bs)
   pub few_rows : IsNumber (square_size bs)
 
+-- one row or column at least
+pub record IsComponentLike (b : Block) : Type 0 where
+  pub rows : IsList b.rows
+  pub cols : IsList b.cols
+  pub some : 0 < length b.rows + length b.cols
+
+pub record AreNumberedLike (bs : List Block) : Type 0 where
+  pub each : AllByRecursion IsComponentLike bs
+  pub few : IsNumber (length bs)
+
+pub record AreComponentsLike (c : Components) : Type 0 where
+  pub horizontal : AreNumberedLike c.horizontal
+  pub vertical : AreNumberedLike c.vertical
+
 pub record ArePairsLike (ps : List Place) : Type 0 where
   pub rows_fit : AllByRecursion IsId (rows_of ps)
   pub cols_fit : AllByRecursion IsId (cols_of ps)
@@ -52,6 +67,7 @@ pub record AreSizesLike (s : Sizes) : Type 0 where
 pub record IsReadable (r : Report) : Type 0 where
   pub sizes : AreSizesLike r.sizes
   pub rank : IsNumber r.rank
+  pub components : IfSome r.components AreComponentsLike
   pub horizontal_rows : IsList r.horizontal_rows
   pub horizontal_cols : IsList r.horizontal_cols
   pub blocks : AreBlocksLike r.blocks

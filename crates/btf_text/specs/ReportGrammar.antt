@@ -1,10 +1,11 @@
 -- Reading a report from its start: each function gives what stands there and the bytes behind it, or nothing.
-use Rattle.std.specs.Prelude.{◌≡◌, ℕ, zero, suc, ◌+◌, ◌-◌, ◌*◌, ◌==◌, nat_lt, nat_eq, if◌then◌else◌, Bool, true, false, ◌&&◌, List, [], ◌∷◌, ◌++◌, length, drop, Option, Some, None, Result, Ok, Err, codes}
+use Rattle.std.specs.Prelude.{◌≡◌, ℕ, zero, suc, ◌+◌, ◌-◌, ◌*◌, ◌==◌, nat_lt, nat_eq, if◌then◌else◌, Bool, true, false, ◌&&◌, ◌||◌, List, [], ◌∷◌, ◌++◌, length, drop, Option, Some, None, Result, Ok, Err, codes}
 use Rattle.std.specs.Char.{is_ascii_digit}
 use Rattle.std.specs.List.{starts_with}
 use Rattle.bip_defs.specs.Blocks.{Block, all_rows}
 use Rattle.bip_defs.specs.Matching.{cols_of}
 use Rattle.bip_defs.specs.Matrix.{Place}
+use Rattle.bip_graph.specs.Answers.{where_asked}
 use Rattle.bip_graph.specs.Texts.{Report, Sizes}
 use Rattle.btf_text.specs.declared.stop.Stop.{Stop}
 use Rattle.btf_text.specs.declared.stop.Stop.TheVariants.{Memory, Other}
@@ -74,6 +75,16 @@ two_at word bytes = do
   b ← field_at a.1
   after ← line_end b.1
   Some ((a.0, b.0), after)
+
+-- a word and three numbers
+unfoldable pub three_at : List ℕ → List ℕ → Option ((ℕ × ℕ × ℕ) × List ℕ)
+three_at word bytes = do
+  rest ← word_at word bytes
+  a ← field_at rest
+  b ← field_at a.1
+  c ← field_at b.1
+  after ← line_end c.1
+  Some ((a.0, b.0, c.0), after)
 
 unfoldable pub sizes_at : List ℕ → Option (Sizes × List ℕ)
 sizes_at bytes = do
@@ -148,6 +159,34 @@ square_at bytes = do
   blocks ← blocks_at head.0.1 1 head.0.0 head.1
   if length (all_rows blocks.0) == head.0.0 then Some blocks else None
 
+-- ---- components
+
+-- the component of this number
+unfoldable pub component_at : ℕ → List ℕ → Option ((List ℕ × List ℕ) × List ℕ)
+component_at number bytes = do
+  head ← three_at (codes "component") bytes
+  if head.0.0 == number
+      then (if head.0.1 == 0 && head.0.2 == 0 then None else lists_at head.0.1 head.0.2 head.1)
+      else None
+
+-- so many components from this number on
+unfoldable pub numbered_at : ℕ → ℕ → List ℕ → Option (List Block × List ℕ)
+numbered_at zero number bytes = Some ([], bytes)
+numbered_at (suc count) number bytes = do
+  c ← component_at number bytes
+  others ← numbered_at count (suc number) c.1
+  Some (record { rows = c.0.0; cols = c.0.1 } ∷ others.0, others.1)
+
+-- how many there are, and they
+unfoldable pub counted_at : List ℕ → List ℕ → Option (List Block × List ℕ)
+counted_at word bytes = do
+  count ← one_at word bytes
+  numbered_at count.0 1 count.1
+
+-- the components of a part; version 1 has none
+unfoldable pub components_at : ℕ → List ℕ → List ℕ → Option (List Block × List ℕ)
+components_at version word bytes = if version == 2 then counted_at word bytes else Some ([], bytes)
+
 -- ---- orders and pairs
 
 unfoldable pub both_orders_at : List ℕ → Option (Option (List ℕ × List ℕ) × List ℕ)
@@ -186,11 +225,16 @@ pairs_at bytes = do
 
 -- ---- the whole
 
--- what stands before the parts
+-- the version, which is 1 or 2
+unfoldable pub version_at : List ℕ → Option (ℕ × List ℕ)
+version_at bytes = do
+  version ← one_at (codes "btf") bytes
+  if version.0 == 1 || version.0 == 2 then Some version else None
+
+-- what stands between the version and the parts
 unfoldable pub head_at : List ℕ → Option ((Sizes × ℕ) × List ℕ)
 head_at bytes = do
-  rest ← word_at (codes "btf 1" ++ 10 ∷ []) bytes
-  sizes ← sizes_at rest
+  sizes ← sizes_at bytes
   rank ← one_at (codes "rank") sizes.1
   Some ((sizes.0, rank.0), rank.1)
 
@@ -202,21 +246,47 @@ tail_at bytes = do
   rest ← word_at (codes "end" ++ 10 ∷ []) pairs.1
   if length rest == 0 then Some (orders.0, pairs.0) else None
 
+-- the lists of the parts, the components and the blocks
+pub record Body : Type 0 where
+  pub horizontal : List ℕ × List ℕ
+  pub first : List Block
+  pub blocks : List Block
+  pub vertical : List ℕ × List ℕ
+  pub second : List Block
+
+unfoldable pub body_at : ℕ → List ℕ → Option (Body × List ℕ)
+body_at version bytes = do
+  horizontal ← part_at (codes "horizontal") bytes
+  first ← components_at version (codes "horizontal_components") horizontal.1
+  blocks ← square_at first.1
+  vertical ← part_at (codes "vertical") blocks.1
+  second ← components_at version (codes "vertical_components") vertical.1
+  Some (
+    record {
+      horizontal = horizontal.0;
+      first = first.0;
+      blocks = blocks.0;
+      vertical = vertical.0;
+      second = second.0;
+    },
+    second.1,
+  )
+
 unfoldable pub report_at : List ℕ → Option Report
 report_at bytes = do
-  head ← head_at bytes
-  horizontal ← part_at (codes "horizontal") head.1
-  blocks ← square_at horizontal.1
-  vertical ← part_at (codes "vertical") blocks.1
-  rest ← tail_at vertical.1
+  version ← version_at bytes
+  head ← head_at version.1
+  body ← body_at version.0 head.1
+  rest ← tail_at body.1
   Some (record {
     sizes = head.0.0;
     rank = head.0.1;
-    horizontal_rows = horizontal.0.0;
-    horizontal_cols = horizontal.0.1;
-    blocks = blocks.0;
-    vertical_rows = vertical.0.0;
-    vertical_cols = vertical.0.1;
+    components = where_asked (version.0 == 2) (record { horizontal = body.0.first; vertical = body.0.second });
+    horizontal_rows = body.0.horizontal.0;
+    horizontal_cols = body.0.horizontal.1;
+    blocks = body.0.blocks;
+    vertical_rows = body.0.vertical.0;
+    vertical_cols = body.0.vertical.1;
     orders = rest.0;
     pairs = Some rest.1;
   })

@@ -4,6 +4,9 @@ use Rattle.std.specs.Global.{Vec}
 use Rattle.bip_graph.specs.Texts as texts
 use Rattle.sp_ids.specs.declared.ids.Col.{Col}
 use Rattle.sp_ids.specs.declared.ids.Row.{Row}
+use Rattle.btf_text.specs.Reports.{components_in}
+use Rattle.btf_text.specs.ReportGrammar as grammar
+use Rattle.btf_text.specs.declared.reader.Body.{Body}
 use Rattle.btf_text.specs.declared.reader.Report.{Report}
 
 abbrev pub orders_in : Option (Vec Row × Vec Col) → Option (List ℕ × List ℕ)
@@ -14,6 +17,7 @@ abbrev pub contents : Report → texts.Report
 contents r = record {
   sizes = record { rows = r.m; cols = r.n; entries = r.e };
   rank = r.rank;
+  components = components_in r.components;
   horizontal_rows = r.parts.hr.items;
   horizontal_cols = r.parts.hc.items;
   blocks = r.blocks;
@@ -27,3 +31,17 @@ contents r = record {
 pub record GivesSquareByBlocks (r : Report) : Type 0 where
   pub rows : r.parts.sr.items ≡ []
   pub cols : r.parts.sc.items ≡ []
+
+-- the lists that were read
+abbrev pub lists_in : Body → grammar.Body
+lists_in b = record {
+  horizontal = (b.hr.items, b.hc.items);
+  first = b.horizontal;
+  blocks = b.blocks;
+  vertical = (b.vr.items, b.vc.items);
+  second = b.vertical;
+}
+
+-- components stand in version 2 alone
+abbrev pub HasVersion : Report → Type 0
+HasVersion r = r.version ≡ texts.version_of r.components

@@ -1,19 +1,27 @@
 -- What is written of a decomposition: its report, and its summary.
-use Rattle.std.specs.Prelude.{ℕ, Bool, List, [], ◌∷◌, ◌++◌, length, Option, codes}
+use Rattle.std.specs.Prelude.{ℕ, Bool, List, [], ◌∷◌, ◌++◌, length, Option, None, Some, codes}
+use Rattle.bip_defs.specs.ConnectedComponents as connected
 use Rattle.bip_defs.specs.Matrix.{Place}
 use Rattle.bip_graph.specs.Answers.{orders_of, where_asked}
-use Rattle.bip_graph.specs.Decompositions.{decomposition_of}
-use Rattle.bip_graph.specs.Texts.{Report, Sizes, TextLine, line, matrix_line, part, rank_line, square_line, square_lines, text_of}
+use Rattle.bip_graph.specs.Decompositions.{components_of, decomposition_of}
+use Rattle.bip_graph.specs.Texts.{Report, Sizes, TextLine, horizontal_components, line, matrix_line, part, rank_line, square_line, square_lines, text_of, vertical_components}
+use Rattle.bip_graph.specs.declared.answers.Components.{Components}
 use Rattle.bip_graph.specs.declared.answers.Decomposition.{Decomposition}
 
 abbrev pub sizes_in : Decomposition → Sizes
 sizes_in d = record { rows = d.m; cols = d.n; entries = d.e }
 
--- all of it, the orders where they are asked for, and these pairs
-abbrev pub reported : Decomposition → Bool → Option (List Place) → Report
-reported d order pairs = record {
+-- the components, where there are any
+abbrev pub components_in : Option Components → Option connected.Components
+components_in None = None
+components_in (Some c) = Some (components_of c)
+
+-- all of it, these components, the orders where they are asked for, and these pairs
+abbrev pub reported : Decomposition → Option connected.Components → Bool → Option (List Place) → Report
+reported d components order pairs = record {
   sizes = sizes_in d;
   rank = d.rank;
+  components = components;
   horizontal_rows = d.parts.hr.items;
   horizontal_cols = d.parts.hc.items;
   blocks = d.blocks;
@@ -23,12 +31,14 @@ reported d order pairs = record {
   pairs = pairs;
 }
 
--- the lists of the parts and the blocks
-abbrev pub part_lines : Decomposition → List TextLine
-part_lines d =
+-- the lists of the parts, the components and the blocks
+abbrev pub part_lines : Decomposition → Option connected.Components → List TextLine
+part_lines d components =
     part (codes "horizontal") d.parts.hr.items d.parts.hc.items
+    ++ horizontal_components components
     ++ square_lines d.blocks
     ++ part (codes "vertical") d.parts.vr.items d.parts.vc.items
+    ++ vertical_components components
 
 -- the lengths of two lists
 abbrev pub lengths_line : List ℕ → List ℕ → List ℕ → TextLine

@@ -1,7 +1,7 @@
 //! Words, numbers and lines of a report that is read.
 
 ghost use Rattle.std.specs.Prelude.{◌≡◌, suc, length, map};
-ghost use Rattle.btf_text.specs.ReportGrammar.{ReadsAs, digits_on, field_at, id_of, ids_at, line_end, list_at, number_at, one_at, rises, two_at, word_at};
+ghost use Rattle.btf_text.specs.ReportGrammar.{ReadsAs, digits_on, field_at, id_of, ids_at, line_end, list_at, number_at, one_at, rises, three_at, two_at, word_at};
 
 use crate::stop::Stop;
 use sp_ids::Id;
@@ -103,6 +103,22 @@ pub(crate) fn two_at<'a>(bytes: &'a [u8], word: &[u8]) -> Result<((u32, u32), &'
     let (b, rest) = field_at(rest)?;
     let rest = line_end(rest)?;
     Ok(((a, b), rest))
+}
+
+/// A line of a word and three numbers.
+#[tactic(auto, unfolding(crate::specs::ReportGrammar::three_at))]
+pub(crate) fn three_at<'a>(
+    bytes: &'a [u8],
+    word: &[u8],
+) -> Result<((u32, u32, u32), &'a [u8]), Stop>
+    ensures { ReadsAs (λ x. (x.0, x.1.now)) result (three_at word.now bytes.now) }
+{
+    let rest = word_at(bytes, word)?;
+    let (a, rest) = field_at(rest)?;
+    let (b, rest) = field_at(rest)?;
+    let (c, rest) = field_at(rest)?;
+    let rest = line_end(rest)?;
+    Ok(((a, b, c), rest))
 }
 
 /// The rows or columns of a line, up to its end.

@@ -110,6 +110,36 @@ fn other_lists_and_blocks(rt: HostRuntime) -> Result<(), Fail> {
 }
 
 #[test]
+fn components_of_a_column_and_a_row(rt: HostRuntime) -> Result<(), Fail> {
+    let text =
+        b"btf 2\nmatrix 1 1 0\nrank 0\nhorizontal 0 1\nrows\ncolumns 1\nhorizontal_components 1\ncomponent 1 0 1\nrows\ncolumns 1\nsquare 0 0\nvertical 1 0\nrows 1\ncolumns\nvertical_components 1\ncomponent 1 1 0\nrows 1\ncolumns\npairs 0\nend\n";
+    let read = read_report(rt.alloc(), text)?.ok_or("these bytes are a report")?;
+    assert_eq!(rt; read.version, 2);
+    let components = read.components.ok_or("the components stand there")?;
+    assert_eq!(rt; components.horizontal.len(), 1);
+    assert_eq!(rt; components.horizontal.all_cols(), [Col(0)].as_slice());
+    assert_eq!(rt; components.vertical.len(), 1);
+    assert_eq!(rt; components.vertical.all_rows(), [Row(0)].as_slice());
+    Ok(())
+}
+
+#[test]
+fn other_components(rt: HostRuntime) -> Result<(), Fail> {
+    let others: [&[u8]; 4] = [
+        // A component of no row and no column, one with another number, and one that is longer than told.
+        b"btf 2\nmatrix 1 1 0\nrank 0\nhorizontal 0 0\nhorizontal_components 1\ncomponent 1 0 0\nrows\ncolumns\nsquare 0 0\nvertical 0 0\nvertical_components 0\npairs 0\nend\n",
+        b"btf 2\nmatrix 1 1 0\nrank 0\nhorizontal 0 0\nhorizontal_components 1\ncomponent 2 1 0\nrows 1\ncolumns\nsquare 0 0\nvertical 0 0\nvertical_components 0\npairs 0\nend\n",
+        b"btf 2\nmatrix 1 1 0\nrank 0\nhorizontal 0 0\nhorizontal_components 1\ncomponent 1 1 0\nrows 1 2\ncolumns\nsquare 0 0\nvertical 0 0\nvertical_components 0\npairs 0\nend\n",
+        // No line on the vertical ones.
+        b"btf 2\nmatrix 0 0 0\nrank 0\nhorizontal 0 0\nhorizontal_components 0\nsquare 0 0\nvertical 0 0\npairs 0\nend\n",
+    ];
+    for text in others {
+        assert!(rt; !is_report(rt.alloc(), text)?);
+    }
+    Ok(())
+}
+
+#[test]
 fn what_is_written_is_read(rt: HostRuntime) -> Result<(), Fail> {
     let alloc = rt.alloc();
     let mut blocks = Blocks::new(alloc);
@@ -134,7 +164,7 @@ fn what_is_written_is_read(rt: HostRuntime) -> Result<(), Fail> {
     let mut out = SteadySink::new(alloc, 300, 300)?;
     let matching = Matching::empty(alloc, 3, 2)?;
     assert_eq!(rt;
-        write_report(&mut out, &mut buf, &dec, &matching, true, true),
+        write_report(&mut out, &mut buf, &dec, None, &matching, true, true),
         Ok(())
     );
     let read: Report = read_report(alloc, out.bytes())?.ok_or("it was written")?;

@@ -1,7 +1,7 @@
 //! Reports of small matrices, worked out by hand.
 
 use crate::{TextBuf, write_pairs, write_report};
-use bip_graph::{Blocks, Decomposition, Matching, Parts};
+use bip_graph::{Blocks, Components, Decomposition, Matching, Parts};
 use sp_ids::{Col, OutOfMemory, Row};
 use sp_ports::{Failed, MemSink, SteadySink};
 use std::alloc::Global;
@@ -73,24 +73,10 @@ fn written(
 ) -> Result<Vec<u8>, OutOfMemory> {
     let mut buf = TextBuf::new(alloc)?;
     let mut out = SteadySink::new(alloc, 1000, 7)?;
-    match write_report(&mut out, &mut buf, dec, matching, order, pairs) {
+    match write_report(&mut out, &mut buf, dec, None, matching, order, pairs) {
         Ok(()) => Ok(out.bytes().to_vec(alloc)?),
         Err(Failed) => Ok(Vec::new(alloc)),
     }
-}
-
-#[test]
-fn the_report_of_one_entry(rt: HostRuntime) -> Result<(), Fail> {
-    let alloc = rt.alloc();
-    let mut blocks = Blocks::new(alloc);
-    blocks.push(&[Row(0)], &[Col(0)])?;
-    let dec = square(alloc, 1, 1, blocks);
-    let matching = Matching::empty(alloc, 1, 1)?;
-    let text =
-        b"btf 1\nmatrix 1 1 1\nrank 1\nhorizontal 0 0\nsquare 1 1\nblock 1 1\nrows 1\ncolumns 1\nvertical 0 0\nend\n";
-    let answer = written(alloc, &dec, &matching, false, false)?;
-    assert_eq!(rt; answer.as_slice(), text.as_slice());
-    Ok(())
 }
 
 #[test]
@@ -130,34 +116,48 @@ fn the_report_of_three_parts(rt: HostRuntime) -> Result<(), Fail> {
     Ok(())
 }
 
-#[test]
-fn the_report_of_a_lower_triangle(rt: HostRuntime) -> Result<(), Fail> {
-    // The last column's block comes first.
-    let alloc = rt.alloc();
-    let mut blocks = Blocks::new(alloc);
-    blocks.push(&[Row(2)], &[Col(2)])?;
-    blocks.push(&[Row(1)], &[Col(1)])?;
-    blocks.push(&[Row(0)], &[Col(0)])?;
-    let dec = square(alloc, 3, 6, blocks);
-    let matching = Matching::empty(alloc, 3, 3)?;
-    let text =
-        b"btf 1\nmatrix 3 3 6\nrank 3\nhorizontal 0 0\nsquare 3 3\nblock 1 1\nrows 3\ncolumns 3\nblock 2 1\nrows 2\ncolumns 2\nblock 3 1\nrows 1\ncolumns 1\nvertical 0 0\nrow_order 3 2 1\ncolumn_order 3 2 1\nend\n";
-    let answer = written(alloc, &dec, &matching, true, false)?;
-    assert_eq!(rt; answer.as_slice(), text.as_slice());
-    Ok(())
+/// Two rows of two columns each, which are all horizontal.
+fn two_rows(alloc: Global) -> Result<Decomposition, OutOfMemory> {
+    let mut dec = square(alloc, 2, 4, Blocks::new(alloc));
+    dec.n = 4;
+    dec.parts.hr = [Row(0), Row(1)].to_vec(alloc)?;
+    dec.parts.hc = [Col(0), Col(1), Col(2), Col(3)].to_vec(alloc)?;
+    Ok(dec)
+}
+
+/// Each of the rows with its columns.
+fn two_components(alloc: Global) -> Result<Components, OutOfMemory> {
+    let mut horizontal = Blocks::new(alloc);
+    horizontal.push(&[Row(0)], &[Col(0), Col(2)])?;
+    horizontal.push(&[Row(1)], &[Col(1), Col(3)])?;
+    Ok(Components {
+        horizontal,
+        vertical: Blocks::new(alloc),
+    })
 }
 
 #[test]
-fn the_report_of_a_cycle(rt: HostRuntime) -> Result<(), Fail> {
+fn a_report_with_components(rt: HostRuntime) -> Result<(), Fail> {
     let alloc = rt.alloc();
-    let mut blocks = Blocks::new(alloc);
-    blocks.push(&[Row(0), Row(1), Row(2)], &[Col(0), Col(1), Col(2)])?;
-    let dec = square(alloc, 3, 6, blocks);
-    let matching = Matching::empty(alloc, 3, 3)?;
+    let (dec, components) = (two_rows(alloc)?, two_components(alloc)?);
+    let matching = Matching::empty(alloc, 2, 4)?;
     let text =
-        b"btf 1\nmatrix 3 3 6\nrank 3\nhorizontal 0 0\nsquare 3 1\nblock 1 3\nrows 1 2 3\ncolumns 1 2 3\nvertical 0 0\nend\n";
-    let answer = written(alloc, &dec, &matching, false, false)?;
-    assert_eq!(rt; answer.as_slice(), text.as_slice());
+        b"btf 2\nmatrix 2 4 4\nrank 2\nhorizontal 2 4\nrows 1 2\ncolumns 1 2 3 4\nhorizontal_components 2\ncomponent 1 1 2\nrows 1\ncolumns 1 3\ncomponent 2 1 2\nrows 2\ncolumns 2 4\nsquare 0 0\nvertical 0 0\nvertical_components 0\nend\n";
+    let mut buf = TextBuf::new(alloc)?;
+    let mut out = SteadySink::new(alloc, 1000, 7)?;
+    assert_eq!(rt;
+        write_report(
+            &mut out,
+            &mut buf,
+            &dec,
+            Some(&components),
+            &matching,
+            false,
+            false
+        ),
+        Ok(())
+    );
+    assert_eq!(rt; out.bytes(), text.as_slice());
     Ok(())
 }
 
@@ -173,7 +173,7 @@ fn a_report_that_is_cut_off(rt: HostRuntime) -> Result<(), Fail> {
     let mut buf = TextBuf::new(alloc)?;
     let mut failing = MemSink::new(alloc, 200_000, 65_536, [1].to_vec(alloc)?)?;
     assert_eq!(rt;
-        write_report(&mut failing, &mut buf, &dec, &matching, false, true),
+        write_report(&mut failing, &mut buf, &dec, None, &matching, false, true),
         Err(Failed)
     );
     assert_eq!(rt; failing.failed_calls(), 1);

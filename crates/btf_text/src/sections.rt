@@ -1,12 +1,14 @@
-//! Parts, blocks, orders and pairs of a report that is read.
+//! Parts, blocks, components, orders and pairs of a report that is read.
 
 ghost use Rattle.std.specs.Prelude.{◌≡◌, ◌<◌, ◌≤◌, ◌+◌, ◌^◌, length, map, Some};
 ghost use Rattle.bip_defs.specs.Matching.{cols_of};
 ghost use Rattle.bip_defs.specs.Blocks.{all_cols, all_rows};
-ghost use Rattle.btf_text.specs.ReportGrammar.{ReadsAs, block_at, blocks_at, both_orders_at, lists_at, orders_at, pair_at, pair_list_at, pairs_at, part_at, rises, square_at};
+ghost use Rattle.btf_text.specs.ReportGrammar.{ReadsAs, block_at, blocks_at, both_orders_at, lists_at, orders_at, pair_at, pair_list_at, pairs_at, part_at, rises, square_at, component_at, components_at, counted_at, numbered_at};
 ghost use Rattle.btf_text.specs.ReportRead.{orders_in};
 
-use crate::numerals::{field_at, id_of, line_end, list_at, number_at, one_at, rises, two_at};
+use crate::numerals::{
+    field_at, id_of, line_end, list_at, number_at, one_at, rises, three_at, two_at,
+};
 use crate::stop::Stop;
 use bip_graph::Blocks;
 use sp_ids::{Col, Row};
@@ -95,6 +97,65 @@ pub(crate) fn square_at(alloc: Global, bytes: &[u8]) -> Result<(Blocks, &[u8]), 
         return Err(Stop::Other);
     }
     Ok((blocks, rest))
+}
+
+/// The component of this number.
+#[tactic(auto, unfolding(crate::specs::ReportGrammar::component_at))]
+fn component_at(
+    alloc: Global,
+    bytes: &[u8],
+    number: u32,
+) -> Result<((Vec<Row>, Vec<Col>), &[u8]), Stop>
+    ensures { ReadsAs (λ x. ((x.0.0.items, x.0.1.items), x.1.now)) result
+        (component_at number bytes.now) }
+{
+    let ((written, m, n), rest) = three_at(bytes, b"component")?;
+    if written != number {
+        return Err(Stop::Other);
+    }
+    if m == 0 && n == 0 {
+        return Err(Stop::Other);
+    }
+    lists_at(alloc, rest, m, n)
+}
+
+/// So many components, numbered from 1.
+fn numbered_at(alloc: Global, bytes: &[u8], count: u32) -> Result<(Blocks, &[u8]), Stop>
+    ensures { ReadsAs (λ x. (x.0, x.1.now)) result (numbered_at count 1 bytes.now) }
+{
+    let mut read = Blocks::new(alloc);
+    let mut rest = bytes;
+    for at in 0..count {
+        let ((rows, cols), after) = component_at(alloc, rest, at + 1)?;
+        read.push(rows.as_slice(), cols.as_slice())?;
+        rest = after;
+    }
+    Ok((read, rest))
+}
+
+/// The number of components, and the components.
+#[tactic(auto, unfolding(crate::specs::ReportGrammar::counted_at))]
+fn counted_at<'a>(alloc: Global, bytes: &'a [u8], word: &[u8]) -> Result<(Blocks, &'a [u8]), Stop>
+    ensures { ReadsAs (λ x. (x.0, x.1.now)) result (counted_at word.now bytes.now) }
+{
+    let (count, rest) = one_at(bytes, word)?;
+    numbered_at(alloc, rest, count)
+}
+
+/// The components of a part; version 1 has none.
+#[tactic(auto, unfolding(crate::specs::ReportGrammar::components_at))]
+pub(crate) fn components_at<'a>(
+    alloc: Global,
+    bytes: &'a [u8],
+    version: u32,
+    word: &[u8],
+) -> Result<(Blocks, &'a [u8]), Stop>
+    ensures { ReadsAs (λ x. (x.0, x.1.now)) result (components_at version word.now bytes.now) }
+{
+    if version != 2 {
+        return Ok((Blocks::new(alloc), bytes));
+    }
+    counted_at(alloc, bytes, word)
 }
 
 /// Both orders.

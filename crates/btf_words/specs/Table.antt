@@ -19,6 +19,10 @@ default_engine = codes "graft"
 abbrev pub default_workers : ℕ
 default_workers = 4
 
+-- reports are written in the versions 1 to this one, and in this one where none is named
+abbrev pub latest_version : ℕ
+latest_version = 2
+
 -- names as clap's definitions hold them, behind references
 abbrev pub Names : Type 0
 Names = Bor (List (Bor Text))
@@ -61,6 +65,17 @@ order_rule = flag_rule (codes "order")
 abbrev pub pairs_rule : Rule
 pairs_rule = flag_rule (codes "pairs")
 
+-- `--drop-zeros`
+abbrev pub drop_zeros_rule : Rule
+drop_zeros_rule = flag_rule (codes "drop-zeros")
+
+-- `--report V`
+abbrev pub report_rule : Rule
+report_rule = record (option_rule (codes "report")) {
+  parser = Some (vp.Unsigned 1 latest_version);
+  defaults = codes "2" ∷ [];
+}
+
 abbrev pub size_rule : Rule
 size_rule = number_rule (codes "size") 1 max_load_size
 
@@ -72,18 +87,23 @@ seed_rule = number_rule (codes "seed") 0 max_load_seed
 abbrev pub command : Text → List Rule → Shape
 command name rules = record (new_shape name) { rules = rules }
 
+-- a command that reads a matrix, and may leave out the places whose values add up to 0
+abbrev pub reading_command : Text → Shape
+reading_command name = command name (drop_zeros_rule ∷ [])
+
 abbrev pub rank_command : Shape
-rank_command = command (codes "rank") []
+rank_command = reading_command (codes "rank")
 
 abbrev pub analyse_command : Names → Shape
 analyse_command names =
-    command (codes "analyse") (engine_rule names ∷ workers_rule ∷ order_rule ∷ pairs_rule ∷ [])
+    command (codes "analyse") (engine_rule names ∷ workers_rule ∷ order_rule ∷ pairs_rule
+    ∷ drop_zeros_rule ∷ report_rule ∷ [])
 
 abbrev pub diagonal_command : Shape
-diagonal_command = command (codes "diagonal") []
+diagonal_command = reading_command (codes "diagonal")
 
 abbrev pub check_command : Shape
-check_command = command (codes "check") []
+check_command = reading_command (codes "check")
 
 abbrev pub load_command : Names → Shape
 load_command names =

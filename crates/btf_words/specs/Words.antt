@@ -7,10 +7,11 @@ use Rattle.std.specs.Str.Parse.{digits_value, without_leading_plus}
 use Rattle.clap.specs.Words.{Row, Text, fault_of, first_of, subcommand_of}
 use Rattle.clap.specs.ValueTests.{is_unsigned_in}
 use Rattle.sp_ids.specs.Limits.{max_load_seed, max_load_size, max_workers}
-use Rattle.btf_words.specs.Table.{Names, btf, btf_over, default_engine, default_workers}
+use Rattle.btf_words.specs.Table.{Names, btf, btf_over, default_engine, default_workers, latest_version}
 use Rattle.btf_words.specs.declared.jobs.Engine.{Engine}
 use Rattle.btf_words.specs.declared.jobs.Engine.TheVariants.{Plain, Mc21, Pf, Graft}
 use Rattle.btf_words.specs.declared.jobs.Job.{Job}
+use Rattle.btf_words.specs.declared.jobs.ReportOptions.{ReportOptions}
 use Rattle.btf_words.specs.declared.jobs.Search.{Search}
 use Rattle.btf_words.specs.declared.jobs.Job.TheVariants.{Rank, Analyse, Diagonal, Check, Load}
 
@@ -55,16 +56,26 @@ search_in rows = record {
   workers = number_or default_workers 1 max_workers (codes "workers") rows;
 }
 
+-- what the report has
+abbrev pub report_in : List Row → ReportOptions
+report_in rows = record {
+  version = number_or latest_version 1 latest_version (codes "report") rows;
+  order = is_given (codes "order") rows;
+  pairs = is_given (codes "pairs") rows;
+}
+
+abbrev pub drops_zeros : List Row → Bool
+drops_zeros = is_given (codes "drop-zeros")
+
 -- ---- the job
 
 -- the job of a command, by the command's name and what was found for its options, defaults included
 abbrev pub job_from : Text × List Row → Option Job
-job_from m = if bytes_eq m.0 (codes "rank") then Some Rank
+job_from m = if bytes_eq m.0 (codes "rank") then Some (Rank (drops_zeros m.1))
     else (if bytes_eq m.0 (codes "analyse")
-    then Some (Analyse (search_in m.1) (is_given (codes "order") m.1)
-    (is_given (codes "pairs") m.1))
-    else (if bytes_eq m.0 (codes "diagonal") then Some Diagonal
-    else (if bytes_eq m.0 (codes "check") then Some Check
+    then Some (Analyse (search_in m.1) (report_in m.1) (drops_zeros m.1))
+    else (if bytes_eq m.0 (codes "diagonal") then Some (Diagonal (drops_zeros m.1))
+    else (if bytes_eq m.0 (codes "check") then Some (Check (drops_zeros m.1))
     else (if bytes_eq m.0 (codes "load")
     then Some (Load (size_in m.1) (seed_in m.1) (search_in m.1))
     else None))))
@@ -82,8 +93,12 @@ ReadsAlike names words = (fault_of (btf_over names) words ≡ fault_of btf words
 abbrev pub HasWorkers : Search → Type 0
 HasWorkers search = (1 ≤ search.workers) × (search.workers ≤ max_workers)
 
--- the matrix that a job makes, and the number of its workers, are within the limits
+abbrev pub IsVersion : ℕ → Type 0
+IsVersion version = (1 ≤ version) × (version ≤ latest_version)
+
+-- the matrix that a job makes, the number of its workers and its report's version are within the limits
 abbrev pub IsWithinLimits : Job → Type 0
 IsWithinLimits (Load size seed search) = (1 ≤ size) × (size ≤ max_load_size) × HasWorkers search
-IsWithinLimits (Analyse search order pairs) = HasWorkers search
+IsWithinLimits (Analyse search report drop_zeros) =
+    HasWorkers search × IsVersion report.version
 IsWithinLimits _ = ⊤

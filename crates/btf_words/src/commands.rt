@@ -2,9 +2,9 @@
 
 ghost use Rattle.std.specs.Prelude.{◌≡◌, [], IfOk};
 ghost use Rattle.clap.specs.Words.{app_of, with_subcommand};
-ghost use Rattle.btf_words.specs.Table.{IsBtf, analyse_command, check_command, diagonal_command, load_command, program as program_shape, rank_command};
+ghost use Rattle.btf_words.specs.Table.{IsBtf, analyse_command, load_command, program as program_shape, reading_command};
 
-use crate::options::{engine, order, pairs, seed, size, workers};
+use crate::options::{drop_zeros, engine, order, pairs, report, seed, size, workers};
 use clap::Command;
 use std::alloc::{AllocError, Global};
 
@@ -16,10 +16,10 @@ pub(crate) fn command_line<'a>(alloc: Global) -> Result<Command<'a>, AllocError>
 {
     let engines: &'a [&'a str] = ENGINES.as_slice();
     let program = program(alloc);
-    let program = with_rank(alloc, program)?;
+    let program = with_reading_command(alloc, "rank", program)?;
     let program = with_analyse(alloc, engines, program)?;
-    let program = with_diagonal(alloc, program)?;
-    let program = with_check(alloc, program)?;
+    let program = with_reading_command(alloc, "diagonal", program)?;
+    let program = with_reading_command(alloc, "check", program)?;
     let program = with_load(alloc, engines, program)?;
     Ok(program)
 }
@@ -35,10 +35,17 @@ fn program<'a>(alloc: Global) -> Command<'a>
         .subcommand_required(true)
 }
 
-fn with_rank<'a>(alloc: Global, program: Command<'a>) -> Result<Command<'a>, AllocError>
-    ensures { IfOk result (λ c. app_of c ≡ with_subcommand (app_of program.entry) rank_command) }
+/// The program with a command that reads a matrix and has the one option `--drop-zeros`.
+fn with_reading_command<'a>(
+    alloc: Global,
+    name: &'a str,
+    program: Command<'a>,
+) -> Result<Command<'a>, AllocError>
+    ensures { IfOk result (λ c. app_of c
+        ≡ with_subcommand (app_of program.entry) (reading_command name.entry.now)) }
 {
-    program.subcommand(Command::new(alloc, "rank"))
+    let command = Command::new(alloc, name).arg(drop_zeros(alloc))?;
+    program.subcommand(command)
 }
 
 fn with_analyse<'a>(
@@ -53,21 +60,10 @@ fn with_analyse<'a>(
         .arg(engine(alloc, engines))?
         .arg(workers(alloc))?
         .arg(order(alloc))?
-        .arg(pairs(alloc))?;
+        .arg(pairs(alloc))?
+        .arg(drop_zeros(alloc))?
+        .arg(report(alloc))?;
     program.subcommand(analyse)
-}
-
-fn with_diagonal<'a>(alloc: Global, program: Command<'a>) -> Result<Command<'a>, AllocError>
-    ensures { IfOk result
-        (λ c. app_of c ≡ with_subcommand (app_of program.entry) diagonal_command) }
-{
-    program.subcommand(Command::new(alloc, "diagonal"))
-}
-
-fn with_check<'a>(alloc: Global, program: Command<'a>) -> Result<Command<'a>, AllocError>
-    ensures { IfOk result (λ c. app_of c ≡ with_subcommand (app_of program.entry) check_command) }
-{
-    program.subcommand(Command::new(alloc, "check"))
 }
 
 fn with_load<'a>(

@@ -23,24 +23,44 @@ pub struct Search {
     pub workers: u32,
 }
 
-/// What the program is asked to do.
+/// What a report is to have.
+#[derive(Clone, Copy, Debug, PartialEq, Eq)]
+pub struct ReportOptions {
+    /// The version of its text: 1 or 2.
+    pub version: u32,
+    /// Whether the two orders are written.
+    pub order: bool,
+    /// Whether the pairs of the matching are written.
+    pub pairs: bool,
+}
+
+/// What the program is asked to do. With `drop_zeros` a place of an integer file whose values add up to 0 is no entry.
 #[derive(Clone, Copy, Debug, PartialEq, Eq)]
 pub enum Job {
     /// The structural rank, with the horizontal part that shows it.
-    Rank,
+    Rank {
+        /// Whether places whose values add up to 0 are left out.
+        drop_zeros: bool,
+    },
     /// The whole structural analysis.
     Analyse {
         /// Who searches.
         search: Search,
-        /// Whether the two orders are written.
-        order: bool,
-        /// Whether the pairs of the matching are written.
-        pairs: bool,
+        /// What the report has.
+        report: ReportOptions,
+        /// Whether places whose values add up to 0 are left out.
+        drop_zeros: bool,
     },
     /// The heaviest diagonal of an integer matrix.
-    Diagonal,
+    Diagonal {
+        /// Whether places whose values add up to 0 are left out.
+        drop_zeros: bool,
+    },
     /// Whether a report that follows the matrix is right.
-    Check,
+    Check {
+        /// Whether places whose values add up to 0 are left out.
+        drop_zeros: bool,
+    },
     /// The analysis of a matrix that is made from a number.
     Load {
         /// How many rows and columns it has: 1 to 16,777,216.

@@ -12,6 +12,6 @@ mod reading;
 mod tests;
 mod usage;
 
-pub use jobs::{Engine, Job, Search, WordsError};
+pub use jobs::{Engine, Job, ReportOptions, Search, WordsError};
 pub use reading::{names_lie_anywhere, read_words, taken_words_name_a_job};
 pub use usage::usage_line;

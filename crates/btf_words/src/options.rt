@@ -2,7 +2,7 @@
 
 ghost use Rattle.std.specs.Prelude.{◌≡◌, false, true, codes};
 ghost use Rattle.clap.specs.Words.{rule_of};
-ghost use Rattle.btf_words.specs.Table.{engine_rule, option_rule, flag_rule, number_rule, order_rule, pairs_rule, size_rule, seed_rule, workers_rule};
+ghost use Rattle.btf_words.specs.Table.{engine_rule, option_rule, flag_rule, drop_zeros_rule, number_rule, order_rule, pairs_rule, report_rule, size_rule, seed_rule, workers_rule};
 
 use clap::builder::ValueParser;
 use clap::{Arg, ArgAction};
@@ -47,6 +47,26 @@ pub(crate) fn pairs<'a>(alloc: Global) -> Arg<'a>
     ensures local { result.global ≡ false }
 {
     flag(alloc, "pairs")
+}
+
+/// `--drop-zeros`.
+pub(crate) fn drop_zeros<'a>(alloc: Global) -> Arg<'a>
+    ensures rule { rule_of result ≡ drop_zeros_rule }
+    ensures local { result.global ≡ false }
+{
+    flag(alloc, "drop-zeros")
+}
+
+/// `--report V`: 2 where it is not given.
+pub(crate) fn report<'a>(alloc: Global) -> Arg<'a>
+    ensures rule { rule_of result ≡ report_rule }
+    ensures local { result.global ≡ false }
+{
+    Arg::new(alloc, "report")
+        .long("report")
+        .action(ArgAction::Set)
+        .value_parser(ValueParser::unsigned(1, 2))
+        .default_value("2")
 }
 
 /// `--size N`, which must be there.

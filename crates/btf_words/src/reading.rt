@@ -4,11 +4,11 @@ ghost use Rattle.std.specs.Prelude.{◌≡◌, ◌≤◌, List, IfOk, IfSome, Is
 ghost use Rattle.clap.specs.Words.{Text, first_of, found_of, rows_of, subcommand_rows_of};
 ghost use Rattle.sp_ids.specs.Limits.{max_load_seed, max_load_size, max_workers};
 ghost use Rattle.btf_words.specs.Table.{Names, engine_names, texts_of};
-ghost use Rattle.btf_words.specs.Words.{AreTaken, HasWorkers, IsWithinLimits, ReadsAlike, engine_in, engine_named as engine_of_name, is_given, job_from, job_of, number_or, number_within, search_in, seed_in, size_in};
+ghost use Rattle.btf_words.specs.Words.{AreTaken, HasWorkers, IsWithinLimits, ReadsAlike, engine_in, engine_named as engine_of_name, drops_zeros, is_given, IsVersion, job_from, job_of, number_or, number_within, report_in, search_in, seed_in, size_in};
 ghost use Rattle.btf_words.specs.declared.jobs.Job.{Job as JobValue};
 
 use crate::commands::command_line;
-use crate::{Engine, Job, Search, WordsError};
+use crate::{Engine, Job, ReportOptions, Search, WordsError};
 use clap::ArgMatches;
 use clap::error::ErrorKind;
 use sp_ids::{MAX_LOAD_SIZE, MAX_WORKERS};
@@ -63,17 +63,23 @@ fn job_named(name: &str, options: &ArgMatches<'_>) -> Option<Job>
     ensures limits { IfSome result IsWithinLimits }
 {
     if name == "rank" {
-        Some(Job::Rank)
+        Some(Job::Rank {
+            drop_zeros: drops_zeros_of(options),
+        })
     } else if name == "analyse" {
         Some(Job::Analyse {
             search: search_of(options),
-            order: flag_of(options, "order"),
-            pairs: flag_of(options, "pairs"),
+            report: report_of(options),
+            drop_zeros: drops_zeros_of(options),
         })
     } else if name == "diagonal" {
-        Some(Job::Diagonal)
+        Some(Job::Diagonal {
+            drop_zeros: drops_zeros_of(options),
+        })
     } else if name == "check" {
-        Some(Job::Check)
+        Some(Job::Check {
+            drop_zeros: drops_zeros_of(options),
+        })
     } else if name == "load" {
         Some(Job::Load {
             size: size_of(options),
@@ -93,6 +99,23 @@ fn search_of(options: &ArgMatches<'_>) -> Search
         engine: engine_of(options),
         workers: number_of(options, "workers", 4, 1, u64::from(MAX_WORKERS)) as u32,
     }
+}
+
+fn report_of(options: &ArgMatches<'_>) -> ReportOptions
+    ensures report { result ≡ report_in (rows_of (found_of options.now)) }
+    ensures version { IsVersion result.version }
+{
+    ReportOptions {
+        version: number_of(options, "report", 2, 1, 2) as u32,
+        order: flag_of(options, "order"),
+        pairs: flag_of(options, "pairs"),
+    }
+}
+
+fn drops_zeros_of(options: &ArgMatches<'_>) -> bool
+    ensures { result ≡ drops_zeros (rows_of (found_of options.now)) }
+{
+    flag_of(options, "drop-zeros")
 }
 
 /// The first value of an option.

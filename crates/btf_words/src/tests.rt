@@ -1,10 +1,10 @@
-use crate::{Engine, Job, Search, WordsError, read_words};
+use crate::{Engine, Job, ReportOptions, Search, WordsError, read_words};
 use std::alloc::{AllocError, Global};
 use std::process::Abort;
 use std::test::Fail;
 
 /// Words of no command, and words behind a command that takes none.
-const OTHER_COMMANDS: [&str; 29] = [
+const OTHER_COMMANDS: [&str; 34] = [
     "",
     "ran",
     "Rank",
@@ -34,10 +34,15 @@ const OTHER_COMMANDS: [&str; 29] = [
     "check --order",
     "check rank",
     "rank --engine fast",
+    "rank --drop-zeros --drop-zeros",
+    "rank --drop-zeros=true",
+    "rank --drop_zeros",
+    "check --report 1",
+    "diagonal --drop",
 ];
 
 /// Words that ask for no analysis.
-const OTHER_ANALYSES: [&str; 36] = [
+const OTHER_ANALYSES: [&str; 42] = [
     "analyse --help",
     "analyse -h",
     "analyse help",
@@ -74,10 +79,16 @@ const OTHER_ANALYSES: [&str; 36] = [
     "analyse --workers 2 --workers 2",
     "--order analyse",
     "analyse --size 3",
+    "analyse --report",
+    "analyse --report 0",
+    "analyse --report 3",
+    "analyse --report one",
+    "analyse --report 1 --report 1",
+    "analyse --drop-zeros --drop-zeros",
 ];
 
 /// Words that name no matrix.
-const OTHER_LOADS: [&str; 18] = [
+const OTHER_LOADS: [&str; 20] = [
     "load",
     "load --size 3",
     "load --seed 3",
@@ -96,6 +107,8 @@ const OTHER_LOADS: [&str; 18] = [
     "load --size 1 --seed 1 --order",
     "load --siz 1 --seed 1",
     "load 1 1",
+    "load --size 1 --seed 1 --drop-zeros",
+    "load --size 1 --seed 1 --report 1",
 ];
 
 /// The words of a line, which one space parts: two spaces side by side hold an empty word.
@@ -112,11 +125,20 @@ fn by(engine: Engine) -> Search {
     Search { engine, workers: 4 }
 }
 
+/// A report of version 2.
+fn report(order: bool, pairs: bool) -> ReportOptions {
+    ReportOptions {
+        version: 2,
+        order,
+        pairs,
+    }
+}
+
 fn analyse(engine: Engine, order: bool, pairs: bool) -> Job {
     Job::Analyse {
         search: by(engine),
-        order,
-        pairs,
+        report: report(order, pairs),
+        drop_zeros: false,
     }
 }
 
@@ -132,8 +154,8 @@ fn load(size: u32, seed: u64, engine: Engine) -> Job {
 fn analyse_by(engine: Engine, workers: u32) -> Job {
     Job::Analyse {
         search: Search { engine, workers },
-        order: false,
-        pairs: false,
+        report: report(false, false),
+        drop_zeros: false,
     }
 }
 
@@ -164,12 +186,12 @@ fn refused<R: Abort + AllocGlobal>(rt: &R, lines: &[&str]) -> Result<(), Fail> {
 #[test]
 fn takes_commands_without_options(rt: HostRuntime) -> Result<(), Fail> {
     let spellings = [
-        ("rank", Job::Rank),
-        ("rank --", Job::Rank),
-        ("diagonal", Job::Diagonal),
-        ("diagonal --", Job::Diagonal),
-        ("check", Job::Check),
-        ("check --", Job::Check),
+        ("rank", Job::Rank { drop_zeros: false }),
+        ("rank --", Job::Rank { drop_zeros: false }),
+        ("diagonal", Job::Diagonal { drop_zeros: false }),
+        ("diagonal --", Job::Diagonal { drop_zeros: false }),
+        ("check", Job::Check { drop_zeros: false }),
+        ("check --", Job::Check { drop_zeros: false }),
         ("analyse", analyse(Engine::Graft, false, false)),
         ("analyse --", analyse(Engine::Graft, false, false)),
     ];
@@ -202,6 +224,46 @@ fn takes_options_of_an_analysis(rt: HostRuntime) -> Result<(), Fail> {
             "analyse --order --engine=plain --pairs --",
             analyse(plain, true, true),
         ),
+    ];
+    taken(&rt, &spellings)
+}
+
+#[test]
+fn takes_dropped_zeros(rt: HostRuntime) -> Result<(), Fail> {
+    let dropped = Job::Analyse {
+        search: by(Engine::Graft),
+        report: report(true, false),
+        drop_zeros: true,
+    };
+    let spellings = [
+        ("rank --drop-zeros", Job::Rank { drop_zeros: true }),
+        ("rank --drop-zeros --", Job::Rank { drop_zeros: true }),
+        ("diagonal --drop-zeros", Job::Diagonal { drop_zeros: true }),
+        ("check --drop-zeros", Job::Check { drop_zeros: true }),
+        ("analyse --drop-zeros --order", dropped),
+        ("analyse --order --drop-zeros", dropped),
+    ];
+    taken(&rt, &spellings)
+}
+
+#[test]
+fn takes_versions_of_a_report(rt: HostRuntime) -> Result<(), Fail> {
+    let second = analyse(Engine::Graft, false, true);
+    let first = Job::Analyse {
+        search: by(Engine::Graft),
+        report: ReportOptions {
+            version: 1,
+            order: false,
+            pairs: true,
+        },
+        drop_zeros: false,
+    };
+    let spellings = [
+        ("analyse --pairs --report 1", first),
+        ("analyse --report=1 --pairs", first),
+        ("analyse --pairs --report 2", second),
+        ("analyse --pairs --report +02", second),
+        ("analyse --pairs", second),
     ];
     taken(&rt, &spellings)
 }

@@ -8,5 +8,5 @@ ghost use Rattle.btf_words.specs.UsageLine.{usage_line as line_of_usage};
 pub fn usage_line() -> &'static str
     ensures { result.now ≡ line_of_usage }
 {
-    "btf: usage: btf rank | analyse [--engine E] [--workers W] [--order] [--pairs] | diagonal | check | load --size N --seed S [--engine E] [--workers W]\n"
+    "btf: usage: btf rank [--drop-zeros] | analyse [--engine E] [--workers W] [--order] [--pairs] [--drop-zeros] [--report V] | diagonal [--drop-zeros] | check [--drop-zeros] | load --size N --seed S [--engine E] [--workers W]\n"
 }

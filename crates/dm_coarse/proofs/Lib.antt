@@ -1,1 +1,3 @@
+pub mod GatheredLemmas
+pub mod NumberingLemmas
 pub mod SplitLemmas

@@ -1,7 +1,9 @@
-//! The coarse parts of a matrix, from a maximum matching.
+//! The coarse parts of a matrix, from a maximum matching, and the connected components of the outer two.
 #![tactic(auto)]
 
+mod connected_components;
 mod maximum;
+mod numbering;
 mod split;
 
 ghost use Rattle.std.specs.Prelude.{IfOk};
@@ -11,6 +13,7 @@ ghost use Rattle.bip_graph.specs.Decompositions.{parts_of};
 
 use crate::maximum::Maximum;
 use bip_graph::{Matching, Parts};
+pub use connected_components::components;
 use sp_ids::OutOfMemory;
 use sp_pattern::Pattern;
 use std::alloc::Global;

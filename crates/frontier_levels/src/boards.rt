@@ -3,20 +3,23 @@
 ghost use Rattle.std.specs.Prelude.{◌≤◌, ◌≡◌, length, map, IfOk, OnOk};
 ghost use Rattle.bip_defs.specs.Matrix.{cols};
 ghost use Rattle.claim_words.specs.WorkerState.{seated};
+ghost use Rattle.forest_core.specs.Tables.{IsTableOf};
 ghost use Rattle.level_sharing.specs.Agreement.{Agree};
 
 use claim_words::{ClaimBoard, ClaimSeat, Worker, new_seats_are_all};
 use forest_core::Forest;
 use level_sharing::new_workers_agree;
-use sp_ids::OutOfMemory;
+use sp_ids::{Col, OutOfMemory, Row};
 use std::alloc::Global;
+use std::thread::{Threads, join};
 
 /// A board whose words hold the claims and the leaves of a forest, and so many workers, each with a
-/// seat.
+/// seat. Where there are two workers and more, its lists are filled by two threads at once.
 ///
-/// Answers `OutOfMemory` where 24 bytes a row and column can't be had; 8 of them stay. Work: one
-/// look at each row and column.
-pub fn open(
+/// Answers `OutOfMemory` where 24 bytes a row and column can't be had; 8 of them stay, until the
+/// board is closed. Work: one look at each row and column.
+pub fn open<R: Threads + Sync>(
+    rt: &R,
     alloc: Global,
     forest: &Forest,
     workers: u32,
@@ -29,11 +32,41 @@ pub fn open(
 {
     new_seats_are_all();
     new_workers_agree();
-    let holders = forest.row_holders(alloc)?;
-    let leaves = forest.root_leaves(alloc)?;
+    let (by_row, by_root) = lists(rt, alloc, forest, workers);
+    let holders = by_row?;
+    let leaves = by_root?;
     let (board, seats) = ClaimBoard::new(alloc, holders.as_slice(), leaves.as_slice(), workers)?;
     let workers = seat(alloc, seats)?;
     Ok((board, workers))
+}
+
+// The column that holds each row, and the leaf of each root.
+fn lists<R: Threads + Sync>(
+    rt: &R,
+    alloc: Global,
+    forest: &Forest,
+    workers: u32,
+) -> (
+    Result<Vec<Option<Col>>, OutOfMemory>,
+    Result<Vec<Option<Row>>, OutOfMemory>,
+)
+    ensures rows { IfOk result.0 (λ l. length l.items ≡ forest.now.matrix.rows) }
+    ensures holders { IfOk result.0 (λ l. IsTableOf forest.now.claims l.items) }
+    ensures roots { IfOk result.1 (λ l. length l.items ≡ cols forest.now.matrix) }
+    ensures leaves { IfOk result.1 (λ l. IsTableOf forest.now.leaves l.items) }
+{
+    if workers < 2 {
+        return (forest.row_holders(alloc), forest.root_leaves(alloc));
+    }
+    let of_rows = move || -> Result<Vec<Option<Col>>, OutOfMemory>
+        ensures rows { IfOk result (λ l. length l.items ≡ forest.entry.now.matrix.rows) }
+        ensures holders { IfOk result (λ l. IsTableOf forest.entry.now.claims l.items) }
+    { forest.row_holders(alloc) };
+    let of_roots = move || -> Result<Vec<Option<Row>>, OutOfMemory>
+        ensures roots { IfOk result (λ l. length l.items ≡ cols forest.entry.now.matrix) }
+        ensures leaves { IfOk result (λ l. IsTableOf forest.entry.now.leaves l.items) }
+    { forest.root_leaves(alloc) };
+    join(rt, of_rows, of_roots)
 }
 
 // A worker on each of these seats.

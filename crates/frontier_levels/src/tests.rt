@@ -32,7 +32,7 @@ fn level<R: AllocGlobal + Threads + Sync, G: Gate>(
     requires settled { IsSettled forest.old }
     requires inside { (c : ℕ) → Among c frontier.now → InForest forest.old c }
 {
-    let (board, mut workers) = open(rt.alloc(), forest, workers)?;
+    let (board, mut workers) = open(rt, rt.alloc(), forest, workers)?;
     top_down(rt, forest, &board, frontier, workers.as_mut_slice(), gate)?;
     absorb(forest, workers.as_mut_slice());
     Ok(())

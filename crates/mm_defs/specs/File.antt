@@ -1,5 +1,5 @@
 -- Which lines of a file are what, its first fault, and what a good file says.
-use Rattle.std.specs.Prelude.{◌≡◌, ℕ, pos, neg_ℤ, zero, suc, Bool, true, false, if◌then◌else◌, ◌==◌, ◌-◌, nat_lt, List, [], ◌∷◌, ◌++◌, length, take, drop, map, slice_get, Option}
+use Rattle.std.specs.Prelude.{◌≡◌, ℕ, ℤ, pos, neg_ℤ, nat_abs, zero, suc, Bool, true, false, if◌then◌else◌, ◌==◌, ◌-◌, nat_lt, List, [], ◌∷◌, ◌++◌, length, take, drop, map, slice_get, Option}
 use Rattle.std.specs.Option.{option_map, option_to_list}
 use Rattle.std.specs.List.{flat_map, zip}
 use Rattle.sp_ids.specs.declared.triples.Field as field
@@ -17,7 +17,7 @@ use Rattle.mm_defs.specs.declared.kinds.Kind.{Kind}
 use Rattle.mm_defs.specs.declared.kinds.Kind.TheVariants.{NoBanner, Trailing, NoSize, MissingEntries}
 use Rattle.mm_defs.specs.Words.{Word, Line, word, is_lf, lines, numbered, kept}
 use Rattle.mm_defs.specs.Arrays.{array_places}
-use Rattle.mm_defs.specs.Numbers.{number, magnitude, integer}
+use Rattle.mm_defs.specs.Numbers.{number, integer}
 use Rattle.mm_defs.specs.Header.{is_integer_field, header, size}
 use Rattle.mm_defs.specs.Faults.{Rule, first_kind, banner_rules, size_rules, entry_rules}
 
@@ -129,22 +129,25 @@ abbrev pub triple : Header → List Word → Triple
 triple h ws = triple_at h.field (number (word ws 0)) (number (word ws 1)) (word ws 2)
 
 -- the value of a place in an array file: where it is 0, the place is no entry
-abbrev pub placed : ℕ × ℕ → Word → List Triple
-placed p w =
-    if magnitude w == 0
+abbrev pub placed : ℕ × ℕ → ℤ → List Triple
+placed p v =
+    if nat_abs v == 0
     then []
-    else record { row = p.0; col = p.1; value = integer w } ∷ []
+    else record { row = p.0; col = p.1; value = v } ∷ []
 
 -- the triples that the lines say: an entry line says its place, and the value lines go over the places of the file's
 -- values in order
 abbrev pub said : Format → Header → Size → List Line → List Triple
 said Coordinate h s ls = map (λ (l : Line). triple h l.words) ls
-said Array h s ls = flat_map (λ (x : (ℕ × ℕ) × Line). placed x.0 (word x.1.words 0))
+said Array h s ls = flat_map (λ (x : (ℕ × ℕ) × Line). placed x.0 (integer (word x.1.words 0)))
     (zip (array_places h.symmetry s.rows s.cols) ls)
 
 -- each of them, and behind it its mirror
+abbrev pub with_mirrors : symmetry.Symmetry → List Triple → List Triple
+with_mirrors y ts = flat_map (λ (t : Triple). t ∷ mirror y t) ts
+
 abbrev pub items : Header → Size → List Line → List Triple
-items h s ls = flat_map (λ (t : Triple). t ∷ mirror h.symmetry t) (said h.format h s ls)
+items h s ls = with_mirrors h.symmetry (said h.format h s ls)
 
 unfoldable pub entries_of : List (List ℕ) → entries.Entries
 entries_of ls = record {

@@ -1,7 +1,7 @@
 -- How the kinds of faults are spelt.
 use Rattle.std.specs.Prelude.{ℕ, List, codes}
 use Rattle.mm_defs.specs.declared.kinds.Kind.{Kind}
-use Rattle.mm_defs.specs.declared.kinds.Kind.TheVariants.{NoBanner, HeaderWords, Object, Format, Field, Symmetry, ArrayField, Combination, SizeWords, SizeNumber, Rows, Columns, Entries, NotSquare, EntryWords, RowNumber, ColumnNumber, RowRange, ColumnRange, ValueNumber, Value, UpperEntry, DiagonalEntry, Trailing, NoSize, MissingEntries}
+use Rattle.mm_defs.specs.declared.kinds.Kind.TheVariants.{NoBanner, HeaderWords, Object, Format, Field, Symmetry, ArrayField, Combination, SizeWords, SizeNumber, Rows, Columns, Entries, NotSquare, EntryWords, RowNumber, ColumnNumber, RowRange, ColumnRange, ValueNumber, Value, UpperEntry, DiagonalEntry, Trailing, NoSize, MissingEntries, Edits, EditWord, EditWords}
 
 abbrev pub kind_name : Kind → List ℕ
 kind_name NoBanner = codes "NoBanner"
@@ -30,3 +30,6 @@ kind_name DiagonalEntry = codes "DiagonalEntry"
 kind_name Trailing = codes "Trailing"
 kind_name NoSize = codes "NoSize"
 kind_name MissingEntries = codes "MissingEntries"
+kind_name Edits = codes "Edits"
+kind_name EditWord = codes "EditWord"
+kind_name EditWords = codes "EditWords"

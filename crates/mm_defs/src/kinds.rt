@@ -38,13 +38,13 @@ pub enum Kind {
     /// Entry line: it does not have two words and the field's value words. Value line of an array file: it does not have
     /// one word.
     EntryWords,
-    /// Entry line: the first word is not a number.
+    /// Entry line: the first word is not a number. Edit line: the second word is none.
     RowNumber,
-    /// Entry line: the second word is not a number.
+    /// Entry line: the second word is not a number. Edit line: the third word is none.
     ColumnNumber,
-    /// Entry line: the row is 0 or past the last row.
+    /// Entry line or edit line: the row is 0 or past the last row.
     RowRange,
-    /// Entry line: the column is 0 or past the last column.
+    /// Entry line or edit line: the column is 0 or past the last column.
     ColumnRange,
     /// Entry line of an integer file: the third word is not an integer. Value line: its word is none.
     ValueNumber,
@@ -60,6 +60,12 @@ pub enum Kind {
     NoSize,
     /// The input ends with too few entry lines or value lines.
     MissingEntries,
+    /// Edit line: there are 16,777,216 before it.
+    Edits,
+    /// Edit line: the first word is none of `set`, `clear`, `report`.
+    EditWord,
+    /// Edit line: it does not have three words, or one where the first is `report`.
+    EditWords,
 }
 
 impl Kind {
@@ -94,6 +100,9 @@ impl Kind {
             Kind::Trailing => "Trailing",
             Kind::NoSize => "NoSize",
             Kind::MissingEntries => "MissingEntries",
+            Kind::Edits => "Edits",
+            Kind::EditWord => "EditWord",
+            Kind::EditWords => "EditWords",
         }
     }
 
@@ -102,7 +111,7 @@ impl Kind {
         ensures { result ≡ is_limit self }
     {
         match self {
-            Kind::Rows | Kind::Columns | Kind::Entries | Kind::Value => true,
+            Kind::Rows | Kind::Columns | Kind::Entries | Kind::Value | Kind::Edits => true,
             _ => false,
         }
     }

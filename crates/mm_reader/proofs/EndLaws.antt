@@ -8,58 +8,72 @@ use Rattle.mm_defs.specs.declared.header.Header.{Header}
 use Rattle.mm_defs.specs.declared.header.Size.{Size}
 use Rattle.mm_defs.specs.Words.{Line, is_lf, lines, open_line, has_bytes}
 use Rattle.mm_defs.specs.Header.{size}
-use Rattle.mm_defs.specs.File.{Fault, later_lines, line_faults, no_banner, missing, faults, first_fault, entries_of, rest_of, behind, last_number, matrix_lines, Reads}
+use Rattle.mm_defs.specs.File.{Fault, header_of, size_of, later_lines, entry_lines, line_faults, no_banner, missing, faults, first_fault, entries_of, rest_of, behind, last_number, matrix_lines, Reads}
 use Rattle.mm_defs.proofs.Behind.{length-lines, behind-prefix, behind-past}
 use Rattle.mm_defs.proofs.Prefixes.{fault_stays}
 use Rattle.mm_defs.proofs.Lines.{lines-ended}
+use Rattle.mm_reader.specs.declared.array.ArrayPlace.{ArrayPlace}
 use Rattle.mm_reader.specs.declared.machine.Phase.{Phase}
 use Rattle.mm_reader.specs.declared.machine.Phase.TheVariants as phases
 use Rattle.mm_reader.specs.declared.machine.Stop.{Stop}
 use Rattle.mm_reader.specs.declared.machine.Stop.TheVariants as stops
 use Rattle.mm_reader.specs.Machine.{HasBanner, HasEntries, HasLines, is_complete, StopsAt}
 use Rattle.mm_reader.specs.Stages.{IsAll, Lacks, StopsAtEnd}
+use Rattle.mm_reader.proofs.CompleteLaws.{same_entries}
+use Rattle.mm_reader.proofs.StepLaws.{header_said, size_said}
 use Rattle.mm_reader.proofs.Words.{empty_of}
 
 -- ---- all lines have come
 
-missing-none : (ls : List (List ℕ)) (s : Line) (es : List Line) → later_lines ls ≡ s ∷ es → (size s.words).count ≤ length es → missing ls ≡ []
+missing-none : (ls : List (List ℕ)) (s : Line) (es : List Line) → later_lines ls ≡ s ∷ es → (size (header_of ls) s.words).count ≤ length es → missing ls ≡ []
 missing-none ls s es e h =
-    let k : length (take (size s.words).count es) ≡ (size s.words).count = length-take-le (size s.words).count es h in
-    let n : nat_lt (size s.words).count (size s.words).count ≡ false = le-ltb (size s.words).count (size s.words).count (omega arith) in
+    let k : length (take (size (header_of ls) s.words).count es) ≡ (size (header_of ls) s.words).count = length-take-le (size (header_of ls) s.words).count es h in
+    let n : nat_lt (size (header_of ls) s.words).count (size (header_of ls) s.words).count ≡ false = le-ltb (size (header_of ls) s.words).count (size (header_of ls) s.words).count (omega arith) in
     rw e (rw (k, n) refl)
 
 no_banner-none : (h : Header) (ls : List (List ℕ)) → HasBanner h ls → no_banner ls ≡ []
 no_banner-none h ls b = rw b.lines_are refl
 
-entries-are : (h : Header) (s : Size) (done : ℕ) (t : entries.Entries) (ls : List (List ℕ)) (b : HasBanner h ls) (has : HasEntries h s done t (later_lines ls)) → s.count ≤ done → t ≡ entries_of ls
-unfolding entries_of
-entries-are h s done t ls b has full =
-    let c : s.count ≡ (size has.size_line.words).count = ap (λ (x : Size). x.count) has.size_is in
-    let few : length has.entry_lines ≤ (size has.size_line.words).count = omega (arith, has.done_is, has.in_count) in
-    let all : take (size has.size_line.words).count has.entry_lines ≡ has.entry_lines = take_all (size has.size_line.words).count has.entry_lines few in
-    has.triples_are ∙ rw (has.later_are, all) (rw (b.lines_are, has.size_is, b.header_is) refl)
+module _ (h : Header) (s : Size) (done : ℕ) (t : entries.Entries) (ls : List (List ℕ)) (b : HasBanner h ls) (has : HasEntries h s done t (later_lines ls)) (full : s.count ≤ done) where
+  abbrev count_there : ℕ
+  count_there = (size (header_of ls) has.size_line.words).count
 
-pub all_lines : (end : End) (h : Header) (s : Size) (done : ℕ) (t : entries.Entries) (ls : List (List ℕ)) → HasLines end (phases.Entries h s done) t ls → s.count ≤ done → IsAll end (phases.Entries h s done) t ls
-all_lines end h s done t ls l full =
+  count_is : s.count ≡ count_there
+  count_is = ap (λ (x : Size). x.count) (size_said h s done t ls b has)
+
+  enough : count_there ≤ length has.entry_lines
+  enough = omega (arith, count_is, has.done_is, full)
+
+  few : length has.entry_lines ≤ count_there
+  few = omega (arith, count_is, has.done_is, has.in_count)
+
+  all : take count_there has.entry_lines ≡ has.entry_lines
+  all = take_all count_there has.entry_lines few
+
+  entries-are : t ≡ entries_of ls
+  unfolding entries_of
+  entries-are =
+      let k : entry_lines ls ≡ has.entry_lines = rw has.later_are all in
+      let z : size_of ls ≡ s = rw has.later_are (sym (size_said h s done t ls b has)) in
+      has.triples_are ∙ same_entries h (header_of ls) s (size_of ls) has.entry_lines (entry_lines ls) (sym (header_said h ls b)) (sym z) (sym k)
+
+pub all_lines : (end : End) (h : Header) (s : Size) (done : ℕ) (p : ArrayPlace) (t : entries.Entries) (ls : List (List ℕ)) → HasLines end (phases.Entries h s done p) t ls → s.count ≤ done → IsAll end (phases.Entries h s done p) t ls
+all_lines end h s done p t ls l full =
     let b = l.phase_is.0 in
     let has = l.phase_is.1 in
-    let c : s.count ≡ (size has.size_line.words).count = ap (λ (x : Size). x.count) has.size_is in
-    let enough : (size has.size_line.words).count ≤ length has.entry_lines = omega (arith, has.done_is) in
-    let few : length has.entry_lines ≤ (size has.size_line.words).count = omega (arith, has.done_is, has.in_count) in
-    let all : take (size has.size_line.words).count has.entry_lines ≡ has.entry_lines = take_all (size has.size_line.words).count has.entry_lines few in
     let full_is : done ≡ s.count = omega (arith, has.in_count) in
-    let yes_it_is : is_complete LastEntry (phases.Entries h s done) ≡ true = eq-eqb done s.count full_is in
+    let yes_it_is : is_complete LastEntry (phases.Entries h s done p) ≡ true = eq-eqb done s.count full_is in
     let nb = no_banner-none h ls b in
     let good = l.good in
-    let m = missing-none ls has.size_line has.entry_lines has.later_are enough in
+    let m = missing-none ls has.size_line has.entry_lines has.later_are (enough h s done t ls b has full) in
     record {
       good = rw (nb, good, m) refl;
       entries = entries-are h s done t ls b has full;
       complete = yes_it_is;
       last = λ e.
-          let k : is_complete end (phases.Entries h s done) ≡ true = rw e yes_it_is in
+          let k : is_complete end (phases.Entries h s done p) ≡ true = rw e yes_it_is in
           let n : last_number (has.size_line ∷ has.entry_lines) ≡ length ls = ap last_number (sym has.later_are) ∙ l.last k in
-          let x : matrix_lines ls ≡ has.size_line ∷ has.entry_lines = rw has.later_are (ap (λ (r : List Line). has.size_line ∷ r) all) in
+          let x : matrix_lines ls ≡ has.size_line ∷ has.entry_lines = rw has.later_are (ap (λ (r : List Line). has.size_line ∷ r) (all h s done t ls b has full)) in
           ap last_number x ∙ n;
     }
 

@@ -1,27 +1,84 @@
 -- From what is kept of a line to the rules on it.
-use Rattle.std.proofs.Common.{◌^◌, ◌<◌, ◌≡◌, ◌≢◌, ℕ, ℤ, ◌+◌, ◌-◌, ◌≤◌, Bool, true, false, ◌==◌, List, [], ◌∷◌, ◌++◌, length, refl, ◌∙◌, arith, Some, None, Result, Ok, Err, ne_eqb, le-ltb}
+use Rattle.std.proofs.Common.{◌^◌, ◌<◌, ◌≡◌, ◌≢◌, ℕ, ℤ, ◌+◌, ◌-◌, ◌≤◌, Bool, true, false, not, ◌==◌, ◌&&◌, List, [], ◌∷◌, ◌++◌, length, refl, sym, ap, ◌∙◌, arith, eqb-true, zero, suc, Some, None, Result, Ok, Err, ne_eqb, le-ltb}
+use Rattle.std.specs.List.{list_all}
 use Rattle.sp_ids.specs.Entries.{Triple}
+use Rattle.sp_ids.specs.declared.triples.Field.{Field}
+use Rattle.sp_ids.specs.declared.triples.Field.TheVariants as fields
+use Rattle.mm_defs.specs.declared.header.Format.{Format}
+use Rattle.mm_defs.specs.declared.header.Format.TheVariants.{Coordinate, Array}
 use Rattle.mm_defs.specs.declared.header.Header.{Header}
 use Rattle.mm_defs.specs.declared.header.Size.{Size}
 use Rattle.mm_defs.specs.declared.kinds.Kind.{Kind}
+use Rattle.mm_defs.specs.declared.kinds.Kind.TheVariants.{SizeNumber}
 use Rattle.mm_defs.specs.Words.{Word, word}
 use Rattle.mm_defs.specs.Numbers.{is_number, number}
-use Rattle.mm_defs.specs.Header.{value_words, size}
-use Rattle.mm_defs.specs.Faults.{Rule, first_kind, size_limits, size_rules, is_outside, value_rules, triangle_rules, place_rules, entry_rules}
+use Rattle.mm_defs.specs.Header.{is_array, is_integer_field, value_words, size_words, size}
+use Rattle.mm_defs.specs.Faults.{Rule, first_kind, extent_rules, count_rules, size_limits, size_rules, is_outside, value_rules, triangle_rules, place_rules, coordinate_rules, array_rules}
 use Rattle.mm_defs.specs.File.{triple, triple_at}
 use Rattle.mm_reader.specs.declared.judge.Entry.{Entry}
 use Rattle.mm_reader.specs.Tokens.{capped}
 use Rattle.mm_reader.specs.Judged.{Judged, JudgedEntry, triple_of, IsWithin}
 
-pub size_judged : (h : Header) (ws : List Word) (r : Result Size Kind) → (length ws == 3) ≡ true
+-- an array file has integers
+pub integers : (format : Format) (field : Field) → (is_array format && not (is_integer_field field)) ≡ false → is_array format ≡ true → field ≡ fields.Integer
+integers format fields.Integer e a = refl
+integers format fields.Real e a = let k : (is_array format && true) ≡ true = rw a refl in absurd cc
+integers format fields.Complex e a = let k : (is_array format && true) ≡ true = rw a refl in absurd cc
+integers format fields.Pattern e a = let k : (is_array format && true) ≡ true = rw a refl in absurd cc
+
+pub value_judged : (h : Header) (ws : List Word) (v : ℤ) (r : Result ℤ Kind) → h.field ≡ fields.Integer → (length ws == 1) ≡ true
+    → Judged (value_rules fields.Integer (word ws 0)) v r → Judged (array_rules h ws) v r
+value_judged h ws v (Ok y) f n j = (rw (n, f) j.0, j.1)
+value_judged h ws v (Err kind) f n j = rw (n, f) j
+
+-- the words of a size line are numbers
+two_numbers : (ws : List Word) → (length ws == 2) ≡ true → is_number (word ws 0) ≡ true → is_number (word ws 1) ≡ true → list_all is_number ws ≡ true
+two_numbers [] n a b = absurd cc
+two_numbers (u ∷ []) n a b = absurd cc
+two_numbers (u ∷ v ∷ []) n a b = rw (a, b) refl
+two_numbers (u ∷ v ∷ w ∷ ws) n a b = let k = eqb-true _ _ n in absurd (omega arith)
+
+three_numbers : (ws : List Word) → (length ws == 3) ≡ true → is_number (word ws 0) ≡ true → is_number (word ws 1) ≡ true → is_number (word ws 2) ≡ true → list_all is_number ws ≡ true
+three_numbers [] n a b d = absurd cc
+three_numbers (u ∷ []) n a b d = absurd cc
+three_numbers (u ∷ v ∷ []) n a b d = absurd cc
+three_numbers (u ∷ v ∷ w ∷ []) n a b d = rw (a, b, d) refl
+three_numbers (u ∷ v ∷ w ∷ x ∷ ws) n a b d = let k = eqb-true _ _ n in absurd (omega arith)
+
+and_not : (a b : Bool) → b ≡ false → (a && b) ≡ false
+and_not true b e = e
+and_not false b e = refl
+
+some_no_number : (ws : List Word) (k : ℕ) → k < length ws → is_number (word ws k) ≡ false → list_all is_number ws ≡ false
+some_no_number [] k low e = absurd (omega arith)
+some_no_number (w ∷ ws) zero low e = rw e refl
+some_no_number (w ∷ ws) (suc k) low e = and_not (is_number w) (list_all is_number ws) (some_no_number ws k (omega arith) e)
+
+pub size_numbers_bad : (h : Header) (ws : List Word) (k : ℕ) → (length ws == size_words h.format) ≡ true → k < size_words h.format → is_number (word ws k) ≡ false
+    → first_kind (size_rules h ws) ≡ Some SizeNumber
+size_numbers_bad h ws k n low e =
+    let l : length ws ≡ size_words h.format = eqb-true _ _ n in
+    let a = some_no_number ws k (omega arith) e in
+    rw (n, a) refl
+
+pub size_judged : (h : Header) (ws : List Word) (r : Result Size Kind) → (length ws == size_words h.format) ≡ true → list_all is_number ws ≡ true
+    → Judged (size_limits h (size h ws)) (size h ws) r → Judged (size_rules h ws) (size h ws) r
+size_judged h ws (Ok y) n a j = (rw (n, a) j.0, j.1)
+size_judged h ws (Err kind) n a j = rw (n, a) j
+
+pub coordinate_size_judged : (h : Header) (ws : List Word) (r : Result Size Kind) → h.format ≡ Coordinate → (length ws == size_words h.format) ≡ true
     → is_number (word ws 0) ≡ true → is_number (word ws 1) ≡ true → is_number (word ws 2) ≡ true
-    → Judged (size_limits h (size ws)) (size ws) r → Judged (size_rules h ws) (size ws) r
-size_judged h ws (Ok y) n a b d j = (rw (n, a, b, d) j.0, j.1)
-size_judged h ws (Err kind) n a b d j = rw (n, a, b, d) j
+    → Judged (size_limits h (size h ws)) (size h ws) r → Judged (size_rules h ws) (size h ws) r
+coordinate_size_judged h ws r f n a b d j = size_judged h ws r n (three_numbers ws (ap (λ x. length ws == size_words x) (sym f) ∙ n) a b d) j
+
+pub array_size_judged : (h : Header) (ws : List Word) (r : Result Size Kind) → h.format ≡ Array → (length ws == size_words h.format) ≡ true
+    → is_number (word ws 0) ≡ true → is_number (word ws 1) ≡ true
+    → Judged (size_limits h (size h ws)) (size h ws) r → Judged (size_rules h ws) (size h ws) r
+array_size_judged h ws r f n a b j = size_judged h ws r n (two_numbers ws (ap (λ x. length ws == size_words x) (sym f) ∙ n) a b) j
 
 pub entry_judged : (h : Header) (s : Size) (ws : List Word) (r : Result Entry Kind) → (length ws == 2 + value_words h.field) ≡ true
     → is_number (word ws 0) ≡ true → is_number (word ws 1) ≡ true
-    → JudgedEntry (place_rules h s (number (word ws 0)) (number (word ws 1)) (word ws 2)) (triple h ws) r → JudgedEntry (entry_rules h s ws) (triple h ws) r
+    → JudgedEntry (place_rules h s (number (word ws 0)) (number (word ws 1)) (word ws 2)) (triple h ws) r → JudgedEntry (coordinate_rules h s ws) (triple h ws) r
 entry_judged h s ws (Ok e) n a b j = (rw (n, a, b) j.0, j.1)
 entry_judged h s ws (Err kind) n a b j = rw (n, a, b) j
 
@@ -46,6 +103,14 @@ inside limit n row e some low small =
     let a : n ≢ 0 = omega arith in
     let b : n ≤ limit = omega arith in
     rw (ne_eqb n 0 a, le-ltb limit n b) refl
+
+-- the limits on the extent, and then those on the count
+pub extent_bad : (h : Header) (s : Size) (kind : Kind) → first_kind (extent_rules s.rows s.cols) ≡ Some kind → Judged (size_limits h s) s (Err kind)
+extent_bad h s kind e = first_some (extent_rules s.rows s.cols) (count_rules h s) kind e
+
+pub extent_good : (h : Header) (s : Size) (r : Result Size Kind) → first_kind (extent_rules s.rows s.cols) ≡ None → Judged (count_rules h s) s r → Judged (size_limits h s) s r
+extent_good h s (Ok y) e j = (first_none (extent_rules s.rows s.cols) (count_rules h s) e ∙ j.0, j.1)
+extent_good h s (Err kind) e j = first_none (extent_rules s.rows s.cols) (count_rules h s) e ∙ j
 
 module _ (h : Header) (s : Size) (within : IsWithin h s) (row col i j : ℕ) (w : Word)
     (row_is : row ≡ capped i) (col_is : col ≡ capped j)

@@ -1,4 +1,5 @@
 pub mod AfterLaws
+pub mod ArrayLaws
 pub mod Calls
 pub mod CompleteLaws
 pub mod EightDigits
@@ -17,6 +18,7 @@ pub mod Progress
 pub mod RestLaws
 pub mod StepLaws
 pub mod StreamLaws
+pub mod TakenLines
 pub mod ValueWords
 pub mod WindowLaws
 pub mod Words

@@ -13,7 +13,7 @@ use Rattle.mm_defs.specs.declared.header.Header.{Header}
 use Rattle.mm_defs.specs.declared.header.Size.{Size}
 use Rattle.mm_defs.specs.declared.kinds.Kind.{Kind}
 use Rattle.mm_defs.specs.Header.{value_words, is_integer_field}
-use Rattle.mm_defs.specs.Faults.{place_rules, entry_rules}
+use Rattle.mm_defs.specs.Faults.{place_rules, coordinate_rules}
 use Rattle.mm_defs.specs.File.{triple, triple_at}
 use Rattle.mm_defs.specs.Words.{Word, is_lf, is_blank, has_bytes, word, words, lines, open_line, but_last, last_part, is_skipped}
 use Rattle.mm_defs.proofs.AnswerLemmas.{and_left, and_right}
@@ -25,7 +25,7 @@ use Rattle.mm_reader.specs.declared.number.Integer.{Integer}
 use Rattle.mm_reader.specs.declared.plain.PlainLine.{PlainLine}
 use Rattle.mm_reader.specs.Judged.{JudgedEntry}
 use Rattle.mm_reader.specs.Tokens.{capped, ReadsInteger}
-use Rattle.mm_reader.specs.Plain.{between, is_inner, is_visible, stands_apart, IsRun, IsDigits, IsNextLine, HasValues, IsPlainLine}
+use Rattle.mm_reader.specs.Plain.{between, is_inner, is_visible, stands_apart, IsRun, IsDigits, IsNextLine, HasValues, IsPlainLine, IsWholeLine}
 use Rattle.mm_reader.proofs.Judges.{entry_judged}
 use Rattle.mm_reader.proofs.Words.{words-none, words-blank}
 use Rattle.mm_reader.proofs.Numbers.{all_ascii_digits-push, digit_at}
@@ -189,6 +189,10 @@ pub words-next : (blanks w rest : List ℕ) → list_all is_blank blanks ≡ tru
     → words (blanks ++ (w ++ rest)) ≡ w ∷ words rest
 words-next blanks w rest k s v h = words-skip_all blanks (w ++ rest) k ∙ words-word w rest s v h
 
+-- blanks alone
+pub words-only_blanks : (blanks : List ℕ) → list_all is_blank blanks ≡ true → words blanks ≡ []
+words-only_blanks blanks h = ap words (sym (append-nil blanks)) ∙ words-skip_all blanks [] h ∙ words-none
+
 -- blanks at the end
 words-blanks : (line blanks : List ℕ) → list_all is_blank blanks ≡ true → words (line ++ blanks) ≡ words line
 words-blanks line [] h = ap words (append-nil line)
@@ -199,7 +203,7 @@ pub blanks_apart : (blanks rest : List ℕ) → has_bytes blanks ≡ true → li
 blanks_apart [] rest s h = absurd cc
 blanks_apart (b ∷ blanks) rest s h = and_left _ _ h
 
-apart_blanks : (xs blanks : List ℕ) → stands_apart xs ≡ true → list_all is_blank blanks ≡ true → stands_apart (xs ++ blanks) ≡ true
+pub apart_blanks : (xs blanks : List ℕ) → stands_apart xs ≡ true → list_all is_blank blanks ≡ true → stands_apart (xs ++ blanks) ≡ true
 apart_blanks [] [] h k = refl
 apart_blanks [] (b ∷ blanks) h k = and_left _ _ k
 apart_blanks (x ∷ xs) blanks h k = h
@@ -232,6 +236,17 @@ some_bytes bytes from to h k ne = by (between bytes from to) refl
     by : (xs : List ℕ) → between bytes from to ≡ xs → has_bytes xs ≡ true
     by [] e = absurd (ne (sym (no_bytes bytes from to h k e)))
     by (x ∷ xs) e = refl
+
+-- bytes without an LF, and the LF behind them
+pub whole_found : (bytes : List ℕ) (from end next : ℕ) (line : List ℕ) → from ≤ end → end < length bytes → next ≡ end + 1 → get_or bytes end 0 ≡ 10
+    → between bytes from end ≡ line → list_all is_inner line ≡ true → IsWholeLine bytes from next line
+whole_found bytes from end next line ordered within to_is lf_is whole inner = record {
+  in_order = omega arith;
+  within = omega arith;
+  line_is = ap (between bytes from) to_is ∙ between-push bytes from end ordered within
+      ∙ ap (λ (t : List ℕ). t ++ get_or bytes end 0 ∷ []) whole ∙ ap (λ b. line ++ b ∷ []) lf_is;
+  no_lf = split_none is_lf line inner;
+}
 
 -- the line that was found
 pub plain_found : (f : Field) (bytes : List ℕ) (from e1 s2 e2 e3 next row col : ℕ) (value : Integer) → IsDigits bytes from e1 row → e1 ≢ from
@@ -266,14 +281,10 @@ plain_found f bytes from e1 s2 e2 e3 next row col value d1 n1 r1 n2 d2 n3 v n =
     (between_join bytes e2 e3 end v.in_order r2.in_order))) in
     record {
       line = line;
+      whole = whole_found bytes from end next line ordered n.within n.to_is n.lf_is whole all_line;
       first = w1;
       second = w2;
       values = words vs;
-      in_order = omega (arith, n.to_is);
-      within = omega (arith, n.to_is, n.within);
-      line_is = ap (between bytes from) n.to_is ∙ between-push bytes from end ordered n.within
-          ∙ ap (λ (t : List ℕ). t ++ get_or bytes end 0 ∷ []) whole ∙ ap (λ b. line ++ b ∷ []) n.lf_is;
-      no_lf = split_none is_lf line all_line;
       words_are = line_words w1 b1 w2 vs b2 h1 h2 h3 v1 r1.all v3 v.apart r2.all;
       count = v.count;
       first_is = digits_number w1 h1 d1.all;
@@ -307,7 +318,7 @@ module _ (h : Header) (piece : List ℕ) (at : ℕ) (l : PlainLine) (p : IsPlain
   pub plain_judged : (s : Size) (r : Result Entry Kind)
       → ((i j : ℕ) (w : Word) → l.row ≡ capped i → l.col ≡ capped j → (is_integer_field h.field ≡ true → ReadsInteger w (Some l.value))
       → JudgedEntry (place_rules h s i j w) (triple_at h.field i j w) r)
-      → JudgedEntry (entry_rules h s (words p.line)) (triple h (words p.line)) r
+      → JudgedEntry (coordinate_rules h s (words p.line)) (triple h (words p.line)) r
   plain_judged s r judged =
       let ws : List Word = words p.line in
       let w0 : word ws 0 ≡ p.first = ap (λ (t : List Word). word t 0) p.words_are in

@@ -5,17 +5,16 @@ use Rattle.mm_defs.specs.declared.answers.End.TheVariants.{File, LastEntry}
 use Rattle.mm_defs.specs.declared.header.Header.{Header}
 use Rattle.mm_defs.specs.declared.header.Size.{Size}
 use Rattle.mm_defs.specs.Words.{lines, open_line}
-use Rattle.mm_defs.specs.File.{later_lines, line_faults}
 use Rattle.sp_ids.specs.Entries as entries
-use Rattle.mm_reader.specs.declared.plain.PlainLine.{PlainLine}
+use Rattle.mm_reader.specs.declared.array.ArrayPlace.{ArrayPlace}
 use Rattle.mm_reader.specs.declared.machine.Machine.{Machine}
 use Rattle.mm_reader.specs.declared.machine.Phase.{Phase}
 use Rattle.mm_reader.specs.declared.machine.Phase.TheVariants as phases
 use Rattle.mm_reader.specs.declared.machine.Stop.{Stop}
 use Rattle.mm_reader.specs.declared.machine.Stop.TheVariants as stops
 use Rattle.std.proofs.Common.{Result, Ok, Err}
-use Rattle.mm_reader.specs.Machine.{HasBanner, HasEntries, IsReady, Steps, is_complete}
-use Rattle.mm_reader.specs.Plain.{AwaitsPlain, IsPlainLine, between}
+use Rattle.mm_reader.specs.Machine.{HasRoom, IsReady, Steps, TakesLine, is_complete}
+use Rattle.mm_reader.specs.Plain.{AwaitsPlain, IsWholeLine, between}
 use Rattle.mm_reader.specs.Stages.{begun_lines, GoesOn, Halts, IsAfter, StopsIn, StopsWithin}
 use Rattle.mm_reader.proofs.PlainLaws.{whole_line, whole_closed_line, between_join, between-none, between-push, split_at}
 use Rattle.mm_reader.proofs.Words.{empty_of}
@@ -30,19 +29,20 @@ stays m piece at h ready = record {
   stands = λ end bytes a out. rw (between-none piece at) (subst (λ (t : List ℕ). IsAfter end m t) (sym (append-nil bytes)) a);
 }
 
-module _ (m : Machine) (h : Header) (s : Size) (done : ℕ) (w : AwaitsPlain m h s done) (piece : List ℕ) (at : ℕ) (l : PlainLine) (p : IsPlainLine h.field piece at l) (t : entries.Entries) where
+-- a whole line of the matrix
+module _ (m : Machine) (h : Header) (s : Size) (done : ℕ) (place : ArrayPlace) (w : AwaitsPlain m h s done place) (piece : List ℕ) (at next : ℕ) (text : List ℕ) (p : IsWholeLine piece at next text) (t : entries.Entries) where
   abbrev Shown : Result Phase Stop → Type 0
-  Shown result = (end : End) (ls : List (List ℕ)) → HasBanner h ls → HasEntries h s done m.triples (later_lines ls) → line_faults end ls ≡ [] → m.number + 1 ≡ length ls + 1 → Steps end (ls ++ p.line ∷ []) t result
+  Shown result = (end : End) → TakesLine h s done m.triples (m.number + 1) end text t result
 
   closed_is : (end : End) (bytes : List ℕ) → IsAfter end m bytes → open_line bytes ≡ []
   closed_is end bytes a = empty_of (open_line bytes) (sym a.begun_is ∙ w.closed)
 
-  shown_at : (result : Result Phase Stop) → Shown result → (end : End) (bytes : List ℕ) → IsAfter end m bytes → Steps end (lines false bytes ++ p.line ∷ []) t result
+  shown_at : (result : Result Phase Stop) → Shown result → (end : End) (bytes : List ℕ) → IsAfter end m bytes → Steps end (lines false bytes ++ text ∷ []) t result
   shown_at result f end bytes a =
       let k = rw w.phase_is at a.lines_are.phase_is in
       f end (lines false bytes) k.0 k.1 a.lines_are.good (ap (λ n. n + 1) a.number_is)
 
-  pub plain_goes : (phase : Phase) → IsReady phase t → Shown (Ok phase) → GoesOn m (record { phase = phase; number = m.number + 1; triples = t; begun = m.begun; line = m.line }) piece at l.next
+  pub plain_goes : (phase : Phase) → IsReady phase t → Shown (Ok phase) → GoesOn m (record { phase = phase; number = m.number + 1; triples = t; begun = m.begun; line = m.line }) piece at next
   plain_goes phase ready f = record {
     in_order = omega (arith, p.in_order);
     within = p.within;
@@ -52,9 +52,9 @@ module _ (m : Machine) (h : Header) (s : Size) (done : ℕ) (w : AwaitsPlain m h
     stands = λ end bytes a out.
         let o = closed_is end bytes a in
         let r = shown_at (Ok phase) f end bytes a in
-        let e = whole_line bytes p.line o p.no_lf in
-        let c = whole_closed_line bytes p.line in
-        let n : m.number + 1 ≡ length (lines false bytes ++ p.line ∷ []) = ap (λ k. k + 1) a.number_is ∙ sym (length-append (lines false bytes) (p.line ∷ [])) in
+        let e = whole_line bytes text o p.no_lf in
+        let c = whole_closed_line bytes text in
+        let n : m.number + 1 ≡ length (lines false bytes ++ text ∷ []) = ap (λ k. k + 1) a.number_is ∙ sym (length-append (lines false bytes) (text ∷ [])) in
         subst (λ (x : List ℕ). IsAfter end (record { phase = phase; number = m.number + 1; triples = t; begun = m.begun; line = m.line }) (bytes ++ x)) (sym p.line_is)
         (record {
           lines_are = rw e r;
@@ -64,20 +64,20 @@ module _ (m : Machine) (h : Header) (s : Size) (done : ℕ) (w : AwaitsPlain m h
         });
   }
 
-  halted : (stop : Stop) → Shown (Err stop) → (end : End) (bytes : List ℕ) → IsAfter end m bytes → StopsIn end (bytes ++ (p.line ++ 10 ∷ [])) stop
+  halted : (stop : Stop) → Shown (Err stop) → (end : End) (bytes : List ℕ) → IsAfter end m bytes → StopsIn end (bytes ++ (text ++ 10 ∷ [])) stop
   halted (stops.Bad line kind) f end bytes a =
       let r = shown_at (Err (stops.Bad line kind)) f end bytes a in
-      let e = whole_line bytes p.line (closed_is end bytes a) p.no_lf in
-      record { bad = rw e r.0; number_is = rw e r.1; closed = whole_closed_line bytes p.line }
+      let e = whole_line bytes text (closed_is end bytes a) p.no_lf in
+      record { bad = rw e r.0; number_is = rw e r.1; closed = whole_closed_line bytes text }
   halted stops.Memory f end bytes a = tt
 
   pub plain_halts : (stop : Stop) → Shown (Err stop) → (end : End) (bytes : List ℕ) → IsAfter end m bytes → is_complete end m.phase ≡ false → StopsWithin end bytes (drop at piece) stop
   plain_halts stop f end bytes a out =
-      let ordered : at ≤ l.next = omega (arith, p.in_order) in
+      let ordered : at ≤ next = omega (arith, p.in_order) in
       record {
-        prefix = p.line ++ 10 ∷ [];
-        rest = drop l.next piece;
-        piece_is = split_at piece at l.next ordered ∙ ap (λ (x : List ℕ). x ++ drop l.next piece) p.line_is;
+        prefix = text ++ 10 ∷ [];
+        rest = drop next piece;
+        piece_is = split_at piece at next ordered ∙ ap (λ (x : List ℕ). x ++ drop next piece) p.line_is;
         stops = halted stop f end bytes a;
       }
 
@@ -126,12 +126,15 @@ stops_piece end stop bytes piece at s = record {
 
 -- ---- line behind line
 
-pub open_entries : (end : End) (h : Header) (s : Size) (done : ℕ) → done < s.count → is_complete end (phases.Entries h s done) ≡ false
-open_entries File h s done low = refl
-open_entries LastEntry h s done low = ne_eqb done s.count (omega arith)
+pub open_entries : (end : End) (h : Header) (s : Size) (done : ℕ) (p : ArrayPlace) → done < s.count → is_complete end (phases.Entries h s done p) ≡ false
+open_entries File h s done p low = refl
+open_entries LastEntry h s done p low = ne_eqb done s.count (omega arith)
 
-pub open_machine : (m : Machine) (h : Header) (s : Size) (done : ℕ) → AwaitsPlain m h s done → done < s.count → (end : End) → is_complete end m.phase ≡ false
-open_machine m h s done w low end = ap (is_complete end) w.phase_is ∙ open_entries end h s done low
+pub open_machine : (m : Machine) (h : Header) (s : Size) (done : ℕ) (p : ArrayPlace) → AwaitsPlain m h s done p → done < s.count → (end : End) → is_complete end m.phase ≡ false
+open_machine m h s done p w low end = ap (is_complete end) w.phase_is ∙ open_entries end h s done p low
+
+pub room_at : (m : Machine) (h : Header) (s : Size) (done : ℕ) (p : ArrayPlace) → AwaitsPlain m h s done p → IsReady m.phase m.triples → HasRoom h s done p m.triples
+room_at m h s done p w ready = rw w.phase_is at ready
 
 pub goes_then : (a b c : Machine) (piece : List ℕ) (from mid to : ℕ) → GoesOn a b piece from mid → GoesOn b c piece mid to → ((end : End) → is_complete end b.phase ≡ false) → GoesOn a c piece from to
 goes_then a b c piece from mid to f g out = record {

@@ -1,6 +1,5 @@
 -- What one more line does to the machine, by its role.
-use Rattle.std.proofs.Common.{◌≡◌, ℕ, ◌+◌, ◌<◌, true, false, ◌==◌, List, [], ◌∷◌, ◌++◌, length, refl, sym, ap, subst, ◌∙◌, arith, append-nil, length-append, flat_map, Some, None, eqb-true, eq-eqb}
-use Rattle.std.proofs.lemmas.Grind.{flat_map-append}
+use Rattle.std.proofs.Common.{◌≡◌, ℕ, ◌+◌, ◌<◌, true, false, ◌==◌, List, [], ◌∷◌, ◌++◌, length, refl, sym, ap, subst, ◌∙◌, arith, length-append, Some, None, eqb-true, eq-eqb}
 use Rattle.sp_ids.specs.Entries as entries
 use Rattle.mm_defs.specs.declared.answers.End.{End}
 use Rattle.mm_defs.specs.declared.answers.End.TheVariants.{File, LastEntry}
@@ -11,11 +10,15 @@ use Rattle.mm_defs.specs.declared.kinds.Kind.TheVariants.{Trailing}
 use Rattle.mm_defs.specs.Words.{Word, Line, words, is_skipped}
 use Rattle.mm_defs.specs.Header.{header, size}
 use Rattle.mm_defs.specs.Faults.{Rule, first_kind, banner_rules, size_rules, entry_rules}
-use Rattle.mm_defs.specs.File.{Fault, fault_by, later_lines, line_faults, trailing, triple, mirror, triples, last_number}
+use Rattle.mm_defs.specs.File.{Fault, fault_by, header_of, later_lines, line_faults, trailing, with_mirrors, items, last_number}
 use Rattle.mm_defs.proofs.Roles.{line_at, later_lines-push, later_lines-push_skipped, banner_comes, skipped_comes, size_comes, entry_comes, trailing_comes}
+use Rattle.mm_reader.specs.declared.array.ArrayPlace.{ArrayPlace}
 use Rattle.mm_reader.specs.declared.machine.Phase.TheVariants as phases
 use Rattle.mm_reader.specs.Additions.{with_entries}
+use Rattle.mm_reader.specs.ArrayPlaces.{said_next}
+use Rattle.mm_reader.specs.Judged.{IsWithin}
 use Rattle.mm_reader.specs.Machine.{HasBanner, HasEntries, HasLines, is_complete}
+use Rattle.mm_reader.proofs.ArrayLaws.{in_places, items-none, items-push}
 
 none_fault : (rules : List Word → List Rule) (l : Line) → first_kind (rules l.words) ≡ None → fault_by rules l ≡ []
 none_fault rules l h = rw h refl
@@ -27,14 +30,21 @@ sizes_open : (end : End) (h : Header) → is_complete end (phases.Sizes h) ≡ t
 sizes_open File h e = cc
 sizes_open LastEntry h e = cc
 
-complete_count : (end : End) (h : Header) (s : Size) (done : ℕ) → is_complete end (phases.Entries h s done) ≡ true → done ≡ s.count
-complete_count File h s done e = absurd cc
-complete_count LastEntry h s done e = eqb-true done s.count e
+complete_count : (end : End) (h : Header) (s : Size) (done : ℕ) (p : ArrayPlace) → is_complete end (phases.Entries h s done p) ≡ true → done ≡ s.count
+complete_count File h s done p e = absurd cc
+complete_count LastEntry h s done p e = eqb-true done s.count e
 
 last_number-push : (ls : List Line) (l : Line) → last_number (ls ++ l ∷ []) ≡ l.number
 last_number-push [] l = refl
 last_number-push (k ∷ []) l = refl
 last_number-push (k ∷ m ∷ ls) l = last_number-push (m ∷ ls) l
+
+-- what the banner line and the size line say
+pub header_said : (h : Header) (ls : List (List ℕ)) → HasBanner h ls → header_of ls ≡ h
+header_said h ls b = rw b.lines_are (sym b.header_is)
+
+pub size_said : (h : Header) (s : Size) (done : ℕ) (t : entries.Entries) (ls : List (List ℕ)) → HasBanner h ls → (has : HasEntries h s done t (later_lines ls)) → s ≡ size (header_of ls) has.size_line.words
+size_said h s done t ls b has = has.size_is ∙ ap (λ (x : Header). size x has.size_line.words) (sym (header_said h ls b))
 
 -- ---- line 1
 
@@ -73,9 +83,9 @@ module _ (end : End) (ls : List (List ℕ)) (l : List ℕ) (h : Header) (n : ℕ
     last = λ c. absurd (sizes_open end h c);
   }
 
-  pub entries_skipped : (s : Size) (done : ℕ) (t : entries.Entries) → HasEntries h s done t (later_lines ls) → is_complete end (phases.Entries h s done) ≡ false → is_skipped (words l) ≡ true
-      → HasLines end (phases.Entries h s done) t (ls ++ l ∷ [])
-  entries_skipped s done t has out e = record {
+  pub entries_skipped : (s : Size) (done : ℕ) (p : ArrayPlace) (t : entries.Entries) → HasEntries h s done t (later_lines ls) → is_complete end (phases.Entries h s done p) ≡ false → is_skipped (words l) ≡ true
+      → HasLines end (phases.Entries h s done p) t (ls ++ l ∷ [])
+  entries_skipped s done p t has out e = record {
     phase_is = (banner_stays, subst (λ (x : List Line). HasEntries h s done t x) (sym (later_skipped e)) has);
     good = faults_skipped e;
     last = λ c. absurd cc;
@@ -96,9 +106,9 @@ module _ (end : End) (ls : List (List ℕ)) (l : List ℕ) (h : Header) (n : ℕ
         rw b.lines_are (size_comes end b.first b.others l n kept length_at at) in
         k ∙ ap (λ (t : List Fault). t ++ fault_by (size_rules (header (words b.first))) (line_at n l)) good ∙ ap (λ (x : Header). fault_by (size_rules x) (line_at n l)) (sym b.header_is)
 
-    pub size_good : (s : Size) → later_lines ls ≡ [] → first_kind (size_rules h (words l)) ≡ None → s ≡ size (words l)
-        → HasLines end (phases.Entries h s 0) (record { rows = s.rows; cols = s.cols; field = h.field; items = [] }) (ls ++ l ∷ [])
-    size_good s none first is = record {
+    pub size_good : (s : Size) (p : ArrayPlace) → later_lines ls ≡ [] → first_kind (size_rules h (words l)) ≡ None → s ≡ size h (words l)
+        → HasLines end (phases.Entries h s 0 p) (record { rows = s.rows; cols = s.cols; field = h.field; items = [] }) (ls ++ l ∷ [])
+    size_good s p none first is = record {
       phase_is = (
         banner_stays,
         record {
@@ -108,7 +118,7 @@ module _ (end : End) (ls : List (List ℕ)) (l : List ℕ) (h : Header) (n : ℕ
           size_is = is;
           done_is = refl;
           in_count = omega arith;
-          triples_are = refl;
+          triples_are = ap (λ (x : List entries.Triple). record { rows = s.rows; cols = s.cols; field = h.field; items = x }) (sym (items-none h s));
         },
       );
       good = size_faults none ∙ none_fault (size_rules h) (line_at n l) first;
@@ -124,32 +134,42 @@ module _ (end : End) (ls : List (List ℕ)) (l : List ℕ) (h : Header) (n : ℕ
       later_at : later_lines (b.first ∷ b.others) ≡ has.size_line ∷ has.entry_lines
       later_at = ap later_lines (sym b.lines_are) ∙ has.later_are
 
+      abbrev size_here : Size
+      size_here = size (header (words b.first)) has.size_line.words
+
+      size_at : s ≡ size_here
+      size_at = has.size_is ∙ ap (λ (x : Header). size x has.size_line.words) b.header_is
+
       entry_faults : done < s.count → line_faults end (ls ++ l ∷ []) ≡ fault_by (entry_rules h s) (line_at n l)
       entry_faults low =
           let d = has.done_is in
-          let c : s.count ≡ (size has.size_line.words).count = ap (λ (x : Size). x.count) has.size_is in
-          let short : length has.entry_lines < (size has.size_line.words).count = omega arith in
-          let k : line_faults end (ls ++ l ∷ []) ≡ line_faults end ls ++ fault_by (entry_rules (header (words b.first)) (size has.size_line.words)) (line_at n l) =
+          let c : s.count ≡ size_here.count = ap (λ (x : Size). x.count) size_at in
+          let short : length has.entry_lines < size_here.count = omega arith in
+          let k : line_faults end (ls ++ l ∷ []) ≡ line_faults end ls ++ fault_by (entry_rules (header (words b.first)) size_here) (line_at n l) =
           rw b.lines_are (entry_comes end b.first b.others l n kept length_at has.size_line has.entry_lines later_at short) in
-          k ∙ ap (λ (x : List Fault). x ++ fault_by (entry_rules (header (words b.first)) (size has.size_line.words)) (line_at n l)) good
-          ∙ ap (λ (x : Header). fault_by (entry_rules x (size has.size_line.words)) (line_at n l)) (sym b.header_is)
-          ∙ ap (λ (x : Size). fault_by (entry_rules h x) (line_at n l)) (sym has.size_is)
+          k ∙ ap (λ (x : List Fault). x ++ fault_by (entry_rules (header (words b.first)) size_here) (line_at n l)) good
+          ∙ ap (λ (x : Header). fault_by (entry_rules x size_here) (line_at n l)) (sym b.header_is)
+          ∙ ap (λ (x : Size). fault_by (entry_rules h x) (line_at n l)) (sym size_at)
 
       later_entries : later_lines (ls ++ l ∷ []) ≡ has.size_line ∷ (has.entry_lines ++ line_at n l ∷ [])
       later_entries = later_more ∙ ap (λ (x : List Line). x ++ line_at n l ∷ []) has.later_are
 
-      triples_more : with_entries t (triple h (words l) ∷ mirror h.symmetry (triple h (words l)))
-          ≡ record { rows = s.rows; cols = s.cols; field = h.field; items = flat_map (triples h) (has.entry_lines ++ line_at n l ∷ []) }
-      triples_more =
-          let e : flat_map (triples h) (has.entry_lines ++ line_at n l ∷ []) ≡ flat_map (triples h) has.entry_lines ++ (triple h (words l) ∷ mirror h.symmetry (triple h (words l))) =
-          flat_map-append (triples h) has.entry_lines (line_at n l ∷ [])
-          ∙ ap (λ (x : List entries.Triple). flat_map (triples h) has.entry_lines ++ x) (append-nil (triples h (line_at n l))) in
-          rw e (ap (λ (x : entries.Entries). with_entries x (triple h (words l) ∷ mirror h.symmetry (triple h (words l)))) has.triples_are)
+      -- what the line adds
+      abbrev added : List entries.Triple
+      added = with_mirrors h.symmetry (said_next h.format h s done (words l))
 
-      pub entry_good : (after : entries.Entries) → done < s.count → first_kind (entry_rules h s (words l)) ≡ None
-          → after ≡ with_entries t (triple h (words l) ∷ mirror h.symmetry (triple h (words l)))
-          → HasLines end (phases.Entries h s (done + 1)) after (ls ++ l ∷ [])
-      entry_good after low first is = record {
+      triples_more : IsWithin h s → done < s.count → with_entries t added ≡ record { rows = s.rows; cols = s.cols; field = h.field; items = items h s (has.entry_lines ++ line_at n l ∷ []) }
+      triples_more within low =
+          let d : length has.entry_lines ≡ done = sym has.done_is in
+          let e : items h s (has.entry_lines ++ line_at n l ∷ []) ≡ items h s has.entry_lines ++ added =
+          items-push h s has.entry_lines (line_at n l) (λ array. in_places h s within array (length has.entry_lines) (omega arith))
+          ∙ ap (λ k. items h s has.entry_lines ++ with_mirrors h.symmetry (said_next h.format h s k (words l))) d in
+          rw e (ap (λ (x : entries.Entries). with_entries x added) has.triples_are)
+
+      pub entry_good : (p : ArrayPlace) (after : entries.Entries) → IsWithin h s → done < s.count → first_kind (entry_rules h s (words l)) ≡ None
+          → after ≡ with_entries t added
+          → HasLines end (phases.Entries h s (done + 1) p) after (ls ++ l ∷ [])
+      entry_good p after within low first is = record {
         phase_is = (
           banner_stays,
           record {
@@ -159,7 +179,7 @@ module _ (end : End) (ls : List (List ℕ)) (l : List ℕ) (h : Header) (n : ℕ
             size_is = has.size_is;
             in_count = omega arith;
             done_is = ap (λ k. k + 1) has.done_is ∙ sym (length-append has.entry_lines (line_at n l ∷ []));
-            triples_are = is ∙ triples_more;
+            triples_are = is ∙ triples_more within low;
           },
         );
         good = entry_faults low ∙ none_fault (entry_rules h s) (line_at n l) first;
@@ -172,15 +192,15 @@ module _ (end : End) (ls : List (List ℕ)) (l : List ℕ) (h : Header) (n : ℕ
 
       trailing_faults : done ≡ s.count → line_faults end (ls ++ l ∷ []) ≡ trailing end (line_at n l ∷ [])
       trailing_faults full =
-          let c : s.count ≡ (size has.size_line.words).count = ap (λ (x : Size). x.count) has.size_is in
+          let c : s.count ≡ size_here.count = ap (λ (x : Size). x.count) size_at in
           let k : line_faults end (ls ++ l ∷ []) ≡ line_faults end ls ++ trailing end (line_at n l ∷ []) =
           rw b.lines_are (trailing_comes end b.first b.others l n kept length_at has.size_line has.entry_lines later_at (sym has.done_is ∙ full ∙ c)) in
           k ∙ ap (λ (x : List Fault). x ++ trailing end (line_at n l ∷ [])) good
 
-      pub line_trails : done ≡ s.count → is_complete end (phases.Entries h s done) ≡ false
+      pub line_trails : (p : ArrayPlace) → done ≡ s.count → is_complete end (phases.Entries h s done p) ≡ false
           → (line_faults end (ls ++ l ∷ []) ≡ record { line = n; kind = Trailing } ∷ []) × (n ≡ length (ls ++ l ∷ []))
-      line_trails full out = (trailing_faults full ∙ by end out, number_is)
+      line_trails p full out = (trailing_faults full ∙ by end out, number_is)
         where
-          by : (e : End) → is_complete e (phases.Entries h s done) ≡ false → trailing e (line_at n l ∷ []) ≡ record { line = n; kind = Trailing } ∷ []
+          by : (e : End) → is_complete e (phases.Entries h s done p) ≡ false → trailing e (line_at n l ∷ []) ≡ record { line = n; kind = Trailing } ∷ []
           by File o = refl
           by LastEntry o = let k : (done == s.count) ≡ true = eq-eqb done s.count full in absurd cc

@@ -1,18 +1,24 @@
 -- Value words of entry lines of the usual form.
-use Rattle.std.proofs.Common.{◌≡◌, ◌≢◌, ℕ, ◌<◌, ◌≤◌, Bool, true, false, ◌||◌, ◌==◌, List, [], ◌∷◌, ◌++◌, length, refl, sym, ap, subst, ◌∙◌, arith, append-nil, append_assoc, leb-true, eqb-true, ne_eqb, ◌^◌, Option, Some, None, IfSome}
+use Rattle.std.proofs.Common.{◌≡◌, ◌≢◌, ℕ, ◌<◌, ◌≤◌, Bool, true, false, ◌||◌, ◌==◌, List, [], ◌∷◌, ◌++◌, length, refl, sym, ap, subst, ◌∙◌, arith, append-nil, append_assoc, leb-true, eqb-true, ne_eqb, ◌^◌, Option, Some, None, IfSome, ℤ, Result}
 use Rattle.std.specs.List.{list_all}
 use Rattle.std.specs.Str.{all_ascii_digits}
 use Rattle.sp_ids.specs.declared.triples.Field.{Field}
 use Rattle.sp_ids.specs.declared.triples.Field.TheVariants as fields
+use Rattle.mm_defs.specs.declared.header.Header.{Header}
+use Rattle.mm_defs.specs.declared.kinds.Kind.{Kind}
+use Rattle.mm_defs.specs.Faults.{array_rules, value_rules}
 use Rattle.mm_defs.specs.Header.{value_words, is_integer_field}
-use Rattle.mm_defs.specs.Numbers.{value, bare, is_negative}
-use Rattle.mm_defs.specs.Words.{is_blank, has_bytes, words}
+use Rattle.mm_defs.specs.Numbers.{value, bare, is_negative, is_integer, integer}
+use Rattle.mm_defs.specs.Words.{is_blank, has_bytes, is_skipped, word, words}
 use Rattle.mm_defs.proofs.AnswerLemmas.{and_left, and_right}
 use Rattle.mm_reader.specs.declared.number.Integer.{Integer}
+use Rattle.mm_reader.specs.declared.plain.PlainValue.{PlainValue}
+use Rattle.mm_reader.specs.Judged.{Judged}
 use Rattle.mm_reader.specs.Tokens.{capped, ReadsInteger}
-use Rattle.mm_reader.specs.Plain.{between, is_inner, is_visible, is_sign, stands_apart, IsRun, IsDigits, IsSign, IsNextWord, IsNextInteger, HasValues}
+use Rattle.mm_reader.proofs.Judges.{value_judged}
+use Rattle.mm_reader.specs.Plain.{between, is_inner, is_visible, is_sign, stands_apart, IsRun, IsDigits, IsSign, IsIntegerHere, IsNextWord, IsNextInteger, IsNextLine, IsPlainValue, HasValues}
 use Rattle.mm_reader.proofs.Words.{words-none}
-use Rattle.mm_reader.proofs.PlainLaws.{both_of, between-none, between_join, weaker, all_append, some_bytes, digits_visible, visible_inner, blank_inner, words-next, blanks_apart}
+use Rattle.mm_reader.proofs.PlainLaws.{both_of, between-none, between_join, weaker, all_append, some_bytes, digits_visible, visible_inner, blank_inner, words-next, words-only_blanks, blanks_apart, apart_blanks, whole_found}
 
 -- ---- signs
 
@@ -73,28 +79,87 @@ module _ (bytes : List ℕ) (from to : ℕ) (n : IsNextWord bytes from to) where
   next_apart : stands_apart (between bytes from to) ≡ true
   next_apart = ap stands_apart next_is ∙ blanks_apart (between bytes from n.start) (between bytes n.start to) blanks_some n.blanks_are.all
 
--- blanks, a sign or none, and digits
-pub integer_found : (bytes : List ℕ) (from start first to m : ℕ) (minus : Bool) → IsRun is_blank bytes from start → start ≢ from → IsSign bytes start first minus
-    → IsDigits bytes first to m → to ≢ first → IsNextInteger bytes from to (record { minus = minus; magnitude = m })
-integer_found bytes from start first to m minus r n1 s d n2 =
+-- a sign or none, and digits
+pub integer_found : (bytes : List ℕ) (start first to m : ℕ) (minus : Bool) → IsSign bytes start first minus → IsDigits bytes first to m → to ≢ first
+    → IsIntegerHere bytes start to (record { minus = minus; magnitude = m })
+integer_found bytes start first to m minus s d n =
     let ss : List ℕ = between bytes start first in
     let ds : List ℕ = between bytes first to in
     let e : between bytes start to ≡ ss ++ ds = between_join bytes start first to s.in_order d.in_order in
     let is = signed ss ds s.all d.all in
-    let some : has_bytes ds ≡ true = some_bytes bytes first to d.in_order d.within n2 in
+    let some : has_bytes ds ≡ true = some_bytes bytes first to d.in_order d.within n in
     record {
-      next = record {
-        start = start;
-        some_blanks = omega (arith, r.in_order);
-        some_bytes = omega (arith, s.in_order, d.in_order);
-        blanks_are = r;
-        word_is = record { in_order = omega (arith, s.in_order, d.in_order); within = d.within; all = rw e is.seen };
-      };
+      some_bytes = omega (arith, s.in_order, d.in_order);
+      word_is = record { in_order = omega (arith, s.in_order, d.in_order); within = d.within; all = rw e is.seen };
       reads = rw (e, is.digits) (both_of (has_bytes ds) (all_ascii_digits ds) some d.all, s.minus_is ∙ sym is.minus, small ds d.value_is d.small);
     }
   where
     small : (ds : List ℕ) → m ≡ value ds → m < 2 ^ 63 → m ≡ capped (value ds)
     small ds h k = omega arith
+
+-- behind blanks
+pub integer_behind : (bytes : List ℕ) (from start : ℕ) (r : Option (Integer × ℕ)) → IsRun is_blank bytes from start → start ≢ from → IfSome r (λ x. IsIntegerHere bytes start x.1 x.0) → IfSome r (λ x. IsNextInteger bytes from x.1 x.0)
+integer_behind bytes from start None b n i = tt
+integer_behind bytes from start (Some x) b n i = record {
+  next = record {
+    start = start;
+    some_blanks = omega (arith, b.in_order);
+    some_bytes = i.some_bytes;
+    blanks_are = b;
+    word_is = i.word_is;
+  };
+  reads = i.reads;
+}
+
+-- a whole line of one integer
+pub value_found : (bytes : List ℕ) (from start end next : ℕ) (i : Integer) → IsRun is_blank bytes from start → IsIntegerHere bytes start end i → IsNextLine bytes end next
+    → IsPlainValue bytes from (record { value = i; next = next })
+value_found bytes from start end next i b h n =
+    let r = n.blanks_are in
+    let w = h.word_is in
+    let bs : List ℕ = between bytes from start in
+    let word : List ℕ = between bytes start end in
+    let rest : List ℕ = between bytes end n.end in
+    let line : List ℕ = bs ++ (word ++ rest) in
+    let inner : list_all is_inner line ≡ true =
+    all_append is_inner bs (word ++ rest) (weaker is_blank is_inner blank_inner bs b.all)
+    (all_append is_inner word rest (weaker is_visible is_inner visible_inner word w.all) (weaker is_blank is_inner blank_inner rest r.all)) in
+    let behind : start ≤ n.end = omega (arith, w.in_order, r.in_order) in
+    let ordered : from ≤ n.end = omega (arith, b.in_order) in
+    let whole : between bytes from n.end ≡ line =
+    between_join bytes from start n.end b.in_order behind ∙ ap (λ (t : List ℕ). bs ++ t) (between_join bytes start end n.end w.in_order r.in_order) in
+    let some : has_bytes word ≡ true = some_bytes bytes start end w.in_order w.within (omega (arith, h.some_bytes)) in
+    record {
+      line = line;
+      whole = whole_found bytes from n.end next line ordered n.within n.to_is n.lf_is whole inner;
+      word = word;
+      words_are = words-next bs word rest b.all some w.all (apart_blanks [] rest refl r.all) ∙ ap (λ (t : List (List ℕ)). word ∷ t) (words-only_blanks rest r.all);
+      reads = h.reads;
+    }
+
+-- ---- what a value line of the usual form does
+
+integer_first : (b : ℕ) (bs : List ℕ) (c : Bool) → (b == 37) ≡ c → is_integer (b ∷ bs) ≡ true → c ≡ false
+integer_first b bs false e h = refl
+integer_first b bs true e h =
+    let k : b ≡ 37 = eqb-true b 37 e in
+    let n : is_integer (37 ∷ bs) ≡ true = rw k at h in
+    absurd cc
+
+integer_kept : (w : List ℕ) (ws : List (List ℕ)) → is_integer w ≡ true → is_skipped (w ∷ ws) ≡ false
+integer_kept [] ws h = absurd cc
+integer_kept (b ∷ bs) ws h = integer_first b bs (b == 37) refl h
+
+module _ (piece : List ℕ) (at : ℕ) (l : PlainValue) (p : IsPlainValue piece at l) where
+  pub value_kept : is_skipped (words p.line) ≡ false
+  value_kept = ap is_skipped p.words_are ∙ integer_kept p.word [] p.reads.0
+
+  pub line_judged : (h : Header) (r : Result ℤ Kind) → h.field ≡ fields.Integer → ((w : List ℕ) → ReadsInteger w (Some l.value) → Judged (value_rules fields.Integer w) (integer w) r)
+      → Judged (array_rules h (words p.line)) (integer (word (words p.line) 0)) r
+  line_judged h r field judged =
+      let w0 : word (words p.line) 0 ≡ p.word = ap (λ (t : List (List ℕ)). word t 0) p.words_are in
+      value_judged h (words p.line) (integer (word (words p.line) 0)) r field (ap (λ (t : List (List ℕ)). length t == 1) p.words_are)
+      (judged (word (words p.line) 0) (rw w0 p.reads))
 
 -- ---- the value words of each field
 

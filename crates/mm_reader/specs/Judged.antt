@@ -1,11 +1,13 @@
 -- What a line is found to be.
-use Rattle.std.specs.Prelude.{◌≡◌, ◌≤◌, false, List, Option, Some, None, Result, Ok, Err}
+use Rattle.std.specs.Prelude.{◌≡◌, ◌≤◌, true, false, List, Option, Some, None, Result, Ok, Err}
 use Rattle.sp_ids.specs.Entries.{Triple}
+use Rattle.sp_ids.specs.declared.triples.Field.TheVariants.{Integer}
 use Rattle.sp_ids.specs.Limits.{max_cols, max_entry_lines, max_rows}
 use Rattle.mm_defs.specs.declared.kinds.Kind.{Kind}
 use Rattle.mm_defs.specs.declared.header.Header.{Header}
 use Rattle.mm_defs.specs.declared.header.Size.{Size}
-use Rattle.mm_defs.specs.Header.{is_general}
+use Rattle.mm_defs.specs.Arrays.{value_count}
+use Rattle.mm_defs.specs.Header.{is_array, is_general}
 use Rattle.mm_defs.specs.Faults.{Rule, first_kind}
 use Rattle.mm_reader.specs.declared.judge.Entry.{Entry}
 
@@ -26,9 +28,14 @@ JudgedEntry rules says (Err kind) = first_kind rules ≡ Some kind
 abbrev pub Passes : List Rule → Option Kind → Type 0
 Passes rules found = first_kind rules ≡ found
 
--- the sizes are within the limits, and equal where a mirror may come
+-- an array file has integers
+abbrev pub IsHeader : Header → Type 0
+IsHeader h = is_array h.format ≡ true → h.field ≡ Integer
+
+-- The sizes are within the limits, and equal where a mirror may come. An array file has as many lines as values.
 pub record IsWithin (h : Header) (s : Size) : Type 0 where
   pub rows : s.rows ≤ max_rows
   pub cols : s.cols ≤ max_cols
   pub count : s.count ≤ max_entry_lines
   pub square : is_general h.symmetry ≡ false → s.rows ≡ s.cols
+  pub values : is_array h.format ≡ true → s.count ≡ value_count h.symmetry s.rows s.cols

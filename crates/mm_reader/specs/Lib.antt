@@ -1,4 +1,5 @@
 pub mod Additions
+pub mod ArrayPlaces
 pub mod Inputs
 pub mod Judged
 pub mod Lines

@@ -1,6 +1,5 @@
 -- What the reader's machine stands for.
-use Rattle.std.specs.Prelude.{◌≡◌, ◌≤◌, ◌*◌, ℕ, Bool, true, false, ◌==◌, List, [], ◌∷◌, length, Result, Ok, Err}
-use Rattle.std.specs.List.{flat_map}
+use Rattle.std.specs.Prelude.{◌≡◌, ◌≤◌, ◌*◌, ◌+◌, ◌++◌, ℕ, Bool, true, false, ◌==◌, List, [], ◌∷◌, length, Result, Ok, Err}
 use Rattle.sp_ids.specs.Entries as entries
 use Rattle.mm_defs.specs.declared.answers.End.{End}
 use Rattle.mm_defs.specs.declared.answers.End.TheVariants.{File, LastEntry}
@@ -8,12 +7,14 @@ use Rattle.mm_defs.specs.declared.header.Header.{Header}
 use Rattle.mm_defs.specs.declared.header.Size.{Size}
 use Rattle.mm_defs.specs.Words.{Line, words}
 use Rattle.mm_defs.specs.Header.{header, size}
-use Rattle.mm_defs.specs.File.{later_lines, line_faults, triples, last_number}
+use Rattle.mm_defs.specs.File.{later_lines, line_faults, items, last_number}
+use Rattle.mm_reader.specs.declared.array.ArrayPlace.{ArrayPlace}
 use Rattle.mm_reader.specs.declared.machine.Phase.{Phase}
 use Rattle.mm_reader.specs.declared.machine.Phase.TheVariants as phases
 use Rattle.mm_reader.specs.declared.machine.Stop.{Stop}
 use Rattle.mm_reader.specs.declared.machine.Stop.TheVariants as stops
-use Rattle.mm_reader.specs.Judged.{IsWithin}
+use Rattle.mm_reader.specs.Judged.{IsHeader, IsWithin}
+use Rattle.mm_reader.specs.ArrayPlaces.{IsNext}
 
 -- ---- what the lines were
 
@@ -24,34 +25,34 @@ pub record HasBanner (h : Header) (ls : List (List ℕ)) : Type 0 where
   pub lines_are : ls ≡ first ∷ others
   pub header_is : h ≡ header (words first)
 
--- the size line and so many entry lines have come
+-- the size line and so many entry lines, or value lines, have come
 pub record HasEntries (h : Header) (s : Size) (done : ℕ) (t : entries.Entries)
     (later : List Line) : Type 0 where
   pub size_line : Line
   pub entry_lines : List Line
   pub later_are : later ≡ size_line ∷ entry_lines
-  pub size_is : s ≡ size size_line.words
+  pub size_is : s ≡ size h size_line.words
   pub done_is : done ≡ length entry_lines
   pub in_count : done ≤ s.count
   pub triples_are : t ≡ record {
     rows = s.rows;
     cols = s.cols;
     field = h.field;
-    items = flat_map (triples h) entry_lines;
+    items = items h s entry_lines;
   }
 
 -- where the machine is, after these lines
 abbrev pub IsPhase : Phase → entries.Entries → List (List ℕ) → Type 0
 IsPhase phases.Banner t ls = ls ≡ []
 IsPhase (phases.Sizes h) t ls = HasBanner h ls × (later_lines ls ≡ [])
-IsPhase (phases.Entries h s done) t ls = HasBanner h ls × HasEntries h s done t (later_lines ls)
+IsPhase (phases.Entries h s done next) t ls = HasBanner h ls × HasEntries h s done t (later_lines ls)
 
 -- the matrix is read and what follows is not judged
 abbrev pub is_complete : End → Phase → Bool
 is_complete File phase = false
 is_complete LastEntry phases.Banner = false
 is_complete LastEntry (phases.Sizes h) = false
-is_complete LastEntry (phases.Entries h s done) = done == s.count
+is_complete LastEntry (phases.Entries h s done next) = done == s.count
 
 -- ---- what one more line does
 
@@ -73,11 +74,21 @@ abbrev pub Steps : End → List (List ℕ) → entries.Entries → Result Phase 
 Steps end ls t (Ok phase) = HasLines end phase t ls
 Steps end ls t (Err stop) = StopsAt end ls stop
 
+-- Such a line comes behind the size line and so many lines of the matrix, and no line was bad before it.
+abbrev pub TakesLine : Header → Size → ℕ → entries.Entries → ℕ → End → List ℕ → entries.Entries
+    → Result Phase Stop → Type 0
+TakesLine h s done before number end line after result = (ls : List (List ℕ)) → HasBanner h ls
+    → HasEntries h s done before (later_lines ls) → line_faults end ls ≡ []
+    → number ≡ length ls + 1 → Steps end (ls ++ line ∷ []) after result
+
 -- ---- what the code keeps of its own, whatever the lines were
 
-pub record HasRoom (h : Header) (s : Size) (done : ℕ) (t : entries.Entries) : Type 0 where
+pub record HasRoom (h : Header) (s : Size) (done : ℕ) (next : ArrayPlace)
+    (t : entries.Entries) : Type 0 where
+  pub header : IsHeader h
   pub within : IsWithin h s
   pub in_count : done ≤ s.count
+  pub next_is : IsNext h s done next
   pub rows : t.rows ≡ s.rows
   pub cols : t.cols ≡ s.cols
   pub field : t.field ≡ h.field
@@ -85,5 +96,5 @@ pub record HasRoom (h : Header) (s : Size) (done : ℕ) (t : entries.Entries) : 
 
 abbrev pub IsReady : Phase → entries.Entries → Type 0
 IsReady phases.Banner t = Unit {0}
-IsReady (phases.Sizes h) t = Unit {0}
-IsReady (phases.Entries h s done) t = HasRoom h s done t
+IsReady (phases.Sizes h) t = IsHeader h
+IsReady (phases.Entries h s done next) t = HasRoom h s done next t

@@ -1,4 +1,4 @@
--- Entry lines of the usual form.
+-- Entry lines and value lines of the usual form.
 use Rattle.std.specs.Prelude.{◌≡◌, ◌≤◌, ◌<◌, ◌+◌, ◌-◌, ◌^◌, ◌==◌, ◌&&◌, ◌||◌, not, ℕ, Bool, true, false, List, [], ◌∷◌, ◌++◌, length, take, drop, slice_index, Some}
 use Rattle.std.specs.List.{list_all}
 use Rattle.std.specs.Str.{all_ascii_digits}
@@ -9,10 +9,12 @@ use Rattle.mm_defs.specs.Words.{Word, is_lf, is_blank, has_bytes, word, words}
 use Rattle.mm_defs.specs.declared.header.Header.{Header}
 use Rattle.mm_defs.specs.declared.header.Size.{Size}
 use Rattle.mm_defs.specs.Header.{value_words, is_integer_field}
+use Rattle.mm_reader.specs.declared.array.ArrayPlace.{ArrayPlace}
 use Rattle.mm_reader.specs.declared.machine.Machine.{Machine}
 use Rattle.mm_reader.specs.declared.machine.Phase.TheVariants as phases
 use Rattle.mm_reader.specs.declared.number.Integer.{Integer}
 use Rattle.mm_reader.specs.declared.plain.PlainLine.{PlainLine}
+use Rattle.mm_reader.specs.declared.plain.PlainValue.{PlainValue}
 use Rattle.mm_reader.specs.Tokens.{capped, ReadsInteger}
 
 -- the bytes between two places
@@ -61,7 +63,13 @@ pub record IsNextWord (bytes : List ℕ) (from to : ℕ) : Type 0 where
   pub blanks_are : IsRun is_blank bytes from start
   pub word_is : IsRun is_visible bytes start to
 
--- and the word is this integer
+-- a word lies between these places, and it is this integer
+pub record IsIntegerHere (bytes : List ℕ) (from to : ℕ) (i : Integer) : Type 0 where
+  pub some_bytes : from < to
+  pub word_is : IsRun is_visible bytes from to
+  pub reads : ReadsInteger (between bytes from to) (Some i)
+
+-- blanks lie between these places, and behind them a word which is this integer
 pub record IsNextInteger (bytes : List ℕ) (from to : ℕ) (i : Integer) : Type 0 where
   pub next : IsNextWord bytes from to
   pub reads : ReadsInteger (between bytes next.start to) (Some i)
@@ -89,17 +97,21 @@ pub record IsNextLine (bytes : List ℕ) (from to : ℕ) : Type 0 where
   pub lf_is : slice_index bytes end ≡ 10
   pub to_is : to ≡ end + 1
 
--- The line that begins here, its LF counted, has two numbers without signs and the value words of this field. Where the
--- field is integer, the first of them is the value.
+-- this line stands between these places, its LF counted
+pub record IsWholeLine (bytes : List ℕ) (from next : ℕ) (line : List ℕ) : Type 0 where
+  pub in_order : from < next
+  pub within : next ≤ length bytes
+  pub line_is : take (next - from) (drop from bytes) ≡ line ++ 10 ∷ []
+  pub no_lf : slice_split is_lf line ≡ line ∷ []
+
+-- The line that begins here has two numbers without signs and the value words of this field. Where the field is integer,
+-- the first of them is the value.
 pub record IsPlainLine (f : Field) (bytes : List ℕ) (from : ℕ) (p : PlainLine) : Type 0 where
   pub line : List ℕ
+  pub whole : IsWholeLine bytes from p.next line
   pub first : Word
   pub second : Word
   pub values : List Word
-  pub in_order : from < p.next
-  pub within : p.next ≤ length bytes
-  pub line_is : take (p.next - from) (drop from bytes) ≡ line ++ 10 ∷ []
-  pub no_lf : slice_split is_lf line ≡ line ∷ []
   pub words_are : words line ≡ first ∷ second ∷ values
   pub count : length values ≡ value_words f
   pub first_is : is_number first ≡ true
@@ -108,7 +120,16 @@ pub record IsPlainLine (f : Field) (bytes : List ℕ) (from : ℕ) (p : PlainLin
   pub col_is : p.col ≡ capped (number second)
   pub reads : is_integer_field f ≡ true → ReadsInteger (word values 0) (Some p.value)
 
+-- the line that begins here is one word, this integer
+pub record IsPlainValue (bytes : List ℕ) (from : ℕ) (p : PlainValue) : Type 0 where
+  pub line : List ℕ
+  pub whole : IsWholeLine bytes from p.next line
+  pub word : Word
+  pub words_are : words line ≡ word ∷ []
+  pub reads : ReadsInteger word (Some p.value)
+
 -- entries are to come, and no line has begun
-pub record AwaitsPlain (m : Machine) (h : Header) (s : Size) (done : ℕ) : Type 0 where
-  pub phase_is : m.phase ≡ phases.Entries h s done
+pub record AwaitsPlain (m : Machine) (h : Header) (s : Size) (done : ℕ)
+    (next : ArrayPlace) : Type 0 where
+  pub phase_is : m.phase ≡ phases.Entries h s done next
   pub closed : m.begun ≡ false

@@ -1,19 +1,22 @@
 //! The judges of lines: the first kind of fault that applies, or what the line says.
 
-ghost use Rattle.std.specs.Prelude.{◌≡◌, ℕ, ◌≤◌, ◌<◌, pos, nat_abs, true, false, if◌then◌else◌, List, IfOk};
+ghost use Rattle.std.specs.Prelude.{◌≡◌, ℕ, ◌≤◌, ◌<◌, ◌&&◌, not, pos, nat_abs, true, false, if◌then◌else◌, List, IfOk};
 ghost use Rattle.mm_defs.specs.declared.header.Size.{Size};
 ghost use Rattle.mm_defs.specs.Numbers.{integer};
+ghost use Rattle.sp_ids.specs.Limits.{max_cols, max_rows};
+ghost use Rattle.mm_defs.specs.Arrays.{value_count};
 ghost use Rattle.mm_defs.specs.Words.{Word, word, words};
-ghost use Rattle.mm_defs.specs.Header.{fields, symmetries, named, may_combine, is_integer_field, is_general, value_words, header, size};
-ghost use Rattle.mm_defs.specs.Faults.{banner_rules, size_limits, size_rules, place_rules, value_rules, triangle_rules, entry_rules};
+ghost use Rattle.mm_defs.specs.Header.{fields, formats, symmetries, named, may_combine, is_array, is_integer_field, is_general, value_words, header, size_words, size};
+ghost use Rattle.mm_defs.specs.Faults.{banner_rules, extent_rules, count_rules, size_limits, size_rules, place_rules, value_rules, triangle_rules, coordinate_rules, array_rules};
 ghost use Rattle.mm_defs.specs.File.{triple, triple_at};
 ghost use Rattle.mm_reader.specs.Tokens.{capped, ReadsInteger};
 ghost use Rattle.mm_reader.specs.Lines.{IsLine};
-ghost use Rattle.mm_reader.specs.Judged.{Judged, JudgedEntry, Passes, IsWithin};
+ghost use Rattle.mm_reader.specs.Judged.{Judged, JudgedEntry, Passes, IsHeader, IsWithin};
 
+use crate::array::value_count;
 use crate::line::LineSoFar;
 use crate::number::Integer;
-use mm_defs::{Header, Kind, Size, Symmetry};
+use mm_defs::{Format, Header, Kind, Size, Symmetry};
 use sp_ids::{Col, Field, MAX_COLS, MAX_ENTRY_LINES, MAX_ROWS, MAX_VALUE, Row};
 
 /// An entry line's place, counted from 0, and its value.
@@ -26,8 +29,9 @@ pub struct Entry {
 
 /// Judges line 1.
 pub fn judge_banner(line: &LineSoFar) -> Result<Header, Kind>
-    ensures { (bytes : List ℕ) → IsLine line.now.tokens line.now.count line.now.inside bytes
+    ensures judged { (bytes : List ℕ) → IsLine line.now.tokens line.now.count line.now.inside bytes
         → Judged (banner_rules (words bytes)) (header (words bytes)) result }
+    ensures header { IfOk result IsHeader }
 {
     if !line.is(0, b"%%MatrixMarket") {
         return Err(Kind::NoBanner);
@@ -38,12 +42,10 @@ pub fn judge_banner(line: &LineSoFar) -> Result<Header, Kind>
     if !line.spells(1, b"matrix") {
         return Err(Kind::Object);
     }
-    if line.spells(2, b"array") {
-        return Err(Kind::ArrayFormat);
-    }
-    if !line.spells(2, b"coordinate") {
-        return Err(Kind::Format);
-    }
+    let format = match format(line) {
+        None => return Err(Kind::Format),
+        Some(format) => format,
+    };
     let field = match field(line) {
         None => return Err(Kind::Field),
         Some(field) => field,
@@ -52,10 +54,31 @@ pub fn judge_banner(line: &LineSoFar) -> Result<Header, Kind>
         None => return Err(Kind::Symmetry),
         Some(symmetry) => symmetry,
     };
+    if lacks_integers(format, field) {
+        return Err(Kind::ArrayField);
+    }
     if !may_combine(field, symmetry) {
         return Err(Kind::Combination);
     }
-    Ok(Header { field, symmetry })
+    Ok(Header {
+        format,
+        field,
+        symmetry,
+    })
+}
+
+/// The format that the third word names.
+fn format(line: &LineSoFar) -> Option<Format>
+    ensures { (bytes : List ℕ) → IsLine line.now.tokens line.now.count line.now.inside bytes
+        → result ≡ named formats (word (words bytes) 2) }
+{
+    if line.spells(2, b"coordinate") {
+        Some(Format::Coordinate)
+    } else if line.spells(2, b"array") {
+        Some(Format::Array)
+    } else {
+        None
+    }
 }
 
 /// The field that the fourth word names.
@@ -94,6 +117,19 @@ fn symmetry(line: &LineSoFar) -> Option<Symmetry>
     }
 }
 
+/// Whether the format is that of array files, and the field is not integer.
+fn lacks_integers(format: Format, field: Field) -> bool
+    ensures { result ≡ (is_array format && not (is_integer_field field)) }
+{
+    match format {
+        Format::Coordinate => false,
+        Format::Array => match field {
+            Field::Integer => false,
+            Field::Real | Field::Complex | Field::Pattern => true,
+        },
+    }
+}
+
 /// Whether files of this field may have this symmetry.
 fn may_combine(field: Field, symmetry: Symmetry) -> bool
     ensures { result ≡ may_combine field symmetry }
@@ -114,10 +150,10 @@ fn may_combine(field: Field, symmetry: Symmetry) -> bool
 /// Judges the size line.
 pub fn judge_size(header: Header, line: &LineSoFar) -> Result<Size, Kind>
     ensures judged { (bytes : List ℕ) → IsLine line.now.tokens line.now.count line.now.inside bytes
-        → Judged (size_rules header (words bytes)) (size (words bytes)) result }
+        → Judged (size_rules header (words bytes)) (size header (words bytes)) result }
     ensures within { IfOk result (IsWithin header) }
 {
-    if !line.has_words(3) {
+    if !line.has_words(size_words(header.format)) {
         return Err(Kind::SizeWords);
     }
     let rows = match line.number(0) {
@@ -128,11 +164,69 @@ pub fn judge_size(header: Header, line: &LineSoFar) -> Result<Size, Kind>
         None => return Err(Kind::SizeNumber),
         Some(cols) => cols,
     };
-    let count = match line.number(2) {
-        None => return Err(Kind::SizeNumber),
-        Some(count) => count,
-    };
-    limits(header, rows, cols, count)
+    match header.format {
+        Format::Coordinate => match line.number(2) {
+            None => Err(Kind::SizeNumber),
+            Some(count) => judge_entries(header, rows, cols, count),
+        },
+        Format::Array => judge_values(header, rows, cols),
+    }
+}
+
+/// How many words a size line has.
+fn size_words(format: Format) -> usize
+    ensures words { result ≡ size_words format }
+    ensures few { result ≤ 3 }
+{
+    match format {
+        Format::Coordinate => 3,
+        Format::Array => 2,
+    }
+}
+
+/// Judges the numbers of a coordinate file's size line, of which the greatest stands for all that do not fit.
+fn judge_entries(header: Header, rows: u64, cols: u64, count: u64) -> Result<Size, Kind>
+    requires { header.format ≡ Format.Coordinate }
+    ensures judged { (s : Size) → rows ≡ capped s.rows → cols ≡ capped s.cols
+        → count ≡ capped s.count → Judged (size_limits header s) s result }
+    ensures within { IfOk result (IsWithin header) }
+{
+    match extent(rows, cols) {
+        Err(kind) => Err(kind),
+        Ok((rows, cols)) => judge_count(header, rows, cols, count),
+    }
+}
+
+/// Judges the two numbers of an array file's size line.
+fn judge_values(header: Header, rows: u64, cols: u64) -> Result<Size, Kind>
+    requires { header.format ≡ Format.Array }
+    ensures judged { (s : Size) → rows ≡ capped s.rows → cols ≡ capped s.cols
+        → s.count ≡ value_count header.symmetry s.rows s.cols
+        → Judged (size_limits header s) s result }
+    ensures within { IfOk result (IsWithin header) }
+{
+    match extent(rows, cols) {
+        Err(kind) => Err(kind),
+        Ok((rows, cols)) => {
+            judge_count(header, rows, cols, value_count(header.symmetry, rows, cols))
+        }
+    }
+}
+
+/// Judges how many rows and columns there are.
+fn extent(rows: u64, cols: u64) -> Result<(u32, u32), Kind>
+    ensures judged { (m n : ℕ) → rows ≡ capped m → cols ≡ capped n
+        → Judged (extent_rules m n) (m, n) result }
+    ensures rows { IfOk result (λ x. x.0 ≤ max_rows) }
+    ensures cols { IfOk result (λ x. x.1 ≤ max_cols) }
+{
+    if rows > u64::from(MAX_ROWS) {
+        return Err(Kind::Rows);
+    }
+    if cols > u64::from(MAX_COLS) {
+        return Err(Kind::Columns);
+    }
+    Ok((rows as u32, cols as u32))
 }
 
 /// Whether every entry has a line of its own.
@@ -145,19 +239,16 @@ fn is_general(symmetry: Symmetry) -> bool
     }
 }
 
-/// Judges the numbers of the size line, of which the greatest stands for all that do not fit.
-fn limits(header: Header, rows: u64, cols: u64, count: u64) -> Result<Size, Kind>
-    ensures judged { (s : Size) → rows ≡ capped s.rows → cols ≡ capped s.cols
-        → count ≡ capped s.count
-        → Judged (size_limits header s) s result }
+/// Judges how many lines follow, and whether the matrix is square where it has to be.
+fn judge_count(header: Header, rows: u32, cols: u32, count: u64) -> Result<Size, Kind>
+    requires rows { rows ≤ max_rows }
+    requires cols { cols ≤ max_cols }
+    requires values { is_array header.format ≡ true
+        → count ≡ value_count header.symmetry rows cols }
+    ensures judged { (s : Size) → rows ≡ s.rows → cols ≡ s.cols → count ≡ capped s.count
+        → Judged (count_rules header s) s result }
     ensures within { IfOk result (IsWithin header) }
 {
-    if rows > u64::from(MAX_ROWS) {
-        return Err(Kind::Rows);
-    }
-    if cols > u64::from(MAX_COLS) {
-        return Err(Kind::Columns);
-    }
     if count > u64::from(MAX_ENTRY_LINES) {
         return Err(Kind::Entries);
     }
@@ -167,8 +258,8 @@ fn limits(header: Header, rows: u64, cols: u64, count: u64) -> Result<Size, Kind
         }
     }
     Ok(Size {
-        rows: rows as u32,
-        cols: cols as u32,
+        rows,
+        cols,
         count: count as u32,
     })
 }
@@ -177,7 +268,8 @@ fn limits(header: Header, rows: u64, cols: u64, count: u64) -> Result<Size, Kind
 pub fn judge_entry(header: Header, size: Size, line: &LineSoFar) -> Result<Entry, Kind>
     requires { IsWithin header size }
     ensures judged { (bytes : List ℕ) → IsLine line.now.tokens line.now.count line.now.inside bytes
-        → JudgedEntry (entry_rules header size (words bytes)) (triple header (words bytes)) result }
+        → JudgedEntry (coordinate_rules header size (words bytes)) (triple header (words bytes))
+        result }
     ensures inside { IfOk result (λ e. (e.row < size.rows) × (e.col < size.cols)) }
     ensures value { IfOk result (λ e. is_integer_field header.field ≡ false → e.value ≡ pos 0) }
     ensures small { IfOk result (λ e. nat_abs e.value ≤ MAX_VALUE) }
@@ -265,8 +357,21 @@ fn value_of(field: Field, value: Option<Integer>) -> Result<i64, Kind>
     }
 }
 
+/// Judges a value line of an array file, whose field is integer.
+pub fn judge_value(header: Header, line: &LineSoFar) -> Result<i64, Kind>
+    requires { header.field ≡ Field.Integer }
+    ensures judged { (bytes : List ℕ) → IsLine line.now.tokens line.now.count line.now.inside bytes
+        → Judged (array_rules header (words bytes)) (integer (word (words bytes) 0)) result }
+    ensures small { IfOk result (λ v. nat_abs v ≤ MAX_VALUE) }
+{
+    if !line.has_words(1) {
+        return Err(Kind::EntryWords);
+    }
+    judge_integer(line.integer(0))
+}
+
 /// Judges the value of an integer file.
-fn judge_integer(value: Option<Integer>) -> Result<i64, Kind>
+pub fn judge_integer(value: Option<Integer>) -> Result<i64, Kind>
     ensures judged { (w : Word) → ReadsInteger w value
         → Judged (value_rules Field.Integer w) (integer w) result }
     ensures small { IfOk result (λ v. nat_abs v ≤ MAX_VALUE) }

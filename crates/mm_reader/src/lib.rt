@@ -1,6 +1,7 @@
-//! A reader of Matrix Market coordinate files, from any source of bytes, through one buffer.
+//! A reader of Matrix Market files, coordinate files and integer array files, from any source of bytes, through one buffer.
 #![tactic(auto)]
 
+mod array;
 mod input;
 mod judge;
 mod lanes;
@@ -17,5 +18,7 @@ mod window;
 pub use input::{Input, read_matrix, read_rest};
 pub use mm_defs::{End, Kind, ReadError};
 
+#[cfg(test)]
+mod array_tests;
 #[cfg(test)]
 mod tests;

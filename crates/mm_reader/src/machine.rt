@@ -2,21 +2,26 @@
 
 ghost use Rattle.std.specs.Prelude.{◌≡◌, ◌≤◌, ◌<◌, ◌+◌, ◌++◌, ℕ, nat_abs, pos, true, false, List, [], ◌∷◌, length, take, IfOk, IfErr, IfSome, OnOk, MatchResult, ◌-◌, ◌^◌};
 ghost use Rattle.sp_ids.specs.Entries.{Entries};
-ghost use Rattle.sp_ids.specs.Limits.{max_value};
-ghost use Rattle.mm_defs.specs.Words.{words};
-ghost use Rattle.mm_defs.specs.Header.{is_general, is_integer_field};
-ghost use Rattle.mm_defs.specs.File.{Reads, mirror, line_faults, later_lines};
+ghost use Rattle.sp_ids.specs.Limits.{max_cols, max_value};
+ghost use Rattle.mm_defs.specs.Words.{is_skipped, words};
+ghost use Rattle.mm_defs.specs.Header.{is_array, is_general, is_integer_field};
+ghost use Rattle.mm_defs.specs.File.{Reads, mirror, placed, with_mirrors, line_faults, later_lines};
 ghost use Rattle.mm_reader.specs.Lines.{IsLine};
-ghost use Rattle.mm_reader.specs.Judged.{triple_of};
-ghost use Rattle.mm_reader.specs.Machine.{HasBanner, HasEntries, HasLines, HasRoom, IsReady, Steps, StopsAt, is_complete};
+ghost use Rattle.mm_reader.specs.Judged.{IsHeader, triple_of};
+ghost use Rattle.mm_reader.specs.Machine.{HasBanner, HasLines, HasRoom, IsReady, Steps, StopsAt, TakesLine, is_complete};
 ghost use Rattle.mm_reader.specs.Stages.{begun_lines, IsBetween, IsAfter, IsAll, GoesOn, Halts, Lacks, StopsIn, StopsWithin, StopsAtEnd};
 ghost use Rattle.mm_reader.specs.Additions.{with_entries};
-ghost use Rattle.mm_reader.specs.Plain.{AwaitsPlain, IsPlainLine};
+ghost use Rattle.mm_reader.specs.Plain.{AwaitsPlain, IsPlainLine, IsPlainValue};
+ghost use Rattle.mm_reader.specs.ArrayPlaces.{array_place, place_of};
+ghost use Rattle.mm_defs.specs.Arrays.{following};
 
-use crate::judge::{Entry, judge_banner, judge_entry, judge_place, judge_size};
+use crate::array::{ArrayPlace, first_place, following};
+use crate::judge::{
+    Entry, judge_banner, judge_entry, judge_integer, judge_place, judge_size, judge_value,
+};
 use crate::line::LineSoFar;
-use crate::plain::{PlainLine, plain_line};
-use mm_defs::{End, Header, Kind, Size, Symmetry};
+use crate::plain::{PlainLine, PlainValue, plain_line, plain_value};
+use mm_defs::{End, Format, Header, Kind, Size, Symmetry};
 use sp_ids::{Col, Field, OutOfMemory, Row, Triples};
 use std::alloc::Global;
 
@@ -29,11 +34,12 @@ pub enum Phase {
     Sizes {
         header: Header,
     },
-    /// The size line, and so many entry lines.
+    /// The size line, and so many entry lines or value lines. The place is that of the next value of an array file.
     Entries {
         header: Header,
         size: Size,
         done: u32,
+        place: ArrayPlace,
     },
 }
 
@@ -81,6 +87,7 @@ fn after_size(
     number: u64,
     triples: &mut Triples,
 ) -> Result<Phase, Stop>
+    requires { IsHeader header }
     ensures steps { (end : End) (ls : List (List ℕ)) (bytes : List ℕ)
         → IsLine line.now.tokens line.now.count line.now.inside bytes
         → HasBanner header ls → later_lines ls ≡ [] → line_faults end ls ≡ []
@@ -103,29 +110,34 @@ fn after_size(
         header,
         size,
         done: 0,
+        place: first_place(header.symmetry),
     })
 }
 
 /// A line behind the size line has come.
-fn after_entry(
+fn after_line(
     header: Header,
     size: Size,
     done: u32,
+    place: ArrayPlace,
     line: &LineSoFar,
     number: u64,
     triples: &mut Triples,
 ) -> Result<Phase, Stop>
-    requires { HasRoom header size done triples.old }
-    ensures steps { (end : End) (ls : List (List ℕ)) (bytes : List ℕ)
+    requires { HasRoom header size done place triples.old }
+    ensures steps { (end : End) (bytes : List ℕ)
         → IsLine line.now.tokens line.now.count line.now.inside bytes
-        → HasBanner header ls → HasEntries header size done triples.old (later_lines ls)
-        → line_faults end ls ≡ [] → number ≡ length ls + 1
-        → is_complete end (Phase.Entries header size done) ≡ false
-        → Steps end (ls ++ bytes ∷ []) triples.new result }
+        → is_complete end (Phase.Entries header size done place) ≡ false
+        → TakesLine header size done triples.old number end bytes triples.new result }
     ensures ready { IfOk result (λ phase. IsReady phase triples.new) }
 {
     if line.is_skipped() {
-        return Ok(Phase::Entries { header, size, done });
+        return Ok(Phase::Entries {
+            header,
+            size,
+            done,
+            place,
+        });
     }
     if done == size.count {
         return Err(Stop::Bad {
@@ -133,18 +145,158 @@ fn after_entry(
             kind: Kind::Trailing,
         });
     }
-    let entry = match judge_entry(header, size, line) {
-        Err(kind) => return Err(Stop::Bad { line: number, kind }),
-        Ok(entry) => entry,
-    };
+    match header.format {
+        Format::Coordinate => after_entry(header, size, done, place, line, number, triples),
+        Format::Array => after_value(header, size, done, place, line, number, triples),
+    }
+}
+
+/// An entry line has come.
+fn after_entry(
+    header: Header,
+    size: Size,
+    done: u32,
+    place: ArrayPlace,
+    line: &LineSoFar,
+    number: u64,
+    triples: &mut Triples,
+) -> Result<Phase, Stop>
+    requires room { HasRoom header size done place triples.old }
+    requires low { done < size.count }
+    requires format { header.format ≡ Format.Coordinate }
+    ensures steps { (end : End) (bytes : List ℕ)
+        → IsLine line.now.tokens line.now.count line.now.inside bytes
+        → is_skipped (words bytes) ≡ false
+        → TakesLine header size done triples.old number end bytes triples.new result }
+    ensures ready { IfOk result (λ phase. IsReady phase triples.new) }
+{
+    match judge_entry(header, size, line) {
+        Err(kind) => Err(Stop::Bad { line: number, kind }),
+        Ok(entry) => keep_entry(header, size, done, place, entry, triples),
+    }
+}
+
+/// A value line has come.
+fn after_value(
+    header: Header,
+    size: Size,
+    done: u32,
+    place: ArrayPlace,
+    line: &LineSoFar,
+    number: u64,
+    triples: &mut Triples,
+) -> Result<Phase, Stop>
+    requires room { HasRoom header size done place triples.old }
+    requires low { done < size.count }
+    requires format { header.format ≡ Format.Array }
+    ensures steps { (end : End) (bytes : List ℕ)
+        → IsLine line.now.tokens line.now.count line.now.inside bytes
+        → is_skipped (words bytes) ≡ false
+        → TakesLine header size done triples.old number end bytes triples.new result }
+    ensures ready { IfOk result (λ phase. IsReady phase triples.new) }
+{
+    match judge_value(header, line) {
+        Err(kind) => Err(Stop::Bad { line: number, kind }),
+        Ok(value) => keep_value(header, size, done, place, value, triples),
+    }
+}
+
+/// Keeps an entry line's entry.
+#[inline(always)]
+fn keep_entry(
+    header: Header,
+    size: Size,
+    done: u32,
+    place: ArrayPlace,
+    entry: Entry,
+    triples: &mut Triples,
+) -> Result<Phase, Stop>
+    requires room { HasRoom header size done place triples.old }
+    requires low { done < size.count }
+    requires format { header.format ≡ Format.Coordinate }
+    requires row { entry.row < size.rows }
+    requires col { entry.col < size.cols }
+    requires value { is_integer_field header.field ≡ false → entry.value ≡ pos 0 }
+    requires small { nat_abs entry.value ≤ max_value }
+    ensures entries { OnOk result
+        (triples.new ≡ with_entries triples.old
+        (triple_of entry ∷ mirror header.symmetry (triple_of entry))) }
+    ensures ready { IfOk result (λ phase. IsReady phase triples.new) }
+    ensures phase { IfOk result (λ phase. phase ≡ Phase.Entries header size (done + 1) place) }
+    ensures err { IfErr result (λ stop. stop ≡ Stop.Memory) }
+{
     match add(header.symmetry, entry, triples) {
         Err(_) => Err(Stop::Memory),
         Ok(()) => Ok(Phase::Entries {
             header,
             size,
             done: done + 1,
+            place,
         }),
     }
+}
+
+/// Keeps the value of the next place of an array file.
+#[inline(always)]
+fn keep_value(
+    header: Header,
+    size: Size,
+    done: u32,
+    place: ArrayPlace,
+    value: i64,
+    triples: &mut Triples,
+) -> Result<Phase, Stop>
+    requires room { HasRoom header size done place triples.old }
+    requires low { done < size.count }
+    requires format { header.format ≡ Format.Array }
+    requires small { nat_abs value ≤ max_value }
+    ensures entries { OnOk result
+        (triples.new ≡ with_entries triples.old
+        (with_mirrors header.symmetry (placed (place_of place) value))) }
+    ensures ready { IfOk result (λ phase. IsReady phase triples.new) }
+    ensures phase { IfOk result (λ phase. phase ≡ Phase.Entries header size (done + 1)
+        (array_place (following header.symmetry size.rows (place_of place)))) }
+    ensures err { IfErr result (λ stop. stop ≡ Stop.Memory) }
+{
+    match add_value(header.symmetry, place, value, triples) {
+        Err(_) => Err(Stop::Memory),
+        Ok(()) => Ok(Phase::Entries {
+            header,
+            size,
+            done: done + 1,
+            place: following(header.symmetry, size.rows, place),
+        }),
+    }
+}
+
+/// Adds the value of a place of an array file: an entry, and the place on the other side of the diagonal, or nothing
+/// where it is 0.
+#[inline(always)]
+fn add_value(
+    symmetry: Symmetry,
+    place: ArrayPlace,
+    value: i64,
+    triples: &mut Triples,
+) -> Result<(), OutOfMemory>
+    requires row { place.row < triples.old.rows }
+    requires col { place.col < triples.old.cols }
+    requires square { is_general symmetry ≡ false → triples.old.rows ≡ triples.old.cols }
+    requires few { length triples.old.items < 4294967290 }
+    requires field { triples.old.field ≡ Field.Integer }
+    requires small { nat_abs value ≤ max_value }
+    ensures { OnOk result
+        (triples.new ≡ with_entries triples.old
+        (with_mirrors symmetry (placed (place_of place) value))) }
+{
+    if value == 0 {
+        return Ok(());
+    }
+    let entry = Entry {
+        row: Row(place.row),
+        col: Col(place.col),
+        value,
+    };
+    add(symmetry, entry, triples)
 }
 
 /// Adds an entry, and the place on the other side of the diagonal.
@@ -221,9 +373,12 @@ fn next_phase(
     match phase {
         Phase::Banner => after_banner(line),
         Phase::Sizes { header } => after_size(alloc, header, line, number, triples),
-        Phase::Entries { header, size, done } => {
-            after_entry(header, size, done, line, number, triples)
-        }
+        Phase::Entries {
+            header,
+            size,
+            done,
+            place,
+        } => after_line(header, size, done, place, line, number, triples),
     }
 }
 
@@ -275,16 +430,21 @@ fn take(alloc: Global, m: &mut Machine, byte: u8) -> Result<(), Stop>
     Ok(())
 }
 
-/// Where entries are to come and no line has begun, what the banner and the size line said, and how many entries have
-/// come.
-fn awaits_plain(m: &Machine) -> Option<(Header, Size, u32)>
-    ensures { IfSome result (λ x. AwaitsPlain m.now x.0 x.1 x.2) }
+/// Where entries are to come and no line has begun, what the banner and the size line said, how many lines of the matrix
+/// have come, and the place of the next value.
+fn awaits_plain(m: &Machine) -> Option<(Header, Size, u32, ArrayPlace)>
+    ensures { IfSome result (λ x. AwaitsPlain m.now x.0 x.1 x.2 x.3) }
 {
     if m.begun {
         return None;
     }
     match m.phase {
-        Phase::Entries { header, size, done } => Some((header, size, done)),
+        Phase::Entries {
+            header,
+            size,
+            done,
+            place,
+        } => Some((header, size, done, place)),
         _ => None,
     }
 }
@@ -294,36 +454,53 @@ fn after_plain(
     header: Header,
     size: Size,
     done: u32,
+    place: ArrayPlace,
     plain: PlainLine,
     number: u64,
     triples: &mut Triples,
 ) -> Result<Phase, Stop>
-    requires room { HasRoom header size done triples.old }
+    requires room { HasRoom header size done place triples.old }
     requires low { done < size.count }
-    ensures steps { (end : End) (ls : List (List ℕ)) (piece : List ℕ) (at : ℕ)
+    requires format { header.format ≡ Format.Coordinate }
+    ensures steps { (end : End) (piece : List ℕ) (at : ℕ)
         (p : IsPlainLine header.field piece at plain)
-        → HasBanner header ls → HasEntries header size done triples.old (later_lines ls)
-        → line_faults end ls ≡ [] → number ≡ length ls + 1
-        → Steps end (ls ++ p.line ∷ []) triples.new result }
+        → TakesLine header size done triples.old number end p.line triples.new result }
     ensures ready { IfOk result (λ phase. IsReady phase triples.new) }
-    ensures phase { IfOk result (λ phase. phase ≡ Phase.Entries header size (done + 1)) }
+    ensures phase { IfOk result (λ phase. phase ≡ Phase.Entries header size (done + 1) place) }
 {
-    let entry = match judge_place(header, size, plain.row, plain.col, Some(plain.value)) {
-        Err(kind) => return Err(Stop::Bad { line: number, kind }),
-        Ok(entry) => entry,
-    };
-    match add(header.symmetry, entry, triples) {
-        Err(_) => Err(Stop::Memory),
-        Ok(()) => Ok(Phase::Entries {
-            header,
-            size,
-            done: done + 1,
-        }),
+    match judge_place(header, size, plain.row, plain.col, Some(plain.value)) {
+        Err(kind) => Err(Stop::Bad { line: number, kind }),
+        Ok(entry) => keep_entry(header, size, done, place, entry, triples),
     }
 }
 
-/// Takes the entry lines of the usual form that begin here, one behind the other, as far as they lie whole in the piece.
-/// It gives where the machine goes on.
+/// A value line of the usual form has come.
+fn after_plain_value(
+    header: Header,
+    size: Size,
+    done: u32,
+    place: ArrayPlace,
+    plain: PlainValue,
+    number: u64,
+    triples: &mut Triples,
+) -> Result<Phase, Stop>
+    requires room { HasRoom header size done place triples.old }
+    requires low { done < size.count }
+    requires format { header.format ≡ Format.Array }
+    ensures steps { (end : End) (piece : List ℕ) (at : ℕ) (p : IsPlainValue piece at plain)
+        → TakesLine header size done triples.old number end p.line triples.new result }
+    ensures ready { IfOk result (λ phase. IsReady phase triples.new) }
+    ensures phase { IfOk result (λ phase. phase ≡ Phase.Entries header size (done + 1)
+        (array_place (following header.symmetry size.rows (place_of place)))) }
+{
+    match judge_integer(Some(plain.value)) {
+        Err(kind) => Err(Stop::Bad { line: number, kind }),
+        Ok(value) => keep_value(header, size, done, place, value, triples),
+    }
+}
+
+/// Takes the lines of the usual form that begin here, one behind the other, as far as they lie whole in the piece. It
+/// gives where the machine goes on.
 fn take_plain(m: &mut Machine, piece: &[u8], at: usize) -> Result<usize, Stop>
     requires place { at ≤ length piece.now }
     requires ready { IsReady m.old.phase m.old.triples }
@@ -332,10 +509,34 @@ fn take_plain(m: &mut Machine, piece: &[u8], at: usize) -> Result<usize, Stop>
     ensures same { IfOk result (λ next. next ≡ at → m.new ≡ m.old) }
     ensures err { IfErr result (Halts m.old piece.now at) }
 {
-    let (header, size, before) = match awaits_plain(m) {
-        None => return Ok(at),
-        Some(entries) => entries,
-    };
+    match awaits_plain(m) {
+        None => Ok(at),
+        Some((header, size, done, place)) => match header.format {
+            Format::Coordinate => take_entries(header, size, done, place, m, piece, at),
+            Format::Array => take_values(header, size, done, place, m, piece, at),
+        },
+    }
+}
+
+/// Takes the entry lines of the usual form that begin here.
+fn take_entries(
+    header: Header,
+    size: Size,
+    before: u32,
+    place: ArrayPlace,
+    m: &mut Machine,
+    piece: &[u8],
+    at: usize,
+) -> Result<usize, Stop>
+    requires awaits { AwaitsPlain m.old header size before place }
+    requires format { header.format ≡ Format.Coordinate }
+    requires place { at ≤ length piece.now }
+    requires ready { IsReady m.old.phase m.old.triples }
+    requires room { begun_lines m.old + (length piece.now - at) < 2 ^ 64 }
+    ensures ok { IfOk result (GoesOn m.old m.new piece.now at) }
+    ensures same { IfOk result (λ next. next ≡ at → m.new ≡ m.old) }
+    ensures err { IfErr result (Halts m.old piece.now at) }
+{
     let mut done = before;
     let mut next = at;
     // The machine gets it once, and not line by line.
@@ -345,12 +546,55 @@ fn take_plain(m: &mut Machine, piece: &[u8], at: usize) -> Result<usize, Stop>
             None => break,
             Some(plain) => plain,
         };
-        phase = match after_plain(header, size, done, plain, m.number + 1, &mut m.triples) {
+        let number = m.number + 1;
+        phase = match after_plain(header, size, done, place, plain, number, &mut m.triples) {
             Err(stop) => return Err(stop),
             Ok(phase) => phase,
         };
-        m.number += 1;
+        m.number = number;
         done += 1;
+        next = plain.next;
+    }
+    m.phase = phase;
+    Ok(next)
+}
+
+/// Takes the value lines of the usual form that begin here.
+fn take_values(
+    header: Header,
+    size: Size,
+    before: u32,
+    first: ArrayPlace,
+    m: &mut Machine,
+    piece: &[u8],
+    at: usize,
+) -> Result<usize, Stop>
+    requires awaits { AwaitsPlain m.old header size before first }
+    requires format { header.format ≡ Format.Array }
+    requires place { at ≤ length piece.now }
+    requires ready { IsReady m.old.phase m.old.triples }
+    requires room { begun_lines m.old + (length piece.now - at) < 2 ^ 64 }
+    ensures ok { IfOk result (GoesOn m.old m.new piece.now at) }
+    ensures same { IfOk result (λ next. next ≡ at → m.new ≡ m.old) }
+    ensures err { IfErr result (Halts m.old piece.now at) }
+{
+    let mut done = before;
+    let mut place = first;
+    let mut next = at;
+    let mut phase = m.phase;
+    while done < size.count {
+        let plain = match plain_value(piece, next) {
+            None => break,
+            Some(plain) => plain,
+        };
+        let number = m.number + 1;
+        phase = match after_plain_value(header, size, done, place, plain, number, &mut m.triples) {
+            Err(stop) => return Err(stop),
+            Ok(phase) => phase,
+        };
+        m.number = number;
+        done += 1;
+        place = following(header.symmetry, size.rows, place);
         next = plain.next;
     }
     m.phase = phase;

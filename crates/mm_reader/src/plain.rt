@@ -1,7 +1,8 @@
-//! Entry lines of the usual form, taken in one go from the buffer: two numbers without signs, and the value words.
+//! Lines of the usual form, taken in one go from the buffer: entry lines of two numbers without signs and the value words,
+//! and value lines of one integer.
 
 ghost use Rattle.std.specs.Prelude.{◌≡◌, ◌≤◌, length, IfSome};
-ghost use Rattle.mm_reader.specs.Plain.{is_visible, IsRun, IsSign, IsNextWord, IsNextInteger, IsNextLine, HasValues, IsPlainLine};
+ghost use Rattle.mm_reader.specs.Plain.{is_visible, IsRun, IsSign, IsNextWord, IsIntegerHere, IsNextInteger, IsNextLine, HasValues, IsPlainLine, IsPlainValue};
 
 use crate::line::is_blank;
 use crate::number::Integer;
@@ -20,6 +21,14 @@ pub struct PlainLine {
     pub row: u64,
     pub col: u64,
     /// The value; 0 if the field is not integer.
+    pub value: Integer,
+    /// Where the next line begins.
+    pub next: usize,
+}
+
+/// A value line of the usual form.
+#[derive(Clone, Copy, Debug, PartialEq, Eq)]
+pub struct PlainValue {
     pub value: Integer,
     /// Where the next line begins.
     pub next: usize,
@@ -82,6 +91,20 @@ fn sign(bytes: &[u8], from: usize) -> (bool, usize)
     (false, from)
 }
 
+/// The integer that stands right here, if one does, and where it ends.
+#[inline(always)]
+fn integer_at(bytes: &[u8], from: usize) -> Option<(Integer, usize)>
+    requires { from ≤ length bytes.now }
+    ensures { IfSome result (λ x. IsIntegerHere bytes.now from x.1 x.0) }
+{
+    let (minus, first) = sign(bytes, from);
+    let (magnitude, end) = digits(bytes, first);
+    if end == first {
+        return None;
+    }
+    Some((Integer { minus, magnitude }, end))
+}
+
 /// The integer that stands here behind blanks, if one does, and where it ends.
 fn next_integer(bytes: &[u8], from: usize) -> Option<(Integer, usize)>
     requires { from ≤ length bytes.now }
@@ -91,12 +114,7 @@ fn next_integer(bytes: &[u8], from: usize) -> Option<(Integer, usize)>
     if start == from {
         return None;
     }
-    let (minus, first) = sign(bytes, start);
-    let (magnitude, end) = digits(bytes, first);
-    if end == first {
-        return None;
-    }
-    Some((Integer { minus, magnitude }, end))
+    integer_at(bytes, start)
 }
 
 /// The value words that stand here, if all do: the value, which is 0 if the field is not integer, and where they end.
@@ -157,4 +175,15 @@ pub fn plain_line(bytes: &[u8], from: usize, field: Field) -> Option<PlainLine>
         value,
         next,
     })
+}
+
+/// The value line of the usual form that begins here, if it lies whole in these bytes: one integer.
+pub fn plain_value(bytes: &[u8], from: usize) -> Option<PlainValue>
+    requires { from ≤ length bytes.now }
+    ensures { IfSome result (IsPlainValue bytes.now from) }
+{
+    let start = blanks(bytes, from);
+    let (value, end) = integer_at(bytes, start)?;
+    let next = next_line(bytes, end)?;
+    Some(PlainValue { value, next })
 }

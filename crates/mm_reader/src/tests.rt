@@ -12,7 +12,7 @@ use std::test::Fail;
 const SMALLEST: &[u8] = b"%%MatrixMarket matrix coordinate pattern general\n1 1 1\n1 1\n";
 
 /// Reads a file that comes in pieces of so many bytes, from a source some of whose calls fail.
-fn read(
+pub fn read(
     alloc: Global,
     bytes: &[u8],
     piece: usize,
@@ -30,7 +30,7 @@ fn read(
 }
 
 /// A whole file in one piece.
-fn read_all(alloc: Global, bytes: &[u8]) -> Result<Triples, ReadError> {
+pub fn read_all(alloc: Global, bytes: &[u8]) -> Result<Triples, ReadError> {
     read(alloc, bytes, 4096, &[], 1_000_000)
 }
 
@@ -49,7 +49,7 @@ fn numbers(alloc: Global, numbers: &[u64]) -> Result<Vec<u64>, ReadError> {
 }
 
 /// What was refused, if it was.
-fn refusal(answer: Result<Triples, ReadError>) -> Option<ReadError> {
+pub fn refusal(answer: Result<Triples, ReadError>) -> Option<ReadError> {
     match answer {
         Err(error) => Some(error),
         Ok(_) => None,
@@ -57,7 +57,7 @@ fn refusal(answer: Result<Triples, ReadError>) -> Option<ReadError> {
 }
 
 /// The values of a file of the field integer.
-fn values(triples: &Triples) -> &[i64] {
+pub fn values(triples: &Triples) -> &[i64] {
     if triples.field() == Field::Integer {
         return triples.values();
     }
@@ -525,7 +525,12 @@ fn what_follows_the_last_entry_is_left(rt: HostRuntime) -> Result<(), Fail> {
 }
 
 /// All that follows a matrix.
-fn rest_after(alloc: Global, bytes: Vec<u8>, piece: usize, limit: u64) -> Result<Vec<u8>, ReadError>
+pub fn rest_after(
+    alloc: Global,
+    bytes: Vec<u8>,
+    piece: usize,
+    limit: u64,
+) -> Result<Vec<u8>, ReadError>
     requires { 0 < piece }
 {
     let mut source = MemSource::new(bytes, piece, Vec::new(alloc));

@@ -1,4 +1,4 @@
-//! `analyse` on small files, with texts worked out by hand.
+//! `analyse` on small files in the first version of reports, with texts worked out by hand.
 
 use crate::runs::{
     SMALLEST_REPORT, STEADY, THREE_PARTS, THREE_PARTS_EXAMPLE, answer, expect, file_of,
@@ -38,7 +38,7 @@ fn reports_of_one_part(rt: HostRuntime) -> Result<(), Fail> {
             "btf 1\nmatrix 2 1 2\nrank 1\nhorizontal 0 0\nsquare 0 0\nvertical 2 1\nrows 1 2\ncolumns 1\nend\n",
         ),
     ];
-    reports(&rt, &["analyse"], &texts)
+    reports(&rt, &["analyse", "--report", "1"], &texts)
 }
 
 #[test]
@@ -53,7 +53,7 @@ fn reports_of_blocks(rt: HostRuntime) -> Result<(), Fail> {
             "btf 1\nmatrix 3 3 6\nrank 3\nhorizontal 0 0\nsquare 3 1\nblock 1 3\nrows 1 2 3\ncolumns 1 2 3\nvertical 0 0\nend\n",
         ),
     ];
-    reports(&rt, &["analyse"], &texts)
+    reports(&rt, &["analyse", "--report", "1"], &texts)
 }
 
 // Column 1 of the lower triangle waits for columns 2 and 3, and column 2 for column 3. Of one row and two columns the empty
@@ -70,12 +70,16 @@ fn orders(rt: HostRuntime) -> Result<(), Fail> {
             "btf 1\nmatrix 1 2 1\nrank 1\nhorizontal 0 1\nrows\ncolumns 1\nsquare 1 1\nblock 1 1\nrows 1\ncolumns 2\nvertical 0 0\nrow_order 1\ncolumn_order 1 2\nend\n",
         ),
     ];
-    reports(&rt, &["analyse", "--order"], &texts)?;
+    reports(&rt, &["analyse", "--report", "1", "--order"], &texts)?;
     let empty = (
         "0 0 0\n",
         "btf 1\nmatrix 0 0 0\nrank 0\nhorizontal 0 0\nsquare 0 0\nvertical 0 0\nrow_order\ncolumn_order\npairs 0\nend\n",
     );
-    reports(&rt, &["analyse", "--pairs", "--order"], &[empty])
+    reports(
+        &rt,
+        &["analyse", "--pairs", "--report", "1", "--order"],
+        &[empty],
+    )
 }
 
 // Each engine finds the same parts and blocks.
@@ -84,9 +88,9 @@ fn engines(rt: HostRuntime) -> Result<(), Fail> {
     let text =
         "btf 1\nmatrix 4 4 7\nrank 3\nhorizontal 1 2\nrows 1\ncolumns 1 2\nsquare 1 1\nblock 1 1\nrows 2\ncolumns 3\nvertical 2 1\nrows 3 4\ncolumns 4\nrow_order 1 2 3 4\ncolumn_order 1 2 3 4\nend\n";
     let texts = [(THREE_PARTS, text), (THREE_PARTS_EXAMPLE, text)];
-    reports(&rt, &["analyse", "--order"], &texts)?;
+    reports(&rt, &["analyse", "--report", "1", "--order"], &texts)?;
     for engine in ["plain", "mc21", "pf", "graft"] {
-        let words = ["analyse", "--engine", engine, "--order"];
+        let words = ["analyse", "--engine", engine, "--order", "--report=1"];
         reports(&rt, &words, &texts)?;
     }
     Ok(())
@@ -96,7 +100,11 @@ fn engines(rt: HostRuntime) -> Result<(), Fail> {
 #[test]
 fn pairs(rt: HostRuntime) -> Result<(), Fail> {
     let file = file_of(&rt, THREE_PARTS)?;
-    let (status, text) = answer(&rt, &["analyse", "--pairs"], file.as_bytes())?;
+    let (status, text) = answer(
+        &rt,
+        &["analyse", "--pairs", "--report", "1"],
+        file.as_bytes(),
+    )?;
     assert_eq!(rt; status, Status::Ok);
     let found = [
         "columns 4\npairs 3\n1 1\n2 3\n3 4\nend\n",
@@ -136,7 +144,8 @@ fn reports_of_other_banners(rt: HostRuntime) -> Result<(), Fail> {
         ),
     ];
     for (file, text) in texts {
-        expect(&rt, &["analyse"], file, &STEADY, Status::Ok, text, "")?;
+        let words = ["analyse", "--report", "1"];
+        expect(&rt, &words, file, &STEADY, Status::Ok, text, "")?;
     }
     Ok(())
 }

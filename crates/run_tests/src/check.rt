@@ -152,6 +152,8 @@ fn reports_are_valid(rt: HostRuntime) -> Result<(), Fail> {
         for words in [
             ["analyse", "--pairs"].as_slice(),
             ["analyse", "--pairs", "--order"].as_slice(),
+            ["analyse", "--pairs", "--report", "1"].as_slice(),
+            ["analyse", "--pairs", "--order", "--report", "1"].as_slice(),
         ] {
             let (status, report) = answer(&rt, words, file.as_bytes())?;
             assert_eq!(rt; status, Status::Ok);

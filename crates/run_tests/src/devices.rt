@@ -9,6 +9,9 @@ use std::process::Abort;
 use std::test::Fail;
 use std::thread::Threads;
 
+/// Words of a report of the first version.
+const REPORT: [&str; 3] = ["analyse", "--report", "1"];
+
 // The 59 bytes come in six pieces, and call 6 tells the end.
 #[test]
 fn each_read_fails_in_turn(rt: HostRuntime) -> Result<(), Fail> {
@@ -67,7 +70,7 @@ fn report_is_cut<R: Threads + Abort + AllocGlobal + Sync>(
     devices: &Devices<'_>,
     taken: usize,
 ) -> Result<(), Fail> {
-    let found = outcome_of(rt, &["analyse"], SMALLEST.as_bytes(), devices)?;
+    let found = outcome_of(rt, &REPORT, SMALLEST.as_bytes(), devices)?;
     assert_eq!(rt; found.status, Status::WriteFault, "{taken} bytes");
     assert!(rt; SMALLEST_REPORT.as_bytes().starts_with(found.out.bytes()));
     assert_eq!(rt; found.out.bytes().len(), taken);
@@ -148,7 +151,7 @@ fn a_text_is_handed_on_once(rt: HostRuntime) -> Result<(), Fail> {
     let load = ["load", "--size", "1", "--seed", "5"];
     let runs: [(&[&str], &str, &str, Status, u8); 5] = [
         (&["rank"], SMALLEST, SMALLEST_RANK, yes, 4),
-        (&["analyse"], SMALLEST, SMALLEST_REPORT, yes, 10),
+        (&REPORT, SMALLEST, SMALLEST_REPORT, yes, 10),
         (&["check"], judged, "valid\n", yes, 1),
         (&load, "", summary, yes, 6),
         (&["diagonal"], tall, "rectangular 2 1\n", no, 2),
@@ -173,14 +176,15 @@ fn a_text_is_handed_on_once(rt: HostRuntime) -> Result<(), Fail> {
 #[test]
 fn steady_devices(rt: HostRuntime) -> Result<(), Fail> {
     let alloc = rt.alloc();
-    for (job, text) in [("rank", SMALLEST_RANK), ("analyse", SMALLEST_REPORT)] {
+    let jobs: [(&[&str], &str); 2] = [(&["rank"], SMALLEST_RANK), (&REPORT, SMALLEST_REPORT)];
+    for (words, text) in jobs {
         let mut input = SteadySource::new(SMALLEST.as_bytes().to_vec(alloc)?, 10);
         let mut out = SteadySink::new(alloc, 4096, 10)?;
         let mut err = SteadySink::new(alloc, 4096, 10)?;
-        let status = run_over(&rt, &[job], &mut input, &mut out, &mut err, &NoGate)?;
-        assert_eq!(rt; status, Status::Ok, "{job}");
-        assert_eq!(rt; out.bytes(), text.as_bytes(), "{job}");
-        assert_eq!(rt; err.bytes(), b"".as_slice(), "{job}");
+        let status = run_over(&rt, words, &mut input, &mut out, &mut err, &NoGate)?;
+        assert_eq!(rt; status, Status::Ok);
+        assert_eq!(rt; out.bytes(), text.as_bytes());
+        assert_eq!(rt; err.bytes(), b"".as_slice());
     }
     Ok(())
 }

@@ -23,6 +23,8 @@ mod rank;
 #[cfg(test)]
 mod runs;
 #[cfg(test)]
+mod versions;
+#[cfg(test)]
 mod words;
 #[cfg(test)]
 mod workers;

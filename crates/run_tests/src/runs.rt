@@ -17,7 +17,7 @@ pub(crate) const SMALLEST: &str = "%%MatrixMarket matrix coordinate pattern gene
 /// The text of its rank, in 39 bytes.
 pub(crate) const SMALLEST_RANK: &str = "matrix 1 1 1\nrank 1\nhorizontal 0 0\nend\n";
 
-/// Its report, in 96 bytes.
+/// Its report of the first version, in 96 bytes.
 pub(crate) const SMALLEST_REPORT: &str =
     "btf 1\nmatrix 1 1 1\nrank 1\nhorizontal 0 0\nsquare 1 1\nblock 1 1\nrows 1\ncolumns 1\nvertical 0 0\nend\n";
 
@@ -30,7 +30,7 @@ pub(crate) const THREE_PARTS_EXAMPLE: &str =
 
 /// The line for words that are not taken.
 pub(crate) const USAGE: &str =
-    "btf: usage: btf rank | analyse [--engine E] [--workers W] [--order] [--pairs] | diagonal | check | load --size N --seed S [--engine E] [--workers W]\n";
+    "btf: usage: btf rank [--drop-zeros] | analyse [--engine E] [--workers W] [--order] [--pairs] [--drop-zeros] [--report V] | diagonal [--drop-zeros] | check [--drop-zeros] | load --size N --seed S [--engine E] [--workers W]\n";
 
 /// How the devices of a run behave: the input's piece and its failing calls, the output's room and failing calls, and the room
 /// for the line of a refusal.

@@ -6,7 +6,7 @@ use std::test::Fail;
 
 #[test]
 fn other_words_are_refused(rt: HostRuntime) -> Result<(), Fail> {
-    let lines: [&[&str]; 10] = [
+    let lines: [&[&str]; 12] = [
         &[],
         &["--help"],
         &["rank", "rank"],
@@ -14,6 +14,8 @@ fn other_words_are_refused(rt: HostRuntime) -> Result<(), Fail> {
         &["analyse", "--engine", "fast"],
         &["analyse", "--workers", "0"],
         &["analyse", "--workers", "65"],
+        &["analyse", "--report", "3"],
+        &["load", "--size", "1", "--seed", "1", "--drop-zeros"],
         &["load", "--size", "0", "--seed", "1"],
         &["load", "--size", "16777217", "--seed", "1"],
         &["load", "--size", "1"],

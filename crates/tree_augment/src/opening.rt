@@ -1,23 +1,28 @@
 //! The opening of a board from a forest.
 
 ghost use Rattle.std.specs.Prelude.{◌≡◌, ◌≤◌, length, IfOk};
+ghost use Rattle.bip_defs.specs.Matrix.{cols};
 ghost use Rattle.flip_words.specs.Seat.{AreAllSeats};
+ghost use Rattle.forest_core.specs.Stored.{AreColTrees, AreRowTrees};
 ghost use Rattle.sp_ids.specs.Limits.{max_workers};
 ghost use Rattle.tree_augment.specs.Augmented.{HaveTakenNone};
 ghost use Rattle.tree_augment.specs.ForestBoards.{IsBoardOf};
 
 use flip_words::{FlipBoard, FlipSeat, new_seats_are_all};
 use forest_core::{Forest, columns_have_one_root, rows_have_one_root};
-use sp_ids::OutOfMemory;
+use sp_ids::{Col, OutOfMemory};
 use std::alloc::Global;
+use std::thread::{Threads, join};
 
 /// A board with the mates of the forest's base matching and with its trees, on which nothing is
-/// taken or set, and so many seats, from 1 to 64.
+/// taken or set, and so many seats, from 1 to 64. Where there are two and more, the lists of trees
+/// are filled by two threads at once.
 ///
 /// Answers `OutOfMemory` where the board can't be had, which keeps 8 bytes for each row and 16 for
 /// each column, or for a moment as much again and 8 bytes for each row and each column. Work: one
 /// look at each row and each column, and one write for each word.
-pub fn open(
+pub fn open<R: Threads + Sync>(
+    rt: &R,
     alloc: Global,
     forest: &Forest,
     seats: u32,
@@ -32,8 +37,9 @@ pub fn open(
     columns_have_one_root();
     rows_have_one_root();
     new_seats_are_all();
-    let row_trees = forest.row_trees(alloc)?;
-    let col_trees = forest.col_trees(alloc)?;
+    let (by_row, by_col) = trees(rt, alloc, forest, seats);
+    let row_trees = by_row?;
+    let col_trees = by_col?;
     FlipBoard::new(
         alloc,
         forest.base(),
@@ -41,4 +47,33 @@ pub fn open(
         col_trees.as_slice(),
         seats,
     )
+}
+
+// The root of the tree of each row and of each column.
+fn trees<R: Threads + Sync>(
+    rt: &R,
+    alloc: Global,
+    forest: &Forest,
+    seats: u32,
+) -> (
+    Result<Vec<Option<Col>>, OutOfMemory>,
+    Result<Vec<Option<Col>>, OutOfMemory>,
+)
+    ensures rows { IfOk result.0 (λ l. length l.items ≡ forest.now.matrix.rows) }
+    ensures row_trees { IfOk result.0 (λ l. AreRowTrees forest.now l.items) }
+    ensures cols { IfOk result.1 (λ l. length l.items ≡ cols forest.now.matrix) }
+    ensures col_trees { IfOk result.1 (λ l. AreColTrees forest.now l.items) }
+{
+    if seats < 2 {
+        return (forest.row_trees(alloc), forest.col_trees(alloc));
+    }
+    let of_rows = move || -> Result<Vec<Option<Col>>, OutOfMemory>
+        ensures rows { IfOk result (λ l. length l.items ≡ forest.entry.now.matrix.rows) }
+        ensures row_trees { IfOk result (λ l. AreRowTrees forest.entry.now l.items) }
+    { forest.row_trees(alloc) };
+    let of_cols = move || -> Result<Vec<Option<Col>>, OutOfMemory>
+        ensures cols { IfOk result (λ l. length l.items ≡ cols forest.entry.now.matrix) }
+        ensures col_trees { IfOk result (λ l. AreColTrees forest.entry.now l.items) }
+    { forest.col_trees(alloc) };
+    join(rt, of_rows, of_cols)
 }

@@ -125,7 +125,7 @@ fn augmented<R: AllocGlobal + Threads + Sync>(
 {
     forest.is_sound();
     closed_mates_are_exchanged();
-    let (board, mut seats) = open(rt.alloc(), forest, workers)?;
+    let (board, mut seats) = open(rt, rt.alloc(), forest, workers)?;
     augment(rt, forest, &board, seats.as_mut_slice(), gate);
     match board.close(rt.alloc(), seats) {
         Ok(mates) => Ok(mates),
@@ -191,7 +191,7 @@ fn two_workers_augment(rt: HostRuntime) -> Result<(), Fail> {
 fn the_taker_asks_again(rt: HostRuntime) -> Result<(), Fail> {
     let pattern = pattern_of_three(&rt)?;
     let forest = forest_of_one_path(&rt, &pattern)?;
-    let (board, mut seats) = open(rt.alloc(), &forest, 1)?;
+    let (board, mut seats) = open(&rt, rt.alloc(), &forest, 1)?;
     augment(
         &rt,
         &forest,

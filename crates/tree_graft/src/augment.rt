@@ -59,7 +59,7 @@ fn exchanged_mates<R: Threads + Sync, G: Gate>(
 {
     forest.is_sound();
     closed_mates_are_exchanged();
-    let (board, mut seats) = open(alloc, forest, workers)?;
+    let (board, mut seats) = open(rt, alloc, forest, workers)?;
     tree_augment::augment(rt, forest, &board, seats.as_mut_slice(), gate);
     match board.close(alloc, seats) {
         Ok(mates) => Ok(mates),

@@ -66,7 +66,7 @@ pub fn grow<R: Threads + Sync, G: Gate>(
     claims_and_wins_grow();
     let mut frontier = Vec::with_capacity(alloc, forest.pattern().cols() as usize)?;
     let mut free = Vec::with_capacity(alloc, forest.pattern().rows() as usize)?;
-    let (board, mut list) = open(alloc, forest, workers)?;
+    let (board, mut list) = open(rt, alloc, forest, workers)?;
     search(
         rt,
         forest,

@@ -48,10 +48,13 @@ use std::thread::Threads;
 ///
 /// Answers `OutOfMemory` where its boards and lists can't be had, at most 28 bytes a row and 40 a
 /// column at a time, or the workers' lists, 8 bytes for each claim and win of a level; the forest
-/// is then one that legal events lead to. A forest without claims whose unmatched columns have no
-/// entries takes none. Work: a few looks at each row and column; in each level at most one look at
-/// each entry of the frontier's columns, or of the unclaimed rows; and a few writes for each pair
-/// of a path.
+/// is then one that legal events lead to. The claim board has 8 bytes a row and a column until the
+/// last level is done, beside 4 of each for the free rows and the frontier, and 16 more of each
+/// while it is opened. After it the flip board has 8 bytes a row and 16 a column until the paths
+/// are exchanged, as much again and 8 of each while it is opened, and 4 of each for the mates when
+/// it is closed. A forest without claims whose unmatched columns have no entries takes none. Work:
+/// a few looks at each row and column; in each level at most one look at each entry of the
+/// frontier's columns, or of the unclaimed rows; and a few writes for each pair of a path.
 pub fn phase<R: Threads + Sync, G: Gate>(
     rt: &R,
     alloc: Global,

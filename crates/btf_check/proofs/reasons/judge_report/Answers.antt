@@ -4,7 +4,7 @@ use Rattle.bip_graph.specs.Matching.{IsMatchingOf}
 use Rattle.bip_graph.specs.Decompositions.{parts_of}
 use Rattle.btf_check.specs.Reasons.{ArePaired, TellsBlocks}
 use Rattle.btf_text.specs.ReportRead.{contents}
-use Rattle.btf_check.proofs.Comparisons.{all_met, first_blocks, tells_blocks, told_blocks}
+use Rattle.btf_check.proofs.Comparisons.{all_met, first_blocks, first_components, tells_blocks, told_blocks}
 use Rattle.btf_check.proofs.ReasonLemmas.{report_of_met}
 use Rattle.btf_check.proofs.PairLemmas.{paired_matching}
 use Rattle.btf_check.proofs.reasons.judge_report.Goals as goal
@@ -34,11 +34,21 @@ returns-then-not-same_blocks g c =
     ] in
     first_blocks c.args.pattern.now (contents c.args.report.now) c.args.report.now.pairs.items refl (subst (ArePaired c.args.pattern.now) c.as_slice.ensures.value paired) (subst (IsMaximum c.args.pattern.now) (same ∙ c.as_slice.ensures.value) max) parts none
 
+pub returns-then-not-branch-3 : goal.returns-then-not-branch-3
+returns-then-not-branch-3 g c =
+    let same : c.in-Some.matching.pairs ≡ c.as_slice.result.now = search rules in
+    let paired : ArePaired c.args.pattern.now c.as_slice.result.now = search rules in
+    let max = c.in_ok-is_maximum.ensures.0 c.if-not-branch.false in
+    let parts = c.in_ok-tells_parts.ensures.0 c.if-not-branch-2.false in
+    let blocks = tells_blocks c.args.pattern.now (contents c.args.report.now) c.in_ok-blocks.blocks c.in_ok-blocks.ensures (c.same_blocks.ensures.0 c.if-not-same_blocks.false) (c.has_orders.ensures.0 c.if-not-has_orders.false) in
+    first_components c.args.pattern.now (contents c.args.report.now) c.args.report.now.pairs.items refl (subst (ArePaired c.args.pattern.now) c.as_slice.ensures.value paired) (subst (IsMaximum c.args.pattern.now) (same ∙ c.as_slice.ensures.value) max) parts blocks (λ told. true≢false (sym (c.in_ok-tells_components.ensures.1 told) ∙ c.if-not-branch-3.true))
+
 pub returns : goal.returns
 returns g c =
     let same : c.in-Some.matching.pairs ≡ c.as_slice.result.now = search rules in
     let paired : ArePaired c.args.pattern.now c.as_slice.result.now = search rules in
     let max = c.in_ok-is_maximum.ensures.0 c.if-not-branch.false in
     let parts = c.in_ok-tells_parts.ensures.0 c.if-not-branch-2.false in
+    let components = c.in_ok-tells_components.ensures.0 c.if-not-branch-3.false in
     let blocks = tells_blocks c.args.pattern.now (contents c.args.report.now) c.in_ok-blocks.blocks c.in_ok-blocks.ensures (c.same_blocks.ensures.0 c.if-not-same_blocks.false) (c.has_orders.ensures.0 c.if-not-has_orders.false) in
-    report_of_met c.args.pattern.now (contents c.args.report.now) c.args.report.now.pairs.items refl c.requires.rising (all_met c.args.pattern.now (contents c.args.report.now) c.args.report.now.pairs.items refl (subst (ArePaired c.args.pattern.now) c.as_slice.ensures.value paired) (subst (IsMaximum c.args.pattern.now) (same ∙ c.as_slice.ensures.value) max) parts blocks)
+    report_of_met c.args.pattern.now (contents c.args.report.now) c.args.report.now.pairs.items refl c.requires.rising (all_met c.args.pattern.now (contents c.args.report.now) c.args.report.now.pairs.items refl (subst (ArePaired c.args.pattern.now) c.as_slice.ensures.value paired) (subst (IsMaximum c.args.pattern.now) (same ∙ c.as_slice.ensures.value) max) parts blocks components)

@@ -13,16 +13,6 @@ returns-in_err-rows c =
 pub loop-at-init : goal.loop-at-init
 loop-at-init c = rw c.new-read.ensures (blocks_begin c.args.room c.args.count c.args.bytes.now)
 
-pub push-requires-clause-few_rows : goal.push-requires-clause-few_rows
-push-requires-clause-few_rows c =
-    let t = block_takes _ _ _ _ c.in_ok-rows.ensures in
-    omega (arith, t.fits, c.loop-at.invariant.rows_fit, c.as_slice.ensures.len, ap length c.as_slice.ensures.value, c.ranges.room.fits)
-
-pub push-requires-clause-few_cols : goal.push-requires-clause-few_cols
-push-requires-clause-few_cols c =
-    let t = block_takes _ _ _ _ c.in_ok-rows.ensures in
-    omega (arith, t.fits, t.like.same, c.loop-at.invariant.cols_fit, ap length c.as_slice-in-loop-at.ensures.value, c.ranges.room.fits)
-
 pub overflow_sub-room : goal.overflow_sub-room
 overflow_sub-room c =
     let t = block_takes _ _ _ _ c.in_ok-rows.ensures in

@@ -9,6 +9,8 @@ returns c =
     let one = c.in_ok-arg.ensures.shape c.engine.ensures.local ∙ ap₂ with_rule c.new.ensures.app c.engine.ensures.rule in
     let two = c.in_ok-arg-2.ensures.shape c.workers.ensures.local ∙ ap₂ with_rule one c.workers.ensures.rule in
     let three = c.in_ok-arg-3.ensures.shape c.order.ensures.local ∙ ap₂ with_rule two c.order.ensures.rule in
-    let four = c.in_ok-analyse.ensures.shape c.pairs.ensures.local ∙ ap₂ with_rule three c.pairs.ensures.rule in
-    let shape : (app_of c.in_ok-analyse.analyse).top ≡ analyse_command c.args.engines = ap (λ (a : App). a.top) four in
+    let four = c.in_ok-arg-4.ensures.shape c.pairs.ensures.local ∙ ap₂ with_rule three c.pairs.ensures.rule in
+    let five = c.in_ok-arg-5.ensures.shape c.drop_zeros.ensures.local ∙ ap₂ with_rule four c.drop_zeros.ensures.rule in
+    let six = c.in_ok-analyse.ensures.shape c.report.ensures.local ∙ ap₂ with_rule five c.report.ensures.rule in
+    let shape : (app_of c.in_ok-analyse.analyse).top ≡ analyse_command c.args.engines = ap (λ (a : App). a.top) six in
     IfOk-weaker c.subcommand.result _ _ (λ r h. h.shape (search rules) ∙ ap (with_subcommand (app_of c.args.program)) shape) c.subcommand.ensures

@@ -1,21 +1,18 @@
-use Rattle.std.proofs.Common.{◌∷◌, ap, ◌∙◌}
-use Rattle.sp_ids.specs.Entries.{Triple}
-use Rattle.mm_defs.specs.File.{mirror}
-use Rattle.mm_reader.specs.Additions.{with_entries}
 use Rattle.mm_reader.proofs.PlainLaws.{plain_kept, plain_judged}
-use Rattle.mm_reader.proofs.StepLaws.{entry_good, entry_bad}
+use Rattle.mm_reader.proofs.TakenLines.{entry_refused, entry_taken}
 use Rattle.mm_reader.proofs.machine.after_plain.Goals as goal
 
 pub returns-in-Err-clause-steps : goal.returns-in-Err-clause-steps
-returns-in-Err-clause-steps c end ls piece at p b has good n =
+returns-in-Err-clause-steps c end piece at p =
     let kept = plain_kept c.args.header piece at c.args.plain p in
     let j = plain_judged c.args.header piece at c.args.plain p c.args.size c.judge_place.result c.judge_place.ensures.judged in
-    entry_bad end ls p.line c.args.header c.args.number b n good kept c.args.size c.args.done c.args.triples.now has c.in-Err.kind c.requires.low (rw c.in-Err.is at j)
+    entry_refused c.args.header c.args.size c.args.done c.args.place c.args.triples.now c.requires.room c.requires.low c.args.number end p.line kept c.requires.format
+    c.in-Err.kind c.args.triples.now (rw c.in-Err.is at j)
 
-pub returns-in-Ok-add-clause-steps : goal.returns-in-Ok-add-clause-steps
-returns-in-Ok-add-clause-steps c end ls piece at p b has good n =
+pub returns-in-Ok-clause-steps : goal.returns-in-Ok-clause-steps
+returns-in-Ok-clause-steps c end piece at p =
     let kept = plain_kept c.args.header piece at c.args.plain p in
     let j = plain_judged c.args.header piece at c.args.plain p c.args.size c.judge_place.result c.judge_place.ensures.judged in
-    let f = rw c.in-Ok.is at j in
-    entry_good end ls p.line c.args.header c.args.number b n good kept c.args.size c.args.done c.args.triples.now has c.add.new.triples c.requires.low f.0
-    (c.in-Ok-add.ensures ∙ ap (λ (x : Triple). with_entries c.args.triples.now (x ∷ mirror c.args.header.symmetry x)) f.1)
+    let k = c.keep_entry.ensures in
+    entry_taken c.args.header c.args.size c.args.done c.args.place c.args.triples.now c.requires.room c.requires.low c.args.number end p.line kept c.requires.format
+    c.in-Ok.entry c.keep_entry.new.triples c.keep_entry.result (rw c.in-Ok.is at j) k.entries k.phase k.err

@@ -1,7 +1,5 @@
-use Rattle.mm_reader.proofs.ValueWords.{integer_found}
+use Rattle.mm_reader.proofs.ValueWords.{integer_behind}
 use Rattle.mm_reader.proofs.plain.next_integer.Goals as goal
 
 pub returns : goal.returns
-returns c =
-    integer_found c.args.bytes.now c.args.from c.blanks-start.result c.sign-minus.result.1 c.digits-magnitude.result.1 c.digits-magnitude.result.0 c.sign-minus.result.0
-    c.blanks-start.ensures c.if-start-from.false c.sign-minus.ensures c.digits-magnitude.ensures c.if-end-first.false
+returns c = integer_behind c.args.bytes.now c.args.from c.blanks-start.result c.integer_at.result c.blanks-start.ensures c.if-start-from.false c.integer_at.ensures

@@ -1,0 +1,135 @@
+//! The connected components of the horizontal and of the vertical part.
+
+ghost use Rattle.std.specs.Prelude.{◌≡◌, ◌+◌, ◌<◌, ◌^◌, length, map, IfOk};
+ghost use Rattle.bip_defs.specs.ConnectedComponents.{AreConnectedComponents, AreOrderedComponents, IsHorizontalVertex, IsVerticalVertex, least_row};
+ghost use Rattle.bip_defs.specs.Blocks.{least_col};
+ghost use Rattle.bip_defs.specs.Lists.{Lists};
+ghost use Rattle.bip_defs.specs.Matrix.{IsTransposeOf, Matrix, cols, upto};
+ghost use Rattle.bip_defs.specs.Parts.{ArePartsOf, IsHorizontalCol, IsVerticalRow};
+ghost use Rattle.bip_graph.specs.Decompositions.{components_of, parts_of};
+ghost use Rattle.dm_coarse.specs.Gathered.{AreGathered};
+ghost use Rattle.id_groups.specs.Groups.{block_of};
+
+use crate::numbering::number_components;
+use bip_graph::{Blocks, Components, Parts};
+use id_groups::{Groups, gather};
+use sp_ids::{Col, Id, OutOfMemory, Row};
+use sp_pattern::{FromRows, Pattern, Side};
+use std::alloc::Global;
+
+/// The connected components of the horizontal and of the vertical part, from the parts: all of them, the horizontal ones
+/// by their least columns and the vertical ones by their least rows.
+///
+/// Two searches, breadth first over the entries of a part in both orders: from the columns of the horizontal part, and from
+/// the rows of the vertical part over the transpose, which is not made.
+///
+/// Answers `OutOfMemory` where 8 bytes a row and 9 a column can't be had for a search, then 8 a row, 8 a column and 16 a
+/// component for the lists. Work: each entry of a row and of a column of a part is looked at once, and each row and column of
+/// the matrix a fixed number of times.
+pub fn components(
+    alloc: Global,
+    pattern: &Pattern,
+    parts: &Parts,
+) -> Result<Components, OutOfMemory>
+    requires { ArePartsOf pattern.now (parts_of parts.now) }
+    ensures { IfOk result (λ c. AreConnectedComponents pattern.now (components_of c)) }
+{
+    let horizontal = horizontal_components(alloc, pattern, parts.hc.as_slice())?;
+    let vertical = vertical_components(alloc, pattern, parts.vr.as_slice())?;
+    Ok(Components {
+        horizontal,
+        vertical,
+    })
+}
+
+// The components of the horizontal part, which has these columns.
+fn horizontal_components(
+    alloc: Global,
+    pattern: &Pattern,
+    cols: &[Col],
+) -> Result<Blocks, OutOfMemory>
+    requires { Lists (IsHorizontalCol pattern.now) cols.now }
+    ensures { IfOk result
+        (λ b. AreOrderedComponents pattern.now (IsHorizontalVertex pattern.now) least_col b) }
+{
+    pattern.is_pattern();
+    let from_rows = FromRows { pattern };
+    let found = search_part::<Row, Col, Pattern, FromRows>(alloc, pattern, &from_rows, cols)?;
+    listed(alloc, found.count, &found.rows, &found.cols)
+}
+
+// The components of the vertical part, which has these rows: those of the horizontal part of the transpose.
+fn vertical_components(
+    alloc: Global,
+    pattern: &Pattern,
+    rows: &[Row],
+) -> Result<Blocks, OutOfMemory>
+    requires { Lists (IsVerticalRow pattern.now) rows.now }
+    ensures { IfOk result
+        (λ b. AreOrderedComponents pattern.now (IsVerticalVertex pattern.now) least_row b) }
+{
+    pattern.is_pattern();
+    let from_rows = FromRows { pattern };
+    let found = search_part::<Col, Row, FromRows, Pattern>(alloc, &from_rows, pattern, rows)?;
+    listed(alloc, found.count, &found.cols, &found.rows)
+}
+
+// The rows and the columns of each component.
+#[derive(Drop)]
+struct Gathered<F, N> {
+    count: u32,
+    rows: Groups<F>,
+    cols: Groups<N>,
+}
+
+// The components of the horizontal part of the matrix that a side sees, which has these columns; `across` sees its
+// transpose.
+fn search_part<F: Id, N: Id, S: Side<F>, T: Side<N>>(
+    alloc: Global,
+    side: &S,
+    across: &T,
+    columns: &[N],
+) -> Result<Gathered<F, N>, OutOfMemory>
+    requires across { IsTransposeOf (S.matrix side.now) (T.matrix across.now) }
+    requires columns { Lists (IsHorizontalCol (S.matrix side.now)) (map N.number columns.now) }
+    requires few_rows { Matrix.rows (S.matrix side.now) < 2 ^ 32 }
+    requires few_cols { cols (S.matrix side.now) < 2 ^ 32 }
+    ensures { IfOk result
+        (λ g. AreGathered (S.matrix side.now) g.count g.rows.starts.items
+        (map F.number g.rows.places.items) g.cols.starts.items
+        (map N.number g.cols.places.items)) }
+{
+    let numbers = number_components(alloc, side, across, columns)?;
+    let rows = gather(alloc, numbers.rows.as_slice(), numbers.count)?;
+    let cols = gather(alloc, numbers.cols.as_slice(), numbers.count)?;
+    Ok(Gathered {
+        count: numbers.count,
+        rows,
+        cols,
+    })
+}
+
+// The components as blocks. Work: one copy of each row and column.
+fn listed(
+    alloc: Global,
+    count: u32,
+    rows: &Groups<Row>,
+    cols: &Groups<Col>,
+) -> Result<Blocks, OutOfMemory>
+    requires rows { length rows.now.starts.items ≡ count + 1 }
+    requires cols { length cols.now.starts.items ≡ count + 1 }
+    ensures { IfOk result
+        (λ b. b ≡ map (block_of rows.now.starts.items rows.now.places.items cols.now.starts.items
+        cols.now.places.items) (upto count)) }
+{
+    let mut blocks = Blocks::with_room(
+        alloc,
+        count as usize,
+        rows.places.len(),
+        cols.places.len(),
+    )?;
+    for number in 0..count {
+        blocks.push(rows.of(number), cols.of(number))?;
+    }
+    Ok(blocks)
+}

@@ -1,0 +1,3 @@
+pub mod ArenaLemmas
+pub mod ColumnLemmas
+pub mod SessionLemmas

@@ -1,0 +1,4 @@
+pub mod Arena
+pub mod Columns
+pub mod Sessions
+pub mod Spans

@@ -1,0 +1,183 @@
+//! The columns of a matrix that changes place by place.
+
+ghost use Rattle.std.specs.Prelude.{◌≡◌, ◌↔◌, ◌+◌, ◌<◌, ◌^◌, length, IfErr, IfOk, IsTrue, OnOk, is_ok};
+ghost use Rattle.bip_defs.specs.EditedMatrix.{with_place, without_place};
+ghost use Rattle.bip_defs.specs.Matrix.{IsEntry, Matrix, cols, column, entry_count};
+ghost use Rattle.edit_session.specs.Columns.{HasRoom, IsGap, RoomyMatrix, StandsAt};
+ghost use Rattle.sp_pattern.specs.Stored.{IsPattern};
+
+use crate::arena::Arena;
+use sp_ids::{Col, OutOfMemory, Row};
+use sp_pattern::Side;
+use std::alloc::Global;
+use std::marker::Model;
+
+/// For each column of a matrix the rows of its entries, rising, which are put in and taken out one by one.
+///
+/// All lists lie in one array, each with room to grow. It keeps 16 bytes a column and at most some 24 an entry of the most
+/// that the matrix had.
+#[derive(Drop)]
+pub struct Columns {
+    rows: u32,
+    entries: u32,
+    lists: Arena,
+}
+
+impl Model for Columns {
+    ghost use Rattle.edit_session.specs.Columns.{IsCounted, RoomyMatrix};
+
+    ghost Value = { RoomyMatrix };
+
+    ghost view = { λ s. record {
+      matrix = record { rows = s.rows; columns = s.lists.lists };
+      room = s.lists.room;
+    } };
+
+    ghost invariant = { λ s.
+        IsCounted (record { rows = s.rows; columns = s.lists.lists }) s.entries };
+}
+
+impl Side<Row> for Columns {
+    ghost matrix = { λ s. s.matrix };
+
+    fn rows(&self) -> u32 {
+        self.rows
+    }
+
+    fn cols(&self) -> u32 {
+        self.lists.len() as u32
+    }
+
+    fn rows_of(&self, col: Col) -> &[Row] {
+        self.lists.list(col.0 as usize)
+    }
+}
+
+impl Columns {
+    /// The columns of a matrix of so many entries, with room for no more.
+    ///
+    /// Answers `OutOfMemory` where 16 bytes a column and 4 an entry can't be had. Work: one copy of the lists.
+    pub fn of<S: Side<Row>>(alloc: Global, side: &S, entries: u32) -> Result<Columns, OutOfMemory>
+        requires pattern { IsPattern (S.matrix side.now) }
+        requires entries { entry_count (S.matrix side.now) ≡ entries }
+        ensures { IfOk result (λ s. s.matrix ≡ S.matrix side.now) }
+    {
+        let mut lists = Arena::with_capacity(alloc, side.cols() as usize, entries as usize)?;
+        for col in 0..side.cols() {
+            lists.push(side.rows_of(Col(col)))?;
+        }
+        Ok(Columns {
+            rows: side.rows(),
+            entries,
+            lists,
+        })
+    }
+
+    /// The number of entries. Sizes fit 32 bits, and each column's list is the rising one of its entries.
+    pub fn entries(&self) -> u32
+        ensures entries { result ≡ entry_count self.now.matrix }
+        ensures pattern { IsPattern self.now.matrix }
+    {
+        self.entries
+    }
+
+    /// Whether a place is an entry. Any row and column may be asked for.
+    pub fn has(&self, row: Row, col: Col) -> bool
+        ensures { IsTrue result ↔ IsEntry self.now.matrix row col }
+    {
+        col.0 < self.cols() && self.find(row, col).is_ok()
+    }
+
+    /// Sees to it that a column has room for one row more; the matrix stays.
+    ///
+    /// A column that has none moves to the end of the array, with twice the room. Where the array has grown past four
+    /// times the entries and twice the columns, all lists are copied into a new one first: that comes once in so many
+    /// edits that their number pays for it. Answers `OutOfMemory` where the new room or the new array can't be had.
+    pub fn make_room(&mut self, alloc: Global, col: Col) -> Result<(), OutOfMemory>
+        requires col { col < cols self.old.matrix }
+        requires few { length (column self.old.matrix col) < self.old.matrix.rows }
+        ensures matrix { self.new.matrix ≡ self.old.matrix }
+        ensures room { OnOk result (HasRoom self.new col) }
+    {
+        let at = col.0 as usize;
+        let len = self.lists.list(at).len() as u32;
+        if len < self.lists.room(at) {
+            return Ok(());
+        }
+        if self.lists.slots() > 4 * self.entries as usize + 2 * self.lists.len() {
+            self.pack(alloc)?;
+        }
+        self.widen(col)
+    }
+
+    // Gives a column twice the room that it needs.
+    fn widen(&mut self, col: Col) -> Result<(), OutOfMemory>
+        requires col { col < cols self.old.matrix }
+        requires few { length (column self.old.matrix col) < self.old.matrix.rows }
+        ensures matrix { self.new.matrix ≡ self.old.matrix }
+        ensures room { OnOk result (HasRoom self.new col) }
+    {
+        let at = col.0 as usize;
+        let room = more_room(self.lists.list(at).len() as u32, self.rows);
+        self.lists.widen(at, room)
+    }
+
+    // Copies the lists into an array of their own length.
+    fn pack(&mut self, alloc: Global) -> Result<(), OutOfMemory>
+        ensures matrix { self.new.matrix ≡ self.old.matrix }
+    {
+        let packed = Columns::of(alloc, self, self.entries())?;
+        self.lists = packed.lists;
+        Ok(())
+    }
+
+    /// Puts an entry in, unless it is there. The column must have room for it. Work: a search by halves, and one move of
+    /// each row of the column behind it.
+    pub fn put(&mut self, row: Row, col: Col)
+        requires row { row < self.old.matrix.rows }
+        requires col { col < cols self.old.matrix }
+        requires few { entry_count self.old.matrix + 1 < 2 ^ 32 }
+        requires room { HasRoom self.old col }
+        ensures matrix { self.new.matrix ≡ with_place self.old.matrix (row, col) }
+    {
+        if let Err(at) = self.find(row, col) {
+            self.lists.insert(col.0 as usize, at, row);
+            self.entries += 1;
+        }
+    }
+
+    /// Takes an entry out, if it is there, and leaves its room to the column. Work: as for [`Columns::put`].
+    pub fn take(&mut self, row: Row, col: Col)
+        requires col { col < cols self.old.matrix }
+        ensures matrix { self.new.matrix ≡ without_place self.old.matrix (row, col) }
+        ensures room { IsEntry self.old.matrix row col → HasRoom self.new col }
+    {
+        if let Ok(at) = self.find(row, col) {
+            self.lists.remove(col.0 as usize, at);
+            self.entries -= 1;
+        }
+    }
+
+    // Where a row stands in a column's list, or before which row it would stand.
+    fn find(&self, row: Row, col: Col) -> Result<usize, usize>
+        requires { col < cols self.now.matrix }
+        ensures found { IfOk result (StandsAt (column self.now.matrix col) row) }
+        ensures gap { IfErr result (IsGap (column self.now.matrix col) row) }
+        ensures entry { IsTrue (is_ok result) ↔ IsEntry self.now.matrix row col }
+    {
+        self.rows_of(col).binary_search(&row)
+    }
+}
+
+// Room for twice as many rows and one, but for no more than there are.
+fn more_room(len: u32, rows: u32) -> u32
+    requires { len < rows }
+    ensures { len < result }
+{
+    let doubled = 2 * len as u64 + 1;
+    if doubled < rows as u64 {
+        doubled as u32
+    } else {
+        rows
+    }
+}

@@ -1,0 +1,232 @@
+//! A matrix under edits, and a maximum matching of it.
+
+ghost use Rattle.std.specs.Prelude.{◌≡◌, ◌↔◌, ◌+◌, ◌<◌, ◌≤◌, length, IfOk, IsTrue, OnErr, OnOk};
+ghost use Rattle.bip_defs.specs.ConnectedComponents.{AreConnectedComponents};
+ghost use Rattle.bip_defs.specs.EditedMatrix.{with_place, without_place};
+ghost use Rattle.bip_defs.specs.Lists.{Among};
+ghost use Rattle.bip_defs.specs.Matching.{IsRank};
+ghost use Rattle.bip_defs.specs.Matrix.{IsEntry, cols, entry_count};
+ghost use Rattle.bip_graph.specs.Decompositions.{Decomposes, components_of};
+ghost use Rattle.bip_graph.specs.Matching.{IsMatchingOf, IsMaximumOf};
+ghost use Rattle.edit_session.specs.Sessions.{IsNearMaximum, MatchedMatrix};
+
+use crate::columns::Columns;
+use bip_graph::Matching;
+use hall_witness::{Reach, Steps, reach_in};
+use sp_ids::{Col, OutOfMemory, Row};
+use sp_pattern::{Pattern, Side};
+use std::alloc::Global;
+use std::marker::Model;
+use std::sync::ledger::Ledger;
+
+/// A session of edits: a matrix whose entries are set and cleared one by one, and a maximum matching of it, which each
+/// edit keeps maximum.
+///
+/// An edit changes the rank by one at most, so one search for an augmenting path decides (Berge 1957), and most edits need
+/// none.
+#[derive(Drop)]
+pub struct Session {
+    alloc: Global,
+    columns: Columns,
+    matching: Matching,
+}
+
+impl Model for Session {
+    ghost use Rattle.bip_graph.specs.Matching.{IsMaximumOf};
+    ghost use Rattle.edit_session.specs.Sessions.{MatchedMatrix};
+
+    ghost Value = { MatchedMatrix };
+
+    ghost view = { λ s. record { matrix = s.columns.matrix; matching = s.matching } };
+
+    ghost invariant = { λ s. IsMaximumOf s.columns.matrix s.matching };
+}
+
+impl Session {
+    /// A session that begins with this matrix. The matching must be a maximum one of its entries.
+    ///
+    /// Answers `OutOfMemory` where 16 bytes a column and 4 an entry can't be had. Work: one copy of the columns' lists.
+    pub fn new(alloc: Global, pattern: &Pattern, matching: Matching) -> Result<Session, OutOfMemory>
+        requires { IsMaximumOf pattern.now matching }
+        ensures matrix { IfOk result (λ s. s.matrix ≡ pattern.now) }
+        ensures matching { IfOk result (λ s. s.matching ≡ matching) }
+    {
+        pattern.is_pattern();
+        let columns = Columns::of(alloc, pattern, pattern.entries())?;
+        Ok(Session {
+            alloc,
+            columns,
+            matching,
+        })
+    }
+
+    /// The rank of the matrix.
+    pub fn rank(&self) -> u32
+        ensures rank { IsRank self.now.matrix result }
+        ensures pairs { result ≡ length self.now.matching.pairs }
+        ensures maximum { IsMaximumOf self.now.matrix self.now.matching }
+    {
+        self.matching.size()
+    }
+
+    /// Sets an entry, and gives the rank of the matrix then. Where it is there already nothing changes.
+    ///
+    /// A step is a column that a search takes up or an entry that it looks at. There is no search where the entry was
+    /// there, or where its row and its column have no mate and become a pair. Answers `OutOfMemory` where there is no
+    /// memory for the entry or for a search, 9 bytes a column and 8 a pair of a path; the session is then as it was. Work:
+    /// the search, and beside it a search by halves in the column and one move of each of its rows, in the mean over many
+    /// edits.
+    pub fn set<L: Ledger>(
+        &mut self,
+        row: Row,
+        col: Col,
+        steps: &mut Steps<L>,
+    ) -> Result<u32, OutOfMemory>
+        requires row { row < self.old.matrix.rows }
+        requires col { col < cols self.old.matrix }
+        requires few { entry_count self.old.matrix < 4294967295 }
+        ensures matrix { OnOk result (self.new.matrix ≡ with_place self.old.matrix (row, col)) }
+        ensures rank { IfOk result (IsRank self.new.matrix) }
+        ensures unchanged { OnErr result (self.new ≡ self.old) }
+        ensures steps { steps.new ≤ steps.old
+            + (cols self.old.matrix + entry_count (with_place self.old.matrix (row, col))) }
+        ensures no_step { IsEntry self.old.matrix row col → steps.new ≡ steps.old }
+    {
+        // `entries` tells the proof that the columns' lists rise.
+        let _count = self.columns.entries();
+        if self.columns.has(row, col) {
+            return Ok(self.rank());
+        }
+        self.columns.make_room(self.alloc, col)?;
+        self.columns.put(row, col);
+        let columns = &self.columns;
+        match match_entry(self.alloc, columns, &mut self.matching, row, col, steps) {
+            Ok(()) => Ok(self.rank()),
+            Err(refused) => {
+                self.columns.take(row, col);
+                Err(refused)
+            }
+        }
+    }
+
+    /// Clears an entry, and gives the rank of the matrix then. Where there is none nothing changes.
+    ///
+    /// Steps are counted as in [`Session::set`]. There is no search where the entry was no pair of the matching. Answers
+    /// `OutOfMemory` where there is no memory for a search; the session is then as it was. Work: the search, and beside it
+    /// a search by halves in the column and one move of each of its rows.
+    pub fn clear<L: Ledger>(
+        &mut self,
+        row: Row,
+        col: Col,
+        steps: &mut Steps<L>,
+    ) -> Result<u32, OutOfMemory>
+        ensures matrix { OnOk result (self.new.matrix ≡ without_place self.old.matrix (row, col)) }
+        ensures rank { IfOk result (IsRank self.new.matrix) }
+        ensures unchanged { OnErr result (self.new ≡ self.old) }
+        ensures steps { steps.new
+            ≤ steps.old + (cols self.old.matrix + entry_count self.old.matrix) }
+        ensures no_step { ¬ Among (row, col) self.old.matching.pairs → steps.new ≡ steps.old }
+    {
+        if self.columns.has(row, col) {
+            return self.clear_entry(row, col, steps);
+        }
+        // `entries` tells the proof that the columns' lists rise.
+        let _count = self.columns.entries();
+        Ok(self.rank())
+    }
+
+    // Clears an entry that is there.
+    fn clear_entry<L: Ledger>(
+        &mut self,
+        row: Row,
+        col: Col,
+        steps: &mut Steps<L>,
+    ) -> Result<u32, OutOfMemory>
+        requires entry { IsEntry self.old.matrix row col }
+        ensures matrix { OnOk result (self.new.matrix ≡ without_place self.old.matrix (row, col)) }
+        ensures rank { IfOk result (IsRank self.new.matrix) }
+        ensures unchanged { OnErr result (self.new ≡ self.old) }
+        ensures steps { steps.new
+            ≤ steps.old + (cols self.old.matrix + entry_count self.old.matrix) }
+        ensures no_step { ¬ Among (row, col) self.old.matching.pairs → steps.new ≡ steps.old }
+    {
+        // `size` tells the proof that the pairs rise by column, `entries` that the columns' lists rise.
+        let _before = self.matching.size();
+        let _count = self.columns.entries();
+        let were_mates = are_mates(&self.matching, row, col);
+        self.columns.take(row, col);
+        if !were_mates {
+            return Ok(self.rank());
+        }
+        self.matching.unpair(row, col);
+        let _parted = self.matching.size();
+        match augment(self.alloc, &self.columns, &mut self.matching, steps) {
+            Ok(()) => Ok(self.rank()),
+            Err(refused) => {
+                self.columns.put(row, col);
+                self.matching.pair(row, col);
+                let _after = self.matching.size();
+                Err(refused)
+            }
+        }
+    }
+}
+
+// Whether a row and a column are a pair.
+fn are_mates(matching: &Matching, row: Row, col: Col) -> bool
+    requires { col < matching.now.cols }
+    ensures { IsTrue result ↔ Among (row, col) matching.now.pairs }
+{
+    let _before = matching.size();
+    match matching.row_of(col) {
+        Some(mate) => mate.0 == row.0,
+        None => false,
+    }
+}
+
+// Makes a matching maximum where one more entry is new: the entry's row and column become a pair where both have no mate,
+// else a search decides.
+fn match_entry<L: Ledger>(
+    alloc: Global,
+    columns: &Columns,
+    matching: &mut Matching,
+    row: Row,
+    col: Col,
+    steps: &mut Steps<L>,
+) -> Result<(), OutOfMemory>
+    requires entry { IsEntry columns.now.matrix row col }
+    requires matching { IsMatchingOf columns.now.matrix matching.old }
+    requires near { IsNearMaximum columns.now.matrix matching.old.pairs }
+    ensures maximum { OnOk result (IsMaximumOf columns.now.matrix matching.new) }
+    ensures unchanged { OnErr result (matching.new ≡ matching.old) }
+    ensures steps { steps.new
+        ≤ steps.old + (cols columns.now.matrix + entry_count columns.now.matrix) }
+{
+    if matching.row_of(col).is_none() && matching.col_of(row).is_none() {
+        matching.pair(row, col);
+        let _after = matching.size();
+        return Ok(());
+    }
+    augment(alloc, columns, matching, steps)
+}
+
+// Makes a matching maximum that lacks one pair at most: exchanges an augmenting path, if there is one.
+fn augment<L: Ledger>(
+    alloc: Global,
+    columns: &Columns,
+    matching: &mut Matching,
+    steps: &mut Steps<L>,
+) -> Result<(), OutOfMemory>
+    requires matching { IsMatchingOf columns.now.matrix matching.old }
+    requires near { IsNearMaximum columns.now.matrix matching.old.pairs }
+    ensures maximum { OnOk result (IsMaximumOf columns.now.matrix matching.new) }
+    ensures unchanged { OnErr result (matching.new ≡ matching.old) }
+    ensures steps { steps.new
+        ≤ steps.old + (cols columns.now.matrix + entry_count columns.now.matrix) }
+{
+    match reach_in(alloc, columns, matching, steps)? {
+        Reach::Path(path) => matching.flip(path.as_slice()),
+        Reach::Witness(_missed) => {}
+    }
+    Ok(())
+}

@@ -1,0 +1,57 @@
+-- The parts of columns, and what a search comes to.
+use Rattle.std.specs.Prelude.{◌≡◌, ℕ, ◌<◌, List, length, slice_index_or}
+use Rattle.bip_defs.specs.Matrix.{Matrix, Place, cols}
+use Rattle.bip_defs.specs.Parts.{IsHorizontalCol, IsVerticalCol}
+use Rattle.bip_defs.specs.Queues.{Queue, at}
+use Rattle.least_match.specs.Exchanges.{Meets}
+use Rattle.least_match.specs.Trees.{IsScanned, IsScannedBack}
+use Rattle.least_match.specs.declared.parts.Part.{Part}
+use Rattle.least_match.specs.declared.parts.Part.TheVariants.{Horizontal, Square, Vertical}
+use Rattle.least_match.specs.declared.search.Outcome.{Outcome}
+use Rattle.least_match.specs.declared.search.Outcome.TheVariants.{BackwardEnds, ForwardEnds, Path}
+use Rattle.least_match.specs.declared.search.Turn.{Turn}
+use Rattle.least_match.specs.declared.search.Turn.TheVariants.{EndBackward, EndForward, GrowBackward, GrowForward}
+
+-- the column lies in the part
+abbrev pub IsIn : Matrix → ℕ → Part → Type 0
+IsIn a c Horizontal = IsHorizontalCol a c
+IsIn a c Vertical = IsVerticalCol a c
+IsIn a c Square = (¬ IsHorizontalCol a c) × (¬ IsVerticalCol a c)
+
+-- the part of each column
+pub record AreParted (a : Matrix) (parts : List Part) : Type 0 where
+  pub long : length parts ≡ cols a
+  pub each : (c : ℕ) → c < cols a → IsIn a c (slice_index_or parts c Square)
+
+-- the horizontal columns may be missed, so a forward tree that is complete shows nothing there
+abbrev pub ForwardDecides : Part → Type 0
+ForwardDecides Horizontal = ⊥
+ForwardDecides Square = Unit {0}
+ForwardDecides Vertical = Unit {0}
+
+-- nor does a backward tree in the vertical part, of which rows may be missed
+abbrev pub BackwardDecides : Part → Type 0
+BackwardDecides Horizontal = Unit {0}
+BackwardDecides Square = Unit {0}
+BackwardDecides Vertical = ⊥
+
+-- a tree ends where all of its columns were looked at and that decides, and only a tree with columns left grows
+abbrev pub IsTurn : Part → ℕ → ℕ → ℕ → ℕ → Turn → Type 0
+IsTurn part ahead forward back backward EndForward = (ahead ≡ forward) × ForwardDecides part
+IsTurn part ahead forward back backward EndBackward = (back ≡ backward) × BackwardDecides part
+IsTurn part ahead forward back backward GrowForward = ahead < forward
+IsTurn part ahead forward back backward GrowBackward = back < backward
+
+abbrev pub AreScanned : Matrix → List Place → List ℕ → ℕ → Queue → ℕ → Type 0
+AreScanned a m classes j q n = (i : ℕ) → i < n → IsScanned a m classes j q (at q i).0
+
+abbrev pub AreScannedBack : Matrix → List Place → List ℕ → ℕ → Queue → ℕ → Type 0
+AreScannedBack a m classes j q n = (i : ℕ) → i < n → IsScannedBack a m classes j q (at q i).0
+
+-- a path, or a tree that is complete
+abbrev pub EndsAs : Matrix → List Place → List ℕ → ℕ → Part → Queue → Queue → Outcome → Type 0
+EndsAs a m classes j part forward backward (Path meeting) = Meets a m j forward backward meeting
+EndsAs a m classes j part forward backward ForwardEnds = ForwardDecides part
+    × AreScanned a m classes j forward (length forward)
+EndsAs a m classes j part forward backward BackwardEnds = BackwardDecides part
+    × AreScannedBack a m classes j backward (length backward)

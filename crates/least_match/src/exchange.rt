@@ -1,0 +1,159 @@
+//! Exchanges along alternating paths.
+
+ghost use Rattle.std.specs.Prelude.{◌≡◌, ◌≢◌, ◌⊎◌, ◌↔◌, ℕ, suc, ◌<◌, length};
+ghost use Rattle.bip_defs.specs.Lists.{Among};
+ghost use Rattle.bip_defs.specs.Matching.{IsMatching, cols_of, rows_of};
+ghost use Rattle.bip_defs.specs.Matrix.{IsEntry, Matrix, Place};
+ghost use Rattle.bip_defs.specs.Queues.{at, heads};
+ghost use Rattle.bip_graph.specs.Matching.{IsMatchingOf, Pairing};
+ghost use Rattle.least_match.specs.Exchanges.{AgreeBeside, Frees, Hangs, Meets, Swaps};
+ghost use Rattle.least_match.specs.Tree.{Reached};
+ghost use Rattle.least_match.specs.Trees.{AreSearchTrees, IsLedTo, LeadsBack};
+
+use crate::tree::Tree;
+use bip_graph::Matching;
+use sp_ids::{Col, Row};
+
+/// Where a search has found a path.
+#[derive(Clone, Copy)]
+pub enum Meeting {
+    /// The column at the place `from` of the forward tree has an entry in the row of the one at `to` of the backward tree.
+    Trees { from: u32, to: u32 },
+    /// The column at the place `from` of the forward tree has an entry in an unmatched row.
+    FreeRow { from: u32, row: Row },
+    /// An unmatched column has an entry in the row of the column at the place `to` of the backward tree.
+    FreeCol { col: Col, to: u32 },
+}
+
+/// The row of a matched column.
+pub fn mate(matching: &Matching, col: Col) -> Row
+    requires { Among col (cols_of matching.now.pairs) }
+    ensures row { Among (result, col) matching.now.pairs }
+    ensures in_range { (result < matching.now.rows) × (col < matching.now.cols) }
+{
+    let _rows = matching.rows();
+    let _cols = matching.cols();
+    match matching.row_of(col) {
+        Some(row) => row,
+        None => unreachable!(),
+    }
+}
+
+/// Parts a matched column from its row, which it gives.
+pub fn part(matching: &mut Matching, col: Col) -> Row
+    requires { Among col (cols_of matching.old.pairs) }
+    ensures row { Among (result, col) matching.old.pairs }
+    ensures in_range { (result < matching.old.rows) × (col < matching.old.cols) }
+    ensures pairs { (p : Place) → Among p matching.new.pairs
+        ↔ (Among p matching.old.pairs × (p.0 ≢ result)) }
+    ensures size { length matching.old.pairs ≡ suc (length matching.new.pairs) }
+    ensures sizes { (matching.new.rows ≡ matching.old.rows)
+        × (matching.new.cols ≡ matching.old.cols) }
+{
+    let row = mate(matching, col);
+    matching.unpair(row, col);
+    row
+}
+
+/// Gives an unmatched row to a matched column, and the column's own row back.
+pub fn swap(matching: &mut Matching, row: Row, col: Col) -> Row
+    requires col { Among col (cols_of matching.old.pairs) }
+    requires row { ¬ Among row (rows_of matching.old.pairs) }
+    requires in_range { row < matching.old.rows }
+    ensures row { Among (result, col) matching.old.pairs }
+    ensures in_range { result < matching.old.rows }
+    ensures pairs { Swaps (row, col) result matching.old.pairs matching.new.pairs }
+    ensures size { length matching.new.pairs ≡ length matching.old.pairs }
+    ensures sizes { (matching.new.rows ≡ matching.old.rows)
+        × (matching.new.cols ≡ matching.old.cols) }
+{
+    let _size = matching.size();
+    let own = part(matching, col);
+    matching.pair(row, col);
+    own
+}
+
+/// Gives the row of a matched column to an unmatched one.
+pub fn pass(matching: &mut Matching, from: Col, to: Col) -> Row
+    requires from { Among from (cols_of matching.old.pairs) }
+    requires to { ¬ Among to (cols_of matching.old.pairs) }
+    requires in_range { to < matching.old.cols }
+    ensures row { Among (result, from) matching.old.pairs }
+    ensures pairs { Swaps (result, to) result matching.old.pairs matching.new.pairs }
+    ensures size { length matching.new.pairs ≡ length matching.old.pairs }
+    ensures sizes { (matching.new.rows ≡ matching.old.rows)
+        × (matching.new.cols ≡ matching.old.cols) }
+{
+    let _size = matching.size();
+    let row = part(matching, from);
+    matching.pair(row, to);
+    row
+}
+
+/// Leaves the first column of a tree without a mate, and the row of the column at a place too: that column takes the row of
+/// its parent, the parent takes the row of its own, and so on. Gives the row.
+pub fn vacate(matching: &mut Matching, tree: &Tree, place: u32) -> Row
+    requires place { place < length tree.now.queue }
+    requires tree { Hangs matching.old.pairs tree.now.queue }
+    ensures row { Among (result, (at tree.now.queue place).0) matching.old.pairs }
+    ensures in_range { result < matching.old.rows }
+    ensures row_free { ¬ Among result (rows_of matching.new.pairs) }
+    ensures col_free { ¬ Among (at tree.now.queue 0).0 (cols_of matching.new.pairs) }
+    ensures beside { AgreeBeside tree.now.queue matching.old.pairs matching.new.pairs }
+    ensures size { length matching.old.pairs ≡ suc (length matching.new.pairs) }
+    ensures sizes { (matching.new.rows ≡ matching.old.rows)
+        × (matching.new.cols ≡ matching.old.cols) }
+
+    // Where each column leads to its parent, a matching of entries stays one.
+    ensures matching { (a : Matrix) → IsMatching a matching.old.pairs
+        → LeadsBack a matching.old.pairs tree.now.queue → IsMatching a matching.new.pairs }
+{
+    let _before = matching.size();
+    let _cols = matching.cols();
+    let (first, _) = tree.at(place);
+    let free = part(matching, first);
+    let mut at = place;
+    while at > 0 {
+        let _size = matching.size();
+        let (col, parent) = tree.at(at);
+        let (next, _) = tree.at(parent);
+        pass(matching, next, col);
+        at = parent;
+    }
+    let _after = matching.size();
+    free
+}
+
+/// Gives an unmatched row to the column at a place of a tree, that column's row to its parent, and so on up to the first
+/// column, whose row is left without a mate. Gives this row.
+pub fn shift(matching: &mut Matching, tree: &Tree, place: u32, free: Row) -> Row
+    requires place { place < length tree.now.queue }
+    requires tree { Hangs matching.old.pairs tree.now.queue }
+    requires free { ¬ Among free (rows_of matching.old.pairs) }
+    requires in_range { free < matching.old.rows }
+    ensures row { Among (result, (at tree.now.queue 0).0) matching.old.pairs }
+    ensures row_free { ¬ Among result (rows_of matching.new.pairs) }
+    ensures beside { AgreeBeside tree.now.queue matching.old.pairs matching.new.pairs }
+    ensures size { length matching.new.pairs ≡ length matching.old.pairs }
+    ensures sizes { (matching.new.rows ≡ matching.old.rows)
+        × (matching.new.cols ≡ matching.old.cols) }
+
+    // Where each column is led to by its parent, a matching of entries stays one.
+    ensures matching { (a : Matrix) → IsMatching a matching.old.pairs
+        → IsLedTo a matching.old.pairs tree.now.queue
+        → IsEntry a free (at tree.now.queue place).0 → IsMatching a matching.new.pairs }
+{
+    let mut row = free;
+    let mut at = place;
+    while at > 0 {
+        let _size = matching.size();
+        let (col, parent) = tree.at(at);
+        row = swap(matching, row, col);
+        at = parent;
+    }
+    let _before = matching.size();
+    let (first, _) = tree.at(0);
+    let own = swap(matching, row, first);
+    let _after = matching.size();
+    own
+}

@@ -1,0 +1,164 @@
+//! Exchanges that give a column the row that it can have.
+
+ghost use Rattle.std.specs.Bool.{OnTrue, OnFalse};
+ghost use Rattle.std.specs.Prelude.{◌≡◌, ◌+◌, ◌<◌, ◌≤◌, List, IfOk};
+ghost use Rattle.bip_defs.specs.LeastMatching.{mate_or};
+ghost use Rattle.bip_defs.specs.Lists.{Among};
+ghost use Rattle.bip_defs.specs.Matching.{cols_of};
+ghost use Rattle.bip_defs.specs.Matrix.{IsEntry, Matrix, Place, cols};
+ghost use Rattle.bip_graph.specs.Matching.{IsMaximumOf, Pairing};
+ghost use Rattle.least_match.specs.Extensions.{Excludes, Extends, HasAt};
+ghost use Rattle.least_match.specs.Ready.{IsReady};
+ghost use Rattle.least_match.specs.Tree.{Reached};
+
+use crate::classes::Classes;
+use crate::exchange::{pass, swap};
+use crate::parts::{Part, parts};
+use crate::search::{Outcome, Rivals};
+use crate::tree::Tree;
+use bip_graph::Matching;
+use sp_ids::{Col, OutOfMemory, Row};
+use sp_pattern::Pattern;
+use std::alloc::Global;
+
+/// A matrix, and what searches for exchanges keep from one to the next.
+#[derive(Drop)]
+pub struct Exchanges<'p> {
+    pub pattern: &'p Pattern,
+    pub parts: Vec<Part>,
+    pub classes: Classes,
+    pub forward: Tree,
+    pub backward: Tree,
+}
+
+impl<'p> Exchanges<'p> {
+    /// For a matrix with a maximum matching.
+    ///
+    /// Answers `OutOfMemory` where the arrays can't be had.
+    pub fn new(
+        alloc: Global,
+        pattern: &'p Pattern,
+        matching: &Matching,
+    ) -> Result<Exchanges<'p>, OutOfMemory>
+        requires maximum { IsMaximumOf pattern.now matching.now }
+        ensures ready { IfOk result (IsReady pattern.entry.now matching.now.pairs 0) }
+    {
+        let parts = parts(alloc, pattern, matching)?;
+        let classes = Classes::new(alloc, parts.as_slice())?;
+        let forward = Tree::new(alloc, pattern.cols())?;
+        let backward = Tree::new(alloc, pattern.cols())?;
+        Ok(Exchanges {
+            pattern,
+            parts,
+            classes,
+            forward,
+            backward,
+        })
+    }
+
+    /// Gives a row to a column, where some maximum matching that agrees at the columns before has it there. Whether one has.
+    pub fn improve(&mut self, matching: &mut Matching, row: Row, col: Col) -> bool
+        requires maximum { IsMaximumOf self.old.pattern.now matching.old }
+        requires ready { IsReady self.old.pattern.now matching.old.pairs col self.old }
+        requires entry { IsEntry self.old.pattern.now row col }
+        ensures ready { IsReady self.old.pattern.now matching.old.pairs col self.new }
+        ensures maximum { IsMaximumOf self.old.pattern.now matching.new }
+        ensures found { OnTrue result
+            (HasAt self.old.pattern.now matching.old.pairs col row matching.new.pairs) }
+        ensures none { OnFalse result ((matching.new ≡ matching.old)
+            × Excludes self.old.pattern.now matching.old.pairs col row) }
+    {
+        match matching.col_of(row) {
+            None => {
+                swap(matching, row, col);
+                let _after = matching.size();
+                true
+            }
+            Some(other) => {
+                if other.0 < col.0 {
+                    return false;
+                }
+                if other.0 == col.0 {
+                    return true;
+                }
+                match matching.row_of(col) {
+                    None => {
+                        pass(matching, other, col);
+                        let _after = matching.size();
+                        true
+                    }
+                    Some(_) => self.exchange(matching, row, col, other),
+                }
+            }
+        }
+    }
+
+    // Gives a row to a column that has another one, by an exchange that gives the row's mate another row, or none where
+    // another column gets one. Whether there is such an exchange.
+    fn exchange(&mut self, matching: &mut Matching, row: Row, col: Col, other: Col) -> bool
+        requires maximum { IsMaximumOf self.old.pattern.now matching.old }
+        requires ready { IsReady self.old.pattern.now matching.old.pairs col self.old }
+        requires entry { IsEntry self.old.pattern.now row col }
+        requires mate { Among (row, other) matching.old.pairs }
+        requires behind { col < other }
+        requires matched { Among col (cols_of matching.old.pairs) }
+        ensures ready { IsReady self.old.pattern.now matching.old.pairs col self.new }
+        ensures maximum { IsMaximumOf self.old.pattern.now matching.new }
+        ensures found { OnTrue result
+            (HasAt self.old.pattern.now matching.old.pairs col row matching.new.pairs) }
+        ensures none { OnFalse result ((matching.new ≡ matching.old)
+            × Excludes self.old.pattern.now matching.old.pairs col row) }
+    {
+        let numbers = self.classes.numbers.as_slice();
+        if numbers[other.0 as usize] != numbers[col.0 as usize] {
+            return false;
+        }
+        self.forward.clear();
+        self.forward.push(other, 0);
+        self.backward.clear();
+        self.backward.push(col, 0);
+        let part = self.parts[col.0 as usize];
+        let rivals = Rivals {
+            pattern: self.pattern,
+            classes: self.classes.numbers.as_slice(),
+            col,
+        };
+        match rivals.search(matching, part, &mut self.forward, &mut self.backward) {
+            Outcome::Path(meeting) => {
+                rivals.make_way(matching, &self.forward, &self.backward, meeting);
+                matching.pair(row, col);
+                let _after = matching.size();
+                true
+            }
+            Outcome::ForwardEnds => {
+                self.classes.split(&self.forward);
+                false
+            }
+            Outcome::BackwardEnds => {
+                self.classes.split(&self.backward);
+                false
+            }
+        }
+    }
+
+    /// Settles a column: gives it the least row that it has in a maximum matching which agrees at the columns before.
+    pub fn settle(&mut self, matching: &mut Matching, col: Col)
+        requires col { col < cols self.old.pattern.now }
+        requires maximum { IsMaximumOf self.old.pattern.now matching.old }
+        requires ready { IsReady self.old.pattern.now matching.old.pairs col self.old }
+        ensures pattern { self.new.pattern.now ≡ self.old.pattern.now }
+        ensures ready { IsReady self.old.pattern.now matching.new.pairs (col + 1) self.new }
+        ensures maximum { IsMaximumOf self.old.pattern.now matching.new }
+        ensures extends { Extends self.old.pattern.now matching.old.pairs col matching.new.pairs }
+        ensures least { (n : List Place) → Extends self.old.pattern.now matching.old.pairs col n
+            → mate_or self.old.pattern.now.rows matching.new.pairs col
+            ≤ mate_or self.old.pattern.now.rows n col }
+    {
+        let rows = self.pattern.rows_of(col);
+        for row in rows {
+            if self.improve(matching, *row, col) {
+                return;
+            }
+        }
+    }
+}

@@ -1,0 +1,83 @@
+//! The parts of a matrix in which its columns lie.
+
+ghost use Rattle.std.specs.Prelude.{◌≡◌, ◌<◌, ◌≤◌, ℕ, length, slice_index_or, IfOk};
+ghost use Rattle.bip_defs.specs.Lists.{IsMarked};
+ghost use Rattle.bip_defs.specs.Marks.{Marks};
+ghost use Rattle.bip_defs.specs.Matrix.{cols};
+ghost use Rattle.bip_defs.specs.Parts.{IsHorizontalCol, IsVerticalRow};
+ghost use Rattle.bip_graph.specs.Matching.{IsMaximumOf, Pairing};
+ghost use Rattle.least_match.specs.Outcomes.{AreParted, IsIn};
+
+use bip_graph::Matching;
+use hall_witness::reached;
+use sp_ids::{Col, OutOfMemory};
+use sp_pattern::{FromRows, Pattern};
+use std::alloc::Global;
+
+/// The part of the matrix in which a column lies.
+#[derive(Clone, Copy)]
+pub enum Part {
+    Horizontal,
+    Square,
+    Vertical,
+}
+
+/// The part of each column, by a maximum matching (Dulmage and Mendelsohn 1958).
+///
+/// Answers `OutOfMemory` where 9 bytes a row and 9 a column can't be had for two searches, or the list. Work: each entry is
+/// looked at three times at most.
+pub fn parts(
+    alloc: Global,
+    pattern: &Pattern,
+    matching: &Matching,
+) -> Result<Vec<Part>, OutOfMemory>
+    requires maximum { IsMaximumOf pattern.now matching.now }
+    ensures { IfOk result (λ v. AreParted pattern.now v.items) }
+{
+    let horizontal = reached(alloc, pattern, matching)?;
+    let vertical = vertical_rows(alloc, pattern, matching)?;
+    let mut parts = Vec::with_capacity(alloc, pattern.cols() as usize)?;
+    for col in 0..pattern.cols() {
+        let part = part_of(
+            pattern,
+            Col(col),
+            horizontal.as_slice(),
+            vertical.as_slice(),
+        );
+        parts.push(part)?;
+    }
+    Ok(parts)
+}
+
+// Marks the rows that some maximum matching misses.
+fn vertical_rows(
+    alloc: Global,
+    pattern: &Pattern,
+    matching: &Matching,
+) -> Result<Vec<bool>, OutOfMemory>
+    requires maximum { IsMaximumOf pattern.now matching.now }
+    ensures { IfOk result
+        (λ v. Marks pattern.now.rows (IsVerticalRow pattern.now) v.items) }
+{
+    let side = FromRows { pattern };
+    reached(alloc, &side, matching)
+}
+
+// The part of one column.
+fn part_of(pattern: &Pattern, col: Col, horizontal: &[bool], vertical: &[bool]) -> Part
+    requires col { col < cols pattern.now }
+    requires horizontal { Marks (cols pattern.now) (IsHorizontalCol pattern.now) horizontal.now }
+    requires vertical { Marks pattern.now.rows (IsVerticalRow pattern.now) vertical.now }
+    ensures { IsIn pattern.now col result }
+{
+    if horizontal[col.0 as usize] {
+        return Part::Horizontal;
+    }
+    let rows = pattern.rows_of(col);
+    for row in rows {
+        if vertical[row.0 as usize] {
+            return Part::Vertical;
+        }
+    }
+    Part::Square
+}

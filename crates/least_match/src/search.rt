@@ -1,0 +1,346 @@
+//! Searches for exchanges, from both ends at once.
+
+ghost use Rattle.std.specs.Bool.{OnTrue, OnFalse};
+ghost use Rattle.std.specs.Prelude.{◌≡◌, ◌⊎◌, ℕ, ◌<◌, ◌≤◌, length, IfSome, IfNone};
+ghost use Rattle.bip_defs.specs.Lists.{Among};
+ghost use Rattle.bip_defs.specs.Matching.{cols_of};
+ghost use Rattle.bip_defs.specs.Matrix.{IsEntry, Place, cols};
+ghost use Rattle.bip_defs.specs.Queues.{at, heads};
+ghost use Rattle.bip_graph.specs.Matching.{IsMatchingOf, Pairing};
+ghost use Rattle.least_match.specs.Classes.{IsOther, IsRival};
+ghost use Rattle.least_match.specs.Exchanges.{Meets};
+ghost use Rattle.least_match.specs.Outcomes.{EndsAs, IsTurn};
+ghost use Rattle.least_match.specs.Tree.{Reached};
+ghost use Rattle.least_match.specs.Trees.{AreSearchTrees, Enters, IsPrefix, IsScanned, IsScannedBack, LeadsTo, Looks};
+
+use crate::exchange::{Meeting, mate};
+use crate::parts::Part;
+use crate::tree::Tree;
+use bip_graph::Matching;
+use sp_ids::{Col, Row};
+use sp_pattern::Pattern;
+
+/// What a search comes to.
+#[derive(Clone, Copy)]
+pub enum Outcome {
+    /// A path.
+    Path(Meeting),
+    /// No path: all rows of the columns of the forward tree were looked at.
+    ForwardEnds,
+    /// No path: all columns with entries in the rows of the backward tree were looked at.
+    BackwardEnds,
+}
+
+/// What a search does next.
+#[derive(Clone, Copy)]
+pub enum Turn {
+    GrowForward,
+    GrowBackward,
+    EndForward,
+    EndBackward,
+}
+
+/// The columns from one on that are of its class: those among which an exchange for it is looked for.
+#[derive(Clone, Copy)]
+pub struct Rivals<'p> {
+    pub pattern: &'p Pattern,
+    pub classes: &'p [u32],
+    pub col: Col,
+    ghost long: { length classes.now ≡ cols pattern.now },
+    ghost own: { col < cols pattern.now },
+}
+
+impl Rivals<'_> {
+    fn has(&self, col: Col) -> bool
+        requires col { col < cols self.now.pattern.now }
+        ensures yes { OnTrue result
+            (IsRival self.now.pattern.now self.now.classes.now self.now.col col) }
+        ensures no { OnFalse result (IsOther self.now.classes.now self.now.col col) }
+    {
+        self.col.0 <= col.0 && self.classes[col.0 as usize] == self.classes[self.col.0 as usize]
+    }
+
+    // Looks at a row in which the column at a place of the forward tree has an entry: adds its mate, or gives a path.
+    fn look_forward(
+        &self,
+        matching: &Matching,
+        row: Row,
+        place: u32,
+        forward: &mut Tree,
+        backward: &Tree,
+    ) -> Option<Meeting>
+        requires matching { IsMatchingOf self.now.pattern.now matching.now }
+        requires cols { (forward.old.cols ≡ cols self.now.pattern.now)
+            × (backward.now.cols ≡ cols self.now.pattern.now) }
+        requires place { place < length forward.old.queue }
+        requires entry { IsEntry self.now.pattern.now row (at forward.old.queue place).0 }
+        ensures cols { forward.new.cols ≡ forward.old.cols }
+        ensures same { IfSome result (λ meeting. forward.new ≡ forward.old) }
+        ensures found { IfSome result
+            (Meets self.now.pattern.now matching.now.pairs self.now.col
+            forward.old.queue backward.now.queue) }
+        ensures seen { IfNone result
+            ((d : ℕ) × Among (row, d) matching.now.pairs
+            × Looks self.now.pattern.now matching.now.pairs self.now.classes.now self.now.col
+            d place forward.old.queue forward.new.queue backward.now.queue) }
+    {
+        match matching.col_of(row) {
+            None => Some(Meeting::FreeRow { from: place, row }),
+            Some(next) => {
+                if !self.has(next) {
+                    return None;
+                }
+                match enter(next, place, forward, backward) {
+                    Some(to) => Some(Meeting::Trees { from: place, to }),
+                    None => None,
+                }
+            }
+        }
+    }
+
+    // Looks at a column with an entry in the row of the column at a place of the backward tree: adds it, or gives a path.
+    fn look_back(
+        &self,
+        matching: &Matching,
+        next: Col,
+        place: u32,
+        forward: &Tree,
+        backward: &mut Tree,
+    ) -> Option<Meeting>
+        requires matching { IsMatchingOf self.now.pattern.now matching.now }
+        requires own { Among self.now.col (cols_of matching.now.pairs) }
+        requires cols { (forward.now.cols ≡ cols self.now.pattern.now)
+            × (backward.old.cols ≡ cols self.now.pattern.now) }
+        requires place { place < length backward.old.queue }
+        requires next { next < cols self.now.pattern.now }
+        requires leads { LeadsTo self.now.pattern.now matching.now.pairs
+            next (at backward.old.queue place).0 }
+        ensures cols { backward.new.cols ≡ backward.old.cols }
+        ensures same { IfSome result (λ meeting. backward.new ≡ backward.old) }
+        ensures found { IfSome result
+            (Meets self.now.pattern.now matching.now.pairs self.now.col
+            forward.now.queue backward.old.queue) }
+        ensures seen { IfNone result
+            (Looks self.now.pattern.now matching.now.pairs self.now.classes.now self.now.col
+            next place backward.old.queue backward.new.queue forward.now.queue) }
+    {
+        match matching.row_of(next) {
+            None => {
+                if next.0 <= self.col.0 {
+                    return None;
+                }
+                Some(Meeting::FreeCol {
+                    col: next,
+                    to: place,
+                })
+            }
+            Some(_) => {
+                if !self.has(next) {
+                    return None;
+                }
+                match enter(next, place, backward, forward) {
+                    Some(from) => Some(Meeting::Trees { from, to: place }),
+                    None => None,
+                }
+            }
+        }
+    }
+
+    // Looks at the rows of the column at a place of the forward tree, until a path is found.
+    fn scan_forward(
+        &self,
+        matching: &Matching,
+        place: u32,
+        forward: &mut Tree,
+        backward: &Tree,
+    ) -> Option<Meeting>
+        requires matching { IsMatchingOf self.now.pattern.now matching.now }
+        requires cols { (forward.old.cols ≡ cols self.now.pattern.now)
+            × (backward.now.cols ≡ cols self.now.pattern.now) }
+        requires place { place < length forward.old.queue }
+        requires trees { (d : ℕ) × AreSearchTrees self.now.pattern.now matching.now.pairs
+            self.now.classes.now self.now.col d forward.old.queue backward.now.queue }
+        ensures cols { forward.new.cols ≡ forward.old.cols }
+        ensures grows { IsPrefix forward.old.queue forward.new.queue }
+        ensures trees { (d : ℕ) → AreSearchTrees self.now.pattern.now matching.now.pairs
+            self.now.classes.now self.now.col d forward.old.queue backward.now.queue
+            → AreSearchTrees self.now.pattern.now matching.now.pairs
+            self.now.classes.now self.now.col d forward.new.queue backward.now.queue }
+        ensures found { IfSome result
+            (Meets self.now.pattern.now matching.now.pairs self.now.col
+            forward.new.queue backward.now.queue) }
+        ensures scanned { IfNone result
+            (IsScanned self.now.pattern.now matching.now.pairs self.now.classes.now self.now.col
+            forward.new.queue (at forward.new.queue place).0) }
+    {
+        let (col, _) = forward.at(place);
+        let rows = self.pattern.rows_of(col);
+        for row in rows {
+            match self.look_forward(matching, *row, place, forward, backward) {
+                Some(meeting) => return Some(meeting),
+                None => {}
+            }
+        }
+        None
+    }
+
+    // Looks at the columns with an entry in the row of the column at a place of the backward tree, until a path is found.
+    fn scan_back(
+        &self,
+        matching: &Matching,
+        place: u32,
+        forward: &Tree,
+        backward: &mut Tree,
+    ) -> Option<Meeting>
+        requires matching { IsMatchingOf self.now.pattern.now matching.now }
+        requires own { Among self.now.col (cols_of matching.now.pairs) }
+        requires cols { (forward.now.cols ≡ cols self.now.pattern.now)
+            × (backward.old.cols ≡ cols self.now.pattern.now) }
+        requires place { place < length backward.old.queue }
+        requires trees { (d : ℕ) × AreSearchTrees self.now.pattern.now matching.now.pairs
+            self.now.classes.now self.now.col d forward.now.queue backward.old.queue }
+        ensures cols { backward.new.cols ≡ backward.old.cols }
+        ensures grows { IsPrefix backward.old.queue backward.new.queue }
+        ensures trees { (d : ℕ) → AreSearchTrees self.now.pattern.now matching.now.pairs
+            self.now.classes.now self.now.col d forward.now.queue backward.old.queue
+            → AreSearchTrees self.now.pattern.now matching.now.pairs
+            self.now.classes.now self.now.col d forward.now.queue backward.new.queue }
+        ensures found { IfSome result
+            (Meets self.now.pattern.now matching.now.pairs self.now.col
+            forward.now.queue backward.new.queue) }
+        ensures scanned { IfNone result
+            (IsScannedBack self.now.pattern.now matching.now.pairs self.now.classes.now
+            self.now.col backward.new.queue (at backward.new.queue place).0) }
+    {
+        let (col, _) = backward.at(place);
+        let row = mate(matching, col);
+        let found = self.pattern.cols_of(row);
+        for next in found {
+            match self.look_back(matching, *next, place, forward, backward) {
+                Some(meeting) => return Some(meeting),
+                None => {}
+            }
+        }
+        None
+    }
+
+    /// Searches from the first column of the forward tree, and towards the one of the backward tree, until a path is found or
+    /// it is certain that there is none.
+    ///
+    /// The tree of which fewer columns were looked at grows next, so that a search which fails costs about as much as the
+    /// smaller of the two sets that it parts.
+    pub fn search(
+        &self,
+        matching: &Matching,
+        part: Part,
+        forward: &mut Tree,
+        backward: &mut Tree,
+    ) -> Outcome
+        requires matching { IsMatchingOf self.now.pattern.now matching.now }
+        requires own { Among self.now.col (cols_of matching.now.pairs) }
+        requires cols { (forward.old.cols ≡ cols self.now.pattern.now)
+            × (backward.old.cols ≡ cols self.now.pattern.now) }
+        requires trees { (d : ℕ) × AreSearchTrees self.now.pattern.now matching.now.pairs
+            self.now.classes.now self.now.col d forward.old.queue backward.old.queue }
+        ensures cols { (forward.new.cols ≡ forward.old.cols)
+            × (backward.new.cols ≡ backward.old.cols) }
+        ensures trees { (d : ℕ) → AreSearchTrees self.now.pattern.now matching.now.pairs
+            self.now.classes.now self.now.col d forward.old.queue backward.old.queue
+            → AreSearchTrees self.now.pattern.now matching.now.pairs
+            self.now.classes.now self.now.col d forward.new.queue backward.new.queue }
+        ensures ends { EndsAs self.now.pattern.now matching.now.pairs self.now.classes.now
+            self.now.col part forward.new.queue backward.new.queue result }
+    {
+        let _cols = self.pattern.cols();
+        let mut ahead: u32 = 0;
+        let mut back: u32 = 0;
+        loop {
+            match next_turn(part, ahead, forward.len(), back, backward.len()) {
+                Turn::EndForward => return Outcome::ForwardEnds,
+                Turn::EndBackward => return Outcome::BackwardEnds,
+                Turn::GrowForward => {
+                    match self.scan_forward(matching, ahead, forward, backward) {
+                        Some(meeting) => return Outcome::Path(meeting),
+                        None => {}
+                    }
+                    ahead += 1;
+                    continue;
+                }
+                Turn::GrowBackward => {
+                    match self.scan_back(matching, back, forward, backward) {
+                        Some(meeting) => return Outcome::Path(meeting),
+                        None => {}
+                    }
+                    back += 1;
+                    continue;
+                }
+            }
+        }
+    }
+}
+
+// Adds a column to a tree, behind its parent, unless it is there already. Where the column is in the other tree, its place there.
+fn enter(col: Col, parent: u32, tree: &mut Tree, other: &Tree) -> Option<u32>
+    requires col { col < tree.old.cols }
+    requires other { col < other.now.cols }
+    ensures cols { tree.new.cols ≡ tree.old.cols }
+    ensures within { IfSome result (λ to. to < length other.now.queue) }
+    ensures meets { IfSome result (λ to. (at other.now.queue to).0 ≡ col) }
+    ensures same { IfSome result (λ to. tree.new ≡ tree.old) }
+    ensures apart { IfNone result (¬ Among col (heads other.now.queue)) }
+    ensures entered { IfNone result (Enters col parent tree.old.queue tree.new.queue) }
+{
+    if let Some(place) = other.place_of(col) {
+        return Some(place);
+    }
+    match tree.place_of(col) {
+        Some(_) => {}
+        None => tree.push(col, parent),
+    }
+    None
+}
+
+// Which tree grows next, by how many of its columns were looked at, and how many it has.
+//
+// A forward tree that is complete shows that there is no path, where no maximum matching misses a column of its class; a
+// backward one, where none misses a row of it. One of the two holds in each part.
+fn next_turn(part: Part, ahead: u32, forward: u32, back: u32, backward: u32) -> Turn
+    requires within { (ahead ≤ forward) × (back ≤ backward) }
+    ensures { IsTurn part ahead forward back backward result }
+{
+    match part {
+        Part::Horizontal => {
+            if back == backward {
+                Turn::EndBackward
+            } else if ahead == forward {
+                Turn::GrowBackward
+            } else if ahead <= back {
+                Turn::GrowForward
+            } else {
+                Turn::GrowBackward
+            }
+        }
+        Part::Vertical => {
+            if ahead == forward {
+                Turn::EndForward
+            } else if back == backward {
+                Turn::GrowForward
+            } else if ahead <= back {
+                Turn::GrowForward
+            } else {
+                Turn::GrowBackward
+            }
+        }
+        Part::Square => {
+            if ahead == forward {
+                Turn::EndForward
+            } else if back == backward {
+                Turn::EndBackward
+            } else if ahead <= back {
+                Turn::GrowForward
+            } else {
+                Turn::GrowBackward
+            }
+        }
+    }
+}

@@ -1,0 +1,58 @@
+//! What a path that was found is good for.
+
+ghost use Rattle.std.specs.Prelude.{◌≡◌, ℕ};
+ghost use Rattle.bip_defs.specs.Lists.{Among};
+ghost use Rattle.bip_defs.specs.Queues.{at};
+ghost use Rattle.bip_graph.specs.Matching.{IsMatchingOf, Pairing};
+ghost use Rattle.least_match.specs.Exchanges.{Frees, Meets};
+ghost use Rattle.least_match.specs.Tree.{Reached};
+ghost use Rattle.least_match.specs.Trees.{AreSearchTrees};
+
+use crate::exchange::{Meeting, part, shift, vacate};
+use crate::search::Rivals;
+use crate::tree::Tree;
+use bip_graph::Matching;
+
+impl Rivals<'_> {
+    /// Exchanges along the path that was found, so that the column and the row of the forward tree's first column have no
+    /// mates, and the matching has a pair less.
+    ///
+    /// Takes no memory. Work: some reads and writes a pair of the path.
+    pub fn make_way(
+        &self,
+        matching: &mut Matching,
+        forward: &Tree,
+        backward: &Tree,
+        meeting: Meeting,
+    )
+        requires matching { IsMatchingOf self.now.pattern.now matching.old }
+        requires trees { (d : ℕ) × AreSearchTrees self.now.pattern.now matching.old.pairs
+            self.now.classes.now self.now.col d forward.now.queue backward.now.queue }
+        requires meets { Meets self.now.pattern.now matching.old.pairs self.now.col
+            forward.now.queue backward.now.queue meeting }
+        ensures sizes { (matching.new.rows ≡ matching.old.rows)
+            × (matching.new.cols ≡ matching.old.cols) }
+        ensures frees { (r : ℕ) → Among (r, (at forward.now.queue 0).0) matching.old.pairs
+            → Frees self.now.pattern.now matching.old.pairs self.now.col r matching.new.pairs }
+    {
+        let _before = matching.size();
+        match meeting {
+            Meeting::Trees { from, to } => {
+                let row = vacate(matching, backward, to);
+                shift(matching, forward, from, row);
+            }
+            Meeting::FreeRow { from, row } => {
+                part(matching, self.col);
+                let _size = matching.size();
+                shift(matching, forward, from, row);
+            }
+            Meeting::FreeCol { col, to } => {
+                let row = vacate(matching, backward, to);
+                matching.pair(row, col);
+                let (first, _) = forward.at(0);
+                part(matching, first);
+                let _after = matching.size();
+            }
+        }
+    }
+}
