@@ -1,0 +1,14 @@
+use Rattle.std.proofs.Common.{◌≡◌, ◌≤◌, ◌-◌, length}
+use Rattle.bip_defs.specs.Matrix.{cols}
+use Rattle.bip_graph.specs.Matching.{IsMatchingOf}
+use Rattle.bottleneck.proofs.thresholds.raised.Given as goal
+
+abbrev pub invariant-loop-low : goal.invariant-loop-low
+invariant-loop-low l = record {
+  matching : IsMatchingOf l.pattern l.matching;
+  full : length l.matching.pairs ≡ cols l.pattern;
+  within : l.high ≤ length l.thresholds.items;
+}
+
+abbrev pub decreases-loop-low : goal.decreases-loop-low
+decreases-loop-low l = l.high - l.low

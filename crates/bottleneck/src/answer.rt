@@ -1,0 +1,119 @@
+//! The three cases.
+
+ghost use Rattle.std.specs.Prelude.{◌≡◌, ◌<◌, ◌⊎◌, length, IfOk};
+ghost use Rattle.bip_defs.specs.Bottleneck.{IsFull, IsLeastWeight, above};
+ghost use Rattle.bip_defs.specs.Matching.{cols_of};
+ghost use Rattle.bip_defs.specs.Matrix.{cols, upto};
+ghost use Rattle.bip_graph.specs.Matching.{IsMatchingOf, IsMaximumOf};
+ghost use Rattle.bottleneck.specs.Answers.{IsBottleneck};
+ghost use Rattle.sp_pattern.specs.Weights.{Weighing, weight_at};
+
+use crate::heavier::heavier_matching;
+use crate::pairs::{least_of, pairs_of};
+use crate::thresholds::raised;
+use bip_graph::{Bottleneck, Matching};
+use hall_witness::{Reach, reach};
+use karp_sipser::start;
+use pothen_fan::complete;
+use sp_ids::{Col, OutOfMemory, Row};
+use sp_pattern::{Pattern, Weights};
+use std::alloc::Global;
+
+/// A perfect matching whose least weight is greatest, that weight, and columns that show that no
+/// perfect matching has a greater one: they are more than their neighbours above it.
+///
+/// The weights must be those of the pattern. `Rectangular` exactly where the matrix has not as many
+/// rows as columns; `Singular` exactly where it has, and its rank is less, with the columns that
+/// some maximum matching misses. Answers `OutOfMemory` where there is no memory for 8 bytes an
+/// entry, the pattern of the entries above a weight and what a maximum matching takes. Work: as
+/// many maximum matchings as the number of entries has binary digits, two more and one search.
+pub fn best(alloc: Global, pattern: &Pattern, weights: &Weights) -> Result<Bottleneck, OutOfMemory>
+    requires { weights.now.matrix ≡ pattern.now }
+    ensures { IfOk result (IsBottleneck weights.now) }
+{
+    if pattern.rows() != pattern.cols() {
+        return Ok(Bottleneck::Rectangular);
+    }
+    let started = start(alloc, pattern)?;
+    let matching = complete(alloc, pattern, started)?;
+    if matching.size() < pattern.cols() {
+        return singular(alloc, pattern, &matching);
+    }
+    let matching = raised(alloc, pattern, weights, matching)?;
+    shown(alloc, pattern, weights, matching)
+}
+
+// The answer where the matrix has no perfect matching.
+fn singular(
+    alloc: Global,
+    pattern: &Pattern,
+    matching: &Matching,
+) -> Result<Bottleneck, OutOfMemory>
+    requires maximum { IsMaximumOf pattern.now matching.now }
+    requires square { pattern.now.rows ≡ cols pattern.now }
+    requires short { length matching.now.pairs < cols pattern.now }
+    ensures { IfOk result (λ b. (w : Weighing) → w.matrix ≡ pattern.now → IsBottleneck w b) }
+{
+    match reach(alloc, pattern, matching)? {
+        Reach::Path(_) => unreachable!(),
+        Reach::Witness(hall) => Ok(Bottleneck::Singular {
+            rank: matching.size(),
+            hall,
+        }),
+    }
+}
+
+// The answer from a perfect matching: it is shown to be best, or one of greater least weight is
+// found and shown to be.
+fn shown(
+    alloc: Global,
+    pattern: &Pattern,
+    weights: &Weights,
+    matching: Matching,
+) -> Result<Bottleneck, OutOfMemory>
+    requires of { weights.now.matrix ≡ pattern.now }
+    requires square { pattern.now.rows ≡ cols pattern.now }
+    requires matching { IsMatchingOf pattern.now matching }
+    requires full { length matching.pairs ≡ cols pattern.now }
+    ensures { IfOk result (IsBottleneck weights.now) }
+{
+    let cols = pattern.cols();
+    let mut matching = matching;
+    let mut pairs = pairs_of(alloc, pattern, &matching)?;
+    let mut least = least_of(weights, pairs.as_slice());
+    loop {
+        let (heavier, next) = heavier_matching(alloc, pattern, weights, &matching, least)?;
+        if cols == 0 || next.size() < cols {
+            return with_hall_set(alloc, pattern, weights, &heavier, &next, pairs, least);
+        }
+        matching = next;
+        pairs = pairs_of(alloc, pattern, &matching)?;
+        least = least_of(weights, pairs.as_slice());
+    }
+}
+
+// The answer of these pairs, where the entries above their least weight have no perfect matching.
+fn with_hall_set(
+    alloc: Global,
+    pattern: &Pattern,
+    weights: &Weights,
+    heavier: &Pattern,
+    maximum: &Matching,
+    pairs: Vec<(Row, Col)>,
+    least: u64,
+) -> Result<Bottleneck, OutOfMemory>
+    requires of { weights.now.matrix ≡ pattern.now }
+    requires square { pattern.now.rows ≡ cols pattern.now }
+    requires full { IsFull pattern.now pairs.items }
+    requires cols { cols_of pairs.items ≡ upto (cols pattern.now) }
+    requires least { IsLeastWeight (weight_at weights.now) pairs.items least }
+    requires above { heavier.now ≡ above pattern.now (weight_at weights.now) least }
+    requires maximum { IsMaximumOf heavier.now maximum.now }
+    requires short { (cols pattern.now ≡ 0) ⊎ (length maximum.now.pairs < cols pattern.now) }
+    ensures { IfOk result (IsBottleneck weights.now) }
+{
+    match reach(alloc, heavier, maximum)? {
+        Reach::Path(_) => unreachable!(),
+        Reach::Witness(hall) => Ok(Bottleneck::Best { pairs, least, hall }),
+    }
+}

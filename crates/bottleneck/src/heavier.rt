@@ -1,0 +1,72 @@
+//! Maximum matchings of the entries above a weight.
+
+ghost use Rattle.std.specs.Prelude.{◌≡◌, ◌⊎◌, IfOk};
+ghost use Rattle.bip_defs.specs.Bottleneck.{above};
+ghost use Rattle.bip_defs.specs.Lists.{Among, AreDistinct};
+ghost use Rattle.bip_defs.specs.Matching.{cols_of, rows_of};
+ghost use Rattle.bip_defs.specs.Matrix.{Place, cols};
+ghost use Rattle.bip_graph.specs.Matching.{IsMatchingOf, IsMaximumOf};
+ghost use Rattle.sp_pattern.specs.Weights.{weight_at};
+
+use bip_graph::Matching;
+use pothen_fan::complete;
+use sp_ids::{Col, OutOfMemory, Row};
+use sp_pattern::{Pattern, Weights};
+use std::alloc::Global;
+
+/// The entries above a weight, and a maximum matching of them, which is made from the pairs of
+/// another matching that are left.
+pub fn heavier_matching(
+    alloc: Global,
+    pattern: &Pattern,
+    weights: &Weights,
+    matching: &Matching,
+    least: u64,
+) -> Result<(Pattern, Matching), OutOfMemory>
+    requires of { weights.now.matrix ≡ pattern.now }
+    requires matching { IsMatchingOf pattern.now matching.now }
+    ensures pattern { IfOk result (λ o. o.0 ≡ above pattern.now (weight_at weights.now) least) }
+    ensures maximum { IfOk result (λ o. IsMaximumOf o.0 o.1) }
+{
+    let heavier = pattern.above(alloc, weights, least)?;
+    let left = pairs_left(alloc, &heavier, matching)?;
+    let maximum = complete(alloc, &heavier, left)?;
+    Ok((heavier, maximum))
+}
+
+// The pairs of a matching that are entries of the pattern.
+fn pairs_left(
+    alloc: Global,
+    pattern: &Pattern,
+    matching: &Matching,
+) -> Result<Matching, OutOfMemory>
+    requires rows { matching.now.rows ≡ pattern.now.rows }
+    requires cols { matching.now.cols ≡ cols pattern.now }
+    requires distinct { AreDistinct (rows_of matching.now.pairs) }
+    ensures { IfOk result (IsMatchingOf pattern.now) }
+{
+    let mut left = Matching::empty(alloc, pattern.rows(), pattern.cols())?;
+    for col in 0..pattern.cols() {
+        match matching.row_of(Col(col)) {
+            Some(row) => keep(pattern, &mut left, row, Col(col)),
+            None => {}
+        }
+    }
+    Ok(left)
+}
+
+// Makes a pair of an entry.
+fn keep(pattern: &Pattern, left: &mut Matching, row: Row, col: Col)
+    requires matching { IsMatchingOf pattern.now left.old }
+    requires row_free { ¬ Among row (rows_of left.old.pairs) }
+    requires col_free { ¬ Among col (cols_of left.old.pairs) }
+    ensures matching { IsMatchingOf pattern.now left.new }
+    ensures added { (p : Place) → Among p left.new.pairs
+        → (p ≡ (row, col)) ⊎ Among p left.old.pairs }
+{
+    if pattern.has(row, col) {
+        left.pair(row, col);
+        // Tells the proof that no row and no column stands twice.
+        let _size = left.size();
+    }
+}
