@@ -23,9 +23,9 @@ use std::alloc::Global;
 /// Two searches, breadth first over the entries of a part in both orders: from the columns of the horizontal part, and from
 /// the rows of the vertical part over the transpose, which is not made.
 ///
-/// Answers `OutOfMemory` where 8 bytes a row and 9 a column can't be had for a search, then 8 a row, 8 a column and 16 a
-/// component for the lists. Work: each entry of a row and of a column of a part is looked at once, and each row and column of
-/// the matrix a fixed number of times.
+/// Answers `OutOfMemory` where 4 bytes a row and 9 a column can't be had for the search of a part (for the vertical part 9 a
+/// row and 4 a column), then 4 a row and a column and 8 a component to gather them, and as much for their lists. Work: each
+/// entry of a row and of a column of a part is looked at once, and each row and column of the matrix a fixed number of times.
 pub fn components(
     alloc: Global,
     pattern: &Pattern,
