@@ -1,6 +1,6 @@
 //! Inputs: what callers see of the bytes ahead, and the calls that read them.
 
-ghost use Rattle.std.specs.Prelude.{◌≡◌, ◌≤◌, ◌<◌, ◌+◌, ◌++◌, ◌↔◌, [], length, IfErr, IfOk, MatchResult, OnOk, IsOk, IsTrue, true, false};
+ghost use Rattle.std.specs.Prelude.{◌≡◌, ◌≤◌, ◌<◌, ◌+◌, ◌^◌, ◌++◌, ◌↔◌, [], length, IfErr, IfOk, MatchResult, OnOk, IsOk, IsTrue, true, false};
 ghost use Rattle.std.specs.List.{count_by};
 ghost use Rattle.std.specs.Result.{IsErrOf};
 ghost use Rattle.sp_ports.specs.Bytes.{GivesPrefix, IsAtEnd, WhereKnown};
@@ -74,8 +74,7 @@ impl Input {
 
     /// The number of LFs among the bytes used, that is, taken and no longer ahead.
     pub fn lines(&self) -> u64
-        ensures lines { result ≡ self.now.lines }
-        ensures fits { result + room self.now ≤ self.now.limit }
+        ensures { result ≡ self.now.lines }
     {
         self.window.lines
     }
@@ -255,6 +254,9 @@ pub fn next_byte<S: Source>(input: &mut Input, source: &mut S) -> Result<Option<
     ensures at_end { IsTrue input.new.at_end → IsAtEnd (S.left source.new) }
     ensures unasked { IsTrue input.old.at_end → source.new ≡ source.old }
     ensures stays { IsTrue input.old.at_end → IsTrue input.new.at_end }
+
+    // So the number of each line fits.
+    ensures fits { input.old.lines + room input.old < 2 ^ 64 }
 
     ensures good { IsTrue input.new.good ↔ IsOk result }
     ensures limit { input.new.limit ≡ input.old.limit }
