@@ -6,6 +6,7 @@ pub mod EightDigits
 pub mod EndLaws
 pub mod Exits
 pub mod FeedLaws
+pub mod FrontLaws
 pub mod Judges
 pub mod LineSteps
 pub mod Lookups

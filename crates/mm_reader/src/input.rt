@@ -1,15 +1,17 @@
 //! Inputs: what callers see of the bytes ahead, and the calls that read them.
 
-ghost use Rattle.std.specs.Prelude.{◌≡◌, ◌≤◌, ◌<◌, ◌+◌, ◌++◌, ◌↔◌, [], length, IfErr, IfOk, MatchResult, OnOk, IsOk, IsTrue, true, false};
+ghost use Rattle.std.specs.Prelude.{◌≡◌, ◌≤◌, ◌<◌, ◌+◌, ◌^◌, ◌++◌, ◌↔◌, [], length, IfErr, IfOk, MatchResult, OnOk, IsOk, IsTrue, true, false};
 ghost use Rattle.std.specs.List.{count_by};
 ghost use Rattle.std.specs.Result.{IsErrOf};
 ghost use Rattle.sp_ports.specs.Bytes.{GivesPrefix, IsAtEnd, WhereKnown};
 ghost use Rattle.sp_ports.specs.Device.{seen};
 ghost use Rattle.mm_defs.specs.Words.{is_lf};
+ghost use Rattle.mm_reader.specs.Fronts.{front, Advances, Stops};
 ghost use Rattle.mm_reader.specs.Inputs.{FailsByReadFault, OnCall};
 ghost use Rattle.mm_defs.specs.File.{Fault};
-ghost use Rattle.mm_defs.specs.Calls.{first_bad, FellShort, HasItsKind, IsAnswer, IsNear, IsRest, JudgesNoLine, LacksLf, RefusesRest, TakesAtMostOnePast, IsAnswerTo};
+ghost use Rattle.mm_defs.specs.Calls.{room, first_bad, FellShort, HasItsKind, IsAnswer, IsNear, IsRest, JudgesNoLine, LacksLf, RefusesRest, TakesAtMostOnePast, IsAnswerTo};
 
+use crate::bytes::next;
 use crate::reader::matrix;
 use crate::rest::rest;
 use crate::window::{Window, new_buffer};
@@ -225,5 +227,45 @@ pub fn read_rest<S: Source>(
             Err(error)
         }
         Ok(bytes) => Ok(bytes),
+    }
+}
+
+/// Uses one byte: the first of those ahead, or of those that the source gives. `None` is given at the end of the input
+/// alone. It takes no memory.
+///
+/// It answers `TooLong` where all bytes that may be used were used and one more has come, and `ReadFault` where no byte
+/// was ahead and a read failed, and no other error. After an `Err` the input is not good.
+pub fn next_byte<S: Source>(input: &mut Input, source: &mut S) -> Result<Option<u8>, ReadError>
+    requires good { IsTrue input.old.good }
+    requires at_end { IsTrue input.old.at_end → IsAtEnd (S.left source.old) }
+
+    // The byte is the first of those ahead and those that the source gave, or there is none any more.
+    ensures ok { IfOk result (Advances (front input.old) (front input.new)
+        (seen S.left S.faults source.old source.new)) }
+
+    // Why it is not known whether there is a byte that may be used.
+    ensures err { IfErr result (Stops (front input.old) (front input.new)
+        (seen S.left S.faults source.old source.new)) }
+
+    // A failed read is the one cause of `ReadFault`, and at Ok no read has failed.
+    ensures cause { FailsByReadFault (seen S.left S.faults source.old source.new) result }
+
+    // Where a read has given no bytes, the source is not asked again.
+    ensures at_end { IsTrue input.new.at_end → IsAtEnd (S.left source.new) }
+    ensures unasked { IsTrue input.old.at_end → source.new ≡ source.old }
+    ensures stays { IsTrue input.old.at_end → IsTrue input.new.at_end }
+
+    // So the number of each line fits.
+    ensures fits { input.old.lines + room input.old < 2 ^ 64 }
+
+    ensures good { IsTrue input.new.good ↔ IsOk result }
+    ensures limit { input.new.limit ≡ input.old.limit }
+{
+    match next(&mut input.window, source) {
+        Err(error) => {
+            input.good = false;
+            Err(error)
+        }
+        Ok(byte) => Ok(byte),
     }
 }

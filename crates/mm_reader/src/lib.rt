@@ -2,6 +2,7 @@
 #![tactic(auto)]
 
 mod array;
+mod bytes;
 mod input;
 mod judge;
 mod lanes;
@@ -15,7 +16,8 @@ mod rest;
 mod text;
 mod window;
 
-pub use input::{Input, read_matrix, read_rest};
+pub use input::{Input, next_byte, read_matrix, read_rest};
+pub use line::LineSoFar;
 pub use mm_defs::{End, Kind, ReadError};
 
 #[cfg(test)]

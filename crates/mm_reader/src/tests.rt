@@ -2,7 +2,7 @@
 
 ghost use Rattle.std.specs.Prelude.{◌<◌};
 
-use crate::{End, Input, Kind, ReadError, read_matrix, read_rest};
+use crate::{End, Input, Kind, ReadError, next_byte, read_matrix, read_rest};
 use sp_ids::{Col, Field, Row, Triples};
 use sp_ports::{Failed, MemSource, Source};
 use std::alloc::{AllocError, Global};
@@ -637,5 +637,40 @@ fn the_rest_asks_no_more_past_the_limit(rt: HostRuntime) -> Result<(), Fail> {
     assert_eq!(rt; answer, Err(ReadError::TooLong));
     assert_eq!(rt; source.failed_calls(), 0);
     assert_eq!(rt; source.read(&mut [0; 1]), Err(Failed));
+    Ok(())
+}
+
+#[test]
+fn bytes_come_one_by_one(rt: HostRuntime) -> Result<(), Fail> {
+    let alloc = rt.alloc();
+    // The third call gives no bytes, and the fourth would fail.
+    let mut source = MemSource::new(b"a\nb".to_vec(alloc)?, 2, [3].to_vec(alloc)?);
+    let mut input = Input::new(alloc, 3)?;
+    for byte in [b'a', b'\n', b'b'] {
+        assert_eq!(rt; next_byte(&mut input, &mut source), Ok(Some(byte)));
+    }
+    assert_eq!(rt; next_byte(&mut input, &mut source), Ok(None));
+    assert_eq!(rt; next_byte(&mut input, &mut source), Ok(None));
+    assert_eq!(rt; (input.lines(), input.is_good()), (1, true));
+    assert_eq!(rt; source.failed_calls(), 0);
+    Ok(())
+}
+
+#[test]
+fn a_byte_past_the_limit_is_refused(rt: HostRuntime) -> Result<(), Fail> {
+    let alloc = rt.alloc();
+    let mut source = MemSource::new(b"ab".to_vec(alloc)?, 2, Vec::new(alloc));
+    let mut input = Input::new(alloc, 1)?;
+    assert_eq!(rt; next_byte(&mut input, &mut source), Ok(Some(b'a')));
+    assert_eq!(rt; next_byte(&mut input, &mut source), Err(ReadError::TooLong));
+    assert_eq!(rt; input.is_good(), false);
+    let mut failing = MemSource::new(b"ab".to_vec(alloc)?, 1, [1].to_vec(alloc)?);
+    let mut other = Input::new(alloc, 9)?;
+    assert_eq!(rt; next_byte(&mut other, &mut failing), Ok(Some(b'a')));
+    assert_eq!(rt;
+        next_byte(&mut other, &mut failing),
+        Err(ReadError::ReadFault)
+    );
+    assert_eq!(rt; other.is_good(), false);
     Ok(())
 }

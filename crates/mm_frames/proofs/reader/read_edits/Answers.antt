@@ -1,0 +1,84 @@
+use Rattle.std.proofs.Common.{◌≡◌, false, length, List, refl, sym, ap, subst, ◌∙◌, arith}
+use Rattle.mm_defs.specs.Words.{lines, open_line}
+use Rattle.mm_reader.specs.Fronts.{front}
+use Rattle.mm_frames.specs.declared.edit.Edit.{Edit}
+use Rattle.mm_frames.specs.Stages.{HasRead}
+use Rattle.mm_frames.proofs.ReadLaws.{read_at_start, read_byte, read_lf, lf_number, byte_fits, stop_known, line_known}
+use Rattle.mm_frames.proofs.reader.read_edits.Goals as goal
+
+pub reading-init : goal.reading-init
+reading-init g c =
+    let n : length c.new-edits.result.items ≡ 0 = ap length c.new-edits.ensures.items in
+    record {
+      read = subst (λ (es : List Edit). HasRead c.args.rows c.args.cols (front c.args.input.now) (front c.args.input.now) (g.S.Source.left c.args.source.now) (g.S.Source.left c.args.source.now) es c.new-line.result false)
+          (sym c.new-edits.ensures.items) (read_at_start c.args.rows c.args.cols (front c.args.input.now) (g.S.Source.left c.args.source.now) c.new-line.result c.new-line.ensures);
+      within = λ k d low. absurd (omega arith);
+      steady = refl;
+      good = c.requires.good;
+      limit = refl;
+      at_end = c.requires.at_end;
+      fits = λ e. absurd cc;
+    }
+
+pub returns-in-Err-clause-answer : goal.returns-in-Err-clause-answer
+returns-in-Err-clause-answer g c =
+    let i = c.reading.invariant in
+    stop_known c.args.rows c.args.cols (front c.args.input.now) (front c.reading.input) (front c.next_byte.new.input) (g.S.Source.left c.args.source.now) (g.S.Source.left c.reading.source) (g.S.Source.left c.next_byte.new.source)
+    (g.S.Source.faults c.args.source.now) (g.S.Source.faults c.reading.source) (g.S.Source.faults c.next_byte.new.source) c.reading.edits.items c.reading.line c.reading.begun i.read i.steady c.in-Err.error c.in-Err.ensures.err
+
+pub finish-requires-clause-fits : goal.finish-requires-clause-fits
+finish-requires-clause-fits g c begun =
+    let i = c.reading.invariant in
+    let f = i.fits begun in
+    let u = rw c.in-Ok-None.field-0-is at c.in-Ok-None.ensures.ok in
+    omega (arith, c.lines.ensures, u.lines_are)
+
+pub returns-in-Err-take_line-clause-answer : goal.returns-in-Err-take_line-clause-answer
+returns-in-Err-take_line-clause-answer g c =
+    let i = c.reading.invariant in
+    let b = c.in-Ok-Some-eq10 in
+    let u = rw b.field-0-is at b.ensures.ok in
+    let r = i.read in
+    let n = lf_number c.args.rows c.args.cols (front c.args.input.now) (front c.reading.input) (front c.next_byte.new.input) (g.S.Source.left c.args.source.now) (g.S.Source.left c.reading.source) (g.S.Source.left c.next_byte.new.source)
+    (g.S.Source.faults c.reading.source) (g.S.Source.faults c.next_byte.new.source) b.field-0-0 c.reading.edits.items c.reading.line c.reading.line c.reading.begun r u c.lines-in-Ok-Some-eq10.result b.field-0-0-test c.lines-in-Ok-Some-eq10.ensures in
+    line_known c.args.rows c.args.cols (front c.args.input.now) (front c.reading.input) (front c.next_byte.new.input) (g.S.Source.left c.args.source.now) (g.S.Source.left c.reading.source) (g.S.Source.left c.next_byte.new.source)
+    (g.S.Source.faults c.args.source.now) (g.S.Source.faults c.reading.source) (g.S.Source.faults c.next_byte.new.source) c.reading.edits.items c.reading.line c.reading.begun r b.field-0-0 b.field-0-0-test u c.in-Err-take_line.error
+    (c.in-Err-take_line.ensures.steps c.args.input.now.lines (open_line r.used) r.stands.open_is (lines false r.used) r.stands.lines_are n)
+
+pub reading-preserved-in-Ok-Some-eq10 : goal.reading-preserved-in-Ok-Some-eq10
+reading-preserved-in-Ok-Some-eq10 g c =
+    let i = c.reading.invariant in
+    let b = c.in-Ok-Some-eq10 in
+    let u = rw b.field-0-is at b.ensures.ok in
+    let r = i.read in
+    let n = lf_number c.args.rows c.args.cols (front c.args.input.now) (front c.reading.input) (front c.next_byte.new.input) (g.S.Source.left c.args.source.now) (g.S.Source.left c.reading.source) (g.S.Source.left c.next_byte.new.source)
+    (g.S.Source.faults c.reading.source) (g.S.Source.faults c.next_byte.new.source) b.field-0-0 c.reading.edits.items c.reading.line c.reading.line c.reading.begun r u c.lines-in-Ok-Some-eq10.result b.field-0-0-test c.lines-in-Ok-Some-eq10.ensures in
+    record {
+      read = read_lf c.args.rows c.args.cols (front c.args.input.now) (front c.reading.input) (front c.next_byte.new.input) (g.S.Source.left c.args.source.now) (g.S.Source.left c.reading.source) (g.S.Source.left c.next_byte.new.source)
+          (g.S.Source.faults c.reading.source) (g.S.Source.faults c.next_byte.new.source) b.field-0-0 c.reading.edits.items c.reading.line c.clear.new.self c.reading.begun r u c.take_line.new.edits.items b.field-0-0-test
+          (c.in_default.ensures.steps c.args.input.now.lines (open_line r.used) r.stands.open_is (lines false r.used) r.stands.lines_are n) (c.clear.ensures (open_line r.used) r.stands.open_is);
+      within = c.in_default.ensures.within i.within;
+      steady = b.ensures.cause.steady ∙ i.steady;
+      good = b.ensures.good.1 refl;
+      limit = b.ensures.limit ∙ i.limit;
+      at_end = b.ensures.at_end;
+      fits = λ e. absurd cc;
+    }
+
+pub reading-preserved : goal.reading-preserved
+reading-preserved g c =
+    let i = c.reading.invariant in
+    let b = c.in-Ok-Some in
+    let u = rw b.field-0-is at b.ensures.ok in
+    let r = i.read in
+    record {
+      read = read_byte c.args.rows c.args.cols (front c.args.input.now) (front c.reading.input) (front c.next_byte.new.input) (g.S.Source.left c.args.source.now) (g.S.Source.left c.reading.source) (g.S.Source.left c.next_byte.new.source)
+          (g.S.Source.faults c.reading.source) (g.S.Source.faults c.next_byte.new.source) b.byte c.reading.edits.items c.reading.line c.push.new.self c.reading.begun r u b.byte-test.1 (c.push.ensures (open_line r.used) r.stands.open_is);
+      within = i.within;
+      steady = b.ensures.cause.steady ∙ i.steady;
+      good = b.ensures.good.1 refl;
+      limit = b.ensures.limit ∙ i.limit;
+      at_end = b.ensures.at_end;
+      fits = λ e. byte_fits c.args.rows c.args.cols (front c.args.input.now) (front c.reading.input) (front c.next_byte.new.input) (g.S.Source.left c.args.source.now) (g.S.Source.left c.reading.source) (g.S.Source.left c.next_byte.new.source)
+          (g.S.Source.faults c.reading.source) (g.S.Source.faults c.next_byte.new.source) b.byte c.reading.edits.items c.reading.line c.push.new.self c.reading.begun r u b.byte-test.1 b.ensures.fits;
+    }

@@ -1,0 +1,150 @@
+//! Reading edit lines.
+
+ghost use Rattle.std.specs.Prelude.{◌≡◌, ◌<◌, ◌≤◌, ◌+◌, ◌-◌, ◌^◌, ◌++◌, ℕ, List, length, true, false, if◌then◌else◌, IfOk, IsTrue, MatchResult};
+ghost use Rattle.std.specs.List.{All};
+ghost use Rattle.sp_ports.specs.Bytes.{IsAtEnd};
+ghost use Rattle.sp_ports.specs.Device.{seen};
+ghost use Rattle.mm_defs.specs.Faults.{is_limit};
+ghost use Rattle.mm_defs.specs.File.{Fault};
+ghost use Rattle.mm_defs.specs.Words.{lines};
+ghost use Rattle.mm_defs.specs.Calls.{IsAnswerTo};
+ghost use Rattle.mm_frames.specs.Edits.{IsWithinMatrix, KeepsGood, ReadsEdits, RefusesEdits, first_bad_edit};
+ghost use Rattle.mm_frames.specs.Stages.{AreRead, RefusesLast, StandsAfter, TakesLine};
+ghost use Rattle.mm_reader.specs.Inputs.{FailsByReadFault, OnCall};
+ghost use Rattle.mm_reader.specs.Lines.{IsLine};
+
+use crate::edit::Edit;
+use crate::judge::judge_edit;
+use mm_defs::{Kind, ReadError};
+use mm_reader::{Input, LineSoFar, next_byte};
+use sp_ids::{MAX_COLS, MAX_ROWS};
+use sp_ports::Source;
+use std::alloc::Global;
+
+/// The answer to a bad line.
+fn refusal(line: u64, kind: Kind) -> ReadError
+    ensures { result ≡ (if is_limit kind
+        then ReadError.Limit line kind
+        else ReadError.Malformed line kind) }
+{
+    if kind.is_limit() {
+        ReadError::Limit { line, kind }
+    } else {
+        ReadError::Malformed { line, kind }
+    }
+}
+
+/// A line has come whose number this is.
+fn take_line(
+    line: &LineSoFar,
+    number: u64,
+    rows: u32,
+    cols: u32,
+    edits: &mut Vec<Edit>,
+) -> Result<(), ReadError>
+    requires rows { rows ≤ MAX_ROWS }
+    requires cols { cols ≤ MAX_COLS }
+    ensures steps { (n : ℕ) (bytes : List ℕ)
+        → IsLine line.now.tokens line.now.count line.now.inside bytes
+        → TakesLine rows cols number n bytes edits.old.items edits.new.items result }
+    ensures within { All (IsWithinMatrix rows cols) edits.old.items
+        → All (IsWithinMatrix rows cols) edits.new.items }
+{
+    if line.is_skipped() {
+        return Ok(());
+    }
+    let edit = match judge_edit(edits.len(), rows, cols, line) {
+        Err(kind) => return Err(refusal(number, kind)),
+        Ok(edit) => edit,
+    };
+    match edits.push(edit) {
+        Err(_) => Err(ReadError::OutOfMemory),
+        Ok(()) => Ok(()),
+    }
+}
+
+/// The input has ended, behind so many LFs and perhaps an open line.
+fn finish(
+    line: &LineSoFar,
+    begun: bool,
+    lfs: u64,
+    rows: u32,
+    cols: u32,
+    edits: Vec<Edit>,
+) -> Result<Vec<Edit>, ReadError>
+    requires rows { rows ≤ MAX_ROWS }
+    requires cols { cols ≤ MAX_COLS }
+    requires fits { begun ≡ true → lfs + 1 < 2 ^ 64 }
+    ensures steps { (n : ℕ) (bytes : List ℕ)
+        → StandsAfter n rows cols edits.items line.now begun bytes
+        → lfs ≡ n + length (lines false bytes)
+        → MatchResult result (λ v. AreRead n rows cols (lines true bytes) v.items)
+        (RefusesLast n rows cols (lines true bytes)) }
+    ensures within { All (IsWithinMatrix rows cols) edits.items
+        → IfOk result (λ v. All (IsWithinMatrix rows cols) v.items) }
+{
+    let mut edits = edits;
+    if !begun {
+        return Ok(edits);
+    }
+    match take_line(line, lfs + 1, rows, cols, &mut edits) {
+        Err(error) => Err(error),
+        Ok(()) => Ok(edits),
+    }
+}
+
+/// Reads edit lines up to the end of the input, of a matrix of so many rows and columns: `set i j`, `clear i j` and
+/// `report`, the words just so, rows and columns counted from 1. Lines without words and comments are skipped. Line
+/// numbers go on from the LFs that the input has used.
+///
+/// The first bad line that has ended is answered, `Malformed` or `Limit`; `TooLong` where more bytes have come than may
+/// be used, and `ReadFault` where a read has failed, if no line that had ended is bad. After these two the input is not
+/// good; after another error it is, and some of the bytes were used. It takes memory for the edits; the work is linear
+/// in the bytes.
+pub fn read_edits<S: Source>(
+    alloc: Global,
+    input: &mut Input,
+    source: &mut S,
+    rows: u32,
+    cols: u32,
+) -> Result<Vec<Edit>, ReadError>
+    requires good { IsTrue input.old.good }
+    requires at_end { IsTrue input.old.at_end → IsAtEnd (S.left source.old) }
+    requires rows { rows ≤ MAX_ROWS }
+    requires cols { cols ≤ MAX_COLS }
+
+    // What each answer says of the bytes.
+    ensures answer { OnCall input.old (seen S.left S.faults source.old source.new) (λ call.
+        MatchResult result (λ v. ReadsEdits input.old.lines rows cols call v.items
+        (input.new.ahead ++ call.after)) (RefusesEdits input.old.lines rows cols call)) }
+
+    // All places are in the matrix.
+    ensures within { IfOk result (λ v. All (IsWithinMatrix rows cols) v.items) }
+
+    // A failed read is the one cause of `ReadFault`, and at Ok no read has failed.
+    ensures cause { FailsByReadFault (seen S.left S.faults source.old source.new) result }
+    ensures at_end { IsTrue input.new.at_end → IsAtEnd (S.left source.new) }
+    ensures good { KeepsGood input.new.good result }
+    ensures limit { input.new.limit ≡ input.old.limit }
+{
+    let mut edits = Vec::new(alloc);
+    let mut line = LineSoFar::new();
+    let mut begun = false;
+    'reading: loop {
+        match next_byte(input, source) {
+            Err(error) => return Err(error),
+            Ok(None) => return finish(&line, begun, input.lines(), rows, cols, edits),
+            Ok(Some(b'\n')) => {
+                if let Err(error) = take_line(&line, input.lines(), rows, cols, &mut edits) {
+                    return Err(error);
+                }
+                line.clear();
+                begun = false;
+            }
+            Ok(Some(byte)) => {
+                line.push(byte);
+                begun = true;
+            }
+        }
+    }
+}
