@@ -1,5 +1,5 @@
 -- Columns that a search by halves goes through, and what an edit of one leaves of the matrix.
-use Rattle.std.proofs.Common.{◌≡◌, ◌≢◌, ◌⊎◌, ◌↔◌, ◌∙◌, ℕ, zero, suc, ◌+◌, ◌-◌, ◌^◌, ◌<◌, ◌≤◌, false, true, true≢false, not, List, [], ◌∷◌, length, get_or, set, nat_eq, nat_lt, refl, sym, ap, subst, inl, inr, ⊎_elim, arith, eq-eqb, ne_eqb, Ok, Err, IfErr, IfOk, IsTrue, MatchResult}
+use Rattle.std.proofs.Common.{◌≡◌, ◌↔◌, ◌∙◌, ℕ, zero, suc, ◌+◌, ◌-◌, ◌^◌, ◌<◌, ◌≤◌, false, true, true≢false, List, [], ◌∷◌, length, get_or, set, nat_lt, refl, sym, ap, subst, arith, eq-eqb, ne_eqb, Ok, Err, IfErr, IfOk, IsTrue, MatchResult}
 use Rattle.std.specs.Prelude.{Result, is_ok}
 use Rattle.std.specs.List.Sorted.{IsBinarySearchResult}
 use Rattle.std.specs.Ordering.{nat_cmp}
@@ -12,10 +12,9 @@ use Rattle.std.specs.List.{insert, remove}
 use Rattle.bip_defs.specs.EditedMatrix.{with_number, with_place, without_number, without_place}
 use Rattle.bip_defs.specs.Lists.{Among, IsRising, Lists}
 use Rattle.bip_defs.specs.Matrix.{IsEntry, Matrix, Place, cols, column, entry_count}
-use Rattle.bip_defs.proofs.EditLemmas.{changed_here, with_again, with_count, with_lists, without_absent, without_count, without_length, without_lists, without_none}
-use Rattle.bip_defs.proofs.Sets.{among_at, below_each_sound, entry_col, place_among}
-use Rattle.sp_pattern.specs.Stored.{IsPattern}
-use Rattle.edit_session.specs.Columns.{HasRoom, IsCounted, IsGap, RoomyMatrix, StandsAt}
+use Rattle.bip_defs.proofs.EditLemmas.{changed_here, with_again, with_count, with_lists, without_absent, without_count, without_lists, without_none}
+use Rattle.bip_defs.proofs.Sets.{among_at, below_each_sound, place_among}
+use Rattle.edit_session.specs.Columns.{IsCounted, IsGap, RoomyMatrix, StandsAt}
 
 -- the numbers of a rising list in order
 pub rising_order : (xs : List ℕ) → IsRising xs → (i j : ℕ) → i ≤ j → j < length xs → get_or xs i 0 ≤ get_or xs j 0

@@ -1,3 +1,4 @@
 pub mod ArenaLemmas
 pub mod ColumnLemmas
+pub mod PatternLemmas
 pub mod SessionLemmas

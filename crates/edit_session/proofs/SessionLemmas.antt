@@ -1,12 +1,11 @@
 -- What an edit leaves of a maximum matching, and of the session where it is taken back.
-use Rattle.std.proofs.Common.{◌≡◌, ◌≢◌, ◌⊎◌, ◌↔◌, ◌∙◌, ℕ, suc, ◌+◌, ◌^◌, ◌<◌, ◌≤◌, true, false, true≢false, List, [], ◌∷◌, length, nat_eq, refl, sym, ap, subst, inl, inr, ⊎_elim, arith, eq-eqb, eqb-true, IsTrue}
+use Rattle.std.proofs.Common.{◌≡◌, ◌≢◌, ◌⊎◌, ◌↔◌, ◌∙◌, ℕ, suc, ◌+◌, ◌^◌, ◌<◌, ◌≤◌, true, false, true≢false, List, ◌∷◌, length, nat_eq, refl, sym, ap, subst, inl, inr, ⊎_elim, arith, eq-eqb, eqb-true, IsTrue}
 use Rattle.std.proofs.lemmas.List.{length-set}
 use Rattle.bip_defs.specs.EditedMatrix.{with_place, without_place}
 use Rattle.bip_defs.specs.Lists.{Among, AreDistinct, IsRising}
 use Rattle.bip_defs.specs.Matching.{IsMatching, IsMaximum, cols_of, rows_of}
 use Rattle.bip_defs.specs.Matrix.{AreEntries, IsEntry, Matrix, Place, cols, column, entry_count}
-use Rattle.bip_defs.specs.Witness.{IsAugmentingPath}
-use Rattle.bip_defs.proofs.EditLemmas.{had_before, kept_is_maximum, kept_with, one_more, with_again, with_comes_back, with_place_new, with_place_over, without_count, without_goes_back, without_none, without_place_back}
+use Rattle.bip_defs.proofs.EditLemmas.{had_before, kept_is_maximum, kept_with, one_more, with_again, with_place_over, without_count, without_none, without_place_back}
 use Rattle.bip_defs.proofs.Full.{few_below}
 use Rattle.bip_defs.proofs.LeastMatching.{rising_pairs}
 use Rattle.bip_defs.proofs.Sets.{col_among, col_pair, entry_col, one_col, one_row, place_same, rising_distinct, row_pair}

@@ -3,6 +3,7 @@
 
 mod arena;
 mod columns;
+mod patterns;
 mod session;
 
 pub use session::Session;

@@ -11,13 +11,17 @@ ghost use Rattle.bip_graph.specs.Matching.{IsMatchingOf, IsMaximumOf};
 ghost use Rattle.edit_session.specs.Sessions.{IsNearMaximum, MatchedMatrix};
 
 use crate::columns::Columns;
-use bip_graph::Matching;
+use crate::patterns::pattern_of;
+use bip_graph::{Components, Decomposition, Matching};
+use dm_coarse::{coarse, components};
+use dm_fine::fine;
 use hall_witness::{Reach, Steps, reach_in};
 use sp_ids::{Col, OutOfMemory, Row};
 use sp_pattern::{Pattern, Side};
 use std::alloc::Global;
 use std::marker::Model;
 use std::sync::ledger::Ledger;
+use std::thread::Threads;
 
 /// A session of edits: a matrix whose entries are set and cleared one by one, and a maximum matching of it, which each
 /// edit keeps maximum.
@@ -67,6 +71,35 @@ impl Session {
         ensures maximum { IsMaximumOf self.now.matrix self.now.matching }
     {
         self.matching.size()
+    }
+
+    /// The decomposition of the matrix and the connected components of its outer parts: the report of the matrix as it is.
+    ///
+    /// Answers `OutOfMemory` where there is no memory for a pattern of the matrix, 8 bytes an entry beside it, or what
+    /// [`coarse`], [`fine`] and [`components`] take. Work: linear in the entries, the rows and the columns, but for what
+    /// the order of the blocks takes. It makes no search for augmenting paths.
+    pub fn report<R: Threads + Sync>(
+        &self,
+        rt: &R,
+    ) -> Result<(Decomposition, Components), OutOfMemory>
+        ensures decomposition { IfOk result (λ o. Decomposes self.now.matrix o.0) }
+        ensures components { IfOk result
+            (λ o. AreConnectedComponents self.now.matrix (components_of o.1)) }
+    {
+        let alloc = self.alloc;
+        let pattern = pattern_of(rt, alloc, &self.columns)?;
+        let parts = coarse(rt, alloc, &pattern, &self.matching)?;
+        let blocks = fine(alloc, &pattern, &self.matching, &parts)?;
+        let components = components(alloc, &pattern, &parts)?;
+        let decomposition = Decomposition {
+            m: pattern.rows(),
+            n: pattern.cols(),
+            e: pattern.entries(),
+            rank: self.rank(),
+            parts,
+            blocks,
+        };
+        Ok((decomposition, components))
     }
 
     /// Sets an entry, and gives the rank of the matrix then. Where it is there already nothing changes.

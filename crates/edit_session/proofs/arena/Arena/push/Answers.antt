@@ -1,4 +1,4 @@
-use Rattle.std.proofs.Common.{rules, ◌≡◌, ◌∙◌, ap, length, length-append}
+use Rattle.std.proofs.Common.{rules, ◌≡◌, length, length-append}
 use Rattle.edit_session.proofs.ArenaLemmas.{pushed_spans, pushed_view}
 use Rattle.edit_session.proofs.arena.Arena.push.Goals as goal
 

@@ -1,4 +1,4 @@
-use Rattle.std.proofs.Common.{rules, ap, ◌∙◌, get_or}
+use Rattle.std.proofs.Common.{rules}
 use Rattle.edit_session.proofs.ArenaLemmas.{widened, widened_has, widened_room}
 use Rattle.edit_session.proofs.arena.Arena.widen.Goals as goal
 

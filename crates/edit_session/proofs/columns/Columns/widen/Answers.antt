@@ -1,4 +1,4 @@
-use Rattle.std.proofs.Common.{◌≡◌, ap, arith, length, get_or, List, ℕ, []}
+use Rattle.std.proofs.Common.{ap, arith, length, get_or, List, ℕ, []}
 use Rattle.std.proofs.lemmas.Result.{on_ok_weaker}
 use Rattle.edit_session.proofs.columns.Columns.widen.Goals as goal
 

@@ -1,5 +1,5 @@
 use Rattle.std.proofs.Common.{◌≡◌, ◌≢◌, ◌↔◌, ◌∙◌, ◌+◌, ◌<◌, ◌^◌, ap, subst, sym, true≢false}
-use Rattle.bip_defs.specs.EditedMatrix.{with_place, without_place}
+use Rattle.bip_defs.specs.EditedMatrix.{with_place}
 use Rattle.bip_defs.specs.Lists.{Among}
 use Rattle.bip_defs.specs.Matching.{cols_of, rows_of}
 use Rattle.bip_defs.specs.Matrix.{IsEntry, Matrix, Place, entry_count}
