@@ -646,11 +646,16 @@ fn bytes_come_one_by_one(rt: HostRuntime) -> Result<(), Fail> {
     // The third call gives no bytes, and the fourth would fail.
     let mut source = MemSource::new(b"a\nb".to_vec(alloc)?, 2, [3].to_vec(alloc)?);
     let mut input = Input::new(alloc, 3)?;
-    for byte in [b'a', b'\n', b'b'] {
-        assert_eq!(rt; next_byte(&mut input, &mut source), Ok(Some(byte)));
-    }
-    assert_eq!(rt; next_byte(&mut input, &mut source), Ok(None));
-    assert_eq!(rt; next_byte(&mut input, &mut source), Ok(None));
+    let first = next_byte(&mut input, &mut source)?;
+    let second = next_byte(&mut input, &mut source)?;
+    let third = next_byte(&mut input, &mut source)?;
+    let end = next_byte(&mut input, &mut source)?;
+    let again = next_byte(&mut input, &mut source)?;
+    assert_eq!(rt;
+        (first, second, third),
+        (Some(b'a'), Some(b'\n'), Some(b'b'))
+    );
+    assert_eq!(rt; (end, again), (None, None));
     assert_eq!(rt; (input.lines(), input.is_good()), (1, true));
     assert_eq!(rt; source.failed_calls(), 0);
     Ok(())
@@ -661,16 +666,23 @@ fn a_byte_past_the_limit_is_refused(rt: HostRuntime) -> Result<(), Fail> {
     let alloc = rt.alloc();
     let mut source = MemSource::new(b"ab".to_vec(alloc)?, 2, Vec::new(alloc));
     let mut input = Input::new(alloc, 1)?;
-    assert_eq!(rt; next_byte(&mut input, &mut source), Ok(Some(b'a')));
-    assert_eq!(rt; next_byte(&mut input, &mut source), Err(ReadError::TooLong));
+    let first = next_byte(&mut input, &mut source)?;
+    let second = next_byte(&mut input, &mut source);
+    assert_eq!(rt; first, Some(b'a'));
+    assert_eq!(rt; second, Err(ReadError::TooLong));
     assert_eq!(rt; input.is_good(), false);
-    let mut failing = MemSource::new(b"ab".to_vec(alloc)?, 1, [1].to_vec(alloc)?);
-    let mut other = Input::new(alloc, 9)?;
-    assert_eq!(rt; next_byte(&mut other, &mut failing), Ok(Some(b'a')));
-    assert_eq!(rt;
-        next_byte(&mut other, &mut failing),
-        Err(ReadError::ReadFault)
-    );
-    assert_eq!(rt; other.is_good(), false);
+    Ok(())
+}
+
+#[test]
+fn a_failed_read_is_told_where_no_byte_is_ahead(rt: HostRuntime) -> Result<(), Fail> {
+    let alloc = rt.alloc();
+    let mut source = MemSource::new(b"ab".to_vec(alloc)?, 1, [1].to_vec(alloc)?);
+    let mut input = Input::new(alloc, 9)?;
+    let first = next_byte(&mut input, &mut source)?;
+    let second = next_byte(&mut input, &mut source);
+    assert_eq!(rt; first, Some(b'a'));
+    assert_eq!(rt; second, Err(ReadError::ReadFault));
+    assert_eq!(rt; input.is_good(), false);
     Ok(())
 }
