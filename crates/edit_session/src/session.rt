@@ -64,6 +64,27 @@ impl Session {
         })
     }
 
+    /// The number of rows.
+    pub fn rows(&self) -> u32
+        ensures { result ≡ self.now.matrix.rows }
+    {
+        self.columns.rows()
+    }
+
+    /// The number of columns.
+    pub fn cols(&self) -> u32
+        ensures { result ≡ cols self.now.matrix }
+    {
+        self.columns.cols()
+    }
+
+    /// The number of entries.
+    pub fn entries(&self) -> u32
+        ensures { result ≡ entry_count self.now.matrix }
+    {
+        self.columns.entries()
+    }
+
     /// The rank of the matrix.
     pub fn rank(&self) -> u32
         ensures rank { IsRank self.now.matrix result }
