@@ -32,7 +32,8 @@ above a weight least = restricted a (λ r c. nat_lt least (weight r c))
 -- no pair's weight is less, and one has it; 0 of no pairs
 abbrev pub IsLeastWeight : (ℕ → ℕ → ℕ) → List Place → ℕ → Type 0
 IsLeastWeight weight [] least = least ≡ 0
-IsLeastWeight weight (p ∷ m) least = ((r : ℕ) × (c : ℕ) × Among (r, c) (p ∷ m) × (weight r c ≡ least))
+IsLeastWeight weight (p ∷ m) least =
+    ((r : ℕ) × (c : ℕ) × Among (r, c) (p ∷ m) × (weight r c ≡ least))
     × ((r c : ℕ) → Among (r, c) (p ∷ m) → least ≤ weight r c)
 
 -- a full matching in order of its columns, its least weight, and the columns that maximum matchings of the matrix above

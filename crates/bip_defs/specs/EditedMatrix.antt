@@ -58,4 +58,5 @@ place_of (Clear p) = p
 -- the edits are of places within so many rows and columns
 abbrev pub AreWithin : ℕ → ℕ → List Edit → Type 0
 AreWithin rows cols [] = Unit {0}
-AreWithin rows cols (e ∷ es) = (((place_of e).0 < rows) × ((place_of e).1 < cols)) × AreWithin rows cols es
+AreWithin rows cols (e ∷ es) = (((place_of e).0 < rows) × ((place_of e).1 < cols))
+    × AreWithin rows cols es

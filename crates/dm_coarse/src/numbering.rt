@@ -88,8 +88,10 @@ fn open<F: Id, N: Id, S: Side<F>>(
 fn marks<N: Id>(alloc: Global, cols: usize, columns: &[N]) -> Result<Vec<bool>, AllocError>
     requires { (c : ℕ) → Among c (map N.number columns.now) → c < cols }
     ensures long { IfOk result (λ v. length v.items ≡ cols) }
-    ensures sound { IfOk result (λ v. (c : ℕ) → IsMarked v.items c → Among c (map N.number columns.now)) }
-    ensures complete { IfOk result (λ v. (c : ℕ) → Among c (map N.number columns.now) → IsMarked v.items c) }
+    ensures sound { IfOk result
+        (λ v. (c : ℕ) → IsMarked v.items c → Among c (map N.number columns.now)) }
+    ensures complete { IfOk result
+        (λ v. (c : ℕ) → Among c (map N.number columns.now) → IsMarked v.items c) }
 {
     let mut marks = vec![in alloc; false; cols]?;
     for at in 0..columns.len() {
@@ -104,7 +106,8 @@ fn enter(search: &mut Search, col: u32, number: u32) -> Result<(), AllocError>
     ensures waiting { OnOk result
         (search.new.waiting.items ≡ slice_set search.old.waiting.items col false) }
     ensures rows { OnOk result (search.new.rows.items ≡ search.old.rows.items) }
-    ensures cols { OnOk result (search.new.cols.items ≡ slice_set search.old.cols.items col number) }
+    ensures cols { OnOk result
+        (search.new.cols.items ≡ slice_set search.old.cols.items col number) }
     ensures queue { OnOk result (search.new.queue.items ≡ search.old.queue.items ++ col ∷ []) }
 {
     search.waiting[col as usize] = false;

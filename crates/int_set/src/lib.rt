@@ -56,7 +56,8 @@ impl IntSet {
     /// Puts a number in, which must be below the bound.
     pub fn insert(&mut self, number: u32)
         requires { number < self.old.bound }
-        ensures members { (x : ℕ) → Among x self.new.members ↔ ((x ≡ number) ⊎ Among x self.old.members) }
+        ensures members { (x : ℕ)
+            → Among x self.new.members ↔ ((x ≡ number) ⊎ Among x self.old.members) }
         ensures bound { self.new.bound ≡ self.old.bound }
     {
         let words = self.words.as_mut_slice();
@@ -66,7 +67,8 @@ impl IntSet {
     /// The least member, which is below the bound. None where the set is empty.
     pub fn least(&self) -> Option<u32>
         ensures none { IfNone result (self.now.members ≡ []) }
-        ensures least { IfSome result (λ x. Among x self.now.members × ((y : ℕ) → Among y self.now.members → x ≤ y)) }
+        ensures least { IfSome result (λ x. Among x self.now.members
+            × ((y : ℕ) → Among y self.now.members → x ≤ y)) }
         ensures in_range { IfSome result (λ x. x < self.now.bound) }
         ensures rising { IsRising self.now.members }
     {

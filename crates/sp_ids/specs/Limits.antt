@@ -32,3 +32,15 @@ max_load_size = 16777216
 -- the greatest number from which a matrix is made
 abbrev pub max_load_seed : ℕ
 max_load_seed = 18446744073709551615
+
+-- the most edit lines behind a matrix
+abbrev pub max_edits : ℕ
+max_edits = 16777216
+
+-- the most files of a batch
+abbrev pub max_batch_files : ℕ
+max_batch_files = 65536
+
+-- the most bytes of a file of a batch
+abbrev pub max_batch_file_bytes : ℕ
+max_batch_file_bytes = 1073741824

@@ -20,3 +20,12 @@ pub const MAX_WORKERS: u32 = 64;
 
 /// The most rows and columns of a matrix that is made from a number.
 pub const MAX_LOAD_SIZE: u32 = 16_777_216;
+
+/// The most edit lines behind a matrix.
+pub const MAX_EDITS: u32 = 16_777_216;
+
+/// The most files of a batch.
+pub const MAX_BATCH_FILES: u32 = 65_536;
+
+/// The most bytes of a file of a batch.
+pub const MAX_BATCH_FILE_BYTES: u64 = 1_073_741_824;

@@ -30,7 +30,8 @@ impl<'a, 'p> Work<FlipSeat, Infallible> for Rounds<'a, 'p> {
 
     ghost leaves = { λ w number t u. HasGoneRound w.forest.now w.board.now w.workers number t u };
 
-    ghost completes = { λ w number t u. HasGoneRound w.forest.now w.board.now w.workers number t u };
+    ghost completes = { λ w number t u.
+        HasGoneRound w.forest.now w.board.now w.workers number t u };
 
     fn run(&self, number: u32, seat: &mut FlipSeat) -> Result<(), Infallible> {
         seat.is_rightful();
