@@ -1,5 +1,6 @@
 -- What follows from an answer.
-use Rattle.std.proofs.Common.{◌≡◌, ◌≢◌, ℕ, zero, suc, ◌+◌, ◌-◌, ◌<◌, ◌≤◌, Bool, true, false, not, ◌&&◌, List, [], ◌∷◌, ◌++◌, length, take, drop, refl, sym, ap, ◌∙◌, Option, Some, None, Result, Ok, Err, append_assoc, take-append-drop, take_all, length-append, length-take, length-take-le, length-drop, arith, leb-true}
+use Rattle.std.proofs.Common.{◌≡◌, ◌≢◌, ℕ, zero, suc, ◌+◌, ◌-◌, ◌<◌, ◌≤◌, Bool, true, false, not, ◌&&◌, List, [], ◌∷◌, ◌++◌, length, take, drop, refl, sym, ap, ◌∙◌, Option, Some, None, Result, Ok, Err, append_assoc, take-append-drop, take_all, length-append, length-take, length-take-le, length-drop, arith, leb-true, nat_le, ne_eqb, ◌==◌}
+use Rattle.std.proofs.lemmas.Bool.{lt-leb}
 use Rattle.std.proofs.Math.Seq.{take-length}
 use Rattle.sp_ids.specs.Entries as entries
 use Rattle.mm_defs.specs.declared.answers.End.{End}
@@ -9,7 +10,7 @@ use Rattle.mm_defs.specs.Words.{has_bytes, lines}
 use Rattle.mm_defs.specs.File.{Fault, Reads, faults, first_fault}
 use Rattle.mm_defs.specs.Calls.{Call, offered, got, given, ended, first_bad, IsAnswer, FellShort, LacksLines, IsAnswerTo, IsRefusal, IsOkOrNoMemory, IsTooLongOrNoMemory}
 use Rattle.mm_defs.proofs.Enough.{prefix_lacks_none}
-use Rattle.mm_defs.proofs.Prefixes.{bad_stays, good_prefix, good_file}
+use Rattle.mm_defs.proofs.Prefixes.{bad_stays, good_file}
 
 pub and_left : (a b : Bool) → (a && b) ≡ true → a ≡ true
 and_left true b h = refl
@@ -24,7 +25,7 @@ no_bytes [] h = refl
 no_bytes (b ∷ bytes) h = absurd cc
 
 -- what was given is a prefix of what was offered
-given_prefix : (call : Call) → (more : List ℕ) × (given call ++ more ≡ offered call)
+pub given_prefix : (call : Call) → (more : List ℕ) × (given call ++ more ≡ offered call)
 given_prefix call =
     let n : ℕ = length call.before - length call.after in
     let a : given call ++ drop call.room (got call) ≡ got call = take-append-drop call.room (got call) in
@@ -36,7 +37,7 @@ given_prefix call =
     )
 
 -- what was given is all, where it has ended
-given_all : (call : Call) → ended call ≡ true → given call ≡ offered call
+pub given_all : (call : Call) → ended call ≡ true → given call ≡ offered call
 given_all call h =
     let left = and_left _ _ h in
     let fits : length (got call) ≤ call.room = leb-true _ _ (and_left _ _ left) in
@@ -45,13 +46,64 @@ given_all call h =
     let k : got call ≡ offered call = rw n (ap (λ (t : List ℕ). call.ahead ++ t) (take-length call.before)) in
     take_all call.room (got call) fits ∙ k
 
+take-append : (n : ℕ) (xs ys : List ℕ) → take n (xs ++ ys) ≡ take n xs ++ take (n - length xs) ys
+take-append zero [] ys = refl
+take-append zero (x ∷ xs) ys = let e : 0 - length (x ∷ xs) ≡ 0 = omega arith in rw e refl
+take-append (suc n) [] ys = let e : suc n - length {A = ℕ} [] ≡ suc n = omega arith in rw e refl
+take-append (suc n) (x ∷ xs) ys = let e : suc n - length (x ∷ xs) ≡ n - length xs = omega arith in rw e (ap (λ (t : List ℕ). x ∷ t) (take-append n xs ys))
+
+-- what was given is a prefix of what the limit lets the call use
+given_within : (call : Call) → (more : List ℕ) × (take call.room (offered call) ≡ given call ++ more)
+given_within call =
+    let n : ℕ = length call.before - length call.after in
+    let d : got call ++ drop n call.before ≡ offered call = append_assoc call.ahead (take n call.before) (drop n call.before) ∙ ap (λ (t : List ℕ). call.ahead ++ t) (take-append-drop n call.before) in
+    (take (call.room - length (got call)) (drop n call.before), rw (← d) (take-append call.room (got call) (drop n call.before)))
+
+-- an input that gave more than it may, or failed, has not ended
+pub past_goes_on : (call : Call) → call.room < length (got call) → ended call ≡ false
+past_goes_on call past = let e : nat_le (length (got call)) call.room ≡ false = lt-leb (length (got call)) call.room past in rw e refl
+
+pub failed_goes_on : (call : Call) → call.failures_before < call.failures_after → ended call ≡ false
+failed_goes_on call failed =
+    let e : (call.failures_before == call.failures_after) ≡ false = ne_eqb call.failures_before call.failures_after (λ same. omega (arith, same, failed)) in
+    rw e (and_false (nat_le (length (got call)) call.room && not (has_bytes call.after)))
+  where
+    and_false : (b : Bool) → (b && false) ≡ false
+    and_false true = refl
+    and_false false = refl
+
+-- ---- of what was given, where a first fault stays the first one whatever follows
+
+module _ (first : Bool → List ℕ → Option Fault) (stays : (ended : Bool) (bytes more : List ℕ) (x : Fault) → first false bytes ≡ Some x → first ended (bytes ++ more) ≡ Some x) where
+  stays_none : (ended : Bool) (bytes more : List ℕ) → first ended (bytes ++ more) ≡ None → first false bytes ≡ None
+  stays_none ended bytes more none = by (first false bytes) refl
+    where
+      by : (o : Option Fault) → first false bytes ≡ o → first false bytes ≡ None
+      by None e = e
+      by (Some x) e = let h = stays ended bytes more x e in absurd cc
+
+  -- no line is bad, where none is of all that was offered
+  pub none_of_all : (call : Call) → first true (offered call) ≡ None → first (ended call) (given call) ≡ None
+  none_of_all call none = by (ended call) refl
+    where
+      by : (e : Bool) → ended call ≡ e → first (ended call) (given call) ≡ None
+      by true e = let k = given_all call e in rw (e, k) none
+      by false e = let r = given_prefix call in rw e (stays_none true (given call) r.0 (rw r.1 none))
+
+  -- or where none within the limit is
+  pub none_of_limit : (call : Call) → call.room < length (offered call) → first false (take call.room (offered call)) ≡ None → first (ended call) (given call) ≡ None
+  none_of_limit call past none = by (ended call) refl
+    where
+      by : (e : Bool) → ended call ≡ e → first (ended call) (given call) ≡ None
+      by true e =
+          let k : length (given call) ≡ length (offered call) = ap length (given_all call e) in
+          let m : length (given call) ≤ call.room = rw (length-take call.room (got call)) (omega arith) in
+          absurd (omega arith)
+      by false e = let r = given_within call in rw e (stays_none false (given call) r.0 (rw (← r.1) none))
+
 -- of a good file no line is bad, however much of it was given
 good_given : (end : End) (call : Call) → faults end true (lines true (offered call)) ≡ [] → first_bad end call ≡ None
-good_given end call good = by (ended call) refl
-  where
-    by : (e : Bool) → ended call ≡ e → first_bad end call ≡ None
-    by true e = let k = given_all call e in rw (e, k) (good_file end (offered call) good)
-    by false e = let r = given_prefix call in rw e (good_prefix end (given call) r.0 (rw r.1 good))
+good_given end call good = none_of_all (first_fault end) (bad_stays end) call (good_file end (offered call) good)
 
 -- a bad line is answered, and the first one
 pub bad_line_known : (end : End) (call : Call) (rest : List ℕ) (result : Result entries.Entries ReadError) (fault : Fault) → IsAnswer end call rest result → first_bad end call ≡ Some fault → IsAnswerTo fault result
@@ -119,37 +171,9 @@ good_matrix_answer end call rest (Err errors.TooLong) t follows h short reads fi
 good_matrix_answer end call rest (Err errors.ReadFault) t follows h short reads fits steady = omega (arith, h.1)
 good_matrix_answer end call rest (Err errors.OutOfMemory) t follows h short reads fits steady = tt
 
-take-append : (n : ℕ) (xs ys : List ℕ) → take n (xs ++ ys) ≡ take n xs ++ take (n - length xs) ys
-take-append zero [] ys = refl
-take-append zero (x ∷ xs) ys = let e : 0 - length (x ∷ xs) ≡ 0 = omega arith in rw e refl
-take-append (suc n) [] ys = let e : suc n - length {A = ℕ} [] ≡ suc n = omega arith in rw e refl
-take-append (suc n) (x ∷ xs) ys = let e : suc n - length (x ∷ xs) ≡ n - length xs = omega arith in rw e (ap (λ (t : List ℕ). x ∷ t) (take-append n xs ys))
-
--- what was given is a prefix of what the limit lets the call use
-given_within : (call : Call) → (more : List ℕ) × (take call.room (offered call) ≡ given call ++ more)
-given_within call =
-    let n : ℕ = length call.before - length call.after in
-    let d : got call ++ drop n call.before ≡ offered call = append_assoc call.ahead (take n call.before) (drop n call.before) ∙ ap (λ (t : List ℕ). call.ahead ++ t) (take-append-drop n call.before) in
-    (take (call.room - length (got call)) (drop n call.before), rw (← d) (take-append call.room (got call) (drop n call.before)))
-
 -- no line is bad, where none within the limit is
 pub none_given : (end : End) (call : Call) → call.room < length (offered call) → first_fault end false (take call.room (offered call)) ≡ None → first_bad end call ≡ None
-none_given end call past good = by (ended call) refl
-  where
-    some_bad : (o : Option Fault) → first_fault end false (given call) ≡ o → first_fault end false (given call) ≡ None
-    some_bad None e = e
-    some_bad (Some x) e =
-        let r = given_within call in
-        let b = bad_stays end false (given call) r.0 x e in
-        let k = rw r.1 at good in
-        absurd cc
-
-    by : (e : Bool) → ended call ≡ e → first_bad end call ≡ None
-    by true e =
-        let k : length (given call) ≡ length (offered call) = ap length (given_all call e) in
-        let m : length (given call) ≤ call.room = rw (length-take call.room (got call)) (omega arith) in
-        absurd (omega arith)
-    by false e = rw e (some_bad (first_fault end false (given call)) refl)
+none_given end call past none = none_of_limit (first_fault end) (bad_stays end) call past none
 
 -- bytes past the limit are told, where the matrix has not ended within it and no line within it is bad
 pub too_long_answer : (end : End) (call : Call) (rest : List ℕ) (result : Result entries.Entries ReadError)

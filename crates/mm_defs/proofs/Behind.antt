@@ -71,3 +71,13 @@ length-behind (suc n) (b ∷ bytes) = by (is_lf b) refl (length-behind n bytes) 
     by : (lf : Bool) → is_lf b ≡ lf → length (behind n bytes) ≤ length bytes → length (behind (suc n) bytes) ≤ length bytes → length (behind (suc n) (b ∷ bytes)) ≤ length (b ∷ bytes)
     by true e yes_lf no_lf = rw e (omega arith)
     by false e yes_lf no_lf = rw e (omega arith)
+
+-- and it is their end
+pub behind_is_end : (n : ℕ) (bytes : List ℕ) → (front : List ℕ) × (bytes ≡ front ++ behind n bytes)
+behind_is_end zero bytes = ([], refl)
+behind_is_end (suc n) [] = ([], refl)
+behind_is_end (suc n) (b ∷ bytes) = by (is_lf b) refl (behind_is_end n bytes) (behind_is_end (suc n) bytes)
+  where
+    by : (lf : Bool) → is_lf b ≡ lf → (front : List ℕ) × (bytes ≡ front ++ behind n bytes) → (front : List ℕ) × (bytes ≡ front ++ behind (suc n) bytes) → (front : List ℕ) × (b ∷ bytes ≡ front ++ behind (suc n) (b ∷ bytes))
+    by true e yes_lf no_lf = (b ∷ yes_lf.0, rw e (ap (λ (t : List ℕ). b ∷ t) yes_lf.1))
+    by false e yes_lf no_lf = (b ∷ no_lf.0, rw e (ap (λ (t : List ℕ). b ∷ t) no_lf.1))

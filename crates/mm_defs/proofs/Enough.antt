@@ -59,7 +59,7 @@ last-some : (ls : List Line) → AllFrom 1 ls → 1 ≤ last_number ls
 last-some [] h = omega arith
 last-some (l ∷ ls) h = last-from 1 l ls h
 
-matrix-some : (ls : List (List ℕ)) → 1 ≤ last_number (matrix_lines ls)
+pub matrix-some : (ls : List (List ℕ)) → 1 ≤ last_number (matrix_lines ls)
 matrix-some ls =
     let a = from-take 1 1 (later_lines ls) (later-from ls) in
     let b = from-take 1 _ (drop 1 (later_lines ls)) (from-drop 1 1 (later_lines ls) (later-from ls)) in
@@ -72,7 +72,7 @@ take-prefix n xs ys h =
     let e : n ≡ length xs + (n - length xs) = omega arith in
     ap (λ k. take k (xs ++ ys)) e ∙ take-append-add xs ys (n - length xs)
 
-enough : (ls : List (List ℕ)) (s : Line) (es : List Line) → later_lines ls ≡ s ∷ es → nat_lt (length es) (size (header_of ls) s.words).count ≡ false → missing ls ≡ []
+pub enough : (ls : List (List ℕ)) (s : Line) (es : List Line) → later_lines ls ≡ s ∷ es → nat_lt (length es) (size (header_of ls) s.words).count ≡ false → missing ls ≡ []
 enough ls s es e few =
     let h : (size (header_of ls) s.words).count ≤ length es = ltb-false _ _ few in
     let k : length (take (size (header_of ls) s.words).count es) ≡ (size (header_of ls) s.words).count = length-take-le (size (header_of ls) s.words).count es h in
@@ -145,11 +145,11 @@ behind-longer (suc n) (b ∷ prefix) more h some = by (is_lf b) refl (behind-lon
         let k : count_by is_lf (b ∷ prefix) ≡ count_by is_lf prefix = sum_by-cons _ b prefix ∙ rw e (omega arith) in
         rw e (no_lf (omega (arith, k, h)) some)
 
-right_none : (xs ys : List Fault) → xs ++ ys ≡ [] → ys ≡ []
+pub right_none : (xs ys : List Fault) → xs ++ ys ≡ [] → ys ≡ []
 right_none [] ys h = h
 right_none (x ∷ xs) ys h = absurd cc
 
-none_missing : (ls : List (List ℕ)) → faults LastEntry true ls ≡ [] → missing ls ≡ []
+pub none_missing : (ls : List (List ℕ)) → faults LastEntry true ls ≡ [] → missing ls ≡ []
 none_missing ls h = right_none (no_banner ls ++ line_faults LastEntry ls) (missing ls) h
 
 -- a good file whose matrix ends within a prefix

@@ -1,6 +1,9 @@
 pub mod AnswerLemmas
 pub mod ArrayLemmas
 pub mod Behind
+pub mod EditLineLemmas
+pub mod EditedFiles
+pub mod EditedSplits
 pub mod Enough
 pub mod Lines
 pub mod Prefixes

@@ -6,7 +6,7 @@ use Rattle.mm_defs.specs.File.{Fault, line_faults, faults, first_fault, missing}
 use Rattle.mm_defs.proofs.Lines.{lines-append}
 use Rattle.mm_defs.proofs.Roles.{line_faults-append, line_faults-none}
 
-first-append : (xs ys : List Fault) (x : Fault) → slice_get xs 0 ≡ Some x → slice_get (xs ++ ys) 0 ≡ Some x
+pub first-append : (xs ys : List Fault) (x : Fault) → slice_get xs 0 ≡ Some x → slice_get (xs ++ ys) 0 ≡ Some x
 first-append [] ys x h = absurd cc
 first-append (a ∷ xs) ys x h = h
 

@@ -55,7 +55,7 @@ walk-is end rules (suc n) [] = trailing-none end
 walk-is end rules zero (l ∷ ls) = refl
 walk-is end rules (suc n) (l ∷ ls) = simp append_assoc (ap (λ (t : List Fault). fault_by rules l ++ t) (walk-is end rules n ls))
 
-walk-zero : (end : End) (rules : List Word → List Rule) (ls : List Line) → walk end rules zero ls ≡ trailing end ls
+pub walk-zero : (end : End) (rules : List Word → List Rule) (ls : List Line) → walk end rules zero ls ≡ trailing end ls
 walk-zero end rules [] = sym (trailing-none end)
 walk-zero end rules (l ∷ ls) = refl
 

@@ -8,7 +8,7 @@ use Rattle.mm_defs.specs.declared.header.Header.{Header}
 use Rattle.mm_defs.specs.declared.header.Size.{Size}
 use Rattle.mm_defs.specs.declared.header.Symmetry as symmetry
 use Rattle.mm_defs.specs.declared.kinds.Kind.{Kind}
-use Rattle.mm_defs.specs.declared.kinds.Kind.TheVariants.{NoBanner, HeaderWords, Object, Format, Field, Symmetry, ArrayField, Combination, SizeWords, SizeNumber, Rows, Columns, Entries, NotSquare, EntryWords, RowNumber, ColumnNumber, RowRange, ColumnRange, ValueNumber, Value, UpperEntry, DiagonalEntry, Edits}
+use Rattle.mm_defs.specs.declared.kinds.Kind.TheVariants.{NoBanner, HeaderWords, Object, Format, Field, Symmetry, ArrayField, Combination, SizeWords, SizeNumber, Rows, Columns, Entries, NotSquare, EntryWords, RowNumber, ColumnNumber, RowRange, ColumnRange, ValueNumber, Value, UpperEntry, DiagonalEntry, Edits, Files, FileBytes}
 use Rattle.mm_defs.specs.Words.{Word, word}
 use Rattle.mm_defs.specs.Numbers.{is_number, number, is_integer, magnitude}
 use Rattle.mm_defs.specs.Header.{spells, named, formats, fields, symmetries, is_array, value_words, is_integer_field, is_general, is_skew, may_combine, header, size_words, size}
@@ -106,4 +106,6 @@ is_limit Columns = true
 is_limit Entries = true
 is_limit Value = true
 is_limit Edits = true
+is_limit Files = true
+is_limit FileBytes = true
 is_limit kind = false

@@ -1,5 +1,7 @@
 pub mod Arrays
 pub mod Calls
+pub mod EditLines
+pub mod EditedFiles
 pub mod Faults
 pub mod File
 pub mod Header

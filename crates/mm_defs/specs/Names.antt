@@ -1,7 +1,7 @@
 -- How the kinds of faults are spelt.
 use Rattle.std.specs.Prelude.{ℕ, List, codes}
 use Rattle.mm_defs.specs.declared.kinds.Kind.{Kind}
-use Rattle.mm_defs.specs.declared.kinds.Kind.TheVariants.{NoBanner, HeaderWords, Object, Format, Field, Symmetry, ArrayField, Combination, SizeWords, SizeNumber, Rows, Columns, Entries, NotSquare, EntryWords, RowNumber, ColumnNumber, RowRange, ColumnRange, ValueNumber, Value, UpperEntry, DiagonalEntry, Trailing, NoSize, MissingEntries, Edits, EditWord, EditWords}
+use Rattle.mm_defs.specs.declared.kinds.Kind.TheVariants.{NoBanner, HeaderWords, Object, Format, Field, Symmetry, ArrayField, Combination, SizeWords, SizeNumber, Rows, Columns, Entries, NotSquare, EntryWords, RowNumber, ColumnNumber, RowRange, ColumnRange, ValueNumber, Value, UpperEntry, DiagonalEntry, Trailing, NoSize, MissingEntries, Edits, EditWord, EditWords, BatchHeader, Files, FileBytes, ShortFile}
 
 abbrev pub kind_name : Kind → List ℕ
 kind_name NoBanner = codes "NoBanner"
@@ -33,3 +33,7 @@ kind_name MissingEntries = codes "MissingEntries"
 kind_name Edits = codes "Edits"
 kind_name EditWord = codes "EditWord"
 kind_name EditWords = codes "EditWords"
+kind_name BatchHeader = codes "BatchHeader"
+kind_name Files = codes "Files"
+kind_name FileBytes = codes "FileBytes"
+kind_name ShortFile = codes "ShortFile"

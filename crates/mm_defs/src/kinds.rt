@@ -66,6 +66,14 @@ pub enum Kind {
     EditWord,
     /// Edit line: it does not have three words, or one where the first is `report`.
     EditWords,
+    /// Batch: the line before a file does not have the words `file` and a number.
+    BatchHeader,
+    /// Batch: there are 65,536 files before it.
+    Files,
+    /// Batch: a file of more than 1,073,741,824 bytes.
+    FileBytes,
+    /// Batch: the input ends before the file's last byte.
+    ShortFile,
 }
 
 impl Kind {
@@ -103,6 +111,10 @@ impl Kind {
             Kind::Edits => "Edits",
             Kind::EditWord => "EditWord",
             Kind::EditWords => "EditWords",
+            Kind::BatchHeader => "BatchHeader",
+            Kind::Files => "Files",
+            Kind::FileBytes => "FileBytes",
+            Kind::ShortFile => "ShortFile",
         }
     }
 
@@ -111,7 +123,8 @@ impl Kind {
         ensures { result ≡ is_limit self }
     {
         match self {
-            Kind::Rows | Kind::Columns | Kind::Entries | Kind::Value | Kind::Edits => true,
+            Kind::Rows | Kind::Columns | Kind::Entries | Kind::Value => true,
+            Kind::Edits | Kind::Files | Kind::FileBytes => true,
             _ => false,
         }
     }
