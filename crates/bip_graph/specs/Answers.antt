@@ -1,7 +1,8 @@
 -- What the texts of a matrix say: each is the text of its rank, parts and blocks as they are defined.
-use Rattle.std.specs.Prelude.{◌≡◌, ℕ, Bool, true, false, List, [], ◌∷◌, ◌++◌, Option, None, Some}
+use Rattle.std.specs.Prelude.{◌≡◌, ◌||◌, ℕ, Bool, true, false, List, [], ◌∷◌, ◌++◌, Option, None, Some}
 use Rattle.bip_defs.specs.ConnectedComponents.{AreConnectedComponents, Components}
 use Rattle.bip_defs.specs.Decomposition.{Decomposition, IsDecompositionOf}
+use Rattle.bip_defs.specs.LeastMatching.{IsLeastMaximum}
 use Rattle.bip_defs.specs.Lists.{IsRising, Lists}
 use Rattle.bip_defs.specs.Matching.{IsMaximum, IsRank, cols_of}
 use Rattle.bip_defs.specs.Matrix.{Matrix, Place}
@@ -31,7 +32,8 @@ where_asked true x = Some x
 where_asked false x = None
 
 -- what is reported of a matrix: its decomposition, and what else is asked for
-abbrev pub report_of : Matrix → Decomposition → Option Components → Bool → Option (List Place) → Report
+abbrev pub report_of : Matrix → Decomposition → Option Components → Bool → Option (List Place)
+    → Report
 report_of a d components order pairs = record {
   sizes = sizes_of a;
   rank = d.rank;
@@ -45,34 +47,40 @@ report_of a d components order pairs = record {
   pairs = pairs;
 }
 
--- pairs are listed where they are asked for, and then they are a maximum matching, rising by column
-abbrev pub ArePairs : Matrix → Bool → Option (List Place) → Type 0
-ArePairs a true (Some m) = IsMaximum a m × IsRising (cols_of m)
-ArePairs a true None = ⊥
-ArePairs a false (Some m) = ⊥
-ArePairs a false None = Unit {0}
+-- a maximum matching and, where the least one is asked for, that one
+abbrev pub IsMaximumOrLeast : Matrix → Bool → List Place → Type 0
+IsMaximumOrLeast a true m = IsLeastMaximum a m
+IsMaximumOrLeast a false m = IsMaximum a m
+
+-- The pairs that are listed, rising by column: those of a maximum matching where pairs are asked for, those of the least one
+-- where that is, and else none.
+abbrev pub ArePairs : Matrix → Bool → Bool → Option (List Place) → Type 0
+ArePairs a pairs least (Some m) = (pairs || least ≡ true) × IsMaximumOrLeast a least m
+    × IsRising (cols_of m)
+ArePairs a pairs least None = pairs || least ≡ false
 
 -- version 1 has no components, version 2 those of the matrix in their order
 abbrev pub AreOfVersion : Matrix → ℕ → Option Components → Type 0
 AreOfVersion a version None = version ≡ 1
 AreOfVersion a version (Some c) = (version ≡ 2) × AreConnectedComponents a c
 
--- the report of a matrix in this version, with pairs or without
-pub record IsAnalysis (a : Matrix) (version : ℕ) (order pairs : Bool)
+-- the report of a matrix in this version, with what is asked for: the orders, pairs, the least pairs
+pub record IsAnalysis (a : Matrix) (version : ℕ) (order pairs least : Bool)
     (text : List ℕ) : Type 0 where
   pub decomposition : Decomposition
   pub is_decomposition : IsDecompositionOf a decomposition
   pub components : Option Components
   pub of_version : AreOfVersion a version components
   pub matching : Option (List Place)
-  pub are_pairs : ArePairs a pairs matching
+  pub are_pairs : ArePairs a pairs least matching
   pub spelled : text ≡ report_text (report_of a decomposition components order matching)
 
--- the report without pairs, and before its end the lines of a maximum matching
-pub record IsWithPairs (a : Matrix) (version : ℕ) (order : Bool) (text : List ℕ) : Type 0 where
+-- the report without pairs, and before its end the lines of a maximum matching, or of the least one
+pub record IsWithPairs (a : Matrix) (version : ℕ) (order least : Bool)
+    (text : List ℕ) : Type 0 where
   pub prefix : List ℕ
   pub matching : List Place
-  pub is_maximum : IsMaximum a matching
+  pub is_matching : IsMaximumOrLeast a least matching
   pub is_rising : IsRising (cols_of matching)
-  pub is_report : IsAnalysis a version order false (prefix ++ text_of (end_line ∷ []))
+  pub is_report : IsAnalysis a version order false false (prefix ++ text_of (end_line ∷ []))
   pub spelled : text ≡ prefix ++ text_of (pair_lines (Some matching)) ++ text_of (end_line ∷ [])

@@ -12,11 +12,23 @@ pub fn one_rank_text()
 /// Two reports of one matrix in one version under the same options, without pairs, are the same bytes.
 pub fn one_report()
     ensures { (a : Matrix) (version : ℕ) (order : Bool) (s t : List ℕ)
-        → IsAnalysis a version order false s → IsAnalysis a version order false t → s ≡ t }
+        → IsAnalysis a version order false false s → IsAnalysis a version order false false t
+        → s ≡ t }
 {}
 
-/// The reports with pairs are the one without them, with the lines of any maximum matching before its end.
+/// Two reports of one matrix in one version under the same options, with the pairs of the least maximum matching, are the
+/// same bytes.
+pub fn one_report_with_least_pairs()
+    ensures { (a : Matrix) (version : ℕ) (order pairs : Bool) (s t : List ℕ)
+        → IsAnalysis a version order pairs true s → IsAnalysis a version order pairs true t
+        → s ≡ t }
+{}
+
+/// The reports with pairs are the one without them, with the lines of any maximum matching before its end, or those of the
+/// least one where that is asked for.
 pub fn pairs_before_the_end()
-    ensures { (a : Matrix) (version : ℕ) (order : Bool) (t : List ℕ)
-        → IsAnalysis a version order true t ↔ IsWithPairs a version order t }
+    ensures any { (a : Matrix) (version : ℕ) (order : Bool) (t : List ℕ)
+        → IsAnalysis a version order true false t ↔ IsWithPairs a version order false t }
+    ensures least { (a : Matrix) (version : ℕ) (order pairs : Bool) (t : List ℕ)
+        → IsAnalysis a version order pairs true t ↔ IsWithPairs a version order true t }
 {}
