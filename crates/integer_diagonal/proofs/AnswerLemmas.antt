@@ -1,27 +1,23 @@
 -- Full matchings and their prices, as they are answered.
-use Rattle.std.proofs.Common.{◌≡◌, ◌≢◌, ◌∙◌, ℕ, ℤ, pos, ◌-ℤ◌, slice_index, ◌+◌, ◌<◌, ◌≤◌, List, [], ◌∷◌, ◌++◌, length, map, refl, sym, ap, subst, inl, inr, ⊎_elim, arith, below_more}
+use Rattle.std.proofs.Common.{◌≡◌, ◌∙◌, ℕ, ℤ, pos, ◌-ℤ◌, slice_index, ◌+◌, ◌<◌, List, [], length, map, ap, arith, below_more}
 use Rattle.std.proofs.lemmas.Int.{ints}
 use Rattle.std.proofs.lemmas.List.{get_or-map, length-map}
-use Rattle.bip_defs.specs.Lists.{Among, AreDistinct, Lists}
-use Rattle.bip_defs.specs.Matching.{Covers, IsMatching, IsMaximum, cols_of, rows_of}
-use Rattle.bip_defs.specs.Matrix.{IsEntry, Matrix, Place, cols, upto}
+use Rattle.bip_defs.specs.Bottleneck.{IsFull, IsSingular}
+use Rattle.bip_defs.specs.Lists.{Among, Lists}
+use Rattle.bip_defs.specs.Matching.{Covers, IsMatching, IsMaximum, cols_of}
+use Rattle.bip_defs.specs.Matrix.{IsEntry, Matrix, Place, cols}
 use Rattle.bip_defs.specs.Parts.{IsHorizontalCol}
-use Rattle.bip_defs.proofs.Full.{has_all_cols, has_all_rows, matching_few}
-use Rattle.bip_defs.proofs.Sets.{among_last, upto_more, col_among, entry_col, number_same, one_col, row_pair, upto_length, upto_rising, rising_distinct}
+use Rattle.bip_defs.proofs.FullMatchings.{long_full, short_singular}
+use Rattle.bip_defs.proofs.Sets.{entry_col}
 use Rattle.bip_graph.specs.Matching.{IsMatchingOf, Pairing}
 use Rattle.integer_diagonal.proofs.Bounds.{pair_cheap}
 use Rattle.integer_diagonal.proofs.Cheap.{cheap_entry}
 use Rattle.integer_diagonal.specs.declared.assignment.Assignment.{Assignment}
 use Rattle.integer_diagonal.specs.declared.search.Search.{Search}
-use Rattle.integer_diagonal.specs.Heaviest.{IsSingular}
 use Rattle.integer_diagonal.specs.Labels.{IsClear, labels_of, tree_of}
 use Rattle.integer_diagonal.specs.Duals.{IsAssigned, IsAssignment, IsFeasible, Priced, cheap, dual, top}
-use Rattle.integer_diagonal.specs.Prices.{AreFair, IsFull, price}
+use Rattle.integer_diagonal.specs.Prices.{AreFair, price}
 use Rattle.sp_pattern.specs.Weights.{Weighing}
-
--- a matching of a square matrix with as many pairs as columns is full
-pub long_full : (a : Matrix) (m : List Place) → a.rows ≡ cols a → IsMatching a m → cols a ≤ length m → IsFull a m
-long_full a m square k long = record { matching = k; all_rows = has_all_rows a m k (omega (arith, long, square)); all_cols = has_all_cols a m k long }
 
 pub cheap_matching : (x : Priced) (m : List Place) → IsMatching (cheap x) m → IsMatching x.weighing.matrix m
 cheap_matching x m k = record {
@@ -33,34 +29,10 @@ cheap_matching x m k = record {
 pub matching_of : (x : Priced) (m : Pairing) → IsAssigned x m → IsMatchingOf x.weighing.matrix m
 matching_of x m a = record { rows = a.rows_are; cols = a.cols_are; matching = cheap_matching x m.pairs a.matching }
 
--- some pairs of a matching, with distinct columns, have distinct rows
-part_rows_differ : (m n : List Place) → AreDistinct (rows_of m) → AreDistinct (cols_of n) → ((r c : ℕ) → Among (r, c) n → Among (r, c) m) → AreDistinct (rows_of n)
-part_rows_differ m [] rows columns part = tt
-part_rows_differ m (p ∷ n) rows columns part = (off, part_rows_differ m n rows columns.1 (λ r c h. part r c (inr h)))
-  where
-    off : ¬ Among p.0 (rows_of n)
-    off h =
-        let (c, g) = row_pair p.0 n h in
-        let same : c ≡ p.1 = one_col m rows p.0 c p.1 (part p.0 c (inr g)) (part p.0 p.1 (inl refl)) in
-        columns.0 (subst (λ d. Among d (cols_of n)) same (col_among p.0 c n g))
-
-pub part_full : (a : Matrix) (m n : List Place) → a.rows ≡ cols a → IsMatching a m → cols_of n ≡ upto (cols a) → ((r c : ℕ) → Among (r, c) n → Among (r, c) m) → IsFull a n
-part_full a m n square k all part = long_full a n square matching (let same = length-map n (λ (p : Place). p.1) in let long = upto_length 0 (cols a) in let both = ap (λ (z : List ℕ). length z) all in omega (arith, same, long, both))
-  where
-    differ : AreDistinct (cols_of n)
-    differ = subst (λ (z : List ℕ). AreDistinct z) (sym all) (rising_distinct (upto (cols a)) (upto_rising 0 (cols a)))
-
-    matching : IsMatching a n
-    matching = record { entries = λ r c h. k.entries r c (part r c h); rows_differ = part_rows_differ m n k.rows_differ differ part; cols_differ = differ }
-
 -- a maximum matching of a square matrix that has no full one
 pub singular_shown : (a : Matrix) (m : List Place) (hall : List ℕ) (rank : ℕ) → a.rows ≡ cols a → ((other : List Place) → ¬ IsFull a other) → IsMaximum a m → rank ≡ length m → Lists (IsHorizontalCol a) hall → IsSingular a rank hall
-singular_shown a m hall rank square none most e horizontal = record {
-  square = square;
-  is_rank = (m, most, sym e);
-  below = ⊎_elim (λ (is : length m ≡ cols a). absurd (none m (long_full a m square most.matching (omega (arith, is))))) (λ (ne : length m ≢ cols a). let few = matching_few a m most.matching in omega (arith, few, ne, e)) (number_same (length m) (cols a));
-  horizontal = horizontal;
-}
+singular_shown a m hall rank square none most e horizontal =
+    short_singular a m hall rank square most e (λ (is : length m ≡ cols a). none m (long_full a m square most.matching (omega (arith, is)))) horizontal
 
 -- the prices as they are answered
 module _ (x : Priced) (u v : List ℤ) where
@@ -80,17 +52,6 @@ module _ (x : Priced) (u v : List ℤ) where
     where
       both : (r c : ℕ) → IsEntry x.weighing.matrix r c → (price u r ≡ pos (slice_index x.prices r) -ℤ pos top) × (price v c ≡ pos (top + top) -ℤ pos (dual x c))
       both r c e = (row_price eu r (let in_rows = e.0 in let long = f.prices_are in omega (arith, in_rows, long)), col_price ev c (let in_cols = entry_col x.weighing.matrix r c e in let long = f.duals_are in omega (arith, in_cols, long)))
-
--- the next pair is listed
-cols_grown : (m : List Place) (r c : ℕ) → cols_of (m ++ (r, c) ∷ []) ≡ cols_of m ++ c ∷ []
-cols_grown [] r c = refl
-cols_grown (p ∷ m) r c = ap (λ (z : List ℕ). p.1 ∷ z) (cols_grown m r c)
-
-abbrev pub AreAmong : List Place → List Place → Type 0
-AreAmong n m = (r c : ℕ) → Among (r, c) n → Among (r, c) m
-
-pub listed_more : (m old new : List Place) (r n : ℕ) → new ≡ old ++ (r, n) ∷ [] → cols_of old ≡ upto n → AreAmong old m → Among (r, n) m → (cols_of new ≡ upto (n + 1)) × AreAmong new m
-listed_more m old new r n grown all part on = (ap (λ (z : List Place). cols_of z) grown ∙ cols_grown old r n ∙ ap (λ (z : List ℕ). z ++ n ∷ []) all ∙ sym (upto_more n), λ s c h. ⊎_elim (λ k. part s c k) (λ (e : (s, c) ≡ (r, n)). subst (λ (p : Place). Among p m) (sym e) on) (among_last (s, c) (r, n) old (subst (λ (z : List Place). Among (s, c) z) grown h)))
 
 -- the columns below n have mates, and the search is ready for the next one
 pub record AreMated (w : Weighing) (rows : ℕ) (a : Assignment) (s : Search) (n : ℕ) : Type 0 where

@@ -9,7 +9,8 @@ use Rattle.bip_defs.specs.Matching.{IsRank, cols_of, rows_of}
 use Rattle.bip_defs.specs.Matrix.{Matrix, Place, cols, upto}
 use Rattle.bip_defs.proofs.Full.{full_maximum}
 use Rattle.bip_defs.proofs.Sets.{Drops, here, later, drops_distinct, drops_gone, drops_kept, drops_only, entry_col, few_distinct, taken, row_pair, col_pair, upto_length, upto_lists, rising_distinct}
-use Rattle.integer_diagonal.specs.Prices.{AreFair, IsFull, price, total}
+use Rattle.bip_defs.specs.Bottleneck.{IsFull}
+use Rattle.integer_diagonal.specs.Prices.{AreFair, price, total}
 use Rattle.sp_pattern.specs.Weights.{Weighing, weight_at}
 
 -- the sum of integers by number

@@ -5,7 +5,7 @@ use Rattle.bip_defs.specs.Matching.{cols_of, rows_of}
 use Rattle.bip_defs.specs.Matrix.{IsEntry, Place}
 use Rattle.bip_defs.proofs.Sets.{Drops, col_among, col_pair, drops_kept, drops_length, one_col, one_row, pigeonhole, taken}
 use Rattle.integer_diagonal.specs.Duals.{Priced}
-use Rattle.integer_diagonal.specs.Prices.{IsFull}
+use Rattle.bip_defs.specs.Bottleneck.{IsFull}
 use Rattle.integer_diagonal.specs.SearchTree.{IsGrown, IsStuck, Tree, stop}
 use Rattle.bip_defs.specs.Queues.{heads}
 use Rattle.bip_defs.proofs.Queues.{head_at, place_of}

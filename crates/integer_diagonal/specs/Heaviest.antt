@@ -1,20 +1,13 @@
 -- What is answered of the heaviest diagonal.
-use Rattle.std.specs.Prelude.{◌≡◌, ◌≢◌, ℕ, ℤ, pos, ◌<◌, List}
-use Rattle.bip_defs.specs.Lists.{IsRising, Lists}
-use Rattle.bip_defs.specs.Matching.{IsRank, cols_of}
-use Rattle.bip_defs.specs.Matrix.{Matrix, Place, cols}
-use Rattle.bip_defs.specs.Parts.{IsHorizontalCol}
+use Rattle.std.specs.Prelude.{◌≡◌, ◌≢◌, ℤ, pos, List}
+use Rattle.bip_defs.specs.Bottleneck.{IsFull, IsSingular}
+use Rattle.bip_defs.specs.Lists.{IsRising}
+use Rattle.bip_defs.specs.Matching.{cols_of}
+use Rattle.bip_defs.specs.Matrix.{Place, cols}
 use Rattle.bip_graph.specs.declared.answers.Heaviest.{Heaviest}
 use Rattle.bip_graph.specs.declared.answers.Heaviest.TheVariants.{Diagonal, Rectangular, Singular}
-use Rattle.integer_diagonal.specs.Prices.{AreFair, IsFull, total}
+use Rattle.integer_diagonal.specs.Prices.{AreFair, total}
 use Rattle.sp_pattern.specs.Weights.{Weighing}
-
--- as many rows as columns, and a rank that is less, with the columns that some maximum matching misses
-pub record IsSingular (a : Matrix) (rank : ℕ) (hall : List ℕ) : Type 0 where
-  pub square : a.rows ≡ cols a
-  pub is_rank : IsRank a rank
-  pub below : rank < cols a
-  pub horizontal : Lists (IsHorizontalCol a) hall
 
 -- a full matching, in order of its columns, with fair prices and the sum of its weights
 pub record IsHeaviestDiagonal (w : Weighing) (m : List Place) (u v : List ℤ)

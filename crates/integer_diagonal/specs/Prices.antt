@@ -1,15 +1,8 @@
 -- Prices of rows and columns, and what they show of a diagonal.
-use Rattle.std.specs.Prelude.{◌≡◌, ℕ, ℤ, pos, ◌+ℤ◌, ◌≤ℤ◌, ◌<◌, List, length, slice_index_or, sum_by}
+use Rattle.std.specs.Prelude.{◌≡◌, ℕ, ℤ, pos, ◌+ℤ◌, ◌≤ℤ◌, List, length, slice_index_or, sum_by}
 use Rattle.bip_defs.specs.Lists.{Among}
-use Rattle.bip_defs.specs.Matching.{IsMatching, cols_of, rows_of}
-use Rattle.bip_defs.specs.Matrix.{IsEntry, Matrix, Place, cols}
+use Rattle.bip_defs.specs.Matrix.{IsEntry, Place, cols}
 use Rattle.sp_pattern.specs.Weights.{Weighing, weight_at}
-
--- a matching of entries that misses no row and no column
-pub record IsFull (a : Matrix) (m : List Place) : Type 0 where
-  pub matching : IsMatching a m
-  pub all_rows : (r : ℕ) → r < a.rows → Among r (rows_of m)
-  pub all_cols : (c : ℕ) → c < cols a → Among c (cols_of m)
 
 -- the sum of the weights of these entries
 abbrev pub total : Weighing → List Place → ℕ

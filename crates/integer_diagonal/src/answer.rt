@@ -7,7 +7,8 @@ ghost use Rattle.bip_defs.specs.Matrix.{AreEntries, Place, cols, upto};
 ghost use Rattle.bip_graph.specs.Matching.{IsMatchingOf};
 ghost use Rattle.integer_diagonal.specs.Heaviest.{IsHeaviest};
 ghost use Rattle.integer_diagonal.specs.Duals.{IsAssignment, top};
-ghost use Rattle.integer_diagonal.specs.Prices.{IsFull, total};
+ghost use Rattle.bip_defs.specs.Bottleneck.{IsFull};
+ghost use Rattle.integer_diagonal.specs.Prices.{total};
 ghost use Rattle.sp_pattern.specs.Weights.{Weighing};
 
 use crate::assignment::{Assignment, TOP};

@@ -3,7 +3,8 @@
 ghost use Rattle.std.specs.Prelude.{◌≡◌, ℕ, ℤ, ◌≤◌, List};
 ghost use Rattle.bip_defs.specs.Matching.{IsRank};
 ghost use Rattle.bip_defs.specs.Matrix.{Matrix, Place, cols};
-ghost use Rattle.integer_diagonal.specs.Prices.{AreFair, IsFull, total};
+ghost use Rattle.bip_defs.specs.Bottleneck.{IsFull};
+ghost use Rattle.integer_diagonal.specs.Prices.{AreFair, total};
 ghost use Rattle.sp_pattern.specs.Weights.{Weighing};
 
 /// Fair prices show that no diagonal is heavier.

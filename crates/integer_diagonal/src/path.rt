@@ -7,7 +7,7 @@ ghost use Rattle.bip_defs.specs.Matrix.{Place, cols};
 ghost use Rattle.bip_defs.specs.Queues.{at, heads};
 ghost use Rattle.integer_diagonal.specs.Labels.{IsClear, labels_of, tree_of};
 ghost use Rattle.integer_diagonal.specs.Duals.{IsAssignment, priced};
-ghost use Rattle.integer_diagonal.specs.Prices.{IsFull};
+ghost use Rattle.bip_defs.specs.Bottleneck.{IsFull};
 ghost use Rattle.integer_diagonal.specs.SearchTree.{IsRaised};
 ghost use Rattle.sp_pattern.specs.Weights.{Weighing};
 

@@ -6,7 +6,8 @@ use Rattle.bip_defs.specs.Lists.{Among, IsRising}
 use Rattle.bip_defs.specs.Matching.{cols_of}
 use Rattle.bip_defs.specs.Matrix.{Matrix, Place, cols, upto}
 use Rattle.bip_defs.proofs.Sets.{upto_length, upto_rising}
-use Rattle.integer_diagonal.proofs.AnswerLemmas.{cheap_matching, fair_prices, part_full}
+use Rattle.bip_defs.proofs.FullMatchings.{part_full}
+use Rattle.integer_diagonal.proofs.AnswerLemmas.{cheap_matching, fair_prices}
 use Rattle.integer_diagonal.proofs.Augmented.{dual_small}
 use Rattle.integer_diagonal.specs.Duals.{priced, top}
 use Rattle.integer_diagonal.specs.Prices.{total}

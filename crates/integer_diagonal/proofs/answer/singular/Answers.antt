@@ -3,7 +3,7 @@ use Rattle.bip_defs.specs.Matrix.{Matrix}
 use Rattle.bip_defs.specs.Witness.{IsWitness}
 use Rattle.hall_witness.specs.Answers.{IsReach}
 use Rattle.integer_diagonal.proofs.AnswerLemmas.{singular_shown}
-use Rattle.integer_diagonal.specs.Heaviest.{IsSingular}
+use Rattle.bip_defs.specs.Bottleneck.{IsSingular}
 use Rattle.integer_diagonal.proofs.answer.singular.Goals as goal
 
 pub returns : goal.returns

@@ -4,7 +4,7 @@ use Rattle.integer_diagonal.proofs.HallSets.{stuck_not_full}
 use Rattle.integer_diagonal.proofs.PathLemmas.{HasRoot, IsFlipped, extended, found_near, dual_fits, pairs_fewer, price_fits, way, way_entries, way_range, way_root}
 use Rattle.integer_diagonal.specs.Labels.{IsClear, labels_of, tree_of}
 use Rattle.integer_diagonal.specs.Duals.{cheap, priced}
-use Rattle.integer_diagonal.specs.Prices.{IsFull}
+use Rattle.bip_defs.specs.Bottleneck.{IsFull}
 use Rattle.integer_diagonal.specs.SearchTree.{Tree, far}
 use Rattle.integer_diagonal.proofs.path.extend.Goals as goal
 use Rattle.bip_defs.specs.Queues.{heads}
