@@ -1,34 +1,17 @@
 -- One more edit line.
-use Rattle.std.proofs.Common.{◌≡◌, ℕ, ◌+◌, Bool, true, false, not, if◌then◌else◌, List, [], ◌∷◌, ◌++◌, length, map, refl, sym, ap, ◌∙◌, append_assoc, append-nil, arith, add-zero, Some, None}
+use Rattle.std.proofs.Common.{◌≡◌, ℕ, ◌+◌, Bool, true, false, if◌then◌else◌, List, [], ◌∷◌, ◌++◌, length, map, refl, sym, ap, ◌∙◌, append-nil, arith, Some, None}
 use Rattle.std.proofs.lemmas.List.{length-map, map-append}
-use Rattle.std.proofs.lemmas.List.Elements.{filter-append}
 use Rattle.mm_defs.specs.declared.answers.ReadError.TheVariants as errors
 use Rattle.mm_defs.specs.declared.kinds.Kind.{Kind}
-use Rattle.mm_defs.specs.Words.{Line, words, is_skipped, numbered, kept}
+use Rattle.mm_defs.specs.Words.{Line, words, is_skipped}
 use Rattle.mm_defs.specs.Faults.{first_kind, is_limit}
 use Rattle.mm_defs.specs.File.{Fault, fault_by}
-use Rattle.mm_defs.proofs.Roles.{line_at, numbered-append}
+use Rattle.mm_defs.proofs.EditLineLemmas.{edit_lines-append, faults_from-append}
+use Rattle.mm_defs.proofs.Roles.{line_at}
 use Rattle.mm_frames.specs.declared.edit.Edit.{Edit}
-use Rattle.mm_frames.specs.Edits.{edit, edit_rules, edit_lines, edit_faults_from, edit_faults}
+use Rattle.mm_defs.specs.EditLines.{edit_rules, edit_lines, edit_faults_from, edit_faults}
+use Rattle.mm_frames.specs.Edits.{edit}
 use Rattle.mm_frames.specs.Stages.{AreRead, RefusesLast}
-
-faults_from-append : (rows cols k : ℕ) (ls ms : List Line) → edit_faults_from rows cols k (ls ++ ms) ≡ edit_faults_from rows cols k ls ++ edit_faults_from rows cols (k + length ls) ms
-faults_from-append rows cols k [] ms = rw add-zero refl
-faults_from-append rows cols k (l ∷ ls) ms =
-    let e : k + 1 + length ls ≡ k + length (l ∷ ls) = omega arith in
-    ap (λ (t : List Fault). fault_by (edit_rules rows cols k) l ++ t) (faults_from-append rows cols (k + 1) ls ms ∙ ap (λ i. edit_faults_from rows cols (k + 1) ls ++ edit_faults_from rows cols i ms) e)
-    ∙ sym (append_assoc (fault_by (edit_rules rows cols k) l) (edit_faults_from rows cols (k + 1) ls) (edit_faults_from rows cols (k + length (l ∷ ls)) ms))
-
-pub edit_lines-append : (n : ℕ) (ls ms : List (List ℕ)) → edit_lines n (ls ++ ms) ≡ edit_lines n ls ++ kept (numbered (n + 1 + length ls) ms)
-edit_lines-append n ls ms = ap kept (numbered-append (n + 1) ls ms) ∙ filter-append (λ (l : Line). not (is_skipped l.words)) (numbered (n + 1) ls) (numbered (n + 1 + length ls) ms)
-
--- the faults of lines stay the first ones
-pub edit_faults-append : (n rows cols : ℕ) (ls ms : List (List ℕ)) → (more : List Fault) × (edit_faults n rows cols (ls ++ ms) ≡ edit_faults n rows cols ls ++ more)
-unfolding edit_faults
-edit_faults-append n rows cols ls ms = (
-  edit_faults_from rows cols (0 + length (edit_lines n ls)) (kept (numbered (n + 1 + length ls) ms)),
-  ap (edit_faults_from rows cols 0) (edit_lines-append n ls ms) ∙ faults_from-append rows cols 0 (edit_lines n ls) (kept (numbered (n + 1 + length ls) ms)),
-)
 
 pub none_read : (n rows cols : ℕ) → AreRead n rows cols [] []
 unfolding edit_faults

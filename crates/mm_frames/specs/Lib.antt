@@ -1,3 +1,5 @@
+pub mod Batches
 pub mod Edits
+pub mod Frames
 pub mod Judged
 pub mod Stages

@@ -9,7 +9,8 @@ use Rattle.sp_ports.specs.Bytes.{Gives}
 use Rattle.mm_reader.specs.Fronts.{Front}
 use Rattle.mm_reader.specs.Lines.{IsLine}
 use Rattle.mm_frames.specs.declared.edit.Edit.{Edit}
-use Rattle.mm_frames.specs.Edits.{edit_faults, edits_of}
+use Rattle.mm_defs.specs.EditLines.{edit_faults}
+use Rattle.mm_frames.specs.Edits.{edits_of}
 
 -- these lines are good, and this is what they say
 pub record AreRead (n rows cols : ℕ) (ls : List (List ℕ)) (es : List Edit) : Type 0 where
@@ -43,13 +44,17 @@ pub record StandsAfter (n rows cols : ℕ) (es : List Edit) (line : LineSoFar) (
   pub open_is : IsLine line.tokens line.count line.inside (open_line bytes)
   pub begun_is : begun ≡ has_bytes (open_line bytes)
 
--- These bytes were used, those ahead first and then what the source gave, and the reader stands behind them.
-pub record HasRead (rows cols : ℕ) (first now : Front) (old new : Option (List ℕ)) (es : List Edit)
-    (line : LineSoFar) (begun : Bool) : Type 0 where
-  pub used : List ℕ
+-- These bytes were used: those ahead first, and then what the source gave.
+pub record HasUsed (first now : Front) (old new : Option (List ℕ)) (used : List ℕ) : Type 0 where
   pub gave : List ℕ
   pub given : Gives old new gave
   pub split : first.ahead ++ gave ≡ used ++ now.ahead
   pub size : length used + now.room ≡ first.room
+
+-- Some bytes were used, and the reader stands behind them.
+pub record HasRead (rows cols : ℕ) (first now : Front) (old new : Option (List ℕ)) (es : List Edit)
+    (line : LineSoFar) (begun : Bool) : Type 0 where
+  pub used : List ℕ
+  pub so_far : HasUsed first now old new used
   pub lines_are : now.lines ≡ first.lines + length (lines false used)
   pub stands : StandsAfter first.lines rows cols es line begun used

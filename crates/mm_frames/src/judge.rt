@@ -1,30 +1,27 @@
 //! The judge of edit lines: the first kind of fault that applies, or what the line says.
 
 ghost use Rattle.std.specs.Prelude.{◌≡◌, ◌<◌, ◌≤◌, ℕ, ◌||◌, ◌==◌, List, length, IfOk, true, false};
+ghost use Rattle.sp_ids.specs.Limits.{max_edits};
 ghost use Rattle.mm_defs.specs.Words.{word, words};
 ghost use Rattle.mm_defs.specs.Numbers.{is_number, number};
 ghost use Rattle.mm_reader.specs.Lines.{IsLine};
 ghost use Rattle.mm_reader.specs.Tokens.{capped};
-ghost use Rattle.mm_frames.specs.Edits.{edit, edit_place_rules, edit_rules, is_set, is_clear, is_report, IsWithinMatrix, max_edits};
+ghost use Rattle.mm_defs.specs.EditLines.{edit_place_rules, edit_rules, is_set, is_clear, is_report};
+ghost use Rattle.mm_frames.specs.Edits.{edit, IsWithinMatrix};
 ghost use Rattle.mm_frames.specs.Judged.{JudgedEdit, JudgedPlace};
 
 use crate::edit::Edit;
 use mm_defs::Kind;
 use mm_reader::LineSoFar;
-use sp_ids::{Col, MAX_COLS, MAX_ROWS, Row};
-
-/// The most edit lines.
-const MAX_EDITS: usize = 16_777_216;
+use sp_ids::{Col, MAX_EDITS, Row};
 
 /// Judges an edit line behind so many, of a matrix of so many rows and columns.
 pub fn judge_edit(before: usize, rows: u32, cols: u32, line: &LineSoFar) -> Result<Edit, Kind>
-    requires rows { rows ≤ MAX_ROWS }
-    requires cols { cols ≤ MAX_COLS }
     ensures judged { (bytes : List ℕ) → IsLine line.now.tokens line.now.count line.now.inside bytes
         → JudgedEdit (edit_rules rows cols before (words bytes)) (edit (words bytes)) result }
     ensures within { IfOk result (IsWithinMatrix rows cols) }
 {
-    if before >= MAX_EDITS {
+    if before >= MAX_EDITS as usize {
         return Err(Kind::Edits);
     }
     if line.is(0, b"report") {
@@ -56,8 +53,6 @@ pub fn judge_edit(before: usize, rows: u32, cols: u32, line: &LineSoFar) -> Resu
 
 /// Judges the row and the column that the line tells.
 fn judge_place(rows: u32, cols: u32, line: &LineSoFar) -> Result<(Row, Col), Kind>
-    requires rows { rows ≤ MAX_ROWS }
-    requires cols { cols ≤ MAX_COLS }
     ensures judged { (bytes : List ℕ) → IsLine line.now.tokens line.now.count line.now.inside bytes
         → JudgedPlace (edit_place_rules rows cols (words bytes)) (number (word (words bytes) 1))
         (number (word (words bytes) 2)) result }

@@ -2,13 +2,12 @@
 
 ghost use Rattle.std.specs.Prelude.{◌≡◌, ◌<◌, ◌≤◌, ◌+◌, ◌-◌, ◌^◌, ◌++◌, ℕ, List, length, true, false, if◌then◌else◌, IfOk, IsTrue, MatchResult};
 ghost use Rattle.std.specs.List.{All};
-ghost use Rattle.sp_ports.specs.Bytes.{IsAtEnd};
+ghost use Rattle.sp_ports.specs.Bytes.{GivesPrefix, IsAtEnd};
 ghost use Rattle.sp_ports.specs.Device.{seen};
 ghost use Rattle.mm_defs.specs.Faults.{is_limit};
-ghost use Rattle.mm_defs.specs.File.{Fault};
 ghost use Rattle.mm_defs.specs.Words.{lines};
-ghost use Rattle.mm_defs.specs.Calls.{IsAnswerTo};
-ghost use Rattle.mm_frames.specs.Edits.{IsWithinMatrix, KeepsGood, ReadsEdits, RefusesEdits, first_bad_edit};
+ghost use Rattle.mm_defs.specs.Calls.{HasItsKind, TakesAtMostOnePast};
+ghost use Rattle.mm_frames.specs.Edits.{IsWithinMatrix, KeepsGood, ReadsEdits, RefusesEdits, edits_of};
 ghost use Rattle.mm_frames.specs.Stages.{AreRead, RefusesLast, StandsAfter, TakesLine};
 ghost use Rattle.mm_reader.specs.Inputs.{FailsByReadFault, OnCall};
 ghost use Rattle.mm_reader.specs.Lines.{IsLine};
@@ -17,7 +16,6 @@ use crate::edit::Edit;
 use crate::judge::judge_edit;
 use mm_defs::{Kind, ReadError};
 use mm_reader::{Input, LineSoFar, next_byte};
-use sp_ids::{MAX_COLS, MAX_ROWS};
 use sp_ports::Source;
 use std::alloc::Global;
 
@@ -42,11 +40,10 @@ fn take_line(
     cols: u32,
     edits: &mut Vec<Edit>,
 ) -> Result<(), ReadError>
-    requires rows { rows ≤ MAX_ROWS }
-    requires cols { cols ≤ MAX_COLS }
     ensures steps { (n : ℕ) (bytes : List ℕ)
         → IsLine line.now.tokens line.now.count line.now.inside bytes
         → TakesLine rows cols number n bytes edits.old.items edits.new.items result }
+    ensures kind { HasItsKind result }
     ensures within { All (IsWithinMatrix rows cols) edits.old.items
         → All (IsWithinMatrix rows cols) edits.new.items }
 {
@@ -72,14 +69,13 @@ fn finish(
     cols: u32,
     edits: Vec<Edit>,
 ) -> Result<Vec<Edit>, ReadError>
-    requires rows { rows ≤ MAX_ROWS }
-    requires cols { cols ≤ MAX_COLS }
-    requires fits { begun ≡ true → lfs + 1 < 2 ^ 64 }
+    requires { begun ≡ true → lfs + 1 < 2 ^ 64 }
     ensures steps { (n : ℕ) (bytes : List ℕ)
         → StandsAfter n rows cols edits.items line.now begun bytes
         → lfs ≡ n + length (lines false bytes)
         → MatchResult result (λ v. AreRead n rows cols (lines true bytes) v.items)
         (RefusesLast n rows cols (lines true bytes)) }
+    ensures kind { HasItsKind result }
     ensures within { All (IsWithinMatrix rows cols) edits.items
         → IfOk result (λ v. All (IsWithinMatrix rows cols) v.items) }
 {
@@ -110,16 +106,26 @@ pub fn read_edits<S: Source>(
 ) -> Result<Vec<Edit>, ReadError>
     requires good { IsTrue input.old.good }
     requires at_end { IsTrue input.old.at_end → IsAtEnd (S.left source.old) }
-    requires rows { rows ≤ MAX_ROWS }
-    requires cols { cols ≤ MAX_COLS }
 
     // What each answer says of the bytes.
     ensures answer { OnCall input.old (seen S.left S.faults source.old source.new) (λ call.
         MatchResult result (λ v. ReadsEdits input.old.lines rows cols call v.items
         (input.new.ahead ++ call.after)) (RefusesEdits input.old.lines rows cols call)) }
 
+    // `Limit` tells what passes a limit, and `Malformed` what does not.
+    ensures kind { HasItsKind result }
+
+    // The edits are what some lines say, also where the source does not tell its bytes.
+    ensures said { IfOk result
+        (λ v. (bytes : List ℕ) × (v.items ≡ edits_of input.old.lines (lines true bytes))) }
+
     // All places are in the matrix.
     ensures within { IfOk result (λ v. All (IsWithinMatrix rows cols) v.items) }
+
+    // What is left is the end of what there was. At most one byte was taken past the limit.
+    ensures gave { GivesPrefix (S.left source.old) (S.left source.new) }
+    ensures most { OnCall input.old
+        (seen S.left S.faults source.old source.new) TakesAtMostOnePast }
 
     // A failed read is the one cause of `ReadFault`, and at Ok no read has failed.
     ensures cause { FailsByReadFault (seen S.left S.faults source.old source.new) result }

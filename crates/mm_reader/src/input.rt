@@ -255,6 +255,9 @@ pub fn next_byte<S: Source>(input: &mut Input, source: &mut S) -> Result<Option<
     ensures unasked { IsTrue input.old.at_end → source.new ≡ source.old }
     ensures stays { IsTrue input.old.at_end → IsTrue input.new.at_end }
 
+    // Of the bytes ahead at most one is past what may be used.
+    ensures most { length input.new.ahead ≤ room input.new + 1 }
+
     // So the number of each line fits.
     ensures fits { input.old.lines + room input.old < 2 ^ 64 }
 

@@ -1,9 +1,10 @@
-use Rattle.std.proofs.Common.{◌≡◌, false, length, List, refl, sym, ap, subst, ◌∙◌, arith}
+use Rattle.std.proofs.Common.{◌≡◌, false, length, List, [], ◌∷◌, ◌++◌, refl, sym, ap, subst, ◌∙◌, arith}
 use Rattle.mm_defs.specs.Words.{lines, open_line}
 use Rattle.mm_reader.specs.Fronts.{front}
 use Rattle.mm_frames.specs.declared.edit.Edit.{Edit}
 use Rattle.mm_frames.specs.Stages.{HasRead}
 use Rattle.mm_frames.proofs.ReadLaws.{read_at_start, read_byte, read_lf, lf_number, byte_fits, stop_known, line_known}
+use Rattle.mm_frames.proofs.UsedLaws.{stopped_used, one_more, most_known}
 use Rattle.mm_frames.proofs.reader.read_edits.Goals as goal
 
 pub reading-init : goal.reading-init
@@ -26,8 +27,15 @@ returns-in-Err-clause-answer g c =
     stop_known c.args.rows c.args.cols (front c.args.input.now) (front c.reading.input) (front c.next_byte.new.input) (g.S.Source.left c.args.source.now) (g.S.Source.left c.reading.source) (g.S.Source.left c.next_byte.new.source)
     (g.S.Source.faults c.args.source.now) (g.S.Source.faults c.reading.source) (g.S.Source.faults c.next_byte.new.source) c.reading.edits.items c.reading.line c.reading.begun i.read i.steady c.in-Err.error c.in-Err.ensures.err
 
-pub finish-requires-clause-fits : goal.finish-requires-clause-fits
-finish-requires-clause-fits g c begun =
+pub returns-in-Err-clause-gave : goal.returns-in-Err-clause-gave
+returns-in-Err-clause-gave g c =
+    let r = c.reading.invariant.read in
+    let u = stopped_used (front c.args.input.now) (front c.reading.input) (front c.next_byte.new.input) (g.S.Source.left c.args.source.now) (g.S.Source.left c.reading.source) (g.S.Source.left c.next_byte.new.source)
+    (g.S.Source.faults c.reading.source) (g.S.Source.faults c.next_byte.new.source) r.used r.so_far c.in-Err.error c.in-Err.ensures.err in
+    (u.gave, u.given)
+
+pub finish-requires : goal.finish-requires
+finish-requires g c begun =
     let i = c.reading.invariant in
     let f = i.fits begun in
     let u = rw c.in-Ok-None.field-0-is at c.in-Ok-None.ensures.ok in
@@ -44,6 +52,25 @@ returns-in-Err-take_line-clause-answer g c =
     line_known c.args.rows c.args.cols (front c.args.input.now) (front c.reading.input) (front c.next_byte.new.input) (g.S.Source.left c.args.source.now) (g.S.Source.left c.reading.source) (g.S.Source.left c.next_byte.new.source)
     (g.S.Source.faults c.args.source.now) (g.S.Source.faults c.reading.source) (g.S.Source.faults c.next_byte.new.source) c.reading.edits.items c.reading.line c.reading.begun r b.field-0-0 b.field-0-0-test u c.in-Err-take_line.error
     (c.in-Err-take_line.ensures.steps c.args.input.now.lines (open_line r.used) r.stands.open_is (lines false r.used) r.stands.lines_are n)
+
+pub returns-in-Err-take_line-clause-gave : goal.returns-in-Err-take_line-clause-gave
+returns-in-Err-take_line-clause-gave g c =
+    let b = c.in-Ok-Some-eq10 in
+    let u = rw b.field-0-is at b.ensures.ok in
+    let r = c.reading.invariant.read in
+    let m = one_more (front c.args.input.now) (front c.reading.input) (front c.next_byte.new.input) (g.S.Source.left c.args.source.now) (g.S.Source.left c.reading.source) (g.S.Source.left c.next_byte.new.source)
+    (g.S.Source.faults c.reading.source) (g.S.Source.faults c.next_byte.new.source) r.used r.so_far b.field-0-0 u in
+    (m.gave, m.given)
+
+pub returns-in-Err-take_line-clause-most : goal.returns-in-Err-take_line-clause-most
+returns-in-Err-take_line-clause-most g c =
+    let b = c.in-Ok-Some-eq10 in
+    let u = rw b.field-0-is at b.ensures.ok in
+    let r = c.reading.invariant.read in
+    let m = one_more (front c.args.input.now) (front c.reading.input) (front c.next_byte.new.input) (g.S.Source.left c.args.source.now) (g.S.Source.left c.reading.source) (g.S.Source.left c.next_byte.new.source)
+    (g.S.Source.faults c.reading.source) (g.S.Source.faults c.next_byte.new.source) r.used r.so_far b.field-0-0 u in
+    most_known (front c.args.input.now) (front c.next_byte.new.input) (g.S.Source.left c.args.source.now) (g.S.Source.left c.next_byte.new.source) (r.used ++ b.field-0-0 ∷ []) m (g.S.Source.faults c.args.source.now)
+    (g.S.Source.faults c.next_byte.new.source) b.ensures.most
 
 pub reading-preserved-in-Ok-Some-eq10 : goal.reading-preserved-in-Ok-Some-eq10
 reading-preserved-in-Ok-Some-eq10 g c =

@@ -2,7 +2,7 @@ use Rattle.std.proofs.Common.{◌≡◌, ◌++◌, ◌∷◌, [], ℕ, length, S
 use Rattle.mm_defs.specs.declared.answers.ReadError.{ReadError}
 use Rattle.mm_defs.specs.Faults.{first_kind}
 use Rattle.mm_defs.specs.Words.{words}
-use Rattle.mm_frames.specs.Edits.{edit_rules}
+use Rattle.mm_defs.specs.EditLines.{edit_rules}
 use Rattle.mm_frames.specs.Stages.{RefusesLast}
 use Rattle.mm_frames.proofs.EditLaws.{line_skipped, line_good, line_bad}
 use Rattle.mm_frames.proofs.reader.take_line.Goals as goal

@@ -1,0 +1,154 @@
+use Rattle.std.proofs.Common.{◌≡◌, ◌≤◌, ℕ, [], ◌∷◌, ◌++◌, length, refl, ap, ◌∙◌, arith}
+use Rattle.std.specs.Global.{Vec}
+use Rattle.std.specs.Vec.{vec_len}
+use Rattle.std.proofs.lemmas.List.{length-map, map-append}
+use Rattle.std.proofs.lemmas.List.Elements.{All-push}
+use Rattle.sp_ids.specs.Limits.{max_batch_file_bytes}
+use Rattle.mm_reader.specs.Fronts.{front}
+use Rattle.mm_frames.specs.Batches.{files_of}
+use Rattle.mm_frames.proofs.UsedLaws.{most_known}
+use Rattle.mm_frames.proofs.WholeLaws.{end_answered, file_answered, file_used, files_none, header_answered, header_used, last_answered, less_room, one_file_more}
+use Rattle.mm_frames.proofs.files.read_files.Goals as goal
+
+count : (files : Vec (Vec ℕ)) (n : ℕ) → n ≡ vec_len files → n ≡ length (files_of files.items)
+count files n e = let m = length-map files.items (λ (file : Vec ℕ). file.items) in omega (arith, e, files.ok.0, m)
+
+pub reading-init : goal.reading-init
+reading-init g c =
+    let e = c.new-files.ensures.items in
+    let n : length c.new-files.result.items ≡ 0 = ap length e in
+    record {
+      files = rw e (files_none (front c.args.input.now) (g.S.Source.left c.args.source.now));
+      small = λ k d low. absurd (omega arith);
+      steady = refl;
+      good = c.requires.good;
+      limit = refl;
+      at_end = c.requires.at_end;
+    }
+
+pub returns-in-Err-clause-answer : goal.returns-in-Err-clause-answer
+returns-in-Err-clause-answer g c =
+    let i = c.reading.invariant in
+    header_answered (front c.args.input.now) (front c.reading.input) (front c.read_header.new.input) (g.S.Source.left c.args.source.now) (g.S.Source.left c.reading.source) (g.S.Source.left c.read_header.new.source)
+    (g.S.Source.faults c.args.source.now) (g.S.Source.faults c.reading.source) (g.S.Source.faults c.read_header.new.source) i.steady (files_of c.reading.files.items) i.files c.len-before.result (count c.reading.files c.len-before.result c.len-before.ensures)
+    c.in-Err.error c.in-Err.ensures.answer
+
+pub returns-in-Err-clause-gave : goal.returns-in-Err-clause-gave
+returns-in-Err-clause-gave g c =
+    let i = c.reading.invariant in
+    let u = c.in-Err.ensures.answer in
+    let k = header_used (front c.args.input.now) (front c.reading.input) (front c.read_header.new.input) (g.S.Source.left c.args.source.now) (g.S.Source.left c.reading.source) (g.S.Source.left c.read_header.new.source)
+    (g.S.Source.faults c.args.source.now) (g.S.Source.faults c.reading.source) (g.S.Source.faults c.read_header.new.source) i.steady (files_of c.reading.files.items) i.files c.len-before.result (count c.reading.files c.len-before.result c.len-before.ensures) u.used u.so_far in
+    (k.gave, k.given)
+
+pub returns-in-Err-clause-most : goal.returns-in-Err-clause-most
+returns-in-Err-clause-most g c =
+    let i = c.reading.invariant in
+    let u = c.in-Err.ensures.answer in
+    let k = header_used (front c.args.input.now) (front c.reading.input) (front c.read_header.new.input) (g.S.Source.left c.args.source.now) (g.S.Source.left c.reading.source) (g.S.Source.left c.read_header.new.source)
+    (g.S.Source.faults c.args.source.now) (g.S.Source.faults c.reading.source) (g.S.Source.faults c.read_header.new.source) i.steady (files_of c.reading.files.items) i.files c.len-before.result (count c.reading.files c.len-before.result c.len-before.ensures) u.used u.so_far in
+    most_known (front c.args.input.now) (front c.read_header.new.input) (g.S.Source.left c.args.source.now) (g.S.Source.left c.read_header.new.source) (i.files.used ++ u.used) k (g.S.Source.faults c.args.source.now) (g.S.Source.faults c.read_header.new.source) c.in-Err.ensures.most
+
+pub returns-in-Ok-None-clause-answer : goal.returns-in-Ok-None-clause-answer
+returns-in-Ok-None-clause-answer g c =
+    let i = c.reading.invariant in
+    let u = rw c.in-Ok-None.field-0-is at c.in-Ok-None.ensures.answer in
+    end_answered (front c.args.input.now) (front c.reading.input) (front c.read_header.new.input) (g.S.Source.left c.args.source.now) (g.S.Source.left c.reading.source) (g.S.Source.left c.read_header.new.source)
+    (g.S.Source.faults c.args.source.now) (g.S.Source.faults c.reading.source) (g.S.Source.faults c.read_header.new.source) i.steady (files_of c.reading.files.items) i.files c.len-before.result (count c.reading.files c.len-before.result c.len-before.ensures) u
+
+pub returns-then-header-clause-answer : goal.returns-then-header-clause-answer
+returns-then-header-clause-answer g c =
+    let i = c.reading.invariant in
+    let u = rw c.in-Ok-Some.field-0-is at c.in-Ok-Some.ensures.answer in
+    last_answered (front c.args.input.now) (front c.reading.input) (front c.read_header.new.input) (g.S.Source.left c.args.source.now) (g.S.Source.left c.reading.source) (g.S.Source.left c.read_header.new.source)
+    (g.S.Source.faults c.args.source.now) (g.S.Source.faults c.reading.source) (g.S.Source.faults c.read_header.new.source) i.steady (files_of c.reading.files.items) i.files c.len-before.result (count c.reading.files c.len-before.result c.len-before.ensures) c.in-Ok-Some.header u c.if-header.true c.end_with.result c.end_with.ensures.answer
+
+pub returns-then-header-clause-gave : goal.returns-then-header-clause-gave
+returns-then-header-clause-gave g c =
+    let i = c.reading.invariant in
+    let u = c.in-Ok-Some.ensures.answer in
+    let k = header_used (front c.args.input.now) (front c.reading.input) (front c.read_header.new.input) (g.S.Source.left c.args.source.now) (g.S.Source.left c.reading.source) (g.S.Source.left c.read_header.new.source)
+    (g.S.Source.faults c.args.source.now) (g.S.Source.faults c.reading.source) (g.S.Source.faults c.read_header.new.source) i.steady (files_of c.reading.files.items) i.files c.len-before.result (count c.reading.files c.len-before.result c.len-before.ensures) u.used u.so_far in
+    (k.gave, k.given)
+
+pub returns-then-header-clause-most : goal.returns-then-header-clause-most
+returns-then-header-clause-most g c =
+    let i = c.reading.invariant in
+    let u = c.in-Ok-Some.ensures.answer in
+    let k = header_used (front c.args.input.now) (front c.reading.input) (front c.read_header.new.input) (g.S.Source.left c.args.source.now) (g.S.Source.left c.reading.source) (g.S.Source.left c.read_header.new.source)
+    (g.S.Source.faults c.args.source.now) (g.S.Source.faults c.reading.source) (g.S.Source.faults c.read_header.new.source) i.steady (files_of c.reading.files.items) i.files c.len-before.result (count c.reading.files c.len-before.result c.len-before.ensures) u.used u.so_far in
+    most_known (front c.args.input.now) (front c.read_header.new.input) (g.S.Source.left c.args.source.now) (g.S.Source.left c.read_header.new.source) (i.files.used ++ u.used) k (g.S.Source.faults c.args.source.now) (g.S.Source.faults c.read_header.new.source) c.in-Ok-Some.ensures.most
+
+pub returns-in-Err-read_file-clause-answer : goal.returns-in-Err-read_file-clause-answer
+returns-in-Err-read_file-clause-answer g c =
+    let i = c.reading.invariant in
+    let u = rw c.in-Ok-Some.field-0-is at c.in-Ok-Some.ensures.answer in
+    file_answered (front c.args.input.now) (front c.reading.input) (front c.read_header.new.input) (g.S.Source.left c.args.source.now) (g.S.Source.left c.reading.source) (g.S.Source.left c.read_header.new.source)
+    (g.S.Source.faults c.args.source.now) (g.S.Source.faults c.reading.source) (g.S.Source.faults c.read_header.new.source) i.steady (files_of c.reading.files.items) i.files c.len-before.result (count c.reading.files c.len-before.result c.len-before.ensures) c.in-Ok-Some.header u c.if-header.false
+    c.in-Ok-Some.ensures.cause.steady (front c.read_file.new.input) (g.S.Source.left c.read_file.new.source) (g.S.Source.faults c.read_file.new.source) c.in-Err-read_file.error (c.in-Err-read_file.ensures.answer u.such.line u.such.good)
+
+pub returns-in-Err-read_file-clause-gave : goal.returns-in-Err-read_file-clause-gave
+returns-in-Err-read_file-clause-gave g c =
+    let i = c.reading.invariant in
+    let u = rw c.in-Ok-Some.field-0-is at c.in-Ok-Some.ensures.answer in
+    let v = c.in-Err-read_file.ensures.answer u.such.line u.such.good in
+    let k = file_used (front c.args.input.now) (front c.reading.input) (front c.read_header.new.input) (g.S.Source.left c.args.source.now) (g.S.Source.left c.reading.source) (g.S.Source.left c.read_header.new.source)
+    (g.S.Source.faults c.args.source.now) (g.S.Source.faults c.reading.source) (g.S.Source.faults c.read_header.new.source) i.steady (files_of c.reading.files.items) i.files c.len-before.result (count c.reading.files c.len-before.result c.len-before.ensures) c.in-Ok-Some.header u c.if-header.false
+    c.in-Ok-Some.ensures.cause.steady (front c.read_file.new.input) (g.S.Source.left c.read_file.new.source) (g.S.Source.faults c.read_file.new.source) v.used v.so_far in
+    (k.gave, k.given)
+
+pub returns-in-Err-read_file-clause-most : goal.returns-in-Err-read_file-clause-most
+returns-in-Err-read_file-clause-most g c =
+    let i = c.reading.invariant in
+    let u = rw c.in-Ok-Some.field-0-is at c.in-Ok-Some.ensures.answer in
+    let v = c.in-Err-read_file.ensures.answer u.such.line u.such.good in
+    let k = file_used (front c.args.input.now) (front c.reading.input) (front c.read_header.new.input) (g.S.Source.left c.args.source.now) (g.S.Source.left c.reading.source) (g.S.Source.left c.read_header.new.source)
+    (g.S.Source.faults c.args.source.now) (g.S.Source.faults c.reading.source) (g.S.Source.faults c.read_header.new.source) i.steady (files_of c.reading.files.items) i.files c.len-before.result (count c.reading.files c.len-before.result c.len-before.ensures) c.in-Ok-Some.header u c.if-header.false
+    c.in-Ok-Some.ensures.cause.steady (front c.read_file.new.input) (g.S.Source.left c.read_file.new.source) (g.S.Source.faults c.read_file.new.source) v.used v.so_far in
+    most_known (front c.args.input.now) (front c.read_file.new.input) (g.S.Source.left c.args.source.now) (g.S.Source.left c.read_file.new.source) (i.files.used ++ (u.such.line ++ 10 ∷ v.used)) k (g.S.Source.faults c.args.source.now) (g.S.Source.faults c.read_file.new.source) c.in-Err-read_file.ensures.most
+
+pub returns-in-Err-push-clause-gave : goal.returns-in-Err-push-clause-gave
+returns-in-Err-push-clause-gave g c =
+    let i = c.reading.invariant in
+    let u = rw c.in-Ok-Some.field-0-is at c.in-Ok-Some.ensures.answer in
+    let v = c.in-Ok.ensures.answer u.such.line u.such.good in
+    let k = file_used (front c.args.input.now) (front c.reading.input) (front c.read_header.new.input) (g.S.Source.left c.args.source.now) (g.S.Source.left c.reading.source) (g.S.Source.left c.read_header.new.source)
+    (g.S.Source.faults c.args.source.now) (g.S.Source.faults c.reading.source) (g.S.Source.faults c.read_header.new.source) i.steady (files_of c.reading.files.items) i.files c.len-before.result (count c.reading.files c.len-before.result c.len-before.ensures) c.in-Ok-Some.header u c.if-header.false
+    c.in-Ok-Some.ensures.cause.steady (front c.read_file.new.input) (g.S.Source.left c.read_file.new.source) (g.S.Source.faults c.read_file.new.source) v.used v.so_far in
+    (k.gave, k.given)
+
+pub returns-in-Err-push-clause-most : goal.returns-in-Err-push-clause-most
+returns-in-Err-push-clause-most g c =
+    let i = c.reading.invariant in
+    let u = rw c.in-Ok-Some.field-0-is at c.in-Ok-Some.ensures.answer in
+    let v = c.in-Ok.ensures.answer u.such.line u.such.good in
+    let k = file_used (front c.args.input.now) (front c.reading.input) (front c.read_header.new.input) (g.S.Source.left c.args.source.now) (g.S.Source.left c.reading.source) (g.S.Source.left c.read_header.new.source)
+    (g.S.Source.faults c.args.source.now) (g.S.Source.faults c.reading.source) (g.S.Source.faults c.read_header.new.source) i.steady (files_of c.reading.files.items) i.files c.len-before.result (count c.reading.files c.len-before.result c.len-before.ensures) c.in-Ok-Some.header u c.if-header.false
+    c.in-Ok-Some.ensures.cause.steady (front c.read_file.new.input) (g.S.Source.left c.read_file.new.source) (g.S.Source.faults c.read_file.new.source) v.used v.so_far in
+    most_known (front c.args.input.now) (front c.read_file.new.input) (g.S.Source.left c.args.source.now) (g.S.Source.left c.read_file.new.source) (i.files.used ++ (u.such.line ++ 10 ∷ v.used)) k (g.S.Source.faults c.args.source.now) (g.S.Source.faults c.read_file.new.source) c.in-Ok.ensures.most
+
+pub reading-smaller : goal.reading-smaller
+reading-smaller g c =
+    let i = c.reading.invariant in
+    let u = rw c.in-Ok-Some.field-0-is at c.in-Ok-Some.ensures.answer in
+    less_room (front c.args.input.now) (front c.reading.input) (front c.read_header.new.input) (g.S.Source.left c.args.source.now) (g.S.Source.left c.reading.source) (g.S.Source.left c.read_header.new.source)
+    (g.S.Source.faults c.args.source.now) (g.S.Source.faults c.reading.source) (g.S.Source.faults c.read_header.new.source) i.steady (files_of c.reading.files.items) i.files c.len-before.result (count c.reading.files c.len-before.result c.len-before.ensures) c.in-Ok-Some.header u c.if-header.false
+    c.in-Ok-Some.ensures.cause.steady (front c.read_file.new.input) (g.S.Source.left c.read_file.new.source) (g.S.Source.faults c.read_file.new.source) c.in-Ok.file (c.in-Ok.ensures.answer u.such.line u.such.good)
+
+pub reading-preserved : goal.reading-preserved
+reading-preserved g c =
+    let i = c.reading.invariant in
+    let u = rw c.in-Ok-Some.field-0-is at c.in-Ok-Some.ensures.answer in
+    let m = one_file_more (front c.args.input.now) (front c.reading.input) (front c.read_header.new.input) (g.S.Source.left c.args.source.now) (g.S.Source.left c.reading.source) (g.S.Source.left c.read_header.new.source)
+    (g.S.Source.faults c.args.source.now) (g.S.Source.faults c.reading.source) (g.S.Source.faults c.read_header.new.source) i.steady (files_of c.reading.files.items) i.files c.len-before.result (count c.reading.files c.len-before.result c.len-before.ensures) c.in-Ok-Some.header u c.if-header.false
+    c.in-Ok-Some.ensures.cause.steady (front c.read_file.new.input) (g.S.Source.left c.read_file.new.source) (g.S.Source.faults c.read_file.new.source) c.in-Ok.file (c.in-Ok.ensures.answer u.such.line u.such.good) in
+    let e = c.in_default.ensures.items in
+    let a = map-append (λ (file : Vec ℕ). file.items) c.reading.files.items (c.in-Ok.file ∷ []) in
+    record {
+      files = rw (e, a) m;
+      small = rw e (All-push (λ (file : Vec ℕ). length file.items ≤ max_batch_file_bytes) c.reading.files.items c.in-Ok.file i.small c.in-Ok.ensures.small);
+      steady = c.in-Ok.ensures.cause.steady ∙ c.in-Ok-Some.ensures.cause.steady ∙ i.steady;
+      good = c.in-Ok.ensures.good;
+      limit = c.in-Ok.ensures.limit ∙ c.in-Ok-Some.ensures.limit ∙ i.limit;
+      at_end = c.in-Ok.ensures.at_end;
+    }

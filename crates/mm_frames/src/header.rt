@@ -1,0 +1,133 @@
+//! The header of a file in a batch: the line that tells how many bytes the file has.
+
+ghost use Rattle.std.specs.Prelude.{◌≡◌, ◌≤◌, ◌<◌, ◌+◌, ℕ, List, IfOk, IfSome, IsTrue, length, if◌then◌else◌};
+ghost use Rattle.sp_ids.specs.Limits.{max_batch_files, max_batch_file_bytes};
+ghost use Rattle.sp_ports.specs.Bytes.{IsAtEnd};
+ghost use Rattle.sp_ports.specs.Device.{seen};
+ghost use Rattle.mm_defs.specs.Faults.{is_limit};
+ghost use Rattle.mm_defs.specs.Words.{words};
+ghost use Rattle.mm_defs.specs.Calls.{room};
+ghost use Rattle.mm_reader.specs.Fronts.{front};
+ghost use Rattle.mm_reader.specs.Lines.{IsLine};
+ghost use Rattle.mm_frames.specs.Batches.{FailsByFailedRead, StaysGood, file_bytes, header_rules};
+ghost use Rattle.mm_frames.specs.Frames.{AnswersHeader, HeaderIs, IsSameStop, JudgedHeader, UsesSuch};
+
+use crate::batch::BatchError;
+use mm_defs::{Kind, ReadError};
+use mm_reader::{Input, LineSoFar, next_byte};
+use sp_ids::{MAX_BATCH_FILE_BYTES, MAX_BATCH_FILES};
+use sp_ports::Source;
+
+/// What a header says: how many bytes the file has, and whether the input ended with the header.
+#[derive(Clone, Copy, Debug, PartialEq, Eq)]
+pub struct Header {
+    pub bytes: u64,
+    pub last: bool,
+}
+
+/// The answer to a bad frame, behind so many files.
+pub fn refusal(before: usize, kind: Kind) -> BatchError
+    requires { before ≤ max_batch_files }
+    ensures { result ≡ (if is_limit kind
+        then BatchError.Limit (before + 1) kind
+        else BatchError.Malformed (before + 1) kind) }
+{
+    let file = before as u32 + 1;
+    if kind.is_limit() {
+        BatchError::Limit { file, kind }
+    } else {
+        BatchError::Malformed { file, kind }
+    }
+}
+
+/// The answer where no byte was given.
+pub fn stopped(error: ReadError) -> BatchError
+    ensures { IsSameStop error result }
+{
+    match error {
+        ReadError::TooLong => BatchError::TooLong,
+        ReadError::OutOfMemory => BatchError::OutOfMemory,
+        _ => BatchError::ReadFault,
+    }
+}
+
+/// Judges the header of a file behind so many: the first kind of fault that applies, or how many bytes it tells.
+fn judge_header(before: usize, line: &LineSoFar) -> Result<u64, Kind>
+    ensures judged { (bytes : List ℕ) → IsLine line.now.tokens line.now.count line.now.inside bytes
+        → JudgedHeader (header_rules before (words bytes)) (file_bytes (words bytes)) result }
+    ensures few { IfOk result (λ n. before < max_batch_files) }
+    ensures small { IfOk result (λ n. n ≤ max_batch_file_bytes) }
+{
+    if !line.has_words(2) {
+        return Err(Kind::BatchHeader);
+    }
+    if !line.is(0, b"file") {
+        return Err(Kind::BatchHeader);
+    }
+    let bytes = match line.number(1) {
+        None => return Err(Kind::BatchHeader),
+        Some(bytes) => bytes,
+    };
+    if before >= MAX_BATCH_FILES as usize {
+        return Err(Kind::Files);
+    }
+    if bytes > MAX_BATCH_FILE_BYTES {
+        return Err(Kind::FileBytes);
+    }
+    Ok(bytes)
+}
+
+/// A header has come, behind so many files, with its LF or with the end of the input.
+fn take_header(before: usize, line: &LineSoFar, last: bool) -> Result<Header, BatchError>
+    requires { before ≤ max_batch_files }
+    ensures taken { (bytes : List ℕ) → IsLine line.now.tokens line.now.count line.now.inside bytes
+        → HeaderIs before last (words bytes) result }
+    ensures few { IfOk result (λ header. before < max_batch_files) }
+    ensures small { IfOk result (λ header. header.bytes ≤ max_batch_file_bytes) }
+{
+    match judge_header(before, line) {
+        Err(kind) => Err(refusal(before, kind)),
+        Ok(bytes) => Ok(Header { bytes, last }),
+    }
+}
+
+/// Reads the header of a file behind so many, or finds that the input has ended where it would begin.
+pub fn read_header<S: Source>(
+    input: &mut Input,
+    source: &mut S,
+    before: usize,
+) -> Result<Option<Header>, BatchError>
+    requires good { IsTrue input.old.good }
+    requires at_end { IsTrue input.old.at_end → IsAtEnd (S.left source.old) }
+    requires few { before ≤ max_batch_files }
+    ensures answer { UsesSuch (front input.old) (front input.new)
+        (seen S.left S.faults source.old source.new)
+        (AnswersHeader before (front input.new) (seen S.left S.faults source.old source.new)
+        result) }
+    ensures few { IfOk result (λ header. IfSome header (λ h. before < max_batch_files)) }
+    ensures small { IfOk result (λ header. IfSome header (λ h. h.bytes ≤ max_batch_file_bytes)) }
+    ensures most { length input.new.ahead ≤ room input.new + 1 }
+    ensures cause { FailsByFailedRead (seen S.left S.faults source.old source.new) result }
+    ensures at_end { IsTrue input.new.at_end → IsAtEnd (S.left source.new) }
+    ensures good { StaysGood input.new.good result }
+    ensures limit { input.new.limit ≡ input.old.limit }
+{
+    let mut line = LineSoFar::new();
+    let mut begun = false;
+    'reading: loop {
+        match next_byte(input, source) {
+            Err(error) => return Err(stopped(error)),
+            Ok(None) => {
+                if !begun {
+                    return Ok(None);
+                }
+                return Ok(Some(take_header(before, &line, true)?));
+            }
+            Ok(Some(b'\n')) => return Ok(Some(take_header(before, &line, false)?)),
+            Ok(Some(byte)) => {
+                line.push(byte);
+                begun = true;
+            }
+        }
+    }
+}
