@@ -31,5 +31,6 @@ pub record IsShiftedUp (from end x : ℕ) (old new : List ℕ) : Type 0 where
 -- the elements behind a place, to before another one, have moved down by one
 pub record IsShiftedDown (from end : ℕ) (old new : List ℕ) : Type 0 where
   pub long : length new ≡ length old
-  pub moved : (k d : ℕ) → from ≤ k → k + 1 < end → slice_index_or new k d ≡ slice_index_or old (k + 1) d
+  pub moved : (k d : ℕ) → from ≤ k → k + 1 < end
+      → slice_index_or new k d ≡ slice_index_or old (k + 1) d
   pub others : (k d : ℕ) → (k < from) ⊎ (end ≤ k) → slice_index_or new k d ≡ slice_index_or old k d
