@@ -3,4 +3,7 @@
 
 mod line;
 
-pub use line::{Line, invalid_line, limit_line, malformed_line, sum_limit_line};
+pub use line::{
+    Line, batch_limit_line, batch_malformed_line, invalid_line, limit_line, malformed_line,
+    sum_limit_line,
+};

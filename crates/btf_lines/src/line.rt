@@ -1,7 +1,7 @@
 //! A line in a buffer of its own.
 
 ghost use Rattle.std.specs.Prelude.{◌≡◌, ◌+◌, ◌≤◌, ◌++◌, ℕ, List, [], length, take, codes, decimal};
-ghost use Rattle.btf_lines.specs.Lines.{fault_line as line_of_fault, invalid_line as invalid, malformed_line as malformed, limit_line as limit, sum_limit_line as sum_limit};
+ghost use Rattle.btf_lines.specs.Lines.{batch_limit_line as batch_limit, batch_malformed_line as batch_malformed, fault_line as line_of_fault, invalid_line as invalid, malformed_line as malformed, limit_line as limit, sum_limit_line as sum_limit};
 
 use itoa::Buffer;
 use mm_defs::Kind;
@@ -67,15 +67,15 @@ fn write_at(buffer: &mut [u8], at: usize, piece: &[u8]) -> usize
     end
 }
 
-/// The line of a fault: what stands before, the number of the line, and the kind.
-fn fault_line(before: &[u8], line: u64, kind: Kind) -> Line
-    requires { length before.now ≤ 20 }
-    ensures { result ≡ line_of_fault before.now line kind }
+/// The line of a fault: what stands before, the number of the line or the file, and the kind.
+fn fault_line(before: &[u8], number: u64, kind: Kind) -> Line
+    requires { length before.now ≤ 26 }
+    ensures { result ≡ line_of_fault before.now number kind }
 {
     let mut digits = Buffer::new();
     let mut text = Line::new();
     text.push(before);
-    text.push(digits.format(line).as_bytes());
+    text.push(digits.format(number).as_bytes());
     text.push(b": ");
     text.push(kind.name().as_bytes());
     text.push(b"\n");
@@ -94,6 +94,20 @@ pub fn limit_line(line: u64, kind: Kind) -> Line
     ensures { result ≡ limit line kind }
 {
     fault_line(b"btf: limit line ", line, kind)
+}
+
+/// `btf_batch: malformed file <file>: <kind>`, with a line end. Files count from 1.
+pub fn batch_malformed_line(file: u32, kind: Kind) -> Line
+    ensures { result ≡ batch_malformed file kind }
+{
+    fault_line(b"btf_batch: malformed file ", u64::from(file), kind)
+}
+
+/// `btf_batch: limit file <file>: <kind>`, with a line end. Files count from 1.
+pub fn batch_limit_line(file: u32, kind: Kind) -> Line
+    ensures { result ≡ batch_limit file kind }
+{
+    fault_line(b"btf_batch: limit file ", u64::from(file), kind)
 }
 
 /// `invalid <reason>`, with a line end.

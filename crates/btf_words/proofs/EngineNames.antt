@@ -13,7 +13,7 @@ use Rattle.clap.specs.Faults.{default_fault, defaults_fault, entered_fault, leve
 use Rattle.clap.specs.declared.builder.value_parser.ValueParser.TheVariants as vp
 use Rattle.clap.specs.declared.error.kind.ErrorKind.TheVariants as kind
 use Rattle.clap.proofs.WalkLemmas.{list_any-map}
-use Rattle.btf_words.specs.Table.{Names, btf_over, default_engine, drop_zeros_rule, engine_names, engine_rule, order_rule, pairs_rule, rank_command, report_rule, seed_rule, size_rule, texts_of, workers_rule}
+use Rattle.btf_words.specs.Table.{Names, btf_over, default_engine, drop_zeros_rule, engine_names, engine_rule, least_rule, order_rule, pairs_rule, rank_command, report_rule, seed_rule, size_rule, texts_of, workers_rule}
 use Rattle.btf_words.specs.Words.{ReadsAlike}
 use Rattle.btf_words.proofs.ReadAlike.{Alike, AlikeRules, AlikeShapes, Both, fault_found, first_of_both, itself, itself_shape, over_rules, rows_found}
 
@@ -47,7 +47,7 @@ module _ (n m : Names) (same : texts_of n ≡ texts_of m) where
   -- ---- the options of `analyse`
 
   abbrev others : List Rule
-  others = filled workers_rule ∷ filled order_rule ∷ filled pairs_rule ∷ filled drop_zeros_rule ∷ filled report_rule ∷ []
+  others = filled workers_rule ∷ filled order_rule ∷ filled pairs_rule ∷ filled drop_zeros_rule ∷ filled report_rule ∷ filled least_rule ∷ []
 
   analyse_default : (rows : List Row) → defaults_fault rows (option n ∷ others) ≡ defaults_fault rows (option m ∷ others)
   unfolding defaults_fault
@@ -58,9 +58,9 @@ module _ (n m : Names) (same : texts_of n ≡ texts_of m) where
   analyse : AlikeRules (option n ∷ others) (option m ∷ others)
   analyse = record {
     by_id = λ id. first_of_both Alike (λ a. bytes_eq a.id id) (λ a. bytes_eq a.id id) (option n ∷ others) (option m ∷ others)
-        (engine, refl, (itself _, refl, (itself _, refl, (itself _, refl, (itself _, refl, (itself _, refl, tt))))));
+        (engine, refl, (itself _, refl, (itself _, refl, (itself _, refl, (itself _, refl, (itself _, refl, (itself _, refl, tt)))))));
     by_long = λ name. first_of_both Alike (λ a. not (is_some a.index) && has_long a name) (λ a. not (is_some a.index) && has_long a name)
-        (option n ∷ others) (option m ∷ others) (engine, refl, (itself _, refl, (itself _, refl, (itself _, refl, (itself _, refl, (itself _, refl, tt))))));
+        (option n ∷ others) (option m ∷ others) (engine, refl, (itself _, refl, (itself _, refl, (itself _, refl, (itself _, refl, (itself _, refl, (itself _, refl, tt)))))));
     no_short_c = λ x. refl;
     no_short_d = λ x. refl;
     no_place_c = λ i. refl;
@@ -126,7 +126,7 @@ module _ (n m : Names) (same : texts_of n ≡ texts_of m) where
             (
               itself_shape _,
               refl,
-              (over_rules (unwrap_or (slice_get (subs m) 4) rank_command) (numbers ++ option n ∷ last) (numbers ++ option m ∷ last) load, refl, tt),
+              (over_rules (unwrap_or (slice_get (subs m) 4) rank_command) (numbers ++ option n ∷ last) (numbers ++ option m ∷ last) load, refl, (itself_shape _, refl, (itself_shape _, refl, tt))),
             ),
           ),
         ),

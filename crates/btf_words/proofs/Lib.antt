@@ -1,3 +1,4 @@
+mod BatchLemmas
 mod EngineNames
 pub mod NumberLemmas
 mod ReadAlike

@@ -65,7 +65,7 @@ has_job None = tt
 has_job (Some p) =
     mapped HasJob (λ (s : Shape). rows_at s p.1) _
     (found (λ (s : Shape). HasJob (rows_at s p.1)) (λ (s : Shape). answers_to p.0 (label_of s)) (built btf).subs
-    (refl, (refl, (refl, (refl, (refl, tt))))))
+    (refl, (refl, (refl, (refl, (refl, (refl, (refl, tt))))))))
 
 some_job : (o : Option (Text × List Row)) → is_some o ≡ true → MatchOption o ⊤ HasJob → is_some (option_and_then job_from o) ≡ true
 some_job None there has = cc

@@ -1,3 +1,4 @@
+pub mod BatchWords
 pub mod Table
 pub mod UsageLine
 pub mod Words

@@ -76,6 +76,10 @@ report_rule = record (option_rule (codes "report")) {
   defaults = codes "2" ∷ [];
 }
 
+-- `--least`
+abbrev pub least_rule : Rule
+least_rule = flag_rule (codes "least")
+
 abbrev pub size_rule : Rule
 size_rule = number_rule (codes "size") 1 max_load_size
 
@@ -97,7 +101,7 @@ rank_command = reading_command (codes "rank")
 abbrev pub analyse_command : Names → Shape
 analyse_command names =
     command (codes "analyse") (engine_rule names ∷ workers_rule ∷ order_rule ∷ pairs_rule
-    ∷ drop_zeros_rule ∷ report_rule ∷ [])
+    ∷ drop_zeros_rule ∷ report_rule ∷ least_rule ∷ [])
 
 abbrev pub diagonal_command : Shape
 diagonal_command = reading_command (codes "diagonal")
@@ -109,10 +113,17 @@ abbrev pub load_command : Names → Shape
 load_command names =
     command (codes "load") (size_rule ∷ seed_rule ∷ engine_rule names ∷ workers_rule ∷ [])
 
+-- a matrix and what is done to it come from the input alone
+abbrev pub edit_command : Shape
+edit_command = command (codes "edit") []
+
+abbrev pub bottleneck_command : Shape
+bottleneck_command = reading_command (codes "bottleneck")
+
 -- the commands that the program has
 abbrev pub commands : Names → List Shape
 commands names = rank_command ∷ analyse_command names ∷ diagonal_command ∷ check_command
-    ∷ load_command names ∷ []
+    ∷ load_command names ∷ edit_command ∷ bottleneck_command ∷ []
 
 -- ---- the program
 

@@ -13,7 +13,7 @@ use Rattle.btf_words.specs.declared.jobs.Engine.TheVariants.{Plain, Mc21, Pf, Gr
 use Rattle.btf_words.specs.declared.jobs.Job.{Job}
 use Rattle.btf_words.specs.declared.jobs.ReportOptions.{ReportOptions}
 use Rattle.btf_words.specs.declared.jobs.Search.{Search}
-use Rattle.btf_words.specs.declared.jobs.Job.TheVariants.{Rank, Analyse, Diagonal, Check, Load}
+use Rattle.btf_words.specs.declared.jobs.Job.TheVariants.{Rank, Analyse, Diagonal, Check, Load, Edit, Bottleneck}
 
 -- clap's definitions find no fault with the words
 unfoldable pub AreTaken : List Text → Type 0
@@ -62,6 +62,7 @@ report_in rows = record {
   version = number_or latest_version 1 latest_version (codes "report") rows;
   order = is_given (codes "order") rows;
   pairs = is_given (codes "pairs") rows;
+  least = is_given (codes "least") rows;
 }
 
 abbrev pub drops_zeros : List Row → Bool
@@ -78,7 +79,9 @@ job_from m = if bytes_eq m.0 (codes "rank") then Some (Rank (drops_zeros m.1))
     else (if bytes_eq m.0 (codes "check") then Some (Check (drops_zeros m.1))
     else (if bytes_eq m.0 (codes "load")
     then Some (Load (size_in m.1) (seed_in m.1) (search_in m.1))
-    else None))))
+    else (if bytes_eq m.0 (codes "edit") then Some Edit
+    else (if bytes_eq m.0 (codes "bottleneck") then Some (Bottleneck (drops_zeros m.1))
+    else None))))))
 
 -- the job that the words name: that of the command that they enter, by clap's definitions
 unfoldable pub job_of : List Text → Option Job

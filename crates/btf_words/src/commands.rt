@@ -2,9 +2,9 @@
 
 ghost use Rattle.std.specs.Prelude.{◌≡◌, [], IfOk};
 ghost use Rattle.clap.specs.Words.{app_of, with_subcommand};
-ghost use Rattle.btf_words.specs.Table.{IsBtf, analyse_command, load_command, program as program_shape, reading_command};
+ghost use Rattle.btf_words.specs.Table.{IsBtf, analyse_command, edit_command, load_command, program as program_shape, reading_command};
 
-use crate::options::{drop_zeros, engine, order, pairs, report, seed, size, workers};
+use crate::options::{drop_zeros, engine, least, order, pairs, report, seed, size, workers};
 use clap::Command;
 use std::alloc::{AllocError, Global};
 
@@ -21,6 +21,8 @@ pub(crate) fn command_line<'a>(alloc: Global) -> Result<Command<'a>, AllocError>
     let program = with_reading_command(alloc, "diagonal", program)?;
     let program = with_reading_command(alloc, "check", program)?;
     let program = with_load(alloc, engines, program)?;
+    let program = with_edit(alloc, program)?;
+    let program = with_reading_command(alloc, "bottleneck", program)?;
     Ok(program)
 }
 
@@ -62,7 +64,8 @@ fn with_analyse<'a>(
         .arg(order(alloc))?
         .arg(pairs(alloc))?
         .arg(drop_zeros(alloc))?
-        .arg(report(alloc))?;
+        .arg(report(alloc))?
+        .arg(least(alloc))?;
     program.subcommand(analyse)
 }
 
@@ -80,4 +83,11 @@ fn with_load<'a>(
         .arg(engine(alloc, engines))?
         .arg(workers(alloc))?;
     program.subcommand(load)
+}
+
+/// The program with the command that has no option.
+fn with_edit<'a>(alloc: Global, program: Command<'a>) -> Result<Command<'a>, AllocError>
+    ensures { IfOk result (λ c. app_of c ≡ with_subcommand (app_of program.entry) edit_command) }
+{
+    program.subcommand(Command::new(alloc, "edit"))
 }

@@ -30,8 +30,10 @@ pub struct ReportOptions {
     pub version: u32,
     /// Whether the two orders are written.
     pub order: bool,
-    /// Whether the pairs of the matching are written.
+    /// Whether the pairs of a maximum matching are written.
     pub pairs: bool,
+    /// Whether they are written, and are those of the least one: the same for every engine.
+    pub least: bool,
 }
 
 /// What the program is asked to do. With `drop_zeros` a place of an integer file whose values add up to 0 is no entry.
@@ -69,6 +71,13 @@ pub enum Job {
         seed: u64,
         /// Who searches.
         search: Search,
+    },
+    /// The ranks and reports of a matrix under the edits that follow it.
+    Edit,
+    /// A diagonal of an integer matrix whose least weight is greatest.
+    Bottleneck {
+        /// Whether places whose values add up to 0 are left out.
+        drop_zeros: bool,
     },
 }
 

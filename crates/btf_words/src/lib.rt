@@ -1,9 +1,13 @@
-//! The command line of `btf`: which words are taken, and the job that they name.
+//! The command lines of `btf` and `btf_batch`: which words are taken, and what they name.
 //!
-//! The command line is a command of `clap`, with no text of clap's own: words that ask for help or for the version are
-//! refused as any wrong words are. `specs/Table.antt` has the commands and options, `specs/Words.antt` the job that words name.
+//! Each command line is a command of `clap`, with no text of clap's own: words that ask for help or for the version are
+//! refused as any wrong words are. `specs/Table.antt` has the commands and options of `btf`, `specs/Words.antt` the job that
+//! words name; `specs/BatchWords.antt` has what the words of `btf_batch` are.
 #![tactic(auto)]
 
+mod batch;
+#[cfg(test)]
+mod batch_tests;
 mod commands;
 mod jobs;
 mod options;
@@ -12,6 +16,7 @@ mod reading;
 mod tests;
 mod usage;
 
+pub use batch::{batch_usage_line, read_batch_words};
 pub use jobs::{Engine, Job, ReportOptions, Search, WordsError};
 pub use reading::{names_lie_anywhere, read_words, taken_words_name_a_job};
 pub use usage::usage_line;

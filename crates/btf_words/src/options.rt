@@ -2,7 +2,7 @@
 
 ghost use Rattle.std.specs.Prelude.{◌≡◌, false, true, codes};
 ghost use Rattle.clap.specs.Words.{rule_of};
-ghost use Rattle.btf_words.specs.Table.{engine_rule, option_rule, flag_rule, drop_zeros_rule, number_rule, order_rule, pairs_rule, report_rule, size_rule, seed_rule, workers_rule};
+ghost use Rattle.btf_words.specs.Table.{engine_rule, option_rule, flag_rule, drop_zeros_rule, least_rule, number_rule, order_rule, pairs_rule, report_rule, size_rule, seed_rule, workers_rule};
 
 use clap::builder::ValueParser;
 use clap::{Arg, ArgAction};
@@ -67,6 +67,14 @@ pub(crate) fn report<'a>(alloc: Global) -> Arg<'a>
         .action(ArgAction::Set)
         .value_parser(ValueParser::unsigned(1, 2))
         .default_value("2")
+}
+
+/// `--least`.
+pub(crate) fn least<'a>(alloc: Global) -> Arg<'a>
+    ensures rule { rule_of result ≡ least_rule }
+    ensures local { result.global ≡ false }
+{
+    flag(alloc, "least")
 }
 
 /// `--size N`, which must be there.

@@ -86,6 +86,12 @@ fn job_named(name: &str, options: &ArgMatches<'_>) -> Option<Job>
             seed: seed_of(options),
             search: search_of(options),
         })
+    } else if name == "edit" {
+        Some(Job::Edit)
+    } else if name == "bottleneck" {
+        Some(Job::Bottleneck {
+            drop_zeros: drops_zeros_of(options),
+        })
     } else {
         None
     }
@@ -109,6 +115,7 @@ fn report_of(options: &ArgMatches<'_>) -> ReportOptions
         version: number_of(options, "report", 2, 1, 2) as u32,
         order: flag_of(options, "order"),
         pairs: flag_of(options, "pairs"),
+        least: flag_of(options, "least"),
     }
 }
 
@@ -172,7 +179,7 @@ fn seed_of(options: &ArgMatches<'_>) -> u64
 }
 
 /// The number of an option within its bounds, and `none` where it is not given.
-fn number_of(options: &ArgMatches<'_>, name: &str, none: u64, low: u64, high: u64) -> u64
+pub(crate) fn number_of(options: &ArgMatches<'_>, name: &str, none: u64, low: u64, high: u64) -> u64
     requires least { low ≤ none }
     requires most { none ≤ high }
     ensures number { result ≡ number_or none low high name.now (rows_of (found_of options.now)) }

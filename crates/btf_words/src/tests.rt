@@ -4,7 +4,7 @@ use std::process::Abort;
 use std::test::Fail;
 
 /// Words of no command, and words behind a command that takes none.
-const OTHER_COMMANDS: [&str; 34] = [
+const OTHER_COMMANDS: [&str; 51] = [
     "",
     "ran",
     "Rank",
@@ -39,10 +39,27 @@ const OTHER_COMMANDS: [&str; 34] = [
     "rank --drop_zeros",
     "check --report 1",
     "diagonal --drop",
+    "rank --least",
+    "diagonal --least",
+    "check --least",
+    "Edit",
+    "edi",
+    "edit edit",
+    "edit rank",
+    "edit 1",
+    "edit --order",
+    "edit --drop-zeros",
+    "edit -- edit",
+    "bottlenec",
+    "bottlenecks",
+    "bottleneck 1",
+    "bottleneck --least",
+    "bottleneck --drop-zeros=1",
+    "bottleneck --drop-zeros --drop-zeros",
 ];
 
 /// Words that ask for no analysis.
-const OTHER_ANALYSES: [&str; 42] = [
+const OTHER_ANALYSES: [&str; 48] = [
     "analyse --help",
     "analyse -h",
     "analyse help",
@@ -85,10 +102,16 @@ const OTHER_ANALYSES: [&str; 42] = [
     "analyse --report one",
     "analyse --report 1 --report 1",
     "analyse --drop-zeros --drop-zeros",
+    "analyse --least --least",
+    "analyse --least --pairs --least",
+    "analyse --least=1",
+    "analyse --least true",
+    "analyse --leas",
+    "analyse least",
 ];
 
 /// Words that name no matrix.
-const OTHER_LOADS: [&str; 20] = [
+const OTHER_LOADS: [&str; 21] = [
     "load",
     "load --size 3",
     "load --seed 3",
@@ -109,6 +132,7 @@ const OTHER_LOADS: [&str; 20] = [
     "load 1 1",
     "load --size 1 --seed 1 --drop-zeros",
     "load --size 1 --seed 1 --report 1",
+    "load --size 1 --seed 1 --least",
 ];
 
 /// The words of a line, which one space parts: two spaces side by side hold an empty word.
@@ -131,6 +155,7 @@ fn report(order: bool, pairs: bool) -> ReportOptions {
         version: 2,
         order,
         pairs,
+        least: false,
     }
 }
 
@@ -194,6 +219,10 @@ fn takes_commands_without_options(rt: HostRuntime) -> Result<(), Fail> {
         ("check --", Job::Check { drop_zeros: false }),
         ("analyse", analyse(Engine::Graft, false, false)),
         ("analyse --", analyse(Engine::Graft, false, false)),
+        ("edit", Job::Edit),
+        ("edit --", Job::Edit),
+        ("bottleneck", Job::Bottleneck { drop_zeros: false }),
+        ("bottleneck --", Job::Bottleneck { drop_zeros: false }),
     ];
     taken(&rt, &spellings)
 }
@@ -240,8 +269,49 @@ fn takes_dropped_zeros(rt: HostRuntime) -> Result<(), Fail> {
         ("rank --drop-zeros --", Job::Rank { drop_zeros: true }),
         ("diagonal --drop-zeros", Job::Diagonal { drop_zeros: true }),
         ("check --drop-zeros", Job::Check { drop_zeros: true }),
+        (
+            "bottleneck --drop-zeros",
+            Job::Bottleneck { drop_zeros: true },
+        ),
+        (
+            "bottleneck --drop-zeros --",
+            Job::Bottleneck { drop_zeros: true },
+        ),
         ("analyse --drop-zeros --order", dropped),
         ("analyse --order --drop-zeros", dropped),
+    ];
+    taken(&rt, &spellings)
+}
+
+/// An analysis whose pairs are the least ones.
+fn least(engine: Engine, order: bool, pairs: bool) -> Job {
+    Job::Analyse {
+        search: by(engine),
+        report: ReportOptions {
+            version: 2,
+            order,
+            pairs,
+            least: true,
+        },
+        drop_zeros: false,
+    }
+}
+
+#[test]
+fn takes_the_least_pairs(rt: HostRuntime) -> Result<(), Fail> {
+    let (graft, mc21) = (Engine::Graft, Engine::Mc21);
+    let spellings = [
+        ("analyse --least", least(graft, false, false)),
+        ("analyse --least --", least(graft, false, false)),
+        ("analyse --least --pairs", least(graft, false, true)),
+        ("analyse --pairs --least", least(graft, false, true)),
+        ("analyse --order --least", least(graft, true, false)),
+        ("analyse --pairs --least --order", least(graft, true, true)),
+        (
+            "analyse --least --engine mc21 --order",
+            least(mc21, true, false),
+        ),
+        ("analyse --engine=mc21 --least", least(mc21, false, false)),
     ];
     taken(&rt, &spellings)
 }
@@ -255,6 +325,7 @@ fn takes_versions_of_a_report(rt: HostRuntime) -> Result<(), Fail> {
             version: 1,
             order: false,
             pairs: true,
+            least: false,
         },
         drop_zeros: false,
     };

@@ -11,6 +11,7 @@ returns c =
     let three = c.in_ok-arg-3.ensures.shape c.order.ensures.local ∙ ap₂ with_rule two c.order.ensures.rule in
     let four = c.in_ok-arg-4.ensures.shape c.pairs.ensures.local ∙ ap₂ with_rule three c.pairs.ensures.rule in
     let five = c.in_ok-arg-5.ensures.shape c.drop_zeros.ensures.local ∙ ap₂ with_rule four c.drop_zeros.ensures.rule in
-    let six = c.in_ok-analyse.ensures.shape c.report.ensures.local ∙ ap₂ with_rule five c.report.ensures.rule in
-    let shape : (app_of c.in_ok-analyse.analyse).top ≡ analyse_command c.args.engines = ap (λ (a : App). a.top) six in
+    let six = c.in_ok-arg-6.ensures.shape c.report.ensures.local ∙ ap₂ with_rule five c.report.ensures.rule in
+    let seven = c.in_ok-analyse.ensures.shape c.least.ensures.local ∙ ap₂ with_rule six c.least.ensures.rule in
+    let shape : (app_of c.in_ok-analyse.analyse).top ≡ analyse_command c.args.engines = ap (λ (a : App). a.top) seven in
     IfOk-weaker c.subcommand.result _ _ (λ r h. h.shape (search rules) ∙ ap (with_subcommand (app_of c.args.program)) shape) c.subcommand.ensures
