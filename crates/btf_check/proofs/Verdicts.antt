@@ -1,5 +1,5 @@
 -- The verdict on bytes follows from what they spell.
-use Rattle.std.proofs.Common.{◌≡◌, ◌∙◌, ℕ, ◌<◌, Bool, true, List, Option, Some, None, refl, sym, ap, subst, arith}
+use Rattle.std.proofs.Common.{◌≡◌, ◌∙◌, ℕ, ◌<◌, Bool, true, false, true≢false, List, Option, Some, None, refl, sym, ap, subst, arith}
 use Rattle.bip_defs.specs.ConnectedComponents.{Components}
 use Rattle.bip_defs.specs.Lists.{IsRising}
 use Rattle.bip_defs.specs.Decomposition.{Decomposition, IsDecompositionOf}
@@ -37,7 +37,7 @@ report_valid a bytes r spelled is = (
     components = is.components;
     of_version = is.of_version;
     matching = Some is.matching;
-    are_pairs = (is.maximum, is.rising);
+    are_pairs = (refl, is.maximum, is.rising);
     spelled = spelled ∙ ap report_text is.same;
   },
 )
@@ -67,12 +67,12 @@ judged one a bytes r (Invalid k) can spelled first = record {
 pub valid_by_met : (a : Matrix) (bytes : List ℕ) → ((k : ℕ) → IsMetBy a bytes k) → IsValid a bytes
 valid_by_met a bytes met = let (r, s) = (met 1).grammar refl in report_valid a bytes r s.spelled (report_of_met a r s.readable.pairs s.readable.with_pairs s.readable.are_pairs.rising (λ k. (met k).report r s))
 
-analysed : (a : Matrix) (bytes : List ℕ) (v : ℕ) (order : Bool) → IsAnalysis a v order true bytes → (r : Report) × IsReportOf a r × (bytes ≡ report_text r)
+analysed : (a : Matrix) (bytes : List ℕ) (v : ℕ) (order : Bool) → IsAnalysis a v order true false bytes → (r : Report) × IsReportOf a r × (bytes ≡ report_text r)
 analysed a bytes v order is = by is.matching is.are_pairs is.spelled
   where
-    by : (o : Option (List Place)) → ArePairs a true o → bytes ≡ report_text (report_of a is.decomposition is.components order o) → (r : Report) × IsReportOf a r × (bytes ≡ report_text r)
-    by None h e = absurd h
-    by (Some m) h e = (report_of a is.decomposition is.components order (Some m), record { decomposition = is.decomposition; is_decomposition = is.is_decomposition; version = v; components = is.components; of_version = is.of_version; order = order; matching = m; maximum = h.0; rising = h.1; same = refl }, e)
+    by : (o : Option (List Place)) → ArePairs a true false o → bytes ≡ report_text (report_of a is.decomposition is.components order o) → (r : Report) × IsReportOf a r × (bytes ≡ report_text r)
+    by None h e = absurd (true≢false h)
+    by (Some m) h e = (report_of a is.decomposition is.components order (Some m), record { decomposition = is.decomposition; is_decomposition = is.is_decomposition; version = v; components = is.components; of_version = is.of_version; order = order; matching = m; maximum = h.1; rising = h.2; same = refl }, e)
 
 -- a pattern's numbers fit a text
 fits : (a : Matrix) → IsPattern a → FitsText a

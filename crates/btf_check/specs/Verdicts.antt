@@ -1,5 +1,5 @@
 -- The verdict on the bytes of a report.
-use Rattle.std.specs.Prelude.{◌≡◌, ℕ, ◌<◌, Bool, true, List, Option, Some}
+use Rattle.std.specs.Prelude.{◌≡◌, ℕ, ◌<◌, Bool, false, true, List, Option, Some}
 use Rattle.bip_defs.specs.ConnectedComponents.{Components}
 use Rattle.bip_defs.specs.Decomposition.{Decomposition, IsDecompositionOf}
 use Rattle.bip_defs.specs.Lists.{IsRising}
@@ -47,7 +47,7 @@ pub record IsMetBy (a : Matrix) (bytes : List ℕ) (k : ℕ) : Type 0 where
 
 -- the bytes are the report with pairs of the matrix, in some version, with orders or without
 abbrev pub IsValid : Matrix → List ℕ → Type 0
-IsValid a bytes = (version : ℕ) × (order : Bool) × IsAnalysis a version order true bytes
+IsValid a bytes = (version : ℕ) × (order : Bool) × IsAnalysis a version order true false bytes
 
 -- the bytes are valid, or the first reason that applies is told
 abbrev pub IsVerdict : Matrix → List ℕ → Verdict → Type 0

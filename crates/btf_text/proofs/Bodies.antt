@@ -1,7 +1,7 @@
 -- The lists of a report, where those before the last are read.
 use Rattle.std.proofs.Common.{◌≡◌, ℕ, List, codes, Some, None, refl}
 use Rattle.bip_defs.specs.Blocks.{Block}
-use Rattle.btf_text.specs.ReportGrammar.{◌>>=◌, Body, body_at, components_at, part_at, square_at}
+use Rattle.btf_text.specs.ReportGrammar.{body_at, components_at, part_at, square_at}
 
 module _ (n : ℕ) (bytes : List ℕ) (h : (List ℕ × List ℕ) × List ℕ) (hs b : List Block × List ℕ) (v : (List ℕ × List ℕ) × List ℕ) (one : part_at (codes "horizontal") bytes ≡ Some h) (two : components_at n (codes "horizontal_components") h.1 ≡ Some hs) (three : square_at hs.1 ≡ Some b)
     (four : part_at (codes "vertical") b.1 ≡ Some v) where

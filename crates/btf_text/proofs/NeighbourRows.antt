@@ -1,11 +1,14 @@
 -- The rows with an entry in one of some columns, row by row.
-use Rattle.std.proofs.Common.{◌≡◌, ◌↔◌, ◌<◌, ◌+◌, ℕ, zero, suc, Bool, true, false, cond, IsTrue, List, [], ◌∷◌, ◌++◌, filter, nat_eq, decimal, append_assoc, append-nil, refl, sym, ap, ◌∙◌, subst, arith, eqb-true, eq-eqb}
+use Rattle.std.proofs.Common.{◌≤◌, ◌&&◌, nat_lt, true≢false, ◌≡◌, ◌↔◌, ◌<◌, ◌+◌, ℕ, zero, suc, Bool, true, false, cond, IsTrue, List, [], ◌∷◌, ◌++◌, filter, nat_eq, decimal, append_assoc, append-nil, refl, sym, ap, ◌∙◌, subst, arith, eqb-true, eq-eqb}
 use Rattle.std.specs.List.{list_any}
+use Rattle.std.proofs.lemmas.Bool.Decides.{nat_tests}
 use Rattle.std.proofs.lemmas.List.{map-append}
 use Rattle.std.proofs.lemmas.List.Elements.{filter-append}
 use Rattle.std.proofs.lemmas.Grind.{flat_map-append}
-use Rattle.bip_defs.specs.Lists.{Among, IsRising, Lists}
+use Rattle.bip_defs.specs.Bottleneck.{above}
+use Rattle.bip_defs.specs.Lists.{Among, Lists}
 use Rattle.bip_defs.specs.Matrix.{IsEntry, Matrix, column, touches, upto, upto_from}
+use Rattle.bip_defs.proofs.BottleneckLemmas.{restricted_back, restricted_over}
 use Rattle.bip_defs.proofs.Sets.{among_test, any_complete, any_sound}
 use Rattle.bip_graph.specs.Texts.{counted, spaced}
 
@@ -15,19 +18,69 @@ same_test true c to from = sym (to refl)
 same_test false true to from = from refl
 same_test false false to from = refl
 
+-- a test of a row's columns holds of one of them exactly where the row has an entry in one of the columns w, if it tells those
+touches_where : (b : Matrix) (w cols : List ℕ) (r : ℕ) (on : ℕ → Bool)
+    → ((c : ℕ) → Among c cols → on c ≡ true → Among c w × Among r (column b c))
+    → ((c : ℕ) → Among c w → Among r (column b c) → Among c cols × (on c ≡ true))
+    → list_any on cols ≡ touches b w r
+touches_where b w cols r on over back = same_test (list_any on cols) (touches b w r) to from
+  where
+    to : list_any on cols ≡ true → touches b w r ≡ true
+    to e =
+        let (c, h, f) = any_sound on cols e in
+        let (at, entry) = over c h f in
+        any_complete (λ c. list_any (nat_eq r) (column b c)) c w at ((among_test r (column b c)).1 entry)
+
+    from : touches b w r ≡ true → list_any on cols ≡ true
+    from e =
+        let (c, at, f) = any_sound (λ c. list_any (nat_eq r) (column b c)) w e in
+        let (h, f) = back c at ((among_test r (column b c)).0 f) in
+        any_complete on c cols h f
+
 -- a row has an entry in one of the columns exactly where one of its own columns is among them
 pub touches_by_row : (a : Matrix) (w cols : List ℕ) (r : ℕ) → r < a.rows → Lists (λ c. IsEntry a r c) cols → list_any (λ c. list_any (nat_eq c) w) cols ≡ touches a w r
-touches_by_row a w cols r inside listed = same_test (list_any (λ c. list_any (nat_eq c) w) cols) (touches a w r) to from
-  where
-    to : list_any (λ c. list_any (nat_eq c) w) cols ≡ true → touches a w r ≡ true
-    to e =
-        let (c, on, f) = any_sound (λ c. list_any (nat_eq c) w) cols e in
-        any_complete (λ c. list_any (nat_eq r) (column a c)) c w ((among_test c w).0 f) ((among_test r (column a c)).1 (listed.sound c on).1)
+touches_by_row a w cols r inside listed =
+    touches_where a w cols r (λ c. list_any (nat_eq c) w)
+    (λ c h f. ((among_test c w).0 f, (listed.sound c h).1))
+    (λ c at entry. (listed.complete c (inside, entry), (among_test c w).1 at))
 
-    from : touches a w r ≡ true → list_any (λ c. list_any (nat_eq c) w) cols ≡ true
-    from e =
-        let (c, on, f) = any_sound (λ c. list_any (nat_eq r) (column a c)) w e in
-        any_complete (λ c. list_any (nat_eq c) w) c cols (listed.complete c (inside, (among_test r (column a c)).0 f)) ((among_test c w).1 on)
+and_first : (x y : Bool) → x && y ≡ true → x ≡ true
+and_first true y e = refl
+and_first false y e = e
+
+and_second : (x y : Bool) → x && y ≡ true → y ≡ true
+and_second true y e = e
+and_second false y e = absurd (true≢false (sym e))
+
+both_true : (x y : Bool) → x ≡ true → y ≡ true → x && y ≡ true
+both_true x y e f = ap (λ b. b && y) e ∙ f
+
+-- whether a column is among these, and has more weight in the row
+abbrev pub is_heavy : (ℕ → ℕ → ℕ) → ℕ → List ℕ → ℕ → ℕ → Bool
+is_heavy weight least w r c = list_any (nat_eq c) w && nat_lt least (weight r c)
+
+-- a row has an entry of greater weight in one of the columns exactly where one of its own columns is among them and has it
+pub touches_above_by_row : (a : Matrix) (weight : ℕ → ℕ → ℕ) (least : ℕ) (w cols : List ℕ) (r : ℕ) → r < a.rows → Lists (λ c. IsEntry a r c) cols
+    → list_any (is_heavy weight least w r) cols ≡ touches (above a weight least) w r
+touches_above_by_row a weight least w cols r inside listed =
+    touches_where (above a weight least) w cols r (is_heavy weight least w r)
+    (λ c h f. ((among_test c w).0 (and_first _ _ f), (restricted_back a (λ s d. nat_lt least (weight s d)) r c (listed.sound c h) (and_second _ _ f)).1))
+    (λ c at entry. let both = restricted_over a (λ s d. nat_lt least (weight s d)) r c (inside, entry) in (listed.complete c both.0, both_true _ _ ((among_test c w).1 at) both.1))
+
+-- a column that is one of these and has more weight
+pub heavy_col : (weight : ℕ → ℕ → ℕ) (least : ℕ) (w : List ℕ) (r c : ℕ) → list_any (nat_eq c) w ≡ true → least < weight r c → is_heavy weight least w r c ≡ true
+heavy_col weight least w r c at lt = both_true _ _ at (grind (arith, nat_tests))
+
+-- a column that is not one of them, and one without more weight
+pub other_col : (weight : ℕ → ℕ → ℕ) (least : ℕ) (w : List ℕ) (r c : ℕ) → list_any (nat_eq c) w ≡ false → is_heavy weight least w r c ≡ false
+other_col weight least w r c e = ap (λ b. b && nat_lt least (weight r c)) e
+
+pub light_col : (weight : ℕ → ℕ → ℕ) (least : ℕ) (w : List ℕ) (r c : ℕ) → weight r c ≤ least → is_heavy weight least w r c ≡ false
+light_col weight least w r c le = by (list_any (nat_eq c) w) (grind (arith, nat_tests))
+  where
+    by : (x : Bool) → nat_lt least (weight r c) ≡ false → x && nat_lt least (weight r c) ≡ false
+    by true e = e
+    by false e = refl
 
 -- what a test for membership tells
 pub told_among : (c : ℕ) (w : List ℕ) (b : Bool) → IsTrue b ↔ Among c w → list_any (nat_eq c) w ≡ b

@@ -14,7 +14,7 @@ use Rattle.btf_text.proofs.ComponentLists.{AreListedOf, asked_again, asked_like,
 use Rattle.btf_text.proofs.ListLines.{one_again, one_takes, sizes_again, sizes_take}
 use Rattle.btf_text.proofs.Listed.{IsPartOf, part_again, part_takes}
 use Rattle.btf_text.proofs.PairLines.{orders_again, orders_take, pairs_again, pairs_take}
-use Rattle.btf_text.proofs.Spelled.{bind_some, some_is, where_some, word_again, word_takes}
+use Rattle.btf_text.proofs.Spelled.{bind_some, some_is, where_some, word_takes}
 
 -- some lines, and then others, and then more bytes
 join : (a b : List TextLine) (rest : List ℕ) → text_of (a ++ b) ++ rest ≡ text_of a ++ (text_of b ++ rest)

@@ -281,7 +281,8 @@ report_at bytes = do
   Some (record {
     sizes = head.0.0;
     rank = head.0.1;
-    components = where_asked (version.0 == 2) (record { horizontal = body.0.first; vertical = body.0.second });
+    components = where_asked (version.0 == 2)
+        (record { horizontal = body.0.first; vertical = body.0.second });
     horizontal_rows = body.0.horizontal.0;
     horizontal_cols = body.0.horizontal.1;
     blocks = body.0.blocks;

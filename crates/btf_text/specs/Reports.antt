@@ -17,7 +17,8 @@ components_in None = None
 components_in (Some c) = Some (components_of c)
 
 -- all of it, these components, the orders where they are asked for, and these pairs
-abbrev pub reported : Decomposition → Option connected.Components → Bool → Option (List Place) → Report
+abbrev pub reported : Decomposition → Option connected.Components → Bool → Option (List Place)
+    → Report
 reported d components order pairs = record {
   sizes = sizes_in d;
   rank = d.rank;

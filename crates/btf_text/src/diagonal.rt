@@ -5,7 +5,7 @@ ghost use Rattle.std.specs.Fmt.{signed_decimal};
 ghost use Rattle.bip_defs.specs.Lists.{Among, IsRising};
 ghost use Rattle.bip_defs.specs.Matrix.{AreEntries, IsEntry, neighbours, touches};
 ghost use Rattle.bip_graph.specs.Texts.{counted, line, spaced};
-ghost use Rattle.btf_text.specs.Diagonals.{PairsAreEntries, diagonal_lines, diagonal_text, entry_line, signed_line, singular_lines, weighed_lines};
+ghost use Rattle.btf_text.specs.Diagonals.{PairsAreEntries, diagonal_lines, diagonal_text, entry_line, rectangular_line, signed_line, singular_lines, weighed_lines};
 ghost use Rattle.btf_text.specs.Buffered.{Appends, AppendsLines};
 ghost use Rattle.sp_ports.specs.Device.{Writes, seen};
 
@@ -54,7 +54,12 @@ fn put_entry<K: Sink>(out: &mut K, buf: &mut TextBuf, weights: &Weights, row: Ro
 }
 
 /// Goes on with the lines of entries, in the order given.
-fn put_entries<K: Sink>(out: &mut K, buf: &mut TextBuf, weights: &Weights, pairs: &[(Row, Col)])
+pub(crate) fn put_entries<K: Sink>(
+    out: &mut K,
+    buf: &mut TextBuf,
+    weights: &Weights,
+    pairs: &[(Row, Col)],
+)
     requires { AreEntries weights.now.matrix pairs.now }
     ensures { AppendsLines (seen K.taken K.faults out.old out.new) buf.old buf.new
         (map (entry_line weights.now) pairs.now) }
@@ -86,7 +91,7 @@ fn put_weighed<K: Sink>(
 }
 
 /// Whether a column is one of these: found by halves where they rise, else one by one.
-fn has(hall: &[Col], rising: bool, col: Col) -> bool
+pub(crate) fn has(hall: &[Col], rising: bool, col: Col) -> bool
     requires { rising ≡ true → IsRising hall.now }
     ensures { IsTrue result ↔ Among col hall.now }
 {
@@ -147,7 +152,13 @@ fn put_neighbours<K: Sink>(out: &mut K, buf: &mut TextBuf, pattern: &Pattern, ha
 }
 
 /// Goes on with the rank, the rows with an entry in one of these columns, and these columns.
-fn put_singular<K: Sink>(out: &mut K, buf: &mut TextBuf, pattern: &Pattern, rank: u32, hall: &[Col])
+pub(crate) fn put_singular<K: Sink>(
+    out: &mut K,
+    buf: &mut TextBuf,
+    pattern: &Pattern,
+    rank: u32,
+    hall: &[Col],
+)
     ensures { AppendsLines (seen K.taken K.faults out.old out.new) buf.old buf.new
         (singular_lines pattern.now rank hall.now) }
 {
@@ -155,6 +166,15 @@ fn put_singular<K: Sink>(out: &mut K, buf: &mut TextBuf, pattern: &Pattern, rank
     put_neighbours(out, buf, pattern, hall);
     buf.put_list(out, b"columns", hall);
     buf.put_line(out, b"end", &[]);
+}
+
+/// Goes on with the line of a matrix that has not as many rows as columns.
+pub(crate) fn put_rectangular<K: Sink>(out: &mut K, buf: &mut TextBuf, pattern: &Pattern)
+    ensures { AppendsLines (seen K.taken K.faults out.old out.new) buf.old buf.new
+        (rectangular_line pattern.now ∷ []) }
+{
+    let (m, n) = (pattern.rows(), pattern.cols());
+    buf.put_line(out, b"rectangular", &[u64::from(m), u64::from(n)]);
 }
 
 /// Goes on with the lines of an answer.
@@ -171,10 +191,7 @@ fn put_answer<K: Sink>(
         (diagonal_lines weights.now answer.now) }
 {
     match answer {
-        Heaviest::Rectangular => {
-            let (m, n) = (pattern.rows(), pattern.cols());
-            buf.put_line(out, b"rectangular", &[u64::from(m), u64::from(n)]);
-        }
+        Heaviest::Rectangular => put_rectangular(out, buf, pattern),
         Heaviest::Singular { rank, hall } => {
             put_singular(out, buf, pattern, *rank, hall.as_slice());
         }

@@ -14,7 +14,7 @@ use std::alloc::Global;
 use std::test::Fail;
 
 /// An integer matrix of these entries.
-fn matrix(
+pub(crate) fn matrix(
     alloc: Global,
     rows: u32,
     cols: u32,
@@ -32,7 +32,7 @@ fn matrix(
 }
 
 /// Whether all pairs are entries.
-fn are_entries(pattern: &Pattern, pairs: &[(Row, Col)]) -> bool
+pub(crate) fn are_entries(pattern: &Pattern, pairs: &[(Row, Col)]) -> bool
     ensures { IsTrue result → AreEntries pattern.now pairs.now }
 {
     for pair in pairs {

@@ -40,8 +40,8 @@ pub struct Report {
 /// The numbers of rows, columns and entries.
 #[tactic(auto, unfolding(crate::specs::ReportGrammar::sizes_at))]
 fn sizes_at(bytes: &[u8]) -> Result<((u32, u32, u32), &[u8]), Stop>
-    ensures { ReadsAs (λ x. (record { rows = x.0.0; cols = x.0.1; entries = x.0.2 }, x.1.now)) result
-        (sizes_at bytes.now) }
+    ensures { ReadsAs (λ x. (record { rows = x.0.0; cols = x.0.1; entries = x.0.2 }, x.1.now))
+        result (sizes_at bytes.now) }
 {
     let rest = word_at(bytes, b"matrix")?;
     let (m, rest) = field_at(rest)?;

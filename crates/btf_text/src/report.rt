@@ -1,11 +1,11 @@
 //! The report of a decomposition, with connected components or without.
 
-ghost use Rattle.std.specs.Prelude.{◌≡◌, ◌≤◌, ◌++◌, ◌∷◌, [], length, map, codes};
+ghost use Rattle.std.specs.Prelude.{◌≡◌, ◌≤◌, ◌++◌, ◌∷◌, [], None, Some, false, length, map, codes};
 ghost use Rattle.std.specs.Option.{option_copied};
 ghost use Rattle.bip_defs.specs.Matrix.{Matrix};
 ghost use Rattle.bip_graph.specs.Answers.{orders_of, report_of, where_asked};
-ghost use Rattle.bip_graph.specs.Decompositions.{Decomposes, decomposition_of};
-ghost use Rattle.bip_graph.specs.Texts.{block_lines, component_lines, counted, horizontal_components, line, lists, numbered_components, order_lines, report_text, version_line, vertical_components};
+ghost use Rattle.bip_graph.specs.Decompositions.{Decomposes, components_of, decomposition_of};
+ghost use Rattle.bip_graph.specs.Texts.{block_lines, component_lines, counted, horizontal_components, line, lists, numbered_components, order_lines, report_lines, report_text, version_line, vertical_components};
 ghost use Rattle.btf_text.specs.Buffered.{AppendsLines};
 ghost use Rattle.btf_text.specs.Reports.{components_in, part_lines, reported};
 ghost use Rattle.sp_ports.specs.Device.{Writes, seen};
@@ -185,6 +185,22 @@ fn put_parts<K: Sink>(
     put_vertical(out, buf, components);
 }
 
+/// Goes on with a report of version 2 without orders and pairs.
+pub(crate) fn put_without_options<K: Sink>(
+    out: &mut K,
+    buf: &mut TextBuf,
+    dec: &Decomposition,
+    components: &Components,
+)
+    ensures { AppendsLines (seen K.taken K.faults out.old out.new) buf.old buf.new
+        (report_lines (reported dec.now (Some (components_of components.now)) false None)) }
+{
+    put_version(out, buf, Some(components));
+    put_head(out, buf, dec);
+    put_parts(out, buf, dec, Some(components));
+    buf.put_line(out, b"end", &[]);
+}
+
 /// Writes the report of a decomposition: the sizes of the matrix, its rank, and the lists of its parts and blocks; in version
 /// 2, which has `components`, the connected components of the horizontal and of the vertical part behind their lists; with
 /// `order` its rows and columns in the order of the block triangular form, and with `pairs` the pairs of the matching.
@@ -206,7 +222,9 @@ pub fn write_report<K: Sink>(
         (where_asked pairs matching.now.pairs))) result }
     ensures of_matrix { (a : Matrix) → Decomposes a dec.now
         → Writes (seen K.taken K.faults out.old out.new)
-        (report_text (report_of a (decomposition_of dec.now) (components_in (option_copied components.entry)) order (where_asked pairs matching.now.pairs))) result }
+        (report_text (report_of a (decomposition_of dec.now)
+        (components_in (option_copied components.entry)) order
+        (where_asked pairs matching.now.pairs))) result }
 {
     buf.start();
     put_version(out, buf, components);

@@ -117,7 +117,7 @@ fn the_report_of_three_parts(rt: HostRuntime) -> Result<(), Fail> {
 }
 
 /// Two rows of two columns each, which are all horizontal.
-fn two_rows(alloc: Global) -> Result<Decomposition, OutOfMemory> {
+pub(crate) fn two_rows(alloc: Global) -> Result<Decomposition, OutOfMemory> {
     let mut dec = square(alloc, 2, 4, Blocks::new(alloc));
     dec.n = 4;
     dec.parts.hr = [Row(0), Row(1)].to_vec(alloc)?;
@@ -126,7 +126,7 @@ fn two_rows(alloc: Global) -> Result<Decomposition, OutOfMemory> {
 }
 
 /// Each of the rows with its columns.
-fn two_components(alloc: Global) -> Result<Components, OutOfMemory> {
+pub(crate) fn two_components(alloc: Global) -> Result<Components, OutOfMemory> {
     let mut horizontal = Blocks::new(alloc);
     horizontal.push(&[Row(0)], &[Col(0), Col(2)])?;
     horizontal.push(&[Row(1)], &[Col(1), Col(3)])?;

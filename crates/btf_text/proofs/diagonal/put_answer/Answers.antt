@@ -1,8 +1,7 @@
-use Rattle.std.proofs.Common.{◌≡◌, ◌∷◌, [], ℕ, List, codes, ap, ap₂, sym, subst, ◌∙◌, rules, SFits, to_z-of_z}
+use Rattle.std.proofs.Common.{List, ap, sym, subst, ◌∙◌, rules, SFits, to_z-of_z}
 use Rattle.std.specs.Int.{w128}
 use Rattle.bip_defs.specs.Lists.{Among}
-use Rattle.bip_defs.specs.Matrix.{Matrix, Place, cols}
-use Rattle.bip_graph.specs.Texts.{line}
+use Rattle.bip_defs.specs.Matrix.{Place}
 use Rattle.bip_graph.specs.declared.answers.Heaviest.TheVariants.{Diagonal}
 use Rattle.btf_text.specs.Diagonals.{PairsAreEntries, diagonal_lines}
 use Rattle.btf_text.proofs.Parts.{lines_as}
@@ -14,12 +13,6 @@ put_weighed-requires g c r col on =
     let d = c.in-Diagonal in
     let entries : PairsAreEntries c.args.pattern.now (Diagonal d.pairs d.u d.v d.sum) = subst (PairsAreEntries c.args.pattern.now) d.is c.requires.entries in
     rw c.requires.weights (entries r col (subst (λ (ps : List Place). Among (r, col) ps) c.as_slice-in-Diagonal.ensures.value on))
-
-pub returns-in-Rectangular : goal.returns-in-Rectangular
-returns-in-Rectangular g c =
-    let rows_are : c.from.result ≡ c.args.weights.now.matrix.rows = c.from.ensures ∙ c.rows-m.ensures ∙ sym (ap (λ (a : Matrix). a.rows) c.requires.weights) in
-    let cols_are : c.from-in-Rectangular.result ≡ cols c.args.weights.now.matrix = c.from-in-Rectangular.ensures ∙ c.cols-n.ensures ∙ sym (ap cols c.requires.weights) in
-    lines_as (ap₂ (λ (m n : ℕ). line (codes "rectangular") (m ∷ n ∷ []) ∷ []) rows_are cols_are ∙ sym (ap (diagonal_lines c.args.weights.now) c.in-Rectangular.is)) c.put_line.ensures
 
 pub returns-in-Diagonal : goal.returns-in-Diagonal
 returns-in-Diagonal g c =
