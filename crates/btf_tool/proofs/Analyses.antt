@@ -1,30 +1,15 @@
 -- What is found of a matrix is what its texts say.
-use Rattle.std.proofs.Common.{Bool, true, false, Option, List, [], ◌∷◌, ◌≡◌, ◌∙◌, ℕ, ap, codes, refl}
+use Rattle.std.proofs.Common.{◌||◌, Bool, true, false, Option, List, [], ◌∷◌, ◌≡◌, ◌∙◌, ℕ, ap, codes, refl, sym}
 use Rattle.bip_defs.specs.ConnectedComponents.{Components}
+use Rattle.bip_defs.specs.Lists.{IsRising}
+use Rattle.bip_defs.specs.Matching.{cols_of}
 use Rattle.bip_defs.specs.Matrix.{Matrix, Place, cols}
-use Rattle.bip_graph.specs.Answers.{AreOfVersion, ArePairs, IsAnalysis, report_of, where_asked}
+use Rattle.bip_graph.specs.Answers.{AreOfVersion, ArePairs, IsAnalysis, IsMaximumOrLeast, orders_of, report_of, where_asked}
 use Rattle.bip_graph.specs.Decompositions.{Decomposes, decomposition_of}
-use Rattle.bip_graph.specs.Texts.{Sizes, matrix_line, rank_line, report_text, sizes_of, square_line, text_of}
+use Rattle.bip_graph.specs.Texts.{Report, Sizes, matrix_line, rank_line, report_text, sizes_of, square_line, text_of}
 use Rattle.bip_graph.specs.declared.answers.Decomposition.{Decomposition}
-use Rattle.btf_text.specs.Reports.{lengths_line, sizes_in, summary_text}
-use Rattle.btf_tool.specs.Analyses.{IsFoundIn}
+use Rattle.btf_text.specs.Reports.{lengths_line, reported, sizes_in, summary_text}
 use Rattle.btf_tool.specs.Summaries.{IsSummary}
-
-pub analysis_answers : (a : Matrix) (d : Decomposition) (m : List Place) (version : ℕ) (components : Option Components) (order pairs : Bool) → IsFoundIn a d m → AreOfVersion a version components
-    → IsAnalysis a version order pairs (report_text (report_of a (decomposition_of d) components order (where_asked pairs m)))
-analysis_answers a d m version components order pairs h of_version = record {
-  decomposition = decomposition_of d;
-  is_decomposition = h.decomposes.decomposition;
-  components = components;
-  of_version = of_version;
-  matching = where_asked pairs m;
-  are_pairs = as_asked pairs;
-  spelled = refl;
-}
-  where
-    as_asked : (asked : Bool) → ArePairs a asked (where_asked asked m)
-    as_asked true = (h.maximum, h.rising)
-    as_asked false = tt
 
 same_sizes : (a : Matrix) (d : Decomposition) → Decomposes a d → sizes_in d ≡ sizes_of a
 same_sizes a d is =
@@ -32,6 +17,43 @@ same_sizes a d is =
   where
     sized : ℕ → ℕ → ℕ → Sizes
     sized m n e = record { rows = m; cols = n; entries = e }
+
+-- what is reported of it by its decomposition is its report
+pub report_is : (a : Matrix) (d : Decomposition) (components : Option Components) (order : Bool) (pairs : Option (List Place)) → Decomposes a d
+    → reported d components order pairs ≡ report_of a (decomposition_of d) components order pairs
+report_is a d components order pairs is = ap with_sizes (same_sizes a d is)
+  where
+    with_sizes : Sizes → Report
+    with_sizes s = record {
+      sizes = s;
+      rank = d.rank;
+      components = components;
+      horizontal_rows = d.parts.hr.items;
+      horizontal_cols = d.parts.hc.items;
+      blocks = d.blocks;
+      vertical_rows = d.parts.vr.items;
+      vertical_cols = d.parts.vc.items;
+      orders = where_asked order (orders_of (decomposition_of d));
+      pairs = pairs;
+    }
+
+-- the report has pairs where they are asked for, or the least ones are
+pub analysis_answers : (a : Matrix) (d : Decomposition) (m : List Place) (version : ℕ) (components : Option Components) (order pairs least asked : Bool) → Decomposes a d → IsMaximumOrLeast a least m
+    → IsRising (cols_of m) → AreOfVersion a version components → asked ≡ pairs || least
+    → IsAnalysis a version order pairs least (report_text (report_of a (decomposition_of d) components order (where_asked asked m)))
+analysis_answers a d m version components order pairs least asked decomposes best rising of_version e = record {
+  decomposition = decomposition_of d;
+  is_decomposition = decomposes.decomposition;
+  components = components;
+  of_version = of_version;
+  matching = where_asked asked m;
+  are_pairs = as_asked asked (sym e);
+  spelled = refl;
+}
+  where
+    as_asked : (b : Bool) → pairs || least ≡ b → ArePairs a pairs least (where_asked b m)
+    as_asked true f = (f, best, rising)
+    as_asked false f = f
 
 pub summary_answers : (a : Matrix) (d : Decomposition) → Decomposes a d → IsSummary a (summary_text d)
 summary_answers a d is = record {

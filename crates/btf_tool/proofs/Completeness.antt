@@ -4,18 +4,15 @@ use Rattle.sp_ids.specs.Entries.{Entries}
 use Rattle.sp_ids.specs.declared.outcomes.Status.{Status}
 use Rattle.sp_ids.specs.declared.outcomes.Status.TheVariants as statuses
 use Rattle.sp_ports.specs.Bytes.{WhereKnown}
-use Rattle.sp_ports.specs.Device.{SourceRose}
 use Rattle.btf_words.specs.Words.{AreTaken, job_of}
 use Rattle.btf_words.specs.declared.jobs.WordsError.{WordsError}
 use Rattle.btf_words.specs.declared.jobs.Job.{Job}
-use Rattle.btf_words.specs.declared.jobs.Job.TheVariants.{Rank, Analyse, Diagonal, Check, Load}
+use Rattle.btf_words.specs.declared.jobs.Job.TheVariants.{Rank, Analyse, Diagonal, Check, Load, Edit, Bottleneck}
 use Rattle.mm_defs.specs.Faults.{is_limit}
-use Rattle.mm_defs.specs.File.{Fault, Reads}
-use Rattle.mm_defs.specs.Calls.{Call, ReadsAll, first_bad, got, offered}
-use Rattle.mm_defs.specs.declared.answers.End.{End}
-use Rattle.mm_defs.specs.declared.answers.ReadError.TheVariants as errors
+use Rattle.mm_defs.specs.File.{Fault}
+use Rattle.mm_defs.specs.Calls.{Call, got, offered}
 use Rattle.mm_defs.specs.declared.kinds.Kind.{Kind}
-use Rattle.mm_defs.proofs.AnswerLemmas.{bad_line_known, good_file_answer, length_got, none_given}
+use Rattle.mm_defs.proofs.AnswerLemmas.{length_got}
 use Rattle.bip_defs.specs.Matrix.{Matrix}
 use Rattle.bip_defs.proofs.Uniqueness.{same_matrix}
 use Rattle.btf_check.specs.Verdicts.{IsVerdict}
@@ -27,12 +24,17 @@ use Rattle.btf_tool.specs.declared.answers.Answer.{Answer}
 use Rattle.btf_tool.specs.declared.answers.Answer.TheVariants.{Negative, Positive}
 use Rattle.btf_tool.specs.declared.refusals.Refusal.{Refusal}
 use Rattle.btf_tool.specs.declared.refusals.Refusal.TheVariants.{Usage, Malformed, Limit, TooLong, SumLimit, NeedsInteger, ReadFault, WriteFault, OutOfMemory}
-use Rattle.sp_ports.specs.Device.{Device, FailsOnceAtMost, HasReadFault, HasWriteFault, IsSteady, IsUntouched, WroteAsFar}
-use Rattle.btf_tool.specs.Jobs.{GavePrefix, IsAnswer as IsJobAnswer, IsFitFor, IsMatrixOf, NeedsIntegers, OfReading, ReadsFile, WasRead, Weighs, WithAnswer, WithFileAnswer, drops_of, end_of, reading}
+use Rattle.sp_ports.specs.Device.{Device, FailsOnceAtMost, HasWriteFault, IsSteady, IsUntouched, WroteAsFar}
+use Rattle.btf_tool.specs.Jobs.{GavePrefix, IsAnswer as IsJobAnswer, IsFitFor, IsMatrixOf, NeedsIntegers, OfReading, ReadsFile, Weighs, WithAnswer, WithFileAnswer, drops_of, form_of, reading}
+use Rattle.btf_tool.specs.Inputs.{Form, IsGoodInput, first_bad_in}
+use Rattle.btf_tool.specs.Inputs as forms
 use Rattle.btf_tool.specs.VerdictText.{answer_of}
 use Rattle.btf_tool.specs.Refusals.{line_of, status_of, status_of_answer}
 use Rattle.btf_tool.specs.Runs.{ComesToDiagonal, Completes, EndsWell, HasCause, IsBadLine, IsGoodSoFar, IsOrNoMemory, IsPast, IsTooLong, JobSays, NameMaker, Names, NamesReader, Run, Says, StaysKnown, WithFile, status_of_fault}
-use Rattle.btf_tool.proofs.Diagonals.{FullHasRank, comes_to_diagonal, no_diagonal_memory, no_sum_past, past_ends}
+use Rattle.btf_tool.proofs.Bottlenecks.{comes_to_bottleneck}
+use Rattle.btf_tool.proofs.Diagonals.{comes_to_diagonal, no_sum_past}
+use Rattle.btf_tool.proofs.FullMatchings.{FullHasRank, no_diagonal_memory, past_ends}
+use Rattle.btf_tool.proofs.Inputs.{no_bad_line, none_within}
 
 -- what follows of what holds where bytes are told
 pub where_known : {P Q : List ℕ → List ℕ → Type 0} (before after : Option (List ℕ)) → WhereKnown before after P
@@ -40,11 +42,6 @@ pub where_known : {P Q : List ℕ → List ℕ → Type 0} (before after : Optio
 where_known None after h f = tt
 where_known (Some x) None h f = absurd h
 where_known (Some x) (Some y) h f = f x y refl h
-
--- an input that tells its bytes and did not fail counts as before
-steady : (input : Device) (x : List ℕ) → input.before ≡ Some x → FailsOnceAtMost input → ¬ HasReadFault input → input.failed_after ≡ input.failed_before
-steady input x tells counts no_fault =
-    omega (arith, counts.later, λ (rose : input.failed_before < input.failed_after). no_fault (subst (λ (b : Option (List ℕ)). SourceRose b input.failed_before input.failed_after) (sym tells) rose))
 
 -- the status of the first bad line
 kind_status : (line : ℕ) (kind : Kind) (fault : Fault) (first : Option Fault) (limit : Bool) → first ≡ Some (record { line = line; kind = kind }) → is_limit kind ≡ limit → first ≡ Some fault
@@ -56,10 +53,16 @@ kind_status line kind fault first limit one is two =
 clash : (first : Option Fault) (fault : Fault) → first ≡ None → first ≡ Some fault → ⊥
 clash first fault none some = cc
 
--- a job's answer is of a good file within the limit
-answer_read : (job : Job) (call : Call) (answer : Answer) (text : List ℕ) → IsJobAnswer job call answer text
-    → (t : Entries) × (rest : List ℕ) × ReadsAll (end_of job) call t rest
-answer_read job call answer text h = (h.entries, h.rest, record { reads = h.was_read.reads; within = let w = h.was_read.within in omega (arith, w) })
+-- a good input has no bad line
+good_clash : (form : Form) (call : Call) (t : Entries) (rest : List ℕ) (fault : Fault) → IsGoodInput form (offered call) t rest → first_bad_in form call ≡ Some fault → ⊥
+good_clash form call t rest fault good some = clash (first_bad_in form call) fault (no_bad_line form call t rest good) some
+
+-- good inputs of the same bytes have the same entries, and the same behind them
+same_entries : (form : Form) (bytes : List ℕ) (t u : Entries) (rest more : List ℕ) → IsGoodInput form bytes t rest → IsGoodInput form bytes u more → t ≡ u
+same_entries form bytes t u rest more h k = h.reads.entries ∙ sym k.reads.entries
+
+same_rest : (form : Form) (bytes : List ℕ) (t u : Entries) (rest more : List ℕ) → IsGoodInput form bytes t rest → IsGoodInput form bytes u more → rest ≡ more
+same_rest form bytes t u rest more h k = h.reads.follows ∙ sym k.reads.follows
 
 -- a file within the limit gave no byte past it, and is not too long
 not_past : (call : Call) → length (offered call) ≤ call.room → call.room < length (got call) → ⊥
@@ -85,6 +88,8 @@ over_file (Analyse search report drop_zeros) answer input P reads h = h
 over_file (Diagonal drop_zeros) answer input P reads h = h
 over_file (Check drop_zeros) answer input P reads h = h
 over_file (Load size seed search) answer input P reads h = absurd reads
+over_file Edit answer input P reads h = h
+over_file (Bottleneck drop_zeros) answer input P reads h = h
 
 -- a matrix that was made was answered as was asked
 made_positive : (job : Job) (answer : Answer) (input : Device) (P : List ℕ → Type 0) → ¬ ReadsFile job → WithAnswer job answer input P → answer ≡ Positive
@@ -93,6 +98,8 @@ made_positive (Analyse search report drop_zeros) answer input P makes h = absurd
 made_positive (Diagonal drop_zeros) answer input P makes h = absurd (makes tt)
 made_positive (Check drop_zeros) answer input P makes h = absurd (makes tt)
 made_positive (Load size seed search) answer input P makes h = h.1.positive
+made_positive Edit answer input P makes h = absurd (makes tt)
+made_positive (Bottleneck drop_zeros) answer input P makes h = absurd (makes tt)
 
 -- what the law `one_verdict` says
 abbrev pub HasOneVerdict : Type 0
@@ -100,21 +107,21 @@ HasOneVerdict = (a : Matrix) (bytes : List ℕ) (v w : Verdict) → IsPattern a 
 
 -- the answer over a good file is the one of that file
 ends_well : HasOneVerdict → FullHasRank → (job : Job) (call : Call) (answer : Answer) (text : List ℕ) (t : Entries) (rest : List ℕ) (status : Status) → ReadsFile job
-    → IsJobAnswer job call answer text → Reads (offered call) (end_of job) t rest → IsOrNoMemory status (status_of_answer answer) → EndsWell job t rest status
-ends_well one_verdict full_rank (Rank drop_zeros) call answer text t rest status file h reads ends = subst (λ (x : Answer). IsOrNoMemory status (status_of_answer x)) h.is_text.0 ends
-ends_well one_verdict full_rank (Analyse search report drop_zeros) call answer text t rest status file h reads ends = subst (λ (x : Answer). IsOrNoMemory status (status_of_answer x)) h.is_text.0 ends
-ends_well one_verdict full_rank (Diagonal drop_zeros) call answer text t rest status file h reads ends =
-    let same : h.entries ≡ t = h.was_read.reads.entries ∙ sym reads.entries in
-    subst (λ (x : Entries). ComesToDiagonal drop_zeros x status) same (comes_to_diagonal full_rank drop_zeros h.entries h.matrix answer text status h.is_matrix h.is_text ends)
-ends_well one_verdict full_rank (Check drop_zeros) call answer text t rest status file h reads ends = record {
+    → IsJobAnswer job call answer text → IsGoodInput (form_of job) (offered call) t rest → IsOrNoMemory status (status_of_answer answer) → EndsWell job t rest status
+ends_well one_verdict full_rank (Rank drop_zeros) call answer text t rest status file h good ends = subst (λ (x : Answer). IsOrNoMemory status (status_of_answer x)) h.is_text.0 ends
+ends_well one_verdict full_rank (Analyse search report drop_zeros) call answer text t rest status file h good ends = subst (λ (x : Answer). IsOrNoMemory status (status_of_answer x)) h.is_text.0 ends
+ends_well one_verdict full_rank (Diagonal drop_zeros) call answer text t rest status file h good ends =
+    subst (λ (x : Entries). ComesToDiagonal drop_zeros x status) (same_entries forms.Alone (offered call) h.entries t h.rest rest h.was_read.good good)
+    (comes_to_diagonal full_rank drop_zeros h.entries h.matrix answer text status h.is_matrix h.is_text ends)
+ends_well one_verdict full_rank (Check drop_zeros) call answer text t rest status file h good ends = record {
   comes = comes answer ends;
   right = λ a verdict matrix is_verdict.
-      let same_t : h.entries ≡ t = h.was_read.reads.entries ∙ sym reads.entries in
-      let same_rest : h.rest ≡ rest = h.was_read.reads.follows ∙ sym reads.follows in
+      let same_t : h.entries ≡ t = same_entries forms.Followed (offered call) h.entries t h.rest rest h.was_read.good good in
+      let same_bytes : h.rest ≡ rest = same_rest forms.Followed (offered call) h.entries t h.rest rest h.was_read.good good in
       let mine : IsMatrixOf drop_zeros t h.matrix = subst (λ (x : Entries). IsMatrixOf drop_zeros x h.matrix) same_t h.is_matrix in
       let same_a : h.matrix ≡ a = same_matrix _ _ _ h.matrix a mine matrix in
       let v : IsVerdict h.matrix h.rest h.is_text.verdict = h.is_text.is_verdict in
-      let w : IsVerdict h.matrix h.rest verdict = subst (λ (bytes : List ℕ). IsVerdict h.matrix bytes verdict) (sym same_rest) (subst (λ (x : Matrix). IsVerdict x rest verdict) (sym same_a) is_verdict) in
+      let w : IsVerdict h.matrix h.rest verdict = subst (λ (bytes : List ℕ). IsVerdict h.matrix bytes verdict) (sym same_bytes) (subst (λ (x : Matrix). IsVerdict x rest verdict) (sym same_a) is_verdict) in
       let same_v : h.is_text.verdict ≡ verdict = one_verdict h.matrix h.rest h.is_text.verdict verdict h.is_text.fits v w in
       subst (λ (x : Answer). IsOrNoMemory status (status_of_answer x)) (h.is_text.answer_is ∙ ap answer_of same_v) ends;
 }
@@ -123,23 +130,33 @@ ends_well one_verdict full_rank (Check drop_zeros) call answer text t rest statu
     comes Positive ends = inr ends
     comes Negative (inl is) = inl is
     comes Negative (inr none) = inr (inr none)
-ends_well one_verdict full_rank (Load size seed search) call answer text t rest status file h reads ends = absurd file
+ends_well one_verdict full_rank (Load size seed search) call answer text t rest status file h good ends = absurd file
+ends_well one_verdict full_rank Edit call answer text t rest status file h good ends = subst (λ (x : Answer). IsOrNoMemory status (status_of_answer x)) h.is_text.0 ends
+ends_well one_verdict full_rank (Bottleneck drop_zeros) call answer text t rest status file h good ends =
+    subst (λ (x : Entries). ComesToDiagonal drop_zeros x status) (same_entries forms.Alone (offered call) h.entries t h.rest rest h.was_read.good good)
+    (comes_to_bottleneck full_rank drop_zeros h.entries h.matrix answer text status h.is_matrix h.is_text ends)
 
 -- the file of a job that needs integers, and answered over it, is an integer file
-answer_integer : (job : Job) (call : Call) (answer : Answer) (text : List ℕ) (t : Entries) (rest : List ℕ) → NeedsIntegers job → IsJobAnswer job call answer text → Reads (offered call) (end_of job) t rest
-    → t.field ≡ Integer
-answer_integer job call answer text t rest needs h reads = subst (λ (x : Entries). x.field ≡ Integer) (h.was_read.reads.entries ∙ sym reads.entries) (h.is_fit needs)
+answer_integer : (job : Job) (call : Call) (answer : Answer) (text : List ℕ) (t : Entries) (rest : List ℕ) → NeedsIntegers job → IsJobAnswer job call answer text
+    → IsGoodInput (form_of job) (offered call) t rest → t.field ≡ Integer
+answer_integer job call answer text t rest needs h good =
+    subst (λ (x : Entries). x.field ≡ Integer) (same_entries (form_of job) (offered call) h.entries t h.rest rest h.was_read.good good) (h.is_fit needs)
 
 -- and no sum of a file that was weighed passes the limit
-answer_within : (job : Job) (call : Call) (answer : Answer) (text : List ℕ) (t : Entries) (rest : List ℕ) (r c : ℕ) → Weighs job → IsJobAnswer job call answer text → Reads (offered call) (end_of job) t rest
-    → weight_limit < weight_of t r c → ⊥
-answer_within (Rank drop_zeros) call answer text t rest r c weighs h reads past = weighs
-answer_within (Analyse search report drop_zeros) call answer text t rest r c weighs h reads past = weighs
-answer_within (Diagonal drop_zeros) call answer text t rest r c weighs h reads past =
-    no_sum_past drop_zeros h.entries h.matrix h.is_text.weighing r c h.is_matrix h.is_text.are_weights
-    (subst (λ (x : Entries). weight_limit < weight_of x r c) (sym (h.was_read.reads.entries ∙ sym reads.entries)) past)
-answer_within (Check drop_zeros) call answer text t rest r c weighs h reads past = weighs
-answer_within (Load size seed search) call answer text t rest r c weighs h reads past = weighs
+own_within : (job : Job) (call : Call) (answer : Answer) (text : List ℕ) (r c : ℕ) → Weighs job → (h : IsJobAnswer job call answer text) → weight_limit < weight_of h.entries r c → ⊥
+own_within (Rank drop_zeros) call answer text r c weighs h past = weighs
+own_within (Analyse search report drop_zeros) call answer text r c weighs h past = weighs
+own_within (Diagonal drop_zeros) call answer text r c weighs h past = no_sum_past drop_zeros h.entries h.matrix h.is_text.weighing r c h.is_matrix h.is_text.are_weights past
+own_within (Check drop_zeros) call answer text r c weighs h past = weighs
+own_within (Load size seed search) call answer text r c weighs h past = weighs
+own_within Edit call answer text r c weighs h past = weighs
+own_within (Bottleneck drop_zeros) call answer text r c weighs h past = no_sum_past drop_zeros h.entries h.matrix h.is_text.weighing r c h.is_matrix h.is_text.are_weights past
+
+answer_within : (job : Job) (call : Call) (answer : Answer) (text : List ℕ) (t : Entries) (rest : List ℕ) (r c : ℕ) → Weighs job → IsJobAnswer job call answer text
+    → IsGoodInput (form_of job) (offered call) t rest → weight_limit < weight_of t r c → ⊥
+answer_within job call answer text t rest r c weighs h good past =
+    own_within job call answer text r c weighs h
+    (subst (λ (x : Entries). weight_limit < weight_of x r c) (sym (same_entries (form_of job) (offered call) h.entries t h.rest rest h.was_read.good good)) past)
 
 -- the job that the words name, in place of another that they name
 abbrev in_place : (words : List (List ℕ)) (one two : Job) → Names words one → Names words two → (P : Job → Type 0) → P one → P two
@@ -151,17 +168,15 @@ answered : HasOneVerdict → FullHasRank → (r : Run) (status : Status) (P : Li
 answered one_verdict full_rank r status P answer job names written ends = record {
   usage = λ not. absurd (not names.taken);
   bad_line = λ other reader. where_known r.input.before r.input.after (over other reader)
-      (λ x y before h fault bad. let read = answer_read other (reading r.input x y) answer h.0 h.1 in
-      absurd (bad_line_known (end_of other) (reading r.input x y) read.1 (Ok read.0) fault read.2 bad));
+      (λ x y before h fault bad. absurd (good_clash (form_of other) (reading r.input x y) h.1.entries h.1.rest fault h.1.was_read.good bad));
   good = λ other reader no_read no_write. where_known r.input.before r.input.after (over other reader)
-      (λ x y before h t rest reads few fit. ends_well one_verdict full_rank other (reading r.input x y) answer h.0 t rest status reader.1 h.1 reads (ends no_write));
+      (λ x y before h t rest good few fit. ends_well one_verdict full_rank other (reading r.input x y) answer h.0 t rest status reader.1 h.1 good (ends no_write));
   other_field = λ other reader needs no_read. where_known r.input.before r.input.after (over other reader)
-      (λ x y before h t rest reads few not. absurd (not (answer_integer other (reading r.input x y) answer h.0 t rest needs h.1 reads)));
+      (λ x y before h t rest good few not. absurd (not (answer_integer other (reading r.input x y) answer h.0 t rest needs h.1 good)));
   past = λ other reader weighs no_read. where_known r.input.before r.input.after (over other reader)
-      (λ x y before h t rest reads few integer row col past. absurd (answer_within other (reading r.input x y) answer h.0 t rest row col weighs h.1 reads past));
+      (λ x y before h t rest good few integer row col past. absurd (answer_within other (reading r.input x y) answer h.0 t rest row col weighs h.1 good past));
   not_good = λ other reader no_read. where_known r.input.before r.input.after (over other reader)
-      (λ x y before h none. let read = answer_read other (reading r.input x y) answer h.0 h.1 in
-      absurd (none read.0 read.1 read.2.reads h.1.was_read.within));
+      (λ x y before h none. absurd (none h.1.entries h.1.rest h.1.was_read.good h.1.was_read.within));
   too_many = λ other reader. where_known r.input.before r.input.after (over other reader)
       (λ x y before h none past. absurd (not_past (reading r.input x y) h.1.was_read.within past));
   too_long = λ other reader no_read. where_known r.input.before r.input.after (over other reader)
@@ -176,33 +191,28 @@ answered one_verdict full_rank r status P answer job names written ends = record
 
 -- the run was refused for a bad line
 bad : (r : Run) (status : Status) (line : ℕ) (kind : Kind) (limit : Bool) → status ≡ (if limit then statuses.Limit else statuses.Malformed)
-    → (job : Job) → Names r.words job → ReadsFile job → FailsOnceAtMost r.input → is_limit kind ≡ limit
-    → IsBadLine (end_of job) r.input (record { line = line; kind = kind }) → Completes r status
-bad r status line kind limit said job names reads later is first = record {
+    → (job : Job) → Names r.words job → ReadsFile job → is_limit kind ≡ limit
+    → IsBadLine (form_of job) r.input (record { line = line; kind = kind }) → Completes r status
+bad r status line kind limit said job names reads is first = record {
   usage = λ not. absurd (not names.taken);
   bad_line = λ other reader. where_known r.input.before r.input.after (of other reader)
-      (λ x y before h fault two. inl (said ∙ kind_status line kind fault (first_bad (end_of other) (reading r.input x y)) limit h is two));
+      (λ x y before h fault two. inl (said ∙ kind_status line kind fault (first_bad_in (form_of other) (reading r.input x y)) limit h is two));
   good = λ other reader no_read no_write. where_known r.input.before r.input.after (of other reader)
-      (λ x y before h t rest reads few fit. absurd (not_answered (end_of other) limit (reading r.input x y) t rest h is reads few (steady r.input x before later no_read)));
+      (λ x y before h t rest good few fit. absurd (good_clash (form_of other) (reading r.input x y) t rest _ good h));
   other_field = λ other reader needs no_read. where_known r.input.before r.input.after (of other reader)
-      (λ x y before h t rest reads few not. absurd (not_answered (end_of other) limit (reading r.input x y) t rest h is reads few (steady r.input x before later no_read)));
+      (λ x y before h t rest good few not. absurd (good_clash (form_of other) (reading r.input x y) t rest _ good h));
   past = λ other reader weighs no_read. where_known r.input.before r.input.after (of other reader)
-      (λ x y before h t rest reads few integer row col past. absurd (not_answered (end_of other) limit (reading r.input x y) t rest h is reads few (steady r.input x before later no_read)));
+      (λ x y before h t rest good few integer row col past. absurd (good_clash (form_of other) (reading r.input x y) t rest _ good h));
   not_good = λ other reader no_read. where_known r.input.before r.input.after (of other reader) (λ x y before h none. inl (either limit said));
   too_many = λ other reader. where_known r.input.before r.input.after (of other reader)
-      (λ x y before h none past. absurd (clash (first_bad (end_of other) (reading r.input x y)) _ none h));
+      (λ x y before h none past. absurd (clash (first_bad_in (form_of other) (reading r.input x y)) _ none h));
   too_long = λ other reader no_read. where_known r.input.before r.input.after (of other reader)
-      (λ x y before h past none. absurd (clash (first_bad (end_of other) (reading r.input x y)) _ (none_given (end_of other) (reading r.input x y) past none) h));
+      (λ x y before h past none. absurd (clash (first_bad_in (form_of other) (reading r.input x y)) _ (none_within (form_of other) (reading r.input x y) past none) h));
   made = λ maker. absurd (made_named r.words job names maker reads);
 }
   where
-    of : (other : Job) → NamesReader r.words other → IsBadLine (end_of other) r.input (record { line = line; kind = kind })
-    of other reader = in_place r.words job other names reader.0 (λ (j : Job). IsBadLine (end_of j) r.input (record { line = line; kind = kind })) first
-
-    not_answered : (end : End) (limit : Bool) (call : Call) (t : Entries) (rest : List ℕ) → first_bad end call ≡ Some (record { line = line; kind = kind }) → is_limit kind ≡ limit
-        → Reads (offered call) end t rest → length (offered call) ≤ call.room → call.failures_after ≡ call.failures_before → ⊥
-    not_answered end true call t rest h is reads few same = good_file_answer end call [] (Err (errors.Limit line kind)) t rest (h, is) reads few same
-    not_answered end false call t rest h is reads few same = good_file_answer end call [] (Err (errors.Malformed line kind)) t rest (h, is) reads few same
+    of : (other : Job) → NamesReader r.words other → IsBadLine (form_of other) r.input (record { line = line; kind = kind })
+    of other reader = in_place r.words job other names reader.0 (λ (j : Job). IsBadLine (form_of j) r.input (record { line = line; kind = kind })) first
 
     either : (limit : Bool) → status ≡ (if limit then statuses.Limit else statuses.Malformed) → (status ≡ statuses.Malformed) ⊎ (status ≡ statuses.Limit)
     either true said = inr said
@@ -215,6 +225,8 @@ no_memory_ends (Analyse search report drop_zeros) t rest status said = inr said
 no_memory_ends (Diagonal drop_zeros) t rest status said = no_diagonal_memory drop_zeros t status said
 no_memory_ends (Check drop_zeros) t rest status said = record { comes = inr (inr said); right = λ a verdict matrix is_verdict. inr said }
 no_memory_ends (Load size seed search) t rest status said = inr said
+no_memory_ends Edit t rest status said = inr said
+no_memory_ends (Bottleneck drop_zeros) t rest status said = no_diagonal_memory drop_zeros t status said
 
 -- a job that needs integers reads a file
 needs_reads : (job : Job) → NeedsIntegers job → ReadsFile job
@@ -223,6 +235,8 @@ needs_reads (Analyse search report drop_zeros) needs = tt
 needs_reads (Diagonal drop_zeros) needs = tt
 needs_reads (Check drop_zeros) needs = tt
 needs_reads (Load size seed search) needs = absurd needs
+needs_reads Edit needs = tt
+needs_reads (Bottleneck drop_zeros) needs = tt
 
 -- a job that adds up values needs integers, and ends over its file as one that has a diagonal
 weighs_needs : (job : Job) → Weighs job → NeedsIntegers job
@@ -231,6 +245,8 @@ weighs_needs (Analyse search report drop_zeros) weighs = absurd weighs
 weighs_needs (Diagonal drop_zeros) weighs = tt
 weighs_needs (Check drop_zeros) weighs = absurd weighs
 weighs_needs (Load size seed search) weighs = absurd weighs
+weighs_needs Edit weighs = absurd weighs
+weighs_needs (Bottleneck drop_zeros) weighs = tt
 
 weighs_ends : (job : Job) (t : Entries) (rest : List ℕ) (status : Status) → Weighs job → ComesToDiagonal (drops_of job) t status → EndsWell job t rest status
 weighs_ends (Rank drop_zeros) t rest status weighs comes = absurd weighs
@@ -238,6 +254,8 @@ weighs_ends (Analyse search report drop_zeros) t rest status weighs comes = absu
 weighs_ends (Diagonal drop_zeros) t rest status weighs comes = comes
 weighs_ends (Check drop_zeros) t rest status weighs comes = absurd weighs
 weighs_ends (Load size seed search) t rest status weighs comes = absurd weighs
+weighs_ends Edit t rest status weighs comes = absurd weighs
+weighs_ends (Bottleneck drop_zeros) t rest status weighs comes = comes
 
 -- what a refusal over a good file has to answer to, for a job that does Q with a file of which P holds
 record AnswersTo (Q : Job → Type 0) (P : Job → Entries → Type 0) (status : Status) : Type 0 where
@@ -250,14 +268,14 @@ by_entries : (r : Run) (status : Status) (Q : Job → Type 0) (P : Job → Entri
 by_entries r status Q P job names file_read is file to = record {
   usage = λ not. absurd (not names.taken);
   bad_line = λ other reader. where_known r.input.before r.input.after (of other reader)
-      (λ x y before h fault bad. absurd (bad_line_known (end_of other) (reading r.input x y) h.1 (Ok h.0) fault (all other (reading r.input x y) h.0 h.1 h.2) bad));
+      (λ x y before h fault bad. absurd (good_clash (form_of other) (reading r.input x y) h.0 h.1 fault h.2.good bad));
   good = λ other reader no_read no_write. where_known r.input.before r.input.after (of other reader)
-      (λ x y before h t rest reads few fit. to.ends other t rest (does other reader) (subst (P other) (h.2.reads.entries ∙ sym reads.entries) h.3) fit);
+      (λ x y before h t rest good few fit. to.ends other t rest (does other reader) (as_given other (offered (reading r.input x y)) h.0 t h.1 rest h.2.good good h.3) fit);
   other_field = λ other reader needs no_read. where_known r.input.before r.input.after (of other reader)
-      (λ x y before h t rest reads few not. to.other_field other t (subst (P other) (h.2.reads.entries ∙ sym reads.entries) h.3) not);
+      (λ x y before h t rest good few not. to.other_field other t (as_given other (offered (reading r.input x y)) h.0 t h.1 rest h.2.good good h.3) not);
   past = λ other reader weighs no_read. where_known r.input.before r.input.after (of other reader)
-      (λ x y before h t rest reads few integer row col past. to.past other t (subst (P other) (h.2.reads.entries ∙ sym reads.entries) h.3) integer);
-  not_good = λ other reader no_read. where_known r.input.before r.input.after (of other reader) (λ x y before h none. absurd (none h.0 h.1 h.2.reads h.2.within));
+      (λ x y before h t rest good few integer row col past. to.past other t (as_given other (offered (reading r.input x y)) h.0 t h.1 rest h.2.good good h.3) integer);
+  not_good = λ other reader no_read. where_known r.input.before r.input.after (of other reader) (λ x y before h none. absurd (none h.0 h.1 h.2.good h.2.within));
   too_many = λ other reader. where_known r.input.before r.input.after (of other reader) (λ x y before h none past. absurd (not_past (reading r.input x y) h.2.within past));
   too_long = λ other reader no_read. where_known r.input.before r.input.after (of other reader) (λ x y before h past none. absurd (not_long x h.2.within past));
   made = λ maker. absurd (made_named r.words job names maker file_read);
@@ -269,8 +287,8 @@ by_entries r status Q P job names file_read is file to = record {
     of : (other : Job) → NamesReader r.words other → WithFile other r.input (P other)
     of other reader = in_place r.words job other names reader.0 (λ (j : Job). WithFile j r.input (P j)) file
 
-    all : (other : Job) (call : Call) (t : Entries) (rest : List ℕ) → WasRead (end_of other) call t rest → ReadsAll (end_of other) call t rest
-    all other call t rest read = record { reads = read.reads; within = let w = read.within in omega (arith, w) }
+    as_given : (other : Job) (bytes : List ℕ) (u t : Entries) (more rest : List ℕ) → IsGoodInput (form_of other) bytes u more → IsGoodInput (form_of other) bytes t rest → P other u → P other t
+    as_given other bytes u t more rest h k p = subst (P other) (same_entries (form_of other) bytes u t more rest h k) p
 
 -- a sum past the limit
 abbrev PastLimit : ℕ → ℕ → Job → Entries → Type 0
@@ -307,28 +325,28 @@ refused one_verdict full_rank r status Usage said c = record {
   too_long = λ other reader. absurd (c.0 reader.0.taken);
   made = λ maker. absurd (c.0 maker.1.taken);
 }
-refused one_verdict full_rank r status (Malformed line kind) said c = bad r status line kind false said c.0 c.1 c.3.0 c.2 c.3.1 c.3.2
-refused one_verdict full_rank r status (Limit line kind) said c = bad r status line kind true said c.0 c.1 c.3.0 c.2 c.3.1 c.3.2
+refused one_verdict full_rank r status (Malformed line kind) said c = bad r status line kind false said c.0 c.1 c.3.0 c.3.1 c.3.2
+refused one_verdict full_rank r status (Limit line kind) said c = bad r status line kind true said c.0 c.1 c.3.0 c.3.1 c.3.2
 refused one_verdict full_rank r status TooLong said c = record {
   usage = λ not. absurd (not c.1.taken);
-  bad_line = λ other reader. where_known r.input.before r.input.after (of other reader) (λ x y before h fault two. absurd (clash (first_bad (end_of other) (reading r.input x y)) fault h.0 two));
+  bad_line = λ other reader. where_known r.input.before r.input.after (of other reader) (λ x y before h fault two. absurd (clash (first_bad_in (form_of other) (reading r.input x y)) fault h.0 two));
   good = λ other reader no_read no_write. where_known r.input.before r.input.after (of other reader)
-      (λ x y before h t rest reads few fit. absurd (good_file_answer (end_of other) (reading r.input x y) [] (Err errors.TooLong) t rest h reads few (steady r.input x before c.2 no_read)));
+      (λ x y before h t rest good few fit. absurd (not_past (reading r.input x y) few h.1));
   other_field = λ other reader needs no_read. where_known r.input.before r.input.after (of other reader)
-      (λ x y before h t rest reads few not. absurd (good_file_answer (end_of other) (reading r.input x y) [] (Err errors.TooLong) t rest h reads few (steady r.input x before c.2 no_read)));
+      (λ x y before h t rest good few not. absurd (not_past (reading r.input x y) few h.1));
   past = λ other reader weighs no_read. where_known r.input.before r.input.after (of other reader)
-      (λ x y before h t rest reads few integer row col past. absurd (good_file_answer (end_of other) (reading r.input x y) [] (Err errors.TooLong) t rest h reads few (steady r.input x before c.2 no_read)));
+      (λ x y before h t rest good few integer row col past. absurd (not_past (reading r.input x y) few h.1));
   not_good = λ other reader no_read. where_known r.input.before r.input.after (of other reader) (λ x y before h none. inl (inr said));
   too_many = λ other reader. where_known r.input.before r.input.after (of other reader) (λ x y before h none past. inl said);
   too_long = λ other reader no_read. where_known r.input.before r.input.after (of other reader) (λ x y before h past none. inl said);
   made = λ maker. absurd (made_named r.words c.0 c.1 maker c.3.0);
 }
   where
-    of : (other : Job) → NamesReader r.words other → IsTooLong (end_of other) r.input
-    of other reader = in_place r.words c.0 other c.1 reader.0 (λ (j : Job). IsTooLong (end_of j) r.input) c.3.1
+    of : (other : Job) → NamesReader r.words other → IsTooLong (form_of other) r.input
+    of other reader = in_place r.words c.0 other c.1 reader.0 (λ (j : Job). IsTooLong (form_of j) r.input) c.3.1
 refused one_verdict full_rank r status ReadFault said c = record {
   usage = λ not. absurd (not c.1.taken);
-  bad_line = λ other reader. where_known r.input.before r.input.after (of other reader) (λ x y before h fault two. absurd (clash (first_bad (end_of other) (reading r.input x y)) fault h.0 two));
+  bad_line = λ other reader. where_known r.input.before r.input.after (of other reader) (λ x y before h fault two. absurd (clash (first_bad_in (form_of other) (reading r.input x y)) fault h.0 two));
   good = λ other reader no_read. absurd (no_read c.3.1);
   other_field = λ other reader needs no_read. absurd (no_read c.3.1);
   past = λ other reader weighs no_read. absurd (no_read c.3.1);
@@ -338,8 +356,8 @@ refused one_verdict full_rank r status ReadFault said c = record {
   made = λ maker. absurd (made_named r.words c.0 c.1 maker c.3.0);
 }
   where
-    of : (other : Job) → NamesReader r.words other → IsGoodSoFar (end_of other) r.input
-    of other reader = in_place r.words c.0 other c.1 reader.0 (λ (j : Job). IsGoodSoFar (end_of j) r.input) c.3.2
+    of : (other : Job) → NamesReader r.words other → IsGoodSoFar (form_of other) r.input
+    of other reader = in_place r.words c.0 other c.1 reader.0 (λ (j : Job). IsGoodSoFar (form_of j) r.input) c.3.2
 refused one_verdict full_rank r status (SumLimit row col) said c =
     by_entries r status Weighs (PastLimit row col) c.0 c.1 (needs_reads c.0 (weighs_needs c.0 c.3.0)) c.3.0 c.3.2 (past_answers row col status said)
 refused one_verdict full_rank r status NeedsInteger said c = by_entries r status NeedsIntegers OtherField c.0 c.1 (needs_reads c.0 c.3.0) c.3.0 c.3.2 (other_field_answers status said)
@@ -347,9 +365,9 @@ refused one_verdict full_rank r status WriteFault said c = answered one_verdict 
 refused one_verdict full_rank r status OutOfMemory said c = record {
   usage = λ _. inr said;
   bad_line = λ other reader. where_known r.input.before r.input.after c.1 (λ x y before h fault two. inr said);
-  good = λ other reader no_read no_write. where_known r.input.before r.input.after c.1 (λ x y before h t rest reads few fit. no_memory_ends other t rest status said);
-  other_field = λ other reader needs no_read. where_known r.input.before r.input.after c.1 (λ x y before h t rest reads few not. inr said);
-  past = λ other reader weighs no_read. where_known r.input.before r.input.after c.1 (λ x y before h t rest reads few integer row col past. inr said);
+  good = λ other reader no_read no_write. where_known r.input.before r.input.after c.1 (λ x y before h t rest good few fit. no_memory_ends other t rest status said);
+  other_field = λ other reader needs no_read. where_known r.input.before r.input.after c.1 (λ x y before h t rest good few not. inr said);
+  past = λ other reader weighs no_read. where_known r.input.before r.input.after c.1 (λ x y before h t rest good few integer row col past. inr said);
   not_good = λ other reader no_read. where_known r.input.before r.input.after c.1 (λ x y before h none. inr said);
   too_many = λ other reader. where_known r.input.before r.input.after c.1 (λ x y before h none past. inr said);
   too_long = λ other reader no_read. where_known r.input.before r.input.after c.1 (λ x y before h past none. inr said);

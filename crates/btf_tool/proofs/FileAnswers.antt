@@ -3,31 +3,33 @@ use Rattle.std.proofs.Common.{◌≡◌, ◌+◌, ◌-◌, ◌<◌, ◌≤◌, �
 use Rattle.sp_ids.specs.Entries.{Entries}
 use Rattle.sp_ports.specs.Bytes.{Gives, GivesPrefix, WhereKnown}
 use Rattle.sp_ports.specs.Device.{SourceRose}
-use Rattle.mm_defs.specs.File.{Fault, Reads, rest_of}
-use Rattle.mm_defs.specs.Calls.{Call, FellShort, HasItsKind, Intake, IsAnswer, IsRest, JudgesNoLine, ReadsAll, RefusesRest, TakesAtMostOnePast, call_on, first_bad, got, room}
-use Rattle.mm_defs.specs.declared.answers.End.{End}
+use Rattle.mm_defs.specs.File.{Reads, rest_of}
+use Rattle.mm_defs.specs.Calls.{Call, FellShort, HasItsKind, Intake, IsAnswer, IsRest, JudgesNoLine, ReadsAll, RefusesRest, TakesAtMostOnePast, call_on, got, room}
 use Rattle.mm_defs.specs.declared.answers.End.TheVariants.{File, LastEntry}
 use Rattle.mm_defs.specs.declared.answers.ReadError.{ReadError}
 use Rattle.mm_defs.specs.declared.answers.ReadError.TheVariants as errors
-use Rattle.mm_defs.proofs.AnswerLemmas.{bad_line_known}
+use Rattle.mm_defs.proofs.AnswerLemmas.{failed_goes_on, past_goes_on}
 use Rattle.mm_defs.proofs.Behind.{length-behind}
 use Rattle.sp_ports.specs.Device.{Device, HasReadFault}
 use Rattle.btf_tool.specs.Jobs.{GavePrefix, OfReading, WasRead, reading}
 use Rattle.btf_tool.specs.Refusals.{refusal_for}
 use Rattle.btf_tool.specs.Runs.{IsReadAs, IsUnread}
+use Rattle.btf_tool.specs.Inputs.{Form, end_in, first_bad_in}
+use Rattle.btf_tool.specs.Inputs as forms
 use Rattle.btf_tool.proofs.Completeness.{where_known}
+use Rattle.btf_tool.proofs.Inputs.{matrix_bad, matrix_good, no_bad_line}
 
-second_empty : (xs ys : List ℕ) → xs ++ ys ≡ [] → ys ≡ []
+pub second_empty : (xs ys : List ℕ) → xs ++ ys ≡ [] → ys ≡ []
 second_empty [] ys e = e
 second_empty (x ∷ xs) ys e = cc
 
 -- two facts on one call
-both : (P Q : List ℕ → List ℕ → Type 0) (old new : Option (List ℕ)) → WhereKnown old new P → WhereKnown old new Q → WhereKnown old new (λ x y. P x y × Q x y)
+pub both : (P Q : List ℕ → List ℕ → Type 0) (old new : Option (List ℕ)) → WhereKnown old new P → WhereKnown old new Q → WhereKnown old new (λ x y. P x y × Q x y)
 both P Q None new p q = tt
 both P Q (Some x) None p q = absurd p
 both P Q (Some x) (Some y) p q = (p, q)
 
-given_known : (old new : Option (List ℕ)) (given : List ℕ) → Gives old new given → WhereKnown old new (λ x y. x ≡ given ++ y)
+pub given_known : (old new : Option (List ℕ)) (given : List ℕ) → Gives old new given → WhereKnown old new (λ x y. x ≡ given ++ y)
 given_known None new given h = tt
 given_known (Some x) None given h = absurd h
 given_known (Some x) (Some y) given h = h
@@ -39,37 +41,43 @@ fresh = record { limit = 68719476736; taken = 0; ahead = []; at_end = false; lin
 -- ---- a file alone
 
 -- a file that was read to its end
-was_read : (call : Call) (ahead : List ℕ) (t : Entries) → ReadsAll File call t (ahead ++ call.after) → WasRead File call t []
+was_read : (call : Call) (ahead : List ℕ) (t : Entries) → ReadsAll File call t (ahead ++ call.after) → WasRead forms.Alone call t []
 unfolding rest_of
 was_read call ahead t h =
     let all : ReadsAll File call t [] = subst (λ (rest : List ℕ). ReadsAll File call t rest) h.reads.follows h in
-    record { reads = all.reads; within = let w = all.within in omega (arith, w); to_the_end = second_empty ahead call.after h.reads.follows }
+    record { good = record { reads = all.reads; edits = tt }; within = let w = all.within in omega (arith, w); to_the_end = second_empty ahead call.after h.reads.follows }
 
 -- the reader has read the file
 pub file_read : (input : Device) (ahead : List ℕ) (t : Entries)
     → WhereKnown input.before input.after (λ before after. IsAnswer File (reading input before after) (ahead ++ after) (Ok t))
-    → input.failed_after ≡ input.failed_before → IsReadAs File input t []
+    → input.failed_after ≡ input.failed_before → IsReadAs forms.Alone input t []
 file_read input ahead t answer steady = (steady, where_known input.before input.after answer (λ x y before h. was_read (reading input x y) ahead t h))
 
--- the reader has refused it
-not_read : (end : End) (input : Device) (ahead : List ℕ) (e : ReadError)
-    → WhereKnown input.before input.after (λ before after. IsAnswer end (reading input before after) (ahead ++ after) (Err e))
-    → WhereKnown input.before input.after (λ before after. FellShort {T = Entries} end (reading input before after) (Err e))
-    → HasItsKind {T = Entries} (Err e) → (e ≡ errors.ReadFault → HasReadFault input) → IsUnread end input (refusal_for e)
-not_read end input ahead (errors.Malformed line kind) answer short is rose = (is, where_known input.before input.after answer (λ x y before h. h.0))
-not_read end input ahead (errors.Limit line kind) answer short is rose = (is, where_known input.before input.after answer (λ x y before h. h.0))
-not_read end input ahead errors.TooLong answer short is rose = where_known input.before input.after answer (λ x y before h. h)
-not_read end input ahead errors.ReadFault answer short is rose = (rose refl, where_known input.before input.after (both _ _ input.before input.after answer short) (λ x y before h. (h.0.0, h.1.1)))
-not_read end input ahead errors.OutOfMemory answer short is rose = where_known input.before input.after answer (λ x y before h. tt)
+-- the reader has refused the matrix
+not_read : (form : Form) (input : Device) (ahead : List ℕ) (e : ReadError)
+    → WhereKnown input.before input.after (λ before after. IsAnswer (end_in form) (reading input before after) (ahead ++ after) (Err e))
+    → WhereKnown input.before input.after (λ before after. FellShort {T = Entries} (end_in form) (reading input before after) (Err e))
+    → HasItsKind {T = Entries} (Err e) → (e ≡ errors.ReadFault → HasReadFault input) → IsUnread form input (refusal_for e)
+not_read form input ahead (errors.Malformed line kind) answer short is rose = (is, where_known input.before input.after answer (λ x y before h. matrix_bad form (reading input x y) _ h.0))
+not_read form input ahead (errors.Limit line kind) answer short is rose = (is, where_known input.before input.after answer (λ x y before h. matrix_bad form (reading input x y) _ h.0))
+not_read form input ahead errors.TooLong answer short is rose =
+    where_known input.before input.after (both _ _ input.before input.after answer short)
+    (λ x y before h. (matrix_good form (reading input x y) (past_goes_on (reading input x y) h.0.1) h.0.0 h.1, h.0.1))
+not_read form input ahead errors.ReadFault answer short is rose = (
+  rose refl,
+  where_known input.before input.after (both _ _ input.before input.after answer short)
+      (λ x y before h. (matrix_good form (reading input x y) (failed_goes_on (reading input x y) h.0.1) h.0.0 h.1.0, h.1.1)),
+)
+not_read form input ahead errors.OutOfMemory answer short is rose = where_known input.before input.after answer (λ x y before h. tt)
 
-pub file_not_read : (end : End) (input : Device) (start : Intake) (ahead : List ℕ) (e : ReadError) → start ≡ fresh
-    → WhereKnown input.before input.after (λ before after. IsAnswer end (call_on (room start) start.ahead input.failed_before input.failed_after before after) (ahead ++ after) (Err e))
-    → WhereKnown input.before input.after (λ before after. FellShort {T = Entries} end (call_on (room start) start.ahead input.failed_before input.failed_after before after) (Err e))
-    → HasItsKind {T = Entries} (Err e) → (e ≡ errors.ReadFault → HasReadFault input) → IsUnread end input (refusal_for e)
-file_not_read end input start ahead e is answer short kind rose =
-    not_read end input ahead e
-    (subst (λ (i : Intake). WhereKnown input.before input.after (λ before after. IsAnswer end (call_on (room i) i.ahead input.failed_before input.failed_after before after) (ahead ++ after) (Err e))) is answer)
-    (subst (λ (i : Intake). WhereKnown input.before input.after (λ before after. FellShort {T = Entries} end (call_on (room i) i.ahead input.failed_before input.failed_after before after) (Err e))) is short)
+pub file_not_read : (form : Form) (input : Device) (start : Intake) (ahead : List ℕ) (e : ReadError) → start ≡ fresh
+    → WhereKnown input.before input.after (λ before after. IsAnswer (end_in form) (call_on (room start) start.ahead input.failed_before input.failed_after before after) (ahead ++ after) (Err e))
+    → WhereKnown input.before input.after (λ before after. FellShort {T = Entries} (end_in form) (call_on (room start) start.ahead input.failed_before input.failed_after before after) (Err e))
+    → HasItsKind {T = Entries} (Err e) → (e ≡ errors.ReadFault → HasReadFault input) → IsUnread form input (refusal_for e)
+file_not_read form input start ahead e is answer short kind rose =
+    not_read form input ahead e
+    (subst (λ (i : Intake). WhereKnown input.before input.after (λ before after. IsAnswer (end_in form) (call_on (room i) i.ahead input.failed_before input.failed_after before after) (ahead ++ after) (Err e))) is answer)
+    (subst (λ (i : Intake). WhereKnown input.before input.after (λ before after. FellShort {T = Entries} (end_in form) (call_on (room i) i.ahead input.failed_before input.failed_after before after) (Err e))) is short)
     kind rose
 
 -- what the reader took of the input
@@ -88,7 +96,7 @@ file_gave input start is prefix most =
 -- ---- a file and what follows it
 
 -- what holds of a source's bytes before two calls and after them
-over_both : {P Q R : List ℕ → List ℕ → Type 0} (old mid new : Option (List ℕ)) → WhereKnown old mid P → WhereKnown mid new Q
+pub over_both : {P Q R : List ℕ → List ℕ → Type 0} (old mid new : Option (List ℕ)) → WhereKnown old mid P → WhereKnown mid new Q
     → ((x y z : List ℕ) → P x y → Q y z → R x z) → WhereKnown old new R
 over_both None mid new first second f = tt
 over_both (Some x) None new first second f = absurd first
@@ -96,7 +104,7 @@ over_both (Some x) (Some y) None first second f = absurd second
 over_both (Some x) (Some y) (Some z) first second f = f x y z first second
 
 -- a failure of a later call is one of both calls
-rose_before : (P : List ℕ → List ℕ → Type 0) (old mid : Option (List ℕ)) (first between last : ℕ) → WhereKnown old mid P → between ≡ first → SourceRose mid between last → SourceRose old first last
+pub rose_before : (P : List ℕ → List ℕ → Type 0) (old mid : Option (List ℕ)) (first between last : ℕ) → WhereKnown old mid P → between ≡ first → SourceRose mid between last → SourceRose old first last
 rose_before P None None first between last known same rose = subst (λ (n : ℕ). SourceRose None n last) same rose
 rose_before P None (Some y) first between last known same rose = omega (arith, same, rose)
 rose_before P (Some x) None first between last known same rose = absurd known
@@ -109,22 +117,18 @@ pub record HasRead (new : Intake) (t : Entries) (before between : List ℕ) : Ty
   pub taken : new.taken + length between ≡ length before
 
 -- a good file has no bad line, whatever is seen of the call
-no_bad : (input : Device) (new : Intake) (t : Entries) (x y z : List ℕ) → HasRead new t x y → first_bad LastEntry (reading input x z) ≡ None
-no_bad input new t x y z h = by (first_bad LastEntry (reading input x z)) refl
-  where
-    by : (o : Option Fault) → first_bad LastEntry (reading input x z) ≡ o → first_bad LastEntry (reading input x z) ≡ None
-    by None is = is
-    by (Some fault) is = absurd (bad_line_known LastEntry (reading input x z) (new.ahead ++ y) (Ok t) fault (record { reads = h.reads; within = h.within }) is)
+no_bad : (input : Device) (new : Intake) (t : Entries) (x y z : List ℕ) → HasRead new t x y → first_bad_in forms.Followed (reading input x z) ≡ None
+no_bad input new t x y z h = no_bad_line forms.Followed (reading input x z) t (new.ahead ++ y) (record { reads = h.reads; edits = tt })
 
 rest_read : (input : Device) (new : Intake) (f : ℕ) (t : Entries) (x y z bytes ahead : List ℕ) → new.limit ≡ 68719476736 → HasRead new t x y
-    → IsRest (call_on (room new) new.ahead f input.failed_after y z) (ahead ++ z) bytes → WasRead LastEntry (reading input x z) t bytes
+    → IsRest (call_on (room new) new.ahead f input.failed_after y z) (ahead ++ z) bytes → WasRead forms.Followed (reading input x z) t bytes
 rest_read input new f t x y z bytes ahead limit h rest =
     let n : length (new.ahead ++ y) ≡ length new.ahead + length y = length-append new.ahead y in
     let w = h.within in
     let fits = rest.within in
     let taken = h.taken in
     record {
-      reads = subst (λ (r : List ℕ). Reads x LastEntry t r) (sym rest.bytes_are) h.reads;
+      good = record { reads = subst (λ (r : List ℕ). Reads x LastEntry t r) (sym rest.bytes_are) h.reads; edits = tt };
       within = omega (arith, limit, taken, n, w, fits);
       to_the_end = second_empty ahead z rest.nothing_left;
     }
@@ -134,7 +138,7 @@ rest_short : (bytes rest : List ℕ) (t : Entries) → Reads bytes LastEntry t r
 unfolding rest_of
 rest_short bytes rest t h = rw h.follows (length-behind _ bytes)
 
-too_long : (input : Device) (new : Intake) (f : ℕ) (t : Entries) (x y z given : List ℕ) → new.limit ≡ 68719476736 → HasRead new t x y → y ≡ given ++ z
+pub too_long : (input : Device) (new : Intake) (f : ℕ) (t : Entries) (x y z given : List ℕ) → new.limit ≡ 68719476736 → HasRead new t x y → y ≡ given ++ z
     → room new < length (got (call_on (room new) new.ahead f input.failed_after y z)) → 68719476736 < length (got (reading input x z))
 too_long input new f t x y z given limit h gave past =
     let n : length (new.ahead ++ y) ≡ length new.ahead + length y = length-append new.ahead y in
@@ -145,7 +149,7 @@ too_long input new f t x y z given limit h gave past =
     let g : length (got (call_on (room new) new.ahead f input.failed_after y z)) ≤ length new.ahead + (length y - length z) = simp (length-append, length-take) (omega arith) in
     simp (length-take) (omega (arith, limit, taken, k, n, w, s, g, past))
 
-within : (input : Device) (new : Intake) (f : ℕ) (t : Entries) (x y z given : List ℕ) → new.limit ≡ 68719476736 → HasRead new t x y → y ≡ given ++ z
+pub within : (input : Device) (new : Intake) (f : ℕ) (t : Entries) (x y z given : List ℕ) → new.limit ≡ 68719476736 → HasRead new t x y → y ≡ given ++ z
     → length (got (call_on (room new) new.ahead f input.failed_after y z)) ≤ room new → length (got (reading input x z)) ≤ 68719476736
 within input new f t x y z given limit h gave few =
     let n : length (new.ahead ++ y) ≡ length new.ahead + length y = length-append new.ahead y in
@@ -159,7 +163,7 @@ within input new f t x y z given limit h gave few =
 -- both were read
 pub followed_read : (input : Device) (mid : Option (List ℕ)) (new : Intake) (f : ℕ) (t : Entries) (bytes ahead : List ℕ) → new.limit ≡ 68719476736
     → WhereKnown input.before mid (λ x y. HasRead new t x y) → WhereKnown mid input.after (λ y z. IsRest (call_on (room new) new.ahead f input.failed_after y z) (ahead ++ z) bytes)
-    → input.failed_after ≡ input.failed_before → IsReadAs LastEntry input t bytes
+    → input.failed_after ≡ input.failed_before → IsReadAs forms.Followed input t bytes
 followed_read input mid new f t bytes ahead limit first second steady =
     (steady, over_both input.before mid input.after first second (λ x y z h rest. rest_read input new f t x y z bytes ahead limit h rest))
 
@@ -192,7 +196,7 @@ followed_gave input mid new f t limit read one two most =
 -- what follows could not be read
 pub rest_not_read : (input : Device) (mid : Option (List ℕ)) (new : Intake) (f : ℕ) (t : Entries) (given : List ℕ) (e : ReadError) → new.limit ≡ 68719476736
     → WhereKnown input.before mid (λ x y. HasRead new t x y) → WhereKnown mid input.after (λ y z. RefusesRest (call_on (room new) new.ahead f input.failed_after y z) e)
-    → JudgesNoLine e → Gives mid input.after given → f ≡ input.failed_before → (e ≡ errors.ReadFault → SourceRose mid f input.failed_after) → IsUnread LastEntry input (refusal_for e)
+    → JudgesNoLine e → Gives mid input.after given → f ≡ input.failed_before → (e ≡ errors.ReadFault → SourceRose mid f input.failed_after) → IsUnread forms.Followed input (refusal_for e)
 rest_not_read input mid new f t given (errors.Malformed line kind) limit first second unjudged gave steady rose = absurd unjudged
 rest_not_read input mid new f t given (errors.Limit line kind) limit first second unjudged gave steady rose = absurd unjudged
 rest_not_read input mid new f t given errors.TooLong limit first second unjudged gave steady rose =

@@ -7,8 +7,7 @@ use Rattle.bip_graph.specs.Answers.{IsRankText}
 use Rattle.bip_graph.specs.Texts.{Sizes, rank_text, sizes_of}
 use Rattle.btf_tool.specs.Ranks.{IsRankOf}
 use Rattle.btf_words.specs.declared.jobs.Job.{Job}
-use Rattle.btf_words.specs.declared.jobs.Job.TheVariants.{Rank, Analyse, Diagonal, Check, Load}
-use Rattle.mm_defs.specs.declared.answers.End.TheVariants.{File}
+use Rattle.btf_words.specs.declared.jobs.Job.TheVariants.{Rank, Analyse, Diagonal, Check, Load, Edit, Bottleneck}
 use Rattle.bip_graph.specs.declared.answers.Heaviest.{Heaviest}
 use Rattle.btf_text.specs.Diagonals.{diagonal_text}
 use Rattle.integer_diagonal.specs.Heaviest.{IsHeaviest}
@@ -23,7 +22,7 @@ use Rattle.btf_tool.specs.declared.answers.Answer.TheVariants.{Negative, Positiv
 use Rattle.btf_tool.specs.declared.refusals.Refusal.{Refusal}
 use Rattle.btf_tool.specs.declared.refusals.Refusal.TheVariants.{Usage, Malformed, Limit, TooLong, SumLimit, NeedsInteger, ReadFault, WriteFault, OutOfMemory}
 use Rattle.sp_ports.specs.Device.{Device, FailsOnceAtMost, IsUntouched, Took, TookPrefix}
-use Rattle.btf_tool.specs.Jobs.{Holds, IsFitFor, IsMatrixOf, IsTextOf, MayAnswer, NeedsIntegers, OfReading, ReadsFile, WasRead, WithAnswer, WithFileAnswer, drops_of, end_of}
+use Rattle.btf_tool.specs.Jobs.{Holds, IsFitFor, IsMatrixOf, IsTextOf, MayAnswer, NeedsIntegers, OfReading, ReadsFile, WasRead, Weighs, WithAnswer, WithFileAnswer, drops_of, form_of}
 use Rattle.btf_tool.specs.VerdictText.{IsVerdictText, answer_of, verdict_text}
 use Rattle.btf_tool.specs.Runs.{IsNoMatrix, IsReadAs, IsUnread, JobSays}
 use Rattle.btf_tool.proofs.Completeness.{untouched_counts, where_known}
@@ -35,7 +34,7 @@ as_refusal (Ok v) refusal Q is q = absurd is
 as_refusal (Err e) refusal Q is q = subst (λ (r : Refusal). Q (Err r)) (sym is) q
 
 -- the reading was refused, and nothing was written
-pub file_refused : (job : Job) (input out : Device) (refusal : Refusal) → ReadsFile job → IsUnread (end_of job) input refusal → FailsOnceAtMost input → IsUntouched out → JobSays job input out (Err refusal)
+pub file_refused : (job : Job) (input out : Device) (refusal : Refusal) → ReadsFile job → IsUnread (form_of job) input refusal → FailsOnceAtMost input → IsUntouched out → JobSays job input out (Err refusal)
 file_refused job input out Usage reads says later same = absurd says
 file_refused job input out (Malformed line kind) reads says later same = (later, untouched_counts out same, (reads, says.0, says.1, same))
 file_refused job input out (Limit line kind) reads says later same = (later, untouched_counts out same, (reads, says.0, says.1, same))
@@ -47,7 +46,7 @@ file_refused job input out WriteFault reads says later same = absurd says
 file_refused job input out OutOfMemory reads says later same = (later, untouched_counts out same, (says, same))
 
 -- memory ran out after the reading
-pub no_memory : (job : Job) (input out : Device) (t : Entries) (rest : List ℕ) → IsReadAs (end_of job) input t rest → FailsOnceAtMost input → IsUntouched out → JobSays job input out (Err OutOfMemory)
+pub no_memory : (job : Job) (input out : Device) (t : Entries) (rest : List ℕ) → IsReadAs (form_of job) input t rest → FailsOnceAtMost input → IsUntouched out → JobSays job input out (Err OutOfMemory)
 no_memory job input out t rest says later same = (later, untouched_counts out same, (where_known input.before input.after says.1 (λ x y before h. tt), same))
 
 -- a job that drops zeros needs integers
@@ -57,9 +56,11 @@ drops_need (Analyse search report drop_zeros) drops = drops
 drops_need (Diagonal drop_zeros) drops = tt
 drops_need (Check drop_zeros) drops = drops
 drops_need (Load size seed search) drops = drops
+drops_need Edit drops = drops
+drops_need (Bottleneck drop_zeros) drops = tt
 
 -- the file gives no matrix
-pub no_matrix : (job : Job) (input out : Device) (t : Entries) (rest : List ℕ) (refusal : Refusal) → IsReadAs (end_of job) input t rest → FailsOnceAtMost input → IsNoMatrix (drops_of job) t refusal
+pub no_matrix : (job : Job) (input out : Device) (t : Entries) (rest : List ℕ) (refusal : Refusal) → IsReadAs (form_of job) input t rest → FailsOnceAtMost input → IsNoMatrix (drops_of job) t refusal
     → IsUntouched out → JobSays job input out (Err refusal)
 no_matrix job input out t rest NeedsInteger says later why same =
     (later, untouched_counts out same, (drops_need job why.0, says.0, where_known input.before input.after says.1 (λ x y before h. (t, rest, h, why.1)), same))
@@ -79,8 +80,10 @@ from_file (Analyse search report drop_zeros) answer input P reads h = h
 from_file (Diagonal drop_zeros) answer input P reads h = h
 from_file (Check drop_zeros) answer input P reads h = h
 from_file (Load size seed search) answer input P reads h = absurd reads
+from_file Edit answer input P reads h = h
+from_file (Bottleneck drop_zeros) answer input P reads h = h
 
-with_answer : (job : Job) (answer : Answer) (input : Device) (P : List ℕ → Type 0) (text : List ℕ) (t : Entries) (rest : List ℕ) (a : Matrix) → ReadsFile job → OfReading input (λ call. WasRead (end_of job) call t rest)
+with_answer : (job : Job) (answer : Answer) (input : Device) (P : List ℕ → Type 0) (text : List ℕ) (t : Entries) (rest : List ℕ) (a : Matrix) → ReadsFile job → OfReading input (λ call. WasRead (form_of job) call t rest)
     → IsFitFor job t → IsMatrixOf (drops_of job) t a → IsTextOf job t a rest answer text → P text → WithAnswer job answer input P
 with_answer job answer input P text t rest a reads read fit matrix is_text p =
     from_file job answer input P reads
@@ -95,14 +98,17 @@ may_answer (Diagonal drop_zeros) Negative t a rest text h = tt
 may_answer (Check drop_zeros) Positive t a rest text h = tt
 may_answer (Check drop_zeros) Negative t a rest text h = tt
 may_answer (Load size seed search) answer t a rest text h = subst (λ (x : Answer). MayAnswer (Load size seed search) x) (sym h.0) tt
+may_answer Edit answer t a rest text h = subst (λ (x : Answer). MayAnswer Edit x) (sym h.0) tt
+may_answer (Bottleneck drop_zeros) Positive t a rest text h = tt
+may_answer (Bottleneck drop_zeros) Negative t a rest text h = tt
 
 -- the answer was written, or a write of it failed
-pub job_written : (job : Job) (answer : Answer) (input out : Device) (text : List ℕ) (t : Entries) (rest : List ℕ) (a : Matrix) → ReadsFile job → IsReadAs (end_of job) input t rest → IsFitFor job t
+pub job_written : (job : Job) (answer : Answer) (input out : Device) (text : List ℕ) (t : Entries) (rest : List ℕ) (a : Matrix) → ReadsFile job → IsReadAs (form_of job) input t rest → IsFitFor job t
     → IsMatrixOf (drops_of job) t a → IsTextOf job t a rest answer text → Took out text → JobSays job input out (Ok answer)
 job_written job answer input out text t rest a reads says fit matrix is_text took =
     (may_answer job answer t a rest text is_text, says.0, took.steady, with_answer job answer input (Took out) text t rest a reads says.1 fit matrix is_text took)
 
-pub job_not_written : (job : Job) (answer : Answer) (input out : Device) (text : List ℕ) (t : Entries) (rest : List ℕ) (a : Matrix) → ReadsFile job → IsReadAs (end_of job) input t rest → FailsOnceAtMost input
+pub job_not_written : (job : Job) (answer : Answer) (input out : Device) (text : List ℕ) (t : Entries) (rest : List ℕ) (a : Matrix) → ReadsFile job → IsReadAs (form_of job) input t rest → FailsOnceAtMost input
     → IsFitFor job t → IsMatrixOf (drops_of job) t a → IsTextOf job t a rest answer text → TookPrefix out text → JobSays job input out (Err WriteFault)
 job_not_written job answer input out text t rest a reads says counts fit matrix is_text prefix =
     (counts, prefix.counts, (prefix.fault, says.0, (answer, with_answer job answer input (TookPrefix out) text t rest a reads says.1 fit matrix is_text prefix)))
@@ -122,16 +128,27 @@ verdict_answers a bytes verdict fits is = record { fits = fits; verdict = verdic
 
 -- ---- `diagonal`
 
+-- a job that weighs needs integers
+weighs_need : (job : Job) → Weighs job → NeedsIntegers job
+weighs_need (Rank drop_zeros) weighs = absurd weighs
+weighs_need (Analyse search report drop_zeros) weighs = absurd weighs
+weighs_need (Diagonal drop_zeros) weighs = tt
+weighs_need (Check drop_zeros) weighs = absurd weighs
+weighs_need (Load size seed search) weighs = absurd weighs
+weighs_need Edit weighs = absurd weighs
+weighs_need (Bottleneck drop_zeros) weighs = tt
+
 -- the file is no integer file
-pub not_integer : (drop_zeros : Bool) (input out : Device) (t : Entries) → IsReadAs File input t [] → FailsOnceAtMost input → ¬ (t.field ≡ Integer) → IsUntouched out
-    → JobSays (Diagonal drop_zeros) input out (Err NeedsInteger)
-not_integer drop_zeros input out t says later not same = (later, untouched_counts out same, (tt, says.0, where_known input.before input.after says.1 (λ x y before h. (t, [], h, not)), same))
+pub not_integer : (job : Job) (input out : Device) (t : Entries) (rest : List ℕ) → Weighs job → IsReadAs (form_of job) input t rest → FailsOnceAtMost input → ¬ (t.field ≡ Integer)
+    → IsUntouched out → JobSays job input out (Err NeedsInteger)
+not_integer job input out t rest weighs says later not same =
+    (later, untouched_counts out same, (weighs_need job weighs, says.0, where_known input.before input.after says.1 (λ x y before h. (t, rest, h, not)), same))
 
 -- a sum passes the limit
-pub past_limit : (drop_zeros : Bool) (input out : Device) (t : Entries) (a : Matrix) (row col : ℕ) → IsReadAs File input t [] → FailsOnceAtMost input → t.field ≡ Integer → IsMatrixOf drop_zeros t a
-    → IsFirstPast t a row col → IsUntouched out → JobSays (Diagonal drop_zeros) input out (Err (SumLimit row col))
-past_limit drop_zeros input out t a row col says later integer matrix first same =
-    (later, untouched_counts out same, (tt, says.0, where_known input.before input.after says.1 (λ x y before h. (t, [], h, (integer, (a, matrix, first)))), same))
+pub past_limit : (job : Job) (input out : Device) (t : Entries) (rest : List ℕ) (a : Matrix) (row col : ℕ) → Weighs job → IsReadAs (form_of job) input t rest → FailsOnceAtMost input
+    → t.field ≡ Integer → IsMatrixOf (drops_of job) t a → IsFirstPast t a row col → IsUntouched out → JobSays job input out (Err (SumLimit row col))
+past_limit job input out t rest a row col weighs says later integer matrix first same =
+    (later, untouched_counts out same, (weighs, says.0, where_known input.before input.after says.1 (λ x y before h. (t, rest, h, (integer, (a, matrix, first)))), same))
 
 -- the text is that of the answer
 pub diagonal_answers : (t : Entries) (a : Matrix) (w : Weighing) (h : Heaviest) → AreWeightsOf t a w → IsHeaviest w h → IsDiagonalText t a (answer_on h) (diagonal_text w h)

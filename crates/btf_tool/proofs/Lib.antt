@@ -1,8 +1,14 @@
 mod Analyses
+mod Bottlenecks
 mod Completeness
 mod Diagonals
+mod EditedAnswers
 mod FileAnswers
+mod FullMatchings
+mod Inputs
 mod Jobs
+mod LentFiles
 mod Loads
 mod NeighbourLemmas
+mod Sessions
 mod Summaries

@@ -6,17 +6,20 @@ use Rattle.sp_ids.specs.Limits.{max_input_bytes}
 use Rattle.bip_defs.specs.Matrix.{Matrix, HasPlaces, Place}
 use Rattle.bip_graph.specs.Answers.{IsAnalysis, IsRankText}
 use Rattle.btf_words.specs.declared.jobs.Job.{Job}
-use Rattle.btf_words.specs.declared.jobs.Job.TheVariants.{Rank, Analyse, Diagonal, Check, Load}
-use Rattle.mm_defs.specs.File.{Reads}
+use Rattle.btf_words.specs.declared.jobs.Job.TheVariants.{Rank, Analyse, Diagonal, Check, Load, Edit, Bottleneck}
 use Rattle.mm_defs.specs.Calls.{Call, call_on, offered}
-use Rattle.mm_defs.specs.declared.answers.End.{End}
-use Rattle.mm_defs.specs.declared.answers.End.TheVariants.{File, LastEntry}
+use Rattle.mm_defs.specs.Words.{lines}
+use Rattle.mm_frames.specs.Edits.{edits_of}
 use Rattle.sp_ports.specs.Bytes.{WhereKnown}
 use Rattle.sp_pattern.specs.Weights.{nonzero_places}
 use Rattle.btf_tool.specs.declared.answers.Answer.{Answer}
 use Rattle.btf_tool.specs.declared.answers.Answer.TheVariants.{Negative, Positive}
 use Rattle.sp_ports.specs.Device.{Device}
+use Rattle.btf_tool.specs.Bottlenecks.{IsBottleneckText}
 use Rattle.btf_tool.specs.Diagonals.{IsDiagonalText}
+use Rattle.btf_tool.specs.Inputs.{Form, IsGoodInput}
+use Rattle.btf_tool.specs.Inputs as forms
+use Rattle.btf_tool.specs.Sessions.{IsSessionText}
 use Rattle.btf_tool.specs.VerdictText.{IsVerdictText}
 use Rattle.btf_tool.specs.Summaries.{IsLoadMatrix, IsSummary}
 
@@ -24,8 +27,8 @@ use Rattle.btf_tool.specs.Summaries.{IsLoadMatrix, IsSummary}
 pub record Traits : Type 0 where
   -- it reads a matrix file, and else makes its matrix
   pub reads : Bool
-  -- where the file ends: with the input, or with the last entry line, which a report follows
-  pub end : End
+  -- what its input is to be
+  pub form : Form
   -- it adds up the values of an integer file, and takes no other
   pub weighs : Bool
   -- a place whose values add up to 0 is no entry of its matrix
@@ -36,38 +39,52 @@ pub record Traits : Type 0 where
 abbrev pub traits_of : Job → Traits
 traits_of (Rank drop_zeros) = record {
   reads = true;
-  end = File;
+  form = forms.Alone;
   weighs = false;
   drops = drop_zeros;
   denies = false;
 }
 traits_of (Analyse search report drop_zeros) = record {
   reads = true;
-  end = File;
+  form = forms.Alone;
   weighs = false;
   drops = drop_zeros;
   denies = false;
 }
 traits_of (Diagonal drop_zeros) = record {
   reads = true;
-  end = File;
+  form = forms.Alone;
   weighs = true;
   drops = drop_zeros;
   denies = true;
 }
 traits_of (Check drop_zeros) = record {
   reads = true;
-  end = LastEntry;
+  form = forms.Followed;
   weighs = false;
   drops = drop_zeros;
   denies = true;
 }
 traits_of (Load size seed search) = record {
   reads = false;
-  end = File;
+  form = forms.Alone;
   weighs = false;
   drops = false;
   denies = false;
+}
+traits_of Edit = record {
+  reads = true;
+  form = forms.Edited;
+  weighs = false;
+  drops = false;
+  denies = false;
+}
+traits_of (Bottleneck drop_zeros) = record {
+  reads = true;
+  form = forms.Alone;
+  weighs = true;
+  drops = drop_zeros;
+  denies = true;
 }
 
 abbrev pub Holds : Bool → Type 0
@@ -77,8 +94,8 @@ Holds false = ⊥
 abbrev pub ReadsFile : Job → Type 0
 ReadsFile job = Holds (traits_of job).reads
 
-abbrev pub end_of : Job → End
-end_of job = (traits_of job).end
+abbrev pub form_of : Job → Form
+form_of job = (traits_of job).form
 
 abbrev pub Weighs : Job → Type 0
 Weighs job = Holds (traits_of job).weighs
@@ -114,9 +131,9 @@ pub record GavePrefix (call : Call) : Type 0 where
   pub in_order : call.before ≡ gave ++ call.after
   pub few : length gave ≤ call.room + 1
 
--- the input was a good file of these entries with this behind it, within the limit, and was read to its end
-pub record WasRead (end : End) (call : Call) (t : Entries) (rest : List ℕ) : Type 0 where
-  pub reads : Reads (offered call) end t rest
+-- the input was a good one with these entries and with this behind them, within the limit, and was read to its end
+pub record WasRead (form : Form) (call : Call) (t : Entries) (rest : List ℕ) : Type 0 where
+  pub good : IsGoodInput form (offered call) t rest
   pub within : length (offered call) ≤ call.room
   pub to_the_end : call.after ≡ []
 
@@ -133,17 +150,20 @@ IsMatrixOf drop_zeros t a = HasPlaces t.rows t.cols (entry_places drop_zeros t) 
 abbrev pub IsTextOf : Job → Entries → Matrix → List ℕ → Answer → List ℕ → Type 0
 IsTextOf (Rank drop_zeros) t a rest answer text = (answer ≡ Positive) × IsRankText a text
 IsTextOf (Analyse search report drop_zeros) t a rest answer text = (answer ≡ Positive)
-    × IsAnalysis a report.version report.order report.pairs text
+    × IsAnalysis a report.version report.order report.pairs report.least text
 IsTextOf (Diagonal drop_zeros) t a rest answer text = IsDiagonalText t a answer text
 IsTextOf (Check drop_zeros) t a rest answer text = IsVerdictText a rest answer text
 IsTextOf (Load size seed search) t a rest answer text = (answer ≡ Positive) × IsSummary a text
+IsTextOf Edit t a rest answer text = (answer ≡ Positive)
+    × IsSessionText a (edits_of 0 (lines true rest)) text
+IsTextOf (Bottleneck drop_zeros) t a rest answer text = IsBottleneckText t a answer text
 
 -- a good file was read, of the field that the job needs, with what follows it, and this is what the job answers
 pub record IsAnswer (job : Job) (call : Call) (answer : Answer) (text : List ℕ) : Type 0 where
   pub entries : Entries
   pub rest : List ℕ
   pub matrix : Matrix
-  pub was_read : WasRead (end_of job) call entries rest
+  pub was_read : WasRead (form_of job) call entries rest
   pub is_fit : IsFitFor job entries
   pub is_matrix : IsMatrixOf (drops_of job) entries matrix
   pub is_text : IsTextOf job entries matrix rest answer text

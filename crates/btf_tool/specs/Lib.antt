@@ -1,9 +1,12 @@
-pub mod Analyses
+pub mod Bottlenecks
 pub mod Diagonals
+pub mod FileAnswer
+pub mod Inputs
 pub mod Jobs
 pub mod Neighbours
 pub mod Ranks
 pub mod Refusals
 pub mod Runs
+pub mod Sessions
 pub mod Summaries
 pub mod VerdictText

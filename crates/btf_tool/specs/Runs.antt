@@ -6,7 +6,7 @@ use Rattle.sp_ids.specs.declared.outcomes.Status.{Status}
 use Rattle.sp_ids.specs.declared.outcomes.Status.TheVariants as statuses
 use Rattle.btf_words.specs.Words.{AreTaken, job_of}
 use Rattle.btf_words.specs.declared.jobs.Job.{Job}
-use Rattle.btf_words.specs.declared.jobs.Job.TheVariants.{Diagonal, Check}
+use Rattle.btf_words.specs.declared.jobs.Job.TheVariants.{Bottleneck, Check, Diagonal}
 use Rattle.bip_defs.specs.Matching.{IsRank}
 use Rattle.bip_defs.specs.Matrix.{Matrix, cols}
 use Rattle.sp_ids.specs.declared.triples.Field.TheVariants.{Integer}
@@ -14,16 +14,16 @@ use Rattle.sp_pattern.specs.Weights.{IsFirstPast, weight_limit, weight_of}
 use Rattle.btf_check.specs.Verdicts.{IsVerdict}
 use Rattle.btf_check.specs.declared.verdict.Verdict.{Verdict}
 use Rattle.mm_defs.specs.Faults.{is_limit}
-use Rattle.mm_defs.specs.File.{Fault, Reads, first_fault}
-use Rattle.mm_defs.specs.Calls.{first_bad, got}
-use Rattle.mm_defs.specs.declared.answers.End.{End}
+use Rattle.mm_defs.specs.File.{Fault}
+use Rattle.mm_defs.specs.Calls.{got}
 use Rattle.sp_ports.specs.Bytes.{WhereKnown}
 use Rattle.btf_tool.specs.declared.answers.Answer.{Answer}
 use Rattle.btf_tool.specs.declared.answers.Answer.TheVariants.{Negative, Positive}
 use Rattle.btf_tool.specs.declared.refusals.Refusal.{Refusal}
 use Rattle.btf_tool.specs.declared.refusals.Refusal.TheVariants.{Usage, Malformed, Limit, TooLong, SumLimit, NeedsInteger, ReadFault, WriteFault, OutOfMemory}
 use Rattle.sp_ports.specs.Device.{Device, FailsOnceAtMost, IsSteady, IsUntouched, HasReadFault, HasWriteFault, Took, TookPrefix, WroteAsFar}
-use Rattle.btf_tool.specs.Jobs.{Holds, IsFitFor, IsMatrixOf, MayAnswer, NeedsIntegers, OfReading, ReadsFile, WasRead, Weighs, WithAnswer, drops_of, end_of}
+use Rattle.btf_tool.specs.Jobs.{Holds, IsFitFor, IsMatrixOf, MayAnswer, NeedsIntegers, OfReading, ReadsFile, WasRead, Weighs, WithAnswer, drops_of, form_of}
+use Rattle.btf_tool.specs.Inputs.{Form, IsGoodInput, first_bad_in, first_fault_in}
 use Rattle.btf_tool.specs.VerdictText.{answer_of}
 use Rattle.btf_tool.specs.Refusals.{line_of, status_of, status_of_answer}
 
@@ -62,18 +62,18 @@ pub record IsAnswered (r : Run) (answer : Answer) : Type 0 where
 -- ---- refusals
 
 -- the first bad line of the input is this one
-abbrev pub IsBadLine : End → Device → Fault → Type 0
-IsBadLine end input fault = OfReading input (λ call. first_bad end call ≡ Some fault)
+abbrev pub IsBadLine : Form → Device → Fault → Type 0
+IsBadLine form input fault = OfReading input (λ call. first_bad_in form call ≡ Some fault)
 
 -- no line is bad of what the input gave, and it gave no more bytes than it may have
-abbrev pub IsGoodSoFar : End → Device → Type 0
-IsGoodSoFar end input = OfReading input
-    (λ call. (first_bad end call ≡ None) × (length (got call) ≤ call.room))
+abbrev pub IsGoodSoFar : Form → Device → Type 0
+IsGoodSoFar form input = OfReading input
+    (λ call. (first_bad_in form call ≡ None) × (length (got call) ≤ call.room))
 
 -- no line is bad of what the input gave, and it gave more bytes than it may have
-abbrev pub IsTooLong : End → Device → Type 0
-IsTooLong end input = OfReading input
-    (λ call. (first_bad end call ≡ None) × (call.room < length (got call)))
+abbrev pub IsTooLong : Form → Device → Type 0
+IsTooLong form input = OfReading input
+    (λ call. (first_bad_in form call ≡ None) × (call.room < length (got call)))
 
 -- where the bytes of an input were known they still are
 abbrev pub StaysKnown : Device → Type 0
@@ -82,7 +82,7 @@ StaysKnown input = WhereKnown input.before input.after (λ before after. Unit {0
 -- the job's file was a good one and was read to its end, and this holds of its entries
 abbrev pub WithFile : Job → Device → (Entries → Type 0) → Type 0
 WithFile job input P = OfReading input
-    (λ call. (t : Entries) × (rest : List ℕ) × WasRead (end_of job) call t rest × P t)
+    (λ call. (t : Entries) × (rest : List ℕ) × WasRead (form_of job) call t rest × P t)
 
 -- of the entries of the file's matrix whose sums pass the limit this is the first
 abbrev pub IsPast : Bool → Entries → ℕ → ℕ → Type 0
@@ -92,12 +92,12 @@ IsPast drop_zeros t row col = (a : Matrix) × IsMatrixOf drop_zeros t a × IsFir
 abbrev pub IsCause : Job → Device → Device → Refusal → Type 0
 -- the first bad line is not of the file's form
 IsCause job input out (Malformed line kind) = ReadsFile job × (is_limit kind ≡ false)
-    × IsBadLine (end_of job) input (record { line = line; kind = kind }) × IsUntouched out
+    × IsBadLine (form_of job) input (record { line = line; kind = kind }) × IsUntouched out
 -- the first bad line passes a limit
 IsCause job input out (Limit line kind) = ReadsFile job × (is_limit kind ≡ true)
-    × IsBadLine (end_of job) input (record { line = line; kind = kind }) × IsUntouched out
+    × IsBadLine (form_of job) input (record { line = line; kind = kind }) × IsUntouched out
 -- no line is bad, and the input gave more bytes than it may have
-IsCause job input out TooLong = ReadsFile job × IsTooLong (end_of job) input × IsUntouched out
+IsCause job input out TooLong = ReadsFile job × IsTooLong (form_of job) input × IsUntouched out
 -- the sum of an entry's values passes the limit, in the integer file of a job that adds them up
 IsCause job input out (SumLimit row col) = Weighs job × IsSteady input
     × WithFile job input (λ t. (t.field ≡ Integer) × IsPast (drops_of job) t row col)
@@ -107,7 +107,7 @@ IsCause job input out NeedsInteger = NeedsIntegers job × IsSteady input
     × WithFile job input (λ t. ¬ (t.field ≡ Integer)) × IsUntouched out
 -- a read failed, no line that had ended is bad, and no more bytes came than the input may have
 IsCause job input out ReadFault = ReadsFile job × HasReadFault input
-    × IsGoodSoFar (end_of job) input × IsUntouched out
+    × IsGoodSoFar (form_of job) input × IsUntouched out
 -- a write failed, and a prefix of the job's answer was taken
 IsCause job input out WriteFault = HasWriteFault out × IsSteady input
     × ((answer : Answer) × WithAnswer job answer input (TookPrefix out))
@@ -117,22 +117,22 @@ IsCause job input out OutOfMemory = StaysKnown input × IsUntouched out
 IsCause job input out Usage = ⊥
 
 -- the input was a good file of these entries with this behind it, and no read of it failed
-abbrev pub IsReadAs : End → Device → Entries → List ℕ → Type 0
-IsReadAs end input t rest = IsSteady input × OfReading input (λ call. WasRead end call t rest)
+abbrev pub IsReadAs : Form → Device → Entries → List ℕ → Type 0
+IsReadAs form input t rest = IsSteady input × OfReading input (λ call. WasRead form call t rest)
 
 -- Why the input could not be read.
-abbrev pub IsUnread : End → Device → Refusal → Type 0
-IsUnread end input (Malformed line kind) = (is_limit kind ≡ false)
-    × IsBadLine end input (record { line = line; kind = kind })
-IsUnread end input (Limit line kind) = (is_limit kind ≡ true)
-    × IsBadLine end input (record { line = line; kind = kind })
-IsUnread end input TooLong = IsTooLong end input
-IsUnread end input ReadFault = HasReadFault input × IsGoodSoFar end input
-IsUnread end input OutOfMemory = StaysKnown input
-IsUnread end input (SumLimit row col) = ⊥
-IsUnread end input NeedsInteger = ⊥
-IsUnread end input WriteFault = ⊥
-IsUnread end input Usage = ⊥
+abbrev pub IsUnread : Form → Device → Refusal → Type 0
+IsUnread form input (Malformed line kind) = (is_limit kind ≡ false)
+    × IsBadLine form input (record { line = line; kind = kind })
+IsUnread form input (Limit line kind) = (is_limit kind ≡ true)
+    × IsBadLine form input (record { line = line; kind = kind })
+IsUnread form input TooLong = IsTooLong form input
+IsUnread form input ReadFault = HasReadFault input × IsGoodSoFar form input
+IsUnread form input OutOfMemory = StaysKnown input
+IsUnread form input (SumLimit row col) = ⊥
+IsUnread form input NeedsInteger = ⊥
+IsUnread form input WriteFault = ⊥
+IsUnread form input Usage = ⊥
 
 -- Why a good file gives no matrix.
 abbrev pub IsNoMatrix : Bool → Entries → Refusal → Type 0
@@ -203,6 +203,7 @@ pub record ComesToDiagonal (drop_zeros : Bool) (t : Entries) (status : Status) :
 -- how a job ends over a good file of the field that it needs, where no device failed
 abbrev pub EndsWell : Job → Entries → List ℕ → Status → Type 0
 EndsWell (Diagonal drop_zeros) t rest status = ComesToDiagonal drop_zeros t status
+EndsWell (Bottleneck drop_zeros) t rest status = ComesToDiagonal drop_zeros t status
 EndsWell (Check drop_zeros) t rest status = ComesToVerdict drop_zeros t rest status
 EndsWell job t rest status = IsOrNoMemory status statuses.Ok
 
@@ -211,39 +212,39 @@ pub record Completes (r : Run) (status : Status) : Type 0 where
   pub usage : ¬ AreTaken r.words → IsOrNoMemory status statuses.Usage
   -- a bad line that the input gave is answered, whatever follows it
   pub bad_line : (job : Job) → NamesReader r.words job
-      → OfReading r.input (λ call. (fault : Fault) → first_bad (end_of job) call ≡ Some fault
+      → OfReading r.input (λ call. (fault : Fault) → first_bad_in (form_of job) call ≡ Some fault
       → IsOrNoMemory status (status_of_fault fault))
   -- a good file within the limits, of the field that the job needs, is answered, where no device failed
   pub good : (job : Job) → NamesReader r.words job → ¬ HasReadFault r.input → ¬ HasWriteFault r.out
       → OfReading r.input (λ call. (t : Entries) (rest : List ℕ)
-      → Reads call.before (end_of job) t rest → length call.before ≤ max_input_bytes
+      → IsGoodInput (form_of job) call.before t rest → length call.before ≤ max_input_bytes
       → IsFitFor job t → EndsWell job t rest status)
   -- a good file of another field is refused for that by a job that needs integers, whatever comes of writes
   pub other_field : (job : Job) → NamesReader r.words job → NeedsIntegers job
       → ¬ HasReadFault r.input → OfReading r.input (λ call. (t : Entries) (rest : List ℕ)
-      → Reads call.before (end_of job) t rest → length call.before ≤ max_input_bytes
+      → IsGoodInput (form_of job) call.before t rest → length call.before ≤ max_input_bytes
       → ¬ (t.field ≡ Integer) → IsOrNoMemory status statuses.NeedsInteger)
   -- so is a sum past the limit, by a job that adds up values
   pub past : (job : Job) → NamesReader r.words job → Weighs job → ¬ HasReadFault r.input
       → OfReading r.input (λ call. (t : Entries) (rest : List ℕ)
-      → Reads call.before (end_of job) t rest → length call.before ≤ max_input_bytes
+      → IsGoodInput (form_of job) call.before t rest → length call.before ≤ max_input_bytes
       → t.field ≡ Integer → (r c : ℕ) → weight_limit < weight_of t r c
       → IsOrNoMemory status statuses.Limit)
   -- what is no good file within the limits is refused by its kind, where no read failed
   pub not_good : (job : Job) → NamesReader r.words job → ¬ HasReadFault r.input
       → OfReading r.input (λ call.
-      ((t : Entries) (rest : List ℕ) → Reads call.before (end_of job) t rest
+      ((t : Entries) (rest : List ℕ) → IsGoodInput (form_of job) call.before t rest
       → ¬ (length call.before ≤ max_input_bytes))
       → ((status ≡ statuses.Malformed) ⊎ (status ≡ statuses.Limit))
       ⊎ (status ≡ statuses.OutOfMemory))
   -- more bytes than the input may have are refused for their number, whatever failed, where no line that had ended is bad
   pub too_many : (job : Job) → NamesReader r.words job
-      → OfReading r.input (λ call. first_bad (end_of job) call ≡ None
+      → OfReading r.input (λ call. first_bad_in (form_of job) call ≡ None
       → call.room < length (got call) → IsOrNoMemory status statuses.Limit)
   -- so is an input that is too long, where no read failed and no line that ends within the limit is bad
   pub too_long : (job : Job) → NamesReader r.words job → ¬ HasReadFault r.input
       → OfReading r.input (λ call. max_input_bytes < length call.before
-      → first_fault (end_of job) false (take max_input_bytes call.before) ≡ None
+      → first_fault_in (form_of job) false (take max_input_bytes call.before) ≡ None
       → IsOrNoMemory status statuses.Limit)
   -- a matrix that is made is answered, whatever the input, where no write failed
   pub made : NameMaker r.words → ¬ HasWriteFault r.out → IsOrNoMemory status statuses.Ok

@@ -1,6 +1,6 @@
 //! The job `analyse`.
 
-ghost use Rattle.std.specs.Prelude.{IfOk};
+ghost use Rattle.std.specs.Prelude.{◌≡◌, ◌||◌, IfOk};
 ghost use Rattle.bip_defs.specs.Parts.{ArePartsOf};
 ghost use Rattle.bip_graph.specs.Answers.{AreOfVersion};
 ghost use Rattle.bip_graph.specs.Decompositions.{parts_of};
@@ -11,7 +11,8 @@ ghost use Rattle.sp_ports.specs.Device.{seen};
 ghost use Rattle.btf_tool.specs.Jobs.{GavePrefix, OfReading};
 ghost use Rattle.btf_tool.specs.Runs.{JobSays};
 
-use crate::decompose::{Analysis, decompose};
+use crate::decompose::decompose;
+use crate::engines::matching_for;
 use crate::matrix::matrix_of;
 use crate::reading::read_file;
 use crate::writing::hand_on;
@@ -34,7 +35,7 @@ pub(crate) struct Options {
     pub(crate) drop_zeros: bool,
 }
 
-/// Reads a matrix and writes the report of its decomposition.
+/// Reads a matrix and writes the report of its decomposition. With `least` it has the pairs of the least maximum matching.
 pub(crate) fn analyse<R: Threads + Sync, S: Source, O: Sink, G: Gate>(
     rt: &R,
     alloc: Global,
@@ -55,26 +56,34 @@ pub(crate) fn analyse<R: Threads + Sync, S: Source, O: Sink, G: Gate>(
     let ReportOptions {
         version,
         order,
-        pairs,
+        least,
+        ..
     } = options.report;
-    let analysis = decompose(rt, alloc, &pattern, options.search, gate)?;
-    let Analysis {
-        decomposition,
-        matching,
-    } = &analysis;
+    let listed = lists_pairs(options.report);
+    let matching = matching_for(rt, alloc, &pattern, options.search, least, gate)?;
+    // `size` tells the proof that the pairs rise.
+    let _pairs = matching.size();
+    let decomposition = decompose(rt, alloc, &pattern, &matching)?;
     let components = components_for(alloc, version, &pattern, &decomposition.parts)?;
     let mut buf = TextBuf::new(alloc)?;
     let written = write_report(
         out,
         &mut buf,
-        decomposition,
+        &decomposition,
         components.as_ref(),
-        matching,
+        &matching,
         order,
-        pairs,
+        listed,
     );
     hand_on(out, written)?;
     Ok(Answer::Positive)
+}
+
+/// Whether the report has pairs: those of any maximum matching, or those of the least one.
+fn lists_pairs(report: ReportOptions) -> bool
+    ensures { result ≡ report.pairs || report.least }
+{
+    report.pairs || report.least
 }
 
 /// The connected components of the outer parts, where this version of the report has them.

@@ -7,8 +7,10 @@ ghost use Rattle.btf_tool.specs.Jobs.{GavePrefix, OfReading, ReadsFile};
 ghost use Rattle.btf_tool.specs.Runs.{Completes, JobSays, NameMaker, Says};
 
 use crate::analyse::{Options, analyse};
+use crate::bottleneck_job::bottleneck;
 use crate::check::check;
 use crate::diagonal::diagonal;
+use crate::edit::edit;
 use crate::load::load;
 use crate::rank::rank;
 use crate::refusals::refuse;
@@ -109,5 +111,7 @@ fn perform<R: Threads + Sync, S: Source, O: Sink, G: Gate>(
         Job::Diagonal { drop_zeros } => diagonal(rt, alloc, drop_zeros, input, out),
         Job::Check { drop_zeros } => check(rt, alloc, drop_zeros, input, out),
         Job::Load { size, seed, search } => load(rt, alloc, size, seed, search, out, gate),
+        Job::Edit => edit(rt, alloc, input, out, gate),
+        Job::Bottleneck { drop_zeros } => bottleneck(rt, alloc, drop_zeros, input, out),
     }
 }

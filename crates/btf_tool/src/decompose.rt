@@ -1,53 +1,37 @@
 //! The decomposition of a matrix that stands.
 
-ghost use Rattle.std.specs.Prelude.{◌≡◌, IfOk};
-ghost use Rattle.btf_tool.specs.Analyses.{IsFoundIn};
-ghost use Rattle.btf_words.specs.Words.{HasWorkers};
+ghost use Rattle.std.specs.Prelude.{IfOk};
+ghost use Rattle.bip_graph.specs.Decompositions.{Decomposes};
+ghost use Rattle.bip_graph.specs.Matching.{IsMaximumOf};
 
-use crate::engines::solve;
 use bip_graph::{Decomposition, Matching};
-use btf_words::Search;
 use dm_coarse::coarse;
 use dm_fine::fine;
 use sp_ids::OutOfMemory;
 use sp_pattern::Pattern;
-use sp_ports::Gate;
 use std::alloc::Global;
 use std::thread::Threads;
 
-/// The decomposition of a matrix, and the maximum matching by which it was found.
-#[derive(Drop)]
-pub(crate) struct Analysis {
-    pub(crate) decomposition: Decomposition,
-    pub(crate) matching: Matching,
-}
-
-/// The decomposition of a matrix, by a maximum matching that is found by this engine with so many workers.
+/// The decomposition of a matrix, by a maximum matching of it.
 ///
-/// Answers `OutOfMemory` where the tables of the engine, of the coarse parts or of the fine blocks can't be had.
-pub(crate) fn decompose<R: Threads + Sync, G: Gate>(
+/// Answers `OutOfMemory` where the tables of the coarse parts or of the fine blocks can't be had.
+pub(crate) fn decompose<R: Threads + Sync>(
     rt: &R,
     alloc: Global,
     pattern: &Pattern,
-    search: Search,
-    gate: &G,
-) -> Result<Analysis, OutOfMemory>
-    requires workers { HasWorkers search }
-    ensures { IfOk result (λ s. IsFoundIn pattern.now s.decomposition s.matching.pairs) }
+    matching: &Matching,
+) -> Result<Decomposition, OutOfMemory>
+    requires { IsMaximumOf pattern.now matching.now }
+    ensures { IfOk result (Decomposes pattern.now) }
 {
-    let matching = solve(rt, alloc, pattern, search.engine, search.workers, gate)?;
-    let parts = coarse(rt, alloc, pattern, &matching)?;
-    let blocks = fine(alloc, pattern, &matching, &parts)?;
-    let decomposition = Decomposition {
+    let parts = coarse(rt, alloc, pattern, matching)?;
+    let blocks = fine(alloc, pattern, matching, &parts)?;
+    Ok(Decomposition {
         m: pattern.rows(),
         n: pattern.cols(),
         e: pattern.entries(),
         rank: matching.size(),
         parts,
         blocks,
-    };
-    Ok(Analysis {
-        decomposition,
-        matching,
     })
 }

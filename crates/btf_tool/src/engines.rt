@@ -1,13 +1,16 @@
 //! The choice of the search that finds a maximum matching.
 
 ghost use Rattle.std.specs.Prelude.{◌≤◌, IfOk};
+ghost use Rattle.bip_graph.specs.Answers.{IsMaximumOrLeast};
 ghost use Rattle.bip_graph.specs.Matching.{IsMaximumOf};
+ghost use Rattle.btf_words.specs.Words.{HasWorkers};
 ghost use Rattle.sp_ids.specs.Limits.{max_workers};
 
 use bip_graph::Matching;
-use btf_words::Engine;
+use btf_words::{Engine, Search};
 use hall_witness::plain;
 use karp_sipser::start;
+use least_match::least as least_matching;
 use sp_ids::OutOfMemory;
 use sp_pattern::Pattern;
 use sp_ports::Gate;
@@ -48,4 +51,25 @@ pub fn solve<R: Threads + Sync, G: Gate>(
             tree_graft::complete(rt, alloc, pattern, matching, workers, gate)
         }
     }
+}
+
+/// A maximum matching, by the engine that is asked for with so many workers; with `least` the least one, which is the same for
+/// every engine.
+pub(crate) fn matching_for<R: Threads + Sync, G: Gate>(
+    rt: &R,
+    alloc: Global,
+    pattern: &Pattern,
+    search: Search,
+    least: bool,
+    gate: &G,
+) -> Result<Matching, OutOfMemory>
+    requires workers { HasWorkers search }
+    ensures maximum { IfOk result (IsMaximumOf pattern.now) }
+    ensures least { IfOk result (λ m. IsMaximumOrLeast pattern.now least m.pairs) }
+{
+    let matching = solve(rt, alloc, pattern, search.engine, search.workers, gate)?;
+    if !least {
+        return Ok(matching);
+    }
+    least_matching(alloc, pattern, matching)
 }

@@ -3,11 +3,14 @@
 
 mod analyse;
 mod answers;
+mod bottleneck_job;
 mod check;
 mod command;
 mod decompose;
 mod diagonal;
+mod edit;
 mod engines;
+mod file_answer;
 mod laws;
 mod load;
 mod matrix;
@@ -15,11 +18,13 @@ mod neighbours;
 mod rank;
 mod reading;
 mod refusals;
+mod replies;
 mod writing;
 
 pub use answers::Answer;
 pub use btf_words::Engine;
 pub use command::run;
 pub use engines::solve;
+pub use file_answer::{FileAnswer, answer_bytes};
 pub use laws::one_summary;
 pub use refusals::{Refusal, refuse};

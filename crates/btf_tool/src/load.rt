@@ -5,14 +5,16 @@ ghost use Rattle.bip_defs.specs.Matrix.{Matrix};
 ghost use Rattle.btf_words.specs.declared.jobs.Job.TheVariants.{Load};
 ghost use Rattle.btf_words.specs.Words.{HasWorkers};
 ghost use Rattle.sp_ids.specs.Limits.{max_load_size};
-ghost use Rattle.btf_tool.specs.Analyses.{IsFoundIn};
+ghost use Rattle.bip_graph.specs.Decompositions.{Decomposes};
 ghost use Rattle.sp_ports.specs.Device.{Device, IsUntouched, seen};
 ghost use Rattle.btf_tool.specs.Runs.{JobSays};
 ghost use Rattle.btf_tool.specs.Summaries.{IsLoadMatrix};
 
-use crate::decompose::{Analysis, decompose};
+use crate::decompose::decompose;
+use crate::engines::matching_for;
 use crate::writing::hand_on;
 use crate::{Answer, Refusal};
+use bip_graph::Decomposition;
 use btf_text::{TextBuf, write_load};
 use btf_words::Search;
 use sp_ids::OutOfMemory;
@@ -37,29 +39,29 @@ pub(crate) fn load<R: Threads + Sync, O: Sink, G: Gate>(
     ensures { (input : Device) → IsUntouched input
         → JobSays (Load size seed search) input (seen O.taken O.faults out.old out.new) result }
 {
-    let analysis = analysis_of(rt, alloc, size, seed, search, gate)?;
+    let decomposition = decomposition_of(rt, alloc, size, seed, search, gate)?;
     let mut buf = TextBuf::new(alloc)?;
-    let written = write_load(out, &mut buf, &analysis.decomposition);
+    let written = write_load(out, &mut buf, &decomposition);
     hand_on(out, written)?;
     Ok(Answer::Positive)
 }
 
 /// The decomposition of the matrix of this size and seed.
-fn analysis_of<R: Threads + Sync, G: Gate>(
+fn decomposition_of<R: Threads + Sync, G: Gate>(
     rt: &R,
     alloc: Global,
     size: u32,
     seed: u64,
     search: Search,
     gate: &G,
-) -> Result<Analysis, OutOfMemory>
+) -> Result<Decomposition, OutOfMemory>
     requires some { 1 ≤ size }
     requires few { size ≤ max_load_size }
     requires workers { HasWorkers search }
     ensures { IfOk result
-        (λ s. (a : Matrix) × IsLoadMatrix size seed a
-        × IsFoundIn a s.decomposition s.matching.pairs) }
+        (λ d. (a : Matrix) × IsLoadMatrix size seed a × Decomposes a d) }
 {
     let pattern = load_matrix(rt, alloc, size, seed)?;
-    decompose(rt, alloc, &pattern, search, gate)
+    let matching = matching_for(rt, alloc, &pattern, search, false, gate)?;
+    decompose(rt, alloc, &pattern, &matching)
 }

@@ -68,7 +68,7 @@ impl Refusal {
         }
     }
 
-    /// IsAnswerTo it by its one line. What the device does with the line changes nothing else.
+    /// Tells it by its one line. What the device does with the line changes nothing else.
     pub(crate) fn tell<E: Sink>(&self, err: &mut E)
         ensures { WroteAsFar (seen E.taken E.faults err.old err.new) (line_of self.now) }
     {
@@ -96,7 +96,7 @@ fn put<E: Sink>(err: &mut E, line: &[u8])
     }
 }
 
-/// IsAnswerTo a refusal by its one line, and gives the status with which the run ends.
+/// Tells a refusal by its one line, and gives the status with which the run ends.
 ///
 /// What the device does with the line changes nothing else. It takes no memory.
 pub fn refuse<E: Sink>(err: &mut E, refusal: &Refusal) -> Status

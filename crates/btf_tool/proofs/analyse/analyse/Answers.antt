@@ -14,27 +14,27 @@ use Rattle.btf_tool.proofs.analyse.analyse.Goals as goal
 pub returns-in_err-hand_on-clause-says : goal.returns-in_err-hand_on-clause-says
 returns-in_err-hand_on-clause-says g c =
     let report = c.args.options.report in
-    let found = c.in_ok-analysis.ensures in
     let of_version = subst (λ (o : Option Components). AreOfVersion c.in_ok-pattern.pattern report.version (components_in o)) (sym c.as_ref.ensures.value) c.in_ok-components.ensures in
+    let answers = analysis_answers _ _ _ report.version _ report.order report.pairs report.least _ c.in_ok-decomposition.ensures c.in_ok-matching.ensures.least c.size-pairs.ensures.cols_rise of_version c.lists_pairs-listed.ensures in
     let job = Analyse c.args.options.search report c.args.options.drop_zeros in
     let input = seen g.S.Source.left g.S.Source.faults c.args.input.now c.read_file.new.input in
     let out = seen g.O.Sink.taken g.O.Sink.faults c.args.out.now c.hand_on.new.out in
     as_refusal _ WriteFault (JobSays job input out) c.from_residual-in_err-hand_on.ensures.1
     (job_not_written job Positive input out _ c.in_ok-triples.triples [] c.in_ok-pattern.pattern tt c.in_ok-triples.ensures.read c.in_ok-triples.ensures.counts
-    c.in_ok-pattern.ensures.fit c.in_ok-pattern.ensures.matrix (refl, analysis_answers _ _ _ report.version _ report.order report.pairs found of_version)
-    (c.in_err-hand_on.ensures _ _ _ (c.write_report-written.ensures.of_matrix c.in_ok-pattern.pattern found.decomposes)))
+    c.in_ok-pattern.ensures.fit c.in_ok-pattern.ensures.matrix (refl, answers)
+    (c.in_err-hand_on.ensures _ _ _ (c.write_report-written.ensures.of_matrix c.in_ok-pattern.pattern c.in_ok-decomposition.ensures)))
 
 pub returns-clause-says : goal.returns-clause-says
 returns-clause-says g c =
     let report = c.args.options.report in
-    let found = c.in_ok-analysis.ensures in
     let of_version = subst (λ (o : Option Components). AreOfVersion c.in_ok-pattern.pattern report.version (components_in o)) (sym c.as_ref.ensures.value) c.in_ok-components.ensures in
+    let answers = analysis_answers _ _ _ report.version _ report.order report.pairs report.least _ c.in_ok-decomposition.ensures c.in_ok-matching.ensures.least c.size-pairs.ensures.cols_rise of_version c.lists_pairs-listed.ensures in
     let job = Analyse c.args.options.search report c.args.options.drop_zeros in
     let input = seen g.S.Source.left g.S.Source.faults c.args.input.now c.read_file.new.input in
     let out = seen g.O.Sink.taken g.O.Sink.faults c.args.out.now c.hand_on.new.out in
     job_written job Positive input out _ c.in_ok-triples.triples [] c.in_ok-pattern.pattern tt c.in_ok-triples.ensures.read
-    c.in_ok-pattern.ensures.fit c.in_ok-pattern.ensures.matrix (refl, analysis_answers _ _ _ report.version _ report.order report.pairs found of_version)
-    (c.in_ok-hand_on.ensures _ _ _ (c.write_report-written.ensures.of_matrix c.in_ok-pattern.pattern found.decomposes))
+    c.in_ok-pattern.ensures.fit c.in_ok-pattern.ensures.matrix (refl, answers)
+    (c.in_ok-hand_on.ensures _ _ _ (c.write_report-written.ensures.of_matrix c.in_ok-pattern.pattern c.in_ok-decomposition.ensures))
 
 pub returns-in_err-components-clause-says : goal.returns-in_err-components-clause-says
 returns-in_err-components-clause-says g c =

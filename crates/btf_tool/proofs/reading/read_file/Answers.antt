@@ -3,6 +3,7 @@ use Rattle.sp_ports.specs.Bytes.{WhereKnown}
 use Rattle.sp_ports.specs.Device.{seen}
 use Rattle.mm_defs.specs.Calls.{Intake, IsAnswer, call_on, room}
 use Rattle.mm_defs.specs.declared.answers.End.TheVariants.{File}
+use Rattle.btf_tool.specs.Inputs as forms
 use Rattle.btf_tool.specs.Refusals.{refusal_for}
 use Rattle.btf_tool.specs.Runs.{IsUnread}
 use Rattle.btf_tool.proofs.FileAnswers.{file_not_read, file_read}
@@ -22,6 +23,6 @@ pub returns-in_err-read_matrix-clause-unread : goal.returns-in_err-read_matrix-c
 returns-in_err-read_matrix-clause-unread g c =
     let e = c.in_err-read_matrix.ensures in
     let input = seen g.S.Source.left g.S.Source.faults c.args.input.now c.read_matrix.new.source in
-    as_refusal c.from_residual-in_err-read_matrix.result (refusal_for c.in_err-read_matrix.field-0.0) (λ r. IfErr r (IsUnread File input)) c.from_residual-in_err-read_matrix.ensures.1
-    (file_not_read File input _ c.read_matrix.new.input.ahead c.in_err-read_matrix.field-0.0 c.in_ok-bytes.ensures
+    as_refusal c.from_residual-in_err-read_matrix.result (refusal_for c.in_err-read_matrix.field-0.0) (λ r. IfErr r (IsUnread forms.Alone input)) c.from_residual-in_err-read_matrix.ensures.1
+    (file_not_read forms.Alone input _ c.read_matrix.new.input.ahead c.in_err-read_matrix.field-0.0 c.in_ok-bytes.ensures
     e.answer e.short e.kind (λ x. e.cause.failed (ap Err x)))

@@ -1,8 +1,7 @@
 use Rattle.std.proofs.Common.{◌∙◌, ap, IfErr, Err}
-use Rattle.sp_ports.specs.Device.{seen}
 use Rattle.mm_defs.specs.Calls.{Intake}
-use Rattle.mm_defs.specs.declared.answers.End.TheVariants.{LastEntry}
 use Rattle.sp_ports.specs.Device.{seen}
+use Rattle.btf_tool.specs.Inputs as forms
 use Rattle.btf_tool.specs.Refusals.{refusal_for}
 use Rattle.btf_tool.specs.Runs.{IsUnread}
 use Rattle.btf_tool.proofs.FileAnswers.{file_gave, file_not_read, followed_gave, followed_read, has_read, rest_not_read}
@@ -11,9 +10,9 @@ use Rattle.btf_tool.proofs.reading.read_followed.Goals as goal
 
 pub returns-in_err-triples-clause-unread : goal.returns-in_err-triples-clause-unread
 returns-in_err-triples-clause-unread g c =
-    as_refusal c.from_residual-in_err-triples.result (refusal_for c.in_err-triples.field-0.0) (λ r. IfErr r (IsUnread LastEntry (seen g.S.Source.left g.S.Source.faults c.args.input.now c.read_matrix.new.source)))
+    as_refusal c.from_residual-in_err-triples.result (refusal_for c.in_err-triples.field-0.0) (λ r. IfErr r (IsUnread forms.Followed (seen g.S.Source.left g.S.Source.faults c.args.input.now c.read_matrix.new.source)))
     c.from_residual-in_err-triples.ensures.1
-    (file_not_read LastEntry (seen g.S.Source.left g.S.Source.faults c.args.input.now c.read_matrix.new.source) _ c.read_matrix.new.input.ahead c.in_err-triples.field-0.0 c.in_ok-bytes.ensures
+    (file_not_read forms.Followed (seen g.S.Source.left g.S.Source.faults c.args.input.now c.read_matrix.new.source) _ c.read_matrix.new.input.ahead c.in_err-triples.field-0.0 c.in_ok-bytes.ensures
     c.in_err-triples.ensures.answer c.in_err-triples.ensures.short c.in_err-triples.ensures.kind (λ e. c.in_err-triples.ensures.cause.failed (ap Err e)))
 
 pub returns-clause-read : goal.returns-clause-read
@@ -27,7 +26,7 @@ returns-clause-read g c =
 
 pub returns-in_err-rest-clause-unread : goal.returns-in_err-rest-clause-unread
 returns-in_err-rest-clause-unread g c =
-    as_refusal c.from_residual-in_err-rest.result (refusal_for c.in_err-rest.field-0.0) (λ r. IfErr r (IsUnread LastEntry (seen g.S.Source.left g.S.Source.faults c.args.input.now c.read_rest.new.source)))
+    as_refusal c.from_residual-in_err-rest.result (refusal_for c.in_err-rest.field-0.0) (λ r. IfErr r (IsUnread forms.Followed (seen g.S.Source.left g.S.Source.faults c.args.input.now c.read_rest.new.source)))
     c.from_residual-in_err-rest.ensures.1
     (rest_not_read (seen g.S.Source.left g.S.Source.faults c.args.input.now c.read_rest.new.source) (g.S.Source.left c.read_matrix.new.source) c.read_matrix.new.input
     (g.S.Source.faults c.read_matrix.new.source) c.in_ok-triples.triples c.in_err-rest.ensures.gave.0 c.in_err-rest.field-0.0
