@@ -1,0 +1,127 @@
+-- What the steps of a run say together.
+use Rattle.std.proofs.Common.{◌≡◌, ◌∙◌, ℕ, List, [], inl, inr, refl, sym, subst, arith, Option, Some, None, Ok, Err, Result, IfOk}
+use Rattle.sp_ids.specs.declared.outcomes.Status.{Status}
+use Rattle.sp_ports.specs.Bytes.{WhereKnown}
+use Rattle.sp_ports.specs.Device.{Device, FailsOnceAtMost, IsSteady, IsUntouched, WroteAsFar}
+use Rattle.btf_words.specs.BatchWords.{AreTaken}
+use Rattle.btf_words.specs.declared.jobs.WordsError.{WordsError}
+use Rattle.btf_tool.specs.Jobs.{GavePrefix, OfReading, reading}
+use Rattle.btf_tool.specs.Refusals.{status_of_answer}
+use Rattle.btf_tool.specs.Runs.{Run, StaysKnown}
+use Rattle.btf_tool.specs.declared.answers.Answer.{Answer}
+use Rattle.btf_tool.specs.declared.answers.Answer.TheVariants.{Negative, Positive}
+use Rattle.btf_tool.specs.declared.file_answer.FileAnswer.{FileAnswer}
+use Rattle.batch_core.specs.BatchRefusals.{line_of, status_of}
+use Rattle.batch_core.specs.BatchRuns.{BatchSays, HasCause, IsUnread, Says, WasRead, WithAnswer}
+use Rattle.batch_core.specs.BatchText.{answer_of, text_of_slots}
+use Rattle.batch_core.specs.Shares.{AreFull, AreSlotsOf, Slots}
+use Rattle.batch_core.specs.declared.refusals.Refusal.{Refusal}
+use Rattle.batch_core.specs.declared.refusals.Refusal.TheVariants.{Limit, Malformed, OutOfMemory, ReadFault, TooLong, Usage, WriteFault}
+use Rattle.batch_core.proofs.BatchReadings.{where_known}
+use Rattle.batch_core.proofs.BatchTexts.{AreAnswered, all_answered, slots_answer, slots_text}
+
+-- ---- the devices
+
+-- an input that tells its bytes and was not used tells them still
+pub untouched_tells : (input : Device) → IsUntouched input → StaysKnown input
+untouched_tells input same = subst (λ (after : Option (List ℕ)). WhereKnown input.before after (λ x y. Unit {0})) (sym same.0) (still input.before)
+  where
+    still : (bytes : Option (List ℕ)) → WhereKnown bytes bytes (λ x y. Unit {0})
+    still None = tt
+    still (Some x) = tt
+
+-- it gave nothing
+pub untouched_gave : (input : Device) → IsUntouched input → OfReading input GavePrefix
+untouched_gave input same =
+    subst (λ (after : Option (List ℕ)). WhereKnown input.before after (λ x y. GavePrefix (reading input x y))) (sym same.0) (still input.before)
+  where
+    still : (bytes : Option (List ℕ)) → WhereKnown bytes bytes (λ x y. GavePrefix (reading input x y))
+    still None = tt
+    still (Some x) = record { gave = []; in_order = refl; few = omega arith }
+
+-- a device that did not fail, or that failed once, failed once at most
+pub steady_counts : (d : Device) → IsSteady d → FailsOnceAtMost d
+steady_counts d same = record { later = omega (arith, same); once = omega (arith, same) }
+
+pub line_counts : (d : Device) (text : List ℕ) → WroteAsFar d text → FailsOnceAtMost d
+line_counts d text (inl took) = steady_counts d took.steady
+line_counts d text (inr took) = took.counts
+
+pub says_counts : (input out : Device) (result : Result Answer Refusal) → BatchSays input out result → FailsOnceAtMost input × FailsOnceAtMost out
+says_counts input out (Ok answer) says = (steady_counts input says.0, steady_counts out says.1)
+says_counts input out (Err refusal) says = (says.0, says.1)
+
+-- ---- over words that are taken
+
+-- this is what is answered over the files that were read
+pub with_answer : (input : Device) (files : List (List ℕ)) (slots : List (Option FileAnswer)) (P : List ℕ → Type 0) → OfReading input (λ call. WasRead call files) → AreAnswered files slots
+    → P (text_of_slots slots) → WithAnswer (answer_of slots) input P
+with_answer input files slots P read are done =
+    where_known input.before input.after read
+    (λ x y before h. (text_of_slots slots, record { files = files; was_read = h; answer_is = slots_answer files slots are; is_text = slots_text files slots are }, done))
+
+-- the same, where the files and the slots are those of the answers
+pub with_answers : (input : Device) (files given : List (List ℕ)) (answers : Slots) (slots : List (Option FileAnswer)) (P : List ℕ → Type 0) → OfReading input (λ call. WasRead call files)
+    → answers.files ≡ given → given ≡ files → AreSlotsOf answers.files answers.slots → AreFull answers → slots ≡ answers.slots → P (text_of_slots slots) → WithAnswer (answer_of slots) input P
+with_answers input files given answers slots P read of_given same are full these done =
+    with_answer input files slots P read
+    (subst (λ (s : List (Option FileAnswer)). AreAnswered files s) (sym these)
+    (subst (λ (fs : List (List ℕ)). AreAnswered fs answers.slots) (of_given ∙ same) (all_answered answers.files answers.slots are full))) done
+
+-- the files could not be read, and nothing was written
+pub unread_says : (input out : Device) (refusal : Refusal) → IsUnread input refusal → FailsOnceAtMost input → IsUntouched out → BatchSays input out (Err refusal)
+unread_says input out Usage says later same = absurd says
+unread_says input out (Malformed file kind) says later same = (later, steady_counts out same.1, (says, same))
+unread_says input out (Limit file kind) says later same = (later, steady_counts out same.1, (says, same))
+unread_says input out TooLong says later same = (later, steady_counts out same.1, (says, same))
+unread_says input out ReadFault says later same = (later, steady_counts out same.1, (says, same))
+unread_says input out WriteFault says later same = absurd says
+unread_says input out OutOfMemory says later same = (later, steady_counts out same.1, (says, same))
+
+-- memory ran out after the reading
+pub no_memory_says : (input out : Device) (files : List (List ℕ)) → OfReading input (λ call. WasRead call files) → FailsOnceAtMost input → IsUntouched out → BatchSays input out (Err OutOfMemory)
+no_memory_says input out files read later same = unread_says input out OutOfMemory (where_known input.before input.after read (λ x y before h. tt)) later same
+
+-- ---- a run
+
+by_refusal : (r : Run) (refusal : Refusal) → WroteAsFar r.err (line_of refusal) → HasCause r refusal → Says r (status_of refusal)
+by_refusal r Usage wrote cause = record { refusal = Usage; status_is = refl; line = wrote; cause = cause }
+by_refusal r (Malformed file kind) wrote cause = record { refusal = Malformed file kind; status_is = refl; line = wrote; cause = cause }
+by_refusal r (Limit file kind) wrote cause = record { refusal = Limit file kind; status_is = refl; line = wrote; cause = cause }
+by_refusal r TooLong wrote cause = record { refusal = TooLong; status_is = refl; line = wrote; cause = cause }
+by_refusal r ReadFault wrote cause = record { refusal = ReadFault; status_is = refl; line = wrote; cause = cause }
+by_refusal r WriteFault wrote cause = record { refusal = WriteFault; status_is = refl; line = wrote; cause = cause }
+by_refusal r OutOfMemory wrote cause = record { refusal = OutOfMemory; status_is = refl; line = wrote; cause = cause }
+
+-- a refusal that was told, with its cause
+pub refusal_says : (r : Run) (status : Status) (refusal : Refusal) → status ≡ status_of refusal → WroteAsFar r.err (line_of refusal) → HasCause r refusal → Says r status
+refusal_says r status refusal said wrote cause = subst (λ (s : Status). Says r s) (sym said) (by_refusal r refusal wrote cause)
+
+has_cause : (r : Run) (refusal : Refusal) → AreTaken r.words → BatchSays r.input r.out (Err refusal) → HasCause r refusal
+has_cause r Usage taken says = absurd says.2.0
+has_cause r (Malformed file kind) taken says = (taken, says.0, says.2)
+has_cause r (Limit file kind) taken says = (taken, says.0, says.2)
+has_cause r TooLong taken says = (taken, says.0, says.2)
+has_cause r ReadFault taken says = (taken, says.0, says.2)
+has_cause r WriteFault taken says = (taken, says.0, says.2)
+has_cause r OutOfMemory taken says = (says.0, says.2.0, says.2.1)
+
+by_answer : (r : Run) (answer : Answer) → AreTaken r.words → BatchSays r.input r.out (Ok answer) → IsUntouched r.err → Says r (status_of_answer answer)
+by_answer r Positive taken done untouched = record { taken = taken; written = done.2; steady_input = done.0; steady_out = done.1; nothing_written = untouched }
+by_answer r Negative taken done untouched = record { taken = taken; written = done.2; steady_input = done.0; steady_out = done.1; nothing_written = untouched }
+
+-- words that name workers are taken
+pub words_taken : (words : List (List ℕ)) (result : Result ℕ WordsError) (workers : ℕ) → result ≡ Ok workers → IfOk result (λ w. AreTaken words) → AreTaken words
+words_taken words result workers is taken = subst (λ (r : Result ℕ WordsError). IfOk r (λ w. AreTaken words)) is taken
+
+-- the batch was answered
+pub answer_says : (r : Run) (result : Result Answer Refusal) (answer : Answer) (status : Status) → result ≡ Ok answer → AreTaken r.words → BatchSays r.input r.out result
+    → status ≡ status_of_answer answer → IsUntouched r.err → Says r status
+answer_says r result answer status is taken says said untouched =
+    subst (λ (s : Status). Says r s) (sym said) (by_answer r answer taken (subst (λ (o : Result Answer Refusal). BatchSays r.input r.out o) is says) untouched)
+
+-- it was refused
+pub refused_says : (r : Run) (result : Result Answer Refusal) (refusal : Refusal) (status : Status) → result ≡ Err refusal → AreTaken r.words → BatchSays r.input r.out result
+    → status ≡ status_of refusal → WroteAsFar r.err (line_of refusal) → Says r status
+refused_says r result refusal status is taken says said line =
+    refusal_says r status refusal said line (has_cause r refusal taken (subst (λ (o : Result Answer Refusal). BatchSays r.input r.out o) is says))

@@ -1,0 +1,4 @@
+pub mod BatchRefusals
+pub mod BatchRuns
+pub mod BatchText
+pub mod Shares

@@ -1,0 +1,99 @@
+//! The top call.
+
+ghost use Rattle.std.specs.Prelude.{map, string_bytes};
+ghost use Rattle.btf_words.specs.BatchWords.{IsWithinLimits};
+ghost use Rattle.sp_ports.specs.Device.{FailsOnceAtMost, seen};
+ghost use Rattle.btf_tool.specs.Jobs.{GavePrefix, OfReading};
+ghost use Rattle.batch_core.specs.BatchRuns.{BatchSays, Completes, Says};
+
+use crate::answer_all;
+use crate::reading::read_batch;
+use crate::refusals::{Refusal, refuse};
+use crate::texts::{answer_of, write_answers};
+use btf_text::TextBuf;
+use btf_tool::Answer;
+use btf_words::{WordsError, read_batch_words};
+use mm_frames::{
+    bad_frame_stays, batch_has_no_bad_frame, batch_has_one_list_of_files, good_batch_is_read,
+};
+use sp_ids::Status;
+use sp_ports::{Gate, Sink, Source};
+use std::alloc::Global;
+use std::thread::Threads;
+
+/// Reads a batch of files from `input`, and writes what is found of each to `out`, in order; where there is no answer, tells
+/// on `err` why.
+///
+/// `words` are those after the program's name. So many workers answer the files at once, as far as threads can be had, and
+/// each calls `gate.arrive` once. The answer is the status with which the program ends: `Ok` where each file is good,
+/// `Negative` where some file is not. Nothing is written to `out` before all input is read and all memory is taken. What is
+/// said here holds whatever `gate` does, and in whatever order threads run: the text is that of one worker.
+pub fn run_batch<R: Threads + Sync, S: Source, O: Sink, E: Sink, G: Gate>(
+    rt: &R,
+    alloc: Global,
+    words: &[String],
+    input: &mut S,
+    out: &mut O,
+    err: &mut E,
+    gate: &G,
+) -> Status
+    // What each status says.
+    ensures says { Says (record {
+      words = map string_bytes words.now;
+      input = seen S.left S.faults input.old input.new;
+      out = seen O.taken O.faults out.old out.new;
+      err = seen E.taken E.faults err.old err.new;
+    }) result }
+
+    // Which status has to come.
+    ensures complete { Completes (record {
+      words = map string_bytes words.now;
+      input = seen S.left S.faults input.old input.new;
+      out = seen O.taken O.faults out.old out.new;
+      err = seen E.taken E.faults err.old err.new;
+    }) result }
+
+    // No device is asked again after a call of it that failed.
+    ensures input_once { FailsOnceAtMost (seen S.left S.faults input.old input.new) }
+    ensures out_once { FailsOnceAtMost (seen O.taken O.faults out.old out.new) }
+    ensures err_once { FailsOnceAtMost (seen E.taken E.faults err.old err.new) }
+
+    // What the input has left is the end of what it had, and at most one byte past its limit was taken.
+    ensures gave { OfReading (seen S.left S.faults input.old input.new) GavePrefix }
+{
+    // A batch has one list of files and no bad frame, a first bad frame stays the first, and a batch that is given is read.
+    batch_has_one_list_of_files();
+    batch_has_no_bad_frame();
+    bad_frame_stays();
+    good_batch_is_read();
+    match read_batch_words(alloc, words) {
+        Err(WordsError::Usage) => refuse(err, &Refusal::Usage),
+        Err(WordsError::OutOfMemory) => refuse(err, &Refusal::OutOfMemory),
+        Ok(workers) => match perform(rt, alloc, workers, input, out, gate) {
+            Ok(answer) => answer.status(),
+            Err(refusal) => refuse(err, &refusal),
+        },
+    }
+}
+
+/// Answers the batch by so many workers, and tells whether each file is good.
+fn perform<R: Threads + Sync, S: Source, O: Sink, G: Gate>(
+    rt: &R,
+    alloc: Global,
+    workers: u32,
+    input: &mut S,
+    out: &mut O,
+    gate: &G,
+) -> Result<Answer, Refusal>
+    requires limits { IsWithinLimits workers }
+    ensures says { BatchSays (seen S.left S.faults input.old input.new)
+        (seen O.taken O.faults out.old out.new) result }
+    ensures gave { OfReading (seen S.left S.faults input.old input.new) GavePrefix }
+{
+    let files = read_batch(alloc, input)?;
+    let answers = answer_all(rt, alloc, files.as_slice(), workers, gate)?;
+    let mut buf = TextBuf::new(alloc)?;
+    let slots = answers.slots();
+    write_answers(out, &mut buf, slots)?;
+    Ok(answer_of(slots))
+}
