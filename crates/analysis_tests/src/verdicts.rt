@@ -60,6 +60,75 @@ fn on_identity<R: AllocGlobal + Abort + Threads + Sync>(
     judge(rt, rt.alloc(), &pattern, text.as_slice())
 }
 
+/// The components of two rows of two columns each, with the verdict on the report.
+#[rattlefmt::skip]
+static COMPONENTS: [(&[u8], Verdict); 5] = [
+    // Its own.
+    (
+        b"horizontal_components 2\ncomponent 1 1 2\nrows 1\ncolumns 1 3\ncomponent 2 1 2\nrows 2\ncolumns 2 4\n",
+        Verdict::Valid,
+    ),
+    // The two are exchanged.
+    (
+        b"horizontal_components 2\ncomponent 1 1 2\nrows 2\ncolumns 2 4\ncomponent 2 1 2\nrows 1\ncolumns 1 3\n",
+        Verdict::Invalid(6),
+    ),
+    // They are made into one, one is left out, or one has a row that the matrix has not.
+    (
+        b"horizontal_components 1\ncomponent 1 2 4\nrows 1 2\ncolumns 1 2 3 4\n",
+        Verdict::Invalid(6),
+    ),
+    (b"horizontal_components 1\ncomponent 1 1 2\nrows 1\ncolumns 1 3\n", Verdict::Invalid(6)),
+    (
+        b"horizontal_components 2\ncomponent 1 1 2\nrows 9\ncolumns 1 3\ncomponent 2 1 2\nrows 2\ncolumns 2 4\n",
+        Verdict::Invalid(6),
+    ),
+];
+
+/// The verdict on the report of two rows of two columns each, in this version, with these lines of components and with so
+/// many vertical ones.
+fn on_two_rows<R: AllocGlobal + Abort + Threads + Sync>(
+    rt: &R,
+    version: &[u8],
+    horizontal: &[u8],
+    vertical: &[u8],
+) -> Result<Verdict, OutOfMemory> {
+    let pattern = pattern_of(rt, 2, 4, &[(1, 1), (1, 3), (2, 2), (2, 4)])?;
+    let mut text = Vec::from_slice(rt.alloc(), version)?;
+    text.extend_from_slice(b"matrix 2 4 4\nrank 2\nhorizontal 2 4\nrows 1 2\ncolumns 1 2 3 4\n")?;
+    text.extend_from_slice(horizontal)?;
+    text.extend_from_slice(b"square 0 0\nvertical 0 0\n")?;
+    text.extend_from_slice(vertical)?;
+    text.extend_from_slice(b"pairs 2\n1 1\n2 2\nend\n")?;
+    judge(rt, rt.alloc(), &pattern, text.as_slice())
+}
+
+#[test]
+fn components_of_two_rows(rt: HostRuntime) -> Result<(), Fail> {
+    let none = b"vertical_components 0\n";
+    for (components, wanted) in &COMPONENTS {
+        assert_eq!(rt; on_two_rows(&rt, b"btf 2\n", components, none)?, *wanted);
+    }
+    let (components, _valid) = &COMPONENTS[0];
+    let one = b"vertical_components 1\ncomponent 1 1 0\nrows 1\ncolumns\n";
+    let verdict = on_two_rows(&rt, b"btf 2\n", components, one)?;
+    assert_eq!(rt; verdict, Verdict::Invalid(6));
+    Ok(())
+}
+
+#[test]
+fn components_stand_in_version_2(rt: HostRuntime) -> Result<(), Fail> {
+    let (components, _valid) = &COMPONENTS[0];
+    assert_eq!(rt; on_two_rows(&rt, b"btf 1\n", b"", b"")?, Verdict::Valid);
+    assert_eq!(rt;
+        on_two_rows(&rt, b"btf 2\n", b"", b"")?,
+        Verdict::Invalid(1)
+    );
+    let verdict = on_two_rows(&rt, b"btf 1\n", components, b"vertical_components 0\n")?;
+    assert_eq!(rt; verdict, Verdict::Invalid(1));
+    Ok(())
+}
+
 #[test]
 fn blocks_of_the_identity(rt: HostRuntime) -> Result<(), Fail> {
     for (blocks, wanted) in &BLOCKS {

@@ -33,10 +33,10 @@ const LINES: [&[u8]; 20] = [
 
 /// Lines of the report, from one on and up to another, that are exchanged for others.
 #[derive(Clone, Copy)]
-struct Change {
-    from: usize,
-    to: usize,
-    others: &'static [u8],
+pub(crate) struct Change {
+    pub(crate) from: usize,
+    pub(crate) to: usize,
+    pub(crate) others: &'static [u8],
 }
 
 /// Changes after which the report is still one of the matrix: none, no orders, and other pairs.
@@ -112,10 +112,14 @@ static OTHER_ORDERS: [Change; 4] = [
     Change { from: 13, to: 15, others: b"row_order\ncolumn_order\n" },
 ];
 
-/// The report after a change.
-fn changed<R: AllocGlobal>(rt: &R, change: &Change) -> Result<Vec<u8>, AllocError> {
+/// The report of these lines after a change.
+pub(crate) fn changed<R: AllocGlobal>(
+    rt: &R,
+    lines: &[&[u8]],
+    change: &Change,
+) -> Result<Vec<u8>, AllocError> {
     let mut text = Vec::new(rt.alloc());
-    for (at, line) in LINES.iter().enumerate() {
+    for (at, line) in lines.iter().enumerate() {
         if at == change.from {
             text.extend_from_slice(change.others)?;
         }
@@ -128,11 +132,11 @@ fn changed<R: AllocGlobal>(rt: &R, change: &Change) -> Result<Vec<u8>, AllocErro
 
 /// The whole report.
 fn report<R: AllocGlobal>(rt: &R) -> Result<Vec<u8>, AllocError> {
-    changed(rt, &VALID[0])
+    changed(rt, LINES.as_slice(), &VALID[0])
 }
 
 /// The verdict on the matrix with all three parts followed by these bytes.
-fn verdict<R: Threads + Abort + AllocGlobal + Sync>(
+pub(crate) fn verdict<R: Threads + Abort + AllocGlobal + Sync>(
     rt: &R,
     report: &[u8],
 ) -> Result<Vec<u8>, Fail> {
@@ -155,14 +159,15 @@ fn verdict<R: Threads + Abort + AllocGlobal + Sync>(
     Ok(text.to_vec(alloc)?)
 }
 
-/// All of these changes have this verdict.
-fn all_are<R: Threads + Abort + AllocGlobal + Sync>(
+/// All of these changes of the report of these lines have this verdict.
+pub(crate) fn all_are<R: Threads + Abort + AllocGlobal + Sync>(
     rt: &R,
+    lines: &[&[u8]],
     changes: &[Change],
     wanted: &[u8],
 ) -> Result<(), Fail> {
     for change in changes {
-        let text = changed(rt, change)?;
+        let text = changed(rt, lines, change)?;
         let found = verdict(rt, text.as_slice())?;
         assert_eq!(rt;
             found.as_slice(),
@@ -177,12 +182,12 @@ fn all_are<R: Threads + Abort + AllocGlobal + Sync>(
 
 #[test]
 fn changes_of_the_report(rt: HostRuntime) -> Result<(), Fail> {
-    all_are(&rt, &VALID, b"valid\n")?;
-    all_are(&rt, &NO_REPORT, b"invalid 1\n")?;
-    all_are(&rt, &NO_MATCHING, b"invalid 2\n")?;
-    all_are(&rt, &NOT_MAXIMUM, b"invalid 3\n")?;
-    all_are(&rt, &OTHER_PARTS, b"invalid 4\n")?;
-    all_are(&rt, &OTHER_ORDERS, b"invalid 5\n")?;
+    all_are(&rt, &LINES, &VALID, b"valid\n")?;
+    all_are(&rt, &LINES, &NO_REPORT, b"invalid 1\n")?;
+    all_are(&rt, &LINES, &NO_MATCHING, b"invalid 2\n")?;
+    all_are(&rt, &LINES, &NOT_MAXIMUM, b"invalid 3\n")?;
+    all_are(&rt, &LINES, &OTHER_PARTS, b"invalid 4\n")?;
+    all_are(&rt, &LINES, &OTHER_ORDERS, b"invalid 5\n")?;
     Ok(())
 }
 
@@ -194,7 +199,7 @@ fn each_line_is_needed(rt: HostRuntime) -> Result<(), Fail> {
             to: from + 1,
             others: b"",
         };
-        all_are(&rt, &[left_out], b"invalid 1\n")?;
+        all_are(&rt, &LINES, &[left_out], b"invalid 1\n")?;
     }
     Ok(())
 }
@@ -246,7 +251,7 @@ fn two_reports_one_behind_the_other(rt: HostRuntime) -> Result<(), Fail> {
 const OTHER_BYTES: &[u8] = b"0124 \n-x\xff";
 
 /// A text in which one byte is another.
-fn with_byte<R: AllocGlobal>(
+pub(crate) fn with_byte<R: AllocGlobal>(
     rt: &R,
     text: &[u8],
     at: usize,
@@ -325,9 +330,9 @@ static GREATEST: [(Change, &[u8]); 5] = [
 
 #[test]
 fn reports_that_promise_more_than_they_hold(rt: HostRuntime) -> Result<(), Fail> {
-    all_are(&rt, &PROMISES, b"invalid 1\n")?;
+    all_are(&rt, &LINES, &PROMISES, b"invalid 1\n")?;
     for (change, wanted) in &GREATEST {
-        all_are(&rt, &[*change], wanted)?;
+        all_are(&rt, &LINES, &[*change], wanted)?;
     }
     Ok(())
 }

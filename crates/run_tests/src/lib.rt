@@ -7,6 +7,8 @@ mod analyse;
 #[cfg(test)]
 mod array_files;
 #[cfg(test)]
+mod bottlenecks;
+#[cfg(test)]
 mod check;
 #[cfg(test)]
 mod devices;
@@ -15,11 +17,17 @@ mod diagonal;
 #[cfg(test)]
 mod dropped_zeros;
 #[cfg(test)]
+mod edits;
+#[cfg(test)]
 mod engine;
 #[cfg(test)]
 mod files;
 #[cfg(test)]
 mod hostile;
+#[cfg(test)]
+mod hostile_components;
+#[cfg(test)]
+mod least;
 #[cfg(test)]
 mod load;
 #[cfg(test)]

@@ -30,7 +30,7 @@ pub(crate) const THREE_PARTS_EXAMPLE: &str =
 
 /// The line for words that are not taken.
 pub(crate) const USAGE: &str =
-    "btf: usage: btf rank [--drop-zeros] | analyse [--engine E] [--workers W] [--order] [--pairs] [--drop-zeros] [--report V] | diagonal [--drop-zeros] | check [--drop-zeros] | load --size N --seed S [--engine E] [--workers W]\n";
+    "btf: usage: btf rank [--drop-zeros] | analyse [--engine E] [--workers W] [--order] [--pairs] [--drop-zeros] [--report V] [--least] | diagonal [--drop-zeros] | check [--drop-zeros] | load --size N --seed S [--engine E] [--workers W] | edit | bottleneck [--drop-zeros]\n";
 
 /// How the devices of a run behave: the input's piece and its failing calls, the output's room and failing calls, and the room
 /// for the line of a refusal.

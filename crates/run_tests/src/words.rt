@@ -6,7 +6,7 @@ use std::test::Fail;
 
 #[test]
 fn other_words_are_refused(rt: HostRuntime) -> Result<(), Fail> {
-    let lines: [&[&str]; 12] = [
+    let lines: [&[&str]; 15] = [
         &[],
         &["--help"],
         &["rank", "rank"],
@@ -19,6 +19,9 @@ fn other_words_are_refused(rt: HostRuntime) -> Result<(), Fail> {
         &["load", "--size", "0", "--seed", "1"],
         &["load", "--size", "16777217", "--seed", "1"],
         &["load", "--size", "1"],
+        &["edit", "--report", "1"],
+        &["bottleneck", "--least"],
+        &["rank", "--least"],
     ];
     for words in lines {
         expect(&rt, words, SMALLEST, &STEADY, Status::Usage, "", USAGE)?;

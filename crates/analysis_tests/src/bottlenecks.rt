@@ -1,0 +1,167 @@
+//! Perfect matchings of greatest least weight, worked out by hand, and by all ways for full tables.
+//! Entries count rows and columns from 1, tables from 0.
+
+ghost use Rattle.std.specs.Prelude.{◌≡◌};
+ghost use Rattle.sp_ids.specs.declared.triples.Field.TheVariants.{Integer};
+
+use crate::small::{are, integers_of};
+use bip_graph::Bottleneck;
+use bottleneck::best;
+use sp_ids::{Col, OutOfMemory, Row, Triples};
+use sp_pattern::{Pattern, Weights};
+use std::process::Abort;
+use std::thread::Threads;
+
+fn answer<R: Abort + AllocGlobal + Threads + Sync>(
+    rt: &R,
+    given: &Triples,
+) -> Result<Bottleneck, OutOfMemory>
+    requires { given.now.field ≡ Integer }
+{
+    let pattern = Pattern::build(rt, rt.alloc(), given)?;
+    match Weights::build(rt.alloc(), &pattern, given) {
+        Ok(weights) => best(rt.alloc(), &pattern, &weights),
+        Err(_) => Err(OutOfMemory),
+    }
+}
+
+// A square matrix of these entries has these pairs, this least weight and these columns.
+fn has_best<R: Abort + AllocGlobal + Threads + Sync>(
+    rt: &R,
+    size: u32,
+    entries: &[(u32, u32, i64)],
+    expected: &[(Row, Col)],
+    greatest: u64,
+    columns: &[u32],
+) -> Result<(), OutOfMemory> {
+    let given = integers_of(rt, size, size, entries)?;
+    let found = answer(rt, &given)?;
+    match &found {
+        Bottleneck::Best { pairs, least, hall } => {
+            assert_eq!(rt; pairs.as_slice(), expected);
+            assert_eq!(rt; *least, greatest);
+            are(rt, "columns", hall.as_slice(), columns);
+        }
+        _ => assert!(rt; false, "it has a perfect matching"),
+    }
+    Ok(())
+}
+
+// The greatest least weight over all ways to give each column from this one on a row of its own
+// that is not taken.
+fn by_all_ways(table: &[[i64; 4]; 4], size: usize, col: usize, taken: [bool; 4]) -> u64 {
+    if col >= size || col >= 4 {
+        return u64::MAX;
+    }
+    let mut most = 0;
+    for row in 0..4 {
+        if row < size && !taken[row] {
+            let mut next = taken;
+            next[row] = true;
+            let rest = by_all_ways(table, size, col + 1, next);
+            let least = table[row][col].unsigned_abs().min(rest);
+            if least > most {
+                most = least;
+            }
+        }
+    }
+    most
+}
+
+// How many rows of a table have an entry above a weight in these columns.
+fn rows_above(table: &[[i64; 4]; 4], size: usize, columns: &[Col], least: u64) -> usize {
+    let mut count: usize = 0;
+    for row in 0..4 {
+        let mut above = false;
+        for col in columns {
+            let col = col.0 as usize;
+            if col < 4 && table[row][col].unsigned_abs() > least {
+                above = true;
+            }
+        }
+        if row < size && above {
+            count = count.saturating_add(1);
+        }
+    }
+    count
+}
+
+// The answer for a full matrix has the least weight that all ways have at most, in one pair and in
+// none less, and columns with fewer neighbours above it.
+fn is_greatest<R: Abort + AllocGlobal + Threads + Sync>(
+    rt: &R,
+    size: u32,
+    table: &[[i64; 4]; 4],
+) -> Result<(), OutOfMemory> {
+    let mut entries = Vec::new(rt.alloc());
+    for row in 0..4 {
+        for col in 0..4 {
+            if row < size && col < size {
+                entries.push((row + 1, col + 1, table[row as usize][col as usize]))?;
+            }
+        }
+    }
+    let given = integers_of(rt, size, size, entries.as_slice())?;
+    let found = answer(rt, &given)?;
+    match &found {
+        Bottleneck::Best { pairs, least, hall } => {
+            let least = *least;
+            let size = size as usize;
+            assert_eq!(rt; least, by_all_ways(table, size, 0, [false; 4]));
+            assert_eq!(rt; pairs.as_slice().len(), size);
+            let mut lightest = u64::MAX;
+            for (row, col) in pairs.as_slice() {
+                let (row, col) = (row.0 as usize, col.0 as usize);
+                assert!(rt; row < 4 && col < 4);
+                lightest = lightest.min(table[row][col].unsigned_abs());
+            }
+            assert_eq!(rt; lightest, least);
+            let columns = hall.as_slice();
+            assert!(rt; rows_above(table, size, columns, least) < columns.len());
+        }
+        _ => assert!(rt; false, "it has a perfect matching"),
+    }
+    Ok(())
+}
+
+// Of the two ways in each of the first two matrices, 3 and 1 or 5 and 4, and 12 and 1 or 6 and 5,
+// the second has the greater least weight. In the third all columns have no entry above 7.
+#[test]
+fn chooses_the_greater_least_weight(rt: HostRuntime) -> Result<(), OutOfMemory> {
+    let across = [(Row(1), Col(0)), (Row(0), Col(1))];
+    let entries = [(1, 1, 3), (1, 2, 5), (2, 1, 4), (2, 2, 1)];
+    has_best(&rt, 2, &entries, &across, 4, &[1])?;
+    let entries = [(1, 1, 12), (1, 2, 6), (2, 1, 5), (2, 2, 1)];
+    has_best(&rt, 2, &entries, &across, 5, &[1, 2])?;
+    let entries = [(2, 1, -7), (1, 2, 7)];
+    has_best(&rt, 2, &entries, &across, 7, &[1, 2])
+}
+
+#[test]
+fn greatest_of_all_ways(rt: HostRuntime) -> Result<(), OutOfMemory> {
+    is_greatest(&rt, 1, &[[0; 4]; 4])?;
+    is_greatest(&rt, 3, &[[6; 4]; 4])?;
+    let table = [[7, 5, -9, 2], [6, 4, 8, 9], [1, -3, 3, 9], [8, 2, 7, 1]];
+    is_greatest(&rt, 2, &table)?;
+    is_greatest(&rt, 3, &table)?;
+    is_greatest(&rt, 4, &table)?;
+    let table = [[4, 4, 1, 0], [4, 3, 0, 1], [2, 1, 5, 5], [-6, 6, 5, 4]];
+    is_greatest(&rt, 3, &table)?;
+    is_greatest(&rt, 4, &table)
+}
+
+// Both entries are in one row, two rows have one column, and there may be nothing at all.
+#[test]
+fn without_pairs(rt: HostRuntime) -> Result<(), OutOfMemory> {
+    let given = integers_of(&rt, 2, 2, &[(1, 1, 1), (1, 2, 1)])?;
+    match answer(&rt, &given)? {
+        Bottleneck::Singular { rank, hall } => {
+            assert_eq!(rt; rank, 1);
+            are(&rt, "one row", hall.as_slice(), &[1, 2]);
+        }
+        _ => assert!(rt; false, "its rank is 1"),
+    }
+    let given = integers_of(&rt, 2, 1, &[(1, 1, 3), (2, 1, 4)])?;
+    assert!(rt; matches!(answer(&rt, &given)?, Bottleneck::Rectangular));
+    has_best(&rt, 0, &[], &[], 0, &[])
+}

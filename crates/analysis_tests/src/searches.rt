@@ -1,0 +1,141 @@
+//! Searches for an augmenting path in a matrix after an edit, from the pairs that are left of the matching before it.
+
+ghost use Rattle.std.specs.Prelude.{◌≡◌, ◌<◌};
+
+use crate::small::{are, matching_of, pattern_of};
+use hall_witness::{Reach, Steps, reach_in};
+use sp_ids::{Col, OutOfMemory, Row};
+use std::marker::Brand;
+use std::process::Abort;
+use std::sync::ledger::{Blank, Ledger};
+use std::thread::Threads;
+
+/// What a search is to find: the columns that some maximum matching misses, or the pairs of the one augmenting path, in
+/// order from its unmatched column. Rows and columns count from 1.
+#[derive(Clone, Copy)]
+enum Wanted<'a> {
+    Missed(&'a [u32]),
+    Path(&'a [(u32, u32)]),
+}
+
+/// The places after an edit, the pairs that are left, and what the search is to find.
+#[derive(Clone, Copy)]
+struct Search<'a> {
+    name: &'a str,
+    rows: u32,
+    cols: u32,
+    places: &'a [(u32, u32)],
+    pairs: &'a [(u32, u32)],
+    wanted: Wanted<'a>,
+}
+
+const SEARCHES: [Search<'static>; 7] = [
+    Search {
+        name: "a set that moves a pair",
+        rows: 2,
+        cols: 2,
+        places: &[(1, 1), (2, 1), (1, 2)],
+        pairs: &[(1, 1)],
+        wanted: Wanted::Path(&[(1, 2), (2, 1)]),
+    },
+    Search {
+        name: "a set in a row and a column without mates",
+        rows: 2,
+        cols: 2,
+        places: &[(1, 1), (2, 2)],
+        pairs: &[(1, 1)],
+        wanted: Wanted::Path(&[(2, 2)]),
+    },
+    Search {
+        name: "a set of an entry that was there",
+        rows: 2,
+        cols: 2,
+        places: &[(1, 1), (2, 1), (1, 1)],
+        pairs: &[(1, 1)],
+        wanted: Wanted::Missed(&[2]),
+    },
+    Search {
+        name: "a set that leads to no row without a mate",
+        rows: 2,
+        cols: 3,
+        places: &[(1, 1), (2, 2), (1, 3)],
+        pairs: &[(1, 1), (2, 2)],
+        wanted: Wanted::Missed(&[1, 3]),
+    },
+    Search {
+        name: "a clear of a pair, whose row and column are paired anew",
+        rows: 2,
+        cols: 2,
+        places: &[(2, 1), (1, 2), (2, 2)],
+        pairs: &[(2, 2)],
+        wanted: Wanted::Path(&[(2, 1), (1, 2)]),
+    },
+    Search {
+        name: "a clear of a pair, which lowers the rank",
+        rows: 2,
+        cols: 2,
+        places: &[(1, 1), (1, 2)],
+        pairs: &[(1, 1)],
+        wanted: Wanted::Missed(&[1, 2]),
+    },
+    Search {
+        name: "a clear of the only entry",
+        rows: 1,
+        cols: 2,
+        places: &[],
+        pairs: &[],
+        wanted: Wanted::Missed(&[1, 2]),
+    },
+];
+
+/// Compares a path with pairs that count from 1.
+fn is_path<R: Abort>(rt: &R, name: &str, path: &[(Row, Col)], pairs: &[(u32, u32)]) {
+    assert_eq!(rt; path.len(), pairs.len(), "{name}");
+    for (place, (row, col)) in path.iter().zip(pairs) {
+        let (found_row, found_col) = *place;
+        assert_eq!(rt; Some(found_row.0), row.checked_sub(1), "{name}");
+        assert_eq!(rt; Some(found_col.0), col.checked_sub(1), "{name}");
+    }
+}
+
+fn finds<R: Abort + AllocGlobal + Threads + Sync, L: Ledger>(
+    rt: &R,
+    search: &Search<'_>,
+    steps: &mut Steps<L>,
+) -> Result<(), OutOfMemory> {
+    let name = search.name;
+    let pattern = pattern_of(rt, search.rows, search.cols, search.places)?;
+    let matching = matching_of(rt, &pattern, search.pairs)?;
+    match (
+        reach_in(rt.alloc(), &pattern, &matching, steps)?,
+        search.wanted,
+    ) {
+        (Reach::Witness(columns), Wanted::Missed(numbers)) => {
+            are(rt, name, columns.as_slice(), numbers);
+        }
+        (Reach::Path(path), Wanted::Path(pairs)) => is_path(rt, name, path.as_slice(), pairs),
+        _ => assert!(rt; false, "{name}"),
+    }
+    Ok(())
+}
+
+/// All searches, which count their steps on one ledger.
+fn all_find<R: Abort + AllocGlobal + Threads + Sync, L: Ledger>(
+    rt: &R,
+    blank: Blank,
+) -> Result<(), OutOfMemory>
+    requires name { blank.name ≡ L.name }
+    requires parts { blank.parts ≡ L.parts }
+    requires some { 0 < blank.parts }
+{
+    let mut steps = Steps::<L>::new(blank);
+    for search in &SEARCHES {
+        finds(rt, search, &mut steps)?;
+    }
+    Ok(())
+}
+
+#[test]
+fn finds_the_path_or_the_missed_columns(rt: HostRuntime) -> Result<(), OutOfMemory> {
+    all_find::<HostRuntime, Brand>(&rt, Blank::new(1))
+}
