@@ -1,11 +1,11 @@
 #!/usr/bin/env python3
-"""Runs the built program with calls of the C library that fail, one at a time, and looks at its answers.
+"""Runs the built programs with calls of the C library that fail, one at a time, and looks at their answers.
 
-    checks/failing_calls.py crates/btf/out/btf
+    checks/failing_calls.py crates/btf/out/btf [crates/btf_batch/out/btf_batch]
 
-It is no part of the gate: it runs the program as it was built, over the real devices. For each job below
+It is no part of the gate: it runs the programs as they were built, over the real devices. For each job below
 - each allocation is refused in turn, until a run makes fewer than that: the answer is the job's own, or status 7 with
-  nothing on standard output and the line `btf: out of memory`;
+  nothing on standard output and the line `btf: out of memory` (of the batch program `btf_batch: ..`, and so below);
 - each read fails in turn: status 5, nothing on standard output, `btf: read fault`; a read that fails is never taken for
   the end of the input;
 - each write to standard output fails in turn: status 6, `btf: write fault`, and what was written is a prefix of the text;
@@ -31,6 +31,8 @@ REPORT = (
 DIAGONAL = PATTERN + "6000 6000 6000\n" + "".join(f"{i} {i}\n" for i in range(1, 6001))
 WEIGHTS = INTEGER + "2 2 4\n1 1 3\n1 2 5\n2 1 4\n2 2 1\n"
 
+EDITS = THREE_PARTS + "set 4 2\nclear 1 3\nreport\nset 4 2\nclear 2 2\n"
+
 # words, input, status, how the text on standard output begins
 JOBS = [
     (["rank"], THREE_PARTS, 0, "matrix 4 4 7\nrank 3\nhorizontal 1 2\n"),
@@ -41,11 +43,25 @@ JOBS = [
     (["diagonal"], WEIGHTS, 0, "diagonal 2 9\n2 1 4\n1 2 5\n"),
     (["check"], THREE_PARTS + REPORT, 0, "valid\n"),
     (["load", "--size", "30", "--seed", "0"], "", 0, "matrix 30 30 85\nrank 22\nhorizontal 22 30\nsquare 0 0\nvertical 8 0\n"),
+    (["analyse", "--engine", "pf", "--least"], THREE_PARTS, 0, "btf 2\nmatrix 4 4 7\nrank 3\n"),
+    (["bottleneck"], WEIGHTS, 0, "bottleneck 2 4\n2 1 4\n1 2 5\nabove_rows\nabove_columns 1\nend\n"),
+    (["edit"], EDITS, 0, "rank 3\nrank 4\nrank 4\nbtf 2\n"),
 ]
-MEMORY = (7, b"", b"btf: out of memory\n")
-READ_FAULT = (5, b"", b"btf: read fault\n")
+BATCH = "".join(f"file {len(text)}\n{text}" for text in (THREE_PARTS, "%%NotIt\n", WEIGHTS, ""))
+
+# the same of the batch program
+BATCHES = [
+    (["--workers", "1"], BATCH, 1, "file 1 0\nbtf 2\nmatrix 4 4 7\nrank 3\n"),
+    (["--workers", "3"], BATCH, 1, "file 1 0\nbtf 2\nmatrix 4 4 7\nrank 3\n"),
+    ([], "", 0, "end 0\n"),
+]
 
 passed, failed = 0, 0
+
+
+def line(program, words):
+    """A line on standard error: the program's name and these words."""
+    return f"{os.path.basename(program)}: {words}\n".encode()
 
 
 def look(right, what):
@@ -92,10 +108,10 @@ def over_failing_calls(program, preload, job):
         print("left out, since its words are not taken:", " ".join(words))
         return
     look(plain[0] == status and plain[1].startswith(begins.encode()) and plain[2] == b"", f"{' '.join(words)}: {plain}")
-    refused = each_in_turn(program, preload, job, "memory", lambda answer: answer in (plain, MEMORY))
-    reads = each_in_turn(program, preload, job, "read", lambda answer: answer == READ_FAULT)
+    refused = each_in_turn(program, preload, job, "memory", lambda answer: answer in (plain, (7, b"", line(program, "out of memory"))))
+    reads = each_in_turn(program, preload, job, "read", lambda answer: answer == (5, b"", line(program, "read fault")))
     writes = each_in_turn(program, preload, job, "write", lambda answer: answer[0] == 6 and plain[1].startswith(answer[1])
-                          and answer[1] != plain[1] and answer[2] == b"btf: write fault\n")
+                          and answer[1] != plain[1] and answer[2] == line(program, "write fault"))
     for short in (1, 7, 4000):
         for call in ("read", "write"):
             answer, _ = run(program, preload, words, text, call, 0, short)
@@ -127,14 +143,15 @@ def over_odd_devices(program, work):
 
 
 def main():
-    if len(sys.argv) != 2:
+    if len(sys.argv) not in (2, 3):
         sys.exit(__doc__)
-    program = os.path.abspath(sys.argv[1])
+    programs = [os.path.abspath(path) for path in sys.argv[1:]]
     with tempfile.TemporaryDirectory() as work:
         preload = library(work)
-        for job in JOBS:
-            over_failing_calls(program, preload, job)
-        over_odd_devices(program, work)
+        for program, jobs in zip(programs, (JOBS, BATCHES)):
+            for job in jobs:
+                over_failing_calls(program, preload, job)
+        over_odd_devices(programs[0], work)
     print(f"{passed} passed, {failed} failed")
     sys.exit(1 if failed else 0)
 
