@@ -153,6 +153,55 @@ static Matrix deceptive(u64 n, Random &random) {
   return a;
 }
 
+// Blocks of 32, and between each two that are at most two apart five hexagons: three columns of the one and three rows of
+// the other at random, each column with an entry in two of the rows (after Cherkassky and others 1998).
+static Matrix hexagons(u64 n, Random &random) {
+  u64 size = 32, blocks = std::max<u64>(n / size, 1);
+  Matrix a{size * blocks, size * blocks, true};
+  for (u64 block = 0; block < blocks; block++)
+    for (u64 other = block < 2 ? 0 : block - 2; other <= block + 2 && other < blocks; other++)
+      for (int hexagon = 0; hexagon < 5; hexagon++) {
+        u64 row[3], col[3];
+        for (int k = 0; k < 3; k++) {
+          row[k] = other * size + random.below(size);
+          col[k] = block * size + random.below(size);
+        }
+        for (int k = 0; k < 3; k++) {
+          a.add(row[k], col[k]);
+          a.add(row[(k + 1) % 3], col[k]);
+        }
+      }
+  return a;
+}
+
+// A chessboard from which one field in fifty is missing: black fields are columns, white ones rows, neighbours entries.
+static Matrix chessboard(u64 n, Random &random) {
+  u64 side = 1;
+  while ((side + 1) * (side + 1) <= 2 * n) side++;
+  std::vector<u64> number(side * side);
+  std::vector<bool> there(side * side);
+  Matrix a{0, 0, true};
+  auto black = [side](u64 v) { return (v / side + v % side) % 2 == 0; };
+  for (u64 v = 0; v < side * side; v++)
+    if ((there[v] = random.below(50) != 0)) number[v] = black(v) ? a.cols++ : a.rows++;
+  auto join = [&](u64 v, u64 w) {
+    if (there[v] && there[w]) black(v) ? a.add(number[w], number[v]) : a.add(number[v], number[w]);
+  };
+  for (u64 v = 0; v < side * side; v++) {
+    if (v % side + 1 < side) join(v, v + 1);
+    if (v + side < side * side) join(v, v + side);
+  }
+  return a;
+}
+
+// Three diagonals that are closed to a ring: every line has three entries, and paths can be as long as the matrix.
+static Matrix closed_band(u64 n) {
+  Matrix a{n, n, true};
+  for (u64 j = 0; j < n; j++)
+    for (u64 k = 0; k < 3; k++) a.add((j + k) % n, j);
+  return a;
+}
+
 // The matrix that `btf load` makes from a size and a seed.
 static Matrix load(u64 n, u64 seed) {
   using Wide = unsigned __int128;
@@ -227,6 +276,9 @@ int main(int argc, char **argv) {
   else if (family == "hilo") a = staircase(n);
   else if (family == "fewg") a = ring(n, random);
   else if (family == "ksbad") a = deceptive(n, random);
+  else if (family == "hexa") a = hexagons(n, random);
+  else if (family == "lattice") a = chessboard(n, random);
+  else if (family == "ring") a = closed_band(n);
   else if (family == "load") a = load(n, seed);
   else if (family == "band" || family == "bandi") a = band(n);
   else {

@@ -1,9 +1,9 @@
 #!/usr/bin/env python3
-"""Runs `btf rank`, `btf analyse` or `btf diagonal` and what Debian packages for the same job on the same files,
+"""Runs `btf rank`, `analyse`, `diagonal` or `bottleneck` and what Debian packages for the same job on the same files,
 interleaved, and prints a table.
 
     apt-get install g++ libsuitesparse-dev libigraph-dev libmumps-seq-dev python3-scipy
-    bench/run.py --btf crates/btf/out/btf [--job analyse|diagonal] [--work DIR] [--entries 100000,1000000]
+    bench/run.py --btf crates/btf/out/btf [--job analyse|diagonal|bottleneck] [--work DIR] [--entries 100000]
                  [--families er27,grid2d] [--repeats 3] [--peers cxsparse,suitesparse] [--limit SECONDS]
                  [--clock processor] [--other NAME=COMMAND]
 
@@ -12,8 +12,8 @@ adds a program of your own, in whose COMMAND the word JOB stands for the job. Fi
 default bench-work in the system's folder for temporary files). Times are those of whole processes, from a file in the
 page cache to a text in a file: the median of the repeats, by the wall clock, or by processor seconds where the machine
 is busy. Every program writes the text of `btf rank`, or one with the numbers of `btf analyse`, or a diagonal with the
-sum of `btf diagonal`; a difference is told and makes the exit status 1. Ratios of one run compare programs, and stand
-there against the fastest packaged peer; single times compare nothing.
+sum of `btf diagonal` or the least weight of `btf bottleneck`; a difference is told and makes the exit status 1. Ratios
+of one run compare programs, and stand there against the fastest packaged peer; single times compare nothing.
 """
 import argparse
 import os
@@ -37,6 +37,9 @@ COLUMNS = {
     "fewg": 1 / 5,
     "load": 1 / 3,
     "ksbad": 1 / 11,
+    "hexa": 1 / 4.5,
+    "lattice": 1 / 3.84,
+    "ring": 1 / 3,
     "er12i": 1 / 13,
     "circuiti": 0.29,
     "bandi": 1 / 11,
@@ -48,13 +51,14 @@ JOBS = {
     "rank": (PATTERNS, "100000,1000000", "cxsparse,suitesparse,igraph,scipy"),
     "analyse": (PATTERNS, "100000,1000000", "cxsparse,suitesparse,scipy"),
     "diagonal": ("er12i,circuiti,bandi", "20000,200000,2000000", "mumps,scipy"),
+    "bottleneck": ("er12i,circuiti,bandi", "20000,200000,2000000", "mumps2,mumps3"),
 }
 
 # program: what it is linked with
 COMPILED = {
     "generate": [],
     "peers": ["-lcxsparse", "-lbtf", "-ligraph"],
-    "mumps_diagonal": ["-ldmumps_seq"],
+    "mumps": ["-ldmumps_seq"],
 }
 
 
@@ -91,7 +95,10 @@ def peer_command(work, job, peer):
         python = scipy_python()
         script = ["scipy_diagonal.py"] if job == "diagonal" else ["scipy_pattern.py", job]
         return [python, os.path.join(HERE, script[0])] + script[1:] if python else None
-    command = [os.path.join(work, "mumps_diagonal")] if peer == "mumps" else [os.path.join(work, "peers"), job, peer]
+    if peer.startswith("mumps"):
+        command = [os.path.join(work, "mumps"), job] + list(peer[len("mumps"):])
+    else:
+        command = [os.path.join(work, "peers"), job, peer]
     return command if os.path.exists(command[0]) else None
 
 
@@ -115,10 +122,10 @@ def counts(text):
 
 
 def agree(job, text, other):
-    """Whether a peer's text is the same, or each count of `analyse` that it tells, or the sum of `diagonal`."""
+    """Whether a peer's text is the same, or each count of `analyse` that it tells, or the first line of a diagonal."""
     if job == "rank":
         return text == other
-    if job == "diagonal":
+    if job in ("diagonal", "bottleneck"):
         return text.split(b"\n", 1)[0] == other.split(b"\n", 1)[0]
     mine = counts(text)
     return all(mine.get(word) == line for word, line in counts(other).items())
@@ -156,7 +163,7 @@ def main():
     os.makedirs(options.work, exist_ok=True)
     if not build(options.work, "generate"):
         sys.exit("run.py: the generator does not compile")
-    build(options.work, "mumps_diagonal" if options.job == "diagonal" else "peers")
+    build(options.work, "peers" if options.job in ("rank", "analyse") else "mumps")
     tools = programs(options)
     print("| file | entries | " + " | ".join(f"{name} ns" for name in tools) + " | ratio to the best peer | btf bytes an entry |")
     print("|---|---|" + "---|" * (len(tools) + 2))
