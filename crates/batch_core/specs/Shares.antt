@@ -60,7 +60,8 @@ pub record Continues (old new : Share) : Type 0 where
 -- where it had memory: it has claimed meanwhile for this worker alone, and has the answer to each file that it has claimed
 pub record AnswersItsClaims (worker : ℕ) (old new : Share) : Type 0 where
   pub continues : Continues old new
-  pub claimed : (i other : ℕ) → Among (i, other) continues.listed.claims → (other ≡ worker) × Among i (answered new.answers)
+  pub claimed : (i other : ℕ) → Among (i, other) continues.listed.claims
+      → (other ≡ worker) × Among i (answered new.answers)
 
 -- the seat knows a worker whose the file is: it has claimed the file for it, or has seen it there
 abbrev pub IsKnown : Seat → ℕ → Type 0
@@ -85,7 +86,8 @@ slot_at slots i = slice_index_or slots i None
 -- there is a slot for each file, and each full slot has the answer to its own file
 pub record AreSlotsOf (files : List (List ℕ)) (slots : List (Option FileAnswer)) : Type 0 where
   pub count : length slots ≡ length files
-  pub right : (i : ℕ) (answer : FileAnswer) → slot_at slots i ≡ Some answer → IsAnswerAt files i answer
+  pub right : (i : ℕ) (answer : FileAnswer) → slot_at slots i ≡ Some answer
+      → IsAnswerAt files i answer
 
 -- the slot of each file is full
 abbrev pub AreFull : Slots → Type 0

@@ -5,7 +5,8 @@ use Rattle.mm_defs.specs.declared.kinds.Kind.{Kind}
 
 -- the number of the first bad line or file and its kind, with the words before them
 abbrev pub fault_line : List ℕ → ℕ → Kind → List ℕ
-fault_line before number kind = before ++ decimal number ++ codes ": " ++ kind_name kind ++ codes "\n"
+fault_line before number kind = before ++ decimal number ++ codes ": " ++ kind_name kind
+    ++ codes "\n"
 
 abbrev pub malformed_line : ℕ → Kind → List ℕ
 malformed_line line kind = fault_line (codes "btf: malformed line ") line kind

@@ -94,4 +94,5 @@ re_seated b number (w ∷ ws) = with_seat w (new_seat b number) ∷ re_seated b 
 abbrev pub after_gather : Board → List WorkerState → List WorkerState
 after_gather b [] = []
 after_gather b (w ∷ others) =
-    with_seat w (first_seat b w.seat.seats (gathered (seats_of (w ∷ others)))) ∷ re_seated b 1 others
+    with_seat w (first_seat b w.seat.seats (gathered (seats_of (w ∷ others))))
+    ∷ re_seated b 1 others

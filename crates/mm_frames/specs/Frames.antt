@@ -118,7 +118,8 @@ AnswersLast files bytes (Err errors.ReadFault) = ⊥
 AnswersLast files bytes (Err errors.OutOfMemory) = Unit {0}
 
 -- what is answered to the bytes of a file behind so many files and this header
-abbrev pub AnswersFile : ℕ → List ℕ → ℕ → Front → Device → Result (Vec ℕ) BatchError → List ℕ → Type 0
+abbrev pub AnswersFile : ℕ → List ℕ → ℕ → Front → Device → Result (Vec ℕ) BatchError → List ℕ
+    → Type 0
 AnswersFile before line bytes now source (Ok file) used = (used ≡ file.items)
     × (length used ≡ bytes)
 AnswersFile before line bytes now source (Err error) used =

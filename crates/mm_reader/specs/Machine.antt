@@ -45,7 +45,8 @@ pub record HasEntries (h : Header) (s : Size) (done : ℕ) (t : entries.Entries)
 abbrev pub IsPhase : Phase → entries.Entries → List (List ℕ) → Type 0
 IsPhase phases.Banner t ls = ls ≡ []
 IsPhase (phases.Sizes h) t ls = HasBanner h ls × (later_lines ls ≡ [])
-IsPhase (phases.Entries h s done next) t ls = HasBanner h ls × HasEntries h s done t (later_lines ls)
+IsPhase (phases.Entries h s done next) t ls = HasBanner h ls
+    × HasEntries h s done t (later_lines ls)
 
 -- the matrix is read and what follows is not judged
 abbrev pub is_complete : End → Phase → Bool
