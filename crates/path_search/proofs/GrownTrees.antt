@@ -6,7 +6,7 @@ use Rattle.bip_defs.specs.Lists.{Among, IsMarked, Lists}
 use Rattle.bip_defs.specs.Matching.{IsMatching, cols_of}
 use Rattle.bip_defs.specs.Matrix.{IsEntry, Matrix, Place, cols}
 use Rattle.bip_defs.proofs.Sets.{among_last, among_right, distinct_last, entry_col, number_same, one_row}
-use Rattle.path_search.specs.Forests.{IsFound, IsForest, IsLeafOf, LeadOn, Spreads, Trees, Visits, reached_at, reached_cols}
+use Rattle.path_search.specs.Forests.{Extends, IsFound, IsForest, IsLeafOf, LeadOn, Spreads, Trees, Visits, reached_at, reached_cols}
 use Rattle.bip_defs.specs.Marks.{IsExplored}
 use Rattle.path_search.specs.declared.reached.Reached.{Reached}
 use Rattle.bip_defs.proofs.Full.{few_below}
@@ -60,6 +60,30 @@ forest_reached a m t r d place root k f lt un pair within tree entry = record {
     found_last : IsFound a m (t.queue ++ record { col = d; from = place; root = root } ∷ []) (length t.queue)
     found_last = inr (subst (λ (y : Reached). (y.from < length t.queue) × ((reached_at (t.queue ++ record { col = d; from = place; root = root } ∷ []) y.from).root ≡ y.root) × (s : ℕ) × Among {X = Place} (s, y.col) m × IsEntry a s (reached_at (t.queue ++ record { col = d; from = place; root = root } ∷ []) y.from).col) (sym (at_last t.queue (record { col = d; from = place; root = root }))) (within, ap (λ (y : Reached). y.root) led ∙ tree, r, pair, subst (λ (y : Reached). IsEntry a r y.col) (sym led) entry))
 
+-- What is reached and marked later.
+
+pub extends_none : (t : Trees) → Extends t t
+extends_none t = record { more = ([], sym (append-nil t.queue)); marked = λ r h. h }
+
+pub extends_more : (old mid new : Trees) → Extends old mid → Extends mid new → Extends old new
+extends_more old mid new e f = record {
+  more = let (xs, p) = e.more in let (ys, q) = f.more in (xs ++ ys, q ∙ ap (λ (z : List Reached). z ++ ys) p ∙ append_assoc old.queue xs ys);
+  marked = λ r h. f.marked r (e.marked r h);
+}
+
+-- whatever stands in the path's place
+pub extends_path : (old t : Trees) (path : List Place) → Extends old t → Extends old (record t { path = path })
+extends_path old t path e = record { more = e.more; marked = e.marked }
+
+pub extended_at : (old t : Trees) (i : ℕ) → Extends old t → i < length old.queue → reached_at t.queue i ≡ reached_at old.queue i
+extended_at old t i s lt = let (more, e) = s.more in ap (λ (q : List Reached). reached_at q i) e ∙ at_before old.queue more i lt
+
+pub extended_length : (old t : Trees) → Extends old t → length old.queue ≤ length t.queue
+extended_length old t s = let (more, e) = s.more in omega (arith, ap length e, length-append old.queue more)
+
+pub extended_among : (old t : Trees) (c : ℕ) → Extends old t → Among c (reached_cols old.queue) → Among c (reached_cols t.queue)
+extended_among old t c s h = let (more, e) = s.more in subst (λ (q : List Reached). Among c (reached_cols q)) (sym e) (grown_among old.queue more c h)
+
 -- What a list's rows lead to.
 
 pub spreads_none : (root : ℕ) (t : Trees) → Spreads root t t
@@ -78,14 +102,8 @@ spreads_reached old t r d place root lt s = record {
     last : Reached
     last = record { col = d; from = place; root = root }
 
-pub spread_at : (root : ℕ) (old t : Trees) (i : ℕ) → Spreads root old t → i < length old.queue → reached_at t.queue i ≡ reached_at old.queue i
-spread_at root old t i s lt = let (more, e, all) = s.more in ap (λ (q : List Reached). reached_at q i) e ∙ at_before old.queue more i lt
-
-pub spread_length : (root : ℕ) (old t : Trees) → Spreads root old t → length old.queue ≤ length t.queue
-spread_length root old t s = let (more, e, all) = s.more in omega (arith, ap length e, length-append old.queue more)
-
-pub spread_among : (root : ℕ) (old t : Trees) (c : ℕ) → Spreads root old t → Among c (reached_cols old.queue) → Among c (reached_cols t.queue)
-spread_among root old t c s h = let (more, e, all) = s.more in subst (λ (q : List Reached). Among c (reached_cols q)) (sym e) (grown_among old.queue more c h)
+pub spreads_extends : (root : ℕ) (old t : Trees) → Spreads root old t → Extends old t
+spreads_extends root old t s = record { more = (s.more.0, s.more.1); marked = s.marked }
 
 -- the rows so far are marked, and those that were marked since the start lead on
 pub record IsScanning (a : Matrix) (m : List Place) (root : ℕ) (old t : Trees) (rows : List ℕ) : Type 0 where
@@ -105,14 +123,14 @@ scanning_more a m old t new rows r place root k s lt within tree entry (inl (mar
   marked = λ x h. ⊎_elim (λ g. s.marked x g) (λ (e : x ≡ r). subst (λ y. IsMarked t.marks y) (sym e) marked) (among_last x r rows h);
 })
 scanning_more a m old t new rows r place root k s lt within tree entry (inr (un, d, pair, same)) = subst (λ (x : Trees). IsScanning a m root old x (rows ++ r ∷ [])) (sym same) (record {
-  forest = forest_reached a m t r d place root k s.forest lt un pair (let le = spread_length root old t s.spreads in omega arith) (subst (λ (y : Reached). y.root ≡ root) (sym at) tree) (subst (λ (y : Reached). IsEntry a r y.col) (sym at) entry);
+  forest = forest_reached a m t r d place root k s.forest lt un pair (let le = extended_length old t (spreads_extends root old t s.spreads) in omega arith) (subst (λ (y : Reached). y.root ≡ root) (sym at) tree) (subst (λ (y : Reached). IsEntry a r y.col) (sym at) entry);
   spreads = spreads_reached old t r d place root lt s.spreads;
   lead_on = λ x h. ⊎_elim (λ (e : x ≡ r). inr (d, subst (λ y. Among {X = Place} (y, d) m) (sym e) pair, rw reached_last (among_right d (reached_cols t.queue) (d ∷ []) (inl refl)))) (λ (ne : x ≢ r). ⊎_elim (λ g. inl g) (λ g. inr (g.0, g.1, grown_among t.queue (record { col = d; from = place; root = root } ∷ []) g.0 g.2)) (s.lead_on x (sym (unmoved t.marks r x ne) ∙ h))) (number_same x r);
   marked = λ x h. ⊎_elim (λ g. marked_grows t.marks r lt x (s.marked x g)) (λ (e : x ≡ r). subst (λ y. IsMarked (set t.marks r true) y) (sym e) (marked_now t.marks r lt)) (among_last x r rows h);
 })
   where
     at : reached_at t.queue place ≡ reached_at old.queue place
-    at = spread_at root old t place s.spreads within
+    at = extended_at old t place (spreads_extends root old t s.spreads) within
 
 -- at an unmatched row
 pub record HasFound (a : Matrix) (m : List Place) (root col : ℕ) (old new : Trees) (r : ℕ) : Type 0 where

@@ -1,3 +1,4 @@
+mod BatchLemmas
 mod ExchangeLemmas
 mod FailedSearches
 mod FlipLemmas

@@ -1,5 +1,5 @@
 -- Breadth-first trees of columns, one from each unmatched column.
-use Rattle.std.specs.Prelude.{◌≡◌, ◌⊎◌, ℕ, suc, ◌<◌, Bool, List, true, false, [], ◌∷◌, ◌++◌, length, map, set, slice_index_or}
+use Rattle.std.specs.Prelude.{◌≡◌, ◌⊎◌, ℕ, ◌<◌, Bool, List, true, false, [], ◌∷◌, ◌++◌, length, map, set, slice_index_or}
 use Rattle.bip_defs.specs.Lists.{Among, AreDistinct, IsMarked}
 use Rattle.bip_defs.specs.Marks.{IsExplored}
 use Rattle.bip_defs.specs.Matching.{cols_of, rows_of}
@@ -85,6 +85,11 @@ pub record Spreads (root : ℕ) (old new : Trees) : Type 0 where
       × ((x : Reached) → Among x more → x.root ≡ root)
   pub marked : (r : ℕ) → IsMarked old.marks r → IsMarked new.marks r
 
+-- what was reached stays at its place, and what was marked stays marked
+pub record Extends (old new : Trees) : Type 0 where
+  pub more : (more : List Reached) × (new.queue ≡ old.queue ++ more)
+  pub marked : (r : ℕ) → IsMarked old.marks r → IsMarked new.marks r
+
 -- each row that was marked since leads on
 abbrev pub LeadOn : List Place → Trees → Trees → Type 0
 LeadOn m old new = (r : ℕ) → IsMarked new.marks r → IsMarked old.marks r ⊎ LeadsOn m new.queue r
@@ -117,8 +122,8 @@ pub record Traces (a : Matrix) (m : List Place) (q : List Reached) (root leaf : 
       ⊎ ((i : ℕ) × (i < length q) × ((reached_at q i).root ≡ root)
       × Among (r, (reached_at q i).col) m)
 
--- the matching stays, and one column more has been looked through, or it grows
-abbrev pub Progresses : Matrix → Pairing → Pairing → Trees → Trees → ℕ → Type 0
-Progresses a m n old new place = ((n ≡ m)
-    × (HaveNoPath a m.pairs old place → HaveNoPath a m.pairs new (suc place)))
+-- the matching stays, and the columns from one place to another have been looked through, or it grows
+abbrev pub Progresses : Matrix → Pairing → Pairing → Trees → Trees → ℕ → ℕ → Type 0
+Progresses a m n old new place next = ((n ≡ m)
+    × (HaveNoPath a m.pairs old place → HaveNoPath a m.pairs new next))
     ⊎ (length m.pairs < length n.pairs)

@@ -1,4 +1,5 @@
 pub mod Advances
+pub mod Batches
 pub mod Forests
 pub mod Search
 pub mod Trails

@@ -1,14 +1,16 @@
 //! Phases of breadth-first searches from all unmatched columns at once.
 
-ghost use Rattle.std.specs.Prelude.{◌≡◌, ◌⊎◌, ◌↔◌, ℕ, suc, ◌<◌, ◌≤◌, ◌∷◌, ◌++◌, [], true, length, set, reverse, IsTrue, IfOk, IfSome, IfNone};
+ghost use Rattle.std.specs.Prelude.{◌≡◌, ◌⊎◌, ◌↔◌, ℕ, suc, ◌+◌, ◌<◌, ◌≤◌, ◌∷◌, ◌++◌, [], true, length, set, reverse, IsTrue, IfOk, IfSome, IfNone};
 ghost use Rattle.bip_defs.specs.Lists.{Among, IsMarked};
 ghost use Rattle.bip_defs.specs.Marks.{IsExplored};
 ghost use Rattle.bip_defs.specs.Matching.{Covers, IsMaximum, rows_of, cols_of};
-ghost use Rattle.bip_defs.specs.Matrix.{AreEntries, Matrix, cols};
+ghost use Rattle.bip_defs.specs.Matrix.{AreEntries, IsEntry, Matrix, cols};
 ghost use Rattle.bip_defs.specs.Paths.{Exchanges, IsAugmenting};
 ghost use Rattle.bip_graph.specs.Matching.{IsMatchingOf, Pairing};
-ghost use Rattle.path_search.specs.Forests.{HaveNoPath, IsForest, IsLeafOf, LeadOn, Progresses, Spreads, Traces, Visits, reached_at};
+ghost use Rattle.path_search.specs.Batches.{Follows, HaveRows, numbers_in};
+ghost use Rattle.path_search.specs.Forests.{Extends, HaveNoPath, IsForest, IsLeafOf, LeadOn, Progresses, Spreads, Traces, Visits, reached_at};
 
+use crate::batches::{Candidate, ROOM, gather, keep_unmarked, look_up, no_lists};
 use crate::columns::{put, unmark_all};
 use crate::reached::{Reached, RootedQueue};
 use bip_graph::{Matching, Opposite, trace_back};
@@ -102,6 +104,18 @@ impl Forest {
         ensures { result ≡ length self.now.queue }
     {
         self.queue.len()
+    }
+
+    fn queue(&self) -> &[Reached]
+        ensures { result.now ≡ self.now.queue }
+    {
+        self.queue.as_slice()
+    }
+
+    fn marks(&self) -> &[bool]
+        ensures { result.now ≡ self.now.marks }
+    {
+        self.marks.as_slice()
     }
 
     fn at(&self, place: u32) -> Reached
@@ -259,7 +273,7 @@ impl Forest {
             (reached_at self.old.queue place).col row }
         requires unmatched { ¬ Among (reached_at self.old.queue place).root
             (cols_of (F.seen matching.old).pairs) }
-        ensures queue { self.new.queue ≡ self.old.queue }
+        ensures same { self.new ≡ record self.old { path = self.new.path } }
         ensures forest { IsForest (S.matrix side.now) (F.seen matching.new).pairs self.new }
         ensures matching { IsMatchingOf (S.matrix side.now) (F.seen matching.new) }
         ensures covered { Covers (F.seen matching.old).pairs (F.seen matching.new).pairs }
@@ -277,11 +291,11 @@ impl Forest {
         requires forest { IsForest (S.matrix side.now) (F.seen matching.old).pairs self.old }
         requires place { place < length self.old.queue }
         ensures forest { IsForest (S.matrix side.now) (F.seen matching.new).pairs self.new }
-        ensures queue { length self.old.queue ≤ length self.new.queue }
+        ensures extends { Extends self.old self.new }
         ensures matching { IsMatchingOf (S.matrix side.now) (F.seen matching.new) }
         ensures covered { Covers (F.seen matching.old).pairs (F.seen matching.new).pairs }
         ensures progresses { Progresses (S.matrix side.now) (F.seen matching.old)
-            (F.seen matching.new) self.old self.new place }
+            (F.seen matching.new) self.old self.new place (place + 1) }
     {
         let column = self.at(place);
         match F::row_of(matching, column.root) {
@@ -295,6 +309,130 @@ impl Forest {
         }
     }
 
+    // Visits a candidate, unless its tree is done with, and exchanges a path that ends there.
+    fn follow<F: Opposite, S: Side<F>>(
+        &mut self,
+        side: &S,
+        matching: &mut Matching,
+        next: Candidate,
+    )
+        requires matching { IsMatchingOf (S.matrix side.now) (F.seen matching.old) }
+        requires forest { IsForest (S.matrix side.now) (F.seen matching.old).pairs self.old }
+        requires place { next.place < length self.old.queue }
+        requires entry { IsEntry (S.matrix side.now) next.row
+            (reached_at self.old.queue next.place).col }
+        ensures forest { IsForest (S.matrix side.now) (F.seen matching.new).pairs self.new }
+        ensures extends { Extends self.old self.new }
+        ensures matching { IsMatchingOf (S.matrix side.now) (F.seen matching.new) }
+        ensures covered { Covers (F.seen matching.old).pairs (F.seen matching.new).pairs }
+        ensures follows { Follows (S.matrix side.now) (F.seen matching.old) (F.seen matching.new)
+            self.old self.new (next ∷ []) }
+    {
+        let column = self.at(next.place);
+        let root = column.root;
+        match F::row_of(matching, root) {
+            Some(_) => {}
+            None => {
+                if self.visit(side, matching, next.row, next.place, root) {
+                    self.exchange(side, matching, next.row, next.place);
+                }
+            }
+        }
+    }
+
+    // Visits the candidates one after another.
+    fn follow_all<F: Opposite, S: Side<F>>(
+        &mut self,
+        side: &S,
+        matching: &mut Matching,
+        candidates: &[Candidate],
+    )
+        requires matching { IsMatchingOf (S.matrix side.now) (F.seen matching.old) }
+        requires forest { IsForest (S.matrix side.now) (F.seen matching.old).pairs self.old }
+        requires candidates { (x : Candidate) → Among x candidates.now
+            → (x.place < length self.old.queue)
+            × IsEntry (S.matrix side.now) x.row (reached_at self.old.queue x.place).col }
+        ensures forest { IsForest (S.matrix side.now) (F.seen matching.new).pairs self.new }
+        ensures extends { Extends self.old self.new }
+        ensures matching { IsMatchingOf (S.matrix side.now) (F.seen matching.new) }
+        ensures covered { Covers (F.seen matching.old).pairs (F.seen matching.new).pairs }
+        ensures follows { Follows (S.matrix side.now) (F.seen matching.old) (F.seen matching.new)
+            self.old self.new candidates.now }
+    {
+        for next in candidates {
+            self.follow(side, matching, *next);
+        }
+    }
+
+    // Looks through the lists of a batch from one on, as far as there is room for their unmarked
+    // rows, and exchanges the paths that end there. The list where it ends.
+    fn look_through<F: Opposite, S: Side<F>>(
+        &mut self,
+        side: &S,
+        matching: &mut Matching,
+        lists: &[&[F]],
+        place: u32,
+        at: usize,
+        candidates: &mut [Candidate],
+    ) -> usize
+        requires matching { IsMatchingOf (S.matrix side.now) (F.seen matching.old) }
+        requires forest { IsForest (S.matrix side.now) (F.seen matching.old).pairs self.old }
+        requires at { at < length lists.now }
+        requires within { place + length lists.now ≤ length self.old.queue }
+        requires lists { HaveRows (S.matrix side.now) (F.seen matching.old).pairs self.old.queue
+            place (length lists.now) (numbers_in F.number lists.now) }
+        ensures end { (at < result) × (result ≤ length lists.now) }
+        ensures forest { IsForest (S.matrix side.now) (F.seen matching.new).pairs self.new }
+        ensures extends { Extends self.old self.new }
+        ensures matching { IsMatchingOf (S.matrix side.now) (F.seen matching.new) }
+        ensures covered { Covers (F.seen matching.old).pairs (F.seen matching.new).pairs }
+        ensures progresses { Progresses (S.matrix side.now) (F.seen matching.old)
+            (F.seen matching.new) self.old self.new (place + at) (place + result) }
+    {
+        // Places fit, since there are no more than columns.
+        let _cols = side.cols();
+        let (end, len) = gather(lists, at, place, candidates);
+        if end == at {
+            self.grow(side, matching, place + at as u32);
+            return at + 1;
+        }
+        let kept = keep_unmarked(candidates, len, self.marks());
+        self.follow_all(side, matching, &candidates[..kept]);
+        end
+    }
+
+    // Looks through the lists of a batch of columns, which begins at a place of the queue. The
+    // place behind its last column.
+    fn batch<'s, F: Opposite, S: Side<F>>(
+        &mut self,
+        side: &'s S,
+        matching: &mut Matching,
+        place: u32,
+        lists: &mut [&'s [F]],
+        candidates: &mut [Candidate],
+    ) -> u32
+        requires matching { IsMatchingOf (S.matrix side.now) (F.seen matching.old) }
+        requires forest { IsForest (S.matrix side.now) (F.seen matching.old).pairs self.old }
+        requires place { place < length self.old.queue }
+        requires room { 0 < length lists.old }
+        ensures end { (place < result) × (result ≤ length self.new.queue) }
+        ensures forest { IsForest (S.matrix side.now) (F.seen matching.new).pairs self.new }
+        ensures matching { IsMatchingOf (S.matrix side.now) (F.seen matching.new) }
+        ensures covered { Covers (F.seen matching.old).pairs (F.seen matching.new).pairs }
+        ensures progresses { Progresses (S.matrix side.now) (F.seen matching.old)
+            (F.seen matching.new) self.old self.new place result }
+    {
+        // Places fit, since there are no more than columns.
+        let _cols = side.cols();
+        let count = look_up(side, matching, self.queue(), place as usize, lists);
+        let batch = &lists[..count];
+        let mut at = 0;
+        while at < count {
+            at = self.look_through(side, matching, batch, place, at, candidates);
+        }
+        place + count as u32
+    }
+
     /// Searches breadth-first from all unmatched columns at once, and exchanges the augmenting
     /// paths that it finds.
     ///
@@ -303,6 +441,10 @@ impl Forest {
     /// most, so the paths have no vertex in common. Where there is no path the matching was
     /// maximum. Takes no memory. Work: one look at each row and column, and at each entry once at
     /// most.
+    ///
+    /// Up to 64 columns are looked through at a time, with the outcome of one after another: their
+    /// lists are looked up, then their rows' marks, up to 512 at once, and then the unmarked rows
+    /// are visited. So looks of one kind stand together, and none hangs on what another found.
     pub fn sweep<F: Opposite, S: Side<F>>(&mut self, side: &S, matching: &mut Matching)
         requires rows { length self.old.marks ≡ (S.matrix side.now).rows }
         requires cols { self.old.cols ≡ cols (S.matrix side.now) }
@@ -320,10 +462,14 @@ impl Forest {
         // Places fit, since there are no more than columns.
         let _cols = side.cols();
         self.start(side, matching);
+        let mut lists = no_lists(side);
+        let mut candidates = [Candidate {
+            row: Row(0),
+            place: 0,
+        }; ROOM];
         let mut place: u32 = 0;
         while (place as usize) < self.reached() {
-            self.grow(side, matching, place);
-            place += 1;
+            place = self.batch(side, matching, place, &mut lists, &mut candidates);
         }
     }
 }

@@ -4,6 +4,7 @@
 //! They see a pattern from its columns, or from its rows as its transpose.
 #![tactic(auto)]
 
+mod batches;
 mod columns;
 mod forest;
 mod reached;

@@ -3,22 +3,19 @@ use Rattle.bip_defs.proofs.Covers.{covers_more}
 use Rattle.path_search.proofs.SweepLemmas.{forest_short, grown_end, grown_more}
 use Rattle.path_search.proofs.forest.Forest.sweep.Goals as goal
 
-pub overflow_add-place : goal.overflow_add-place
-overflow_add-place g c = let short = forest_short _ _ _ c.loop-place.invariant.forest in let few = c.cols-cols.ensures in omega arith
-
 pub loop-place-smaller : goal.loop-place-smaller
-loop-place-smaller g c = let short = forest_short _ _ _ c.loop-place.invariant.forest in omega arith
+loop-place-smaller g c = let short = forest_short _ _ _ c.batch-place.ensures.forest in let later = c.batch-place.ensures.end in omega arith
 
 pub loop-place-preserved : goal.loop-place-preserved
 loop-place-preserved g c =
     let k = c.loop-place.invariant in
-    let e = c.grow.ensures in
+    let e = c.batch-place.ensures in
     record {
       forest = e.forest;
-      within = (let longer = e.queue in omega arith);
+      within = e.end.1;
       matching = e.matching;
       covered = covers_more k.covered e.covered;
-      grown = grown_more _ _ _ _ _ _ _ k.grown e.progresses;
+      grown = grown_more _ _ _ _ _ _ _ _ k.grown e.progresses;
     }
 
 pub returns-clause-maximum : goal.returns-clause-maximum
