@@ -8,12 +8,12 @@ ghost use Rattle.bip_graph.specs.Matching.{IsMatchingOf, IsMaximumOf};
 ghost use Rattle.bottleneck.specs.Answers.{IsBottleneck};
 ghost use Rattle.sp_pattern.specs.Weights.{Weighing, weight_at};
 
+use crate::bound::{bound, bounded_matching};
 use crate::heavier::heavier_matching;
 use crate::pairs::{least_of, pairs_of};
 use crate::thresholds::raised;
 use bip_graph::{Bottleneck, Matching};
 use hall_witness::{Reach, reach};
-use karp_sipser::start;
 use pothen_fan::complete;
 use sp_ids::{Col, OutOfMemory, Row};
 use sp_pattern::{Pattern, Weights};
@@ -25,8 +25,9 @@ use std::alloc::Global;
 /// The weights must be those of the pattern. `Rectangular` exactly where the matrix has not as many
 /// rows as columns; `Singular` exactly where it has, and its rank is less, with the columns that
 /// some maximum matching misses. Answers `OutOfMemory` where there is no memory for 8 bytes an
-/// entry, the pattern of the entries above a weight and what a maximum matching takes. Work: as
-/// many maximum matchings as the number of entries has binary digits, two more and one search.
+/// entry, the pattern of the entries above a weight and what a maximum matching takes. Work: three
+/// maximum matchings and one search where the first matching is best already, and else at most as
+/// many more as the number of distinct weights has binary digits.
 pub fn best(alloc: Global, pattern: &Pattern, weights: &Weights) -> Result<Bottleneck, OutOfMemory>
     requires { weights.now.matrix ≡ pattern.now }
     ensures { IfOk result (IsBottleneck weights.now) }
@@ -34,12 +35,13 @@ pub fn best(alloc: Global, pattern: &Pattern, weights: &Weights) -> Result<Bottl
     if pattern.rows() != pattern.cols() {
         return Ok(Bottleneck::Rectangular);
     }
-    let started = start(alloc, pattern)?;
-    let matching = complete(alloc, pattern, started)?;
+    let bound = bound(alloc, pattern, weights)?;
+    let heavy = bounded_matching(alloc, pattern, weights, bound)?;
+    let matching = complete(alloc, pattern, heavy)?;
     if matching.size() < pattern.cols() {
         return singular(alloc, pattern, &matching);
     }
-    let matching = raised(alloc, pattern, weights, matching)?;
+    let matching = raised(alloc, pattern, weights, matching, bound)?;
     shown(alloc, pattern, weights, matching)
 }
 

@@ -5,26 +5,33 @@ ghost use Rattle.bip_defs.specs.Matrix.{cols};
 ghost use Rattle.bip_graph.specs.Matching.{IsMatchingOf};
 
 use crate::heavier::heavier_matching;
+use crate::pairs::{least_of, pairs_of};
 use bip_graph::Matching;
 use sp_ids::{Col, OutOfMemory};
 use sp_pattern::{Pattern, Weights};
 use std::alloc::Global;
 
-/// A perfect matching of greater least weight, where there is one: the weights are tried by halves,
-/// and each matching begins with the pairs of the last perfect one that are left.
+/// A perfect matching of greater least weight, where there is one: the weights from the least one of
+/// this matching up to the bound, which no least weight passes, are tried by halves, and each
+/// matching begins with the pairs of the last perfect one that are left.
 pub fn raised(
     alloc: Global,
     pattern: &Pattern,
     weights: &Weights,
     matching: Matching,
+    bound: u64,
 ) -> Result<Matching, OutOfMemory>
     requires of { weights.now.matrix ≡ pattern.now }
+    requires square { pattern.now.rows ≡ cols pattern.now }
     requires matching { IsMatchingOf pattern.now matching }
     requires full { length matching.pairs ≡ cols pattern.now }
     ensures matching { IfOk result (IsMatchingOf pattern.now) }
     ensures full { IfOk result (λ m. length m.pairs ≡ cols pattern.now) }
 {
-    let thresholds = sorted_weights(alloc, pattern, weights)?;
+    let pairs = pairs_of(alloc, pattern, &matching)?;
+    let least = least_of(weights, pairs.as_slice());
+    drop(pairs);
+    let thresholds = weights_between(alloc, pattern, weights, least, bound)?;
     let mut matching = matching;
     let mut low = 0;
     let mut high = thresholds.len();
@@ -42,20 +49,26 @@ pub fn raised(
     Ok(matching)
 }
 
-// The weights of all entries, rising. They are thresholds to try, so nothing is said of them.
-fn sorted_weights(
+// The weights of entries from `low` up to below `high`, rising, each once. They are thresholds to
+// try, so nothing is said of them.
+fn weights_between(
     alloc: Global,
     pattern: &Pattern,
     weights: &Weights,
+    low: u64,
+    high: u64,
 ) -> Result<Vec<u64>, OutOfMemory>
     requires { weights.now.matrix ≡ pattern.now }
 {
-    let mut sorted = Vec::with_capacity(alloc, pattern.entries() as usize)?;
+    let mut between = Vec::new(alloc);
     for col in 0..pattern.cols() {
         for weight in weights.weights_of(Col(col)) {
-            sorted.push(*weight)?;
+            if low <= *weight && *weight < high {
+                between.push(*weight)?;
+            }
         }
     }
-    sorted.as_mut_slice().sort_unstable();
-    Ok(sorted)
+    between.as_mut_slice().sort_unstable();
+    between.dedup();
+    Ok(between)
 }

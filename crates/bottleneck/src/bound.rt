@@ -1,0 +1,82 @@
+//! How great a least weight can be at most, and a matching of entries that reach it.
+
+ghost use Rattle.std.specs.Prelude.{◌≡◌, ◌<◌, IfOk, length};
+ghost use Rattle.bip_defs.specs.Matrix.{cols};
+ghost use Rattle.bip_graph.specs.Matching.{IsMatchingOf};
+
+use bip_graph::Matching;
+use karp_sipser::start;
+use pothen_fan::complete;
+use sp_ids::{Col, OutOfMemory};
+use sp_pattern::{Pattern, Weights};
+use std::alloc::Global;
+
+/// The least of the greatest weights of the rows and of the columns, and 0 where a row or a column
+/// has no entry. Every perfect matching has a pair in each of them, so none has a greater least
+/// weight. It is a threshold to begin with, so nothing is said of it.
+///
+/// It takes 8 bytes a row. Work: one look at each entry.
+pub fn bound(alloc: Global, pattern: &Pattern, weights: &Weights) -> Result<u64, OutOfMemory>
+    requires { weights.now.matrix ≡ pattern.now }
+{
+    let mut of_rows = vec![in alloc; 0u64; pattern.rows() as usize]?;
+    let mut least = u64::MAX;
+    for col in 0..pattern.cols() {
+        let greatest = raise_rows(pattern, weights, of_rows.as_mut_slice(), Col(col));
+        if greatest < least {
+            least = greatest;
+        }
+    }
+    for greatest in of_rows.as_slice() {
+        if *greatest < least {
+            least = *greatest;
+        }
+    }
+    Ok(least)
+}
+
+// Raises the weights of the rows to those of a column's entries. Gives the greatest of these.
+fn raise_rows(pattern: &Pattern, weights: &Weights, of_rows: &mut [u64], col: Col) -> u64
+    requires of { weights.now.matrix ≡ pattern.now }
+    requires rows { length of_rows.old ≡ pattern.now.rows }
+    requires col { col < cols pattern.now }
+    ensures { length of_rows.new ≡ length of_rows.old }
+{
+    let rows = pattern.rows_of(col);
+    let weights = weights.weights_of(col);
+    let mut greatest = 0;
+    for k in 0..rows.len() {
+        let weight = weights[k];
+        let row = rows[k];
+        let at = row.0 as usize;
+        if weight > greatest {
+            greatest = weight;
+        }
+        if weight > of_rows[at] {
+            of_rows[at] = weight;
+        }
+    }
+    greatest
+}
+
+/// A matching of entries that weigh at least this much, as many as there can be.
+///
+/// Answers `OutOfMemory` where the pattern of these entries can't be had, or what a maximum
+/// matching of it takes. Work: that of both.
+pub fn bounded_matching(
+    alloc: Global,
+    pattern: &Pattern,
+    weights: &Weights,
+    bound: u64,
+) -> Result<Matching, OutOfMemory>
+    requires { weights.now.matrix ≡ pattern.now }
+    ensures { IfOk result (IsMatchingOf pattern.now) }
+{
+    if bound == 0 {
+        return start(alloc, pattern);
+    }
+    let heavy = pattern.above(alloc, weights, bound - 1)?;
+    let started = start(alloc, &heavy)?;
+    let matching = complete(alloc, &heavy, started)?;
+    Ok(matching)
+}
