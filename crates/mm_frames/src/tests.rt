@@ -68,7 +68,8 @@ static BAD: [(&[u8], u64, ReadError); 14] = [
     (b"report 1\n", 1000, ReadError::Malformed { line: 4, kind: Kind::EditWords }),
     (b"reports\n", 1000, ReadError::Malformed { line: 4, kind: Kind::EditWord }),
     (b"report\n% c\nnone 1 1", 1000, ReadError::Malformed { line: 6, kind: Kind::EditWord }),
-    (b"report\n\nset 1 9\nset 9 1\n", 1000, ReadError::Malformed { line: 6, kind: Kind::ColumnRange }),
+    (b"report\n\nset 1 9\nset 9 1\n",
+        1000, ReadError::Malformed { line: 6, kind: Kind::ColumnRange }),
     (b"report\nset 9 9\n", 73, ReadError::TooLong),
     (b"report\nset 9 9\n", 74, ReadError::Malformed { line: 5, kind: Kind::RowRange }),
 ];
