@@ -1,69 +1,78 @@
+use crate::tests::words_of;
 use crate::{WordsError, batch_usage_line, read_batch_words};
-use std::process::Abort;
 use std::test::Fail;
 
-/// Reads words, and compares what they name.
-fn reads<R: Abort + AllocGlobal>(
-    rt: &R,
-    words: &[&str],
-    expected: Result<u32, WordsError>,
-) -> Result<(), Fail> {
-    let alloc = rt.alloc();
-    let mut owned = Vec::new(alloc);
-    for word in words {
-        owned.push(String::from_str(alloc, word)?)?;
-    }
-    assert_eq!(rt;
-        read_batch_words(alloc, owned.as_slice()),
-        expected,
-        "at {words:?}"
-    );
-    Ok(())
-}
+/// Words that are taken, a line each, and the number of workers that they name.
+#[rattlefmt::skip]
+static TAKEN: [(&str, u32); 6] = [
+    ("--", 4),
+    ("--workers 1", 1),
+    ("--workers 64", 64),
+    ("--workers=64", 64),
+    ("--workers 007", 7),
+    ("--workers +8 --", 8),
+];
+
+/// Words that are not taken, a line each.
+static OTHER_WORDS: [&str; 22] = [
+    "",
+    "--workers",
+    "--workers ",
+    "--workers=",
+    "--workers 0",
+    "--workers 65",
+    "--workers -1",
+    "--workers x",
+    "--workers 2 --workers 2",
+    "--workers 2 2",
+    "--worker 2",
+    "-workers 2",
+    "2",
+    "rank",
+    "-- rank",
+    "-- --",
+    "--engine pf",
+    "help",
+    "--help",
+    "-h",
+    "--version",
+    "-V",
+];
 
 #[test]
 fn takes_a_number_of_workers_or_nothing(rt: HostRuntime) -> Result<(), Fail> {
-    reads(&rt, &[], Ok(4))?;
-    reads(&rt, &["--"], Ok(4))?;
-    reads(&rt, &["--workers", "1"], Ok(1))?;
-    reads(&rt, &["--workers", "64"], Ok(64))?;
-    reads(&rt, &["--workers=64"], Ok(64))?;
-    reads(&rt, &["--workers", "007"], Ok(7))?;
-    reads(&rt, &["--workers", "+8", "--"], Ok(8))
+    let alloc = rt.alloc();
+    assert_eq!(rt; read_batch_words(alloc, &[]), Ok(4));
+    for (line, workers) in &TAKEN {
+        let words = words_of(alloc, line)?;
+        assert_eq!(rt;
+            read_batch_words(alloc, words.as_slice()),
+            Ok(*workers),
+            "at {line}"
+        );
+    }
+    Ok(())
 }
 
 #[test]
 fn refuses_other_words(rt: HostRuntime) -> Result<(), Fail> {
+    let alloc = rt.alloc();
     let usage = Err(WordsError::Usage);
-    reads(&rt, &[""], usage)?;
-    reads(&rt, &["--workers"], usage)?;
-    reads(&rt, &["--workers", ""], usage)?;
-    reads(&rt, &["--workers="], usage)?;
-    reads(&rt, &["--workers", "0"], usage)?;
-    reads(&rt, &["--workers", "65"], usage)?;
-    reads(&rt, &["--workers", "-1"], usage)?;
-    reads(&rt, &["--workers", "x"], usage)?;
-    reads(&rt, &["--workers", "2", "--workers", "2"], usage)?;
-    reads(&rt, &["--workers", "2", "2"], usage)?;
-    reads(&rt, &["--worker", "2"], usage)?;
-    reads(&rt, &["-workers", "2"], usage)?;
-    reads(&rt, &["2"], usage)?;
-    reads(&rt, &["rank"], usage)?;
-    reads(&rt, &["--", "rank"], usage)?;
-    reads(&rt, &["--", "--"], usage)?;
-    reads(&rt, &["--engine", "pf"], usage)?;
-    reads(&rt, &["help"], usage)?;
-    reads(&rt, &["--help"], usage)?;
-    reads(&rt, &["-h"], usage)?;
-    reads(&rt, &["--version"], usage)?;
-    reads(&rt, &["-V"], usage)
+    for line in &OTHER_WORDS {
+        let words = words_of(alloc, line)?;
+        assert_eq!(rt;
+            read_batch_words(alloc, words.as_slice()),
+            usage,
+            "at {line}"
+        );
+    }
+    Ok(())
 }
 
 #[test]
-fn tells_how_it_is_called(rt: HostRuntime) -> Result<(), Fail> {
+fn tells_how_it_is_called(rt: HostRuntime) {
     assert_eq!(rt;
         batch_usage_line(),
         "btf_batch: usage: btf_batch [--workers W]\n"
     );
-    Ok(())
 }

@@ -40,77 +40,71 @@ fn refused(
     Ok(files(alloc, bytes, piece, failing, limit)?.err())
 }
 
-fn malformed(file: u32, kind: Kind) -> Option<BatchError> {
-    Some(BatchError::Malformed { file, kind })
-}
+/// Batches and their files. The last may use the bytes of its batch alone.
+#[rattlefmt::skip]
+static GOOD: [(&[u8], u64, &[&[u8]]); 4] = [
+    (b"", 1000, &[]),
+    (b"file 3\nabcfile 0\n", 1000, &[b"abc", b""]),
+    (b" file\t+0011 \r\nfile 1\n\n\0\xff\nfile 1\nb", 1000, &[b"file 1\n\n\0\xff\n", b"b"]),
+    (b"file 4\nabcd", 11, &[b"abcd"]),
+];
 
 #[test]
 fn files_are_read(rt: HostRuntime) -> Result<(), Fail> {
-    let alloc = rt.alloc();
     for piece in [1, 7, 4096] {
-        let read = files(alloc, b"file 3\nabcfile 0\n", piece, &[], 1000)??;
-        assert_eq!(rt; read.len(), 2);
-        assert_eq!(rt; read[0].as_slice(), b"abc".as_slice());
-        assert_eq!(rt; read[1].as_slice(), b"".as_slice());
-        assert_eq!(rt; files(alloc, b"", piece, &[], 1000)??.len(), 0);
-        let read = files(
-            alloc,
-            b" file\t+0011 \r\nfile 1\n\n\0\xff\nfile 1\nb",
-            piece,
-            &[],
-            1000,
-        )??;
-        assert_eq!(rt; read.len(), 2);
-        assert_eq!(rt; read[0].as_slice(), b"file 1\n\n\0\xff\n".as_slice());
-        assert_eq!(rt; read[1].as_slice(), b"b".as_slice());
+        for (bytes, limit, wanted) in &GOOD {
+            let read = files(rt.alloc(), bytes, piece, &[], *limit)??;
+            assert_eq!(rt; read.len(), wanted.len());
+            for (file, found) in wanted.iter().zip(&read) {
+                assert_eq!(rt; found.as_slice(), *file);
+            }
+        }
     }
     Ok(())
 }
+
+/// Batches that are refused, the bytes that the input may use, and why.
+#[rattlefmt::skip]
+static BAD: [(&[u8], u64, BatchError); 24] = [
+    (b"\n", 1000, BatchError::Malformed { file: 1, kind: Kind::BatchHeader }),
+    (b" ", 1000, BatchError::Malformed { file: 1, kind: Kind::BatchHeader }),
+    (b"% c\nfile 0\n", 1000, BatchError::Malformed { file: 1, kind: Kind::BatchHeader }),
+    (b"File 0\n", 1000, BatchError::Malformed { file: 1, kind: Kind::BatchHeader }),
+    (b"files 0\n", 1000, BatchError::Malformed { file: 1, kind: Kind::BatchHeader }),
+    (b"file\n", 1000, BatchError::Malformed { file: 1, kind: Kind::BatchHeader }),
+    (b"file 0 0\n", 1000, BatchError::Malformed { file: 1, kind: Kind::BatchHeader }),
+    (b"file -0\n", 1000, BatchError::Malformed { file: 1, kind: Kind::BatchHeader }),
+    (b"file x\n", 1000, BatchError::Malformed { file: 1, kind: Kind::BatchHeader }),
+    (b"file 3\nabc\nfile 0\n", 1000, BatchError::Malformed { file: 2, kind: Kind::BatchHeader }),
+    (b"file 0\nnone", 1000, BatchError::Malformed { file: 2, kind: Kind::BatchHeader }),
+    (b"file 1", 1000, BatchError::Malformed { file: 1, kind: Kind::ShortFile }),
+    (b"file 1\n", 1000, BatchError::Malformed { file: 1, kind: Kind::ShortFile }),
+    (b"file 4\nabc", 1000, BatchError::Malformed { file: 1, kind: Kind::ShortFile }),
+    (b"file 0\nfile 2\n\n", 1000, BatchError::Malformed { file: 2, kind: Kind::ShortFile }),
+    (b"file 1073741824\n", 1000, BatchError::Malformed { file: 1, kind: Kind::ShortFile }),
+    (b"file 0\nfile 1073741825\n", 1000, BatchError::Limit { file: 2, kind: Kind::FileBytes }),
+    (b"file 0\nfile 18446744073709551616",
+        1000, BatchError::Limit { file: 2, kind: Kind::FileBytes }),
+    (b"file 4\nabcd", 0, BatchError::TooLong),
+    (b"file 4\nabcd", 3, BatchError::TooLong),
+    (b"file 4\nabcd", 7, BatchError::TooLong),
+    (b"file 4\nabcd", 10, BatchError::TooLong),
+    (b"none\nfile 0\n", 4, BatchError::TooLong),
+    (b"none\nfile 0\n", 5, BatchError::Malformed { file: 1, kind: Kind::BatchHeader }),
+];
 
 #[test]
 fn bad_frames_are_known(rt: HostRuntime) -> Result<(), Fail> {
-    let alloc = rt.alloc();
-    let table = [
-        (b"\n".as_slice(), 1, Kind::BatchHeader),
-        (b" ".as_slice(), 1, Kind::BatchHeader),
-        (b"% c\nfile 0\n".as_slice(), 1, Kind::BatchHeader),
-        (b"File 0\n".as_slice(), 1, Kind::BatchHeader),
-        (b"files 0\n".as_slice(), 1, Kind::BatchHeader),
-        (b"file\n".as_slice(), 1, Kind::BatchHeader),
-        (b"file 0 0\n".as_slice(), 1, Kind::BatchHeader),
-        (b"file -0\n".as_slice(), 1, Kind::BatchHeader),
-        (b"file x\n".as_slice(), 1, Kind::BatchHeader),
-        (b"file 3\nabc\nfile 0\n".as_slice(), 2, Kind::BatchHeader),
-        (b"file 0\nnone".as_slice(), 2, Kind::BatchHeader),
-        (b"file 1".as_slice(), 1, Kind::ShortFile),
-        (b"file 1\n".as_slice(), 1, Kind::ShortFile),
-        (b"file 4\nabc".as_slice(), 1, Kind::ShortFile),
-        (b"file 0\nfile 2\n\n".as_slice(), 2, Kind::ShortFile),
-        (b"file 1073741824\n".as_slice(), 1, Kind::ShortFile),
-    ];
     for piece in [1, 7, 4096] {
-        for (bytes, file, kind) in table {
-            assert_eq!(rt;
-                refused(alloc, bytes, piece, &[], 1000)?,
-                malformed(file, kind)
-            );
-        }
-        for bytes in [
-            b"file 0\nfile 1073741825\n".as_slice(),
-            b"file 0\nfile 18446744073709551616".as_slice(),
-        ] {
-            assert_eq!(rt;
-                refused(alloc, bytes, piece, &[], 1000)?,
-                Some(BatchError::Limit {
-                    file: 2,
-                    kind: Kind::FileBytes
-                })
-            );
+        for (bytes, limit, error) in &BAD {
+            let found = refused(rt.alloc(), bytes, piece, &[], *limit)?;
+            assert_eq!(rt; found, Some(*error));
         }
     }
     Ok(())
 }
 
+// A file too many is told before its bytes are too many.
 #[test]
 fn files_are_limited_in_number(rt: HostRuntime) -> Result<(), Fail> {
     let alloc = rt.alloc();
@@ -119,68 +113,34 @@ fn files_are_limited_in_number(rt: HostRuntime) -> Result<(), Fail> {
         bytes.extend_from_slice(b"file 0\n")?;
     }
     assert_eq!(rt; files(alloc, &bytes, 4096, &[], 500000)??.len(), 65536);
-    let mut more = bytes.to_vec(alloc)?;
-    more.extend_from_slice(b"file 1073741825\n")?;
+    bytes.extend_from_slice(b"file 1073741825\n")?;
     assert_eq!(rt;
-        refused(alloc, &more, 4096, &[], 500000)?,
+        refused(alloc, &bytes, 4096, &[], 500000)?,
         Some(BatchError::Limit {
             file: 65537,
             kind: Kind::Files
         })
     );
-    bytes.extend_from_slice(b"none\n")?;
-    assert_eq!(rt;
-        refused(alloc, &bytes, 4096, &[], 500000)?,
-        malformed(65537, Kind::BatchHeader)
-    );
     Ok(())
 }
 
-#[test]
-fn batches_are_limited_by_bytes(rt: HostRuntime) -> Result<(), Fail> {
-    let alloc = rt.alloc();
-    for piece in [1, 7, 4096] {
-        let batch = b"file 4\nabcd".as_slice();
-        assert_eq!(rt; files(alloc, batch, piece, &[], 11)??.len(), 1);
-        for limit in [0, 3, 7, 10] {
-            assert_eq!(rt;
-                refused(alloc, batch, piece, &[], limit)?,
-                Some(BatchError::TooLong)
-            );
-        }
-        assert_eq!(rt;
-            refused(alloc, b"none\nfile 0\n", piece, &[], 4)?,
-            Some(BatchError::TooLong)
-        );
-        assert_eq!(rt;
-            refused(alloc, b"none\nfile 0\n", piece, &[], 5)?,
-            malformed(1, Kind::BatchHeader)
-        );
-    }
-    Ok(())
-}
+/// Batches that come in pieces of seven bytes, the call that fails, and what is told: a bad frame where it had ended before that call.
+#[rattlefmt::skip]
+static FAILED: [(&[u8], u64, BatchError); 7] = [
+    (b"file 1\nx", 0, BatchError::ReadFault),
+    (b"file 1\nx", 1, BatchError::ReadFault),
+    (b"file 1\nx", 2, BatchError::ReadFault),
+    (b"file 4\nabc", 2, BatchError::ReadFault),
+    (b"none", 1, BatchError::ReadFault),
+    (b"file 9", 1, BatchError::ReadFault),
+    (b"none\n\n\nfile 0\n", 1, BatchError::Malformed { file: 1, kind: Kind::BatchHeader }),
+];
 
 #[test]
 fn failed_reads_are_told(rt: HostRuntime) -> Result<(), Fail> {
-    let alloc = rt.alloc();
-    let table = [
-        (b"file 1\nx".as_slice(), 8, 0),
-        (b"file 1\nx".as_slice(), 7, 1),
-        (b"file 1\nx".as_slice(), 8, 1),
-        (b"file 4\nabc".as_slice(), 10, 1),
-        (b"none".as_slice(), 4, 1),
-        (b"file 9".as_slice(), 6, 1),
-    ];
-    for (bytes, piece, call) in table {
-        assert_eq!(rt;
-            refused(alloc, bytes, piece, &[call], 1000)?,
-            Some(BatchError::ReadFault)
-        );
+    for (bytes, call, error) in &FAILED {
+        let found = refused(rt.alloc(), bytes, 7, &[*call], 1000)?;
+        assert_eq!(rt; found, Some(*error));
     }
-    // A bad header had ended before the read that failed.
-    assert_eq!(rt;
-        refused(alloc, b"none\nfile 0\n", 5, &[1], 1000)?,
-        malformed(1, Kind::BatchHeader)
-    );
     Ok(())
 }

@@ -37,14 +37,9 @@ fn edits(
 
 #[test]
 fn edit_lines_are_read(rt: HostRuntime) -> Result<(), Fail> {
-    let alloc = rt.alloc();
+    let lines = b"set 2 3\n\n% c\n clear\t+1 001 \r\nreport\nset 1 1";
     for piece in [1, 7, 4096] {
-        let read = edits(
-            alloc,
-            b"set 2 3\n\n% c\n clear\t+1 001 \r\nreport\nset 1 1",
-            piece,
-            1000,
-        )??;
+        let read = edits(rt.alloc(), lines, piece, 1000)??;
         assert_eq!(rt;
             read.as_slice(),
             [
@@ -55,62 +50,37 @@ fn edit_lines_are_read(rt: HostRuntime) -> Result<(), Fail> {
             ]
             .as_slice()
         );
-        assert_eq!(rt; edits(alloc, b"", piece, 1000)??.len(), 0);
-        assert_eq!(rt; edits(alloc, b"% c\n", piece, 1000)??.len(), 0);
     }
     Ok(())
 }
+
+/// Edit lines that are refused, the bytes that the input may use, and why. The matrix has 59 bytes.
+#[rattlefmt::skip]
+static BAD: [(&[u8], u64, ReadError); 14] = [
+    (b"set 0 x\n", 1000, ReadError::Malformed { line: 4, kind: Kind::ColumnNumber }),
+    (b"set 0 0\n", 1000, ReadError::Malformed { line: 4, kind: Kind::RowRange }),
+    (b"clear 2 4\n", 1000, ReadError::Malformed { line: 4, kind: Kind::ColumnRange }),
+    (b"clear 1 0\n", 1000, ReadError::Malformed { line: 4, kind: Kind::ColumnRange }),
+    (b"set x 4\n", 1000, ReadError::Malformed { line: 4, kind: Kind::RowNumber }),
+    (b"set -1 4\n", 1000, ReadError::Malformed { line: 4, kind: Kind::RowNumber }),
+    (b"set 1\n", 1000, ReadError::Malformed { line: 4, kind: Kind::EditWords }),
+    (b"set 1 1 1\n", 1000, ReadError::Malformed { line: 4, kind: Kind::EditWords }),
+    (b"report 1\n", 1000, ReadError::Malformed { line: 4, kind: Kind::EditWords }),
+    (b"reports\n", 1000, ReadError::Malformed { line: 4, kind: Kind::EditWord }),
+    (b"report\n% c\nnone 1 1", 1000, ReadError::Malformed { line: 6, kind: Kind::EditWord }),
+    (b"report\n\nset 1 9\nset 9 1\n",
+        1000, ReadError::Malformed { line: 6, kind: Kind::ColumnRange }),
+    (b"report\nset 9 9\n", 73, ReadError::TooLong),
+    (b"report\nset 9 9\n", 74, ReadError::Malformed { line: 5, kind: Kind::RowRange }),
+];
 
 #[test]
 fn bad_edit_lines_are_known(rt: HostRuntime) -> Result<(), Fail> {
-    let alloc = rt.alloc();
-    let table = [
-        (b"set 3 1\n".as_slice(), 4, Kind::RowRange),
-        (b"set 0 x\n".as_slice(), 4, Kind::ColumnNumber),
-        (b"set 0 0\n".as_slice(), 4, Kind::RowRange),
-        (b"clear 2 4\n".as_slice(), 4, Kind::ColumnRange),
-        (b"clear 1 0\n".as_slice(), 4, Kind::ColumnRange),
-        (b"set x 4\n".as_slice(), 4, Kind::RowNumber),
-        (b"set -1 4\n".as_slice(), 4, Kind::RowNumber),
-        (b"set 1\n".as_slice(), 4, Kind::EditWords),
-        (b"set 1 1 1\n".as_slice(), 4, Kind::EditWords),
-        (b"report 1\n".as_slice(), 4, Kind::EditWords),
-        (b"Set 1 1\n".as_slice(), 4, Kind::EditWord),
-        (b"reports\n".as_slice(), 4, Kind::EditWord),
-        (b"report\n% c\nnone 1 1".as_slice(), 6, Kind::EditWord),
-        (
-            b"report\n\nset 1 9\nset 9 1\n".as_slice(),
-            6,
-            Kind::ColumnRange,
-        ),
-    ];
     for piece in [1, 7, 4096] {
-        for (lines, line, kind) in table {
-            assert_eq!(rt;
-                edits(alloc, lines, piece, 1000)?.err(),
-                Some(ReadError::Malformed { line, kind })
-            );
+        for (lines, limit, error) in &BAD {
+            let answer = edits(rt.alloc(), lines, piece, *limit)?;
+            assert_eq!(rt; answer.err(), Some(*error));
         }
-    }
-    Ok(())
-}
-
-#[test]
-fn edit_lines_are_limited_by_bytes(rt: HostRuntime) -> Result<(), Fail> {
-    let alloc = rt.alloc();
-    // The matrix has 59 bytes.
-    for piece in [1, 7, 4096] {
-        assert_eq!(rt;
-            edits(alloc, b"report\nset 9 9\n", piece, 73)?.err(),
-            Some(ReadError::TooLong)
-        );
-        assert_eq!(rt;
-            edits(alloc, b"report\nset 9 9\n", piece, 74)?.err(),
-            Some(ReadError::Malformed {
-                line: 5,
-                kind: Kind::RowRange
-            })
-        );
     }
     Ok(())
 }

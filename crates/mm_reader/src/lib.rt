@@ -21,6 +21,4 @@ pub use line::LineSoFar;
 pub use mm_defs::{End, Kind, ReadError};
 
 #[cfg(test)]
-mod array_tests;
-#[cfg(test)]
 mod tests;

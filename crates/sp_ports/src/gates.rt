@@ -87,17 +87,6 @@ mod tests {
     use super::*;
     use std::thread::{Threads, join};
 
-    fn pass<G: Gate>(gate: &G) -> u32 {
-        gate.arrive(0);
-        gate.arrive(1);
-        2
-    }
-
-    #[test]
-    fn no_gate_returns(rt: HostRuntime) {
-        assert_eq!(rt; pass(&NoGate), 2);
-    }
-
     fn arrive_often<G: Gate>(gate: &G, worker: u32, times: u32) -> u32 {
         for _ in 0..times {
             gate.arrive(worker);

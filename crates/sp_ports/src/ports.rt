@@ -78,7 +78,7 @@ pub fn taken_in_turn()
 #[cfg(test)]
 mod tests {
     use super::*;
-    use crate::{MemSink, SteadySink};
+    use crate::MemSink;
     use std::test::Fail;
 
     #[test]
@@ -90,24 +90,6 @@ mod tests {
         // No room is needed for nothing.
         assert_eq!(rt; write_all(&mut sink, b""), Ok(()));
         assert_eq!(rt; sink.failed_calls(), 0);
-        Ok(())
-    }
-
-    #[test]
-    fn a_prefix_is_written_up_to_the_failing_call(rt: HostRuntime) -> Result<(), Fail> {
-        let alloc = rt.alloc();
-        let mut sink = MemSink::new(alloc, 9, 2, [3].to_vec(alloc)?)?;
-        assert_eq!(rt; write_all(&mut sink, b"abcdefgh"), Err(Failed));
-        assert_eq!(rt; sink.bytes(), b"abcdef".as_slice());
-        assert_eq!(rt; sink.failed_calls(), 1);
-        Ok(())
-    }
-
-    #[test]
-    fn a_steady_sink_takes_all(rt: HostRuntime) -> Result<(), Fail> {
-        let mut sink = SteadySink::new(rt.alloc(), 4, 3)?;
-        assert_eq!(rt; write_all(&mut sink, b"abcdefg"), Ok(()));
-        assert_eq!(rt; sink.bytes(), b"abcd".as_slice());
         Ok(())
     }
 }

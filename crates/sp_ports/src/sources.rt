@@ -191,18 +191,6 @@ mod tests {
     }
 
     #[test]
-    fn one_piece_and_then_a_failing_call(rt: HostRuntime) -> Result<(), Fail> {
-        let alloc = rt.alloc();
-        let mut source = MemSource::new(b"%%NotIt\n".to_vec(alloc)?, 8, [1, 1].to_vec(alloc)?);
-        let mut buf = [0; 16];
-        assert_eq!(rt; source.read(&mut buf), Ok(8));
-        assert_eq!(rt; source.read(&mut buf), Err(Failed));
-        assert_eq!(rt; source.read(&mut buf), Ok(0));
-        assert_eq!(rt; source.failed_calls(), 1);
-        Ok(())
-    }
-
-    #[test]
     fn steady_pieces(rt: HostRuntime) -> Result<(), Fail> {
         let mut source = SteadySource::new(b"abcde".to_vec(rt.alloc())?, 4);
         let mut buf = [b'.'; 3];
