@@ -31,97 +31,70 @@ fn have_lists<R: Abort>(rt: &R, name: &str, found: &Blocks, wanted: &[(&[u32], &
     }
 }
 
-#[test]
-fn two_rows_of_two_columns_each(rt: HostRuntime) -> Result<(), Fail> {
-    let name = "two rows";
-    let found = components_of(&rt, 2, 4, &[(1, 1), (1, 3), (2, 2), (2, 4)])?;
-    have_lists(
-        &rt,
-        name,
-        &found.horizontal,
-        &[(&[1], &[1, 3]), (&[2], &[2, 4])],
-    );
-    have_lists(&rt, name, &found.vertical, &[]);
-    Ok(())
+/// Rows and columns of components, which count from 1.
+type Listed = &'static [(&'static [u32], &'static [u32])];
+
+/// A matrix, and the components of its horizontal and of its vertical part.
+#[derive(Clone, Copy)]
+struct Example {
+    name: &'static str,
+    rows: u32,
+    cols: u32,
+    places: &'static [(u32, u32)],
+    horizontal: Listed,
+    vertical: Listed,
 }
 
-#[test]
-fn a_row_without_entries(rt: HostRuntime) -> Result<(), Fail> {
-    let name = "a wide row";
-    let found = components_of(&rt, 2, 2, &[(1, 1), (1, 2)])?;
-    have_lists(&rt, name, &found.horizontal, &[(&[1], &[1, 2])]);
-    have_lists(&rt, name, &found.vertical, &[(&[2], &[])]);
-    Ok(())
-}
-
-/// The second component is found from its columns in the order 2, 5, 3, and column 4 has no entries.
 #[rattlefmt::skip]
-static CHAIN: [(u32, u32); 6] = [(1, 2), (1, 5), (2, 3), (2, 5), (3, 1), (3, 6)];
+static EXAMPLES: [Example; 6] = [
+    Example {
+        name: "two rows of two columns each",
+        rows: 2, cols: 4, places: &[(1, 1), (1, 3), (2, 2), (2, 4)],
+        horizontal: &[(&[1], &[1, 3]), (&[2], &[2, 4])],
+        vertical: &[],
+    },
+    Example {
+        name: "a row without entries",
+        rows: 2, cols: 2, places: &[(1, 1), (1, 2)],
+        horizontal: &[(&[1], &[1, 2])],
+        vertical: &[(&[2], &[])],
+    },
+    // The second component is found from its columns in the order 2, 5, 3, and column 4 has no entries.
+    Example {
+        name: "components by their least columns",
+        rows: 3, cols: 6, places: &[(1, 2), (1, 5), (2, 3), (2, 5), (3, 1), (3, 6)],
+        horizontal: &[(&[3], &[1, 6]), (&[1, 2], &[2, 3, 5]), (&[], &[4])],
+        vertical: &[],
+    },
+    // Two wide rows that meet in a square column, which does not join them.
+    Example {
+        name: "a square column between",
+        rows: 3, cols: 5, places: &[(1, 1), (1, 2), (1, 5), (2, 3), (2, 4), (2, 5), (3, 5)],
+        horizontal: &[(&[1], &[1, 2]), (&[2], &[3, 4])],
+        vertical: &[],
+    },
+    // The same with columns for rows.
+    Example {
+        name: "a square row between",
+        rows: 5, cols: 3, places: &[(1, 1), (2, 1), (5, 1), (3, 2), (4, 2), (5, 2), (5, 3)],
+        horizontal: &[],
+        vertical: &[(&[1, 2], &[1]), (&[3, 4], &[2])],
+    },
+    // Components by their least rows, where their least columns are in another order.
+    Example {
+        name: "components by their least rows",
+        rows: 6, cols: 3, places: &[(2, 1), (5, 1), (3, 2), (5, 2), (1, 3), (6, 3)],
+        horizontal: &[],
+        vertical: &[(&[1, 6], &[3]), (&[2, 3, 5], &[1, 2]), (&[4], &[])],
+    },
+];
 
 #[test]
-fn components_by_their_least_columns(rt: HostRuntime) -> Result<(), Fail> {
-    let name = "a chain";
-    let found = components_of(&rt, 3, 6, &CHAIN)?;
-    have_lists(
-        &rt,
-        name,
-        &found.horizontal,
-        &[(&[3], &[1, 6]), (&[1, 2], &[2, 3, 5]), (&[], &[4])],
-    );
-    have_lists(&rt, name, &found.vertical, &[]);
-    Ok(())
-}
-
-/// Two wide rows that meet in a square column, which does not join them.
-#[rattlefmt::skip]
-static SQUARE_BETWEEN: [(u32, u32); 7] = [(1, 1), (1, 2), (1, 5), (2, 3), (2, 4), (2, 5), (3, 5)];
-
-#[test]
-fn entries_outside_the_part_join_nothing(rt: HostRuntime) -> Result<(), Fail> {
-    let name = "a square column between";
-    let found = components_of(&rt, 3, 5, &SQUARE_BETWEEN)?;
-    have_lists(
-        &rt,
-        name,
-        &found.horizontal,
-        &[(&[1], &[1, 2]), (&[2], &[3, 4])],
-    );
-    have_lists(&rt, name, &found.vertical, &[]);
-    Ok(())
-}
-
-/// The same with columns for rows.
-#[rattlefmt::skip]
-static TRANSPOSED: [(u32, u32); 7] = [(1, 1), (2, 1), (5, 1), (3, 2), (4, 2), (5, 2), (5, 3)];
-
-#[test]
-fn vertical_components(rt: HostRuntime) -> Result<(), Fail> {
-    let name = "a square row between";
-    let found = components_of(&rt, 5, 3, &TRANSPOSED)?;
-    have_lists(&rt, name, &found.horizontal, &[]);
-    have_lists(
-        &rt,
-        name,
-        &found.vertical,
-        &[(&[1, 2], &[1]), (&[3, 4], &[2])],
-    );
-    Ok(())
-}
-
-/// The chain with columns for rows: components by their least rows, where their least columns are in another order.
-#[rattlefmt::skip]
-static TRANSPOSED_CHAIN: [(u32, u32); 6] = [(2, 1), (5, 1), (3, 2), (5, 2), (1, 3), (6, 3)];
-
-#[test]
-fn components_by_their_least_rows(rt: HostRuntime) -> Result<(), Fail> {
-    let name = "a transposed chain";
-    let found = components_of(&rt, 6, 3, &TRANSPOSED_CHAIN)?;
-    have_lists(&rt, name, &found.horizontal, &[]);
-    have_lists(
-        &rt,
-        name,
-        &found.vertical,
-        &[(&[1, 6], &[3]), (&[2, 3, 5], &[1, 2]), (&[4], &[])],
-    );
+fn components_of_small_matrices(rt: HostRuntime) -> Result<(), Fail> {
+    for example in &EXAMPLES {
+        let found = components_of(&rt, example.rows, example.cols, example.places)?;
+        have_lists(&rt, example.name, &found.horizontal, example.horizontal);
+        have_lists(&rt, example.name, &found.vertical, example.vertical);
+    }
     Ok(())
 }

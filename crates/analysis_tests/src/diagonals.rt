@@ -1,12 +1,12 @@
-//! Heaviest diagonals of small matrices, worked out by hand. Tables count rows and columns from 1.
+//! Heaviest diagonals of full tables, by all ways. Those of matrices that were worked out by hand are in `run_tests`.
 
 ghost use Rattle.std.specs.Prelude.{◌≡◌};
 ghost use Rattle.sp_ids.specs.declared.triples.Field.TheVariants.{Integer};
 
-use crate::small::{are, integers_of};
+use crate::small::integers_of;
 use bip_graph::Heaviest;
 use integer_diagonal::heaviest;
-use sp_ids::{Col, OutOfMemory, Row, Triples};
+use sp_ids::{OutOfMemory, Triples};
 use sp_pattern::{Pattern, Weights};
 use std::alloc::Global;
 use std::process::Abort;
@@ -32,27 +32,6 @@ fn are_fair<R: Abort>(rt: &R, entries: &[(u32, u32, i64)], u: &[i128], v: &[i128
         assert!(rt; 0 < row && row <= u.len() && 0 < col && col <= v.len());
         assert!(rt; value.unsigned_abs() as i128 <= u[row - 1].saturating_add(v[col - 1]));
     }
-}
-
-// A square matrix of these entries has the diagonal of these pairs, with this sum and fair prices.
-fn has_diagonal<R: Abort + AllocGlobal + Threads + Sync>(
-    rt: &R,
-    size: u32,
-    entries: &[(u32, u32, i64)],
-    diagonal: &[(Row, Col)],
-    greatest: i128,
-) -> Result<(), OutOfMemory> {
-    let given = integers_of(rt, size, size, entries)?;
-    let found = answer(rt, &given)?;
-    match &found {
-        Heaviest::Diagonal { pairs, u, v, sum } => {
-            assert_eq!(rt; pairs.as_slice(), diagonal);
-            assert_eq!(rt; *sum, greatest);
-            are_fair(rt, entries, u.as_slice(), v.as_slice());
-        }
-        _ => assert!(rt; false, "it has a diagonal"),
-    }
-    Ok(())
 }
 
 // The greatest sum over all ways to give each column from this one on a row of its own that is not taken.
@@ -115,65 +94,22 @@ fn is_greatest<R: Abort + AllocGlobal + Threads + Sync>(
     Ok(())
 }
 
-// 3 + 1 is below 5 + 4, and so is 7 + 1. The second matrix has one way to choose, since its -8 stands beside no other.
-#[test]
-fn chooses_the_heavier(rt: HostRuntime) -> Result<(), OutOfMemory> {
-    let across = [(Row(1), Col(0)), (Row(0), Col(1))];
-    let along = [(Row(0), Col(0)), (Row(1), Col(1))];
-    for first in [3, -7] {
-        let entries = [(1, 1, first), (1, 2, 5), (2, 1, 4), (2, 2, 1)];
-        has_diagonal(&rt, 2, &entries, &across, 9)?;
-    }
-    has_diagonal(&rt, 2, &[(1, 1, 0), (2, 2, 3), (1, 2, -8)], &along, 3)?;
-    let most = i64::MAX;
-    has_diagonal(
-        &rt,
-        2,
-        &[(1, 1, most), (2, 2, most)],
-        &along,
-        18446744073709551614,
-    )
-}
+/// Tables, each with the number of its rows and columns that are looked at. Of the first 5 and 4 together are more than 3 and 1.
+#[rattlefmt::skip]
+static TABLES: [(u32, [[i64; 4]; 4]); 7] = [
+    (2, [[3, 5, 0, 0], [4, 1, 0, 0], [0; 4], [0; 4]]),
+    (0, [[0; 4]; 4]),
+    (3, [[6; 4]; 4]),
+    (3, [[7, 5, -9, 2], [6, 4, 8, 9], [1, -3, 3, 9], [8, 2, 7, 1]]),
+    (4, [[7, 5, -9, 2], [6, 4, 8, 9], [1, -3, 3, 9], [8, 2, 7, 1]]),
+    (3, [[4, 4, 1, 0], [4, 3, 0, 1], [2, 1, 5, 5], [-6, 6, 5, 4]]),
+    (4, [[4, 4, 1, 0], [4, 3, 0, 1], [2, 1, 5, 5], [-6, 6, 5, 4]]),
+];
 
 #[test]
 fn greatest_of_all_ways(rt: HostRuntime) -> Result<(), OutOfMemory> {
-    is_greatest(&rt, 3, &[[6; 4]; 4])?;
-    let table = [[7, 5, -9, 2], [6, 4, 8, 9], [1, -3, 3, 9], [8, 2, 7, 1]];
-    is_greatest(&rt, 3, &table)?;
-    is_greatest(&rt, 4, &table)?;
-    let table = [[4, 4, 1, 0], [4, 3, 0, 1], [2, 1, 5, 5], [-6, 6, 5, 4]];
-    is_greatest(&rt, 3, &table)?;
-    is_greatest(&rt, 4, &table)
-}
-
-// 5 and -5 at one place weigh 0.
-#[test]
-fn adds_values_before_it_weighs(rt: HostRuntime) -> Result<(), OutOfMemory> {
-    let given = integers_of(&rt, 1, 1, &[(1, 1, 5), (1, 1, -5)])?;
-    let found = answer(&rt, &given)?;
-    match &found {
-        Heaviest::Diagonal { pairs, u, v, sum } => {
-            assert_eq!(rt; pairs.as_slice(), [(Row(0), Col(0))].as_slice());
-            assert_eq!(rt; *sum, 0);
-            are_fair(&rt, &[(1, 1, 0)], u.as_slice(), v.as_slice());
-        }
-        _ => assert!(rt; false, "it has a diagonal"),
+    for (size, table) in &TABLES {
+        is_greatest(&rt, *size, table)?;
     }
-    has_diagonal(&rt, 0, &[], &[], 0)
-}
-
-// Both entries are in one row, and two rows have one column.
-#[test]
-fn without_a_diagonal(rt: HostRuntime) -> Result<(), OutOfMemory> {
-    let given = integers_of(&rt, 2, 2, &[(1, 1, 3), (1, 2, 4)])?;
-    match answer(&rt, &given)? {
-        Heaviest::Singular { rank, hall } => {
-            assert_eq!(rt; rank, 1);
-            are(&rt, "one row", hall.as_slice(), &[1, 2]);
-        }
-        _ => assert!(rt; false, "its rank is 1"),
-    }
-    let given = integers_of(&rt, 2, 1, &[(1, 1, 3), (2, 1, 4)])?;
-    assert!(rt; matches!(answer(&rt, &given)?, Heaviest::Rectangular));
     Ok(())
 }

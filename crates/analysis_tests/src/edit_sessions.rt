@@ -1,9 +1,9 @@
-//! Sessions of edits, one worked by hand and others beside the matrix made anew after each edit.
+//! Sessions of edits beside the matrix made anew after each edit. Whole sessions with their texts are in `run_tests`.
 
 ghost use Rattle.std.specs.Prelude.{◌≡◌, ◌<◌, ◌≤◌};
 ghost use Rattle.bip_defs.specs.Matrix.{cols, entry_count};
 
-use crate::small::{are, pattern_of};
+use crate::small::pattern_of;
 use bip_graph::{Blocks, Parts};
 use dm_coarse::{coarse, components};
 use dm_fine::fine;
@@ -227,47 +227,4 @@ fn each_edit_leaves_the_matrix_made_anew(rt: HostRuntime) -> Result<(), Fail> {
         replay::<HostRuntime, Brand>(&rt, &edits, Blank::new(1))?;
     }
     Ok(())
-}
-
-/// The rank of a diagonal of one entry, with the next one set and the first one cleared, and the report then.
-fn diagonal<R: Abort + AllocGlobal + Threads + Sync, L: Ledger>(
-    rt: &R,
-    blank: Blank,
-) -> Result<(), Fail>
-    requires name { blank.name ≡ L.name }
-    requires parts { blank.parts ≡ L.parts }
-    requires some { 0 < blank.parts }
-{
-    let mut session = session_of(rt, 2, 2, &[(1, 1)])?;
-    let mut steps = Steps::<L>::new(blank);
-    assert_eq!(rt; session.rank(), 1);
-    assert_eq!(rt;
-        make_edit(rt, &mut session, Edit::Set(2, 2), &mut steps)?,
-        2
-    );
-    assert_eq!(rt;
-        make_edit(rt, &mut session, Edit::Clear(1, 1), &mut steps)?,
-        1
-    );
-    let (found, joined) = session.report(rt)?;
-    assert_eq!(rt; (found.m, found.n, found.e, found.rank), (2, 2, 1, 1));
-    are(rt, "horizontal rows", found.parts.hr.as_slice(), &[]);
-    are(rt, "horizontal columns", found.parts.hc.as_slice(), &[1]);
-    are(rt, "vertical rows", found.parts.vr.as_slice(), &[1]);
-    are(rt, "vertical columns", found.parts.vc.as_slice(), &[]);
-    has_one_block(rt, "square", &found.blocks, &[2], &[2]);
-    has_one_block(rt, "horizontal", &joined.horizontal, &[], &[1]);
-    has_one_block(rt, "vertical", &joined.vertical, &[1], &[]);
-    Ok(())
-}
-
-fn has_one_block<R: Abort>(rt: &R, name: &str, blocks: &Blocks, rows: &[u32], cols: &[u32]) {
-    assert_eq!(rt; blocks.len(), 1, "{name}");
-    are(rt, name, blocks.rows(0), rows);
-    are(rt, name, blocks.cols(0), cols);
-}
-
-#[test]
-fn a_diagonal_moves_on(rt: HostRuntime) -> Result<(), Fail> {
-    diagonal::<HostRuntime, Brand>(&rt, Blank::new(1))
 }

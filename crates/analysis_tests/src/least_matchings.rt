@@ -1,36 +1,25 @@
-//! The least maximum matching, from the matchings of all engines, and beside all matchings of small matrices.
+//! The least maximum matching beside all matchings of small matrices. Whole runs by each engine are in `run_tests`.
 
 ghost use Rattle.std.specs.Prelude.{IfOk};
 ghost use Rattle.bip_graph.specs.Matching.{IsMaximumOf};
 
-use crate::small::{has_pairs, pattern_of};
+use crate::small::pattern_of;
 use bip_graph::Matching;
 use hall_witness::plain;
 use least_match::least;
 use sp_ids::{Col, OutOfMemory};
 use sp_pattern::Pattern;
-use sp_ports::NoGate;
 use std::alloc::Global;
 use std::process::Abort;
 use std::test::Fail;
 use std::thread::Threads;
 
-/// What makes the maximum matching from which the least one is made. The number is one of workers.
+/// What makes the maximum matching from which the least one is made.
 #[derive(Clone, Copy, Debug)]
 enum Engine {
     Plain,
-    Mc21,
     PothenFan,
-    TreeGraft(u32),
 }
-
-const ENGINES: [Engine; 5] = [
-    Engine::Plain,
-    Engine::Mc21,
-    Engine::PothenFan,
-    Engine::TreeGraft(1),
-    Engine::TreeGraft(2),
-];
 
 fn maximum<R: Abort + AllocGlobal + Threads + Sync>(
     rt: &R,
@@ -45,80 +34,8 @@ fn maximum<R: Abort + AllocGlobal + Threads + Sync>(
             let (matching, _witness) = plain(rt.alloc(), pattern)?;
             Ok(matching)
         }
-        Engine::Mc21 => mc21_match::complete(rt.alloc(), pattern, empty),
         Engine::PothenFan => pothen_fan::complete(rt.alloc(), pattern, empty),
-        Engine::TreeGraft(workers) => {
-            assert!(rt; 1 <= workers && workers <= 64);
-            tree_graft::complete(rt, rt.alloc(), pattern, empty, workers, &NoGate)
-        }
     }
-}
-
-/// A matrix, its least maximum matching, and the number of pairs. Rows and columns count from 1.
-#[derive(Clone, Copy)]
-struct Example<'a> {
-    name: &'a str,
-    rows: u32,
-    cols: u32,
-    places: &'a [(u32, u32)],
-    pairs: &'a [(u32, u32)],
-}
-
-const EXAMPLES: [Example<'static>; 5] = [
-    Example {
-        name: "all three parts",
-        rows: 4,
-        cols: 4,
-        places: &[(1, 1), (1, 2), (1, 3), (2, 3), (2, 4), (3, 4), (4, 4)],
-        pairs: &[(1, 1), (2, 3), (3, 4)],
-    },
-    Example {
-        name: "the first column gives way",
-        rows: 2,
-        cols: 2,
-        places: &[(1, 1), (2, 1), (1, 2)],
-        pairs: &[(2, 1), (1, 2)],
-    },
-    Example {
-        name: "one row of two columns",
-        rows: 1,
-        cols: 2,
-        places: &[(1, 1), (1, 2)],
-        pairs: &[(1, 1)],
-    },
-    Example {
-        name: "one column of two rows",
-        rows: 2,
-        cols: 1,
-        places: &[(1, 1), (2, 1)],
-        pairs: &[(1, 1)],
-    },
-    Example {
-        name: "a cycle that is turned",
-        rows: 3,
-        cols: 3,
-        places: &[(1, 2), (2, 3), (3, 1), (1, 1), (2, 2), (3, 3)],
-        pairs: &[(1, 1), (2, 2), (3, 3)],
-    },
-];
-
-#[test]
-fn is_the_same_from_all_engines(rt: HostRuntime) -> Result<(), Fail> {
-    for example in EXAMPLES {
-        let pattern = pattern_of(&rt, example.rows, example.cols, example.places)?;
-        for engine in ENGINES {
-            let start = maximum(&rt, engine, &pattern)?;
-            let found = least(rt.alloc(), &pattern, start)?;
-            has_pairs(&rt, example.name, &found, example.pairs);
-            assert_eq!(rt;
-                found.size() as usize,
-                example.pairs.len(),
-                "{}",
-                example.name
-            );
-        }
-    }
-    Ok(())
 }
 
 /// The places of a matrix whose entries are the bits of a number, column by column.

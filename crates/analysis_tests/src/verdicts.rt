@@ -8,15 +8,6 @@ use std::process::Abort;
 use std::test::Fail;
 use std::thread::Threads;
 
-#[test]
-fn the_report_of_nothing(rt: HostRuntime) -> Result<(), Fail> {
-    let pattern = pattern_of(&rt, 0, 0, &[])?;
-    let text =
-        b"btf 1\nmatrix 0 0 0\nrank 0\nhorizontal 0 0\nsquare 0 0\nvertical 0 0\nrow_order\ncolumn_order\npairs 0\nend\n";
-    assert_eq!(rt; judge(&rt, rt.alloc(), &pattern, text)?, Verdict::Valid);
-    Ok(())
-}
-
 /// Lines of blocks in the report of the identity, with its verdict.
 #[rattlefmt::skip]
 static BLOCKS: [(&[u8], Verdict); 6] = [
@@ -60,28 +51,57 @@ fn on_identity<R: AllocGlobal + Abort + Threads + Sync>(
     judge(rt, rt.alloc(), &pattern, text.as_slice())
 }
 
-/// The components of two rows of two columns each, with the verdict on the report.
+/// The first line of a report of two rows of two columns each, its horizontal and its vertical components, and the verdict.
 #[rattlefmt::skip]
-static COMPONENTS: [(&[u8], Verdict); 5] = [
+static COMPONENTS: [(&[u8], &[u8], &[u8], Verdict); 9] = [
     // Its own.
     (
+        b"btf 2\n",
         b"horizontal_components 2\ncomponent 1 1 2\nrows 1\ncolumns 1 3\ncomponent 2 1 2\nrows 2\ncolumns 2 4\n",
+        b"vertical_components 0\n",
         Verdict::Valid,
     ),
     // The two are exchanged.
     (
+        b"btf 2\n",
         b"horizontal_components 2\ncomponent 1 1 2\nrows 2\ncolumns 2 4\ncomponent 2 1 2\nrows 1\ncolumns 1 3\n",
+        b"vertical_components 0\n",
         Verdict::Invalid(6),
     ),
     // They are made into one, one is left out, or one has a row that the matrix has not.
     (
+        b"btf 2\n",
         b"horizontal_components 1\ncomponent 1 2 4\nrows 1 2\ncolumns 1 2 3 4\n",
+        b"vertical_components 0\n",
         Verdict::Invalid(6),
     ),
-    (b"horizontal_components 1\ncomponent 1 1 2\nrows 1\ncolumns 1 3\n", Verdict::Invalid(6)),
     (
-        b"horizontal_components 2\ncomponent 1 1 2\nrows 9\ncolumns 1 3\ncomponent 2 1 2\nrows 2\ncolumns 2 4\n",
+        b"btf 2\n",
+        b"horizontal_components 1\ncomponent 1 1 2\nrows 1\ncolumns 1 3\n",
+        b"vertical_components 0\n",
         Verdict::Invalid(6),
+    ),
+    (
+        b"btf 2\n",
+        b"horizontal_components 2\ncomponent 1 1 2\nrows 9\ncolumns 1 3\ncomponent 2 1 2\nrows 2\ncolumns 2 4\n",
+        b"vertical_components 0\n",
+        Verdict::Invalid(6),
+    ),
+    // There is no vertical one.
+    (
+        b"btf 2\n",
+        b"horizontal_components 2\ncomponent 1 1 2\nrows 1\ncolumns 1 3\ncomponent 2 1 2\nrows 2\ncolumns 2 4\n",
+        b"vertical_components 1\ncomponent 1 1 0\nrows 1\ncolumns\n",
+        Verdict::Invalid(6),
+    ),
+    // Components stand in the second version alone.
+    (b"btf 1\n", b"", b"", Verdict::Valid),
+    (b"btf 2\n", b"", b"", Verdict::Invalid(1)),
+    (
+        b"btf 1\n",
+        b"horizontal_components 2\ncomponent 1 1 2\nrows 1\ncolumns 1 3\ncomponent 2 1 2\nrows 2\ncolumns 2 4\n",
+        b"vertical_components 0\n",
+        Verdict::Invalid(1),
     ),
 ];
 
@@ -105,27 +125,9 @@ fn on_two_rows<R: AllocGlobal + Abort + Threads + Sync>(
 
 #[test]
 fn components_of_two_rows(rt: HostRuntime) -> Result<(), Fail> {
-    let none = b"vertical_components 0\n";
-    for (components, wanted) in &COMPONENTS {
-        assert_eq!(rt; on_two_rows(&rt, b"btf 2\n", components, none)?, *wanted);
+    for (version, horizontal, vertical, wanted) in &COMPONENTS {
+        assert_eq!(rt; on_two_rows(&rt, version, horizontal, vertical)?, *wanted);
     }
-    let (components, _valid) = &COMPONENTS[0];
-    let one = b"vertical_components 1\ncomponent 1 1 0\nrows 1\ncolumns\n";
-    let verdict = on_two_rows(&rt, b"btf 2\n", components, one)?;
-    assert_eq!(rt; verdict, Verdict::Invalid(6));
-    Ok(())
-}
-
-#[test]
-fn components_stand_in_version_2(rt: HostRuntime) -> Result<(), Fail> {
-    let (components, _valid) = &COMPONENTS[0];
-    assert_eq!(rt; on_two_rows(&rt, b"btf 1\n", b"", b"")?, Verdict::Valid);
-    assert_eq!(rt;
-        on_two_rows(&rt, b"btf 2\n", b"", b"")?,
-        Verdict::Invalid(1)
-    );
-    let verdict = on_two_rows(&rt, b"btf 1\n", components, b"vertical_components 0\n")?;
-    assert_eq!(rt; verdict, Verdict::Invalid(1));
     Ok(())
 }
 

@@ -16,7 +16,6 @@ const GOOD_AND_BAD_TEXT: &str =
     "file 1 0\nbtf 2\nmatrix 1 1 1\nrank 1\nhorizontal 0 0\nhorizontal_components 0\nsquare 1 1\nblock 1 1\nrows 1\ncolumns 1\nvertical 0 0\nvertical_components 0\nend\nfile 2 3\nbtf: malformed line 1: NoBanner\nend 2\n";
 
 /// The calls of the devices that fail: of the input, the output and the standard error, each counted from 0.
-#[derive(Drop)]
 struct Failing {
     input: &'static [u64],
     out: &'static [u64],
@@ -30,7 +29,6 @@ const NONE_FAILS: Failing = Failing {
 };
 
 /// What a run is to come to.
-#[derive(Drop)]
 struct Outcome {
     status: Status,
     out: &'static str,
@@ -69,108 +67,110 @@ fn expect_at<R: Threads + Abort + AllocGlobal + Sync, G: Gate>(
     Ok(())
 }
 
-/// The same where no device fails, with no gate.
-fn expect<R: Threads + Abort + AllocGlobal + Sync>(
-    rt: &R,
-    words: &[&str],
-    batch: &str,
-    expected: &Outcome,
-) -> Result<(), Fail> {
-    expect_at(rt, words, batch.as_bytes(), &NONE_FAILS, &NoGate, expected)
+/// The outcome of the good and the bad file.
+const GOOD_AND_BAD_OUTCOME: Outcome = Outcome {
+    status: Status::Negative,
+    out: GOOD_AND_BAD_TEXT,
+    err: "",
+};
+
+/// Words and a batch, with what a run comes to.
+struct Run {
+    words: &'static [&'static str],
+    batch: &'static str,
+    expected: Outcome,
 }
 
+/// The good and the bad file by workers of any number; good files alone, of which the second batch's has no rows; a matrix with
+/// more rows than a file may have; bad frames; and words that are not taken.
+#[rattlefmt::skip]
+static RUNS: [Run; 11] = [
+    Run { words: &[], batch: GOOD_AND_BAD, expected: GOOD_AND_BAD_OUTCOME },
+    Run { words: &["--workers", "1"], batch: GOOD_AND_BAD, expected: GOOD_AND_BAD_OUTCOME },
+    Run { words: &["--workers", "2"], batch: GOOD_AND_BAD, expected: GOOD_AND_BAD_OUTCOME },
+    Run { words: &["--workers", "64"], batch: GOOD_AND_BAD, expected: GOOD_AND_BAD_OUTCOME },
+    Run {
+        words: &[],
+        batch: "",
+        expected: Outcome { status: Status::Ok, out: "end 0\n", err: "" },
+    },
+    Run {
+        words: &["--workers=3"],
+        batch: "file 55\n%%MatrixMarket matrix coordinate pattern general\n0 0 0\n",
+        expected: Outcome {
+            status: Status::Ok,
+            out: "file 1 0\nbtf 2\nmatrix 0 0 0\nrank 0\nhorizontal 0 0\nhorizontal_components 0\nsquare 0 0\nvertical 0 0\nvertical_components 0\nend\nend 1\n",
+            err: "",
+        },
+    },
+    Run {
+        words: &[],
+        batch: "file 63\n%%MatrixMarket matrix coordinate pattern general\n134217729 1 0\n",
+        expected: Outcome {
+            status: Status::Negative,
+            out: "file 1 4\nbtf: limit line 2: Rows\nend 1\n",
+            err: "",
+        },
+    },
+    Run {
+        words: &[],
+        batch: "file 60\n%%MatrixMarket matrix coordinate pattern general\n1 1 1\n1 1\n",
+        expected: Outcome {
+            status: Status::Malformed,
+            out: "",
+            err: "btf_batch: malformed file 1: ShortFile\n",
+        },
+    },
+    Run {
+        words: &[],
+        batch: "file 1\nxfiles 1\nx",
+        expected: Outcome {
+            status: Status::Malformed,
+            out: "",
+            err: "btf_batch: malformed file 2: BatchHeader\n",
+        },
+    },
+    Run {
+        words: &[],
+        batch: "file 1073741825\nx",
+        expected: Outcome {
+            status: Status::Limit,
+            out: "",
+            err: "btf_batch: limit file 1: FileBytes\n",
+        },
+    },
+    Run {
+        words: &["--workers", "65"],
+        batch: GOOD_AND_BAD,
+        expected: Outcome {
+            status: Status::Usage,
+            out: "",
+            err: "btf_batch: usage: btf_batch [--workers W]\n",
+        },
+    },
+];
+
 #[test]
-fn files_are_answered_in_order_whatever_workers_run(rt: HostRuntime) -> Result<(), Fail> {
-    let expected = Outcome {
-        status: Status::Negative,
-        out: GOOD_AND_BAD_TEXT,
-        err: "",
-    };
-    expect(&rt, &[], GOOD_AND_BAD, &expected)?;
-    for workers in ["1", "2", "64"] {
-        expect(&rt, &["--workers", workers], GOOD_AND_BAD, &expected)?;
+fn runs_on_steady_devices(rt: HostRuntime) -> Result<(), Fail> {
+    for run in &RUNS {
+        let batch = run.batch.as_bytes();
+        expect_at(&rt, run.words, batch, &NONE_FAILS, &NoGate, &run.expected)?;
     }
     Ok(())
 }
 
 #[test]
-fn good_files_alone(rt: HostRuntime) -> Result<(), Fail> {
-    let none = Outcome {
-        status: Status::Ok,
-        out: "end 0\n",
-        err: "",
-    };
-    expect(&rt, &[], "", &none)?;
-    let one = Outcome {
-        status: Status::Ok,
-        out: "file 1 0\nbtf 2\nmatrix 0 0 0\nrank 0\nhorizontal 0 0\nhorizontal_components 0\nsquare 0 0\nvertical 0 0\nvertical_components 0\nend\nend 1\n",
-        err: "",
-    };
-    let batch = "file 55\n%%MatrixMarket matrix coordinate pattern general\n0 0 0\n";
-    expect(&rt, &["--workers=3"], batch, &one)
-}
-
-// A matrix with more rows than a file may have.
-#[test]
-fn a_file_past_a_limit(rt: HostRuntime) -> Result<(), Fail> {
-    let expected = Outcome {
-        status: Status::Negative,
-        out: "file 1 4\nbtf: limit line 2: Rows\nend 1\n",
-        err: "",
-    };
-    let batch = "file 63\n%%MatrixMarket matrix coordinate pattern general\n134217729 1 0\n";
-    expect(&rt, &[], batch, &expected)
-}
-
-#[test]
-fn bad_frames(rt: HostRuntime) -> Result<(), Fail> {
-    let short = Outcome {
-        status: Status::Malformed,
-        out: "",
-        err: "btf_batch: malformed file 1: ShortFile\n",
-    };
-    let batch = "file 60\n%%MatrixMarket matrix coordinate pattern general\n1 1 1\n1 1\n";
-    expect(&rt, &[], batch, &short)?;
-    let header = Outcome {
-        status: Status::Malformed,
-        out: "",
-        err: "btf_batch: malformed file 2: BatchHeader\n",
-    };
-    expect(&rt, &[], "file 1\nxfiles 1\nx", &header)?;
-    let long = Outcome {
-        status: Status::Limit,
-        out: "",
-        err: "btf_batch: limit file 1: FileBytes\n",
-    };
-    expect(&rt, &[], "file 1073741825\nx", &long)
-}
-
-#[test]
-fn words_that_are_not_taken(rt: HostRuntime) -> Result<(), Fail> {
-    let expected = Outcome {
-        status: Status::Usage,
-        out: "",
-        err: "btf_batch: usage: btf_batch [--workers W]\n",
-    };
-    expect(&rt, &["--workers", "65"], GOOD_AND_BAD, &expected)
-}
-
-#[test]
 fn two_workers_meet(rt: HostRuntime) -> Result<(), Fail> {
     let gate = MeetGate::new(rt.alloc())?;
-    let expected = Outcome {
-        status: Status::Negative,
-        out: GOOD_AND_BAD_TEXT,
-        err: "",
-    };
     let batch = GOOD_AND_BAD.as_bytes();
+    let expected = &GOOD_AND_BAD_OUTCOME;
     expect_at(
         &rt,
         &["--workers", "2"],
         batch,
         &NONE_FAILS,
         &gate,
-        &expected,
+        expected,
     )?;
     assert_eq!(rt; gate.arrivals(0), 1);
     assert_eq!(rt; gate.arrivals(1), 1);
@@ -178,61 +178,40 @@ fn two_workers_meet(rt: HostRuntime) -> Result<(), Fail> {
     Ok(())
 }
 
-#[test]
-fn a_read_that_fails(rt: HostRuntime) -> Result<(), Fail> {
-    let failing = Failing {
-        input: &[3],
-        out: &[],
-        err: &[],
-    };
-    let expected = Outcome {
-        status: Status::ReadFault,
-        out: "",
-        err: "btf_batch: read fault\n",
-    };
-    let batch = GOOD_AND_BAD.as_bytes();
-    expect_at(&rt, &[], batch, &failing, &NoGate, &expected)
-}
-
-// The text is taken in two pieces for the first file, one for the second and one for the end; the last call is the flush.
-#[test]
-fn a_write_that_fails(rt: HostRuntime) -> Result<(), Fail> {
-    let write = Outcome {
-        status: Status::WriteFault,
-        out: "file 1 0\nbtf 2\nmatrix 1 1 1\nrank 1\nhorizontal 0 0\nhorizontal_components 0\nsquare 1 1\nblock 1 1\nrows ",
-        err: "btf_batch: write fault\n",
-    };
-    let flush = Outcome {
-        status: Status::WriteFault,
-        out: GOOD_AND_BAD_TEXT,
-        err: "btf_batch: write fault\n",
-    };
-    let batch = GOOD_AND_BAD.as_bytes();
-    let second = Failing {
-        input: &[],
-        out: &[1],
-        err: &[],
-    };
-    expect_at(&rt, &[], batch, &second, &NoGate, &write)?;
-    let last = Failing {
-        input: &[],
-        out: &[4],
-        err: &[],
-    };
-    expect_at(&rt, &[], batch, &last, &NoGate, &flush)
-}
+/// A read that fails; writes that fail, where the text is taken in two pieces for the first file, one for the second and one for
+/// the end, and the last call is the flush; and a line of a refusal that is not taken, which changes nothing.
+#[rattlefmt::skip]
+static FAULTS: [(Failing, &str, Outcome); 4] = [
+    (
+        Failing { input: &[3], out: &[], err: &[] },
+        GOOD_AND_BAD,
+        Outcome { status: Status::ReadFault, out: "", err: "btf_batch: read fault\n" },
+    ),
+    (
+        Failing { input: &[], out: &[1], err: &[] },
+        GOOD_AND_BAD,
+        Outcome {
+            status: Status::WriteFault,
+            out: "file 1 0\nbtf 2\nmatrix 1 1 1\nrank 1\nhorizontal 0 0\nhorizontal_components 0\nsquare 1 1\nblock 1 1\nrows ",
+            err: "btf_batch: write fault\n",
+        },
+    ),
+    (
+        Failing { input: &[], out: &[4], err: &[] },
+        GOOD_AND_BAD,
+        Outcome { status: Status::WriteFault, out: GOOD_AND_BAD_TEXT, err: "btf_batch: write fault\n" },
+    ),
+    (
+        Failing { input: &[], out: &[], err: &[0] },
+        "x",
+        Outcome { status: Status::Malformed, out: "", err: "" },
+    ),
+];
 
 #[test]
-fn a_line_that_is_not_taken_changes_nothing(rt: HostRuntime) -> Result<(), Fail> {
-    let failing = Failing {
-        input: &[],
-        out: &[],
-        err: &[0],
-    };
-    let expected = Outcome {
-        status: Status::Malformed,
-        out: "",
-        err: "",
-    };
-    expect_at(&rt, &[], b"x", &failing, &NoGate, &expected)
+fn runs_on_failing_devices(rt: HostRuntime) -> Result<(), Fail> {
+    for (failing, batch, expected) in &FAULTS {
+        expect_at(&rt, &[], batch.as_bytes(), failing, &NoGate, expected)?;
+    }
+    Ok(())
 }

@@ -7,7 +7,7 @@ use std::test::Fail;
 
 #[test]
 fn a_report_between_two_ranks(rt: HostRuntime) -> Result<(), Fail> {
-    // Where there is room for 10 bytes alone, those were taken.
+    // No replies have no text. Where there is room for 10 bytes alone, those were taken.
     let alloc = rt.alloc();
     let report = Box::new(alloc, (two_rows(alloc)?, two_components(alloc)?))?;
     let mut replies = Vec::new(alloc);
@@ -18,6 +18,8 @@ fn a_report_between_two_ranks(rt: HostRuntime) -> Result<(), Fail> {
         b"rank 1\nbtf 2\nmatrix 2 4 4\nrank 2\nhorizontal 2 4\nrows 1 2\ncolumns 1 2 3 4\nhorizontal_components 2\ncomponent 1 1 2\nrows 1\ncolumns 1 3\ncomponent 2 1 2\nrows 2\ncolumns 2 4\nsquare 0 0\nvertical 0 0\nvertical_components 0\nend\nrank 4294967295\n";
     let mut buf = TextBuf::new(alloc)?;
     let mut out = SteadySink::new(alloc, 1000, 7)?;
+    assert_eq!(rt; write_replies(&mut out, &mut buf, &[]), Ok(()));
+    assert_eq!(rt; out.bytes(), b"".as_slice());
     assert_eq!(rt;
         write_replies(&mut out, &mut buf, replies.as_slice()),
         Ok(())
@@ -29,15 +31,5 @@ fn a_report_between_two_ranks(rt: HostRuntime) -> Result<(), Fail> {
         Err(Failed)
     );
     assert_eq!(rt; small.bytes(), b"rank 1\nbtf".as_slice());
-    Ok(())
-}
-
-#[test]
-fn no_replies(rt: HostRuntime) -> Result<(), Fail> {
-    let alloc = rt.alloc();
-    let mut buf = TextBuf::new(alloc)?;
-    let mut out = SteadySink::new(alloc, 1000, 7)?;
-    assert_eq!(rt; write_replies(&mut out, &mut buf, &[]), Ok(()));
-    assert_eq!(rt; out.bytes(), b"".as_slice());
     Ok(())
 }

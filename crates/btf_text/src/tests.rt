@@ -1,7 +1,6 @@
-//! Texts of small matrices, worked out by hand.
+//! The text of a rank, and the buffer, worked out by hand. Whole runs show the other texts of a rank in `run_tests`.
 
-use crate::{TextBuf, write_load, write_rank};
-use bip_graph::{Blocks, Decomposition, Parts};
+use crate::{TextBuf, write_rank};
 use sp_ids::{Col, Field, Row, Triples};
 use sp_pattern::Pattern;
 use sp_ports::{Failed, MemSink, SteadySink};
@@ -9,24 +8,15 @@ use std::test::Fail;
 
 #[test]
 fn the_rank_of_a_wide_matrix(rt: HostRuntime) -> Result<(), Fail> {
-    // Columns 1 and 2 share the one entry row: rank 1, and both columns can be missed.
+    // Columns 1 and 2 share the one entry row: rank 1, and both columns can be missed. The first call takes 10 bytes and the
+    // second fails: a prefix of the text was taken. The same buffer then writes the whole of it to another sink.
     let alloc = rt.alloc();
     let mut triples = Triples::new(alloc, 2, 2, Field::Pattern)?;
     triples.push(Row(0), Col(0), 0)?;
     triples.push(Row(0), Col(1), 0)?;
     let pattern = Pattern::build(&rt, alloc, &triples)?;
-    let text = b"matrix 2 2 2\nrank 1\nhorizontal 1 2\nrows 1\ncolumns 1 2\nend\n";
     let mut buf = TextBuf::new(alloc)?;
-    let mut out = SteadySink::new(alloc, 100, 7)?;
     let (rows, cols) = ([Row(0)], [Col(0), Col(1)]);
-    assert_eq!(rt;
-        write_rank(&mut out, &mut buf, &pattern, 1, &rows, &cols),
-        Ok(())
-    );
-    assert_eq!(rt; out.bytes(), text.as_slice());
-
-    // The first call takes 10 bytes and the second fails: a prefix of the text was taken. The same buffer then writes
-    // the whole of it to another sink.
     let mut failing = MemSink::new(alloc, 100, 10, [1].to_vec(alloc)?)?;
     assert_eq!(rt;
         write_rank(&mut failing, &mut buf, &pattern, 1, &rows, &cols),
@@ -34,39 +24,13 @@ fn the_rank_of_a_wide_matrix(rt: HostRuntime) -> Result<(), Fail> {
     );
     assert_eq!(rt; failing.bytes(), b"matrix 2 2".as_slice());
     assert_eq!(rt; failing.failed_calls(), 1);
-    let mut again = MemSink::new(alloc, 60, 60, Vec::new(alloc))?;
+    let mut out = SteadySink::new(alloc, 60, 7)?;
     assert_eq!(rt;
-        write_rank(&mut again, &mut buf, &pattern, 1, &rows, &cols),
+        write_rank(&mut out, &mut buf, &pattern, 1, &rows, &cols),
         Ok(())
     );
-    assert_eq!(rt; again.bytes(), text.as_slice());
-    Ok(())
-}
-
-#[test]
-fn the_rank_of_a_tall_matrix(rt: HostRuntime) -> Result<(), Fail> {
-    // No column can be missed, so no lists are written. There is room for 12 bytes, and so the second call fails.
-    let alloc = rt.alloc();
-    let mut triples = Triples::new(alloc, 2, 1, Field::Pattern)?;
-    triples.push(Row(0), Col(0), 0)?;
-    triples.push(Row(1), Col(0), 0)?;
-    let pattern = Pattern::build(&rt, alloc, &triples)?;
-    let mut buf = TextBuf::new(alloc)?;
-    let mut out = SteadySink::new(alloc, 100, 100)?;
-    assert_eq!(rt;
-        write_rank(&mut out, &mut buf, &pattern, 1, &[], &[]),
-        Ok(())
-    );
-    assert_eq!(rt;
-        out.bytes(),
-        b"matrix 2 1 2\nrank 1\nhorizontal 0 0\nend\n".as_slice()
-    );
-    let mut small = MemSink::new(alloc, 12, 100, Vec::new(alloc))?;
-    assert_eq!(rt;
-        write_rank(&mut small, &mut buf, &pattern, 1, &[], &[]),
-        Err(Failed)
-    );
-    assert_eq!(rt; small.bytes(), b"matrix 2 1 2".as_slice());
+    let text = b"matrix 2 2 2\nrank 1\nhorizontal 1 2\nrows 1\ncolumns 1 2\nend\n";
+    assert_eq!(rt; out.bytes(), text.as_slice());
     Ok(())
 }
 
@@ -97,36 +61,6 @@ fn the_longest_number(rt: HostRuntime) -> Result<(), Fail> {
     buf.put_list(&mut out, b"rows", &[Row(4_294_967_294), Row(9)]);
     assert_eq!(rt; buf.finish(&mut out), Ok(()));
     let text = b"seed 18446744073709551615 0\nrows 4294967295 10\n";
-    assert_eq!(rt; out.bytes(), text.as_slice());
-    Ok(())
-}
-
-#[test]
-fn the_summary_of_three_parts(rt: HostRuntime) -> Result<(), Fail> {
-    // Rows 1, 2, 3 4 and columns 1 2, 3, 4 are the horizontal, the square and the vertical part.
-    let alloc = rt.alloc();
-    let mut blocks = Blocks::new(alloc);
-    blocks.push(&[Row(1)], &[Col(2)])?;
-    let parts = Parts {
-        hr: [Row(0)].to_vec(alloc)?,
-        hc: [Col(0), Col(1)].to_vec(alloc)?,
-        sr: [Row(1)].to_vec(alloc)?,
-        sc: [Col(2)].to_vec(alloc)?,
-        vr: [Row(2), Row(3)].to_vec(alloc)?,
-        vc: [Col(3)].to_vec(alloc)?,
-    };
-    let dec = Decomposition {
-        m: 4,
-        n: 4,
-        e: 7,
-        rank: 3,
-        parts,
-        blocks,
-    };
-    let mut buf = TextBuf::new(alloc)?;
-    let mut out = SteadySink::new(alloc, 100, 9)?;
-    assert_eq!(rt; write_load(&mut out, &mut buf, &dec), Ok(()));
-    let text = b"matrix 4 4 7\nrank 3\nhorizontal 1 2\nsquare 1 1\nvertical 2 1\n";
     assert_eq!(rt; out.bytes(), text.as_slice());
     Ok(())
 }

@@ -5,8 +5,8 @@ use sp_ids::Status;
 use std::test::Fail;
 
 /// Integer files from their size lines on, and what is answered. Of the first the two diagonals weigh 3 and 1 and 4 and 5; of the
-/// second 12 and 1 and 5 and 6, and the heaviest is not the one whose least weight is greatest.
-const ANSWERS: [(&str, Status, &str); 6] = [
+/// second 12 and 1 and 5 and 6, and the heaviest is not the one whose least weight is greatest. Of the last no entry is above 7.
+const ANSWERS: [(&str, Status, &str); 7] = [
     (
         "2 2 4\n1 1 3\n1 2 5\n2 1 4\n2 2 1\n",
         Status::Ok,
@@ -32,6 +32,11 @@ const ANSWERS: [(&str, Status, &str); 6] = [
         "1 1 2\n1 1 5\n1 1 -5\n",
         Status::Ok,
         "bottleneck 1 0\n1 1 0\nabove_rows\nabove_columns 1\nend\n",
+    ),
+    (
+        "2 2 2\n2 1 -7\n1 2 7\n",
+        Status::Ok,
+        "bottleneck 2 7\n2 1 7\n1 2 7\nabove_rows\nabove_columns 1 2\nend\n",
     ),
 ];
 

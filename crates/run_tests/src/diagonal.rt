@@ -82,6 +82,15 @@ const WEIGHTS: Example<'static> = Example {
     front: "diagonal 3 16\n2 1 4\n1 2 5\n3 3 7\n",
 };
 
+/// Two weights whose sum is past the greatest value.
+const TWICE_THE_GREATEST: Example<'static> = Example {
+    file: "%%MatrixMarket matrix coordinate integer general\n2 2 2\n1 1 9223372036854775807\n2 2 9223372036854775807\n",
+    size: 2,
+    entries: &[(0, 0, 9223372036854775807), (1, 1, 9223372036854775807)],
+    pairs: &[(0, 0, 9223372036854775807), (1, 1, 9223372036854775807)],
+    front: "diagonal 2 18446744073709551614\n1 1 9223372036854775807\n2 2 9223372036854775807\n",
+};
+
 /// The prices of the rows and of the columns.
 #[derive(Drop)]
 struct Prices {
@@ -129,6 +138,7 @@ fn heaviest_diagonals(rt: HostRuntime) -> Result<(), Fail> {
         FIVE_LESS_FIVE,
         FIVE_AND_FOUR_IN_COLUMNS,
         WEIGHTS,
+        TWICE_THE_GREATEST,
     ] {
         let (status, bytes) = answer(&rt, &["diagonal"], example.file.as_bytes())?;
         assert_eq!(rt; status, Status::Ok);
