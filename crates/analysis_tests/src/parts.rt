@@ -1,11 +1,15 @@
 //! The coarse parts, the strong components and the fine blocks of each matrix.
 
-use crate::small::are;
-use crate::worked::{Lists, Worked, lists_in, matrices, pattern_from};
-use bip_graph::{Blocks, Parts};
-use dm_coarse::coarse;
+ghost use Rattle.bip_graph.specs.Matching.{IsMatchingOf};
+
+use crate::small::{are, matching_of};
+use crate::worked::{Lists, Worked, lists_in, matrices, pairs_in, pattern_from};
+use bip_graph::{Blocks, Matching, Parts};
+use dm_coarse::{coarse, coarse_if_maximum};
 use dm_fine::fine;
 use hall_witness::plain;
+use karp_sipser::start;
+use sp_pattern::Pattern;
 use square_components::{Components, strong_components};
 use std::process::Abort;
 use std::test::Fail;
@@ -170,6 +174,55 @@ fn parts_components_and_blocks(rt: HostRuntime) -> Result<(), Fail> {
     assert_eq!(rt; matrices.len(), 37);
     for worked in &matrices {
         is_decomposed(&rt, worked)?;
+    }
+    Ok(())
+}
+
+/// The parts from a matching that is as long as the rank, and none from a shorter one.
+fn has_parts_if_maximum<R: Abort + AllocGlobal + Threads + Sync>(
+    rt: &R,
+    worked: &Worked<'_>,
+    pattern: &Pattern,
+    matching: &Matching,
+) -> Result<(), Fail>
+    requires { IsMatchingOf pattern.now matching.now }
+{
+    let maximum = matching.size() == worked.rank(rt.alloc())?;
+    match coarse_if_maximum(rt, rt.alloc(), pattern, matching)? {
+        Some(parts) => {
+            assert!(rt; maximum, "{}", worked.name());
+            has_parts(rt, worked, &parts)?;
+        }
+        None => assert!(rt; !maximum, "{}", worked.name()),
+    }
+    Ok(())
+}
+
+/// From no pairs, from the start and from the matchings of an example.
+fn has_parts_from_each<R: Abort + AllocGlobal + Threads + Sync>(
+    rt: &R,
+    worked: &Worked<'_>,
+) -> Result<(), Fail> {
+    let pattern = pattern_from(rt, worked, false)?;
+    let none = matching_of(rt, &pattern, &[])?;
+    has_parts_if_maximum(rt, worked, &pattern, &none)?;
+    let started = start(rt.alloc(), &pattern)?;
+    has_parts_if_maximum(rt, worked, &pattern, &started)?;
+    for line in worked.lines.split('\n') {
+        if let Some(text) = line.strip_prefix("from:") {
+            let (pairs, _sure) = text.split_once('|').ok_or("no bar")?;
+            let pairs = pairs_in(rt.alloc(), pairs)?;
+            let matching = matching_of(rt, &pattern, pairs.as_slice())?;
+            has_parts_if_maximum(rt, worked, &pattern, &matching)?;
+        }
+    }
+    Ok(())
+}
+
+#[test]
+fn parts_from_maximum_matchings_alone(rt: HostRuntime) -> Result<(), Fail> {
+    for worked in &matrices(rt.alloc())? {
+        has_parts_from_each(&rt, worked)?;
     }
     Ok(())
 }

@@ -1,10 +1,13 @@
 //! Searches for an augmenting path in a matrix after an edit, from the pairs that are left of the matching before it.
 
 ghost use Rattle.std.specs.Prelude.{◌≡◌, ◌<◌};
+ghost use Rattle.bip_graph.specs.Matching.{IsMatchingOf};
 
 use crate::small::{are, matching_of, pattern_of};
-use hall_witness::{Reach, Steps, reach_in};
+use bip_graph::Matching;
+use hall_witness::{Reach, Steps, reach_in, reached_if_maximum};
 use sp_ids::{Col, OutOfMemory, Row};
+use sp_pattern::{FromRows, Pattern};
 use std::marker::Brand;
 use std::process::Abort;
 use std::sync::ledger::{Blank, Ledger};
@@ -98,6 +101,37 @@ fn is_path<R: Abort>(rt: &R, name: &str, path: &[(Row, Col)], pairs: &[(u32, u32
     }
 }
 
+/// Compares marks with numbers that count from 1.
+fn has_marks<R: Abort>(rt: &R, name: &str, marks: &[bool], numbers: &[u32]) {
+    let mut number: u32 = 0;
+    for marked in marks {
+        number = number.wrapping_add(1);
+        assert_eq!(rt; *marked, numbers.contains(&number), "{name}");
+    }
+}
+
+/// Where there is a path, no marks from the columns or from the rows; else the missed columns are
+/// marked.
+fn marks<R: Abort + AllocGlobal>(
+    rt: &R,
+    search: &Search<'_>,
+    pattern: &Pattern,
+    matching: &Matching,
+) -> Result<(), OutOfMemory>
+    requires { IsMatchingOf pattern.now matching.now }
+{
+    let name = search.name;
+    let cols = reached_if_maximum(rt.alloc(), pattern, matching)?;
+    let rows = reached_if_maximum(rt.alloc(), &FromRows { pattern }, matching)?;
+    assert_eq!(rt; rows.is_some(), cols.is_some(), "{name}");
+    match (cols, search.wanted) {
+        (Some(cols), Wanted::Missed(numbers)) => has_marks(rt, name, cols.as_slice(), numbers),
+        (None, Wanted::Path(_)) => {}
+        _ => assert!(rt; false, "{name}"),
+    }
+    Ok(())
+}
+
 fn finds<R: Abort + AllocGlobal + Threads + Sync, L: Ledger>(
     rt: &R,
     search: &Search<'_>,
@@ -106,6 +140,7 @@ fn finds<R: Abort + AllocGlobal + Threads + Sync, L: Ledger>(
     let name = search.name;
     let pattern = pattern_of(rt, search.rows, search.cols, search.places)?;
     let matching = matching_of(rt, &pattern, search.pairs)?;
+    marks(rt, search, &pattern, &matching)?;
     match (
         reach_in(rt.alloc(), &pattern, &matching, steps)?,
         search.wanted,

@@ -1,14 +1,12 @@
 //! The pairs of a report.
 
-ghost use Rattle.std.specs.Prelude.{◌≡◌, ◌↔◌, IfNone, IfOk, IfSome, IsTrue};
+ghost use Rattle.std.specs.Prelude.{◌≡◌, IfNone, IfOk, IfSome};
 ghost use Rattle.bip_defs.specs.Lists.{IsRising};
-ghost use Rattle.bip_defs.specs.Matching.{IsMaximum, cols_of};
+ghost use Rattle.bip_defs.specs.Matching.{cols_of};
 ghost use Rattle.bip_defs.specs.Matrix.{cols};
-ghost use Rattle.bip_graph.specs.Matching.{IsMatchingOf};
 ghost use Rattle.btf_check.specs.Reasons.{ArePaired};
 
 use bip_graph::Matching;
-use hall_witness::{Reach, reach};
 use sp_ids::{Col, OutOfMemory, Row};
 use sp_pattern::Pattern;
 use std::alloc::Global;
@@ -39,21 +37,4 @@ pub(crate) fn matching_of(
     // It tells the proof that the pairs rise by column.
     let _size = matching.size();
     Ok(Some(matching))
-}
-
-/// Whether no matching is longer.
-///
-/// Answers `OutOfMemory` where a search can't be had. Work: each column and each entry is looked at once at most.
-pub(crate) fn is_maximum(
-    alloc: Global,
-    pattern: &Pattern,
-    matching: &Matching,
-) -> Result<bool, OutOfMemory>
-    requires matching { IsMatchingOf pattern.now matching.now }
-    ensures { IfOk result (λ b. IsTrue b ↔ IsMaximum pattern.now matching.now.pairs) }
-{
-    match reach(alloc, pattern, matching)? {
-        Reach::Witness(_) => Ok(true),
-        Reach::Path(_) => Ok(false),
-    }
 }

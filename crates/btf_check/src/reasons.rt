@@ -16,10 +16,10 @@ use crate::Verdict;
 use crate::compare::{
     are_joined_cols, are_joined_rows, are_once, same_blocks, same_cols, same_components, same_rows,
 };
-use crate::pairs::{is_maximum, matching_of};
+use crate::pairs::matching_of;
 use bip_graph::{Matching, Parts};
 use btf_text::Report;
-use dm_coarse::{coarse, components};
+use dm_coarse::{coarse_if_maximum, components};
 use dm_fine::fine;
 use sp_ids::{Col, OutOfMemory, Row};
 use sp_pattern::Pattern;
@@ -28,7 +28,8 @@ use std::thread::Threads;
 
 /// Whether a report is that of a matrix, and if not, the first reason that applies.
 ///
-/// The matrix is decomposed anew from the report's own pairs, which are a maximum matching by then.
+/// The matrix is decomposed anew from the report's own pairs. The two searches for its coarse parts
+/// tell whether the pairs are a maximum matching.
 pub(crate) fn judge_report<R: Threads + Sync>(
     rt: &R,
     alloc: Global,
@@ -41,10 +42,9 @@ pub(crate) fn judge_report<R: Threads + Sync>(
     let Some(matching) = matching_of(alloc, pattern, report.pairs.as_slice())? else {
         return Ok(Verdict::Invalid(2));
     };
-    if !is_maximum(alloc, pattern, &matching)? {
+    let Some(parts) = coarse_if_maximum(rt, alloc, pattern, &matching)? else {
         return Ok(Verdict::Invalid(3));
-    }
-    let parts = coarse(rt, alloc, pattern, &matching)?;
+    };
     if !tells_parts(alloc, pattern, &matching, &parts, report)? {
         return Ok(Verdict::Invalid(4));
     }

@@ -14,8 +14,9 @@ use std::thread::Threads;
 /// Whether bytes are the report of a matrix with pairs, in version 1 or 2, with orders or without, and if not, the first
 /// reason that applies (see [`Verdict`]).
 ///
-/// The report is read, and judged by the matrix: by a search for an augmenting path from its pairs, and by the
-/// decomposition of the matrix anew, with its connected components for version 2.
+/// The report is read, and judged by the matrix: by the decomposition of the matrix anew from the
+/// report's own pairs, with its connected components for version 2. No search is made twice: those
+/// for the coarse parts also tell whether the pairs are a maximum matching.
 ///
 /// Answers `OutOfMemory` where the report's lists or an analysis of the matrix can't be had. The lists grow with the bytes
 /// that are read, to 4 bytes a row or column and 8 a pair, block or component. All tables are as long as the matrix has rows

@@ -1,16 +1,18 @@
 -- Rows of a side one after another, each in its part.
-use Rattle.std.proofs.Common.{Result, Ok, Err, IfOk, Vec, Global, ◌≡◌, ◌∙◌, true≢false, ℕ, suc, ◌+◌, ◌<◌, ◌≤◌, Bool, true, false, List, [], ◌∷◌, ◌++◌, map, length, get_or, sym, ap, subst, inl, ⊎_elim, arith}
+use Rattle.std.proofs.Common.{Result, Ok, Err, IfOk, Option, Some, None, Vec, Global, ◌≡◌, ◌∙◌, true≢false, ℕ, ◌+◌, ◌<◌, ◌≤◌, Bool, true, false, List, [], ◌∷◌, ◌++◌, map, length, get_or, sym, ap, subst, inl, ⊎_elim, arith}
 use Rattle.std.proofs.Math.Decide.{dec_lt}
+use Rattle.std.specs.Prelude.{IfNone, IfSome}
 use Rattle.std.proofs.lemmas.List.{map-append, map-id}
 use Rattle.bip_defs.specs.Lists.{Among, AreDistinct, Lists}
 use Rattle.bip_defs.specs.Marks.{Marks}
-use Rattle.bip_defs.specs.Matching.{IsMaximum, cols_of, rows_of}
+use Rattle.bip_defs.specs.Matching.{IsMatching, IsMaximum, cols_of, rows_of, transposed_places}
 use Rattle.bip_defs.specs.Matrix.{Matrix, Place, cols, column, transpose}
 use Rattle.bip_defs.specs.Parts.{IsHorizontalCol, IsHorizontalRow, IsSquareCol, IsSquareRow, IsVerticalCol, IsVerticalRow}
 use Rattle.bip_defs.proofs.Sets.{among_last, among_left, among_right, entry_col, lists_same, number_among, number_same, rising_last}
 use Rattle.bip_defs.proofs.Square.{horizontal_mate, rows_apart}
-use Rattle.bip_defs.proofs.Transposed.{horizontal_turned, square_col_turned, square_row_turned, transpose_back, transpose_cols, transpose_is, turned_horizontal, turned_maximum, turned_vertical, turned_vertical_col, vertical_col_turned, vertical_turned}
-use Rattle.bip_graph.specs.Matching.{IsMaximumOf, Pairing, transposed}
+use Rattle.bip_defs.proofs.Transposed.{horizontal_turned, square_col_turned, square_row_turned, transpose_back, transpose_cols, transpose_is, turned_horizontal, turned_matching, turned_maximum, turned_twice, turned_vertical, turned_vertical_col, vertical_col_turned, vertical_turned}
+use Rattle.bip_graph.specs.Matching.{IsMatchingOf, IsMaximumOf, Pairing, transposed}
+use Rattle.dm_coarse.specs.Searches.{AreMarksIfMaximum}
 
 -- The numbers below a bound that have P, as the bound grows.
 
@@ -169,26 +171,37 @@ less_stable x y nn = by (dec_lt x y)
     by (yes lt) = lt
     by (no nlt) = absurd (nn nlt)
 
-pub maximum_stable : (a : Matrix) (m : List Place) → ¬ ¬ IsMaximum a m → IsMaximum a m
-maximum_stable a m nn = record {
-  matching = record {
-    entries = λ r c h. (less_stable r a.rows (λ f. nn (λ k. f (k.matching.entries r c h).0)), ⊎_elim (λ k. k) (λ f. absurd (nn (λ k. f (k.matching.entries r c h).1))) (number_among r (column a c)));
-    rows_differ = distinct_stable (rows_of m) (λ f. nn (λ k. f k.matching.rows_differ));
-    cols_differ = distinct_stable (cols_of m) (λ f. nn (λ k. f k.matching.cols_differ));
-  };
-  longest = λ o k. let lt = less_stable (length o) (suc (length m)) (λ f. nn (λ max. f (let le = max.longest o k in omega arith))) in omega arith;
+matching_stable : (a : Matrix) (m : List Place) → ¬ ¬ IsMatching a m → IsMatching a m
+matching_stable a m nn = record {
+  entries = λ r c h. (less_stable r a.rows (λ f. nn (λ k. f (k.entries r c h).0)), ⊎_elim (λ k. k) (λ f. absurd (nn (λ k. f (k.entries r c h).1))) (number_among r (column a c)));
+  rows_differ = distinct_stable (rows_of m) (λ f. nn (λ k. f k.rows_differ));
+  cols_differ = distinct_stable (cols_of m) (λ f. nn (λ k. f k.cols_differ));
 }
 
-pub known : (a : Matrix) (m : Pairing) → m.rows ≡ a.rows → m.cols ≡ cols a → ¬ ¬ IsMaximum a m.pairs → IsMaximumOf a m
-known a m rows sizes nn =
-    let max = maximum_stable a m.pairs nn in
-    record { matching = record { rows = rows; cols = sizes; matching = max.matching }; maximum = max }
+-- A matching that a matrix is known to have, and the same of the transpose.
 
-pub transposed_known : (a : Matrix) (m : Pairing) → m.rows ≡ a.rows → m.cols ≡ cols a → ¬ ¬ IsMaximum a m.pairs → IsMaximumOf (transpose a) (transposed m)
-transposed_known a m rows sizes nn =
-    let max = turned_maximum a (transpose a) m.pairs (transpose_is a) (maximum_stable a m.pairs nn) in
-    record { matching = record { rows = sizes; cols = rows ∙ sym (transpose_cols a); matching = max.matching }; maximum = max }
+pub known : (a : Matrix) (m : Pairing) → m.rows ≡ a.rows → m.cols ≡ cols a → ¬ ¬ IsMatching a m.pairs → IsMatchingOf a m
+known a m rows sizes nn = record { rows = rows; cols = sizes; matching = matching_stable a m.pairs nn }
 
-pub ok_map : {A E : Type 0} (r : Result A E) (P Q : A → Type 0) → ((x : A) → P x → Q x) → IfOk r P → IfOk r Q
-ok_map (Ok x) P Q f h = f x h
-ok_map (Err e) P Q f h = h
+turned : (a : Matrix) (m : Pairing) → IsMatchingOf a m → IsMatchingOf (transpose a) (transposed m)
+turned a m k = record { rows = k.cols; cols = k.rows ∙ sym (transpose_cols a); matching = turned_matching a (transpose a) m.pairs (transpose_is a) k.matching }
+
+pub transposed_known : (a : Matrix) (m : Pairing) → m.rows ≡ a.rows → m.cols ≡ cols a → ¬ ¬ IsMatching a m.pairs → IsMatchingOf (transpose a) (transposed m)
+transposed_known a m rows sizes nn = turned a m (known a m rows sizes nn)
+
+pub transposed_maximum : (a : Matrix) (m : Pairing) → IsMaximumOf a m → IsMaximumOf (transpose a) (transposed m)
+transposed_maximum a m k = record { matching = turned a m k.matching; maximum = turned_maximum a (transpose a) m.pairs (transpose_is a) k.maximum }
+
+maximum_back : (a : Matrix) (m : List Place) → IsMaximum (transpose a) (transposed_places m) → IsMaximum a m
+maximum_back a m max = subst (IsMaximum a) (turned_twice m) (turned_maximum (transpose a) a (transposed_places m) (transpose_back a (transpose a) (transpose_is a)) max)
+
+-- What a search told, put together.
+
+pub cols_told : {E : Type 0} (a : Matrix) (m : List Place) (r : Result (Option (Vec Bool Global)) E) → IfOk r (λ o. IfSome o (λ v. IsMaximum a m)) → IfOk r (λ o. IfSome o (λ v. Marks (cols a) (IsHorizontalCol a) v.items)) → IfOk r (λ o. IfNone o (¬ IsMaximum a m)) → IfOk r (AreMarksIfMaximum a m (cols a) (IsHorizontalCol a))
+cols_told a m (Ok o) max marks none = record { maximum = max; marks = marks; not_maximum = none }
+cols_told a m (Err e) max marks none = tt
+
+pub rows_told : {E : Type 0} (a : Matrix) (m : List Place) (r : Result (Option (Vec Bool Global)) E) → IfOk r (λ o. IfSome o (λ v. IsMaximum (transpose a) (transposed_places m))) → IfOk r (λ o. IfSome o (λ v. Marks (cols (transpose a)) (IsHorizontalCol (transpose a)) v.items)) → IfOk r (λ o. IfNone o (¬ IsMaximum (transpose a) (transposed_places m))) → IfOk r (AreMarksIfMaximum a m a.rows (IsVerticalRow a))
+rows_told a m (Ok (Some v)) max marks none = record { maximum = maximum_back a m max; marks = turned_marks a v.items marks; not_maximum = tt }
+rows_told a m (Ok None) max marks none = record { maximum = tt; marks = tt; not_maximum = λ k. none (turned_maximum a (transpose a) m (transpose_is a) k) }
+rows_told a m (Err e) max marks none = tt

@@ -2,16 +2,20 @@
 #![tactic(auto)]
 
 mod connected_components;
-mod maximum;
 mod numbering;
+mod searches;
 mod split;
 
-ghost use Rattle.std.specs.Prelude.{IfOk};
-ghost use Rattle.bip_defs.specs.Parts.{ArePartsOf};
-ghost use Rattle.bip_graph.specs.Matching.{IsMaximumOf};
+ghost use Rattle.std.specs.Prelude.{IfNone, IfOk, IfSome};
+ghost use Rattle.bip_defs.specs.Marks.{Marks};
+ghost use Rattle.bip_defs.specs.Matching.{IsMaximum};
+ghost use Rattle.bip_defs.specs.Matrix.{cols};
+ghost use Rattle.bip_defs.specs.Parts.{ArePartsOf, IsHorizontalCol, IsVerticalRow};
 ghost use Rattle.bip_graph.specs.Decompositions.{parts_of};
+ghost use Rattle.bip_graph.specs.Matching.{IsMatchingOf, IsMaximumOf};
 
-use crate::maximum::Maximum;
+use crate::searches::Matched;
+use crate::split::{split_cols, split_rows};
 use bip_graph::{Matching, Parts};
 pub use connected_components::components;
 use sp_ids::OutOfMemory;
@@ -36,11 +40,58 @@ pub fn coarse<R: Threads + Sync>(
     requires maximum { IsMaximumOf pattern.now matching.now }
     ensures { IfOk result (λ p. ArePartsOf pattern.now (parts_of p)) }
 {
-    let known = Maximum { pattern, matching };
-    let (cols, rows) = known.marks(rt, alloc);
-    let (cols, rows) = (cols?, rows?);
-    let of_rows = known.split_rows(alloc, cols.as_slice(), rows.as_slice())?;
-    let of_cols = known.split_cols(alloc, cols.as_slice(), rows.as_slice())?;
+    match coarse_if_maximum(rt, alloc, pattern, matching)? {
+        Some(parts) => Ok(parts),
+        None => unreachable!(),
+    }
+}
+
+/// [`coarse`] from a matching of which it is not known whether it is maximum: the same two searches
+/// tell. Where it is not, there are no parts.
+///
+/// The matching must be of the pattern's entries and sizes. Answers `OutOfMemory` as `coarse` does.
+/// Work: as much at most; where the matching is not maximum, each search ends where it comes to the
+/// end of an augmenting path (Berge 1957).
+pub fn coarse_if_maximum<R: Threads + Sync>(
+    rt: &R,
+    alloc: Global,
+    pattern: &Pattern,
+    matching: &Matching,
+) -> Result<Option<Parts>, OutOfMemory>
+    requires matching { IsMatchingOf pattern.now matching.now }
+    ensures maximum { IfOk result
+        (λ o. IfSome o (λ p. IsMaximum pattern.now matching.now.pairs)) }
+    ensures parts { IfOk result (λ o. IfSome o (λ p. ArePartsOf pattern.now (parts_of p))) }
+    ensures not_maximum { IfOk result
+        (λ o. IfNone o (¬ IsMaximum pattern.now matching.now.pairs)) }
+{
+    let matched = Matched { pattern, matching };
+    let (cols, rows) = matched.marks(rt, alloc);
+    let Some(cols) = cols? else {
+        return Ok(None);
+    };
+    let Some(rows) = rows? else {
+        return Ok(None);
+    };
+    let parts = parts_by(alloc, pattern, matching, cols.as_slice(), rows.as_slice())?;
+    Ok(Some(parts))
+}
+
+// The parts, where it is known which columns are horizontal and which rows are vertical.
+fn parts_by(
+    alloc: Global,
+    pattern: &Pattern,
+    matching: &Matching,
+    horizontal: &[bool],
+    vertical: &[bool],
+) -> Result<Parts, OutOfMemory>
+    requires maximum { IsMaximumOf pattern.now matching.now }
+    requires horizontal { Marks (cols pattern.now) (IsHorizontalCol pattern.now) horizontal.now }
+    requires vertical { Marks pattern.now.rows (IsVerticalRow pattern.now) vertical.now }
+    ensures { IfOk result (λ p. ArePartsOf pattern.now (parts_of p)) }
+{
+    let of_rows = split_rows(alloc, pattern, matching, horizontal, vertical)?;
+    let of_cols = split_cols(alloc, pattern, matching, horizontal, vertical)?;
     Ok(Parts {
         hr: of_rows.horizontal,
         hc: of_cols.horizontal,

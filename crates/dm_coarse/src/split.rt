@@ -1,16 +1,16 @@
-//! The rows of a matrix, split into its three parts.
+//! The rows and the columns of a matrix, split into its three parts.
 
 ghost use Rattle.std.specs.Prelude.{◌≡◌, ◌<◌, ◌^◌, map, length, IfOk};
 ghost use Rattle.bip_defs.specs.Lists.{Lists};
 ghost use Rattle.bip_defs.specs.Marks.{Marks};
 ghost use Rattle.bip_defs.specs.Matrix.{Matrix, cols};
-ghost use Rattle.bip_defs.specs.Parts.{IsHorizontalCol, IsHorizontalRow, IsSquareRow, IsVerticalRow};
+ghost use Rattle.bip_defs.specs.Parts.{IsHorizontalCol, IsHorizontalRow, IsSquareCol, IsSquareRow, IsVerticalCol, IsVerticalRow};
 ghost use Rattle.bip_graph.specs.Matching.{IsMaximumOf};
 ghost use Rattle.dm_coarse.specs.Split.{IsInPart};
 
 use bip_graph::{Matching, Opposite};
-use sp_ids::{OutOfMemory, Row};
-use sp_pattern::Side;
+use sp_ids::{Col, OutOfMemory, Row};
+use sp_pattern::{FromRows, Pattern, Side};
 use std::alloc::Global;
 
 /// The rows or the columns of each part, rising.
@@ -28,10 +28,58 @@ pub enum Part {
     Vertical,
 }
 
-/// The rows of each part, where it is known which columns are horizontal and which rows are vertical.
-///
-/// Work: one look at each row and its mate.
-pub fn split<F: Opposite, S: Side<F>>(
+/// The rows of each part of a pattern, where it is known which columns are horizontal and which rows
+/// are vertical.
+pub fn split_rows(
+    alloc: Global,
+    pattern: &Pattern,
+    matching: &Matching,
+    horizontal: &[bool],
+    vertical: &[bool],
+) -> Result<Thirds<Row>, OutOfMemory>
+    requires maximum { IsMaximumOf pattern.now matching.now }
+    requires horizontal { Marks (cols pattern.now) (IsHorizontalCol pattern.now) horizontal.now }
+    requires vertical { Marks pattern.now.rows (IsVerticalRow pattern.now) vertical.now }
+    ensures horizontal { IfOk result
+        (λ s. Lists (IsHorizontalRow pattern.now) s.horizontal.items) }
+    ensures square { IfOk result (λ s. Lists (IsSquareRow pattern.now) s.square.items) }
+    ensures vertical { IfOk result (λ s. Lists (IsVerticalRow pattern.now) s.vertical.items) }
+{
+    pattern.is_pattern();
+    split(alloc, pattern, matching, horizontal, vertical)
+}
+
+/// The columns of each part of a pattern, by the same.
+pub fn split_cols(
+    alloc: Global,
+    pattern: &Pattern,
+    matching: &Matching,
+    horizontal: &[bool],
+    vertical: &[bool],
+) -> Result<Thirds<Col>, OutOfMemory>
+    requires maximum { IsMaximumOf pattern.now matching.now }
+    requires horizontal { Marks (cols pattern.now) (IsHorizontalCol pattern.now) horizontal.now }
+    requires vertical { Marks pattern.now.rows (IsVerticalRow pattern.now) vertical.now }
+    ensures horizontal { IfOk result
+        (λ s. Lists (IsHorizontalCol pattern.now) s.horizontal.items) }
+    ensures square { IfOk result (λ s. Lists (IsSquareCol pattern.now) s.square.items) }
+    ensures vertical { IfOk result (λ s. Lists (IsVerticalCol pattern.now) s.vertical.items) }
+{
+    pattern.is_pattern();
+    let side = FromRows { pattern };
+    // The horizontal columns are the vertical rows of the transpose.
+    let transposed = split(alloc, &side, matching, vertical, horizontal)?;
+    Ok(Thirds {
+        horizontal: transposed.vertical,
+        square: transposed.square,
+        vertical: transposed.horizontal,
+    })
+}
+
+// The rows of each part of the matrix that a side sees, by the same.
+//
+// Work: one look at each row and its mate.
+fn split<F: Opposite, S: Side<F>>(
     alloc: Global,
     side: &S,
     matching: &Matching,

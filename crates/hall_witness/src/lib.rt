@@ -9,6 +9,6 @@ mod witness;
 
 pub use answer::Reach;
 pub use engine::plain;
-pub use search::reached;
+pub use search::{reached, reached_if_maximum};
 pub use steps::Steps;
 pub use witness::{reach, reach_in};

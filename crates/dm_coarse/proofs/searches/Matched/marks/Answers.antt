@@ -1,4 +1,4 @@
-use Rattle.dm_coarse.proofs.maximum.Maximum.marks.Goals as goal
+use Rattle.dm_coarse.proofs.searches.Matched.marks.Goals as goal
 
 pub returns-clause-cols : goal.returns-clause-cols
 returns-clause-cols g c = c.join.ensures.first

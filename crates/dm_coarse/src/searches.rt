@@ -1,0 +1,80 @@
+//! The two searches over a matrix with a matching, and what they mark.
+
+ghost use Rattle.std.specs.Prelude.{◌≡◌, IfOk};
+ghost use Rattle.bip_defs.specs.Matching.{IsMatching};
+ghost use Rattle.bip_defs.specs.Matrix.{cols};
+ghost use Rattle.bip_defs.specs.Parts.{IsHorizontalCol, IsVerticalRow};
+ghost use Rattle.dm_coarse.specs.Searches.{AreMarksIfMaximum};
+
+use bip_graph::Matching;
+use hall_witness::reached_if_maximum;
+use sp_ids::OutOfMemory;
+use sp_pattern::{FromRows, Pattern};
+use std::alloc::Global;
+use std::thread::{Threads, join};
+
+/// A matrix and a matching of it.
+#[derive(Clone, Copy)]
+pub struct Matched<'p> {
+    pub pattern: &'p Pattern,
+    pub matching: &'p Matching,
+    ghost rows: { matching.now.rows ≡ pattern.now.rows },
+    ghost cols: { matching.now.cols ≡ cols pattern.now },
+    // A ghost field has one proof at most, so it says that nothing refutes this.
+    ghost of_entries: { ¬ ¬ IsMatching pattern.now matching.now.pairs },
+}
+
+impl Matched<'_> {
+    /// Marks the horizontal columns and the vertical rows, by two searches at once, if the matching
+    /// is maximum.
+    pub fn marks<R: Threads + Sync>(
+        &self,
+        rt: &R,
+        alloc: Global,
+    ) -> (
+        Result<Option<Vec<bool>>, OutOfMemory>,
+        Result<Option<Vec<bool>>, OutOfMemory>,
+    )
+        ensures cols { IfOk result.0
+            (AreMarksIfMaximum self.now.pattern.now self.now.matching.now.pairs
+            (cols self.now.pattern.now) (IsHorizontalCol self.now.pattern.now)) }
+        ensures rows { IfOk result.1
+            (AreMarksIfMaximum self.now.pattern.now self.now.matching.now.pairs
+            self.now.pattern.now.rows (IsVerticalRow self.now.pattern.now)) }
+    {
+        let of_cols = move || -> Result<Option<Vec<bool>>, OutOfMemory>
+            ensures { IfOk result
+                (AreMarksIfMaximum self.entry.now.pattern.now self.entry.now.matching.now.pairs
+                (cols self.entry.now.pattern.now)
+                (IsHorizontalCol self.entry.now.pattern.now)) }
+        { self.horizontal_cols(alloc) };
+        let of_rows = move || -> Result<Option<Vec<bool>>, OutOfMemory>
+            ensures { IfOk result
+                (AreMarksIfMaximum self.entry.now.pattern.now self.entry.now.matching.now.pairs
+                self.entry.now.pattern.now.rows
+                (IsVerticalRow self.entry.now.pattern.now)) }
+        { self.vertical_rows(alloc) };
+        join(rt, of_cols, of_rows)
+    }
+
+    /// Marks the horizontal columns, if the matching is maximum.
+    fn horizontal_cols(&self, alloc: Global) -> Result<Option<Vec<bool>>, OutOfMemory>
+        ensures { IfOk result
+            (AreMarksIfMaximum self.now.pattern.now self.now.matching.now.pairs
+            (cols self.now.pattern.now) (IsHorizontalCol self.now.pattern.now)) }
+    {
+        reached_if_maximum(alloc, self.pattern, self.matching)
+    }
+
+    /// Marks the vertical rows, if the matching is maximum.
+    fn vertical_rows(&self, alloc: Global) -> Result<Option<Vec<bool>>, OutOfMemory>
+        ensures { IfOk result
+            (AreMarksIfMaximum self.now.pattern.now self.now.matching.now.pairs
+            self.now.pattern.now.rows (IsVerticalRow self.now.pattern.now)) }
+    {
+        let side = FromRows {
+            pattern: self.pattern,
+        };
+        reached_if_maximum(alloc, &side, self.matching)
+    }
+}
