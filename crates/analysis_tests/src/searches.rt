@@ -7,7 +7,7 @@ use crate::small::{are, matching_of, pattern_of};
 use bip_graph::Matching;
 use hall_witness::{Reach, Steps, reach_in, reached_if_maximum};
 use sp_ids::{Col, OutOfMemory, Row};
-use sp_pattern::{FromRows, Pattern};
+use sp_pattern::Pattern;
 use std::marker::Brand;
 use std::process::Abort;
 use std::sync::ledger::{Blank, Ledger};
@@ -101,17 +101,17 @@ fn is_path<R: Abort>(rt: &R, name: &str, path: &[(Row, Col)], pairs: &[(u32, u32
     }
 }
 
-/// Compares marks with numbers that count from 1.
-fn has_marks<R: Abort>(rt: &R, name: &str, marks: &[bool], numbers: &[u32]) {
+/// Compares marks, one for each column, with numbers that count from 1.
+fn has_marks<R: Abort>(rt: &R, search: &Search<'_>, marks: &[bool], numbers: &[u32]) {
+    assert_eq!(rt; marks.len(), search.cols as usize, "{}", search.name);
     let mut number: u32 = 0;
     for marked in marks {
         number = number.wrapping_add(1);
-        assert_eq!(rt; *marked, numbers.contains(&number), "{name}");
+        assert_eq!(rt; *marked, numbers.contains(&number), "{}", search.name);
     }
 }
 
-/// Where there is a path, no marks from the columns or from the rows; else the missed columns are
-/// marked.
+/// Where there is a path, no marks; else the missed columns are marked.
 fn marks<R: Abort + AllocGlobal>(
     rt: &R,
     search: &Search<'_>,
@@ -120,14 +120,13 @@ fn marks<R: Abort + AllocGlobal>(
 ) -> Result<(), OutOfMemory>
     requires { IsMatchingOf pattern.now matching.now }
 {
-    let name = search.name;
-    let cols = reached_if_maximum(rt.alloc(), pattern, matching)?;
-    let rows = reached_if_maximum(rt.alloc(), &FromRows { pattern }, matching)?;
-    assert_eq!(rt; rows.is_some(), cols.is_some(), "{name}");
-    match (cols, search.wanted) {
-        (Some(cols), Wanted::Missed(numbers)) => has_marks(rt, name, cols.as_slice(), numbers),
+    match (
+        reached_if_maximum(rt.alloc(), pattern, matching)?,
+        search.wanted,
+    ) {
+        (Some(marks), Wanted::Missed(numbers)) => has_marks(rt, search, marks.as_slice(), numbers),
         (None, Wanted::Path(_)) => {}
-        _ => assert!(rt; false, "{name}"),
+        _ => assert!(rt; false, "{}", search.name),
     }
     Ok(())
 }
