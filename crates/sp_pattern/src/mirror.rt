@@ -11,8 +11,8 @@ use crate::pieces::part;
 use sp_ids::{Col, Id, OutOfMemory, Row};
 use std::alloc::Global;
 
-/// Where each place off the diagonal stands beside its mirror image: whether the ones of the two that
-/// are not above the diagonal stand by columns.
+/// Where each place off the diagonal stands beside its mirror image: whether those on and below the
+/// diagonal stand by columns. Work: at most one look at each place.
 pub fn mirrored_order(places: &[(Row, Col)]) -> Option<bool>
     ensures mirrored { IfSome result (λ by_columns. AreSymmetric places.now) }
     ensures sorted { IfSome result (λ by_columns. IsTrue by_columns
@@ -79,7 +79,10 @@ pub fn as_cols(alloc: Global, rows: &[Row]) -> Result<Vec<Col>, OutOfMemory>
     ensures { IfOk result (λ v. v.items ≡ rows.now) }
 {
     let mut cols = Vec::with_capacity(alloc, rows.len())?;
-    append(&mut cols, rows)?;
+    for k in 0..rows.len() {
+        let row = rows[k];
+        cols.push_reserved(Col(row.0));
+    }
     Ok(cols)
 }
 

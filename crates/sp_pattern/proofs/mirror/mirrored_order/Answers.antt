@@ -17,8 +17,9 @@ loop-k-preserved-then-row-col c =
     let next : c.lower_by_col-next.result ≡ pair_at pairs k = c.lower_by_col-next.ensures ∙ read_lower ps k _ _ _ _ more refl refl in
     let again : c.lower_by_col-next.result ≡ pair_at pairs (k + 1) = next ∙ sym here ∙ read_mirror ps k _ _ c.row.inside.0 c.col.inside.0 c.next_row.inside.0 c.next_col.inside.0 (omega (arith, more, other)) c.next_row.view_is c.next_col.view_is c.if-next_row-col.false c.if-next_col-row.false in
     let sorted : IsTrue c.if-by_columns.by_columns → AreSortedTo (k + 1) pairs = elim c.if-by_columns.branch [
-      then-by_columns w ↦ λ h. sorted_more k pairs c.loop-k.last c.lower_by_col-next.result (c.loop-k.invariant.sorted w.if-by_columns.true) c.loop-k.invariant.last next (w.is_at_most-by_columns.ensures.0 (sym w.by_columns-is ∙ h))
-      | else-by_columns w ↦ λ h. absurd (true≢false (sym h ∙ w.by_columns-is ∙ w.if-by_columns.false)) ] in
+      | then-by_columns w ↦ λ h. sorted_more k pairs c.loop-k.last c.lower_by_col-next.result (c.loop-k.invariant.sorted w.if-by_columns.true) c.loop-k.invariant.last next (w.is_at_most-by_columns.ensures.0 (sym w.by_columns-is ∙ h))
+      | else-by_columns w ↦ λ h. absurd (true≢false (sym h ∙ w.by_columns-is ∙ w.if-by_columns.false))
+    ] in
     record {
       within = omega (arith, more, other);
       symmetric = mirrored_two _ c.loop-k.k _ _ _ _ c.row.inside.0 c.col.inside.0 c.next_row.inside.0 c.next_col.inside.0 (omega (arith, more, other))
@@ -35,8 +36,9 @@ loop-k-preserved c =
     let pairs = transposed_places (lowered ps) in
     let next : c.lower_by_col-next.result ≡ pair_at pairs k = c.lower_by_col-next.ensures ∙ read_lower ps k _ _ _ _ more refl refl in
     let sorted : IsTrue c.if-by_columns.by_columns → AreSortedTo (k + 1) pairs = elim c.if-by_columns.branch [
-      then-by_columns w ↦ λ h. sorted_more k pairs c.loop-k.last c.lower_by_col-next.result (c.loop-k.invariant.sorted w.if-by_columns.true) c.loop-k.invariant.last next (w.is_at_most-by_columns.ensures.0 (sym w.by_columns-is ∙ h))
-      | else-by_columns w ↦ λ h. absurd (true≢false (sym h ∙ w.by_columns-is ∙ w.if-by_columns.false)) ] in
+      | then-by_columns w ↦ λ h. sorted_more k pairs c.loop-k.last c.lower_by_col-next.result (c.loop-k.invariant.sorted w.if-by_columns.true) c.loop-k.invariant.last next (w.is_at_most-by_columns.ensures.0 (sym w.by_columns-is ∙ h))
+      | else-by_columns w ↦ λ h. absurd (true≢false (sym h ∙ w.by_columns-is ∙ w.if-by_columns.false))
+    ] in
     record {
       within = omega (arith, more);
       symmetric = mirrored_one _ c.loop-k.k _ _ c.row.inside.0 c.col.inside.0 more c.row.view_is c.col.view_is c.if-row-col.false c.loop-k.invariant.symmetric;

@@ -4,7 +4,7 @@ use Rattle.std.proofs.lemmas.Result.{IfOk-weaker}
 use Rattle.sp_pattern.specs.Pairs.{unpacked}
 use Rattle.bip_defs.proofs.Transposed.{turned_length}
 use Rattle.sp_pattern.proofs.Both.{from_turned_twice, inside_places, inside_turned}
-use Rattle.sp_pattern.proofs.Mirrored.{lowered_lower, mirror_build}
+use Rattle.sp_pattern.proofs.Mirrored.{lowered_lower}
 use Rattle.sp_pattern.proofs.Packed.{same_inside, same_places}
 use Rattle.sp_pattern.proofs.pattern.Pattern.build.Goals as goal
 
@@ -33,4 +33,3 @@ returns g c = IfOk-weaker c.from_columns-2.result _ _ (λ a h. rw (← c.places-
 
 pub with_mirror-requires-clause-lower : goal.with_mirror-requires-clause-lower
 with_mirror-requires-clause-lower g c = lowered_lower c.rows-rows.result c.places-places.result.now c.in_ok-lower.lower c.in_ok-lower.ensures.places
-
