@@ -1,5 +1,5 @@
 -- Places with their mirror images, and flat lists that grow part by part.
-use Rattle.std.proofs.Common.{◌≡◌, ◌≢◌, ◌⊎◌, ◌∙◌, ℕ, ◌+◌, ◌-◌, ◌<◌, ◌≤◌, List, [], ◌∷◌, ◌++◌, length, filter, get_or, map, nat_lt, take, drop, refl, sym, ap, arith, inl, inr, ⊎_elim, take_all, append_assoc, true, false, if◌then◌else◌}
+use Rattle.std.proofs.Common.{◌≡◌, ◌≢◌, ◌⊎◌, ◌∙◌, ℕ, ◌+◌, ◌-◌, ◌<◌, ◌≤◌, List, [], ◌∷◌, ◌++◌, length, filter, get_or, map, nat_lt, take, drop, refl, sym, ap, subst, arith, inl, inr, ⊎_elim, take_all, append_assoc, true, false, if◌then◌else◌}
 use Rattle.std.proofs.Math.Decide.{dec_lt}
 use Rattle.std.proofs.Math.Seq.{drop-append_seam, get_or-append_seam}
 use Rattle.std.proofs.lemmas.List.{drop-append-le, get_or_append_left, length-append, length-drop, take-append-le, take_more, get_or_default, get_or-map, length-map}
@@ -12,7 +12,7 @@ use Rattle.sp_pattern.specs.Mirror.{AreSymmetric, HasPieces, both_sides, lower, 
 use Rattle.std.proofs.lemmas.Bool.Decides.{nat_tests}
 use Rattle.bip_defs.specs.Matching.{transposed_places}
 use Rattle.bip_defs.proofs.Transposed.{turned_length}
-use Rattle.sp_pattern.specs.Pairs.{pair_at}
+use Rattle.sp_pattern.specs.Pairs.{IsAtMost, Pair, pair_at}
 use Rattle.sp_pattern.specs.Stored.{AreStarts, piece}
 use Rattle.std.proofs.lemmas.List.Sums.{count_by-le-length, length-filter}
 use Rattle.sp_pattern.proofs.Cuts.{length-slice_range, start_within}
@@ -76,27 +76,60 @@ lower_at ps k lt =
     let long = length-map {B = Place} ps lower in
     get_or-map (λ (q : Place). (q.1, q.0)) (lowered ps) k (0, 0) (0, 0) (omega (arith, lt, long)) ∙ ap (λ (q : Place). (q.1, q.0)) (get_or-map lower ps k (0, 0) (0, 0) lt)
 
-length-lowered : (ps : List Place) → length (transposed_places (lowered ps)) ≡ length ps
+pub length-lowered : (ps : List Place) → length (transposed_places (lowered ps)) ≡ length ps
 length-lowered ps = turned_length (lowered ps) ∙ length-map ps lower
 
--- what is read of a place above the diagonal, and of another one
-pub read_above : (ps : List Place) (k : ℕ) (d e : Place) (r c : ℕ) → k < length (transposed_places (lowered ps)) → r ≡ (get_or ps k d).0 → c ≡ (get_or ps k e).1 → r < c → ◌≡◌ {A = Place} (r, c) (pair_at (transposed_places (lowered ps)) k)
-read_above ps k d e r c lt row col above =
-    let long = length-lowered ps in
-    let here : k < length ps = omega (arith, lt, long) in
-    let p = get_or ps k (0, 0) in
-    let a = row_read ps k d r here row in
-    let b = col_read ps k e c here col in
-    (λ t. (a t, b t)) ∙ sym (lower_at ps k here ∙ ap (λ (q : Place). (q.1, q.0)) (lower_above p (omega (arith, a, b, above))))
+-- what is read of a place
+pub read_lower : (ps : List Place) (k : ℕ) (d e : Place) (r c : ℕ) → k < length ps → r ≡ (get_or ps k d).0 → c ≡ (get_or ps k e).1 → ◌≡◌ {A = Place} ((lower (r, c)).1, (lower (r, c)).0) (pair_at (transposed_places (lowered ps)) k)
+read_lower ps k d e r c lt row col =
+    let a = row_read ps k d r lt row in
+    let b = col_read ps k e c lt col in
+    let same : ◌≡◌ {A = Place} (r, c) (get_or ps k (0, 0)) = λ t. (a t, b t) in
+    ap (λ (p : Place). ((lower p).1, (lower p).0)) same ∙ sym (lower_at ps k lt)
 
-pub read_lower : (ps : List Place) (k : ℕ) (d e : Place) (r c : ℕ) → k < length (transposed_places (lowered ps)) → r ≡ (get_or ps k d).0 → c ≡ (get_or ps k e).1 → c ≤ r → ◌≡◌ {A = Place} (c, r) (pair_at (transposed_places (lowered ps)) k)
-read_lower ps k d e r c lt row col below =
-    let long = length-lowered ps in
-    let here : k < length ps = omega (arith, lt, long) in
-    let p = get_or ps k (0, 0) in
-    let a = row_read ps k d r here row in
-    let b = col_read ps k e c here col in
-    (λ t. (b t, a t)) ∙ sym (lower_at ps k here ∙ ap (λ (q : Place). (q.1, q.0)) (lower_same p (omega (arith, a, b, below))))
+pub read_lower_at : (ps : List Place) (k : ℕ) (d e : Place) (r c : ℕ) → k < length (transposed_places (lowered ps)) → r ≡ (get_or ps k d).0 → c ≡ (get_or ps k e).1 → ◌≡◌ {A = Place} ((lower (r, c)).1, (lower (r, c)).0) (pair_at (transposed_places (lowered ps)) k)
+read_lower_at ps k d e r c lt row col = let long = length-lowered ps in read_lower ps k d e r c (omega (arith, lt, long)) row col
+
+-- a place and its mirror image are the same one on or below the diagonal
+lower_mirror : (r c : ℕ) → lower (c, r) ≡ lower (r, c)
+lower_mirror r c = by (dec_lt r c)
+  where
+    by : Dec (r < c) → lower (c, r) ≡ lower (r, c)
+    by (yes lt) = lower_same (c, r) (omega arith) ∙ sym (lower_above (r, c) lt)
+    by (no nlt) = over (dec_lt c r)
+      where
+        over : Dec (c < r) → lower (c, r) ≡ lower (r, c)
+        over (yes below) = lower_above (c, r) below ∙ sym (lower_same (r, c) (omega arith))
+        over (no nbelow) = let same : r ≡ c = omega arith in rw same refl
+
+-- what is read of the mirror image that stands behind a place
+pub read_mirror : (ps : List Place) (k : ℕ) (f g : Place) (r c row_after col_after : ℕ) → k + 1 < length ps → row_after ≡ (get_or ps (k + 1) f).0 → col_after ≡ (get_or ps (k + 1) g).1
+    → row_after ≡ c → col_after ≡ r → ◌≡◌ {A = Place} ((lower (r, c)).1, (lower (r, c)).0) (pair_at (transposed_places (lowered ps)) (k + 1))
+read_mirror ps k f g r c ra ca lt row_after col_after a b =
+    ap (λ (q : Place). (q.1, q.0)) (sym (lower_mirror r c)) ∙ read_lower ps (k + 1) f g c r lt (sym a ∙ row_after) (sym b ∙ col_after)
+
+-- Pairs in order, up to one.
+
+-- of the first n pairs none is greater than the next
+abbrev pub AreSortedTo : ℕ → List Pair → Type 0
+AreSortedTo n ps = (i : ℕ) → i + 1 < n → IsAtMost (pair_at ps i) (pair_at ps (i + 1))
+
+-- one pair more, which the last one is not greater than
+pub sorted_more : (n : ℕ) (ps : List Pair) (last next : Pair) → AreSortedTo n ps → (0 < n → last ≡ pair_at ps (n - 1)) → next ≡ pair_at ps n → IsAtMost last next → AreSortedTo (n + 1) ps
+sorted_more n ps last next s was is most i lt = by (number_same (i + 1) n)
+  where
+    by : (i + 1 ≡ n) ⊎ (i + 1 ≢ n) → IsAtMost (pair_at ps i) (pair_at ps (i + 1))
+    by (inl e) =
+        let before : n - 1 ≡ i = omega (arith, e) in
+        subst (λ q. IsAtMost (pair_at ps i) q) (is ∙ ap (pair_at ps) (sym e)) (subst (λ p. IsAtMost p next) (was (omega (arith, e)) ∙ ap (pair_at ps) before) most)
+    by (inr ne) = s i (omega (arith, lt, ne))
+
+-- the same pair once more
+pub sorted_again : (n : ℕ) (ps : List Pair) (last : Pair) → AreSortedTo n ps → (0 < n → last ≡ pair_at ps (n - 1)) → last ≡ pair_at ps n → AreSortedTo (n + 1) ps
+sorted_again n ps last s was is = sorted_more n ps last last s was is (inr (refl, omega arith))
+
+pub last_is : (n : ℕ) (ps : List Pair) (last : Pair) → last ≡ pair_at ps n → 0 < n + 1 → last ≡ pair_at ps (n + 1 - 1)
+last_is n ps last is some = let same : n + 1 - 1 ≡ n = omega arith in rw same is
 
 -- Flat lists that grow.
 

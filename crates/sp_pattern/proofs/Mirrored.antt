@@ -177,12 +177,3 @@ mirror_few a cs rs us vs ff gg o is few ef eg =
     let all = orders_entries cs rs us vs o in
     let same = o.same_length in
     rw (ef, eg) (omega (arith, count, all, same, few))
-
--- the pattern of symmetric places
-pub mirror_build : (rows columns m n : ℕ) (ps qs : List Place) (half a : Matrix) → HasPlaces m m (lowered ps) half → m ≡ n → m ≡ rows → n ≡ columns → ps ≡ qs → AreSymmetric ps
-    → (AreSymmetric ps → HasPlaces half.rows (cols half) (lowered ps) half → HasPlaces half.rows (cols half) ps a) → HasPlaces rows columns qs a
-mirror_build rows columns m n ps qs half a h square er ec same s all =
-    let is = all s (subst (λ x. HasPlaces x (cols half) (lowered ps) half) (sym h.rows_are) (subst (λ x. HasPlaces m x (lowered ps) half) (sym h.cols_are) h)) in
-    subst (λ xs. HasPlaces rows columns xs a) same
-    (subst (λ x. HasPlaces rows x ps a) (h.cols_are ∙ square ∙ ec)
-    (subst (λ x. HasPlaces x (cols half) ps a) (h.rows_are ∙ er) is))

@@ -2,8 +2,8 @@
 
 ghost use Rattle.std.specs.Prelude.{◌≡◌, ◌+◌, ◌<◌, ◌↔◌, IsTrue, ℕ, List, length, map};
 ghost use Rattle.bip_defs.specs.Matching.{transposed_places};
-ghost use Rattle.sp_pattern.specs.Mirror.{lowered};
-ghost use Rattle.sp_pattern.specs.Pairs.{AreSorted, in_blocks, pair_at, with_zero};
+ghost use Rattle.sp_pattern.specs.Mirror.{lower, lowered};
+ghost use Rattle.sp_pattern.specs.Pairs.{AreSorted, IsAtMost, in_blocks, pair_at, with_zero};
 
 use sp_ids::{Col, Id, Row};
 
@@ -73,11 +73,7 @@ impl Pairs for LowerByCol<'_> {
 
     fn at(&self, k: usize) -> (u32, u32) {
         let (row, col) = self.places[k];
-        if row.0 < col.0 {
-            (row.0, col.0)
-        } else {
-            (col.0, row.0)
-        }
+        lower_by_col(row, col)
     }
 }
 
@@ -162,7 +158,25 @@ impl Pairs for Split {
     }
 }
 
-/// Whether no pair is greater than the next, by the outer number and then by the inner one.
+/// The column and the row of a place or of its mirror image, whichever is not above the diagonal.
+pub fn lower_by_col(row: Row, col: Col) -> (u32, u32)
+    ensures { result ≡ ((lower (row, col)).1, (lower (row, col)).0) }
+{
+    if row.0 < col.0 {
+        (row.0, col.0)
+    } else {
+        (col.0, row.0)
+    }
+}
+
+/// Whether a pair is not greater than another, by the outer number and then by the inner one.
+pub fn is_at_most(pair: (u32, u32), other: (u32, u32)) -> bool
+    ensures { IsTrue result ↔ IsAtMost pair other }
+{
+    pair.0 < other.0 || pair.0 == other.0 && pair.1 <= other.1
+}
+
+/// Whether no pair is greater than the next.
 pub fn are_sorted<P: Pairs>(pairs: &P) -> bool
     ensures { IsTrue result ↔ AreSorted (P.pairs pairs.now) }
 {
@@ -173,7 +187,7 @@ pub fn are_sorted<P: Pairs>(pairs: &P) -> bool
     let mut last = pairs.at(0);
     for k in 1..len {
         let next = pairs.at(k);
-        if next.0 < last.0 || next.0 == last.0 && next.1 < last.1 {
+        if !is_at_most(last, next) {
             return false;
         }
         last = next;

@@ -12,7 +12,7 @@ ghost use Rattle.sp_pattern.specs.Stored.{IsPattern};
 ghost use Rattle.sp_pattern.specs.Weights.{position, start_of};
 
 use crate::compress::compress;
-use crate::mirror::{are_mirrored, as_cols, both_halves};
+use crate::mirror::{as_cols, both_halves, mirrored_order};
 use crate::pairs::{ByCol, ByRow, LowerByCol, LowerByRow, Pairs, are_sorted};
 use crate::pieces::part;
 use crate::sort::sorted;
@@ -80,29 +80,33 @@ impl Pattern {
         if are_sorted(&ByRow { places }) {
             return Pattern::from_rows(alloc, rows, cols, ByRow { places });
         }
-        if rows == cols && places.len() < HALF && are_mirrored(places) {
-            let lower = Pattern::lower_part(rt, alloc, rows, places)?;
-            return lower.with_mirror(alloc, places.len());
+        if rows == cols && places.len() < HALF {
+            if let Some(by_columns) = mirrored_order(places) {
+                let lower = Pattern::lower_part(rt, alloc, rows, places, by_columns)?;
+                return lower.with_mirror(alloc, places.len());
+            }
         }
         let sorted = sorted(rt, alloc, &ByCol { places })?;
         Pattern::from_columns(alloc, rows, cols, sorted)
     }
 
     // Of a square matrix, the places on and below the diagonal that these places or their mirror
-    // images are.
+    // images are. Where `by_columns` is set they stand by columns.
     fn lower_part<R: Threads + Sync>(
         rt: &R,
         alloc: Global,
         n: u32,
         places: &[(Row, Col)],
+        by_columns: bool,
     ) -> Result<Pattern, OutOfMemory>
+        requires sorted { IsTrue by_columns → AreSorted (transposed_places (lowered places.now)) }
         requires inside { AllByRecursion (IsInside n n) places.now }
         requires few { length places.now < 2 ^ 32 }
         ensures places { IfOk result (HasPlaces n n (lowered places.now)) }
         ensures few { IfOk result (λ a. entry_count a ≤ length places.now) }
     {
         let by_col = LowerByCol { places };
-        if are_sorted(&by_col) {
+        if by_columns {
             return Pattern::from_columns(alloc, n, n, by_col);
         }
         let by_row = LowerByRow { places };

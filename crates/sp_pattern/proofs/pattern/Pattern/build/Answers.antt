@@ -4,7 +4,7 @@ use Rattle.std.proofs.lemmas.Result.{IfOk-weaker}
 use Rattle.sp_pattern.specs.Pairs.{unpacked}
 use Rattle.bip_defs.proofs.Transposed.{turned_length}
 use Rattle.sp_pattern.proofs.Both.{from_turned_twice, inside_places, inside_turned}
-use Rattle.sp_pattern.proofs.Mirrored.{lowered_lower, mirror_build}
+use Rattle.sp_pattern.proofs.Mirrored.{lowered_lower}
 use Rattle.sp_pattern.proofs.Packed.{same_inside, same_places}
 use Rattle.sp_pattern.proofs.pattern.Pattern.build.Goals as goal
 
@@ -33,8 +33,3 @@ returns g c = IfOk-weaker c.from_columns-2.result _ _ (λ a h. rw (← c.places-
 
 pub with_mirror-requires-clause-lower : goal.with_mirror-requires-clause-lower
 with_mirror-requires-clause-lower g c = lowered_lower c.rows-rows.result c.places-places.result.now c.in_ok-lower.lower c.in_ok-lower.ensures.places
-
-pub returns-then-are_mirrored : goal.returns-then-are_mirrored
-returns-then-are_mirrored g c =
-    let half = c.in_ok-lower.ensures.places in
-    IfOk-weaker c.with_mirror.result _ _ (λ a h. mirror_build _ _ _ _ c.places-places.result.now _ c.in_ok-lower.lower a half c.if-rows-cols.true c.rows-rows.ensures c.cols-cols.ensures c.places-places.ensures.places (c.are_mirrored.ensures c.if-are_mirrored.true) (h c.places-places.result.now)) c.with_mirror.ensures

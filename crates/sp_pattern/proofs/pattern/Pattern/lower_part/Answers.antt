@@ -8,8 +8,8 @@ use Rattle.sp_pattern.proofs.pattern.Pattern.lower_part.Goals as goal
 pub from_columns-requires-clause-inside : goal.from_columns-requires-clause-inside
 from_columns-requires-clause-inside g c = pairs_turned _ _ _ (lowered_inside c.args.n c.args.places.now (inside_places _ _ _ c.requires.inside))
 
-pub returns-then-are_sorted-clause-places : goal.returns-then-are_sorted-clause-places
-returns-then-are_sorted-clause-places g c = IfOk-weaker c.from_columns.result _ _ (λ a h. from_turned_twice _ _ _ _ _ _ a refl refl refl h) c.from_columns.ensures.places
+pub returns-then-by_columns-clause-places : goal.returns-then-by_columns-clause-places
+returns-then-by_columns-clause-places g c = IfOk-weaker c.from_columns.result _ _ (λ a h. from_turned_twice _ _ _ _ _ _ a refl refl refl h) c.from_columns.ensures.places
 
 pub from_rows-requires-clause-inside : goal.from_rows-requires-clause-inside
 from_rows-requires-clause-inside g c = lowered_inside c.args.n c.args.places.now (inside_places _ _ _ c.requires.inside)
