@@ -5,7 +5,6 @@ pub mod Empty
 pub mod Ends
 pub mod MatchingViews
 pub mod MateArrays
-pub mod Members
 pub mod Mutual
 pub mod Offsets
 pub mod PairParted

@@ -177,31 +177,3 @@ fn start(ends: &[u32], at: usize, long: usize) -> usize
 {
     if at == 0 { 0 } else { ends[at - 1] as usize }
 }
-
-#[cfg(test)]
-mod tests {
-    use super::*;
-
-    #[test]
-    fn blocks_in_order(rt: HostRuntime) -> Result<(), OutOfMemory> {
-        let mut blocks = Blocks::with_room(rt.alloc(), 2, 3, 3)?;
-        assert!(rt; blocks.is_empty());
-        blocks.push(&[Row(2)], &[Col(2)])?;
-        blocks.push(&[Row(0), Row(1)], &[Col(0), Col(1)])?;
-        assert_eq!(rt; blocks.len(), 2);
-        assert_eq!(rt; blocks.rows(0), [Row(2)].as_slice());
-        assert_eq!(rt; blocks.cols(1), [Col(0), Col(1)].as_slice());
-        assert_eq!(rt; blocks.all_rows(), [Row(2), Row(0), Row(1)].as_slice());
-        assert_eq!(rt; blocks.all_cols(), [Col(2), Col(0), Col(1)].as_slice());
-        Ok(())
-    }
-
-    #[test]
-    fn room_is_had_as_it_is_needed(rt: HostRuntime) -> Result<(), OutOfMemory> {
-        let mut blocks = Blocks::new(rt.alloc());
-        blocks.push(&[Row(0)], &[Col(1)])?;
-        assert_eq!(rt; blocks.len(), 1);
-        assert_eq!(rt; blocks.rows(0), [Row(0)].as_slice());
-        Ok(())
-    }
-}

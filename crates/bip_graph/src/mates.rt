@@ -121,27 +121,3 @@ fn number_of_row(mate: Option<Row>) -> u32
         None => NONE,
     }
 }
-
-#[cfg(test)]
-mod tests {
-    use super::*;
-    use crate::matching::Matching;
-
-    // Row 0 and column 1 lead to one another once both are set.
-    #[test]
-    fn makes_a_matching(rt: HostRuntime) -> Result<(), OutOfMemory> {
-        let mut mates = Mates::empty(rt.alloc(), 2, 3)?;
-        mates.set_row(Row(0), Some(Col(1)));
-        assert_eq!(rt; mates.row_of(Col(1)), None);
-        mates.set_col(Col(1), Some(Row(0)));
-        assert_eq!(rt;
-            (mates.col_of(Row(0)), mates.col_of(Row(1))),
-            (Some(Col(1)), None)
-        );
-        let matching = Matching::of(mates);
-        assert_eq!(rt; (matching.rows(), matching.cols()), (2, 3));
-        assert_eq!(rt; matching.row_of(Col(1)), Some(Row(0)));
-        assert_eq!(rt; matching.col_of(Row(1)), None);
-        Ok(())
-    }
-}

@@ -8,7 +8,5 @@
 
 mod level;
 mod search;
-#[cfg(test)]
-mod tests;
 
 pub use level::attach;

@@ -3,30 +3,18 @@
 
 mod batch;
 mod bottleneck;
-#[cfg(test)]
-mod bottleneck_tests;
 mod buffer;
 mod diagonal;
-#[cfg(test)]
-mod diagonal_tests;
 mod laws;
 mod load;
 mod numerals;
 mod pairs;
 mod rank;
 mod reader;
-#[cfg(test)]
-mod reader_tests;
 mod replies;
-#[cfg(test)]
-mod replies_tests;
 mod report;
-#[cfg(test)]
-mod report_tests;
 mod sections;
 mod stop;
-#[cfg(test)]
-mod tests;
 
 pub use batch::{write_file_fault, write_file_report, write_files_end};
 pub use bottleneck::write_bottleneck;

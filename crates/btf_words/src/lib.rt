@@ -6,14 +6,10 @@
 #![tactic(auto)]
 
 mod batch;
-#[cfg(test)]
-mod batch_tests;
 mod commands;
 mod jobs;
 mod options;
 mod reading;
-#[cfg(test)]
-mod tests;
 mod usage;
 
 pub use batch::{batch_usage_line, read_batch_words};

@@ -1,7 +1,6 @@
 pub mod Accounts
 pub mod Answers
 pub mod Board
-pub mod Contest
 pub mod Listed
 pub mod Rule
 pub mod Seat

@@ -10,14 +10,10 @@
 mod answers;
 mod board;
 mod closed;
-#[cfg(test)]
-mod contest;
 mod gather;
 mod laws;
 mod plays;
 mod seat;
-#[cfg(test)]
-mod tests;
 mod views;
 mod worker;
 mod worker_laws;

@@ -1,6 +1,5 @@
 pub mod AccountLemmas
 pub mod Boards
-pub mod ContestLemmas
 pub mod Finished
 pub mod Flat
 pub mod Keeps

@@ -1,7 +1,6 @@
 pub mod Accounts
 pub mod Board
 pub mod ClosedBoards
-pub mod Contest
 pub mod Listed
 pub mod OpenedBoards
 pub mod Rule

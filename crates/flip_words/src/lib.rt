@@ -9,15 +9,11 @@
 
 mod board;
 mod closing;
-#[cfg(test)]
-mod contest;
 mod laws;
 mod opening;
 mod plays;
 mod seat;
 mod taken;
-#[cfg(test)]
-mod tests;
 mod views;
 mod words;
 

@@ -9,8 +9,6 @@ mod boards;
 mod events;
 mod levels;
 mod search;
-#[cfg(test)]
-mod tests;
 
 pub use boards::open;
 pub use events::absorb;

@@ -14,8 +14,6 @@ mod laws;
 mod levels;
 mod shares;
 mod steps;
-#[cfg(test)]
-mod tests;
 mod work;
 
 pub use candidate::Candidate;

@@ -17,8 +17,3 @@ pub use laws::{
     good_batch_is_read,
 };
 pub use reader::read_edits;
-
-#[cfg(test)]
-mod batch_tests;
-#[cfg(test)]
-mod tests;

@@ -19,6 +19,3 @@ mod window;
 pub use input::{Input, next_byte, read_matrix, read_rest};
 pub use line::LineSoFar;
 pub use mm_defs::{End, Kind, ReadError};
-
-#[cfg(test)]
-mod tests;

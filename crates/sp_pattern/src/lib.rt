@@ -14,8 +14,6 @@ mod side;
 mod sort;
 mod split;
 mod sums;
-#[cfg(test)]
-mod tests;
 mod transpose;
 mod weights;
 

@@ -49,22 +49,3 @@ impl<'a> Source for LentSource<'a> {
         Ok(count)
     }
 }
-
-#[cfg(test)]
-mod tests {
-    use super::*;
-
-    fn read_by_bound<S: Source>(source: &mut S, buf: &mut [u8]) -> Result<usize, Failed> {
-        source.read(buf)
-    }
-
-    #[test]
-    fn lent_bytes_in_order(rt: HostRuntime) {
-        let mut source = LentSource::new(b"abcde");
-        let mut buf = [b'.'; 3];
-        for (count, held) in [(3, b"abc"), (2, b"dec"), (0, b"dec")] {
-            assert_eq!(rt; read_by_bound(&mut source, &mut buf), Ok(count));
-            assert_eq!(rt; buf.as_slice(), held.as_slice());
-        }
-    }
-}

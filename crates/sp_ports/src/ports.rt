@@ -74,22 +74,3 @@ pub fn taken_in_turn()
     ensures prefix { (d e : Device) (first second : List ℕ) → IsNext d e
         → Took d first → TookPrefix e second → TookPrefix (both d e) (first ++ second) }
 {}
-
-#[cfg(test)]
-mod tests {
-    use super::*;
-    use crate::MemSink;
-    use std::test::Fail;
-
-    #[test]
-    fn all_is_written_in_pieces(rt: HostRuntime) -> Result<(), Fail> {
-        let alloc = rt.alloc();
-        let mut sink = MemSink::new(alloc, 7, 2, Vec::new(alloc))?;
-        assert_eq!(rt; write_all(&mut sink, b"abcdefg"), Ok(()));
-        assert_eq!(rt; sink.bytes(), b"abcdefg".as_slice());
-        // No room is needed for nothing.
-        assert_eq!(rt; write_all(&mut sink, b""), Ok(()));
-        assert_eq!(rt; sink.failed_calls(), 0);
-        Ok(())
-    }
-}

@@ -9,8 +9,6 @@
 mod laws;
 mod opening;
 mod rounds;
-#[cfg(test)]
-mod tests;
 mod walk;
 mod workers;
 

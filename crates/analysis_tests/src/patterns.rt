@@ -1,0 +1,100 @@
+//! Patterns of small matrices and of one with many entries, the weights of entries, and the matrix
+//! of a number, worked out by hand. Tables count rows and columns from 1.
+
+use crate::small::{integers_of, pattern_of};
+use sp_ids::{Col, Field, OutOfMemory, Row, Triples};
+use sp_pattern::{Pattern, Weights, load_matrix};
+use std::process::Abort;
+use std::test::Fail;
+
+// One matrix: by columns; by rows; each place beside its mirror image, with the lower half by
+// columns, by rows and in no order; in no order at all. In each list one place stands twice.
+#[test]
+fn places_in_each_order(rt: HostRuntime) -> Result<(), Fail> {
+    let orders = [
+        [(2, 1), (4, 1), (1, 2), (3, 3), (3, 3), (1, 4)],
+        [(1, 2), (1, 4), (2, 1), (3, 3), (3, 3), (4, 1)],
+        [(2, 1), (1, 2), (4, 1), (1, 4), (3, 3), (3, 3)],
+        [(2, 1), (1, 2), (3, 3), (3, 3), (4, 1), (1, 4)],
+        [(1, 4), (4, 1), (3, 3), (2, 1), (1, 2), (3, 3)],
+        [(3, 3), (1, 4), (2, 1), (1, 2), (4, 1), (2, 1)],
+    ];
+    for places in orders {
+        let pattern = pattern_of(&rt, 4, 4, places.as_slice())?;
+        assert_eq!(rt; (pattern.rows(), pattern.cols()), (4, 4));
+        assert_eq!(rt; pattern.entries(), 5);
+        assert_eq!(rt; pattern.rows_of(Col(0)), [Row(1), Row(3)].as_slice());
+        assert_eq!(rt; pattern.cols_of(Row(0)), [Col(1), Col(3)].as_slice());
+        assert_eq!(rt; pattern.has(Row(2), Col(2)), true);
+        assert_eq!(rt; pattern.has(Row(9), Col(9)), false);
+    }
+    Ok(())
+}
+
+// The row r has entries in the columns 513 r, 513 r + 1 and so on, modulo the size.
+fn far_apart<R: Abort + AllocGlobal>(
+    rt: &R,
+    size: u32,
+    count: u32,
+) -> Result<Triples, OutOfMemory> {
+    assert!(rt; size > 0);
+    let mut triples = Triples::new(rt.alloc(), size, size, Field::Pattern)?;
+    for k in 0..count {
+        let row = k.wrapping_mul(513) % size;
+        let col = row.wrapping_mul(513).wrapping_add(k / size) % size;
+        let in_range = row < triples.rows() && col < triples.cols() && triples.len() < 4294967295;
+        assert!(rt; in_range, "no place for row {row} and column {col}");
+        triples.push(Row(row), Col(col), 0)?;
+    }
+    Ok(triples)
+}
+
+// So many places that lie so far apart are turned round block by block.
+#[test]
+fn many_places_far_apart(rt: HostRuntime) -> Result<(), Fail> {
+    let pattern = Pattern::build(&rt, rt.alloc(), &far_apart(&rt, 131072, 2097152)?)?;
+    assert_eq!(rt; (pattern.rows(), pattern.entries()), (131072, 2097152));
+    let cols = pattern.cols_of(Row(1));
+    assert_eq!(rt; cols.len(), 16);
+    for t in 0..16u32 {
+        assert_eq!(rt; cols[t as usize], Col(t.wrapping_add(513)));
+    }
+    Ok(())
+}
+
+#[test]
+fn load_matrix_of_thirty(rt: HostRuntime) -> Result<(), Fail> {
+    assert_eq!(rt; load_matrix(&rt, rt.alloc(), 30, 0)?.entries(), 85);
+    Ok(())
+}
+
+// The place (2, 1) is given twice.
+#[test]
+fn weights_and_entries_above_one(rt: HostRuntime) -> Result<(), Fail> {
+    let given = integers_of(&rt, 2, 1, &[(2, 1, 1), (1, 1, -7), (2, 1, -9)])?;
+    let pattern = Pattern::build(&rt, rt.alloc(), &given)?;
+    let weights = Weights::build(rt.alloc(), &pattern, &given)?;
+    assert_eq!(rt; pattern.cols(), 1);
+    assert_eq!(rt; weights.weights_of(Col(0)), [7, 8].as_slice());
+    assert_eq!(rt; pattern.has(Row(1), Col(0)), true);
+    assert_eq!(rt; weights.weight(Row(1), Col(0)), 8);
+    let above = pattern.above(rt.alloc(), &weights, 7)?;
+    assert_eq!(rt; above.cols(), 1);
+    assert_eq!(rt; above.rows_of(Col(0)), [Row(1)].as_slice());
+    Ok(())
+}
+
+// The values of the place (2, 1) add up to 0, those of (1, 1) do not.
+#[test]
+fn places_that_add_up_to_zero(rt: HostRuntime) -> Result<(), Fail> {
+    let entries = [
+        (2, 1, 9223372036854775807),
+        (1, 1, 1),
+        (2, 1, -9223372036854775807),
+    ];
+    let given = integers_of(&rt, 2, 1, &entries)?;
+    let pattern = Pattern::build_nonzero(&rt, rt.alloc(), &given)?;
+    assert_eq!(rt; pattern.cols(), 1);
+    assert_eq!(rt; pattern.rows_of(Col(0)), [Row(0)].as_slice());
+    Ok(())
+}

@@ -1,0 +1,146 @@
+//! A report, a summary and pairs of small matrices, worked out by hand. Whole runs show more
+//! reports in `run_tests`.
+
+use bip_graph::{Blocks, Components, Decomposition, Matching, Parts};
+use btf_text::{TextBuf, write_load, write_pairs, write_report};
+use sp_ids::{Col, OutOfMemory, Row};
+use sp_ports::{Failed, MemSink, SteadySink};
+use std::alloc::Global;
+use std::test::Fail;
+
+/// The decomposition of a matrix without horizontal and vertical parts.
+fn square(alloc: Global, rank: u32, entries: u32, blocks: Blocks) -> Decomposition {
+    let parts = Parts {
+        hr: Vec::new(alloc),
+        hc: Vec::new(alloc),
+        sr: Vec::new(alloc),
+        sc: Vec::new(alloc),
+        vr: Vec::new(alloc),
+        vc: Vec::new(alloc),
+    };
+    Decomposition {
+        m: rank,
+        n: rank,
+        e: entries,
+        rank,
+        parts,
+        blocks,
+    }
+}
+
+/// A matrix with all three parts: rows 1, 2, 3 4 and columns 1 2, 3, 4.
+fn three_parts(alloc: Global) -> Result<Decomposition, OutOfMemory> {
+    let mut blocks = Blocks::new(alloc);
+    blocks.push(&[Row(1)], &[Col(2)])?;
+    let parts = Parts {
+        hr: [Row(0)].to_vec(alloc)?,
+        hc: [Col(0), Col(1)].to_vec(alloc)?,
+        sr: [Row(1)].to_vec(alloc)?,
+        sc: [Col(2)].to_vec(alloc)?,
+        vr: [Row(2), Row(3)].to_vec(alloc)?,
+        vc: [Col(3)].to_vec(alloc)?,
+    };
+    Ok(Decomposition {
+        m: 4,
+        n: 4,
+        e: 7,
+        rank: 3,
+        parts,
+        blocks,
+    })
+}
+
+/// Matches a row and a column, if both are there and unmatched.
+fn join(matching: &mut Matching, row: Row, col: Col) {
+    if row.0 >= matching.rows() || col.0 >= matching.cols() {
+        return;
+    }
+    if matching.row_of(col).is_some() {
+        return;
+    }
+    if matching.col_of(row).is_some() {
+        return;
+    }
+    matching.pair(row, col);
+}
+
+#[test]
+fn the_summary_and_the_report_of_three_parts(rt: HostRuntime) -> Result<(), Fail> {
+    // Column 1 is matched and column 2 is not.
+    let alloc = rt.alloc();
+    let dec = three_parts(alloc)?;
+    let mut buf = TextBuf::new(alloc)?;
+    let mut out = SteadySink::new(alloc, 100, 9)?;
+    assert_eq!(rt; write_load(&mut out, &mut buf, &dec), Ok(()));
+    let text = b"matrix 4 4 7\nrank 3\nhorizontal 1 2\nsquare 1 1\nvertical 2 1\n";
+    assert_eq!(rt; out.bytes(), text.as_slice());
+
+    let mut matching = Matching::empty(alloc, 4, 4)?;
+    join(&mut matching, Row(2), Col(3));
+    join(&mut matching, Row(0), Col(0));
+    join(&mut matching, Row(1), Col(2));
+    let mut out = SteadySink::new(alloc, 1000, 7)?;
+    assert_eq!(rt;
+        write_report(&mut out, &mut buf, &dec, None, &matching, true, true),
+        Ok(())
+    );
+    let text =
+        b"btf 1\nmatrix 4 4 7\nrank 3\nhorizontal 1 2\nrows 1\ncolumns 1 2\nsquare 1 1\nblock 1 1\nrows 2\ncolumns 3\nvertical 2 1\nrows 3 4\ncolumns 4\nrow_order 1 2 3 4\ncolumn_order 1 2 3 4\npairs 3\n1 1\n2 3\n3 4\nend\n";
+    assert_eq!(rt; out.bytes(), text.as_slice());
+    Ok(())
+}
+
+/// Two rows of two columns each, which are all horizontal.
+pub(crate) fn two_rows(alloc: Global) -> Result<Decomposition, OutOfMemory> {
+    let mut dec = square(alloc, 2, 4, Blocks::new(alloc));
+    dec.n = 4;
+    dec.parts.hr = [Row(0), Row(1)].to_vec(alloc)?;
+    dec.parts.hc = [Col(0), Col(1), Col(2), Col(3)].to_vec(alloc)?;
+    Ok(dec)
+}
+
+/// Each of the rows with its columns.
+pub(crate) fn two_components(alloc: Global) -> Result<Components, OutOfMemory> {
+    let mut horizontal = Blocks::new(alloc);
+    horizontal.push(&[Row(0)], &[Col(0), Col(2)])?;
+    horizontal.push(&[Row(1)], &[Col(1), Col(3)])?;
+    Ok(Components {
+        horizontal,
+        vertical: Blocks::new(alloc),
+    })
+}
+
+#[test]
+fn a_report_that_is_cut_off(rt: HostRuntime) -> Result<(), Fail> {
+    // The second call fails: the buffer's first 65,536 bytes were taken, which end in the list of
+    // rows.
+    let alloc = rt.alloc();
+    let mut dec = square(alloc, 0, 0, Blocks::new(alloc));
+    for row in 0..20_000 {
+        dec.parts.hr.push(Row(row))?;
+    }
+    let matching = Matching::empty(alloc, 0, 0)?;
+    let mut buf = TextBuf::new(alloc)?;
+    let mut failing = MemSink::new(alloc, 200_000, 65_536, [1].to_vec(alloc)?)?;
+    assert_eq!(rt;
+        write_report(&mut failing, &mut buf, &dec, None, &matching, false, true),
+        Err(Failed)
+    );
+    assert_eq!(rt; failing.failed_calls(), 1);
+    let prefix = b"btf 1\nmatrix 0 0 0\nrank 0\nhorizontal 20000 0\nrows 1 2 3";
+    assert!(rt; failing.bytes().starts_with(prefix));
+    Ok(())
+}
+
+#[test]
+fn pairs_alone(rt: HostRuntime) -> Result<(), Fail> {
+    let alloc = rt.alloc();
+    let mut matching = Matching::empty(alloc, 11, 3)?;
+    join(&mut matching, Row(0), Col(2));
+    join(&mut matching, Row(10), Col(0));
+    let mut buf = TextBuf::new(alloc)?;
+    let mut out = SteadySink::new(alloc, 100, 5)?;
+    assert_eq!(rt; write_pairs(&mut out, &mut buf, &matching), Ok(()));
+    assert_eq!(rt; out.bytes(), b"pairs 2\n11 1\n1 3\n".as_slice());
+    Ok(())
+}

@@ -1,0 +1,2 @@
+pub mod ClaimContest
+pub mod FlipContest

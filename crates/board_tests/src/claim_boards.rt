@@ -1,0 +1,184 @@
+//! Boards of claims that were worked out by hand, with two seats or two workers.
+
+ghost use Rattle.std.specs.Prelude.{◌≡◌, ◌<◌, [], ◌∷◌, length, IfOk};
+ghost use Rattle.claim_words.specs.Answers.{col_before};
+ghost use Rattle.claim_words.specs.Listed.{nothing};
+ghost use Rattle.claim_words.specs.Seat.{AreAllSeats, after_claim, first_seat, new_seat};
+ghost use Rattle.claim_words.specs.Settles.{SettlesAll};
+ghost use Rattle.claim_words.specs.WorkerState.{AreAllWorkers, fresh_lists, seated};
+
+use claim_words::{ClaimBoard, ClaimSeat, Claimed, Closed, Won, Worker};
+use sp_ids::{Col, Id, OutOfMemory, Row};
+use std::alloc::Global;
+use std::test::Fail;
+use std::thread::{Threads, join_mut};
+
+// A board and its two seats.
+fn board_for_two(
+    alloc: Global,
+    rows: &[Option<Col>],
+    roots: &[Option<Row>],
+) -> Result<(ClaimBoard, ClaimSeat, ClaimSeat), OutOfMemory>
+    ensures board { IfOk result (λ b. (b.0.rows ≡ rows.now) × (b.0.roots ≡ roots.now)) }
+    ensures seats { IfOk result (λ b. (b.1 ≡ first_seat b.0 2 nothing) × (b.2 ≡ new_seat b.0 1)) }
+{
+    let (board, mut seats) = ClaimBoard::new(alloc, rows, roots, 2)?;
+    let Some(one) = seats.pop() else {
+        unreachable!()
+    };
+    let Some(zero) = seats.pop() else {
+        unreachable!()
+    };
+    Ok((board, zero, one))
+}
+
+fn close_for_two(
+    alloc: Global,
+    board: ClaimBoard,
+    zero: ClaimSeat,
+    one: ClaimSeat,
+) -> Result<Closed, OutOfMemory>
+    requires { AreAllSeats board (zero ∷ one ∷ []) }
+    ensures { IfOk result (λ words. SettlesAll board words (zero ∷ one ∷ [])) }
+{
+    let mut seats = Vec::new(alloc);
+    seats.push(zero)?;
+    seats.push(one)?;
+    match board.close(seats) {
+        Ok(closed) => Ok(closed),
+        Err(_) => Err(OutOfMemory),
+    }
+}
+
+#[test]
+fn a_row_that_was_held_before(rt: HostRuntime) -> Result<(), Fail> {
+    let (board, mut zero, _one) = board_for_two(rt.alloc(), &[Some(Col(0))], &[None])?;
+    assert_eq!(rt;
+        board.claim(&mut zero, Row(0), Col(0)),
+        Claimed::Held(Col(0))
+    );
+    Ok(())
+}
+
+#[test]
+fn one_leaf_for_a_root(rt: HostRuntime) -> Result<(), Fail> {
+    let (board, mut zero, mut one) = board_for_two(rt.alloc(), &[None, None], &[None])?;
+    assert_eq!(rt; board.claim(&mut zero, Row(0), Col(0)), Claimed::Mine);
+    assert_eq!(rt; board.claim(&mut one, Row(1), Col(0)), Claimed::Mine);
+    assert_eq!(rt; board.win(&mut zero, Col(0), Row(0)), Won::Mine);
+    assert_eq!(rt; board.win(&mut one, Col(0), Row(1)), Won::Held(Row(0)));
+    assert_eq!(rt; board.look_root(&mut one, Col(0)), Some(Row(0)));
+    let closed = close_for_two(rt.alloc(), board, zero, one)?;
+    assert_eq!(rt; closed.holder(Row(0)), Some(Col(0)));
+    assert_eq!(rt; closed.holder(Row(1)), Some(Col(0)));
+    assert_eq!(rt; closed.leaf(Col(0)), Some(Row(0)));
+    Ok(())
+}
+
+// Both seats claim the row 0 at once, for the columns 0 and 1.
+fn claim_at_once<R: Threads>(
+    rt: &R,
+    board: &ClaimBoard,
+    zero: &mut ClaimSeat,
+    one: &mut ClaimSeat,
+) -> (Claimed, Claimed)
+    requires seats { (zero.old.board ≡ board.now) × (one.old.board ≡ board.now) }
+    requires row { 0 < length board.now.rows }
+    ensures zero { zero.new ≡ after_claim zero.old 0 0 (col_before result.0) }
+    ensures one { one.new ≡ after_claim one.old 0 1 (col_before result.1) }
+{
+    join_mut(
+        rt,
+        &mut || -> Claimed
+            requires { (zero.now.board ≡ board.now) × (0 < length board.now.rows) }
+            ensures { zero.exit.now ≡ after_claim zero.entry.now 0 0 (col_before result) }
+        { board.claim(zero, Row(0), Col(0)) },
+        &mut || -> Claimed
+            requires { (one.now.board ≡ board.now) × (0 < length board.now.rows) }
+            ensures { one.exit.now ≡ after_claim one.entry.now 0 1 (col_before result) }
+        { board.claim(one, Row(0), Col(1)) },
+    )
+}
+
+// The number of the column that a claim was told of.
+fn holder_of(answer: Claimed) -> Option<u32> {
+    match answer {
+        Claimed::Mine => None,
+        Claimed::Held(col) => Some(col.number()),
+    }
+}
+
+// The column that got the row, where one of the two did and the other was told so.
+fn winner(zero: Claimed, one: Claimed) -> Option<Col> {
+    match (holder_of(zero), holder_of(one)) {
+        (None, Some(0)) => Some(Col(0)),
+        (Some(1), None) => Some(Col(1)),
+        _ => None,
+    }
+}
+
+#[test]
+fn two_threads_on_one_row(rt: HostRuntime) -> Result<(), Fail> {
+    let (board, mut zero, mut one) = board_for_two(rt.alloc(), &[None], &[None, None])?;
+    let (first, second) = claim_at_once(&rt, &board, &mut zero, &mut one);
+    let won = winner(first, second);
+    assert!(rt; won.is_some());
+    let closed = close_for_two(rt.alloc(), board, zero, one)?;
+    assert_eq!(rt; closed.holder(Row(0)), won);
+    Ok(())
+}
+
+// A board of two rows and a root, and its two workers.
+fn board_with_workers(alloc: Global) -> Result<(ClaimBoard, Worker, Worker), OutOfMemory>
+    ensures board { IfOk result (λ b. (length b.0.rows ≡ 2) × (length b.0.roots ≡ 1)) }
+    ensures workers { IfOk result (λ b. (b.1 ≡ seated (first_seat b.0 2 nothing))
+        × (b.2 ≡ seated (new_seat b.0 1))) }
+{
+    let (board, zero, one) = board_for_two(alloc, &[None, None], &[None])?;
+    Ok((board, Worker::new(alloc, zero), Worker::new(alloc, one)))
+}
+
+fn gather_for_two(
+    alloc: Global,
+    board: &ClaimBoard,
+    zero: Worker,
+    one: Worker,
+) -> Result<(Worker, Worker), OutOfMemory>
+    requires { AreAllWorkers board.now (zero ∷ one ∷ []) }
+    ensures all { IfOk result (λ r. AreAllWorkers board.now (r.0 ∷ r.1 ∷ [])) }
+    ensures fresh { IfOk result (λ r. fresh_lists (r.0 ∷ r.1 ∷ [])
+        ≡ fresh_lists (zero ∷ one ∷ [])) }
+{
+    let mut workers = Vec::new(alloc);
+    workers.push(zero)?;
+    workers.push(one)?;
+    board.gather(workers.as_mut_slice());
+    let Some(one) = workers.pop() else {
+        unreachable!()
+    };
+    let Some(zero) = workers.pop() else {
+        unreachable!()
+    };
+    Ok((zero, one))
+}
+
+#[test]
+fn workers_gather_what_they_list(rt: HostRuntime) -> Result<(), Fail> {
+    let (board, mut zero, mut one) = board_with_workers(rt.alloc())?;
+    assert_eq!(rt; zero.claim(&board, Row(0), Col(0))?, Claimed::Mine);
+    assert_eq!(rt; one.claim(&board, Row(0), Col(1))?, Claimed::Held(Col(0)));
+    assert_eq!(rt; one.claim(&board, Row(1), Col(0))?, Claimed::Mine);
+    assert_eq!(rt; one.win(&board, Col(0), Row(1))?, Won::Mine);
+    assert_eq!(rt; zero.look_root(&board, Col(0)), Some(Row(1)));
+    assert_eq!(rt; zero.look_row(&board, Row(1)), Some(Col(0)));
+    let (mut zero, mut one) = gather_for_two(rt.alloc(), &board, zero, one)?;
+    assert_eq!(rt; zero.fresh_claims(), [(Row(0), Col(0))].as_slice());
+    assert_eq!(rt; one.fresh_claims(), [(Row(1), Col(0))].as_slice());
+    assert_eq!(rt; one.fresh_wins(), [(Col(0), Row(1))].as_slice());
+    zero.settle();
+    one.settle();
+    assert!(rt; one.fresh_claims().is_empty() && one.fresh_wins().is_empty());
+    let closed = close_for_two(rt.alloc(), board, zero.into_seat(), one.into_seat())?;
+    assert_eq!(rt; closed.holder(Row(1)), Some(Col(0)));
+    Ok(())
+}

@@ -1,0 +1,52 @@
+//! Workers that do their work at once, and their shares of a list.
+
+use level_sharing::{Work, share, work_at_once};
+use sp_ports::MeetGate;
+use std::convert::Infallible;
+use std::test::Fail;
+
+// Each worker adds its number to what it keeps.
+struct AddNumber;
+
+impl Work<u64, Infallible> for AddNumber {
+    ghost use Rattle.std.specs.Prelude.{◌≡◌, ◌<◌, ◌+◌, ◌^◌};
+
+    ghost can_begin = { λ work number v. number + v < 2 ^ 64 };
+
+    ghost leaves = { λ work number v w. w ≡ v + number };
+
+    ghost completes = { λ work number v w. Unit {0} };
+
+    fn run(&self, number: u32, worker: &mut u64) -> Result<(), Infallible> {
+        *worker += number as u64;
+        Ok(())
+    }
+}
+
+#[test]
+fn each_worker_arrives_once_and_works_once(rt: HostRuntime) -> Result<(), Fail> {
+    let gate = MeetGate::new(rt.alloc())?;
+    let mut sums = [10, 20, 30];
+    let Ok(()) = work_at_once(&rt, &gate, &AddNumber, &mut sums);
+    assert_eq!(rt; sums, [10, 21, 32]);
+    assert_eq!(rt; gate.arrivals(0), 1);
+    assert_eq!(rt; gate.arrivals(1), 1);
+    assert_eq!(rt; gate.arrivals(2), 1);
+    assert_eq!(rt; gate.arrivals(3), 0);
+    assert!(rt; !gate.ran_out());
+    Ok(())
+}
+
+#[test]
+fn five_places_go_to_two_workers(rt: HostRuntime) {
+    let list = [7, 8, 9, 10, 11];
+    assert_eq!(rt; share(&list, 2, 0), [7, 8].as_slice());
+    assert_eq!(rt; share(&list, 2, 1), [9, 10, 11].as_slice());
+}
+
+#[test]
+fn a_share_may_be_empty(rt: HostRuntime) {
+    let list = [7];
+    assert!(rt; share(&list, 2, 0).is_empty());
+    assert_eq!(rt; share(&list, 2, 1), [7].as_slice());
+}

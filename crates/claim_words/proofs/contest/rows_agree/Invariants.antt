@@ -1,5 +1,0 @@
-use Rattle.claim_words.specs.Seat.{IsSameSeat}
-use Rattle.claim_words.proofs.contest.rows_agree.Given as goal
-
-abbrev pub invariant-loop-row : goal.invariant-loop-row
-invariant-loop-row l = IsSameSeat l.initial.seat l.seat

@@ -1,5 +1,0 @@
-use Rattle.claim_words.specs.Seat.{IsSameSeat}
-use Rattle.claim_words.proofs.contest.win_all.Given as goal
-
-abbrev pub invariant-loop-root : goal.invariant-loop-root
-invariant-loop-root l = IsSameSeat l.initial.seat l.seat

@@ -1,0 +1,424 @@
+//! The words of `btf`: which are taken, and the jobs that they name.
+
+use btf_words::{Engine, Job, ReportOptions, Search, WordsError, read_words};
+use std::alloc::{AllocError, Global};
+use std::process::Abort;
+use std::test::Fail;
+
+/// Words of each command with each of its options, a line each, and the job that they name.
+#[rattlefmt::skip]
+static SPELLINGS: [(&str, Job); 60] = [
+    ("rank", Job::Rank { drop_zeros: false }),
+    ("rank --", Job::Rank { drop_zeros: false }),
+    ("rank --drop-zeros", Job::Rank { drop_zeros: true }),
+    ("diagonal", Job::Diagonal { drop_zeros: false }),
+    ("diagonal --", Job::Diagonal { drop_zeros: false }),
+    ("diagonal --drop-zeros", Job::Diagonal { drop_zeros: true }),
+    ("check", Job::Check { drop_zeros: false }),
+    ("check --", Job::Check { drop_zeros: false }),
+    ("check --drop-zeros", Job::Check { drop_zeros: true }),
+    ("bottleneck", Job::Bottleneck { drop_zeros: false }),
+    ("bottleneck --", Job::Bottleneck { drop_zeros: false }),
+    ("bottleneck --drop-zeros", Job::Bottleneck { drop_zeros: true }),
+    ("rank --drop-zeros --", Job::Rank { drop_zeros: true }),
+    ("bottleneck --drop-zeros --", Job::Bottleneck { drop_zeros: true }),
+    ("edit", Job::Edit),
+    ("edit --", Job::Edit),
+    ("analyse", Job::Analyse {
+        search: Search { engine: Engine::Graft, workers: 4 },
+        report: ReportOptions { version: 2, order: false, pairs: false, least: false },
+        drop_zeros: false,
+    }),
+    ("analyse --", Job::Analyse {
+        search: Search { engine: Engine::Graft, workers: 4 },
+        report: ReportOptions { version: 2, order: false, pairs: false, least: false },
+        drop_zeros: false,
+    }),
+    ("analyse --engine plain", Job::Analyse {
+        search: Search { engine: Engine::Plain, workers: 4 },
+        report: ReportOptions { version: 2, order: false, pairs: false, least: false },
+        drop_zeros: false,
+    }),
+    ("analyse --engine=plain", Job::Analyse {
+        search: Search { engine: Engine::Plain, workers: 4 },
+        report: ReportOptions { version: 2, order: false, pairs: false, least: false },
+        drop_zeros: false,
+    }),
+    ("analyse --engine mc21", Job::Analyse {
+        search: Search { engine: Engine::Mc21, workers: 4 },
+        report: ReportOptions { version: 2, order: false, pairs: false, least: false },
+        drop_zeros: false,
+    }),
+    ("analyse --engine=mc21", Job::Analyse {
+        search: Search { engine: Engine::Mc21, workers: 4 },
+        report: ReportOptions { version: 2, order: false, pairs: false, least: false },
+        drop_zeros: false,
+    }),
+    ("analyse --engine pf", Job::Analyse {
+        search: Search { engine: Engine::Pf, workers: 4 },
+        report: ReportOptions { version: 2, order: false, pairs: false, least: false },
+        drop_zeros: false,
+    }),
+    ("analyse --engine=pf", Job::Analyse {
+        search: Search { engine: Engine::Pf, workers: 4 },
+        report: ReportOptions { version: 2, order: false, pairs: false, least: false },
+        drop_zeros: false,
+    }),
+    ("analyse --engine graft", Job::Analyse {
+        search: Search { engine: Engine::Graft, workers: 4 },
+        report: ReportOptions { version: 2, order: false, pairs: false, least: false },
+        drop_zeros: false,
+    }),
+    ("analyse --engine=graft", Job::Analyse {
+        search: Search { engine: Engine::Graft, workers: 4 },
+        report: ReportOptions { version: 2, order: false, pairs: false, least: false },
+        drop_zeros: false,
+    }),
+    ("analyse --order", Job::Analyse {
+        search: Search { engine: Engine::Graft, workers: 4 },
+        report: ReportOptions { version: 2, order: true, pairs: false, least: false },
+        drop_zeros: false,
+    }),
+    ("analyse --pairs", Job::Analyse {
+        search: Search { engine: Engine::Graft, workers: 4 },
+        report: ReportOptions { version: 2, order: false, pairs: true, least: false },
+        drop_zeros: false,
+    }),
+    ("analyse --order --pairs", Job::Analyse {
+        search: Search { engine: Engine::Graft, workers: 4 },
+        report: ReportOptions { version: 2, order: true, pairs: true, least: false },
+        drop_zeros: false,
+    }),
+    ("analyse --pairs --order", Job::Analyse {
+        search: Search { engine: Engine::Graft, workers: 4 },
+        report: ReportOptions { version: 2, order: true, pairs: true, least: false },
+        drop_zeros: false,
+    }),
+    ("analyse --order --engine mc21", Job::Analyse {
+        search: Search { engine: Engine::Mc21, workers: 4 },
+        report: ReportOptions { version: 2, order: true, pairs: false, least: false },
+        drop_zeros: false,
+    }),
+    ("analyse --pairs --engine mc21 --order", Job::Analyse {
+        search: Search { engine: Engine::Mc21, workers: 4 },
+        report: ReportOptions { version: 2, order: true, pairs: true, least: false },
+        drop_zeros: false,
+    }),
+    ("analyse --order --engine=plain --pairs --", Job::Analyse {
+        search: Search { engine: Engine::Plain, workers: 4 },
+        report: ReportOptions { version: 2, order: true, pairs: true, least: false },
+        drop_zeros: false,
+    }),
+    ("analyse --drop-zeros --order", Job::Analyse {
+        search: Search { engine: Engine::Graft, workers: 4 },
+        report: ReportOptions { version: 2, order: true, pairs: false, least: false },
+        drop_zeros: true,
+    }),
+    ("analyse --order --drop-zeros", Job::Analyse {
+        search: Search { engine: Engine::Graft, workers: 4 },
+        report: ReportOptions { version: 2, order: true, pairs: false, least: false },
+        drop_zeros: true,
+    }),
+    ("analyse --least", Job::Analyse {
+        search: Search { engine: Engine::Graft, workers: 4 },
+        report: ReportOptions { version: 2, order: false, pairs: false, least: true },
+        drop_zeros: false,
+    }),
+    ("analyse --least --", Job::Analyse {
+        search: Search { engine: Engine::Graft, workers: 4 },
+        report: ReportOptions { version: 2, order: false, pairs: false, least: true },
+        drop_zeros: false,
+    }),
+    ("analyse --least --pairs", Job::Analyse {
+        search: Search { engine: Engine::Graft, workers: 4 },
+        report: ReportOptions { version: 2, order: false, pairs: true, least: true },
+        drop_zeros: false,
+    }),
+    ("analyse --pairs --least", Job::Analyse {
+        search: Search { engine: Engine::Graft, workers: 4 },
+        report: ReportOptions { version: 2, order: false, pairs: true, least: true },
+        drop_zeros: false,
+    }),
+    ("analyse --order --least", Job::Analyse {
+        search: Search { engine: Engine::Graft, workers: 4 },
+        report: ReportOptions { version: 2, order: true, pairs: false, least: true },
+        drop_zeros: false,
+    }),
+    ("analyse --pairs --least --order", Job::Analyse {
+        search: Search { engine: Engine::Graft, workers: 4 },
+        report: ReportOptions { version: 2, order: true, pairs: true, least: true },
+        drop_zeros: false,
+    }),
+    ("analyse --least --engine mc21 --order", Job::Analyse {
+        search: Search { engine: Engine::Mc21, workers: 4 },
+        report: ReportOptions { version: 2, order: true, pairs: false, least: true },
+        drop_zeros: false,
+    }),
+    ("analyse --engine=mc21 --least", Job::Analyse {
+        search: Search { engine: Engine::Mc21, workers: 4 },
+        report: ReportOptions { version: 2, order: false, pairs: false, least: true },
+        drop_zeros: false,
+    }),
+    ("analyse --pairs --report 1", Job::Analyse {
+        search: Search { engine: Engine::Graft, workers: 4 },
+        report: ReportOptions { version: 1, order: false, pairs: true, least: false },
+        drop_zeros: false,
+    }),
+    ("analyse --report=1 --pairs", Job::Analyse {
+        search: Search { engine: Engine::Graft, workers: 4 },
+        report: ReportOptions { version: 1, order: false, pairs: true, least: false },
+        drop_zeros: false,
+    }),
+    ("analyse --pairs --report 2", Job::Analyse {
+        search: Search { engine: Engine::Graft, workers: 4 },
+        report: ReportOptions { version: 2, order: false, pairs: true, least: false },
+        drop_zeros: false,
+    }),
+    ("analyse --pairs --report +02", Job::Analyse {
+        search: Search { engine: Engine::Graft, workers: 4 },
+        report: ReportOptions { version: 2, order: false, pairs: true, least: false },
+        drop_zeros: false,
+    }),
+    ("analyse --workers 1", Job::Analyse {
+        search: Search { engine: Engine::Graft, workers: 1 },
+        report: ReportOptions { version: 2, order: false, pairs: false, least: false },
+        drop_zeros: false,
+    }),
+    ("analyse --workers 64", Job::Analyse {
+        search: Search { engine: Engine::Graft, workers: 64 },
+        report: ReportOptions { version: 2, order: false, pairs: false, least: false },
+        drop_zeros: false,
+    }),
+    ("analyse --workers=2", Job::Analyse {
+        search: Search { engine: Engine::Graft, workers: 2 },
+        report: ReportOptions { version: 2, order: false, pairs: false, least: false },
+        drop_zeros: false,
+    }),
+    ("analyse --workers 007", Job::Analyse {
+        search: Search { engine: Engine::Graft, workers: 7 },
+        report: ReportOptions { version: 2, order: false, pairs: false, least: false },
+        drop_zeros: false,
+    }),
+    ("analyse --workers +8", Job::Analyse {
+        search: Search { engine: Engine::Graft, workers: 8 },
+        report: ReportOptions { version: 2, order: false, pairs: false, least: false },
+        drop_zeros: false,
+    }),
+    ("analyse --workers 3 --engine pf", Job::Analyse {
+        search: Search { engine: Engine::Pf, workers: 3 },
+        report: ReportOptions { version: 2, order: false, pairs: false, least: false },
+        drop_zeros: false,
+    }),
+    ("load --workers 64 --size 2 --seed 1", Job::Load {
+        size: 2,
+        seed: 1,
+        search: Search { engine: Engine::Graft, workers: 64 },
+    }),
+    ("load --size 1 --seed 0", Job::Load {
+        size: 1,
+        seed: 0,
+        search: Search { engine: Engine::Graft, workers: 4 },
+    }),
+    ("load --seed 0 --size 1 --", Job::Load {
+        size: 1,
+        seed: 0,
+        search: Search { engine: Engine::Graft, workers: 4 },
+    }),
+    ("load --seed=18446744073709551615 --size=16777216", Job::Load {
+        size: 16777216,
+        seed: 18446744073709551615,
+        search: Search { engine: Engine::Graft, workers: 4 },
+    }),
+    ("load --engine mc21 --seed 7 --size 30", Job::Load {
+        size: 30,
+        seed: 7,
+        search: Search { engine: Engine::Mc21, workers: 4 },
+    }),
+    ("load --size 30 --engine=graft --seed 7", Job::Load {
+        size: 30,
+        seed: 7,
+        search: Search { engine: Engine::Graft, workers: 4 },
+    }),
+    ("load --size 007 --engine=plain --seed +4", Job::Load {
+        size: 7,
+        seed: 4,
+        search: Search { engine: Engine::Plain, workers: 4 },
+    }),
+];
+
+/// Words of no command, and words behind a command that takes none.
+static OTHER_COMMANDS: [&str; 51] = [
+    "",
+    "ran",
+    "Rank",
+    "rank rank",
+    "rank analyse",
+    "rank --order",
+    "rank -- rank",
+    "rank -- --",
+    "-- rank",
+    "--",
+    "btf rank",
+    "rank ",
+    "help",
+    "help rank",
+    "--help",
+    "-h",
+    "--version",
+    "-V",
+    "rank --help",
+    "rank -h",
+    "analys",
+    "analyze",
+    "diagonal --pairs",
+    "diagonal diagonal",
+    "diag",
+    "check report",
+    "check --order",
+    "check rank",
+    "rank --engine fast",
+    "rank --drop-zeros --drop-zeros",
+    "rank --drop-zeros=true",
+    "rank --drop_zeros",
+    "check --report 1",
+    "diagonal --drop",
+    "rank --least",
+    "diagonal --least",
+    "check --least",
+    "Edit",
+    "edi",
+    "edit edit",
+    "edit rank",
+    "edit 1",
+    "edit --order",
+    "edit --drop-zeros",
+    "edit -- edit",
+    "bottlenec",
+    "bottlenecks",
+    "bottleneck 1",
+    "bottleneck --least",
+    "bottleneck --drop-zeros=1",
+    "bottleneck --drop-zeros --drop-zeros",
+];
+
+/// Words that ask for no analysis.
+static OTHER_ANALYSES: [&str; 48] = [
+    "analyse --help",
+    "analyse -h",
+    "analyse help",
+    "analyse --engine",
+    "analyse --engine ",
+    "analyse --engine=",
+    "analyse --engine --order",
+    "analyse --engine fast",
+    "analyse --engine=fast",
+    "analyse --engine PF",
+    "analyse --engine pf,mc21",
+    "analyse --engine pf mc21",
+    "analyse --engine pf --engine pf",
+    "analyse --engine=pf --engine mc21",
+    "analyse --eng pf",
+    "analyse -engine pf",
+    "analyse -e pf",
+    "analyse --order --order",
+    "analyse --order=1",
+    "analyse --order=true",
+    "analyse --order=",
+    "analyse --order true",
+    "analyse --ord",
+    "analyse --pairs --pairs",
+    "analyse --pairs=1",
+    "analyse pairs",
+    "analyse -- --order",
+    "analyse --workers",
+    "analyse --workers 0",
+    "analyse --workers 65",
+    "analyse --workers -1",
+    "analyse --workers two",
+    "analyse --workers=",
+    "analyse --workers 2 --workers 2",
+    "--order analyse",
+    "analyse --size 3",
+    "analyse --report",
+    "analyse --report 0",
+    "analyse --report 3",
+    "analyse --report one",
+    "analyse --report 1 --report 1",
+    "analyse --drop-zeros --drop-zeros",
+    "analyse --least --least",
+    "analyse --least --pairs --least",
+    "analyse --least=1",
+    "analyse --least true",
+    "analyse --leas",
+    "analyse least",
+];
+
+/// Words that name no matrix.
+static OTHER_LOADS: [&str; 21] = [
+    "load",
+    "load --size 3",
+    "load --seed 3",
+    "load --size 0 --seed 1",
+    "load --size 16777217 --seed 1",
+    "load --size 1 --seed 18446744073709551616",
+    "load --size 1 --seed -1",
+    "load --size 1 --seed",
+    "load --size  --seed 1",
+    "load --size=1 --seed=",
+    "load --size 1.0 --seed 1",
+    "load --size 0x1 --seed 1",
+    "load --size 1 --size 1 --seed 1",
+    "load --size 1 --seed 1 --engine fast",
+    "load --size 1 --seed 1 --workers 65",
+    "load --size 1 --seed 1 --order",
+    "load --siz 1 --seed 1",
+    "load 1 1",
+    "load --size 1 --seed 1 --drop-zeros",
+    "load --size 1 --seed 1 --report 1",
+    "load --size 1 --seed 1 --least",
+];
+
+/// The words of a line, which one space parts: two spaces side by side hold an empty word.
+pub(crate) fn words_of(alloc: Global, line: &str) -> Result<Vec<String>, AllocError> {
+    let mut words = Vec::new(alloc);
+    for word in line.split(' ') {
+        words.push(String::from_str(alloc, word)?)?;
+    }
+    Ok(words)
+}
+
+/// Reads words that are refused, a line each.
+fn refused<R: Abort + AllocGlobal>(rt: &R, lines: &[&str]) -> Result<(), Fail> {
+    let alloc = rt.alloc();
+    for line in lines {
+        let words = words_of(alloc, line)?;
+        assert_eq!(rt;
+            read_words(alloc, words.as_slice()),
+            Err(WordsError::Usage),
+            "at {line}"
+        );
+    }
+    Ok(())
+}
+
+#[test]
+fn takes_each_command_with_each_option(rt: HostRuntime) -> Result<(), Fail> {
+    let alloc = rt.alloc();
+    for (line, job) in &SPELLINGS {
+        let words = words_of(alloc, line)?;
+        assert_eq!(rt; read_words(alloc, words.as_slice()), Ok(*job), "at {line}");
+    }
+    Ok(())
+}
+
+#[test]
+fn refuses_no_words(rt: HostRuntime) {
+    assert_eq!(rt; read_words(rt.alloc(), &[]), Err(WordsError::Usage));
+}
+
+#[test]
+fn refuses_other_words(rt: HostRuntime) -> Result<(), Fail> {
+    refused(&rt, &OTHER_COMMANDS)?;
+    refused(&rt, &OTHER_ANALYSES)?;
+    refused(&rt, &OTHER_LOADS)
+}
