@@ -15,7 +15,7 @@ use Rattle.integer_diagonal.proofs.Cheap.{cheap_entry}
 use Rattle.integer_diagonal.specs.declared.assignment.Assignment.{Assignment}
 use Rattle.integer_diagonal.specs.declared.search.Search.{Search}
 use Rattle.integer_diagonal.specs.Labels.{IsClear, labels_of, tree_of}
-use Rattle.integer_diagonal.specs.Duals.{IsAssigned, IsAssignment, IsFeasible, Priced, cheap, dual, top}
+use Rattle.integer_diagonal.specs.Duals.{IsAssigned, IsAssignment, IsFeasible, Priced, cheap, dual}
 use Rattle.integer_diagonal.specs.Prices.{AreFair, price}
 use Rattle.sp_pattern.specs.Weights.{Weighing}
 
@@ -36,32 +36,32 @@ singular_shown a m hall rank square none most e horizontal =
 
 -- the prices as they are answered
 module _ (x : Priced) (u v : List ℤ) where
-  row_price : u ≡ map (λ p. pos p -ℤ pos top) x.prices → (r : ℕ) → r < length x.prices → price u r ≡ pos (slice_index x.prices r) -ℤ pos top
-  row_price e r lt = ap (λ (z : List ℤ). price z r) e ∙ get_or-map (λ p. pos p -ℤ pos top) x.prices r 0 (pos 0) lt
+  row_price : u ≡ map (λ p. pos p -ℤ pos x.top) x.prices → (r : ℕ) → r < length x.prices → price u r ≡ pos (slice_index x.prices r) -ℤ pos x.top
+  row_price e r lt = ap (λ (z : List ℤ). price z r) e ∙ get_or-map (λ p. pos p -ℤ pos x.top) x.prices r 0 (pos 0) lt
 
-  col_price : v ≡ map (λ o. pos (top + top) -ℤ pos o) x.duals → (c : ℕ) → c < length x.duals → price v c ≡ pos (top + top) -ℤ pos (dual x c)
-  col_price e c lt = ap (λ (z : List ℤ). price z c) e ∙ get_or-map (λ o. pos (top + top) -ℤ pos o) x.duals c 0 (pos 0) lt
+  col_price : v ≡ map (λ o. pos (x.top + x.top) -ℤ pos o) x.duals → (c : ℕ) → c < length x.duals → price v c ≡ pos (x.top + x.top) -ℤ pos (dual x c)
+  col_price e c lt = ap (λ (z : List ℤ). price z c) e ∙ get_or-map (λ o. pos (x.top + x.top) -ℤ pos o) x.duals c 0 (pos 0) lt
 
-  pub fair_prices : (m n : List Place) → IsFeasible x → IsMatching (cheap x) m → ((r c : ℕ) → Among (r, c) n → Among (r, c) m) → u ≡ map (λ p. pos p -ℤ pos top) x.prices → v ≡ map (λ o. pos (top + top) -ℤ pos o) x.duals → AreFair x.weighing n u v
+  pub fair_prices : (m n : List Place) → IsFeasible x → IsMatching (cheap x) m → ((r c : ℕ) → Among (r, c) n → Among (r, c) m) → u ≡ map (λ p. pos p -ℤ pos x.top) x.prices → v ≡ map (λ o. pos (x.top + x.top) -ℤ pos o) x.duals → AreFair x.weighing n u v
   fair_prices m n f k part eu ev = record {
-    by_row = ap (λ (z : List ℤ). length z) eu ∙ length-map x.prices (λ p. pos p -ℤ pos top) ∙ f.prices_are;
-    by_col = ap (λ (z : List ℤ). length z) ev ∙ length-map x.duals (λ o. pos (top + top) -ℤ pos o) ∙ f.duals_are;
+    by_row = ap (λ (z : List ℤ). length z) eu ∙ length-map x.prices (λ p. pos p -ℤ pos x.top) ∙ f.prices_are;
+    by_col = ap (λ (z : List ℤ). length z) ev ∙ length-map x.duals (λ o. pos (x.top + x.top) -ℤ pos o) ∙ f.duals_are;
     covers = λ r c e. (let (eru, ecv) = both r c e in let low = f.covers r c e in let small = f.small r c e in omega (arith, ints, eru, ecv, low, small));
     meets = λ r c h. (let on = part r c h in let e = (cheap_entry x r c (k.entries r c on)).0 in let met = pair_cheap x m r c k on in let (eru, ecv) = both r c e in let small = f.small r c e in omega (arith, ints, eru, ecv, met, small));
   }
     where
-      both : (r c : ℕ) → IsEntry x.weighing.matrix r c → (price u r ≡ pos (slice_index x.prices r) -ℤ pos top) × (price v c ≡ pos (top + top) -ℤ pos (dual x c))
+      both : (r c : ℕ) → IsEntry x.weighing.matrix r c → (price u r ≡ pos (slice_index x.prices r) -ℤ pos x.top) × (price v c ≡ pos (x.top + x.top) -ℤ pos (dual x c))
       both r c e = (row_price eu r (let in_rows = e.0 in let long = f.prices_are in omega (arith, in_rows, long)), col_price ev c (let in_cols = entry_col x.weighing.matrix r c e in let long = f.duals_are in omega (arith, in_cols, long)))
 
 -- the columns below n have mates, and the search is ready for the next one
-pub record AreMated (w : Weighing) (rows : ℕ) (a : Assignment) (s : Search) (n : ℕ) : Type 0 where
+pub record AreMated {W : Type 0} (w : Weighing) (rows : ℕ) (a : Assignment W) (s : Search W) (n : ℕ) : Type 0 where
   pub assignment : IsAssignment w a
   pub clear : IsClear rows (tree_of s) (labels_of s)
   pub listed : s.reached.items ≡ []
   pub done : (c : ℕ) → c < n → Among c (cols_of a.matching.pairs)
 
-pub mated_same : (w : Weighing) (rows : ℕ) (a : Assignment) (s : Search) (n : ℕ) → AreMated w rows a s n → Among n (cols_of a.matching.pairs) → AreMated w rows a s (n + 1)
+pub mated_same : {W : Type 0} (w : Weighing) (rows : ℕ) (a : Assignment W) (s : Search W) (n : ℕ) → AreMated w rows a s n → Among n (cols_of a.matching.pairs) → AreMated w rows a s (n + 1)
 mated_same w rows a s n m on = record { assignment = m.assignment; clear = m.clear; listed = m.listed; done = below_more (λ c. Among c (cols_of a.matching.pairs)) n m.done on }
 
-pub mated_next : (w : Weighing) (rows : ℕ) (a b : Assignment) (s t : Search) (n : ℕ) → AreMated w rows a s n → IsAssignment w b → Covers a.matching.pairs b.matching.pairs → Among n (cols_of b.matching.pairs) × IsClear rows (tree_of t) (labels_of t) × (t.reached.items ≡ []) → AreMated w rows b t (n + 1)
+pub mated_next : {W : Type 0} (w : Weighing) (rows : ℕ) (a b : Assignment W) (s t : Search W) (n : ℕ) → AreMated w rows a s n → IsAssignment w b → Covers a.matching.pairs b.matching.pairs → Among n (cols_of b.matching.pairs) × IsClear rows (tree_of t) (labels_of t) × (t.reached.items ≡ []) → AreMated w rows b t (n + 1)
 mated_next w rows a b s t n m assignment covered found = record { assignment = assignment; clear = found.1; listed = found.2; done = below_more (λ c. Among c (cols_of b.matching.pairs)) n (λ c lt. covered.cols c (m.done c lt)) found.0 }

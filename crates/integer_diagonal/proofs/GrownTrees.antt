@@ -7,13 +7,14 @@ use Rattle.bip_defs.specs.Matching.{IsMatching, cols_of}
 use Rattle.bip_defs.specs.Matrix.{IsEntry, Place, cols}
 use Rattle.bip_defs.proofs.Counts.{distinct_append}
 use Rattle.bip_defs.proofs.Sets.{among_last, col_among, entry_col, marked_more, number_same, one_row}
-use Rattle.integer_diagonal.proofs.Bounds.{queue_short, within_all}
+use Rattle.integer_diagonal.proofs.Bounds.{places_add, within_all}
 use Rattle.integer_diagonal.proofs.Cheap.{cheap_entry}
 use Rattle.integer_diagonal.proofs.SearchInvariant.{listed_same, listed_settled}
 use Rattle.integer_diagonal.specs.declared.search.Nearest.{Nearest}
 use Rattle.integer_diagonal.specs.Labels.{AreBeyond, AreKnown, AreListed, IsBest, IsClear, IsKept, IsKnown, Labels, Takes, distance_of}
-use Rattle.integer_diagonal.specs.Duals.{IsBounded, Priced, cheap, cost, dual, paid, top}
-use Rattle.integer_diagonal.specs.SearchTree.{IsGrown, IsLedTo, IsSearched, IsStuck, IsTaken, Reaches, Tree, depth, far, stop}
+use Rattle.integer_diagonal.specs.Duals.{IsBounded, Priced, cheap, cost, dual, paid}
+use Rattle.integer_diagonal.specs.SearchTree.{IsGrown, IsLedTo, IsSearched, IsStuck, IsTaken, Reaches, Tree, depth, stop}
+use Rattle.integer_diagonal.specs.Amounts.{HasRoom, far}
 use Rattle.bip_defs.specs.Queues.{at, heads}
 use Rattle.bip_defs.proofs.Queues.{at_push, heads_push, place_of}
 
@@ -159,8 +160,8 @@ kept_more x m root t l k level d r c p limit match kept g takes lt pair = subst 
         let same = ap (depth (more t c p d)) is ∙ last_depth t c p d g.long in
         omega (arith, same)
 
-pub best_more : (x : Priced) (m : List Place) (t : Tree) (n : Nearest) (level c p d : ℕ) → length t.depths ≡ length t.queue → IsBest x m t n level → d < n.distance → IsBest x m (more t c p d) n d
-best_more x m t n level c p d long best below = record { nearest = λ near. record { reaches = reaches_more x t c p d n.row n.place n.distance long (best.nearest near).reaches; free = (best.nearest near).free }; above = omega (arith, below) }
+pub best_more : {W : Type 0} (x : Priced) (m : List Place) (t : Tree) (n : Nearest W) (level c p d : ℕ) → length t.depths ≡ length t.queue → IsBest x m t n level → d < n.distance → IsBest x m (more t c p d) n d
+best_more x m t n level c p d long best below = record { nearest = λ near. record { reaches = reaches_more x t c p d n.row n.place n.distance long (best.nearest near).reaches; free = (best.nearest near).free }; above = omega (arith, below); within = best.within }
 
 pub known_more : (x : Priced) (t : Tree) (l : Labels) (limit c p d r : ℕ) → length t.depths ≡ length t.queue → AreKnown x t l limit (length t.queue) → AreKnown x (more t c p d) (settle l r) limit (length t.queue)
 known_more x t l limit c p d r long known i s lt entry =
@@ -210,7 +211,7 @@ kept_start x m root rows t l e clear = record {
 
 -- The end.
 
-pub searched : (x : Priced) (m : List Place) (t : Tree) (l : Labels) (n : Nearest) (level : ℕ) → IsKept x m t l level → IsBest x m t n level → AreKnown x t l n.distance (length t.queue) → AreBeyond l n.distance → IsSearched x m t n.distance
+pub searched : {W : Type 0} (x : Priced) (m : List Place) (t : Tree) (l : Labels) (n : Nearest W) (level : ℕ) → IsKept x m t l level → IsBest x m t n level → AreKnown x t l n.distance (length t.queue) → AreBeyond l n.distance → IsSearched x m t n.distance
 searched x m t l n level kept best known beyond = record {
   depths = λ i lt. (let low = kept.depths i lt in let above = best.above in omega (arith, low, above));
   closed = λ i r lt entry. closed i r (known i r lt entry);
@@ -224,17 +225,17 @@ searched x m t l n level kept best known beyond = record {
     closed i r (inl (near, le)) = ⊎_elim (λ mark. inl (taken i r mark le)) (λ h. ⊎_elim (λ mark. inl (taken i r mark le)) (λ low. inr (omega (arith, low, le))) (beyond (distance_of l r, r) h)) (kept.waiting r near)
 
 -- no distance is as large as the one that stands for none
-pub search_stuck : (x : Priced) (m : List Place) (root : ℕ) (t : Tree) (l : Labels) (n : Nearest) (level : ℕ) → IsMatching (cheap x) m → IsBounded x m → cols x.weighing.matrix < 2 ^ 32 → IsGrown x m root t → IsKept x m t l level → IsBest x m t n level → AreKnown x t l n.distance (length t.queue) → AreBeyond l n.distance → n.distance ≡ far → IsStuck x m t
-search_stuck x m root t l n level match bounded few g kept best known beyond none i r lt entry = by ((searched x m t l n level kept best known beyond).closed i r lt entry)
+pub search_stuck : {W : Type 0} (x : Priced) (m : List Place) (root : ℕ) (t : Tree) (l : Labels) (n : Nearest W) (level limit : ℕ) → HasRoom (cols x.weighing.matrix) x.top limit → limit ≤ 2 ^ 100 → IsMatching (cheap x) m → IsBounded x m → IsGrown x m root t → IsKept x m t l level → IsBest x m t n level → AreKnown x t l n.distance (length t.queue) → AreBeyond l n.distance → n.distance ≡ far → IsStuck x m t
+search_stuck x m root t l n level limit room small match bounded g kept best known beyond none i r lt entry = by ((searched x m t l n level kept best known beyond).closed i r lt entry)
   where
     by : IsTaken x m t i r ⊎ (n.distance + dual x (stop t i) ≤ depth t i + paid x r (stop t i)) → (j : ℕ) × (0 < j) × (j < length t.queue) × Among (r, stop t j) m
     by (inl (j, above, within, pair, le)) = (j, above, within, pair)
     by (inr le) =
         let near = (within_all x m root t match g i lt).near in
-        let short = queue_short x m root t g in
+        let part = places_add x m root t i g lt in
         let low = bounded.prices r in
-        let one : cost x.weighing r (stop t i) ≤ top = omega arith in
-        absurd (omega (arith, le, near, short, low, one, none, few, lt))
+        let one : cost x.top x.weighing r (stop t i) ≤ x.top = omega arith in
+        absurd (omega (arith, le, near, part, low, one, none, room, small))
 
 -- A step of the search as a whole.
 
@@ -253,7 +254,7 @@ taken_reaches x m t l k level d r limit kept takes =
     let same = (taken_distance x m t l k level d r limit kept takes).0 in
     subst (λ (z : Labels). Reaches x t r (slice_index z.parents r) d) (sym takes.is) (subst (Reaches x t r (slice_index l.parents r)) same (kept.reached r near))
 
-pub record IsStep (x : Priced) (m : List Place) (root : ℕ) (t2 : Tree) (k2 : Labels) (n : Nearest) (rows : List ℕ) (d long : ℕ) : Type 0 where
+pub record IsStep {W : Type 0} (x : Priced) (m : List Place) (root : ℕ) (t2 : Tree) (k2 : Labels) (n : Nearest W) (rows : List ℕ) (d long : ℕ) : Type 0 where
   pub grown : IsGrown x m root t2
   pub kept : IsKept x m t2 k2 d
   pub best : IsBest x m t2 n d
@@ -262,7 +263,7 @@ pub record IsStep (x : Priced) (m : List Place) (root : ℕ) (t2 : Tree) (k2 : L
   pub last : depth t2 long ≡ d
   pub longer : length t2.queue ≡ long + 1
 
-pub stepped : (x : Priced) (m : List Place) (root : ℕ) (t t1 t2 : Tree) (l k k2 : Labels) (n : Nearest) (rows rows2 : List ℕ) (level d r c long : ℕ) → IsMatching (cheap x) m → IsGrown x m root t → IsKept x m t l level → IsBest x m t n level → AreKnown x t l n.distance (length t.queue) → AreListed l rows → Takes l k d r n.distance → t1 ≡ t → Among (r, c) m → t2 ≡ more t1 c (slice_index k.parents r) d → k2 ≡ settle k r → rows2 ≡ rows → long ≡ length t1.queue → IsStep x m root t2 k2 n rows2 d long
+pub stepped : {W : Type 0} (x : Priced) (m : List Place) (root : ℕ) (t t1 t2 : Tree) (l k k2 : Labels) (n : Nearest W) (rows rows2 : List ℕ) (level d r c long : ℕ) → IsMatching (cheap x) m → IsGrown x m root t → IsKept x m t l level → IsBest x m t n level → AreKnown x t l n.distance (length t.queue) → AreListed l rows → Takes l k d r n.distance → t1 ≡ t → Among (r, c) m → t2 ≡ more t1 c (slice_index k.parents r) d → k2 ≡ settle k r → rows2 ≡ rows → long ≡ length t1.queue → IsStep x m root t2 k2 n rows2 d long
 stepped x m root t t1 t2 l k k2 n rows rows2 level d r c long match g kept best known listed takes same pair tree labels rows_are long_is =
     let near = (kept.waits d r takes.was).2 in
     let reaches = taken_reaches x m t l k level d r n.distance kept takes in

@@ -1,3 +1,4 @@
+pub mod AmountTests
 pub mod AnswerLemmas
 pub mod Augmented
 pub mod Bounds
@@ -10,6 +11,7 @@ pub mod Levels
 pub mod PathLemmas
 pub mod RaisedDuals
 pub mod RaisedPrices
+pub mod Repeated
 pub mod ScanLemmas
 pub mod SearchInvariant
 pub mod StartLemmas

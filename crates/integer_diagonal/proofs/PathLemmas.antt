@@ -1,5 +1,5 @@
 -- What an exchanged path from a search leaves.
-use Rattle.std.proofs.Common.{◌≡◌, ◌≢◌, ◌⊎◌, ◌∙◌, ℕ, ◌+◌, ◌^◌, ◌<◌, List, [], ◌∷◌, length, slice_index, refl, sym, ap, subst, inl, ⊎_elim, arith}
+use Rattle.std.proofs.Common.{◌≡◌, ◌≢◌, ◌⊎◌, ◌∙◌, ℕ, ◌+◌, ◌<◌, List, [], ◌∷◌, length, slice_index, refl, sym, ap, subst, inl, ⊎_elim, arith}
 use Rattle.std.proofs.lemmas.List.{length-map}
 use Rattle.bip_defs.specs.Lists.{Among}
 use Rattle.bip_defs.specs.Matching.{Covers, IsMatching, cols_of, rows_of}
@@ -13,7 +13,8 @@ use Rattle.integer_diagonal.proofs.Cheap.{cheap_cols}
 use Rattle.integer_diagonal.proofs.Augmented.{bounded_next, distance_small, dual_small}
 use Rattle.integer_diagonal.proofs.RaisedPrices.{raised_end, raised_entry, raised_feasible, raised_matching}
 use Rattle.integer_diagonal.specs.Duals.{IsAssigned, IsBounded, Priced, cheap, dual}
-use Rattle.integer_diagonal.specs.SearchTree.{IsGrown, IsNearest, IsRaised, IsSearched, Tree, far, stop}
+use Rattle.integer_diagonal.specs.SearchTree.{IsGrown, IsNearest, IsRaised, IsSearched, Tree, stop}
+use Rattle.integer_diagonal.specs.Amounts.{HasRoom, far}
 use Rattle.sp_pattern.specs.Weights.{Weighing}
 use Rattle.bip_defs.specs.Queues.{Queue, at, heads}
 use Rattle.bip_defs.proofs.Queues.{head_at, place_of}
@@ -50,17 +51,18 @@ pub found_near : (x : Priced) (m : List Place) (root : ℕ) (s t : Tree) (row pl
 found_near x m root s t row place distance e f grown near lt = subst (λ q. IsFound x m root (record { queue = q; depths = t.depths }) row place distance) (sym e) (subst (λ d. IsFound x m root (record { queue = s.queue; depths = d }) row place distance) (sym f) (record { grown = grown; nearest = (near lt).0; searched = (near lt).1 }))
 
 -- raised prices and dual variables fit
-pub dual_fits : (x : Priced) (m : List Place) (root : ℕ) (t : Tree) (row place distance c : ℕ) → IsMatching (cheap x) m → IsBounded x m → cols x.weighing.matrix < 2 ^ 32 → IsFound x m root t row place distance → dual x c + distance < 2 ^ 128
-dual_fits x m root t row place distance c k b few f =
-    let low = dual_small x m c k b in
-    let near = distance_small x m root t row place distance k b few f.grown f.nearest in
-    omega (arith, low, near)
+module _ (x : Priced) (m : List Place) (root : ℕ) (t : Tree) (row place distance limit : ℕ) where
+  pub dual_fits : (c : ℕ) → HasRoom (cols x.weighing.matrix) x.top limit → IsMatching (cheap x) m → IsBounded x m → IsFound x m root t row place distance → dual x c + distance < limit
+  dual_fits c room k b f =
+      let low = dual_small x m c k b in
+      let near = distance_small x m root t row place distance k b f.grown f.nearest in
+      omega (arith, low, near, room)
 
-pub price_fits : (x : Priced) (m : List Place) (root : ℕ) (t : Tree) (row place distance r : ℕ) → IsMatching (cheap x) m → IsBounded x m → cols x.weighing.matrix < 2 ^ 32 → IsFound x m root t row place distance → slice_index x.prices r + distance < 2 ^ 128
-price_fits x m root t row place distance r k b few f =
-    let low = b.prices r in
-    let near = distance_small x m root t row place distance k b few f.grown f.nearest in
-    omega (arith, low, near)
+  pub price_fits : (r : ℕ) → HasRoom (cols x.weighing.matrix) x.top limit → IsMatching (cheap x) m → IsBounded x m → IsFound x m root t row place distance → slice_index x.prices r + distance < limit
+  price_fits r room k b f =
+      let low = b.prices r in
+      let near = distance_small x m root t row place distance k b f.grown f.nearest in
+      omega (arith, low, near, room)
 
 -- what the path leads back over, as prices are now
 pub record IsWay (a : Matrix) (k : Pairing) (q : Queue) (row place : ℕ) : Type 0 where
@@ -106,22 +108,22 @@ pub record IsExtended (y : Priced) (m n : Pairing) (root : ℕ) : Type 0 where
   pub covered : Covers m.pairs n.pairs
   pub mated : Among root (cols_of n.pairs)
 
-module _ (w : Weighing) (prices duals prices2 duals2 : List ℕ) (m k : Pairing) (root : ℕ) (t : Tree) (row place distance : ℕ) where
+module _ (w : Weighing) (top : ℕ) (prices duals prices2 duals2 : List ℕ) (m k : Pairing) (root : ℕ) (t : Tree) (row place distance : ℕ) where
   abbrev pub x : Priced
-  x = record { weighing = w; prices = prices; duals = duals }
+  x = record { weighing = w; top = top; prices = prices; duals = duals }
 
   abbrev pub y : Priced
-  y = record { weighing = w; prices = prices2; duals = duals2 }
+  y = record { weighing = w; top = top; prices = prices2; duals = duals2 }
 
   pub way : k ≡ m → IsAssigned x m → IsFound x m.pairs root t row place distance → IsRaised x y m.pairs t distance → IsWay (cheap y) k t.queue row place
   way same a f u = subst (λ z. IsWay (cheap y) z t.queue row place) (sym same) (record {
     rows_are = sym a.rows_are;
     cols_are = cheap_cols y ∙ sym a.cols_are;
-    matching = raised_matching w prices duals prices2 duals2 m.pairs root t distance a.matching f.grown f.searched u;
+    matching = raised_matching w top prices duals prices2 duals2 m.pairs root t distance a.matching f.grown f.searched u;
     queue = queue;
     within = f.nearest.reaches.within;
-    entries = λ r c. raised_entry w prices duals prices2 duals2 m.pairs root t distance r c a.matching.cols_differ f.grown u;
-    end = raised_end w prices duals prices2 duals2 m.pairs root t distance row place f.nearest u;
+    entries = λ r c. raised_entry w top prices duals prices2 duals2 m.pairs root t distance r c a.matching.cols_differ f.grown u;
+    end = raised_end w top prices duals prices2 duals2 m.pairs root t distance row place f.nearest u;
     free = f.nearest.free;
   })
     where
@@ -131,14 +133,14 @@ module _ (w : Weighing) (prices duals prices2 duals2 : List ℕ) (m k : Pairing)
       queue : IsQueue m t.queue
       queue = record { in_range = λ c h. subst (λ n. c < n) (sym a.cols_are) (f.grown.in_range c h); distinct = f.grown.distinct; earlier = earlier }
 
-  pub extended : (n : Pairing) (path : List Place) → k ≡ m → IsAssigned x m → cols w.matrix < 2 ^ 32 → IsFound x m.pairs root t row place distance → IsRaised x y m.pairs t distance → IsFlipped (cheap y) k n t.queue path → IsExtended y m n root
-  extended n path same a few f u from = record {
+  pub extended : (n : Pairing) (path : List Place) → k ≡ m → IsAssigned x m → IsFound x m.pairs root t row place distance → IsRaised x y m.pairs t distance → IsFlipped (cheap y) k n t.queue path → IsExtended y m n root
+  extended n path same a f u from = record {
     assigned = record {
       rows_are = flipped.sizes.0 ∙ a.rows_are;
       cols_are = flipped.sizes.1 ∙ a.cols_are;
-      feasible = raised_feasible w prices duals prices2 duals2 m.pairs root t distance a.feasible f.grown f.searched u;
+      feasible = raised_feasible w top prices duals prices2 duals2 m.pairs root t distance a.feasible f.grown f.searched u;
       matching = flipped.matching;
-      bounded = bounded_next x y m.pairs n.pairs root t row place distance a.matching a.bounded few f.grown f.nearest u flipped.covered on_root;
+      bounded = bounded_next x y m.pairs n.pairs root t row place distance a.matching a.bounded f.grown f.nearest u flipped.covered on_root;
     };
     covered = flipped.covered;
     mated = on_root;

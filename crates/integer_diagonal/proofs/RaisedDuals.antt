@@ -115,9 +115,10 @@ prices_keep m q depths distance k old new c is free h = record {
     up i r lt pair (inr ne) = h.up i r (omega arith) pair
 
 -- all have risen
-pub all_raised : (w : Weighing) (prices duals prices2 duals2 : List ℕ) (m : List Place) (q : Queue) (depths : List ℕ) (distance k : ℕ) → k ≡ length q → DualsRise q depths distance k duals duals2 → PricesRise m q depths distance k prices prices2 → IsRaised (record { weighing = w; prices = prices; duals = duals }) (record { weighing = w; prices = prices2; duals = duals2 }) m (record { queue = q; depths = depths }) distance
-all_raised w prices duals prices2 duals2 m q depths distance k all o p = record {
+pub all_raised : (w : Weighing) (top : ℕ) (prices duals prices2 duals2 : List ℕ) (m : List Place) (q : Queue) (depths : List ℕ) (distance k : ℕ) → k ≡ length q → DualsRise q depths distance k duals duals2 → PricesRise m q depths distance k prices prices2 → IsRaised (record { weighing = w; top = top; prices = prices; duals = duals }) (record { weighing = w; top = top; prices = prices2; duals = duals2 }) m (record { queue = q; depths = depths }) distance
+all_raised w top prices duals prices2 duals2 m q depths distance k all o p = record {
   same = refl;
+  top = refl;
   prices_are = p.long;
   duals_are = o.long;
   cols_up = λ i lt. o.up i (omega arith);

@@ -12,12 +12,12 @@ use Rattle.sp_pattern.specs.Weights.{Weighing}
 use Rattle.bip_defs.specs.Queues.{at, heads}
 use Rattle.bip_defs.proofs.Queues.{head_at, place_of}
 
-module _ (w : Weighing) (prices duals prices2 duals2 : List ℕ) (m : List Place) (root : ℕ) (t : Tree) (distance : ℕ) where
+module _ (w : Weighing) (top : ℕ) (prices duals prices2 duals2 : List ℕ) (m : List Place) (root : ℕ) (t : Tree) (distance : ℕ) where
   abbrev pub x : Priced
-  x = record { weighing = w; prices = prices; duals = duals }
+  x = record { weighing = w; top = top; prices = prices; duals = duals }
 
   abbrev pub y : Priced
-  y = record { weighing = w; prices = prices2; duals = duals2 }
+  y = record { weighing = w; top = top; prices = prices2; duals = duals2 }
 
   pub raised_feasible : IsFeasible x → IsGrown x m root t → IsSearched x m t distance → IsRaised x y m t distance → IsFeasible y
   raised_feasible f g s u = record {

@@ -1,13 +1,14 @@
 -- One entry of the column that is looked at.
-use Rattle.std.proofs.Common.{◌≡◌, ◌≢◌, ◌⊎◌, ◌∙◌, ℕ, slice_index, ◌+◌, ◌-◌, ◌^◌, ◌<◌, ◌≤◌, List, length, get_or, sym, ap, subst, inl, inr, arith}
+use Rattle.std.proofs.Common.{◌≡◌, ◌≢◌, ◌⊎◌, ◌∙◌, ℕ, slice_index, ◌+◌, ◌-◌, ◌<◌, ◌≤◌, List, length, get_or, sym, ap, subst, inl, inr, arith}
 use Rattle.std.proofs.lemmas.List.{get_or_read}
 use Rattle.bip_defs.specs.Lists.{Among, Lists}
 use Rattle.bip_defs.specs.Matching.{IsMatching}
 use Rattle.bip_defs.specs.Matrix.{IsEntry, Matrix, Place, cols, column}
 use Rattle.bip_defs.proofs.Sets.{among_at, number_same, place_among}
-use Rattle.integer_diagonal.proofs.Bounds.{within_all}
+use Rattle.integer_diagonal.proofs.Bounds.{places_add, within_all}
 use Rattle.integer_diagonal.specs.Labels.{AreKnown, IsKnown, Labels}
-use Rattle.integer_diagonal.specs.Duals.{IsBounded, IsFeasible, Priced, cheap, dual, paid, top}
+use Rattle.integer_diagonal.specs.Duals.{IsBounded, IsFeasible, Priced, cheap, dual, paid}
+use Rattle.integer_diagonal.specs.Amounts.{HasRoom}
 use Rattle.integer_diagonal.specs.SearchTree.{IsGrown, Reaches, Tree, depth, stop}
 use Rattle.sp_pattern.specs.Weights.{weight_at}
 use Rattle.bip_defs.proofs.Queues.{head_at}
@@ -43,34 +44,38 @@ make_scan x m root t place k rows weights q dep out price r row f g lt qe de oe 
     }
 
 module _ (x : Priced) (t : Tree) (place row price weight out dep : ℕ) where
-  scan_paid : IsScan x t place row price weight out dep → price + (top - weight) ≡ paid x row (stop t place)
-  scan_paid s = ap (λ z. z + (top - weight)) s.price_is ∙ ap (λ z. slice_index x.prices row + (top - z)) s.weight_is
+  scan_paid : IsScan x t place row price weight out dep → price + (x.top - weight) ≡ paid x row (stop t place)
+  scan_paid s = ap (λ z. z + (x.top - weight)) s.price_is ∙ ap (λ z. slice_index x.prices row + (x.top - z)) s.weight_is
 
-  pub scan_covers : IsFeasible x → IsScan x t place row price weight out dep → out ≤ price + (top - weight)
+  pub scan_small : IsFeasible x → IsScan x t place row price weight out dep → weight ≤ x.top
+  scan_small f s = let weight_is = s.weight_is in let small = f.small row (stop t place) s.entry in omega (arith, weight_is, small)
+
+  pub scan_covers : IsFeasible x → IsScan x t place row price weight out dep → out ≤ price + (x.top - weight)
   scan_covers f s =
       let paid_is = scan_paid s in
       let covers = f.covers row (stop t place) s.entry in
       let out_is = s.out_is in
       omega (arith, paid_is, covers, out_is)
 
-  pub scan_fits_price : (m : List Place) → IsBounded x m → price ≡ slice_index x.prices row → price + (top - weight) < 2 ^ 128
-  scan_fits_price m b e =
+  pub scan_fits_price : (m : List Place) (limit : ℕ) → HasRoom (cols x.weighing.matrix) x.top limit → IsBounded x m → price ≡ slice_index x.prices row → price + (x.top - weight) < limit
+  scan_fits_price m limit room b e =
       let low = b.prices row in
-      let one : top - weight ≤ top = omega arith in
-      omega (arith, low, one, e)
+      let one : x.top - weight ≤ x.top = omega arith in
+      omega (arith, low, one, e, room)
 
-  pub scan_fits : (m : List Place) (root : ℕ) → IsFeasible x → IsMatching (cheap x) m → IsBounded x m → IsGrown x m root t → place < length t.queue → place < 2 ^ 32 → IsScan x t place row price weight out dep → dep + (price + (top - weight) - out) < 2 ^ 100
-  scan_fits m root f k b g lt few s =
+  pub scan_fits : (m : List Place) (root limit : ℕ) → HasRoom (cols x.weighing.matrix) x.top limit → IsFeasible x → IsMatching (cheap x) m → IsBounded x m → IsGrown x m root t → place < length t.queue → IsScan x t place row price weight out dep → dep + (price + (x.top - weight) - out) < limit
+  scan_fits m root limit room f k b g lt s =
       let covers = scan_covers f s in
       let low = b.prices row in
-      let one : top - weight ≤ top = omega arith in
+      let one : x.top - weight ≤ x.top = omega arith in
       let near = (within_all x m root t k g place lt).near in
       let price_is = s.price_is in
       let out_is = s.out_is in
       let dep_is = s.dep_is in
-      omega (arith, low, one, near, price_is, out_is, dep_is, few, covers)
+      let part = places_add x m root t place g lt in
+      omega (arith, low, one, near, price_is, out_is, dep_is, covers, part, room)
 
-  pub scan_reaches : IsFeasible x → place < length t.queue → IsScan x t place row price weight out dep → Reaches x t row place (dep + (price + (top - weight) - out))
+  pub scan_reaches : IsFeasible x → place < length t.queue → IsScan x t place row price weight out dep → Reaches x t row place (dep + (price + (x.top - weight) - out))
   scan_reaches f lt s = record {
     within = lt;
     entry = s.entry;

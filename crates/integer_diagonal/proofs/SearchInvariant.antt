@@ -8,7 +8,8 @@ use Rattle.bip_defs.proofs.Sets.{among_last, among_left, is_among, number_same}
 use Rattle.integer_diagonal.specs.declared.search.Nearest.{Nearest}
 use Rattle.integer_diagonal.specs.Labels.{AreBeyond, AreListed, IsBest, IsClear, IsKept, IsKnown, Labels, Looks, Puts, Takes, distance_of, put}
 use Rattle.integer_diagonal.specs.Duals.{Priced}
-use Rattle.integer_diagonal.specs.SearchTree.{Reaches, Tree, far}
+use Rattle.integer_diagonal.specs.SearchTree.{Reaches, Tree}
+use Rattle.integer_diagonal.specs.Amounts.{far}
 
 -- A row is given a distance.
 
@@ -71,20 +72,20 @@ kept_put x m t l k level r d p kept puts lt on nearer reaches above fits = subst
 
 -- A look at an entry.
 
-pub kept_look : (x : Priced) (m : List Place) (t : Tree) (l k : Labels) (n o : Nearest) (level r d p : ℕ) → IsKept x m t l level → Looks m r d p l n k o → r < x.weighing.matrix.rows → Reaches x t r p d → level ≤ d → d < far → IsKept x m t k level
+pub kept_look : {W : Type 0} (x : Priced) (m : List Place) (t : Tree) (l k : Labels) (n o : Nearest W) (level r d p : ℕ) → IsKept x m t l level → Looks m r d p l n k o → r < x.weighing.matrix.rows → Reaches x t r p d → level ≤ d → d < far → IsKept x m t k level
 kept_look x m t l k n o level r d p kept (inl (same, also, less)) lt reaches above fits = subst (λ (z : Labels). IsKept x m t z level) (sym same) kept
 kept_look x m t l k n o level r d p kept (inr (inl (puts, also, on, nearer))) lt reaches above fits = kept_put x m t l k level r d p kept puts lt on nearer reaches above fits
 kept_look x m t l k n o level r d p kept (inr (inr (same, is, free, nearer))) lt reaches above fits = subst (λ (z : Labels). IsKept x m t z level) (sym same) kept
 
-pub best_look : (x : Priced) (m : List Place) (t : Tree) (l k : Labels) (n o : Nearest) (level r d p : ℕ) → IsBest x m t n level → Looks m r d p l n k o → Reaches x t r p d → level ≤ d → IsBest x m t o level
-best_look x m t l k n o level r d p best (inl (same, also, less)) reaches above = subst (λ (z : Nearest). IsBest x m t z level) (sym also) best
-best_look x m t l k n o level r d p best (inr (inl (puts, also, on, nearer))) reaches above = subst (λ (z : Nearest). IsBest x m t z level) (sym also) best
-best_look x m t l k n o level r d p best (inr (inr (same, is, free, nearer))) reaches above = subst (λ (z : Nearest). IsBest x m t z level) (sym is) (record { nearest = λ fits. record { reaches = reaches; free = free }; above = above })
+pub best_look : {W : Type 0} (x : Priced) (m : List Place) (t : Tree) (l k : Labels) (n o : Nearest W) (level r d p : ℕ) → IsBest x m t n level → Looks m r d p l n k o → Reaches x t r p d → level ≤ d → IsBest x m t o level
+best_look {W} x m t l k n o level r d p best (inl (same, also, less)) reaches above = subst (λ (z : Nearest W). IsBest x m t z level) (sym also) best
+best_look {W} x m t l k n o level r d p best (inr (inl (puts, also, on, nearer))) reaches above = subst (λ (z : Nearest W). IsBest x m t z level) (sym also) best
+best_look {W} x m t l k n o level r d p best (inr (inr (same, is, free, nearer))) reaches above = subst (λ (z : Nearest W). IsBest x m t z level) (sym is) (record { nearest = λ fits. record { reaches = reaches; free = free }; above = above; within = (let was = best.within in omega (arith, was, nearer)) })
 
 -- what is known stays known
-pub known_look : (x : Priced) (m : List Place) (t : Tree) (l k : Labels) (n o : Nearest) (r d p i s : ℕ) → Looks m r d p l n k o → r < length l.distances → d < far → IsKnown x t l n.distance i s → IsKnown x t k o.distance i s
-known_look x m t l k n o r d p i s (inl (same, also, less)) lt fits known = subst (λ (z : Labels). IsKnown x t z o.distance i s) (sym same) (subst (λ (z : Nearest). IsKnown x t l z.distance i s) (sym also) known)
-known_look x m t l k n o r d p i s (inr (inl (puts, also, on, nearer))) lt fits known = subst (λ (z : Labels). IsKnown x t z o.distance i s) (sym puts.is) (subst (λ (z : Nearest). IsKnown x t (put l puts.heap r d p) z.distance i s) (sym also) (by known (number_same s r)))
+pub known_look : {W : Type 0} (x : Priced) (m : List Place) (t : Tree) (l k : Labels) (n o : Nearest W) (r d p i s : ℕ) → Looks m r d p l n k o → r < length l.distances → d < far → IsKnown x t l n.distance i s → IsKnown x t k o.distance i s
+known_look {W} x m t l k n o r d p i s (inl (same, also, less)) lt fits known = subst (λ (z : Labels). IsKnown x t z o.distance i s) (sym same) (subst (λ (z : Nearest W). IsKnown x t l z.distance i s) (sym also) known)
+known_look {W} x m t l k n o r d p i s (inr (inl (puts, also, on, nearer))) lt fits known = subst (λ (z : Labels). IsKnown x t z o.distance i s) (sym puts.is) (subst (λ (z : Nearest W). IsKnown x t (put l puts.heap r d p) z.distance i s) (sym also) (by known (number_same s r)))
   where
     by : IsKnown x t l n.distance i s → (s ≡ r) ⊎ (s ≢ r) → IsKnown x t (put l puts.heap r d p) n.distance i s
     by (inr le) same = inr le
@@ -93,18 +94,18 @@ known_look x m t l k n o r d p i s (inr (inl (puts, also, on, nearer))) lt fits 
         let was = ap (distance_of l) e in
         inl (omega (arith, here, fits), omega (arith, here, was, nearer, b))
     by (inl (a, b)) (inr ne) = let same = put_there l puts.heap r d p s ne in inl (omega (arith, same, a), omega (arith, same, b))
-known_look x m t l k n o r d p i s (inr (inr (same, is, free, nearer))) lt fits known = subst (λ (z : Labels). IsKnown x t z o.distance i s) (sym same) (subst (λ (z : Nearest). IsKnown x t l z.distance i s) (sym is) (by known))
+known_look {W} x m t l k n o r d p i s (inr (inr (same, is, free, nearer))) lt fits known = subst (λ (z : Labels). IsKnown x t z o.distance i s) (sym same) (subst (λ (z : Nearest W). IsKnown x t l z.distance i s) (sym is) (by known))
   where
     by : IsKnown x t l n.distance i s → IsKnown x t l d i s
     by (inl known) = inl known
     by (inr le) = inr (omega (arith, nearer, le))
 
 -- and the entry is known then
-pub looked_known : (x : Priced) (m : List Place) (t : Tree) (l k : Labels) (n o : Nearest) (r d p : ℕ) → Looks m r d p l n k o → r < length l.distances → d < far → Reaches x t r p d → IsKnown x t k o.distance p r
-looked_known x m t l k n o r d p (inl (same, also, inl le)) lt fits reaches = subst (λ (z : Nearest). IsKnown x t k z.distance p r) (sym also) (inr (let g = reaches.long in omega (arith, g, le)))
-looked_known x m t l k n o r d p (inl (same, also, inr le)) lt fits reaches = subst (λ (z : Labels). IsKnown x t z o.distance p r) (sym same) (inl (omega (arith, le, fits), (let g = reaches.long in omega (arith, g, le))))
-looked_known x m t l k n o r d p (inr (inl (puts, also, on, nearer))) lt fits reaches = subst (λ (z : Labels). IsKnown x t z o.distance p r) (sym puts.is) (inl (let here = put_here l puts.heap r d p lt in omega (arith, here, fits), (let here = put_here l puts.heap r d p lt in let g = reaches.long in omega (arith, g, here))))
-looked_known x m t l k n o r d p (inr (inr (same, is, free, nearer))) lt fits reaches = subst (λ (z : Nearest). IsKnown x t k z.distance p r) (sym is) (inr (let g = reaches.long in omega (arith, g)))
+pub looked_known : {W : Type 0} (x : Priced) (m : List Place) (t : Tree) (l k : Labels) (n o : Nearest W) (r d p : ℕ) → Looks m r d p l n k o → r < length l.distances → d < far → Reaches x t r p d → IsKnown x t k o.distance p r
+looked_known {W} x m t l k n o r d p (inl (same, also, inl le)) lt fits reaches = subst (λ (z : Nearest W). IsKnown x t k z.distance p r) (sym also) (inr (let g = reaches.long in omega (arith, g, le)))
+looked_known {W} x m t l k n o r d p (inl (same, also, inr le)) lt fits reaches = subst (λ (z : Labels). IsKnown x t z o.distance p r) (sym same) (inl (omega (arith, le, fits), (let g = reaches.long in omega (arith, g, le))))
+looked_known {W} x m t l k n o r d p (inr (inl (puts, also, on, nearer))) lt fits reaches = subst (λ (z : Labels). IsKnown x t z o.distance p r) (sym puts.is) (inl (let here = put_here l puts.heap r d p lt in omega (arith, here, fits), (let here = put_here l puts.heap r d p lt in let g = reaches.long in omega (arith, g, here))))
+looked_known {W} x m t l k n o r d p (inr (inr (same, is, free, nearer))) lt fits reaches = subst (λ (z : Nearest W). IsKnown x t k z.distance p r) (sym is) (inr (let g = reaches.long in omega (arith, g)))
 
 -- The list of what is to be cleared.
 

@@ -6,7 +6,8 @@ use Rattle.bip_defs.specs.Matrix.{IsEntry, Place}
 use Rattle.integer_diagonal.specs.declared.search.Nearest.{Nearest}
 use Rattle.integer_diagonal.specs.declared.search.Search.{Search}
 use Rattle.integer_diagonal.specs.Duals.{Priced, dual, paid}
-use Rattle.integer_diagonal.specs.SearchTree.{IsNearest, Reaches, Tree, depth, far, stop}
+use Rattle.integer_diagonal.specs.SearchTree.{IsNearest, Reaches, Tree, depth, stop}
+use Rattle.integer_diagonal.specs.Amounts.{far}
 
 pub record Labels : Type 0 where
   pub distances : List ℕ
@@ -18,10 +19,10 @@ abbrev pub distance_of : Labels → ℕ → ℕ
 distance_of l r = slice_index_or l.distances r far
 
 -- a search as contracts see it
-abbrev pub tree_of : Search → Tree
+abbrev pub tree_of : {W : Type 0} → Search W → Tree
 tree_of s = record { queue = s.queue.items; depths = s.depths.items }
 
-abbrev pub labels_of : Search → Labels
+abbrev pub labels_of : {W : Type 0} → Search W → Labels
 labels_of s = record {
   distances = s.distances.items;
   parents = s.parents.items;
@@ -61,9 +62,11 @@ AreKnown x t l limit k = (i r : ℕ) → i < k → IsEntry x.weighing.matrix r (
     → IsKnown x t l limit i r
 
 -- the nearest unmatched row so far, if there is one, is no nearer than the level
-pub record IsBest (x : Priced) (m : List Place) (t : Tree) (n : Nearest) (level : ℕ) : Type 0 where
+pub record IsBest {W : Type 0} (x : Priced) (m : List Place) (t : Tree) (n : Nearest W)
+    (level : ℕ) : Type 0 where
   pub nearest : n.distance < far → IsNearest x m t n.row n.place n.distance
   pub above : level ≤ n.distance
+  pub within : n.distance ≤ far
 
 -- a matched row is given a distance
 abbrev pub put : Labels → List (ℕ × ℕ) → ℕ → ℕ → ℕ → Labels
@@ -82,7 +85,8 @@ pub record Puts (l k : Labels) (r d p : ℕ) : Type 0 where
   pub keeps : (e : ℕ × ℕ) → Among e l.waiting → Among e heap
 
 -- what a look at an entry changes, which leads from a place to a row at a distance
-abbrev pub Looks : List Place → ℕ → ℕ → ℕ → Labels → Nearest → Labels → Nearest → Type 0
+abbrev pub Looks : {W : Type 0} → List Place → ℕ → ℕ → ℕ → Labels → Nearest W → Labels → Nearest W
+    → Type 0
 Looks m r d p l n k o = ((k ≡ l) × (o ≡ n) × ((n.distance ≤ d) ⊎ (distance_of l r ≤ d)))
     ⊎ ((Puts l k r d p × (o ≡ n) × Among r (rows_of m) × (d < distance_of l r))
     ⊎ ((k ≡ l) × (o ≡ record { row = r; distance = d; place = p }) × (¬ Among r (rows_of m))

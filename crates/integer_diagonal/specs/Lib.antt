@@ -1,3 +1,4 @@
+pub mod Amounts
 pub mod Duals
 pub mod FirstPrices
 pub mod Heaviest

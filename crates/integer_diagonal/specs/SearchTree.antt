@@ -6,10 +6,6 @@ use Rattle.bip_defs.specs.Matrix.{IsEntry, Place, cols}
 use Rattle.integer_diagonal.specs.Duals.{Priced, dual, paid}
 use Rattle.bip_defs.specs.Queues.{Queue, at, heads}
 
--- stands for no distance
-abbrev pub far : ℕ
-far = 340282366920938463463374607431768211455
-
 -- the columns that a search has come to, each with the place of the one that led to it, and their distances
 pub record Tree : Type 0 where
   pub queue : Queue
@@ -68,6 +64,7 @@ IsStuck x m t = (i r : ℕ) → i < length t.queue → IsEntry x.weighing.matrix
 -- the dual variables of the columns, and the prices of their mates, have risen by how much nearer they are than the distance
 pub record IsRaised (x y : Priced) (m : List Place) (t : Tree) (distance : ℕ) : Type 0 where
   pub same : y.weighing ≡ x.weighing
+  pub top : y.top ≡ x.top
   pub prices_are : length y.prices ≡ length x.prices
   pub duals_are : length y.duals ≡ length x.duals
   pub cols_up : (i : ℕ) → i < length t.queue

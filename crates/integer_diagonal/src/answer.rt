@@ -1,20 +1,23 @@
 //! The three cases.
 
-ghost use Rattle.std.specs.Prelude.{◌≡◌, ℕ, pos, ◌+◌, ◌-ℤ◌, ◌^◌, ◌<◌, ◌≤◌, List, length, map, slice_index, true, false, IfOk, OnOk};
+ghost use Rattle.std.specs.Prelude.{◌≡◌, ℕ, pos, ◌+◌, ◌-◌, ◌-ℤ◌, ◌^◌, ◌<◌, List, length, map, slice_index, true, false, IfOk, OnOk};
 ghost use Rattle.bip_defs.specs.Lists.{Among};
 ghost use Rattle.bip_defs.specs.Matching.{cols_of};
 ghost use Rattle.bip_defs.specs.Matrix.{AreEntries, Place, cols, upto};
 ghost use Rattle.bip_graph.specs.Matching.{IsMatchingOf};
 ghost use Rattle.integer_diagonal.specs.Heaviest.{IsHeaviest};
-ghost use Rattle.integer_diagonal.specs.Duals.{IsAssignment, top};
+ghost use Rattle.integer_diagonal.specs.Amounts.{HasRoom};
+ghost use Rattle.integer_diagonal.specs.Duals.{AreAtMost, IsAssignment};
 ghost use Rattle.bip_defs.specs.Bottleneck.{IsFull};
 ghost use Rattle.integer_diagonal.specs.Prices.{total};
 ghost use Rattle.sp_pattern.specs.Weights.{Weighing};
 
-use crate::assignment::{Assignment, TOP};
+use crate::amount::Amount;
+use crate::assignment::Assignment;
 use crate::path::extend;
 use crate::search::Search;
-use crate::start::start;
+use crate::start::{greatest_of_all, start};
+use crate::width::Width;
 use bip_graph::{Heaviest, Matching};
 use hall_witness::{Reach, reach};
 use pothen_fan::complete;
@@ -28,9 +31,11 @@ use std::alloc::Global;
 ///
 /// The weights must be those of the pattern. `Rectangular` exactly where the matrix has not as many rows as columns;
 /// `Singular` exactly where it has, and its rank is less, with the columns that some maximum matching misses. Answers
-/// `OutOfMemory` where there is no memory for 97 bytes a row or column and the heap of a search. Work: at most one search
-/// for each column, each of which looks at each entry once at most and keeps what it reaches in a heap (Kuhn 1955; Munkres
-/// 1957; Duff and Koster 2001); where it ends with no diagonal, the phases of a maximum matching and one search more.
+/// `OutOfMemory` where there is no memory for the tables and the heap of a search. The tables take 65 bytes a row or column
+/// where the greatest weight times 3 n + 4, for n columns, is less than 2^64 - 1: then all sums of a search are kept in
+/// numbers of 64 bits. Else they are kept in numbers of 128 bits, and the tables take 97 bytes a row or column. Work: at most
+/// one search for each column, each of which looks at each entry once at most and keeps what it reaches in a heap (Kuhn 1955;
+/// Munkres 1957; Duff and Koster 2001); where it ends with no diagonal, the phases of a maximum matching and one search more.
 pub fn heaviest(
     alloc: Global,
     pattern: &Pattern,
@@ -42,28 +47,60 @@ pub fn heaviest(
     if pattern.rows() != pattern.cols() {
         return Ok(Heaviest::Rectangular);
     }
-    let mut assignment = start(alloc, pattern, weights)?;
-    if match_all(alloc, pattern, weights, &mut assignment)? {
-        diagonal(alloc, pattern, weights, &assignment)
+    let top = greatest_of_all(pattern, weights);
+    if fits_64_bits(pattern.cols(), top) {
+        heaviest_of_square::<u64>(alloc, pattern, weights, top)
     } else {
-        singular(alloc, pattern, assignment.matching)
+        heaviest_of_square::<u128>(alloc, pattern, weights, top)
+    }
+}
+
+// Whether numbers of 64 bits have room for all sums, where a matrix has so many columns, and no entry weighs more than `top`.
+fn fits_64_bits(columns: u32, top: u64) -> bool
+    ensures { result ≡ true → HasRoom columns top (2 ^ 64 - 1) }
+{
+    let top = top as u128;
+    3 * (columns as u128 * top) + 4 * top < u64::MAX as u128
+}
+
+// The answer for a square matrix in which no entry weighs more than `top`, by numbers of one width.
+fn heaviest_of_square<W: Width>(
+    alloc: Global,
+    pattern: &Pattern,
+    weights: &Weights,
+    top: u64,
+) -> Result<Heaviest, OutOfMemory>
+    requires of { weights.now.matrix ≡ pattern.now }
+    requires square { pattern.now.rows ≡ cols pattern.now }
+    requires few { cols pattern.now < 2 ^ 32 }
+    requires small { AreAtMost weights.now top }
+    requires room { HasRoom (cols pattern.now) top W.limit }
+    ensures { IfOk result (IsHeaviest weights.now) }
+{
+    let mut assignment = start::<W>(alloc, pattern, weights, top)?;
+    if match_all(alloc, pattern, weights, &mut assignment)? {
+        diagonal(alloc, pattern, weights, assignment)
+    } else {
+        singular(alloc, pattern, assignment.into_matching())
     }
 }
 
 // Gives each column a mate, one after another. Whether that went: where it did not, the matrix has no full matching.
 //
 // What the searches keep is given back at the end.
-fn match_all(
+fn match_all<W: Width>(
     alloc: Global,
     pattern: &Pattern,
     weights: &Weights,
-    assignment: &mut Assignment,
+    assignment: &mut Assignment<W>,
 ) -> Result<bool, OutOfMemory>
     requires of { weights.now.matrix ≡ pattern.now }
     requires assignment { IsAssignment weights.now assignment.old }
     requires square { pattern.now.rows ≡ cols pattern.now }
     requires few { cols pattern.now < 2 ^ 32 }
+    requires room { HasRoom (cols pattern.now) assignment.old.top W.limit }
     ensures assignment { OnOk result (IsAssignment weights.now assignment.new) }
+    ensures top { OnOk result (assignment.new.top ≡ assignment.old.top) }
     ensures all { IfOk result
         (λ b. b ≡ true → (c : ℕ) → c < cols pattern.now
         → Among c (cols_of assignment.new.matching.pairs)) }
@@ -102,24 +139,27 @@ fn singular(alloc: Global, pattern: &Pattern, matching: Matching) -> Result<Heav
 }
 
 // The answer where all columns have mates.
-fn diagonal(
+//
+// The prices and the dual variables are given back once they have been read.
+fn diagonal<W: Width>(
     alloc: Global,
     pattern: &Pattern,
     weights: &Weights,
-    assignment: &Assignment,
+    assignment: Assignment<W>,
 ) -> Result<Heaviest, OutOfMemory>
     requires of { weights.now.matrix ≡ pattern.now }
     requires square { pattern.now.rows ≡ cols pattern.now }
     requires few { cols pattern.now < 2 ^ 32 }
-    requires assignment { IsAssignment weights.now assignment.now }
+    requires assignment { IsAssignment weights.now assignment }
+    requires room { HasRoom (cols pattern.now) assignment.top W.limit }
     requires all_cols { (c : ℕ) → c < cols pattern.now
-        → Among c (cols_of assignment.now.matching.pairs) }
+        → Among c (cols_of assignment.matching.pairs) }
     ensures { IfOk result (IsHeaviest weights.now) }
 {
     let pairs = pairs_of(alloc, &assignment.matching)?;
     let sum = sum_of(weights, pairs.as_slice());
-    let u = row_prices(alloc, assignment.prices.as_slice())?;
-    let v = col_prices(alloc, assignment.duals.as_slice())?;
+    let u = row_prices(alloc, assignment.prices, assignment.top)?;
+    let v = col_prices(alloc, assignment.duals, assignment.top)?;
     Ok(Heaviest::Diagonal { pairs, u, v, sum })
 }
 
@@ -154,26 +194,34 @@ fn sum_of(weights: &Weights, pairs: &[(Row, Col)]) -> i128
     sum
 }
 
-// The prices of the rows: how much more than the greatest of all costs they are.
-fn row_prices(alloc: Global, prices: &[u128]) -> Result<Vec<i128>, OutOfMemory>
-    requires { (i : ℕ) → slice_index prices.now i ≤ 2 ^ 98 }
-    ensures { IfOk result (λ u. u.items ≡ map (λ p. pos p -ℤ pos top) prices.now) }
+// The prices of the rows: how much more than `top` they are.
+fn row_prices<W: Width>(
+    alloc: Global,
+    prices: Vec<Amount<W>>,
+    top: u64,
+) -> Result<Vec<i128>, OutOfMemory>
+    requires { (i : ℕ) → slice_index prices.items i < W.limit }
+    ensures { IfOk result (λ u. u.items ≡ map (λ p. pos p -ℤ pos top) prices.items) }
 {
     let mut u = Vec::with_capacity(alloc, prices.len())?;
     for i in 0..prices.len() {
-        u.push(prices[i] as i128 - TOP as i128)?;
+        u.push(prices[i].signed() - top as i128)?;
     }
     Ok(u)
 }
 
-// The prices of the columns: how much less than twice that their dual variables are.
-fn col_prices(alloc: Global, duals: &[u128]) -> Result<Vec<i128>, OutOfMemory>
-    requires { (i : ℕ) → slice_index duals.now i ≤ 2 ^ 98 + top }
-    ensures { IfOk result (λ v. v.items ≡ map (λ o. pos (top + top) -ℤ pos o) duals.now) }
+// The prices of the columns: how much less than twice `top` their dual variables are.
+fn col_prices<W: Width>(
+    alloc: Global,
+    duals: Vec<Amount<W>>,
+    top: u64,
+) -> Result<Vec<i128>, OutOfMemory>
+    requires { (i : ℕ) → slice_index duals.items i < W.limit }
+    ensures { IfOk result (λ v. v.items ≡ map (λ o. pos (top + top) -ℤ pos o) duals.items) }
 {
     let mut v = Vec::with_capacity(alloc, duals.len())?;
     for i in 0..duals.len() {
-        v.push(2 * TOP as i128 - duals[i] as i128)?;
+        v.push(2 * top as i128 - duals[i].signed())?;
     }
     Ok(v)
 }

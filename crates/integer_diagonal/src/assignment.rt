@@ -1,15 +1,27 @@
 //! A matching with its prices.
 
+ghost use Rattle.std.specs.Prelude.{◌≡◌};
+
+use crate::amount::Amount;
+use crate::width::Width;
 use bip_graph::Matching;
 
-/// What an entry costs is how much less it weighs than this.
-pub const TOP: u64 = u64::MAX;
-
-/// A matching of cheapest entries. A column's dual variable is at most the price of a row and the cost of their entry together,
-/// and as much where the two are a pair.
+/// A matching of cheapest entries. What an entry costs is how much less it weighs than `top`, which is the greatest weight.
+/// A column's dual variable is at most the price of a row and the cost of their entry together, and as much where the two
+/// are a pair.
 #[derive(Drop)]
-pub struct Assignment {
-    pub prices: Vec<u128>,
-    pub duals: Vec<u128>,
+pub struct Assignment<W: Width> {
+    pub top: u64,
+    pub prices: Vec<Amount<W>>,
+    pub duals: Vec<Amount<W>>,
     pub matching: Matching,
+}
+
+impl<W: Width> Assignment<W> {
+    /// The matching alone. The prices are given back.
+    pub fn into_matching(self) -> Matching
+        ensures { result ≡ self.matching }
+    {
+        self.matching
+    }
 }

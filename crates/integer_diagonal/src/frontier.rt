@@ -6,6 +6,8 @@ ghost use Rattle.std.specs.declared.cmp.Reverse.{Reverse as Reversed};
 ghost use Rattle.bip_defs.specs.Lists.{Among};
 ghost use Rattle.integer_diagonal.specs.Nearness.{by_nearness, unwrapped};
 
+use crate::amount::Amount;
+use crate::width::Width;
 use std::alloc::{AllocError, Global};
 use std::cmp::Reverse;
 use std::collections::BinaryHeap;
@@ -16,13 +18,13 @@ use std::marker::Model;
 /// The level is the distance that the heap gave last. Many entries lead no farther than the row that was looked at last,
 /// since they cost as little as their prices ask, and a list takes less work than a heap (Duff and Koster 2001).
 #[derive(Drop)]
-pub struct Frontier {
-    heap: BinaryHeap<Reverse<(u128, u32)>, Global>,
-    level: u128,
+pub struct Frontier<W: Width> {
+    heap: BinaryHeap<Reverse<(Amount<W>, u32)>, Global>,
+    level: Amount<W>,
     near: Vec<u32>,
 }
 
-impl Model for Frontier {
+impl<W: Width> Model for Frontier<W> {
     ghost use Rattle.std.specs.Prelude.{ℕ, List, ◌++◌, map};
     ghost use Rattle.std.specs.BinaryHeap.{IsHeap, heap_items};
     ghost use Rattle.integer_diagonal.specs.Nearness.{at_level, by_nearness, unwrapped};
@@ -34,20 +36,20 @@ impl Model for Frontier {
     ghost invariant = { λ f. IsHeap by_nearness (heap_items f.heap) };
 }
 
-impl Frontier {
+impl<W: Width> Frontier<W> {
     /// Without rows.
-    pub fn new(alloc: Global) -> Frontier
+    pub fn new(alloc: Global) -> Frontier<W>
         ensures { result ≡ [] }
     {
         Frontier {
             heap: BinaryHeap::new(alloc),
-            level: 0,
+            level: Amount::zero(),
             near: Vec::new(alloc),
         }
     }
 
     /// Adds a row at a distance. It may stand there several times.
-    pub fn push(&mut self, distance: u128, row: u32) -> Result<(), AllocError>
+    pub fn push(&mut self, distance: Amount<W>, row: u32) -> Result<(), AllocError>
         ensures { OnOk result
             ((e : ℕ × ℕ) → Among e self.new ↔ ((e ≡ (distance, row)) ⊎ Among e self.old)) }
     {
@@ -60,7 +62,7 @@ impl Frontier {
     }
 
     /// Takes out what is nearest.
-    pub fn pop(&mut self) -> Option<(u128, u32)>
+    pub fn pop(&mut self) -> Option<(Amount<W>, u32)>
         ensures taken { IfSome result
             (λ x. (e : ℕ × ℕ) → Among e self.old ↔ ((e ≡ x) ⊎ Among e self.new)) }
         ensures nearest { IfSome result (λ x. (e : ℕ × ℕ) → Among e self.old → x.0 ≤ e.0) }
@@ -75,8 +77,9 @@ impl Frontier {
             Some(row) => Some((self.level, row)),
             None => {
                 let nearest = self.heap.pop()?;
-                self.level = nearest.0.0;
-                Some(nearest.0)
+                let (distance, row) = nearest.0;
+                self.level = distance;
+                Some((distance, row))
             }
         }
     }
@@ -87,12 +90,15 @@ impl Frontier {
     {
         self.heap.clear();
         self.near.clear();
-        self.level = 0;
+        self.level = Amount::zero();
     }
 }
 
 // Whether the nearest row of a heap is nearer than the level.
-fn begins_below(heap: &BinaryHeap<Reverse<(u128, u32)>, Global>, level: u128) -> bool
+fn begins_below<W: Width>(
+    heap: &BinaryHeap<Reverse<(Amount<W>, u32)>, Global>,
+    level: Amount<W>,
+) -> bool
     ensures some { result ≡ true → 0 < heap_len heap.now }
     ensures below { result ≡ true → (x : Reversed (ℕ × ℕ))
         → (unwrapped (slice_index_or (heap_items heap.now) 0 x)).0 < level }

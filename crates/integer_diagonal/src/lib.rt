@@ -4,6 +4,7 @@
 //! searches in order of distance that end at the nearest unmatched row (Duff and Koster 2001, for sparse matrices).
 #![tactic(auto)]
 
+mod amount;
 mod answer;
 mod assignment;
 mod frontier;
@@ -11,6 +12,7 @@ mod laws;
 mod path;
 mod search;
 mod start;
+mod width;
 
 pub use answer::heaviest;
 pub use laws::{fair_prices_show_heaviest, full_matching_shows_rank};

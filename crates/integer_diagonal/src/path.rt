@@ -6,13 +6,16 @@ ghost use Rattle.bip_defs.specs.Matching.{Covers, cols_of, rows_of};
 ghost use Rattle.bip_defs.specs.Matrix.{Place, cols};
 ghost use Rattle.bip_defs.specs.Queues.{at, heads};
 ghost use Rattle.integer_diagonal.specs.Labels.{IsClear, labels_of, tree_of};
-ghost use Rattle.integer_diagonal.specs.Duals.{IsAssignment, priced};
+ghost use Rattle.integer_diagonal.specs.Amounts.{HasRoom};
+ghost use Rattle.integer_diagonal.specs.Duals.{IsAssignment, priced_from};
 ghost use Rattle.bip_defs.specs.Bottleneck.{IsFull};
 ghost use Rattle.integer_diagonal.specs.SearchTree.{IsRaised};
 ghost use Rattle.sp_pattern.specs.Weights.{Weighing};
 
+use crate::amount::Amount;
 use crate::assignment::Assignment;
-use crate::search::{FAR, Search};
+use crate::search::Search;
+use crate::width::Width;
 use bip_graph::Queue;
 use sp_ids::{Col, Row};
 use sp_pattern::{Pattern, Weights};
@@ -23,11 +26,11 @@ use std::alloc::AllocError;
 ///
 /// The path is written over what the list had, which has room for it. Answers `AllocError` where what the search keeps
 /// can't be had. Work: one search, and one step for each column that it came to.
-pub fn extend(
+pub fn extend<W: Width>(
     pattern: &Pattern,
     weights: &Weights,
-    assignment: &mut Assignment,
-    search: &mut Search,
+    assignment: &mut Assignment<W>,
+    search: &mut Search<W>,
     path: &mut Vec<(Row, Col)>,
     root: Col,
 ) -> Result<bool, AllocError>
@@ -36,11 +39,13 @@ pub fn extend(
     requires root { root < cols pattern.now }
     requires free { ¬ Among root (cols_of assignment.old.matching.pairs) }
     requires few { cols pattern.now < 2 ^ 32 }
+    requires fits { HasRoom (cols pattern.now) assignment.old.top W.limit }
     requires clear { IsClear pattern.now.rows (tree_of search.old) (labels_of search.old) }
     requires listed { search.old.reached.items ≡ [] }
     requires room { cols pattern.now ≤ vec_capacity path.old }
     ensures room { cols pattern.now ≤ vec_capacity path.new }
     ensures assignment { OnOk result (IsAssignment weights.now assignment.new) }
+    ensures top { OnOk result (assignment.new.top ≡ assignment.old.top) }
     ensures covered { OnOk result
         (Covers assignment.old.matching.pairs assignment.new.matching.pairs) }
     ensures found { IfOk result
@@ -51,7 +56,7 @@ pub fn extend(
         (λ b. b ≡ false → (other : List Place) → ¬ IsFull pattern.now other) }
 {
     let nearest = search.find(pattern, weights, assignment, root)?;
-    if nearest.distance == FAR {
+    if nearest.distance == Amount::far() {
         return Ok(false);
     }
     let queue = search.queue.as_slice();
@@ -72,7 +77,12 @@ pub fn extend(
 }
 
 // Raises the dual variable of each column that the search has come to, and the price of its mate, by how much nearer it is.
-fn raise(assignment: &mut Assignment, queue: &[(u32, u32)], depths: &[u128], distance: u128)
+fn raise<W: Width>(
+    assignment: &mut Assignment<W>,
+    queue: &[(u32, u32)],
+    depths: &[Amount<W>],
+    distance: Amount<W>,
+)
     requires lengths { length depths.now ≡ length queue.now }
     requires in_range { (i : ℕ) → i < length queue.now
         → (at queue.now i).0 < length assignment.old.duals.items }
@@ -83,12 +93,13 @@ fn raise(assignment: &mut Assignment, queue: &[(u32, u32)], depths: &[u128], dis
     requires rows_differ { AreDistinct (rows_of assignment.old.matching.pairs) }
     requires cols_differ { AreDistinct (cols_of assignment.old.matching.pairs) }
     requires depths { (i : ℕ) → i < length queue.now → slice_index depths.now i ≤ distance }
-    requires duals_fit { (c : ℕ) → slice_index assignment.old.duals.items c + distance < 2 ^ 128 }
-    requires prices_fit { (r : ℕ) → slice_index assignment.old.prices.items r + distance < 2 ^ 128 }
-    ensures raised { (w : Weighing)
-        → IsRaised (priced w assignment.old) (priced w assignment.new) assignment.old.matching.pairs
-        (record { queue = queue.now; depths = depths.now }) distance }
+    requires duals_fit { (c : ℕ) → slice_index assignment.old.duals.items c + distance < W.limit }
+    requires prices_fit { (r : ℕ) → slice_index assignment.old.prices.items r + distance < W.limit }
+    ensures raised { (w : Weighing) (top : ℕ)
+        → IsRaised (priced_from w top assignment.old) (priced_from w top assignment.new)
+        assignment.old.matching.pairs (record { queue = queue.now; depths = depths.now }) distance }
     ensures matching { assignment.new.matching ≡ assignment.old.matching }
+    ensures top { assignment.new.top ≡ assignment.old.top }
 {
     for place in 0..queue.len() {
         let rise = distance - depths[place];
@@ -101,9 +112,9 @@ fn raise(assignment: &mut Assignment, queue: &[(u32, u32)], depths: &[u128], dis
     }
 }
 
-fn raise_price(prices: &mut Vec<u128>, row: Row, rise: u128)
+fn raise_price<W: Width>(prices: &mut Vec<Amount<W>>, row: Row, rise: Amount<W>)
     requires row { row < length prices.old.items }
-    requires fits { slice_index prices.old.items row + rise < 2 ^ 128 }
+    requires fits { slice_index prices.old.items row + rise < W.limit }
     ensures { prices.new.items
         ≡ set prices.old.items row (slice_index prices.old.items row + rise) }
 {

@@ -1,52 +1,52 @@
 //! The search for a nearest unmatched row.
 
-ghost use Rattle.std.specs.Prelude.{◌≡◌, ◌⊎◌, ◌↔◌, ℕ, ◌+◌, ◌-◌, ◌<◌, ◌≤◌, ◌^◌, ◌∷◌, ◌++◌, [], true, length, set, slice_index, IfOk, IfSome, IfNone, OnOk};
+ghost use Rattle.std.specs.Prelude.{◌≡◌, ℕ, ◌+◌, ◌-◌, ◌<◌, ◌≤◌, ◌^◌, ◌∷◌, ◌++◌, [], true, length, set, slice_index, IfOk, IfSome, IfNone, OnOk};
 ghost use Rattle.bip_defs.specs.Lists.{Among};
 ghost use Rattle.bip_defs.specs.Matching.{cols_of, rows_of};
-ghost use Rattle.bip_defs.specs.Matrix.{IsEntry, cols};
-ghost use Rattle.integer_diagonal.specs.Labels.{AreBeyond, AreKnown, AreListed, IsBest, IsClear, IsKept, Looks, Puts, Takes, distance_of, labels_of, tree_of};
+ghost use Rattle.bip_defs.specs.Matrix.{cols};
+ghost use Rattle.integer_diagonal.specs.Labels.{AreBeyond, AreKnown, AreListed, IsBest, IsClear, IsKept, Looks, Puts, Takes, labels_of, tree_of};
 ghost use Rattle.integer_diagonal.specs.Duals.{IsAssignment, priced};
-ghost use Rattle.integer_diagonal.specs.SearchTree.{IsGrown, IsNearest, IsSearched, IsStuck, Reaches, depth, far};
+ghost use Rattle.integer_diagonal.specs.SearchTree.{IsGrown, IsNearest, IsSearched, IsStuck, depth};
+ghost use Rattle.integer_diagonal.specs.Amounts.{HasRoom, far};
 
-use crate::assignment::{Assignment, TOP};
+use crate::amount::Amount;
+use crate::assignment::Assignment;
 use crate::frontier::Frontier;
+use crate::width::Width;
 use bip_graph::Matching;
 use sp_ids::{Col, Id, OutOfMemory, Row};
 use sp_pattern::{Pattern, Weights};
 use std::alloc::{AllocError, Global};
 
-/// Stands for no distance: distances are less.
-pub const FAR: u128 = u128::MAX;
-
 /// What a search keeps. The queue has the columns that it has come to, each with the place of the one that it was led
 /// from, and their distances.
 #[derive(Drop)]
-pub struct Search {
-    pub distances: Vec<u128>,
+pub struct Search<W: Width> {
+    pub distances: Vec<Amount<W>>,
     pub parents: Vec<u32>,
     pub settled: Vec<bool>,
     pub reached: Vec<u32>,
     pub queue: Vec<(u32, u32)>,
-    pub depths: Vec<u128>,
-    pub frontier: Frontier,
+    pub depths: Vec<Amount<W>>,
+    pub frontier: Frontier<W>,
 }
 
 /// The nearest unmatched row so far, with its distance and the place of the column that it was reached from.
 #[derive(Clone, Copy)]
-pub struct Nearest {
+pub struct Nearest<W: Width> {
     pub row: u32,
-    pub distance: u128,
+    pub distance: Amount<W>,
     pub place: u32,
 }
 
-impl Search {
+impl<W: Width> Search<W> {
     /// For a matrix of so many rows, and as many columns.
-    pub fn new(alloc: Global, rows: u32) -> Result<Search, OutOfMemory>
+    pub fn new(alloc: Global, rows: u32) -> Result<Search<W>, OutOfMemory>
         ensures clear { IfOk result (λ s. IsClear rows (tree_of s) (labels_of s)) }
         ensures listed { IfOk result (λ s. s.reached.items ≡ []) }
     {
         let rows = rows as usize;
-        let distances = vec![in alloc; FAR; rows]?;
+        let distances = vec![in alloc; Amount::far(); rows]?;
         let parents = vec![in alloc; 0u32; rows]?;
         let settled = vec![in alloc; false; rows]?;
         Ok(Search {
@@ -71,7 +71,7 @@ impl Search {
     {
         for k in 0..self.reached.len() {
             let row = self.reached[k] as usize;
-            self.distances[row] = FAR;
+            self.distances[row] = Amount::far();
             self.settled[row] = false;
         }
         self.reached.clear();
@@ -86,19 +86,21 @@ impl Search {
         &mut self,
         pattern: &Pattern,
         weights: &Weights,
-        assignment: &Assignment,
+        assignment: &Assignment<W>,
         root: Col,
-    ) -> Result<Nearest, AllocError>
+    ) -> Result<Nearest<W>, AllocError>
         requires of { weights.now.matrix ≡ pattern.now }
         requires assignment { IsAssignment weights.now assignment.now }
         requires root { root < cols pattern.now }
         requires free { ¬ Among root (cols_of assignment.now.matching.pairs) }
         requires few { cols pattern.now < 2 ^ 32 }
+        requires room { HasRoom (cols pattern.now) assignment.now.top W.limit }
         requires clear { IsClear pattern.now.rows (tree_of self.old) (labels_of self.old) }
         requires listed { self.old.reached.items ≡ [] }
         ensures tree { OnOk result
             (IsGrown (priced weights.now assignment.now) assignment.now.matching.pairs root
             (tree_of self.new)) }
+        ensures within { IfOk result (λ n. n.distance ≤ far) }
         ensures found { IfOk result
             (λ n. n.distance < far
             → IsNearest (priced weights.now assignment.now) assignment.now.matching.pairs
@@ -117,12 +119,13 @@ impl Search {
     {
         let mut nearest = Nearest {
             row: 0,
-            distance: FAR,
+            distance: Amount::far(),
             place: 0,
         };
-        self.enter(root, 0, 0)?;
+        self.enter(root, 0, Amount::zero())?;
         self.scan(pattern, weights, assignment, 0, &mut nearest)?;
-        while let Some((distance, row)) = self.next(nearest.distance) {
+        while let Some(closest) = self.next(nearest.distance) {
+            let (distance, row) = closest;
             let place = self.settle(&assignment.matching, row, distance)?;
             self.scan(pattern, weights, assignment, place, &mut nearest)?;
         }
@@ -130,7 +133,7 @@ impl Search {
     }
 
     // Takes out the nearest row that is not settled, if it is nearer than the limit.
-    fn next(&mut self, limit: u128) -> Option<(u128, u32)>
+    fn next(&mut self, limit: Amount<W>) -> Option<(Amount<W>, u32)>
         requires { (e : ℕ × ℕ) → Among e self.old.frontier → e.1 < length self.old.settled.items }
         ensures taken { IfSome result
             (λ e. Takes (labels_of self.old) (labels_of self.new) e.0 e.1 limit) }
@@ -140,7 +143,8 @@ impl Search {
         ensures tree { tree_of self.new ≡ tree_of self.old }
         ensures listed { self.new.reached.items ≡ self.old.reached.items }
     {
-        while let Some((distance, row)) = self.frontier.pop() {
+        while let Some(nearest) = self.frontier.pop() {
+            let (distance, row) = nearest;
             if distance >= limit {
                 return None;
             }
@@ -152,7 +156,12 @@ impl Search {
     }
 
     // Goes over a matched row to its mate, which it puts at the end of the queue. Gives its place.
-    fn settle(&mut self, matching: &Matching, row: u32, distance: u128) -> Result<u32, AllocError>
+    fn settle(
+        &mut self,
+        matching: &Matching,
+        row: u32,
+        distance: Amount<W>,
+    ) -> Result<u32, AllocError>
         requires row { row < matching.now.rows }
         requires marked { row < length self.old.settled.items }
         requires parents { row < length self.old.parents.items }
@@ -184,7 +193,7 @@ impl Search {
     }
 
     // Puts a column at the end of the queue.
-    fn enter(&mut self, col: Col, parent: u32, depth: u128) -> Result<(), AllocError>
+    fn enter(&mut self, col: Col, parent: u32, depth: Amount<W>) -> Result<(), AllocError>
         ensures tree { OnOk result
             (tree_of self.new ≡ record {
               queue = self.old.queue.items ++ (col, parent) ∷ [];
@@ -203,12 +212,13 @@ impl Search {
         &mut self,
         pattern: &Pattern,
         weights: &Weights,
-        assignment: &Assignment,
+        assignment: &Assignment<W>,
         place: u32,
-        nearest: &mut Nearest,
+        nearest: &mut Nearest<W>,
     ) -> Result<(), AllocError>
         requires of { weights.now.matrix ≡ pattern.now }
         requires assignment { IsAssignment weights.now assignment.now }
+        requires room { HasRoom (cols pattern.now) assignment.now.top W.limit }
         requires place { place < length self.old.queue.items }
         requires root { (root : ℕ)
             × IsGrown (priced weights.now assignment.now) assignment.now.matching.pairs root
@@ -240,7 +250,8 @@ impl Search {
         for k in 0..rows.len() {
             let row = rows[k].number();
             let price = assignment.prices[row as usize];
-            let distance = depth + (price + (TOP - weights[k]) as u128 - dual);
+            let cost = Amount::of(assignment.top - weights[k]);
+            let distance = depth + (price + cost - dual);
             self.look(&assignment.matching, row, distance, place, nearest)?;
         }
         Ok(())
@@ -251,13 +262,14 @@ impl Search {
         &mut self,
         matching: &Matching,
         row: u32,
-        distance: u128,
+        distance: Amount<W>,
         place: u32,
-        nearest: &mut Nearest,
+        nearest: &mut Nearest<W>,
     ) -> Result<(), AllocError>
         requires row { row < matching.now.rows }
         requires distances { row < length self.old.distances.items }
         requires parents { row < length self.old.parents.items }
+        requires near { distance < far }
         ensures looked { OnOk result
             (Looks matching.now.pairs row distance place (labels_of self.old) nearest.old
             (labels_of self.new) nearest.new) }
@@ -283,7 +295,7 @@ impl Search {
     }
 
     // Notes that a matched row is nearer than was known.
-    fn reach(&mut self, row: u32, distance: u128, place: u32) -> Result<(), AllocError>
+    fn reach(&mut self, row: u32, distance: Amount<W>, place: u32) -> Result<(), AllocError>
         requires distances { row < length self.old.distances.items }
         requires parents { row < length self.old.parents.items }
         requires nearer { distance < far }
@@ -312,7 +324,7 @@ impl Search {
             → AreListed (labels_of self.new) self.new.reached.items
             × Among row self.new.reached.items) }
     {
-        if self.distances[row as usize] == FAR {
+        if self.distances[row as usize] == Amount::far() {
             self.reached.push(row)?;
             return Ok(());
         }

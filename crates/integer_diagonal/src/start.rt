@@ -4,10 +4,13 @@ ghost use Rattle.std.specs.Prelude.{◌≡◌, ◌⊎◌, ℕ, ◌+◌, ◌<◌,
 ghost use Rattle.bip_defs.specs.Lists.{Among};
 ghost use Rattle.bip_defs.specs.Matching.{rows_of};
 ghost use Rattle.bip_defs.specs.Matrix.{IsEntry, cols};
-ghost use Rattle.integer_diagonal.specs.Duals.{IsAssignment, cost, top};
+ghost use Rattle.integer_diagonal.specs.Duals.{AreAtMost, IsAssignment, cost};
+ghost use Rattle.integer_diagonal.specs.Amounts.{HasRoom};
 ghost use Rattle.integer_diagonal.specs.FirstPrices.{AreFirstDuals, AreFirstPrices};
 
-use crate::assignment::{Assignment, TOP};
+use crate::amount::Amount;
+use crate::assignment::Assignment;
+use crate::width::Width;
 use bip_graph::Matching;
 use sp_ids::{Col, OutOfMemory, Row};
 use sp_pattern::{Pattern, Weights};
@@ -16,43 +19,70 @@ use std::alloc::Global;
 /// Each column at its greatest weight, then each row at the greatest of what its entries weigh beyond their columns, and
 /// pairs of entries that weigh as much as both.
 ///
-/// Work: three looks at each entry.
-pub fn start(alloc: Global, pattern: &Pattern, weights: &Weights) -> Result<Assignment, OutOfMemory>
-    requires { weights.now.matrix ≡ pattern.now }
-    ensures { IfOk result (IsAssignment weights.now) }
+/// No entry weighs more than `top`. Work: three looks at each entry.
+pub fn start<W: Width>(
+    alloc: Global,
+    pattern: &Pattern,
+    weights: &Weights,
+    top: u64,
+) -> Result<Assignment<W>, OutOfMemory>
+    requires of { weights.now.matrix ≡ pattern.now }
+    requires small { AreAtMost weights.now top }
+    requires room { HasRoom (cols pattern.now) top W.limit }
+    ensures assignment { IfOk result (IsAssignment weights.now) }
+    ensures top { IfOk result (λ a. a.top ≡ top) }
 {
-    let duals = first_duals(alloc, pattern, weights)?;
-    let prices = first_prices(alloc, pattern, weights, duals.as_slice())?;
+    let duals = first_duals(alloc, pattern, weights, top)?;
+    let prices = first_prices(alloc, pattern, weights, top, duals.as_slice())?;
     let mut matching = Matching::empty(alloc, pattern.rows(), pattern.cols())?;
     for col in 0..pattern.cols() {
         let (prices, duals) = (prices.as_slice(), duals.as_slice());
-        if let Some(row) = cheap_row(pattern, weights, prices, duals, &matching, Col(col)) {
+        if let Some(row) = cheap_row(pattern, weights, top, prices, duals, &matching, Col(col)) {
             matching.pair(row, Col(col));
         }
     }
     // `size` tells the proof that rows and columns differ.
     let _size = matching.size();
     Ok(Assignment {
+        top,
         prices,
         duals,
         matching,
     })
 }
 
+/// The greatest weight of an entry, or 0.
+pub fn greatest_of_all(pattern: &Pattern, weights: &Weights) -> u64
+    requires { weights.now.matrix ≡ pattern.now }
+    ensures { AreAtMost weights.now result }
+{
+    let mut most = 0;
+    for col in 0..pattern.cols() {
+        let here = greatest(weights.weights_of(Col(col)));
+        if here > most {
+            most = here;
+        }
+    }
+    most
+}
+
 // Each column's least cost, or the greatest of all costs where it has no entry, and that greatest once more: so the rows'
 // prices are not below 0.
-fn first_duals(
+fn first_duals<W: Width>(
     alloc: Global,
     pattern: &Pattern,
     weights: &Weights,
-) -> Result<Vec<u128>, OutOfMemory>
-    requires { weights.now.matrix ≡ pattern.now }
-    ensures { IfOk result (λ duals. AreFirstDuals weights.now (cols pattern.now) duals.items) }
+    top: u64,
+) -> Result<Vec<Amount<W>>, OutOfMemory>
+    requires of { weights.now.matrix ≡ pattern.now }
+    requires small { AreAtMost weights.now top }
+    requires fits { top + top < W.limit }
+    ensures { IfOk result (λ duals. AreFirstDuals weights.now top (cols pattern.now) duals.items) }
 {
     let mut duals = Vec::with_capacity(alloc, pattern.cols() as usize)?;
     for col in 0..pattern.cols() {
-        let least = TOP - greatest(weights.weights_of(Col(col)));
-        duals.push(TOP as u128 + least as u128)?;
+        let least = top - greatest(weights.weights_of(Col(col)));
+        duals.push(Amount::of(top) + Amount::of(least))?;
     }
     Ok(duals)
 }
@@ -72,46 +102,65 @@ fn greatest(weights: &[u64]) -> u64
 }
 
 // Each row's least price at which none of its entries costs less than its column's dual variable.
-fn first_prices(
+fn first_prices<W: Width>(
     alloc: Global,
     pattern: &Pattern,
     weights: &Weights,
-    duals: &[u128],
-) -> Result<Vec<u128>, OutOfMemory>
+    top: u64,
+    duals: &[Amount<W>],
+) -> Result<Vec<Amount<W>>, OutOfMemory>
     requires of { weights.now.matrix ≡ pattern.now }
-    requires duals { AreFirstDuals weights.now (cols pattern.now) duals.now }
+    requires small { AreAtMost weights.now top }
+    requires fits { top + top < W.limit }
+    requires duals { AreFirstDuals weights.now top (cols pattern.now) duals.now }
     ensures { IfOk result
-        (λ prices. AreFirstPrices weights.now (cols pattern.now) duals.now prices.items) }
+        (λ prices. AreFirstPrices weights.now top (cols pattern.now) duals.now prices.items) }
 {
-    let mut prices = vec![in alloc; 0u128; pattern.rows() as usize]?;
+    let mut prices = vec![in alloc; Amount::zero(); pattern.rows() as usize]?;
     for col in 0..pattern.cols() {
-        raise_rows(pattern, weights, duals, prices.as_mut_slice(), Col(col));
+        raise_rows(
+            pattern,
+            weights,
+            top,
+            duals,
+            prices.as_mut_slice(),
+            Col(col),
+        );
     }
     Ok(prices)
 }
 
 // Raises the prices of the rows of a column's entries to what its dual variable asks of them.
-fn raise_rows(pattern: &Pattern, weights: &Weights, duals: &[u128], prices: &mut [u128], col: Col)
+fn raise_rows<W: Width>(
+    pattern: &Pattern,
+    weights: &Weights,
+    top: u64,
+    duals: &[Amount<W>],
+    prices: &mut [Amount<W>],
+    col: Col,
+)
     requires of { weights.now.matrix ≡ pattern.now }
-    requires duals { AreFirstDuals weights.now (cols pattern.now) duals.now }
+    requires small { AreAtMost weights.now top }
+    requires fits { top + top < W.limit }
+    requires duals { AreFirstDuals weights.now top (cols pattern.now) duals.now }
     requires rows { length prices.old ≡ pattern.now.rows }
     requires col { col < cols pattern.now }
     requires low { (r : ℕ) → slice_index prices.old r ≤ top }
     ensures low { (r : ℕ) → slice_index prices.new r ≤ top }
     ensures rise { (r : ℕ) → slice_index prices.old r ≤ slice_index prices.new r }
     ensures covers { (r : ℕ) → IsEntry pattern.now r col
-        → slice_index duals.now col ≤ slice_index prices.new r + cost weights.now r col }
+        → slice_index duals.now col ≤ slice_index prices.new r + cost top weights.now r col }
 {
     let rows = pattern.rows_of(col);
     let weights = weights.weights_of(col);
     let dual = duals[col.0 as usize];
     for k in 0..rows.len() {
-        raise_row(prices, rows[k], dual - (TOP - weights[k]) as u128);
+        raise_row(prices, rows[k], dual - Amount::of(top - weights[k]));
     }
 }
 
 // Raises the price of a row to this at least.
-fn raise_row(prices: &mut [u128], row: Row, least: u128)
+fn raise_row<W: Width>(prices: &mut [Amount<W>], row: Row, least: Amount<W>)
     requires { row < length prices.old }
     ensures met { least ≤ slice_index prices.new row }
     ensures low { (r : ℕ) → (slice_index prices.new r ≤ slice_index prices.old r)
@@ -124,26 +173,29 @@ fn raise_row(prices: &mut [u128], row: Row, least: u128)
 }
 
 // An unmatched row in which the column has an entry that costs as much as its dual variable.
-fn cheap_row(
+fn cheap_row<W: Width>(
     pattern: &Pattern,
     weights: &Weights,
-    prices: &[u128],
-    duals: &[u128],
+    top: u64,
+    prices: &[Amount<W>],
+    duals: &[Amount<W>],
     matching: &Matching,
     col: Col,
 ) -> Option<Row>
     requires of { weights.now.matrix ≡ pattern.now }
+    requires small { AreAtMost weights.now top }
+    requires fits { top + top < W.limit }
     requires rows { matching.now.rows ≡ pattern.now.rows }
     requires col { col < cols pattern.now }
-    requires prices { AreFirstPrices weights.now (cols pattern.now) duals.now prices.now }
+    requires prices { AreFirstPrices weights.now top (cols pattern.now) duals.now prices.now }
     requires duals { length duals.now ≡ cols pattern.now }
     ensures found { IfSome result
         (λ row. IsEntry pattern.now row col
-        × (slice_index prices.now row + cost weights.now row col ≡ slice_index duals.now col)
+        × (slice_index prices.now row + cost top weights.now row col ≡ slice_index duals.now col)
         × (¬ Among row (rows_of matching.now.pairs))) }
     ensures none { IfNone result
         ((r : ℕ) → IsEntry pattern.now r col
-        → slice_index prices.now r + cost weights.now r col ≡ slice_index duals.now col
+        → slice_index prices.now r + cost top weights.now r col ≡ slice_index duals.now col
         → Among r (rows_of matching.now.pairs)) }
 {
     let rows = pattern.rows_of(col);
@@ -151,7 +203,7 @@ fn cheap_row(
     let dual = duals[col.0 as usize];
     for k in 0..rows.len() {
         let row = rows[k];
-        let paid = prices[row.0 as usize] + (TOP - weights[k]) as u128;
+        let paid = prices[row.0 as usize] + Amount::of(top - weights[k]);
         if paid == dual && matching.col_of(row).is_none() {
             return Some(row);
         }

@@ -1,14 +1,15 @@
-use Rattle.std.proofs.Common.{subst, rules}
-use Rattle.bip_defs.specs.Matrix.{Matrix}
-use Rattle.bip_graph.specs.Matching.{IsMatchingOf}
-use Rattle.integer_diagonal.proofs.AnswerLemmas.{matching_of}
-use Rattle.integer_diagonal.specs.Duals.{priced}
+use Rattle.std.proofs.Common.{◌-◌, ◌^◌, ◌<◌, subst, arith, rules}
+use Rattle.std.proofs.lemmas.Nat.{mul-le}
+use Rattle.bip_defs.specs.Matrix.{cols}
+use Rattle.integer_diagonal.specs.Amounts.{HasRoom}
 use Rattle.integer_diagonal.proofs.answer.heaviest.Goals as goal
 
-pub singular-requires-clause-matching : goal.singular-requires-clause-matching
-singular-requires-clause-matching c =
-    let b = c.match_all.new.assignment in
-    subst (λ (z : Matrix). IsMatchingOf z b.matching) c.requires (matching_of (priced c.args.weights.now b) b.matching c.in_ok-match_all.ensures.assignment)
+pub heaviest_of_square-requires-clause-room : goal.heaviest_of_square-requires-clause-room
+heaviest_of_square-requires-clause-room c = subst (λ n. HasRoom n c.greatest_of_all-top.result (2 ^ 64 - 1)) c.cols-2.ensures (c.fits_64_bits.ensures c.if-fits_64_bits.true)
 
-pub diagonal-requires-clause-all_cols : goal.diagonal-requires-clause-all_cols
-diagonal-requires-clause-all_cols c = c.in_ok-match_all.ensures.all (search rules)
+pub heaviest_of_square-requires-else-fits_64_bits-clause-room : goal.heaviest_of_square-requires-else-fits_64_bits-clause-room
+heaviest_of_square-requires-else-fits_64_bits-clause-room c =
+    let few : cols c.args.pattern.now < 2 ^ 32 = search rules in
+    let small : c.greatest_of_all-top.result < 2 ^ 64 = search rules in
+    let product = mul-le (cols c.args.pattern.now) c.greatest_of_all-top.result (2 ^ 32) (2 ^ 64) (omega (arith, few)) (omega (arith, small)) in
+    omega (arith, small, product)

@@ -1,101 +1,102 @@
-use Rattle.std.proofs.Common.{◌^◌, ◌<◌, ap, sym, subst, arith, rules}
+use Rattle.std.proofs.Common.{◌∙◌, ◌<◌, ap, sym, subst, arith, rules}
 use Rattle.bip_defs.specs.Matrix.{AreEntries, Matrix, cols}
+use Rattle.integer_diagonal.proofs.AmountTests.{equal, unequal}
 use Rattle.integer_diagonal.proofs.HallSets.{stuck_not_full}
 use Rattle.integer_diagonal.proofs.PathLemmas.{HasRoot, IsFlipped, extended, found_near, dual_fits, pairs_fewer, price_fits, way, way_entries, way_range, way_root}
 use Rattle.integer_diagonal.specs.Labels.{IsClear, labels_of, tree_of}
-use Rattle.integer_diagonal.specs.Duals.{cheap, priced}
+use Rattle.integer_diagonal.specs.Duals.{IsAssigned, cheap, priced_from}
 use Rattle.bip_defs.specs.Bottleneck.{IsFull}
-use Rattle.integer_diagonal.specs.SearchTree.{Tree, far}
+use Rattle.integer_diagonal.specs.SearchTree.{Tree}
+use Rattle.integer_diagonal.specs.Amounts.{HasRoom, far}
 use Rattle.integer_diagonal.proofs.path.extend.Goals as goal
 use Rattle.bip_defs.specs.Queues.{heads}
 use Rattle.bip_defs.proofs.Queues.{head_at}
 
-pub returns-then-nearest-clause-stuck : goal.returns-then-nearest-clause-stuck
-returns-then-nearest-clause-stuck c = λ e other full.
+pub returns-then-eq-clause-stuck : goal.returns-then-eq-clause-stuck
+returns-then-eq-clause-stuck g c = λ e other full.
     let k = c.requires.assignment.matching in
     let f = c.in_ok-nearest.ensures in
-    stuck_not_full _ _ other _ _ k.rows_differ k.cols_differ f.tree (f.stuck c.if-nearest.true) (subst (λ (z : Matrix). IsFull z other) (sym c.requires.of) full)
+    stuck_not_full _ _ other _ _ k.rows_differ k.cols_differ f.tree (f.stuck (equal _ _ _ c.eq.ensures c.if-eq.true ∙ c.far.ensures)) (subst (λ (z : Matrix). IsFull z other) (sym c.requires.of) full)
 
 pub raise-requires-clause-in_range : goal.raise-requires-clause-in_range
-raise-requires-clause-in_range c =
+raise-requires-clause-in_range g c =
     let t : Tree = record { queue = c.as_slice-queue.result.now; depths = c.as_slice.result.now } in
-    let near : c.in_ok-nearest.nearest.distance < far = omega (arith, c.if-nearest.false) in
+    let near : c.in_ok-nearest.nearest.distance < far = (let apart = unequal _ _ _ c.eq.ensures c.if-eq.false in omega (arith, apart, c.far.ensures, c.in_ok-nearest.ensures.within)) in
     let f = found_near _ _ _ _ t _ _ _ c.as_slice-queue.ensures.value c.as_slice.ensures.value c.in_ok-nearest.ensures.tree c.in_ok-nearest.ensures.found near in
     λ i lt. (let within = f.grown.in_range _ (head_at t.queue i lt) in let long = c.requires.assignment.feasible.duals_are in omega (arith, within, long))
 
 pub raise-requires-clause-rows_in_range : goal.raise-requires-clause-rows_in_range
-raise-requires-clause-rows_in_range c =
+raise-requires-clause-rows_in_range g c =
     λ r d pair. (let within = (c.requires.assignment.matching.entries r d pair).0 in let long = c.requires.assignment.feasible.prices_are in omega (arith, within, long))
 
 pub raise-requires-clause-duals_fit : goal.raise-requires-clause-duals_fit
-raise-requires-clause-duals_fit c =
+raise-requires-clause-duals_fit g c =
     let t : Tree = record { queue = c.as_slice-queue.result.now; depths = c.as_slice.result.now } in
-    let near : c.in_ok-nearest.nearest.distance < far = omega (arith, c.if-nearest.false) in
+    let near : c.in_ok-nearest.nearest.distance < far = (let apart = unequal _ _ _ c.eq.ensures c.if-eq.false in omega (arith, apart, c.far.ensures, c.in_ok-nearest.ensures.within)) in
     let f = found_near _ _ _ _ t _ _ _ c.as_slice-queue.ensures.value c.as_slice.ensures.value c.in_ok-nearest.ensures.tree c.in_ok-nearest.ensures.found near in
-    let few = subst (λ (z : Matrix). cols z < 2 ^ 32) (sym c.requires.of) c.requires.few in
-    λ d. dual_fits _ _ _ _ _ _ _ d c.requires.assignment.matching c.requires.assignment.bounded few f
+    let room = subst (λ (z : Matrix). HasRoom (cols z) c.args.assignment.now.top g.W.Width.limit) (sym c.requires.of) c.requires.fits in
+    λ d. dual_fits _ _ _ _ _ _ _ _ d room c.requires.assignment.matching c.requires.assignment.bounded f
 
 pub raise-requires-clause-prices_fit : goal.raise-requires-clause-prices_fit
-raise-requires-clause-prices_fit c =
+raise-requires-clause-prices_fit g c =
     let t : Tree = record { queue = c.as_slice-queue.result.now; depths = c.as_slice.result.now } in
-    let near : c.in_ok-nearest.nearest.distance < far = omega (arith, c.if-nearest.false) in
+    let near : c.in_ok-nearest.nearest.distance < far = (let apart = unequal _ _ _ c.eq.ensures c.if-eq.false in omega (arith, apart, c.far.ensures, c.in_ok-nearest.ensures.within)) in
     let f = found_near _ _ _ _ t _ _ _ c.as_slice-queue.ensures.value c.as_slice.ensures.value c.in_ok-nearest.ensures.tree c.in_ok-nearest.ensures.found near in
-    let few = subst (λ (z : Matrix). cols z < 2 ^ 32) (sym c.requires.of) c.requires.few in
-    λ r. price_fits _ _ _ _ _ _ _ r c.requires.assignment.matching c.requires.assignment.bounded few f
+    let room = subst (λ (z : Matrix). HasRoom (cols z) c.args.assignment.now.top g.W.Width.limit) (sym c.requires.of) c.requires.fits in
+    λ r. price_fits _ _ _ _ _ _ _ _ r room c.requires.assignment.matching c.requires.assignment.bounded f
 
 pub path_to-requires-clause-queue : goal.path_to-requires-clause-queue
-path_to-requires-clause-queue c =
+path_to-requires-clause-queue g c =
     let t : Tree = record { queue = c.as_slice-queue.result.now; depths = c.as_slice.result.now } in
-    let near : c.in_ok-nearest.nearest.distance < far = omega (arith, c.if-nearest.false) in
+    let near : c.in_ok-nearest.nearest.distance < far = (let apart = unequal _ _ _ c.eq.ensures c.if-eq.false in omega (arith, apart, c.far.ensures, c.in_ok-nearest.ensures.within)) in
     let f = found_near _ _ _ _ t _ _ _ c.as_slice-queue.ensures.value c.as_slice.ensures.value c.in_ok-nearest.ensures.tree c.in_ok-nearest.ensures.found near in
-    let u = c.raise.ensures.raised c.args.weights.now in
-    let on = way _ _ _ _ _ _ _ _ _ _ _ _ c.raise.ensures.matching c.requires.assignment f u in
+    let u = c.raise.ensures.raised c.args.weights.now c.args.assignment.now.top in
+    let on = way _ _ _ _ _ _ _ _ _ _ _ _ _ c.raise.ensures.matching c.requires.assignment f u in
     on.queue
 
 pub path_to-requires-clause-place : goal.path_to-requires-clause-place
-path_to-requires-clause-place c =
+path_to-requires-clause-place g c =
     let t : Tree = record { queue = c.as_slice-queue.result.now; depths = c.as_slice.result.now } in
-    let near : c.in_ok-nearest.nearest.distance < far = omega (arith, c.if-nearest.false) in
+    let near : c.in_ok-nearest.nearest.distance < far = (let apart = unequal _ _ _ c.eq.ensures c.if-eq.false in omega (arith, apart, c.far.ensures, c.in_ok-nearest.ensures.within)) in
     let f = found_near _ _ _ _ t _ _ _ c.as_slice-queue.ensures.value c.as_slice.ensures.value c.in_ok-nearest.ensures.tree c.in_ok-nearest.ensures.found near in
-    let u = c.raise.ensures.raised c.args.weights.now in
-    let on = way _ _ _ _ _ _ _ _ _ _ _ _ c.raise.ensures.matching c.requires.assignment f u in
+    let u = c.raise.ensures.raised c.args.weights.now c.args.assignment.now.top in
+    let on = way _ _ _ _ _ _ _ _ _ _ _ _ _ c.raise.ensures.matching c.requires.assignment f u in
     on.within
 
 pub path_to-requires-clause-leaf : goal.path_to-requires-clause-leaf
-path_to-requires-clause-leaf c =
+path_to-requires-clause-leaf g c =
     let t : Tree = record { queue = c.as_slice-queue.result.now; depths = c.as_slice.result.now } in
-    let near : c.in_ok-nearest.nearest.distance < far = omega (arith, c.if-nearest.false) in
+    let near : c.in_ok-nearest.nearest.distance < far = (let apart = unequal _ _ _ c.eq.ensures c.if-eq.false in omega (arith, apart, c.far.ensures, c.in_ok-nearest.ensures.within)) in
     let f = found_near _ _ _ _ t _ _ _ c.as_slice-queue.ensures.value c.as_slice.ensures.value c.in_ok-nearest.ensures.tree c.in_ok-nearest.ensures.found near in
-    let u = c.raise.ensures.raised c.args.weights.now in
-    let on = way _ _ _ _ _ _ _ _ _ _ _ _ c.raise.ensures.matching c.requires.assignment f u in
+    let u = c.raise.ensures.raised c.args.weights.now c.args.assignment.now.top in
+    let on = way _ _ _ _ _ _ _ _ _ _ _ _ _ c.raise.ensures.matching c.requires.assignment f u in
     on.free
 
 pub path_to-requires-clause-room : goal.path_to-requires-clause-room
-path_to-requires-clause-room c =
+path_to-requires-clause-room g c =
     let few = pairs_fewer _ _ _ _ c.raise.ensures.matching c.requires.assignment (subst (λ (z : Matrix). c.args.root < cols z) (sym c.requires.of) c.requires.root) c.requires.free in
     let same = ap cols c.requires.of in
     omega (arith, few, same, c.requires.room)
 
 pub flip-requires-clause-in_range : goal.flip-requires-clause-in_range
-flip-requires-clause-in_range c =
+flip-requires-clause-in_range g c =
     let t : Tree = record { queue = c.as_slice-queue.result.now; depths = c.as_slice.result.now } in
-    let near : c.in_ok-nearest.nearest.distance < far = omega (arith, c.if-nearest.false) in
+    let near : c.in_ok-nearest.nearest.distance < far = (let apart = unequal _ _ _ c.eq.ensures c.if-eq.false in omega (arith, apart, c.far.ensures, c.in_ok-nearest.ensures.within)) in
     let f = found_near _ _ _ _ t _ _ _ c.as_slice-queue.ensures.value c.as_slice.ensures.value c.in_ok-nearest.ensures.tree c.in_ok-nearest.ensures.found near in
-    let u = c.raise.ensures.raised c.args.weights.now in
-    let on = way _ _ _ _ _ _ _ _ _ _ _ _ c.raise.ensures.matching c.requires.assignment f u in
+    let u = c.raise.ensures.raised c.args.weights.now c.args.assignment.now.top in
+    let on = way _ _ _ _ _ _ _ _ _ _ _ _ _ c.raise.ensures.matching c.requires.assignment f u in
     let is = c.as_slice-2.ensures.value in
     let entries = way_entries _ _ _ _ _ _ on c.path_to.ensures.pairs in
     λ r d pair. way_range _ _ _ _ _ _ r d on (subst (AreEntries _) (sym is) entries) pair
 
 pub returns : goal.returns
-returns c =
+returns g c =
     let t : Tree = record { queue = c.as_slice-queue.result.now; depths = c.as_slice.result.now } in
-    let near : c.in_ok-nearest.nearest.distance < far = omega (arith, c.if-nearest.false) in
+    let near : c.in_ok-nearest.nearest.distance < far = (let apart = unequal _ _ _ c.eq.ensures c.if-eq.false in omega (arith, apart, c.far.ensures, c.in_ok-nearest.ensures.within)) in
     let f = found_near _ _ _ _ t _ _ _ c.as_slice-queue.ensures.value c.as_slice.ensures.value c.in_ok-nearest.ensures.tree c.in_ok-nearest.ensures.found near in
-    let u = c.raise.ensures.raised c.args.weights.now in
-    let on = way _ _ _ _ _ _ _ _ _ _ _ _ c.raise.ensures.matching c.requires.assignment f u in
-    let few = subst (λ (z : Matrix). cols z < 2 ^ 32) (sym c.requires.of) c.requires.few in
-    let a : Matrix = cheap (priced c.args.weights.now c.raise.new.assignment) in
+    let u = c.raise.ensures.raised c.args.weights.now c.args.assignment.now.top in
+    let on = way _ _ _ _ _ _ _ _ _ _ _ _ _ c.raise.ensures.matching c.requires.assignment f u in
+    let a : Matrix = cheap (priced_from c.args.weights.now c.args.assignment.now.top c.raise.new.assignment) in
     let is = c.as_slice-2.ensures.value in
     let entries = subst (AreEntries a) (sym is) (way_entries _ _ _ _ _ _ on c.path_to.ensures.pairs) in
     let flipped : IsFlipped a c.raise.new.assignment.matching c.flip.new.self t.queue c.as_slice-2.result.now = record {
@@ -105,10 +106,11 @@ returns c =
       swaps = c.flip.ensures.pairs;
       root = subst (HasRoot c.raise.new.assignment.matching.pairs (heads t.queue)) (sym is) (way_root _ _ _ _ _ _ on c.path_to.ensures.pairs c.path_to.ensures.path);
     } in
-    let e = extended _ _ _ _ _ _ _ _ _ _ _ _ _ _ c.raise.ensures.matching c.requires.assignment few f u flipped in
+    let e = extended _ _ _ _ _ _ _ _ _ _ _ _ _ _ _ c.raise.ensures.matching c.requires.assignment f u flipped in
     record {
       room = (let start = c.requires.room in let kept = c.path_to.ensures.room in omega (arith, start, kept));
-      assignment = e.assigned;
+      assignment = subst (λ z. IsAssigned (priced_from c.args.weights.now z c.raise.new.assignment) c.flip.new.self) (sym c.raise.ensures.top) e.assigned;
+      top = c.raise.ensures.top;
       covered = e.covered;
       found = λ yes. (e.mated, subst (λ n. IsClear n (tree_of c.clear.new.self) (labels_of c.clear.new.self)) c.in_ok-nearest.ensures.lengths.0 c.clear.ensures.clear, c.clear.ensures.listed);
       stuck = search rules;

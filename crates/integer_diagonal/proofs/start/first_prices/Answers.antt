@@ -6,10 +6,10 @@ use Rattle.integer_diagonal.specs.FirstPrices.{AreFirstPrices}
 use Rattle.integer_diagonal.proofs.start.first_prices.Goals as goal
 
 pub loop-col-init : goal.loop-col-init
-loop-col-init c = prices_none c.args.weights.now c.args.duals.now c.in_ok-prices.prices.items (c.in_ok-prices.ensures.items_if_clones_equal (λ y same. same) ∙ ap (λ k. replicate {A = ℕ} k 0) (c.rows.ensures ∙ ap (λ (z : Matrix). z.rows) (sym c.requires.of)))
+loop-col-init g c = prices_none c.args.weights.now c.args.top c.args.duals.now c.in_ok-prices.prices.items (c.in_ok-prices.ensures.items_if_clones_equal (λ y same. same) ∙ ap (λ n. replicate {A = ℕ} c.rows.result n) c.zero.ensures ∙ ap (λ k. replicate {A = ℕ} k 0) (c.rows.ensures ∙ ap (λ (z : Matrix). z.rows) (sym c.requires.of)))
 
 pub loop-col-preserved : goal.loop-col-preserved
-loop-col-preserved c =
+loop-col-preserved g c =
     let w = c.args.weights.now in
     let n = c.loop-col.col in
     let old = c.loop-col.prices.items in
@@ -19,5 +19,5 @@ loop-col-preserved c =
     let same : length new ≡ length old = c.raise_rows.auto.prices ∙ ap (λ (z : List ℕ). length z) lent in
     let size : c.loop-col.prices.len ≡ length new = omega (arith, same, c.loop-col.prices.ok.0) in
     let whole : take c.loop-col.prices.len (new ++ rest) ≡ new = subst (λ k. take k (new ++ rest) ≡ new) (sym size) (take-append_seam new rest) in
-    subst (λ (z : List ℕ). AreFirstPrices w (n + 1) c.args.duals.now z) (sym whole)
-    (prices_more w n c.args.duals.now old new c.loop-col.invariant same c.raise_rows.ensures.low (λ r. subst (λ (z : List ℕ). slice_index z r ≤ slice_index new r) lent (c.raise_rows.ensures.rise r)) (λ r e. c.raise_rows.ensures.covers r (subst (λ (z : Matrix). IsEntry z r n) c.requires.of e)))
+    subst (λ (z : List ℕ). AreFirstPrices w c.args.top (n + 1) c.args.duals.now z) (sym whole)
+    (prices_more w c.args.top n c.args.duals.now old new c.loop-col.invariant same c.raise_rows.ensures.low (λ r. subst (λ (z : List ℕ). slice_index z r ≤ slice_index new r) lent (c.raise_rows.ensures.rise r)) (λ r e. c.raise_rows.ensures.covers r (subst (λ (z : Matrix). IsEntry z r n) c.requires.of e)))

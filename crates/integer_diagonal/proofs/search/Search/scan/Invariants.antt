@@ -5,7 +5,7 @@ use Rattle.integer_diagonal.specs.SearchTree.{depth}
 use Rattle.integer_diagonal.proofs.search.Search.scan.Given as goal
 
 abbrev pub invariant-loop-k : goal.invariant-loop-k
-invariant-loop-k l = record {
+invariant-loop-k g l = record {
   tree : tree_of l.self ≡ tree_of l.fn.self;
   kept : IsKept (priced l.fn.weights l.assignment) l.assignment.matching.pairs (tree_of l.fn.self) (labels_of l.self) (depth (tree_of l.fn.self) l.place);
   best : IsBest (priced l.fn.weights l.assignment) l.assignment.matching.pairs (tree_of l.fn.self) l.nearest (depth (tree_of l.fn.self) l.place);

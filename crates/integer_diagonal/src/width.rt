@@ -1,0 +1,127 @@
+//! Numbers of 64 or of 128 bits, which a search adds up in.
+
+ghost use Rattle.std.specs.Prelude.{◌≡◌, ℕ, ◌+◌, ◌-◌, ◌^◌, ◌<◌, ◌≤◌, pos};
+ghost use Rattle.std.specs.Ordering.{nat_cmp};
+ghost use Rattle.std.proofs.Common.{refl, rules};
+ghost use Rattle.integer_diagonal.specs.Amounts.{amount_of_64, far, number_of_64, number_of_amount};
+
+use std::cmp::Ordering;
+
+/// Numbers of one width. One of them stands for no distance, the greatest; the others stand for themselves.
+pub trait Width: Copy {
+    /// What a number stands for.
+    ghost amount: { Self → ℕ };
+
+    /// The number that stands for an amount.
+    ghost number: { ℕ → Self };
+
+    /// No two numbers stand for one amount.
+    ghost number_of_amount: { (x : Self) → number (amount x) ≡ x };
+
+    /// Sums are less than this.
+    ghost limit: { ℕ };
+
+    /// A cost.
+    fn of(cost: u64) -> Self
+        requires { cost < limit }
+        ensures { amount result ≡ cost };
+
+    /// What stands for no distance.
+    fn far() -> Self
+        ensures { amount result ≡ far };
+
+    /// The sum of the two.
+    fn plus(self, other: Self) -> Self
+        requires { amount self + amount other < limit }
+        ensures { amount result ≡ amount self + amount other };
+
+    /// By how much this is more than the other.
+    fn minus(self, other: Self) -> Self
+        requires fits { amount self < limit }
+        requires less { amount other ≤ amount self }
+        ensures { amount result ≡ amount self - amount other };
+
+    /// Which of the two is less.
+    fn compare(self, other: Self) -> Ordering
+        ensures { result ≡ nat_cmp (amount self) (amount other) };
+
+    /// The same, as a number with a sign.
+    fn signed(self) -> i128
+        requires { amount self < limit }
+        ensures { result ≡ pos (amount self) };
+
+    /// Each sum is less than what stands for no distance.
+    ghost in_range: { (0 < limit) × (limit ≤ 2 ^ 100) };
+}
+
+impl Width for u64 {
+    ghost amount = { amount_of_64 };
+
+    ghost number = { number_of_64 };
+
+    ghost number_of_amount = { number_of_amount };
+
+    ghost limit = { 2 ^ 64 - 1 };
+
+    fn of(cost: u64) -> u64 {
+        cost
+    }
+
+    fn far() -> u64 {
+        u64::MAX
+    }
+
+    fn plus(self, other: u64) -> u64 {
+        self + other
+    }
+
+    fn minus(self, other: u64) -> u64 {
+        self - other
+    }
+
+    fn compare(self, other: u64) -> Ordering {
+        self.cmp(&other)
+    }
+
+    fn signed(self) -> i128 {
+        self as i128
+    }
+
+    ghost in_range = { Prim.search rules };
+}
+
+impl Width for u128 {
+    ghost amount = { λ n. n };
+
+    ghost number = { λ n. n };
+
+    ghost number_of_amount = { λ n. refl };
+
+    ghost limit = { 2 ^ 100 };
+
+    fn of(cost: u64) -> u128 {
+        cost as u128
+    }
+
+    fn far() -> u128 {
+        u128::MAX
+    }
+
+    fn plus(self, other: u128) -> u128 {
+        self + other
+    }
+
+    fn minus(self, other: u128) -> u128 {
+        self - other
+    }
+
+    fn compare(self, other: u128) -> Ordering {
+        self.cmp(&other)
+    }
+
+    fn signed(self) -> i128 {
+        self as i128
+    }
+
+    ghost in_range = { Prim.search rules };
+}
