@@ -95,25 +95,18 @@ fn augmented<R: AllocGlobal + Threads + Sync>(
     }
 }
 
-// The columns of the three rows and the rows of the three columns.
-fn all_mates(mates: &Mates) -> ([Option<Col>; 3], [Option<Row>; 3])
+// Row 0 is matched with column 1 and row 1 with column 2, and nothing else.
+fn mates_of_the_path<R: Abort>(rt: &R, mates: &Mates)
     requires { (length mates.now.rows ≡ 3) × (length mates.now.cols ≡ 3) }
 {
-    (
-        [
-            mates.col_of(Row(0)),
-            mates.col_of(Row(1)),
-            mates.col_of(Row(2)),
-        ],
-        [
-            mates.row_of(Col(0)),
-            mates.row_of(Col(1)),
-            mates.row_of(Col(2)),
-        ],
-    )
+    assert_eq!(rt; mates.col_of(Row(0)), Some(Col(1)));
+    assert_eq!(rt; mates.col_of(Row(1)), Some(Col(2)));
+    assert_eq!(rt; mates.col_of(Row(2)), None);
+    assert_eq!(rt; mates.row_of(Col(0)), None);
+    assert_eq!(rt; mates.row_of(Col(1)), Some(Row(0)));
+    assert_eq!(rt; mates.row_of(Col(2)), Some(Row(1)));
 }
 
-// After this row 0 is matched with column 1 and row 1 with column 2.
 fn exchanges_the_path<R: Abort + AllocGlobal + Threads + Sync>(
     rt: &R,
     workers: u32,
@@ -124,9 +117,7 @@ fn exchanges_the_path<R: Abort + AllocGlobal + Threads + Sync>(
     let pattern = pattern_of_three(rt)?;
     let mut forest = forest_of_one_path(rt, &pattern)?;
     let mates = augmented(rt, &forest, workers, gate)?;
-    let (cols, rows) = all_mates(&mates);
-    assert_eq!(rt; cols, [Some(Col(1)), Some(Col(2)), None]);
-    assert_eq!(rt; rows, [None, Some(Row(0)), Some(Row(1))]);
+    mates_of_the_path(rt, &mates);
     forest.adopt(mates);
     assert!(rt; forest.flipped(Col(1)));
     Ok(())

@@ -93,6 +93,12 @@ fn level<R: Abort + AllocGlobal + Threads + Sync, G: Gate>(
     Ok(workers)
 }
 
+// What a worker has claimed since the level began; it has won nothing.
+fn has_claimed<R: Abort>(rt: &R, worker: &Worker, claims: &[(Row, Col)]) {
+    assert_eq!(rt; worker.fresh_claims(), claims);
+    assert!(rt; worker.fresh_wins().is_empty());
+}
+
 // The columns 1 and 2 are matched with the rows 0 and 1 now, no row is claimed, and of the columns
 // only 0 is in the forest.
 #[test]
@@ -101,11 +107,8 @@ fn a_column_claims_the_row_that_is_free_again(rt: HostRuntime) -> Result<(), Fai
     let forest = forest_after_a_graft(&rt, &pattern)?;
     let gate = MeetGate::new(rt.alloc())?;
     let workers = level(&rt, &forest, &gate)?;
-    assert_eq!(rt; workers[0].fresh_claims(), [(Row(0), Col(0))].as_slice());
-    assert!(rt; workers[0].fresh_wins().is_empty());
-    assert!(rt; workers[1].fresh_claims().is_empty());
-    assert!(rt; workers[1].fresh_wins().is_empty());
-    assert_eq!(rt; gate.arrivals(0), 1);
-    assert_eq!(rt; gate.arrivals(1), 1);
+    has_claimed(&rt, &workers[0], &[(Row(0), Col(0))]);
+    has_claimed(&rt, &workers[1], &[]);
+    assert_eq!(rt; (gate.arrivals(0), gate.arrivals(1)), (1, 1));
     Ok(())
 }
