@@ -21,10 +21,6 @@ pub const COLUMNS: usize = 64;
 /// For how many candidates there is room at once.
 pub const ROOM: usize = 512;
 
-/// From how many rows on columns are looked through in batches. The marks of fewer rows stay in a
-/// processor's cache, and a batch gains nothing there.
-pub const LARGE: usize = 1 << 20;
-
 /// A row that may be visited next, from the column at a place of the queue.
 #[derive(Clone, Copy)]
 pub struct Candidate {

@@ -10,7 +10,7 @@ ghost use Rattle.bip_graph.specs.Matching.{IsMatchingOf, Pairing};
 ghost use Rattle.path_search.specs.Batches.{Follows, HaveRows, numbers_in};
 ghost use Rattle.path_search.specs.Forests.{Extends, HaveNoPath, IsForest, IsLeafOf, LeadOn, Progresses, Spreads, Traces, Visits, reached_at};
 
-use crate::batches::{Candidate, LARGE, ROOM, gather, keep_unmarked, look_up, no_lists};
+use crate::batches::{Candidate, ROOM, gather, keep_unmarked, look_up, no_lists};
 use crate::columns::{put, unmark_all};
 use crate::reached::{Reached, RootedQueue};
 use bip_graph::{Matching, Opposite, trace_back};
@@ -433,36 +433,6 @@ impl Forest {
         place + count as u32
     }
 
-    // Looks through the lists of the next columns, which begin at a place of the queue: those of a
-    // batch on a large matrix, one column's elsewhere. The place behind the last of them.
-    fn grow_next<'s, F: Opposite, S: Side<F>>(
-        &mut self,
-        side: &'s S,
-        matching: &mut Matching,
-        place: u32,
-        lists: &mut [&'s [F]],
-        candidates: &mut [Candidate],
-    ) -> u32
-        requires matching { IsMatchingOf (S.matrix side.now) (F.seen matching.old) }
-        requires forest { IsForest (S.matrix side.now) (F.seen matching.old).pairs self.old }
-        requires place { place < length self.old.queue }
-        requires room { 0 < length lists.old }
-        ensures end { (place < result) × (result ≤ length self.new.queue) }
-        ensures forest { IsForest (S.matrix side.now) (F.seen matching.new).pairs self.new }
-        ensures matching { IsMatchingOf (S.matrix side.now) (F.seen matching.new) }
-        ensures covered { Covers (F.seen matching.old).pairs (F.seen matching.new).pairs }
-        ensures progresses { Progresses (S.matrix side.now) (F.seen matching.old)
-            (F.seen matching.new) self.old self.new place result }
-    {
-        if self.marks.len() >= LARGE {
-            return self.batch(side, matching, place, lists, candidates);
-        }
-        // Places fit, since there are no more than columns.
-        let _cols = side.cols();
-        self.grow(side, matching, place);
-        place + 1
-    }
-
     /// Searches breadth-first from all unmatched columns at once, and exchanges the augmenting
     /// paths that it finds.
     ///
@@ -472,10 +442,9 @@ impl Forest {
     /// maximum. Takes no memory. Work: one look at each row and column, and at each entry once at
     /// most.
     ///
-    /// On a matrix of a million rows and more, up to 64 columns are looked through at a time, with
-    /// the outcome of one after another: their lists are looked up, then their rows' marks, up to
-    /// 512 at once, and then the unmarked rows are visited. So looks of one kind stand together, and
-    /// none waits for the memory that another asked for.
+    /// Up to 64 columns are looked through at a time, with the outcome of one after another: their
+    /// lists are looked up, then their rows' marks, up to 512 at once, and then the unmarked rows
+    /// are visited. So looks of one kind stand together, and none hangs on what another found.
     pub fn sweep<F: Opposite, S: Side<F>>(&mut self, side: &S, matching: &mut Matching)
         requires rows { length self.old.marks ≡ (S.matrix side.now).rows }
         requires cols { self.old.cols ≡ cols (S.matrix side.now) }
@@ -500,7 +469,7 @@ impl Forest {
         }; ROOM];
         let mut place: u32 = 0;
         while (place as usize) < self.reached() {
-            place = self.grow_next(side, matching, place, &mut lists, &mut candidates);
+            place = self.batch(side, matching, place, &mut lists, &mut candidates);
         }
     }
 }

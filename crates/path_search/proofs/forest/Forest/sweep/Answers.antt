@@ -4,12 +4,12 @@ use Rattle.path_search.proofs.SweepLemmas.{forest_short, grown_end, grown_more}
 use Rattle.path_search.proofs.forest.Forest.sweep.Goals as goal
 
 pub loop-place-smaller : goal.loop-place-smaller
-loop-place-smaller g c = let short = forest_short _ _ _ c.grow_next-place.ensures.forest in let later = c.grow_next-place.ensures.end in omega arith
+loop-place-smaller g c = let short = forest_short _ _ _ c.batch-place.ensures.forest in let later = c.batch-place.ensures.end in omega arith
 
 pub loop-place-preserved : goal.loop-place-preserved
 loop-place-preserved g c =
     let k = c.loop-place.invariant in
-    let e = c.grow_next-place.ensures in
+    let e = c.batch-place.ensures in
     record {
       forest = e.forest;
       within = e.end.1;
