@@ -1,5 +1,5 @@
 -- Both orders of the same places are a pattern.
-use Rattle.std.proofs.Common.{◌≡◌, ◌∙◌, ℕ, ◌-◌, ◌<◌, ◌≤◌, ◌^◌, List, [], length, map, sym, ap, arith, subst, ◌∷◌, inl, inr}
+use Rattle.std.proofs.Common.{◌≡◌, ◌∙◌, ℕ, ◌-◌, ◌<◌, ◌^◌, List, [], length, map, sym, ap, arith, subst, ◌∷◌, inl, inr}
 use Rattle.std.specs.List.{AllByRecursion}
 use Rattle.sp_ids.specs.Entries.{IsInside}
 use Rattle.std.proofs.Math.Decide.{dec_lt}
@@ -89,18 +89,18 @@ order_itself m n starts flat o = record {
   few = let same = ap length o.compressed.numbers ∙ length-inners o.pairs in omega (arith, same);
 }
 
-pub of_rows : (rows cols : ℕ) (ps : List Pair) (cs rs us vs : List ℕ) → IsOrderOf rows cols ps us vs → IsTurned (length us - 1) cols us vs cs rs → AreInside rows cols ps
-    → rows < 2 ^ 32 → cols < 2 ^ 32 → length ps < 2 ^ 32 → AreOrders cs rs us vs × HasPlaces rows cols ps (stored cs rs us) × (length rs ≤ length ps)
-of_rows rows cols ps cs rs us vs o t inside few_rows few_cols few =
+pub of_rows : (rows cols : ℕ) (ps : List Pair) (cs rs us vs : List ℕ) → IsOrderOf rows cols ps us vs → IsTurned (length us - 1) cols us vs cs rs
+    → rows < 2 ^ 32 → cols < 2 ^ 32 → length vs < 2 ^ 32 → AreOrders cs rs us vs × HasPlaces rows cols ps (stored cs rs us) × (length rs ≡ length vs)
+of_rows rows cols ps cs rs us vs o t few_rows few_cols few =
     let by_row = order_parts rows cols ps us vs o in
     let long = by_row.long in
     let same : length us - 1 ≡ rows = omega (arith, long) in
     let turned_pairs = t o.order.pairs (rw same (order_table rows cols us vs o.order)) in
     let by_col = turned_parts rows cols ps us vs cs rs o turned_pairs in
     let same_length = order_turned_length rows cols us vs cs rs o.order turned_pairs in
-    let within : (r c : ℕ) → Among (r, c) ps → (r < rows) × (c < cols) = λ r c h. inside (r, c) h in
-    let orders = both_orders rows cols (λ r c. Among (r, c) ps) cs rs us vs by_col by_row within few_rows few_cols (let f = o.few in omega (arith, f, same_length, few)) (sym same_length) in
-    (orders, both_places rows cols (λ r c. Among (r, c) ps) cs rs us vs by_col by_row within ps (λ r c h. h) (λ r c h. h) orders, (let f = o.few in omega (arith, f, same_length)))
+    let within : (r c : ℕ) → Among (r, c) ps → (r < rows) × (c < cols) = λ r c h. o.order.inside (r, c) ((o.same (r, c)).1 h) in
+    let orders = both_orders rows cols (λ r c. Among (r, c) ps) cs rs us vs by_col by_row within few_rows few_cols (omega (arith, same_length, few)) (sym same_length) in
+    (orders, both_places rows cols (λ r c. Among (r, c) ps) cs rs us vs by_col by_row within ps (λ r c h. h) (λ r c h. h) orders, same_length)
 
 -- The same, as the calls say it.
 
@@ -127,16 +127,16 @@ lent_order m n starts flat ss ff o es ef =
 pub order_numbers : (m n : ℕ) (ps : List Pair) (starts flat : List ℕ) → IsOrderOf m n ps starts (map itself flat) → IsOrderOf m n ps starts flat
 order_numbers m n ps starts flat o = subst (λ xs. IsOrderOf m n ps starts xs) (map-id flat) o
 
-pub made_by_rows : (rows cols : ℕ) (ps : List Pair) (cs rs us vs lent_starts lent_flat : List ℕ) → IsOrderOf rows cols ps us (map itself vs) → lent_starts ≡ us → lent_flat ≡ vs
-    → IsTurned (length lent_starts - 1) cols lent_starts (map itself lent_flat) cs (map itself rs) → AreInside rows cols ps
-    → rows < 2 ^ 32 → cols < 2 ^ 32 → length ps < 2 ^ 32 → AreOrders cs rs us vs × HasPlaces rows cols ps (stored cs rs us) × (length rs ≤ length ps)
-made_by_rows rows cols ps cs rs us vs ss ff o es ef t inside few_rows few_cols few =
-    of_rows rows cols ps cs rs us vs (subst (λ xs. IsOrderOf rows cols ps us xs) (map-id vs) o)
+pub made_by_rows : (rows cols : ℕ) (ps : List Pair) (cs rs us vs lent_starts lent_flat : List ℕ) → IsOrderOf rows cols ps us vs → lent_starts ≡ us → lent_flat ≡ vs
+    → IsTurned (length lent_starts - 1) cols lent_starts (map itself lent_flat) cs (map itself rs)
+    → rows < 2 ^ 32 → cols < 2 ^ 32 → length vs < 2 ^ 32 → AreOrders cs rs us vs × HasPlaces rows cols ps (stored cs rs us) × (length rs ≡ length vs)
+made_by_rows rows cols ps cs rs us vs ss ff o es ef t few_rows few_cols few =
+    of_rows rows cols ps cs rs us vs o
     (subst (λ xs. IsTurned (length us - 1) cols us xs cs rs) (map-id vs)
     (subst (λ xs. IsTurned (length us - 1) cols us (map itself xs) cs rs) ef
     (subst (λ xs. IsTurned (length xs - 1) cols xs (map itself ff) cs rs) es
     (subst (λ xs. IsTurned (length ss - 1) cols ss (map itself ff) cs xs) (map-id rs) t))))
-    inside few_rows few_cols few
+    few_rows few_cols few
 
 -- What a list of places gives.
 

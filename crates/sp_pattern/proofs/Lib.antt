@@ -1,5 +1,6 @@
 pub mod Both
 pub mod Cuts
+pub mod HalfLemmas
 pub mod LoadLemmas
 pub mod MirrorLemmas
 pub mod Mirrored

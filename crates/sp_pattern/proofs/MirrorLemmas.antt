@@ -1,5 +1,5 @@
 -- Places with their mirror images, and flat lists that grow part by part.
-use Rattle.std.proofs.Common.{◌≡◌, ◌≢◌, ◌⊎◌, ◌∙◌, ℕ, ◌+◌, ◌-◌, ◌<◌, ◌≤◌, List, [], ◌∷◌, ◌++◌, length, filter, get_or, map, nat_lt, take, drop, refl, sym, ap, subst, arith, inl, inr, ⊎_elim, take_all, append_assoc, true, false, if◌then◌else◌}
+use Rattle.std.proofs.Common.{◌≡◌, ◌≢◌, ◌⊎◌, ◌∙◌, ℕ, ◌+◌, ◌-◌, ◌<◌, ◌≤◌, List, [], ◌∷◌, ◌++◌, length, filter, get_or, map, nat_lt, take, drop, refl, sym, ap, arith, inl, inr, ⊎_elim, take_all, append_assoc, true, false, if◌then◌else◌}
 use Rattle.std.proofs.Math.Decide.{dec_lt}
 use Rattle.std.proofs.Math.Seq.{drop-append_seam, get_or-append_seam}
 use Rattle.std.proofs.lemmas.List.{drop-append-le, get_or_append_left, length-append, length-drop, take-append-le, take_more, get_or_default, get_or-map, length-map}
@@ -8,11 +8,11 @@ use Rattle.bip_defs.specs.Lists.{Among}
 use Rattle.bip_defs.specs.Matrix.{Place}
 use Rattle.bip_defs.proofs.Sets.{among_either, among_left, among_right, number_same}
 use Rattle.bip_defs.proofs.Slices.{slice_none}
-use Rattle.sp_pattern.specs.Mirror.{AreSymmetric, HasPieces, both_sides, lower, lowered}
+use Rattle.sp_pattern.specs.Mirror.{AreSymmetric, HasPieces, IsBehindMirror, both_sides, lower, lowered}
 use Rattle.std.proofs.lemmas.Bool.Decides.{nat_tests}
 use Rattle.bip_defs.specs.Matching.{transposed_places}
 use Rattle.bip_defs.proofs.Transposed.{turned_length}
-use Rattle.sp_pattern.specs.Pairs.{IsAtMost, Pair, pair_at}
+use Rattle.sp_pattern.specs.Pairs.{pair_at}
 use Rattle.sp_pattern.specs.Stored.{AreStarts, piece}
 use Rattle.std.proofs.lemmas.List.Sums.{count_by-le-length, length-filter}
 use Rattle.sp_pattern.proofs.Cuts.{length-slice_range, start_within}
@@ -31,28 +31,29 @@ symmetric_two p q a b r c (inl k) = inr (inl (λ t. ((ap (λ (z : Place). z.1) k
 symmetric_two p q a b r c (inr (inl k)) = inl (λ t. ((ap (λ (z : Place). z.1) k ∙ b) t, (ap (λ (z : Place). z.0) k ∙ a) t))
 symmetric_two p q a b r c (inr (inr k)) = elim k [ ]
 
-row_read : (ps : List Place) (k : ℕ) (d : Place) (r : ℕ) → k < length ps → r ≡ (get_or ps k d).0 → r ≡ (get_or ps k (0, 0)).0
+pub row_read : (ps : List Place) (k : ℕ) (d : Place) (r : ℕ) → k < length ps → r ≡ (get_or ps k d).0 → r ≡ (get_or ps k (0, 0)).0
 row_read ps k d r lt e = e ∙ ap (λ (z : Place). z.0) (get_or_default ps k d (0, 0) lt)
 
-col_read : (ps : List Place) (k : ℕ) (d : Place) (c : ℕ) → k < length ps → c ≡ (get_or ps k d).1 → c ≡ (get_or ps k (0, 0)).1
+pub col_read : (ps : List Place) (k : ℕ) (d : Place) (c : ℕ) → k < length ps → c ≡ (get_or ps k d).1 → c ≡ (get_or ps k (0, 0)).1
 col_read ps k d c lt e = e ∙ ap (λ (z : Place). z.1) (get_or_default ps k d (0, 0) lt)
 
--- one place more, which stands on the diagonal
-pub mirrored_one : (ps : List Place) (k : ℕ) (d e : Place) (r c : ℕ) → k < length ps → r ≡ (get_or ps k d).0 → c ≡ (get_or ps k e).1 → r ≡ c → AreSymmetric (take k ps) → AreSymmetric (take (k + 1) ps)
-mirrored_one ps k d e r c lt row col same s =
-    rw (take_more ps k (0, 0) lt) (symmetric_append (take k ps) (get_or ps k (0, 0) ∷ []) s (symmetric_one (get_or ps k (0, 0)) (sym (row_read ps k d r lt row) ∙ (same ∙ col_read ps k e c lt col))))
-
--- two places more, one the mirror image of the other
-pub mirrored_two : (ps : List Place) (k : ℕ) (d e f g : Place) (r c row_after col_after : ℕ) → k + 1 < length ps → r ≡ (get_or ps k d).0 → c ≡ (get_or ps k e).1 → row_after ≡ (get_or ps (k + 1) f).0 → col_after ≡ (get_or ps (k + 1) g).1
-    → row_after ≡ c → col_after ≡ r → AreSymmetric (take k ps) → AreSymmetric (take (k + 1 + 1) ps)
-mirrored_two ps k d e f g r c ra ca lt row col row_after col_after a b s =
-    let here : k < length ps = omega arith in
+-- the places up to what stands behind one and its mirror image
+pub symmetric_more : (ps : List Place) (k next : ℕ) → k < length ps → IsBehindMirror ps k next → AreSymmetric (take k ps) → AreSymmetric (take next ps)
+symmetric_more ps k next lt (inl h) s =
+    rw (h.0, take_more ps k (0, 0) lt) (symmetric_append (take k ps) (get_or ps k (0, 0) ∷ []) s (symmetric_one (get_or ps k (0, 0)) h.1))
+symmetric_more ps k next lt (inr h) s =
     let p = get_or ps k (0, 0) in
     let q = get_or ps (k + 1) (0, 0) in
-    let both : take (k + 1 + 1) ps ≡ (take k ps ++ p ∷ []) ++ q ∷ [] = take_more ps (k + 1) (0, 0) lt ∙ ap (λ xs. xs ++ q ∷ []) (take_more ps k (0, 0) here) in
-    rw (both, append_assoc) (symmetric_append (take k ps) (p ∷ q ∷ []) s (symmetric_two p q
-    (sym (row_read ps (k + 1) f ra lt row_after) ∙ (a ∙ col_read ps k e c here col))
-    (sym (col_read ps (k + 1) g ca lt col_after) ∙ (b ∙ row_read ps k d r here row))))
+    let is = h.0 in
+    let le = h.1 in
+    let both : take (k + 1 + 1) ps ≡ (take k ps ++ p ∷ []) ++ q ∷ [] = take_more ps (k + 1) (0, 0) (omega (arith, is, le)) ∙ ap (λ xs. xs ++ q ∷ []) (take_more ps k (0, 0) lt) in
+    let end : next ≡ k + 1 + 1 = omega (arith, is) in
+    rw (end, both, append_assoc) (symmetric_append (take k ps) (p ∷ q ∷ []) s (symmetric_two p q (ap (λ (z : Place). z.0) h.2) (ap (λ (z : Place). z.1) h.2)))
+
+-- what stands behind a place is not behind the end
+pub behind_within : (ps : List Place) (k next : ℕ) → k < length ps → IsBehindMirror ps k next → (k < next) × (next ≤ length ps)
+behind_within ps k next lt (inl h) = let is = h.0 in (omega (arith, is), omega (arith, is, lt))
+behind_within ps k next lt (inr h) = let is = h.0 in let le = h.1 in (omega (arith, is), le)
 
 -- Places on and below the diagonal.
 
@@ -91,7 +92,7 @@ pub read_lower_at : (ps : List Place) (k : ℕ) (d e : Place) (r c : ℕ) → k 
 read_lower_at ps k d e r c lt row col = let long = length-lowered ps in read_lower ps k d e r c (omega (arith, lt, long)) row col
 
 -- a place and its mirror image are the same one on or below the diagonal
-lower_mirror : (r c : ℕ) → lower (c, r) ≡ lower (r, c)
+pub lower_mirror : (r c : ℕ) → lower (c, r) ≡ lower (r, c)
 lower_mirror r c = by (dec_lt r c)
   where
     by : Dec (r < c) → lower (c, r) ≡ lower (r, c)
@@ -101,35 +102,6 @@ lower_mirror r c = by (dec_lt r c)
         over : Dec (c < r) → lower (c, r) ≡ lower (r, c)
         over (yes below) = lower_above (c, r) below ∙ sym (lower_same (r, c) (omega arith))
         over (no nbelow) = let same : r ≡ c = omega arith in rw same refl
-
--- what is read of the mirror image that stands behind a place
-pub read_mirror : (ps : List Place) (k : ℕ) (f g : Place) (r c row_after col_after : ℕ) → k + 1 < length ps → row_after ≡ (get_or ps (k + 1) f).0 → col_after ≡ (get_or ps (k + 1) g).1
-    → row_after ≡ c → col_after ≡ r → ◌≡◌ {A = Place} ((lower (r, c)).1, (lower (r, c)).0) (pair_at (transposed_places (lowered ps)) (k + 1))
-read_mirror ps k f g r c ra ca lt row_after col_after a b =
-    ap (λ (q : Place). (q.1, q.0)) (sym (lower_mirror r c)) ∙ read_lower ps (k + 1) f g c r lt (sym a ∙ row_after) (sym b ∙ col_after)
-
--- Pairs in order, up to one.
-
--- of the first n pairs none is greater than the next
-abbrev pub AreSortedTo : ℕ → List Pair → Type 0
-AreSortedTo n ps = (i : ℕ) → i + 1 < n → IsAtMost (pair_at ps i) (pair_at ps (i + 1))
-
--- one pair more, which the last one is not greater than
-pub sorted_more : (n : ℕ) (ps : List Pair) (last next : Pair) → AreSortedTo n ps → (0 < n → last ≡ pair_at ps (n - 1)) → next ≡ pair_at ps n → IsAtMost last next → AreSortedTo (n + 1) ps
-sorted_more n ps last next s was is most i lt = by (number_same (i + 1) n)
-  where
-    by : (i + 1 ≡ n) ⊎ (i + 1 ≢ n) → IsAtMost (pair_at ps i) (pair_at ps (i + 1))
-    by (inl e) =
-        let before : n - 1 ≡ i = omega (arith, e) in
-        subst (λ q. IsAtMost (pair_at ps i) q) (is ∙ ap (pair_at ps) (sym e)) (subst (λ p. IsAtMost p next) (was (omega (arith, e)) ∙ ap (pair_at ps) before) most)
-    by (inr ne) = s i (omega (arith, lt, ne))
-
--- the same pair once more
-pub sorted_again : (n : ℕ) (ps : List Pair) (last : Pair) → AreSortedTo n ps → (0 < n → last ≡ pair_at ps (n - 1)) → last ≡ pair_at ps n → AreSortedTo (n + 1) ps
-sorted_again n ps last s was is = sorted_more n ps last last s was is (inr (refl, omega arith))
-
-pub last_is : (n : ℕ) (ps : List Pair) (last : Pair) → last ≡ pair_at ps n → 0 < n + 1 → last ≡ pair_at ps (n + 1 - 1)
-last_is n ps last is some = let same : n + 1 - 1 ≡ n = omega arith in rw same is
 
 -- Flat lists that grow.
 
@@ -146,13 +118,6 @@ slice_back : {X : Type 0} (xs ys : List X) (b : ℕ) → b ≡ length (xs ++ ys)
 slice_back xs ys b e =
     let both = length-append xs ys in
     ap (take (b - length xs)) (drop-append_seam xs ys) ∙ take_all (b - length xs) ys (omega (arith, e, both))
-
-pub pieces_start : (pieces : ℕ → List ℕ) → HasPieces 0 pieces (0 ∷ []) []
-pieces_start pieces = record {
-  long = refl;
-  cut = record { one = omega arith; first = refl; rise = λ i lt. absurd (omega arith); last = refl };
-  parts = λ i lt. absurd (omega arith);
-}
 
 -- one part more
 pub pieces_more : (m : ℕ) (pieces : ℕ → List ℕ) (starts flat part : List ℕ) (end : ℕ) → HasPieces m pieces starts flat → part ≡ pieces m → end ≡ length (flat ++ part) → HasPieces (m + 1) pieces (starts ++ end ∷ []) (flat ++ part)

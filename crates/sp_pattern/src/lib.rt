@@ -3,6 +3,7 @@
 
 mod compress;
 mod ends;
+mod halves;
 mod laws;
 mod load;
 mod mirror;

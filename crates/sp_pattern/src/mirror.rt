@@ -1,45 +1,47 @@
 //! Places that stand with their mirror images, as those of a symmetric file.
 
 ghost use Rattle.std.specs.Prelude.{◌≡◌, ◌+◌, ◌-◌, ◌<◌, ◌≤◌, ◌^◌, ◌++◌, filter, length, map, nat_lt, IfOk, IfSome, IsTrue, OnOk};
-ghost use Rattle.bip_defs.specs.Matching.{transposed_places};
-ghost use Rattle.sp_pattern.specs.Mirror.{AreSymmetric, HasPieces, both_sides, lowered};
-ghost use Rattle.sp_pattern.specs.Pairs.{AreSorted};
+ghost use Rattle.sp_pattern.specs.Mirror.{AreSymmetric, HasPieces, IsBehindMirror, both_sides};
 ghost use Rattle.sp_pattern.specs.Stored.{AreStarts};
 
-use crate::pairs::{is_at_most, lower_by_col};
 use crate::pieces::part;
 use sp_ids::{Col, Id, OutOfMemory, Row};
 use std::alloc::Global;
 
-/// Where each place off the diagonal stands beside its mirror image: whether those on and below the
-/// diagonal stand by columns. Work: at most one look at each place.
-pub fn mirrored_order(places: &[(Row, Col)]) -> Option<bool>
-    ensures mirrored { IfSome result (λ by_columns. AreSymmetric places.now) }
-    ensures sorted { IfSome result (λ by_columns. IsTrue by_columns
-        → AreSorted (transposed_places (lowered places.now))) }
+/// Where the places go on behind the one at `k` and its mirror image, which is the next one; none
+/// where it is not. A place on the diagonal is its own mirror image.
+pub fn behind_mirror(places: &[(Row, Col)], k: usize) -> Option<usize>
+    requires { k < length places.now }
+    ensures { IfSome result (IsBehindMirror places.now k) }
+{
+    let (row, col) = places[k];
+    if row.0 == col.0 {
+        return Some(k + 1);
+    }
+    if k + 1 == places.len() {
+        return None;
+    }
+    let (next_row, next_col) = places[k + 1];
+    if next_row.0 != col.0 || next_col.0 != row.0 {
+        return None;
+    }
+    Some(k + 2)
+}
+
+/// Whether each place off the diagonal stands beside its mirror image. Work: at most one look at
+/// each place.
+pub fn are_mirrored(places: &[(Row, Col)]) -> bool
+    ensures { IsTrue result → AreSymmetric places.now }
 {
     let len = places.len();
-    let mut by_columns = true;
-    let mut last = (0, 0);
     let mut k = 0;
     while k < len {
-        let (row, col) = places[k];
-        let next = lower_by_col(row, col);
-        by_columns = by_columns && is_at_most(last, next);
-        last = next;
-        k += 1;
-        if row.0 != col.0 {
-            if k == len {
-                return None;
-            }
-            let (next_row, next_col) = places[k];
-            if next_row.0 != col.0 || next_col.0 != row.0 {
-                return None;
-            }
-            k += 1;
-        }
+        let Some(next) = behind_mirror(places, k) else {
+            return false;
+        };
+        k = next;
     }
-    Some(by_columns)
+    true
 }
 
 /// The columns of a symmetric matrix, which are its rows too, from the columns and the rows of its

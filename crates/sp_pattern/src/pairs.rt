@@ -1,6 +1,6 @@
 //! Lists of pairs of an outer and an inner number.
 
-ghost use Rattle.std.specs.Prelude.{◌≡◌, ◌+◌, ◌<◌, ◌↔◌, IsTrue, ℕ, List, length, map};
+ghost use Rattle.std.specs.Prelude.{◌≡◌, ◌<◌, ◌↔◌, IsTrue, ℕ, List, length, map};
 ghost use Rattle.bip_defs.specs.Matching.{transposed_places};
 ghost use Rattle.sp_pattern.specs.Mirror.{lower, lowered};
 ghost use Rattle.sp_pattern.specs.Pairs.{AreSorted, IsAtMost, in_blocks, pair_at, with_zero};
@@ -74,29 +74,6 @@ impl Pairs for LowerByCol<'_> {
     fn at(&self, k: usize) -> (u32, u32) {
         let (row, col) = self.places[k];
         lower_by_col(row, col)
-    }
-}
-
-/// The same places, with the row as the outer number.
-#[derive(Clone, Copy)]
-pub struct LowerByRow<'a> {
-    pub places: &'a [(Row, Col)],
-}
-
-impl Pairs for LowerByRow<'_> {
-    ghost pairs = { λ s. lowered s.places.now };
-
-    fn len(&self) -> usize {
-        self.places.len()
-    }
-
-    fn at(&self, k: usize) -> (u32, u32) {
-        let (row, col) = self.places[k];
-        if row.0 < col.0 {
-            (col.0, row.0)
-        } else {
-            (row.0, col.0)
-        }
     }
 }
 

@@ -12,8 +12,9 @@ ghost use Rattle.sp_pattern.specs.Stored.{IsPattern};
 ghost use Rattle.sp_pattern.specs.Weights.{position, start_of};
 
 use crate::compress::compress;
-use crate::mirror::{as_cols, both_halves, mirrored_order};
-use crate::pairs::{ByCol, ByRow, LowerByCol, LowerByRow, Pairs, are_sorted};
+use crate::halves::{HalfByCol, HalfByRow, compress_half};
+use crate::mirror::{are_mirrored, as_cols, both_halves};
+use crate::pairs::{ByCol, ByRow, LowerByCol, Pairs, are_sorted};
 use crate::pieces::part;
 use crate::sort::sorted;
 use crate::transpose::transpose;
@@ -57,14 +58,15 @@ impl Pattern {
     /// entry.
     ///
     /// Entries that stand with their mirror images, as those of a symmetric file, are made of those
-    /// on and below the diagonal. What stands neither by columns nor by rows is sorted by as many
-    /// threads as `rt` has processors; where it starts none, the calling thread sorts, and the
-    /// pattern is the same. Beside the pattern it takes at most 8 bytes an entry, those that are
-    /// given several times and the mirror images of a symmetric file counted too: while they are
-    /// sorted, or while the second order is derived from the first, and then 4 bytes more for each
-    /// 4,096 rows or columns, and for a symmetric file 8 for each row. Answers `OutOfMemory` where
-    /// there is no memory for that or for the pattern. Work: linear in the entries, the rows and
-    /// the columns, and the sort.
+    /// on and below the diagonal. These are compressed at the same look that tells whether they
+    /// stand by columns, or else at one that tells whether they stand by rows. What stands neither
+    /// by columns nor by rows is sorted by as many threads as `rt` has processors; where it starts
+    /// none, the calling thread sorts, and the pattern is the same. Beside the pattern it takes at
+    /// most 8 bytes an entry, those that are given several times and the mirror images of a
+    /// symmetric file counted too: while they are sorted, or while the second order is derived from
+    /// the first, and then 4 bytes more for each 4,096 rows or columns, and for a symmetric file 8
+    /// for each row. Answers `OutOfMemory` where there is no memory for that or for the pattern.
+    /// Work: linear in the entries, the rows and the columns, and the sort.
     pub fn build<R: Threads + Sync>(
         rt: &R,
         alloc: Global,
@@ -81,8 +83,7 @@ impl Pattern {
             return Pattern::from_rows(alloc, rows, cols, ByRow { places });
         }
         if rows == cols && places.len() < HALF {
-            if let Some(by_columns) = mirrored_order(places) {
-                let lower = Pattern::lower_part(rt, alloc, rows, places, by_columns)?;
+            if let Some(lower) = Pattern::lower_part(rt, alloc, rows, places)? {
                 return lower.with_mirror(alloc, places.len());
             }
         }
@@ -91,30 +92,33 @@ impl Pattern {
     }
 
     // Of a square matrix, the places on and below the diagonal that these places or their mirror
-    // images are. Where `by_columns` is set they stand by columns.
+    // images are, if each off the diagonal stands beside its mirror image.
     fn lower_part<R: Threads + Sync>(
         rt: &R,
         alloc: Global,
         n: u32,
         places: &[(Row, Col)],
-        by_columns: bool,
-    ) -> Result<Pattern, OutOfMemory>
-        requires sorted { IsTrue by_columns → AreSorted (transposed_places (lowered places.now)) }
+    ) -> Result<Option<Pattern>, OutOfMemory>
         requires inside { AllByRecursion (IsInside n n) places.now }
         requires few { length places.now < 2 ^ 32 }
-        ensures places { IfOk result (HasPlaces n n (lowered places.now)) }
-        ensures few { IfOk result (λ a. entry_count a ≤ length places.now) }
+        ensures mirrored { IfOk result (λ half. IfSome half (λ a. AreSymmetric places.now)) }
+        ensures places { IfOk result (λ half. IfSome half (HasPlaces n n (lowered places.now))) }
+        ensures few { IfOk result (λ half. IfSome half (λ a. entry_count a ≤ length places.now)) }
     {
-        let by_col = LowerByCol { places };
-        if by_columns {
-            return Pattern::from_columns(alloc, n, n, by_col);
+        if let Some((starts, rows)) = compress_half::<HalfByCol, Row>(alloc, places, n)? {
+            let lower = Pattern::from_column_order(alloc, n, n, starts, rows)?;
+            return Ok(Some(lower));
         }
-        let by_row = LowerByRow { places };
-        if are_sorted(&by_row) {
-            return Pattern::from_rows(alloc, n, n, by_row);
+        if let Some((starts, cols)) = compress_half::<HalfByRow, Col>(alloc, places, n)? {
+            let lower = Pattern::from_row_order(alloc, n, n, starts, cols)?;
+            return Ok(Some(lower));
         }
-        let sorted = sorted(rt, alloc, &by_col)?;
-        Pattern::from_columns(alloc, n, n, sorted)
+        if !are_mirrored(places) {
+            return Ok(None);
+        }
+        let sorted = sorted(rt, alloc, &LowerByCol { places })?;
+        let lower = Pattern::from_columns(alloc, n, n, sorted)?;
+        Ok(Some(lower))
     }
 
     // The pattern with the mirror images of its entries, none of which is above the diagonal.
@@ -208,6 +212,23 @@ impl Pattern {
     {
         let (row_starts, row_cols) = compress::<P, Col>(alloc, &pairs, rows, cols)?;
         drop(pairs);
+        Pattern::from_row_order(alloc, rows, cols, row_starts, row_cols)
+    }
+
+    // The pattern of an order by rows.
+    fn from_row_order(
+        alloc: Global,
+        rows: u32,
+        cols: u32,
+        row_starts: Vec<u32>,
+        row_cols: Vec<Col>,
+    ) -> Result<Pattern, OutOfMemory>
+        requires order { IsOrder rows cols row_starts.items row_cols.items }
+        requires few { length row_cols.items < 2 ^ 32 }
+        ensures places { IfOk result (λ a. (ps : List Pair)
+            → IsOrderOf rows cols ps row_starts.items row_cols.items → HasPlaces rows cols ps a) }
+        ensures few { IfOk result (λ a. entry_count a ≡ length row_cols.items) }
+    {
         let (col_starts, col_rows) = transpose::<Row, Col>(
             alloc,
             row_starts.as_slice(),

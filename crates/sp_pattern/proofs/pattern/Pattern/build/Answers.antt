@@ -32,4 +32,4 @@ pub returns : goal.returns
 returns g c = IfOk-weaker c.from_columns-2.result _ _ (λ a h. rw (← c.places-places.ensures.places, ← c.rows-rows.ensures, ← c.cols-cols.ensures) (same_places _ _ _ _ a c.in_ok-sorted.ensures.same h)) c.from_columns-2.ensures.places
 
 pub with_mirror-requires-clause-lower : goal.with_mirror-requires-clause-lower
-with_mirror-requires-clause-lower g c = lowered_lower c.rows-rows.result c.places-places.result.now c.in_ok-lower.lower c.in_ok-lower.ensures.places
+with_mirror-requires-clause-lower g c = lowered_lower c.rows-rows.result c.places-places.result.now c.in-Some.lower (rw c.in-Some.is at c.in_ok-lower.ensures.places)
