@@ -1,6 +1,7 @@
 //! How many steps a search makes, counted in proofs alone.
 
-ghost use Rattle.std.specs.Prelude.{◌≡◌, ◌+◌, ◌<◌, ◌≤◌, ℕ};
+ghost use Rattle.std.specs.Prelude.{◌≡◌, ◌+◌, ◌<◌, ℕ, Bool, true, false};
+ghost use Rattle.std.specs.Int.{from_bool};
 
 use std::marker::Model;
 use std::sync::ledger::{Blank, Book, Ledger, Share};
@@ -46,13 +47,18 @@ impl<L: Ledger> Steps<L> {
 pub trait Counter: Drop {
     ghost total: { Self → ℕ };
 
-    /// At most one step more.
+    /// Whether steps are counted.
+    ghost counts: { Bool };
+
+    /// One step more, where they are counted.
     fn count(&mut self)
-        ensures { total self.new ≤ total self.old + 1 };
+        ensures { total self.new ≡ total self.old + from_bool counts };
 }
 
 impl<L: Ledger> Counter for Steps<L> {
     ghost total = { λ s. s };
+
+    ghost counts = { true };
 
     fn count(&mut self) {
         self.tick();
@@ -65,6 +71,8 @@ pub struct Uncounted;
 
 impl Counter for Uncounted {
     ghost total = { λ s. 0 };
+
+    ghost counts = { false };
 
     fn count(&mut self) {}
 }
