@@ -1,6 +1,6 @@
 //! The three cases.
 
-ghost use Rattle.std.specs.Prelude.{◌≡◌, ℕ, pos, ◌+◌, ◌-◌, ◌-ℤ◌, ◌^◌, ◌<◌, List, length, map, slice_index, true, false, IfOk, OnOk};
+ghost use Rattle.std.specs.Prelude.{◌≡◌, ◌↔◌, ℕ, pos, ◌+◌, ◌-◌, ◌-ℤ◌, ◌^◌, ◌<◌, List, length, map, slice_index, true, false, IfOk, IsTrue, OnOk};
 ghost use Rattle.bip_defs.specs.Lists.{Among};
 ghost use Rattle.bip_defs.specs.Matching.{cols_of};
 ghost use Rattle.bip_defs.specs.Matrix.{AreEntries, Place, cols, upto};
@@ -25,17 +25,19 @@ use sp_ids::{Col, OutOfMemory, Row};
 use sp_pattern::{Pattern, Weights};
 use std::alloc::Global;
 
-/// The heaviest diagonal: as many entries as the matrix has rows and columns, no two in one row or column, with a
-/// greatest sum of weights, and prices that show it: each entry weighs at most the prices of its row and its column
-/// together, and each pair of the diagonal as much.
+/// The heaviest diagonal: as many entries as the matrix has rows and columns, no two in one row or
+/// column, with a greatest sum of weights, and prices that show it: each entry weighs at most the
+/// prices of its row and its column together, and each pair of the diagonal as much.
 ///
-/// The weights must be those of the pattern. `Rectangular` exactly where the matrix has not as many rows as columns;
-/// `Singular` exactly where it has, and its rank is less, with the columns that some maximum matching misses. Answers
-/// `OutOfMemory` where there is no memory for the tables and the heap of a search. The tables take 65 bytes a row or column
-/// where the greatest weight times 3 n + 4, for n columns, is less than 2^64 - 1: then all sums of a search are kept in
-/// numbers of 64 bits. Else they are kept in numbers of 128 bits, and the tables take 97 bytes a row or column. Work: at most
-/// one search for each column, each of which looks at each entry once at most and keeps what it reaches in a heap (Kuhn 1955;
-/// Munkres 1957; Duff and Koster 2001); where it ends with no diagonal, the phases of a maximum matching and one search more.
+/// The weights must be those of the pattern. `Rectangular` exactly where the matrix has not as many
+/// rows as columns; `Singular` exactly where it has, and its rank is less, with the columns that
+/// some maximum matching misses. Answers `OutOfMemory` where there is no memory for the tables and
+/// the heap of a search. The tables take 65 bytes a row or column where the greatest weight times 3
+/// n + 4, for n columns, is less than 2^64 - 1: then all sums of a search are kept in numbers of 64
+/// bits. Else they are kept in numbers of 128 bits, and the tables take 97 bytes a row or column.
+/// Work: at most one search for each column, each of which looks at each entry once at most and
+/// keeps what it reaches in a heap (Kuhn 1955; Munkres 1957; Duff and Koster 2001); where it ends
+/// with no diagonal, the phases of a maximum matching and one search more.
 pub fn heaviest(
     alloc: Global,
     pattern: &Pattern,
@@ -55,9 +57,10 @@ pub fn heaviest(
     }
 }
 
-// Whether numbers of 64 bits have room for all sums, where a matrix has so many columns, and no entry weighs more than `top`.
+// Whether numbers of 64 bits have room for all sums, where a matrix has so many columns, and no
+// entry weighs more than `top`.
 fn fits_64_bits(columns: u32, top: u64) -> bool
-    ensures { result ≡ true → HasRoom columns top (2 ^ 64 - 1) }
+    ensures { IsTrue result ↔ HasRoom columns top (2 ^ 64 - 1) }
 {
     let top = top as u128;
     3 * (columns as u128 * top) + 4 * top < u64::MAX as u128
@@ -85,7 +88,8 @@ fn heaviest_of_square<W: Width>(
     }
 }
 
-// Gives each column a mate, one after another. Whether that went: where it did not, the matrix has no full matching.
+// Gives each column a mate, one after another. Whether that went: where it did not, the matrix has
+// no full matching.
 //
 // What the searches keep is given back at the end.
 fn match_all<W: Width>(

@@ -13,10 +13,12 @@ use std::cmp::Reverse;
 use std::collections::BinaryHeap;
 use std::marker::Model;
 
-/// Rows with their distances. Those that are no farther than the level lie in a list, the others in a heap.
+/// Rows with their distances. Those that are no farther than the level lie in a list, the others in
+/// a heap.
 ///
-/// The level is the distance that the heap gave last. Many entries lead no farther than the row that was looked at last,
-/// since they cost as little as their prices ask, and a list takes less work than a heap (Duff and Koster 2001).
+/// The level is the distance that the heap gave last. Many entries lead no farther than the row
+/// that was looked at last, since they cost as little as their prices ask, and a list takes less
+/// work than a heap (Duff and Koster 2001).
 #[derive(Drop)]
 pub struct Frontier<W: Width> {
     heap: BinaryHeap<Reverse<(Amount<W>, u32)>, Global>,

@@ -9,8 +9,8 @@ ghost use Rattle.sp_pattern.specs.Weights.{Weighing};
 
 /// Fair prices show that no diagonal is heavier.
 ///
-/// The prices of all rows and all columns add up to the weight of the one diagonal, and to at least the weight of each
-/// other: the weak duality of the assignment problem (Egervary 1931; Kuhn 1955).
+/// The prices of all rows and all columns add up to the weight of the one diagonal, and to at least
+/// the weight of each other: the weak duality of the assignment problem (Egervary 1931; Kuhn 1955).
 pub fn fair_prices_show_heaviest()
     ensures { (w : Weighing) (m other : List Place) (u v : List ℤ) → IsFull w.matrix m
         → AreFair w m u v → IsFull w.matrix other → total w other ≤ total w m }

@@ -1,7 +1,8 @@
 //! The heaviest diagonal of a square matrix, with prices that show that none is heavier.
 //!
-//! Shortest augmenting paths over reduced costs, with prices that stay feasible throughout (Kuhn 1955; Munkres 1957), by
-//! searches in order of distance that end at the nearest unmatched row (Duff and Koster 2001, for sparse matrices).
+//! Shortest augmenting paths over reduced costs, with prices that stay feasible throughout (Kuhn
+//! 1955; Munkres 1957), by searches in order of distance that end at the nearest unmatched row
+//! (Duff and Koster 2001, for sparse matrices).
 #![tactic(auto)]
 
 mod amount;

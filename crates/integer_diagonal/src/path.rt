@@ -21,11 +21,13 @@ use sp_ids::{Col, Row};
 use sp_pattern::{Pattern, Weights};
 use std::alloc::AllocError;
 
-/// Gives the column a mate, at prices that are feasible again, so that no row and no column loses its mate without a new
-/// one. Whether there was a path to an unmatched row: where there was none, the matrix has no full matching.
+/// Gives the column a mate, at prices that are feasible again, so that no row and no column loses
+/// its mate without a new one. Whether there was a path to an unmatched row: where there was none,
+/// the matrix has no full matching.
 ///
-/// The path is written over what the list had, which has room for it. Answers `AllocError` where what the search keeps
-/// can't be had. Work: one search, and one step for each column that it came to.
+/// The path is written over what the list had, which has room for it. Answers `AllocError` where
+/// what the search keeps can't be had. Work: one search, and one step for each column that it came
+/// to.
 pub fn extend<W: Width>(
     pattern: &Pattern,
     weights: &Weights,
@@ -76,7 +78,8 @@ pub fn extend<W: Width>(
     Ok(true)
 }
 
-// Raises the dual variable of each column that the search has come to, and the price of its mate, by how much nearer it is.
+// Raises the dual variable of each column that the search has come to, and the price of its mate,
+// by how much nearer it is.
 fn raise<W: Width>(
     assignment: &mut Assignment<W>,
     queue: &[(u32, u32)],

@@ -18,8 +18,8 @@ use sp_ids::{Col, Id, OutOfMemory, Row};
 use sp_pattern::{Pattern, Weights};
 use std::alloc::{AllocError, Global};
 
-/// What a search keeps. The queue has the columns that it has come to, each with the place of the one that it was led
-/// from, and their distances.
+/// What a search keeps. The queue has the columns that it has come to, each with the place of the
+/// one that it was led from, and their distances.
 #[derive(Drop)]
 pub struct Search<W: Width> {
     pub distances: Vec<Amount<W>>,
@@ -31,7 +31,8 @@ pub struct Search<W: Width> {
     pub frontier: Frontier<W>,
 }
 
-/// The nearest unmatched row so far, with its distance and the place of the column that it was reached from.
+/// The nearest unmatched row so far, with its distance and the place of the column that it was
+/// reached from.
 #[derive(Clone, Copy)]
 pub struct Nearest<W: Width> {
     pub row: u32,
@@ -80,8 +81,8 @@ impl<W: Width> Search<W> {
         self.frontier.clear();
     }
 
-    /// Goes from an unmatched column to the columns that are nearest by reduced cost, until no unmatched row can be
-    /// nearer than the one that was found (Dijkstra 1959).
+    /// Goes from an unmatched column to the columns that are nearest by reduced cost, until no
+    /// unmatched row can be nearer than the one that was found (Dijkstra 1959).
     pub fn find(
         &mut self,
         pattern: &Pattern,

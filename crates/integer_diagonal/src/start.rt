@@ -16,8 +16,8 @@ use sp_ids::{Col, OutOfMemory, Row};
 use sp_pattern::{Pattern, Weights};
 use std::alloc::Global;
 
-/// Each column at its greatest weight, then each row at the greatest of what its entries weigh beyond their columns, and
-/// pairs of entries that weigh as much as both.
+/// Each column at its greatest weight, then each row at the greatest of what its entries weigh
+/// beyond their columns, and pairs of entries that weigh as much as both.
 ///
 /// No entry weighs more than `top`. Work: three looks at each entry.
 pub fn start<W: Width>(
@@ -66,8 +66,8 @@ pub fn greatest_of_all(pattern: &Pattern, weights: &Weights) -> u64
     most
 }
 
-// Each column's least cost, or the greatest of all costs where it has no entry, and that greatest once more: so the rows'
-// prices are not below 0.
+// Each column's least cost, or the greatest of all costs where it has no entry, and that greatest
+// once more: so the rows' prices are not below 0.
 fn first_duals<W: Width>(
     alloc: Global,
     pattern: &Pattern,

@@ -7,7 +7,8 @@ ghost use Rattle.integer_diagonal.specs.Amounts.{amount_of_64, far, number_of_64
 
 use std::cmp::Ordering;
 
-/// Numbers of one width. One of them stands for no distance, the greatest; the others stand for themselves.
+/// Numbers of one width. One of them stands for no distance, the greatest; the others stand for
+/// themselves.
 pub trait Width: Copy {
     /// What a number stands for.
     ghost amount: { Self → ℕ };

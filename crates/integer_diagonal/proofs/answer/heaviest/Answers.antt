@@ -5,7 +5,7 @@ use Rattle.integer_diagonal.specs.Amounts.{HasRoom}
 use Rattle.integer_diagonal.proofs.answer.heaviest.Goals as goal
 
 pub heaviest_of_square-requires-clause-room : goal.heaviest_of_square-requires-clause-room
-heaviest_of_square-requires-clause-room c = subst (λ n. HasRoom n c.greatest_of_all-top.result (2 ^ 64 - 1)) c.cols-2.ensures (c.fits_64_bits.ensures c.if-fits_64_bits.true)
+heaviest_of_square-requires-clause-room c = subst (λ n. HasRoom n c.greatest_of_all-top.result (2 ^ 64 - 1)) c.cols-2.ensures (c.fits_64_bits.ensures.0 c.if-fits_64_bits.true)
 
 pub heaviest_of_square-requires-else-fits_64_bits-clause-room : goal.heaviest_of_square-requires-else-fits_64_bits-clause-room
 heaviest_of_square-requires-else-fits_64_bits-clause-room c =
