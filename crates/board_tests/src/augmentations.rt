@@ -1,10 +1,10 @@
 //! A forest that was worked out by hand, augmented by one worker and by two.
 
-ghost use Rattle.std.specs.Prelude.{◌≡◌, ◌≤◌, [], length, IfOk};
+ghost use Rattle.std.specs.Prelude.{◌≡◌, ◌≤◌, [], IfOk};
 ghost use Rattle.forest_core.specs.Exchanged.{AreExchanged};
 ghost use Rattle.sp_ids.specs.Limits.{max_workers};
 
-use crate::small::{one_pair, pattern_of_three};
+use crate::small::{has_the_path, one_pair, pattern_of_three};
 use bip_graph::Mates;
 use flip_words::Taken;
 use forest_core::Forest;
@@ -95,18 +95,6 @@ fn augmented<R: AllocGlobal + Threads + Sync>(
     }
 }
 
-// Row 0 is matched with column 1 and row 1 with column 2, and nothing else.
-fn mates_of_the_path<R: Abort>(rt: &R, mates: &Mates)
-    requires { (length mates.now.rows ≡ 3) × (length mates.now.cols ≡ 3) }
-{
-    assert_eq!(rt; mates.col_of(Row(0)), Some(Col(1)));
-    assert_eq!(rt; mates.col_of(Row(1)), Some(Col(2)));
-    assert_eq!(rt; mates.col_of(Row(2)), None);
-    assert_eq!(rt; mates.row_of(Col(0)), None);
-    assert_eq!(rt; mates.row_of(Col(1)), Some(Row(0)));
-    assert_eq!(rt; mates.row_of(Col(2)), Some(Row(1)));
-}
-
 fn exchanges_the_path<R: Abort + AllocGlobal + Threads + Sync>(
     rt: &R,
     workers: u32,
@@ -117,7 +105,7 @@ fn exchanges_the_path<R: Abort + AllocGlobal + Threads + Sync>(
     let pattern = pattern_of_three(rt)?;
     let mut forest = forest_of_one_path(rt, &pattern)?;
     let mates = augmented(rt, &forest, workers, gate)?;
-    mates_of_the_path(rt, &mates);
+    has_the_path(rt, &mates);
     forest.adopt(mates);
     assert!(rt; forest.flipped(Col(1)));
     Ok(())

@@ -1,10 +1,10 @@
-//! Two small matrices, and a matching of one pair.
+//! Two small matrices, a matching of one pair, and its mates once a path is exchanged.
 
-ghost use Rattle.std.specs.Prelude.{◌≡◌, IfOk};
+ghost use Rattle.std.specs.Prelude.{◌≡◌, length, IfOk};
 ghost use Rattle.bip_defs.specs.Matrix.{cols};
 ghost use Rattle.bip_graph.specs.Matching.{IsMatchingOf};
 
-use bip_graph::Matching;
+use bip_graph::{Matching, Mates};
 use forest_core::every_run;
 use sp_ids::{Col, Event, Field, OutOfMemory, Row, Triples};
 use sp_pattern::Pattern;
@@ -56,4 +56,16 @@ pub(crate) fn one_pair<'p, R: Abort + AllocGlobal>(
     let (forest, made) = every_run(rt.alloc(), pattern, empty, &events)?;
     assert_eq!(rt; made, 3);
     Ok(forest.into_matching())
+}
+
+/// Row 0 is matched with column 1 and row 1 with column 2, and nothing else.
+pub(crate) fn has_the_path<R: Abort>(rt: &R, mates: &Mates)
+    requires { (length mates.now.rows ≡ 3) × (length mates.now.cols ≡ 3) }
+{
+    assert_eq!(rt; mates.col_of(Row(0)), Some(Col(1)));
+    assert_eq!(rt; mates.col_of(Row(1)), Some(Col(2)));
+    assert_eq!(rt; mates.col_of(Row(2)), None);
+    assert_eq!(rt; mates.row_of(Col(0)), None);
+    assert_eq!(rt; mates.row_of(Col(1)), Some(Row(0)));
+    assert_eq!(rt; mates.row_of(Col(2)), Some(Row(1)));
 }
