@@ -1,5 +1,5 @@
-//! Perfect matchings of greatest least weight, by all ways for full tables, which count from 0. Those of
-//! matrices that were worked out by hand are in `run_tests`.
+//! Perfect matchings of greatest least weight, by all ways for full tables, which count from 0.
+//! Those of matrices that were worked out by hand are in `run_tests`.
 
 ghost use Rattle.std.specs.Prelude.{◌≡◌};
 ghost use Rattle.sp_ids.specs.declared.triples.Field.TheVariants.{Integer};
@@ -102,8 +102,8 @@ fn is_greatest<R: Abort + AllocGlobal + Threads + Sync>(
     Ok(())
 }
 
-/// Tables, each with the number of its rows and columns that are looked at. In the first two the pairs off the diagonal have the
-/// greater least weight.
+/// Tables, each with the number of its rows and columns that are looked at. In the first two the
+/// pairs off the diagonal have the greater least weight.
 #[rattlefmt::skip]
 static TABLES: [(u32, [[i64; 4]; 4]); 9] = [
     (2, [[3, 5, 0, 0], [4, 1, 0, 0], [0; 4], [0; 4]]),

@@ -1,4 +1,5 @@
-//! The connected components of the horizontal and of the vertical part, of matrices that were worked out by hand.
+//! The connected components of the horizontal and of the vertical part, of matrices that were
+//! worked out by hand.
 
 use crate::small::{are, pattern_of};
 use bip_graph::{Blocks, Components};
@@ -9,7 +10,8 @@ use std::process::Abort;
 use std::test::Fail;
 use std::thread::Threads;
 
-/// The components of the matrix with entries at these places, from the matching of the plain engine.
+/// The components of the matrix with entries at these places, from the matching of the plain
+/// engine.
 fn components_of<R: Abort + AllocGlobal + Threads + Sync>(
     rt: &R,
     rows: u32,
@@ -59,7 +61,8 @@ static EXAMPLES: [Example; 6] = [
         horizontal: &[(&[1], &[1, 2])],
         vertical: &[(&[2], &[])],
     },
-    // The second component is found from its columns in the order 2, 5, 3, and column 4 has no entries.
+    // The second component is found from its columns in the order 2, 5, 3, and column 4 has no
+    // entries.
     Example {
         name: "components by their least columns",
         rows: 3, cols: 6, places: &[(1, 2), (1, 5), (2, 3), (2, 5), (3, 1), (3, 6)],

@@ -1,4 +1,5 @@
-//! Heaviest diagonals of full tables, by all ways. Those of matrices that were worked out by hand are in `run_tests`.
+//! Heaviest diagonals of full tables, by all ways. Those of matrices that were worked out by hand
+//! are in `run_tests`.
 
 ghost use Rattle.std.specs.Prelude.{◌≡◌};
 ghost use Rattle.sp_ids.specs.declared.triples.Field.TheVariants.{Integer};
@@ -34,7 +35,8 @@ fn are_fair<R: Abort>(rt: &R, entries: &[(u32, u32, i64)], u: &[i128], v: &[i128
     }
 }
 
-// The greatest sum over all ways to give each column from this one on a row of its own that is not taken.
+// The greatest sum over all ways to give each column from this one on a row of its own that is not
+// taken.
 fn by_all_ways(table: &[[i64; 4]; 4], size: usize, col: usize, taken: [bool; 4]) -> u64 {
     if col >= size || col >= 4 {
         return 0;
@@ -94,7 +96,8 @@ fn is_greatest<R: Abort + AllocGlobal + Threads + Sync>(
     Ok(())
 }
 
-/// Tables, each with the number of its rows and columns that are looked at. Of the first 5 and 4 together are more than 3 and 1.
+/// Tables, each with the number of its rows and columns that are looked at. Of the first 5 and 4
+/// together are more than 3 and 1.
 #[rattlefmt::skip]
 static TABLES: [(u32, [[i64; 4]; 4]); 7] = [
     (2, [[3, 5, 0, 0], [4, 1, 0, 0], [0; 4], [0; 4]]),

@@ -1,4 +1,5 @@
-//! Sessions of edits beside the matrix made anew after each edit. Whole sessions with their texts are in `run_tests`.
+//! Sessions of edits beside the matrix made anew after each edit. Whole sessions with their texts
+//! are in `run_tests`.
 
 ghost use Rattle.std.specs.Prelude.{◌≡◌, ◌<◌, ◌≤◌};
 ghost use Rattle.bip_defs.specs.Matrix.{cols, entry_count};
@@ -24,8 +25,8 @@ enum Edit {
     Clear(u32, u32),
 }
 
-/// A session: the numbers of rows and columns, the places at the start with their rank, and the edits, each with the rank
-/// that it leaves. The ranks were worked out by hand.
+/// A session: the numbers of rows and columns, the places at the start with their rank, and the
+/// edits, each with the rank that it leaves. The ranks were worked out by hand.
 #[derive(Clone, Copy)]
 struct Edits<'a> {
     rows: u32,
@@ -95,7 +96,8 @@ const SESSIONS: [Edits<'static>; 5] = [
     },
 ];
 
-/// Fails the test where a place is out of range, or the matrix has grown beyond what these tests make.
+/// Fails the test where a place is out of range, or the matrix has grown beyond what these tests
+/// make.
 fn check_place<R: Abort>(rt: &R, session: &Session, row: u32, col: u32)
     ensures row { (0 < row) × (row ≤ session.now.matrix.rows) }
     ensures col { (0 < col) × (col ≤ cols session.now.matrix) }

@@ -33,8 +33,8 @@ const ENGINES: [Engine; 6] = [
     Engine::TreeGraft(64),
 ];
 
-/// What is found in a matrix: the name of its example, its rank, the columns that some maximum matching misses, and pairs
-/// that the matching has.
+/// What is found in a matrix: the name of its example, its rank, the columns that some maximum
+/// matching misses, and pairs that the matching has.
 #[derive(Clone, Copy)]
 struct Found<'a> {
     name: &'a str,
@@ -62,7 +62,8 @@ fn completed<R: Abort + AllocGlobal + Threads + Sync>(
     }
 }
 
-/// A matching is maximum and has the pairs that are sure. The search gives the missed columns, and a phase finds no path.
+/// A matching is maximum and has the pairs that are sure. The search gives the missed columns, and
+/// a phase finds no path.
 fn is_maximum<R: Abort + AllocGlobal>(
     rt: &R,
     pattern: &Pattern,
@@ -81,8 +82,8 @@ fn is_maximum<R: Abort + AllocGlobal>(
     Ok(())
 }
 
-/// Every engine makes the matching maximum. The search gives a path where it is smaller, and then depth-first phases make
-/// it longer.
+/// Every engine makes the matching maximum. The search gives a path where it is smaller, and then
+/// depth-first phases make it longer.
 fn all_complete<R: Abort + AllocGlobal + Threads + Sync>(
     rt: &R,
     pattern: &Pattern,
@@ -120,7 +121,8 @@ fn completes_matchings<R: Abort + AllocGlobal + Threads + Sync>(
     Ok(())
 }
 
-/// Every engine completes the matching of a line, and then has the pairs that are sure and those that the line tells.
+/// Every engine completes the matching of a line, and then has the pairs that are sure and those
+/// that the line tells.
 fn completes_one<R: Abort + AllocGlobal + Threads + Sync>(
     rt: &R,
     text: &str,
@@ -170,7 +172,8 @@ fn missed(alloc: Global, worked: &Worked<'_>, transposed: bool) -> Result<Vec<u3
     }
 }
 
-/// Every engine completes no pairs, the start and the matchings of an example, seen from its columns or from its rows.
+/// Every engine completes no pairs, the start and the matchings of an example, seen from its
+/// columns or from its rows.
 fn completes<R: Abort + AllocGlobal + Threads + Sync>(
     rt: &R,
     worked: &Worked<'_>,

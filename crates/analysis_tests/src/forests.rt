@@ -57,7 +57,8 @@ fn event_of<R: Abort>(rt: &R, step: Step) -> Event {
     }
 }
 
-/// The forest after these events from a matching of these pairs, up to the first that is not legal, and how many were made.
+/// The forest after these events from a matching of these pairs, up to the first that is not legal,
+/// and how many were made.
 fn after<'p, R: Abort + AllocGlobal>(
     rt: &R,
     pattern: &'p Pattern,
@@ -72,8 +73,8 @@ fn after<'p, R: Abort + AllocGlobal>(
     every_run(rt.alloc(), pattern, matching, events.as_slice())
 }
 
-/// A run of events, how many of them are legal, and what they leave: so many claims, whether it is done, and the current
-/// matching.
+/// A run of events, how many of them are legal, and what they leave: so many claims, whether it is
+/// done, and the current matching.
 #[derive(Clone, Copy)]
 struct Run {
     name: &'static str,
@@ -171,8 +172,8 @@ fn runs_of_events(rt: HostRuntime) -> Result<(), Fail> {
     Ok(())
 }
 
-/// What a forest tells after a few events more. The claims are pairs; the other lists have a number for each row or column,
-/// and 0 where there is none. A flipped root has number 1.
+/// What a forest tells after a few events more. The claims are pairs; the other lists have a number
+/// for each row or column, and 0 where there is none. A flipped root has number 1.
 #[derive(Clone, Copy)]
 struct State {
     last: &'static [Step],
@@ -292,9 +293,9 @@ fn what_two_trees_tell(rt: HostRuntime) -> Result<(), Fail> {
     Ok(())
 }
 
-/// An unflipped root with a leaf forbids a graft and a rebuild, and any leaf forbids the end. Then come claims of a claimed row
-/// and of a place without an entry, wins of a matched row and of a row in another tree, and a flip without a leaf. The last are
-/// past the last row and column.
+/// An unflipped root with a leaf forbids a graft and a rebuild, and any leaf forbids the end. Then
+/// come claims of a claimed row and of a place without an entry, wins of a matched row and of a row
+/// in another tree, and a flip without a leaf. The last are past the last row and column.
 static ILLEGAL: [Step; 13] = [
     Graft,
     Rebuild,
@@ -322,7 +323,8 @@ fn what_is_not_legal(rt: HostRuntime) -> Result<(), Fail> {
     Ok(())
 }
 
-/// Three phases add so many pairs, the last of them none. Then the forest is done, with so many claims.
+/// Three phases add so many pairs, the last of them none. Then the forest is done, with so many
+/// claims.
 fn phases_add<R: Abort + AllocGlobal + Threads + Sync>(
     rt: &R,
     forest: &mut Forest<'_>,
@@ -354,7 +356,8 @@ fn phases_on_one_row(rt: HostRuntime) -> Result<(), Fail> {
     Ok(())
 }
 
-/// Two paths, in one phase or in two, and then all rows and columns are matched in the one way that there is.
+/// Two paths, in one phase or in two, and then all rows and columns are matched in the one way that
+/// there is.
 #[test]
 fn phases_beside_a_single_entry(rt: HostRuntime) -> Result<(), Fail> {
     let pattern = pattern_of(&rt, 3, 3, &[(1, 1), (1, 2), (3, 2), (1, 3), (2, 3)])?;
@@ -368,7 +371,8 @@ fn phases_beside_a_single_entry(rt: HostRuntime) -> Result<(), Fail> {
     Ok(())
 }
 
-/// A phase by two workers adds so many pairs, and each has arrived so often since the gate was made.
+/// A phase by two workers adds so many pairs, and each has arrived so often since the gate was
+/// made.
 fn arrive_together<R: Abort + AllocGlobal + Threads + Sync>(
     rt: &R,
     forest: &mut Forest<'_>,
@@ -385,7 +389,8 @@ fn arrive_together<R: Abort + AllocGlobal + Threads + Sync>(
     Ok(())
 }
 
-/// The first phase goes up once and exchanges a path. The second goes up twice, at last with no row to claim.
+/// The first phase goes up once and exchanges a path. The second goes up twice, at last with no row
+/// to claim.
 #[test]
 fn workers_arrive_in_each_phase(rt: HostRuntime) -> Result<(), Fail> {
     let pattern = pattern_of(&rt, 1, 2, &[(1, 1), (1, 2)])?;
@@ -438,7 +443,8 @@ fn lists_by_row_and_by_column(rt: HostRuntime) -> Result<(), Fail> {
     Ok(())
 }
 
-// Two claims among 40 rows are taken back one by one, and many by filling the table: either way all rows are free.
+// Two claims among 40 rows are taken back one by one, and many by filling the table: either way all
+// rows are free.
 #[test]
 fn a_rebuild_with_few_claims(rt: HostRuntime) -> Result<(), Fail> {
     let places = [(1, 1), (2, 1), (2, 2), (3, 2), (4, 2)];

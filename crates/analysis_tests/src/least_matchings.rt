@@ -1,4 +1,5 @@
-//! The least maximum matching beside all matchings of small matrices. Whole runs by each engine are in `run_tests`.
+//! The least maximum matching beside all matchings of small matrices. Whole runs by each engine are
+//! in `run_tests`.
 
 ghost use Rattle.std.specs.Prelude.{IfOk};
 ghost use Rattle.bip_graph.specs.Matching.{IsMaximumOf};
@@ -97,7 +98,8 @@ fn advance(code: &mut [u32], none: u32) -> bool {
     false
 }
 
-/// The first, in lexicographic order, of the codes of the largest matchings, found among all lists of mates.
+/// The first, in lexicographic order, of the codes of the largest matchings, found among all lists
+/// of mates.
 fn first_code<R: Abort + AllocGlobal>(
     rt: &R,
     rows: u32,

@@ -12,7 +12,8 @@
 //! | `components` | the numbers of the columns' strong components, counted from 1, and 0 for a column that is not square, where there is one way to number them so that no entry leads to a greater number |
 //! | `one path` | a matching that a depth-first phase from the columns makes larger by one |
 //!
-//! Rows and columns count from 1. A column leads to another where it has an entry in the row of the other's mate.
+//! Rows and columns count from 1. A column leads to another where it has an entry in the row of the
+//! other's mate.
 
 pub(crate) const MATRICES: &str = "\
 name: one entry

@@ -112,7 +112,8 @@ fn has_components<R: Abort>(rt: &R, name: &str, components: &Components, wanted:
     }
 }
 
-/// A column that is not square has no number. Where there is one way to number the components, these are the numbers.
+/// A column that is not square has no number. Where there is one way to number the components,
+/// these are the numbers.
 fn has_numbers<R: Abort + AllocGlobal>(
     rt: &R,
     worked: &Worked<'_>,

@@ -1,4 +1,5 @@
-//! Searches for an augmenting path in a matrix after an edit, from the pairs that are left of the matching before it.
+//! Searches for an augmenting path in a matrix after an edit, from the pairs that are left of the
+//! matching before it.
 
 ghost use Rattle.std.specs.Prelude.{◌≡◌, ◌<◌};
 ghost use Rattle.bip_graph.specs.Matching.{IsMatchingOf};
@@ -13,8 +14,8 @@ use std::process::Abort;
 use std::sync::ledger::{Blank, Ledger};
 use std::thread::Threads;
 
-/// What a search is to find: the columns that some maximum matching misses, or the pairs of the one augmenting path, in
-/// order from its unmatched column. Rows and columns count from 1.
+/// What a search is to find: the columns that some maximum matching misses, or the pairs of the one
+/// augmenting path, in order from its unmatched column. Rows and columns count from 1.
 #[derive(Clone, Copy)]
 enum Wanted<'a> {
     Missed(&'a [u32]),

@@ -59,7 +59,8 @@ pub(crate) fn integers_of<R: Abort + AllocGlobal>(
     Ok(triples)
 }
 
-/// The matching of these pairs. Fails the test where one is no entry, or its row or column is matched already.
+/// The matching of these pairs. Fails the test where one is no entry, or its row or column is
+/// matched already.
 pub(crate) fn matching_of<R: Abort + AllocGlobal>(
     rt: &R,
     pattern: &Pattern,

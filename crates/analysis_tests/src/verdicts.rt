@@ -1,5 +1,5 @@
-//! The judge on reports of small matrices, worked out by hand. Changes of a report, and bytes made to mislead it, are judged by
-//! whole runs in `run_tests`.
+//! The judge on reports of small matrices, worked out by hand. Changes of a report, and bytes made
+//! to mislead it, are judged by whole runs in `run_tests`.
 
 use crate::small::pattern_of;
 use btf_check::{Verdict, judge};
@@ -51,7 +51,8 @@ fn on_identity<R: AllocGlobal + Abort + Threads + Sync>(
     judge(rt, rt.alloc(), &pattern, text.as_slice())
 }
 
-/// The first line of a report of two rows of two columns each, its horizontal and its vertical components, and the verdict.
+/// The first line of a report of two rows of two columns each, its horizontal and its vertical
+/// components, and the verdict.
 #[rattlefmt::skip]
 static COMPONENTS: [(&[u8], &[u8], &[u8], Verdict); 9] = [
     // Its own.
@@ -105,8 +106,8 @@ static COMPONENTS: [(&[u8], &[u8], &[u8], Verdict); 9] = [
     ),
 ];
 
-/// The verdict on the report of two rows of two columns each, in this version, with these lines of components and with so
-/// many vertical ones.
+/// The verdict on the report of two rows of two columns each, in this version, with these lines of
+/// components and with so many vertical ones.
 fn on_two_rows<R: AllocGlobal + Abort + Threads + Sync>(
     rt: &R,
     version: &[u8],

@@ -10,7 +10,8 @@ use std::alloc::Global;
 use std::marker::Model;
 use std::thread::Threads;
 
-/// The answers to the files of a batch: a slot for each, empty or full. A full slot has the answer to its own file.
+/// The answers to the files of a batch: a slot for each, empty or full. A full slot has the answer
+/// to its own file.
 #[derive(Drop)]
 pub struct Answers<'a> {
     alloc: Global,
@@ -40,8 +41,8 @@ pub enum Put {
 }
 
 impl<'a> Answers<'a> {
-    /// No answers yet. There are at most 65,536 files, and each has at most 1,073,741,824 bytes. Answers `OutOfMemory` where there
-    /// is none for a slot for each file.
+    /// No answers yet. There are at most 65,536 files, and each has at most 1,073,741,824 bytes.
+    /// Answers `OutOfMemory` where there is none for a slot for each file.
     pub fn new(alloc: Global, files: &'a [Vec<u8>]) -> Result<Answers<'a>, OutOfMemory>
         requires { IsWithinLimits (files_of files.now) }
         ensures { IfOk result (λ a. a ≡ record {
@@ -68,7 +69,8 @@ impl<'a> Answers<'a> {
         self.slots.as_slice()
     }
 
-    /// Puts the answer to the file of this number, counted from 0, into its slot. It takes no memory.
+    /// Puts the answer to the file of this number, counted from 0, into its slot. It takes no
+    /// memory.
     pub fn put(&mut self, file: u32, answer: FileAnswer) -> Put
         requires file { file < length self.old.files }
         requires answer { IsAnswerAt self.old.files file answer }
@@ -87,7 +89,8 @@ impl<'a> Answers<'a> {
         Put::Stored
     }
 
-    /// Answers the file of each empty slot. Answers `OutOfMemory` where there is none for one of them; full slots stay as they are.
+    /// Answers the file of each empty slot. Answers `OutOfMemory` where there is none for one of
+    /// them; full slots stay as they are.
     pub fn fill_rest<R: Threads + Sync>(&mut self, rt: &R) -> Result<(), OutOfMemory>
         ensures files { self.new.files ≡ self.old.files }
         ensures kept { FillsOnly self.old.slots self.new.slots }

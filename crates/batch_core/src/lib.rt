@@ -1,7 +1,7 @@
 //! A batch of matrix files, answered by many workers at once.
 //!
-//! The files are the rows of a board of claims, and a worker answers a file that it has claimed. Each file's answer comes
-//! once and in order, whatever workers run.
+//! The files are the rows of a board of claims, and a worker answers a file that it has claimed.
+//! Each file's answer comes once and in order, whatever workers run.
 #![tactic(auto)]
 
 mod answers;

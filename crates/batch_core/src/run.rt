@@ -21,13 +21,14 @@ use sp_ports::{Gate, Sink, Source};
 use std::alloc::Global;
 use std::thread::Threads;
 
-/// Reads a batch of files from `input`, and writes what is found of each to `out`, in order; where there is no answer, tells
-/// on `err` why.
+/// Reads a batch of files from `input`, and writes what is found of each to `out`, in order; where
+/// there is no answer, tells on `err` why.
 ///
-/// `words` are those after the program's name. So many workers answer the files at once, as far as threads can be had, and
-/// each calls `gate.arrive` once. The answer is the status with which the program ends: `Ok` where each file is good,
-/// `Negative` where some file is not. Nothing is written to `out` before all input is read and all memory is taken. What is
-/// said here holds whatever `gate` does, and in whatever order threads run: the text is that of one worker.
+/// `words` are those after the program's name. So many workers answer the files at once, as far as
+/// threads can be had, and each calls `gate.arrive` once. The answer is the status with which the
+/// program ends: `Ok` where each file is good, `Negative` where some file is not. Nothing is
+/// written to `out` before all input is read and all memory is taken. What is said here holds
+/// whatever `gate` does, and in whatever order threads run: the text is that of one worker.
 pub fn run_batch<R: Threads + Sync, S: Source, O: Sink, E: Sink, G: Gate>(
     rt: &R,
     alloc: Global,
@@ -58,10 +59,12 @@ pub fn run_batch<R: Threads + Sync, S: Source, O: Sink, E: Sink, G: Gate>(
     ensures out_once { FailsOnceAtMost (seen O.taken O.faults out.old out.new) }
     ensures err_once { FailsOnceAtMost (seen E.taken E.faults err.old err.new) }
 
-    // What the input has left is the end of what it had, and at most one byte past its limit was taken.
+    // What the input has left is the end of what it had, and at most one byte past its limit was
+    // taken.
     ensures gave { OfReading (seen S.left S.faults input.old input.new) GavePrefix }
 {
-    // A batch has one list of files and no bad frame, a first bad frame stays the first, and a batch that is given is read.
+    // A batch has one list of files and no bad frame, a first bad frame stays the first, and a
+    // batch that is given is read.
     batch_has_one_list_of_files();
     batch_has_no_bad_frame();
     bad_frame_stays();

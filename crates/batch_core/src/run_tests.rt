@@ -15,7 +15,8 @@ const GOOD_AND_BAD: &str =
 const GOOD_AND_BAD_TEXT: &str =
     "file 1 0\nbtf 2\nmatrix 1 1 1\nrank 1\nhorizontal 0 0\nhorizontal_components 0\nsquare 1 1\nblock 1 1\nrows 1\ncolumns 1\nvertical 0 0\nvertical_components 0\nend\nfile 2 3\nbtf: malformed line 1: NoBanner\nend 2\n";
 
-/// The calls of the devices that fail: of the input, the output and the standard error, each counted from 0.
+/// The calls of the devices that fail: of the input, the output and the standard error, each
+/// counted from 0.
 struct Failing {
     input: &'static [u64],
     out: &'static [u64],
@@ -81,8 +82,9 @@ struct Run {
     expected: Outcome,
 }
 
-/// The good and the bad file by workers of any number; good files alone, of which the second batch's has no rows; a matrix with
-/// more rows than a file may have; bad frames; and words that are not taken.
+/// The good and the bad file by workers of any number; good files alone, of which the second
+/// batch's has no rows; a matrix with more rows than a file may have; bad frames; and words that
+/// are not taken.
 #[rattlefmt::skip]
 static RUNS: [Run; 11] = [
     Run { words: &[], batch: GOOD_AND_BAD, expected: GOOD_AND_BAD_OUTCOME },
@@ -178,8 +180,9 @@ fn two_workers_meet(rt: HostRuntime) -> Result<(), Fail> {
     Ok(())
 }
 
-/// A read that fails; writes that fail, where the text is taken in two pieces for the first file, one for the second and one for
-/// the end, and the last call is the flush; and a line of a refusal that is not taken, which changes nothing.
+/// A read that fails; writes that fail, where the text is taken in two pieces for the first file,
+/// one for the second and one for the end, and the last call is the flush; and a line of a refusal
+/// that is not taken, which changes nothing.
 #[rattlefmt::skip]
 static FAULTS: [(Failing, &str, Outcome); 4] = [
     (

@@ -12,8 +12,8 @@ use std::alloc::Global;
 use std::marker::Model;
 use std::thread::Threads;
 
-/// One worker's share of a batch: the files, its seat at the board of all workers, and the answers that it has found. Each of
-/// them is the answer to the file of its number, which counts from 0.
+/// One worker's share of a batch: the files, its seat at the board of all workers, and the answers
+/// that it has found. Each of them is the answer to the file of its number, which counts from 0.
 #[derive(Drop)]
 pub struct Share<'a> {
     alloc: Global,
@@ -39,7 +39,8 @@ impl<'a> Model for Share<'a> {
 }
 
 impl<'a> Share<'a> {
-    /// A share with no answers. There are at most 65,536 files, and each has at most 1,073,741,824 bytes. It takes no memory.
+    /// A share with no answers. There are at most 65,536 files, and each has at most 1,073,741,824
+    /// bytes. It takes no memory.
     pub fn new(alloc: Global, files: &'a [Vec<u8>], seat: ClaimSeat) -> Share<'a>
         requires { IsWithinLimits (files_of files.now) }
         ensures { result ≡ new_share (files_of files.now) seat }
@@ -52,11 +53,12 @@ impl<'a> Share<'a> {
         }
     }
 
-    /// Goes once over the files, and answers each that it claims for its worker. It calls `gate.arrive` once, before that.
+    /// Goes once over the files, and answers each that it claims for its worker. It calls
+    /// `gate.arrive` once, before that.
     ///
-    /// The seat must be one of the board, which has a row for each file and more columns than the worker's number. Answers
-    /// `OutOfMemory` where a file that it has claimed cannot be answered: the answers that it has found stay, and that file has
-    /// none.
+    /// The seat must be one of the board, which has a row for each file and more columns than the
+    /// worker's number. Answers `OutOfMemory` where a file that it has claimed cannot be answered:
+    /// the answers that it has found stay, and that file has none.
     pub fn work<R: Threads + Sync, G: Gate>(
         &mut self,
         rt: &R,

@@ -1,4 +1,5 @@
-//! A batch of a good file, a file without a banner, a file of too many rows and a file without bytes.
+//! A batch of a good file, a file without a banner, a file of too many rows and a file without
+//! bytes.
 
 ghost use Rattle.std.specs.Prelude.{◌≡◌, ◌≤◌, ◌<◌, [], ◌∷◌, length, IfOk};
 ghost use Rattle.std.specs.List.{All};

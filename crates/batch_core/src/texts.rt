@@ -56,7 +56,8 @@ fn write_slots<K: Sink>(
 
 /// Writes what is answered to each file and how many files there are, and has all of it handed on.
 ///
-/// `Failed` comes only where a write or the flush failed, and then a prefix of the text was taken. It takes no memory.
+/// `Failed` comes only where a write or the flush failed, and then a prefix of the text was taken.
+/// It takes no memory.
 pub(crate) fn write_answers<K: Sink>(
     out: &mut K,
     buf: &mut TextBuf,

@@ -16,10 +16,12 @@ use std::alloc::Global;
 use std::thread;
 use std::thread::Threads;
 
-/// The answers to all files, by so many workers at once, 1 to 64, as far as threads can be had. Each calls `gate.arrive` once.
+/// The answers to all files, by so many workers at once, 1 to 64, as far as threads can be had.
+/// Each calls `gate.arrive` once.
 ///
-/// What a worker could not answer for want of memory is answered at the end by the caller. Answers `OutOfMemory` where that fails
-/// too, or where there is none for 8 bytes a file and worker, or for the list of answers.
+/// What a worker could not answer for want of memory is answered at the end by the caller. Answers
+/// `OutOfMemory` where that fails too, or where there is none for 8 bytes a file and worker, or for
+/// the list of answers.
 pub fn answer_all<'a, R: Threads + Sync, G: Gate>(
     rt: &R,
     alloc: Global,
@@ -91,8 +93,8 @@ fn new_shares<'a>(
     Ok(shares)
 }
 
-/// The worker of each share does its work, at once with the others as far as threads can be had. They are numbered in the order
-/// of the shares.
+/// The worker of each share does its work, at once with the others as far as threads can be had.
+/// They are numbered in the order of the shares.
 fn work_all<R: Threads + Sync, G: Gate>(
     rt: &R,
     board: &ClaimBoard,

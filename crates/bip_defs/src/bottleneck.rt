@@ -5,7 +5,8 @@ ghost use Rattle.bip_defs.specs.Bottleneck.{IsFull, above, restricted};
 ghost use Rattle.bip_defs.specs.Lists.{Among, IsRising};
 ghost use Rattle.bip_defs.specs.Matrix.{IsEntry, Matrix, Place, cols, neighbours};
 
-/// Where columns are more than their neighbours above a weight, every perfect matching has a pair of at most that weight.
+/// Where columns are more than their neighbours above a weight, every perfect matching has a pair
+/// of at most that weight.
 ///
 /// Those columns can't all be matched above the weight (Hall 1935).
 pub fn few_neighbours_bound_the_least_weight()

@@ -14,8 +14,8 @@ pub fn edited_entries()
         → IsEntry (without_place a p) r c ↔ (IsEntry a r c × ((r, c) ≢ p)) }
 {}
 
-/// The edited matrix has the places that are left when those of the edits are added to the matrix's places and removed
-/// from them in turn.
+/// The edited matrix has the places that are left when those of the edits are added to the matrix's
+/// places and removed from them in turn.
 pub fn edited_matrix_has_the_edited_places()
     ensures { (rows cols : ℕ) (ps : List Place) (a : Matrix) (es : List Edit)
         → HasPlaces rows cols ps a → AreWithin rows cols es
@@ -51,8 +51,8 @@ pub fn one_entry_changes_the_rank_by_one()
         → IsRank (without_place a p) l → (l ≤ k) × (k ≤ suc l) }
 {}
 
-/// Where an entry is set, a matching that is longer by one than a maximum one was is maximum: one augmenting path
-/// decides. Where the entry's row and column are unmatched, it is such a pair.
+/// Where an entry is set, a matching that is longer by one than a maximum one was is maximum: one
+/// augmenting path decides. Where the entry's row and column are unmatched, it is such a pair.
 pub fn one_pair_more_is_maximum()
     ensures longer { (a : Matrix) (p : Place) (m n : List Place) → IsMaximum a m
         → IsMatching (with_place a p) n → length n ≡ suc (length m)
@@ -62,8 +62,8 @@ pub fn one_pair_more_is_maximum()
         → IsMaximum (with_place a p) (p ∷ m) }
 {}
 
-/// Where an entry is cleared, a maximum matching that has no such pair stays maximum, and so is every matching that is
-/// left and has as many pairs as a maximum one had.
+/// Where an entry is cleared, a maximum matching that has no such pair stays maximum, and so is
+/// every matching that is left and has as many pairs as a maximum one had.
 pub fn as_many_pairs_are_maximum()
     ensures kept { (a : Matrix) (p : Place) (m : List Place) → IsMaximum a m → ¬ Among p m
         → IsMaximum (without_place a p) m }

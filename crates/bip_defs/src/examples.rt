@@ -46,8 +46,9 @@ pub fn lower_triangle_from_its_end()
     ensures { IsDecompositionOf lower_triangle lower_triangle_parts }
 {}
 
-/// A lower triangle is block upper triangular by its blocks from the end, not by those from the start, nor by some of
-/// them alone. The outer parts are diagonal blocks too, and need not be square.
+/// A lower triangle is block upper triangular by its blocks from the end, not by those from the
+/// start, nor by some of them alone. The outer parts are diagonal blocks too, and need not be
+/// square.
 pub fn orders_of_small_matrices()
     ensures from_the_end { IsBlockUpperTriangular lower_triangle
         (single 2 ∷ single 1 ∷ single 0 ∷ []) }
@@ -57,7 +58,8 @@ pub fn orders_of_small_matrices()
     ensures outer_parts { IsBlockUpperTriangular wide_row (diagonal_blocks wide_row_parts) }
 {}
 
-/// All rows and columns of a lower triangle together fall apart: its last column has entries in one row alone.
+/// All rows and columns of a lower triangle together fall apart: its last column has entries in one
+/// row alone.
 pub fn whole_triangle_falls_apart()
     ensures part { IsProperPart whole_triangle (2 ∷ []) }
     ensures rows { Lists (IsRowOver lower_triangle whole_triangle (2 ∷ [])) (2 ∷ []) }

@@ -61,8 +61,8 @@ pub fn transpose_turns_parts()
         ↔ IsHorizontalRow b c }
 {}
 
-/// What is computed from the columns' lists follows the entries: the list of a row's columns, and the neighbours of some
-/// columns.
+/// What is computed from the columns' lists follows the entries: the list of a row's columns, and
+/// the neighbours of some columns.
 pub fn lists_follow_the_entries()
     ensures of_row { (a : Matrix) (r : ℕ) → r < a.rows → Lists (λ c. IsEntry a r c) (row_list a r) }
     ensures of_columns { (a : Matrix) (w : List ℕ)
@@ -105,8 +105,8 @@ pub fn parts_counted()
 /// The strong components of the square part's columns, each with the mates of its columns, are the
 /// fine blocks.
 ///
-/// An entry lies in some perfect matching exactly where it is a pair or lies on an alternating cycle
-/// (Pothen and Fan 1990).
+/// An entry lies in some perfect matching exactly where it is a pair or lies on an alternating
+/// cycle (Pothen and Fan 1990).
 pub fn numbered_components_are_blocks()
     ensures sound { (a : Matrix) (m : List Place) (number : ℕ → ℕ) (c : ℕ) (b : Block)
         → IsPerfect a m → AreComponents a m number → IsSquareCol a c
@@ -133,7 +133,8 @@ pub fn one_decomposition()
         → d ≡ e }
 {}
 
-/// Two least maximum matchings of a matrix have one code and the same pairs, and listed by column they are equal.
+/// Two least maximum matchings of a matrix have one code and the same pairs, and listed by column
+/// they are equal.
 pub fn one_least_matching()
     ensures code { (a : Matrix) (m n : List Place) → IsLeastMaximum a m → IsLeastMaximum a n
         → code a m ≡ code a n }

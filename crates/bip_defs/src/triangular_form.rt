@@ -10,17 +10,20 @@ ghost use Rattle.bip_defs.specs.Once.{ListsOnce};
 ghost use Rattle.bip_defs.specs.Parts.{IsSquareCol, IsSquareRow};
 ghost use Rattle.bip_defs.specs.Triangular.{IsBlockUpperTriangular, IsProperPart, IsRowOver, PairUp, diagonal_blocks};
 
-/// The horizontal part, the fine blocks in their order and the vertical part are a block upper triangular form: each row
-/// and each column is in just one of them, and no entry's row is in a later one than its column.
+/// The horizontal part, the fine blocks in their order and the vertical part are a block upper
+/// triangular form: each row and each column is in just one of them, and no entry's row is in a
+/// later one than its column.
 ///
-/// The outer parts are those of Dulmage and Mendelsohn (1958); the form of the whole matrix is that of Pothen and Fan
-/// (1990), and that of the square part stands in Duff, Erisman and Reid, Direct Methods for Sparse Matrices (1986).
+/// The outer parts are those of Dulmage and Mendelsohn (1958); the form of the whole matrix is that
+/// of Pothen and Fan (1990), and that of the square part stands in Duff, Erisman and Reid, Direct
+/// Methods for Sparse Matrices (1986).
 pub fn decomposition_is_block_upper_triangular()
     ensures form { (a : Matrix) (d : Decomposition) → IsDecompositionOf a d
         → IsBlockUpperTriangular a (diagonal_blocks d) }
 {}
 
-/// Each fine block has as many rows as columns, and together they have each row and each column of the square part once.
+/// Each fine block has as many rows as columns, and together they have each row and each column of
+/// the square part once.
 ///
 /// The pairs of a maximum matching in the square part stay inside the blocks (Pothen and Fan 1990).
 pub fn fine_blocks_are_square()
@@ -32,8 +35,8 @@ pub fn fine_blocks_are_square()
         → ListsOnce (IsSquareCol a) (all_cols d.blocks) }
 {}
 
-/// Each maximum matching pairs the rows of each fine block with its columns: where each row is put in the place of the
-/// column that it is paired with, the block has a zero-free diagonal.
+/// Each maximum matching pairs the rows of each fine block with its columns: where each row is put
+/// in the place of the column that it is paired with, the block has a zero-free diagonal.
 ///
 /// Duff, Erisman and Reid (1986); Pothen and Fan (1990).
 pub fn fine_blocks_have_zero_free_diagonals()

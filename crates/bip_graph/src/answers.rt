@@ -3,8 +3,9 @@
 use crate::Blocks;
 use sp_ids::{Col, Row};
 
-/// The coarse parts of Dulmage and Mendelsohn (1958), each a rising list: the horizontal part, whose columns some maximum
-/// matching misses, the square part, and the vertical part, whose rows some maximum matching misses.
+/// The coarse parts of Dulmage and Mendelsohn (1958), each a rising list: the horizontal part,
+/// whose columns some maximum matching misses, the square part, and the vertical part, whose rows
+/// some maximum matching misses.
 #[derive(Drop)]
 pub struct Parts {
     pub hr: Vec<Row>,
@@ -15,17 +16,18 @@ pub struct Parts {
     pub vc: Vec<Col>,
 }
 
-/// The connected components of the horizontal and of the vertical part: the rows and columns of each that chains of entries
-/// of the part join, both lists rising. Horizontal components stand by their least columns, vertical ones by their least
-/// rows. A row or a column of a part that has no entry in it is a component by itself, so one of the two lists may be empty.
+/// The connected components of the horizontal and of the vertical part: the rows and columns of
+/// each that chains of entries of the part join, both lists rising. Horizontal components stand by
+/// their least columns, vertical ones by their least rows. A row or a column of a part that has no
+/// entry in it is a component by itself, so one of the two lists may be empty.
 #[derive(Drop)]
 pub struct Components {
     pub horizontal: Blocks,
     pub vertical: Blocks,
 }
 
-/// The decomposition of a matrix of m rows, n columns and e entries: its rank, its coarse parts and the fine blocks of
-/// its square part.
+/// The decomposition of a matrix of m rows, n columns and e entries: its rank, its coarse parts and
+/// the fine blocks of its square part.
 #[derive(Drop)]
 pub struct Decomposition {
     pub m: u32,
@@ -46,7 +48,8 @@ pub enum Heaviest {
         rank: u32,
         hall: Vec<Col>,
     },
-    /// The pairs of the diagonal, rising by column, prices by row and by column, and the sum of the pairs' weights.
+    /// The pairs of the diagonal, rising by column, prices by row and by column, and the sum of the
+    /// pairs' weights.
     Diagonal {
         pairs: Vec<(Row, Col)>,
         u: Vec<i128>,

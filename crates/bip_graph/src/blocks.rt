@@ -8,10 +8,11 @@ use sp_ids::{Col, OutOfMemory, Row};
 use std::alloc::Global;
 use std::marker::Model;
 
-/// A list of blocks. A block is a list of rows and a list of columns: a fine block, or a connected component.
+/// A list of blocks. A block is a list of rows and a list of columns: a fine block, or a connected
+/// component.
 ///
-/// The rows of all blocks lie one after another in one array, and so do the columns: it keeps 4 bytes a row, 4 a column
-/// and 8 a block.
+/// The rows of all blocks lie one after another in one array, and so do the columns: it keeps 4
+/// bytes a row, 4 a column and 8 a block.
 #[derive(Drop)]
 pub struct Blocks {
     row_ends: Vec<u32>,
@@ -47,8 +48,8 @@ impl Blocks {
         }
     }
 
-    /// No blocks, with room for so many, of so many rows and so many columns in all: until then no `push` copies what
-    /// is there.
+    /// No blocks, with room for so many, of so many rows and so many columns in all: until then no
+    /// `push` copies what is there.
     ///
     /// Answers `OutOfMemory` where that room can't be had.
     pub fn with_room(
@@ -113,8 +114,8 @@ impl Blocks {
 
     /// Appends a block of these rows and columns.
     ///
-    /// Answers `OutOfMemory` where there is no room for it, and then the list stays as it is; a list has no room for 2^32
-    /// rows or columns in all. Work: one copy of both.
+    /// Answers `OutOfMemory` where there is no room for it, and then the list stays as it is; a
+    /// list has no room for 2^32 rows or columns in all. Work: one copy of both.
     pub fn push(&mut self, rows: &[Row], cols: &[Col]) -> Result<(), OutOfMemory>
         ensures ok { OnOk result
             (self.new ≡ self.old ++ record { rows = rows.now; cols = cols.now } ∷ []) }

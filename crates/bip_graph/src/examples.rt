@@ -6,7 +6,8 @@ ghost use Rattle.bip_defs.specs.Triangular.{diagonal_blocks};
 ghost use Rattle.bip_graph.specs.Answers.{orders_of};
 ghost use Rattle.bip_graph.specs.Orders.{IsZeroBelow};
 
-/// A lower triangle is reported from its end, and then it has no entry below its blocks; from its start it would have one.
+/// A lower triangle is reported from its end, and then it has no entry below its blocks; from its
+/// start it would have one.
 pub fn lower_triangle_in_two_orders()
     ensures orders { orders_of lower_triangle_parts ≡ (2 ∷ 1 ∷ 0 ∷ [], 2 ∷ 1 ∷ 0 ∷ []) }
     ensures from_the_end { IsZeroBelow lower_triangle (diagonal_blocks lower_triangle_parts)

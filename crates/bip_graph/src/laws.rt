@@ -9,23 +9,24 @@ pub fn one_rank_text()
     ensures { (a : Matrix) (s t : List ℕ) → IsRankText a s → IsRankText a t → s ≡ t }
 {}
 
-/// Two reports of one matrix in one version under the same options, without pairs, are the same bytes.
+/// Two reports of one matrix in one version under the same options, without pairs, are the same
+/// bytes.
 pub fn one_report()
     ensures { (a : Matrix) (version : ℕ) (order : Bool) (s t : List ℕ)
         → IsAnalysis a version order false false s → IsAnalysis a version order false false t
         → s ≡ t }
 {}
 
-/// Two reports of one matrix in one version under the same options, with the pairs of the least maximum matching, are the
-/// same bytes.
+/// Two reports of one matrix in one version under the same options, with the pairs of the least
+/// maximum matching, are the same bytes.
 pub fn one_report_with_least_pairs()
     ensures { (a : Matrix) (version : ℕ) (order pairs : Bool) (s t : List ℕ)
         → IsAnalysis a version order pairs true s → IsAnalysis a version order pairs true t
         → s ≡ t }
 {}
 
-/// The reports with pairs are the one without them, with the lines of any maximum matching before its end, or those of the
-/// least one where that is asked for.
+/// The reports with pairs are the one without them, with the lines of any maximum matching before
+/// its end, or those of the least one where that is asked for.
 pub fn pairs_before_the_end()
     ensures any { (a : Matrix) (version : ℕ) (order : Bool) (t : List ℕ)
         → IsAnalysis a version order true false t ↔ IsWithPairs a version order false t }

@@ -13,7 +13,8 @@ use sp_ids::{Col, OutOfMemory, Row};
 use std::alloc::Global;
 use std::marker::Model;
 
-// Stands in both arrays for no mate: no row or column has this number, since there are less than 2^32 of them.
+// Stands in both arrays for no mate: no row or column has this number, since there are less than
+// 2^32 of them.
 const NONE: u32 = u32::MAX;
 
 /// A matching of the rows and columns of a matrix. It keeps 4 bytes a row and 4 a column.
@@ -42,7 +43,8 @@ impl Model for Matching {
 impl Matching {
     /// The matching without pairs, of so many rows and columns.
     ///
-    /// Answers `OutOfMemory` where the two arrays can't be had. Work: one write for each row and column.
+    /// Answers `OutOfMemory` where the two arrays can't be had. Work: one write for each row and
+    /// column.
     pub fn empty(alloc: Global, rows: u32, cols: u32) -> Result<Self, OutOfMemory>
         ensures { IfOk result (λ m. m ≡ record { rows = rows; cols = cols; pairs = [] }) }
     {
@@ -182,8 +184,9 @@ impl Matching {
         self.col_of_row[at_row] = col.0;
     }
 
-    /// Exchanges an augmenting path, given in order from its unmatched column to its unmatched row: each listed pair is
-    /// matched afterwards, the other rows keep their mates, and no vertex loses its mate without a new one.
+    /// Exchanges an augmenting path, given in order from its unmatched column to its unmatched row:
+    /// each listed pair is matched afterwards, the other rows keep their mates, and no vertex loses
+    /// its mate without a new one.
     ///
     /// Takes no memory. Work: three writes at most for each pair of the path.
     pub fn flip(&mut self, path: &[(Row, Col)])

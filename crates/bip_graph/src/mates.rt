@@ -1,4 +1,5 @@
-//! Mates that are set one by one: a row's mate and a column's mate need not lead back to one another.
+//! Mates that are set one by one: a row's mate and a column's mate need not lead back to one
+//! another.
 
 ghost use Rattle.std.specs.Prelude.{◌≡◌, ◌<◌, ◌+◌, ◌^◌, length, None, set, replicate, map, IfOk, IfSome};
 ghost use Rattle.bip_defs.specs.Lists.{option_at};
@@ -11,7 +12,8 @@ use std::marker::Model;
 // Stands in both arrays for no mate.
 const NONE: u32 = u32::MAX;
 
-/// For each row its column and for each column its row, if it has one. It keeps 4 bytes a row and 4 a column.
+/// For each row its column and for each column its row, if it has one. It keeps 4 bytes a row and 4
+/// a column.
 ///
 /// [`Matching::of`](crate::Matching::of) makes a matching of mates that lead back to one another.
 #[derive(Drop)]
@@ -37,7 +39,8 @@ impl Model for Mates {
 impl Mates {
     /// No mates, of so many rows and columns.
     ///
-    /// Answers `OutOfMemory` where the two arrays can't be had. Work: one write for each row and column.
+    /// Answers `OutOfMemory` where the two arrays can't be had. Work: one write for each row and
+    /// column.
     pub fn empty(alloc: Global, rows: u32, cols: u32) -> Result<Self, OutOfMemory>
         ensures { IfOk result
             (λ m. m ≡ record { rows = replicate rows None; cols = replicate cols None }) }

@@ -10,11 +10,11 @@ ghost use Rattle.bip_graph.specs.Matching.{IsMatchingOf, Pairing, transposed};
 use crate::matching::Matching;
 use sp_ids::{Col, Id, Row};
 
-/// The kind of the vertices opposite those where a search begins: `Row` where it begins at the columns, `Col` where it
-/// begins at the rows.
+/// The kind of the vertices opposite those where a search begins: `Row` where it begins at the
+/// columns, `Col` where it begins at the rows.
 ///
-/// In all functions rows, columns and pairs are those of the matrix that the search sees: of the matrix itself from the
-/// columns, of its transpose from the rows.
+/// In all functions rows, columns and pairs are those of the matrix that the search sees: of the
+/// matrix itself from the columns, of its transpose from the rows.
 pub trait Opposite: Id {
     /// A matching of the matrix, as one of the matrix that is seen.
     ghost seen: { Pairing → Pairing };
@@ -35,8 +35,8 @@ pub trait Opposite: Id {
     fn size(matching: &Matching) -> u32
         ensures { result ≡ length (seen matching.now).pairs };
 
-    /// Exchanges an augmenting path, given in order from its unmatched column to its unmatched row. What stands in `path`
-    /// afterwards is of no use.
+    /// Exchanges an augmenting path, given in order from its unmatched column to its unmatched row.
+    /// What stands in `path` afterwards is of no use.
     ///
     /// Takes no memory. Work: two reads and five writes at most for each pair of the path.
     fn exchange(matching: &mut Matching, path: &mut [(Row, Col)])

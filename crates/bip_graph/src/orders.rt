@@ -10,11 +10,13 @@ ghost use Rattle.bip_graph.specs.Answers.{orders_of};
 ghost use Rattle.bip_graph.specs.Orders.{IsZeroBelow};
 ghost use Rattle.bip_graph.specs.Texts.{square_size};
 
-/// In the orders of a report the matrix is block upper triangular: they go through the rows and the columns of the
-/// diagonal blocks, which are the horizontal part, the fine blocks in their order and the vertical part; they have each row
-/// and each column of the matrix once; and no row of a diagonal block or behind it has an entry in a column before it.
+/// In the orders of a report the matrix is block upper triangular: they go through the rows and the
+/// columns of the diagonal blocks, which are the horizontal part, the fine blocks in their order
+/// and the vertical part; they have each row and each column of the matrix once; and no row of a
+/// diagonal block or behind it has an entry in a column before it.
 ///
-/// The block triangular form of Pothen and Fan (1990), over the parts of Dulmage and Mendelsohn (1958).
+/// The block triangular form of Pothen and Fan (1990), over the parts of Dulmage and Mendelsohn
+/// (1958).
 pub fn orders_are_block_upper_triangular()
     ensures rows_go { (d : Decomposition) → (orders_of d).0 ≡ all_rows (diagonal_blocks d) }
     ensures cols_go { (d : Decomposition) → (orders_of d).1 ≡ all_cols (diagonal_blocks d) }
@@ -26,8 +28,8 @@ pub fn orders_are_block_upper_triangular()
         → IsZeroBelow a (diagonal_blocks d) (orders_of d) }
 {}
 
-/// The number of rows that the line of the square part tells, which is the sum over its blocks, is that of the square
-/// rows, and that of the square columns.
+/// The number of rows that the line of the square part tells, which is the sum over its blocks, is
+/// that of the square rows, and that of the square columns.
 pub fn square_size_counts_the_square_part()
     ensures rows { (a : Matrix) (d : Decomposition) → IsDecompositionOf a d
         → square_size d.blocks ≡ length d.parts.square_rows }

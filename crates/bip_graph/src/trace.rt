@@ -34,7 +34,8 @@ pub trait Parents {
     fn col(&self, at: Self::Reached) -> Col
         ensures { result ≡ column at };
 
-    /// The row of the column's pair, and that row's parent; none where the column has no pair, the root of its tree.
+    /// The row of the column's pair, and that row's parent; none where the column has no pair, the
+    /// root of its tree.
     fn parent(&self, at: Self::Reached) -> Option<(Row, Self::Reached)>
         requires kept { kept self.now at }
         requires depth { (n : ℕ) × HasDepth (pairs self.now) (reached self.now) (column at) n }
@@ -44,10 +45,11 @@ pub trait Parents {
         ensures root { IfNone result (¬ Among (column at) (cols_of (pairs self.now))) };
 }
 
-/// Writes the path that leads to an unmatched row, in order from the root of the tree in which the row's column was
-/// reached: an augmenting path.
+/// Writes the path that leads to an unmatched row, in order from the root of the tree in which the
+/// row's column was reached: an augmenting path.
 ///
-/// Allocates nothing: the list has room for each augmenting path of the matching. Work: one step a pair of the path.
+/// Allocates nothing: the list has room for each augmenting path of the matching. Work: one step a
+/// pair of the path.
 pub fn trace_back<T: Parents>(trees: &T, leaf: Row, from: T::Reached, path: &mut Vec<(Row, Col)>)
     requires trees { AreTrees (T.pairs trees.now) (T.reached trees.now) }
     requires kept { T.kept trees.now from }
@@ -111,10 +113,11 @@ impl Parents for Queue<'_> {
 }
 
 impl Queue<'_> {
-    /// Writes the augmenting path that leads over the column at a place to an unmatched row, in order from the root of
-    /// the tree.
+    /// Writes the augmenting path that leads over the column at a place to an unmatched row, in
+    /// order from the root of the tree.
     ///
-    /// Allocates nothing: the list has room for each augmenting path of the matching. Work: one step a pair of the path.
+    /// Allocates nothing: the list has room for each augmenting path of the matching. Work: one
+    /// step a pair of the path.
     pub fn path_to(&self, leaf: Row, place: u32, path: &mut Vec<(Row, Col)>)
         requires queue { IsQueue self.now.matching.now self.now.columns.now }
         requires place { place < length self.now.columns.now }

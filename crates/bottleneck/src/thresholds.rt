@@ -11,8 +11,8 @@ use sp_ids::{Col, OutOfMemory};
 use sp_pattern::{Pattern, Weights};
 use std::alloc::Global;
 
-/// A perfect matching of greater least weight, where there is one: the weights from the least one of
-/// this matching up to the bound, which no least weight passes, are tried by halves, and each
+/// A perfect matching of greater least weight, where there is one: the weights from the least one
+/// of this matching up to the bound, which no least weight passes, are tried by halves, and each
 /// matching begins with the pairs of the last perfect one that are left.
 pub fn raised(
     alloc: Global,

@@ -23,7 +23,8 @@ fn main(rt: HostRuntime) -> ExitCode {
     exit_code_of(&rt, words(&rt), &mut input, &mut out, &mut err)
 }
 
-/// Does what the words say, or tells why there are none, and gives the number with which the process ends.
+/// Does what the words say, or tells why there are none, and gives the number with which the
+/// process ends.
 fn exit_code_of<R: Threads + AllocGlobal + Sync, S: Source, O: Sink, E: Sink>(
     rt: &R,
     words: io::Result<Vec<String>>,

@@ -1,7 +1,7 @@
 //! The real devices: standard input, standard output and standard error.
 //!
-//! Each counts its failures. What bytes the system really gave or took is told by none of them. Where a reader's or a
-//! writer's bytes are known, each call does with them what it answers.
+//! Each counts its failures. What bytes the system really gave or took is told by none of them.
+//! Where a reader's or a writer's bytes are known, each call does with them what it answers.
 
 ghost use Rattle.std.specs.Prelude.{◌≡◌, ◌<◌, ◌+◌, ◌-◌, ◌^◌, ◌≤◌, min, length, IfOk, None};
 ghost use Rattle.std.specs.Io.KnownBytes.{Keeps, ReadConsumes, WriteAppends};

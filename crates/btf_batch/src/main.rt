@@ -23,7 +23,8 @@ fn main(rt: HostRuntime) -> ExitCode {
     exit_code_of(&rt, words(&rt), &mut input, &mut out, &mut err)
 }
 
-/// Answers the batch as the words say, or tells why there are none, and gives the number with which the process ends.
+/// Answers the batch as the words say, or tells why there are none, and gives the number with which
+/// the process ends.
 fn exit_code_of<R: Threads + AllocGlobal + Sync, S: Source, O: Sink, E: Sink>(
     rt: &R,
     words: io::Result<Vec<String>>,
@@ -72,7 +73,8 @@ fn behind_name(words: Vec<String>) -> Vec<String>
     words
 }
 
-/// Why there are no words: memory ran out, or one of them is not UTF-8, which the program does not take.
+/// Why there are no words: memory ran out, or one of them is not UTF-8, which the program does not
+/// take.
 fn want_of_words(error: &io::Error) -> Refusal
     ensures { result ≡ want_of_words (error_kind error.now) }
 {

@@ -8,8 +8,8 @@ ghost use Rattle.sp_pattern.specs.Stored.{IsPattern};
 
 use btf_text::{one_spelling, reports_can_be_read};
 
-/// No reason applies to bytes exactly where they are the report with pairs of the matrix, in either version, with orders
-/// or without.
+/// No reason applies to bytes exactly where they are the report with pairs of the matrix, in either
+/// version, with orders or without.
 pub fn no_reason_applies()
     ensures { (a : Matrix) (bytes : List ℕ) → IsPattern a → ((k : ℕ) → IsMetBy a bytes k)
         ↔ IsValid a bytes }

@@ -58,7 +58,8 @@ pub(crate) fn judge_report<R: Threads + Sync>(
     Ok(Verdict::Valid)
 }
 
-/// Whether the components, if the report has any, are those of a matrix whose parts are known, in their order.
+/// Whether the components, if the report has any, are those of a matrix whose parts are known, in
+/// their order.
 fn tells_components(
     alloc: Global,
     pattern: &Pattern,
@@ -77,8 +78,8 @@ fn tells_components(
     Ok(same_components(told, &own))
 }
 
-/// Whether the sizes, the rank and the coarse parts are those of a matrix, where a maximum matching and its parts are
-/// known.
+/// Whether the sizes, the rank and the coarse parts are those of a matrix, where a maximum matching
+/// and its parts are known.
 fn tells_parts(
     alloc: Global,
     pattern: &Pattern,

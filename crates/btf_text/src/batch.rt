@@ -13,11 +13,11 @@ use crate::report::put_without_options;
 use bip_graph::{Components, Decomposition};
 use sp_ports::{Failed, Sink};
 
-/// Writes the line of a good file, by its number, and the report of its decomposition: of version 2, without orders and
-/// pairs. Files count from 1.
+/// Writes the line of a good file, by its number, and the report of its decomposition: of version
+/// 2, without orders and pairs. Files count from 1.
 ///
-/// `Failed` comes only where a write failed, and then a prefix of the text was taken. It takes no memory. Work: one look
-/// at each number that is written.
+/// `Failed` comes only where a write failed, and then a prefix of the text was taken. It takes no
+/// memory. Work: one look at each number that is written.
 pub fn write_file_report<K: Sink>(
     out: &mut K,
     buf: &mut TextBuf,
@@ -25,7 +25,8 @@ pub fn write_file_report<K: Sink>(
     dec: &Decomposition,
     components: &Components,
 ) -> Result<(), Failed>
-    // Written is what the answer tells; where it is the decomposition of a matrix, that is the matrix's report.
+    // Written is what the answer tells; where it is the decomposition of a matrix, that is the
+    // matrix's report.
     ensures written { Writes (seen K.taken K.faults out.old out.new)
         (file_report number (reported dec.now (Some (components_of components.now)) false None))
         result }
@@ -40,10 +41,11 @@ pub fn write_file_report<K: Sink>(
     buf.finish(out)
 }
 
-/// Writes the line of a file that is not good, by its number and its status, and the line that tells why: at most 65,536
-/// bytes, its line end among them. Files count from 1.
+/// Writes the line of a file that is not good, by its number and its status, and the line that
+/// tells why: at most 65,536 bytes, its line end among them. Files count from 1.
 ///
-/// `Failed` comes only where a write failed, and then a prefix of the text was taken. It takes no memory.
+/// `Failed` comes only where a write failed, and then a prefix of the text was taken. It takes no
+/// memory.
 pub fn write_file_fault<K: Sink>(
     out: &mut K,
     buf: &mut TextBuf,
@@ -63,7 +65,8 @@ pub fn write_file_fault<K: Sink>(
 
 /// Writes the last line: how many files there were.
 ///
-/// `Failed` comes only where a write failed, and then a prefix of the text was taken. It takes no memory.
+/// `Failed` comes only where a write failed, and then a prefix of the text was taken. It takes no
+/// memory.
 pub fn write_files_end<K: Sink>(out: &mut K, buf: &mut TextBuf, files: u64) -> Result<(), Failed>
     ensures { Writes (seen K.taken K.faults out.old out.new) (files_end files) result }
 {

@@ -42,7 +42,8 @@ fn touches_above(
     false
 }
 
-/// Goes on with a row, counted from 1, if it has an entry of greater weight in one of these columns.
+/// Goes on with a row, counted from 1, if it has an entry of greater weight in one of these
+/// columns.
 fn put_where_above<K: Sink>(
     out: &mut K,
     buf: &mut TextBuf,
@@ -89,7 +90,8 @@ fn put_rows_above<K: Sink>(
     buf.put(out, b"\n");
 }
 
-/// Goes on with a perfect matching, the least of its weights, and the columns that show that none is greater.
+/// Goes on with a perfect matching, the least of its weights, and the columns that show that none
+/// is greater.
 fn put_best<K: Sink>(
     out: &mut K,
     buf: &mut TextBuf,
@@ -138,15 +140,17 @@ fn put_answer<K: Sink>(
 
 /// Writes a perfect matching of a matrix whose least weight is greatest, or why it has none.
 ///
-/// - A matching: its number of pairs and the least of their weights; a line each of the row, the column and the weight of a
-///   pair, in the order given; the rows with an entry of greater weight in one of the columns that are given, and these
-///   columns; `end`.
-/// - No perfect matching: the rank; the rows with an entry in one of the columns that are given, and these columns; `end`.
+/// - A matching: its number of pairs and the least of their weights; a line each of the row, the
+///   column and the weight of a pair, in the order given; the rows with an entry of greater weight
+///   in one of the columns that are given, and these columns; `end`.
+/// - No perfect matching: the rank; the rows with an entry in one of the columns that are given,
+///   and these columns; `end`.
 /// - Not as many rows as columns: one line of both.
 ///
-/// `answer` is of this pattern: its pairs are entries. `Failed` comes only where a write failed, and then a prefix of the
-/// text was taken. It takes no memory. Work: a search in its column for each pair, and for each entry a search among the
-/// given columns, by halves if they rise, and one in its column.
+/// `answer` is of this pattern: its pairs are entries. `Failed` comes only where a write failed,
+/// and then a prefix of the text was taken. It takes no memory. Work: a search in its column for
+/// each pair, and for each entry a search among the given columns, by halves if they rise, and one
+/// in its column.
 pub fn write_bottleneck<K: Sink>(
     out: &mut K,
     buf: &mut TextBuf,

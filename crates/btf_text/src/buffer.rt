@@ -61,7 +61,8 @@ fn outcome(failed: bool) -> Result<(), Failed>
 }
 
 impl TextBuf {
-    /// A buffer in which no text stands. It takes 65,536 bytes, and no call of it takes memory later.
+    /// A buffer in which no text stands. It takes 65,536 bytes, and no call of it takes memory
+    /// later.
     pub fn new(alloc: Global) -> Result<TextBuf, OutOfMemory>
         ensures { IfOk result (λ b. b ≡ record { bytes = []; failed = false }) }
     {
@@ -167,7 +168,8 @@ impl TextBuf {
         }
     }
 
-    /// Ends the text: hands on what is kept, and tells whether a write has failed since the text began.
+    /// Ends the text: hands on what is kept, and tells whether a write has failed since the text
+    /// began.
     pub fn finish<K: Sink>(&mut self, out: &mut K) -> Result<(), Failed>
         ensures { Ends (seen K.taken K.faults out.old out.new) self.old result }
     {

@@ -69,7 +69,8 @@ pub(crate) fn put_entries<K: Sink>(
     }
 }
 
-/// Goes on with a diagonal: its pairs, the prices by row and by column, and the sum of the pairs' weights.
+/// Goes on with a diagonal: its pairs, the prices by row and by column, and the sum of the pairs'
+/// weights.
 fn put_weighed<K: Sink>(
     out: &mut K,
     buf: &mut TextBuf,
@@ -204,15 +205,16 @@ fn put_answer<K: Sink>(
 
 /// Writes the heaviest diagonal of a matrix, or why it has none.
 ///
-/// - A diagonal: its number of pairs and its sum; a line each of the row, the column and the weight of a pair, in the
-///   order given; the prices by row and by column; `end`.
-/// - No perfect matching: the rank; the rows with an entry in one of the columns that are given, and these columns;
-///   `end`.
+/// - A diagonal: its number of pairs and its sum; a line each of the row, the column and the weight
+///   of a pair, in the order given; the prices by row and by column; `end`.
+/// - No perfect matching: the rank; the rows with an entry in one of the columns that are given,
+///   and these columns; `end`.
 /// - Not as many rows as columns: one line of both.
 ///
-/// `answer` is of this pattern: the pairs of a diagonal are entries. `Failed` comes only where a write failed, and then
-/// a prefix of the text was taken. It takes no memory. Work: a search in its column for each pair; and where there is no
-/// perfect matching a search among the given columns for each entry, by halves if they rise, else one by one.
+/// `answer` is of this pattern: the pairs of a diagonal are entries. `Failed` comes only where a
+/// write failed, and then a prefix of the text was taken. It takes no memory. Work: a search in its
+/// column for each pair; and where there is no perfect matching a search among the given columns
+/// for each entry, by halves if they rise, else one by one.
 pub fn write_diagonal<K: Sink>(
     out: &mut K,
     buf: &mut TextBuf,

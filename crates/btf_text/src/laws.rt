@@ -10,14 +10,15 @@ ghost use Rattle.bip_graph.specs.Answers.{AreOfVersion, report_of};
 ghost use Rattle.bip_graph.specs.Texts.{Report, report_text};
 ghost use Rattle.btf_text.specs.Readable.{FitsText, IsReadable};
 
-/// No two reports that can be read have the same bytes. So a report that was read is the only one that its bytes spell.
+/// No two reports that can be read have the same bytes. So a report that was read is the only one
+/// that its bytes spell.
 pub fn one_spelling()
     ensures { (r s : Report) → IsReadable r → IsReadable s → report_text r ≡ report_text s → r ≡ s }
 {}
 
-/// The report of a matrix can be read, in either version, with orders or without, where its pairs are a matching of the matrix's entries
-/// that rises by column, maximum or not: what `write_report` writes with pairs is read again, and by `one_spelling` as the
-/// same report.
+/// The report of a matrix can be read, in either version, with orders or without, where its pairs
+/// are a matching of the matrix's entries that rises by column, maximum or not: what `write_report`
+/// writes with pairs is read again, and by `one_spelling` as the same report.
 pub fn reports_can_be_read()
     ensures { (a : Matrix) (d : Decomposition) (version : ℕ) (components : Option Components)
         (order : Bool) (m : List Place) → FitsText a → IsDecompositionOf a d

@@ -42,9 +42,11 @@ pub(crate) fn put_square<K: Sink>(out: &mut K, buf: &mut TextBuf, blocks: &Block
     buf.put_line(out, b"square", &[rows.len() as u64, blocks.len() as u64]);
 }
 
-/// Writes the summary of a decomposition, five lines: the sizes of the matrix, its rank, and the sizes of its parts.
+/// Writes the summary of a decomposition, five lines: the sizes of the matrix, its rank, and the
+/// sizes of its parts.
 ///
-/// `Failed` comes only where a write failed, and then a prefix of the text was taken. It takes no memory.
+/// `Failed` comes only where a write failed, and then a prefix of the text was taken. It takes no
+/// memory.
 pub fn write_load<K: Sink>(
     out: &mut K,
     buf: &mut TextBuf,

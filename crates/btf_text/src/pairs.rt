@@ -59,10 +59,11 @@ pub(crate) fn put_pairs<K: Sink>(out: &mut K, buf: &mut TextBuf, matching: &Matc
     put_list_of_pairs(out, buf, matching);
 }
 
-/// Writes the pairs of a matching: their number, and a line each of its row and its column, rising by column.
+/// Writes the pairs of a matching: their number, and a line each of its row and its column, rising
+/// by column.
 ///
-/// `Failed` comes only where a write failed, and then a prefix of the text was taken. It takes no memory. Work: one look
-/// at each column.
+/// `Failed` comes only where a write failed, and then a prefix of the text was taken. It takes no
+/// memory. Work: one look at each column.
 pub fn write_pairs<K: Sink>(
     out: &mut K,
     buf: &mut TextBuf,

@@ -30,9 +30,11 @@ pub(crate) fn put_part<K: Sink>(
     buf.put_list(out, b"columns", cols);
 }
 
-/// Writes the text of `rank`: the sizes of the matrix, its rank, and the rows and columns of its horizontal part.
+/// Writes the text of `rank`: the sizes of the matrix, its rank, and the rows and columns of its
+/// horizontal part.
 ///
-/// `Failed` comes only where a write failed, and then a prefix of the text was taken. It takes no memory.
+/// `Failed` comes only where a write failed, and then a prefix of the text was taken. It takes no
+/// memory.
 pub fn write_rank<K: Sink>(
     out: &mut K,
     buf: &mut TextBuf,

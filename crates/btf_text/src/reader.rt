@@ -18,11 +18,13 @@ use std::alloc::Global;
 
 /// What a report with pairs says.
 ///
-/// Nothing ties its numbers and lists to a matrix, or to one another: rows and columns are below 2^32 - 1, the lists of
-/// parts and blocks rise, the pairs rise by column, and both lists of a block are of one length, which is at least 1.
+/// Nothing ties its numbers and lists to a matrix, or to one another: rows and columns are below
+/// 2^32 - 1, the lists of parts and blocks rise, the pairs rise by column, and both lists of a
+/// block are of one length, which is at least 1.
 ///
-/// A report gives the square part by its blocks alone, so `parts.sr` and `parts.sc` are empty, whatever the blocks hold. The
-/// version is 1 or 2, and the components stand there in version 2 alone; each has a row or a column.
+/// A report gives the square part by its blocks alone, so `parts.sr` and `parts.sc` are empty,
+/// whatever the blocks hold. The version is 1 or 2, and the components stand there in version 2
+/// alone; each has a row or a column.
 #[derive(Drop)]
 pub struct Report {
     pub version: u32,
@@ -188,13 +190,13 @@ fn report_at(alloc: Global, bytes: &[u8]) -> Result<Report, Stop>
     })
 }
 
-/// Reads a report with pairs, of version 1 or 2, with or without orders: all of the bytes, from `btf` to the end of the line
-/// `end`.
+/// Reads a report with pairs, of version 1 or 2, with or without orders: all of the bytes, from
+/// `btf` to the end of the line `end`.
 ///
-/// Answers `None` exactly where the bytes are not such a report, and `OutOfMemory` where its lists can't be had. No list
-/// is reserved by a number of the text: each grows as its numbers are read, to 4 bytes each, 8 a block or component and 8 a
-/// pair. The blocks, and the components of a part, can be had up to 2^32 - 1 rows and as many columns in all. Work: one look
-/// at each byte.
+/// Answers `None` exactly where the bytes are not such a report, and `OutOfMemory` where its lists
+/// can't be had. No list is reserved by a number of the text: each grows as its numbers are read,
+/// to 4 bytes each, 8 a block or component and 8 a pair. The blocks, and the components of a part,
+/// can be had up to 2^32 - 1 rows and as many columns in all. Work: one look at each byte.
 pub fn read_report(alloc: Global, bytes: &[u8]) -> Result<Option<Report>, OutOfMemory>
     // What is read is spelled so, each byte of it.
     ensures found { IfOk result

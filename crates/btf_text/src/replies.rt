@@ -15,8 +15,8 @@ use sp_ports::{Failed, Sink};
 pub enum Reply {
     /// The rank of the matrix.
     Rank(u32),
-    /// Its decomposition, and the connected components of its outer parts, behind a pointer: most replies are ranks, and a list
-    /// of them takes 16 bytes each.
+    /// Its decomposition, and the connected components of its outer parts, behind a pointer: most
+    /// replies are ranks, and a list of them takes 16 bytes each.
     Report(Box<(Decomposition, Components)>),
 }
 
@@ -34,9 +34,11 @@ fn put_reply<K: Sink>(out: &mut K, buf: &mut TextBuf, reply: &Reply)
     }
 }
 
-/// Writes replies, one after the other: a rank is one line, a report is of version 2 without orders and pairs.
+/// Writes replies, one after the other: a rank is one line, a report is of version 2 without orders
+/// and pairs.
 ///
-/// `Failed` comes only where a write failed, and then a prefix of the text was taken. It takes no memory.
+/// `Failed` comes only where a write failed, and then a prefix of the text was taken. It takes no
+/// memory.
 pub fn write_replies<K: Sink>(
     out: &mut K,
     buf: &mut TextBuf,

@@ -127,7 +127,8 @@ fn put_order<K: Sink, N: Id>(
     buf.put(out, b"\n");
 }
 
-/// Goes on with the rows and the columns in the order of the block triangular form, where they are asked for.
+/// Goes on with the rows and the columns in the order of the block triangular form, where they are
+/// asked for.
 pub(crate) fn put_orders<K: Sink>(out: &mut K, buf: &mut TextBuf, dec: &Decomposition, order: bool)
     ensures { AppendsLines (seen K.taken K.faults out.old out.new) buf.old buf.new
         (order_lines (where_asked order (orders_of (decomposition_of dec.now)))) }
@@ -201,12 +202,13 @@ pub(crate) fn put_without_options<K: Sink>(
     buf.put_line(out, b"end", &[]);
 }
 
-/// Writes the report of a decomposition: the sizes of the matrix, its rank, and the lists of its parts and blocks; in version
-/// 2, which has `components`, the connected components of the horizontal and of the vertical part behind their lists; with
-/// `order` its rows and columns in the order of the block triangular form, and with `pairs` the pairs of the matching.
+/// Writes the report of a decomposition: the sizes of the matrix, its rank, and the lists of its
+/// parts and blocks; in version 2, which has `components`, the connected components of the
+/// horizontal and of the vertical part behind their lists; with `order` its rows and columns in the
+/// order of the block triangular form, and with `pairs` the pairs of the matching.
 ///
-/// `Failed` comes only where a write failed, and then a prefix of the text was taken. It takes no memory. Work: one look
-/// at each number that is written, and with `pairs` one at each column.
+/// `Failed` comes only where a write failed, and then a prefix of the text was taken. It takes no
+/// memory. Work: one look at each number that is written, and with `pairs` one at each column.
 pub fn write_report<K: Sink>(
     out: &mut K,
     buf: &mut TextBuf,
@@ -216,7 +218,8 @@ pub fn write_report<K: Sink>(
     order: bool,
     pairs: bool,
 ) -> Result<(), Failed>
-    // Written is what the answer tells; where it is the decomposition of a matrix, that is the matrix's report.
+    // Written is what the answer tells; where it is the decomposition of a matrix, that is the
+    // matrix's report.
     ensures written { Writes (seen K.taken K.faults out.old out.new)
         (report_text (reported dec.now (components_in (option_copied components.entry)) order
         (where_asked pairs matching.now.pairs))) result }

@@ -35,7 +35,8 @@ pub(crate) struct Options {
     pub(crate) drop_zeros: bool,
 }
 
-/// Reads a matrix and writes the report of its decomposition. With `least` it has the pairs of the least maximum matching.
+/// Reads a matrix and writes the report of its decomposition. With `least` it has the pairs of the
+/// least maximum matching.
 pub(crate) fn analyse<R: Threads + Sync, S: Source, O: Sink, G: Gate>(
     rt: &R,
     alloc: Global,

@@ -20,7 +20,8 @@ use sp_ports::{Sink, Source};
 use std::alloc::Global;
 use std::thread::Threads;
 
-/// Reads the matrix of an integer file, and writes a perfect matching of it whose least weight is greatest, or why it has none.
+/// Reads the matrix of an integer file, and writes a perfect matching of it whose least weight is
+/// greatest, or why it has none.
 pub(crate) fn bottleneck<R: Threads + Sync, S: Source, O: Sink>(
     rt: &R,
     alloc: Global,

@@ -23,12 +23,12 @@ use sp_ports::{Gate, Sink, Source};
 use std::alloc::Global;
 use std::thread::Threads;
 
-/// Does what the words say: reads `input` or makes a matrix, writes the answer to `out`, and where there is none tells on
-/// `err` why.
+/// Does what the words say: reads `input` or makes a matrix, writes the answer to `out`, and where
+/// there is none tells on `err` why.
 ///
-/// `words` are those after the program's name. The answer is the status with which the program ends. Nothing is written
-/// to `out` before all input is read and all memory is taken. What is said here holds whatever `gate` does, and in
-/// whatever order threads run.
+/// `words` are those after the program's name. The answer is the status with which the program
+/// ends. Nothing is written to `out` before all input is read and all memory is taken. What is said
+/// here holds whatever `gate` does, and in whatever order threads run.
 pub fn run<R: Threads + Sync, S: Source, O: Sink, E: Sink, G: Gate>(
     rt: &R,
     alloc: Global,
@@ -59,7 +59,8 @@ pub fn run<R: Threads + Sync, S: Source, O: Sink, E: Sink, G: Gate>(
     ensures out_once { FailsOnceAtMost (seen O.taken O.faults out.old out.new) }
     ensures err_once { FailsOnceAtMost (seen E.taken E.faults err.old err.new) }
 
-    // What the input has left is the end of what it had, and at most one byte past its limit was taken.
+    // What the input has left is the end of what it had, and at most one byte past its limit was
+    // taken.
     ensures gave { OfReading (seen S.left S.faults input.old input.new) GavePrefix }
 
     // A matrix that is made is made without the input.
@@ -79,7 +80,8 @@ pub fn run<R: Threads + Sync, S: Source, O: Sink, E: Sink, G: Gate>(
     }
 }
 
-/// Does a job: reads the input or makes a matrix, and writes the answer, or tells why there is none.
+/// Does a job: reads the input or makes a matrix, and writes the answer, or tells why there is
+/// none.
 fn perform<R: Threads + Sync, S: Source, O: Sink, G: Gate>(
     rt: &R,
     alloc: Global,

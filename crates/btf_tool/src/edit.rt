@@ -17,7 +17,8 @@ use sp_ports::{Gate, Sink, Source};
 use std::alloc::Global;
 use std::thread::Threads;
 
-/// Reads a matrix and the edits that follow it, and writes the rank of the matrix and the replies to the edits.
+/// Reads a matrix and the edits that follow it, and writes the rank of the matrix and the replies
+/// to the edits.
 pub(crate) fn edit<R: Threads + Sync, S: Source, O: Sink, G: Gate>(
     rt: &R,
     alloc: Global,

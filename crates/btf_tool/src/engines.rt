@@ -19,8 +19,9 @@ use std::thread::Threads;
 
 /// A maximum matching of a matrix's entries, by the engine that is asked for.
 ///
-/// All engines but `Plain` begin with the start of Karp and Sipser. There may be 1 to 64 workers, for `Graft` alone: the
-/// other engines search in the calling thread. Answers `OutOfMemory` where the engine's tables can't be had.
+/// All engines but `Plain` begin with the start of Karp and Sipser. There may be 1 to 64 workers,
+/// for `Graft` alone: the other engines search in the calling thread. Answers `OutOfMemory` where
+/// the engine's tables can't be had.
 pub fn solve<R: Threads + Sync, G: Gate>(
     rt: &R,
     alloc: Global,
@@ -53,8 +54,8 @@ pub fn solve<R: Threads + Sync, G: Gate>(
     }
 }
 
-/// A maximum matching, by the engine that is asked for with so many workers; with `least` the least one, which is the same for
-/// every engine.
+/// A maximum matching, by the engine that is asked for with so many workers; with `least` the least
+/// one, which is the same for every engine.
 pub(crate) fn matching_for<R: Threads + Sync, G: Gate>(
     rt: &R,
     alloc: Global,

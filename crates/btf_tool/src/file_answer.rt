@@ -22,16 +22,19 @@ use std::thread::Threads;
 /// What is found of the bytes of a file.
 #[derive(Drop)]
 pub enum FileAnswer {
-    /// They are a good matrix file: the decomposition of its matrix, and the connected components of the outer parts.
+    /// They are a good matrix file: the decomposition of its matrix, and the connected components
+    /// of the outer parts.
     Report(Decomposition, Components),
-    /// The first bad line, counted from 1, and the first kind of fault that applies to it, which passes a limit or does not.
+    /// The first bad line, counted from 1, and the first kind of fault that applies to it, which
+    /// passes a limit or does not.
     Bad { limit: bool, line: u64, kind: Kind },
 }
 
-/// What is found of a matrix file that these bytes are to be: at most 1,073,741,824 of them. The engine is Pothen and Fan's.
+/// What is found of a matrix file that these bytes are to be: at most 1,073,741,824 of them. The
+/// engine is Pothen and Fan's.
 ///
-/// Answers `OutOfMemory` where there is none for a buffer of 65,536 bytes, the file's entries, the pattern, a maximum matching or
-/// what is found by it. All but what is found is let go again.
+/// Answers `OutOfMemory` where there is none for a buffer of 65,536 bytes, the file's entries, the
+/// pattern, a maximum matching or what is found by it. All but what is found is let go again.
 pub fn answer_bytes<R: Threads + Sync>(
     rt: &R,
     alloc: Global,

@@ -23,7 +23,8 @@ use sp_ports::{Gate, Sink};
 use std::alloc::Global;
 use std::thread::Threads;
 
-/// Makes the matrix that a size and a seed name, and writes the summary of its decomposition. It has no input to read.
+/// Makes the matrix that a size and a seed name, and writes the summary of its decomposition. It
+/// has no input to read.
 pub(crate) fn load<R: Threads + Sync, O: Sink, G: Gate>(
     rt: &R,
     alloc: Global,

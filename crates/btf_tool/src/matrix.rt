@@ -11,11 +11,11 @@ use sp_pattern::Pattern;
 use std::alloc::Global;
 use std::thread::Threads;
 
-/// The matrix of the entries that a file gives: of all their places or, where zeros are dropped, of those whose values do
-/// not add up to 0.
+/// The matrix of the entries that a file gives: of all their places or, where zeros are dropped, of
+/// those whose values do not add up to 0.
 ///
-/// Answers `NeedsInteger` exactly where zeros are dropped and the file is no integer file, and `OutOfMemory` where the
-/// tables of the pattern can't be had.
+/// Answers `NeedsInteger` exactly where zeros are dropped and the file is no integer file, and
+/// `OutOfMemory` where the tables of the pattern can't be had.
 pub(crate) fn matrix_of<R: Threads + Sync>(
     rt: &R,
     alloc: Global,

@@ -46,7 +46,8 @@ pub(crate) fn read_file<S: Source>(alloc: Global, input: &mut S) -> Result<Tripl
     Ok(read_matrix(alloc, &mut bytes, input, End::File)?)
 }
 
-/// Reads the matrix file with which the input begins, up to its last entry line, and then all that follows.
+/// Reads the matrix file with which the input begins, up to its last entry line, and then all that
+/// follows.
 pub(crate) fn read_followed<S: Source>(alloc: Global, input: &mut S) -> Result<Followed, Refusal>
     ensures read { IfOk result
         (λ f. IsReadAs forms.Followed
@@ -62,7 +63,8 @@ pub(crate) fn read_followed<S: Source>(alloc: Global, input: &mut S) -> Result<F
     Ok(Followed { triples, rest })
 }
 
-/// Reads the matrix file with which the input begins, up to its last entry line, and then the edit lines up to the end.
+/// Reads the matrix file with which the input begins, up to its last entry line, and then the edit
+/// lines up to the end.
 pub(crate) fn read_edited<S: Source>(alloc: Global, input: &mut S) -> Result<Edited, Refusal>
     ensures read { IfOk result (λ f. (rest : List ℕ)
         × IsReadAs forms.Edited (seen S.left S.faults input.old input.new) f.triples rest

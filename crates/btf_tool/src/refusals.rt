@@ -22,8 +22,8 @@ pub enum Refusal {
     Limit { line: u64, kind: Kind },
     /// No line is bad, and the input has more bytes than it may have.
     TooLong,
-    /// The sum of the values that an integer file gives for this place is past the limit in magnitude. Of all such places
-    /// it has the least column, and in it the least row.
+    /// The sum of the values that an integer file gives for this place is past the limit in
+    /// magnitude. Of all such places it has the least column, and in it the least row.
     SumLimit { row: Row, col: Col },
     /// The file is not an integer file.
     NeedsInteger,

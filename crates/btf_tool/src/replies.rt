@@ -23,9 +23,10 @@ use std::thread::Threads;
 
 /// The rank of a matrix, and the replies to edits of it, in order.
 ///
-/// The matching must be a maximum one, and the places of the edits the matrix's. Answers `OutOfMemory` where there is none for
-/// the session, for the list of replies, 16 bytes each, or for a report, and where a place is set in a matrix of 4,294,967,295
-/// entries. Work: that of each edit, which is most often no search, and of each report.
+/// The matching must be a maximum one, and the places of the edits the matrix's. Answers
+/// `OutOfMemory` where there is none for the session, for the list of replies, 16 bytes each, or
+/// for a report, and where a place is set in a matrix of 4,294,967,295 entries. Work: that of each
+/// edit, which is most often no search, and of each report.
 pub(crate) fn replies_to<R: Threads + Sync>(
     rt: &R,
     alloc: Global,
@@ -69,7 +70,8 @@ fn counted<R: Threads + Sync, L: Ledger>(
 
 /// Makes an edit, and replies to it.
 ///
-/// Answers `OutOfMemory` where the session or a report has none, and where a place is set in a matrix of 4,294,967,295 entries.
+/// Answers `OutOfMemory` where the session or a report has none, and where a place is set in a
+/// matrix of 4,294,967,295 entries.
 fn reply_to<R: Threads + Sync, L: Ledger>(
     rt: &R,
     alloc: Global,

@@ -6,8 +6,8 @@ ghost use Rattle.sp_ports.specs.Device.{Writes};
 
 use sp_ports::{Failed, Sink};
 
-/// Hands on a text that was written, and tells whether both were done. After a write that failed nothing is asked of the
-/// device.
+/// Hands on a text that was written, and tells whether both were done. After a write that failed
+/// nothing is asked of the device.
 pub(crate) fn hand_on<O: Sink>(out: &mut O, written: Result<(), Failed>) -> Result<(), Failed>
     ensures { (taken : Option (List ℕ)) (faults : ℕ) (text : List ℕ)
         → Writes (since taken faults (O.taken out.old) (O.faults out.old)) text written

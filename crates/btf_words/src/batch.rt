@@ -13,12 +13,13 @@ use clap::error::ErrorKind;
 use sp_ids::MAX_WORKERS;
 use std::alloc::{AllocError, Global};
 
-/// How many workers the words after the name of `btf_batch` name: 1 to 64, and 4 where they name none.
+/// How many workers the words after the name of `btf_batch` name: 1 to 64, and 4 where they name
+/// none.
 ///
-/// `Usage` is the answer where the words are not taken, and only there: nothing but `--workers W` is. Words that ask for
-/// help or the version are not taken. The number is read as clap's parser of numbers reads it, so `007` and `+7` are 7.
-/// It takes memory for the command line and for what is found in the words, and `OutOfMemory` tells that there was not
-/// enough.
+/// `Usage` is the answer where the words are not taken, and only there: nothing but `--workers W`
+/// is. Words that ask for help or the version are not taken. The number is read as clap's parser of
+/// numbers reads it, so `007` and `+7` are 7. It takes memory for the command line and for what is
+/// found in the words, and `OutOfMemory` tells that there was not enough.
 pub fn read_batch_words(alloc: Global, words: &[String]) -> Result<u32, WordsError>
     ensures taken { IfOk result (λ workers. AreTaken (map string_bytes words.now)) }
     ensures workers { IfOk result (λ workers. workers ≡ workers_of (map string_bytes words.now)) }

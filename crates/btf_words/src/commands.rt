@@ -1,4 +1,5 @@
-//! The commands of the program. Each joins the program by one function, and `command_line` lists those that are there.
+//! The commands of the program. Each joins the program by one function, and `command_line` lists
+//! those that are there.
 
 ghost use Rattle.std.specs.Prelude.{◌≡◌, [], IfOk};
 ghost use Rattle.clap.specs.Words.{app_of, with_subcommand};

@@ -7,10 +7,11 @@ pub enum Engine {
     Plain,
     /// One search from each unmatched column (Duff 1981), from the Karp-Sipser start.
     Mc21,
-    /// Phases of searches from all unmatched columns (Pothen and Fan 1990), from the Karp-Sipser start.
+    /// Phases of searches from all unmatched columns (Pothen and Fan 1990), from the Karp-Sipser
+    /// start.
     Pf,
-    /// Phases in which alternating trees grow from all unmatched columns at once (Azad, Buluç and Pothen 2017), from the
-    /// Karp-Sipser start.
+    /// Phases in which alternating trees grow from all unmatched columns at once (Azad, Buluç and
+    /// Pothen 2017), from the Karp-Sipser start.
     Graft,
 }
 
@@ -36,7 +37,8 @@ pub struct ReportOptions {
     pub least: bool,
 }
 
-/// What the program is asked to do. With `drop_zeros` a place of an integer file whose values add up to 0 is no entry.
+/// What the program is asked to do. With `drop_zeros` a place of an integer file whose values add
+/// up to 0 is no entry.
 #[derive(Clone, Copy, Debug, PartialEq, Eq)]
 pub enum Job {
     /// The structural rank, with the horizontal part that shows it.

@@ -1,8 +1,9 @@
 //! The command lines of `btf` and `btf_batch`: which words are taken, and what they name.
 //!
-//! Each command line is a command of `clap`, with no text of clap's own: words that ask for help or for the version are
-//! refused as any wrong words are. `specs/Table.antt` has the commands and options of `btf`, `specs/Words.antt` the job that
-//! words name; `specs/BatchWords.antt` has what the words of `btf_batch` are.
+//! Each command line is a command of `clap`, with no text of clap's own: words that ask for help or
+//! for the version are refused as any wrong words are. `specs/Table.antt` has the commands and
+//! options of `btf`, `specs/Words.antt` the job that words name; `specs/BatchWords.antt` has what
+//! the words of `btf_batch` are.
 #![tactic(auto)]
 
 mod batch;

@@ -16,9 +16,10 @@ use std::alloc::Global;
 
 /// The job that the words after the program's name name.
 ///
-/// `Usage` is the answer where the words are not taken, and only there. Words that ask for help or the version are
-/// not. Numbers are read as clap's parser of numbers reads them, so `007` and `+7` are 7. It takes memory for the
-/// command line and for what is found in the words, and `OutOfMemory` tells that there was not enough.
+/// `Usage` is the answer where the words are not taken, and only there. Words that ask for help or
+/// the version are not. Numbers are read as clap's parser of numbers reads them, so `007` and `+7`
+/// are 7. It takes memory for the command line and for what is found in the words, and
+/// `OutOfMemory` tells that there was not enough.
 pub fn read_words(alloc: Global, words: &[String]) -> Result<Job, WordsError>
     ensures taken { IfOk result (λ job. AreTaken (map string_bytes words.now)) }
     ensures job { IfOk result (λ job. job_of (map string_bytes words.now) ≡ Some job) }

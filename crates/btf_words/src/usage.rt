@@ -3,8 +3,8 @@
 ghost use Rattle.std.specs.Prelude.{◌≡◌};
 ghost use Rattle.btf_words.specs.UsageLine.{usage_line as line_of_usage};
 
-/// The line that is written where the words are not taken, with its line end. It names every command with its
-/// options.
+/// The line that is written where the words are not taken, with its line end. It names every
+/// command with its options.
 pub fn usage_line() -> &'static str
     ensures { result.now ≡ line_of_usage }
 {

@@ -17,15 +17,16 @@ use sp_ids::{Col, Id, OutOfMemory, Row};
 use sp_pattern::{FromRows, Pattern, Side};
 use std::alloc::Global;
 
-/// The connected components of the horizontal and of the vertical part, from the parts: all of them, the horizontal ones
-/// by their least columns and the vertical ones by their least rows.
+/// The connected components of the horizontal and of the vertical part, from the parts: all of
+/// them, the horizontal ones by their least columns and the vertical ones by their least rows.
 ///
-/// Two searches, breadth first over the entries of a part in both orders: from the columns of the horizontal part, and from
-/// the rows of the vertical part over the transpose, which is not made.
+/// Two searches, breadth first over the entries of a part in both orders: from the columns of the
+/// horizontal part, and from the rows of the vertical part over the transpose, which is not made.
 ///
-/// Answers `OutOfMemory` where 4 bytes a row and 9 a column can't be had for the search of a part (for the vertical part 9 a
-/// row and 4 a column), then 4 a row and a column and 8 a component to gather them, and as much for their lists. Work: each
-/// entry of a row and of a column of a part is looked at once, and each row and column of the matrix a fixed number of times.
+/// Answers `OutOfMemory` where 4 bytes a row and 9 a column can't be had for the search of a part
+/// (for the vertical part 9 a row and 4 a column), then 4 a row and a column and 8 a component to
+/// gather them, and as much for their lists. Work: each entry of a row and of a column of a part is
+/// looked at once, and each row and column of the matrix a fixed number of times.
 pub fn components(
     alloc: Global,
     pattern: &Pattern,
@@ -58,7 +59,8 @@ fn horizontal_components(
     listed(alloc, found.count, &found.rows, &found.cols)
 }
 
-// The components of the vertical part, which has these rows: those of the horizontal part of the transpose.
+// The components of the vertical part, which has these rows: those of the horizontal part of the
+// transpose.
 fn vertical_components(
     alloc: Global,
     pattern: &Pattern,
@@ -82,8 +84,8 @@ struct Gathered<F, N> {
     cols: Groups<N>,
 }
 
-// The components of the horizontal part of the matrix that a side sees, which has these columns; `across` sees its
-// transpose.
+// The components of the horizontal part of the matrix that a side sees, which has these columns;
+// `across` sees its transpose.
 fn search_part<F: Id, N: Id, S: Side<F>, T: Side<N>>(
     alloc: Global,
     side: &S,

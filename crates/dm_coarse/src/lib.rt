@@ -1,4 +1,5 @@
-//! The coarse parts of a matrix, from a maximum matching, and the connected components of the outer two.
+//! The coarse parts of a matrix, from a maximum matching, and the connected components of the outer
+//! two.
 #![tactic(auto)]
 
 mod connected_components;
@@ -23,14 +24,17 @@ use sp_pattern::Pattern;
 use std::alloc::Global;
 use std::thread::Threads;
 
-/// The coarse parts of a matrix, from a maximum matching (Dulmage and Mendelsohn 1958; Pothen and Fan 1990).
+/// The coarse parts of a matrix, from a maximum matching (Dulmage and Mendelsohn 1958; Pothen and
+/// Fan 1990).
 ///
-/// Two searches at once, from the unmatched columns and from the unmatched rows, mark the columns and the rows that some
-/// maximum matching misses; where no thread can be made they run one after the other. The rows of the horizontal part are
-/// the mates of its columns, the columns of the vertical part those of its rows, and the square part has the rest.
+/// Two searches at once, from the unmatched columns and from the unmatched rows, mark the columns
+/// and the rows that some maximum matching misses; where no thread can be made they run one after
+/// the other. The rows of the horizontal part are the mates of its columns, the columns of the
+/// vertical part those of its rows, and the square part has the rest.
 ///
-/// Answers `OutOfMemory` where 9 bytes a row and 9 a column can't be had for the searches, or 4 each for the lists. Work:
-/// each entry is looked at twice at most, and each row and column a fixed number of times.
+/// Answers `OutOfMemory` where 9 bytes a row and 9 a column can't be had for the searches, or 4
+/// each for the lists. Work: each entry is looked at twice at most, and each row and column a fixed
+/// number of times.
 pub fn coarse<R: Threads + Sync>(
     rt: &R,
     alloc: Global,

@@ -1,4 +1,5 @@
-//! A search that numbers the connected components of the horizontal part of the matrix that a side sees.
+//! A search that numbers the connected components of the horizontal part of the matrix that a side
+//! sees.
 
 ghost use Rattle.std.specs.Prelude.{◌≡◌, ◌≢◌, ◌+◌, ◌<◌, ◌≤◌, ◌^◌, ◌++◌, ◌∷◌, [], ℕ, false, length, map, slice_index, slice_set, IfOk, OnOk};
 ghost use Rattle.bip_defs.specs.Lists.{Among, IsMarked, Lists};
@@ -13,7 +14,8 @@ use std::alloc::{AllocError, Global};
 // No component has this number.
 const NONE: u32 = u32::MAX;
 
-/// The number of the component of each row and each column; no number below the count, where it is of another part.
+/// The number of the component of each row and each column; no number below the count, where it is
+/// of another part.
 #[derive(Drop)]
 pub struct Numbers {
     pub count: u32,
@@ -21,8 +23,8 @@ pub struct Numbers {
     pub cols: Vec<u32>,
 }
 
-// What a search has found: the columns of the part that wait for a number, the numbers of rows and columns, and the columns
-// that have one, in the order in which they got it.
+// What a search has found: the columns of the part that wait for a number, the numbers of rows and
+// columns, and the columns that have one, in the order in which they got it.
 #[derive(Drop)]
 struct Search {
     waiting: Vec<bool>,
@@ -33,10 +35,10 @@ struct Search {
 
 /// Numbers the components of the horizontal part from 0 on, by their least columns.
 ///
-/// Breadth first from the least column that waits, over its rows to their columns, and again from the next one. `across`
-/// sees the transpose; the columns are those of the horizontal part, rising. It takes 4 bytes a row, 5 a column and 4 a
-/// column of the part, of which 4 a row and 4 a column are kept. Work: each entry of a row and of a column of the part is
-/// looked at once.
+/// Breadth first from the least column that waits, over its rows to their columns, and again from
+/// the next one. `across` sees the transpose; the columns are those of the horizontal part, rising.
+/// It takes 4 bytes a row, 5 a column and 4 a column of the part, of which 4 a row and 4 a column
+/// are kept. Work: each entry of a row and of a column of the part is looked at once.
 pub fn number_components<F: Id, N: Id, S: Side<F>, T: Side<N>>(
     alloc: Global,
     side: &S,

@@ -28,8 +28,8 @@ pub enum Part {
     Vertical,
 }
 
-/// The rows of each part of a pattern, where it is known which columns are horizontal and which rows
-/// are vertical.
+/// The rows of each part of a pattern, where it is known which columns are horizontal and which
+/// rows are vertical.
 pub fn split_rows(
     alloc: Global,
     pattern: &Pattern,

@@ -90,8 +90,8 @@ fn count_one(own: u32, number: u32, in_degrees: &mut [u32])
     }
 }
 
-/// Takes the entries in these rows of one component off, and puts in the least columns of those that have come to
-/// in-degree 0.
+/// Takes the entries in these rows of one component off, and puts in the least columns of those
+/// that have come to in-degree 0.
 pub fn remove(
     pattern: &Pattern,
     numbers: &[u32],

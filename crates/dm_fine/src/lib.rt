@@ -22,16 +22,18 @@ use sp_pattern::Pattern;
 use square_components::strong_components;
 use std::alloc::Global;
 
-/// The fine blocks of a matrix, from a maximum matching and its coarse parts (Dulmage and Mendelsohn 1958; Pothen and
-/// Fan 1990): all of them, in the one order of blocks. At each place stands, of the blocks from there on whose columns have
-/// entries in the rows of no other of these, the one with the least column.
+/// The fine blocks of a matrix, from a maximum matching and its coarse parts (Dulmage and
+/// Mendelsohn 1958; Pothen and Fan 1990): all of them, in the one order of blocks. At each place
+/// stands, of the blocks from there on whose columns have entries in the rows of no other of these,
+/// the one with the least column.
 ///
-/// The blocks are the strong components of the square columns, each with the mates of its columns. They are put in order
-/// by a topological sort that takes the least source.
+/// The blocks are the strong components of the square columns, each with the mates of its columns.
+/// They are put in order by a topological sort that takes the least source.
 ///
-/// Answers `OutOfMemory` where 4 bytes a row and 24 a column can't be had for the components, or then 8 a row, 12 a column
-/// and 24 a block. Work: each entry of a square column is looked at twice at most and each of a square row twice, and
-/// each row, column and block a fixed number of times, but that a block looks at some words of the set of least columns.
+/// Answers `OutOfMemory` where 4 bytes a row and 24 a column can't be had for the components, or
+/// then 8 a row, 12 a column and 24 a block. Work: each entry of a square column is looked at twice
+/// at most and each of a square row twice, and each row, column and block a fixed number of times,
+/// but that a block looks at some words of the set of least columns.
 pub fn fine(
     alloc: Global,
     pattern: &Pattern,

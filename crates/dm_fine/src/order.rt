@@ -12,12 +12,12 @@ use sp_ids::{Col, OutOfMemory, Row};
 use sp_pattern::Pattern;
 use std::alloc::Global;
 
-/// The components in order: each time, of those that have no entry in rows of another that is still to come, the one with
-/// the least column.
+/// The components in order: each time, of those that have no entry in rows of another that is still
+/// to come, the one with the least column.
 ///
-/// A topological sort that takes the least source (Kahn 1962), with a set of least columns for the sources. It takes 8
-/// bytes a component, and a bit and a little more a column. Work: two looks at each entry of the components' rows, and one
-/// insertion in the set and one removal a component.
+/// A topological sort that takes the least source (Kahn 1962), with a set of least columns for the
+/// sources. It takes 8 bytes a component, and a bit and a little more a column. Work: two looks at
+/// each entry of the components' rows, and one insertion in the set and one removal a component.
 pub fn order(
     alloc: Global,
     pattern: &Pattern,

@@ -9,7 +9,8 @@ use sp_ids::{OutOfMemory, Row};
 use std::alloc::Global;
 use std::marker::Model;
 
-/// Where the rows of a list stand in the array, how many they are, and for how many there is room before the next list.
+/// Where the rows of a list stand in the array, how many they are, and for how many there is room
+/// before the next list.
 #[derive(Clone, Copy, Debug)]
 pub struct Span {
     pub start: usize,
@@ -17,8 +18,8 @@ pub struct Span {
     pub room: u32,
 }
 
-/// Lists of rows in one array, each with room of its own. A list that needs more moves to the end of the array, and the
-/// room that it had there is not used again.
+/// Lists of rows in one array, each with room of its own. A list that needs more moves to the end
+/// of the array, and the room that it had there is not used again.
 ///
 /// It keeps 4 bytes a place of the array and 16 a list.
 #[derive(Drop)]
@@ -101,7 +102,8 @@ impl Arena {
         Ok(())
     }
 
-    /// Moves a list to the end of the array, where it has this room. Want of memory leaves all as it was.
+    /// Moves a list to the end of the array, where it has this room. Want of memory leaves all as
+    /// it was.
     pub fn widen(&mut self, list: usize, room: u32) -> Result<(), OutOfMemory>
         requires list { list < length self.old.lists }
         requires room { length (list_at self.old list) ≤ room }

@@ -12,10 +12,11 @@ use sp_pattern::Side;
 use std::alloc::Global;
 use std::marker::Model;
 
-/// For each column of a matrix the rows of its entries, rising, which are put in and taken out one by one.
+/// For each column of a matrix the rows of its entries, rising, which are put in and taken out one
+/// by one.
 ///
-/// All lists lie in one array, each with room to grow. It keeps 16 bytes a column and at most some 24 an entry of the most
-/// that the matrix had.
+/// All lists lie in one array, each with room to grow. It keeps 16 bytes a column and at most some
+/// 24 an entry of the most that the matrix had.
 #[derive(Drop)]
 pub struct Columns {
     rows: u32,
@@ -56,7 +57,8 @@ impl Side<Row> for Columns {
 impl Columns {
     /// The columns of a matrix of so many entries, with room for no more.
     ///
-    /// Answers `OutOfMemory` where 16 bytes a column and 4 an entry can't be had. Work: one copy of the lists.
+    /// Answers `OutOfMemory` where 16 bytes a column and 4 an entry can't be had. Work: one copy of
+    /// the lists.
     pub fn of<S: Side<Row>>(alloc: Global, side: &S, entries: u32) -> Result<Columns, OutOfMemory>
         requires pattern { IsPattern (S.matrix side.now) }
         requires entries { entry_count (S.matrix side.now) ≡ entries }
@@ -73,7 +75,8 @@ impl Columns {
         })
     }
 
-    /// The number of entries. Sizes fit 32 bits, and each column's list is the rising one of its entries.
+    /// The number of entries. Sizes fit 32 bits, and each column's list is the rising one of its
+    /// entries.
     pub fn entries(&self) -> u32
         ensures entries { result ≡ entry_count self.now.matrix }
         ensures pattern { IsPattern self.now.matrix }
@@ -90,9 +93,10 @@ impl Columns {
 
     /// Sees to it that a column has room for one row more; the matrix stays.
     ///
-    /// A column that has none moves to the end of the array, with twice the room. Where the array has grown past four
-    /// times the entries and twice the columns, all lists are copied into a new one first: that comes once in so many
-    /// edits that their number pays for it. Answers `OutOfMemory` where the new room or the new array can't be had.
+    /// A column that has none moves to the end of the array, with twice the room. Where the array
+    /// has grown past four times the entries and twice the columns, all lists are copied into a new
+    /// one first: that comes once in so many edits that their number pays for it. Answers
+    /// `OutOfMemory` where the new room or the new array can't be had.
     pub fn make_room(&mut self, alloc: Global, col: Col) -> Result<(), OutOfMemory>
         requires col { col < cols self.old.matrix }
         requires few { length (column self.old.matrix col) < self.old.matrix.rows }
@@ -131,8 +135,8 @@ impl Columns {
         Ok(())
     }
 
-    /// Puts an entry in, unless it is there. The column must have room for it. Work: a search by halves, and one move of
-    /// each row of the column behind it.
+    /// Puts an entry in, unless it is there. The column must have room for it. Work: a search by
+    /// halves, and one move of each row of the column behind it.
     pub fn put(&mut self, row: Row, col: Col)
         requires row { row < self.old.matrix.rows }
         requires col { col < cols self.old.matrix }
@@ -146,7 +150,8 @@ impl Columns {
         }
     }
 
-    /// Takes an entry out, if it is there, and leaves its room to the column. Work: as for [`Columns::put`].
+    /// Takes an entry out, if it is there, and leaves its room to the column. Work: as for
+    /// [`Columns::put`].
     pub fn take(&mut self, row: Row, col: Col)
         requires col { col < cols self.old.matrix }
         ensures matrix { self.new.matrix ≡ without_place self.old.matrix (row, col) }

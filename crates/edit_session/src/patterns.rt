@@ -15,8 +15,8 @@ use std::thread::Threads;
 
 /// The matrix of the columns, kept by columns and by rows.
 ///
-/// Answers `OutOfMemory` where 8 bytes an entry can't be had beside the pattern, or what [`Pattern::build`] takes. Work:
-/// linear in the entries, the rows and the columns.
+/// Answers `OutOfMemory` where 8 bytes an entry can't be had beside the pattern, or what
+/// [`Pattern::build`] takes. Work: linear in the entries, the rows and the columns.
 pub fn pattern_of<R: Threads + Sync>(
     rt: &R,
     alloc: Global,

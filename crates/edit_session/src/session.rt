@@ -23,11 +23,11 @@ use std::marker::Model;
 use std::sync::ledger::Ledger;
 use std::thread::Threads;
 
-/// A session of edits: a matrix whose entries are set and cleared one by one, and a maximum matching of it, which each
-/// edit keeps maximum.
+/// A session of edits: a matrix whose entries are set and cleared one by one, and a maximum
+/// matching of it, which each edit keeps maximum.
 ///
-/// An edit changes the rank by one at most, so one search for an augmenting path decides (Berge 1957), and most edits need
-/// none.
+/// An edit changes the rank by one at most, so one search for an augmenting path decides (Berge
+/// 1957), and most edits need none.
 #[derive(Drop)]
 pub struct Session {
     alloc: Global,
@@ -49,7 +49,8 @@ impl Model for Session {
 impl Session {
     /// A session that begins with this matrix. The matching must be a maximum one of its entries.
     ///
-    /// Answers `OutOfMemory` where 16 bytes a column and 4 an entry can't be had. Work: one copy of the columns' lists.
+    /// Answers `OutOfMemory` where 16 bytes a column and 4 an entry can't be had. Work: one copy of
+    /// the columns' lists.
     pub fn new(alloc: Global, pattern: &Pattern, matching: Matching) -> Result<Session, OutOfMemory>
         requires { IsMaximumOf pattern.now matching }
         ensures matrix { IfOk result (λ s. s.matrix ≡ pattern.now) }
@@ -94,11 +95,13 @@ impl Session {
         self.matching.size()
     }
 
-    /// The decomposition of the matrix and the connected components of its outer parts: the report of the matrix as it is.
+    /// The decomposition of the matrix and the connected components of its outer parts: the report
+    /// of the matrix as it is.
     ///
-    /// Answers `OutOfMemory` where there is no memory for a pattern of the matrix, 8 bytes an entry beside it, or what
-    /// [`coarse`], [`fine`] and [`components`] take. Work: linear in the entries, the rows and the columns, but for what
-    /// the order of the blocks takes. It makes no search for augmenting paths.
+    /// Answers `OutOfMemory` where there is no memory for a pattern of the matrix, 8 bytes an entry
+    /// beside it, or what [`coarse`], [`fine`] and [`components`] take. Work: linear in the
+    /// entries, the rows and the columns, but for what the order of the blocks takes. It makes no
+    /// search for augmenting paths.
     pub fn report<R: Threads + Sync>(
         &self,
         rt: &R,
@@ -123,12 +126,14 @@ impl Session {
         Ok((decomposition, components))
     }
 
-    /// Sets an entry, and gives the rank of the matrix then. Where it is there already nothing changes.
+    /// Sets an entry, and gives the rank of the matrix then. Where it is there already nothing
+    /// changes.
     ///
-    /// A step is a column that a search takes up or an entry that it looks at. There is no search where the entry was
-    /// there, or where its row and its column have no mate and become a pair. Answers `OutOfMemory` where there is no
-    /// memory for the entry or for a search, 9 bytes a column and 8 a pair of a path; the session is then as it was. Work:
-    /// the search, and beside it a search by halves in the column and one move of each of its rows, in the mean over many
+    /// A step is a column that a search takes up or an entry that it looks at. There is no search
+    /// where the entry was there, or where its row and its column have no mate and become a pair.
+    /// Answers `OutOfMemory` where there is no memory for the entry or for a search, 9 bytes a
+    /// column and 8 a pair of a path; the session is then as it was. Work: the search, and beside
+    /// it a search by halves in the column and one move of each of its rows, in the mean over many
     /// edits.
     pub fn set<L: Ledger>(
         &mut self,
@@ -165,9 +170,10 @@ impl Session {
 
     /// Clears an entry, and gives the rank of the matrix then. Where there is none nothing changes.
     ///
-    /// Steps are counted as in [`Session::set`]. There is no search where the entry was no pair of the matching. Answers
-    /// `OutOfMemory` where there is no memory for a search; the session is then as it was. Work: the search, and beside it
-    /// a search by halves in the column and one move of each of its rows.
+    /// Steps are counted as in [`Session::set`]. There is no search where the entry was no pair of
+    /// the matching. Answers `OutOfMemory` where there is no memory for a search; the session is
+    /// then as it was. Work: the search, and beside it a search by halves in the column and one
+    /// move of each of its rows.
     pub fn clear<L: Ledger>(
         &mut self,
         row: Row,
@@ -204,7 +210,8 @@ impl Session {
             ≤ steps.old + (cols self.old.matrix + entry_count self.old.matrix) }
         ensures no_step { ¬ Among (row, col) self.old.matching.pairs → steps.new ≡ steps.old }
     {
-        // `size` tells the proof that the pairs rise by column, `entries` that the columns' lists rise.
+        // `size` tells the proof that the pairs rise by column, `entries` that the columns' lists
+        // rise.
         let _before = self.matching.size();
         let _count = self.columns.entries();
         let were_mates = are_mates(&self.matching, row, col);
@@ -238,8 +245,8 @@ fn are_mates(matching: &Matching, row: Row, col: Col) -> bool
     }
 }
 
-// Makes a matching maximum where one more entry is new: the entry's row and column become a pair where both have no mate,
-// else a search decides.
+// Makes a matching maximum where one more entry is new: the entry's row and column become a pair
+// where both have no mate, else a search decides.
 fn match_entry<L: Ledger>(
     alloc: Global,
     columns: &Columns,
@@ -264,7 +271,8 @@ fn match_entry<L: Ledger>(
     augment(alloc, columns, matching, steps)
 }
 
-// Makes a matching maximum that lacks one pair at most: exchanges an augmenting path, if there is one.
+// Makes a matching maximum that lacks one pair at most: exchanges an augmenting path, if there is
+// one.
 fn augment<L: Ledger>(
     alloc: Global,
     columns: &Columns,

@@ -1,8 +1,9 @@
 //! Sets of numbers below a bound that give their least member.
 //!
-//! A set is a tree of 64-bit words: the lowest words have a bit for each number, and each word above says which of the
-//! 64 words below it are not empty (after van Emde Boas 1975). It takes about an eighth of a byte for each number below the
-//! bound. Where the bound is below 64^k, `insert` and `least` look at k words at most, and `take_least` at 2 k.
+//! A set is a tree of 64-bit words: the lowest words have a bit for each number, and each word
+//! above says which of the 64 words below it are not empty (after van Emde Boas 1975). It takes
+//! about an eighth of a byte for each number below the bound. Where the bound is below 64^k,
+//! `insert` and `least` look at k words at most, and `take_least` at 2 k.
 #![tactic(auto)]
 
 mod tree;

@@ -1,5 +1,6 @@
-//! The tree of words, as one list: the words of each level follow those of the level above it, and the words below word
-//! `k` are `64 * k + 1` to `64 * k + 64`. So bit `i` of the list speaks of word `i + 1`.
+//! The tree of words, as one list: the words of each level follow those of the level above it, and
+//! the words below word `k` are `64 * k + 1` to `64 * k + 64`. So bit `i` of the list speaks of
+//! word `i + 1`.
 
 ghost use Rattle.std.specs.Prelude.{◌≡◌, ◌≢◌, ◌+◌, ◌*◌, ◌<◌, ◌≤◌, ◌^◌, ℕ, length, replicate, IfOk, slice_index};
 ghost use Rattle.int_set.specs.Tree.{IsTree, IsShaped, NoneSet, start_of};

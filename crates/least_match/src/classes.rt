@@ -31,7 +31,8 @@ impl Classes {
         Ok(Classes { numbers, count: 3 })
     }
 
-    /// Makes a class of the columns of a tree, which have one class. Where no number is left, all stays as it is.
+    /// Makes a class of the columns of a tree, which have one class. Where no number is left, all
+    /// stays as it is.
     pub fn split(&mut self, tree: &Tree)
         requires cols { (c : ℕ) → Among c (heads tree.now.queue)
             → c < length self.old.numbers.items }

@@ -17,11 +17,13 @@ use sp_ids::{Col, Row};
 /// Where a search has found a path.
 #[derive(Clone, Copy)]
 pub enum Meeting {
-    /// The column at the place `from` of the forward tree has an entry in the row of the one at `to` of the backward tree.
+    /// The column at the place `from` of the forward tree has an entry in the row of the one at
+    /// `to` of the backward tree.
     Trees { from: u32, to: u32 },
     /// The column at the place `from` of the forward tree has an entry in an unmatched row.
     FreeRow { from: u32, row: Row },
-    /// An unmatched column has an entry in the row of the column at the place `to` of the backward tree.
+    /// An unmatched column has an entry in the row of the column at the place `to` of the backward
+    /// tree.
     FreeCol { col: Col, to: u32 },
 }
 
@@ -90,8 +92,9 @@ pub fn pass(matching: &mut Matching, from: Col, to: Col) -> Row
     row
 }
 
-/// Leaves the first column of a tree without a mate, and the row of the column at a place too: that column takes the row of
-/// its parent, the parent takes the row of its own, and so on. Gives the row.
+/// Leaves the first column of a tree without a mate, and the row of the column at a place too: that
+/// column takes the row of its parent, the parent takes the row of its own, and so on. Gives the
+/// row.
 pub fn vacate(matching: &mut Matching, tree: &Tree, place: u32) -> Row
     requires place { place < length tree.now.queue }
     requires tree { Hangs matching.old.pairs tree.now.queue }
@@ -124,8 +127,8 @@ pub fn vacate(matching: &mut Matching, tree: &Tree, place: u32) -> Row
     free
 }
 
-/// Gives an unmatched row to the column at a place of a tree, that column's row to its parent, and so on up to the first
-/// column, whose row is left without a mate. Gives this row.
+/// Gives an unmatched row to the column at a place of a tree, that column's row to its parent, and
+/// so on up to the first column, whose row is left without a mate. Gives this row.
 pub fn shift(matching: &mut Matching, tree: &Tree, place: u32, free: Row) -> Row
     requires place { place < length tree.now.queue }
     requires tree { Hangs matching.old.pairs tree.now.queue }

@@ -56,7 +56,8 @@ impl<'p> Exchanges<'p> {
         })
     }
 
-    /// Gives a row to a column, where some maximum matching that agrees at the columns before has it there. Whether one has.
+    /// Gives a row to a column, where some maximum matching that agrees at the columns before has
+    /// it there. Whether one has.
     pub fn improve(&mut self, matching: &mut Matching, row: Row, col: Col) -> bool
         requires maximum { IsMaximumOf self.old.pattern.now matching.old }
         requires ready { IsReady self.old.pattern.now matching.old.pairs col self.old }
@@ -93,8 +94,8 @@ impl<'p> Exchanges<'p> {
         }
     }
 
-    // Gives a row to a column that has another one, by an exchange that gives the row's mate another row, or none where
-    // another column gets one. Whether there is such an exchange.
+    // Gives a row to a column that has another one, by an exchange that gives the row's mate
+    // another row, or none where another column gets one. Whether there is such an exchange.
     fn exchange(&mut self, matching: &mut Matching, row: Row, col: Col, other: Col) -> bool
         requires maximum { IsMaximumOf self.old.pattern.now matching.old }
         requires ready { IsReady self.old.pattern.now matching.old.pairs col self.old }
@@ -141,7 +142,8 @@ impl<'p> Exchanges<'p> {
         }
     }
 
-    /// Settles a column: gives it the least row that it has in a maximum matching which agrees at the columns before.
+    /// Settles a column: gives it the least row that it has in a maximum matching which agrees at
+    /// the columns before.
     pub fn settle(&mut self, matching: &mut Matching, col: Col)
         requires col { col < cols self.old.pattern.now }
         requires maximum { IsMaximumOf self.old.pattern.now matching.old }

@@ -19,21 +19,26 @@ use sp_ids::{Col, OutOfMemory};
 use sp_pattern::Pattern;
 use std::alloc::Global;
 
-/// The least maximum matching: of all maximum matchings the one whose code is lexicographically least. The code has, for each
-/// column, rising, the row of its pair, or the number of rows where it has none.
+/// The least maximum matching: of all maximum matchings the one whose code is lexicographically
+/// least. The code has, for each column, rising, the row of its pair, or the number of rows where
+/// it has none.
 ///
-/// The matching that is given must be a maximum matching of the pattern's entries; the answer is the same for each of them.
-/// The columns are settled one after the other. A column gets the least row that a maximum matching gives it which agrees at
-/// the columns before: its own row, or one that an alternating cycle or an even alternating path leads to (Berge 1957;
-/// Dulmage and Mendelsohn 1958). The search for such a path grows a tree from either end. One that fails has found a set of
-/// columns that no such path leaves, or none enters; from then on this set is a class of its own, and no search crosses it.
+/// The matching that is given must be a maximum matching of the pattern's entries; the answer is
+/// the same for each of them. The columns are settled one after the other. A column gets the least
+/// row that a maximum matching gives it which agrees at the columns before: its own row, or one
+/// that an alternating cycle or an even alternating path leads to (Berge 1957; Dulmage and
+/// Mendelsohn 1958). The search for such a path grows a tree from either end. One that fails has
+/// found a set of columns that no such path leaves, or none enters; from then on this set is a
+/// class of its own, and no search crosses it.
 ///
-/// Answers `OutOfMemory` where 30 bytes a column can't be had, or before that 10 a row and 10 a column for two searches. From
-/// then on it takes none. Work: a column that has no mate, or has the least of its rows that are left, costs its entries
-/// alone. Searches that fail part the square part's columns by the smaller set each time, so they look at n log n columns in
-/// all; in an outer part such a search may look at all of it. At most one search a column finds a path. It may look at all
-/// entries that are left, so the worst case is all entries once for each column; in one large block of entries at random it
-/// was some 400 to 1,300 entries where the matrix has 100,000, and 1,100 to 3,700 where it has 1,000,000.
+/// Answers `OutOfMemory` where 30 bytes a column can't be had, or before that 10 a row and 10 a
+/// column for two searches. From then on it takes none. Work: a column that has no mate, or has the
+/// least of its rows that are left, costs its entries alone. Searches that fail part the square
+/// part's columns by the smaller set each time, so they look at n log n columns in all; in an outer
+/// part such a search may look at all of it. At most one search a column finds a path. It may look
+/// at all entries that are left, so the worst case is all entries once for each column; in one
+/// large block of entries at random it was some 400 to 1,300 entries where the matrix has 100,000,
+/// and 1,100 to 3,700 where it has 1,000,000.
 pub fn least(alloc: Global, pattern: &Pattern, matching: Matching) -> Result<Matching, OutOfMemory>
     requires maximum { IsMaximumOf pattern.now matching }
     ensures least { IfOk result (λ m. IsLeastMaximum pattern.now m.pairs) }

@@ -24,8 +24,8 @@ pub enum Part {
 
 /// The part of each column, by a maximum matching (Dulmage and Mendelsohn 1958).
 ///
-/// Answers `OutOfMemory` where 9 bytes a row and 9 a column can't be had for two searches, or the list. Work: each entry is
-/// looked at three times at most.
+/// Answers `OutOfMemory` where 9 bytes a row and 9 a column can't be had for two searches, or the
+/// list. Work: each entry is looked at three times at most.
 pub fn parts(
     alloc: Global,
     pattern: &Pattern,

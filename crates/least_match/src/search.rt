@@ -40,7 +40,8 @@ pub enum Turn {
     EndBackward,
 }
 
-/// The columns from one on that are of its class: those among which an exchange for it is looked for.
+/// The columns from one on that are of its class: those among which an exchange for it is looked
+/// for.
 #[derive(Clone, Copy)]
 pub struct Rivals<'p> {
     pub pattern: &'p Pattern,
@@ -60,7 +61,8 @@ impl Rivals<'_> {
         self.col.0 <= col.0 && self.classes[col.0 as usize] == self.classes[self.col.0 as usize]
     }
 
-    // Looks at a row in which the column at a place of the forward tree has an entry: adds its mate, or gives a path.
+    // Looks at a row in which the column at a place of the forward tree has an entry: adds its
+    // mate, or gives a path.
     fn look_forward(
         &self,
         matching: &Matching,
@@ -98,7 +100,8 @@ impl Rivals<'_> {
         }
     }
 
-    // Looks at a column with an entry in the row of the column at a place of the backward tree: adds it, or gives a path.
+    // Looks at a column with an entry in the row of the column at a place of the backward tree:
+    // adds it, or gives a path.
     fn look_back(
         &self,
         matching: &Matching,
@@ -184,7 +187,8 @@ impl Rivals<'_> {
         None
     }
 
-    // Looks at the columns with an entry in the row of the column at a place of the backward tree, until a path is found.
+    // Looks at the columns with an entry in the row of the column at a place of the backward tree,
+    // until a path is found.
     fn scan_back(
         &self,
         matching: &Matching,
@@ -224,11 +228,11 @@ impl Rivals<'_> {
         None
     }
 
-    /// Searches from the first column of the forward tree, and towards the one of the backward tree, until a path is found or
-    /// it is certain that there is none.
+    /// Searches from the first column of the forward tree, and towards the one of the backward
+    /// tree, until a path is found or it is certain that there is none.
     ///
-    /// The tree of which fewer columns were looked at grows next, so that a search which fails costs about as much as the
-    /// smaller of the two sets that it parts.
+    /// The tree of which fewer columns were looked at grows next, so that a search which fails
+    /// costs about as much as the smaller of the two sets that it parts.
     pub fn search(
         &self,
         matching: &Matching,
@@ -279,7 +283,8 @@ impl Rivals<'_> {
     }
 }
 
-// Adds a column to a tree, behind its parent, unless it is there already. Where the column is in the other tree, its place there.
+// Adds a column to a tree, behind its parent, unless it is there already. Where the column is in
+// the other tree, its place there.
 fn enter(col: Col, parent: u32, tree: &mut Tree, other: &Tree) -> Option<u32>
     requires col { col < tree.old.cols }
     requires other { col < other.now.cols }
@@ -302,8 +307,9 @@ fn enter(col: Col, parent: u32, tree: &mut Tree, other: &Tree) -> Option<u32>
 
 // Which tree grows next, by how many of its columns were looked at, and how many it has.
 //
-// A forward tree that is complete shows that there is no path, where no maximum matching misses a column of its class; a
-// backward one, where none misses a row of it. One of the two holds in each part.
+// A forward tree that is complete shows that there is no path, where no maximum matching misses a
+// column of its class; a backward one, where none misses a row of it. One of the two holds in each
+// part.
 fn next_turn(part: Part, ahead: u32, forward: u32, back: u32, backward: u32) -> Turn
     requires within { (ahead ≤ forward) × (back ≤ backward) }
     ensures { IsTurn part ahead forward back backward result }

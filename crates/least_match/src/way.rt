@@ -14,8 +14,8 @@ use crate::tree::Tree;
 use bip_graph::Matching;
 
 impl Rivals<'_> {
-    /// Exchanges along the path that was found, so that the column and the row of the forward tree's first column have no
-    /// mates, and the matching has a pair less.
+    /// Exchanges along the path that was found, so that the column and the row of the forward
+    /// tree's first column have no mates, and the matching has a pair less.
     ///
     /// Takes no memory. Work: some reads and writes a pair of the path.
     pub fn make_way(

@@ -5,10 +5,11 @@ use crate::Kind;
 /// Where a matrix ends.
 #[derive(Clone, Copy, Debug, PartialEq, Eq)]
 pub enum End {
-    /// At the end of the input: nothing but skipped lines may follow the last entry line or value line.
+    /// At the end of the input: nothing but skipped lines may follow the last entry line or value
+    /// line.
     File,
-    /// Behind the line end of the last entry line or value line, or of the size line where there are none. What follows
-    /// is left.
+    /// Behind the line end of the last entry line or value line, or of the size line where there
+    /// are none. What follows is left.
     LastEntry,
 }
 

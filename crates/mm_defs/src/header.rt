@@ -7,7 +7,8 @@ use sp_ids::Field;
 pub enum Format {
     /// By entry lines: a row, a column and the field's value words.
     Coordinate,
-    /// By value lines: a value for each place of a dense matrix, or of its lower triangle, column by column.
+    /// By value lines: a value for each place of a dense matrix, or of its lower triangle, column
+    /// by column.
     Array,
 }
 
@@ -32,8 +33,8 @@ pub struct Header {
     pub symmetry: Symmetry,
 }
 
-/// What the size line says: the numbers of rows and of columns, and how many entry lines follow, or how many value lines
-/// in an array file. Definitions that cite it set no bound.
+/// What the size line says: the numbers of rows and of columns, and how many entry lines follow, or
+/// how many value lines in an array file. Definitions that cite it set no bound.
 #[derive(Clone, Copy, Debug, PartialEq, Eq)]
 pub struct Size {
     pub rows: u32,

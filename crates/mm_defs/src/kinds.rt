@@ -35,8 +35,8 @@ pub enum Kind {
     Entries,
     /// Size line: as many rows as columns are needed, since the symmetry is not general.
     NotSquare,
-    /// Entry line: it does not have two words and the field's value words. Value line of an array file: it does not have
-    /// one word.
+    /// Entry line: it does not have two words and the field's value words. Value line of an array
+    /// file: it does not have one word.
     EntryWords,
     /// Entry line: the first word is not a number. Edit line: the second word is none.
     RowNumber,
@@ -46,9 +46,11 @@ pub enum Kind {
     RowRange,
     /// Entry line or edit line: the column is 0 or past the last column.
     ColumnRange,
-    /// Entry line of an integer file: the third word is not an integer. Value line: its word is none.
+    /// Entry line of an integer file: the third word is not an integer. Value line: its word is
+    /// none.
     ValueNumber,
-    /// Entry line of an integer file, or value line: the magnitude is above 9,223,372,036,854,775,807.
+    /// Entry line of an integer file, or value line: the magnitude is above
+    /// 9,223,372,036,854,775,807.
     Value,
     /// Entry line: it stands above the diagonal, and the symmetry is not general.
     UpperEntry,

@@ -11,7 +11,8 @@ ghost use Rattle.mm_defs.specs.Words.{lines};
 ghost use Rattle.mm_defs.specs.File.{Fault, Reads, faults, first_fault};
 ghost use Rattle.mm_defs.specs.Calls.{Call, offered, first_bad, IsAnswer, FellShort, LacksLines, IsAnswerTo, IsRefusal, IsOkOrNoMemory, IsTooLongOrNoMemory};
 
-/// The first bad line stays the first one, whatever follows, and whether the input ends there or not.
+/// The first bad line stays the first one, whatever follows, and whether the input ends there or
+/// not.
 pub fn bad_line_stays()
     ensures { (end : End) (ended : Bool) (bytes more : List ℕ) (fault : Fault)
         → first_fault end false bytes ≡ Some fault
@@ -32,7 +33,8 @@ pub fn bad_line_is_reported()
         → IsAnswerTo fault result }
 {}
 
-/// A good file within the limit is read, where no read failed and memory did not run out, and its entries are given.
+/// A good file within the limit is read, where no read failed and memory did not run out, and its
+/// entries are given.
 pub fn good_file_is_read()
     ensures answer { (end : End) (call : Call) (rest : List ℕ) (result : Result Entries ReadError)
         (t : Entries) (follows : List ℕ)
@@ -44,8 +46,8 @@ pub fn good_file_is_read()
         → (u ≡ t) × (rest ≡ follows) }
 {}
 
-/// A good matrix that ends within the limit is read, whatever follows it, where no read failed and memory did not run
-/// out.
+/// A good matrix that ends within the limit is read, whatever follows it, where no read failed and
+/// memory did not run out.
 pub fn good_matrix_is_read()
     ensures { (end : End) (call : Call) (rest : List ℕ) (result : Result Entries ReadError)
         (t : Entries) (follows : List ℕ)
@@ -55,8 +57,8 @@ pub fn good_matrix_is_read()
         → call.failures_after ≡ call.failures_before → IsOkOrNoMemory result }
 {}
 
-/// `TooLong` is answered where more bytes are offered than may be used, no line within the limit is bad and the matrix
-/// has not ended within it, where no read failed and memory did not run out.
+/// `TooLong` is answered where more bytes are offered than may be used, no line within the limit is
+/// bad and the matrix has not ended within it, where no read failed and memory did not run out.
 pub fn too_long_is_reported()
     ensures { (end : End) (call : Call) (rest : List ℕ) (result : Result Entries ReadError)
         → IsAnswer end call rest result → call.room < length (offered call)
@@ -80,8 +82,8 @@ pub fn array_values_are_counted()
     ensures square { (y : Symmetry) (n : ℕ) → length (array_places y n n) ≡ value_count y n n }
 {}
 
-/// The places of an array file's values follow one another, and none of them is past the last row or column or in the
-/// part of the matrix that other values tell.
+/// The places of an array file's values follow one another, and none of them is past the last row
+/// or column or in the part of the matrix that other values tell.
 pub fn array_places_follow()
     ensures first { (y : Symmetry) (rows cols : ℕ) → 0 < length (array_places y rows cols)
         → slice_index_or (array_places y rows cols) 0 (0, 0) ≡ (first_row y 0, 0) }

@@ -1,7 +1,9 @@
-//! Matrix Market files, coordinate files and integer array files: what a good file is and what it says, the kinds of
-//! faults and the one that is told, and what the answers of a reader say of the bytes that it was given.
+//! Matrix Market files, coordinate files and integer array files: what a good file is and what it
+//! says, the kinds of faults and the one that is told, and what the answers of a reader say of the
+//! bytes that it was given.
 //!
-//! The definitions are in `specs/`. A law is a function with an empty body: its contract is the theorem.
+//! The definitions are in `specs/`. A law is a function with an empty body: its contract is the
+//! theorem.
 #![tactic(auto)]
 
 mod answers;

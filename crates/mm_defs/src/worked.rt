@@ -1,4 +1,5 @@
-//! Files that were worked by hand, as theorems: the definitions compute what has to be found in them.
+//! Files that were worked by hand, as theorems: the definitions compute what has to be found in
+//! them.
 
 ghost use Rattle.std.specs.Prelude.{◌≡◌, List, [], true, false, map};
 ghost use Rattle.mm_defs.specs.Words.{lines};
@@ -35,7 +36,8 @@ pub fn worked_rests()
         ≡ map (λ (row : Followed). row.1) followed_files }
 {}
 
-/// The first fault of a prefix of a file: no line is bad that has not ended, and nothing is missing yet.
+/// The first fault of a prefix of a file: no line is bad that has not ended, and nothing is missing
+/// yet.
 pub fn worked_prefixes()
     ensures { map (λ (row : Refused). first_fault End.File false row.0) prefixes
         ≡ map (λ (row : Refused). row.1) prefixes }

@@ -87,14 +87,16 @@ fn end_with(alloc: Global, bytes: u64, files: Vec<Vec<u8>>) -> Result<Vec<Vec<u8
     }
 }
 
-/// Reads the files of a batch, up to the end of the input. Before each file stands a header, a line of the words `file`
-/// and a number, and then that many bytes follow; nothing else stands between files.
+/// Reads the files of a batch, up to the end of the input. Before each file stands a header, a line
+/// of the words `file` and a number, and then that many bytes follow; nothing else stands between
+/// files.
 ///
-/// The first bad frame is answered, `Malformed` or `Limit`: a header is judged when its line has ended, and a file is too
-/// short where the input ended within it. `TooLong` is answered where more bytes have come than may be used, and
-/// `ReadFault` where a read has failed, if no frame that had ended is bad. After these two the input is not good; after
-/// another error it is, and some of the bytes were used. It takes memory for the bytes as they come, and none by the
-/// number of a header; the work is linear in the bytes.
+/// The first bad frame is answered, `Malformed` or `Limit`: a header is judged when its line has
+/// ended, and a file is too short where the input ended within it. `TooLong` is answered where more
+/// bytes have come than may be used, and `ReadFault` where a read has failed, if no frame that had
+/// ended is bad. After these two the input is not good; after another error it is, and some of the
+/// bytes were used. It takes memory for the bytes as they come, and none by the number of a header;
+/// the work is linear in the bytes.
 pub fn read_files<S: Source>(
     alloc: Global,
     input: &mut Input,

@@ -51,7 +51,8 @@ pub fn stopped(error: ReadError) -> BatchError
     }
 }
 
-/// Judges the header of a file behind so many: the first kind of fault that applies, or how many bytes it tells.
+/// Judges the header of a file behind so many: the first kind of fault that applies, or how many
+/// bytes it tells.
 fn judge_header(before: usize, line: &LineSoFar) -> Result<u64, Kind>
     ensures judged { (bytes : List ℕ) → IsLine line.now.tokens line.now.count line.now.inside bytes
         → JudgedHeader (header_rules before (words bytes)) (file_bytes (words bytes)) result }
@@ -91,7 +92,8 @@ fn take_header(before: usize, line: &LineSoFar, last: bool) -> Result<Header, Ba
     }
 }
 
-/// Reads the header of a file behind so many, or finds that the input has ended where it would begin.
+/// Reads the header of a file behind so many, or finds that the input has ended where it would
+/// begin.
 pub fn read_header<S: Source>(
     input: &mut Input,
     source: &mut S,

@@ -19,7 +19,8 @@ pub fn batch_has_no_bad_frame()
         → (files : List (List ℕ)) × IsBatch bytes files }
 {}
 
-/// The first bad frame stays the first one, whatever follows, and whether the input ends there or not.
+/// The first bad frame stays the first one, whatever follows, and whether the input ends there or
+/// not.
 pub fn bad_frame_stays()
     ensures { (ended : Bool) (bytes more : List ℕ) (fault : BatchFault)
         → first_bad_frame false bytes ≡ Some fault

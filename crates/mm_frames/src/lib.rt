@@ -1,4 +1,5 @@
-//! Readers over the bytes of an input: of the edit lines behind a matrix file, and of a batch of files.
+//! Readers over the bytes of an input: of the edit lines behind a matrix file, and of a batch of
+//! files.
 #![tactic(auto)]
 
 mod batch;

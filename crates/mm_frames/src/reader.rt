@@ -89,14 +89,14 @@ fn finish(
     }
 }
 
-/// Reads edit lines up to the end of the input, of a matrix of so many rows and columns: `set i j`, `clear i j` and
-/// `report`, the words just so, rows and columns counted from 1. Lines without words and comments are skipped. Line
-/// numbers go on from the LFs that the input has used.
+/// Reads edit lines up to the end of the input, of a matrix of so many rows and columns: `set i j`,
+/// `clear i j` and `report`, the words just so, rows and columns counted from 1. Lines without
+/// words and comments are skipped. Line numbers go on from the LFs that the input has used.
 ///
-/// The first bad line that has ended is answered, `Malformed` or `Limit`; `TooLong` where more bytes have come than may
-/// be used, and `ReadFault` where a read has failed, if no line that had ended is bad. After these two the input is not
-/// good; after another error it is, and some of the bytes were used. It takes memory for the edits; the work is linear
-/// in the bytes.
+/// The first bad line that has ended is answered, `Malformed` or `Limit`; `TooLong` where more
+/// bytes have come than may be used, and `ReadFault` where a read has failed, if no line that had
+/// ended is bad. After these two the input is not good; after another error it is, and some of the
+/// bytes were used. It takes memory for the edits; the work is linear in the bytes.
 pub fn read_edits<S: Source>(
     alloc: Global,
     input: &mut Input,

@@ -36,7 +36,8 @@ pub fn first_place(symmetry: Symmetry) -> ArrayPlace
     }
 }
 
-/// The place of the value behind that of this place: the one below it, or the first of the next column.
+/// The place of the value behind that of this place: the one below it, or the first of the next
+/// column.
 #[inline(always)]
 pub fn following(symmetry: Symmetry, rows: u32, place: ArrayPlace) -> ArrayPlace
     requires row { place.row < rows }

@@ -36,8 +36,8 @@ fn first(window: &mut Window) -> Result<u8, ReadError>
     Ok(byte)
 }
 
-/// Uses the first of the bytes ahead and of those that the source gives, within the window's room. There is none at the
-/// end of the input alone.
+/// Uses the first of the bytes ahead and of those that the source gives, within the window's room.
+/// There is none at the end of the input alone.
 pub fn next<S: Source>(window: &mut Window, source: &mut S) -> Result<Option<u8>, ReadError>
     requires window { IsWindow window.old }
     requires at_end { IsTrue window.old.at_end → IsAtEnd (S.left source.old) }

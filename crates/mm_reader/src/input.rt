@@ -21,7 +21,8 @@ use sp_ports::Source;
 use std::alloc::Global;
 use std::marker::Model;
 
-/// An input: how many bytes it may use, and those that were taken from its source and are not used yet.
+/// An input: how many bytes it may use, and those that were taken from its source and are not used
+/// yet.
 ///
 /// The source is lent to each call beside it. It keeps one buffer of 65,536 bytes.
 #[derive(Drop)]
@@ -44,8 +45,8 @@ impl Model for Input {
 }
 
 impl Input {
-    /// Nothing was taken. The input may use so many bytes of its source in all, and takes at most one more, which shows
-    /// that there are more. It takes memory for its buffer.
+    /// Nothing was taken. The input may use so many bytes of its source in all, and takes at most
+    /// one more, which shows that there are more. It takes memory for its buffer.
     pub fn new(alloc: Global, limit: u64) -> Result<Input, OutOfMemory>
         ensures { IfOk result
             (λ input. input ≡ record {
@@ -79,8 +80,8 @@ impl Input {
         self.window.lines
     }
 
-    /// Whether no call on it has failed. It is the condition of the reading calls: after a failure the source has lost
-    /// what was taken.
+    /// Whether no call on it has failed. It is the condition of the reading calls: after a failure
+    /// the source has lost what was taken.
     pub fn is_good(&self) -> bool
         ensures { result ≡ self.now.good }
     {
@@ -98,12 +99,13 @@ impl Input {
 
 /// Reads a matrix file: the bytes ahead first, then those of the source.
 ///
-/// `End::File` reads to the end of the input. `End::LastEntry` ends with the line end of the last entry line, or of the
-/// size line where there are no entries, and leaves what follows. A line is judged when its end was given, and the first
-/// bad line is answered: `Malformed` or `Limit` with its number, counted from 1. A bad line that had ended before a read
-/// failed is answered in place of `ReadFault`, and one that had ended within the limit in place of `TooLong`; so is, with
-/// `End::LastEntry`, a matrix that had ended in those bytes. After an `Err` the input is not good. At `Malformed` and
-/// `Limit` at most 65,536 bytes past the end of the bad line were taken.
+/// `End::File` reads to the end of the input. `End::LastEntry` ends with the line end of the last
+/// entry line, or of the size line where there are no entries, and leaves what follows. A line is
+/// judged when its end was given, and the first bad line is answered: `Malformed` or `Limit` with
+/// its number, counted from 1. A bad line that had ended before a read failed is answered in place
+/// of `ReadFault`, and one that had ended within the limit in place of `TooLong`; so is, with
+/// `End::LastEntry`, a matrix that had ended in those bytes. After an `Err` the input is not good.
+/// At `Malformed` and `Limit` at most 65,536 bytes past the end of the bad line were taken.
 ///
 /// The work is linear in the bytes. Besides the input's buffer it keeps the triples alone.
 pub fn read_matrix<S: Source>(
@@ -129,11 +131,13 @@ pub fn read_matrix<S: Source>(
     // `Limit` tells what passes a limit, and `Malformed` what does not.
     ensures kind { HasItsKind result }
 
-    // Where the bytes given did not do, a matrix that ends with its last entry line had not ended in them.
+    // Where the bytes given did not do, a matrix that ends with its last entry line had not ended
+    // in them.
     ensures short { OnCall input.old (seen S.left S.faults source.old source.new) (λ call.
         FellShort end call result) }
 
-    // What is left is the end of what there was. At most one byte was taken past the limit, and at `TooLong` it was.
+    // What is left is the end of what there was. At most one byte was taken past the limit, and at
+    // `TooLong` it was.
     ensures gave { GivesPrefix (S.left source.old) (S.left source.new) }
     ensures most { OnCall input.old
         (seen S.left S.faults source.old source.new) TakesAtMostOnePast }
@@ -148,7 +152,8 @@ pub fn read_matrix<S: Source>(
     ensures unasked { IsTrue input.old.at_end → source.new ≡ source.old }
     ensures stays { IsTrue input.old.at_end → IsTrue input.new.at_end }
 
-    // A read has given none where the file was read to its end, and where the last line used has no LF.
+    // A read has given none where the file was read to its end, and where the last line used has no
+    // LF.
     ensures ended { OnOk result (end ≡ End.File → IsTrue input.new.at_end) }
     ensures last_line { OnOk result
         (WhereKnown (S.left source.old) (S.left source.new) (λ before after.
@@ -173,10 +178,12 @@ pub fn read_matrix<S: Source>(
     }
 }
 
-/// Reads all that follows: the bytes ahead, then those of the source up to its end. It judges no line.
+/// Reads all that follows: the bytes ahead, then those of the source up to its end. It judges no
+/// line.
 ///
-/// It answers `TooLong` where more bytes follow than may still be used, `ReadFault` where a read failed, `OutOfMemory`,
-/// and no other error. After an `Err` the input is not good. It takes memory for the bytes.
+/// It answers `TooLong` where more bytes follow than may still be used, `ReadFault` where a read
+/// failed, `OutOfMemory`, and no other error. After an `Err` the input is not good. It takes memory
+/// for the bytes.
 pub fn read_rest<S: Source>(
     alloc: Global,
     input: &mut Input,
@@ -193,7 +200,8 @@ pub fn read_rest<S: Source>(
     // No line is judged.
     ensures unjudged { IfErr result JudgesNoLine }
 
-    // What is left is the end of what there was. At most one byte was taken past the limit, and at `TooLong` it was.
+    // What is left is the end of what there was. At most one byte was taken past the limit, and at
+    // `TooLong` it was.
     ensures gave { GivesPrefix (S.left source.old) (S.left source.new) }
     ensures most { OnCall input.old
         (seen S.left S.faults source.old source.new) TakesAtMostOnePast }
@@ -230,16 +238,18 @@ pub fn read_rest<S: Source>(
     }
 }
 
-/// Uses one byte: the first of those ahead, or of those that the source gives. `None` is given at the end of the input
-/// alone. It takes no memory.
+/// Uses one byte: the first of those ahead, or of those that the source gives. `None` is given at
+/// the end of the input alone. It takes no memory.
 ///
-/// It answers `TooLong` where all bytes that may be used were used and one more has come, and `ReadFault` where no byte
-/// was ahead and a read failed, and no other error. After an `Err` the input is not good.
+/// It answers `TooLong` where all bytes that may be used were used and one more has come, and
+/// `ReadFault` where no byte was ahead and a read failed, and no other error. After an `Err` the
+/// input is not good.
 pub fn next_byte<S: Source>(input: &mut Input, source: &mut S) -> Result<Option<u8>, ReadError>
     requires good { IsTrue input.old.good }
     requires at_end { IsTrue input.old.at_end → IsAtEnd (S.left source.old) }
 
-    // The byte is the first of those ahead and those that the source gave, or there is none any more.
+    // The byte is the first of those ahead and those that the source gave, or there is none any
+    // more.
     ensures ok { IfOk result (Advances (front input.old) (front input.new)
         (seen S.left S.faults source.old source.new)) }
 

@@ -184,7 +184,8 @@ fn size_words(format: Format) -> usize
     }
 }
 
-/// Judges the numbers of a coordinate file's size line, of which the greatest stands for all that do not fit.
+/// Judges the numbers of a coordinate file's size line, of which the greatest stands for all that
+/// do not fit.
 fn judge_entries(header: Header, rows: u64, cols: u64, count: u64) -> Result<Size, Kind>
     requires { header.format ≡ Format.Coordinate }
     ensures judged { (s : Size) → rows ≡ capped s.rows → cols ≡ capped s.cols
@@ -300,8 +301,8 @@ fn value_words(field: Field) -> usize
     }
 }
 
-/// Judges what an entry line says: its row and column, counted from 1, of which the greatest number stands for all that
-/// do not fit, and its value, if it is an integer.
+/// Judges what an entry line says: its row and column, counted from 1, of which the greatest number
+/// stands for all that do not fit, and its value, if it is an integer.
 pub fn judge_place(
     header: Header,
     size: Size,

@@ -1,5 +1,5 @@
-//! Short numbers, many bytes at a look: where their digits end is read off a mask of sixteen bytes, and eight digits are
-//! joined in one word.
+//! Short numbers, many bytes at a look: where their digits end is read off a mask of sixteen bytes,
+//! and eight digits are joined in one word.
 
 ghost use Rattle.std.specs.Prelude.{◌≡◌, ℕ, ◌+◌, ◌<◌, ◌≤◌, ◌^◌, true, List, length, IfSome};
 ghost use Rattle.std.specs.Simd.Lanes.{Each1, number_l};
@@ -14,7 +14,8 @@ use std::simd::prelude::*;
 /// So many digits are joined at once.
 const MOST_AT_ONCE: usize = 8;
 
-/// A bit for each of the sixteen bytes from here on that is not a digit, the first byte's the lowest.
+/// A bit for each of the sixteen bytes from here on that is not a digit, the first byte's the
+/// lowest.
 #[inline(always)]
 pub fn stops(bytes: &[u8], from: usize) -> u64
     requires { from + 16 ≤ length bytes.now }
@@ -24,7 +25,8 @@ pub fn stops(bytes: &[u8], from: usize) -> u64
     digits.simd_ge(u8x16::splat(10)).to_bitmask()
 }
 
-/// The same of the bytes some places on: what is left of a mask, or a new one where nothing of it is left.
+/// The same of the bytes some places on: what is left of a mask, or a new one where nothing of it
+/// is left.
 #[inline(always)]
 pub fn later_stops(bytes: &[u8], from: usize, mask: u64, places: usize) -> u64
     requires mask { IsMask bytes.now from mask }
@@ -39,7 +41,8 @@ pub fn later_stops(bytes: &[u8], from: usize, mask: u64, places: usize) -> u64
     left
 }
 
-/// The number that begins here and how many digits it has, if there are one to eight. The mask is that of the bytes here.
+/// The number that begins here and how many digits it has, if there are one to eight. The mask is
+/// that of the bytes here.
 #[inline(always)]
 pub fn short_number(bytes: &[u8], from: usize, mask: u64) -> Option<(u64, usize)>
     requires room { from + 8 ≤ length bytes.now }
@@ -73,8 +76,8 @@ fn digits_at_once(bytes: &[u8], from: usize, count: usize) -> u64
     joined(word << (64 - 8 * count))
 }
 
-/// What eight digits stand for that lie in a word, the first in its lowest byte: neighbours are joined to fields of two
-/// digits, of four and of eight.
+/// What eight digits stand for that lie in a word, the first in its lowest byte: neighbours are
+/// joined to fields of two digits, of four and of eight.
 #[inline(always)]
 fn joined(word: u64) -> u64
     requires { word < 2 ^ 60 }

@@ -1,4 +1,5 @@
-//! A reader of Matrix Market files, coordinate files and integer array files, from any source of bytes, through one buffer.
+//! A reader of Matrix Market files, coordinate files and integer array files, from any source of
+//! bytes, through one buffer.
 #![tactic(auto)]
 
 mod array;

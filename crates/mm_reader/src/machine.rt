@@ -34,7 +34,8 @@ pub enum Phase {
     Sizes {
         header: Header,
     },
-    /// The size line, and so many entry lines or value lines. The place is that of the next value of an array file.
+    /// The size line, and so many entry lines or value lines. The place is that of the next value
+    /// of an array file.
     Entries {
         header: Header,
         size: Size,
@@ -269,8 +270,8 @@ fn keep_value(
     }
 }
 
-/// Adds the value of a place of an array file: an entry, and the place on the other side of the diagonal, or nothing
-/// where it is 0.
+/// Adds the value of a place of an array file: an entry, and the place on the other side of the
+/// diagonal, or nothing where it is 0.
 #[inline(always)]
 fn add_value(
     symmetry: Symmetry,
@@ -430,8 +431,8 @@ fn take(alloc: Global, m: &mut Machine, byte: u8) -> Result<(), Stop>
     Ok(())
 }
 
-/// Where entries are to come and no line has begun, what the banner and the size line said, how many lines of the matrix
-/// have come, and the place of the next value.
+/// Where entries are to come and no line has begun, what the banner and the size line said, how
+/// many lines of the matrix have come, and the place of the next value.
 fn awaits_plain(m: &Machine) -> Option<(Header, Size, u32, ArrayPlace)>
     ensures { IfSome result (λ x. AwaitsPlain m.now x.0 x.1 x.2 x.3) }
 {
@@ -499,8 +500,8 @@ fn after_plain_value(
     }
 }
 
-/// Takes the lines of the usual form that begin here, one behind the other, as far as they lie whole in the piece. It
-/// gives where the machine goes on.
+/// Takes the lines of the usual form that begin here, one behind the other, as far as they lie
+/// whole in the piece. It gives where the machine goes on.
 fn take_plain(m: &mut Machine, piece: &[u8], at: usize) -> Result<usize, Stop>
     requires place { at ≤ length piece.now }
     requires ready { IsReady m.old.phase m.old.triples }
@@ -623,8 +624,8 @@ fn step(alloc: Global, m: &mut Machine, piece: &[u8], at: usize) -> Result<usize
     Ok(at + 1)
 }
 
-/// A piece comes. It gives how many of its bytes were used: all, unless the matrix is read and what follows is not
-/// judged.
+/// A piece comes. It gives how many of its bytes were used: all, unless the matrix is read and what
+/// follows is not judged.
 pub fn feed(alloc: Global, m: &mut Machine, end: End, piece: &[u8]) -> Result<usize, Stop>
     requires ready { IsReady m.old.phase m.old.triples }
     requires room { begun_lines m.old + length piece.now < 2 ^ 64 }

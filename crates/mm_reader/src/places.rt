@@ -71,7 +71,8 @@ pub fn place_at(bytes: &[u8], from: usize) -> Option<Place>
     }
 }
 
-/// The same where both have at most eight digits, one space is between them, and enough bytes are ahead.
+/// The same where both have at most eight digits, one space is between them, and enough bytes are
+/// ahead.
 #[inline(always)]
 fn short_place_at(bytes: &[u8], from: usize) -> Option<Place>
     requires { from ≤ length bytes.now }

@@ -1,5 +1,5 @@
-//! Lines of the usual form, taken in one go from the buffer: entry lines of two numbers without signs and the value words,
-//! and value lines of one integer.
+//! Lines of the usual form, taken in one go from the buffer: entry lines of two numbers without
+//! signs and the value words, and value lines of one integer.
 
 ghost use Rattle.std.specs.Prelude.{◌≡◌, ◌≤◌, length, IfSome};
 ghost use Rattle.mm_reader.specs.Plain.{is_visible, IsRun, IsSign, IsNextWord, IsIntegerHere, IsNextInteger, IsNextLine, HasValues, IsPlainLine, IsPlainValue};
@@ -117,7 +117,8 @@ fn next_integer(bytes: &[u8], from: usize) -> Option<(Integer, usize)>
     integer_at(bytes, start)
 }
 
-/// The value words that stand here, if all do: the value, which is 0 if the field is not integer, and where they end.
+/// The value words that stand here, if all do: the value, which is 0 if the field is not integer,
+/// and where they end.
 fn values(bytes: &[u8], from: usize, field: Field) -> Option<(Integer, usize)>
     requires { from ≤ length bytes.now }
     ensures { IfSome result (λ x. HasValues field bytes.now from x.1 x.0) }
@@ -157,8 +158,8 @@ fn next_line(bytes: &[u8], from: usize) -> Option<usize>
     Some(end + 1)
 }
 
-/// The entry line of the usual form that begins here, if it lies whole in these bytes: two numbers without signs, and
-/// the value words of the field.
+/// The entry line of the usual form that begins here, if it lies whole in these bytes: two numbers
+/// without signs, and the value words of the field.
 pub fn plain_line(bytes: &[u8], from: usize, field: Field) -> Option<PlainLine>
     requires { from ≤ length bytes.now }
     ensures { IfSome result (IsPlainLine field bytes.now from) }

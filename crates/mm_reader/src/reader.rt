@@ -34,8 +34,8 @@ fn refusal(stop: Stop) -> ReadError
     }
 }
 
-/// The machine gets the bytes ahead, as many as may be used. It tells whether the matrix is read and what follows is not
-/// judged; else all bytes ahead were used.
+/// The machine gets the bytes ahead, as many as may be used. It tells whether the matrix is read
+/// and what follows is not judged; else all bytes ahead were used.
 fn consume(alloc: Global, m: &mut Machine, end: End, window: &mut Window) -> Result<bool, ReadError>
     requires window { IsWindow window.old }
     requires ready { IsReady m.old.phase m.old.triples }

@@ -30,7 +30,8 @@ pub struct Window {
     pub lines: u64,
 }
 
-/// A buffer of that length. Of its bytes nothing is said: a list of so many would be written out in each goal.
+/// A buffer of that length. Of its bytes nothing is said: a list of so many would be written out in
+/// each goal.
 pub fn new_buffer(alloc: Global) -> Result<Vec<u8>, OutOfMemory>
     ensures { IfOk result (λ buffer. vec_len buffer ≡ BUFFER) }
 {
@@ -77,7 +78,8 @@ fn read_some<S: Source>(source: &mut S, buffer: &mut [u8], most: usize) -> Resul
     source.read(&mut buffer[..most])
 }
 
-/// Reads into the empty window, at most one byte more than may be used, and tells how many bytes came.
+/// Reads into the empty window, at most one byte more than may be used, and tells how many bytes
+/// came.
 pub fn refill<S: Source>(window: &mut Window, source: &mut S) -> Result<usize, Failed>
     requires window { IsWindow window.old }
     ensures window { IsWindow window.new }

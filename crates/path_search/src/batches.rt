@@ -136,8 +136,8 @@ fn unmarked(marks: &[bool], row: Row) -> usize
     usize::from(!marks[row.0 as usize])
 }
 
-/// Keeps those of the first `len` candidates whose rows are unmarked, in their order, told without a
-/// branch. How many there are: they stand first.
+/// Keeps those of the first `len` candidates whose rows are unmarked, in their order, told without
+/// a branch. How many there are: they stand first.
 pub fn keep_unmarked(candidates: &mut [Candidate], len: usize, marks: &[bool]) -> usize
     requires len { len ≤ length candidates.old }
     requires in_range { (x : Candidate) → Among x (take len candidates.old)

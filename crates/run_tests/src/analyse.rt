@@ -56,8 +56,8 @@ fn reports_of_blocks(rt: HostRuntime) -> Result<(), Fail> {
     reports(&rt, &["analyse", "--report", "1"], &texts)
 }
 
-// Column 1 of the lower triangle waits for columns 2 and 3, and column 2 for column 3. Of one row and two columns the empty
-// column comes first.
+// Column 1 of the lower triangle waits for columns 2 and 3, and column 2 for column 3. Of one row
+// and two columns the empty column comes first.
 #[test]
 fn orders(rt: HostRuntime) -> Result<(), Fail> {
     let texts = [

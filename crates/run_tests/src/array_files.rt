@@ -1,4 +1,5 @@
-//! Integer array files, with texts worked out by hand. Their values stand column by column, and a value of 0 gives no entry.
+//! Integer array files, with texts worked out by hand. Their values stand column by column, and a
+//! value of 0 gives no entry.
 
 use crate::runs::{STEADY, expect};
 use sp_ids::Status;
@@ -35,7 +36,8 @@ fn ranks_of_array_files(rt: HostRuntime) -> Result<(), Fail> {
     Ok(())
 }
 
-// The 400,000,000 values are too many, and the line of a file with too few or with two on a line is told.
+// The 400,000,000 values are too many, and the line of a file with too few or with two on a line is
+// told.
 #[test]
 fn array_files_are_refused(rt: HostRuntime) -> Result<(), Fail> {
     let words = ["rank"].as_slice();

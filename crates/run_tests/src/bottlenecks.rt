@@ -4,8 +4,9 @@ use crate::runs::{SMALLEST, STEADY, expect};
 use sp_ids::Status;
 use std::test::Fail;
 
-/// Integer files from their size lines on, and what is answered. Of the first the two diagonals weigh 3 and 1 and 4 and 5; of the
-/// second 12 and 1 and 5 and 6, and the heaviest is not the one whose least weight is greatest. Of the last no entry is above 7.
+/// Integer files from their size lines on, and what is answered. Of the first the two diagonals
+/// weigh 3 and 1 and 4 and 5; of the second 12 and 1 and 5 and 6, and the heaviest is not the one
+/// whose least weight is greatest. Of the last no entry is above 7.
 const ANSWERS: [(&str, Status, &str); 7] = [
     (
         "2 2 4\n1 1 3\n1 2 5\n2 1 4\n2 2 1\n",
@@ -52,7 +53,8 @@ fn least_weights_that_are_greatest(rt: HostRuntime) -> Result<(), Fail> {
     Ok(())
 }
 
-// A dropped place is no entry. A sum past the limit is told before the shape, and another field before both.
+// A dropped place is no entry. A sum past the limit is told before the shape, and another field
+// before both.
 #[test]
 fn what_has_no_bottleneck(rt: HostRuntime) -> Result<(), Fail> {
     let words = ["bottleneck", "--drop-zeros"].as_slice();

@@ -32,7 +32,8 @@ fn judged<R: Threads + Abort + AllocGlobal + Sync>(
     expect(rt, &["check"], file.as_str(), &STEADY, status, verdict, "")
 }
 
-// A report that is cut before its end; a pair that is no entry; a pair too few; and a column that is left out.
+// A report that is cut before its end; a pair that is no entry; a pair too few; and a column that
+// is left out.
 #[test]
 fn verdicts_on_three_parts(rt: HostRuntime) -> Result<(), Fail> {
     let no = Status::Negative;
@@ -57,8 +58,9 @@ fn verdicts_on_three_parts(rt: HostRuntime) -> Result<(), Fail> {
     Ok(())
 }
 
-// The second and the first block in each other's place; an input that ends with its last entry line; a comment behind that
-// line, which belongs to the report; and a report with both orders of no rows and no columns.
+// The second and the first block in each other's place; an input that ends with its last entry
+// line; a comment behind that line, which belongs to the report; and a report with both orders of
+// no rows and no columns.
 #[test]
 fn verdicts_on_small_files(rt: HostRuntime) -> Result<(), Fail> {
     let no = Status::Negative;
@@ -73,8 +75,8 @@ fn verdicts_on_small_files(rt: HostRuntime) -> Result<(), Fail> {
     judged(&rt, &commented, no, "invalid 1\n")
 }
 
-// Call 0 of `read` gives the whole file, which ends within its last entry line, and call 1 tells its end. Call 2 fails, and is not
-// made before the test makes it.
+// Call 0 of `read` gives the whole file, which ends within its last entry line, and call 1 tells
+// its end. Call 2 fails, and is not made before the test makes it.
 #[test]
 fn an_input_that_has_ended_is_not_asked_again(rt: HostRuntime) -> Result<(), Fail> {
     let devices = Devices {
@@ -134,7 +136,8 @@ fn judged_by_lines<R: Threads + Abort + AllocGlobal + Sync>(
     Ok(())
 }
 
-// What `analyse` writes of a file with pairs is its report, with orders and without, and is none without any of its lines.
+// What `analyse` writes of a file with pairs is its report, with orders and without, and is none
+// without any of its lines.
 #[test]
 fn reports_are_valid(rt: HostRuntime) -> Result<(), Fail> {
     for lines in [
@@ -163,7 +166,8 @@ fn reports_are_valid(rt: HostRuntime) -> Result<(), Fail> {
     Ok(())
 }
 
-// A bad line of the matrix is told, whatever follows. A read that fails behind the matrix is a fault, and so is a write.
+// A bad line of the matrix is told, whatever follows. A read that fails behind the matrix is a
+// fault, and so is a write.
 #[test]
 fn check_is_refused(rt: HostRuntime) -> Result<(), Fail> {
     let words = ["check"].as_slice();

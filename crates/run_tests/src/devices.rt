@@ -37,8 +37,9 @@ const TRAILING: &str = "%%MatrixMarket matrix coordinate pattern general\n1 1 1\
 /// An entry line less than told.
 const LACKING: &str = "%%MatrixMarket matrix coordinate pattern general\n1 1 2\n1 1\n";
 
-// A line is judged once its end was given. So the last line of 63 is told where call 63 fails, and not where call 62 does; an
-// entry line is missing only at the end of the input, which a failed call is not.
+// A line is judged once its end was given. So the last line of 63 is told where call 63 fails, and
+// not where call 62 does; an entry line is missing only at the end of the input, which a failed
+// call is not.
 #[test]
 fn a_line_is_judged_where_its_end_was_given(rt: HostRuntime) -> Result<(), Fail> {
     let fault = "btf: read fault\n";
@@ -139,8 +140,9 @@ fn lines_of_refusals_may_be_lost(rt: HostRuntime) -> Result<(), Fail> {
     )
 }
 
-// Calls of 10 bytes write the 39 bytes of `rank` in 4, the 96 of `analyse` in 10, the 6 of `check` in 1, the 59 of `load` in 6
-// and the 16 of `diagonal` in 2. The one after them hands the text on, and is the last.
+// Calls of 10 bytes write the 39 bytes of `rank` in 4, the 96 of `analyse` in 10, the 6 of `check`
+// in 1, the 59 of `load` in 6 and the 16 of `diagonal` in 2. The one after them hands the text on,
+// and is the last.
 #[test]
 fn a_text_is_handed_on_once(rt: HostRuntime) -> Result<(), Fail> {
     let judged =

@@ -1,5 +1,5 @@
-//! `diagonal` on small files, worked out by hand. Several prices are fair, so the prices of a text are read, and judged by the
-//! entries of the file.
+//! `diagonal` on small files, worked out by hand. Several prices are fair, so the prices of a text
+//! are read, and judged by the entries of the file.
 
 use crate::runs::{Devices, STEADY, answer, expect};
 use sp_ids::Status;
@@ -8,8 +8,8 @@ use std::process::Abort;
 use std::test::Fail;
 use std::thread::Threads;
 
-/// A square integer matrix with one heaviest diagonal. Rows and columns count from 0 here, and a weight is the magnitude of the
-/// sum of a place's values.
+/// A square integer matrix with one heaviest diagonal. Rows and columns count from 0 here, and a
+/// weight is the magnitude of the sum of a place's values.
 #[derive(Clone, Copy)]
 struct Example<'a> {
     file: &'a str,
@@ -117,7 +117,8 @@ fn numbers(alloc: Global, line: &str, word: &str) -> Result<Vec<i64>, Fail> {
     Ok(numbers)
 }
 
-/// The prices of a text: after its front the two lines of prices and the last line, and nothing else.
+/// The prices of a text: after its front the two lines of prices and the last line, and nothing
+/// else.
 fn prices_of(alloc: Global, text: &str, front: &str) -> Result<Prices, Fail> {
     let rest = text.strip_prefix(front).ok_or("another front")?;
     let lines = rest.strip_suffix("\nend\n").ok_or("another end")?;
@@ -128,7 +129,8 @@ fn prices_of(alloc: Global, text: &str, front: &str) -> Result<Prices, Fail> {
     })
 }
 
-// A diagonal and its prices: no entry weighs more than its row and column cost, and each pair weighs as much.
+// A diagonal and its prices: no entry weighs more than its row and column cost, and each pair
+// weighs as much.
 #[test]
 fn heaviest_diagonals(rt: HostRuntime) -> Result<(), Fail> {
     for example in [
@@ -184,7 +186,8 @@ fn matrices_without_a_pair(rt: HostRuntime) -> Result<(), Fail> {
     answered(&rt, "2 1 1\n1 1 1\n", no, "rectangular 2 1\n", "")
 }
 
-// A sum past the limit is told by the least column, then the least row; of a file that is no integer file no sums are made.
+// A sum past the limit is told by the least column, then the least row; of a file that is no
+// integer file no sums are made.
 #[test]
 fn diagonal_is_refused(rt: HostRuntime) -> Result<(), Fail> {
     let past = "1 1 2\n1 1 9223372036854775807\n1 1 1\n";

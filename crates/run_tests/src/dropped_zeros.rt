@@ -55,7 +55,8 @@ fn analysis_without_zeros(rt: HostRuntime) -> Result<(), Fail> {
     expect(&rt, words, FIVE_LESS_FIVE, &STEADY, Status::Ok, text, "")
 }
 
-// With the 0 the diagonal has the pair of row 1 and column 1; without it column 1 has no entry. A sum past the limit is no zero.
+// With the 0 the diagonal has the pair of row 1 and column 1; without it column 1 has no entry. A
+// sum past the limit is no zero.
 #[test]
 fn diagonals_without_zeros(rt: HostRuntime) -> Result<(), Fail> {
     let words = ["diagonal", "--drop-zeros"].as_slice();
@@ -83,8 +84,8 @@ fn judged<R: Threads + Abort + AllocGlobal + Sync>(
     expect(rt, words, input.as_str(), &STEADY, status, verdict, "")
 }
 
-// Each report is that of the one matrix and not of the other: a matrix with an entry has a longer matching than none, and a pair
-// at a place that is dropped is no entry.
+// Each report is that of the one matrix and not of the other: a matrix with an entry has a longer
+// matching than none, and a pair at a place that is dropped is no entry.
 #[test]
 fn verdicts_without_zeros(rt: HostRuntime) -> Result<(), Fail> {
     let kept = ["check"].as_slice();
@@ -97,7 +98,8 @@ fn verdicts_without_zeros(rt: HostRuntime) -> Result<(), Fail> {
     judged(&rt, dropped, one, Status::Negative, "invalid 2\n")
 }
 
-// A file whose values are no integers is refused for that, whatever follows it; a bad line is told first.
+// A file whose values are no integers is refused for that, whatever follows it; a bad line is told
+// first.
 #[test]
 fn other_fields_are_refused(rt: HostRuntime) -> Result<(), Fail> {
     let needs = "btf: needs an integer file\n";

@@ -31,7 +31,8 @@ fn ranks_and_reports_of_a_session(rt: HostRuntime) -> Result<(), Fail> {
     let lines = "set 2 2\nclear 1 1\nreport\n";
     session(&rt, lines, Status::Ok, text, "")?;
     session(&rt, "", Status::Ok, "rank 1\n", "")?;
-    // Skipped lines, blanks, a sign, leading zeros, no last line end; an entry that stands, and a place that is none.
+    // Skipped lines, blanks, a sign, leading zeros, no last line end; an entry that stands, and a
+    // place that is none.
     let lines = "% of the second entry\n\n set\t+2 002 \r\nset 2 2\nclear 2 1\nclear 2 2\nset 2 1";
     let text = "rank 1\nrank 2\nrank 2\nrank 2\nrank 1\nrank 1\n";
     session(&rt, lines, Status::Ok, text, "")

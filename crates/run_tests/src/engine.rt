@@ -54,8 +54,8 @@ fn one_column_and_one_row_stay_unmatched(rt: HostRuntime) -> Result<(), Fail> {
     expect_size(&rt, 4, 4, &THREE_PARTS, 3)
 }
 
-// The start takes row 1 for column 1, which leaves row 2 alone to columns 3 and 4. A maximum matching has rows 3, 4, 1 and 2
-// for columns 1 to 4.
+// The start takes row 1 for column 1, which leaves row 2 alone to columns 3 and 4. A maximum
+// matching has rows 3, 4, 1 and 2 for columns 1 to 4.
 #[test]
 fn the_start_is_not_maximum(rt: HostRuntime) -> Result<(), Fail> {
     let places = [

@@ -5,8 +5,8 @@ use sp_ids::Status;
 use std::alloc::AllocError;
 use std::test::Fail;
 
-/// Files that are refused: their lines, parted by ` / `, where a `P` stands for the first line of files of places alone, and what
-/// is told behind `btf: `.
+/// Files that are refused: their lines, parted by ` / `, where a `P` stands for the first line of
+/// files of places alone, and what is told behind `btf: `.
 #[rattlefmt::skip]
 const REFUSED: [(&str, &str); 29] = [
     ("%%NotIt", "malformed line 1: NoBanner"),

@@ -1,4 +1,5 @@
-//! `check` on changes of a report, on bytes that are made to mislead it, and on reports that promise more than they hold.
+//! `check` on changes of a report, on bytes that are made to mislead it, and on reports that
+//! promise more than they hold.
 
 use crate::runs::{Devices, STEADY, THREE_PARTS, expect, file_of, outcome_of};
 use sp_ids::Status;
@@ -61,8 +62,8 @@ static NO_REPORT: [Change; 7] = [
     Change { from: 16, to: 17, others: b"0 1\n" },
 ];
 
-/// Changes after which the pairs are no matching of entries. The first reason is told: in the last two the pairs are not maximum
-/// either, or the rank differs too.
+/// Changes after which the pairs are no matching of entries. The first reason is told: in the last
+/// two the pairs are not maximum either, or the rank differs too.
 #[rattlefmt::skip]
 static NO_MATCHING: [Change; 5] = [
     // Row 4 has no entry there, row 9 is not in the matrix, and row 2 has two pairs.
@@ -207,7 +208,8 @@ fn each_line_is_needed(rt: HostRuntime) -> Result<(), Fail> {
 /// A matrix whose entries are its diagonal.
 const DIAGONAL: &str = "3 3 3\n1 1\n2 2\n3 3\n";
 
-/// Its report, but for the blocks: all rows and columns are in one, as if a cycle went through them.
+/// Its report, but for the blocks: all rows and columns are in one, as if a cycle went through
+/// them.
 const ONE_BLOCK: &str =
     "btf 1\nmatrix 3 3 3\nrank 3\nhorizontal 0 0\nsquare 3 1\nblock 1 3\nrows 1 2 3\ncolumns 1 2 3\nvertical 0 0\npairs 3\n1 1\n2 2\n3 3\nend\n";
 
@@ -264,8 +266,9 @@ pub(crate) fn with_byte<R: AllocGlobal>(
     Ok(other)
 }
 
-/// The byte that may stand so many bytes before the end of the report and leave a report of the matrix: the row of the last
-/// pair may be 4, and the column of the first one 2. Rows 3 and 4 both have column 4 alone, and row 1 has columns 1 and 2.
+/// The byte that may stand so many bytes before the end of the report and leave a report of the
+/// matrix: the row of the last pair may be 4, and the column of the first one 2. Rows 3 and 4 both
+/// have column 4 alone, and row 1 has columns 1 and 2.
 fn other_pair(before_end: usize) -> Option<u8> {
     if before_end == b"3 4\nend\n".len() {
         Some(b'4')
@@ -276,7 +279,8 @@ fn other_pair(before_end: usize) -> Option<u8> {
     }
 }
 
-/// Changes this byte of the report to each other one, and compares which changes leave a report of the matrix.
+/// Changes this byte of the report to each other one, and compares which changes leave a report of
+/// the matrix.
 fn byte_is_changed<R: Threads + Abort + AllocGlobal + Sync>(
     rt: &R,
     whole: &[u8],
@@ -304,7 +308,8 @@ fn each_byte_changed(rt: HostRuntime) -> Result<(), Fail> {
     Ok(())
 }
 
-/// Changes that promise up to 4,294,967,295 of what there are few, or have a number that is no longer one of 32 bits.
+/// Changes that promise up to 4,294,967,295 of what there are few, or have a number that is no
+/// longer one of 32 bits.
 #[rattlefmt::skip]
 static PROMISES: [Change; 9] = [
     Change { from: 3, to: 4, others: b"horizontal 4294967295 2\n" },

@@ -79,7 +79,8 @@ static EARLIER: [(Change, &[u8]); 5] = [
     (Change { from: 17, to: 23, others: b"vertical_components 0\nrow_order 1 2 4 3\ncolumn_order 1 2 3 4\n" }, b"invalid 5\n"),
 ];
 
-/// Changes of the components alone: of how many there are, of what stands in them, and of which part has them.
+/// Changes of the components alone: of how many there are, of what stands in them, and of which
+/// part has them.
 #[rattlefmt::skip]
 static OTHER_COMPONENTS: [Change; 10] = [
     Change { from: 6, to: 10, others: b"horizontal_components 0\n" },
@@ -139,8 +140,9 @@ fn a_report_cut_at_each_of_its_bytes(rt: HostRuntime) -> Result<(), Fail> {
     Ok(())
 }
 
-/// The byte that may stand so many bytes before the end of the report and leave a report of the matrix: the row of the last
-/// pair may be 4, and the column of the first one 2. Rows 3 and 4 both have column 4 alone, and row 1 has columns 1 and 2.
+/// The byte that may stand so many bytes before the end of the report and leave a report of the
+/// matrix: the row of the last pair may be 4, and the column of the first one 2. Rows 3 and 4 both
+/// have column 4 alone, and row 1 has columns 1 and 2.
 fn other_pair(before_end: usize) -> Option<u8> {
     if before_end == b"3 4\nend\n".len() {
         Some(b'4')
@@ -151,7 +153,8 @@ fn other_pair(before_end: usize) -> Option<u8> {
     }
 }
 
-/// Changes this byte of the report to each of some others, and compares which changes leave a report of the matrix.
+/// Changes this byte of the report to each of some others, and compares which changes leave a
+/// report of the matrix.
 fn byte_is_changed<R: Threads + Abort + AllocGlobal + Sync>(
     rt: &R,
     whole: &[u8],

@@ -4,10 +4,11 @@ use crate::runs::{STEADY, expect};
 use sp_ids::Status;
 use std::test::Fail;
 
-/// A matrix, and the end of its report with the least pairs. Of the first each maximum matching has one pair of row 1, column 3's
-/// pair in row 2, and one pair of column 4; of the second, whose matching is perfect and one alone, the pairs cross; of the third
-/// the one row is column 1's, though column 2 could have it; of the fourth the one column has row 1; of the fifth, a cycle, each column
-/// has the row of its own number.
+/// A matrix, and the end of its report with the least pairs. Of the first each maximum matching has
+/// one pair of row 1, column 3's pair in row 2, and one pair of column 4; of the second, whose
+/// matching is perfect and one alone, the pairs cross; of the third the one row is column 1's,
+/// though column 2 could have it; of the fourth the one column has row 1; of the fifth, a cycle,
+/// each column has the row of its own number.
 const ENDS: [(&str, &str, &str); 5] = [
     (
         "%%MatrixMarket matrix coordinate pattern general\n4 4 7\n1 1\n1 2\n1 3\n2 3\n2 4\n3 4\n4 4\n",

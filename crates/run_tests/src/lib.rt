@@ -1,5 +1,5 @@
-//! Tests of the whole program over devices in memory, and of the engines as its words name them. There is nothing here for
-//! other crates.
+//! Tests of the whole program over devices in memory, and of the engines as its words name them.
+//! There is nothing here for other crates.
 #![tactic(auto)]
 
 #[cfg(test)]

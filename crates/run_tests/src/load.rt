@@ -7,7 +7,8 @@ use std::process::Abort;
 use std::test::Fail;
 use std::thread::Threads;
 
-/// What is written for a size and a seed, by each engine and by several workers. A file that is there is not looked at.
+/// What is written for a size and a seed, by each engine and by several workers. A file that is
+/// there is not looked at.
 fn summary<'a, R: Threads + Abort + AllocGlobal + Sync>(
     rt: &R,
     size: &'a str,
@@ -28,9 +29,10 @@ fn summary<'a, R: Threads + Abort + AllocGlobal + Sync>(
     Ok(())
 }
 
-// Seed 0 and size 30: column j has the rows 2 j, 3 j and 5 j, so multiples of 2, 3 or 5, of which there are 22 below 30. Of
-// size 2 and seed 1, column 0 has the rows 1, 0 and 1, and column 1 the rows 1, 1 and 0. Of size 1 there is one place. That
-// size 10,001 and seed 7 make one block is what CXSparse and SuiteSparse BTF say of their matrix.
+// Seed 0 and size 30: column j has the rows 2 j, 3 j and 5 j, so multiples of 2, 3 or 5, of which
+// there are 22 below 30. Of size 2 and seed 1, column 0 has the rows 1, 0 and 1, and column 1 the
+// rows 1, 1 and 0. Of size 1 there is one place. That size 10,001 and seed 7 make one block is what
+// CXSparse and SuiteSparse BTF say of their matrix.
 #[test]
 fn summaries_by_each_engine(rt: HostRuntime) -> Result<(), Fail> {
     let one = "matrix 1 1 1\nrank 1\nhorizontal 0 0\nsquare 1 1\nvertical 0 0\n";
@@ -59,7 +61,8 @@ fn summaries_by_each_engine(rt: HostRuntime) -> Result<(), Fail> {
     Ok(())
 }
 
-// The next read of the input is still its first one, which fails, and then its bytes come from the front.
+// The next read of the input is still its first one, which fails, and then its bytes come from the
+// front.
 #[test]
 fn the_input_is_left_alone(rt: HostRuntime) -> Result<(), Fail> {
     let devices = Devices {

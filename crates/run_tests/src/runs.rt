@@ -32,8 +32,8 @@ pub(crate) const THREE_PARTS_EXAMPLE: &str =
 pub(crate) const USAGE: &str =
     "btf: usage: btf rank [--drop-zeros] | analyse [--engine E] [--workers W] [--order] [--pairs] [--drop-zeros] [--report V] [--least] | diagonal [--drop-zeros] | check [--drop-zeros] | load --size N --seed S [--engine E] [--workers W] | edit | bottleneck [--drop-zeros]\n";
 
-/// How the devices of a run behave: the input's piece and its failing calls, the output's room and failing calls, and the room
-/// for the line of a refusal.
+/// How the devices of a run behave: the input's piece and its failing calls, the output's room and
+/// failing calls, and the room for the line of a refusal.
 #[derive(Clone, Copy)]
 pub(crate) struct Devices<'a> {
     pub(crate) piece: usize,
@@ -125,7 +125,8 @@ pub(crate) fn expect<R: Threads + Abort + AllocGlobal + Sync>(
     Ok(())
 }
 
-/// The status and the text of a command that has an answer on a file, by devices that do what is asked.
+/// The status and the text of a command that has an answer on a file, by devices that do what is
+/// asked.
 pub(crate) fn answer<R: Threads + Abort + AllocGlobal + Sync>(
     rt: &R,
     words: &[&str],

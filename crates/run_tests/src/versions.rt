@@ -1,4 +1,5 @@
-//! Reports of the second version, which have the connected components of the horizontal and the vertical part.
+//! Reports of the second version, which have the connected components of the horizontal and the
+//! vertical part.
 
 use crate::runs::{STEADY, expect, file_of};
 use sp_ids::Status;
@@ -16,8 +17,8 @@ const TWO_COMPONENTS_HEAD: &str =
 /// And behind them.
 const TWO_COMPONENTS_TAIL: &str = "square 0 0\nvertical 0 0\nvertical_components 0\n";
 
-// A row without an entry of the horizontal part is no row of it; a column without entries is a component by itself, and so is
-// a row of the vertical part without entries.
+// A row without an entry of the horizontal part is no row of it; a column without entries is a
+// component by itself, and so is a row of the vertical part without entries.
 #[test]
 fn second_version(rt: HostRuntime) -> Result<(), Fail> {
     let texts = [
@@ -74,7 +75,8 @@ fn judged<R: Threads + Abort + AllocGlobal + Sync>(
 
 const PAIRS: &str = "pairs 2\n1 1\n2 2\nend\n";
 
-// Components are judged last. Lists that rise and have the lengths that are told are of the grammar, whatever stands in them.
+// Components are judged last. Lists that rise and have the lengths that are told are of the
+// grammar, whatever stands in them.
 #[test]
 fn verdicts_on_components(rt: HostRuntime) -> Result<(), Fail> {
     let own = "component 1 1 2\nrows 1\ncolumns 1 3\ncomponent 2 1 2\nrows 2\ncolumns 2 4\n";
@@ -98,7 +100,8 @@ fn verdicts_on_components(rt: HostRuntime) -> Result<(), Fail> {
             "component 1 1 2\nrows 4294967295\ncolumns 1 3\ncomponent 2 1 2\nrows 2\ncolumns 2 4\n",
             "invalid 6\n",
         ),
-        // No report: two lengths of 0, a list that does not rise, another number, fewer than told, more than told.
+        // No report: two lengths of 0, a list that does not rise, another number, fewer than told,
+        // more than told.
         (
             "component 1 0 0\nrows\ncolumns\ncomponent 2 1 2\nrows 2\ncolumns 2 4\n",
             "invalid 1\n",
@@ -124,8 +127,8 @@ fn verdicts_on_components(rt: HostRuntime) -> Result<(), Fail> {
     Ok(())
 }
 
-// The same matrix with a report of the first version; with the first line of one version over the lines of the other; and with
-// lists of components that promise more than they hold.
+// The same matrix with a report of the first version; with the first line of one version over the
+// lines of the other; and with lists of components that promise more than they hold.
 #[test]
 fn verdicts_on_versions(rt: HostRuntime) -> Result<(), Fail> {
     let lines = "matrix 2 4 4\nrank 2\nhorizontal 2 4\nrows 1 2\ncolumns 1 2 3 4\n";

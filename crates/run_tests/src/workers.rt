@@ -1,4 +1,5 @@
-//! Several workers: that they work at once, and that no text depends on how many there are or on who is first.
+//! Several workers: that they work at once, and that no text depends on how many there are or on
+//! who is first.
 
 use crate::runs::{BANNER, THREE_PARTS, answer, file_of, run_over};
 use sp_ids::Status;
@@ -56,7 +57,8 @@ fn reports_of_small_matrices(rt: HostRuntime) -> Result<(), Fail> {
     Ok(())
 }
 
-// Thirty columns that all have entries in the same three rows, and one row of all columns beside them.
+// Thirty columns that all have entries in the same three rows, and one row of all columns beside
+// them.
 #[test]
 fn a_contested_matrix_again_and_again(rt: HostRuntime) -> Result<(), Fail> {
     let mut file = String::from_str(rt.alloc(), BANNER)?;

@@ -1,5 +1,5 @@
-//! The words that all crates of the analysis share: rows and columns, limits, the entries of a file, events of the
-//! search for augmenting paths, and statuses.
+//! The words that all crates of the analysis share: rows and columns, limits, the entries of a
+//! file, events of the search for augmenting paths, and statuses.
 #![tactic(auto)]
 
 mod events;

@@ -4,7 +4,8 @@ ghost use Rattle.std.specs.Prelude.{◌≡◌};
 
 use std::alloc::{AllocError, AllocFailed};
 
-/// There was not enough memory. Every call that takes memory may answer it, and no other answer stands for it.
+/// There was not enough memory. Every call that takes memory may answer it, and no other answer
+/// stands for it.
 #[derive(Clone, Copy, Debug, PartialEq, Eq)]
 pub struct OutOfMemory;
 

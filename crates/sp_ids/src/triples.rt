@@ -20,8 +20,8 @@ pub enum Field {
 
 /// The entries that a file gives, in the file's order, with the file's numbers of rows and columns.
 ///
-/// A place may stand there several times. Only files of the field integer have values. It keeps 8 bytes an entry, and
-/// 8 more where the field is integer.
+/// A place may stand there several times. Only files of the field integer have values. It keeps 8
+/// bytes an entry, and 8 more where the field is integer.
 #[derive(Drop)]
 pub struct Triples {
     rows: u32,
@@ -44,7 +44,8 @@ impl Model for Triples {
 }
 
 impl Triples {
-    /// No entries, of a matrix with so many rows and columns and a file of this field. It takes no memory yet.
+    /// No entries, of a matrix with so many rows and columns and a file of this field. It takes no
+    /// memory yet.
     pub fn new(alloc: Global, rows: u32, cols: u32, field: Field) -> Result<Triples, OutOfMemory>
         ensures { IfOk result
             (λ t. t ≡ record { rows = rows; cols = cols; field = field; items = [] }) }
@@ -58,7 +59,8 @@ impl Triples {
         })
     }
 
-    /// Adds an entry, of value 0 where the field is not integer. Want of memory leaves the entries as they were.
+    /// Adds an entry, of value 0 where the field is not integer. Want of memory leaves the entries
+    /// as they were.
     pub fn push(&mut self, row: Row, col: Col, value: i64) -> Result<(), OutOfMemory>
         requires row { row < self.old.rows }
         requires col { col < self.old.cols }
@@ -141,7 +143,8 @@ impl Triples {
         self.places.as_slice()
     }
 
-    /// The values of the entries of a file of the field integer, in the file's order, lent without copying.
+    /// The values of the entries of a file of the field integer, in the file's order, lent without
+    /// copying.
     pub fn values(&self) -> &[i64]
         requires { self.now.field ≡ Integer }
         ensures { result.now ≡ values self.now }

@@ -7,7 +7,8 @@ use std::thread;
 
 /// Where workers may be made to wait for each other. It changes no answer.
 pub trait Gate: Sync {
-    /// A worker has come to its share. Each worker calls it once in each search that the workers share.
+    /// A worker has come to its share. Each worker calls it once in each search that the workers
+    /// share.
     fn arrive(&self, worker: u32);
 }
 
@@ -22,10 +23,12 @@ impl Gate for NoGate {
 // How often worker 0 looks whether worker 1 has come.
 const MAX_TURNS: u32 = 50_000_000;
 
-/// Makes two workers meet: the k-th time that worker 0 arrives it waits until worker 1 has arrived k times.
+/// Makes two workers meet: the k-th time that worker 0 arrives it waits until worker 1 has arrived
+/// k times.
 ///
-/// It is for tests. Between two looks worker 0 lets other threads run, and after 50,000,000 looks in one arrival it goes on,
-/// so `arrive` returns whatever the other workers do. It counts the arrivals of workers 0 to 63, and keeps 8 bytes for each.
+/// It is for tests. Between two looks worker 0 lets other threads run, and after 50,000,000 looks
+/// in one arrival it goes on, so `arrive` returns whatever the other workers do. It counts the
+/// arrivals of workers 0 to 63, and keeps 8 bytes for each.
 #[derive(Drop)]
 pub struct MeetGate {
     arrivals: Vec<AtomicU64>,

@@ -1,4 +1,5 @@
-//! Where the bytes of a run come from and where they go: the traits of the outside, and devices in memory for tests.
+//! Where the bytes of a run come from and where they go: the traits of the outside, and devices in
+//! memory for tests.
 #![tactic(auto)]
 
 mod calls;

@@ -16,9 +16,9 @@ pub trait Source {
     /// How often a read has failed.
     ghost faults: { Self → ℕ };
 
-    /// Moves bytes from the start of what is left into the buffer, and tells how many. 0 for a buffer that is not empty
-    /// comes only at the end. `Failed` comes only where the count of faults rose, and then nothing was moved. A call counts
-    /// one fault at most.
+    /// Moves bytes from the start of what is left into the buffer, and tells how many. 0 for a
+    /// buffer that is not empty comes only at the end. `Failed` comes only where the count of
+    /// faults rose, and then nothing was moved. A call counts one fault at most.
     fn read(&mut self, buf: &mut [u8]) -> Result<usize, Failed>
         ensures bound { IfOk result (λ k. k ≤ length buf.old) }
         ensures bytes { IfOk result (λ k. Gives (left self.old) (left self.new) (take k buf.new)) }
@@ -36,8 +36,8 @@ pub trait Sink {
     /// How often a call has failed.
     ghost faults: { Self → ℕ };
 
-    /// Takes bytes from the start of the piece, and tells how many: at least one of a piece that is not empty. `Failed`
-    /// comes only where the count of faults rose, and then nothing was taken.
+    /// Takes bytes from the start of the piece, and tells how many: at least one of a piece that is
+    /// not empty. `Failed` comes only where the count of faults rose, and then nothing was taken.
     fn write(&mut self, piece: &[u8]) -> Result<usize, Failed>
         ensures bound { IfOk result (λ k. k ≤ length piece.now) }
         ensures some { IfOk result (λ k. 0 < length piece.now → 0 < k) }
@@ -52,8 +52,9 @@ pub trait Sink {
         ensures cause { FailsByWrites (seen taken faults self.old self.new) result };
 }
 
-/// Writes all of the bytes, in as many calls as the sink asks. After `Failed`, which comes only where a call failed, a
-/// prefix of them was taken, and no call was made after the one that failed. It takes no memory.
+/// Writes all of the bytes, in as many calls as the sink asks. After `Failed`, which comes only
+/// where a call failed, a prefix of them was taken, and no call was made after the one that failed.
+/// It takes no memory.
 pub fn write_all<K: Sink>(out: &mut K, bytes: &[u8]) -> Result<(), Failed>
     ensures { Writes (seen K.taken K.faults out.old out.new) bytes.now result }
 {

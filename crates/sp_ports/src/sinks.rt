@@ -12,7 +12,8 @@ use sp_ids::OutOfMemory;
 use std::alloc::Global;
 use std::marker::Model;
 
-/// Takes bytes in pieces and keeps them in memory. The listed calls fail, and so do writes when the room is used up.
+/// Takes bytes in pieces and keeps them in memory. The listed calls fail, and so do writes when the
+/// room is used up.
 #[derive(Drop)]
 pub struct MemSink {
     kept: Vec<u8>,
@@ -42,8 +43,9 @@ impl Model for MemSink {
 }
 
 impl MemSink {
-    /// A sink with room for `room` bytes that takes at most `piece` of them in a call. Its calls of `write` and `flush`
-    /// are numbered together from 0, and those whose numbers are in `failing` fail. It takes its memory now.
+    /// A sink with room for `room` bytes that takes at most `piece` of them in a call. Its calls of
+    /// `write` and `flush` are numbered together from 0, and those whose numbers are in `failing`
+    /// fail. It takes its memory now.
     pub fn new(
         alloc: Global,
         room: usize,
@@ -90,8 +92,8 @@ impl Sink for MemSink {
 
     ghost faults = { failures_of };
 
-    /// Takes as many bytes as it has room for, but at most a piece. Exactly the listed calls fail, and those for which no
-    /// room is left.
+    /// Takes as many bytes as it has room for, but at most a piece. Exactly the listed calls fail,
+    /// and those for which no room is left.
     fn write(&mut self, piece: &[u8]) -> Result<usize, Failed>
         ensures fails { IsErr result
             ↔ (Contains self.old.failing self.old.next ⊎ (length self.old.taken ≡ self.old.room)) }
@@ -153,8 +155,8 @@ fn keep(kept: &mut Vec<u8>, room: usize, most: usize, piece: &[u8]) -> usize
     count
 }
 
-/// Takes bytes in pieces and keeps them in memory. No call fails: when the room is used up it takes what comes and keeps
-/// none of it.
+/// Takes bytes in pieces and keeps them in memory. No call fails: when the room is used up it takes
+/// what comes and keeps none of it.
 #[derive(Drop)]
 pub struct SteadySink {
     kept: Vec<u8>,
@@ -181,7 +183,8 @@ impl Model for SteadySink {
 }
 
 impl SteadySink {
-    /// A sink with room for `room` bytes that takes at most `piece` of them in a call. It takes its memory now.
+    /// A sink with room for `room` bytes that takes at most `piece` of them in a call. It takes its
+    /// memory now.
     pub fn new(alloc: Global, room: usize, piece: usize) -> Result<SteadySink, OutOfMemory>
         requires { 0 < piece }
         ensures { IfOk result
@@ -209,7 +212,8 @@ impl Sink for SteadySink {
 
     ghost faults = { λ s. 0 };
 
-    /// Takes as many bytes as it has room for, but at most a piece. When no room is left it takes a piece and drops it.
+    /// Takes as many bytes as it has room for, but at most a piece. When no room is left it takes a
+    /// piece and drops it.
     fn write(&mut self, piece: &[u8]) -> Result<usize, Failed>
         ensures succeeds { IsOk result }
         ensures some { IfOk result (λ k. 0 < length piece.now → 0 < k) }

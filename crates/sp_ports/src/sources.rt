@@ -37,8 +37,8 @@ impl Model for MemSource {
 }
 
 impl MemSource {
-    /// A source of these bytes that gives at most `piece` of them in a call, which must be 1 at least. The calls whose
-    /// numbers, from 0, are in `failing` fail. It takes no memory.
+    /// A source of these bytes that gives at most `piece` of them in a call, which must be 1 at
+    /// least. The calls whose numbers, from 0, are in `failing` fail. It takes no memory.
     pub fn new(bytes: Vec<u8>, piece: usize, failing: Vec<u64>) -> MemSource
         requires { 0 < piece }
         ensures { result ≡ record {
@@ -71,7 +71,8 @@ impl Source for MemSource {
 
     ghost faults = { λ s. s.failed };
 
-    /// Gives as many bytes as the buffer has room for, but at most a piece. Exactly the listed calls fail.
+    /// Gives as many bytes as the buffer has room for, but at most a piece. Exactly the listed
+    /// calls fail.
     fn read(&mut self, buf: &mut [u8]) -> Result<usize, Failed>
         ensures fails { IsErr result ↔ Contains self.old.failing self.old.next }
         ensures count { IfOk result
@@ -126,8 +127,8 @@ impl Model for SteadySource {
 }
 
 impl SteadySource {
-    /// A source of these bytes that gives at most `piece` of them in a call, which must be 1 at least. It takes no
-    /// memory.
+    /// A source of these bytes that gives at most `piece` of them in a call, which must be 1 at
+    /// least. It takes no memory.
     pub fn new(bytes: Vec<u8>, piece: usize) -> SteadySource
         requires { 0 < piece }
         ensures { result ≡ record { left = bytes.items; piece = piece } }

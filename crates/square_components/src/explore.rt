@@ -47,7 +47,8 @@ impl Search {
         }
     }
 
-    // Goes on from the column at the last place to do to a column that was not entered, or leaves it.
+    // Goes on from the column at the last place to do to a column that was not entered, or leaves
+    // it.
     fn advance(&mut self, pattern: &Pattern, mates: &[u32], at: u32)
         requires search { IsDepthFirst pattern.now mates.now self.old }
         requires at { IsLast self.old.todo at }
@@ -61,8 +62,8 @@ impl Search {
         }
     }
 
-    // Looks at the entries that are left of the column at the last place to do, up to one that leads to a column that was
-    // not entered.
+    // Looks at the entries that are left of the column at the last place to do, up to one that
+    // leads to a column that was not entered.
     fn scan(&mut self, pattern: &Pattern, mates: &[u32], at: u32) -> Option<Col>
         requires search { IsDepthFirst pattern.now mates.now self.old }
         requires at { IsLast self.old.todo at }

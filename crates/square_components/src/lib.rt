@@ -18,20 +18,22 @@ use sp_ids::OutOfMemory;
 use sp_pattern::Pattern;
 use std::alloc::Global;
 
-/// For each column the number of its strong component, or `u32::MAX` where it is not square, and how many components
-/// there are. The square columns have exactly the numbers below the count.
+/// For each column the number of its strong component, or `u32::MAX` where it is not square, and
+/// how many components there are. The square columns have exactly the numbers below the count.
 #[derive(Drop)]
 pub struct Components {
     pub numbers: Vec<u32>,
     pub count: u32,
 }
 
-/// The strong components of the square part's columns, where a column leads over each of its entries to the mate of the
-/// entry's row. An entry leads to no greater number: components are numbered in the order in which they are finished.
+/// The strong components of the square part's columns, where a column leads over each of its
+/// entries to the mate of the entry's row. An entry leads to no greater number: components are
+/// numbered in the order in which they are finished.
 ///
-/// One depth-first search with explicit stacks, which keeps the path of components that are not finished (Gabow 2000;
-/// Tarjan 1972). Answers `OutOfMemory` where 4 bytes a row and 24 a column can't be had. Work: each entry of a square
-/// column is looked at twice at most, and each row and column a fixed number of times.
+/// One depth-first search with explicit stacks, which keeps the path of components that are not
+/// finished (Gabow 2000; Tarjan 1972). Answers `OutOfMemory` where 4 bytes a row and 24 a column
+/// can't be had. Work: each entry of a square column is looked at twice at most, and each row and
+/// column a fixed number of times.
 pub fn strong_components(
     alloc: Global,
     pattern: &Pattern,

@@ -14,8 +14,8 @@ use std::marker::Model;
 /// Stands for no place, no number and no mate.
 pub const NONE: u32 = u32::MAX;
 
-/// The state of the search. The columns of the path are kept in the order in which they were entered, cut into the
-/// components that are known so far.
+/// The state of the search. The columns of the path are kept in the order in which they were
+/// entered, cut into the components that are known so far.
 #[derive(Drop)]
 pub struct Search {
     stack: Vec<u32>,
@@ -126,8 +126,8 @@ impl Search {
         self.left[col as usize] = left;
     }
 
-    /// Follows an entry to a column that it leads to, or to none: the components after that column are joined to its own
-    /// where it is on the path. Whether it was entered before.
+    /// Follows an entry to a column that it leads to, or to none: the components after that column
+    /// are joined to its own where it is on the path. Whether it was entered before.
     pub fn settle(&mut self, next: u32) -> bool
         requires place { next ≢ none → next < length self.old.place }
         requires number { next ≢ none → next < length self.old.number }
@@ -179,7 +179,8 @@ impl Search {
         self.starts[self.starts.len() - 1]
     }
 
-    // Numbers the columns of the last component, which starts at `start`, and takes them off the path.
+    // Numbers the columns of the last component, which starts at `start`, and takes them off the
+    // path.
     fn finish(&mut self, start: u32)
         requires start { IsLast self.old.starts start }
         requires on { start < length self.old.stack }
