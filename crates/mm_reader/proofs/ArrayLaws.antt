@@ -1,5 +1,5 @@
 -- Value lines: the place of each, and what it adds.
-use Rattle.std.proofs.Common.{◌≡◌, ◌≢◌, ℕ, ℤ, pos, negsuc, nat_abs, zero, suc, ◌+◌, ◌<◌, ◌≤◌, Bool, true, false, ◌==◌, List, [], ◌∷◌, ◌++◌, length, get_or, length-append, refl, sym, ap, subst, ◌∙◌, arith, append-nil, flat_map, ne_eqb}
+use Rattle.std.proofs.Common.{◌≡◌, ℕ, ℤ, nat_abs, ◌+◌, ◌<◌, ◌≤◌, Bool, true, false, ◌==◌, List, [], ◌∷◌, ◌++◌, length, get_or, length-append, refl, sym, ap, subst, ◌∙◌, arith, append-nil, flat_map}
 use Rattle.std.specs.List.{zip}
 use Rattle.std.proofs.lemmas.Grind.{flat_map-append}
 use Rattle.std.proofs.lemmas.List.{map-append}
@@ -61,14 +61,6 @@ items-push h s ls l low =
 -- one triple and its mirror
 pub mirrored : (y : Symmetry) (t : Triple) → with_mirrors y (t ∷ []) ≡ t ∷ mirror y t
 mirrored y t = append-nil (t ∷ mirror y t)
-
-pub placed_none : (p : ℕ × ℕ) (v : ℤ) → v ≡ pos 0 → placed p v ≡ []
-placed_none p v e = rw e refl
-
-pub placed_some : (p : ℕ × ℕ) (v : ℤ) → v ≢ pos 0 → placed p v ≡ record { row = p.0; col = p.1; value = v } ∷ []
-placed_some p (pos zero) some = absurd (some refl)
-placed_some p (pos (suc n)) some = rw (ne_eqb (suc n) 0 (omega arith)) refl
-placed_some p (negsuc n) some = rw (ne_eqb (suc n) 0 (omega arith)) refl
 
 few_mirrors : (y : Symmetry) (t : Triple) → length (mirror y t) ≤ 1
 few_mirrors General t = omega arith
@@ -132,10 +124,6 @@ module _ (h : Header) (s : Size) (within : IsWithin h s) (array : is_array h.for
 
 pub next_first : (h : Header) (s : Size) → IsWithin h s → IsNext h s 0 (array_place (first_row h.symmetry 0, 0))
 next_first h s within array low = places_first h.symmetry s.rows s.cols (in_places h s within array 0 low)
-
--- other files have none
-pub next_same : (h : Header) (s : Size) (done : ℕ) (next : ArrayPlace) → h.format ≡ Coordinate → IsNext h s done next
-next_same h s done next e array low = let k : is_array h.format ≡ false = rw e refl in absurd cc
 
 -- one more value is kept
 pub more_room : (h : Header) (s : Size) (done : ℕ) (next : ArrayPlace) (t t2 : entries.Entries) (v : ℤ) → HasRoom h s done next t → h.format ≡ Array → done < s.count

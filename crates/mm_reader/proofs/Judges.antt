@@ -1,5 +1,5 @@
 -- From what is kept of a line to the rules on it.
-use Rattle.std.proofs.Common.{◌^◌, ◌<◌, ◌≡◌, ◌≢◌, ℕ, ℤ, ◌+◌, ◌-◌, ◌≤◌, Bool, true, false, not, ◌==◌, ◌&&◌, List, [], ◌∷◌, ◌++◌, length, refl, sym, ap, ◌∙◌, arith, eqb-true, zero, suc, Some, None, Result, Ok, Err, ne_eqb, le-ltb}
+use Rattle.std.proofs.Common.{◌^◌, ◌<◌, ◌≡◌, ◌≢◌, ℕ, ℤ, ◌+◌, ◌-◌, ◌≤◌, Bool, true, false, not, ◌==◌, ◌&&◌, List, [], ◌∷◌, ◌++◌, length, refl, sym, ap, ◌∙◌, arith, eqb-true, Some, None, Result, Ok, Err, ne_eqb, le-ltb}
 use Rattle.std.specs.List.{list_all}
 use Rattle.sp_ids.specs.Entries.{Triple}
 use Rattle.sp_ids.specs.declared.triples.Field.{Field}
@@ -9,7 +9,6 @@ use Rattle.mm_defs.specs.declared.header.Format.TheVariants.{Coordinate, Array}
 use Rattle.mm_defs.specs.declared.header.Header.{Header}
 use Rattle.mm_defs.specs.declared.header.Size.{Size}
 use Rattle.mm_defs.specs.declared.kinds.Kind.{Kind}
-use Rattle.mm_defs.specs.declared.kinds.Kind.TheVariants.{SizeNumber}
 use Rattle.mm_defs.specs.Words.{Word, word}
 use Rattle.mm_defs.specs.Numbers.{is_number, number}
 use Rattle.mm_defs.specs.Header.{is_array, is_integer_field, value_words, size_words, size}
@@ -44,22 +43,6 @@ three_numbers (u ∷ []) n a b d = absurd cc
 three_numbers (u ∷ v ∷ []) n a b d = absurd cc
 three_numbers (u ∷ v ∷ w ∷ []) n a b d = rw (a, b, d) refl
 three_numbers (u ∷ v ∷ w ∷ x ∷ ws) n a b d = let k = eqb-true _ _ n in absurd (omega arith)
-
-and_not : (a b : Bool) → b ≡ false → (a && b) ≡ false
-and_not true b e = e
-and_not false b e = refl
-
-some_no_number : (ws : List Word) (k : ℕ) → k < length ws → is_number (word ws k) ≡ false → list_all is_number ws ≡ false
-some_no_number [] k low e = absurd (omega arith)
-some_no_number (w ∷ ws) zero low e = rw e refl
-some_no_number (w ∷ ws) (suc k) low e = and_not (is_number w) (list_all is_number ws) (some_no_number ws k (omega arith) e)
-
-pub size_numbers_bad : (h : Header) (ws : List Word) (k : ℕ) → (length ws == size_words h.format) ≡ true → k < size_words h.format → is_number (word ws k) ≡ false
-    → first_kind (size_rules h ws) ≡ Some SizeNumber
-size_numbers_bad h ws k n low e =
-    let l : length ws ≡ size_words h.format = eqb-true _ _ n in
-    let a = some_no_number ws k (omega arith) e in
-    rw (n, a) refl
 
 pub size_judged : (h : Header) (ws : List Word) (r : Result Size Kind) → (length ws == size_words h.format) ≡ true → list_all is_number ws ≡ true
     → Judged (size_limits h (size h ws)) (size h ws) r → Judged (size_rules h ws) (size h ws) r
@@ -103,10 +86,6 @@ inside limit n row e some low small =
     let a : n ≢ 0 = omega arith in
     let b : n ≤ limit = omega arith in
     rw (ne_eqb n 0 a, le-ltb limit n b) refl
-
--- the limits on the extent, and then those on the count
-pub extent_bad : (h : Header) (s : Size) (kind : Kind) → first_kind (extent_rules s.rows s.cols) ≡ Some kind → Judged (size_limits h s) s (Err kind)
-extent_bad h s kind e = first_some (extent_rules s.rows s.cols) (count_rules h s) kind e
 
 pub extent_good : (h : Header) (s : Size) (r : Result Size Kind) → first_kind (extent_rules s.rows s.cols) ≡ None → Judged (count_rules h s) s r → Judged (size_limits h s) s r
 extent_good h s (Ok y) e j = (first_none (extent_rules s.rows s.cols) (count_rules h s) e ∙ j.0, j.1)

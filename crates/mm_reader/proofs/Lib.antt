@@ -5,7 +5,6 @@ pub mod CompleteLaws
 pub mod EightDigits
 pub mod EndLaws
 pub mod Exits
-pub mod FeedLaws
 pub mod FrontLaws
 pub mod Judges
 pub mod LineSteps

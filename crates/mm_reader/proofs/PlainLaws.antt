@@ -41,9 +41,6 @@ between-push bytes from at h low =
     let g : get_or (drop from bytes) (at - from) 0 ≡ get_or bytes at 0 = get_or-drop from bytes (at - from) 0 ∙ ap (λ i. get_or bytes i 0) (omega arith) in
     ap (λ i. take i (drop from bytes)) e ∙ take_more (drop from bytes) (at - from) 0 k ∙ ap (λ b. between bytes from at ++ b ∷ []) g
 
-pub run_none : (sort : ℕ → Bool) (bytes : List ℕ) (from : ℕ) → from ≤ length bytes → IsRun sort bytes from from
-run_none sort bytes from h = record { in_order = omega arith; within = h; all = rw (between-none bytes from) refl }
-
 both : (a b : Bool) → a ≡ true → b ≡ true → (a && (b && true)) ≡ true
 both true true x y = refl
 both true false x y = absurd cc
@@ -58,9 +55,6 @@ run_more sort bytes from at r low yes_it_is =
       within = omega arith;
       all = rw (e, k) (both (list_all sort (between bytes from at)) (sort (get_or bytes at 0)) r.all yes_it_is);
     }
-
-pub digits_none : (bytes : List ℕ) (from : ℕ) → from ≤ length bytes → IsDigits bytes from from 0
-digits_none bytes from h = record { in_order = omega arith; within = h; all = rw (between-none bytes from) refl; value_is = rw (between-none bytes from) refl; small = omega arith }
 
 pub both_of : (a b : Bool) → a ≡ true → b ≡ true → (a && b) ≡ true
 both_of true true x y = refl

@@ -1,5 +1,5 @@
 -- What one more line does to the machine, by its role.
-use Rattle.std.proofs.Common.{◌≡◌, ℕ, ◌+◌, ◌<◌, true, false, ◌==◌, List, [], ◌∷◌, ◌++◌, length, refl, sym, ap, subst, ◌∙◌, arith, length-append, Some, None, eqb-true, eq-eqb}
+use Rattle.std.proofs.Common.{◌≡◌, ℕ, ◌+◌, ◌<◌, true, false, ◌==◌, List, [], ◌∷◌, ◌++◌, length, refl, sym, ap, subst, ◌∙◌, arith, length-append, Some, None, eq-eqb}
 use Rattle.sp_ids.specs.Entries as entries
 use Rattle.mm_defs.specs.declared.answers.End.{End}
 use Rattle.mm_defs.specs.declared.answers.End.TheVariants.{File, LastEntry}
@@ -29,10 +29,6 @@ some_fault rules l kind h = rw h refl
 sizes_open : (end : End) (h : Header) → is_complete end (phases.Sizes h) ≡ true → ⊥
 sizes_open File h e = cc
 sizes_open LastEntry h e = cc
-
-complete_count : (end : End) (h : Header) (s : Size) (done : ℕ) (p : ArrayPlace) → is_complete end (phases.Entries h s done p) ≡ true → done ≡ s.count
-complete_count File h s done p e = absurd cc
-complete_count LastEntry h s done p e = eqb-true done s.count e
 
 last_number-push : (ls : List Line) (l : Line) → last_number (ls ++ l ∷ []) ≡ l.number
 last_number-push [] l = refl

@@ -1,6 +1,6 @@
 -- Bytes ahead that are used, and refused.
-use Rattle.std.proofs.Common.{◌≡◌, ℕ, ◌+◌, ◌-◌, ◌<◌, ◌≤◌, Bool, count_by, true, false, if◌then◌else◌, List, [], ◌++◌, length, take, drop, refl, sym, ap, subst, ◌∙◌, arith, length-take-le, length-drop, drop-drop, append_assoc, length-append, length-take, drop_of_length-le, take-append-drop, take-take}
-use Rattle.std.proofs.lemmas.List.{drop-take, take-append-le}
+use Rattle.std.proofs.Common.{◌≡◌, ℕ, zero, suc, ◌+◌, ◌-◌, ◌<◌, ◌≤◌, Bool, count_by, true, false, if◌then◌else◌, List, [], ◌++◌, length, take, drop, refl, sym, ap, subst, ◌∙◌, arith, length-take-le, length-drop, drop-drop, length-append, append-nil, drop_of_length-le}
+use Rattle.std.proofs.lemmas.List.{drop-take}
 use Rattle.std.proofs.lemmas.List.Sums.{sum_by-append, count_by-le-length}
 use Rattle.mm_defs.specs.declared.answers.End.{End}
 use Rattle.mm_defs.specs.declared.answers.ReadError.TheVariants as errors
@@ -14,18 +14,18 @@ use Rattle.mm_reader.specs.declared.machine.Machine.{Machine}
 use Rattle.mm_reader.specs.declared.window.Window.{Window}
 use Rattle.mm_reader.specs.Machine.{IsReady, is_complete}
 use Rattle.mm_reader.specs.Stages.{begun_lines, IsAfter, StandsSomewhere, StopsWithin}
-use Rattle.mm_reader.specs.Windows.{ahead_of, IsOnePast, IsWindow, Consumes, HasBadPrefix, Refuses, Uses, refusal_of}
+use Rattle.mm_reader.specs.Windows.{ahead_of, IsWindow, Consumes, HasBadPrefix, Refuses, Uses, refusal_of}
 use Rattle.mm_reader.proofs.MissingLines.{lacks_lines}
 
--- what stopped the machine within a prefix of the bytes ahead
-module _ (end : End) (bytes piece past ahead : List ℕ) (room : ℕ) (ahead_is : ahead ≡ piece ++ past) (short : length piece ≤ room) where
-  bad_prefix : (line : ℕ) (kind : Kind) → StopsWithin end bytes piece (stops.Bad line kind) → HasBadPrefix end bytes ahead room (record { line = line; kind = kind })
+-- what stopped the machine within the bytes ahead, all of which may be used
+module _ (end : End) (bytes ahead : List ℕ) (room : ℕ) (short : length ahead ≤ room) where
+  bad_prefix : (line : ℕ) (kind : Kind) → StopsWithin end bytes ahead (stops.Bad line kind) → HasBadPrefix end bytes ahead room (record { line = line; kind = kind })
   bad_prefix line kind s =
-      let n : length piece ≡ length s.prefix + length s.rest = ap length s.piece_is ∙ length-append s.prefix s.rest in
+      let n : length ahead ≡ length s.prefix + length s.rest = ap length s.piece_is ∙ length-append s.prefix s.rest in
       record {
         prefix = s.prefix;
-        rest = s.rest ++ past;
-        ahead_is = ahead_is ∙ ap (λ (t : List ℕ). t ++ past) s.piece_is ∙ append_assoc s.prefix s.rest past;
+        rest = s.rest;
+        ahead_is = s.piece_is;
         short = omega arith;
         ends = s.stops;
       }
@@ -35,7 +35,7 @@ module _ (end : End) (bytes piece past ahead : List ℕ) (room : ℕ) (ahead_is 
   by_kind line kind true e h = (h, e)
   by_kind line kind false e h = (h, e)
 
-  pub refuses : (stop : Stop) → StopsWithin end bytes piece stop → Refuses end bytes ahead room (refusal_of stop)
+  pub refuses : (stop : Stop) → StopsWithin end bytes ahead stop → Refuses end bytes ahead room (refusal_of stop)
   refuses (stops.Bad line kind) s = by_kind line kind (is_limit kind) refl (bad_prefix line kind s)
   refuses stops.Memory s = tt
 
@@ -98,22 +98,14 @@ module _ (w : Window) (used lfs : ℕ) (win : IsWindow w) (some : used ≤ lengt
         within = win.within;
         fits = omega (arith, win.fits);
         asked = omega (arith, win.asked);
+        in_room = λ some_left. let r : 0 < w.room = omega arith in omega (arith, win.in_room r);
       }
 
--- the machine goes on by this prefix of the bytes ahead
-module _ (end : End) (w : Window) (m m2 : Machine) (piece past : List ℕ) (used : ℕ) (ahead_is : ahead_of w ≡ piece ++ past) (some : used ≤ length piece)
-    (stands : (bytes : List ℕ) → IsAfter end m bytes → IsAfter end m2 (bytes ++ take used piece)) where
-  same : take used piece ≡ take used (ahead_of w)
-  same = sym (ap (take used) ahead_is ∙ take-append-le used piece past some)
-
-  pub used_some : used ≤ length (ahead_of w)
-  used_some = let k : length (ahead_of w) ≡ length piece + length past = ap length ahead_is ∙ length-append piece past in omega arith
-
+-- the machine goes on by so many of the bytes ahead
+module _ (end : End) (w : Window) (m m2 : Machine) (used : ℕ) (some : used ≤ length (ahead_of w))
+    (stands : (bytes : List ℕ) → IsAfter end m bytes → IsAfter end m2 (bytes ++ take used (ahead_of w))) where
   more_lines : StandsSomewhere end m → m2.number ≡ m.number + count_by is_lf (take used (ahead_of w))
-  more_lines stood =
-      let k = lfs_more end m m2 stood.0 (take used piece) stood.1 (stands stood.0 stood.1) in
-      let l : count_by is_lf (take used piece) ≡ count_by is_lf (take used (ahead_of w)) = ap (count_by is_lf) same in
-      omega arith
+  more_lines stood = lfs_more end m m2 stood.0 (take used (ahead_of w)) stood.1 (stands stood.0 stood.1)
 
   pub no_fewer_lines : StandsSomewhere end m → m.number ≤ m2.number
   no_fewer_lines stood = omega (arith, more_lines stood)
@@ -126,7 +118,7 @@ module _ (end : End) (w : Window) (m m2 : Machine) (piece past : List ℕ) (used
   consumed w2 done u done_is all closed number ready = record {
     count = used;
     uses = u;
-    stands = λ bytes h. subst (λ (t : List ℕ). IsAfter end m2 (bytes ++ t)) same (stands bytes h);
+    stands = stands;
     done_is = done_is;
     all = λ e. u.ahead_is ∙ none_left (ahead_of w) used (all e);
     closed = closed;
@@ -144,38 +136,18 @@ uses_none w = record {
   at_end_same = refl;
 }
 
--- what is ahead past the room is one byte, however much is used
-pub one_past : (w w2 : Window) (n : ℕ) → IsWindow w → w.room < length (ahead_of w) → Uses w w2 n → IsOnePast w2
-one_past w w2 n win over u =
-    let k = length-ahead_of w win in
-    let d : length (ahead_of w2) ≡ length (ahead_of w) - n = ap length u.ahead_is ∙ length-drop n (ahead_of w) in
-    omega (arith, u.some, u.room_is, win.asked, win.in_order)
+-- where more bytes are ahead than may be used, none may be used
+none_may : (room from to : ℕ) → (0 < room → to ≤ from + room) → from + room < to → room ≡ 0
+none_may zero from to in_room over = refl
+none_may (suc n) from to in_room over = let k = in_room (omega arith) in absurd (omega arith)
 
--- the prefix of the bytes ahead that may be used
-pub limited : (w : Window) → IsWindow w → w.room < length (ahead_of w) → ahead_of w ≡ take ((w.from + w.room) - w.from) (drop w.from w.buffer.items) ++ drop w.room (ahead_of w)
-limited w win over =
-    let n = length-ahead_of w win in
-    let e : (w.from + w.room) - w.from ≡ w.room = omega arith in
-    let low : w.room ≤ w.to - w.from = omega arith in
-    sym (take-append-drop w.room (ahead_of w)) ∙ ap (λ (t : List ℕ). t ++ drop w.room (ahead_of w)) (take-take w.room (w.to - w.from) (drop w.from w.buffer.items) low ∙ ap (λ k. take k (drop w.from w.buffer.items)) (sym e))
+pub no_room : (w : Window) → IsWindow w → w.room < length (ahead_of w) → w.room ≡ 0
+no_room w win over = let k = length-ahead_of w win in none_may w.room w.from w.to win.in_room (omega (arith, win.in_order))
 
-pub length-limited : (w : Window) → length (take ((w.from + w.room) - w.from) (drop w.from w.buffer.items)) ≤ w.room
-length-limited w = simp length-take (omega arith)
-
--- where the machine got all of them and has no matrix, there are too many bytes
-pub limited_all : (w : Window) → IsWindow w → w.room < length (ahead_of w) → length (take ((w.from + w.room) - w.from) (drop w.from w.buffer.items)) ≡ w.room
-limited_all w win over =
-    let n = length-ahead_of w win in
-    let l : w.to ≤ length w.buffer.items = omega (arith, win.long, win.within, w.buffer.ok.0) in
-    let d = length-drop w.from w.buffer.items in
-    let e : (w.from + w.room) - w.from ≡ w.room = omega arith in
-    let low : w.room ≤ length (drop w.from w.buffer.items) = omega arith in
-    rw e (length-take-le w.room (drop w.from w.buffer.items) low)
-
-pub too_many : (end : End) (w : Window) (m : Machine) (bytes piece past : List ℕ) (used : ℕ) → ahead_of w ≡ piece ++ past → used ≡ length piece → length piece ≡ w.room → w.room < length (ahead_of w)
-    → IsAfter end m (bytes ++ take used piece) → is_complete end m.phase ≡ false → Refuses end bytes (ahead_of w) w.room errors.TooLong
-too_many end w m bytes piece past used ahead_is whole all over a out =
-    let some : used ≤ length piece = omega arith in
-    let e : take used piece ≡ take w.room (ahead_of w) = sym (ap (take used) ahead_is ∙ take-append-le used piece past some) ∙ ap (λ k. take k (ahead_of w)) (whole ∙ all) in
-    let k = subst (λ (t : List ℕ). IsAfter end m (bytes ++ t)) e a in
+-- so the machine has no matrix of the bytes that may be used
+pub too_many : (end : End) (w : Window) (m : Machine) (bytes : List ℕ) → IsWindow w → w.room < length (ahead_of w) → IsAfter end m bytes → is_complete end m.phase ≡ false
+    → Refuses end bytes (ahead_of w) w.room errors.TooLong
+too_many end w m bytes win over a out =
+    let e : bytes ++ take w.room (ahead_of w) ≡ bytes = ap (λ k. bytes ++ take k (ahead_of w)) (no_room w win over) ∙ append-nil bytes in
+    let k = subst (λ (t : List ℕ). IsAfter end m t) (sym e) a in
     (over, k.lines_are.good, lacks_lines end m.phase m.triples (lines false (bytes ++ take w.room (ahead_of w))) k.lines_are out)

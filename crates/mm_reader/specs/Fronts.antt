@@ -34,10 +34,6 @@ pub record UsesFirst (old new : Front) (b : ℕ) : Type 0 where
   pub lines_are : new.lines ≡ old.lines + (if is_lf b then 1 else 0)
   pub at_end_same : new.at_end ≡ old.at_end
 
--- the byte ahead is past what may be used
-abbrev pub IsPast : Front → ReadError → Type 0
-IsPast f error = (error ≡ errors.TooLong) × (f.room ≡ 0) × (length f.ahead ≡ 1)
-
 -- this byte was used, the first of those ahead and those that the source gave: the others are ahead
 pub record UsesByte (old new : Front) (source : Device) (b : ℕ) : Type 0 where
   pub gave : List ℕ
@@ -63,8 +59,9 @@ abbrev pub Advances : Front → Front → Device → Option ℕ → Type 0
 Advances old new source (Some b) = UsesByte old new source b
 Advances old new source None = IsOver old new source
 
--- one byte more has come than may be used
+-- no byte was ahead, all that may be used were used, and one more has come
 pub record IsPastLimit (old new : Front) (source : Device) : Type 0 where
+  pub none_before : old.ahead ≡ []
   pub gave : List ℕ
   pub given : Gives source.before source.after gave
   pub bytes_are : old.ahead ++ gave ≡ new.ahead

@@ -1,5 +1,5 @@
 -- What callers see of an input.
-use Rattle.std.specs.Prelude.{◌≤◌, ◌+◌, ◌-◌, length, Result, OnOk}
+use Rattle.std.specs.Prelude.{◌≡◌, ◌≤◌, ◌+◌, ◌-◌, length, true, Result, OnOk}
 use Rattle.std.specs.Result.{IsErrOf}
 use Rattle.sp_ports.specs.Bytes.{WhereKnown}
 use Rattle.sp_ports.specs.Device.{Device, FailsOnceAtMost, HasReadFault, IsSteady}
@@ -7,7 +7,7 @@ use Rattle.mm_defs.specs.declared.answers.ReadError.{ReadError}
 use Rattle.mm_defs.specs.declared.answers.ReadError.TheVariants.{ReadFault}
 use Rattle.mm_defs.specs.Calls.{Call, Intake, call_on, room}
 use Rattle.mm_reader.specs.declared.input.Input.TheInside.{Inside}
-use Rattle.mm_reader.specs.Windows.{ahead_of, IsWindow}
+use Rattle.mm_reader.specs.Windows.{ahead_of, IsInRoom, IsWindow}
 
 abbrev pub intake_of : Inside → Intake
 intake_of i = record {
@@ -19,11 +19,13 @@ intake_of i = record {
   good = i.good;
 }
 
--- what may still be used is within the limit, and so are the lines of what was used
+-- what may still be used is within the limit, and so are the lines of what was used; all bytes
+-- ahead of a good input may be used
 pub record IsInput (i : Inside) : Type 0 where
   pub window : IsWindow i.window
   pub room : i.window.room ≤ i.limit
   pub lines : i.window.lines + i.window.room ≤ i.limit
+  pub in_room : i.good ≡ true → IsInRoom i.window
 
 -- what holds of a call on an input, where its source tells its bytes
 abbrev pub OnCall : Intake → Device → (Call → Type 0) → Type 0

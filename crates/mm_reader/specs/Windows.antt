@@ -22,13 +22,19 @@ use Rattle.mm_reader.specs.Stages.{begun_lines, IsAfter, EndsBad}
 abbrev pub ahead_of : Window → List ℕ
 ahead_of w = take (w.to - w.from) (drop w.from w.buffer.items)
 
--- the buffer has its size, the counts fit, and at most one byte ahead is past what may be used
+-- all bytes ahead may be used
+abbrev pub IsInRoom : Window → Type 0
+IsInRoom w = w.to ≤ w.from + w.room
+
+-- the buffer has its size, the counts fit, and where not all bytes ahead may be used, none may be
+-- and one is ahead
 pub record IsWindow (w : Window) : Type 0 where
   pub long : vec_len w.buffer ≡ 65536
   pub in_order : w.from ≤ w.to
   pub within : w.to ≤ 65536
   pub fits : w.lines + w.room < 2 ^ 64
   pub asked : w.to ≤ w.from + w.room + 1
+  pub in_room : 0 < w.room → IsInRoom w
 
 -- so many of the bytes ahead were used, and their LFs counted
 pub record Uses (old new : Window) (n : ℕ) : Type 0 where

@@ -1,6 +1,6 @@
 //! The places of an array file's values, and how many values it has.
 
-ghost use Rattle.std.specs.Prelude.{◌≡◌, ◌<◌, ◌≤◌, ◌+◌};
+ghost use Rattle.std.specs.Prelude.{◌≡◌, ◌<◌, ◌≤◌};
 ghost use Rattle.sp_ids.specs.Limits.{max_cols, max_rows};
 ghost use Rattle.mm_defs.specs.Arrays.{first_row, following, value_count};
 ghost use Rattle.mm_reader.specs.ArrayPlaces.{array_place, place_of};

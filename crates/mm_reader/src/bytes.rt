@@ -1,12 +1,12 @@
 //! Reading a single byte.
 
-ghost use Rattle.std.specs.Prelude.{◌≡◌, ◌<◌, if◌then◌else◌, IfErr, IfOk, OnErr, IsTrue};
+ghost use Rattle.std.specs.Prelude.{◌≡◌, ◌<◌, if◌then◌else◌, IfErr, IfOk, OnOk, IsTrue};
 ghost use Rattle.sp_ports.specs.Bytes.{IsAtEnd};
 ghost use Rattle.sp_ports.specs.Device.{seen};
 ghost use Rattle.mm_defs.specs.Words.{is_lf};
-ghost use Rattle.mm_reader.specs.Fronts.{front_of, Advances, IsPast, Stops, UsesFirst};
+ghost use Rattle.mm_reader.specs.Fronts.{front_of, Advances, Stops, UsesFirst};
 ghost use Rattle.mm_reader.specs.Inputs.{FailsByReadFault};
-ghost use Rattle.mm_reader.specs.Windows.{IsWindow};
+ghost use Rattle.mm_reader.specs.Windows.{IsInRoom, IsWindow};
 
 use crate::window::{Window, advance, refill};
 use mm_defs::ReadError;
@@ -19,43 +19,39 @@ fn lfs_of(byte: u8) -> u64
     if byte == b'\n' { 1 } else { 0 }
 }
 
-/// Uses the first of the bytes ahead, where it may be used.
-fn first(window: &mut Window) -> Result<u8, ReadError>
+/// Uses the first of the bytes ahead, all of which may be used.
+fn first(window: &mut Window) -> u8
     requires window { IsWindow window.old }
+    requires in_room { IsInRoom window.old }
     requires some { window.old.from < window.old.to }
     ensures window { IsWindow window.new }
-    ensures ok { IfOk result (UsesFirst (front_of window.old) (front_of window.new)) }
-    ensures err { IfErr result (IsPast (front_of window.old)) }
-    ensures same { OnErr result (window.new ≡ window.old) }
+    ensures in_room { IsInRoom window.new }
+    ensures used { UsesFirst (front_of window.old) (front_of window.new) result }
 {
-    if window.room == 0 {
-        return Err(ReadError::TooLong);
-    }
     let byte = window.buffer[window.from];
     advance(window, 1, lfs_of(byte));
-    Ok(byte)
+    byte
 }
 
 /// Uses the first of the bytes ahead and of those that the source gives, within the window's room.
 /// There is none at the end of the input alone.
 pub fn next<S: Source>(window: &mut Window, source: &mut S) -> Result<Option<u8>, ReadError>
     requires window { IsWindow window.old }
+    requires in_room { IsInRoom window.old }
     requires at_end { IsTrue window.old.at_end → IsAtEnd (S.left source.old) }
     ensures ok { IfOk result (Advances (front_of window.old) (front_of window.new)
         (seen S.left S.faults source.old source.new)) }
     ensures err { IfErr result (Stops (front_of window.old) (front_of window.new)
         (seen S.left S.faults source.old source.new)) }
     ensures window { IsWindow window.new }
+    ensures in_room { OnOk result (IsInRoom window.new) }
     ensures cause { FailsByReadFault (seen S.left S.faults source.old source.new) result }
     ensures at_end { IsTrue window.new.at_end → IsAtEnd (S.left source.new) }
     ensures unasked { IsTrue window.old.at_end → source.new ≡ source.old }
     ensures stays { IsTrue window.old.at_end → IsTrue window.new.at_end }
 {
     if window.from < window.to {
-        return match first(window) {
-            Err(error) => Err(error),
-            Ok(byte) => Ok(Some(byte)),
-        };
+        return Ok(Some(first(window)));
     }
     if window.at_end {
         return Ok(None);
@@ -63,9 +59,11 @@ pub fn next<S: Source>(window: &mut Window, source: &mut S) -> Result<Option<u8>
     match refill(window, source) {
         Err(_) => Err(ReadError::ReadFault),
         Ok(0) => Ok(None),
-        Ok(_) => match first(window) {
-            Err(error) => Err(error),
-            Ok(byte) => Ok(Some(byte)),
-        },
+        Ok(_) => {
+            if window.room == 0 {
+                return Err(ReadError::TooLong);
+            }
+            Ok(Some(first(window)))
+        }
     }
 }

@@ -80,8 +80,8 @@ impl Input {
         self.window.lines
     }
 
-    /// Whether no call on it has failed. It is the condition of the reading calls: after a failure
-    /// the source has lost what was taken.
+    /// Whether the reading calls may go on: after a failed `read_matrix`, `read_rest` or
+    /// `next_byte` they may not, since the source has lost what was taken.
     pub fn is_good(&self) -> bool
         ensures { result ≡ self.now.good }
     {
@@ -241,8 +241,8 @@ pub fn read_rest<S: Source>(
 /// Uses one byte: the first of those ahead, or of those that the source gives. `None` is given at
 /// the end of the input alone. It takes no memory.
 ///
-/// It answers `TooLong` where all bytes that may be used were used and one more has come, and
-/// `ReadFault` where no byte was ahead and a read failed, and no other error. After an `Err` the
+/// It answers `TooLong` where all bytes that may be used were used, none is ahead and one more has
+/// come, `ReadFault` where none is ahead and a read failed, and no other error. After an `Err` the
 /// input is not good.
 pub fn next_byte<S: Source>(input: &mut Input, source: &mut S) -> Result<Option<u8>, ReadError>
     requires good { IsTrue input.old.good }
@@ -253,7 +253,8 @@ pub fn next_byte<S: Source>(input: &mut Input, source: &mut S) -> Result<Option<
     ensures ok { IfOk result (Advances (front input.old) (front input.new)
         (seen S.left S.faults source.old source.new)) }
 
-    // Why it is not known whether there is a byte that may be used.
+    // Why no byte was used, and none was ahead: all that may be used were used and one more has
+    // come, or a read failed.
     ensures err { IfErr result (Stops (front input.old) (front input.new)
         (seen S.left S.faults source.old source.new)) }
 

@@ -17,7 +17,7 @@ const MOST_AT_ONCE: usize = 8;
 /// A bit for each of the sixteen bytes from here on that is not a digit, the first byte's the
 /// lowest.
 #[inline(always)]
-pub fn stops(bytes: &[u8], from: usize) -> u64
+pub fn non_digits(bytes: &[u8], from: usize) -> u64
     requires { from + 16 ≤ length bytes.now }
     ensures { IsMask bytes.now from result }
 {
@@ -28,7 +28,7 @@ pub fn stops(bytes: &[u8], from: usize) -> u64
 /// The same of the bytes some places on: what is left of a mask, or a new one where nothing of it
 /// is left.
 #[inline(always)]
-pub fn later_stops(bytes: &[u8], from: usize, mask: u64, places: usize) -> u64
+pub fn later_non_digits(bytes: &[u8], from: usize, mask: u64, places: usize) -> u64
     requires mask { IsMask bytes.now from mask }
     requires few { places < 16 }
     requires room { from + places + 16 ≤ length bytes.now }
@@ -36,7 +36,7 @@ pub fn later_stops(bytes: &[u8], from: usize, mask: u64, places: usize) -> u64
 {
     let left = mask >> places;
     if left == 0 {
-        return stops(bytes, from + places);
+        return non_digits(bytes, from + places);
     }
     left
 }

@@ -134,7 +134,7 @@ impl LineSoFar {
         self.tokens[self.count - 1].push(byte);
     }
 
-    /// Whether it has so many words.
+    /// Whether it has so many words. The number is 5 at most.
     pub fn has_words(&self, count: usize) -> bool
         requires { count ≤ 5 }
         ensures { (line : List ℕ) → IsLine self.now.tokens self.now.count self.now.inside line
@@ -154,7 +154,8 @@ impl LineSoFar {
         self.tokens[0].text.first() == b'%'
     }
 
-    /// Whether a word is this text.
+    /// Whether a word is this text. The words are numbered from 0 to 4, and the text has 1 to 14
+    /// bytes.
     pub fn is(&self, k: usize, text: &[u8]) -> bool
         requires word { k < 5 }
         requires short { length text.now < 15 }
@@ -168,7 +169,8 @@ impl LineSoFar {
         self.tokens[k].text.is(text)
     }
 
-    /// Whether a word is this text but for the case of letters. The text is in lower case.
+    /// Whether a word is this text but for the case of letters. The words are numbered from 0 to 4,
+    /// and the text has 1 to 14 bytes, in lower case.
     pub fn spells(&self, k: usize, text: &[u8]) -> bool
         requires word { k < 5 }
         requires short { length text.now < 15 }
@@ -183,7 +185,7 @@ impl LineSoFar {
         self.tokens[k].text.spells(text)
     }
 
-    /// A word as a number, if it is one.
+    /// A word as a number, if it is one. The words are numbered from 0 to 4.
     pub fn number(&self, k: usize) -> Option<u64>
         requires { k < 5 }
         ensures { (line : List ℕ) → IsLine self.now.tokens self.now.count self.now.inside line
@@ -195,7 +197,7 @@ impl LineSoFar {
         self.tokens[k].number.unsigned()
     }
 
-    /// A word as an integer, if it is one.
+    /// A word as an integer, if it is one. The words are numbered from 0 to 4.
     pub fn integer(&self, k: usize) -> Option<Integer>
         requires { k < 5 }
         ensures { (line : List ℕ) → IsLine self.now.tokens self.now.count self.now.inside line

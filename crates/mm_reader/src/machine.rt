@@ -2,9 +2,9 @@
 
 ghost use Rattle.std.specs.Prelude.{◌≡◌, ◌≤◌, ◌<◌, ◌+◌, ◌++◌, ℕ, nat_abs, pos, true, false, List, [], ◌∷◌, length, take, IfOk, IfErr, IfSome, OnOk, MatchResult, ◌-◌, ◌^◌};
 ghost use Rattle.sp_ids.specs.Entries.{Entries};
-ghost use Rattle.sp_ids.specs.Limits.{max_cols, max_value};
+ghost use Rattle.sp_ids.specs.Limits.{max_value};
 ghost use Rattle.mm_defs.specs.Words.{is_skipped, words};
-ghost use Rattle.mm_defs.specs.Header.{is_array, is_general, is_integer_field};
+ghost use Rattle.mm_defs.specs.Header.{is_general, is_integer_field};
 ghost use Rattle.mm_defs.specs.File.{Reads, mirror, placed, with_mirrors, line_faults, later_lines};
 ghost use Rattle.mm_reader.specs.Lines.{IsLine};
 ghost use Rattle.mm_reader.specs.Judged.{IsHeader, triple_of};

@@ -5,7 +5,7 @@ ghost use Rattle.mm_defs.specs.Words.{is_blank};
 ghost use Rattle.mm_reader.specs.Plain.{IsRun, IsDigits};
 ghost use Rattle.mm_reader.specs.Places.{IsPlace};
 
-use crate::lanes::{later_stops, short_number, stops};
+use crate::lanes::{later_non_digits, non_digits, short_number};
 use crate::line::is_blank;
 
 /// Numbers of the usual form have no more digits: they fit, whatever the digits are.
@@ -81,7 +81,7 @@ fn short_place_at(bytes: &[u8], from: usize) -> Option<Place>
     if bytes.len() - from < AHEAD {
         return None;
     }
-    let mask = stops(bytes, from);
+    let mask = non_digits(bytes, from);
     let (row, row_digits) = match short_number(bytes, from, mask) {
         None => return None,
         Some(number) => number,
@@ -94,7 +94,7 @@ fn short_place_at(bytes: &[u8], from: usize) -> Option<Place>
     let (col, col_digits) = match short_number(
         bytes,
         col_start,
-        later_stops(bytes, from, mask, places),
+        later_non_digits(bytes, from, mask, places),
     ) {
         None => return None,
         Some(number) => number,

@@ -1,6 +1,6 @@
 //! Reading a matrix from the bytes ahead and from a source.
 
-ghost use Rattle.std.specs.Prelude.{◌≡◌, ◌<◌, ◌+◌, ◌++◌, ◌^◌, ℕ, List, false, length, IfOk, IfErr, MatchResult, OnOk, IsTrue, []};
+ghost use Rattle.std.specs.Prelude.{◌≡◌, ◌<◌, ◌+◌, ◌++◌, ◌^◌, ℕ, List, false, IfOk, IfErr, MatchResult, OnOk, IsTrue, []};
 ghost use Rattle.std.specs.Result.{IsErrOf};
 ghost use Rattle.sp_ports.specs.Bytes.{GivesPrefix, IsAtEnd, WhereKnown};
 ghost use Rattle.sp_ports.specs.Device.{seen};
@@ -9,7 +9,7 @@ ghost use Rattle.mm_defs.specs.Calls.{HasItsKind, LacksLf, TakesAtMostOnePast};
 ghost use Rattle.mm_reader.specs.Inputs.{FailsByReadFault};
 ghost use Rattle.mm_reader.specs.Machine.{IsReady, is_complete};
 ghost use Rattle.mm_reader.specs.Stages.{begun_lines, IsAfter, StandsSomewhere};
-ghost use Rattle.mm_reader.specs.Windows.{ahead_of, OnCallOf, Answers, HasCounted, IsOnePast, IsWindow, KeepsWindow, Consumes, Refuses, RefusesAtEnd, refusal_of, UsesSome};
+ghost use Rattle.mm_reader.specs.Windows.{ahead_of, OnCallOf, Answers, HasCounted, IsInRoom, IsOnePast, IsWindow, KeepsWindow, Consumes, Refuses, RefusesAtEnd, refusal_of, UsesSome};
 
 use crate::machine::{Machine, Stop, feed, finish, is_complete, start};
 use crate::window::{Window, advance, refill};
@@ -34,8 +34,8 @@ fn refusal(stop: Stop) -> ReadError
     }
 }
 
-/// The machine gets the bytes ahead, as many as may be used. It tells whether the matrix is read
-/// and what follows is not judged; else all bytes ahead were used.
+/// The machine gets the bytes ahead, where all of them may be used. It tells whether the matrix is
+/// read and what follows is not judged; else all bytes ahead were used.
 fn consume(alloc: Global, m: &mut Machine, end: End, window: &mut Window) -> Result<bool, ReadError>
     requires window { IsWindow window.old }
     requires ready { IsReady m.old.phase m.old.triples }
@@ -44,13 +44,14 @@ fn consume(alloc: Global, m: &mut Machine, end: End, window: &mut Window) -> Res
     requires stands { StandsSomewhere end m.old }
     ensures window { IsWindow window.new }
     ensures ok { IfOk result (Consumes end window.old window.new m.old m.new) }
+    ensures in_room { OnOk result (IsInRoom window.new) }
     ensures used { UsesSome window.old window.new }
     ensures past { IsErrOf result ReadError.TooLong → IsOnePast window.new }
     ensures err { (bytes : List ℕ) → IsAfter end m.old bytes
         → IfErr result (Refuses end bytes (ahead_of window.old) window.old.room) }
 {
     if (window.to - window.from) as u64 > window.room {
-        return consume_to_limit(alloc, m, end, window);
+        return Err(ReadError::TooLong);
     }
     let before = m.number;
     let used = match feed(alloc, m, end, &window.buffer[window.from..window.to]) {
@@ -60,40 +61,6 @@ fn consume(alloc: Global, m: &mut Machine, end: End, window: &mut Window) -> Res
     let lfs = m.number - before;
     advance(window, used, lfs);
     Ok(is_complete(end, m.phase))
-}
-
-/// The same where not all bytes ahead may be used.
-fn consume_to_limit(
-    alloc: Global,
-    m: &mut Machine,
-    end: End,
-    window: &mut Window,
-) -> Result<bool, ReadError>
-    requires window { IsWindow window.old }
-    requires ready { IsReady m.old.phase m.old.triples }
-    requires open { is_complete end m.old.phase ≡ false }
-    requires number { begun_lines m.old + window.old.room < 2 ^ 64 }
-    requires stands { StandsSomewhere end m.old }
-    requires over { window.old.room < length (ahead_of window.old) }
-    ensures window { IsWindow window.new }
-    ensures ok { IfOk result (Consumes end window.old window.new m.old m.new) }
-    ensures used { UsesSome window.old window.new }
-    ensures past { IsErrOf result ReadError.TooLong → IsOnePast window.new }
-    ensures err { (bytes : List ℕ) → IsAfter end m.old bytes
-        → IfErr result (Refuses end bytes (ahead_of window.old) window.old.room) }
-{
-    let to = window.from + window.room as usize;
-    let before = m.number;
-    let used = match feed(alloc, m, end, &window.buffer[window.from..to]) {
-        Err(stop) => return Err(refusal(stop)),
-        Ok(used) => used,
-    };
-    let lfs = m.number - before;
-    advance(window, used, lfs);
-    if is_complete(end, m.phase) {
-        return Ok(true);
-    }
-    Err(ReadError::TooLong)
 }
 
 /// The input has ended.
@@ -138,6 +105,7 @@ pub fn matrix<S: Source>(
         (λ before after. HasCounted window.old window.new before after) }
     ensures past { IsErrOf result ReadError.TooLong → IsOnePast window.new }
     ensures window { KeepsWindow window.old window.new }
+    ensures in_room { OnOk result (IsInRoom window.new) }
     ensures at_end { IsTrue window.new.at_end → IsAtEnd (S.left source.new) }
     ensures unasked { IsTrue window.old.at_end → source.new ≡ source.old }
     ensures stays { IsTrue window.old.at_end → IsTrue window.new.at_end }

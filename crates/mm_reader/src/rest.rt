@@ -1,6 +1,6 @@
 //! Reading all that follows.
 
-ghost use Rattle.std.specs.Prelude.{◌≡◌, ◌≤◌, ◌<◌, ◌+◌, ◌++◌, length, IfErr, MatchResult, OnErr, OnOk, IsTrue};
+ghost use Rattle.std.specs.Prelude.{◌≡◌, ◌++◌, IfErr, MatchResult, OnErr, OnOk, IsTrue};
 ghost use Rattle.std.specs.List.{count_by};
 ghost use Rattle.std.specs.Result.{IsErrOf};
 ghost use Rattle.sp_ports.specs.Bytes.{GivesPrefix, IsAtEnd, WhereKnown};
@@ -8,7 +8,7 @@ ghost use Rattle.sp_ports.specs.Device.{seen};
 ghost use Rattle.mm_defs.specs.Words.{is_lf};
 ghost use Rattle.mm_defs.specs.Calls.{IsRest, JudgesNoLine, RefusesRest, TakesAtMostOnePast};
 ghost use Rattle.mm_reader.specs.Inputs.{FailsByReadFault};
-ghost use Rattle.mm_reader.specs.Windows.{ahead_of, OnCallOf, HasCounted, IsOnePast, IsWindow, KeepsWindow, TakesAhead, RefusesAhead};
+ghost use Rattle.mm_reader.specs.Windows.{ahead_of, OnCallOf, HasCounted, IsInRoom, IsOnePast, IsWindow, KeepsWindow, TakesAhead, RefusesAhead};
 
 use crate::window::{Window, refill};
 use mm_defs::ReadError;
@@ -27,6 +27,7 @@ fn take_ahead(bytes: &mut Vec<u8>, window: &mut Window) -> Result<(), ReadError>
     requires { IsWindow window.old }
     ensures window { KeepsWindow window.old window.new }
     ensures ok { OnOk result (TakesAhead window.old window.new bytes.old.items bytes.new.items) }
+    ensures in_room { OnOk result (IsInRoom window.new) }
     ensures err { IfErr result (RefusesAhead window.old) }
     ensures same { OnErr result (window.new ≡ window.old) }
     ensures at_end { window.new.at_end ≡ window.old.at_end }
@@ -66,6 +67,7 @@ pub fn rest<S: Source>(
         (λ before after. HasCounted window.old window.new before after) }
     ensures past { IsErrOf result ReadError.TooLong → IsOnePast window.new }
     ensures window { KeepsWindow window.old window.new }
+    ensures in_room { OnOk result (IsInRoom window.new) }
     ensures at_end { IsTrue window.new.at_end → IsAtEnd (S.left source.new) }
     ensures unasked { IsTrue window.old.at_end → source.new ≡ source.old }
     ensures stays { IsTrue window.old.at_end → IsTrue window.new.at_end }

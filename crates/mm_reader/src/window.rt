@@ -1,11 +1,11 @@
 //! The bytes that were taken from a source and are not used yet.
 
-ghost use Rattle.std.specs.Prelude.{◌≡◌, ◌≤◌, ◌<◌, ◌+◌, ◌^◌, [], take, length, vec_len, IfOk, OnErr, IsTrue, IsFalse};
+ghost use Rattle.std.specs.Prelude.{◌≡◌, ◌≤◌, ◌<◌, ◌+◌, [], take, length, vec_len, IfOk, OnErr, IsTrue, IsFalse};
 ghost use Rattle.std.specs.List.{count_by};
 ghost use Rattle.sp_ports.specs.Bytes.{Gives, IsAtEnd};
 ghost use Rattle.sp_ports.specs.Device.{FailsByReads, seen};
 ghost use Rattle.mm_defs.specs.Words.{is_lf};
-ghost use Rattle.mm_reader.specs.Windows.{ahead_of, IsWindow, Uses};
+ghost use Rattle.mm_reader.specs.Windows.{ahead_of, IsInRoom, IsWindow, Uses};
 
 use sp_ids::OutOfMemory;
 use sp_ports::{Failed, Source};
@@ -46,20 +46,26 @@ pub fn advance(window: &mut Window, used: usize, lfs: u64)
     requires lfs { lfs ≡ count_by is_lf (take used (ahead_of window.old)) }
     ensures window { IsWindow window.new }
     ensures used { Uses window.old window.new used }
+    ensures in_room { IsInRoom window.old → IsInRoom window.new }
 {
     window.from += used;
     window.room -= used as u64;
     window.lines += lfs;
 }
 
-/// How many bytes are asked for: one more than may be used, as far as they have room.
+/// How many bytes are asked for: as many as may be used, as far as the buffer holds them, and one
+/// where none may be used.
 fn most_wanted(room: u64) -> usize
     ensures some { 0 < result }
     ensures fits { result ≤ BUFFER }
     ensures one_past { result ≤ room + 1 }
+    ensures in_room { 0 < room → result ≤ room }
 {
+    if room == 0 {
+        return 1;
+    }
     if room < BUFFER as u64 {
-        return room as usize + 1;
+        return room as usize;
     }
     BUFFER
 }
@@ -78,8 +84,8 @@ fn read_some<S: Source>(source: &mut S, buffer: &mut [u8], most: usize) -> Resul
     source.read(&mut buffer[..most])
 }
 
-/// Reads into the empty window, at most one byte more than may be used, and tells how many bytes
-/// came.
+/// Reads into the empty window, at most as many bytes as may be used, or one byte where none may be
+/// used, and tells how many bytes came.
 pub fn refill<S: Source>(window: &mut Window, source: &mut S) -> Result<usize, Failed>
     requires window { IsWindow window.old }
     ensures window { IsWindow window.new }

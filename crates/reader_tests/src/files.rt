@@ -453,11 +453,11 @@ fn nothing_is_asked_behind_the_end(rt: HostRuntime) -> Result<(), Fail> {
     Ok(())
 }
 
-// The first call gives a byte past the limit, and the second would fail.
+// The second call gives the byte past the limit, and the third would fail.
 #[test]
 fn the_rest_asks_no_more_past_the_limit(rt: HostRuntime) -> Result<(), Fail> {
     let alloc = rt.alloc();
-    let mut source = MemSource::new(b"btf 1\n".to_vec(alloc)?, 100, [1].to_vec(alloc)?);
+    let mut source = MemSource::new(b"btf 1\n".to_vec(alloc)?, 100, [2].to_vec(alloc)?);
     let mut input = Input::new(alloc, 4)?;
     let answer = read_rest(alloc, &mut input, &mut source);
     assert_eq!(rt; answer, Err(ReadError::TooLong));
@@ -480,14 +480,22 @@ fn bytes_come_one_by_one(rt: HostRuntime) -> Result<(), Fail> {
     Ok(())
 }
 
-// The second byte is past the limit, or its call fails.
+// The second byte is past the limit, whether the source would give it with the first or alone, or
+// its call fails. It is not ahead before.
 #[test]
 fn a_next_byte_is_refused(rt: HostRuntime) -> Result<(), Fail> {
     let alloc = rt.alloc();
-    for (limit, failing, error) in [(1, 9, ReadError::TooLong), (9, 1, ReadError::ReadFault)] {
-        let mut source = MemSource::new(b"ab".to_vec(alloc)?, 1, [failing].to_vec(alloc)?);
+    let cases = [
+        (1, 1, 9, ReadError::TooLong),
+        (2, 1, 9, ReadError::TooLong),
+        (1, 9, 1, ReadError::ReadFault),
+    ];
+    for (piece, limit, failing, error) in cases {
+        assert!(rt; 0 < piece);
+        let mut source = MemSource::new(b"ab".to_vec(alloc)?, piece, [failing].to_vec(alloc)?);
         let mut input = Input::new(alloc, limit)?;
         assert_eq!(rt; next_byte(&mut input, &mut source)?, Some(b'a'));
+        assert_eq!(rt; input.ahead(), 0);
         assert_eq!(rt; next_byte(&mut input, &mut source), Err(error));
         assert_eq!(rt; input.is_good(), false);
     }

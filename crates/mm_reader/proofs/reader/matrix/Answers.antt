@@ -23,6 +23,7 @@ returns-in-Err g c =
       stays = λ e. e;
       ended = tt;
       last_line = tt;
+      in_room = tt;
     }
 
 pub consume-requires-clause-stands : goal.consume-requires-clause-stands
@@ -48,6 +49,7 @@ returns-in-Err-consume g c =
       stays = λ t. rw u.at_end_same ((i.unasked t).0);
       ended = tt;
       last_line = tt;
+      in_room = tt;
     }
 
 pub returns-then-done : goal.returns-then-done
@@ -73,6 +75,7 @@ returns-then-done g c =
       stays = λ t. rw u.at_end_same ((i.unasked t).0);
       ended = λ x. absurd (file_open c.args.end c.consume.new.m.phase x (sym e.ok.done_is ∙ c.if-done.true));
       last_line = closed_known c.args.window.now c.consume.new.window f.used _ _ h closed;
+      in_room = e.in_room;
     }
 
 pub returns-then-window : goal.returns-then-window
@@ -98,6 +101,7 @@ returns-then-window g c =
       stays = λ t. c.if-window.true;
       ended = on_ok _ c.conclude.result (λ x. c.if-window.true);
       last_line = on_ok _ c.conclude.result (at_end_known c.args.window.now c.consume.new.window f.used _ _ h c.if-window.true);
+      in_room = on_ok _ c.conclude.result e.in_room;
     }
 
 pub returns-in-Err-refill : goal.returns-in-Err-refill
@@ -126,6 +130,7 @@ returns-in-Err-refill g c =
       stays = λ t. let a = (i.unasked t).0 in let b = u.at_end_same in let d = c.if-window.false in absurd cc;
       ended = tt;
       last_line = tt;
+      in_room = tt;
     }
 
 pub reading-init : goal.reading-init

@@ -24,6 +24,7 @@ returns-in-Err g c =
       unasked = λ t. (i.unasked t).1;
       stays = λ t. rw e.at_end ((i.unasked t).0);
       ended = tt;
+      in_room = tt;
     }
 
 pub returns-then-window : goal.returns-then-window
@@ -44,6 +45,7 @@ returns-then-window g c =
       unasked = λ t. (i.unasked t).1;
       stays = λ t. c.if-window.true;
       ended = c.if-window.true;
+      in_room = e.in_room;
     }
 
 pub returns-in-Err-refill : goal.returns-in-Err-refill
@@ -68,6 +70,7 @@ returns-in-Err-refill g c =
       unasked = λ t. let a = (i.unasked t).0 in let b = e.at_end in let d = c.if-window.false in absurd cc;
       stays = λ t. let a = (i.unasked t).0 in let b = e.at_end in let d = c.if-window.false in absurd cc;
       ended = tt;
+      in_room = tt;
     }
 
 pub reading-init : goal.reading-init

@@ -1,6 +1,6 @@
 use Rattle.std.proofs.Common.{arith}
 use Rattle.mm_reader.proofs.Masks.{compared}
-use Rattle.mm_reader.proofs.lanes.stops.Goals as goal
+use Rattle.mm_reader.proofs.lanes.non_digits.Goals as goal
 
 pub returns : goal.returns
 returns c = record {
