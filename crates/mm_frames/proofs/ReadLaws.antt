@@ -1,5 +1,5 @@
 -- What a reader of edit lines has read, byte by byte and at the end.
-use Rattle.std.proofs.Common.{◌≡◌, ◌≢◌, ℕ, ◌+◌, ◌<◌, ◌^◌, Bool, true, false, if◌then◌else◌, List, [], ◌∷◌, ◌++◌, length, refl, sym, ap, ◌∙◌, append-nil, arith, length-append, eq-eqb, ne_eqb, Option, Some, None, slice_get, Result, Ok, Err, MatchResult}
+use Rattle.std.proofs.Common.{◌≡◌, ◌≢◌, ℕ, ◌+◌, ◌<◌, ◌^◌, Bool, true, false, if◌then◌else◌, List, [], ◌∷◌, ◌++◌, length, refl, sym, ap, ◌∙◌, append-nil, arith, length-append, eq-eqb, ne_eqb, Option, Some, None, slice_get}
 use Rattle.sp_ports.specs.Bytes.{WhereKnown}
 use Rattle.mm_defs.specs.declared.answers.ReadError.{ReadError}
 use Rattle.mm_defs.specs.declared.answers.ReadError.TheVariants as errors
@@ -9,15 +9,15 @@ use Rattle.mm_defs.specs.Calls.{Call, call_on, ended, given}
 use Rattle.mm_defs.proofs.Lines.{lines-none, open_line-none, lines-push_lf, open_line-push_lf, lines-push, open_line-push, lines-ended, lines-append}
 use Rattle.mm_reader.specs.declared.line.LineSoFar.{LineSoFar}
 use Rattle.sp_ports.specs.Device.{Device}
-use Rattle.mm_reader.specs.Fronts.{Front, IsOver, Stops, UsesByte}
+use Rattle.mm_reader.specs.Fronts.{Front, Stops, UsesByte}
 use Rattle.mm_reader.specs.Lines.{IsLine}
 use Rattle.mm_frames.specs.declared.edit.Edit.{Edit}
 use Rattle.mm_defs.specs.EditLines.{edit_faults}
-use Rattle.mm_frames.specs.Edits.{first_bad_edit, ReadsEdits, RefusesEdits}
+use Rattle.mm_frames.specs.Edits.{first_bad_edit, RefusesEdits}
 use Rattle.mm_frames.specs.Stages.{AreRead, HasRead, HasUsed, RefusesLast, StandsAfter}
 use Rattle.mm_defs.proofs.EditLineLemmas.{edit_faults-append}
 use Rattle.mm_frames.proofs.EditLaws.{none_read}
-use Rattle.mm_frames.proofs.UsedLaws.{fits, none_used, one_more, over_used, stopped_used, rose_since, used_first, past_given, failed_given, over_given, where_known}
+use Rattle.mm_frames.proofs.UsedLaws.{fits, none_used, one_more, stopped_used, rose_since, used_first, past_given, failed_given, where_known}
 
 has_bytes-push : (xs : List ℕ) (b : ℕ) → has_bytes (xs ++ b ∷ []) ≡ true
 has_bytes-push [] b = refl
@@ -146,30 +146,6 @@ module _ (rows cols : ℕ) (f0 f : Front) (fb fa : ℕ) (used before after : Lis
   line_refused errors.ReadFault k = absurd k
   line_refused errors.OutOfMemory k = tt
 
-  -- the input has ended
-  module _ (none : f.ahead ≡ []) (over : after ≡ []) (steady : fa ≡ fb) where
-    pub end_read : (es : List Edit) → AreRead f0.lines rows cols (lines true used) es → ReadsEdits f0.lines rows cols call es (f.ahead ++ after)
-    end_read es r =
-        let o = (over_given f0 f fb fa used before after h none over steady).2 in
-        record {
-          good = rw o r.good;
-          edits_are = rw o r.edits_are;
-          nothing_left = rw (none, over) refl;
-          within = rw o (fits f0 f fb fa used before after h);
-        }
-
-    end_fault : (x : Fault) → edit_faults f0.lines rows cols (lines true used) ≡ x ∷ [] → first_bad_edit f0.lines rows cols call ≡ Some x
-    end_fault x bad =
-        let o = over_given f0 f fb fa used before after h none over steady in
-        rw (o.0, o.1) (rw bad refl)
-
-    pub end_refused : (e : ReadError) → RefusesLast f0.lines rows cols (lines true used) e → RefusesEdits f0.lines rows cols call e
-    end_refused (errors.Malformed line kind) k = (end_fault (record { line = line; kind = kind }) k.0, k.1)
-    end_refused (errors.Limit line kind) k = (end_fault (record { line = line; kind = kind }) k.0, k.1)
-    end_refused errors.TooLong k = absurd k
-    end_refused errors.ReadFault k = absurd k
-    end_refused errors.OutOfMemory k = tt
-
 -- ---- of a source that may tell its bytes
 
 module _ (rows cols : ℕ) (f0 f f2 : Front) (old now now2 : Option (List ℕ)) (fb fm fa : ℕ) (es : List Edit) (l : LineSoFar) (begun : Bool) (h : HasRead rows cols f0 f old now es l begun) where
@@ -198,16 +174,3 @@ module _ (rows cols : ℕ) (f0 f f2 : Front) (old now now2 : Option (List ℕ)) 
       let e = lines-push_lf h.used b (eq-eqb b 10 lf) in
       where_known f0 f2 old now2 (h.used ++ b ∷ []) (one_more f0 f f2 old now now2 fm fa h.used h.so_far b u) fb fa (λ call after. RefusesEdits f0.lines rows cols call error)
       (λ before after o d k. line_refused rows cols f0 f2 fb fa (h.used ++ b ∷ []) before after k error (rw e bad))
-
-  pub end_known : {V : Type 0} (items : V → List Edit) (r : Result V ReadError) → fa ≡ fb → IsOver f f2 device
-      → MatchResult r (λ v. AreRead f0.lines rows cols (lines true h.used) (items v)) (RefusesLast f0.lines rows cols (lines true h.used))
-      → WhereKnown old now2 (λ before after. MatchResult r (λ v. ReadsEdits f0.lines rows cols (call_on f0.room f0.ahead fb fa before after) (items v) (f2.ahead ++ after)) (RefusesEdits f0.lines rows cols (call_on f0.room f0.ahead fb fa before after)))
-  end_known items r steady p says =
-      where_known f0 f2 old now2 h.used (over_used f0 f f2 old now now2 fm fa h.used h.so_far p) fb fa
-      (λ call after. MatchResult r (λ v. ReadsEdits f0.lines rows cols call (items v) (f2.ahead ++ after)) (RefusesEdits f0.lines rows cols call))
-      (λ before after e d k. by before after k (rw d at p.over) r says)
-    where
-      by : (before after : List ℕ) → HasUsed f0 f2 (Some before) (Some after) h.used → after ≡ [] → (x : Result _ ReadError) → MatchResult x (λ v. AreRead f0.lines rows cols (lines true h.used) (items v)) (RefusesLast f0.lines rows cols (lines true h.used))
-          → MatchResult x (λ v. ReadsEdits f0.lines rows cols (call_on f0.room f0.ahead fb fa before after) (items v) (f2.ahead ++ after)) (RefusesEdits f0.lines rows cols (call_on f0.room f0.ahead fb fa before after))
-      by before after k over (Ok v) says = end_read rows cols f0 f2 fb fa h.used before after k p.none over steady (items v) says
-      by before after k over (Err e) says = end_refused rows cols f0 f2 fb fa h.used before after k p.none over steady e says

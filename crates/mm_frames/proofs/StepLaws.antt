@@ -1,5 +1,5 @@
 -- The steps of reading a batch: what is answered to the bytes of a header, of a file, and of all of them.
-use Rattle.std.proofs.Common.{◌≡◌, ◌≢◌, ℕ, ◌+◌, ◌<◌, Bool, true, false, ◌||◌, nat_lt, List, [], ◌∷◌, ◌++◌, length, refl, sym, ap, subst, ◌∙◌, arith, ne_eqb, lt-ltb, Option, Some, None, Ok, Err, inl, inr}
+use Rattle.std.proofs.Common.{◌≡◌, ◌≢◌, ℕ, ◌+◌, ◌<◌, Bool, true, false, nat_lt, List, [], ◌∷◌, ◌++◌, length, refl, sym, ap, subst, ◌∙◌, arith, ne_eqb, lt-ltb, Option, Some, None, Ok, Err, inl, inr}
 use Rattle.std.proofs.lemmas.List.{drop_all}
 use Rattle.sp_ports.specs.Bytes.{Gives}
 use Rattle.sp_ports.specs.Device.{Device}
@@ -14,7 +14,7 @@ use Rattle.mm_reader.specs.Fronts.{Front, IsOver, Stops, UsesByte}
 use Rattle.mm_reader.specs.Lines.{IsLine}
 use Rattle.mm_frames.specs.declared.batch.BatchError.{BatchError}
 use Rattle.mm_frames.specs.declared.batch.BatchError.TheVariants as errors
-use Rattle.mm_frames.specs.declared.header.Header.{Header}
+use Rattle.mm_frames.specs.declared.header.FrameHeader.{FrameHeader}
 use Rattle.mm_frames.specs.Batches.{BatchFault, bad_frame_from, behind_frame, behind_header, file_bytes, frame_kind, has_lf, header_rules, header_words}
 use Rattle.mm_frames.specs.Frames.{AnswersFile, AnswersHeader, BeginsLine, HeaderIs, HeaderIsBad, IsGoodHeader, IsSameStop, RefusesUsed, UsesSuch}
 use Rattle.mm_frames.specs.Stages.{HasUsed}
@@ -27,10 +27,6 @@ use Rattle.mm_frames.proofs.UsedLaws.{one_more, over_used, rose_since, stopped_u
 some_after : (line more : List ℕ) → line ++ 10 ∷ more ≢ []
 some_after [] more e = absurd cc
 some_after (b ∷ line) more e = absurd cc
-
-either : (a : Bool) → (a || true) ≡ true
-either true = refl
-either false = refl
 
 nothing_behind : (n : ℕ) (bytes : List ℕ) → behind_header bytes ≡ [] → file_bytes (header_words bytes) ≡ n → behind_frame bytes ≡ []
 nothing_behind n bytes none e = rw none (drop_all (file_bytes (header_words bytes)) [] (omega arith))
@@ -163,7 +159,7 @@ module _ (f0 f f2 : Front) (old now now2 : Option (List ℕ)) (fb fm fa : ℕ) (
           by errors.ReadFault k = absurd k
           by errors.OutOfMemory k = tt
 
-      pub line_taken : b ≡ 10 → (header : Header) → HeaderIs before false (words h.used) (Ok header) → UsesSuch f0 f2 source (AnswersHeader before f2 source (Ok (Some header)))
+      pub line_taken : b ≡ 10 → (header : FrameHeader) → HeaderIs before false (words h.used) (Ok header) → UsesSuch f0 f2 source (AnswersHeader before f2 source (Ok (Some header)))
       line_taken lf header k = record {
         used = h.used ++ b ∷ [];
         so_far = one_more f0 f f2 old now now2 fm fa h.used h.so_far b u;

@@ -2,7 +2,7 @@
 use Rattle.std.proofs.Common.{◌≡◌, ℕ, zero, suc, ◌+◌, ◌-◌, ◌<◌, ◌≤◌, Bool, true, false, ◌&&◌, ◌==◌, nat_le, List, [], ◌∷◌, ◌++◌, length, take, refl, sym, ap, ◌∙◌, append_assoc, append-nil, arith, length-append, eq-eqb, ne_eqb, le-leb, Option, Some, None}
 use Rattle.std.proofs.Math.Seq.{take-append_seam, take-append-add}
 use Rattle.std.proofs.lemmas.Bool.{lt-leb}
-use Rattle.sp_ports.specs.Bytes.{Gives, GivesPrefix, WhereKnown}
+use Rattle.sp_ports.specs.Bytes.{Gives, WhereKnown}
 use Rattle.sp_ports.specs.Device.{Device, SourceRose}
 use Rattle.mm_defs.specs.declared.answers.ReadError.{ReadError}
 use Rattle.mm_defs.specs.declared.answers.ReadError.TheVariants as errors
@@ -156,9 +156,6 @@ module _ (f0 f : Front) (fb fa : ℕ) (used before after : List ℕ) (h : HasUse
 -- ---- of a source that may tell its bytes
 
 module _ (f0 f : Front) (old now : Option (List ℕ)) (used : List ℕ) (h : HasUsed f0 f old now used) where
-  pub gave_prefix : GivesPrefix old now
-  gave_prefix = (h.gave, h.given)
-
   module _ (fb fa : ℕ) where
     pub where_known : (P : Call → List ℕ → Type 0)
         → ((before after : List ℕ) → old ≡ Some before → now ≡ Some after → HasUsed f0 f (Some before) (Some after) used → P (call_on f0.room f0.ahead fb fa before after) after)

@@ -9,7 +9,7 @@ use Rattle.mm_reader.specs.Fronts.{Front}
 use Rattle.mm_frames.specs.declared.batch.BatchError.{BatchError}
 use Rattle.mm_frames.specs.declared.batch.BatchError.TheVariants as errors
 use Rattle.mm_frames.specs.Batches.{AreFrames, BatchFault, IsBatch, ReadsBatch, RefusesBatch, bad_frame_from, files_of, first_bad_file, first_bad_frame}
-use Rattle.mm_frames.specs.declared.header.Header.{Header}
+use Rattle.mm_frames.specs.declared.header.FrameHeader.{FrameHeader}
 use Rattle.mm_frames.specs.Frames.{AnswersFile, AnswersHeader, AnswersLast, AreWhole, HasEnded, HasFiles, IsBadFrame, IsDone, IsGoodHeader, RefusesUsed, UsesSuch}
 use Rattle.mm_frames.specs.Stages.{HasUsed}
 use Rattle.mm_frames.proofs.BatchLaws.{batch_good, frame_stays, past_frame}
@@ -181,7 +181,7 @@ module _ (f0 f f1 : Front) (old mid now1 : Option (List ℕ)) (fb fm fh : ℕ) (
       let e : h.used ++ u.used ≡ h.used = ap (λ (t : List ℕ). h.used ++ t) u.such.0 ∙ append-nil h.used in
       batch_known f0 f1 old now1 fb fh (h.used ++ u.used) (header_used u.used u.so_far) files (done_here u.such.1) (rw e (whole_batch h.used files h.whole))
 
-  module _ (header : Header) (u : UsesSuch f f1 header_source (AnswersHeader before f1 header_source (Ok (Some header)))) where
+  module _ (header : FrameHeader) (u : UsesSuch f f1 header_source (AnswersHeader before f1 header_source (Ok (Some header)))) where
     good_here : IsGoodHeader (length files) u.such.line header.bytes
     good_here = subst (λ k. IsGoodHeader k u.such.line header.bytes) count u.such.good
 

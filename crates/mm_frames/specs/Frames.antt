@@ -15,7 +15,7 @@ use Rattle.mm_reader.specs.Fronts.{Front}
 use Rattle.mm_reader.specs.Lines.{IsLine}
 use Rattle.mm_frames.specs.declared.batch.BatchError.{BatchError}
 use Rattle.mm_frames.specs.declared.batch.BatchError.TheVariants as errors
-use Rattle.mm_frames.specs.declared.header.Header.{Header}
+use Rattle.mm_frames.specs.declared.header.FrameHeader.{FrameHeader}
 use Rattle.mm_frames.specs.Batches.{BatchFault, AreFrames, bad_frame_from, file_bytes, files_of, first_bad_frame, has_lf, header_rules}
 use Rattle.mm_frames.specs.Stages.{HasUsed}
 
@@ -37,7 +37,7 @@ HeaderIsBad before ws errors.ReadFault = ⊥
 HeaderIsBad before ws errors.OutOfMemory = ⊥
 
 -- the header is good and tells so many bytes, or it is bad
-abbrev pub HeaderIs : ℕ → Bool → List Word → Result Header BatchError → Type 0
+abbrev pub HeaderIs : ℕ → Bool → List Word → Result FrameHeader BatchError → Type 0
 HeaderIs before last ws (Ok header) = (first_kind (header_rules before ws) ≡ None)
     × (header.bytes ≡ file_bytes ws) × (header.last ≡ last)
 HeaderIs before last ws (Err error) = HeaderIsBad before ws error
@@ -93,14 +93,14 @@ HasEnded true line used now source = (used ≡ line) × (line ≢ []) × IsDone 
 HasEnded false line used now source = used ≡ line ++ 10 ∷ []
 
 -- a good header came
-pub record TakesHeader (before : ℕ) (header : Header) (used : List ℕ) (now : Front)
+pub record TakesHeader (before : ℕ) (header : FrameHeader) (used : List ℕ) (now : Front)
     (source : Device) : Type 0 where
   pub line : List ℕ
   pub good : IsGoodHeader before line header.bytes
   pub has_ended : HasEnded header.last line used now source
 
 -- what is answered to the header of a file behind so many files
-abbrev pub AnswersHeader : ℕ → Front → Device → Result (Option Header) BatchError → List ℕ → Type 0
+abbrev pub AnswersHeader : ℕ → Front → Device → Result (Option FrameHeader) BatchError → List ℕ → Type 0
 AnswersHeader before now source (Ok None) used = (used ≡ []) × IsDone now source
 AnswersHeader before now source (Ok (Some header)) used =
     TakesHeader before header used now source

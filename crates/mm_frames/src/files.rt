@@ -51,6 +51,8 @@ fn read_file<S: Source>(
     ensures most { length input.new.ahead ≤ room input.new + 1 }
     ensures cause { FailsByFailedRead (seen S.left S.faults source.old source.new) result }
     ensures at_end { IsTrue input.new.at_end → IsAtEnd (S.left source.new) }
+    ensures unasked { IsTrue input.old.at_end → source.new ≡ source.old }
+    ensures stays { IsTrue input.old.at_end → IsTrue input.new.at_end }
     ensures good { StaysGood input.new.good result }
     ensures limit { input.new.limit ≡ input.old.limit }
 {
@@ -122,7 +124,12 @@ pub fn read_files<S: Source>(
 
     // A failed read is the one cause of `ReadFault`, and at Ok no read has failed.
     ensures cause { FailsByFailedRead (seen S.left S.faults source.old source.new) result }
+
+    // Where a read has given no bytes, the source is not asked again.
     ensures at_end { IsTrue input.new.at_end → IsAtEnd (S.left source.new) }
+    ensures unasked { IsTrue input.old.at_end → source.new ≡ source.old }
+    ensures stays { IsTrue input.old.at_end → IsTrue input.new.at_end }
+
     ensures good { StaysGood input.new.good result }
     ensures limit { input.new.limit ≡ input.old.limit }
 {

@@ -20,7 +20,7 @@ use sp_ports::Source;
 
 /// What a header says: how many bytes the file has, and whether the input ended with the header.
 #[derive(Clone, Copy, Debug, PartialEq, Eq)]
-pub struct Header {
+pub struct FrameHeader {
     pub bytes: u64,
     pub last: bool,
 }
@@ -79,7 +79,7 @@ fn judge_header(before: usize, line: &LineSoFar) -> Result<u64, Kind>
 }
 
 /// A header has come, behind so many files, with its LF or with the end of the input.
-fn take_header(before: usize, line: &LineSoFar, last: bool) -> Result<Header, BatchError>
+fn take_header(before: usize, line: &LineSoFar, last: bool) -> Result<FrameHeader, BatchError>
     requires { before ≤ max_batch_files }
     ensures taken { (bytes : List ℕ) → IsLine line.now.tokens line.now.count line.now.inside bytes
         → HeaderIs before last (words bytes) result }
@@ -88,7 +88,7 @@ fn take_header(before: usize, line: &LineSoFar, last: bool) -> Result<Header, Ba
 {
     match judge_header(before, line) {
         Err(kind) => Err(refusal(before, kind)),
-        Ok(bytes) => Ok(Header { bytes, last }),
+        Ok(bytes) => Ok(FrameHeader { bytes, last }),
     }
 }
 
@@ -98,7 +98,7 @@ pub fn read_header<S: Source>(
     input: &mut Input,
     source: &mut S,
     before: usize,
-) -> Result<Option<Header>, BatchError>
+) -> Result<Option<FrameHeader>, BatchError>
     requires good { IsTrue input.old.good }
     requires at_end { IsTrue input.old.at_end → IsAtEnd (S.left source.old) }
     requires few { before ≤ max_batch_files }
@@ -111,6 +111,8 @@ pub fn read_header<S: Source>(
     ensures most { length input.new.ahead ≤ room input.new + 1 }
     ensures cause { FailsByFailedRead (seen S.left S.faults source.old source.new) result }
     ensures at_end { IsTrue input.new.at_end → IsAtEnd (S.left source.new) }
+    ensures unasked { IsTrue input.old.at_end → source.new ≡ source.old }
+    ensures stays { IsTrue input.old.at_end → IsTrue input.new.at_end }
     ensures good { StaysGood input.new.good result }
     ensures limit { input.new.limit ≡ input.old.limit }
 {

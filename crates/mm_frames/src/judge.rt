@@ -1,12 +1,10 @@
 //! The judge of edit lines: the first kind of fault that applies, or what the line says.
 
-ghost use Rattle.std.specs.Prelude.{◌≡◌, ◌<◌, ◌≤◌, ℕ, ◌||◌, ◌==◌, List, length, IfOk, true, false};
-ghost use Rattle.sp_ids.specs.Limits.{max_edits};
+ghost use Rattle.std.specs.Prelude.{◌<◌, ℕ, List, IfOk};
 ghost use Rattle.mm_defs.specs.Words.{word, words};
-ghost use Rattle.mm_defs.specs.Numbers.{is_number, number};
+ghost use Rattle.mm_defs.specs.Numbers.{number};
 ghost use Rattle.mm_reader.specs.Lines.{IsLine};
-ghost use Rattle.mm_reader.specs.Tokens.{capped};
-ghost use Rattle.mm_defs.specs.EditLines.{edit_place_rules, edit_rules, is_set, is_clear, is_report};
+ghost use Rattle.mm_defs.specs.EditLines.{edit_place_rules, edit_rules};
 ghost use Rattle.mm_frames.specs.Edits.{edit, IsWithinMatrix};
 ghost use Rattle.mm_frames.specs.Judged.{JudgedEdit, JudgedPlace};
 

@@ -1,6 +1,6 @@
 //! Reading edit lines.
 
-ghost use Rattle.std.specs.Prelude.{◌≡◌, ◌<◌, ◌≤◌, ◌+◌, ◌-◌, ◌^◌, ◌++◌, ℕ, List, length, true, false, if◌then◌else◌, IfOk, IsTrue, MatchResult};
+ghost use Rattle.std.specs.Prelude.{◌≡◌, ◌<◌, ◌+◌, ◌^◌, ◌++◌, ℕ, List, length, true, false, if◌then◌else◌, IfOk, IsTrue, MatchResult};
 ghost use Rattle.std.specs.List.{All};
 ghost use Rattle.sp_ports.specs.Bytes.{GivesPrefix, IsAtEnd};
 ghost use Rattle.sp_ports.specs.Device.{seen};
@@ -129,7 +129,12 @@ pub fn read_edits<S: Source>(
 
     // A failed read is the one cause of `ReadFault`, and at Ok no read has failed.
     ensures cause { FailsByReadFault (seen S.left S.faults source.old source.new) result }
+
+    // Where a read has given no bytes, the source is not asked again.
     ensures at_end { IsTrue input.new.at_end → IsAtEnd (S.left source.new) }
+    ensures unasked { IsTrue input.old.at_end → source.new ≡ source.old }
+    ensures stays { IsTrue input.old.at_end → IsTrue input.new.at_end }
+
     ensures good { KeepsGood input.new.good result }
     ensures limit { input.new.limit ≡ input.old.limit }
 {

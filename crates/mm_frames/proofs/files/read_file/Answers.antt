@@ -49,4 +49,5 @@ loop-input-preserved g c =
       good = b.ensures.good.1 refl;
       limit = b.ensures.limit ∙ i.limit;
       at_end = b.ensures.at_end;
+      unasked = λ t. let e = i.unasked t in (b.ensures.stays e.0, b.ensures.unasked e.0 ∙ e.1);
     }

@@ -14,6 +14,7 @@ invariant-loop-input g l = record {
   good : l.input.good ≡ true;
   limit : l.input.limit ≡ l.fn.input.limit;
   at_end : IsTrue l.input.at_end → IsAtEnd (g.S.Source.left l.source);
+  unasked : IsTrue l.fn.input.at_end → IsTrue l.input.at_end × (l.source ≡ l.fn.source);
 }
 
 abbrev pub decreases-loop-input : goal.decreases-loop-input

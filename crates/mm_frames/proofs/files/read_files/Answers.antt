@@ -24,6 +24,7 @@ reading-init g c =
       good = c.requires.good;
       limit = refl;
       at_end = c.requires.at_end;
+      unasked = λ t. (t, refl);
     }
 
 pub returns-in-Err-clause-answer : goal.returns-in-Err-clause-answer
@@ -151,4 +152,8 @@ reading-preserved g c =
       good = c.in-Ok.ensures.good;
       limit = c.in-Ok.ensures.limit ∙ c.in-Ok-Some.ensures.limit ∙ i.limit;
       at_end = c.in-Ok.ensures.at_end;
+      unasked = λ t.
+          let old = i.unasked t in
+          let header = c.in-Ok-Some.ensures.stays old.0 in
+          (c.in-Ok.ensures.stays header, c.in-Ok.ensures.unasked header ∙ c.in-Ok-Some.ensures.unasked old.0 ∙ old.1);
     }

@@ -18,6 +18,7 @@ reading-init g c =
       good = c.requires.good;
       limit = refl;
       at_end = c.requires.at_end;
+      unasked = λ t. (t, refl);
       fits = λ e. absurd cc;
     }
 
@@ -89,6 +90,7 @@ reading-preserved-in-Ok-Some-eq10 g c =
       good = b.ensures.good.1 refl;
       limit = b.ensures.limit ∙ i.limit;
       at_end = b.ensures.at_end;
+      unasked = λ t. let e = i.unasked t in (b.ensures.stays e.0, b.ensures.unasked e.0 ∙ e.1);
       fits = λ e. absurd cc;
     }
 
@@ -106,6 +108,7 @@ reading-preserved g c =
       good = b.ensures.good.1 refl;
       limit = b.ensures.limit ∙ i.limit;
       at_end = b.ensures.at_end;
+      unasked = λ t. let e = i.unasked t in (b.ensures.stays e.0, b.ensures.unasked e.0 ∙ e.1);
       fits = λ e. byte_fits c.args.rows c.args.cols (front c.args.input.now) (front c.reading.input) (front c.next_byte.new.input) (g.S.Source.left c.args.source.now) (g.S.Source.left c.reading.source) (g.S.Source.left c.next_byte.new.source)
           (g.S.Source.faults c.reading.source) (g.S.Source.faults c.next_byte.new.source) b.byte c.reading.edits.items c.reading.line c.push.new.self c.reading.begun r u b.byte-test.1 b.ensures.fits;
     }

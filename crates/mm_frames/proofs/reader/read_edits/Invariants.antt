@@ -15,6 +15,7 @@ invariant-reading g l = record {
   good : l.input.good ≡ true;
   limit : l.input.limit ≡ l.fn.input.limit;
   at_end : IsTrue l.input.at_end → IsAtEnd (g.S.Source.left l.source);
+  unasked : IsTrue l.fn.input.at_end → IsTrue l.input.at_end × (l.source ≡ l.fn.source);
   fits : l.begun ≡ true → l.input.lines + room l.input + 1 < 2 ^ 64;
 }
 
