@@ -33,7 +33,15 @@ struct Search<'a> {
     wanted: Wanted<'a>,
 }
 
-const SEARCHES: [Search<'static>; 7] = [
+const SEARCHES: [Search<'static>; 8] = [
+    Search {
+        name: "a first search in a row of two entries",
+        rows: 1,
+        cols: 2,
+        places: &[(1, 1), (1, 2)],
+        pairs: &[],
+        wanted: Wanted::Path(&[(1, 1)]),
+    },
     Search {
         name: "a set that moves a pair",
         rows: 2,

@@ -123,6 +123,8 @@ fn two_threads_on_one_row(rt: HostRuntime) -> Result<(), Fail> {
     let (first, second) = claim_at_once(&rt, &board, &mut zero, &mut one);
     let won = winner(first, second);
     assert!(rt; won.is_some());
+    assert_eq!(rt; board.look_row(&mut zero, Row(0)), won);
+    assert_eq!(rt; board.look_row(&mut one, Row(0)), won);
     let closed = close_for_two(rt.alloc(), board, zero, one)?;
     assert_eq!(rt; closed.holder(Row(0)), won);
     Ok(())

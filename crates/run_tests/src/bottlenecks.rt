@@ -64,8 +64,11 @@ fn what_has_no_bottleneck(rt: HostRuntime) -> Result<(), Fail> {
     let words = ["bottleneck"].as_slice();
     let past =
         "%%MatrixMarket matrix coordinate integer general\n1 2 2\n1 1 9223372036854775807\n1 1 1\n";
+    let square =
+        "%%MatrixMarket matrix coordinate integer general\n1 1 2\n1 1 9223372036854775807\n1 1 1\n";
     let sum = "btf: limit: sum at 1 1\n";
     expect(&rt, words, past, &STEADY, Status::Limit, "", sum)?;
+    expect(&rt, words, square, &STEADY, Status::Limit, "", sum)?;
     let needs = "btf: needs an integer file\n";
     expect(
         &rt,

@@ -176,6 +176,23 @@ fn a_text_is_handed_on_once(rt: HostRuntime) -> Result<(), Fail> {
 }
 
 #[test]
+fn pieces_of_the_input_change_nothing(rt: HostRuntime) -> Result<(), Fail> {
+    for piece in [1, 7, 59] {
+        let devices = Devices { piece, ..STEADY };
+        expect(
+            &rt,
+            &REPORT,
+            SMALLEST,
+            &devices,
+            Status::Ok,
+            SMALLEST_REPORT,
+            "",
+        )?;
+    }
+    Ok(())
+}
+
+#[test]
 fn steady_devices(rt: HostRuntime) -> Result<(), Fail> {
     let alloc = rt.alloc();
     let jobs: [(&[&str], &str); 2] = [(&["rank"], SMALLEST_RANK), (&REPORT, SMALLEST_REPORT)];

@@ -7,8 +7,8 @@ use std::process::Abort;
 use std::test::Fail;
 use std::thread::Threads;
 
-/// What is written for a size and a seed, by each engine and by several workers. A file that is
-/// there is not looked at.
+/// What is written for a size and a seed, by each engine with one and with several workers. A file
+/// that is there is not looked at.
 fn summary<'a, R: Threads + Abort + AllocGlobal + Sync>(
     rt: &R,
     size: &'a str,
@@ -19,12 +19,20 @@ fn summary<'a, R: Threads + Abort + AllocGlobal + Sync>(
     let words = ["load", "--size", size, "--seed", seed];
     expect(rt, &words, file, &STEADY, Status::Ok, text, "")?;
     for engine in ["plain", "mc21", "pf", "graft"] {
-        let words = ["load", "--seed", seed, "--engine", engine, "--size", size];
-        expect(rt, &words, file, &STEADY, Status::Ok, text, "")?;
-    }
-    for workers in ["1", "2", "64"] {
-        let words = ["load", "--workers", workers, "--seed", seed, "--size", size];
-        expect(rt, &words, file, &STEADY, Status::Ok, text, "")?;
+        for workers in ["1", "2", "64"] {
+            let words = [
+                "load",
+                "--workers",
+                workers,
+                "--seed",
+                seed,
+                "--engine",
+                engine,
+                "--size",
+                size,
+            ];
+            expect(rt, &words, file, &STEADY, Status::Ok, text, "")?;
+        }
     }
     Ok(())
 }

@@ -75,52 +75,56 @@ fn judged<R: Threads + Abort + AllocGlobal + Sync>(
 
 const PAIRS: &str = "pairs 2\n1 1\n2 2\nend\n";
 
-// Components are judged last. Lists that rise and have the lengths that are told are of the
-// grammar, whatever stands in them.
+/// The lines of the two horizontal components, and the verdict on a report with them. Components
+/// are judged last. Lists that rise and have the lengths that are told are of the grammar, whatever
+/// stands in them.
+const COMPONENTS: [(&str, &str); 10] = [
+    (
+        "component 1 1 2\nrows 1\ncolumns 1 3\ncomponent 2 1 2\nrows 2\ncolumns 2 4\n",
+        "valid\n",
+    ),
+    // The two are exchanged, one row is, or all are one.
+    (
+        "component 1 1 2\nrows 2\ncolumns 2 4\ncomponent 2 1 2\nrows 1\ncolumns 1 3\n",
+        "invalid 6\n",
+    ),
+    (
+        "component 1 1 2\nrows 2\ncolumns 1 3\ncomponent 2 1 2\nrows 1\ncolumns 2 4\n",
+        "invalid 6\n",
+    ),
+    (
+        "component 1 2 2\nrows 1 2\ncolumns 1 3\ncomponent 2 0 2\nrows\ncolumns 2 4\n",
+        "invalid 6\n",
+    ),
+    // A row that is not in the matrix.
+    (
+        "component 1 1 2\nrows 4294967295\ncolumns 1 3\ncomponent 2 1 2\nrows 2\ncolumns 2 4\n",
+        "invalid 6\n",
+    ),
+    // No report: two lengths of 0, a list that does not rise, another number, fewer than told,
+    // more than told.
+    (
+        "component 1 0 0\nrows\ncolumns\ncomponent 2 1 2\nrows 2\ncolumns 2 4\n",
+        "invalid 1\n",
+    ),
+    (
+        "component 1 1 2\nrows 1\ncolumns 3 1\ncomponent 2 1 2\nrows 2\ncolumns 2 4\n",
+        "invalid 1\n",
+    ),
+    (
+        "component 1 1 2\nrows 1\ncolumns 1 3\ncomponent 3 1 2\nrows 2\ncolumns 2 4\n",
+        "invalid 1\n",
+    ),
+    ("component 1 1 2\nrows 1\ncolumns 1 3\n", "invalid 1\n"),
+    (
+        "component 1 4294967295 2\nrows 1\ncolumns 1 3\ncomponent 2 1 2\nrows 2\ncolumns 2 4\n",
+        "invalid 1\n",
+    ),
+];
+
 #[test]
 fn verdicts_on_components(rt: HostRuntime) -> Result<(), Fail> {
-    let own = "component 1 1 2\nrows 1\ncolumns 1 3\ncomponent 2 1 2\nrows 2\ncolumns 2 4\n";
-    let others = [
-        (own, "valid\n"),
-        // The two are exchanged, one row is, or all are one.
-        (
-            "component 1 1 2\nrows 2\ncolumns 2 4\ncomponent 2 1 2\nrows 1\ncolumns 1 3\n",
-            "invalid 6\n",
-        ),
-        (
-            "component 1 1 2\nrows 2\ncolumns 1 3\ncomponent 2 1 2\nrows 1\ncolumns 2 4\n",
-            "invalid 6\n",
-        ),
-        (
-            "component 1 2 2\nrows 1 2\ncolumns 1 3\ncomponent 2 0 2\nrows\ncolumns 2 4\n",
-            "invalid 6\n",
-        ),
-        // A row that is not in the matrix.
-        (
-            "component 1 1 2\nrows 4294967295\ncolumns 1 3\ncomponent 2 1 2\nrows 2\ncolumns 2 4\n",
-            "invalid 6\n",
-        ),
-        // No report: two lengths of 0, a list that does not rise, another number, fewer than told,
-        // more than told.
-        (
-            "component 1 0 0\nrows\ncolumns\ncomponent 2 1 2\nrows 2\ncolumns 2 4\n",
-            "invalid 1\n",
-        ),
-        (
-            "component 1 1 2\nrows 1\ncolumns 3 1\ncomponent 2 1 2\nrows 2\ncolumns 2 4\n",
-            "invalid 1\n",
-        ),
-        (
-            "component 1 1 2\nrows 1\ncolumns 1 3\ncomponent 3 1 2\nrows 2\ncolumns 2 4\n",
-            "invalid 1\n",
-        ),
-        ("component 1 1 2\nrows 1\ncolumns 1 3\n", "invalid 1\n"),
-        (
-            "component 1 4294967295 2\nrows 1\ncolumns 1 3\ncomponent 2 1 2\nrows 2\ncolumns 2 4\n",
-            "invalid 1\n",
-        ),
-    ];
-    for (components, verdict) in others {
+    for (components, verdict) in COMPONENTS {
         let report = [TWO_COMPONENTS_HEAD, components, TWO_COMPONENTS_TAIL, PAIRS];
         judged(&rt, &report, verdict)?;
     }
