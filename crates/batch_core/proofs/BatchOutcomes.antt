@@ -1,18 +1,18 @@
 -- What the steps of a run say together.
-use Rattle.std.proofs.Common.{◌≡◌, ◌∙◌, ℕ, List, [], inl, inr, refl, sym, subst, arith, Option, Some, None, Ok, Err, Result, IfOk}
+use Rattle.std.proofs.Common.{◌≡◌, ◌∙◌, ℕ, List, refl, sym, subst, arith, Option, Some, None, Ok, Err, Result, IfOk}
 use Rattle.sp_ids.specs.declared.outcomes.Status.{Status}
 use Rattle.sp_ports.specs.Bytes.{WhereKnown}
 use Rattle.sp_ports.specs.Device.{Device, FailsOnceAtMost, IsSteady, IsUntouched, WroteAsFar}
 use Rattle.btf_words.specs.BatchWords.{AreTaken}
 use Rattle.btf_words.specs.declared.jobs.WordsError.{WordsError}
-use Rattle.btf_tool.specs.Jobs.{GavePrefix, OfReading, reading}
+use Rattle.btf_tool.specs.Jobs.{OfReading}
 use Rattle.btf_tool.specs.Refusals.{status_of_answer}
 use Rattle.btf_tool.specs.Runs.{Run, StaysKnown}
 use Rattle.btf_tool.specs.declared.answers.Answer.{Answer}
 use Rattle.btf_tool.specs.declared.answers.Answer.TheVariants.{Negative, Positive}
 use Rattle.btf_tool.specs.declared.file_answer.FileAnswer.{FileAnswer}
 use Rattle.batch_core.specs.BatchRefusals.{line_of, status_of}
-use Rattle.batch_core.specs.BatchRuns.{BatchSays, HasCause, IsUnread, Says, WasRead, WithAnswer}
+use Rattle.batch_core.specs.BatchRuns.{BatchSays, HasCause, Says, WasRead, WithAnswer}
 use Rattle.batch_core.specs.BatchText.{answer_of, text_of_slots}
 use Rattle.batch_core.specs.Shares.{AreFull, AreSlotsOf, Slots}
 use Rattle.batch_core.specs.declared.refusals.Refusal.{Refusal}
@@ -30,26 +30,9 @@ untouched_tells input same = subst (λ (after : Option (List ℕ)). WhereKnown i
     still None = tt
     still (Some x) = tt
 
--- it gave nothing
-pub untouched_gave : (input : Device) → IsUntouched input → OfReading input GavePrefix
-untouched_gave input same =
-    subst (λ (after : Option (List ℕ)). WhereKnown input.before after (λ x y. GavePrefix (reading input x y))) (sym same.0) (still input.before)
-  where
-    still : (bytes : Option (List ℕ)) → WhereKnown bytes bytes (λ x y. GavePrefix (reading input x y))
-    still None = tt
-    still (Some x) = record { gave = []; in_order = refl; few = omega arith }
-
 -- a device that did not fail, or that failed once, failed once at most
 pub steady_counts : (d : Device) → IsSteady d → FailsOnceAtMost d
 steady_counts d same = record { later = omega (arith, same); once = omega (arith, same) }
-
-pub line_counts : (d : Device) (text : List ℕ) → WroteAsFar d text → FailsOnceAtMost d
-line_counts d text (inl took) = steady_counts d took.steady
-line_counts d text (inr took) = took.counts
-
-pub says_counts : (input out : Device) (result : Result Answer Refusal) → BatchSays input out result → FailsOnceAtMost input × FailsOnceAtMost out
-says_counts input out (Ok answer) says = (steady_counts input says.0, steady_counts out says.1)
-says_counts input out (Err refusal) says = (says.0, says.1)
 
 -- ---- over words that are taken
 
@@ -67,20 +50,6 @@ with_answers input files given answers slots P read of_given same are full these
     with_answer input files slots P read
     (subst (λ (s : List (Option FileAnswer)). AreAnswered files s) (sym these)
     (subst (λ (fs : List (List ℕ)). AreAnswered fs answers.slots) (of_given ∙ same) (all_answered answers.files answers.slots are full))) done
-
--- the files could not be read, and nothing was written
-pub unread_says : (input out : Device) (refusal : Refusal) → IsUnread input refusal → FailsOnceAtMost input → IsUntouched out → BatchSays input out (Err refusal)
-unread_says input out Usage says later same = absurd says
-unread_says input out (Malformed file kind) says later same = (later, steady_counts out same.1, (says, same))
-unread_says input out (Limit file kind) says later same = (later, steady_counts out same.1, (says, same))
-unread_says input out TooLong says later same = (later, steady_counts out same.1, (says, same))
-unread_says input out ReadFault says later same = (later, steady_counts out same.1, (says, same))
-unread_says input out WriteFault says later same = absurd says
-unread_says input out OutOfMemory says later same = (later, steady_counts out same.1, (says, same))
-
--- memory ran out after the reading
-pub no_memory_says : (input out : Device) (files : List (List ℕ)) → OfReading input (λ call. WasRead call files) → FailsOnceAtMost input → IsUntouched out → BatchSays input out (Err OutOfMemory)
-no_memory_says input out files read later same = unread_says input out OutOfMemory (where_known input.before input.after read (λ x y before h. tt)) later same
 
 -- ---- a run
 

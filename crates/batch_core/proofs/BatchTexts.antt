@@ -1,5 +1,5 @@
 -- There is one text over the files of a batch, and it is that of their answers.
-use Rattle.std.proofs.Common.{◌≡◌, ◌≢◌, ◌<◌, ◌+◌, ◌∙◌, ◌++◌, ℕ, zero, suc, take, drop, get_or, arith, append_assoc, append-nil, length-take, Bool, true, false, List, [], ◌∷◌, Option, Some, None, ap, ap₂, length, refl, sym, subst, inl, inr, if◌then◌else◌}
+use Rattle.std.proofs.Common.{◌≡◌, ◌≢◌, ◌<◌, ◌+◌, ◌∙◌, ◌++◌, ℕ, suc, take, drop, get_or, arith, append_assoc, append-nil, length-take, Bool, true, false, List, [], ◌∷◌, Option, Some, None, ap, ap₂, length, refl, sym, subst, inl, inr, if◌then◌else◌}
 use Rattle.std.proofs.lemmas.List.{take-append-drop, take_more}
 use Rattle.bip_defs.proofs.Uniqueness.{same_matrix}
 use Rattle.bip_defs.specs.ConnectedComponents as connected

@@ -139,7 +139,3 @@ known_next old new n h before now i lt = by (number_same i n)
     by : (i ≡ n) ⊎ (i ≢ n) → IsKnown new.seat i
     by (inl e) = subst (λ (j : ℕ). IsKnown new.seat j) (sym e) now
     by (inr ne) = known_on old new i h (before i (omega (arith, lt, ne)))
-
--- the board stays
-pub board_on : (old new : Share) → Continues old new → new.seat.board ≡ old.seat.board
-board_on old new h = ap (λ (s : Seat). s.board) h.seat

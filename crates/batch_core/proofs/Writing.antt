@@ -1,5 +1,5 @@
 -- A text that is written piece by piece, and then handed on.
-use Rattle.std.proofs.Common.{◌≡◌, ◌++◌, ◌∙◌, ℕ, List, [], Option, None, Some, Result, Ok, Err, ap, append-nil, append_assoc, arith, refl, sym, subst}
+use Rattle.std.proofs.Common.{◌≡◌, ◌++◌, ◌∙◌, ℕ, List, [], Option, Result, Ok, Err, ap, append-nil, append_assoc, arith, sym, subst}
 use Rattle.std.specs.Result.{IsErr}
 use Rattle.sp_ports.specs.Bytes.{Takes, TakesPrefix}
 use Rattle.sp_ports.specs.Device.{Device, FailsByWrites, Rose, Took, TookPrefix, Writes}
@@ -13,14 +13,6 @@ prefix_more d text more h =
       counts = h.counts;
       fault = h.fault;
     }
-
-takes_nothing : (taken : Option (List ℕ)) → Takes taken taken []
-takes_nothing None = tt
-takes_nothing (Some bytes) = sym (append-nil bytes)
-
--- nothing yet
-pub took_nothing : (taken : Option (List ℕ)) (faults : ℕ) → Took (since taken faults taken faults) []
-took_nothing taken faults = record { bytes = takes_nothing taken; steady = refl }
 
 -- all was taken, and then the device was to hand it on
 pub handed_on : {T E : Type 0} (t0 t1 t2 : Option (List ℕ)) (f0 f1 f2 : ℕ) (text : List ℕ) (result : Result T E) → Took (since t0 f0 t1 f1) text → t2 ≡ t1

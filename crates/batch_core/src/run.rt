@@ -29,6 +29,9 @@ use std::thread::Threads;
 /// program ends: `Ok` where each file is good, `Negative` where some file is not. Nothing is
 /// written to `out` before all input is read and all memory is taken. What is said here holds
 /// whatever `gate` does, and in whatever order threads run: the text is that of one worker.
+///
+/// Memory: the bytes of all files, and what the analysis of each takes while a worker is at it.
+/// Work: linear in the bytes, and that of each file's analysis.
 pub fn run_batch<R: Threads + Sync, S: Source, O: Sink, E: Sink, G: Gate>(
     rt: &R,
     alloc: Global,

@@ -1,8 +1,7 @@
 //! A batch of a good file, a file without a banner, a file of too many rows and a file without
 //! bytes.
 
-ghost use Rattle.std.specs.Prelude.{◌≡◌, ◌≤◌, ◌<◌, [], ◌∷◌, length, IfOk};
-ghost use Rattle.std.specs.List.{All};
+ghost use Rattle.std.specs.Prelude.{◌≡◌, ◌≤◌, ◌<◌, length, IfOk};
 ghost use Rattle.claim_words.specs.Listed.{nothing};
 ghost use Rattle.claim_words.specs.Seat.{first_seat, new_seat};
 ghost use Rattle.sp_ids.specs.Limits.{max_workers};

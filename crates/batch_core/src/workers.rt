@@ -21,7 +21,8 @@ use std::thread::Threads;
 ///
 /// What a worker could not answer for want of memory is answered at the end by the caller. Answers
 /// `OutOfMemory` where that fails too, or where there is none for 8 bytes a file and worker, or for
-/// the list of answers.
+/// the list of answers. Work: that of each file's analysis, and at most one claim of each file by
+/// each worker.
 pub fn answer_all<'a, R: Threads + Sync, G: Gate>(
     rt: &R,
     alloc: Global,

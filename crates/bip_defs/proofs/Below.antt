@@ -10,9 +10,6 @@ below_more P n below here x lt = ⊎_elim (λ (e : x ≡ n). subst P (sym e) her
 
 -- The list of the numbers below n that have P.
 
-pub listed_none : (P : ℕ → Type 0) → Lists (λ x. (x < 0) × P x) []
-listed_none P = record { rising = tt; sound = λ x h. elim h [ ]; complete = λ x h. absurd (omega (arith, h.0)) }
-
 -- n has it
 pub listed_more : (P : ℕ → Type 0) (n : ℕ) (xs : List ℕ) → Lists (λ x. (x < n) × P x) xs → P n → Lists (λ x. (x < n + 1) × P x) (xs ++ n ∷ [])
 listed_more P n xs l p = record {

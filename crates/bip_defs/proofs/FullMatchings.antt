@@ -1,5 +1,5 @@
 -- Matchings that miss no row and no column.
-use Rattle.std.proofs.Common.{◌≡◌, ◌≢◌, ◌∙◌, ℕ, ◌+◌, ◌<◌, ◌≤◌, List, [], ◌∷◌, ◌++◌, length, refl, sym, ap, subst, inl, inr, ⊎_elim, arith}
+use Rattle.std.proofs.Common.{◌≡◌, ◌≢◌, ◌∙◌, ℕ, ◌+◌, ◌≤◌, List, [], ◌∷◌, ◌++◌, length, refl, sym, ap, subst, inl, inr, ⊎_elim, arith}
 use Rattle.std.proofs.lemmas.List.{length-map}
 use Rattle.bip_defs.specs.Bottleneck.{IsFull, IsSingular}
 use Rattle.bip_defs.specs.Lists.{Among, AreDistinct, Lists}
@@ -7,7 +7,7 @@ use Rattle.bip_defs.specs.Matching.{IsMatching, IsMaximum, cols_of, rows_of}
 use Rattle.bip_defs.specs.Matrix.{Matrix, Place, cols, upto}
 use Rattle.bip_defs.specs.Parts.{IsHorizontalCol}
 use Rattle.bip_defs.proofs.Full.{has_all_cols, has_all_rows, matching_few}
-use Rattle.bip_defs.proofs.Sets.{among_last, col_among, number_same, one_col, rising_distinct, row_pair, upto_length, upto_more, upto_rising}
+use Rattle.bip_defs.proofs.Sets.{among_last, col_among, one_col, rising_distinct, row_pair, upto_length, upto_more, upto_rising}
 
 -- a matching of a square matrix with as many pairs as columns is full
 pub long_full : (a : Matrix) (m : List Place) → a.rows ≡ cols a → IsMatching a m → cols a ≤ length m → IsFull a m

@@ -3,19 +3,15 @@ use Rattle.std.proofs.Common.{◌≡◌, ◌∙◌, ℕ, zero, suc, ◌+◌, ◌
 use Rattle.std.proofs.lemmas.List.{get_or-map, length-map}
 use Rattle.std.specs.List.{list_any}
 use Rattle.bip_defs.specs.Lists.{Among, Lists}
-use Rattle.bip_defs.specs.Matching.{IsMatching, IsMaximum, IsRank, cols_of, rows_of, transposed_places}
+use Rattle.bip_defs.specs.Matching.{IsMatching, IsMaximum, cols_of, rows_of, transposed_places}
 use Rattle.bip_defs.specs.Matrix.{IsEntry, IsTransposeOf, Matrix, Place, column, cols, row_list, transpose, upto, upto_from}
 use Rattle.bip_defs.specs.Parts.{IsHorizontalCol, IsHorizontalRow, IsSquareCol, IsSquareRow, IsVerticalCol, IsVerticalRow}
-use Rattle.bip_defs.proofs.Sets.{among_map, among_test, entry_col, filter_lists, lists_same, lists_unique, upto_length}
+use Rattle.bip_defs.proofs.Sets.{among_map, among_test, entry_col, filter_lists, lists_same, upto_length}
 
 -- The columns of a row.
 
 pub row_list_lists : (a : Matrix) (r : ℕ) → r < a.rows → Lists (λ c. IsEntry a r c) (row_list a r)
 row_list_lists a r lt = lists_same (λ c. (c < cols a) × (list_any (nat_eq r) (column a c) ≡ true)) (λ c. IsEntry a r c) (row_list a r) (λ c h. (lt, (among_test r (column a c)).0 h.1)) (λ c e. (entry_col a r c e, (among_test r (column a c)).1 e.1)) (filter_lists (λ c. list_any (nat_eq r) (column a c)) (cols a))
-
--- a rising list of a row's columns is that list
-pub row_list_unique : (a : Matrix) (r : ℕ) (cs : List ℕ) → r < a.rows → Lists (λ c. IsEntry a r c) cs → cs ≡ row_list a r
-row_list_unique a r cs lt h = lists_unique (λ c. IsEntry a r c) cs (row_list a r) h (row_list_lists a r lt)
 
 pub upto_at : (k n i d : ℕ) → i < n → slice_index_or (upto_from k n) i d ≡ k + i
 upto_at k zero i d lt = absurd (omega arith)
@@ -76,9 +72,6 @@ turned_maximum a b m t max = record {
   matching = turned_matching a b m t max.matching;
   longest = λ other k. omega (arith, turned_length m, turned_length other, max.longest (transposed_places other) (turned_matching b a other (transpose_back a b t) k));
 }
-
-pub turned_rank : (a b : Matrix) (k : ℕ) → IsTransposeOf a b → IsRank a k → IsRank b k
-turned_rank a b k t h = (transposed_places h.0, turned_maximum a b h.0 t h.1, turned_length h.0 ∙ h.2)
 
 -- Parts.
 

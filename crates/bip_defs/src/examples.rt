@@ -1,7 +1,7 @@
 //! What the definitions say of small matrices, of matrices without entries, and of places given
 //! twice or out of range.
 
-ghost use Rattle.std.specs.Prelude.{◌≡◌, ◌↔◌, ◌<◌, ℕ, List, [], ◌∷◌};
+ghost use Rattle.std.specs.Prelude.{◌↔◌, ◌<◌, ℕ, List, [], ◌∷◌};
 ghost use Rattle.bip_defs.specs.Decomposition.{IsDecompositionOf};
 ghost use Rattle.bip_defs.specs.Lists.{Among, Lists};
 ghost use Rattle.bip_defs.specs.Small.{lower_triangle, lower_triangle_parts, single, whole_triangle, wide_row, wide_row_parts};

@@ -127,7 +127,7 @@ pub fn one_parts()
     ensures { (a : Matrix) (p q : Parts) → ArePartsOf a p → ArePartsOf a q → p ≡ q }
 {}
 
-/// A matrix has one rank, one list of each part and one list of blocks.
+/// A matrix has at most one rank, one list of each part and one list of blocks.
 pub fn one_decomposition()
     ensures { (a : Matrix) (d e : Decomposition) → IsDecompositionOf a d → IsDecompositionOf a e
         → d ≡ e }

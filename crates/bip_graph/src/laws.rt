@@ -4,7 +4,7 @@ ghost use Rattle.std.specs.Prelude.{◌≡◌, ◌↔◌, ℕ, Bool, true, false
 ghost use Rattle.bip_defs.specs.Matrix.{Matrix};
 ghost use Rattle.bip_graph.specs.Answers.{IsAnalysis, IsRankText, IsWithPairs};
 
-/// A matrix has one text of its rank.
+/// A matrix has at most one text of its rank.
 pub fn one_rank_text()
     ensures { (a : Matrix) (s t : List ℕ) → IsRankText a s → IsRankText a t → s ≡ t }
 {}

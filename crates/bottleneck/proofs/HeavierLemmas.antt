@@ -1,5 +1,5 @@
 -- Matchings of the entries above a weight.
-use Rattle.std.proofs.Common.{◌≡◌, ◌⊎◌, ◌∙◌, ℕ, ◌+◌, ◌<◌, List, [], refl, sym, ap, subst, ⊎_elim, arith, nat_lt}
+use Rattle.std.proofs.Common.{◌≡◌, ◌⊎◌, ◌∙◌, ℕ, ◌+◌, ◌<◌, List, sym, ap, subst, ⊎_elim, arith, nat_lt}
 use Rattle.bip_defs.specs.Bottleneck.{above}
 use Rattle.bip_defs.specs.Lists.{Among, AreDistinct}
 use Rattle.bip_defs.specs.Matching.{IsMatching, cols_of, rows_of}
@@ -32,12 +32,6 @@ heavier_pairs a b weight least m is k r c h = (above_over a weight least r c (su
 pub record AreLeft (a : Matrix) (m left : Pairing) (n : ℕ) : Type 0 where
   pub matching : IsMatchingOf a left
   pub part : (r c : ℕ) → Among (r, c) left.pairs → Among (r, c) m.pairs × (c < n)
-
-pub left_start : (a : Matrix) (m left : Pairing) → left ≡ record { rows = a.rows; cols = cols a; pairs = [] } → AreLeft a m left 0
-left_start a m left e = subst (λ z. AreLeft a m z 0) (sym e) record {
-  matching = record { rows = refl; cols = refl; matching = record { entries = λ r c h. absurd h; rows_differ = tt; cols_differ = tt } };
-  part = λ r c h. absurd h;
-}
 
 pub left_row_free : (a : Matrix) (m left : Pairing) (r n : ℕ) → AreDistinct (rows_of m.pairs) → AreLeft a m left n → Among (r, n) m.pairs → ¬ Among r (rows_of left.pairs)
 left_row_free a m left r n distinct l h g =

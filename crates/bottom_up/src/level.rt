@@ -9,6 +9,7 @@ ghost use Rattle.forest_core.specs.Events.{Runs};
 ghost use Rattle.level_sharing.specs.Agreement.{Agree, Shows};
 ghost use Rattle.level_sharing.specs.Growth.{fresh_events, grown};
 ghost use Rattle.level_sharing.specs.Shares.{KeepToRows};
+ghost use Rattle.sp_ids.specs.Limits.{max_workers};
 
 use crate::search::Search;
 use claim_words::{ClaimBoard, Worker};
@@ -30,7 +31,8 @@ use std::thread::Threads;
 /// once as far as threads can be had, and want of a thread changes nothing. A row that is claimed
 /// already, or is listed twice, is not claimed again. Answers `OutOfMemory` where a fresh list
 /// can't grow: what is listed then stands, and the level is not done. Memory: 8 bytes for each
-/// fresh claim and win. Work: at most one look at each entry of the free rows.
+/// fresh claim and win, and 8 KiB of the stack for each worker. Work: at most two looks at each
+/// entry of the free rows, and two exchanges for each of these rows.
 ///
 /// The search is the bottom-up step of Azad, Buluç and Pothen, Computing maximum cardinality
 /// matchings in parallel on bipartite graphs via tree-grafting, 2017.
@@ -42,7 +44,7 @@ pub fn attach<R: Threads + Sync, G: Gate>(
     workers: &mut [Worker],
     gate: &G,
 ) -> Result<(), OutOfMemory>
-    requires few { length workers.old ≤ 64 }
+    requires few { length workers.old ≤ max_workers }
     requires agree { Agree board.now workers.old forest.now.claims forest.now.leaves }
     requires board_rows { length board.now.rows ≡ forest.now.matrix.rows }
     requires board_roots { length board.now.roots ≡ cols forest.now.matrix }

@@ -3,7 +3,6 @@
 ghost use Rattle.std.specs.Prelude.{◌≡◌, ℕ, ◌<◌, false, true, IfNone, IfSome, OnOk};
 ghost use Rattle.bip_defs.specs.Forest.{InForest, RootOf};
 ghost use Rattle.bip_defs.specs.Lists.{Among};
-ghost use Rattle.bip_defs.specs.Matching.{rows_of};
 ghost use Rattle.bip_defs.specs.Matrix.{cols};
 ghost use Rattle.arrayvec.specs.ArrayVec.{array_vec_len};
 ghost use Rattle.bottom_up.specs.Candidates.{HasGathered, IsCandidate, IsCovered, StaysCovered};
@@ -228,7 +227,7 @@ fn find(forest: &Forest, board: &ClaimBoard, row: Row, worker: &mut Worker) -> O
     let cols = forest.pattern().cols_of(row);
     for col in cols {
         if let Some(root) = root_without_leaf(forest, board, *col, worker) {
-            let free = is_free(forest, row);
+            let free = !forest.is_matched(row);
             return Some(Candidate {
                 row,
                 col: *col,
@@ -267,17 +266,5 @@ fn root_without_leaf(
     match worker.look_root(board, root) {
         Some(_) => None,
         None => Some(root),
-    }
-}
-
-// Whether a row has no base mate.
-fn is_free(forest: &Forest, row: Row) -> bool
-    requires { row < forest.now.matrix.rows }
-    ensures free { result ≡ true → ¬ Among row (rows_of forest.now.base) }
-    ensures mated { result ≡ false → Among row (rows_of forest.now.base) }
-{
-    match forest.base_col(row) {
-        Some(_) => false,
-        None => true,
     }
 }

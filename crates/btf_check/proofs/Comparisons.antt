@@ -1,5 +1,5 @@
 -- What the comparisons show of a report.
-use Rattle.std.proofs.Common.{◌≡◌, ◌↔◌, ℕ, List, Some, Result, Ok, Err, IfOk, length, refl, sym, subst, arith}
+use Rattle.std.proofs.Common.{◌≡◌, ◌↔◌, ℕ, List, Some, Result, Ok, Err, IfOk, refl, sym, subst, arith}
 use Rattle.std.specs.Prelude.{IfSome}
 use Rattle.bip_defs.specs.Blocks.{AreBlocksOf, Block, all_cols, all_rows}
 use Rattle.bip_defs.specs.ConnectedComponents.{AreConnectedComponents, Components}
@@ -11,7 +11,7 @@ use Rattle.bip_defs.specs.Parts.{ArePartsOf, IsHorizontalCol, IsHorizontalRow, I
 use Rattle.bip_defs.proofs.Connected.{same_components}
 use Rattle.bip_defs.proofs.Sets.{lists_unique}
 use Rattle.bip_defs.proofs.Square.{in_rows, square_pairs_perfect}
-use Rattle.bip_defs.proofs.Uniqueness.{one_blocks, same_rank}
+use Rattle.bip_defs.proofs.Uniqueness.{one_blocks}
 use Rattle.bip_graph.specs.Texts.{Report}
 use Rattle.btf_check.specs.ReportParts.{AreOnce, HasOuterParts, HasParts, HasSizes}
 use Rattle.btf_check.specs.Reasons.{AreOrdersOf, ArePaired, IsMet, TellsBlocks, TellsParts}
@@ -45,9 +45,6 @@ tells_parts a m p r max parts sizes has = record {
   vertical_cols = subst (Lists (IsVerticalCol a)) (sym has.outer.vertical_cols) parts.vertical_cols;
 }
 
-pub told_sizes : (a : Matrix) (m : List Place) (r : Report) → IsMaximum a m → TellsParts a r → HasSizes a m r
-told_sizes a m r max tells = record { sizes = tells.sizes; rank = same_rank a r.rank (length m) tells.rank (m, max, refl) }
-
 pub told_outer : (a : Matrix) (p : Parts) (r : Report) → ArePartsOf a p → TellsParts a r → HasOuterParts p r
 told_outer a p r parts tells = record {
   horizontal_rows = lists_unique (IsHorizontalRow a) r.horizontal_rows p.horizontal_rows tells.horizontal_rows parts.horizontal_rows;
@@ -77,24 +74,6 @@ answer_weaker P Q (Ok b) f h = f b h
 answer_weaker P Q (Err e) f h = tt
 
 -- The first reason.
-
-pub first_pairs : (a : Matrix) (r : Report) (ps : List Place) → r.pairs ≡ Some ps → ¬ ArePaired a ps → IsFirst (IsMet a r) 2
-first_pairs a r ps e none = record {
-  fails = λ met. none (subst (λ o. IfSome o (ArePaired a)) e (met.pairs refl));
-  before = λ j lt. record { pairs = λ (f : j ≡ 2). absurd (omega arith); maximum = λ (f : j ≡ 3). absurd (omega arith); parts = λ (f : j ≡ 4). absurd (omega arith); blocks = λ (f : j ≡ 5). absurd (omega arith); components = λ (f : j ≡ 6). absurd (omega arith) };
-}
-
-pub first_maximum : (a : Matrix) (r : Report) (ps : List Place) → r.pairs ≡ Some ps → ArePaired a ps → ¬ IsMaximum a ps → IsFirst (IsMet a r) 3
-first_maximum a r ps e paired none = record {
-  fails = λ met. none (subst (λ o. IfSome o (IsMaximum a)) e (met.maximum refl));
-  before = λ j lt. record { pairs = λ (f : j ≡ 2). subst (λ o. IfSome o (ArePaired a)) (sym e) paired; maximum = λ (f : j ≡ 3). absurd (omega arith); parts = λ (f : j ≡ 4). absurd (omega arith); blocks = λ (f : j ≡ 5). absurd (omega arith); components = λ (f : j ≡ 6). absurd (omega arith) };
-}
-
-pub first_parts : (a : Matrix) (r : Report) (ps : List Place) → r.pairs ≡ Some ps → ArePaired a ps → IsMaximum a ps → ¬ TellsParts a r → IsFirst (IsMet a r) 4
-first_parts a r ps e paired max none = record {
-  fails = λ met. none (met.parts refl);
-  before = λ j lt. record { pairs = λ (f : j ≡ 2). subst (λ o. IfSome o (ArePaired a)) (sym e) paired; maximum = λ (f : j ≡ 3). subst (λ o. IfSome o (IsMaximum a)) (sym e) max; parts = λ (f : j ≡ 4). absurd (omega arith); blocks = λ (f : j ≡ 5). absurd (omega arith); components = λ (f : j ≡ 6). absurd (omega arith) };
-}
 
 pub first_blocks : (a : Matrix) (r : Report) (ps : List Place) → r.pairs ≡ Some ps → ArePaired a ps → IsMaximum a ps → TellsParts a r → ¬ TellsBlocks a r → IsFirst (IsMet a r) 5
 first_blocks a r ps e paired max parts none = record {

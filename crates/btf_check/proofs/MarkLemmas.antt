@@ -2,7 +2,7 @@
 use Rattle.std.proofs.Common.{◌≡◌, ◌≢◌, ◌∙◌, ℕ, zero, suc, ◌+◌, ◌<◌, ◌≤◌, Bool, true, false, List, [], ◌∷◌, ◌++◌, length, get_or, set, take, take_all, length-set, sym, ap, subst, inl, ⊎_elim, arith, true≢false}
 use Rattle.std.proofs.lemmas.List.{get_or-set_other, get_or-set_same, take_more}
 use Rattle.bip_defs.specs.Lists.{Among, AreDistinct}
-use Rattle.bip_defs.proofs.Sets.{among_at, among_last, among_left, among_right, drops_kept, drops_length, few_distinct, number_among, number_same, taken, among_take, apart_from_front, distinct_last}
+use Rattle.bip_defs.proofs.Sets.{among_at, among_last, among_left, among_right, drops_kept, drops_length, few_distinct, number_among, number_same, taken, apart_from_front, distinct_last}
 use Rattle.bip_defs.specs.Lists.{IsMarked}
 use Rattle.btf_check.specs.ReportParts.{AreOnce}
 
@@ -16,9 +16,6 @@ pub record IsMarking (once : List ℕ) (k n : ℕ) (marks : List Bool) : Type 0 
   pub long : length marks ≡ n
   pub marked : (x : ℕ) → IsMarked marks x → Among x (take k once)
   pub all : (x : ℕ) → Among x (take k once) → IsMarked marks x
-
-pub marking_start : (once : List ℕ) (n : ℕ) (marks : List Bool) → length marks ≡ n → ((x : ℕ) → ¬ IsMarked marks x) → IsMarking once 0 n marks
-marking_start once n marks long none = record { long = long; marked = λ x h. absurd (none x h); all = λ x h. elim h [ ] }
 
 pub marking_more : (once : List ℕ) (k n x : ℕ) (marks : List Bool) → k < length once → x < n → get_or once k 0 ≡ x → IsMarking once k n marks → IsMarking once (k + 1) n (set marks x true)
 marking_more once k n x marks lt below e is = record {
@@ -40,15 +37,6 @@ pub record IsStriking (once list : List ℕ) (k n : ℕ) (marks : List Bool) : T
   pub left : (x : ℕ) → Among x once → ¬ Among x (take k list) → IsMarked marks x
   pub distinct : AreDistinct (take k list)
   pub sound : (x : ℕ) → Among x (take k list) → Among x once
-
-pub striking_start : (once list : List ℕ) (n k : ℕ) (marks : List Bool) → length once ≤ k → k ≤ length once → IsMarking once k n marks → IsStriking once list 0 n marks
-striking_start once list n k marks le ge is = record {
-  long = is.long;
-  marked = λ x h. (among_take k x once (is.marked x h), λ g. elim g [ ]);
-  left = λ x h g. is.all x (subst (Among x) (sym (take_all k once le)) h);
-  distinct = tt;
-  sound = λ x h. elim h [ ];
-}
 
 pub striking_more : (once list : List ℕ) (k n x : ℕ) (marks : List Bool) → k < length list → get_or list k 0 ≡ x → IsMarked marks x → IsStriking once list k n marks → IsStriking once list (k + 1) n (set marks x false)
 striking_more once list k n x marks lt e on is = record {

@@ -49,15 +49,6 @@ pub record IsPairingUp (a : Matrix) (ps : List Place) (k : ℕ) (m : Pairing) : 
   pub back : (p : Place) → Among p (take k ps) → Among p m.pairs
   pub paired : ArePaired a (take k ps)
 
-pub pairing_start : (a : Matrix) (ps : List Place) (rows columns : ℕ) (m : Pairing) → rows ≡ a.rows → columns ≡ cols a → m ≡ record { rows = rows; cols = columns; pairs = [] } → IsPairingUp a ps 0 m
-pairing_start a ps rows columns m e f is = subst (IsPairingUp a ps 0) (sym is) (record {
-  rows = e;
-  cols_are = f;
-  over = λ p h. elim h [ ];
-  back = λ p h. elim h [ ];
-  paired = record { entries = λ r c h. elim h [ ]; rows_differ = tt };
-})
-
 pub column_free : (a : Matrix) (ps : List Place) (k : ℕ) (d : Place) (m : Pairing) (r c : ℕ) → IsRising (cols_of ps) → k < length ps → get_or ps k d ≡ (r, c) → IsPairingUp a ps k m → ¬ Among c (cols_of m.pairs)
 column_free a ps k d m r c rising lt e is h =
     let (s, p) = col_pair c m.pairs h in

@@ -1,6 +1,6 @@
 //! What is asked of a report that was read.
 
-ghost use Rattle.std.specs.Prelude.{◌≡◌, ◌↔◌, IfOk, IfSome, IsTrue};
+ghost use Rattle.std.specs.Prelude.{◌↔◌, IfOk, IfSome, IsTrue};
 ghost use Rattle.bip_defs.specs.ConnectedComponents.{AreConnectedComponents};
 ghost use Rattle.bip_defs.specs.Lists.{IsRising};
 ghost use Rattle.bip_defs.specs.Matching.{IsMaximum, cols_of};

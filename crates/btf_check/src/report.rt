@@ -1,6 +1,6 @@
 //! The judge.
 
-ghost use Rattle.std.specs.Prelude.{◌≡◌, IfOk};
+ghost use Rattle.std.specs.Prelude.{IfOk};
 ghost use Rattle.btf_check.specs.Verdicts.{IsVerdict};
 
 use crate::Verdict;

@@ -1,6 +1,6 @@
 //! A line in a buffer of its own.
 
-ghost use Rattle.std.specs.Prelude.{◌≡◌, ◌+◌, ◌≤◌, ◌++◌, ℕ, List, [], length, take, codes, decimal};
+ghost use Rattle.std.specs.Prelude.{◌≡◌, ◌+◌, ◌≤◌, ◌++◌, ℕ, List, [], length, take};
 ghost use Rattle.btf_lines.specs.Lines.{batch_limit_line as batch_limit, batch_malformed_line as batch_malformed, fault_line as line_of_fault, invalid_line as invalid, malformed_line as malformed, limit_line as limit, sum_limit_line as sum_limit};
 
 use itoa::Buffer;

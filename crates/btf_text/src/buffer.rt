@@ -1,10 +1,9 @@
 //! The buffer through which a text goes to its sink.
 
-ghost use Rattle.std.specs.Prelude.{◌≡◌, OnOk, OnErr, true, ◌∷◌, ◌++◌, ◌+◌, ◌≤◌, ◌<◌, ℕ, List, [], false, Bool, length, map, suc, codes, decimal, IfOk};
-ghost use Rattle.std.specs.List.{flat_map};
-ghost use Rattle.bip_graph.specs.Texts.{counted, line, spaced, spelled};
+ghost use Rattle.std.specs.Prelude.{◌≡◌, OnOk, OnErr, true, ◌∷◌, ◌++◌, ◌+◌, ◌≤◌, [], false, length, map, decimal, IfOk};
+ghost use Rattle.bip_graph.specs.Texts.{counted, line, spaced};
 ghost use Rattle.btf_text.specs.Buffered.{Appends, AppendsLines, Ends};
-ghost use Rattle.sp_ports.specs.Device.{Writes, seen};
+ghost use Rattle.sp_ports.specs.Device.{seen};
 
 use itoa::Buffer;
 use sp_ids::{Id, OutOfMemory};
@@ -113,7 +112,7 @@ impl TextBuf {
         self.hand_on(out);
     }
 
-    /// Goes on with these bytes.
+    /// Goes on with these bytes, at most 65,536.
     pub fn put<K: Sink>(&mut self, out: &mut K, piece: &[u8])
         requires { length piece.now ≤ 65536 }
         ensures { Appends (seen K.taken K.faults out.old out.new) self.old self.new piece.now }
@@ -134,7 +133,7 @@ impl TextBuf {
         self.add(text);
     }
 
-    /// Goes on with a line: a word, and a space and a number each.
+    /// Goes on with a line: a word of at most 65,536 bytes, and a space and a number each.
     pub fn put_line<K: Sink>(&mut self, out: &mut K, word: &[u8], numbers: &[u64])
         requires { length word.now ≤ 65536 }
         ensures { AppendsLines (seen K.taken K.faults out.old out.new) self.old self.new
@@ -147,7 +146,8 @@ impl TextBuf {
         self.put(out, b"\n");
     }
 
-    /// Goes on with a list line: a word, and a space and a number each, which count from 1.
+    /// Goes on with a list line: a word of at most 65,536 bytes, and a space and a number each,
+    /// which count from 1.
     pub fn put_list<K: Sink, N: Id>(&mut self, out: &mut K, word: &[u8], list: &[N])
         requires { length word.now ≤ 65536 }
         ensures { AppendsLines (seen K.taken K.faults out.old out.new) self.old self.new

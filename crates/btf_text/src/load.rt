@@ -1,6 +1,6 @@
 //! The summary of a decomposition.
 
-ghost use Rattle.std.specs.Prelude.{◌≡◌, ◌≤◌, ◌∷◌, [], length, codes};
+ghost use Rattle.std.specs.Prelude.{◌≤◌, ◌∷◌, [], length};
 ghost use Rattle.bip_graph.specs.Texts.{matrix_line, rank_line, square_line};
 ghost use Rattle.btf_text.specs.Buffered.{AppendsLines};
 ghost use Rattle.btf_text.specs.Reports.{lengths_line, sizes_in, summary_text};

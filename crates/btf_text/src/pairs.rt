@@ -1,6 +1,6 @@
 //! The pairs of a matching.
 
-ghost use Rattle.std.specs.Prelude.{◌≡◌, ◌≤◌, ◌∷◌, ◌<◌, [], length, map, Some};
+ghost use Rattle.std.specs.Prelude.{◌∷◌, ◌<◌, [], map, Some};
 ghost use Rattle.bip_graph.specs.Answers.{where_asked};
 ghost use Rattle.bip_graph.specs.Texts.{pair_line, pair_lines, text_of};
 ghost use Rattle.btf_text.specs.Buffered.{AppendsLines};

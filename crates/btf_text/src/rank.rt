@@ -1,6 +1,6 @@
 //! The text of the rank.
 
-ghost use Rattle.std.specs.Prelude.{◌≡◌, ◌≤◌, length};
+ghost use Rattle.std.specs.Prelude.{◌≤◌, length};
 ghost use Rattle.bip_graph.specs.Texts.{part, rank_text, sizes_of};
 ghost use Rattle.btf_text.specs.Buffered.{AppendsLines};
 ghost use Rattle.sp_ports.specs.Device.{Writes, seen};

@@ -1,6 +1,5 @@
 //! The text of the replies in a session of edits.
 
-ghost use Rattle.std.specs.Prelude.{[]};
 ghost use Rattle.btf_text.specs.Buffered.{AppendsLines};
 ghost use Rattle.btf_text.specs.Replies.{replies_text, reply_lines};
 ghost use Rattle.sp_ports.specs.Device.{Writes, seen};

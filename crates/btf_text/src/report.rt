@@ -1,6 +1,6 @@
 //! The report of a decomposition, with connected components or without.
 
-ghost use Rattle.std.specs.Prelude.{◌≡◌, ◌≤◌, ◌++◌, ◌∷◌, [], None, Some, false, length, map, codes};
+ghost use Rattle.std.specs.Prelude.{◌≤◌, ◌++◌, ◌∷◌, [], None, Some, false, length, map, codes};
 ghost use Rattle.std.specs.Option.{option_copied};
 ghost use Rattle.bip_defs.specs.Matrix.{Matrix};
 ghost use Rattle.bip_graph.specs.Answers.{orders_of, report_of, where_asked};

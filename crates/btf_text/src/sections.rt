@@ -1,8 +1,7 @@
 //! Parts, blocks, components, orders and pairs of a report that is read.
 
-ghost use Rattle.std.specs.Prelude.{◌≡◌, ◌<◌, ◌≤◌, ◌+◌, ◌^◌, length, map, Some};
+ghost use Rattle.std.specs.Prelude.{◌≡◌, Some};
 ghost use Rattle.bip_defs.specs.Matching.{cols_of};
-ghost use Rattle.bip_defs.specs.Blocks.{all_cols, all_rows};
 ghost use Rattle.btf_text.specs.ReportGrammar.{ReadsAs, block_at, blocks_at, both_orders_at, lists_at, orders_at, pair_at, pair_list_at, pairs_at, part_at, rises, square_at, component_at, components_at, counted_at, numbered_at};
 ghost use Rattle.btf_text.specs.ReportRead.{orders_in};
 

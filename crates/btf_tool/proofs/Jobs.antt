@@ -1,5 +1,5 @@
 -- What the steps of a job say together.
-use Rattle.std.proofs.Common.{◌≡◌, ℕ, Bool, List, [], Ok, Err, refl, sym, subst, Result}
+use Rattle.std.proofs.Common.{◌≡◌, ℕ, List, Ok, Err, refl, sym, subst, Result}
 use Rattle.std.specs.Result.{IsErrAnd}
 use Rattle.sp_ids.specs.Entries.{Entries}
 use Rattle.bip_defs.specs.Matrix.{Matrix}
@@ -11,8 +11,7 @@ use Rattle.btf_words.specs.declared.jobs.Job.TheVariants.{Rank, Analyse, Diagona
 use Rattle.bip_graph.specs.declared.answers.Heaviest.{Heaviest}
 use Rattle.btf_text.specs.Diagonals.{diagonal_text}
 use Rattle.integer_diagonal.specs.Heaviest.{IsHeaviest}
-use Rattle.sp_ids.specs.declared.triples.Field.TheVariants.{Integer}
-use Rattle.sp_pattern.specs.Weights.{AreWeightsOf, IsFirstPast, Weighing}
+use Rattle.sp_pattern.specs.Weights.{AreWeightsOf, Weighing}
 use Rattle.btf_tool.specs.Diagonals.{IsDiagonalText, answer_on}
 use Rattle.btf_check.specs.Verdicts.{IsVerdict}
 use Rattle.btf_check.specs.declared.verdict.Verdict.{Verdict}
@@ -20,11 +19,11 @@ use Rattle.sp_pattern.specs.Stored.{IsPattern}
 use Rattle.btf_tool.specs.declared.answers.Answer.{Answer}
 use Rattle.btf_tool.specs.declared.answers.Answer.TheVariants.{Negative, Positive}
 use Rattle.btf_tool.specs.declared.refusals.Refusal.{Refusal}
-use Rattle.btf_tool.specs.declared.refusals.Refusal.TheVariants.{Usage, Malformed, Limit, TooLong, SumLimit, NeedsInteger, ReadFault, WriteFault, OutOfMemory}
+use Rattle.btf_tool.specs.declared.refusals.Refusal.TheVariants.{WriteFault, OutOfMemory}
 use Rattle.sp_ports.specs.Device.{Device, FailsOnceAtMost, IsUntouched, Took, TookPrefix}
-use Rattle.btf_tool.specs.Jobs.{Holds, IsFitFor, IsMatrixOf, IsTextOf, MayAnswer, NeedsIntegers, OfReading, ReadsFile, WasRead, Weighs, WithAnswer, WithFileAnswer, drops_of, form_of}
+use Rattle.btf_tool.specs.Jobs.{IsFitFor, IsMatrixOf, IsTextOf, MayAnswer, OfReading, ReadsFile, WasRead, WithAnswer, WithFileAnswer, drops_of, form_of}
 use Rattle.btf_tool.specs.VerdictText.{IsVerdictText, answer_of, verdict_text}
-use Rattle.btf_tool.specs.Runs.{IsNoMatrix, IsReadAs, IsUnread, JobSays}
+use Rattle.btf_tool.specs.Runs.{IsReadAs, JobSays}
 use Rattle.btf_tool.proofs.Completeness.{untouched_counts, where_known}
 
 -- what holds of this refusal holds of a result that is it
@@ -33,45 +32,9 @@ pub as_refusal : {T : Type 0} (result : Result T Refusal) (refusal : Refusal) (Q
 as_refusal (Ok v) refusal Q is q = absurd is
 as_refusal (Err e) refusal Q is q = subst (λ (r : Refusal). Q (Err r)) (sym is) q
 
--- the reading was refused, and nothing was written
-pub file_refused : (job : Job) (input out : Device) (refusal : Refusal) → ReadsFile job → IsUnread (form_of job) input refusal → FailsOnceAtMost input → IsUntouched out → JobSays job input out (Err refusal)
-file_refused job input out Usage reads says later same = absurd says
-file_refused job input out (Malformed line kind) reads says later same = (later, untouched_counts out same, (reads, says.0, says.1, same))
-file_refused job input out (Limit line kind) reads says later same = (later, untouched_counts out same, (reads, says.0, says.1, same))
-file_refused job input out TooLong reads says later same = (later, untouched_counts out same, (reads, says, same))
-file_refused job input out ReadFault reads says later same = (later, untouched_counts out same, (reads, says.0, says.1, same))
-file_refused job input out (SumLimit row col) reads says later same = absurd says
-file_refused job input out NeedsInteger reads says later same = absurd says
-file_refused job input out WriteFault reads says later same = absurd says
-file_refused job input out OutOfMemory reads says later same = (later, untouched_counts out same, (says, same))
-
 -- memory ran out after the reading
 pub no_memory : (job : Job) (input out : Device) (t : Entries) (rest : List ℕ) → IsReadAs (form_of job) input t rest → FailsOnceAtMost input → IsUntouched out → JobSays job input out (Err OutOfMemory)
 no_memory job input out t rest says later same = (later, untouched_counts out same, (where_known input.before input.after says.1 (λ x y before h. tt), same))
-
--- a job that drops zeros needs integers
-drops_need : (job : Job) → Holds (drops_of job) → NeedsIntegers job
-drops_need (Rank drop_zeros) drops = drops
-drops_need (Analyse search report drop_zeros) drops = drops
-drops_need (Diagonal drop_zeros) drops = tt
-drops_need (Check drop_zeros) drops = drops
-drops_need (Load size seed search) drops = drops
-drops_need Edit drops = drops
-drops_need (Bottleneck drop_zeros) drops = tt
-
--- the file gives no matrix
-pub no_matrix : (job : Job) (input out : Device) (t : Entries) (rest : List ℕ) (refusal : Refusal) → IsReadAs (form_of job) input t rest → FailsOnceAtMost input → IsNoMatrix (drops_of job) t refusal
-    → IsUntouched out → JobSays job input out (Err refusal)
-no_matrix job input out t rest NeedsInteger says later why same =
-    (later, untouched_counts out same, (drops_need job why.0, says.0, where_known input.before input.after says.1 (λ x y before h. (t, rest, h, why.1)), same))
-no_matrix job input out t rest OutOfMemory says later why same = no_memory job input out t rest says later same
-no_matrix job input out t rest Usage says later why same = absurd why
-no_matrix job input out t rest (Malformed line kind) says later why same = absurd why
-no_matrix job input out t rest (Limit line kind) says later why same = absurd why
-no_matrix job input out t rest TooLong says later why same = absurd why
-no_matrix job input out t rest (SumLimit row col) says later why same = absurd why
-no_matrix job input out t rest ReadFault says later why same = absurd why
-no_matrix job input out t rest WriteFault says later why same = absurd why
 
 -- a job that reads a file answers over it
 from_file : (job : Job) (answer : Answer) (input : Device) (P : List ℕ → Type 0) → ReadsFile job → WithFileAnswer job answer input P → WithAnswer job answer input P
@@ -127,28 +90,6 @@ pub verdict_answers : (a : Matrix) (bytes : List ℕ) (verdict : Verdict) → Is
 verdict_answers a bytes verdict fits is = record { fits = fits; verdict = verdict; is_verdict = is; answer_is = refl; spelled = refl }
 
 -- ---- `diagonal`
-
--- a job that weighs needs integers
-weighs_need : (job : Job) → Weighs job → NeedsIntegers job
-weighs_need (Rank drop_zeros) weighs = absurd weighs
-weighs_need (Analyse search report drop_zeros) weighs = absurd weighs
-weighs_need (Diagonal drop_zeros) weighs = tt
-weighs_need (Check drop_zeros) weighs = absurd weighs
-weighs_need (Load size seed search) weighs = absurd weighs
-weighs_need Edit weighs = absurd weighs
-weighs_need (Bottleneck drop_zeros) weighs = tt
-
--- the file is no integer file
-pub not_integer : (job : Job) (input out : Device) (t : Entries) (rest : List ℕ) → Weighs job → IsReadAs (form_of job) input t rest → FailsOnceAtMost input → ¬ (t.field ≡ Integer)
-    → IsUntouched out → JobSays job input out (Err NeedsInteger)
-not_integer job input out t rest weighs says later not same =
-    (later, untouched_counts out same, (weighs_need job weighs, says.0, where_known input.before input.after says.1 (λ x y before h. (t, rest, h, not)), same))
-
--- a sum passes the limit
-pub past_limit : (job : Job) (input out : Device) (t : Entries) (rest : List ℕ) (a : Matrix) (row col : ℕ) → Weighs job → IsReadAs (form_of job) input t rest → FailsOnceAtMost input
-    → t.field ≡ Integer → IsMatrixOf (drops_of job) t a → IsFirstPast t a row col → IsUntouched out → JobSays job input out (Err (SumLimit row col))
-past_limit job input out t rest a row col weighs says later integer matrix first same =
-    (later, untouched_counts out same, (weighs, says.0, where_known input.before input.after says.1 (λ x y before h. (t, rest, h, (integer, (a, matrix, first)))), same))
 
 -- the text is that of the answer
 pub diagonal_answers : (t : Entries) (a : Matrix) (w : Weighing) (h : Heaviest) → AreWeightsOf t a w → IsHeaviest w h → IsDiagonalText t a (answer_on h) (diagonal_text w h)

@@ -4,15 +4,11 @@ use Rattle.bip_defs.specs.Matrix.{Matrix}
 use Rattle.btf_words.specs.declared.jobs.Search.{Search}
 use Rattle.btf_words.specs.declared.jobs.Job.TheVariants.{Load}
 use Rattle.btf_tool.specs.declared.answers.Answer.TheVariants.{Positive}
-use Rattle.btf_tool.specs.declared.refusals.Refusal.TheVariants.{OutOfMemory, WriteFault}
+use Rattle.btf_tool.specs.declared.refusals.Refusal.TheVariants.{WriteFault}
 use Rattle.sp_ports.specs.Device.{Device, IsUntouched, Took, TookPrefix}
 use Rattle.btf_tool.specs.Runs.{JobSays}
 use Rattle.btf_tool.specs.Summaries.{IsLoadMatrix, IsSummary}
-use Rattle.btf_tool.proofs.Completeness.{untouched_counts, untouched_tells}
-
--- memory ran out
-pub load_no_memory : (size seed : ℕ) (search : Search) (input out : Device) → IsUntouched input → IsUntouched out → JobSays (Load size seed search) input out (Err OutOfMemory)
-load_no_memory size seed search input out same unwritten = (untouched_counts input same, untouched_counts out unwritten, (untouched_tells input same, unwritten))
+use Rattle.btf_tool.proofs.Completeness.{untouched_counts}
 
 -- the summary was written
 pub load_written : (size seed : ℕ) (search : Search) (input out : Device) (text : List ℕ) (a : Matrix) → IsUntouched input → IsLoadMatrix size seed a → IsSummary a text

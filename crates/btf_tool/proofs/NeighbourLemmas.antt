@@ -51,10 +51,6 @@ touches_one a old now columns rows i d c inside is listed adds before r = (to, f
         (λ (e : t.0 ≡ c). (adds.marked r).1 (inr (listed.complete r (subst (IsEntry a r) e t.2))))
         (among_last t.0 c (take i columns) (subst (Among t.0) more t.1))
 
--- nothing is marked yet
-pub touches_none : (a : Matrix) (now : List Bool) (r : ℕ) → ¬ IsMarked now r → IsMarked now r ↔ Touches a [] r
-touches_none a now r none = (λ m. absurd (none m), λ t. elim t.1 [ ])
-
 -- what is marked, as a list
 pub touching_listed : (a : Matrix) (columns rows : List ℕ) (marks : List Bool) → length marks ≡ a.rows → ((r : ℕ) → IsMarked marks r ↔ Touches a columns r)
     → Lists (λ r. (r < length marks) × IsMarked marks r) rows → Lists (Touches a columns) rows

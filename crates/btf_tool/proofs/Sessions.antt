@@ -29,10 +29,6 @@ pub record HasReplied (a b : Matrix) (es left : List Edit) (replies : List Reply
   pub replies_are : replies ≡ Rank rank ∷ others
   pub complete : (rest : List ℕ) → AreReplies b left rest → AreReplies a es (replies_text others ++ rest)
 
--- before the first edit
-pub none_replied : (a : Matrix) (es : List Edit) (rank : ℕ) → IsRank a rank → HasReplied a a es es (Rank rank ∷ [])
-none_replied a es rank is = record { rank = rank; others = []; is_rank = is; replies_are = refl; complete = λ rest h. h }
-
 -- the text of replies, and one more
 text_more : (replies : List Reply) (reply : Reply) (rest : List ℕ) → replies_text (replies ++ reply ∷ []) ++ rest ≡ replies_text replies ++ (text_of (reply_lines reply) ++ rest)
 text_more replies reply rest =

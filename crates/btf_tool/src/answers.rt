@@ -10,8 +10,8 @@ use sp_ids::Status;
 pub enum Answer {
     /// It is.
     Positive,
-    /// It says that there is no such thing: the report that was checked is not valid, or the matrix
-    /// has no diagonal.
+    /// It says that there is no such thing: the report that was checked is not valid, the matrix
+    /// has no diagonal, or of a batch some file is not good.
     Negative,
 }
 

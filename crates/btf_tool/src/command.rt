@@ -29,6 +29,10 @@ use std::thread::Threads;
 /// `words` are those after the program's name. The answer is the status with which the program
 /// ends. Nothing is written to `out` before all input is read and all memory is taken. What is said
 /// here holds whatever `gate` does, and in whatever order threads run.
+///
+/// Memory: the entries as they are read, 8 bytes each and 8 more with a value, then the pattern, 8
+/// bytes an entry, and what the job's calls take. Work: linear in the bytes of the input, and that
+/// of the job's calls.
 pub fn run<R: Threads + Sync, S: Source, O: Sink, E: Sink, G: Gate>(
     rt: &R,
     alloc: Global,

@@ -21,7 +21,8 @@ use std::thread::Threads;
 ///
 /// All engines but `Plain` begin with the start of Karp and Sipser. There may be 1 to 64 workers,
 /// for `Graft` alone: the other engines search in the calling thread. Answers `OutOfMemory` where
-/// the engine's tables can't be had.
+/// the engine's tables can't be had. Memory and work are those of the start and of the engine, as
+/// their crates say.
 pub fn solve<R: Threads + Sync, G: Gate>(
     rt: &R,
     alloc: Global,

@@ -1,6 +1,6 @@
 //! The job `load`.
 
-ghost use Rattle.std.specs.Prelude.{◌≡◌, ◌≤◌, IfOk};
+ghost use Rattle.std.specs.Prelude.{◌≤◌, IfOk};
 ghost use Rattle.bip_defs.specs.Matrix.{Matrix};
 ghost use Rattle.btf_words.specs.declared.jobs.Job.TheVariants.{Load};
 ghost use Rattle.btf_words.specs.Words.{HasWorkers};

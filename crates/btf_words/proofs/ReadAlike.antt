@@ -9,7 +9,7 @@ use Rattle.clap.specs.Lexer.{long_of, short_of}
 use Rattle.clap.specs.Words.{Row, Rule, Shape, Text}
 use Rattle.clap.specs.Facts.{explicit_source}
 use Rattle.clap.specs.Kinds.{Kinds, check_kinds, or_else}
-use Rattle.clap.specs.Walk.{Held, Outcome, Step, Waiting, Walk, after_flag, after_step, arg_by_id, arg_by_index, arg_by_long, arg_by_short, bundle_met, bundle_step, finished, flag_met, long_met, long_or_other, long_word, most_values, nothing_held, option_met, option_word, plain_word, pushed, reacted, rows_after, settled, settled_rows, short_met, short_or_plain, short_word, started, subcommand_met, subcommand_or_other, to_positional, used, used_by_id, walk, walk_from, walked, walked_from, with_default, word_met}
+use Rattle.clap.specs.Walk.{Held, Outcome, Step, Waiting, Walk, after_flag, after_step, arg_by_id, arg_by_index, arg_by_long, arg_by_short, bundle_met, bundle_step, finished, flag_met, long_met, long_or_other, most_values, nothing_held, option_met, option_word, plain_word, pushed, reacted, rows_after, settled, settled_rows, short_met, short_or_plain, started, subcommand_met, subcommand_or_other, to_positional, used, used_by_id, walk, walk_from, walked, walked_from, with_default, word_met}
 use Rattle.clap.specs.Walk.{Names as Labels}
 use Rattle.clap.specs.Walk as w
 use Rattle.clap.specs.Simple.{rows_at}

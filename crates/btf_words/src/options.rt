@@ -1,8 +1,8 @@
 //! The options of the commands.
 
-ghost use Rattle.std.specs.Prelude.{◌≡◌, false, true, codes};
+ghost use Rattle.std.specs.Prelude.{◌≡◌, false};
 ghost use Rattle.clap.specs.Words.{rule_of};
-ghost use Rattle.btf_words.specs.Table.{engine_rule, option_rule, flag_rule, drop_zeros_rule, least_rule, number_rule, order_rule, pairs_rule, report_rule, size_rule, seed_rule, workers_rule};
+ghost use Rattle.btf_words.specs.Table.{engine_rule, flag_rule, drop_zeros_rule, least_rule, number_rule, order_rule, pairs_rule, report_rule, size_rule, seed_rule, workers_rule};
 
 use clap::builder::ValueParser;
 use clap::{Arg, ArgAction};

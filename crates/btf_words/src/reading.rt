@@ -1,8 +1,8 @@
 //! From words to a job.
 
-ghost use Rattle.std.specs.Prelude.{◌≡◌, ◌≤◌, List, IfOk, IfSome, IsErrOf, Some, codes, map, option_and_then, option_map, string_bytes};
+ghost use Rattle.std.specs.Prelude.{◌≡◌, ◌≤◌, List, IfOk, IfSome, IsErrOf, Some, map, option_and_then, option_map, string_bytes};
 ghost use Rattle.clap.specs.Words.{Text, first_of, found_of, rows_of, subcommand_rows_of};
-ghost use Rattle.sp_ids.specs.Limits.{max_load_seed, max_load_size, max_workers};
+ghost use Rattle.sp_ids.specs.Limits.{max_load_size};
 ghost use Rattle.btf_words.specs.Table.{Names, engine_names, texts_of};
 ghost use Rattle.btf_words.specs.Words.{AreTaken, HasWorkers, IsWithinLimits, ReadsAlike, engine_in, engine_named as engine_of_name, drops_zeros, is_given, IsVersion, job_from, job_of, number_or, number_within, report_in, search_in, seed_in, size_in};
 ghost use Rattle.btf_words.specs.declared.jobs.Job.{Job as JobValue};

@@ -1,5 +1,5 @@
 -- Seats that the seat 0 takes in, the highest number first.
-use Rattle.std.proofs.Common.{◌≡◌, ◌∙◌, ℕ, ◌+◌, ◌<◌, List, [], ◌∷◌, ◌++◌, flat_map, length, slice_index_or, remove, refl, sym, ap, subst, ⊎_elim, arith, append_assoc, append-nil, length-append}
+use Rattle.std.proofs.Common.{◌≡◌, ◌∙◌, ℕ, ◌+◌, List, [], ◌∷◌, ◌++◌, flat_map, length, sym, ap, subst, ⊎_elim, arith, append_assoc, append-nil, length-append}
 use Rattle.std.proofs.lemmas.Grind.{flat_map-append}
 use Rattle.std.proofs.lemmas.List.{map-append}
 use Rattle.bip_defs.specs.Lists.{Among}
@@ -7,7 +7,7 @@ use Rattle.bip_defs.proofs.Sets.{among_either, among_left, among_right}
 use Rattle.claim_words.specs.Accounts.{times}
 use Rattle.claim_words.specs.Board.{Board, Words}
 use Rattle.claim_words.specs.Listed.{Listed, all_listed, followed_by}
-use Rattle.claim_words.specs.Seat.{AreAllSeats, AreNumbered, Seat, first_seat, gathered, lists_of}
+use Rattle.claim_words.specs.Seat.{AreNumbered, Seat, first_seat, gathered, lists_of}
 use Rattle.claim_words.specs.Settles.{Settles}
 use Rattle.claim_words.proofs.AccountLemmas.{accounts_moved}
 use Rattle.claim_words.proofs.Flat.{times_append}
@@ -34,19 +34,6 @@ listed_last ss s l = ap (λ ls. followed_by (all_listed ls) l) (map-append (λ (
 })
 
 -- All seats of a board.
-
-pub first_removed : (b : Board) (ss others : List Seat) (first : Seat) → AreAllSeats b ss → first ≡ slice_index_or ss 0 first → others ≡ remove ss 0
-    → (first ≡ first_seat b (1 + length others) first.listed) × AreNumbered b 1 others × (followed_by (all_listed (lists_of others)) first.listed ≡ gathered ss)
-first_removed b [] others first all is rest = absurd all
-first_removed b (s ∷ ss) others first (board, number, seats, numbered) is rest = (
-  subst (λ (t : Seat). t ≡ first_seat b (1 + length others) t.listed) (sym is) (subst (λ ts. s ≡ first_seat b (1 + length ts) s.listed) (sym rest) (λ i. record { board = board i; number = number i; seats = seats i; listed = s.listed })),
-  subst (AreNumbered b 1) (sym rest) numbered,
-  subst (λ (t : Seat). followed_by (all_listed (lists_of others)) t.listed ≡ gathered (s ∷ ss)) (sym is) (subst (λ ts. followed_by (all_listed (lists_of ts)) s.listed ≡ gathered (s ∷ ss)) (sym rest) refl),
-)
-
-pub some_seats : (b : Board) (ss : List Seat) → AreAllSeats b ss → 0 < length ss
-some_seats b [] all = absurd all
-some_seats b (s ∷ ss) all = omega arith
 
 -- one more is taken in
 

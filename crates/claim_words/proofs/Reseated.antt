@@ -5,7 +5,7 @@ use Rattle.claim_words.specs.Board.{Board, Words}
 use Rattle.claim_words.specs.Listed.{Listed, all_listed, followed_by, nothing}
 use Rattle.claim_words.specs.Seat.{AreNumbered, Seat, first_seat, lists_of, new_seat, gathered}
 use Rattle.claim_words.specs.WorkerState.{WorkerState, re_seated, seats_of, with_seat, AreAllWorkers, after_gather, fresh_lists}
-use Rattle.claim_words.proofs.GatherLemmas.{listed_last, numbered_last, settles_gathered}
+use Rattle.claim_words.proofs.GatherLemmas.{numbered_last, settles_gathered}
 use Rattle.claim_words.specs.Settles.{Settles, SettlesAll}
 
 seats_last : (ws : List WorkerState) (w : WorkerState) → seats_of (ws ++ w ∷ []) ≡ seats_of ws ++ w.seat ∷ []
@@ -44,9 +44,6 @@ re_seated_last b n (v ∷ ws) w = ap (λ vs. with_seat v (new_seat b n) ∷ vs) 
 
 pub renewed_others : (b : Board) (others rest now : List WorkerState) (last : WorkerState) (s : Seat) → others ≡ rest ++ last ∷ [] → now ≡ re_seated b 1 rest → s ≡ new_seat b (1 + length rest) → now ++ with_seat last s ∷ [] ≡ re_seated b 1 others
 renewed_others b others rest now last s e same new = ap₂ (λ ws t. ws ++ with_seat last t ∷ []) same new ∙ sym (re_seated_last b 1 rest last) ∙ ap (re_seated b 1) (sym e)
-
-pub renewed_lists : (b : Board) (others rest : List WorkerState) (s : Seat) (l : Listed) → LastOut b others rest s → followed_by (all_listed (lists_of (seats_of rest))) (followed_by s.listed l) ≡ followed_by (all_listed (lists_of (seats_of others))) l
-renewed_lists b others rest s l out = sym (listed_last (seats_of rest) s l) ∙ ap (λ ss. followed_by (all_listed (lists_of ss)) l) (sym out.seats)
 
 -- All workers.
 

@@ -8,6 +8,7 @@ ghost use Rattle.claim_words.specs.WordCodes.{AllFit, code_by, value_of, words_f
 ghost use Rattle.claim_words.specs.Listed.{followed_by, nothing, root_word, row_word};
 ghost use Rattle.claim_words.specs.Seat.{KnowsRoot, KnowsRow, after_claim, after_look, after_win, first_seat, new_seat, new_seats};
 ghost use Rattle.claim_words.specs.Settles.{Settles};
+ghost use Rattle.sp_ids.specs.Limits.{max_workers};
 
 use crate::answers::{Claimed, Won};
 use crate::plays::{
@@ -131,7 +132,7 @@ impl ClaimBoard {
         roots: &[Option<Row>],
         seats: u32,
     ) -> Result<(ClaimBoard, Vec<ClaimSeat>), OutOfMemory>
-        requires { (1 ≤ seats) × (seats ≤ 64) }
+        requires { (1 ≤ seats) × (seats ≤ max_workers) }
         ensures board { IfOk result (λ b. (b.0.rows ≡ rows.now) × (b.0.roots ≡ roots.now)) }
         ensures seats { IfOk result (λ b. b.1.items ≡ new_seats b.0 seats) }
     {

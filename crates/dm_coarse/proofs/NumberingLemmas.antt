@@ -1,5 +1,5 @@
 -- What each step of the search for components keeps, and what it knows at its end.
-use Rattle.std.proofs.Common.{◌≡◌, ◌≢◌, ◌⊎◌, ◌∙◌, ℕ, zero, suc, ◌+◌, ◌<◌, ◌≤◌, Bool, true, false, List, [], ◌∷◌, ◌++◌, ◌^◌, length, append-nil, append_assoc, get_or, set, replicate, refl, sym, ap, subst, inl, inr, ⊎_elim, arith, length-append, length-set, get_or-set_same, get_or-set_other, true≢false, le_antisymm}
+use Rattle.std.proofs.Common.{◌≡◌, ◌≢◌, ◌⊎◌, ◌∙◌, ℕ, zero, suc, ◌+◌, ◌<◌, ◌≤◌, Bool, true, false, List, [], ◌∷◌, ◌++◌, ◌^◌, length, append_assoc, get_or, set, replicate, refl, sym, ap, subst, inl, inr, ⊎_elim, arith, length-append, length-set, get_or-set_same, get_or-set_other, true≢false}
 use Rattle.std.proofs.Math.Decide.{dec_lt}
 use Rattle.std.proofs.lemmas.List.{get_or-replicate, get_or_append_left, get_or_past, get_or_push, length-replicate}
 use Rattle.bip_defs.specs.Blocks.{ColAt, RowAt, Vertex}
@@ -8,7 +8,7 @@ use Rattle.bip_defs.specs.Lists.{Among, IsMarked, IsRising, Lists}
 use Rattle.bip_defs.specs.Matrix.{IsEntry, IsTransposeOf, Matrix, cols}
 use Rattle.bip_defs.specs.Parts.{IsHorizontalCol}
 use Rattle.bip_defs.proofs.Full.{few_below}
-use Rattle.bip_defs.proofs.Sets.{among_at, among_last, among_left, among_right, below_each_sound, distinct_last, entry_col, number_among, number_same, place_among, rising_distinct, rising_last}
+use Rattle.bip_defs.proofs.Sets.{among_at, among_last, among_left, among_right, below_each_sound, distinct_last, number_among, number_same, place_among, rising_distinct, rising_last}
 use Rattle.dm_coarse.specs.Numbering.{AreNumbers, AreSearched, Extends, IsAsLong, IsOfRoot, IsScanning, IsSearch, none}
 
 -- Marks.
@@ -307,17 +307,6 @@ pub record AreMarks (n : ℕ) (list : List ℕ) (at : ℕ) (marks : List Bool) :
   pub sound : (c : ℕ) → IsMarked marks c → Among c list
   pub complete : (i : ℕ) → i < at → i < length list → IsMarked marks (get_or list i 0)
 
-pub marks_none : (n : ℕ) (list : List ℕ) (marks : List Bool) → marks ≡ replicate n false → AreMarks n list 0 marks
-marks_none n list marks e = rw e (record {
-  long = length-replicate n false;
-  sound = λ c h. absurd (off c h (dec_lt c n));
-  complete = λ i lt. absurd (omega (arith, lt));
-})
-  where
-    off : (c : ℕ) → IsMarked (replicate n false) c → Dec (c < n) → ⊥
-    off c h (yes lt) = true≢false (sym h ∙ get_or-replicate n c false false lt)
-    off c h (no nlt) = true≢false (sym h ∙ get_or_past (replicate n false) c false (let l = length-replicate n false in omega (arith, l, nlt)))
-
 pub marks_more : (n : ℕ) (list : List ℕ) (at d : ℕ) (marks : List Bool) → AreMarks n list at marks → at < length list → d ≡ get_or list at 0 → d < n → AreMarks n list (at + 1) (set marks d true)
 marks_more n list at d marks x lt is small = record {
   long = length-set marks d true ∙ x.long;
@@ -344,9 +333,6 @@ marks_all n list at marks c x all on = let (i, lt, is) = place_among c 0 list on
 
 -- Queues that grow.
 
-pub extends_none : (w : List Bool) (q : List ℕ) → Extends w q w q
-extends_none w q = record { more = []; grown = sym (append-nil q); waits = λ c h. h }
-
 pub extends_more : (w w2 w3 : List Bool) (q q2 q3 : List ℕ) → Extends w q w2 q2 → Extends w2 q2 w3 q3 → Extends w q w3 q3
 extends_more w w2 w3 q q2 q3 x y = record {
   more = x.more ++ y.more;
@@ -371,9 +357,6 @@ pub record IsRowScan (b : Matrix) (row number at : ℕ) (list : List ℕ) (w : L
   pub rows : rs2 ≡ rs
   pub gone : (i : ℕ) → i < at → ¬ IsMarked w2 (get_or list i 0)
   pub extends : Extends w q w2 q2
-
-pub row_scan_none : (b : Matrix) (row number : ℕ) (list : List ℕ) (w : List Bool) (rs cs q : List ℕ) → IsAsLong b.rows w cs → IsRowScan b row number 0 list w rs cs q w rs cs q
-row_scan_none b row number list w rs cs q long = record { long = long; scanning = λ a place t x. x; rows = refl; gone = λ i lt. absurd (omega (arith, lt)); extends = extends_none w q }
 
 -- a column that does not wait
 pub row_scan_skip : (b : Matrix) (row number at : ℕ) (list : List ℕ) (w : List Bool) (rs cs q : List ℕ) (w2 : List Bool) (rs2 cs2 q2 : List ℕ) (d : ℕ) → IsRowScan b row number at list w rs cs q w2 rs2 cs2 q2 → d ≡ get_or list at 0 → ¬ IsMarked w2 d → IsRowScan b row number (at + 1) list w rs cs q w2 rs2 cs2 q2
@@ -421,9 +404,6 @@ pub record IsColScan (a : Matrix) (number place at : ℕ) (list : List ℕ) (w :
   pub search : AreSearched a (number + 1) place w2 rs2 cs2 q2
   pub extends : Extends w q w2 q2
   pub numbered : (i : ℕ) → i < at → get_or rs2 (get_or list i 0) 0 ≢ none
-
-pub col_scan_none : (a : Matrix) (number place : ℕ) (list : List ℕ) (w : List Bool) (rs cs q : List ℕ) → AreSearched a (number + 1) place w rs cs q → IsColScan a number place 0 list w q w rs cs q
-col_scan_none a number place list w rs cs q s = record { search = s; extends = extends_none w q; numbered = λ i lt. absurd (omega (arith, lt)) }
 
 pub col_scan_skip : (a : Matrix) (number place at : ℕ) (list : List ℕ) (w : List Bool) (q : List ℕ) (w2 : List Bool) (rs2 cs2 q2 : List ℕ) (r : ℕ) → IsColScan a number place at list w q w2 rs2 cs2 q2 → r ≡ get_or list at 0 → get_or rs2 r 0 ≢ none → IsColScan a number place (at + 1) list w q w2 rs2 cs2 q2
 col_scan_skip a number place at list w q w2 rs2 cs2 q2 r x is ne = record { search = x.search; extends = x.extends; numbered = λ i lt. by i lt (number_same i at) }
@@ -489,9 +469,6 @@ pub record IsNumbering (a : Matrix) (count at : ℕ) (list : List ℕ) (w : List
   pub search : AreSearched a count (length q) w rs cs q
   pub few : count ≤ at
   pub gone : (i : ℕ) → i < at → ¬ IsMarked w (get_or list i 0)
-
-pub numbering_start : (a : Matrix) (list : List ℕ) (w : List Bool) (rs cs q : List ℕ) → AreSearched a 0 0 w rs cs q → q ≡ [] → IsNumbering a 0 0 list w rs cs q
-numbering_start a list w rs cs q s e = record { search = subst (λ n. AreSearched a 0 n w rs cs q) (sym (ap length e)) s; few = omega arith; gone = λ i lt. absurd (omega (arith, lt)) }
 
 pub numbering_skip : (a : Matrix) (count at : ℕ) (list : List ℕ) (w : List Bool) (rs cs q : List ℕ) (d : ℕ) → IsNumbering a count at list w rs cs q → d ≡ get_or list at 0 → ¬ IsMarked w d → IsNumbering a count (at + 1) list w rs cs q
 numbering_skip a count at list w rs cs q d x is nm = record { search = x.search; few = omega (arith, x.few); gone = λ i lt. gone i lt (number_same i at) }

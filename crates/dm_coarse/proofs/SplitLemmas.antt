@@ -1,5 +1,5 @@
 -- Rows of a side one after another, each in its part.
-use Rattle.std.proofs.Common.{Result, Ok, Err, IfOk, Option, Some, None, Vec, Global, ◌≡◌, ◌∙◌, true≢false, ℕ, ◌+◌, ◌<◌, ◌≤◌, Bool, true, false, List, [], ◌∷◌, ◌++◌, map, length, get_or, sym, ap, subst, inl, ⊎_elim, arith}
+use Rattle.std.proofs.Common.{Result, Ok, Err, IfOk, Option, Some, None, Vec, Global, ◌≡◌, ◌∙◌, true≢false, ℕ, ◌+◌, ◌<◌, ◌≤◌, Bool, true, false, List, [], ◌∷◌, ◌++◌, map, get_or, sym, ap, subst, inl, ⊎_elim, arith}
 use Rattle.std.proofs.Math.Decide.{dec_lt}
 use Rattle.std.specs.Prelude.{IfNone, IfSome}
 use Rattle.std.proofs.lemmas.List.{map-append, map-id}
@@ -19,9 +19,6 @@ use Rattle.dm_coarse.specs.Searches.{AreMarksIfMaximum}
 abbrev pub Below : (ℕ → Type 0) → ℕ → ℕ → Type 0
 Below P n x = (x < n) × P x
 
-pub below_none : (P : ℕ → Type 0) → Lists (Below P 0) []
-below_none P = record { rising = tt; sound = λ x h. elim h [ ]; complete = λ x h. absurd (let lt = h.0 in omega arith) }
-
 pub below_yes : (P : ℕ → Type 0) (n : ℕ) (xs : List ℕ) → P n → Lists (Below P n) xs → Lists (Below P (n + 1)) (xs ++ n ∷ [])
 below_yes P n xs p l = record {
   rising = rising_last xs n l.rising (λ x h. (l.sound x h).0);
@@ -40,9 +37,6 @@ pub record IsSplit (a : Matrix) (n : ℕ) (hs ss vs : List ℕ) : Type 0 where
   pub horizontal : Lists (Below (IsHorizontalRow a) n) hs
   pub square : Lists (Below (IsSquareRow a) n) ss
   pub vertical : Lists (Below (IsVerticalRow a) n) vs
-
-pub split_none : (a : Matrix) → IsSplit a 0 [] [] []
-split_none a = record { horizontal = below_none (IsHorizontalRow a); square = below_none (IsSquareRow a); vertical = below_none (IsVerticalRow a) }
 
 pub split_horizontal : (a : Matrix) (n : ℕ) (hs ss vs : List ℕ) → IsHorizontalRow a n → IsSplit a n hs ss vs → IsSplit a (n + 1) (hs ++ n ∷ []) ss vs
 split_horizontal a n hs ss vs h s = record {
@@ -81,9 +75,6 @@ mate_horizontal a m r c max p h = (c, h, max.matching.entries r c p)
 
 pub mate_square : (a : Matrix) (m : List Place) (r c : ℕ) → r < a.rows → IsMaximum a m → Among (r, c) m → ¬ IsHorizontalCol a c → ¬ IsVerticalRow a r → IsSquareRow a r
 mate_square a m r c lt max p h v = (lt, λ k. horizontal_mate a m r c max k p h, v)
-
-pub unmatched_vertical : (a : Matrix) (m : List Place) (r : ℕ) → r < a.rows → IsMaximum a m → ¬ Among r (rows_of m) → IsVerticalRow a r
-unmatched_vertical a m r lt max free = (lt, m, max, free)
 
 -- Marks.
 

@@ -1,7 +1,7 @@
 //! A search that numbers the connected components of the horizontal part of the matrix that a side
 //! sees.
 
-ghost use Rattle.std.specs.Prelude.{◌≡◌, ◌≢◌, ◌+◌, ◌<◌, ◌≤◌, ◌^◌, ◌++◌, ◌∷◌, [], ℕ, false, length, map, slice_index, slice_set, IfOk, OnOk};
+ghost use Rattle.std.specs.Prelude.{◌≡◌, ◌+◌, ◌<◌, ◌^◌, ◌++◌, ◌∷◌, [], ℕ, false, length, map, slice_set, IfOk, OnOk};
 ghost use Rattle.bip_defs.specs.Lists.{Among, IsMarked, Lists};
 ghost use Rattle.bip_defs.specs.Matrix.{IsEntry, IsTransposeOf, Matrix, cols};
 ghost use Rattle.bip_defs.specs.Parts.{IsHorizontalCol};

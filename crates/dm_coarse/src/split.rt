@@ -1,6 +1,6 @@
 //! The rows and the columns of a matrix, split into its three parts.
 
-ghost use Rattle.std.specs.Prelude.{◌≡◌, ◌<◌, ◌^◌, map, length, IfOk};
+ghost use Rattle.std.specs.Prelude.{◌<◌, ◌^◌, map, IfOk};
 ghost use Rattle.bip_defs.specs.Lists.{Lists};
 ghost use Rattle.bip_defs.specs.Marks.{Marks};
 ghost use Rattle.bip_defs.specs.Matrix.{Matrix, cols};
@@ -15,7 +15,7 @@ use std::alloc::Global;
 
 /// The rows or the columns of each part, rising.
 #[derive(Drop)]
-pub struct Thirds<F> {
+pub struct ByPart<F> {
     pub horizontal: Vec<F>,
     pub square: Vec<F>,
     pub vertical: Vec<F>,
@@ -36,7 +36,7 @@ pub fn split_rows(
     matching: &Matching,
     horizontal: &[bool],
     vertical: &[bool],
-) -> Result<Thirds<Row>, OutOfMemory>
+) -> Result<ByPart<Row>, OutOfMemory>
     requires maximum { IsMaximumOf pattern.now matching.now }
     requires horizontal { Marks (cols pattern.now) (IsHorizontalCol pattern.now) horizontal.now }
     requires vertical { Marks pattern.now.rows (IsVerticalRow pattern.now) vertical.now }
@@ -56,7 +56,7 @@ pub fn split_cols(
     matching: &Matching,
     horizontal: &[bool],
     vertical: &[bool],
-) -> Result<Thirds<Col>, OutOfMemory>
+) -> Result<ByPart<Col>, OutOfMemory>
     requires maximum { IsMaximumOf pattern.now matching.now }
     requires horizontal { Marks (cols pattern.now) (IsHorizontalCol pattern.now) horizontal.now }
     requires vertical { Marks pattern.now.rows (IsVerticalRow pattern.now) vertical.now }
@@ -69,7 +69,7 @@ pub fn split_cols(
     let side = FromRows { pattern };
     // The horizontal columns are the vertical rows of the transpose.
     let transposed = split(alloc, &side, matching, vertical, horizontal)?;
-    Ok(Thirds {
+    Ok(ByPart {
         horizontal: transposed.vertical,
         square: transposed.square,
         vertical: transposed.horizontal,
@@ -85,7 +85,7 @@ fn split<F: Opposite, S: Side<F>>(
     matching: &Matching,
     horizontal: &[bool],
     vertical: &[bool],
-) -> Result<Thirds<F>, OutOfMemory>
+) -> Result<ByPart<F>, OutOfMemory>
     requires maximum { IsMaximumOf (S.matrix side.now) (F.seen matching.now) }
     requires few { Matrix.rows (S.matrix side.now) < 2 ^ 32 }
     requires horizontal { Marks (cols (S.matrix side.now))
@@ -110,7 +110,7 @@ fn split<F: Opposite, S: Side<F>>(
             Part::Vertical => vertical_rows.push(row)?,
         }
     }
-    Ok(Thirds {
+    Ok(ByPart {
         horizontal: horizontal_rows,
         square: square_rows,
         vertical: vertical_rows,

@@ -5,7 +5,7 @@ use Rattle.std.proofs.lemmas.Bool.Decides.{nat_tests}
 use Rattle.std.proofs.lemmas.List.Sums.{sum_by-append, sum_by-cons}
 use Rattle.bip_defs.specs.Lists.{Among, AreDistinct}
 use Rattle.bip_defs.specs.Matrix.{Matrix, cols, column, entry_count, row_list, upto}
-use Rattle.bip_defs.proofs.Sets.{among_either, among_test, few_distinct, filter_distinct, filter_sound, rising_distinct, upto_length, upto_lists}
+use Rattle.bip_defs.proofs.Sets.{among_either, among_test, few_distinct, filter_distinct, filter_sound, rising_distinct, upto_lists}
 use Rattle.bip_defs.proofs.Counts.{distinct_append}
 use Rattle.sp_pattern.specs.Stored.{piece}
 use Rattle.dm_fine.specs.Groups.{AreApart}
@@ -42,12 +42,6 @@ joined_distinct n count starts flat (k ∷ ks) a d within = distinct_append (pie
 
 pub joined_below : (n count : ℕ) (starts flat ks : List ℕ) → AreApart n count starts flat → ((k : ℕ) → Among k ks → k < count) → (i : ℕ) → Among i (joined starts flat ks) → i < n
 joined_below n count starts flat ks a within i h = let (k, on, at) = joined_among starts flat ks i h in a.below k i (within k on) at
-
-pub joined_few : (n count : ℕ) (starts flat ks : List ℕ) → AreApart n count starts flat → AreDistinct ks → ((k : ℕ) → Among k ks → k < count) → length (joined starts flat ks) ≤ n
-joined_few n count starts flat ks a d within =
-    let few = few_distinct (joined starts flat ks) (upto n) (joined_distinct n count starts flat ks a d within) (λ i h. (upto_lists n).complete i (joined_below n count starts flat ks a within i h)) in
-    let long = upto_length 0 n in
-    omega (arith, few, long)
 
 sum_joined : (f : ℕ → ℕ) (starts flat ks : List ℕ) → sum_by (λ k. sum_by f (piece starts flat k)) ks ≡ sum_by f (joined starts flat ks)
 sum_joined f starts flat [] = refl

@@ -17,29 +17,7 @@ edges_miss own j x ne = grind (arith, nat_tests)
 pub edges_own_j : (own j x : ℕ) → j ≡ own → edges_at own j x ≡ 0
 edges_own_j own j x e = grind (arith, nat_tests)
 
--- one more at x
-pub counted_one : (own x : ℕ) (in_degrees : List ℕ) → x ≢ own → x < length in_degrees → (j : ℕ) → j < length in_degrees → get_or (set in_degrees x (get_or in_degrees x 0 + 1)) j 0 ≡ get_or in_degrees j 0 + edges_at own j x
-counted_one own x in_degrees ne lt j h = ⊎_elim
-    (λ (e : x ≡ j). let hit = edges_hit own j x e ne in let here = get_or-set_same in_degrees x (get_or in_degrees x 0 + 1) 0 lt in let at : get_or (set in_degrees x (get_or in_degrees x 0 + 1)) x 0 ≡ get_or (set in_degrees x (get_or in_degrees x 0 + 1)) j 0 = ap (λ i. get_or (set in_degrees x (get_or in_degrees x 0 + 1)) i 0) e in let was : get_or in_degrees x 0 ≡ get_or in_degrees j 0 = ap (λ i. get_or in_degrees i 0) e in omega (arith, hit, here, at, was))
-    (λ off. let miss = edges_miss own j x off in get_or-set_other in_degrees x j (get_or in_degrees x 0 + 1) 0 (λ e. off (sym e)) ∙ omega (arith, miss))
-    (number_same x j)
-
--- one less at x
-pub taken_one : (own x v : ℕ) (in_degrees : List ℕ) → x ≢ own → x < length in_degrees → get_or in_degrees x 0 ≡ v + 1 → (j : ℕ) → j < length in_degrees → get_or in_degrees j 0 ≡ get_or (set in_degrees x v) j 0 + edges_at own j x
-taken_one own x v in_degrees ne lt some j h = ⊎_elim
-    (λ (e : x ≡ j). let hit = edges_hit own j x e ne in let here = get_or-set_same in_degrees x v 0 lt in let at : get_or (set in_degrees x v) x 0 ≡ get_or (set in_degrees x v) j 0 = ap (λ i. get_or (set in_degrees x v) i 0) e in let was : get_or in_degrees x 0 ≡ get_or in_degrees j 0 = ap (λ i. get_or in_degrees i 0) e in omega (arith, hit, here, at, was, some))
-    (λ off. let miss = edges_miss own j x off in let same = get_or-set_other in_degrees x j v 0 (λ e. off (sym e)) in omega (arith, miss, same))
-    (number_same x j)
-
 -- Components that have come to in-degree 0.
-
-pub more_none : (n : ℕ) (least : ℕ → ℕ) (in_degrees ready : List ℕ) → MoreSources n least in_degrees ready in_degrees ready
-more_none n least in_degrees ready = record {
-  sound = λ x h. inl h;
-  stays = λ x h. h;
-  complete = λ j lt ne e. absurd (ne e);
-  falls = λ j lt. omega arith;
-}
 
 pub more_join : (n : ℕ) (least : ℕ → ℕ) (in_degrees ready in_degrees2 ready2 in_degrees3 ready3 : List ℕ) → MoreSources n least in_degrees ready in_degrees2 ready2 → MoreSources n least in_degrees2 ready2 in_degrees3 ready3 → MoreSources n least in_degrees ready in_degrees3 ready3
 more_join n least in_degrees ready in_degrees2 ready2 in_degrees3 ready3 f g = record {
@@ -55,15 +33,6 @@ more_join n least in_degrees ready in_degrees2 ready2 in_degrees3 ready3 f g = r
 
     late : (x : ℕ) → (j : ℕ) × (j < n) × (get_or in_degrees2 j 0 ≢ 0) × (get_or in_degrees3 j 0 ≡ 0) × (x ≡ least j) → (j : ℕ) × (j < n) × (get_or in_degrees j 0 ≢ 0) × (get_or in_degrees3 j 0 ≡ 0) × (x ≡ least j)
     late x h = let (j, lt, ne, nil, e) = h in (j, lt, (λ z. ne (let le = f.falls j lt in omega (arith, le, z))), nil, e)
-
--- one less at x, which has some left
-pub more_few : (n : ℕ) (least : ℕ → ℕ) (x v : ℕ) (in_degrees ready : List ℕ) → n ≡ length in_degrees → x < n → get_or in_degrees x 0 ≡ v + 1 → v ≢ 0 → MoreSources n least in_degrees ready (set in_degrees x v) ready
-more_few n least x v in_degrees ready long lt some ne = record {
-  sound = λ y h. inl h;
-  stays = λ y h. h;
-  complete = λ j jt nz e. absurd (⊎_elim (λ (same : j ≡ x). ne (sym (get_or-set_same in_degrees x v 0 (omega (arith, long, lt))) ∙ ap (λ i. get_or (set in_degrees x v) i 0) (sym same) ∙ e)) (λ off. nz (sym (get_or-set_other in_degrees x j v 0 off) ∙ e)) (number_same j x));
-  falls = λ j jt. ⊎_elim (λ (same : j ≡ x). let now = get_or-set_same in_degrees x v 0 (omega (arith, long, lt)) in let at : get_or (set in_degrees x v) j 0 ≡ get_or (set in_degrees x v) x 0 = ap (λ i. get_or (set in_degrees x v) i 0) same in let was : get_or in_degrees j 0 ≡ get_or in_degrees x 0 = ap (λ i. get_or in_degrees i 0) same in omega (arith, now, at, was, some)) (λ off. let same = get_or-set_other in_degrees x j v 0 off in omega (arith, same)) (number_same j x);
-}
 
 -- the last at x
 pub more_last : (n : ℕ) (least : ℕ → ℕ) (x v : ℕ) (in_degrees ready ready2 : List ℕ) → n ≡ length in_degrees → x < n → get_or in_degrees x 0 ≡ v + 1 → v ≡ 0

@@ -4,14 +4,7 @@ use Rattle.std.proofs.lemmas.List.{take_all}
 use Rattle.std.proofs.lemmas.List.Sums.{sum_by-cons, sum_by_more, sum_by_push}
 use Rattle.bip_defs.specs.Lists.{Among, AreDistinct}
 use Rattle.bip_defs.specs.Matrix.{upto}
-use Rattle.bip_defs.proofs.Sets.{Drops, drops_kept, here, later, number_same, rising_distinct, taken, upto_lists, among_take, upto_more}
-
--- Lists.
-
-pub distinct_take : {X : Type 0} (n : ℕ) (xs : List X) → AreDistinct xs → AreDistinct (take n xs)
-distinct_take zero xs d = tt
-distinct_take (suc n) [] d = tt
-distinct_take (suc n) (x ∷ xs) d = (λ h. d.0 (among_take n x xs h), distinct_take n xs d.1)
+use Rattle.bip_defs.proofs.Sets.{Drops, drops_kept, here, later, number_same, rising_distinct, taken, upto_lists, upto_more}
 
 -- Sums.
 

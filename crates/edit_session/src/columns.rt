@@ -2,7 +2,7 @@
 
 ghost use Rattle.std.specs.Prelude.{◌≡◌, ◌↔◌, ◌+◌, ◌<◌, ◌^◌, length, IfErr, IfOk, IsTrue, OnOk, is_ok};
 ghost use Rattle.bip_defs.specs.EditedMatrix.{with_place, without_place};
-ghost use Rattle.bip_defs.specs.Matrix.{IsEntry, Matrix, cols, column, entry_count};
+ghost use Rattle.bip_defs.specs.Matrix.{IsEntry, cols, column, entry_count};
 ghost use Rattle.edit_session.specs.Columns.{HasRoom, IsGap, RoomyMatrix, StandsAt};
 ghost use Rattle.sp_pattern.specs.Stored.{IsPattern};
 
@@ -15,7 +15,7 @@ use std::marker::Model;
 /// For each column of a matrix the rows of its entries, rising, which are put in and taken out one
 /// by one.
 ///
-/// All lists lie in one array, each with room to grow. It keeps 16 bytes a column and at most some
+/// All lists lie in one array, each with room to grow. It keeps at most some 24 bytes a column and
 /// 24 an entry of the most that the matrix had.
 #[derive(Drop)]
 pub struct Columns {

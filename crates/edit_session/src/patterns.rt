@@ -3,7 +3,7 @@
 ghost use Rattle.std.specs.Prelude.{◌≡◌, ◌+◌, ◌<◌, ◌^◌, ◌++◌, ℕ, length, IfOk, OnOk};
 ghost use Rattle.bip_defs.specs.Lists.{Among};
 ghost use Rattle.bip_defs.specs.Matrix.{HasPlaces};
-ghost use Rattle.edit_session.specs.Columns.{RoomyMatrix, column_places};
+ghost use Rattle.edit_session.specs.Columns.{column_places};
 ghost use Rattle.sp_ids.specs.Entries.{places};
 ghost use Rattle.sp_ids.specs.declared.triples.Field.TheVariants as fields;
 

@@ -127,7 +127,8 @@ impl Session {
     }
 
     /// Sets an entry, and gives the rank of the matrix then. Where it is there already nothing
-    /// changes.
+    /// changes. Its row and column must be in the matrix, which must have less than 4,294,967,295
+    /// entries.
     ///
     /// A step is a column that a search takes up or an entry that it looks at. There is no search
     /// where the entry was there, or where its row and its column have no mate and become a pair.

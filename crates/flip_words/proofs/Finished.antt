@@ -1,5 +1,5 @@
 -- A board that is closed: all seats in one, and the mates that the words hold.
-use Rattle.std.proofs.Common.{◌≡◌, ◌∙◌, ℕ, zero, suc, ◌+◌, ◌-◌, ◌<◌, List, [], ◌∷◌, ◌++◌, Option, None, Some, flat_map, remove, set, take, drop, length, get_or, refl, sym, ap, subst, ⊎_elim, arith, append_assoc, append-nil}
+use Rattle.std.proofs.Common.{◌≡◌, ◌∙◌, ℕ, zero, suc, ◌+◌, ◌-◌, ◌<◌, List, [], ◌∷◌, ◌++◌, Option, None, Some, flat_map, set, take, drop, length, get_or, sym, ap, subst, ⊎_elim, arith, append_assoc, append-nil}
 use Rattle.std.proofs.lemmas.Grind.{flat_map-append}
 use Rattle.std.proofs.lemmas.List.{get_or-drop, length-append, length-drop, map-append, take_more, take_more_set}
 use mathlib.Core.Option.{some, some-injective, some-ne-none}
@@ -15,7 +15,7 @@ use Rattle.flip_words.specs.WordCodes.{mate_of, mates_in, takers_in}
 use Rattle.flip_words.specs.Listed.{Listed, all_listed, followed_by}
 use Rattle.flip_words.specs.Rule.{Kept, Known, known, opened_in}
 use Rattle.flip_words.specs.ClosedBoards.{gathered, SettlesAll}
-use Rattle.flip_words.specs.Seat.{AreAllSeats, AreNumbered, IsRightful, Seat, first_seat, lists_of}
+use Rattle.flip_words.specs.Seat.{AreNumbered, IsRightful, Seat, first_seat, lists_of}
 use Rattle.flip_words.specs.Stored.{AreLeft, AreSized, board_in}
 use Rattle.flip_words.proofs.AccountLemmas.{sets_moved, takes_moved}
 use Rattle.flip_words.proofs.WordCodes.{mate_read, vertices_long}
@@ -32,14 +32,6 @@ pub record IsJoined (b : Board) (whole : Listed) (others : List Seat) (first : S
   pub numbered : AreNumbered b 1 others
   pub first_is : first ≡ first_seat b (1 + length others) first.listed
   pub lists : followed_by (all_listed (lists_of others)) first.listed ≡ whole
-
-pub joined_none : (b : Board) (all others : List Seat) (first : Seat) → AreAllSeats b all → first ≡ get_or all 0 first → others ≡ remove all 0 → IsJoined b (gathered all) others first
-joined_none b [] others first a at rest = absurd a
-joined_none b (s ∷ ss) others first a at rest = subst (λ os. IsJoined b (gathered (s ∷ ss)) os first) (sym rest) (subst (IsJoined b (gathered (s ∷ ss)) ss) (sym at) record {
-  numbered = a.3;
-  first_is = λ i. record { board = a.0 i; number = a.1 i; seats = a.2 i; listed = s.listed };
-  lists = refl;
-})
 
 numbered_last : (b : Board) (number : ℕ) (others : List Seat) (last : Seat) → AreNumbered b number (others ++ last ∷ []) → AreNumbered b number others × (last.board ≡ b) × (last.number ≡ number + length others)
 numbered_last b number [] last a = (tt, a.0, a.1 ∙ (let e : number ≡ number + 0 = omega arith in e))
@@ -69,9 +61,6 @@ module _ {b : Board} {whole : Listed} {others : List Seat} {first : Seat} (rest 
     first_is = λ i. first_seat b (last_is.2 i) (followed_by last.listed first.listed);
     lists = sym (last_first (lists_of rest) last.listed first.listed) ∙ ap (λ ls. followed_by (all_listed ls) first.listed) (sym (map-append (λ (s : Seat). s.listed) rest (last ∷ [])) ∙ ap lists_of (sym popped)) ∙ j.lists;
   }
-
-pub joined_all : {b : Board} {whole : Listed} {others : List Seat} {first : Seat} → IsJoined b whole others first → others ≡ [] → first ≡ first_seat b 1 whole
-joined_all {b = b} {first = first} j none = j.first_is ∙ (λ i. first_seat b (1 + length (none i)) first.listed) ∙ ap (first_seat b 1) (ap (λ os. followed_by (all_listed (lists_of os)) first.listed) (sym none) ∙ j.lists)
 
 -- The words that are left.
 

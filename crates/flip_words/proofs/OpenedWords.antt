@@ -1,5 +1,5 @@
 -- The words with which a board is opened, vertex by vertex.
-use Rattle.std.proofs.Common.{◌≡◌, ◌∙◌, ℕ, zero, suc, ◌+◌, ◌*◌, ◌<◌, ◌≤◌, List, [], ◌∷◌, ◌++◌, Option, None, Some, IfSome, IfNone, replicate, take, length, get_or, refl, sym, ap, subst, arith, append-nil, append_assoc}
+use Rattle.std.proofs.Common.{◌≡◌, ◌∙◌, ℕ, zero, suc, ◌+◌, ◌*◌, ◌<◌, ◌≤◌, List, [], ◌∷◌, ◌++◌, Option, None, Some, IfSome, IfNone, replicate, take, length, get_or, sym, ap, subst, arith, append_assoc}
 use Rattle.std.proofs.lemmas.List.{get_or_read, length-append, length-map, length-take-le, map-append, take_more}
 use Rattle.bip_defs.specs.Lists.{Among, AreDistinct}
 use Rattle.bip_defs.specs.Matching.{cols_of, rows_of}
@@ -59,9 +59,6 @@ mate_of_col m c (Some s) differ found none = record {
 }
 
 -- Vertex by vertex.
-
-pub laid_none : (m : Pairing) (words : List ℕ) → words ≡ replicate (1 + m.cols) 0 → AreLaid m [] words
-laid_none m words e = record { vertices = []; order = e ∙ sym (append-nil (replicate (1 + m.cols) 0)); their_trees = refl; mates = λ v lt. absurd (omega arith) }
 
 last_or_before : (P : ℕ → ℕ → Type 0) (xs : List ℕ) (y : ℕ) → ((v : ℕ) → v < length xs → P v (get_or xs v 0)) → P (length xs) y → (v : ℕ) → v < length (xs ++ y ∷ []) → P v (get_or (xs ++ y ∷ []) v 0)
 last_or_before P [] y before last zero lt = last

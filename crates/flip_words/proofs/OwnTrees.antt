@@ -3,7 +3,7 @@ use Rattle.std.proofs.Common.{◌≡◌, ◌⊎◌, ◌∙◌, ℕ, Option, None
 use Rattle.bip_defs.specs.Lists.{Among}
 use Rattle.bip_defs.proofs.Sets.{among_last, among_left}
 use Rattle.flip_words.specs.Board.{Board, held}
-use Rattle.flip_words.specs.Listed.{nothing, with_taken}
+use Rattle.flip_words.specs.Listed.{with_taken}
 use Rattle.flip_words.specs.Seat.{IsRightful, Seat, Took, TookTreeOf, after_look, after_set, after_take}
 
 kept_taken : (list : List (ℕ × ℕ)) (root number : ℕ) (found : Option ℕ) (p : ℕ × ℕ) → Among p list → Among p (with_taken list root number found)
@@ -32,6 +32,3 @@ rightful_set {s = s} {t = t} v w mate {root = root} same is at board tree took o
 
 pub rightful_look : (s : Seat) (v : ℕ) (mate : Option ℕ) → IsRightful s → IsRightful (after_look s v mate)
 rightful_look s v mate own = record { taken = own.taken; sets = own.sets }
-
-pub rightful_new : (b : Board) (number seats : ℕ) → IsRightful (record { board = b; number = number; seats = seats; listed = nothing })
-rightful_new b number seats = record { taken = λ root n h. elim h [ ]; sets = λ v mate h. elim h [ ] }

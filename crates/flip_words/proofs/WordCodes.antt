@@ -5,7 +5,7 @@ use Rattle.std.proofs.lemmas.Grind.{get_or_after_one}
 use Rattle.std.proofs.lemmas.Nat.{div-mul-add, mod-mul-add}
 use Rattle.std.proofs.Math.Seq.{take-set-lt}
 use Rattle.flip_words.specs.Board.{held}
-use Rattle.flip_words.specs.WordCodes.{code_of, half, mate_of, mates_in, takers_in, tree_of, trees_in, value_of, vertex_word}
+use Rattle.flip_words.specs.WordCodes.{code_of, half, mate_of, mates_in, takers_in, tree_of, value_of, vertex_word}
 
 pub value_there : (x : ℕ) → value_of (1 + x) ≡ Some x
 value_there x = subst (λ n. value_of n ≡ Some x) (sym (one-add x)) refl
@@ -34,11 +34,6 @@ pub mate_read : (cols : ℕ) (ws : List ℕ) (v : ℕ) → v < length (mates_in 
 mate_read cols ws v lt =
     let within : v < length (drop (1 + cols) ws) = subst (λ k. v < k) (length-map (drop (1 + cols) ws) mate_of) lt in
     get_or-map mate_of (drop (1 + cols) ws) v 0 None within ∙ ap mate_of (get_or-drop (1 + cols) ws v 0)
-
-pub tree_read : (cols : ℕ) (ws : List ℕ) (v : ℕ) → v < length (trees_in cols ws) → held (trees_in cols ws) v ≡ tree_of (get_or ws (1 + cols + v) 0)
-tree_read cols ws v lt =
-    let within : v < length (drop (1 + cols) ws) = subst (λ k. v < k) (length-map (drop (1 + cols) ws) tree_of) lt in
-    get_or-map tree_of (drop (1 + cols) ws) v 0 None within ∙ ap tree_of (get_or-drop (1 + cols) ws v 0)
 
 -- What they hold after a tree's word is written.
 

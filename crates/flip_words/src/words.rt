@@ -1,7 +1,7 @@
 //! How the words of a board are coded.
 
-ghost use Rattle.std.specs.Prelude.{◌≡◌, ◌+◌, ◌<◌, ◌≤◌, IfSome, Some};
-ghost use Rattle.flip_words.specs.WordCodes.{half, mate_of, value_of, vertex_word};
+ghost use Rattle.std.specs.Prelude.{◌≡◌, ◌+◌, ◌<◌, ◌≤◌, IfSome};
+ghost use Rattle.flip_words.specs.WordCodes.{half, mate_of, value_of};
 
 use sp_ids::{Col, Row};
 

@@ -1,4 +1,4 @@
--- Settled and rested forests.
+-- Forests that are settled, and those at rest.
 use Rattle.std.proofs.Common.{◌≡◌, ◌↔◌, ℕ, List, [], refl, subst, ⊎_elim}
 use Rattle.bip_defs.specs.Lists.{Among}
 use Rattle.bip_defs.specs.Matching.{rows_of}

@@ -1,5 +1,5 @@
 -- What is read from tables, and what they hold after a change.
-use Rattle.std.proofs.Common.{◌≡◌, ◌≢◌, ◌⊎◌, ◌↔◌, ◌∙◌, ℕ, zero, suc, ◌+◌, ◌<◌, ◌≤◌, List, [], ◌∷◌, ◌++◌, map, replicate, set, length, length-append, get_or, Option, None, Some, IfSome, IfNone, refl, sym, ap, subst, inl, ⊎_elim, arith, ne_eqb, eq-eqb}
+use Rattle.std.proofs.Common.{◌≡◌, ◌≢◌, ◌⊎◌, ◌↔◌, ◌∙◌, ℕ, zero, suc, ◌+◌, ◌<◌, ◌≤◌, List, [], ◌∷◌, ◌++◌, map, replicate, set, length, length-append, Option, None, Some, IfSome, IfNone, refl, sym, ap, subst, inl, ⊎_elim, arith, ne_eqb, eq-eqb}
 use Rattle.std.proofs.lemmas.List.{length-map, get_or-map, get_or-replicate, get_or_append_left, get_or_past, get_or_push, length-replicate, get_or-set_other, get_or-set_same, map-set}
 use Rattle.bip_defs.specs.Lists.{Among}
 use Rattle.bip_defs.specs.Matching.{rows_of}
@@ -20,12 +20,6 @@ pub not_none : {x : ℕ} → ◌≡◌ {A = Option ℕ} None (Some x) → ⊥
 not_none e = cc
 
 -- What is read.
-
-seen_at : {W : Type 0} (f : W → Option ℕ) (xs : List W) (t : List (Option ℕ)) (k : ℕ) (x : W) → map f xs ≡ t → k < length t → x ≡ get_or xs k x → beside t k ≡ f x
-seen_at f xs t k x seen = subst (λ u. k < length u → x ≡ get_or xs k x → beside u k ≡ f x) seen (λ lt e. let within : k < length xs = (let h = lt in simp length-map at h) in get_or-map f xs k x None within ∙ ap f (sym e))
-
-pub seen_none : {W : Type 0} (f : W → Option ℕ) (xs : List W) (t : List (Option ℕ)) (k : ℕ) (x : W) → map f xs ≡ t → k < length t → x ≡ get_or xs k x → f x ≡ None → None ≡ beside t k
-seen_none f xs t k x seen lt e n = sym (seen_at f xs t k x seen lt e ∙ n)
 
 pub seen_put : {W : Type 0} (f : W → Option ℕ) (xs : List W) (t : List (Option ℕ)) (k : ℕ) (w : W) (o : Option ℕ) → map f xs ≡ t → f w ≡ o → map f (set xs k w) ≡ set t k o
 seen_put f xs t k w o seen e = map-set f xs k w ∙ ap (set (map f xs) k) e ∙ ap (λ u. set u k o) seen
@@ -104,9 +98,6 @@ pub record IsWithin (pairs : List Place) (t : List (Option ℕ)) : Type 0 where
 
 pub within_none : (t : List (Option ℕ)) → IsWithin [] t → IsTableOf [] t
 within_none t of k v = (λ h. of.held k v h, λ h. absurd h)
-
-pub table_none : (t : List (Option ℕ)) → ((k : ℕ) → beside t k ≡ None) → IsTableOf [] t
-table_none t none k v = (λ e. absurd (not_none (sym (none k) ∙ e)), λ h. absurd h)
 
 -- Tables that are made in order.
 

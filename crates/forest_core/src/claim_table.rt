@@ -1,6 +1,6 @@
 //! Which column claimed each row, and the root of the row's tree.
 
-ghost use Rattle.std.specs.Prelude.{◌≡◌, ℕ, ◌<◌, Some, length, set, IfOk, IfSome, IfNone};
+ghost use Rattle.std.specs.Prelude.{◌≡◌, ℕ, ◌<◌, Some, length, set, IfOk, IfNone};
 ghost use Rattle.forest_core.specs.Tables.{AreAlike, beside};
 
 use sp_ids::{Col, Id, OutOfMemory, Row};

@@ -1,6 +1,6 @@
 //! What stays of a forest when its base matching is renewed.
 
-ghost use Rattle.std.specs.Prelude.{◌≡◌, ◌↔◌, ℕ, ◌<◌, List, Bool, Some, true, false, [], length, take, slice_index_or, IsTrue};
+ghost use Rattle.std.specs.Prelude.{◌≡◌, ℕ, ◌<◌, [], length, take};
 ghost use Rattle.bip_defs.specs.Lists.{Among, AreDistinct, IsMarked};
 ghost use Rattle.bip_defs.specs.Matching.{rows_of};
 ghost use Rattle.forest_core.specs.Kept.{AreFirstRoots, kept};

@@ -1,15 +1,11 @@
 //! Runs of events.
 
-ghost use Rattle.std.specs.Prelude.{◌≡◌, ℕ, ◌+◌, ◌<◌, ◌≤◌, List, length, take, slice_index_or, IfOk};
-ghost use Rattle.bip_defs.specs.Matching.{IsMatching};
-ghost use Rattle.bip_defs.specs.Matrix.{Place};
+ghost use Rattle.std.specs.Prelude.{◌≡◌, IfOk};
 ghost use Rattle.bip_graph.specs.Matching.{IsMatchingOf};
-ghost use Rattle.forest_core.specs.Current.{IsCurrent};
 ghost use Rattle.forest_core.specs.Events.{IsLegal, Becomes};
 ghost use Rattle.forest_core.specs.Made.{AreMade, IsGrownBy, IsLongest};
 ghost use Rattle.forest_core.specs.Sound.{IsSound};
 ghost use Rattle.bip_defs.specs.Forest.{new_forest};
-ghost use Rattle.sp_ids.specs.declared.events.Event.TheVariants.{Done};
 
 use crate::forest::Forest;
 use bip_graph::Matching;

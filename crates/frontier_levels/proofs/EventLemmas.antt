@@ -38,14 +38,8 @@ module _ (event : ℕ × ℕ → Event) (add : State → List (ℕ × ℕ) → S
       parts : map event ps ≡ map event (take i ps) ++ event p ∷ map event (drop (i + 1) ps)
       parts = ap (map event) pairs ∙ map-append event (take i ps) (p ∷ drop (i + 1) ps)
 
-  pub next_added : (s : State) (ps : List (ℕ × ℕ)) (i : ℕ) (p d : ℕ × ℕ) → i < length ps → p ≡ get_or ps i d → add (add s (take i ps)) (p ∷ []) ≡ add s (take (i + 1) ps)
-  next_added s ps i p d lt is = joins s (take i ps) (p ∷ []) ∙ ap (add s) (ap (λ q. take i ps ++ q ∷ []) is ∙ sym (take_more ps i d lt))
-
   -- The pairs of several, one after the other.
   module _ {W : Type 0} (pairs : W → List (ℕ × ℕ)) where
-    up_to : (ws : List W) (i : ℕ) (w d : W) → i < length ws → w ≡ get_or ws i d → flat_map pairs (take (i + 1) ws) ≡ flat_map pairs (take i ws) ++ pairs w
-    up_to ws i w d lt is = ap (flat_map pairs) (take_more ws i d lt ∙ ap (λ v. take i ws ++ v ∷ []) (sym is)) ∙ flat_map-append pairs (take i ws) (w ∷ []) ∙ ap (λ ps. flat_map pairs (take i ws) ++ ps) (append-nil (pairs w))
-
     pub next_runs : (s t : State) (ws : List W) (i : ℕ) (w d : W) → Runs s (map event (flat_map pairs ws)) t → i < length ws → w ≡ get_or ws i d
         → Runs (add s (flat_map pairs (take i ws))) (map event (pairs w)) (add (add s (flat_map pairs (take i ws))) (pairs w))
     next_runs s t ws i w d r lt is =
@@ -58,9 +52,6 @@ module _ (event : ℕ × ℕ → Event) (add : State → List (ℕ × ℕ) → S
         parts : map event (flat_map pairs ws) ≡ map event (flat_map pairs (take i ws)) ++ (map event (pairs w) ++ map event (flat_map pairs (drop (i + 1) ws)))
         parts = ap (λ vs. map event (flat_map pairs vs)) rest ∙ ap (map event) (flat_map-append pairs (take i ws) (w ∷ drop (i + 1) ws)) ∙ map-append event (flat_map pairs (take i ws)) (pairs w ++ flat_map pairs (drop (i + 1) ws))
             ∙ ap (λ es. map event (flat_map pairs (take i ws)) ++ es) (map-append event (pairs w) (flat_map pairs (drop (i + 1) ws)))
-
-    pub next_all_added : (s : State) (ws : List W) (i : ℕ) (w d : W) → i < length ws → w ≡ get_or ws i d → add (add s (flat_map pairs (take i ws))) (pairs w) ≡ add s (flat_map pairs (take (i + 1) ws))
-    next_all_added s ws i w d lt is = joins s (flat_map pairs (take i ws)) (pairs w) ∙ ap (add s) (sym (up_to ws i w d lt is))
 
 -- Claims, and wins.
 

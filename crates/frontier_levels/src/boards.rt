@@ -1,10 +1,11 @@
 //! Boards that are opened from a forest.
 
-ghost use Rattle.std.specs.Prelude.{◌≤◌, ◌≡◌, length, map, IfOk, OnOk};
+ghost use Rattle.std.specs.Prelude.{◌≤◌, ◌≡◌, length, map, IfOk};
 ghost use Rattle.bip_defs.specs.Matrix.{cols};
 ghost use Rattle.claim_words.specs.WorkerState.{seated};
 ghost use Rattle.forest_core.specs.Tables.{IsTableOf};
 ghost use Rattle.level_sharing.specs.Agreement.{Agree};
+ghost use Rattle.sp_ids.specs.Limits.{max_workers};
 
 use claim_words::{ClaimBoard, ClaimSeat, Worker, new_seats_are_all};
 use forest_core::Forest;
@@ -24,7 +25,7 @@ pub fn open<R: Threads + Sync>(
     forest: &Forest,
     workers: u32,
 ) -> Result<(ClaimBoard, Vec<Worker>), OutOfMemory>
-    requires { (1 ≤ workers) × (workers ≤ 64) }
+    requires { (1 ≤ workers) × (workers ≤ max_workers) }
     ensures agree { IfOk result (λ o. Agree o.0 o.1.items forest.now.claims forest.now.leaves) }
     ensures workers { IfOk result (λ o. length o.1.items ≡ workers) }
     ensures rows { IfOk result (λ o. length o.0.rows ≡ forest.now.matrix.rows) }

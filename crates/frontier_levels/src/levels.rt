@@ -8,6 +8,7 @@ ghost use Rattle.forest_core.specs.Events.{Runs};
 ghost use Rattle.level_sharing.specs.Agreement.{Agree, Shows};
 ghost use Rattle.level_sharing.specs.Growth.{fresh_events, grown};
 ghost use Rattle.level_sharing.specs.Shares.{KeepToColumns};
+ghost use Rattle.sp_ids.specs.Limits.{max_workers};
 
 use crate::search::Search;
 use claim_words::{ClaimBoard, Worker};
@@ -42,7 +43,7 @@ pub fn top_down<R: Threads + Sync, G: Gate>(
     workers: &mut [Worker],
     gate: &G,
 ) -> Result<(), OutOfMemory>
-    requires few { length workers.old ≤ 64 }
+    requires few { length workers.old ≤ max_workers }
     requires agree { Agree board.now workers.old forest.now.claims forest.now.leaves }
     requires rows { length board.now.rows ≡ forest.now.matrix.rows }
     requires roots { length board.now.roots ≡ cols forest.now.matrix }

@@ -4,7 +4,6 @@ ghost use Rattle.std.specs.Prelude.{◌≡◌, ℕ, ◌<◌, true, false, OnOk};
 ghost use Rattle.arrayvec.specs.ArrayVec.{array_vec_len};
 ghost use Rattle.bip_defs.specs.Forest.{RootOf};
 ghost use Rattle.bip_defs.specs.Lists.{Among};
-ghost use Rattle.bip_defs.specs.Matching.{rows_of};
 ghost use Rattle.bip_defs.specs.Matrix.{IsEntry, cols, column};
 ghost use Rattle.frontier_levels.specs.Search.{HasGathered, IsCoveredColumn, IsSearch, StaysCovered};
 ghost use Rattle.level_sharing.specs.Candidates.{IsCovered};
@@ -137,7 +136,7 @@ impl<'a, 'p> Search<'a, 'p> {
             Some(_) => Ok(()),
             None => {
                 self.make_room(worker, candidates)?;
-                let free = is_free(self.forest, row);
+                let free = !self.forest.is_matched(row);
                 candidates.push(Candidate {
                     row,
                     col,
@@ -171,17 +170,5 @@ impl<'a, 'p> Search<'a, 'p> {
             candidates.clear();
         }
         Ok(())
-    }
-}
-
-// Whether a row has no base mate.
-fn is_free(forest: &Forest, row: Row) -> bool
-    requires { row < forest.now.matrix.rows }
-    ensures free { result ≡ true → ¬ Among row (rows_of forest.now.base) }
-    ensures mated { result ≡ false → Among row (rows_of forest.now.base) }
-{
-    match forest.base_col(row) {
-        Some(_) => false,
-        None => true,
     }
 }

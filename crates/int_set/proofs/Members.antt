@@ -7,7 +7,7 @@ use Rattle.std.specs.Int.{bit_at}
 use Rattle.std.proofs.Math.Seq.{take-append_seam}
 use Rattle.bip_defs.proofs.Sets.{filter_lists, below_each_from, rising_unique}
 use Rattle.bip_defs.specs.Lists.{Among, IsRising}
-use Rattle.int_set.specs.Tree.{IsSetOf, IsShaped, IsTree, members_of, start_of}
+use Rattle.int_set.specs.Tree.{IsSetOf, IsTree, members_of, start_of}
 use Rattle.int_set.specs.Words.{bit, IsSet}
 
 pub member_set : (words : List ℕ) (first bound x : ℕ) → Among x (members_of words first bound) → (x < bound) × IsSet words (first + x)
@@ -81,28 +81,6 @@ least_first old new x up up' h least left = rising_unique old (x ∷ new) up
     (below_each_from x new (λ y k. let m = (left y).0 k in let le = least y m.1 in let ne : y ≢ x = m.0 in omega arith), up')
     (λ y k. elim (cases_eq y x) [ inl e ↦ inl e | inr ne ↦ inr ((left y).1 (ne, k)) ])
     (λ y (k : Among y (x ∷ new)). elim k [ inl e ↦ rw e h | inr m ↦ ((left y).0 m).1 ])
-
--- a shape with as many words is one
-pub shaped_still : (old new : List ℕ) (depth first bound : ℕ) → IsShaped old depth first bound → length new ≡ length old → IsShaped new depth first bound
-shaped_still old new depth first bound s same = record {
-  lowest = s.lowest;
-  a_word = omega (arith, s.a_word);
-  fits = omega (arith, s.fits);
-  holds = omega (arith, s.holds);
-  small = s.small;
-  few = s.few;
-}
-
-pub set_still : (old new : List ℕ) (depth first bound number : ℕ) → IsSetOf old depth first bound → length new ≡ length old → IsTree new first → number < bound
-    → ((x : ℕ) → x ≢ number → bit new (first + x) ≡ bit old (first + x)) → IsSetOf new depth first bound
-set_still old new depth first bound number s same tree lt others = record {
-  shaped = shaped_still old new depth first bound s.shaped same;
-  tree = tree;
-  below = λ x set. elim (cases_eq x number) [
-    | inl e ↦ rw e lt
-    | inr ne ↦ s.below x (sym (others x ne) ∙ set)
-  ];
-}
 
 -- no bit of words that are 0 is set
 pub zeros_clear : (n p : ℕ) → ¬ IsSet (replicate n 0) p

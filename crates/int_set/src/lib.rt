@@ -8,7 +8,7 @@
 
 mod tree;
 
-ghost use Rattle.std.specs.Prelude.{◌≡◌, ◌⊎◌, ◌↔◌, ◌<◌, ◌≤◌, ◌∷◌, ℕ, [], length, IfOk, IfSome, IfNone, MatchOption};
+ghost use Rattle.std.specs.Prelude.{◌≡◌, ◌⊎◌, ◌↔◌, ◌<◌, ◌≤◌, ◌∷◌, ℕ, [], IfOk, IfSome, IfNone};
 ghost use Rattle.bip_defs.specs.Lists.{Among, IsRising};
 
 use sp_ids::OutOfMemory;
@@ -39,7 +39,8 @@ impl Model for IntSet {
 impl IntSet {
     /// The empty set of numbers below `bound`.
     ///
-    /// It takes `bound / 8` bytes and a little more, and writes them.
+    /// It takes `bound / 8` bytes and a little more, and writes them. Answers `OutOfMemory` where
+    /// these can't be had.
     pub fn new(alloc: Global, bound: u32) -> Result<IntSet, OutOfMemory>
         ensures { IfOk result (λ s. s ≡ record { bound = bound; members = [] }) }
     {

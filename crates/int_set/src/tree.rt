@@ -3,7 +3,7 @@
 //! word `i + 1`.
 
 ghost use Rattle.std.specs.Prelude.{◌≡◌, ◌≢◌, ◌+◌, ◌*◌, ◌<◌, ◌≤◌, ◌^◌, ℕ, length, replicate, IfOk, slice_index};
-ghost use Rattle.int_set.specs.Tree.{IsTree, IsShaped, NoneSet, start_of};
+ghost use Rattle.int_set.specs.Tree.{IsTree, NoneSet, start_of};
 ghost use Rattle.int_set.specs.Words.{bit, IsSet};
 
 use sp_ids::OutOfMemory;

@@ -1,5 +1,5 @@
 -- A search that goes on to one column more.
-use Rattle.std.proofs.Common.{◌≡◌, ◌≢◌, ◌⊎◌, ◌∙◌, ℕ, zero, suc, slice_index, ◌+◌, ◌^◌, ◌<◌, ◌≤◌, true, false, List, [], ◌∷◌, ◌++◌, length, set, get_or, refl, sym, ap, subst, inl, inr, ⊎_elim, arith, length-append, length-set, get_or-set_same, get_or-set_other}
+use Rattle.std.proofs.Common.{◌≡◌, ◌≢◌, ◌⊎◌, ◌∙◌, ℕ, slice_index, ◌+◌, ◌^◌, ◌<◌, ◌≤◌, true, false, List, [], ◌∷◌, ◌++◌, length, set, get_or, refl, sym, ap, subst, inl, inr, ⊎_elim, arith, length-append, length-set, get_or-set_same, get_or-set_other}
 use Rattle.std.proofs.Math.Decide.{dec_lt}
 use Rattle.std.proofs.lemmas.List.{get_or_append_left, get_or_past, get_or_push}
 use Rattle.bip_defs.specs.Lists.{Among, AreDistinct, IsMarked}
@@ -11,10 +11,10 @@ use Rattle.integer_diagonal.proofs.Bounds.{places_add, within_all}
 use Rattle.integer_diagonal.proofs.Cheap.{cheap_entry}
 use Rattle.integer_diagonal.proofs.SearchInvariant.{listed_same, listed_settled}
 use Rattle.integer_diagonal.specs.declared.search.Nearest.{Nearest}
-use Rattle.integer_diagonal.specs.Labels.{AreBeyond, AreKnown, AreListed, IsBest, IsClear, IsKept, IsKnown, Labels, Takes, distance_of}
+use Rattle.integer_diagonal.specs.Labels.{AreBeyond, AreKnown, AreListed, IsBest, IsKept, IsKnown, Labels, Takes, distance_of}
 use Rattle.integer_diagonal.specs.Duals.{IsBounded, Priced, cheap, cost, dual, paid}
 use Rattle.integer_diagonal.specs.SearchTree.{IsGrown, IsLedTo, IsSearched, IsStuck, IsTaken, Reaches, Tree, depth, stop}
-use Rattle.integer_diagonal.specs.Amounts.{HasRoom, far}
+use Rattle.integer_diagonal.specs.Amounts.{HasRoom, infinity}
 use Rattle.bip_defs.specs.Queues.{at, heads}
 use Rattle.bip_defs.proofs.Queues.{at_push, heads_push, place_of}
 
@@ -78,7 +78,7 @@ grown_more x m root t c r p d g new lt pair reaches = record {
 pub taken_distance : (x : Priced) (m : List Place) (t : Tree) (l k : Labels) (level d r limit : ℕ) → IsKept x m t l level → Takes l k d r limit → (distance_of l r ≡ d) × (level ≤ d)
 taken_distance x m t l k level d r limit kept takes = by (kept.waits d r takes.was)
   where
-    by : (level ≤ d) × (distance_of l r ≤ d) × (distance_of l r < far) → (distance_of l r ≡ d) × (level ≤ d)
+    by : (level ≤ d) × (distance_of l r ≤ d) × (distance_of l r < infinity) → (distance_of l r ≡ d) × (level ≤ d)
     by (above, near, fits) = (⊎_elim (λ mark. absurd (takes.new mark)) (λ h. at_heap h (takes.keeps (distance_of l r, r) h)) (kept.waiting r fits), above)
       where
         at_heap : Among {X = ℕ × ℕ} (distance_of l r, r) l.waiting → (◌≡◌ {A = ℕ × ℕ} (distance_of l r, r) (d, r)) ⊎ (IsMarked l.settled r ⊎ Among {X = ℕ × ℕ} (distance_of l r, r) takes.heap) → distance_of l r ≡ d
@@ -171,44 +171,6 @@ known_more x t l limit c p d r long known i s lt entry =
     let two = ap (paid x s) stops in
     ⊎_elim (λ h. inl (h.0, (let le = h.1 in omega (arith, le, one, two, depths)))) (λ le. inr (omega (arith, le, one, two, depths))) (known i s lt (subst (IsEntry x.weighing.matrix s) stops entry))
 
--- The start.
-
-abbrev pub single : ℕ → Tree
-single root = record { queue = (root, 0) ∷ []; depths = 0 ∷ [] }
-
-pub grown_start : (x : Priced) (m : List Place) (root : ℕ) → root < cols x.weighing.matrix → ¬ Among root (cols_of m) → IsGrown x m root (single root)
-grown_start x m root lt free = record {
-  long = refl;
-  some = omega arith;
-  starts = refl;
-  begins = refl;
-  free = free;
-  in_range = λ c h. ⊎_elim (λ (e : c ≡ root). omega (arith, e, lt)) (λ k. absurd k) h;
-  distinct = (λ h. h, tt);
-  led = λ i above within. absurd (omega arith);
-}
-
-pub kept_start : (x : Priced) (m : List Place) (root rows : ℕ) (t : Tree) (l : Labels) → rows ≡ x.weighing.matrix.rows → IsClear rows t l → IsKept x m (single root) l 0
-kept_start x m root rows t l e clear = record {
-  distances_are = clear.distances_are ∙ e;
-  parents_are = clear.parents_are ∙ e;
-  settled_are = clear.settled_are ∙ e;
-  reached = λ r near. absurd (none r near);
-  matched = λ r near. absurd (none r near);
-  settled = λ r mark. absurd (clear.settled r mark);
-  entered = λ i r above within. absurd (omega arith);
-  waiting = λ r near. absurd (none r near);
-  waits = λ d r h. absurd (subst (λ (z : List (ℕ × ℕ)). Among (d, r) z) clear.waiting h);
-  depths = λ i within. first i within;
-}
-  where
-    none : (r : ℕ) → distance_of l r < far → ⊥
-    none r near = let e = clear.distances r in omega (arith, e, near)
-
-    first : (i : ℕ) → i < 1 → depth (single root) i ≤ 0
-    first zero within = omega arith
-    first (suc i) within = absurd (omega arith)
-
 -- The end.
 
 pub searched : {W : Type 0} (x : Priced) (m : List Place) (t : Tree) (l : Labels) (n : Nearest W) (level : ℕ) → IsKept x m t l level → IsBest x m t n level → AreKnown x t l n.distance (length t.queue) → AreBeyond l n.distance → IsSearched x m t n.distance
@@ -225,7 +187,7 @@ searched x m t l n level kept best known beyond = record {
     closed i r (inl (near, le)) = ⊎_elim (λ mark. inl (taken i r mark le)) (λ h. ⊎_elim (λ mark. inl (taken i r mark le)) (λ low. inr (omega (arith, low, le))) (beyond (distance_of l r, r) h)) (kept.waiting r near)
 
 -- no distance is as large as the one that stands for none
-pub search_stuck : {W : Type 0} (x : Priced) (m : List Place) (root : ℕ) (t : Tree) (l : Labels) (n : Nearest W) (level limit : ℕ) → HasRoom (cols x.weighing.matrix) x.top limit → limit ≤ 2 ^ 100 → IsMatching (cheap x) m → IsBounded x m → IsGrown x m root t → IsKept x m t l level → IsBest x m t n level → AreKnown x t l n.distance (length t.queue) → AreBeyond l n.distance → n.distance ≡ far → IsStuck x m t
+pub search_stuck : {W : Type 0} (x : Priced) (m : List Place) (root : ℕ) (t : Tree) (l : Labels) (n : Nearest W) (level limit : ℕ) → HasRoom (cols x.weighing.matrix) x.top limit → limit ≤ 2 ^ 100 → IsMatching (cheap x) m → IsBounded x m → IsGrown x m root t → IsKept x m t l level → IsBest x m t n level → AreKnown x t l n.distance (length t.queue) → AreBeyond l n.distance → n.distance ≡ infinity → IsStuck x m t
 search_stuck x m root t l n level limit room small match bounded g kept best known beyond none i r lt entry = by ((searched x m t l n level kept best known beyond).closed i r lt entry)
   where
     by : IsTaken x m t i r ⊎ (n.distance + dual x (stop t i) ≤ depth t i + paid x r (stop t i)) → (j : ℕ) × (0 < j) × (j < length t.queue) × Among (r, stop t j) m
@@ -240,12 +202,12 @@ search_stuck x m root t l n level limit room small match bounded g kept best kno
 -- A step of the search as a whole.
 
 -- a row with a distance is in range
-pub near_in : (l : Labels) (r : ℕ) → distance_of l r < far → r < length l.distances
+pub near_in : (l : Labels) (r : ℕ) → distance_of l r < infinity → r < length l.distances
 near_in l r near = by (dec_lt r (length l.distances))
   where
     by : Dec (r < length l.distances) → r < length l.distances
     by (yes lt) = lt
-    by (no nlt) = absurd (let e = get_or_past l.distances r far (omega arith) in omega (arith, e, near))
+    by (no nlt) = absurd (let e = get_or_past l.distances r infinity (omega arith) in omega (arith, e, near))
 
 -- where the row that is taken out stands, and from where it is reached
 pub taken_reaches : (x : Priced) (m : List Place) (t : Tree) (l k : Labels) (level d r limit : ℕ) → IsKept x m t l level → Takes l k d r limit → Reaches x t r (slice_index k.parents r) d

@@ -14,7 +14,7 @@ use Rattle.integer_diagonal.proofs.Augmented.{bounded_next, distance_small, dual
 use Rattle.integer_diagonal.proofs.RaisedPrices.{raised_end, raised_entry, raised_feasible, raised_matching}
 use Rattle.integer_diagonal.specs.Duals.{IsAssigned, IsBounded, Priced, cheap, dual}
 use Rattle.integer_diagonal.specs.SearchTree.{IsGrown, IsNearest, IsRaised, IsSearched, Tree, stop}
-use Rattle.integer_diagonal.specs.Amounts.{HasRoom, far}
+use Rattle.integer_diagonal.specs.Amounts.{HasRoom, infinity}
 use Rattle.sp_pattern.specs.Weights.{Weighing}
 use Rattle.bip_defs.specs.Queues.{Queue, at, heads}
 use Rattle.bip_defs.proofs.Queues.{head_at, place_of}
@@ -47,7 +47,7 @@ pub record IsFound (x : Priced) (m : List Place) (root : ℕ) (t : Tree) (row pl
   pub nearest : IsNearest x m t row place distance
   pub searched : IsSearched x m t distance
 
-pub found_near : (x : Priced) (m : List Place) (root : ℕ) (s t : Tree) (row place distance : ℕ) → t.queue ≡ s.queue → t.depths ≡ s.depths → IsGrown x m root s → (distance < far → IsNearest x m s row place distance × IsSearched x m s distance) → distance < far → IsFound x m root t row place distance
+pub found_near : (x : Priced) (m : List Place) (root : ℕ) (s t : Tree) (row place distance : ℕ) → t.queue ≡ s.queue → t.depths ≡ s.depths → IsGrown x m root s → (distance < infinity → IsNearest x m s row place distance × IsSearched x m s distance) → distance < infinity → IsFound x m root t row place distance
 found_near x m root s t row place distance e f grown near lt = subst (λ q. IsFound x m root (record { queue = q; depths = t.depths }) row place distance) (sym e) (subst (λ d. IsFound x m root (record { queue = s.queue; depths = d }) row place distance) (sym f) (record { grown = grown; nearest = (near lt).0; searched = (near lt).1 }))
 
 -- raised prices and dual variables fit

@@ -22,12 +22,6 @@ pub record PricesRise (m : List Place) (q : Queue) (depths : List ℕ) (distance
   pub stay : (r : ℕ) → ((i : ℕ) → i < k → ¬ Among (r, (at q i).0) m) → slice_index new r ≡ slice_index old r
   pub rise : (r : ℕ) → slice_index old r ≤ slice_index new r
 
-pub duals_start : (q : Queue) (depths : List ℕ) (distance : ℕ) (old : List ℕ) → DualsRise q depths distance 0 old old
-duals_start q depths distance old = record { long = refl; up = λ i lt. absurd (omega arith); stay = λ c none. refl }
-
-pub prices_start : (m : List Place) (q : Queue) (depths : List ℕ) (distance : ℕ) (old : List ℕ) → PricesRise m q depths distance 0 old old
-prices_start m q depths distance old = record { long = refl; up = λ i r lt. absurd (omega arith); stay = λ r none. refl; rise = λ r. omega arith }
-
 -- the next column's dual variable stands so far
 pub dual_next : (q : Queue) (depths : List ℕ) (distance k : ℕ) (old new : List ℕ) (c : ℕ) → AreDistinct (heads q) → k < length q → c ≡ (at q k).0 → DualsRise q depths distance k old new → slice_index new c ≡ slice_index old c
 dual_next q depths distance k old new c distinct within is h = h.stay c (λ i lt e. places_differ q i k distinct lt within (e ∙ is))

@@ -18,15 +18,6 @@ use Rattle.sp_pattern.specs.Weights.{Weighing, weight_at}
 
 -- The dual variables.
 
-pub duals_none : (w : Weighing) (top : ℕ) → AreFirstDuals w top 0 []
-duals_none w top = record {
-  duals_are = refl;
-  low = λ c. omega arith;
-  high = λ c lt. absurd (omega arith);
-  covers = λ r c lt e. absurd (omega arith);
-  met = λ c lt. absurd (omega arith);
-}
-
 -- what is read of a list that has grown by one
 read_old : (os : List ℕ) (x n c : ℕ) → length os ≡ n → c < n → slice_index (os ++ x ∷ []) c ≡ slice_index os c
 read_old os x n c long lt = get_or_append_left os (x ∷ []) 0 c (omega arith)
@@ -162,9 +153,6 @@ pub record AreRaisedIn (w : Weighing) (top col k dual_is : ℕ) (rows old new : 
   pub low : (r : ℕ) → slice_index new r ≤ top
   pub rise : (r : ℕ) → slice_index old r ≤ slice_index new r
   pub part : (j : ℕ) → j < k → dual_is ≤ slice_index new (slice_index rows j) + cost top w (slice_index rows j) col
-
-pub raising_none : (w : Weighing) (top col o : ℕ) (rows old : List ℕ) → ((r : ℕ) → slice_index old r ≤ top) → AreRaisedIn w top col 0 o rows old old
-raising_none w top col o rows old low = record { long = refl; low = low; rise = λ r. omega arith; part = λ j lt. absurd (omega arith) }
 
 pub raising_more : (w : Weighing) (top col k o row weight : ℕ) (rows old now new : List ℕ) → AreRaisedIn w top col k o rows old now → length new ≡ length now → row ≡ slice_index rows k → cost top w row col ≡ top - weight → o ≤ top + cost top w row col → IsRaisedTo now new row (o - (top - weight)) → AreRaisedIn w top col (k + 1) o rows old new
 raising_more w top col k o row weight rows old now new i long read costs small up = record {

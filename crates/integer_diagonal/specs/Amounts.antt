@@ -4,19 +4,19 @@ use Rattle.std.proofs.Common.{arith}
 use Rattle.std.proofs.lemmas.Bool.Decides.{nat_tests}
 
 -- stands for no distance
-abbrev pub far : ℕ
-far = 340282366920938463463374607431768211455
+abbrev pub infinity : ℕ
+infinity = 340282366920938463463374607431768211455
 
 abbrev pub greatest_of_64 : ℕ
 greatest_of_64 = 18446744073709551615
 
 -- what a number of 64 bits stands for: the greatest for no distance, each other for itself
 abbrev pub amount_of_64 : ℕ → ℕ
-amount_of_64 n = if nat_lt n greatest_of_64 then n else n + (far - greatest_of_64)
+amount_of_64 n = if nat_lt n greatest_of_64 then n else n + (infinity - greatest_of_64)
 
 -- the number of 64 bits that stands for an amount
 abbrev pub number_of_64 : ℕ → ℕ
-number_of_64 n = if nat_lt n greatest_of_64 then n else n - (far - greatest_of_64)
+number_of_64 n = if nat_lt n greatest_of_64 then n else n - (infinity - greatest_of_64)
 
 pub number_of_amount : (n : ℕ) → number_of_64 (amount_of_64 n) ≡ n
 number_of_amount n = grind (arith, nat_tests)

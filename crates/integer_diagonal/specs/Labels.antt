@@ -7,7 +7,7 @@ use Rattle.integer_diagonal.specs.declared.search.Nearest.{Nearest}
 use Rattle.integer_diagonal.specs.declared.search.Search.{Search}
 use Rattle.integer_diagonal.specs.Duals.{Priced, dual, paid}
 use Rattle.integer_diagonal.specs.SearchTree.{IsNearest, Reaches, Tree, depth, stop}
-use Rattle.integer_diagonal.specs.Amounts.{far}
+use Rattle.integer_diagonal.specs.Amounts.{infinity}
 
 pub record Labels : Type 0 where
   pub distances : List ℕ
@@ -16,7 +16,7 @@ pub record Labels : Type 0 where
   pub waiting : List (ℕ × ℕ)
 
 abbrev pub distance_of : Labels → ℕ → ℕ
-distance_of l r = slice_index_or l.distances r far
+distance_of l r = slice_index_or l.distances r infinity
 
 -- a search as contracts see it
 abbrev pub tree_of : {W : Type 0} → Search W → Tree
@@ -36,23 +36,23 @@ pub record IsKept (x : Priced) (m : List Place) (t : Tree) (l : Labels) (level :
   pub distances_are : length l.distances ≡ x.weighing.matrix.rows
   pub parents_are : length l.parents ≡ x.weighing.matrix.rows
   pub settled_are : length l.settled ≡ x.weighing.matrix.rows
-  pub reached : (r : ℕ) → distance_of l r < far
+  pub reached : (r : ℕ) → distance_of l r < infinity
       → Reaches x t r (slice_index l.parents r) (distance_of l r)
-  pub matched : (r : ℕ) → distance_of l r < far → Among r (rows_of m)
+  pub matched : (r : ℕ) → distance_of l r < infinity → Among r (rows_of m)
   pub settled : (r : ℕ) → IsMarked l.settled r
       → (j : ℕ) × (0 < j) × (j < length t.queue) × Among (r, stop t j) m
       × (depth t j ≡ distance_of l r)
   pub entered : (i r : ℕ) → 0 < i → i < length t.queue → Among (r, stop t i) m
       → IsMarked l.settled r
-  pub waiting : (r : ℕ) → distance_of l r < far → IsMarked l.settled r
+  pub waiting : (r : ℕ) → distance_of l r < infinity → IsMarked l.settled r
       ⊎ Among (distance_of l r, r) l.waiting
   pub waits : (d r : ℕ) → Among (d, r) l.waiting
-      → (level ≤ d) × (distance_of l r ≤ d) × (distance_of l r < far)
+      → (level ≤ d) × (distance_of l r ≤ d) × (distance_of l r < infinity)
   pub depths : (i : ℕ) → i < length t.queue → depth t i ≤ level
 
 -- an entry of the column at the place does not lead nearer to its row than is known, or not nearer than the limit
 abbrev pub IsKnown : Priced → Tree → Labels → ℕ → ℕ → ℕ → Type 0
-IsKnown x t l limit i r = ((distance_of l r < far)
+IsKnown x t l limit i r = ((distance_of l r < infinity)
     × (distance_of l r + dual x (stop t i) ≤ depth t i + paid x r (stop t i)))
     ⊎ (limit + dual x (stop t i) ≤ depth t i + paid x r (stop t i))
 
@@ -64,9 +64,9 @@ AreKnown x t l limit k = (i r : ℕ) → i < k → IsEntry x.weighing.matrix r (
 -- the nearest unmatched row so far, if there is one, is no nearer than the level
 pub record IsBest {W : Type 0} (x : Priced) (m : List Place) (t : Tree) (n : Nearest W)
     (level : ℕ) : Type 0 where
-  pub nearest : n.distance < far → IsNearest x m t n.row n.place n.distance
+  pub nearest : n.distance < infinity → IsNearest x m t n.row n.place n.distance
   pub above : level ≤ n.distance
-  pub within : n.distance ≤ far
+  pub within : n.distance ≤ infinity
 
 -- a matched row is given a distance
 abbrev pub put : Labels → List (ℕ × ℕ) → ℕ → ℕ → ℕ → Labels
@@ -111,7 +111,7 @@ pub record IsClear (rows : ℕ) (t : Tree) (l : Labels) : Type 0 where
   pub distances_are : length l.distances ≡ rows
   pub parents_are : length l.parents ≡ rows
   pub settled_are : length l.settled ≡ rows
-  pub distances : (r : ℕ) → distance_of l r ≡ far
+  pub distances : (r : ℕ) → distance_of l r ≡ infinity
   pub settled : (r : ℕ) → ¬ IsMarked l.settled r
   pub waiting : l.waiting ≡ []
   pub queue : t.queue ≡ []
@@ -120,4 +120,4 @@ pub record IsClear (rows : ℕ) (t : Tree) (l : Labels) : Type 0 where
 -- the list has each row that is to be cleared
 pub record AreListed (l : Labels) (rows : List ℕ) : Type 0 where
   pub in_range : (r : ℕ) → Among r rows → r < length l.distances
-  pub complete : (r : ℕ) → ¬ Among r rows → (distance_of l r ≡ far) × (¬ IsMarked l.settled r)
+  pub complete : (r : ℕ) → ¬ Among r rows → (distance_of l r ≡ infinity) × (¬ IsMarked l.settled r)

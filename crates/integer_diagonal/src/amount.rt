@@ -5,7 +5,7 @@ ghost use Rattle.std.specs.Ordering.{as_partial_cmp, nat_cmp};
 ghost use Rattle.std.specs.Cmp.{partial_order_from_own_ties};
 ghost use Rattle.std.specs.Cmp.Rules.{comparing};
 ghost use Rattle.std.proofs.Common.{ap, rules};
-ghost use Rattle.integer_diagonal.specs.Amounts.{far};
+ghost use Rattle.integer_diagonal.specs.Amounts.{infinity};
 
 use crate::width::Width;
 use std::alloc::AllocError;
@@ -44,10 +44,10 @@ impl<W: Width> Amount<W> {
     }
 
     /// Stands for no distance: distances are less.
-    pub fn far() -> Amount<W>
-        ensures { result ≡ far }
+    pub fn infinity() -> Amount<W>
+        ensures { result ≡ infinity }
     {
-        Amount(W::far())
+        Amount(W::infinity())
     }
 
     /// The same, as a number with a sign.

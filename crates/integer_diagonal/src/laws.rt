@@ -1,6 +1,6 @@
 //! What prices and full matchings show.
 
-ghost use Rattle.std.specs.Prelude.{◌≡◌, ℕ, ℤ, ◌≤◌, List};
+ghost use Rattle.std.specs.Prelude.{◌≡◌, ℤ, ◌≤◌, List};
 ghost use Rattle.bip_defs.specs.Matching.{IsRank};
 ghost use Rattle.bip_defs.specs.Matrix.{Matrix, Place, cols};
 ghost use Rattle.bip_defs.specs.Bottleneck.{IsFull};

@@ -58,7 +58,7 @@ pub fn extend<W: Width>(
         (λ b. b ≡ false → (other : List Place) → ¬ IsFull pattern.now other) }
 {
     let nearest = search.find(pattern, weights, assignment, root)?;
-    if nearest.distance == Amount::far() {
+    if nearest.distance == Amount::infinity() {
         return Ok(false);
     }
     let queue = search.queue.as_slice();

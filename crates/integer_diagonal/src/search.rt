@@ -1,13 +1,13 @@
 //! The search for a nearest unmatched row.
 
-ghost use Rattle.std.specs.Prelude.{◌≡◌, ℕ, ◌+◌, ◌-◌, ◌<◌, ◌≤◌, ◌^◌, ◌∷◌, ◌++◌, [], true, length, set, slice_index, IfOk, IfSome, IfNone, OnOk};
+ghost use Rattle.std.specs.Prelude.{◌≡◌, ℕ, ◌+◌, ◌<◌, ◌≤◌, ◌^◌, ◌∷◌, ◌++◌, [], true, length, set, slice_index, IfOk, IfSome, IfNone, OnOk};
 ghost use Rattle.bip_defs.specs.Lists.{Among};
 ghost use Rattle.bip_defs.specs.Matching.{cols_of, rows_of};
 ghost use Rattle.bip_defs.specs.Matrix.{cols};
 ghost use Rattle.integer_diagonal.specs.Labels.{AreBeyond, AreKnown, AreListed, IsBest, IsClear, IsKept, Looks, Puts, Takes, labels_of, tree_of};
 ghost use Rattle.integer_diagonal.specs.Duals.{IsAssignment, priced};
 ghost use Rattle.integer_diagonal.specs.SearchTree.{IsGrown, IsNearest, IsSearched, IsStuck, depth};
-ghost use Rattle.integer_diagonal.specs.Amounts.{HasRoom, far};
+ghost use Rattle.integer_diagonal.specs.Amounts.{HasRoom, infinity};
 
 use crate::amount::Amount;
 use crate::assignment::Assignment;
@@ -47,7 +47,7 @@ impl<W: Width> Search<W> {
         ensures listed { IfOk result (λ s. s.reached.items ≡ []) }
     {
         let rows = rows as usize;
-        let distances = vec![in alloc; Amount::far(); rows]?;
+        let distances = vec![in alloc; Amount::infinity(); rows]?;
         let parents = vec![in alloc; 0u32; rows]?;
         let settled = vec![in alloc; false; rows]?;
         Ok(Search {
@@ -72,7 +72,7 @@ impl<W: Width> Search<W> {
     {
         for k in 0..self.reached.len() {
             let row = self.reached[k] as usize;
-            self.distances[row] = Amount::far();
+            self.distances[row] = Amount::infinity();
             self.settled[row] = false;
         }
         self.reached.clear();
@@ -101,15 +101,15 @@ impl<W: Width> Search<W> {
         ensures tree { OnOk result
             (IsGrown (priced weights.now assignment.now) assignment.now.matching.pairs root
             (tree_of self.new)) }
-        ensures within { IfOk result (λ n. n.distance ≤ far) }
+        ensures within { IfOk result (λ n. n.distance ≤ infinity) }
         ensures found { IfOk result
-            (λ n. n.distance < far
+            (λ n. n.distance < infinity
             → IsNearest (priced weights.now assignment.now) assignment.now.matching.pairs
             (tree_of self.new) n.row n.place n.distance
             × IsSearched (priced weights.now assignment.now) assignment.now.matching.pairs
             (tree_of self.new) n.distance) }
         ensures stuck { IfOk result
-            (λ n. n.distance ≡ far
+            (λ n. n.distance ≡ infinity
             → IsStuck (priced weights.now assignment.now) assignment.now.matching.pairs
             (tree_of self.new)) }
         ensures listed { OnOk result (AreListed (labels_of self.new) self.new.reached.items) }
@@ -120,7 +120,7 @@ impl<W: Width> Search<W> {
     {
         let mut nearest = Nearest {
             row: 0,
-            distance: Amount::far(),
+            distance: Amount::infinity(),
             place: 0,
         };
         self.enter(root, 0, Amount::zero())?;
@@ -270,7 +270,7 @@ impl<W: Width> Search<W> {
         requires row { row < matching.now.rows }
         requires distances { row < length self.old.distances.items }
         requires parents { row < length self.old.parents.items }
-        requires near { distance < far }
+        requires near { distance < infinity }
         ensures looked { OnOk result
             (Looks matching.now.pairs row distance place (labels_of self.old) nearest.old
             (labels_of self.new) nearest.new) }
@@ -299,7 +299,7 @@ impl<W: Width> Search<W> {
     fn reach(&mut self, row: u32, distance: Amount<W>, place: u32) -> Result<(), AllocError>
         requires distances { row < length self.old.distances.items }
         requires parents { row < length self.old.parents.items }
-        requires nearer { distance < far }
+        requires nearer { distance < infinity }
         ensures put { OnOk result
             (Puts (labels_of self.old) (labels_of self.new) row distance place) }
         ensures tree { tree_of self.new ≡ tree_of self.old }
@@ -325,7 +325,7 @@ impl<W: Width> Search<W> {
             → AreListed (labels_of self.new) self.new.reached.items
             × Among row self.new.reached.items) }
     {
-        if self.distances[row as usize] == Amount::far() {
+        if self.distances[row as usize] == Amount::infinity() {
             self.reached.push(row)?;
             return Ok(());
         }

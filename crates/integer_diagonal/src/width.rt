@@ -3,7 +3,7 @@
 ghost use Rattle.std.specs.Prelude.{◌≡◌, ℕ, ◌+◌, ◌-◌, ◌^◌, ◌<◌, ◌≤◌, pos};
 ghost use Rattle.std.specs.Ordering.{nat_cmp};
 ghost use Rattle.std.proofs.Common.{refl, rules};
-ghost use Rattle.integer_diagonal.specs.Amounts.{amount_of_64, far, number_of_64, number_of_amount};
+ghost use Rattle.integer_diagonal.specs.Amounts.{amount_of_64, infinity, number_of_64, number_of_amount};
 
 use std::cmp::Ordering;
 
@@ -28,8 +28,8 @@ pub trait Width: Copy {
         ensures { amount result ≡ cost };
 
     /// What stands for no distance.
-    fn far() -> Self
-        ensures { amount result ≡ far };
+    fn infinity() -> Self
+        ensures { amount result ≡ infinity };
 
     /// The sum of the two.
     fn plus(self, other: Self) -> Self
@@ -68,7 +68,7 @@ impl Width for u64 {
         cost
     }
 
-    fn far() -> u64 {
+    fn infinity() -> u64 {
         u64::MAX
     }
 
@@ -104,7 +104,7 @@ impl Width for u128 {
         cost as u128
     }
 
-    fn far() -> u128 {
+    fn infinity() -> u128 {
         u128::MAX
     }
 

@@ -13,12 +13,6 @@ number_at f [] i x lt e = absurd (omega arith)
 number_at f (y ∷ ys) zero x lt e = ap f (sym e)
 number_at f (y ∷ ys) (suc i) x lt e = number_at f ys i x (omega arith) e
 
-pub front_within : (x i : ℕ) (xs : List ℕ) → Among x (take i xs) → Among x xs
-front_within x zero xs h = elim h [ ]
-front_within x (suc i) [] h = h
-front_within x (suc i) (y ∷ ys) (inl e) = inl e
-front_within x (suc i) (y ∷ ys) (inr h) = inr (front_within x i ys h)
-
 pub among_index : (xs : List ℕ) (i : ℕ) → i < length xs → Among (slice_index xs i) xs
 among_index [] i lt = absurd (omega arith)
 among_index (x ∷ xs) zero lt = inl refl
@@ -27,12 +21,6 @@ among_index (x ∷ xs) (suc i) lt = inr (among_index xs i (omega arith))
 -- the prefix with one element more
 pub front_next : (x i : ℕ) (xs : List ℕ) → i < length xs → Among x (take (i + 1) xs) → Among x (take i xs) ⊎ (x ≡ slice_index xs i)
 front_next x i xs lt h = among_last x (slice_index xs i) (take i xs) (rw (← take_more xs i 0 lt) h)
-
-pub front_all : (x i : ℕ) (xs : List ℕ) → length xs ≤ i → Among x xs → Among x (take i xs)
-front_all x i [] le h = elim h [ ]
-front_all x zero (y ∷ ys) le h = absurd (omega arith)
-front_all x (suc i) (y ∷ ys) le (inl e) = inl e
-front_all x (suc i) (y ∷ ys) le (inr h) = inr (front_all x i ys (omega arith) h)
 
 -- what rises, from the start on
 pub front_or_later : (y i : ℕ) (xs : List ℕ) → IsRising xs → i < length xs → Among y xs → Among y (take i xs) ⊎ (slice_index xs i ≤ y)
@@ -67,9 +55,6 @@ pub record IsLowering (old new members prefix : List ℕ) : Type 0 where
   pub lowered : (x : ℕ) → Among x prefix → slice_index new x ≡ slice_index old x - 1
   pub kept : (x : ℕ) → ¬ Among x prefix → slice_index new x ≡ slice_index old x
   pub ones : HoldsOnes new members
-
-pub lowering_begins : (degrees members xs : List ℕ) → HoldsOnes degrees members → IsLowering degrees degrees members (take 0 xs)
-lowering_begins degrees members xs ones = record { long = refl; lowered = λ x h. absurd h; kept = λ x h. refl; ones = ones }
 
 pub lowering_next : (old new members more xs : List ℕ) (i : ℕ) → IsRising xs → i < length xs → slice_index xs i < length old → IsLowering old new members (take i xs)
     → ((x : ℕ) → Among x members → Among x more) → (slice_index new (slice_index xs i) ≡ 2 → Among (slice_index xs i) more)

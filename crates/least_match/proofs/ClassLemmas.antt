@@ -11,7 +11,7 @@ use Rattle.bip_defs.proofs.Queues.{place_of}
 use Rattle.std.proofs.lemmas.List.{take_more}
 use Rattle.bip_defs.proofs.Square.{cols_apart, horizontal_mate, vertical_mate}
 use Rattle.bip_defs.proofs.Sets.{among_last, among_left, among_right, among_test, col_pair, entry_col, filter_complete, filter_sound, number_among, number_same, one_col, one_row, pigeonhole, row_among, row_pair}
-use Rattle.least_match.specs.Classes.{AreClasses, HaveParts, IsOther, IsRival, IsSplit, class_of, number_of_part}
+use Rattle.least_match.specs.Classes.{AreClasses, HaveParts, IsOther, IsInTail, IsSplit, class_of, number_of_part}
 use Rattle.least_match.specs.Extensions.{Excludes, Extends}
 use Rattle.least_match.specs.Outcomes.{AreParted, IsIn}
 use Rattle.least_match.specs.declared.parts.Part.{Part}
@@ -35,19 +35,19 @@ stays a m n xs r c d k l distinct images p q on = ⊎_elim (λ h. h) (λ off. ab
           (c ∷ xs) xs (off, distinct) image,
     )
 
--- a row whose mate in one extension is a rival has no other mate in another one
-rival_mate : (a : Matrix) (m : List Place) (j : ℕ) (classes : List ℕ) (count : ℕ) (n o : List Place) (t y z : ℕ) → AreClasses a m j classes count → Extends a m j n → Extends a m j o → IsRival a classes j y → Among (t, y) n → Among (t, z) o → ¬ IsOther classes j z
-rival_mate a m j classes count n o t y z k x w rival p q other = ⊎_elim before (λ ne. by ne (dec_lt z j)) other
+-- a row whose mate in one extension is in its tail has no other mate in another one
+tail_mate : (a : Matrix) (m : List Place) (j : ℕ) (classes : List ℕ) (count : ℕ) (n o : List Place) (t y z : ℕ) → AreClasses a m j classes count → Extends a m j n → Extends a m j o → IsInTail a classes j y → Among (t, y) n → Among (t, z) o → ¬ IsOther classes j z
+tail_mate a m j classes count n o t y z k x w in_tail p q other = ⊎_elim before (λ ne. by ne (dec_lt z j)) other
   where
     before : z < j → ⊥
     before lt =
         let same : z ≡ y = one_col n x.maximum.matching.rows_differ t z y ((x.agrees t z lt).0 ((w.agrees t z lt).1 q)) p in
-        let from = rival.from in
+        let from = in_tail.from in
         omega arith
 
     by : class_of classes z ≢ class_of classes j → Dec (z < j) → ⊥
     by ne (yes lt) = before lt
-    by ne (no nlt) = ne (sym (k.stays o w t z (omega arith) q) ∙ k.stays n x t y rival.from p ∙ rival.class)
+    by ne (no nlt) = ne (sym (k.stays o w t z (omega arith) q) ∙ k.stays n x t y in_tail.from p ∙ in_tail.class)
 
 module _ (a : Matrix) (m : List Place) (j : ℕ) (classes : List ℕ) (count first : ℕ) (q : Queue) (k : AreClasses a m j classes count) (max : IsMaximum a m) (in_range : j < cols a) (tree : IsTree a m classes j first q) where
   -- A tree all of whose rows are matched, outside the horizontal part.
@@ -60,14 +60,14 @@ module _ (a : Matrix) (m : List Place) (j : ℕ) (classes : List ℕ) (count fir
     pub forward_rows : (n : List Place) → Extends a m j n → (r c : ℕ) → Among (r, c) n → Among c (heads q) → (x : ℕ) × Among x (heads q) × Among (r, x) m
     forward_rows n x r c p on =
         let (d, mate, s) = all_scanned c on r (x.maximum.matching.entries r c p) in
-        (d, ⊎_elim (λ other. absurd (rival_mate a m j classes count n m r c d k x (extends_itself a m j max) (tree.rivals c on) p mate other)) (λ h. h) s, mate)
+        (d, ⊎_elim (λ other. absurd (tail_mate a m j classes count n m r c d k x (extends_itself a m j max) (tree.tail c on) p mate other)) (λ h. h) s, mate)
 
     -- and no others
     pub forward_cols : (n : List Place) → Extends a m j n → (r c x : ℕ) → Among (r, c) n → Among (r, x) m → Among x (heads q) → Among c (heads q)
     forward_cols n x r c d p mate on = stays a n m (heads q) r c d x.maximum.matching max.matching tree.distinct images p mate on
       where
         covered : (y : ℕ) → Among y (heads q) → Among y (cols_of n)
-        covered y h = ⊎_elim (λ g. g) (λ missed. let rival = tree.rivals y h in absurd (inner (k.horizontal y j rival.within in_range rival.class (rival.within, n, x.maximum, missed)))) (number_among y (cols_of n))
+        covered y h = ⊎_elim (λ g. g) (λ missed. let in_tail = tree.tail y h in absurd (inner (k.horizontal y j in_tail.within in_range in_tail.class (in_tail.within, n, x.maximum, missed)))) (number_among y (cols_of n))
 
         images : (y : ℕ) → Among y (heads q) → (z : ℕ) × Among z (heads q) × ((t : ℕ) × Among (t, y) n × Among (t, z) m)
         images y h =
@@ -82,11 +82,11 @@ module _ (a : Matrix) (m : List Place) (j : ℕ) (classes : List ℕ) (count fir
     all_scanned_back y h = let (i, lt, e) = place_of q y h in subst (λ c. IsScannedBack a m classes j q c) e (scanned i lt)
 
     not_vertical : (y : ℕ) → Among y (heads q) → ¬ IsVerticalCol a y
-    not_vertical y h v = let rival = tree.rivals y h in inner (k.vertical y j rival.within in_range rival.class v)
+    not_vertical y h v = let in_tail = tree.tail y h in inner (k.vertical y j in_tail.within in_range in_tail.class v)
 
     -- each extension pairs the rows of its pairs with its columns
     pub backward_cols : (n : List Place) → Extends a m j n → (r c x : ℕ) → Among (r, c) n → Among (r, x) m → Among x (heads q) → Among c (heads q)
-    backward_cols n x r c d p mate on = ⊎_elim (λ other. absurd (rival_mate a m j classes count m n r d c k (extends_itself a m j max) x (tree.rivals d on) mate p other)) (λ h. h) (all_scanned_back d on r c mate (x.maximum.matching.entries r c p))
+    backward_cols n x r c d p mate on = ⊎_elim (λ other. absurd (tail_mate a m j classes count m n r d c k (extends_itself a m j max) x (tree.tail d on) mate p other)) (λ h. h) (all_scanned_back d on r c mate (x.maximum.matching.entries r c p))
 
     -- and no others
     pub backward_rows : (n : List Place) → Extends a m j n → (r c : ℕ) → Among (r, c) n → Among c (heads q) → (x : ℕ) × Among x (heads q) × Among (r, x) m
@@ -128,8 +128,8 @@ pub record IsTight (a : Matrix) (m : List Place) (j : ℕ) (xs : List ℕ) : Typ
   pub rows : (n : List Place) → Extends a m j n → (r c : ℕ) → Among (r, c) n → Among c xs → (x : ℕ) × Among x xs × Among (r, x) m
   pub cols : (n : List Place) → Extends a m j n → (r c x : ℕ) → Among (r, c) n → Among (r, x) m → Among x xs → Among c xs
 
-pub split_classes : (a : Matrix) (m : List Place) (j : ℕ) (classes new : List ℕ) (count : ℕ) (xs : List ℕ) → AreClasses a m j classes count → IsSplit classes count xs new → ((x : ℕ) → Among x xs → IsRival a classes j x) → IsTight a m j xs → AreClasses a m j new (count + 1)
-split_classes a m j classes new count xs k s rivals tight = record {
+pub split_classes : (a : Matrix) (m : List Place) (j : ℕ) (classes new : List ℕ) (count : ℕ) (xs : List ℕ) → AreClasses a m j classes count → IsSplit classes count xs new → ((x : ℕ) → Among x xs → IsInTail a classes j x) → IsTight a m j xs → AreClasses a m j new (count + 1)
+split_classes a m j classes new count xs k s tail tight = record {
   long = s.long ∙ k.long;
   below = λ c lt. ⊎_elim (λ h. omega (arith, s.split c h)) (λ nh. omega (arith, s.kept c nh, k.below c lt)) (number_among c xs);
   row_class = row_class;
@@ -161,7 +161,7 @@ split_classes a m j classes new count xs k s rivals tight = record {
     old_class c d lt ld e = cases (number_among c xs) (number_among d xs)
       where
         cases : Among c xs ⊎ (¬ Among c xs) → Among d xs ⊎ (¬ Among d xs) → class_of classes c ≡ class_of classes d
-        cases (inl h) (inl g) = (rivals c h).class ∙ sym (rivals d g).class
+        cases (inl h) (inl g) = (tail c h).class ∙ sym (tail d g).class
         cases (inl h) (inr ng) = absurd (omega (arith, s.split c h, s.kept d ng, e, k.below d ld))
         cases (inr nh) (inl g) = absurd (omega (arith, s.split d g, s.kept c nh, e, k.below c lt))
         cases (inr nh) (inr ng) = sym (s.kept c nh) ∙ e ∙ s.kept d ng
@@ -185,7 +185,7 @@ fixed_excluded a m j r d p lt n x h = let e = one_col n x.maximum.matching.rows_
 
 -- the row of a column of another class
 pub class_excluded : (a : Matrix) (m : List Place) (j r d : ℕ) (classes : List ℕ) (count : ℕ) → AreClasses a m j classes count → IsMaximum a m → j < cols a → Among (r, d) m → class_of classes d ≢ class_of classes j → Excludes a m j r
-class_excluded a m j r d classes count k max lt p ne n x h = rival_mate a m j classes count n m r j d k x (extends_itself a m j max) (record { from = omega arith; within = lt; class = refl }) h p (inr ne)
+class_excluded a m j r d classes count k max lt p ne n x h = tail_mate a m j classes count n m r j d k x (extends_itself a m j max) (record { from = omega arith; within = lt; class = refl }) h p (inr ne)
 
 -- the row of a column of a tight set to which j does not belong, or the other way round
 pub tight_excluded : (a : Matrix) (m : List Place) (j r d : ℕ) (xs : List ℕ) → IsTight a m j xs → Among (r, d) m → Among d xs → ¬ Among j xs → Excludes a m j r

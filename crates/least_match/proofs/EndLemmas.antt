@@ -9,7 +9,7 @@ use Rattle.bip_defs.specs.Queues.{Queue, heads}
 use Rattle.bip_defs.proofs.Queues.{head_at}
 use Rattle.bip_defs.proofs.Square.{cols_apart}
 use Rattle.bip_graph.specs.Matching.{IsMaximumOf, Pairing}
-use Rattle.least_match.specs.Classes.{AreClasses, IsRival, IsSplit, class_of}
+use Rattle.least_match.specs.Classes.{AreClasses, IsInTail, IsSplit, class_of}
 use Rattle.least_match.specs.Extensions.{Excludes, Extends, HasAt}
 use Rattle.least_match.specs.Outcomes.{AreParted, AreScanned, AreScannedBack, BackwardDecides, ForwardDecides, IsIn}
 use Rattle.least_match.specs.Ready.{IsReady}
@@ -18,7 +18,6 @@ use Rattle.least_match.specs.declared.exchanges.Exchanges.{Exchanges}
 use Rattle.least_match.specs.declared.parts.Part.{Part}
 use Rattle.least_match.specs.declared.parts.Part.TheVariants.{Horizontal, Square, Vertical}
 use Rattle.least_match.proofs.ClassLemmas.{IsTight, backward_cols, backward_rows, classes_more, forward_cols, forward_rows, split_classes, tight_excluded, tight_excluded_back}
-use Rattle.least_match.proofs.ExtensionLemmas.{extends_itself}
 
 forward_inner : (a : Matrix) (j : ℕ) (p : Part) → IsIn a j p → ForwardDecides p → ¬ IsHorizontalCol a j
 forward_inner a j Horizontal h decides = absurd decides
@@ -61,18 +60,18 @@ module _ (a : Matrix) (m : List Place) (j d r : ℕ) (classes : List ℕ) (count
   backward_excludes decides scanned = tight_excluded_back a m j r d (heads b) max.matching (backward_tight decides scanned) mate (t.apart d d_on) j_on
 
   pub forward_splits : (new : List ℕ) → ForwardDecides p → AreScanned a m classes j f (length f) → IsSplit classes count (heads f) new → AreClasses a m j new (count + 1)
-  forward_splits new decides scanned split = split_classes a m j classes new count (heads f) k split t.forward_tree.rivals (forward_tight decides scanned)
+  forward_splits new decides scanned split = split_classes a m j classes new count (heads f) k split t.forward_tree.tail (forward_tight decides scanned)
 
   pub backward_splits : (new : List ℕ) → BackwardDecides p → AreScannedBack a m classes j b (length b) → IsSplit classes count (heads b) new → AreClasses a m j new (count + 1)
-  backward_splits new decides scanned split = split_classes a m j classes new count (heads b) k split t.backward_tree.rivals (backward_tight decides scanned)
+  backward_splits new decides scanned split = split_classes a m j classes new count (heads b) k split t.backward_tree.tail (backward_tight decides scanned)
 
 -- The trees of a search that begins.
 
-one_tree : (a : Matrix) (m : List Place) (classes : List ℕ) (j c p : ℕ) → IsRival a classes j c → Among c (cols_of m) → IsTree a m classes j c ((c, p) ∷ [])
-one_tree a m classes j c p rival matched = record {
+one_tree : (a : Matrix) (m : List Place) (classes : List ℕ) (j c p : ℕ) → IsInTail a classes j c → Among c (cols_of m) → IsTree a m classes j c ((c, p) ∷ [])
+one_tree a m classes j c p in_tail matched = record {
   some = omega arith;
   root = refl;
-  rivals = λ x h. ⊎_elim (λ (e : x ≡ c). subst (IsRival a classes j) (sym e) rival) (λ (z : ⊥). absurd z) h;
+  tail = λ x h. ⊎_elim (λ (e : x ≡ c). subst (IsInTail a classes j) (sym e) in_tail) (λ (z : ⊥). absurd z) h;
   matched = λ x h. ⊎_elim (λ (e : x ≡ c). subst (λ y. Among y (cols_of m)) (sym e) matched) (λ (z : ⊥). absurd z) h;
   distinct = (λ h. h, tt);
   behind = λ i some lt. absurd (omega (arith, some, lt));
@@ -94,10 +93,6 @@ has_maximum a m n j r k rows sizes h = record {
   matching = record { rows = rows ∙ k.matching.rows; cols = sizes ∙ k.matching.cols; matching = h.extends.maximum.matching };
   maximum = h.extends.maximum;
 }
-
--- the column has the row already
-pub has_itself : (a : Matrix) (m : List Place) (j r : ℕ) → IsMaximum a m → Among (r, j) m → HasAt a m j r m
-has_itself a m j r max p = record { extends = extends_itself a m j max; at = p }
 
 -- What is kept, where the column j is settled.
 pub ready_more : (a : Matrix) (m m2 : List Place) (j : ℕ) (x : Exchanges) → IsReady a m j x → Extends a m j m2 → IsReady a m2 (j + 1) x

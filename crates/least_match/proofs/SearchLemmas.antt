@@ -9,7 +9,7 @@ use Rattle.bip_defs.specs.Queues.{Queue, at, heads}
 use Rattle.bip_defs.proofs.Full.{few_below}
 use Rattle.bip_defs.proofs.Queues.{at_push, heads_push}
 use Rattle.bip_defs.proofs.Sets.{among_at, among_last, among_left, among_right, distinct_last, one_row}
-use Rattle.least_match.specs.Classes.{IsOther, IsRival}
+use Rattle.least_match.specs.Classes.{IsOther, IsInTail}
 use Rattle.least_match.specs.Trees.{AreSearchTrees, Enters, IsPrefix, IsScanned, IsScannedBack, IsTree, LeadsTo, Looks}
 use Rattle.least_match.specs.Outcomes.{AreScanned, AreScannedBack}
 use Rattle.least_match.proofs.TreeLemmas.{at_last}
@@ -27,11 +27,11 @@ each_place P q x keep old last i some lt = by (dec_lt i (length q))
     by (yes l) = keep i l (old i some l)
     by (no nl) = let e : length q ≡ i = omega (arith, longer q x) in subst (P (q ++ x ∷ [])) e last
 
-tree_more : (a : Matrix) (m : List Place) (classes : List ℕ) (j first c p : ℕ) (q : Queue) → IsTree a m classes j first q → IsRival a classes j c → Among c (cols_of m) → ¬ Among c (heads q) → p < length q → IsTree a m classes j first (q ++ (c, p) ∷ [])
-tree_more a m classes j first c p q t rival matched fresh lt = record {
+tree_more : (a : Matrix) (m : List Place) (classes : List ℕ) (j first c p : ℕ) (q : Queue) → IsTree a m classes j first q → IsInTail a classes j c → Among c (cols_of m) → ¬ Among c (heads q) → p < length q → IsTree a m classes j first (q ++ (c, p) ∷ [])
+tree_more a m classes j first c p q t in_tail matched fresh lt = record {
   some = let some = t.some in omega (arith, longer q (c, p));
   root = ap (λ (x : ℕ × ℕ). x.0) (at_push q (c, p) 0 t.some) ∙ t.root;
-  rivals = λ d h. ⊎_elim (λ g. t.rivals d g) (λ e. subst (IsRival a classes j) (sym e) rival) (is_old d h);
+  tail = λ d h. ⊎_elim (λ g. t.tail d g) (λ e. subst (IsInTail a classes j) (sym e) in_tail) (is_old d h);
   matched = λ d h. ⊎_elim (λ g. t.matched d g) (λ e. subst (λ x. Among x (cols_of m)) (sym e) matched) (is_old d h);
   distinct = subst AreDistinct (sym (heads_push q c p)) (distinct_last (heads q) c t.distinct fresh);
   behind = each_place (λ (z : Queue) i. (at z i).1 < i) q (c, p) (λ i l g. subst (λ (x : ℕ × ℕ). x.1 < i) (sym (at_push q (c, p) i l)) g) t.behind (subst (λ (x : ℕ × ℕ). x.1 < length q) (sym (at_last q (c, p))) lt);
@@ -56,30 +56,27 @@ related_more R q c p old lt new i some within = (each_place (Related R) q (c, p)
     last : Related R (q ++ (c, p) ∷ []) (length q)
     last = subst (λ (x : ℕ × ℕ). (x.1 < length q) × R (at (q ++ (c, p) ∷ []) x.1).0 x.0) (sym (at_last q (c, p))) (lt, subst (λ (x : ℕ × ℕ). R x.0 c) (sym (at_push q (c, p) p lt)) new)
 
-pub forward_more : (a : Matrix) (m : List Place) (classes : List ℕ) (j d c p : ℕ) (f f2 b : Queue) → AreSearchTrees a m classes j d f b → Enters c p f f2 → ¬ Among c (heads b) → IsRival a classes j c → Among c (cols_of m) → p < length f → LeadsTo a m (at f p).0 c → AreSearchTrees a m classes j d f2 b
-forward_more a m classes j d c p f f2 b t (inl e) off rival matched lt leads = subst (λ (z : Queue). AreSearchTrees a m classes j d z b) (sym e.1) t
-forward_more a m classes j d c p f f2 b t (inr e) off rival matched lt leads = subst (λ (z : Queue). AreSearchTrees a m classes j d z b) (sym e.1) (record {
-  forward_tree = tree_more a m classes j d c p f t.forward_tree rival matched e.0 lt;
+pub forward_more : (a : Matrix) (m : List Place) (classes : List ℕ) (j d c p : ℕ) (f f2 b : Queue) → AreSearchTrees a m classes j d f b → Enters c p f f2 → ¬ Among c (heads b) → IsInTail a classes j c → Among c (cols_of m) → p < length f → LeadsTo a m (at f p).0 c → AreSearchTrees a m classes j d f2 b
+forward_more a m classes j d c p f f2 b t (inl e) off in_tail matched lt leads = subst (λ (z : Queue). AreSearchTrees a m classes j d z b) (sym e.1) t
+forward_more a m classes j d c p f f2 b t (inr e) off in_tail matched lt leads = subst (λ (z : Queue). AreSearchTrees a m classes j d z b) (sym e.1) (record {
+  forward_tree = tree_more a m classes j d c p f t.forward_tree in_tail matched e.0 lt;
   forward_led = related_more (LeadsTo a m) f c p (λ i some l. (t.forward_tree.behind i some l, t.forward_led i some l)) lt leads;
   backward_tree = t.backward_tree;
   backward_leads = t.backward_leads;
   apart = λ x h. ⊎_elim (λ g. t.apart x g) (λ e. subst (λ y. ¬ Among y (heads b)) (sym e) off) (among_last x c (heads f) (subst (Among x) (heads_push f c p) h));
 })
 
-pub backward_more : (a : Matrix) (m : List Place) (classes : List ℕ) (j d c p : ℕ) (f b b2 : Queue) → AreSearchTrees a m classes j d f b → Enters c p b b2 → ¬ Among c (heads f) → IsRival a classes j c → Among c (cols_of m) → p < length b → LeadsTo a m c (at b p).0 → AreSearchTrees a m classes j d f b2
-backward_more a m classes j d c p f b b2 t (inl e) off rival matched lt leads = subst (λ (z : Queue). AreSearchTrees a m classes j d f z) (sym e.1) t
-backward_more a m classes j d c p f b b2 t (inr e) off rival matched lt leads = subst (λ (z : Queue). AreSearchTrees a m classes j d f z) (sym e.1) (record {
+pub backward_more : (a : Matrix) (m : List Place) (classes : List ℕ) (j d c p : ℕ) (f b b2 : Queue) → AreSearchTrees a m classes j d f b → Enters c p b b2 → ¬ Among c (heads f) → IsInTail a classes j c → Among c (cols_of m) → p < length b → LeadsTo a m c (at b p).0 → AreSearchTrees a m classes j d f b2
+backward_more a m classes j d c p f b b2 t (inl e) off in_tail matched lt leads = subst (λ (z : Queue). AreSearchTrees a m classes j d f z) (sym e.1) t
+backward_more a m classes j d c p f b b2 t (inr e) off in_tail matched lt leads = subst (λ (z : Queue). AreSearchTrees a m classes j d f z) (sym e.1) (record {
   forward_tree = t.forward_tree;
   forward_led = t.forward_led;
-  backward_tree = tree_more a m classes j j c p b t.backward_tree rival matched e.0 lt;
+  backward_tree = tree_more a m classes j j c p b t.backward_tree in_tail matched e.0 lt;
   backward_leads = related_more (λ x y. LeadsTo a m y x) b c p (λ i some l. (t.backward_tree.behind i some l, t.backward_leads i some l)) lt leads;
   apart = λ x h g. ⊎_elim (λ k. t.apart x h k) (λ e. off (subst (λ y. Among y (heads f)) e h)) (among_last x c (heads b) (subst (Among x) (heads_push b c p) g));
 })
 
 -- Queues that grow.
-
-pub grows_none : (q : Queue) → IsPrefix q q
-grows_none q = ([], sym (append-nil q))
 
 pub grows_more : (q q2 q3 : Queue) → IsPrefix q q2 → IsPrefix q2 q3 → IsPrefix q q3
 grows_more q q2 q3 g h = (g.0 ++ h.0, h.1 ∙ ap (λ (z : Queue). z ++ h.0) g.1 ∙ append_assoc q g.0 h.0)
@@ -158,7 +155,7 @@ scanned_grown_back a m classes j n q q2 g le old i lt = subst (λ (x : ℕ × �
 
 -- a tree has no more columns than the matrix
 pub tree_few : (a : Matrix) (m : List Place) (classes : List ℕ) (j first : ℕ) (q : Queue) → IsTree a m classes j first q → length q ≤ cols a
-tree_few a m classes j first q t = omega (arith, length-map q (λ (p : ℕ × ℕ). p.0), few_below (cols a) (heads q) t.distinct (λ c h. (t.rivals c h).within))
+tree_few a m classes j first q t = omega (arith, length-map q (λ (p : ℕ × ℕ). p.0), few_below (cols a) (heads q) t.distinct (λ c h. (t.tail c h).within))
 
 -- the element that is read at a place of a list
 pub item_among : (xs : List ℕ) (k x : ℕ) → x ≡ get_or xs k x → k < length xs → Among x xs

@@ -1,7 +1,7 @@
 -- Trees as queues, and the places of their columns.
-use Rattle.std.proofs.Common.{◌≡◌, ◌≢◌, ◌∙◌, ℕ, zero, suc, ◌+◌, ◌<◌, ◌≤◌, List, [], ◌∷◌, ◌++◌, length, get_or, set, replicate, refl, sym, ap, subst, ⊎_elim, arith, length-append, length-set, get_or-set_same, get_or-set_other}
+use Rattle.std.proofs.Common.{◌≡◌, ◌≢◌, ◌∙◌, ℕ, suc, ◌+◌, ◌<◌, ◌≤◌, List, [], ◌∷◌, ◌++◌, length, get_or, set, refl, sym, ap, subst, ⊎_elim, arith, length-append, length-set, get_or-set_same, get_or-set_other}
 use Rattle.std.proofs.Math.Decide.{dec_lt}
-use Rattle.std.proofs.lemmas.List.{get_or_read, length-map, length-replicate}
+use Rattle.std.proofs.lemmas.List.{get_or_read, length-map}
 use Rattle.bip_graph.specs.Matching.{none}
 use Rattle.bip_defs.specs.Lists.{Among, AreDistinct}
 use Rattle.bip_defs.specs.Queues.{Queue, at, heads}
@@ -41,18 +41,6 @@ indexed_none places q c k e h =
     let (i, lt, f) = place_of q c h in
     let z : i ≡ none = sym (k.placed i lt).1 ∙ ap (λ x. place_in places x) f ∙ e in
     omega (arith, z, indexed_few places q k, k.few)
-
-pub indexed_start : (n : ℕ) → n ≤ none → IsIndexed (replicate n none) []
-indexed_start n le = record {
-  few = rw (length-replicate n none) le;
-  placed = λ i lt. absurd (omega arith);
-  back = λ c some. absurd (some (at_none n c));
-}
-  where
-    at_none : (k c : ℕ) → place_in (replicate k none) c ≡ none
-    at_none zero c = refl
-    at_none (suc k) zero = refl
-    at_none (suc k) (suc c) = at_none k c
 
 pub indexed_push : (places : List ℕ) (q : Queue) (c p : ℕ) → IsIndexed places q → c < length places → ¬ Among c (heads q) → IsIndexed (set places c (length q)) (q ++ (c, p) ∷ [])
 indexed_push places q c p k lt fresh = record {

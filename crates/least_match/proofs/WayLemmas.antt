@@ -28,15 +28,12 @@ module _ (a : Matrix) (m : List Place) (classes : List ℕ) (j d : ℕ) (f b : Q
   pub j_on : Among j (heads b)
   j_on = subst (λ x. Among x (heads b)) t.backward_tree.root (head_at b 0 t.backward_tree.some)
 
-  pub d_on : Among d (heads f)
-  d_on = subst (λ x. Among x (heads f)) t.forward_tree.root (head_at f 0 t.forward_tree.some)
-
   -- columns below j are in neither tree
   below_f : (c : ℕ) → c < j → ¬ Among c (heads f)
-  below_f c lt h = let from = (t.forward_tree.rivals c h).from in omega arith
+  below_f c lt h = let from = (t.forward_tree.tail c h).from in omega arith
 
   below_b : (c : ℕ) → c < j → ¬ Among c (heads b)
-  below_b c lt h = let from = (t.backward_tree.rivals c h).from in omega arith
+  below_b c lt h = let from = (t.backward_tree.tail c h).from in omega arith
 
   -- the column alone is parted
   pub parted_vacates : (n : List Place) (r : ℕ) → AreDistinct (rows_of n) → AreDistinct (cols_of n) → Among (r, j) m → Unpairs r m n → length m ≡ suc (length n) → HasVacated a m n j b

@@ -25,7 +25,7 @@ pub record AreClasses (a : Matrix) (m : List Place) (j : ℕ) (classes : List �
       → class_of classes c ≡ class_of classes d → IsVerticalCol a c → IsVerticalCol a d
 
 -- a column from j on of the class of j
-pub record IsRival (a : Matrix) (classes : List ℕ) (j c : ℕ) : Type 0 where
+pub record IsInTail (a : Matrix) (classes : List ℕ) (j c : ℕ) : Type 0 where
   pub from : j ≤ c
   pub within : c < cols a
   pub class : class_of classes c ≡ class_of classes j

@@ -4,7 +4,7 @@ use Rattle.bip_defs.specs.Lists.{Among, AreDistinct}
 use Rattle.bip_defs.specs.Matching.{cols_of}
 use Rattle.bip_defs.specs.Matrix.{IsEntry, Matrix, Place}
 use Rattle.bip_defs.specs.Queues.{Queue, at, heads}
-use Rattle.least_match.specs.Classes.{IsOther, IsRival}
+use Rattle.least_match.specs.Classes.{IsOther, IsInTail}
 
 -- the first column has an entry in the row of the second one's pair
 abbrev pub LeadsTo : Matrix → List Place → ℕ → ℕ → Type 0
@@ -15,7 +15,7 @@ pub record IsTree (a : Matrix) (m : List Place) (classes : List ℕ) (j first : 
     (q : Queue) : Type 0 where
   pub some : 0 < length q
   pub root : (at q 0).0 ≡ first
-  pub rivals : (c : ℕ) → Among c (heads q) → IsRival a classes j c
+  pub tail : (c : ℕ) → Among c (heads q) → IsInTail a classes j c
   pub matched : (c : ℕ) → Among c (heads q) → Among c (cols_of m)
   pub distinct : AreDistinct (heads q)
   pub behind : (i : ℕ) → 0 < i → i < length q → (at q i).1 < i
@@ -59,5 +59,5 @@ Enters c parent old new = (Among c (heads old) × (new ≡ old))
 -- a column before j or of another class is left; another one is added, unless it is there, where the other tree doesn't have it
 abbrev pub Looks : Matrix → List Place → List ℕ → ℕ → ℕ → ℕ → Queue → Queue → Queue → Type 0
 Looks a m classes j c parent old new other = (IsOther classes j c × (new ≡ old))
-    ⊎ (IsRival a classes j c × Among c (cols_of m) × (¬ Among c (heads other))
+    ⊎ (IsInTail a classes j c × Among c (cols_of m) × (¬ Among c (heads other))
     × Enters c parent old new)

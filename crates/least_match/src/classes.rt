@@ -1,10 +1,9 @@
 //! Classes of columns that no exchange crosses.
 
-ghost use Rattle.std.specs.Prelude.{◌≡◌, ◌⊎◌, ℕ, ◌+◌, ◌<◌, ◌≤◌, length, IfOk};
+ghost use Rattle.std.specs.Prelude.{◌≡◌, ◌⊎◌, ℕ, ◌+◌, ◌<◌, length, IfOk};
 ghost use Rattle.bip_defs.specs.Lists.{Among};
-ghost use Rattle.bip_defs.specs.Queues.{at, heads};
+ghost use Rattle.bip_defs.specs.Queues.{heads};
 ghost use Rattle.least_match.specs.Classes.{HaveParts, IsSplit, number_of_part};
-ghost use Rattle.least_match.specs.Tree.{Reached};
 
 use crate::parts::Part;
 use crate::tree::Tree;

@@ -1,14 +1,12 @@
 //! Exchanges along alternating paths.
 
-ghost use Rattle.std.specs.Prelude.{◌≡◌, ◌≢◌, ◌⊎◌, ◌↔◌, ℕ, suc, ◌<◌, length};
+ghost use Rattle.std.specs.Prelude.{◌≡◌, ◌≢◌, ◌↔◌, suc, ◌<◌, length};
 ghost use Rattle.bip_defs.specs.Lists.{Among};
 ghost use Rattle.bip_defs.specs.Matching.{IsMatching, cols_of, rows_of};
 ghost use Rattle.bip_defs.specs.Matrix.{IsEntry, Matrix, Place};
-ghost use Rattle.bip_defs.specs.Queues.{at, heads};
-ghost use Rattle.bip_graph.specs.Matching.{IsMatchingOf, Pairing};
-ghost use Rattle.least_match.specs.Exchanges.{AgreeBeside, Frees, Hangs, Meets, Swaps};
-ghost use Rattle.least_match.specs.Tree.{Reached};
-ghost use Rattle.least_match.specs.Trees.{AreSearchTrees, IsLedTo, LeadsBack};
+ghost use Rattle.bip_defs.specs.Queues.{at};
+ghost use Rattle.least_match.specs.Exchanges.{AgreeBeside, Hangs, Swaps};
+ghost use Rattle.least_match.specs.Trees.{IsLedTo, LeadsBack};
 
 use crate::tree::Tree;
 use bip_graph::Matching;

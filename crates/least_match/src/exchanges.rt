@@ -5,16 +5,15 @@ ghost use Rattle.std.specs.Prelude.{◌≡◌, ◌+◌, ◌<◌, ◌≤◌, List
 ghost use Rattle.bip_defs.specs.LeastMatching.{mate_or};
 ghost use Rattle.bip_defs.specs.Lists.{Among};
 ghost use Rattle.bip_defs.specs.Matching.{cols_of};
-ghost use Rattle.bip_defs.specs.Matrix.{IsEntry, Matrix, Place, cols};
-ghost use Rattle.bip_graph.specs.Matching.{IsMaximumOf, Pairing};
+ghost use Rattle.bip_defs.specs.Matrix.{IsEntry, Place, cols};
+ghost use Rattle.bip_graph.specs.Matching.{IsMaximumOf};
 ghost use Rattle.least_match.specs.Extensions.{Excludes, Extends, HasAt};
 ghost use Rattle.least_match.specs.Ready.{IsReady};
-ghost use Rattle.least_match.specs.Tree.{Reached};
 
 use crate::classes::Classes;
 use crate::exchange::{pass, swap};
 use crate::parts::{Part, parts};
-use crate::search::{Outcome, Rivals};
+use crate::search::{ClassTail, Outcome};
 use crate::tree::Tree;
 use bip_graph::Matching;
 use sp_ids::{Col, OutOfMemory, Row};
@@ -119,14 +118,14 @@ impl<'p> Exchanges<'p> {
         self.backward.clear();
         self.backward.push(col, 0);
         let part = self.parts[col.0 as usize];
-        let rivals = Rivals {
+        let tail = ClassTail {
             pattern: self.pattern,
             classes: self.classes.numbers.as_slice(),
             col,
         };
-        match rivals.search(matching, part, &mut self.forward, &mut self.backward) {
+        match tail.search(matching, part, &mut self.forward, &mut self.backward) {
             Outcome::Path(meeting) => {
-                rivals.make_way(matching, &self.forward, &self.backward, meeting);
+                tail.exchange_path(matching, &self.forward, &self.backward, meeting);
                 matching.pair(row, col);
                 let _after = matching.size();
                 true

@@ -11,7 +11,7 @@ mod way;
 
 ghost use Rattle.std.specs.Prelude.{IfOk};
 ghost use Rattle.bip_defs.specs.LeastMatching.{IsLeastMaximum};
-ghost use Rattle.bip_graph.specs.Matching.{IsMaximumOf, Pairing};
+ghost use Rattle.bip_graph.specs.Matching.{IsMaximumOf};
 
 use crate::exchanges::Exchanges;
 use bip_graph::Matching;

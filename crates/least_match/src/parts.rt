@@ -1,11 +1,10 @@
 //! The parts of a matrix in which its columns lie.
 
-ghost use Rattle.std.specs.Prelude.{◌≡◌, ◌<◌, ◌≤◌, ℕ, length, slice_index_or, IfOk};
-ghost use Rattle.bip_defs.specs.Lists.{IsMarked};
+ghost use Rattle.std.specs.Prelude.{◌<◌, IfOk};
 ghost use Rattle.bip_defs.specs.Marks.{Marks};
 ghost use Rattle.bip_defs.specs.Matrix.{cols};
 ghost use Rattle.bip_defs.specs.Parts.{IsHorizontalCol, IsVerticalRow};
-ghost use Rattle.bip_graph.specs.Matching.{IsMaximumOf, Pairing};
+ghost use Rattle.bip_graph.specs.Matching.{IsMaximumOf};
 ghost use Rattle.least_match.specs.Outcomes.{AreParted, IsIn};
 
 use bip_graph::Matching;

@@ -1,16 +1,15 @@
 //! Searches for exchanges, from both ends at once.
 
 ghost use Rattle.std.specs.Bool.{OnTrue, OnFalse};
-ghost use Rattle.std.specs.Prelude.{◌≡◌, ◌⊎◌, ℕ, ◌<◌, ◌≤◌, length, IfSome, IfNone};
+ghost use Rattle.std.specs.Prelude.{◌≡◌, ℕ, ◌<◌, ◌≤◌, length, IfSome, IfNone};
 ghost use Rattle.bip_defs.specs.Lists.{Among};
 ghost use Rattle.bip_defs.specs.Matching.{cols_of};
-ghost use Rattle.bip_defs.specs.Matrix.{IsEntry, Place, cols};
+ghost use Rattle.bip_defs.specs.Matrix.{IsEntry, cols};
 ghost use Rattle.bip_defs.specs.Queues.{at, heads};
-ghost use Rattle.bip_graph.specs.Matching.{IsMatchingOf, Pairing};
-ghost use Rattle.least_match.specs.Classes.{IsOther, IsRival};
+ghost use Rattle.bip_graph.specs.Matching.{IsMatchingOf};
+ghost use Rattle.least_match.specs.Classes.{IsOther, IsInTail};
 ghost use Rattle.least_match.specs.Exchanges.{Meets};
 ghost use Rattle.least_match.specs.Outcomes.{EndsAs, IsTurn};
-ghost use Rattle.least_match.specs.Tree.{Reached};
 ghost use Rattle.least_match.specs.Trees.{AreSearchTrees, Enters, IsPrefix, IsScanned, IsScannedBack, LeadsTo, Looks};
 
 use crate::exchange::{Meeting, mate};
@@ -43,7 +42,7 @@ pub enum Turn {
 /// The columns from one on that are of its class: those among which an exchange for it is looked
 /// for.
 #[derive(Clone, Copy)]
-pub struct Rivals<'p> {
+pub struct ClassTail<'p> {
     pub pattern: &'p Pattern,
     pub classes: &'p [u32],
     pub col: Col,
@@ -51,11 +50,11 @@ pub struct Rivals<'p> {
     ghost own: { col < cols pattern.now },
 }
 
-impl Rivals<'_> {
+impl ClassTail<'_> {
     fn has(&self, col: Col) -> bool
         requires col { col < cols self.now.pattern.now }
         ensures yes { OnTrue result
-            (IsRival self.now.pattern.now self.now.classes.now self.now.col col) }
+            (IsInTail self.now.pattern.now self.now.classes.now self.now.col col) }
         ensures no { OnFalse result (IsOther self.now.classes.now self.now.col col) }
     {
         self.col.0 <= col.0 && self.classes[col.0 as usize] == self.classes[self.col.0 as usize]

@@ -3,22 +3,21 @@
 ghost use Rattle.std.specs.Prelude.{◌≡◌, ℕ};
 ghost use Rattle.bip_defs.specs.Lists.{Among};
 ghost use Rattle.bip_defs.specs.Queues.{at};
-ghost use Rattle.bip_graph.specs.Matching.{IsMatchingOf, Pairing};
+ghost use Rattle.bip_graph.specs.Matching.{IsMatchingOf};
 ghost use Rattle.least_match.specs.Exchanges.{Frees, Meets};
-ghost use Rattle.least_match.specs.Tree.{Reached};
 ghost use Rattle.least_match.specs.Trees.{AreSearchTrees};
 
 use crate::exchange::{Meeting, part, shift, vacate};
-use crate::search::Rivals;
+use crate::search::ClassTail;
 use crate::tree::Tree;
 use bip_graph::Matching;
 
-impl Rivals<'_> {
+impl ClassTail<'_> {
     /// Exchanges along the path that was found, so that the column and the row of the forward
     /// tree's first column have no mates, and the matching has a pair less.
     ///
     /// Takes no memory. Work: some reads and writes a pair of the path.
-    pub fn make_way(
+    pub fn exchange_path(
         &self,
         matching: &mut Matching,
         forward: &Tree,

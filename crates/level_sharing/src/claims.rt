@@ -1,6 +1,6 @@
 //! A worker claims a row.
 
-ghost use Rattle.std.specs.Prelude.{◌≡◌, ℕ, ◌<◌, length, IsTrue, IfOk, OnOk};
+ghost use Rattle.std.specs.Prelude.{◌≡◌, ◌<◌, length, IsTrue, IfOk, OnOk};
 ghost use Rattle.bip_defs.specs.Forest.{State};
 ghost use Rattle.level_sharing.specs.Progress.{CanClaim, HasSettled, KnowsHolder, KnowsLeaf, Progress};
 ghost use Rattle.level_sharing.specs.Shares.{Share};

@@ -1,6 +1,6 @@
 //! Each worker's share of a list.
 
-ghost use Rattle.std.specs.Prelude.{◌≡◌, ℕ, ◌+◌, ◌*◌, ◌/◌, ◌<◌, ◌≤◌, length};
+ghost use Rattle.std.specs.Prelude.{◌≡◌, ◌*◌, ◌/◌, ◌<◌, ◌≤◌};
 ghost use Rattle.level_sharing.specs.Shares.{share_of};
 
 /// The share of a worker, of so many, in a list: its places from `number * l / workers` up to

@@ -1,6 +1,6 @@
 //! Laws on the steps of one worker.
 
-ghost use Rattle.std.specs.Prelude.{◌≡◌, ℕ, List, Option, None, Some, length};
+ghost use Rattle.std.specs.Prelude.{ℕ, List, Option, None, Some, length};
 ghost use Rattle.bip_defs.specs.Forest.{InForest, RootOf, State};
 ghost use Rattle.bip_defs.specs.Lists.{Among};
 ghost use Rattle.bip_defs.specs.Matching.{rows_of};

@@ -10,7 +10,7 @@
 ghost use Rattle.std.specs.Prelude.{◌+◌, ◌<◌, IfOk};
 ghost use Rattle.bip_defs.specs.Matching.{Covers};
 ghost use Rattle.bip_defs.specs.Matrix.{cols};
-ghost use Rattle.bip_graph.specs.Matching.{IsMatchingOf, IsMaximumOf, Pairing};
+ghost use Rattle.bip_graph.specs.Matching.{IsMatchingOf, IsMaximumOf};
 ghost use Rattle.mc21_match.specs.Searched.{AreTriedBelow};
 
 use bip_graph::Matching;

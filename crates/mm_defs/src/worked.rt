@@ -1,7 +1,7 @@
 //! Files that were worked by hand, as theorems: the definitions compute what has to be found in
 //! them.
 
-ghost use Rattle.std.specs.Prelude.{◌≡◌, List, [], true, false, map};
+ghost use Rattle.std.specs.Prelude.{◌≡◌, [], true, false, map};
 ghost use Rattle.mm_defs.specs.Words.{lines};
 ghost use Rattle.mm_defs.specs.File.{first_fault, faults, rest_of};
 ghost use Rattle.mm_defs.specs.Worked.{Refused, ReadFile, Followed, bad_banners, bad_sizes, bad_entries, bad_values, good_files, good_arrays, read, followed_files, prefixes};

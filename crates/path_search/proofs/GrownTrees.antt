@@ -1,13 +1,12 @@
 -- Trees that grow: rows that are visited, and the mates that are reached.
-use Rattle.std.proofs.Common.{◌≡◌, ◌≢◌, ◌∙◌, ℕ, ◌<◌, ◌≤◌, true, false, List, [], ◌∷◌, ◌++◌, length, set, take, refl, sym, ap, subst, inl, inr, ⊎_elim, arith, length-append, append_assoc}
+use Rattle.std.proofs.Common.{◌≡◌, ◌≢◌, ◌∙◌, ℕ, ◌<◌, ◌≤◌, true, false, List, [], ◌∷◌, ◌++◌, length, set, refl, sym, ap, subst, inl, inr, ⊎_elim, arith, length-append, append_assoc}
 use Rattle.std.proofs.Math.ListN.{length-set}
-use Rattle.std.proofs.lemmas.List.{append-nil, length-map, take_all}
-use Rattle.bip_defs.specs.Lists.{Among, IsMarked, Lists}
+use Rattle.std.proofs.lemmas.List.{append-nil, length-map}
+use Rattle.bip_defs.specs.Lists.{Among, IsMarked}
 use Rattle.bip_defs.specs.Matching.{IsMatching, cols_of}
 use Rattle.bip_defs.specs.Matrix.{IsEntry, Matrix, Place, cols}
 use Rattle.bip_defs.proofs.Sets.{among_last, among_right, distinct_last, entry_col, number_same, one_row}
 use Rattle.path_search.specs.Forests.{Extends, IsFound, IsForest, IsLeafOf, LeadOn, Spreads, Trees, Visits, reached_at, reached_cols}
-use Rattle.bip_defs.specs.Marks.{IsExplored}
 use Rattle.path_search.specs.declared.reached.Reached.{Reached}
 use Rattle.bip_defs.proofs.Full.{few_below}
 use Rattle.path_search.proofs.MarkLemmas.{marked_grows, marked_now, unmoved}
@@ -144,6 +143,3 @@ scanning_found a m old t new rows r place root col s lt entry (un, free, same) =
   spreads = spreads_marked root old t r lt s.spreads;
   leaf = record { entry = entry; unmatched = free; marked = marked_now t.marks r lt };
 })
-
-pub scanned_explored : (a : Matrix) (m : List Place) (root col : ℕ) (old t : Trees) (rows : List ℕ) (k : ℕ) → IsScanning a m root old t (take k rows) → length rows ≤ k → Lists (λ r. IsEntry a r col) rows → IsExplored a t.marks col
-scanned_explored a m root col old t rows k s all listed r e = s.marked r (subst (λ xs. Among r xs) (sym (take_all k rows all)) (listed.complete r e))

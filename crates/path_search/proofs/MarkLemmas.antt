@@ -33,9 +33,6 @@ unmoved marks r x ne = rw get_or-set_other refl
 pub marked_grows : (marks : List Bool) (r : ℕ) → r < length marks → Grows marks (set marks r true)
 marked_grows marks r lt x h = ⊎_elim (λ (e : x ≡ r). subst (λ y. IsMarked (set marks r true) y) (sym e) (marked_now marks r lt)) (λ (ne : x ≢ r). unmoved marks r x ne ∙ h) (number_same x r)
 
-pub marks_none : (marks : List Bool) → HasMarked [] marks marks
-marks_none marks = record { size = refl; fresh = λ r h. absurd h; marked = λ r h. absurd h; others = λ r h. refl }
-
 -- one row more
 pub marks_more : (visited : List ℕ) (start now : List Bool) (r : ℕ) → r < length now → ¬ IsMarked now r → HasMarked visited start now → HasMarked (visited ++ r ∷ []) start (set now r true)
 marks_more visited start now r lt un k = record {
@@ -46,9 +43,6 @@ marks_more visited start now r lt un k = record {
 }
 
 -- HasMarked that are taken away.
-
-pub unmarks_none : (marks : List Bool) → Unmarks [] marks marks
-unmarks_none marks = record { size = refl; gone = λ r h. absurd h; others = λ r h. refl }
 
 pub unmarks_more : (rows : List ℕ) (start now : List Bool) (r : ℕ) → r < length now → Unmarks rows start now → Unmarks (rows ++ r ∷ []) start (set now r false)
 unmarks_more rows start now r lt k = record {

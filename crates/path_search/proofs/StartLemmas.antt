@@ -1,5 +1,5 @@
 -- Trees of roots alone.
-use Rattle.std.proofs.Common.{◌≡◌, ◌≢◌, ◌∙◌, ℕ, ◌+◌, ◌<◌, List, [], ◌∷◌, ◌++◌, length, refl, sym, ap, subst, inl, ⊎_elim, arith}
+use Rattle.std.proofs.Common.{◌≡◌, ◌≢◌, ◌∙◌, ℕ, ◌+◌, ◌<◌, List, [], ◌∷◌, ◌++◌, length, refl, sym, subst, inl, ⊎_elim, arith}
 use Rattle.std.proofs.lemmas.List.{length-map}
 use Rattle.bip_defs.specs.Lists.{Among, AreDistinct, IsMarked}
 use Rattle.bip_defs.specs.Matching.{cols_of}
@@ -21,16 +21,6 @@ pub record HaveStarted (a : Matrix) (m : List Place) (t : Trees) (n : ℕ) : Typ
   pub roots : (i : ℕ) → i < length t.queue → IsRoot m n (reached_at t.queue i)
   pub differ : AreDistinct (reached_cols t.queue)
   pub complete : (c : ℕ) → c < n → ¬ Among c (cols_of m) → Among c (reached_cols t.queue)
-
-pub started_start : (a : Matrix) (m : List Place) (t : Trees) → length t.marks ≡ a.rows → t.cols ≡ cols a → ((r : ℕ) → ¬ IsMarked t.marks r) → t.queue ≡ [] → HaveStarted a m t 0
-started_start a m t r c unmarked empty = record {
-  rows_are = r;
-  cols_are = c;
-  unmarked = unmarked;
-  roots = λ i lt. absurd (let none : length t.queue ≡ 0 = ap length empty in omega arith);
-  differ = subst (λ (q : List Reached). AreDistinct (reached_cols q)) (sym empty) tt;
-  complete = λ x lt. absurd (omega arith);
-}
 
 started_below : (a : Matrix) (m : List Place) (t : Trees) (n c : ℕ) → HaveStarted a m t n → Among c (reached_cols t.queue) → c < n
 started_below a m t n c p h = let (i, lt, e) = place_of t.queue c h in subst (λ x. x < n) e (p.roots i lt).0

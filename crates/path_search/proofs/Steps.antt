@@ -1,9 +1,9 @@
 -- The steps of a search: down by a row, to an unmatched row, back, and its end.
-use Rattle.std.proofs.Common.{◌≡◌, ◌⊎◌, ◌∙◌, ℕ, suc, ◌<◌, ◌≤◌, ◌^◌, Bool, true, List, [], ◌∷◌, ◌++◌, length, set, slice_index, refl, sym, subst, inl, inr, ⊎_elim, arith, length-append}
+use Rattle.std.proofs.Common.{◌≡◌, ◌⊎◌, ◌∙◌, ℕ, suc, ◌<◌, ◌≤◌, Bool, true, List, [], ◌∷◌, ◌++◌, length, set, slice_index, refl, sym, subst, inl, inr, ⊎_elim, arith, length-append}
 use Rattle.std.proofs.Math.ListN.{length-set}
 use Rattle.bip_defs.specs.Lists.{Among, AreDistinct, IsMarked, Lists}
-use Rattle.bip_defs.specs.Matching.{IsMatching, cols_of, rows_of}
-use Rattle.bip_defs.specs.Matrix.{IsEntry, Matrix, Place, cols, column}
+use Rattle.bip_defs.specs.Matching.{IsMatching, rows_of}
+use Rattle.bip_defs.specs.Matrix.{IsEntry, Matrix, Place, column}
 use Rattle.bip_defs.proofs.Sets.{among_last, among_left, among_right, distinct_last, entry_col, rising_distinct, row_among}
 use Rattle.path_search.specs.Advances.{Continues, Onward, HasFound}
 use Rattle.bip_defs.specs.Marks.{IsExplored}
@@ -12,9 +12,6 @@ use Rattle.path_search.specs.Trails.{IsSearchAt, HasPassed, Trail, read_place}
 use Rattle.bip_defs.proofs.Full.{few_below}
 use Rattle.path_search.proofs.MarkLemmas.{marked_below, marked_grows, marked_now, marks_more, explored_grows}
 use Rattle.path_search.proofs.TrailLemmas.{passed_all, passed_more, passed_none, rows_last, passed_grows, trail_alternates, trail_back, trail_begins, trail_empty, trail_entries, trail_grows, trail_matched, trail_on, trail_root}
-
-abbrev pub started : SearchState → ℕ → SearchState
-started s root = record s { root = root; path = []; places = []; visited = [] }
 
 abbrev pub ended : SearchState → ℕ → ℕ → SearchState
 ended s r c = record s { path = s.path ++ (r, c) ∷ [] }
@@ -27,23 +24,6 @@ noted s k = record s { places = s.places ++ k ∷ [] }
 
 abbrev pub left_from : SearchState → ℕ → ℕ → ℕ → SearchState
 left_from s r d j = record s { path = s.path ++ (r, d) ∷ []; places = s.places ++ j ∷ [] }
-
-pub search_starts : (a : Matrix) (m : List Place) (reversed : Bool) (s : SearchState) (root : ℕ) → s.cols ≡ cols a → length s.marks ≡ a.rows → a.rows < 2 ^ 32 → root < cols a → ¬ Among root (cols_of m) → IsSearchAt a m reversed (started s root) root 0
-search_starts a m reversed s root cs rs few lt free = record {
-  cols_are = cs;
-  rows_are = rs;
-  few_rows = few;
-  in_range = lt;
-  root_unmatched = free;
-  trail = refl;
-  passed = passed_none reversed s.marks (column a root);
-  rows_differ = tt;
-  path_visited = λ r h. h;
-  visited_differ = tt;
-  visited_marked = λ r h. absurd h;
-  finished = λ r h. absurd h;
-  path_shorter = omega arith;
-}
 
 pub unmarked_unvisited : (a : Matrix) (m : List Place) (reversed : Bool) (s : SearchState) (c k r : ℕ) → IsSearchAt a m reversed s c k → ¬ IsMarked s.marks r → ¬ Among r s.visited
 unmarked_unvisited a m reversed s c k r f un h = un (f.visited_marked r h)

@@ -5,7 +5,6 @@ ghost use Rattle.std.specs.Prelude.{◌≡◌, ◌+◌, ◌<◌, ◌≤◌, ◌^
 ghost use Rattle.std.specs.Int.{from_bool};
 ghost use Rattle.bip_defs.specs.Lists.{Among};
 ghost use Rattle.bip_defs.specs.Matrix.{cols};
-ghost use Rattle.bip_graph.specs.Matching.{Pairing};
 ghost use Rattle.path_search.specs.Batches.{Gathers, HasRows, HaveRows, KeepsUnmarked, candidates_of, numbers_in};
 ghost use Rattle.path_search.specs.Forests.{reached_at};
 

@@ -1,9 +1,8 @@
 //! One column's list.
 
-ghost use Rattle.std.specs.Prelude.{◌≡◌, ◌⊎◌, ℕ, ◌+◌, ◌<◌, ◌≤◌, ◌^◌, length, map, slice_index, All, IfSome, vec_len, vec_capacity, ◌∷◌, ◌++◌, []};
+ghost use Rattle.std.specs.Prelude.{◌≡◌, ℕ, ◌<◌, ◌≤◌, ◌^◌, length, map, slice_index, IfSome, vec_len, vec_capacity, ◌∷◌, ◌++◌, []};
 ghost use Rattle.bip_defs.specs.Lists.{Among, IsMarked};
 ghost use Rattle.bip_defs.specs.Matching.{rows_of};
-ghost use Rattle.bip_graph.specs.Matching.{Pairing};
 ghost use Rattle.path_search.specs.Search.{Unmarks};
 ghost use Rattle.path_search.specs.Trails.{HasPassed, read_place};
 

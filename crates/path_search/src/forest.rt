@@ -1,12 +1,12 @@
 //! Phases of breadth-first searches from all unmatched columns at once.
 
-ghost use Rattle.std.specs.Prelude.{◌≡◌, ◌⊎◌, ◌↔◌, ℕ, suc, ◌+◌, ◌<◌, ◌≤◌, ◌∷◌, ◌++◌, [], true, length, set, reverse, IsTrue, IfOk, IfSome, IfNone};
+ghost use Rattle.std.specs.Prelude.{◌≡◌, ◌⊎◌, ◌↔◌, ℕ, suc, ◌+◌, ◌<◌, ◌≤◌, ◌∷◌, ◌++◌, [], true, length, set, IsTrue, IfOk, IfSome, IfNone};
 ghost use Rattle.bip_defs.specs.Lists.{Among, IsMarked};
 ghost use Rattle.bip_defs.specs.Marks.{IsExplored};
-ghost use Rattle.bip_defs.specs.Matching.{Covers, IsMaximum, rows_of, cols_of};
+ghost use Rattle.bip_defs.specs.Matching.{Covers, IsMaximum, cols_of};
 ghost use Rattle.bip_defs.specs.Matrix.{AreEntries, IsEntry, Matrix, cols};
 ghost use Rattle.bip_defs.specs.Paths.{Exchanges, IsAugmenting};
-ghost use Rattle.bip_graph.specs.Matching.{IsMatchingOf, Pairing};
+ghost use Rattle.bip_graph.specs.Matching.{IsMatchingOf};
 ghost use Rattle.path_search.specs.Batches.{Follows, HaveRows, numbers_in};
 ghost use Rattle.path_search.specs.Forests.{Extends, HaveNoPath, IsForest, IsLeafOf, LeadOn, Progresses, Spreads, Traces, Visits, reached_at};
 
@@ -24,14 +24,14 @@ use std::marker::{Model, PhantomData};
 ///
 /// It keeps 9 bytes a row and 12 a column.
 #[derive(Drop)]
-pub struct Forest {
+pub struct SearchForest {
     cols: u32,
     marks: Vec<bool>,
     queue: Vec<Reached>,
     path: Vec<(Row, Col)>,
 }
 
-impl Model for Forest {
+impl Model for SearchForest {
     ghost use Rattle.std.specs.Prelude.{length, vec_capacity, ◌≤◌};
     ghost use Rattle.path_search.specs.Forests.{Trees};
 
@@ -48,11 +48,11 @@ impl Model for Forest {
         × (length f.marks.items ≤ vec_capacity f.path) };
 }
 
-impl Forest {
+impl SearchForest {
     /// For matrices of so many rows and columns, as a side sees them.
     ///
     /// Answers `OutOfMemory` where the arrays can't be had.
-    pub fn new(alloc: Global, rows: u32, cols: u32) -> Result<Forest, OutOfMemory>
+    pub fn new(alloc: Global, rows: u32, cols: u32) -> Result<SearchForest, OutOfMemory>
         ensures cols { IfOk result (λ f. f.cols ≡ cols) }
         ensures rows { IfOk result (λ f. length f.marks ≡ rows) }
     {
@@ -60,7 +60,7 @@ impl Forest {
         let marks = vec![in alloc; false; room]?;
         let queue = Vec::with_capacity(alloc, cols as usize)?;
         let path = Vec::with_capacity(alloc, room)?;
-        Ok(Forest {
+        Ok(SearchForest {
             cols,
             marks,
             queue,

@@ -11,5 +11,5 @@ mod reached;
 mod search;
 mod step;
 
-pub use forest::Forest;
+pub use forest::SearchForest;
 pub use search::Search;

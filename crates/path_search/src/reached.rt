@@ -1,9 +1,7 @@
 //! What a breadth-first search keeps of each column, and its trees followed back.
 
-ghost use Rattle.std.specs.Prelude.{◌≡◌, ℕ, ◌<◌};
 ghost use Rattle.bip_defs.specs.Lists.{Among};
 ghost use Rattle.bip_defs.specs.Matching.{cols_of};
-ghost use Rattle.bip_graph.specs.Matching.{Pairing};
 ghost use Rattle.path_search.specs.Forests.{AreRooted, HasParent};
 
 use bip_graph::{Matching, Opposite, Parents};

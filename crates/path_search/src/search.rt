@@ -1,18 +1,18 @@
 //! Searches, and what one keeps for the next.
 
 ghost use Rattle.std.specs.Bool.{OnTrue, OnFalse};
-ghost use Rattle.std.specs.Prelude.{◌≡◌, ◌⊎◌, ℕ, suc, ◌+◌, ◌<◌, ◌≤◌, ◌^◌, ◌∷◌, ◌++◌, [], Bool, List, true, length, map, set, slice_index, IfOk, IfSome, IfNone};
+ghost use Rattle.std.specs.Prelude.{◌≡◌, ℕ, suc, ◌<◌, ◌≤◌, ◌∷◌, ◌++◌, [], Bool, List, true, length, map, set, slice_index, IfOk, IfSome, IfNone};
 ghost use Rattle.bip_defs.specs.Lists.{Among, IsMarked};
 ghost use Rattle.bip_defs.specs.Matching.{Covers, rows_of, cols_of};
-ghost use Rattle.bip_defs.specs.Matrix.{AreEntries, IsEntry, Matrix, Place, cols, column};
+ghost use Rattle.bip_defs.specs.Matrix.{AreEntries, IsEntry, Matrix, cols};
 ghost use Rattle.bip_defs.specs.Paths.{Exchanges, IsAugmenting};
-ghost use Rattle.bip_graph.specs.Matching.{IsMatchingOf, Pairing};
+ghost use Rattle.bip_graph.specs.Matching.{IsMatchingOf};
 ghost use Rattle.path_search.specs.Search.{Augments, Exhausts, Fails, Finds, HasMarked};
 ghost use Rattle.path_search.specs.Advances.{Advances, Descends};
 ghost use Rattle.path_search.specs.Trails.{HasPassed, IsSearchAt, read_place};
 
 use crate::columns::{next_unmarked, put, row_at, unmark, unmark_all, unmatched_row};
-use crate::step::{Stand, Step};
+use crate::step::{Position, Step};
 use bip_graph::{Matching, Opposite};
 use sp_ids::{Col, Id, OutOfMemory, Row};
 use sp_pattern::Side;
@@ -53,6 +53,8 @@ impl Model for Search {
 
 impl Search {
     /// For matrices of so many rows and columns, as a side sees them, with no row marked.
+    ///
+    /// Answers `OutOfMemory` where the arrays can't be had, at most 17 bytes a row and 4 a column.
     pub fn new(alloc: Global, rows: u32, cols: u32) -> Result<Search, OutOfMemory>
         ensures cols { IfOk result (λ s. s.cols ≡ cols) }
         ensures rows { IfOk result (λ s. length s.marks ≡ rows) }
@@ -117,7 +119,7 @@ impl Search {
     }
 
     // Leaves the path's last pair: the place from where its column is left to be read.
-    fn back(&mut self) -> Option<Stand>
+    fn back(&mut self) -> Option<Position>
         requires { length self.old.path ≡ length self.old.places }
         ensures some { IfSome result
             (λ s. (r : ℕ) × (self.old
@@ -129,7 +131,7 @@ impl Search {
     {
         let place = self.places.pop()?;
         let (_row, col) = self.path.pop()?;
-        Some(Stand { col, place })
+        Some(Position { col, place })
     }
 
     // An unmatched row of a column, where one was not passed yet.
@@ -172,7 +174,7 @@ impl Search {
         &mut self,
         side: &S,
         matching: &Matching,
-        at: Stand,
+        at: Position,
         reversed: bool,
     ) -> Step
         requires matching { IsMatchingOf (S.matrix side.now) (F.seen matching.now) }
@@ -192,7 +194,7 @@ impl Search {
             None => Step::Found,
             Some(next) => {
                 self.note(place as u32 + 1);
-                Step::On(Stand {
+                Step::On(Position {
                     col: next,
                     place: 0,
                 })
@@ -205,7 +207,7 @@ impl Search {
         &mut self,
         side: &S,
         matching: &Matching,
-        at: Stand,
+        at: Position,
         reversed: bool,
     ) -> Step
         requires matching { IsMatchingOf (S.matrix side.now) (F.seen matching.now) }
@@ -228,7 +230,7 @@ impl Search {
         &mut self,
         side: &S,
         matching: &Matching,
-        at: Stand,
+        at: Position,
         reversed: bool,
     ) -> Step
         requires matching { IsMatchingOf (S.matrix side.now) (F.seen matching.now) }
@@ -271,7 +273,7 @@ impl Search {
         // The rows fit, and so do the places in a column's list.
         let _rows = side.rows();
         self.start(root);
-        let mut at = Stand {
+        let mut at = Position {
             col: root,
             place: 0,
         };

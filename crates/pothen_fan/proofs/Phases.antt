@@ -2,7 +2,7 @@
 use Rattle.std.proofs.Common.{◌≡◌, ◌⊎◌, ◌↔◌, ◌∙◌, ℕ, ◌+◌, ◌-◌, ◌<◌, ◌≤◌, Bool, true, false, if◌then◌else◌, IsTrue, List, [], ◌∷◌, ◌++◌, length, refl, sym, ap, true≢false, subst, subst₂, inl, inr, ⊎_elim, arith}
 use Rattle.std.proofs.lemmas.List.{length-map}
 use Rattle.std.specs.Bool.{OnFalse, OnTrue}
-use Rattle.bip_defs.specs.Lists.{Among, IsMarked}
+use Rattle.bip_defs.specs.Lists.{Among}
 use Rattle.bip_defs.specs.Marks.{AreClosed, IsExplored}
 use Rattle.bip_defs.specs.Matching.{Covers, IsMatching, IsMaximum, cols_of, transposed_places}
 use Rattle.bip_defs.specs.Matrix.{Matrix, Place, cols, transpose}
@@ -26,9 +26,6 @@ extends_found a m n old new root found = inr (let e = found.size in omega arith)
 -- the matching is as at the phase's start, and the rows that were marked are left out for good, or it has grown
 abbrev pub Progress : Matrix → Pairing → Pairing → List Bool → List ℕ → Type 0
 Progress a start m marks roots = ((m ≡ start) × AreClosed a m.pairs marks × ((c : ℕ) → Among c roots → ¬ Among c (cols_of m.pairs) → IsExplored a marks c)) ⊎ (length start.pairs < length m.pairs)
-
-pub progress_starts : (a : Matrix) (m : Pairing) (marks : List Bool) → ((r : ℕ) → ¬ IsMarked marks r) → Progress a m m marks []
-progress_starts a m marks none = inl (refl, λ r h. absurd (none r h), λ c h. absurd h)
 
 pub progress_more : (a : Matrix) (start m n : Pairing) (old new : List Bool) (roots : List ℕ) (root : ℕ) → Progress a start m old roots → Extends a m n old new root → Progress a start n new (roots ++ root ∷ [])
 progress_more a start m n old new roots root (inr grown) (inr more) = inr (omega arith)

@@ -1,9 +1,9 @@
 -- Lists of the unmatched columns that have entries.
-use Rattle.std.proofs.Common.{◌≡◌, ◌≢◌, ◌↔◌, ◌==◌, ℕ, ◌+◌, ◌<◌, ◌≤◌, Bool, not, IsTrue, List, [], ◌∷◌, ◌++◌, length, map, refl, sym, subst, inl, ⊎_elim, arith, true≢false}
+use Rattle.std.proofs.Common.{◌≡◌, ◌≢◌, ◌↔◌, ◌==◌, ℕ, ◌<◌, ◌≤◌, Bool, not, IsTrue, List, [], ◌∷◌, length, map, refl, sym, subst, inl, arith, true≢false}
 use Rattle.bip_defs.specs.Lists.{Among, Lists}
 use Rattle.bip_defs.specs.Matching.{cols_of}
 use Rattle.bip_defs.specs.Matrix.{IsEntry, Matrix, Place, cols}
-use Rattle.bip_defs.proofs.Sets.{among_last, among_left, among_right, entry_col, number_same, rising_distinct, rising_last}
+use Rattle.bip_defs.proofs.Sets.{entry_col, rising_distinct}
 use Rattle.bip_defs.proofs.Full.{few_below}
 use Rattle.pothen_fan.specs.Roots.{HoldRoots, IsRoot}
 

@@ -2,13 +2,12 @@
 
 ghost use Rattle.std.specs.Prelude.{◌≡◌, ◌⊎◌, ◌↔◌, ◌<◌, length, IfOk, IsTrue};
 ghost use Rattle.bip_defs.specs.Matching.{Covers, IsMaximum};
-ghost use Rattle.bip_defs.specs.Matrix.{Matrix};
-ghost use Rattle.bip_graph.specs.Matching.{IsMatchingOf, IsMaximumOf, Pairing};
+ghost use Rattle.bip_graph.specs.Matching.{IsMatchingOf, IsMaximumOf};
 ghost use Rattle.pothen_fan.specs.Ready.{AreReady};
 
 use crate::sweep::{roots, sweep};
 use bip_graph::{Matching, Opposite};
-use path_search::{Forest, Search};
+use path_search::{Search, SearchForest};
 use sp_ids::{Col, OutOfMemory};
 use sp_pattern::Side;
 use std::alloc::Global;
@@ -17,7 +16,7 @@ use std::alloc::Global;
 #[derive(Drop)]
 pub struct Phases {
     search: Search,
-    forest: Forest,
+    forest: SearchForest,
     roots: Vec<Col>,
     unmatched: usize,
     reversed: bool,
@@ -35,7 +34,7 @@ impl Phases {
         ensures { IfOk result (AreReady (S.matrix side.now) (F.seen matching.now)) }
     {
         let search = Search::new(alloc, side.rows(), side.cols())?;
-        let forest = Forest::new(alloc, side.rows(), side.cols())?;
+        let forest = SearchForest::new(alloc, side.rows(), side.cols())?;
         let roots = roots(alloc, side, matching)?;
         let unmatched = roots.len();
         Ok(Phases {

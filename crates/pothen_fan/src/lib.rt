@@ -29,7 +29,7 @@ mod sweep;
 
 ghost use Rattle.std.specs.Prelude.{◌≡◌, ◌⊎◌, ◌↔◌, ◌+◌, ◌<◌, length, IfOk, OnErr};
 ghost use Rattle.bip_defs.specs.Matching.{Covers, IsMaximum};
-ghost use Rattle.bip_graph.specs.Matching.{IsMatchingOf, IsMaximumOf, Pairing};
+ghost use Rattle.bip_graph.specs.Matching.{IsMatchingOf, IsMaximumOf};
 
 use crate::kinds::complete_from;
 use crate::longer::lengthen_from;

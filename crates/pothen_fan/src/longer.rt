@@ -2,8 +2,8 @@
 
 ghost use Rattle.std.specs.Prelude.{◌≡◌, ◌⊎◌, ◌+◌, ◌<◌, length, IfOk, IsTrue};
 ghost use Rattle.bip_defs.specs.Matching.{Covers, IsMaximum};
-ghost use Rattle.bip_defs.specs.Matrix.{Matrix, cols};
-ghost use Rattle.bip_graph.specs.Matching.{IsMatchingOf, Pairing};
+ghost use Rattle.bip_defs.specs.Matrix.{cols};
+ghost use Rattle.bip_graph.specs.Matching.{IsMatchingOf};
 ghost use Rattle.pothen_fan.specs.Roots.{HoldRoots};
 
 use crate::sweep::{roots, sweep};

@@ -3,8 +3,8 @@
 ghost use Rattle.std.specs.Prelude.{◌≡◌, ◌⊎◌, ℕ, ◌<◌, ◌↔◌, List, length, IfOk, IsTrue};
 ghost use Rattle.bip_defs.specs.Lists.{Lists};
 ghost use Rattle.bip_defs.specs.Matching.{Covers, IsMaximum};
-ghost use Rattle.bip_defs.specs.Matrix.{Matrix, cols};
-ghost use Rattle.bip_graph.specs.Matching.{IsMatchingOf, Pairing};
+ghost use Rattle.bip_defs.specs.Matrix.{cols};
+ghost use Rattle.bip_graph.specs.Matching.{IsMatchingOf};
 ghost use Rattle.pothen_fan.specs.Roots.{Extends, HoldRoots, IsRoot};
 
 use bip_graph::{Matching, Opposite};

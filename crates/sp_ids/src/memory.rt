@@ -1,7 +1,5 @@
 //! Want of memory.
 
-ghost use Rattle.std.specs.Prelude.{◌≡◌};
-
 use std::alloc::{AllocError, AllocFailed};
 
 /// There was not enough memory. Every call that takes memory may answer it, and no other answer

@@ -8,7 +8,8 @@ ghost use Rattle.sp_ids.specs.Exit.{exit_code};
 pub enum Status {
     /// The answer was written.
     Ok,
-    /// The answer is no: a report is not valid, or a matrix has no perfect matching.
+    /// The answer is no: a report is not valid, a matrix has no perfect matching, or of a batch
+    /// some file is not good.
     Negative,
     /// The words on the command line are not those of a command.
     Usage,

@@ -1,6 +1,6 @@
 //! The entries of a matrix file.
 
-ghost use Rattle.std.specs.Prelude.{◌≡◌, ◌≢◌, ◌<◌, ◌↔◌, IsTrue, ℕ, pos, [], length, slice_index_or, IfOk, OnErr, OnOk};
+ghost use Rattle.std.specs.Prelude.{◌≡◌, ◌≢◌, ◌<◌, ◌↔◌, IsTrue, pos, [], length, slice_index_or, IfOk, OnErr, OnOk};
 ghost use Rattle.std.specs.List.{AllByRecursion};
 ghost use Rattle.sp_ids.specs.Entries.{IsInside, with_entry, places, values};
 ghost use Rattle.sp_ids.specs.declared.triples.Field.TheVariants.{Integer};
@@ -59,7 +59,8 @@ impl Triples {
         })
     }
 
-    /// Adds an entry, of value 0 where the field is not integer. Want of memory leaves the entries
+    /// Adds an entry, of value 0 where the field is not integer. Its row and column must be in the
+    /// matrix, and there may be 4,294,967,294 entries before it. Want of memory leaves the entries
     /// as they were.
     pub fn push(&mut self, row: Row, col: Col, value: i64) -> Result<(), OutOfMemory>
         requires row { row < self.old.rows }
@@ -116,7 +117,7 @@ impl Triples {
         self.places.is_empty()
     }
 
-    /// Where entry `i` stands.
+    /// Where entry `i` stands, which counts from 0 and must be there.
     pub fn place(&self, i: u32) -> (Row, Col)
         requires { i < length self.now.items }
         ensures place { result ≡ slice_index_or (places self.now) i (0, 0) }

@@ -10,7 +10,7 @@ use Rattle.bip_defs.proofs.Sets.{among_either, among_last, among_left, among_rig
 use Rattle.bip_defs.proofs.Transposed.{turned_among, turned_back, turned_length}
 use Rattle.sp_pattern.specs.Load.{IsOneOf, after_one, distinct_of, load_column, load_places}
 use Rattle.sp_pattern.specs.Pairs.{IsBefore, IsCompressed, IsOrderOf, Pair}
-use Rattle.sp_pattern.proofs.Orders.{compressed_empty, compressed_push}
+use Rattle.sp_pattern.proofs.Orders.{compressed_push}
 
 -- Remainders.
 
@@ -133,15 +133,6 @@ pub record IsLoading (size seed k : ℕ) (starts flat : List ℕ) : Type 0 where
   pub long : length starts ≡ k
   pub members : (p : Pair) → Among p pairs ↔ ((p.0 < k) × IsLoadRow size seed p.0 p.1)
   pub few : length flat ≤ 3 * k
-
-pub loading_start : (size seed : ℕ) → IsLoading size seed 0 [] []
-loading_start size seed = record {
-  pairs = [];
-  compressed = compressed_empty;
-  long = refl;
-  members = λ p. ((λ h. elim h [ ]), λ h. absurd (let lt = h.0 in omega (arith, lt)));
-  few = omega arith;
-}
 
 pub loading_step : (size seed k : ℕ) (starts opened flat longer : List ℕ) (a b c : ℕ) → IsLoading size seed k starts flat → length opened ≡ k + 1
     → ((ds : List Pair) → IsCompressed ds starts flat → IsCompressed ds opened flat) → longer ≡ flat ++ distinct_of a b c → (a ≤ b) × (b ≤ c)

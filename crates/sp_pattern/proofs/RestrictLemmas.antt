@@ -16,7 +16,6 @@ use Rattle.sp_pattern.specs.Restricted.{AreTaken, Decides, taken}
 use Rattle.sp_pattern.specs.Weights.{AreSums, Weighing, nonzero_places, place_in, position, start_of, weight_at, weight_of}
 use Rattle.sp_pattern.proofs.Both.{order_itself}
 use Rattle.sp_pattern.proofs.LoadLemmas.{compressed_extend, with_outer, with_outer_back, with_outer_over}
-use Rattle.sp_pattern.proofs.Orders.{compressed_empty}
 use Rattle.sp_pattern.proofs.Weighed.{place_later, place_same_here, start_le, start_more, weight_read}
 
 -- The numbers that are taken.
@@ -118,15 +117,6 @@ pub record IsTaking (a : Matrix) (takes : ℕ → Bool) (k : ℕ) (starts flat :
   pub long : length starts ≡ k
   pub members : (p : Pair) → Among p pairs ↔ ((p.0 < k) × Among p.1 (taken takes (start_of a p.0) (column a p.0)))
   pub few : length flat ≤ start_of a k
-
-pub taking_start : (a : Matrix) (takes : ℕ → Bool) → IsTaking a takes 0 [] []
-taking_start a takes = record {
-  pairs = [];
-  compressed = compressed_empty;
-  long = refl;
-  members = λ p. ((λ h. elim h [ ]), λ h. absurd (let lt = h.0 in omega (arith, lt)));
-  few = omega arith;
-}
 
 pub taking_step : (a : Matrix) (takes : ℕ → Bool) (k from : ℕ) (starts opened flat longer col : List ℕ) → IsRising (column a k) → IsTaking a takes k starts flat → k < cols a → length opened ≡ k + 1
     → ((ds : List Pair) → IsCompressed ds starts flat → IsCompressed ds opened flat) → from ≡ start_of a k → col ≡ column a k → longer ≡ flat ++ taken takes from col → IsTaking a takes (k + 1) opened longer

@@ -2,7 +2,7 @@
 use Rattle.std.proofs.Common.{◌≡◌, ◌≢◌, ◌⊎◌, ◌∙◌, ℕ, zero, suc, ◌+◌, ◌-◌, ◌<◌, ◌≤◌, List, [], ◌∷◌, length, get_or, take, drop, nat_eq, if◌then◌else◌, refl, sym, ap, arith, subst, inl, inr, ⊎_elim, sum_by, eq-eqb, false, Ok, Err, is_ok, nat_cmp, slice_index_or, true≢false}
 use Rattle.std.proofs.Math.Decide.{dec_lt}
 use Rattle.std.proofs.Math.Numerals.{suc-eq-add-one}
-use Rattle.std.proofs.lemmas.List.{get_or-take, get_or-drop, get_or_default, length-take, take_all}
+use Rattle.std.proofs.lemmas.List.{get_or-take, get_or-drop, get_or_default, length-take}
 use Rattle.std.proofs.lemmas.List.Sums.{sum_by_more, sum_by-take-le}
 use Rattle.std.proofs.lemmas.List.Sorted.{searched}
 use Rattle.std.proofs.lemmas.Bool.Decides.{nat_tests}
@@ -190,9 +190,6 @@ at_place a c at r xs up same lt after before is =
     let read : r ≡ get_or (column a c) (at - start_of a c) 0 = is ∙ ap (λ ys. get_or ys (at - start_of a c) r) same ∙ get_or_default (column a c) (at - start_of a c) r 0 inside in
     let there = ap (λ x. place_in x (column a c)) read ∙ place_in_at (column a c) (at - start_of a c) up inside in
     (rw same (subst (λ x. Among x (column a c)) (sym read) (among_at (column a c) (at - start_of a c) 0 inside)), omega (arith, there, after))
-
-pub start_all : (a : Matrix) (n : ℕ) → n ≡ cols a → start_of a n ≡ entry_count a
-start_all a n e = ap (sum_by length) (take_all n a.columns (omega (arith, e)))
 
 pub take_within : {X : Type 0} (n k : ℕ) (xs : List X) → k < length (take n xs) → k < n
 take_within n k xs lt = let long = length-take n xs in omega (arith, long, lt)

@@ -3,7 +3,7 @@
 ghost use Rattle.std.specs.Prelude.{◌≡◌, ◌<◌, ◌↔◌, IsTrue, ℕ, List, length, map};
 ghost use Rattle.bip_defs.specs.Matching.{transposed_places};
 ghost use Rattle.sp_pattern.specs.Mirror.{lower, lowered};
-ghost use Rattle.sp_pattern.specs.Pairs.{AreSorted, IsAtMost, in_blocks, pair_at, with_zero};
+ghost use Rattle.sp_pattern.specs.Pairs.{AreSorted, IsAtMost, in_buckets, pair_at, with_zero};
 
 use sp_ids::{Col, Id, Row};
 
@@ -95,17 +95,17 @@ impl<I: Id> Pairs for Inners<'_, I> {
     }
 }
 
-/// How many inner numbers make a block.
-pub const BLOCK: u32 = 4096;
+/// How many inner numbers make a bucket.
+pub const BUCKET: u32 = 4096;
 
-/// The same pairs, with the block of the inner number in its place.
+/// The same pairs, with the bucket of the inner number in its place.
 #[derive(Clone, Copy)]
-pub struct Blocks<'a, P> {
+pub struct Buckets<'a, P> {
     pub pairs: &'a P,
 }
 
-impl<P: Pairs> Pairs for Blocks<'_, P> {
-    ghost pairs = { λ s. in_blocks (P.pairs s.pairs.now) };
+impl<P: Pairs> Pairs for Buckets<'_, P> {
+    ghost pairs = { λ s. in_buckets (P.pairs s.pairs.now) };
 
     fn len(&self) -> usize {
         self.pairs.len()
@@ -113,7 +113,7 @@ impl<P: Pairs> Pairs for Blocks<'_, P> {
 
     fn at(&self, k: usize) -> (u32, u32) {
         let (outer, inner) = self.pairs.at(k);
-        (outer, inner / BLOCK)
+        (outer, inner / BUCKET)
     }
 }
 

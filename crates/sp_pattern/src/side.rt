@@ -1,6 +1,6 @@
 //! A matrix, seen from its columns or from its rows.
 
-ghost use Rattle.std.specs.Prelude.{◌≡◌, ◌<◌, ℕ, map};
+ghost use Rattle.std.specs.Prelude.{◌≡◌, ◌<◌, map};
 ghost use Rattle.bip_defs.specs.Lists.{Lists};
 ghost use Rattle.bip_defs.specs.Matrix.{IsEntry, Matrix, cols, column, transpose};
 

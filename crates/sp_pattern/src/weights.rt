@@ -1,6 +1,6 @@
 //! The weights of a pattern's entries.
 
-ghost use Rattle.std.specs.Prelude.{◌≡◌, ◌<◌, ◌≤◌, ℕ, pos, IfOk, IfErr, IfNone, IfSome, length, map, slice_index, slice_index_or};
+ghost use Rattle.std.specs.Prelude.{◌≡◌, ◌<◌, ℕ, pos, IfOk, IfErr, IfNone, IfSome, length, map, slice_index, slice_index_or};
 ghost use Rattle.std.specs.Int.RustNames.{unsigned_abs};
 ghost use Rattle.bip_defs.specs.Matrix.{IsEntry, cols, column, entry_count};
 ghost use Rattle.sp_ids.specs.declared.triples.Field.TheVariants.{Integer};

@@ -7,8 +7,8 @@ use std::thread;
 
 /// Where workers may be made to wait for each other. It changes no answer.
 pub trait Gate: Sync {
-    /// A worker has come to its share. Each worker calls it once in each search that the workers
-    /// share.
+    /// A worker has come to its share. Each worker calls it once in each level of a search, in each
+    /// exchange of paths and in each batch that the workers share.
     fn arrive(&self, worker: u32);
 }
 

@@ -1,6 +1,6 @@
 //! Sinks in memory.
 
-ghost use Rattle.std.specs.Prelude.{◌≡◌, ◌<◌, ◌≤◌, ◌+◌, ◌-◌, ◌^◌, ◌++◌, ◌↔◌, ◌⊎◌, [], min, take, length, nat_lt, true, false, Some, ◌||◌, IsOk, IsErr, IfOk, OnOk, OnErr, Contains};
+ghost use Rattle.std.specs.Prelude.{◌≡◌, ◌<◌, ◌≤◌, ◌+◌, ◌-◌, ◌^◌, ◌++◌, ◌↔◌, ◌⊎◌, [], min, take, length, nat_lt, false, ◌||◌, IsOk, IsErr, IfOk, OnOk, OnErr, Contains};
 ghost use Rattle.std.specs.Vec.{vec_capacity};
 ghost use Rattle.sp_ports.specs.Bytes.{Takes};
 ghost use Rattle.sp_ports.specs.Device.{FailsByWrites, seen};
@@ -45,7 +45,7 @@ impl Model for MemSink {
 impl MemSink {
     /// A sink with room for `room` bytes that takes at most `piece` of them in a call. Its calls of
     /// `write` and `flush` are numbered together from 0, and those whose numbers are in `failing`
-    /// fail. It takes its memory now.
+    /// fail. `piece` must be at least 1. Answers `OutOfMemory` where the room can't be had now.
     pub fn new(
         alloc: Global,
         room: usize,
@@ -183,8 +183,8 @@ impl Model for SteadySink {
 }
 
 impl SteadySink {
-    /// A sink with room for `room` bytes that takes at most `piece` of them in a call. It takes its
-    /// memory now.
+    /// A sink with room for `room` bytes that takes at most `piece` of them in a call, at least 1.
+    /// Answers `OutOfMemory` where the room can't be had now.
     pub fn new(alloc: Global, room: usize, piece: usize) -> Result<SteadySink, OutOfMemory>
         requires { 0 < piece }
         ensures { IfOk result

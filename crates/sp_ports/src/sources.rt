@@ -1,6 +1,6 @@
 //! Sources in memory.
 
-ghost use Rattle.std.specs.Prelude.{◌≡◌, ◌<◌, ◌≤◌, ◌+◌, ◌++◌, ◌↔◌, [], min, take, drop, length, Some, IsOk, IsErr, IfOk, OnOk, OnErr, Contains};
+ghost use Rattle.std.specs.Prelude.{◌≡◌, ◌<◌, ◌≤◌, ◌+◌, ◌↔◌, [], min, take, drop, length, Some, IsOk, IsErr, IfOk, OnErr, Contains};
 ghost use Rattle.sp_ports.specs.InMemory.{number_after};
 
 use crate::calls::Numbers;

@@ -1,30 +1,15 @@
 -- What single writes change.
-use Rattle.std.proofs.Common.{◌≡◌, ◌≢◌, ◌∙◌, ℕ, ◌+◌, ◌<◌, ◌≤◌, List, [], ◌∷◌, ◌++◌, set, length, get_or, refl, sym, ap, subst, inl, inr, ⊎_elim, arith, length-append, length-set, get_or-set_same, get_or-set_other}
+use Rattle.std.proofs.Common.{◌≡◌, ◌∙◌, ℕ, ◌+◌, ◌<◌, ◌≤◌, List, [], ◌∷◌, ◌++◌, length, get_or, refl, sym, ap, subst, inl, inr, ⊎_elim, arith, length-append}
 use Rattle.std.proofs.lemmas.List.{get_or_default}
 use Rattle.bip_defs.specs.Lists.{Among, IsRising}
-use Rattle.bip_defs.proofs.Sets.{among_last, among_left, below_each_from, below_each_sound, among_right, number_same}
+use Rattle.bip_defs.proofs.Sets.{among_last, among_left, below_each_from, below_each_sound, among_right}
 use Rattle.bip_graph.specs.Matching.{none}
 use Rattle.square_components.specs.Numbers.{look}
-use Rattle.square_components.specs.Steps.{AreUpTo, AssignsNumber}
+use Rattle.square_components.specs.Steps.{AreUpTo}
 
 -- what indexing read, as the clauses say it
 pub look_read : (xs : List ℕ) (i x : ℕ) → i < length xs → x ≡ get_or xs i x → look xs i ≡ x
 look_read xs i x lt e = get_or_default xs i none x lt ∙ sym e
-
--- Numbers.
-
-pub numbers_none : (stack : List ℕ) (b e k : ℕ) (old : List ℕ) → e ≤ b → AssignsNumber stack b e k old old
-numbers_none stack b e k old le = record { long = refl; given = λ i l lt. absurd (omega arith); others = λ c h. refl }
-
-pub numbers_more : (stack : List ℕ) (b e k : ℕ) (old new : List ℕ) → AssignsNumber stack b e k old new → b ≤ e → get_or stack e 0 < length new → AssignsNumber stack b (e + 1) k old (set new (get_or stack e 0) k)
-numbers_more stack b e k old new n le within = record {
-  long = length-set new (get_or stack e 0) k ∙ n.long;
-  given = λ i l lt. ⊎_elim
-      (λ (f : get_or stack i 0 ≡ get_or stack e 0). ap (look (set new (get_or stack e 0) k)) f ∙ get_or-set_same new (get_or stack e 0) k none within)
-      (λ ne. get_or-set_other new (get_or stack e 0) (get_or stack i 0) k none ne ∙ n.given i l (let x : i ≢ e = λ g. ne (ap (λ y. get_or stack y 0) g) in omega arith))
-      (number_same (get_or stack i 0) (get_or stack e 0));
-  others = λ c h. get_or-set_other new (get_or stack e 0) c k none (λ f. h e le (omega arith) (sym f)) ∙ n.others c (λ i l lt. h i l (omega arith));
-}
 
 -- Rising lists without their last.
 
@@ -48,9 +33,6 @@ pub record IsCut (t : ℕ) (old new : List ℕ) : Type 0 where
   pub rising : IsRising new
   pub fewer : length new ≤ length old
 
-pub cut_none : (t : ℕ) (old : List ℕ) → IsRising old → IsCut t old old
-cut_none t old h = record { kept = λ b g le. g; only = λ b g. g; rising = h; fewer = omega arith }
-
 pub cut_more : (t : ℕ) (old new prefix : List ℕ) (y : ℕ) → IsCut t old new → new ≡ prefix ++ y ∷ [] → t < y → IsCut t old prefix
 cut_more t old new prefix y c e lt = record {
   kept = λ b g le. ⊎_elim (λ h. h) (λ (f : b ≡ y). absurd (omega arith)) (among_last b y prefix (subst (Among b) e (c.kept b g le)));
@@ -61,6 +43,3 @@ cut_more t old new prefix y c e lt = record {
 
 pub cut_end : (t : ℕ) (old new prefix : List ℕ) (y : ℕ) → IsCut t old new → new ≡ prefix ++ y ∷ [] → y ≤ t → AreUpTo t old new
 cut_end t old new prefix y c e le = record { kept = c.kept; only = λ b g. (c.only b g, let m = rising_most new prefix y b c.rising e g in omega arith); rising = c.rising; fewer = c.fewer }
-
-pub cut_all : (t : ℕ) (old new : List ℕ) → IsCut t old new → new ≡ [] → AreUpTo t old new
-cut_all t old new c e = record { kept = c.kept; only = λ b g. absurd (subst (Among b) e g); rising = c.rising; fewer = c.fewer }

@@ -1,6 +1,5 @@
 -- The mates of the square part's rows, written one after the other.
-use Rattle.std.proofs.Common.{◌≡◌, ◌≢◌, ◌∙◌, ℕ, ◌+◌, ◌<◌, ◌≤◌, List, set, length, get_or, replicate, sym, ap, subst, ⊎_elim, arith, length-set, get_or-set_same, get_or-set_other}
-use Rattle.std.proofs.lemmas.List.{length-replicate}
+use Rattle.std.proofs.Common.{◌≡◌, ◌≢◌, ◌∙◌, ℕ, ◌+◌, ◌<◌, ◌≤◌, List, set, length, get_or, sym, ap, subst, ⊎_elim, arith, length-set, get_or-set_same, get_or-set_other}
 use Rattle.bip_defs.specs.Lists.{Among, Lists}
 use Rattle.bip_defs.specs.Matching.{IsMaximum}
 use Rattle.bip_defs.specs.Matrix.{Matrix, Place, cols}
@@ -10,16 +9,12 @@ use Rattle.bip_defs.proofs.Square.{in_rows, in_rows_among, in_rows_back, square_
 use Rattle.bip_graph.specs.Matching.{none}
 use Rattle.square_components.specs.Numbers.{look}
 use Rattle.square_components.specs.Stacks.{AreMatesOf}
-use Rattle.square_components.proofs.SearchLemmas.{look_none}
 
 -- of the rows up to the place i the mates are known
 pub record AreKnown (a : Matrix) (pairs : List Place) (rows : List ℕ) (i : ℕ) (mates : List ℕ) : Type 0 where
   pub long : length mates ≡ a.rows
   pub sound : (r : ℕ) → look mates r ≢ none → Among (r, look mates r) pairs × Among r rows
   pub given : (k : ℕ) → k < i → (d : ℕ) → Among (get_or rows k 0, d) pairs → look mates (get_or rows k 0) ≡ d
-
-pub known_none : (a : Matrix) (pairs : List Place) (rows : List ℕ) → AreKnown a pairs rows 0 (replicate a.rows none)
-known_none a pairs rows = record { long = length-replicate a.rows none; sound = λ r ne. absurd (ne (look_none a.rows r)); given = λ k lt. absurd (omega arith) }
 
 pub known_more : (a : Matrix) (pairs : List Place) (rows mates : List ℕ) (i r v : ℕ) → AreKnown a pairs rows i mates → r < a.rows → Among r rows → r ≡ get_or rows i 0 → (v ≢ none → Among (r, v) pairs) → ((d : ℕ) → Among (r, d) pairs → v ≡ d) → AreKnown a pairs rows (i + 1) (set mates r v)
 known_more a pairs rows mates i r v k lt on at sound complete = record {

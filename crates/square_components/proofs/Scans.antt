@@ -4,7 +4,7 @@ use Rattle.std.proofs.lemmas.List.{get_or_default}
 use Rattle.bip_defs.specs.Lists.{Among, Lists}
 use Rattle.bip_defs.specs.Matrix.{IsEntry, Matrix, cols, column}
 use Rattle.bip_defs.specs.Parts.{IsSquareCol}
-use Rattle.bip_defs.proofs.Sets.{among_at, few_distinct, rising_distinct, upto_complete, upto_length}
+use Rattle.bip_defs.proofs.Sets.{among_at}
 use Rattle.bip_defs.specs.Matrix as matrices
 use Rattle.bip_graph.specs.Matching.{none}
 use Rattle.square_components.specs.Numbers.{look}
@@ -87,10 +87,3 @@ row_in a mates rows s col x q r k l lt e f =
 pub target_read : (a : Matrix) (mates rows : List ℕ) (s : PathState) (col x q r : ℕ) → IsDepthFirst a mates s → Lists (λ t. IsEntry a t col) rows → rows ≡ column a col → x < length rows → q ≡ r → r ≡ get_or rows x r → get_or mates q 0 ≡ target a mates col x
 target_read a mates rows s col x q r k l same lt e f =
     get_or_default mates q 0 none (row_in a mates rows s col x q r k l lt e f) ∙ ap (look mates) (e ∙ f ∙ get_or_default rows x r 0 lt ∙ ap (λ ys. get_or ys x 0) same)
-
--- a column has no more entries than the matrix has rows
-pub column_short : (a : Matrix) (rows : List ℕ) (c : ℕ) → Lists (λ r. IsEntry a r c) rows → length rows ≤ a.rows
-column_short a rows c l =
-    let few = few_distinct rows (matrices.upto a.rows) (rising_distinct rows l.rising) (λ r h. upto_complete 0 a.rows r (omega arith) (let lt = (l.sound r h).0 in omega arith)) in
-    let n = upto_length 0 a.rows in
-    omega arith

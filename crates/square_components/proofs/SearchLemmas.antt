@@ -114,10 +114,6 @@ path_empty a mates s k done = by s.stack refl
 pub entered_same : (s t : PathState) (q d n k : ℕ) → q ≡ d → n ≡ k → t ≡ entering s q n → t ≡ entering s d k
 entered_same s t q d n k e f h = h ∙ ap (λ x. entering s x n) e ∙ ap (entering s d) f
 
--- an entry at its end was looked at
-settled_same : (s t : PathState) (i d : ℕ) → t ≡ s → Settled s i d → Settled t i d
-settled_same s t i d e h = subst (λ x. Settled x i d) (sym e) h
-
 looks_same : (a : Matrix) (mates : List ℕ) (s t : PathState) (at l : ℕ) → IsDepthFirst a mates s → IsLast s.todo at → get_or s.left (get_or s.stack at 0) 0 ≡ l + 1 → Settled s at (target a mates (get_or s.stack at 0) l) → t ≡ s → IsDepthFirst a mates (advancing t (get_or t.stack at 0) l)
 looks_same a mates s t at l k e left h same = subst (λ (x : PathState). IsDepthFirst a mates (advancing x (get_or x.stack at 0) l)) (sym same) (record {
   pairs = k.pairs;

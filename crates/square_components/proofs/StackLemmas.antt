@@ -2,7 +2,7 @@
 use Rattle.std.proofs.Common.{◌⊎◌, if◌then◌else◌, ◌≡◌, ◌≢◌, ◌∙◌, ℕ, ◌+◌, ◌<◌, ◌≤◌, List, [], ◌∷◌, ◌++◌, set, length, get_or, refl, sum_by, sym, ap, subst, inl, inr, ⊎_elim, arith, length-append, length-set, get_or-set_same, get_or-set_other}
 use Rattle.std.proofs.Math.Decide.{dec_lt}
 use Rattle.std.proofs.lemmas.Bool.Decides.{eqb_tells}
-use Rattle.std.proofs.lemmas.List.{get_or_append_left, get_or_push, get_or_past}
+use Rattle.std.proofs.lemmas.List.{get_or_append_left, get_or_push}
 use Rattle.std.proofs.lemmas.List.Sums.{sum_by-set}
 use Rattle.bip_defs.specs.Lists.{Among, IsRising}
 use Rattle.bip_defs.specs.Matrix.{Matrix, Place}
@@ -22,9 +22,6 @@ less x y = by (dec_lt x y)
     by : Dec (x < y) → (x < y) ⊎ (y ≤ x)
     by (yes lt) = inl lt
     by (no nlt) = inr (omega arith)
-
-below_of : (xs : List ℕ) (i : ℕ) → look xs i ≢ none → i < length xs
-below_of xs i h = ⊎_elim (λ lt. lt) (λ le. absurd (h (get_or_past xs i none le))) (less i (length xs))
 
 not_free : (q : ℕ) → q ≢ none → one_free q ≡ 0
 not_free q ne = ⊎_elim (λ h. absurd (ne h.1)) (λ h. ap (λ b. if b then 1 else 0) h.0) (eqb_tells q none)

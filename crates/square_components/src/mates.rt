@@ -6,7 +6,6 @@ ghost use Rattle.bip_defs.specs.Matching.{IsMatching};
 ghost use Rattle.bip_defs.specs.Matrix.{Matrix, Place};
 ghost use Rattle.bip_defs.specs.Parts.{IsSquareRow};
 ghost use Rattle.bip_graph.specs.Matching.{IsMaximumOf, none};
-ghost use Rattle.square_components.specs.Numbers.{look};
 ghost use Rattle.square_components.specs.Stacks.{AreMatesOf};
 ghost use Rattle.square_components.specs.Steps.{AreMatesIn};
 

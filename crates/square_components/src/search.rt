@@ -1,7 +1,7 @@
 //! What a depth-first search for strong components keeps, and the changes of it.
 
-ghost use Rattle.std.specs.Prelude.{◌≡◌, ◌≢◌, ℕ, ◌+◌, ◌<◌, ◌≤◌, ◌++◌, List, [], ◌∷◌, length, slice_index, vec_capacity, IfNone, IfOk, IfSome, MatchBool};
-ghost use Rattle.bip_defs.specs.Lists.{Among, IsRising};
+ghost use Rattle.std.specs.Prelude.{◌≡◌, ◌≢◌, ℕ, ◌<◌, ◌≤◌, ◌++◌, List, [], ◌∷◌, length, slice_index, vec_capacity, IfNone, IfOk, IfSome, MatchBool};
+ghost use Rattle.bip_defs.specs.Lists.{IsRising};
 ghost use Rattle.bip_graph.specs.Matching.{none};
 ghost use Rattle.square_components.specs.Numbers.{look};
 ghost use Rattle.square_components.specs.Stacks.{PathState};

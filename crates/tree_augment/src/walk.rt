@@ -1,6 +1,6 @@
 //! The walk over the path of one root.
 
-ghost use Rattle.std.specs.Prelude.{◌≡◌, ℕ, ◌<◌, Some};
+ghost use Rattle.std.specs.Prelude.{◌≡◌, ℕ, Some};
 ghost use Rattle.bip_defs.specs.Lists.{Among};
 ghost use Rattle.flip_words.specs.Board.{held};
 ghost use Rattle.flip_words.specs.Seat.{HasSet, Took};

@@ -106,9 +106,6 @@ rows_had last p r h = subst (Among r) (sym (map-append (λ (q : Place). q.0) las
 row_last : (last : List Place) (p : Place) → Among p.0 (rows_of (last ++ p ∷ []))
 row_last last p = subst (Among p.0) (sym (map-append (λ (q : Place). q.0) last (p ∷ []))) (among_right p.0 (rows_of last) (p.0 ∷ []) (inl refl))
 
-pub no_mates : (s : State) → AreMatesOf s [] []
-no_mates s = record { few = omega arith; sound = λ c h. absurd h; complete = λ r c h m. absurd h }
-
 -- the mate is put on the list
 pub mates_more : (s : State) (last : List Place) (f : List ℕ) (p : Place) (d : ℕ) → IsMatching s.matrix s.base → AreMatesOf s last f → Among (p.0, d) s.base → AreMatesOf s (last ++ p ∷ []) (f ++ d ∷ [])
 mates_more s last f p d k mates n = record {

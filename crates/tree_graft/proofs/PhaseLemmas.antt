@@ -9,7 +9,7 @@ use Rattle.bip_defs.proofs.Reaching.{same_size_maximum}
 use Rattle.sp_ids.specs.declared.events.Event.{Event}
 use Rattle.forest_core.specs.Events.{Grows, LeadsTo, Runs}
 use Rattle.forest_core.specs.Sound.{IsSound}
-use Rattle.bip_defs.specs.Forest.{IsRested, IsSettled, State}
+use Rattle.bip_defs.specs.Forest.{IsRested, State}
 
 -- the laws that runs keep a forest sound, and its matrix
 abbrev pub StaySound : Type 0
@@ -22,9 +22,6 @@ pub lead_matching : StaySound → KeepMatrix → (s t : State) → IsSound s →
 lead_matching sound same s t k l = subst (λ (a : Matrix). IsMatching a t.base) (same s t l) (sound s t l.0 k l.1).base
 
 -- Without a leaf.
-
-pub still_rested : (s t : State) → IsRested s → Grows s t → IsSettled t → t.leaves ≡ [] → IsRested t
-still_rested s t rested g settled e = record { settled = settled; no_leaves = e; none_flipped = g.flipped ∙ rested.none_flipped }
 
 pub was_maximum : (s t : State) → Grows s t → IsMaximum t.matrix t.base → IsMaximum s.matrix s.base
 was_maximum s t g max = subst (λ (a : Matrix). IsMaximum a s.base) g.matrix (subst (λ (m : List Place). IsMaximum t.matrix m) g.base max)

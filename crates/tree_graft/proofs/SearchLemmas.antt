@@ -40,10 +40,6 @@ level_same P n xs k np = record {
   complete = λ x h. ⊎_elim (λ (e : x ≡ n). absurd (np (subst P e h.1))) (λ (ne : x ≢ n). k.complete x (let lt = h.0 in omega arith, h.1)) (number_same x n);
 }
 
--- what was read at a place is on the list
-pub read_among : (x : ℕ) (xs : List ℕ) (k : ℕ) → k < length xs → x ≡ slice_index_or xs k x → Among x xs
-read_among x xs k lt e = subst (λ y. Among y xs) (sym e) (among_at xs k x lt)
-
 -- the row of a claim that was read there
 pub row_read : (p : Place) (ps : List Place) (k : ℕ) → k < length ps → p ≡ slice_index_or ps k p → Among p.0 (rows_of ps)
 row_read p ps k lt e = row_among p.0 p.1 ps (subst (λ (q : Place). Among q ps) (sym e) (among_at ps k p lt))

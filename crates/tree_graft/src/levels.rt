@@ -1,6 +1,6 @@
 //! The search of a phase, level by level, by workers who share a board of words.
 
-ghost use Rattle.std.specs.Prelude.{◌≡◌, ℕ, ◌+◌, ◌<◌, ◌≤◌, [], false, length, IfOk, OnOk};
+ghost use Rattle.std.specs.Prelude.{◌≡◌, ℕ, ◌≤◌, false, IfOk, OnOk};
 ghost use Rattle.bip_defs.specs.Forest.{InForest, IsRested, IsSettled};
 ghost use Rattle.bip_defs.specs.Lists.{Among};
 ghost use Rattle.bip_defs.specs.Matching.{cols_of};
@@ -12,7 +12,7 @@ ghost use Rattle.forest_core.specs.Events.{Grows, Runs};
 ghost use Rattle.level_sharing.specs.Agreement.{Agree, Shows};
 ghost use Rattle.level_sharing.specs.Growth.{fresh_events, grown};
 ghost use Rattle.sp_ids.specs.Limits.{max_workers};
-ghost use Rattle.tree_graft.specs.Search.{AreMatesOf, AreOfNewClaims, IsFrontier, IsScanned, IsReadyForLevel, levels_left};
+ghost use Rattle.tree_graft.specs.Search.{AreMatesOf, AreOfNewClaims, IsFrontier, IsScanned, IsReadyForLevel};
 
 use crate::frontiers::{claim_count, mates_of, unclaimed_rows, unmatched_columns};
 use crate::switches::goes_top_down;

@@ -53,7 +53,7 @@ use std::thread::Threads;
 /// while it is opened. After it the flip board has 8 bytes a row and 16 a column until the paths
 /// are exchanged, as much again and 8 of each while it is opened, and 4 of each for the mates when
 /// it is closed. A forest without claims whose unmatched columns have no entries takes none. Work:
-/// a few looks at each row and column; in each level at most one look at each entry of the
+/// a few looks at each row and column; in each level at most two looks at each entry of the
 /// frontier's columns, or of the unclaimed rows; and a few writes for each pair of a path.
 pub fn phase<R: Threads + Sync, G: Gate>(
     rt: &R,

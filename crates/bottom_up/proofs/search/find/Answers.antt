@@ -1,4 +1,5 @@
-use Rattle.std.proofs.Common.{[], ◌∙◌, inr, subst, sym}
+use Rattle.std.proofs.Common.{[], ◌∙◌, inr, subst, sym, true≢false}
+use Rattle.std.proofs.lemmas.Bool.{not-false, not-true}
 use Rattle.std.proofs.lemmas.List.{take_all}
 use Rattle.bip_defs.specs.Forest.{InForest}
 use Rattle.bip_defs.specs.Lists.{Among}
@@ -24,8 +25,8 @@ returns-in-Some-clause-candidate c = record {
   inside = c.in-Some.ensures.inside;
   rooted = c.in-Some.ensures.root;
   in_range = c.in-Some.ensures.in_range;
-  mated = c.is_free-free.ensures.mated;
-  is_free = c.is_free-free.ensures.free;
+  mated = λ f. c.is_matched-free.ensures.0 (not-false c.is_matched-free.result f);
+  is_free = λ t m. true≢false (sym (c.is_matched-free.ensures.1 m) ∙ not-true c.is_matched-free.result t);
 }
 
 pub returns-clause-none : goal.returns-clause-none

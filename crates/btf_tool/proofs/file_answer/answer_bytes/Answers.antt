@@ -2,7 +2,7 @@ use Rattle.std.proofs.Common.{◌≡◌, ◌++◌, ℕ, Bool, List, Result, Ok, 
 use Rattle.mm_defs.specs.Calls.{Intake}
 use Rattle.mm_defs.specs.declared.kinds.Kind.{Kind}
 use Rattle.sp_ids.specs.declared.memory.OutOfMemory.{OutOfMemory}
-use Rattle.btf_tool.specs.FileAnswer.{IsFaulty, IsFileAnswer}
+use Rattle.btf_tool.specs.FileAnswer.{IsFaulty}
 use Rattle.btf_tool.specs.declared.file_answer.FileAnswer.{FileAnswer}
 use Rattle.btf_tool.proofs.LentFiles.{lent_limit, lent_malformed, lent_read}
 use Rattle.btf_tool.proofs.file_answer.answer_bytes.Goals as goal

@@ -1,4 +1,4 @@
-use Rattle.std.proofs.Common.{◌≡◌, ◌∙◌, ◌∷◌, [], ◌++◌, ap, ap₂, map, sym, List}
+use Rattle.std.proofs.Common.{◌∙◌, ◌∷◌, [], ◌++◌, ap, ap₂, map, sym, List}
 use Rattle.std.proofs.lemmas.List.{map-append}
 use Rattle.bip_defs.specs.Blocks.{Block}
 use Rattle.bip_defs.specs.Matrix.{upto}

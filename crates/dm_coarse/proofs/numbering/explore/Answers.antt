@@ -1,4 +1,4 @@
-use Rattle.std.proofs.Common.{◌<◌, ◌≤◌, arith, length, rules}
+use Rattle.std.proofs.Common.{◌<◌, arith, length, rules}
 use Rattle.dm_coarse.proofs.NumberingLemmas.{queue_few}
 use Rattle.dm_coarse.proofs.numbering.explore.Goals as goal
 

@@ -1,7 +1,7 @@
-use Rattle.std.proofs.Common.{◌≡◌, ◌<◌, arith, length, map, rules}
+use Rattle.std.proofs.Common.{◌≡◌, arith, length, map, rules}
 use Rattle.std.proofs.lemmas.List.{length-map}
 use Rattle.bip_defs.proofs.Slices.{number_at, number_read}
-use Rattle.dm_coarse.proofs.NumberingLemmas.{marks_all, marks_more, marks_none}
+use Rattle.dm_coarse.proofs.NumberingLemmas.{marks_all, marks_more}
 use Rattle.dm_coarse.proofs.numbering.marks.Goals as goal
 
 pub index_mut-requires : goal.index_mut-requires

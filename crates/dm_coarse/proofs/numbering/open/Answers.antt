@@ -1,6 +1,5 @@
-use Rattle.std.proofs.Common.{◌≡◌, ◌∙◌, ap, arith, length, replicate, rules, []}
-use Rattle.std.proofs.lemmas.List.{nil_from_length}
-use Rattle.bip_defs.specs.Matrix.{Matrix, cols}
+use Rattle.std.proofs.Common.{◌≡◌, ◌∙◌, ap, arith, replicate, rules, []}
+use Rattle.bip_defs.specs.Matrix.{cols}
 use Rattle.dm_coarse.specs.Numbering.{none}
 use Rattle.dm_coarse.proofs.NumberingLemmas.{opened}
 use Rattle.dm_coarse.proofs.numbering.open.Goals as goal

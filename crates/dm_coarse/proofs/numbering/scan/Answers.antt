@@ -1,6 +1,6 @@
 use Rattle.std.proofs.Common.{◌≡◌, ◌∙◌, ◌<◌, ap, arith, length, map, rules, subst, sym}
 use Rattle.std.proofs.lemmas.List.{get_or_read, length-map}
-use Rattle.bip_defs.specs.Matrix.{Matrix, cols}
+use Rattle.bip_defs.specs.Matrix.{cols}
 use Rattle.bip_defs.proofs.Sets.{among_at}
 use Rattle.bip_defs.proofs.Slices.{number_at, number_read}
 use Rattle.dm_coarse.specs.Numbering.{none}

@@ -1,7 +1,7 @@
 use Rattle.std.proofs.Common.{◌≡◌, ◌∙◌, ◌<◌, arith, false, length, map, rules, true≢false, sym}
 use Rattle.std.proofs.lemmas.List.{get_or_read, length-map}
 use Rattle.bip_defs.proofs.Slices.{number_at, number_read}
-use Rattle.dm_coarse.proofs.NumberingLemmas.{row_scan_enter, row_scan_gone, row_scan_none, row_scan_skip}
+use Rattle.dm_coarse.proofs.NumberingLemmas.{row_scan_enter, row_scan_gone, row_scan_skip}
 use Rattle.dm_coarse.proofs.numbering.scan_row.Goals as goal
 use Rattle.dm_coarse.proofs.numbering.scan_row.Goals.{then-index+in_ok-enter, else-index}
 

@@ -7,7 +7,7 @@ use Rattle.integer_diagonal.specs.Labels.{IsClear, labels_of, tree_of}
 use Rattle.integer_diagonal.specs.Duals.{IsAssigned, cheap, priced_from}
 use Rattle.bip_defs.specs.Bottleneck.{IsFull}
 use Rattle.integer_diagonal.specs.SearchTree.{Tree}
-use Rattle.integer_diagonal.specs.Amounts.{HasRoom, far}
+use Rattle.integer_diagonal.specs.Amounts.{HasRoom, infinity}
 use Rattle.integer_diagonal.proofs.path.extend.Goals as goal
 use Rattle.bip_defs.specs.Queues.{heads}
 use Rattle.bip_defs.proofs.Queues.{head_at}
@@ -16,12 +16,12 @@ pub returns-then-eq-clause-stuck : goal.returns-then-eq-clause-stuck
 returns-then-eq-clause-stuck g c = λ e other full.
     let k = c.requires.assignment.matching in
     let f = c.in_ok-nearest.ensures in
-    stuck_not_full _ _ other _ _ k.rows_differ k.cols_differ f.tree (f.stuck (equal _ _ _ c.eq.ensures c.if-eq.true ∙ c.far.ensures)) (subst (λ (z : Matrix). IsFull z other) (sym c.requires.of) full)
+    stuck_not_full _ _ other _ _ k.rows_differ k.cols_differ f.tree (f.stuck (equal _ _ _ c.eq.ensures c.if-eq.true ∙ c.infinity.ensures)) (subst (λ (z : Matrix). IsFull z other) (sym c.requires.of) full)
 
 pub raise-requires-clause-in_range : goal.raise-requires-clause-in_range
 raise-requires-clause-in_range g c =
     let t : Tree = record { queue = c.as_slice-queue.result.now; depths = c.as_slice.result.now } in
-    let near : c.in_ok-nearest.nearest.distance < far = (let apart = unequal _ _ _ c.eq.ensures c.if-eq.false in omega (arith, apart, c.far.ensures, c.in_ok-nearest.ensures.within)) in
+    let near : c.in_ok-nearest.nearest.distance < infinity = (let apart = unequal _ _ _ c.eq.ensures c.if-eq.false in omega (arith, apart, c.infinity.ensures, c.in_ok-nearest.ensures.within)) in
     let f = found_near _ _ _ _ t _ _ _ c.as_slice-queue.ensures.value c.as_slice.ensures.value c.in_ok-nearest.ensures.tree c.in_ok-nearest.ensures.found near in
     λ i lt. (let within = f.grown.in_range _ (head_at t.queue i lt) in let long = c.requires.assignment.feasible.duals_are in omega (arith, within, long))
 
@@ -32,7 +32,7 @@ raise-requires-clause-rows_in_range g c =
 pub raise-requires-clause-duals_fit : goal.raise-requires-clause-duals_fit
 raise-requires-clause-duals_fit g c =
     let t : Tree = record { queue = c.as_slice-queue.result.now; depths = c.as_slice.result.now } in
-    let near : c.in_ok-nearest.nearest.distance < far = (let apart = unequal _ _ _ c.eq.ensures c.if-eq.false in omega (arith, apart, c.far.ensures, c.in_ok-nearest.ensures.within)) in
+    let near : c.in_ok-nearest.nearest.distance < infinity = (let apart = unequal _ _ _ c.eq.ensures c.if-eq.false in omega (arith, apart, c.infinity.ensures, c.in_ok-nearest.ensures.within)) in
     let f = found_near _ _ _ _ t _ _ _ c.as_slice-queue.ensures.value c.as_slice.ensures.value c.in_ok-nearest.ensures.tree c.in_ok-nearest.ensures.found near in
     let room = subst (λ (z : Matrix). HasRoom (cols z) c.args.assignment.now.top g.W.Width.limit) (sym c.requires.of) c.requires.fits in
     λ d. dual_fits _ _ _ _ _ _ _ _ d room c.requires.assignment.matching c.requires.assignment.bounded f
@@ -40,7 +40,7 @@ raise-requires-clause-duals_fit g c =
 pub raise-requires-clause-prices_fit : goal.raise-requires-clause-prices_fit
 raise-requires-clause-prices_fit g c =
     let t : Tree = record { queue = c.as_slice-queue.result.now; depths = c.as_slice.result.now } in
-    let near : c.in_ok-nearest.nearest.distance < far = (let apart = unequal _ _ _ c.eq.ensures c.if-eq.false in omega (arith, apart, c.far.ensures, c.in_ok-nearest.ensures.within)) in
+    let near : c.in_ok-nearest.nearest.distance < infinity = (let apart = unequal _ _ _ c.eq.ensures c.if-eq.false in omega (arith, apart, c.infinity.ensures, c.in_ok-nearest.ensures.within)) in
     let f = found_near _ _ _ _ t _ _ _ c.as_slice-queue.ensures.value c.as_slice.ensures.value c.in_ok-nearest.ensures.tree c.in_ok-nearest.ensures.found near in
     let room = subst (λ (z : Matrix). HasRoom (cols z) c.args.assignment.now.top g.W.Width.limit) (sym c.requires.of) c.requires.fits in
     λ r. price_fits _ _ _ _ _ _ _ _ r room c.requires.assignment.matching c.requires.assignment.bounded f
@@ -48,7 +48,7 @@ raise-requires-clause-prices_fit g c =
 pub path_to-requires-clause-queue : goal.path_to-requires-clause-queue
 path_to-requires-clause-queue g c =
     let t : Tree = record { queue = c.as_slice-queue.result.now; depths = c.as_slice.result.now } in
-    let near : c.in_ok-nearest.nearest.distance < far = (let apart = unequal _ _ _ c.eq.ensures c.if-eq.false in omega (arith, apart, c.far.ensures, c.in_ok-nearest.ensures.within)) in
+    let near : c.in_ok-nearest.nearest.distance < infinity = (let apart = unequal _ _ _ c.eq.ensures c.if-eq.false in omega (arith, apart, c.infinity.ensures, c.in_ok-nearest.ensures.within)) in
     let f = found_near _ _ _ _ t _ _ _ c.as_slice-queue.ensures.value c.as_slice.ensures.value c.in_ok-nearest.ensures.tree c.in_ok-nearest.ensures.found near in
     let u = c.raise.ensures.raised c.args.weights.now c.args.assignment.now.top in
     let on = way _ _ _ _ _ _ _ _ _ _ _ _ _ c.raise.ensures.matching c.requires.assignment f u in
@@ -57,7 +57,7 @@ path_to-requires-clause-queue g c =
 pub path_to-requires-clause-place : goal.path_to-requires-clause-place
 path_to-requires-clause-place g c =
     let t : Tree = record { queue = c.as_slice-queue.result.now; depths = c.as_slice.result.now } in
-    let near : c.in_ok-nearest.nearest.distance < far = (let apart = unequal _ _ _ c.eq.ensures c.if-eq.false in omega (arith, apart, c.far.ensures, c.in_ok-nearest.ensures.within)) in
+    let near : c.in_ok-nearest.nearest.distance < infinity = (let apart = unequal _ _ _ c.eq.ensures c.if-eq.false in omega (arith, apart, c.infinity.ensures, c.in_ok-nearest.ensures.within)) in
     let f = found_near _ _ _ _ t _ _ _ c.as_slice-queue.ensures.value c.as_slice.ensures.value c.in_ok-nearest.ensures.tree c.in_ok-nearest.ensures.found near in
     let u = c.raise.ensures.raised c.args.weights.now c.args.assignment.now.top in
     let on = way _ _ _ _ _ _ _ _ _ _ _ _ _ c.raise.ensures.matching c.requires.assignment f u in
@@ -66,7 +66,7 @@ path_to-requires-clause-place g c =
 pub path_to-requires-clause-leaf : goal.path_to-requires-clause-leaf
 path_to-requires-clause-leaf g c =
     let t : Tree = record { queue = c.as_slice-queue.result.now; depths = c.as_slice.result.now } in
-    let near : c.in_ok-nearest.nearest.distance < far = (let apart = unequal _ _ _ c.eq.ensures c.if-eq.false in omega (arith, apart, c.far.ensures, c.in_ok-nearest.ensures.within)) in
+    let near : c.in_ok-nearest.nearest.distance < infinity = (let apart = unequal _ _ _ c.eq.ensures c.if-eq.false in omega (arith, apart, c.infinity.ensures, c.in_ok-nearest.ensures.within)) in
     let f = found_near _ _ _ _ t _ _ _ c.as_slice-queue.ensures.value c.as_slice.ensures.value c.in_ok-nearest.ensures.tree c.in_ok-nearest.ensures.found near in
     let u = c.raise.ensures.raised c.args.weights.now c.args.assignment.now.top in
     let on = way _ _ _ _ _ _ _ _ _ _ _ _ _ c.raise.ensures.matching c.requires.assignment f u in
@@ -81,7 +81,7 @@ path_to-requires-clause-room g c =
 pub flip-requires-clause-in_range : goal.flip-requires-clause-in_range
 flip-requires-clause-in_range g c =
     let t : Tree = record { queue = c.as_slice-queue.result.now; depths = c.as_slice.result.now } in
-    let near : c.in_ok-nearest.nearest.distance < far = (let apart = unequal _ _ _ c.eq.ensures c.if-eq.false in omega (arith, apart, c.far.ensures, c.in_ok-nearest.ensures.within)) in
+    let near : c.in_ok-nearest.nearest.distance < infinity = (let apart = unequal _ _ _ c.eq.ensures c.if-eq.false in omega (arith, apart, c.infinity.ensures, c.in_ok-nearest.ensures.within)) in
     let f = found_near _ _ _ _ t _ _ _ c.as_slice-queue.ensures.value c.as_slice.ensures.value c.in_ok-nearest.ensures.tree c.in_ok-nearest.ensures.found near in
     let u = c.raise.ensures.raised c.args.weights.now c.args.assignment.now.top in
     let on = way _ _ _ _ _ _ _ _ _ _ _ _ _ c.raise.ensures.matching c.requires.assignment f u in
@@ -92,7 +92,7 @@ flip-requires-clause-in_range g c =
 pub returns : goal.returns
 returns g c =
     let t : Tree = record { queue = c.as_slice-queue.result.now; depths = c.as_slice.result.now } in
-    let near : c.in_ok-nearest.nearest.distance < far = (let apart = unequal _ _ _ c.eq.ensures c.if-eq.false in omega (arith, apart, c.far.ensures, c.in_ok-nearest.ensures.within)) in
+    let near : c.in_ok-nearest.nearest.distance < infinity = (let apart = unequal _ _ _ c.eq.ensures c.if-eq.false in omega (arith, apart, c.infinity.ensures, c.in_ok-nearest.ensures.within)) in
     let f = found_near _ _ _ _ t _ _ _ c.as_slice-queue.ensures.value c.as_slice.ensures.value c.in_ok-nearest.ensures.tree c.in_ok-nearest.ensures.found near in
     let u = c.raise.ensures.raised c.args.weights.now c.args.assignment.now.top in
     let on = way _ _ _ _ _ _ _ _ _ _ _ _ _ c.raise.ensures.matching c.requires.assignment f u in

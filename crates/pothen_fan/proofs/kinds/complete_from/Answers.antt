@@ -1,4 +1,4 @@
-use Rattle.bip_defs.proofs.Covers.{covers_more, covers_none}
+use Rattle.bip_defs.proofs.Covers.{covers_more}
 use Rattle.pothen_fan.proofs.Phases.{last_phase, phases_fall}
 use Rattle.pothen_fan.proofs.kinds.complete_from.Goals as goal
 

@@ -1,4 +1,4 @@
-use Rattle.std.proofs.Common.{◌∙◌, arith, sym, true≢false}
+use Rattle.std.proofs.Common.{◌∙◌, arith, true≢false}
 use Rattle.bip_defs.proofs.Covers.{covers_more, covers_none}
 use Rattle.pothen_fan.proofs.Phases.{growth_ends, growth_falls, roots_still}
 use Rattle.pothen_fan.proofs.Roots.{roots_hold}

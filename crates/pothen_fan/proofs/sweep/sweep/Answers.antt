@@ -1,7 +1,7 @@
 use Rattle.std.proofs.Common.{◌≡◌, length, take, arith, ap, ◌∙◌, subst}
 use Rattle.std.proofs.Math.Seq.{take-length}
 use Rattle.std.proofs.lemmas.List.{take_more}
-use Rattle.bip_defs.proofs.Covers.{covers_more, covers_none}
+use Rattle.bip_defs.proofs.Covers.{covers_more}
 use Rattle.pothen_fan.proofs.Phases.{Progress, progress_ends, progress_more}
 use Rattle.bip_defs.proofs.Slices.{read_among, read_at}
 use Rattle.pothen_fan.proofs.sweep.sweep.Goals as goal

@@ -1,4 +1,5 @@
-use Rattle.std.proofs.Common.{rules, ◌≡◌, ◌<◌, List, length, None, Some, sym, subst, inl}
+use Rattle.std.proofs.Common.{rules, ◌≡◌, ◌∙◌, ◌<◌, List, length, None, Some, not, sym, subst, inl, true≢false}
+use Rattle.std.proofs.lemmas.Bool.{not-false, not-true}
 use Rattle.claim_words.specs.Listed.{row_word}
 use Rattle.claim_words.specs.WorkerState.{work_after_look}
 use Rattle.frontier_levels.specs.Search.{HasGathered, StaysCovered}
@@ -60,18 +61,18 @@ pub returns-in_ok-make_room-in-None-clause-gathered :
 returns-in_ok-make_room-in-None-clause-gathered c =
     let s = c.args.self.now.forest.now in
     let b = c.args.self.now.board.now in
-    let can : CanClaim s (by_columns c.args.self.now.share.now) c.args.row c.args.col c.args.root c.is_free-free.result = record {
+    let can : CanClaim s (by_columns c.args.self.now.share.now) c.args.row c.args.col c.args.root (not c.is_matched-free.result) = record {
       is_own = c.requires.col;
       entry = c.requires.entry;
       inside = c.requires.search.inside c.args.col c.requires.col;
       rooted = c.requires.root;
-      mated = c.is_free-free.ensures.mated;
-      is_free = c.is_free-free.ensures.free;
+      mated = λ f. c.is_matched-free.ensures.0 (not-false c.is_matched-free.result f);
+      is_free = λ t m. true≢false (sym (c.is_matched-free.ensures.1 m) ∙ not-true c.is_matched-free.result t);
     } in
     let row : c.args.row < length b.rows = subst (λ n. c.args.row < n) (sym c.requires.search.rows) c.requires.entry.0 in
     let root : c.args.root < length b.roots = subst (λ n. c.args.root < n) (sym c.requires.search.roots) c.requires.in_range in
     subst (λ (l : List Candidate). HasGathered s b c.args.self.now.share.now c.make_room.new.worker l) (sym c.push.ensures.items)
-    (gathered_more s b c.args.self.now.share.now c.make_room.new.worker c.make_room.new.candidates.items (record { row = c.args.row; col = c.args.col; root = c.args.root; free = c.is_free-free.result }) can (row, root) c.in_ok-make_room-in-None.ensures.gathered)
+    (gathered_more s b c.args.self.now.share.now c.make_room.new.worker c.make_room.new.candidates.items (record { row = c.args.row; col = c.args.col; root = c.args.root; free = not c.is_matched-free.result }) can (row, root) c.in_ok-make_room-in-None.ensures.gathered)
 
 pub returns-in_ok-make_room-in-None-clause-stays :
     goal.returns-in_ok-make_room-in-None-clause-stays
@@ -84,13 +85,13 @@ returns-in_ok-make_room-in-None-clause-stays c =
     (λ r. c.steps_are_remembered.ensures.holder s own c.args.worker.now c.look_row.new.self r look)
     (λ x. c.steps_are_remembered.ensures.leaf s own c.args.worker.now c.look_row.new.self x look) in
     let more : StaysCovered c.make_room.new.worker c.make_room.new.candidates.items c.make_room.new.worker c.push.new.self.items =
-    subst (λ (l : List Candidate). StaysCovered c.make_room.new.worker c.make_room.new.candidates.items c.make_room.new.worker l) (sym c.push.ensures.items) (stays_more c.make_room.new.worker c.make_room.new.candidates.items (record { row = c.args.row; col = c.args.col; root = c.args.root; free = c.is_free-free.result })) in
+    subst (λ (l : List Candidate). StaysCovered c.make_room.new.worker c.make_room.new.candidates.items c.make_room.new.worker l) (sym c.push.ensures.items) (stays_more c.make_room.new.worker c.make_room.new.candidates.items (record { row = c.args.row; col = c.args.col; root = c.args.root; free = not c.is_matched-free.result })) in
     λ row root covered. more row root (c.in_ok-make_room-in-None.ensures.stays row root (seen row root covered))
 
 pub returns-in_ok-make_room-in-None-clause-row : goal.returns-in_ok-make_room-in-None-clause-row
 returns-in_ok-make_room-in-None-clause-row c =
     subst (λ (l : List Candidate). IsCovered c.make_room.new.worker l c.args.row c.args.root) (sym c.push.ensures.items)
-    (covered_last c.make_room.new.worker c.make_room.new.candidates.items (record { row = c.args.row; col = c.args.col; root = c.args.root; free = c.is_free-free.result }))
+    (covered_last c.make_room.new.worker c.make_room.new.candidates.items (record { row = c.args.row; col = c.args.col; root = c.args.root; free = not c.is_matched-free.result }))
 
 pub returns-in-Some-clause-row : goal.returns-in-Some-clause-row
 returns-in-Some-clause-row c =

@@ -26,9 +26,9 @@ loop-k-preserved g c =
     let read : c.index.result.now ≡ get_or c.args.self.now.reached.items c.loop-k.k c.index.result.now = subst (λ z. c.index.result.now ≡ get_or z c.loop-k.k c.index.result.now) i.reached c.index.ensures in
     let step = clear_step (labels_of c.loop-k.self) c.args.self.now.reached.items c.loop-k.k c.index.result.now long read (i.settled ∙ sym i.distances) i.listed in
     record {
-      listed = subst (λ d. AreListed (record (labels_of c.loop-k.self) { distances = set c.loop-k.self.distances.items c.index.result.now d; settled = set c.loop-k.self.settled.items c.index.result.now false }) (drop (c.loop-k.k + 1) c.args.self.now.reached.items)) (sym c.far.ensures) step.1;
+      listed = subst (λ d. AreListed (record (labels_of c.loop-k.self) { distances = set c.loop-k.self.distances.items c.index.result.now d; settled = set c.loop-k.self.settled.items c.index.result.now false }) (drop (c.loop-k.k + 1) c.args.self.now.reached.items)) (sym c.infinity.ensures) step.1;
       reached = i.reached;
-      distances = length-set c.loop-k.self.distances.items c.index.result.now c.far.result ∙ i.distances;
+      distances = length-set c.loop-k.self.distances.items c.index.result.now c.infinity.result ∙ i.distances;
       settled = length-set c.loop-k.self.settled.items c.index.result.now _ ∙ i.settled;
       parents = i.parents;
     }

@@ -5,7 +5,7 @@ use Rattle.integer_diagonal.proofs.SearchInvariant.{best_look, kept_look, known_
 use Rattle.std.proofs.lemmas.List.{get_or_read}
 use Rattle.integer_diagonal.specs.Labels.{AreKnown, IsKnown, labels_of, tree_of}
 use Rattle.integer_diagonal.specs.SearchTree.{Reaches, Tree}
-use Rattle.integer_diagonal.specs.Amounts.{HasRoom, far}
+use Rattle.integer_diagonal.specs.Amounts.{HasRoom, infinity}
 use Rattle.integer_diagonal.specs.Duals.{priced}
 use Rattle.integer_diagonal.proofs.search.Search.scan.Goals as goal
 
@@ -140,7 +140,7 @@ loop-k-preserved g c =
     let reaches = subst (Reaches x t c.number-row.result c.args.place) (sym long) (scan_reaches x t c.args.place c.number-row.result c.index-price.result.now weight c.index-dual.result.now c.index-depth.result.now f c.requires.place s) in
     let dep_is = s.dep_is in
     let inside : c.number-row.result < length c.loop-k.self.distances.items = (let long = i.kept.distances_are in let lt = entry.0 in omega (arith, long, lt)) in
-    let near : c.add-distance.result < far = omega (arith, fits, long, g.met.W.Width.in_range.1) in
+    let near : c.add-distance.result < infinity = omega (arith, fits, long, g.met.W.Width.in_range.1) in
     record {
       tree = c.in_ok-look.ensures.tree ∙ i.tree;
       kept = kept_look x _ t _ _ _ _ _ _ _ _ i.kept looked entry.0 reaches (omega (arith, long, dep_is)) near;

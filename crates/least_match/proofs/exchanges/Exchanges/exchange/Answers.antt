@@ -53,8 +53,8 @@ search-requires-clause-trees c =
     let start = trees_start c.args.self.now.pattern.now c.args.matching.now.pairs c.as_slice.result.now c.args.col c.args.other c.push.new.self.queue c.push-2.new.self.queue first last c.requires.behind below_other class (col_among c.args.row c.args.other c.args.matching.now.pairs c.requires.mate) c.requires.matched in
     (c.args.other, start)
 
-pub make_way-requires-clause-trees : goal.make_way-requires-clause-trees
-make_way-requires-clause-trees c =
+pub exchange_path-requires-clause-trees : goal.exchange_path-requires-clause-trees
+exchange_path-requires-clause-trees c =
     let below_other = entry_col c.args.self.now.pattern.now c.args.row c.args.other (c.requires.maximum.maximum.matching.entries c.args.row c.args.other c.requires.mate) in
     let test : class_of c.as_slice-numbers.result.now c.other.inside.0 ≡ class_of c.as_slice-numbers.result.now c.col.inside.0 = search rules in
     let by_col = subst (λ y. class_of c.as_slice-numbers.result.now c.other.inside.0 ≡ class_of c.as_slice-numbers.result.now y) c.col.view_is test in
@@ -77,7 +77,7 @@ pair-requires-clause-row_free c =
     let last = ap (λ (z : Reached). z.queue) c.push-2.ensures ∙ ap (λ (z : Reached). z.queue ++ (c.args.col, 0) ∷ []) c.clear-2.ensures in
     let start = trees_start c.args.self.now.pattern.now c.args.matching.now.pairs c.as_slice.result.now c.args.col c.args.other c.push.new.self.queue c.push-2.new.self.queue first last c.requires.behind below_other class (col_among c.args.row c.args.other c.args.matching.now.pairs c.requires.mate) c.requires.matched in
     let end = c.search.ensures.trees c.args.other start in
-    let frees = c.make_way.ensures.frees c.args.row (subst (λ x. Among {X = Place} (c.args.row, x) c.args.matching.now.pairs) (sym end.forward_tree.root) c.requires.mate) in
+    let frees = c.exchange_path.ensures.frees c.args.row (subst (λ x. Among {X = Place} (c.args.row, x) c.args.matching.now.pairs) (sym end.forward_tree.root) c.requires.mate) in
     frees.row_free
 
 pub pair-requires-clause-col_free : goal.pair-requires-clause-col_free
@@ -91,7 +91,7 @@ pair-requires-clause-col_free c =
     let last = ap (λ (z : Reached). z.queue) c.push-2.ensures ∙ ap (λ (z : Reached). z.queue ++ (c.args.col, 0) ∷ []) c.clear-2.ensures in
     let start = trees_start c.args.self.now.pattern.now c.args.matching.now.pairs c.as_slice.result.now c.args.col c.args.other c.push.new.self.queue c.push-2.new.self.queue first last c.requires.behind below_other class (col_among c.args.row c.args.other c.args.matching.now.pairs c.requires.mate) c.requires.matched in
     let end = c.search.ensures.trees c.args.other start in
-    let frees = c.make_way.ensures.frees c.args.row (subst (λ x. Among {X = Place} (c.args.row, x) c.args.matching.now.pairs) (sym end.forward_tree.root) c.requires.mate) in
+    let frees = c.exchange_path.ensures.frees c.args.row (subst (λ x. Among {X = Place} (c.args.row, x) c.args.matching.now.pairs) (sym end.forward_tree.root) c.requires.mate) in
     frees.col_free
 
 pub split-requires : goal.split-requires
@@ -106,7 +106,7 @@ split-requires c =
     let start = trees_start c.args.self.now.pattern.now c.args.matching.now.pairs c.as_slice.result.now c.args.col c.args.other c.push.new.self.queue c.push-2.new.self.queue first last c.requires.behind below_other class (col_among c.args.row c.args.other c.args.matching.now.pairs c.requires.mate) c.requires.matched in
     let end = c.search.ensures.trees c.args.other start in
     let long = c.requires.ready.classes.long in
-    record { cols = λ x h. let within = (end.forward_tree.rivals x h).within in omega (arith, within, long) }
+    record { cols = λ x h. let within = (end.forward_tree.tail x h).within in omega (arith, within, long) }
 
 pub split-requires-in-BackwardEnds : goal.split-requires-in-BackwardEnds
 split-requires-in-BackwardEnds c =
@@ -120,7 +120,7 @@ split-requires-in-BackwardEnds c =
     let start = trees_start c.args.self.now.pattern.now c.args.matching.now.pairs c.as_slice.result.now c.args.col c.args.other c.push.new.self.queue c.push-2.new.self.queue first last c.requires.behind below_other class (col_among c.args.row c.args.other c.args.matching.now.pairs c.requires.mate) c.requires.matched in
     let end = c.search.ensures.trees c.args.other start in
     let long = c.requires.ready.classes.long in
-    record { cols = λ x h. let within = (end.backward_tree.rivals x h).within in omega (arith, within, long) }
+    record { cols = λ x h. let within = (end.backward_tree.tail x h).within in omega (arith, within, long) }
 
 pub returns-then-numbers-other-clause-none : goal.returns-then-numbers-other-clause-none
 returns-then-numbers-other-clause-none c =
@@ -142,9 +142,9 @@ returns-in-Path-clause-maximum c =
     let last = ap (λ (z : Reached). z.queue) c.push-2.ensures ∙ ap (λ (z : Reached). z.queue ++ (c.args.col, 0) ∷ []) c.clear-2.ensures in
     let start = trees_start c.args.self.now.pattern.now c.args.matching.now.pairs c.as_slice.result.now c.args.col c.args.other c.push.new.self.queue c.push-2.new.self.queue first last c.requires.behind below_other class (col_among c.args.row c.args.other c.args.matching.now.pairs c.requires.mate) c.requires.matched in
     let end = c.search.ensures.trees c.args.other start in
-    let frees = c.make_way.ensures.frees c.args.row (subst (λ x. Among {X = Place} (c.args.row, x) c.args.matching.now.pairs) (sym end.forward_tree.root) c.requires.mate) in
-    let has = frees_then_gives c.args.self.now.pattern.now c.args.matching.now.pairs c.make_way.new.matching.pairs c.pair.new.self.pairs c.args.col c.args.row c.requires.maximum.maximum frees c.requires.entry c.size-after.ensures.rows_differ (rising_distinct _ c.size-after.ensures.cols_rise) c.pair.ensures.pairs c.pair.ensures.size in
-    has_maximum c.args.self.now.pattern.now c.args.matching.now c.pair.new.self c.args.col c.args.row c.requires.maximum (c.pair.ensures.sizes.0 ∙ c.make_way.ensures.sizes.0) (c.pair.ensures.sizes.1 ∙ c.make_way.ensures.sizes.1) has
+    let frees = c.exchange_path.ensures.frees c.args.row (subst (λ x. Among {X = Place} (c.args.row, x) c.args.matching.now.pairs) (sym end.forward_tree.root) c.requires.mate) in
+    let has = frees_then_gives c.args.self.now.pattern.now c.args.matching.now.pairs c.exchange_path.new.matching.pairs c.pair.new.self.pairs c.args.col c.args.row c.requires.maximum.maximum frees c.requires.entry c.size-after.ensures.rows_differ (rising_distinct _ c.size-after.ensures.cols_rise) c.pair.ensures.pairs c.pair.ensures.size in
+    has_maximum c.args.self.now.pattern.now c.args.matching.now c.pair.new.self c.args.col c.args.row c.requires.maximum (c.pair.ensures.sizes.0 ∙ c.exchange_path.ensures.sizes.0) (c.pair.ensures.sizes.1 ∙ c.exchange_path.ensures.sizes.1) has
 
 pub returns-in-Path-clause-found : goal.returns-in-Path-clause-found
 returns-in-Path-clause-found c =
@@ -157,8 +157,8 @@ returns-in-Path-clause-found c =
     let last = ap (λ (z : Reached). z.queue) c.push-2.ensures ∙ ap (λ (z : Reached). z.queue ++ (c.args.col, 0) ∷ []) c.clear-2.ensures in
     let start = trees_start c.args.self.now.pattern.now c.args.matching.now.pairs c.as_slice.result.now c.args.col c.args.other c.push.new.self.queue c.push-2.new.self.queue first last c.requires.behind below_other class (col_among c.args.row c.args.other c.args.matching.now.pairs c.requires.mate) c.requires.matched in
     let end = c.search.ensures.trees c.args.other start in
-    let frees = c.make_way.ensures.frees c.args.row (subst (λ x. Among {X = Place} (c.args.row, x) c.args.matching.now.pairs) (sym end.forward_tree.root) c.requires.mate) in
-    let has = frees_then_gives c.args.self.now.pattern.now c.args.matching.now.pairs c.make_way.new.matching.pairs c.pair.new.self.pairs c.args.col c.args.row c.requires.maximum.maximum frees c.requires.entry c.size-after.ensures.rows_differ (rising_distinct _ c.size-after.ensures.cols_rise) c.pair.ensures.pairs c.pair.ensures.size in
+    let frees = c.exchange_path.ensures.frees c.args.row (subst (λ x. Among {X = Place} (c.args.row, x) c.args.matching.now.pairs) (sym end.forward_tree.root) c.requires.mate) in
+    let has = frees_then_gives c.args.self.now.pattern.now c.args.matching.now.pairs c.exchange_path.new.matching.pairs c.pair.new.self.pairs c.args.col c.args.row c.requires.maximum.maximum frees c.requires.entry c.size-after.ensures.rows_differ (rising_distinct _ c.size-after.ensures.cols_rise) c.pair.ensures.pairs c.pair.ensures.size in
     has
 
 pub returns-in-Path-clause-ready : goal.returns-in-Path-clause-ready

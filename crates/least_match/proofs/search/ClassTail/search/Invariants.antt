@@ -1,0 +1,18 @@
+use Rattle.std.proofs.Common.{◌≡◌, ◌≤◌, ◌-◌, ◌+◌, ℕ, length}
+use Rattle.bip_defs.specs.Matrix.{cols}
+use Rattle.least_match.specs.Outcomes.{AreScanned, AreScannedBack}
+use Rattle.least_match.specs.Trees.{AreSearchTrees}
+use Rattle.least_match.proofs.search.ClassTail.search.Given as goal
+
+abbrev pub invariant-loop-forward : goal.invariant-loop-forward
+invariant-loop-forward l = record {
+  cols : (l.forward.cols ≡ l.fn.forward.cols) × (l.backward.cols ≡ l.fn.backward.cols);
+  trees : (d : ℕ) → AreSearchTrees l.self.pattern.now l.matching.pairs l.self.classes.now l.self.col d l.fn.forward.queue l.fn.backward.queue → AreSearchTrees l.self.pattern.now l.matching.pairs l.self.classes.now l.self.col d l.forward.queue l.backward.queue;
+  ahead : l.ahead ≤ length l.forward.queue;
+  back : l.back ≤ length l.backward.queue;
+  scanned : AreScanned l.self.pattern.now l.matching.pairs l.self.classes.now l.self.col l.forward.queue l.ahead;
+  scanned_back : AreScannedBack l.self.pattern.now l.matching.pairs l.self.classes.now l.self.col l.backward.queue l.back;
+}
+
+abbrev pub decreases-loop-forward : goal.decreases-loop-forward
+decreases-loop-forward l = (cols l.self.pattern.now - l.ahead) + (cols l.self.pattern.now - l.back)

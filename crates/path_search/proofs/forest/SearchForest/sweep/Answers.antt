@@ -1,0 +1,22 @@
+use Rattle.std.proofs.Common.{arith}
+use Rattle.bip_defs.proofs.Covers.{covers_more}
+use Rattle.path_search.proofs.SweepLemmas.{forest_short, grown_end, grown_more}
+use Rattle.path_search.proofs.forest.SearchForest.sweep.Goals as goal
+
+pub loop-place-smaller : goal.loop-place-smaller
+loop-place-smaller g c = let short = forest_short _ _ _ c.batch-place.ensures.forest in let later = c.batch-place.ensures.end in omega arith
+
+pub loop-place-preserved : goal.loop-place-preserved
+loop-place-preserved g c =
+    let k = c.loop-place.invariant in
+    let e = c.batch-place.ensures in
+    record {
+      forest = e.forest;
+      within = e.end.1;
+      matching = e.matching;
+      covered = covers_more k.covered e.covered;
+      grown = grown_more _ _ _ _ _ _ _ _ k.grown e.progresses;
+    }
+
+pub returns-clause-maximum : goal.returns-clause-maximum
+returns-clause-maximum g c = grown_end _ _ _ _ _ c.loop-place.invariant.grown c.loop-place.invariant.matching.matching (omega arith)
