@@ -330,10 +330,7 @@ pub fn judge_place(
     if col > u64::from(size.cols) {
         return Err(Kind::ColumnRange);
     }
-    let value = match value_of(header.field, value) {
-        Err(kind) => return Err(kind),
-        Ok(value) => value,
-    };
+    let value = value_of(header.field, value)?;
     if let Some(kind) = triangle(header.symmetry, row, col) {
         return Err(kind);
     }

@@ -398,10 +398,7 @@ fn end_line(alloc: Global, m: &mut Machine) -> Result<(), Stop>
         (StopsAt end (ls ++ bytes ∷ [])) }
 {
     let number = m.number + 1;
-    let phase = match next_phase(alloc, m.phase, &m.line, number, &mut m.triples) {
-        Err(stop) => return Err(stop),
-        Ok(phase) => phase,
-    };
+    let phase = next_phase(alloc, m.phase, &m.line, number, &mut m.triples)?;
     m.phase = phase;
     m.number = number;
     m.begun = false;
@@ -548,10 +545,7 @@ fn take_entries(
             Some(plain) => plain,
         };
         let number = m.number + 1;
-        phase = match after_plain(header, size, done, place, plain, number, &mut m.triples) {
-            Err(stop) => return Err(stop),
-            Ok(phase) => phase,
-        };
+        phase = after_plain(header, size, done, place, plain, number, &mut m.triples)?;
         m.number = number;
         done += 1;
         next = plain.next;
@@ -589,10 +583,7 @@ fn take_values(
             Some(plain) => plain,
         };
         let number = m.number + 1;
-        phase = match after_plain_value(header, size, done, place, plain, number, &mut m.triples) {
-            Err(stop) => return Err(stop),
-            Ok(phase) => phase,
-        };
+        phase = after_plain_value(header, size, done, place, plain, number, &mut m.triples)?;
         m.number = number;
         done += 1;
         place = following(header.symmetry, size.rows, place);
@@ -611,16 +602,11 @@ fn step(alloc: Global, m: &mut Machine, piece: &[u8], at: usize) -> Result<usize
     ensures more { IfOk result (λ next. at < next) }
     ensures err { IfErr result (Halts m.old piece.now at) }
 {
-    let next = match take_plain(m, piece, at) {
-        Err(stop) => return Err(stop),
-        Ok(next) => next,
-    };
+    let next = take_plain(m, piece, at)?;
     if next > at {
         return Ok(next);
     }
-    if let Err(stop) = take(alloc, m, piece[at]) {
-        return Err(stop);
-    }
+    take(alloc, m, piece[at])?;
     Ok(at + 1)
 }
 
@@ -641,10 +627,7 @@ pub fn feed(alloc: Global, m: &mut Machine, end: End, piece: &[u8]) -> Result<us
 {
     let mut at = 0;
     while at < piece.len() {
-        at = match step(alloc, m, piece, at) {
-            Err(stop) => return Err(stop),
-            Ok(next) => next,
-        };
+        at = step(alloc, m, piece, at)?;
         if is_complete(end, m.phase) {
             return Ok(at);
         }
@@ -663,9 +646,7 @@ pub fn finish(alloc: Global, m: &mut Machine) -> Result<(), Stop>
     if !m.begun {
         return missing(m.phase, m.number);
     }
-    if let Err(stop) = end_line(alloc, m) {
-        return Err(stop);
-    }
+    end_line(alloc, m)?;
     missing(m.phase, m.number)
 }
 

@@ -120,10 +120,7 @@ pub fn matrix<S: Source>(
         Ok(m) => m,
     };
     'reading: loop {
-        let done = match consume(alloc, &mut m, end, window) {
-            Err(error) => return Err(error),
-            Ok(done) => done,
-        };
+        let done = consume(alloc, &mut m, end, window)?;
         if done {
             return Ok(triples_of(m));
         }

@@ -75,9 +75,7 @@ pub fn rest<S: Source>(
 {
     let mut bytes = Vec::new(alloc);
     'reading: loop {
-        if let Err(error) = take_ahead(&mut bytes, window) {
-            return Err(error);
-        }
+        take_ahead(&mut bytes, window)?;
         if window.at_end {
             return Ok(bytes);
         }

@@ -1,4 +1,5 @@
 use Rattle.std.proofs.Common.{◌≡◌, ◌++◌, ◌∷◌, [], true, false, sym, ◌∙◌}
+use Rattle.std.proofs.lemmas.Result.{err_from_is_err_and}
 use Rattle.mm_defs.specs.File.{Reads}
 use Rattle.mm_defs.specs.Words.{lines, open_line, has_bytes}
 use Rattle.mm_reader.specs.Stages.{IsAll, Lacks, StopsAtEnd}
@@ -15,15 +16,17 @@ returns-then-not-m c end bytes h out =
     (λ stop k. lacks_closed end bytes stop closed k)
     (c.missing.ensures end c.args.m.now.triples (lines false bytes) h.lines_are h.number_is)
 
-pub returns-in-Err : goal.returns-in-Err
-returns-in-Err c end bytes h out =
+pub returns-in_err-end_line : goal.returns-in_err-end_line
+returns-in_err-end_line c end bytes h out =
     let begun : has_bytes (open_line bytes) ≡ true = sym h.begun_is ∙ c.if-not-m.false in
-    stop_begun end bytes c.in-Err.stop begun (c.in-Err.ensures.steps end (lines false bytes) (open_line bytes) h.open_is h.lines_are h.number_is out)
+    let p = err_from_is_err_and c.from_residual.result c.from_residual.ensures.1 in
+    rw (p.1, p.2)
+    (stop_begun end bytes c.in_err-end_line.field-0.0 begun (c.in_err-end_line.ensures.steps end (lines false bytes) (open_line bytes) h.open_is h.lines_are h.number_is out))
 
 pub returns : goal.returns
 returns c end bytes h out =
     let begun : has_bytes (open_line bytes) ≡ true = sym h.begun_is ∙ c.if-not-m.false in
-    let b = c.in_default.ensures.steps end (lines false bytes) (open_line bytes) h.open_is h.lines_are h.number_is out in
+    let b = c.in_ok-end_line.ensures.steps end (lines false bytes) (open_line bytes) h.open_is h.lines_are h.number_is out in
     map_result (λ _. IsAll end c.end_line.new.m.phase c.end_line.new.m.triples (lines false bytes ++ open_line bytes ∷ [])) (λ _. Reads bytes end c.end_line.new.m.triples [])
     (Lacks end (lines false bytes ++ open_line bytes ∷ [])) (StopsAtEnd end bytes) c.missing-2.result
     (λ _ k. whole_begun end bytes c.end_line.new.m.phase c.end_line.new.m.triples begun k)

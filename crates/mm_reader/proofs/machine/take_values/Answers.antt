@@ -1,4 +1,5 @@
 use Rattle.std.proofs.Common.{◌+◌, refl, sym, ap, ◌∙◌, arith}
+use Rattle.std.proofs.lemmas.Result.{err_from_is_err_and}
 use Rattle.mm_reader.specs.declared.array.ArrayPlace.{ArrayPlace}
 use Rattle.mm_reader.specs.declared.machine.Machine.{Machine}
 use Rattle.mm_reader.specs.declared.machine.Phase.TheVariants as phases
@@ -6,15 +7,17 @@ use Rattle.mm_reader.proofs.ArrayLaws.{next_inside}
 use Rattle.mm_reader.proofs.PlainSteps.{stays, plain_goes, plain_halts, open_machine, room_at, goes_then, halts_then}
 use Rattle.mm_reader.proofs.machine.take_values.Goals as goal
 
-pub returns-in-Err-clause-err : goal.returns-in-Err-clause-err
-returns-in-Err-clause-err c =
+pub returns-in_err-phase-clause-err : goal.returns-in_err-phase-clause-err
+returns-in_err-phase-clause-err c =
     let i = c.loop-done.invariant in
     let p = c.in-Some.ensures in
     let m : Machine = record c.loop-done.m { phase = c.loop-done.phase } in
-    halts_then c.args.m.now m c.args.piece.now c.args.at c.loop-done.next c.in-Err.stop i.goes
-    (plain_halts m _ _ _ _ i.awaits c.args.piece.now c.loop-done.next _ p.line p.whole c.after_plain_value.new.triples c.in-Err.stop
-    (λ end ls b has good n. c.in-Err.ensures.steps end c.args.piece.now c.loop-done.next p ls b has good n))
-    (open_machine m _ _ _ _ i.awaits c.loop-done-test.true)
+    let e = err_from_is_err_and c.from_residual.result c.from_residual.ensures.1 in
+    rw (e.1, e.2)
+    (halts_then c.args.m.now m c.args.piece.now c.args.at c.loop-done.next c.in_err-phase.field-0.0 i.goes
+    (plain_halts m _ _ _ _ i.awaits c.args.piece.now c.loop-done.next _ p.line p.whole c.after_plain_value.new.triples c.in_err-phase.field-0.0
+    (λ end ls b has good n. c.in_err-phase.ensures.steps end c.args.piece.now c.loop-done.next p ls b has good n))
+    (open_machine m _ _ _ _ i.awaits c.loop-done-test.true))
 
 pub loop-done-init : goal.loop-done-init
 loop-done-init c = record {
@@ -29,10 +32,10 @@ loop-done-preserved c =
     let p = c.in-Some.ensures in
     let m : Machine = record c.loop-done.m { phase = c.loop-done.phase } in
     record {
-      awaits = record { phase_is = c.in-Ok.ensures.phase ∙ ap (λ (x : ArrayPlace). phases.Entries c.args.header c.args.size (c.loop-done.done + 1) x) (sym c.following-place.ensures); closed = i.awaits.closed };
+      awaits = record { phase_is = c.in_ok-phase.ensures.phase ∙ ap (λ (x : ArrayPlace). phases.Entries c.args.header c.args.size (c.loop-done.done + 1) x) (sym c.following-place.ensures); closed = i.awaits.closed };
       goes = goes_then c.args.m.now m _ c.args.piece.now c.args.at c.loop-done.next _ i.goes
-          (plain_goes m _ _ _ _ i.awaits c.args.piece.now c.loop-done.next _ p.line p.whole c.after_plain_value.new.triples c.in-Ok.phase c.in-Ok.ensures.ready
-          (λ end ls b has good n. c.in-Ok.ensures.steps end c.args.piece.now c.loop-done.next p ls b has good n))
+          (plain_goes m _ _ _ _ i.awaits c.args.piece.now c.loop-done.next _ p.line p.whole c.after_plain_value.new.triples c.in_ok-phase.phase c.in_ok-phase.ensures.ready
+          (λ end ls b has good n. c.in_ok-phase.ensures.steps end c.args.piece.now c.loop-done.next p ls b has good n))
           (open_machine m _ _ _ _ i.awaits c.loop-done-test.true);
       same = λ e. absurd (omega (arith, p.whole.in_order, i.goes.in_order));
     }

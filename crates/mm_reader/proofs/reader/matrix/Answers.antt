@@ -1,4 +1,5 @@
 use Rattle.std.proofs.Common.{◌<◌, [], refl, sym, ◌∙◌, arith, subst}
+use Rattle.std.proofs.lemmas.Result.{err_from_is_err_and}
 use Rattle.sp_ports.specs.Device.{SourceRose}
 use Rattle.mm_defs.specs.declared.answers.ReadError.TheVariants as errors
 use Rattle.mm_reader.specs.Windows.{ahead_of}
@@ -29,20 +30,22 @@ returns-in-Err g c =
 pub consume-requires-clause-stands : goal.consume-requires-clause-stands
 consume-requires-clause-stands g c = (c.reading.invariant.fed.used, c.reading.invariant.fed.stands)
 
-pub returns-in-Err-consume : goal.returns-in-Err-consume
-returns-in-Err-consume g c =
+pub returns-in_err-done : goal.returns-in_err-done
+returns-in_err-done g c =
     let i = c.reading.invariant in
-    let e = c.in-Err-consume.ensures in
+    let e = c.in_err-done.ensures in
     let u = e.used.1 in
     let h = more_used c.args.window.now c.reading.window c.consume.new.window (g.S.Source.left c.args.source.now) (g.S.Source.left c.reading.source) i.fed.used i.fed.so_far e.used.0 u in
-    record {
-      known = exit_refused c.args.end c.args.window.now (g.S.Source.faults c.args.source.now) (g.S.Source.faults c.reading.source) c.reading.m c.reading.window i.window c.consume.new.window _ _ c.in-Err-consume.error i.fed e.err;
+    let p = err_from_is_err_and c.from_residual.result c.from_residual.ensures.1 in
+    rw (p.1, p.2)
+    (record {
+      known = exit_refused c.args.end c.args.window.now (g.S.Source.faults c.args.source.now) (g.S.Source.faults c.reading.source) c.reading.m c.reading.window i.window c.consume.new.window _ _ c.in_err-done.field-0.0 i.fed e.err;
       kind = refused_kind _ _ _ _ _ (e.err i.fed.used i.fed.stands);
       gave = (h.gave, h.known);
       most = most_known c.args.window.now c.consume.new.window _ (g.S.Source.faults c.args.source.now) (g.S.Source.faults c.reading.source) _ _ h e.window;
       cause = record { counts = record { later = omega (arith, i.steady); once = omega (arith, i.steady) }; steady = tt; failed = λ x. absurd (refused_no_fault _ _ _ _ _ (e.err i.fed.used i.fed.stands) x) };
       counted = counted_known c.args.window.now c.consume.new.window _ _ _ h;
-      past = λ x. e.past (same_error c.in-Err-consume.error errors.TooLong x);
+      past = λ x. e.past (same_error c.in_err-done.field-0.0 errors.TooLong x);
       window = keeps c.args.window.now c.consume.new.window _ _ _ h e.window;
       at_end = λ t. i.at_end (rw (← u.at_end_same) t);
       unasked = λ t. (i.unasked t).1;
@@ -50,14 +53,14 @@ returns-in-Err-consume g c =
       ended = tt;
       last_line = tt;
       in_room = tt;
-    }
+    })
 
 pub returns-then-done : goal.returns-then-done
 returns-then-done g c =
     let i = c.reading.invariant in
-    let e = c.in-Ok-consume.ensures in
+    let e = c.in_ok-done.ensures in
     let u = e.ok.uses in
-    let f = fed_consumed c.args.end c.args.window.now c.reading.window c.consume.new.window (g.S.Source.left c.args.source.now) (g.S.Source.left c.reading.source) c.reading.m c.consume.new.m c.in-Ok-consume.done i.fed e.ok in
+    let f = fed_consumed c.args.end c.args.window.now c.reading.window c.consume.new.window (g.S.Source.left c.args.source.now) (g.S.Source.left c.reading.source) c.reading.m c.consume.new.m c.in_ok-done.done i.fed e.ok in
     let closed = closed_used c.args.end c.consume.new.m f.used f.stands (e.ok.closed c.if-done.true) in
     let h = f.so_far in
     record {
@@ -81,9 +84,9 @@ returns-then-done g c =
 pub returns-then-window : goal.returns-then-window
 returns-then-window g c =
     let i = c.reading.invariant in
-    let e = c.in-Ok-consume.ensures in
+    let e = c.in_ok-done.ensures in
     let u = e.ok.uses in
-    let f = fed_consumed c.args.end c.args.window.now c.reading.window c.consume.new.window (g.S.Source.left c.args.source.now) (g.S.Source.left c.reading.source) c.reading.m c.consume.new.m c.in-Ok-consume.done i.fed e.ok in
+    let f = fed_consumed c.args.end c.args.window.now c.reading.window c.consume.new.window (g.S.Source.left c.args.source.now) (g.S.Source.left c.reading.source) c.reading.m c.consume.new.m c.in_ok-done.done i.fed e.ok in
     let h = f.so_far in
     let answer = c.conclude.ensures c.args.end f.used f.stands (sym e.ok.done_is ∙ c.if-done.false) in
     record {
@@ -107,9 +110,9 @@ returns-then-window g c =
 pub returns-in-Err-refill : goal.returns-in-Err-refill
 returns-in-Err-refill g c =
     let i = c.reading.invariant in
-    let e = c.in-Ok-consume.ensures in
+    let e = c.in_ok-done.ensures in
     let u = e.ok.uses in
-    let f = fed_consumed c.args.end c.args.window.now c.reading.window c.consume.new.window (g.S.Source.left c.args.source.now) (g.S.Source.left c.reading.source) c.reading.m c.consume.new.m c.in-Ok-consume.done i.fed e.ok in
+    let f = fed_consumed c.args.end c.args.window.now c.reading.window c.consume.new.window (g.S.Source.left c.args.source.now) (g.S.Source.left c.reading.source) c.reading.m c.consume.new.m c.in_ok-done.done i.fed e.ok in
     let r = c.in-Err-refill.ensures in
     let none = e.ok.all c.if-done.false in
     let h = not_refilled c.args.window.now c.consume.new.window c.refill.new.window (g.S.Source.left c.args.source.now) (g.S.Source.left c.reading.source) f.used f.so_far (g.S.Source.left c.refill.new.source) none r.kept r.none r.room r.lines in
@@ -150,9 +153,9 @@ reading-init g c =
 pub reading-preserved : goal.reading-preserved
 reading-preserved g c =
     let i = c.reading.invariant in
-    let e = c.in-Ok-consume.ensures in
+    let e = c.in_ok-done.ensures in
     let u = e.ok.uses in
-    let f = fed_consumed c.args.end c.args.window.now c.reading.window c.consume.new.window (g.S.Source.left c.args.source.now) (g.S.Source.left c.reading.source) c.reading.m c.consume.new.m c.in-Ok-consume.done i.fed e.ok in
+    let f = fed_consumed c.args.end c.args.window.now c.reading.window c.consume.new.window (g.S.Source.left c.args.source.now) (g.S.Source.left c.reading.source) c.reading.m c.consume.new.m c.in_ok-done.done i.fed e.ok in
     let r = c.in_default.ensures in
     record {
       window = r.window;
@@ -168,7 +171,7 @@ reading-preserved g c =
 pub reading-smaller : goal.reading-smaller
 reading-smaller g c =
     let i = c.reading.invariant in
-    let e = c.in-Ok-consume.ensures in
+    let e = c.in_ok-done.ensures in
     let r = c.in_default.ensures in
     turn_smaller c.reading.window c.consume.new.window c.refill.new.window e.ok.count i.window r.window e.ok.uses.room_is
     (all_used (ahead_of c.reading.window) (ahead_of c.consume.new.window) e.ok.count e.ok.uses.some e.ok.uses.ahead_is (e.ok.all c.if-done.false))

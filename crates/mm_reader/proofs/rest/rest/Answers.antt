@@ -1,4 +1,5 @@
 use Rattle.std.proofs.Common.{List, ℕ, ◌<◌, refl, sym, subst, ◌∙◌, arith}
+use Rattle.std.proofs.lemmas.Result.{err_from_is_err_and}
 use Rattle.sp_ports.specs.Device.{SourceRose}
 use Rattle.mm_reader.specs.declared.window.Window.{Window}
 use Rattle.mm_reader.proofs.Exits.{rose_since, turn_smaller}
@@ -6,31 +7,33 @@ use Rattle.mm_reader.proofs.Progress.{HasUsed, none_used, all_taken, refilled, n
 use Rattle.mm_reader.proofs.RestLaws.{rest_refused, rest_fault, rest_read, past_ahead, refused_no_rest_fault, unjudged}
 use Rattle.mm_reader.proofs.rest.rest.Goals as goal
 
-pub returns-in-Err : goal.returns-in-Err
-returns-in-Err g c =
+pub returns-in_err-take_ahead : goal.returns-in_err-take_ahead
+returns-in_err-take_ahead g c =
     let i = c.reading.invariant in
-    let e = c.in-Err.ensures in
+    let e = c.in_err-take_ahead.ensures in
     let h = subst (λ (x : Window). HasUsed c.args.window.now x (g.S.Source.left c.args.source.now) (g.S.Source.left c.reading.source) c.reading.bytes.items) (sym e.same) i.so_far in
-    record {
-      known = rest_refused c.args.window.now (g.S.Source.faults c.args.source.now) (g.S.Source.faults c.reading.source) c.reading.bytes.items c.reading.window _ _ c.in-Err.error i.so_far e.err;
-      unjudged = unjudged c.reading.window c.in-Err.error e.err;
+    let p = err_from_is_err_and c.from_residual.result c.from_residual.ensures.1 in
+    rw (p.1, p.2)
+    (record {
+      known = rest_refused c.args.window.now (g.S.Source.faults c.args.source.now) (g.S.Source.faults c.reading.source) c.reading.bytes.items c.reading.window _ _ c.in_err-take_ahead.field-0.0 i.so_far e.err;
+      unjudged = unjudged c.reading.window c.in_err-take_ahead.field-0.0 e.err;
       gave = (h.gave, h.known);
       most = most_known c.args.window.now c.take_ahead.new.window c.reading.bytes.items (g.S.Source.faults c.args.source.now) (g.S.Source.faults c.reading.source) _ _ h e.window.window;
-      cause = record { counts = record { later = omega (arith, i.steady); once = omega (arith, i.steady) }; steady = tt; failed = λ x. absurd (refused_no_rest_fault _ c.reading.window c.in-Err.error e.err x) };
+      cause = record { counts = record { later = omega (arith, i.steady); once = omega (arith, i.steady) }; steady = tt; failed = λ x. absurd (refused_no_rest_fault _ c.reading.window c.in_err-take_ahead.field-0.0 e.err x) };
       counted = counted_known c.args.window.now c.take_ahead.new.window c.reading.bytes.items _ _ h;
-      past = λ x. rw e.same (past_ahead _ c.reading.window i.window c.in-Err.error e.err x);
+      past = λ x. rw e.same (past_ahead _ c.reading.window i.window c.in_err-take_ahead.field-0.0 e.err x);
       window = keeps c.args.window.now c.take_ahead.new.window c.reading.bytes.items _ _ h e.window.window;
       at_end = λ t. i.at_end (rw (← e.at_end) t);
       unasked = λ t. (i.unasked t).1;
       stays = λ t. rw e.at_end ((i.unasked t).0);
       ended = tt;
       in_room = tt;
-    }
+    })
 
 pub returns-then-window : goal.returns-then-window
 returns-then-window g c =
     let i = c.reading.invariant in
-    let e = c.in_default.ensures in
+    let e = c.in_ok-take_ahead.ensures in
     let h = all_taken c.args.window.now c.reading.window c.take_ahead.new.window (g.S.Source.left c.args.source.now) (g.S.Source.left c.reading.source) c.reading.bytes.items i.so_far c.take_ahead.new.bytes.items e.ok in
     record {
       known = rest_read c.args.window.now (g.S.Source.faults c.args.source.now) (g.S.Source.faults c.reading.source) c.take_ahead.new.bytes.items c.take_ahead.new.window _ _ h e.ok.ahead_is (i.at_end (rw (← e.at_end) c.if-window.true)) i.steady;
@@ -48,12 +51,12 @@ returns-then-window g c =
       in_room = e.in_room;
     }
 
-pub returns-in-Err-refill : goal.returns-in-Err-refill
-returns-in-Err-refill g c =
+pub returns-in-Err : goal.returns-in-Err
+returns-in-Err g c =
     let i = c.reading.invariant in
-    let e = c.in_default.ensures in
+    let e = c.in_ok-take_ahead.ensures in
     let k = all_taken c.args.window.now c.reading.window c.take_ahead.new.window (g.S.Source.left c.args.source.now) (g.S.Source.left c.reading.source) c.reading.bytes.items i.so_far c.take_ahead.new.bytes.items e.ok in
-    let r = c.in-Err-refill.ensures in
+    let r = c.in-Err.ensures in
     let h = not_refilled c.args.window.now c.take_ahead.new.window c.refill.new.window (g.S.Source.left c.args.source.now) (g.S.Source.left c.reading.source) c.take_ahead.new.bytes.items k (g.S.Source.left c.refill.new.source) e.ok.ahead_is r.kept r.none r.room r.lines in
     let s : SourceRose (g.S.Source.left c.args.source.now) (g.S.Source.faults c.args.source.now) (g.S.Source.faults c.refill.new.source) =
     rose_since (g.S.Source.left c.args.source.now) (g.S.Source.left c.reading.source) i.so_far.gave _ (g.S.Source.faults c.reading.source) _ i.so_far.known i.steady r.cause.failed in
@@ -85,9 +88,9 @@ reading-init g c = record {
 pub reading-preserved : goal.reading-preserved
 reading-preserved g c =
     let i = c.reading.invariant in
-    let e = c.in_default.ensures in
+    let e = c.in_ok-take_ahead.ensures in
     let k = all_taken c.args.window.now c.reading.window c.take_ahead.new.window (g.S.Source.left c.args.source.now) (g.S.Source.left c.reading.source) c.reading.bytes.items i.so_far c.take_ahead.new.bytes.items e.ok in
-    let r = c.in_default-refill.ensures in
+    let r = c.in_default.ensures in
     record {
       window = r.window;
       at_end = r.end;
@@ -99,6 +102,6 @@ reading-preserved g c =
 pub reading-smaller : goal.reading-smaller
 reading-smaller g c =
     let i = c.reading.invariant in
-    let e = c.in_default.ensures in
-    let r = c.in_default-refill.ensures in
+    let e = c.in_ok-take_ahead.ensures in
+    let r = c.in_default.ensures in
     turn_smaller c.reading.window c.take_ahead.new.window c.refill.new.window _ i.window r.window e.ok.room_is refl (sym e.at_end ∙ c.if-window.false) r.room (λ x. subst (λ k. 0 < k) r.count (r.some x))
