@@ -136,18 +136,14 @@ pub fn read_files<S: Source>(
     let mut files = Vec::new(alloc);
     'reading: loop {
         let before = files.len();
-        let header = match read_header(input, source, before) {
-            Err(error) => return Err(error),
-            Ok(None) => return Ok(files),
-            Ok(Some(header)) => header,
+        let header = match read_header(input, source, before)? {
+            None => return Ok(files),
+            Some(header) => header,
         };
         if header.last {
             return end_with(alloc, header.bytes, files);
         }
-        let file = match read_file(alloc, input, source, before, header.bytes) {
-            Err(error) => return Err(error),
-            Ok(file) => file,
-        };
+        let file = read_file(alloc, input, source, before, header.bytes)?;
         if let Err(_) = files.push(file) {
             return Err(BatchError::OutOfMemory);
         }

@@ -37,15 +37,11 @@ pub fn judge_edit(before: usize, rows: u32, cols: u32, line: &LineSoFar) -> Resu
     if !line.has_words(3) {
         return Err(Kind::EditWords);
     }
-    match judge_place(rows, cols, line) {
-        Err(kind) => Err(kind),
-        Ok((row, col)) => {
-            if sets {
-                Ok(Edit::Set(row, col))
-            } else {
-                Ok(Edit::Clear(row, col))
-            }
-        }
+    let (row, col) = judge_place(rows, cols, line)?;
+    if sets {
+        Ok(Edit::Set(row, col))
+    } else {
+        Ok(Edit::Clear(row, col))
     }
 }
 

@@ -83,10 +83,8 @@ fn finish(
     if !begun {
         return Ok(edits);
     }
-    match take_line(line, lfs + 1, rows, cols, &mut edits) {
-        Err(error) => Err(error),
-        Ok(()) => Ok(edits),
-    }
+    take_line(line, lfs + 1, rows, cols, &mut edits)?;
+    Ok(edits)
 }
 
 /// Reads edit lines up to the end of the input, of a matrix of so many rows and columns: `set i j`,
@@ -142,17 +140,14 @@ pub fn read_edits<S: Source>(
     let mut line = LineSoFar::new();
     let mut begun = false;
     'reading: loop {
-        match next_byte(input, source) {
-            Err(error) => return Err(error),
-            Ok(None) => return finish(&line, begun, input.lines(), rows, cols, edits),
-            Ok(Some(b'\n')) => {
-                if let Err(error) = take_line(&line, input.lines(), rows, cols, &mut edits) {
-                    return Err(error);
-                }
+        match next_byte(input, source)? {
+            None => return finish(&line, begun, input.lines(), rows, cols, edits),
+            Some(b'\n') => {
+                take_line(&line, input.lines(), rows, cols, &mut edits)?;
                 line.clear();
                 begun = false;
             }
-            Ok(Some(byte)) => {
+            Some(byte) => {
                 line.push(byte);
                 begun = true;
             }

@@ -3,6 +3,7 @@ use Rattle.std.specs.Global.{Vec}
 use Rattle.std.specs.Vec.{vec_len}
 use Rattle.std.proofs.lemmas.List.{length-map, map-append}
 use Rattle.std.proofs.lemmas.List.Elements.{All-push}
+use Rattle.std.proofs.lemmas.Result.{err_from_is_err_and}
 use Rattle.sp_ids.specs.Limits.{max_batch_file_bytes}
 use Rattle.mm_reader.specs.Fronts.{front}
 use Rattle.mm_frames.specs.Batches.{files_of}
@@ -27,47 +28,49 @@ reading-init g c =
       unasked = λ t. (t, refl);
     }
 
-pub returns-in-Err-clause-answer : goal.returns-in-Err-clause-answer
-returns-in-Err-clause-answer g c =
+pub returns-in_err-read_header-clause-answer : goal.returns-in_err-read_header-clause-answer
+returns-in_err-read_header-clause-answer g c =
     let i = c.reading.invariant in
-    header_answered (front c.args.input.now) (front c.reading.input) (front c.read_header.new.input) (g.S.Source.left c.args.source.now) (g.S.Source.left c.reading.source) (g.S.Source.left c.read_header.new.source)
+    let q = err_from_is_err_and c.from_residual.result c.from_residual.ensures.1 in
+    rw (q.1, q.2)
+    (header_answered (front c.args.input.now) (front c.reading.input) (front c.read_header.new.input) (g.S.Source.left c.args.source.now) (g.S.Source.left c.reading.source) (g.S.Source.left c.read_header.new.source)
     (g.S.Source.faults c.args.source.now) (g.S.Source.faults c.reading.source) (g.S.Source.faults c.read_header.new.source) i.steady (files_of c.reading.files.items) i.files c.len-before.result (count c.reading.files c.len-before.result c.len-before.ensures)
-    c.in-Err.error c.in-Err.ensures.answer
+    c.in_err-read_header.field-0.0 c.in_err-read_header.ensures.answer)
 
-pub returns-in-Err-clause-gave : goal.returns-in-Err-clause-gave
-returns-in-Err-clause-gave g c =
+pub returns-in_err-read_header-clause-gave : goal.returns-in_err-read_header-clause-gave
+returns-in_err-read_header-clause-gave g c =
     let i = c.reading.invariant in
-    let u = c.in-Err.ensures.answer in
+    let u = c.in_err-read_header.ensures.answer in
     let k = header_used (front c.args.input.now) (front c.reading.input) (front c.read_header.new.input) (g.S.Source.left c.args.source.now) (g.S.Source.left c.reading.source) (g.S.Source.left c.read_header.new.source)
     (g.S.Source.faults c.args.source.now) (g.S.Source.faults c.reading.source) (g.S.Source.faults c.read_header.new.source) i.steady (files_of c.reading.files.items) i.files c.len-before.result (count c.reading.files c.len-before.result c.len-before.ensures) u.used u.so_far in
     (k.gave, k.given)
 
-pub returns-in-Err-clause-most : goal.returns-in-Err-clause-most
-returns-in-Err-clause-most g c =
+pub returns-in_err-read_header-clause-most : goal.returns-in_err-read_header-clause-most
+returns-in_err-read_header-clause-most g c =
     let i = c.reading.invariant in
-    let u = c.in-Err.ensures.answer in
+    let u = c.in_err-read_header.ensures.answer in
     let k = header_used (front c.args.input.now) (front c.reading.input) (front c.read_header.new.input) (g.S.Source.left c.args.source.now) (g.S.Source.left c.reading.source) (g.S.Source.left c.read_header.new.source)
     (g.S.Source.faults c.args.source.now) (g.S.Source.faults c.reading.source) (g.S.Source.faults c.read_header.new.source) i.steady (files_of c.reading.files.items) i.files c.len-before.result (count c.reading.files c.len-before.result c.len-before.ensures) u.used u.so_far in
-    most_known (front c.args.input.now) (front c.read_header.new.input) (g.S.Source.left c.args.source.now) (g.S.Source.left c.read_header.new.source) (i.files.used ++ u.used) k (g.S.Source.faults c.args.source.now) (g.S.Source.faults c.read_header.new.source) c.in-Err.ensures.most
+    most_known (front c.args.input.now) (front c.read_header.new.input) (g.S.Source.left c.args.source.now) (g.S.Source.left c.read_header.new.source) (i.files.used ++ u.used) k (g.S.Source.faults c.args.source.now) (g.S.Source.faults c.read_header.new.source) c.in_err-read_header.ensures.most
 
-pub returns-in-Ok-None-clause-answer : goal.returns-in-Ok-None-clause-answer
-returns-in-Ok-None-clause-answer g c =
+pub returns-in-None-clause-answer : goal.returns-in-None-clause-answer
+returns-in-None-clause-answer g c =
     let i = c.reading.invariant in
-    let u = rw c.in-Ok-None.field-0-is at c.in-Ok-None.ensures.answer in
+    let u = rw c.in-None.is at c.in_ok-read_header.ensures.answer in
     end_answered (front c.args.input.now) (front c.reading.input) (front c.read_header.new.input) (g.S.Source.left c.args.source.now) (g.S.Source.left c.reading.source) (g.S.Source.left c.read_header.new.source)
     (g.S.Source.faults c.args.source.now) (g.S.Source.faults c.reading.source) (g.S.Source.faults c.read_header.new.source) i.steady (files_of c.reading.files.items) i.files c.len-before.result (count c.reading.files c.len-before.result c.len-before.ensures) u
 
 pub returns-then-header-clause-answer : goal.returns-then-header-clause-answer
 returns-then-header-clause-answer g c =
     let i = c.reading.invariant in
-    let u = rw c.in-Ok-Some.field-0-is at c.in-Ok-Some.ensures.answer in
+    let u = rw c.in-Some.is at c.in_ok-read_header.ensures.answer in
     last_answered (front c.args.input.now) (front c.reading.input) (front c.read_header.new.input) (g.S.Source.left c.args.source.now) (g.S.Source.left c.reading.source) (g.S.Source.left c.read_header.new.source)
-    (g.S.Source.faults c.args.source.now) (g.S.Source.faults c.reading.source) (g.S.Source.faults c.read_header.new.source) i.steady (files_of c.reading.files.items) i.files c.len-before.result (count c.reading.files c.len-before.result c.len-before.ensures) c.in-Ok-Some.header u c.if-header.true c.end_with.result c.end_with.ensures.answer
+    (g.S.Source.faults c.args.source.now) (g.S.Source.faults c.reading.source) (g.S.Source.faults c.read_header.new.source) i.steady (files_of c.reading.files.items) i.files c.len-before.result (count c.reading.files c.len-before.result c.len-before.ensures) c.in-Some.header u c.if-header.true c.end_with.result c.end_with.ensures.answer
 
 pub returns-then-header-clause-gave : goal.returns-then-header-clause-gave
 returns-then-header-clause-gave g c =
     let i = c.reading.invariant in
-    let u = c.in-Ok-Some.ensures.answer in
+    let u = c.in_ok-read_header.ensures.answer in
     let k = header_used (front c.args.input.now) (front c.reading.input) (front c.read_header.new.input) (g.S.Source.left c.args.source.now) (g.S.Source.left c.reading.source) (g.S.Source.left c.read_header.new.source)
     (g.S.Source.faults c.args.source.now) (g.S.Source.faults c.reading.source) (g.S.Source.faults c.read_header.new.source) i.steady (files_of c.reading.files.items) i.files c.len-before.result (count c.reading.files c.len-before.result c.len-before.ensures) u.used u.so_far in
     (k.gave, k.given)
@@ -75,85 +78,87 @@ returns-then-header-clause-gave g c =
 pub returns-then-header-clause-most : goal.returns-then-header-clause-most
 returns-then-header-clause-most g c =
     let i = c.reading.invariant in
-    let u = c.in-Ok-Some.ensures.answer in
+    let u = c.in_ok-read_header.ensures.answer in
     let k = header_used (front c.args.input.now) (front c.reading.input) (front c.read_header.new.input) (g.S.Source.left c.args.source.now) (g.S.Source.left c.reading.source) (g.S.Source.left c.read_header.new.source)
     (g.S.Source.faults c.args.source.now) (g.S.Source.faults c.reading.source) (g.S.Source.faults c.read_header.new.source) i.steady (files_of c.reading.files.items) i.files c.len-before.result (count c.reading.files c.len-before.result c.len-before.ensures) u.used u.so_far in
-    most_known (front c.args.input.now) (front c.read_header.new.input) (g.S.Source.left c.args.source.now) (g.S.Source.left c.read_header.new.source) (i.files.used ++ u.used) k (g.S.Source.faults c.args.source.now) (g.S.Source.faults c.read_header.new.source) c.in-Ok-Some.ensures.most
+    most_known (front c.args.input.now) (front c.read_header.new.input) (g.S.Source.left c.args.source.now) (g.S.Source.left c.read_header.new.source) (i.files.used ++ u.used) k (g.S.Source.faults c.args.source.now) (g.S.Source.faults c.read_header.new.source) c.in_ok-read_header.ensures.most
 
-pub returns-in-Err-read_file-clause-answer : goal.returns-in-Err-read_file-clause-answer
-returns-in-Err-read_file-clause-answer g c =
+pub returns-in_err-file-clause-answer : goal.returns-in_err-file-clause-answer
+returns-in_err-file-clause-answer g c =
     let i = c.reading.invariant in
-    let u = rw c.in-Ok-Some.field-0-is at c.in-Ok-Some.ensures.answer in
-    file_answered (front c.args.input.now) (front c.reading.input) (front c.read_header.new.input) (g.S.Source.left c.args.source.now) (g.S.Source.left c.reading.source) (g.S.Source.left c.read_header.new.source)
-    (g.S.Source.faults c.args.source.now) (g.S.Source.faults c.reading.source) (g.S.Source.faults c.read_header.new.source) i.steady (files_of c.reading.files.items) i.files c.len-before.result (count c.reading.files c.len-before.result c.len-before.ensures) c.in-Ok-Some.header u c.if-header.false
-    c.in-Ok-Some.ensures.cause.steady (front c.read_file.new.input) (g.S.Source.left c.read_file.new.source) (g.S.Source.faults c.read_file.new.source) c.in-Err-read_file.error (c.in-Err-read_file.ensures.answer u.such.line u.such.good)
+    let u = rw c.in-Some.is at c.in_ok-read_header.ensures.answer in
+    let q = err_from_is_err_and c.from_residual-in_err-file.result c.from_residual-in_err-file.ensures.1 in
+    rw (q.1, q.2)
+    (file_answered (front c.args.input.now) (front c.reading.input) (front c.read_header.new.input) (g.S.Source.left c.args.source.now) (g.S.Source.left c.reading.source) (g.S.Source.left c.read_header.new.source)
+    (g.S.Source.faults c.args.source.now) (g.S.Source.faults c.reading.source) (g.S.Source.faults c.read_header.new.source) i.steady (files_of c.reading.files.items) i.files c.len-before.result (count c.reading.files c.len-before.result c.len-before.ensures) c.in-Some.header u c.if-header.false
+    c.in_ok-read_header.ensures.cause.steady (front c.read_file.new.input) (g.S.Source.left c.read_file.new.source) (g.S.Source.faults c.read_file.new.source) c.in_err-file.field-0.0 (c.in_err-file.ensures.answer u.such.line u.such.good))
 
-pub returns-in-Err-read_file-clause-gave : goal.returns-in-Err-read_file-clause-gave
-returns-in-Err-read_file-clause-gave g c =
+pub returns-in_err-file-clause-gave : goal.returns-in_err-file-clause-gave
+returns-in_err-file-clause-gave g c =
     let i = c.reading.invariant in
-    let u = rw c.in-Ok-Some.field-0-is at c.in-Ok-Some.ensures.answer in
-    let v = c.in-Err-read_file.ensures.answer u.such.line u.such.good in
+    let u = rw c.in-Some.is at c.in_ok-read_header.ensures.answer in
+    let v = c.in_err-file.ensures.answer u.such.line u.such.good in
     let k = file_used (front c.args.input.now) (front c.reading.input) (front c.read_header.new.input) (g.S.Source.left c.args.source.now) (g.S.Source.left c.reading.source) (g.S.Source.left c.read_header.new.source)
-    (g.S.Source.faults c.args.source.now) (g.S.Source.faults c.reading.source) (g.S.Source.faults c.read_header.new.source) i.steady (files_of c.reading.files.items) i.files c.len-before.result (count c.reading.files c.len-before.result c.len-before.ensures) c.in-Ok-Some.header u c.if-header.false
-    c.in-Ok-Some.ensures.cause.steady (front c.read_file.new.input) (g.S.Source.left c.read_file.new.source) (g.S.Source.faults c.read_file.new.source) v.used v.so_far in
+    (g.S.Source.faults c.args.source.now) (g.S.Source.faults c.reading.source) (g.S.Source.faults c.read_header.new.source) i.steady (files_of c.reading.files.items) i.files c.len-before.result (count c.reading.files c.len-before.result c.len-before.ensures) c.in-Some.header u c.if-header.false
+    c.in_ok-read_header.ensures.cause.steady (front c.read_file.new.input) (g.S.Source.left c.read_file.new.source) (g.S.Source.faults c.read_file.new.source) v.used v.so_far in
     (k.gave, k.given)
 
-pub returns-in-Err-read_file-clause-most : goal.returns-in-Err-read_file-clause-most
-returns-in-Err-read_file-clause-most g c =
+pub returns-in_err-file-clause-most : goal.returns-in_err-file-clause-most
+returns-in_err-file-clause-most g c =
     let i = c.reading.invariant in
-    let u = rw c.in-Ok-Some.field-0-is at c.in-Ok-Some.ensures.answer in
-    let v = c.in-Err-read_file.ensures.answer u.such.line u.such.good in
+    let u = rw c.in-Some.is at c.in_ok-read_header.ensures.answer in
+    let v = c.in_err-file.ensures.answer u.such.line u.such.good in
     let k = file_used (front c.args.input.now) (front c.reading.input) (front c.read_header.new.input) (g.S.Source.left c.args.source.now) (g.S.Source.left c.reading.source) (g.S.Source.left c.read_header.new.source)
-    (g.S.Source.faults c.args.source.now) (g.S.Source.faults c.reading.source) (g.S.Source.faults c.read_header.new.source) i.steady (files_of c.reading.files.items) i.files c.len-before.result (count c.reading.files c.len-before.result c.len-before.ensures) c.in-Ok-Some.header u c.if-header.false
-    c.in-Ok-Some.ensures.cause.steady (front c.read_file.new.input) (g.S.Source.left c.read_file.new.source) (g.S.Source.faults c.read_file.new.source) v.used v.so_far in
-    most_known (front c.args.input.now) (front c.read_file.new.input) (g.S.Source.left c.args.source.now) (g.S.Source.left c.read_file.new.source) (i.files.used ++ (u.such.line ++ 10 ∷ v.used)) k (g.S.Source.faults c.args.source.now) (g.S.Source.faults c.read_file.new.source) c.in-Err-read_file.ensures.most
+    (g.S.Source.faults c.args.source.now) (g.S.Source.faults c.reading.source) (g.S.Source.faults c.read_header.new.source) i.steady (files_of c.reading.files.items) i.files c.len-before.result (count c.reading.files c.len-before.result c.len-before.ensures) c.in-Some.header u c.if-header.false
+    c.in_ok-read_header.ensures.cause.steady (front c.read_file.new.input) (g.S.Source.left c.read_file.new.source) (g.S.Source.faults c.read_file.new.source) v.used v.so_far in
+    most_known (front c.args.input.now) (front c.read_file.new.input) (g.S.Source.left c.args.source.now) (g.S.Source.left c.read_file.new.source) (i.files.used ++ (u.such.line ++ 10 ∷ v.used)) k (g.S.Source.faults c.args.source.now) (g.S.Source.faults c.read_file.new.source) c.in_err-file.ensures.most
 
-pub returns-in-Err-push-clause-gave : goal.returns-in-Err-push-clause-gave
-returns-in-Err-push-clause-gave g c =
+pub returns-in-Err-clause-gave : goal.returns-in-Err-clause-gave
+returns-in-Err-clause-gave g c =
     let i = c.reading.invariant in
-    let u = rw c.in-Ok-Some.field-0-is at c.in-Ok-Some.ensures.answer in
-    let v = c.in-Ok.ensures.answer u.such.line u.such.good in
+    let u = rw c.in-Some.is at c.in_ok-read_header.ensures.answer in
+    let v = c.in_ok-file.ensures.answer u.such.line u.such.good in
     let k = file_used (front c.args.input.now) (front c.reading.input) (front c.read_header.new.input) (g.S.Source.left c.args.source.now) (g.S.Source.left c.reading.source) (g.S.Source.left c.read_header.new.source)
-    (g.S.Source.faults c.args.source.now) (g.S.Source.faults c.reading.source) (g.S.Source.faults c.read_header.new.source) i.steady (files_of c.reading.files.items) i.files c.len-before.result (count c.reading.files c.len-before.result c.len-before.ensures) c.in-Ok-Some.header u c.if-header.false
-    c.in-Ok-Some.ensures.cause.steady (front c.read_file.new.input) (g.S.Source.left c.read_file.new.source) (g.S.Source.faults c.read_file.new.source) v.used v.so_far in
+    (g.S.Source.faults c.args.source.now) (g.S.Source.faults c.reading.source) (g.S.Source.faults c.read_header.new.source) i.steady (files_of c.reading.files.items) i.files c.len-before.result (count c.reading.files c.len-before.result c.len-before.ensures) c.in-Some.header u c.if-header.false
+    c.in_ok-read_header.ensures.cause.steady (front c.read_file.new.input) (g.S.Source.left c.read_file.new.source) (g.S.Source.faults c.read_file.new.source) v.used v.so_far in
     (k.gave, k.given)
 
-pub returns-in-Err-push-clause-most : goal.returns-in-Err-push-clause-most
-returns-in-Err-push-clause-most g c =
+pub returns-in-Err-clause-most : goal.returns-in-Err-clause-most
+returns-in-Err-clause-most g c =
     let i = c.reading.invariant in
-    let u = rw c.in-Ok-Some.field-0-is at c.in-Ok-Some.ensures.answer in
-    let v = c.in-Ok.ensures.answer u.such.line u.such.good in
+    let u = rw c.in-Some.is at c.in_ok-read_header.ensures.answer in
+    let v = c.in_ok-file.ensures.answer u.such.line u.such.good in
     let k = file_used (front c.args.input.now) (front c.reading.input) (front c.read_header.new.input) (g.S.Source.left c.args.source.now) (g.S.Source.left c.reading.source) (g.S.Source.left c.read_header.new.source)
-    (g.S.Source.faults c.args.source.now) (g.S.Source.faults c.reading.source) (g.S.Source.faults c.read_header.new.source) i.steady (files_of c.reading.files.items) i.files c.len-before.result (count c.reading.files c.len-before.result c.len-before.ensures) c.in-Ok-Some.header u c.if-header.false
-    c.in-Ok-Some.ensures.cause.steady (front c.read_file.new.input) (g.S.Source.left c.read_file.new.source) (g.S.Source.faults c.read_file.new.source) v.used v.so_far in
-    most_known (front c.args.input.now) (front c.read_file.new.input) (g.S.Source.left c.args.source.now) (g.S.Source.left c.read_file.new.source) (i.files.used ++ (u.such.line ++ 10 ∷ v.used)) k (g.S.Source.faults c.args.source.now) (g.S.Source.faults c.read_file.new.source) c.in-Ok.ensures.most
+    (g.S.Source.faults c.args.source.now) (g.S.Source.faults c.reading.source) (g.S.Source.faults c.read_header.new.source) i.steady (files_of c.reading.files.items) i.files c.len-before.result (count c.reading.files c.len-before.result c.len-before.ensures) c.in-Some.header u c.if-header.false
+    c.in_ok-read_header.ensures.cause.steady (front c.read_file.new.input) (g.S.Source.left c.read_file.new.source) (g.S.Source.faults c.read_file.new.source) v.used v.so_far in
+    most_known (front c.args.input.now) (front c.read_file.new.input) (g.S.Source.left c.args.source.now) (g.S.Source.left c.read_file.new.source) (i.files.used ++ (u.such.line ++ 10 ∷ v.used)) k (g.S.Source.faults c.args.source.now) (g.S.Source.faults c.read_file.new.source) c.in_ok-file.ensures.most
 
 pub reading-smaller : goal.reading-smaller
 reading-smaller g c =
     let i = c.reading.invariant in
-    let u = rw c.in-Ok-Some.field-0-is at c.in-Ok-Some.ensures.answer in
+    let u = rw c.in-Some.is at c.in_ok-read_header.ensures.answer in
     less_room (front c.args.input.now) (front c.reading.input) (front c.read_header.new.input) (g.S.Source.left c.args.source.now) (g.S.Source.left c.reading.source) (g.S.Source.left c.read_header.new.source)
-    (g.S.Source.faults c.args.source.now) (g.S.Source.faults c.reading.source) (g.S.Source.faults c.read_header.new.source) i.steady (files_of c.reading.files.items) i.files c.len-before.result (count c.reading.files c.len-before.result c.len-before.ensures) c.in-Ok-Some.header u c.if-header.false
-    c.in-Ok-Some.ensures.cause.steady (front c.read_file.new.input) (g.S.Source.left c.read_file.new.source) (g.S.Source.faults c.read_file.new.source) c.in-Ok.file (c.in-Ok.ensures.answer u.such.line u.such.good)
+    (g.S.Source.faults c.args.source.now) (g.S.Source.faults c.reading.source) (g.S.Source.faults c.read_header.new.source) i.steady (files_of c.reading.files.items) i.files c.len-before.result (count c.reading.files c.len-before.result c.len-before.ensures) c.in-Some.header u c.if-header.false
+    c.in_ok-read_header.ensures.cause.steady (front c.read_file.new.input) (g.S.Source.left c.read_file.new.source) (g.S.Source.faults c.read_file.new.source) c.in_ok-file.file (c.in_ok-file.ensures.answer u.such.line u.such.good)
 
 pub reading-preserved : goal.reading-preserved
 reading-preserved g c =
     let i = c.reading.invariant in
-    let u = rw c.in-Ok-Some.field-0-is at c.in-Ok-Some.ensures.answer in
+    let u = rw c.in-Some.is at c.in_ok-read_header.ensures.answer in
     let m = one_file_more (front c.args.input.now) (front c.reading.input) (front c.read_header.new.input) (g.S.Source.left c.args.source.now) (g.S.Source.left c.reading.source) (g.S.Source.left c.read_header.new.source)
-    (g.S.Source.faults c.args.source.now) (g.S.Source.faults c.reading.source) (g.S.Source.faults c.read_header.new.source) i.steady (files_of c.reading.files.items) i.files c.len-before.result (count c.reading.files c.len-before.result c.len-before.ensures) c.in-Ok-Some.header u c.if-header.false
-    c.in-Ok-Some.ensures.cause.steady (front c.read_file.new.input) (g.S.Source.left c.read_file.new.source) (g.S.Source.faults c.read_file.new.source) c.in-Ok.file (c.in-Ok.ensures.answer u.such.line u.such.good) in
+    (g.S.Source.faults c.args.source.now) (g.S.Source.faults c.reading.source) (g.S.Source.faults c.read_header.new.source) i.steady (files_of c.reading.files.items) i.files c.len-before.result (count c.reading.files c.len-before.result c.len-before.ensures) c.in-Some.header u c.if-header.false
+    c.in_ok-read_header.ensures.cause.steady (front c.read_file.new.input) (g.S.Source.left c.read_file.new.source) (g.S.Source.faults c.read_file.new.source) c.in_ok-file.file (c.in_ok-file.ensures.answer u.such.line u.such.good) in
     let e = c.in_default.ensures.items in
-    let a = map-append (λ (file : Vec ℕ). file.items) c.reading.files.items (c.in-Ok.file ∷ []) in
+    let a = map-append (λ (file : Vec ℕ). file.items) c.reading.files.items (c.in_ok-file.file ∷ []) in
     record {
       files = rw (e, a) m;
-      small = rw e (All-push (λ (file : Vec ℕ). length file.items ≤ max_batch_file_bytes) c.reading.files.items c.in-Ok.file i.small c.in-Ok.ensures.small);
-      steady = c.in-Ok.ensures.cause.steady ∙ c.in-Ok-Some.ensures.cause.steady ∙ i.steady;
-      good = c.in-Ok.ensures.good;
-      limit = c.in-Ok.ensures.limit ∙ c.in-Ok-Some.ensures.limit ∙ i.limit;
-      at_end = c.in-Ok.ensures.at_end;
+      small = rw e (All-push (λ (file : Vec ℕ). length file.items ≤ max_batch_file_bytes) c.reading.files.items c.in_ok-file.file i.small c.in_ok-file.ensures.small);
+      steady = c.in_ok-file.ensures.cause.steady ∙ c.in_ok-read_header.ensures.cause.steady ∙ i.steady;
+      good = c.in_ok-file.ensures.good;
+      limit = c.in_ok-file.ensures.limit ∙ c.in_ok-read_header.ensures.limit ∙ i.limit;
+      at_end = c.in_ok-file.ensures.at_end;
       unasked = λ t.
           let old = i.unasked t in
-          let header = c.in-Ok-Some.ensures.stays old.0 in
-          (c.in-Ok.ensures.stays header, c.in-Ok.ensures.unasked header ∙ c.in-Ok-Some.ensures.unasked old.0 ∙ old.1);
+          let header = c.in_ok-read_header.ensures.stays old.0 in
+          (c.in_ok-file.ensures.stays header, c.in_ok-file.ensures.unasked header ∙ c.in_ok-read_header.ensures.unasked old.0 ∙ old.1);
     }

@@ -1,4 +1,5 @@
 use Rattle.std.proofs.Common.{◌≡◌, false, length, List, [], ◌∷◌, ◌++◌, refl, sym, ap, subst, ◌∙◌, arith}
+use Rattle.std.proofs.lemmas.Result.{err_from_is_err_and}
 use Rattle.mm_defs.specs.Words.{lines, open_line}
 use Rattle.mm_reader.specs.Fronts.{front}
 use Rattle.mm_frames.specs.declared.edit.Edit.{Edit}
@@ -22,93 +23,97 @@ reading-init g c =
       fits = λ e. absurd cc;
     }
 
-pub returns-in-Err-clause-answer : goal.returns-in-Err-clause-answer
-returns-in-Err-clause-answer g c =
+pub returns-in_err-next_byte-clause-answer : goal.returns-in_err-next_byte-clause-answer
+returns-in_err-next_byte-clause-answer g c =
     let i = c.reading.invariant in
-    stop_known c.args.rows c.args.cols (front c.args.input.now) (front c.reading.input) (front c.next_byte.new.input) (g.S.Source.left c.args.source.now) (g.S.Source.left c.reading.source) (g.S.Source.left c.next_byte.new.source)
-    (g.S.Source.faults c.args.source.now) (g.S.Source.faults c.reading.source) (g.S.Source.faults c.next_byte.new.source) c.reading.edits.items c.reading.line c.reading.begun i.read i.steady c.in-Err.error c.in-Err.ensures.err
+    let q = err_from_is_err_and c.from_residual.result c.from_residual.ensures.1 in
+    rw (q.1, q.2)
+    (stop_known c.args.rows c.args.cols (front c.args.input.now) (front c.reading.input) (front c.next_byte.new.input) (g.S.Source.left c.args.source.now) (g.S.Source.left c.reading.source) (g.S.Source.left c.next_byte.new.source)
+    (g.S.Source.faults c.args.source.now) (g.S.Source.faults c.reading.source) (g.S.Source.faults c.next_byte.new.source) c.reading.edits.items c.reading.line c.reading.begun i.read i.steady c.in_err-next_byte.field-0.0 c.in_err-next_byte.ensures.err)
 
-pub returns-in-Err-clause-gave : goal.returns-in-Err-clause-gave
-returns-in-Err-clause-gave g c =
+pub returns-in_err-next_byte-clause-gave : goal.returns-in_err-next_byte-clause-gave
+returns-in_err-next_byte-clause-gave g c =
     let r = c.reading.invariant.read in
     let u = stopped_used (front c.args.input.now) (front c.reading.input) (front c.next_byte.new.input) (g.S.Source.left c.args.source.now) (g.S.Source.left c.reading.source) (g.S.Source.left c.next_byte.new.source)
-    (g.S.Source.faults c.reading.source) (g.S.Source.faults c.next_byte.new.source) r.used r.so_far c.in-Err.error c.in-Err.ensures.err in
+    (g.S.Source.faults c.reading.source) (g.S.Source.faults c.next_byte.new.source) r.used r.so_far c.in_err-next_byte.field-0.0 c.in_err-next_byte.ensures.err in
     (u.gave, u.given)
 
 pub finish-requires : goal.finish-requires
 finish-requires g c begun =
     let i = c.reading.invariant in
     let f = i.fits begun in
-    let u = rw c.in-Ok-None.field-0-is at c.in-Ok-None.ensures.ok in
+    let u = rw c.in-None.is at c.in_ok-next_byte.ensures.ok in
     omega (arith, c.lines.ensures, u.lines_are)
 
-pub returns-in-Err-take_line-clause-answer : goal.returns-in-Err-take_line-clause-answer
-returns-in-Err-take_line-clause-answer g c =
+pub returns-in_err-take_line-in-Some-eq10-clause-answer : goal.returns-in_err-take_line-in-Some-eq10-clause-answer
+returns-in_err-take_line-in-Some-eq10-clause-answer g c =
     let i = c.reading.invariant in
-    let b = c.in-Ok-Some-eq10 in
-    let u = rw b.field-0-is at b.ensures.ok in
+    let b = c.in-Some-eq10 in
+    let u = rw b.is at c.in_ok-next_byte.ensures.ok in
     let r = i.read in
     let n = lf_number c.args.rows c.args.cols (front c.args.input.now) (front c.reading.input) (front c.next_byte.new.input) (g.S.Source.left c.args.source.now) (g.S.Source.left c.reading.source) (g.S.Source.left c.next_byte.new.source)
-    (g.S.Source.faults c.reading.source) (g.S.Source.faults c.next_byte.new.source) b.field-0-0 c.reading.edits.items c.reading.line c.reading.line c.reading.begun r u c.lines-in-Ok-Some-eq10.result b.field-0-0-test c.lines-in-Ok-Some-eq10.ensures in
-    line_known c.args.rows c.args.cols (front c.args.input.now) (front c.reading.input) (front c.next_byte.new.input) (g.S.Source.left c.args.source.now) (g.S.Source.left c.reading.source) (g.S.Source.left c.next_byte.new.source)
-    (g.S.Source.faults c.args.source.now) (g.S.Source.faults c.reading.source) (g.S.Source.faults c.next_byte.new.source) c.reading.edits.items c.reading.line c.reading.begun r b.field-0-0 b.field-0-0-test u c.in-Err-take_line.error
-    (c.in-Err-take_line.ensures.steps c.args.input.now.lines (open_line r.used) r.stands.open_is (lines false r.used) r.stands.lines_are n)
+    (g.S.Source.faults c.reading.source) (g.S.Source.faults c.next_byte.new.source) b.field-0 c.reading.edits.items c.reading.line c.reading.line c.reading.begun r u c.lines-in-Some-eq10.result b.field-0-test c.lines-in-Some-eq10.ensures in
+    let q = err_from_is_err_and c.from_residual-in_err-take_line-in-Some-eq10.result c.from_residual-in_err-take_line-in-Some-eq10.ensures.1 in
+    rw (q.1, q.2)
+    (line_known c.args.rows c.args.cols (front c.args.input.now) (front c.reading.input) (front c.next_byte.new.input) (g.S.Source.left c.args.source.now) (g.S.Source.left c.reading.source) (g.S.Source.left c.next_byte.new.source)
+    (g.S.Source.faults c.args.source.now) (g.S.Source.faults c.reading.source) (g.S.Source.faults c.next_byte.new.source) c.reading.edits.items c.reading.line c.reading.begun r b.field-0 b.field-0-test u c.in_err-take_line-in-Some-eq10.field-0.0
+    (c.in_err-take_line-in-Some-eq10.ensures.steps c.args.input.now.lines (open_line r.used) r.stands.open_is (lines false r.used) r.stands.lines_are n))
 
-pub returns-in-Err-take_line-clause-gave : goal.returns-in-Err-take_line-clause-gave
-returns-in-Err-take_line-clause-gave g c =
-    let b = c.in-Ok-Some-eq10 in
-    let u = rw b.field-0-is at b.ensures.ok in
+pub returns-in_err-take_line-in-Some-eq10-clause-gave : goal.returns-in_err-take_line-in-Some-eq10-clause-gave
+returns-in_err-take_line-in-Some-eq10-clause-gave g c =
+    let b = c.in-Some-eq10 in
+    let u = rw b.is at c.in_ok-next_byte.ensures.ok in
     let r = c.reading.invariant.read in
     let m = one_more (front c.args.input.now) (front c.reading.input) (front c.next_byte.new.input) (g.S.Source.left c.args.source.now) (g.S.Source.left c.reading.source) (g.S.Source.left c.next_byte.new.source)
-    (g.S.Source.faults c.reading.source) (g.S.Source.faults c.next_byte.new.source) r.used r.so_far b.field-0-0 u in
+    (g.S.Source.faults c.reading.source) (g.S.Source.faults c.next_byte.new.source) r.used r.so_far b.field-0 u in
     (m.gave, m.given)
 
-pub returns-in-Err-take_line-clause-most : goal.returns-in-Err-take_line-clause-most
-returns-in-Err-take_line-clause-most g c =
-    let b = c.in-Ok-Some-eq10 in
-    let u = rw b.field-0-is at b.ensures.ok in
+pub returns-in_err-take_line-in-Some-eq10-clause-most : goal.returns-in_err-take_line-in-Some-eq10-clause-most
+returns-in_err-take_line-in-Some-eq10-clause-most g c =
+    let b = c.in-Some-eq10 in
+    let u = rw b.is at c.in_ok-next_byte.ensures.ok in
     let r = c.reading.invariant.read in
     let m = one_more (front c.args.input.now) (front c.reading.input) (front c.next_byte.new.input) (g.S.Source.left c.args.source.now) (g.S.Source.left c.reading.source) (g.S.Source.left c.next_byte.new.source)
-    (g.S.Source.faults c.reading.source) (g.S.Source.faults c.next_byte.new.source) r.used r.so_far b.field-0-0 u in
-    most_known (front c.args.input.now) (front c.next_byte.new.input) (g.S.Source.left c.args.source.now) (g.S.Source.left c.next_byte.new.source) (r.used ++ b.field-0-0 ∷ []) m (g.S.Source.faults c.args.source.now)
-    (g.S.Source.faults c.next_byte.new.source) b.ensures.most
+    (g.S.Source.faults c.reading.source) (g.S.Source.faults c.next_byte.new.source) r.used r.so_far b.field-0 u in
+    most_known (front c.args.input.now) (front c.next_byte.new.input) (g.S.Source.left c.args.source.now) (g.S.Source.left c.next_byte.new.source) (r.used ++ b.field-0 ∷ []) m (g.S.Source.faults c.args.source.now)
+    (g.S.Source.faults c.next_byte.new.source) c.in_ok-next_byte.ensures.most
 
-pub reading-preserved-in-Ok-Some-eq10 : goal.reading-preserved-in-Ok-Some-eq10
-reading-preserved-in-Ok-Some-eq10 g c =
+pub reading-preserved-in-Some-eq10 : goal.reading-preserved-in-Some-eq10
+reading-preserved-in-Some-eq10 g c =
     let i = c.reading.invariant in
-    let b = c.in-Ok-Some-eq10 in
-    let u = rw b.field-0-is at b.ensures.ok in
+    let b = c.in-Some-eq10 in
+    let u = rw b.is at c.in_ok-next_byte.ensures.ok in
     let r = i.read in
     let n = lf_number c.args.rows c.args.cols (front c.args.input.now) (front c.reading.input) (front c.next_byte.new.input) (g.S.Source.left c.args.source.now) (g.S.Source.left c.reading.source) (g.S.Source.left c.next_byte.new.source)
-    (g.S.Source.faults c.reading.source) (g.S.Source.faults c.next_byte.new.source) b.field-0-0 c.reading.edits.items c.reading.line c.reading.line c.reading.begun r u c.lines-in-Ok-Some-eq10.result b.field-0-0-test c.lines-in-Ok-Some-eq10.ensures in
+    (g.S.Source.faults c.reading.source) (g.S.Source.faults c.next_byte.new.source) b.field-0 c.reading.edits.items c.reading.line c.reading.line c.reading.begun r u c.lines-in-Some-eq10.result b.field-0-test c.lines-in-Some-eq10.ensures in
     record {
       read = read_lf c.args.rows c.args.cols (front c.args.input.now) (front c.reading.input) (front c.next_byte.new.input) (g.S.Source.left c.args.source.now) (g.S.Source.left c.reading.source) (g.S.Source.left c.next_byte.new.source)
-          (g.S.Source.faults c.reading.source) (g.S.Source.faults c.next_byte.new.source) b.field-0-0 c.reading.edits.items c.reading.line c.clear.new.self c.reading.begun r u c.take_line.new.edits.items b.field-0-0-test
-          (c.in_default.ensures.steps c.args.input.now.lines (open_line r.used) r.stands.open_is (lines false r.used) r.stands.lines_are n) (c.clear.ensures (open_line r.used) r.stands.open_is);
-      within = c.in_default.ensures.within i.within;
-      steady = b.ensures.cause.steady ∙ i.steady;
-      good = b.ensures.good.1 refl;
-      limit = b.ensures.limit ∙ i.limit;
-      at_end = b.ensures.at_end;
-      unasked = λ t. let e = i.unasked t in (b.ensures.stays e.0, b.ensures.unasked e.0 ∙ e.1);
+          (g.S.Source.faults c.reading.source) (g.S.Source.faults c.next_byte.new.source) b.field-0 c.reading.edits.items c.reading.line c.clear.new.self c.reading.begun r u c.take_line.new.edits.items b.field-0-test
+          (c.in_ok-take_line-in-Some-eq10.ensures.steps c.args.input.now.lines (open_line r.used) r.stands.open_is (lines false r.used) r.stands.lines_are n) (c.clear.ensures (open_line r.used) r.stands.open_is);
+      within = c.in_ok-take_line-in-Some-eq10.ensures.within i.within;
+      steady = c.in_ok-next_byte.ensures.cause.steady ∙ i.steady;
+      good = c.in_ok-next_byte.ensures.good.1 refl;
+      limit = c.in_ok-next_byte.ensures.limit ∙ i.limit;
+      at_end = c.in_ok-next_byte.ensures.at_end;
+      unasked = λ t. let e = i.unasked t in (c.in_ok-next_byte.ensures.stays e.0, c.in_ok-next_byte.ensures.unasked e.0 ∙ e.1);
       fits = λ e. absurd cc;
     }
 
 pub reading-preserved : goal.reading-preserved
 reading-preserved g c =
     let i = c.reading.invariant in
-    let b = c.in-Ok-Some in
-    let u = rw b.field-0-is at b.ensures.ok in
+    let b = c.in-Some in
+    let u = rw b.is at c.in_ok-next_byte.ensures.ok in
     let r = i.read in
     record {
       read = read_byte c.args.rows c.args.cols (front c.args.input.now) (front c.reading.input) (front c.next_byte.new.input) (g.S.Source.left c.args.source.now) (g.S.Source.left c.reading.source) (g.S.Source.left c.next_byte.new.source)
           (g.S.Source.faults c.reading.source) (g.S.Source.faults c.next_byte.new.source) b.byte c.reading.edits.items c.reading.line c.push.new.self c.reading.begun r u b.byte-test.1 (c.push.ensures (open_line r.used) r.stands.open_is);
       within = i.within;
-      steady = b.ensures.cause.steady ∙ i.steady;
-      good = b.ensures.good.1 refl;
-      limit = b.ensures.limit ∙ i.limit;
-      at_end = b.ensures.at_end;
-      unasked = λ t. let e = i.unasked t in (b.ensures.stays e.0, b.ensures.unasked e.0 ∙ e.1);
+      steady = c.in_ok-next_byte.ensures.cause.steady ∙ i.steady;
+      good = c.in_ok-next_byte.ensures.good.1 refl;
+      limit = c.in_ok-next_byte.ensures.limit ∙ i.limit;
+      at_end = c.in_ok-next_byte.ensures.at_end;
+      unasked = λ t. let e = i.unasked t in (c.in_ok-next_byte.ensures.stays e.0, c.in_ok-next_byte.ensures.unasked e.0 ∙ e.1);
       fits = λ e. byte_fits c.args.rows c.args.cols (front c.args.input.now) (front c.reading.input) (front c.next_byte.new.input) (g.S.Source.left c.args.source.now) (g.S.Source.left c.reading.source) (g.S.Source.left c.next_byte.new.source)
-          (g.S.Source.faults c.reading.source) (g.S.Source.faults c.next_byte.new.source) b.byte c.reading.edits.items c.reading.line c.push.new.self c.reading.begun r u b.byte-test.1 b.ensures.fits;
+          (g.S.Source.faults c.reading.source) (g.S.Source.faults c.next_byte.new.source) b.byte c.reading.edits.items c.reading.line c.push.new.self c.reading.begun r u b.byte-test.1 c.in_ok-next_byte.ensures.fits;
     }
