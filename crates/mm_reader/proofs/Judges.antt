@@ -1,5 +1,5 @@
 -- From what is kept of a line to the rules on it.
-use Rattle.std.proofs.Common.{◌^◌, ◌<◌, ◌≡◌, ◌≢◌, ℕ, ℤ, ◌+◌, ◌-◌, ◌≤◌, Bool, true, false, not, ◌==◌, ◌&&◌, List, [], ◌∷◌, ◌++◌, length, refl, sym, ap, ◌∙◌, arith, eqb-true, Some, None, Result, Ok, Err, ne_eqb, le-ltb}
+use Rattle.std.proofs.Common.{◌^◌, ◌<◌, ◌≡◌, ℕ, ℤ, ◌+◌, ◌-◌, Bool, true, false, not, ◌==◌, ◌&&◌, List, [], ◌∷◌, ◌++◌, length, refl, sym, ap, ◌∙◌, arith, eqb-true, Some, None, Result, Ok, Err}
 use Rattle.std.specs.List.{list_all}
 use Rattle.sp_ids.specs.Entries.{Triple}
 use Rattle.sp_ids.specs.declared.triples.Field.{Field}
@@ -12,11 +12,11 @@ use Rattle.mm_defs.specs.declared.kinds.Kind.{Kind}
 use Rattle.mm_defs.specs.Words.{Word, word}
 use Rattle.mm_defs.specs.Numbers.{is_number, number}
 use Rattle.mm_defs.specs.Header.{is_array, is_integer_field, value_words, size_words, size}
-use Rattle.mm_defs.specs.Faults.{Rule, first_kind, extent_rules, count_rules, size_limits, size_rules, is_outside, value_rules, triangle_rules, place_rules, coordinate_rules, array_rules}
+use Rattle.mm_defs.specs.Faults.{Rule, first_kind, extent_rules, count_rules, size_limits, size_rules, value_rules, triangle_rules, place_rules, coordinate_rules, array_rules}
 use Rattle.mm_defs.specs.File.{triple, triple_at}
 use Rattle.mm_reader.specs.declared.judge.Entry.{Entry}
 use Rattle.mm_reader.specs.Tokens.{capped}
-use Rattle.mm_reader.specs.Judged.{Judged, JudgedEntry, triple_of, IsWithin}
+use Rattle.mm_reader.specs.Judged.{Judged, JudgedEntry, range_rules, triple_of}
 
 -- an array file has integers
 pub integers : (format : Format) (field : Field) → (is_array format && not (is_integer_field field)) ≡ false → is_array format ≡ true → field ≡ fields.Integer
@@ -81,42 +81,30 @@ first_some : (prefix bs : List Rule) (x : Kind) → first_kind prefix ≡ Some x
 first_some [] bs x h = absurd cc
 first_some ((k, b) ∷ prefix) bs x h = some_then k b prefix bs x (first_some prefix bs x) h
 
-inside : (limit n row : ℕ) → row ≡ capped n → row ≢ 0 → row ≤ limit → limit < 2 ^ 63 → is_outside limit n ≡ false
-inside limit n row e some low small =
-    let a : n ≢ 0 = omega arith in
-    let b : n ≤ limit = omega arith in
-    rw (ne_eqb n 0 a, le-ltb limit n b) refl
-
 pub extent_good : (h : Header) (s : Size) (r : Result Size Kind) → first_kind (extent_rules s.rows s.cols) ≡ None → Judged (count_rules h s) s r → Judged (size_limits h s) s r
 extent_good h s (Ok y) e j = (first_none (extent_rules s.rows s.cols) (count_rules h s) e ∙ j.0, j.1)
 extent_good h s (Err kind) e j = first_none (extent_rules s.rows s.cols) (count_rules h s) e ∙ j
 
-module _ (h : Header) (s : Size) (within : IsWithin h s) (row col i j : ℕ) (w : Word)
-    (row_is : row ≡ capped i) (col_is : col ≡ capped j)
-    (row_some : row ≢ 0) (row_low : row ≤ s.rows) (col_some : col ≢ 0) (col_low : col ≤ s.cols) where
-  placed : (r : Result Entry Kind) → JudgedEntry (value_rules h.field w ++ triangle_rules h.symmetry i j) (triple_at h.field i j w) r
-      → JudgedEntry (place_rules h s i j w) (triple_at h.field i j w) r
-  placed (Ok e) k =
-      let a = inside s.rows i row row_is row_some row_low (omega (arith, within.rows)) in
-      let b = inside s.cols j col col_is col_some col_low (omega (arith, within.cols)) in
-      (rw (a, b) k.0, k.1)
-  placed (Err kind) k =
-      let a = inside s.rows i row row_is row_some row_low (omega (arith, within.rows)) in
-      let b = inside s.cols j col col_is col_some col_low (omega (arith, within.cols)) in
-      rw (a, b) k
+pub bad_range : (h : Header) (s : Size) (i j : ℕ) (w : Word) (kind : Kind) → first_kind (range_rules s.rows s.cols i j) ≡ Some kind → JudgedEntry (place_rules h s i j w) (triple_at h.field i j w) (Err kind)
+bad_range h s i j w kind e = first_some (range_rules s.rows s.cols i j) (value_rules h.field w ++ triangle_rules h.symmetry i j) kind e
 
-  pub numbers : (row ≡ i) × (col ≡ j)
-  numbers = (omega (arith, within.rows), omega (arith, within.cols))
+-- a number that fits is not capped
+pub uncapped : (limit n row : ℕ) → row ≡ capped n → n - 1 < limit → limit < 2 ^ 63 → row ≡ n
+uncapped limit n row e low small = omega arith
+
+module _ (h : Header) (s : Size) (i j : ℕ) (w : Word) (inside : first_kind (range_rules s.rows s.cols i j) ≡ None) where
+  others : first_kind (place_rules h s i j w) ≡ first_kind (value_rules h.field w ++ triangle_rules h.symmetry i j)
+  others = first_none (range_rules s.rows s.cols i j) (value_rules h.field w ++ triangle_rules h.symmetry i j) inside
 
   pub bad_value : (kind : Kind) → first_kind (value_rules h.field w) ≡ Some kind → JudgedEntry (place_rules h s i j w) (triple_at h.field i j w) (Err kind)
-  bad_value kind e = placed (Err kind) (first_some (value_rules h.field w) (triangle_rules h.symmetry i j) kind e)
+  bad_value kind e = others ∙ first_some (value_rules h.field w) (triangle_rules h.symmetry i j) kind e
 
   pub bad_triangle : (kind : Kind) → first_kind (value_rules h.field w) ≡ None → first_kind (triangle_rules h.symmetry i j) ≡ Some kind → JudgedEntry (place_rules h s i j w) (triple_at h.field i j w) (Err kind)
-  bad_triangle kind e f = placed (Err kind) (first_none (value_rules h.field w) (triangle_rules h.symmetry i j) e ∙ f)
+  bad_triangle kind e f = others ∙ first_none (value_rules h.field w) (triangle_rules h.symmetry i j) e ∙ f
 
   pub good_place : (e : Entry) → first_kind (value_rules h.field w) ≡ None → first_kind (triangle_rules h.symmetry i j) ≡ None
       → triple_of e ≡ triple_at h.field i j w → JudgedEntry (place_rules h s i j w) (triple_at h.field i j w) (Ok e)
-  good_place e a b is = placed (Ok e) (first_none (value_rules h.field w) (triangle_rules h.symmetry i j) a ∙ b, is)
+  good_place e a b is = (others ∙ first_none (value_rules h.field w) (triangle_rules h.symmetry i j) a ∙ b, is)
 
-pub same_triple : (r c r2 c2 : ℕ) (v v2 : ℤ) → r ≡ r2 → c ≡ c2 → v ≡ v2 → ◌≡◌ {A = Triple} (record { row = r - 1; col = c - 1; value = v }) (record { row = r2 - 1; col = c2 - 1; value = v2 })
-same_triple r c r2 c2 v v2 a b d = cc
+pub same_triple : (r c i j : ℕ) (v v2 : ℤ) → r ≡ i - 1 → c ≡ j - 1 → v ≡ v2 → ◌≡◌ {A = Triple} (record { row = r; col = c; value = v }) (record { row = i - 1; col = j - 1; value = v2 })
+same_triple r c i j v v2 a b d = cc

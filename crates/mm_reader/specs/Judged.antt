@@ -1,14 +1,15 @@
 -- What a line is found to be.
-use Rattle.std.specs.Prelude.{◌≡◌, ◌≤◌, true, false, List, Option, Some, None, Result, Ok, Err}
+use Rattle.std.specs.Prelude.{◌≡◌, ◌≤◌, ◌-◌, ℕ, true, false, List, [], ◌∷◌, Option, Some, None, Result, Ok, Err}
 use Rattle.sp_ids.specs.Entries.{Triple}
 use Rattle.sp_ids.specs.declared.triples.Field.TheVariants.{Integer}
 use Rattle.sp_ids.specs.Limits.{max_cols, max_entry_lines, max_rows}
 use Rattle.mm_defs.specs.declared.kinds.Kind.{Kind}
+use Rattle.mm_defs.specs.declared.kinds.Kind.TheVariants.{ColumnRange, RowRange}
 use Rattle.mm_defs.specs.declared.header.Header.{Header}
 use Rattle.mm_defs.specs.declared.header.Size.{Size}
 use Rattle.mm_defs.specs.Arrays.{value_count}
 use Rattle.mm_defs.specs.Header.{is_array, is_general}
-use Rattle.mm_defs.specs.Faults.{Rule, first_kind}
+use Rattle.mm_defs.specs.Faults.{Rule, first_kind, is_outside}
 use Rattle.mm_reader.specs.declared.judge.Entry.{Entry}
 
 -- no kind applies and the line says this, or the first kind that applies
@@ -23,6 +24,18 @@ triple_of e = record { row = e.row; col = e.col; value = e.value }
 abbrev pub JudgedEntry : List Rule → Triple → Result Entry Kind → Type 0
 JudgedEntry rules says (Ok e) = (first_kind rules ≡ None) × (triple_of e ≡ says)
 JudgedEntry rules says (Err kind) = first_kind rules ≡ Some kind
+
+-- whether a row and a column, which count from 1, are in a matrix of so many rows and columns
+abbrev pub range_rules : ℕ → ℕ → ℕ → ℕ → List Rule
+range_rules rows cols i j =
+    (RowRange, is_outside rows i)
+    ∷ (ColumnRange, is_outside cols j)
+    ∷ []
+
+-- the same of a row and a column that a line tells: they count from 1 there, and from 0 in the answer
+abbrev pub JudgedPlace : List Rule → ℕ → ℕ → Result (ℕ × ℕ) Kind → Type 0
+JudgedPlace rules i j (Ok p) = (first_kind rules ≡ None) × (p.0 ≡ i - 1) × (p.1 ≡ j - 1)
+JudgedPlace rules i j (Err kind) = first_kind rules ≡ Some kind
 
 -- none of the rules applies, or this is the first that does
 abbrev pub Passes : List Rule → Option Kind → Type 0

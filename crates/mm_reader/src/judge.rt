@@ -11,7 +11,7 @@ ghost use Rattle.mm_defs.specs.Faults.{banner_rules, extent_rules, count_rules, 
 ghost use Rattle.mm_defs.specs.File.{triple, triple_at};
 ghost use Rattle.mm_reader.specs.Tokens.{capped, ReadsInteger};
 ghost use Rattle.mm_reader.specs.Lines.{IsLine};
-ghost use Rattle.mm_reader.specs.Judged.{Judged, JudgedEntry, Passes, IsHeader, IsWithin};
+ghost use Rattle.mm_reader.specs.Judged.{Judged, JudgedEntry, JudgedPlace, Passes, IsHeader, IsWithin, range_rules};
 
 use crate::array::value_count;
 use crate::line::LineSoFar;
@@ -318,27 +318,40 @@ pub fn judge_place(
     ensures value { IfOk result (λ e. is_integer_field header.field ≡ false → e.value ≡ pos 0) }
     ensures small { IfOk result (λ e. nat_abs e.value ≤ MAX_VALUE) }
 {
-    if row == 0 {
-        return Err(Kind::RowRange);
-    }
-    if row > u64::from(size.rows) {
-        return Err(Kind::RowRange);
-    }
-    if col == 0 {
-        return Err(Kind::ColumnRange);
-    }
-    if col > u64::from(size.cols) {
-        return Err(Kind::ColumnRange);
-    }
+    let (row_id, col_id) = place_within(size.rows, size.cols, row, col)?;
     let value = value_of(header.field, value)?;
     if let Some(kind) = triangle(header.symmetry, row, col) {
         return Err(kind);
     }
     Ok(Entry {
-        row: Row((row - 1) as u32),
-        col: Col((col - 1) as u32),
+        row: row_id,
+        col: col_id,
         value,
     })
+}
+
+/// Judges whether a row and a column are in a matrix of so many rows and columns: `RowRange` or
+/// `ColumnRange`, or both counted from 0. They are given counted from 1, and there the greatest
+/// number stands for all that do not fit.
+#[inline(always)]
+pub fn place_within(rows: u32, cols: u32, row: u64, col: u64) -> Result<(Row, Col), Kind>
+    ensures judged { (i j : ℕ) → row ≡ capped i → col ≡ capped j
+        → JudgedPlace (range_rules rows cols i j) i j result }
+    ensures within { IfOk result (λ p. (p.0 < rows) × (p.1 < cols)) }
+{
+    if row == 0 {
+        return Err(Kind::RowRange);
+    }
+    if row > u64::from(rows) {
+        return Err(Kind::RowRange);
+    }
+    if col == 0 {
+        return Err(Kind::ColumnRange);
+    }
+    if col > u64::from(cols) {
+        return Err(Kind::ColumnRange);
+    }
+    Ok((Row((row - 1) as u32), Col((col - 1) as u32)))
 }
 
 /// Judges the value, which is 0 where the field is not integer.

@@ -18,5 +18,7 @@ mod text;
 mod window;
 
 pub use input::{Input, next_byte, read_matrix, read_rest};
+pub use judge::place_within;
 pub use line::LineSoFar;
 pub use mm_defs::{End, Kind, ReadError};
+pub use reader::line_refusal;

@@ -1,9 +1,10 @@
 //! Reading a matrix from the bytes ahead and from a source.
 
-ghost use Rattle.std.specs.Prelude.{◌≡◌, ◌<◌, ◌+◌, ◌++◌, ◌^◌, ℕ, List, false, IfOk, IfErr, MatchResult, OnOk, IsTrue, []};
+ghost use Rattle.std.specs.Prelude.{◌≡◌, ◌<◌, ◌+◌, ◌++◌, ◌^◌, if◌then◌else◌, ℕ, List, false, IfOk, IfErr, MatchResult, OnOk, IsTrue, []};
 ghost use Rattle.std.specs.Result.{IsErrOf};
 ghost use Rattle.sp_ports.specs.Bytes.{GivesPrefix, IsAtEnd, WhereKnown};
 ghost use Rattle.sp_ports.specs.Device.{seen};
+ghost use Rattle.mm_defs.specs.Faults.{is_limit};
 ghost use Rattle.mm_defs.specs.File.{Reads};
 ghost use Rattle.mm_defs.specs.Calls.{HasItsKind, LacksLf, TakesAtMostOnePast};
 ghost use Rattle.mm_reader.specs.Inputs.{FailsByReadFault};
@@ -13,23 +14,31 @@ ghost use Rattle.mm_reader.specs.Windows.{ahead_of, OnCallOf, Answers, HasCounte
 
 use crate::machine::{Machine, Stop, feed, finish, is_complete, start};
 use crate::window::{Window, advance, refill};
-use mm_defs::{End, ReadError};
+use mm_defs::{End, Kind, ReadError};
 use sp_ids::Triples;
 use sp_ports::Source;
 use std::alloc::Global;
+
+/// The answer to the bad line of this number, counted from 1: `Limit` where the kind is that it
+/// passes a limit, and else `Malformed`.
+pub fn line_refusal(line: u64, kind: Kind) -> ReadError
+    ensures { result ≡ (if is_limit kind
+        then ReadError.Limit line kind
+        else ReadError.Malformed line kind) }
+{
+    if kind.is_limit() {
+        ReadError::Limit { line, kind }
+    } else {
+        ReadError::Malformed { line, kind }
+    }
+}
 
 /// The answer to what stopped the machine.
 fn refusal(stop: Stop) -> ReadError
     ensures { result ≡ refusal_of stop }
 {
     match stop {
-        Stop::Bad { line, kind } => {
-            if kind.is_limit() {
-                ReadError::Limit { line, kind }
-            } else {
-                ReadError::Malformed { line, kind }
-            }
-        }
+        Stop::Bad { line, kind } => line_refusal(line, kind),
         Stop::Memory => ReadError::OutOfMemory,
     }
 }
