@@ -1,5 +1,5 @@
 -- What an edit line is found to be.
-use Rattle.std.specs.Prelude.{◌≡◌, ◌-◌, ℕ, List, None, Some, Result, Ok, Err}
+use Rattle.std.specs.Prelude.{◌≡◌, List, None, Some, Result, Ok, Err}
 use Rattle.mm_defs.specs.declared.kinds.Kind.{Kind}
 use Rattle.mm_defs.specs.Faults.{Rule, first_kind}
 use Rattle.mm_frames.specs.declared.edit.Edit.{Edit}
@@ -8,8 +8,3 @@ use Rattle.mm_frames.specs.declared.edit.Edit.{Edit}
 abbrev pub JudgedEdit : List Rule → Edit → Result Edit Kind → Type 0
 JudgedEdit rules says (Ok e) = (first_kind rules ≡ None) × (e ≡ says)
 JudgedEdit rules says (Err kind) = first_kind rules ≡ Some kind
-
--- the same of the row and the column that a line tells, which count from 1 there
-abbrev pub JudgedPlace : List Rule → ℕ → ℕ → Result (ℕ × ℕ) Kind → Type 0
-JudgedPlace rules i j (Ok p) = (first_kind rules ≡ None) × (p.0 ≡ i - 1) × (p.1 ≡ j - 1)
-JudgedPlace rules i j (Err kind) = first_kind rules ≡ Some kind

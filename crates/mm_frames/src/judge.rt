@@ -6,11 +6,12 @@ ghost use Rattle.mm_defs.specs.Numbers.{number};
 ghost use Rattle.mm_reader.specs.Lines.{IsLine};
 ghost use Rattle.mm_defs.specs.EditLines.{edit_place_rules, edit_rules};
 ghost use Rattle.mm_frames.specs.Edits.{edit, IsWithinMatrix};
-ghost use Rattle.mm_frames.specs.Judged.{JudgedEdit, JudgedPlace};
+ghost use Rattle.mm_reader.specs.Judged.{JudgedPlace};
+ghost use Rattle.mm_frames.specs.Judged.{JudgedEdit};
 
 use crate::edit::Edit;
 use mm_defs::Kind;
-use mm_reader::LineSoFar;
+use mm_reader::{LineSoFar, place_within};
 use sp_ids::{Col, MAX_EDITS, Row};
 
 /// Judges an edit line behind so many, of a matrix of so many rows and columns.
@@ -60,17 +61,5 @@ fn judge_place(rows: u32, cols: u32, line: &LineSoFar) -> Result<(Row, Col), Kin
         None => return Err(Kind::ColumnNumber),
         Some(col) => col,
     };
-    if row == 0 {
-        return Err(Kind::RowRange);
-    }
-    if row > u64::from(rows) {
-        return Err(Kind::RowRange);
-    }
-    if col == 0 {
-        return Err(Kind::ColumnRange);
-    }
-    if col > u64::from(cols) {
-        return Err(Kind::ColumnRange);
-    }
-    Ok((Row((row - 1) as u32), Col((col - 1) as u32)))
+    place_within(rows, cols, row, col)
 }

@@ -1,10 +1,9 @@
 //! Reading edit lines.
 
-ghost use Rattle.std.specs.Prelude.{◌≡◌, ◌<◌, ◌+◌, ◌^◌, ◌++◌, ℕ, List, length, true, false, if◌then◌else◌, IfOk, IsTrue, MatchResult};
+ghost use Rattle.std.specs.Prelude.{◌≡◌, ◌<◌, ◌+◌, ◌^◌, ◌++◌, ℕ, List, length, true, false, IfOk, IsTrue, MatchResult};
 ghost use Rattle.std.specs.List.{All};
 ghost use Rattle.sp_ports.specs.Bytes.{GivesPrefix, IsAtEnd};
 ghost use Rattle.sp_ports.specs.Device.{seen};
-ghost use Rattle.mm_defs.specs.Faults.{is_limit};
 ghost use Rattle.mm_defs.specs.Words.{lines};
 ghost use Rattle.mm_defs.specs.Calls.{HasItsKind, TakesAtMostOnePast};
 ghost use Rattle.mm_frames.specs.Edits.{IsWithinMatrix, KeepsGood, ReadsEdits, RefusesEdits, edits_of};
@@ -14,23 +13,10 @@ ghost use Rattle.mm_reader.specs.Lines.{IsLine};
 
 use crate::edit::Edit;
 use crate::judge::judge_edit;
-use mm_defs::{Kind, ReadError};
-use mm_reader::{Input, LineSoFar, next_byte};
+use mm_defs::ReadError;
+use mm_reader::{Input, LineSoFar, line_refusal, next_byte};
 use sp_ports::Source;
 use std::alloc::Global;
-
-/// The answer to a bad line.
-fn refusal(line: u64, kind: Kind) -> ReadError
-    ensures { result ≡ (if is_limit kind
-        then ReadError.Limit line kind
-        else ReadError.Malformed line kind) }
-{
-    if kind.is_limit() {
-        ReadError::Limit { line, kind }
-    } else {
-        ReadError::Malformed { line, kind }
-    }
-}
 
 /// A line has come whose number this is.
 fn take_line(
@@ -51,7 +37,7 @@ fn take_line(
         return Ok(());
     }
     let edit = match judge_edit(edits.len(), rows, cols, line) {
-        Err(kind) => return Err(refusal(number, kind)),
+        Err(kind) => return Err(line_refusal(number, kind)),
         Ok(edit) => edit,
     };
     match edits.push(edit) {

@@ -15,7 +15,7 @@ pub returns-in-Err-clause-steps : goal.returns-in-Err-clause-steps
 returns-in-Err-clause-steps c n bytes l ls r number_is =
     let k : c.len.result ≡ length c.args.edits.now.items = omega (arith, c.len.ensures, c.args.edits.now.ok.0) in
     let j = c.in-Err.ensures.judged bytes l in
-    subst (λ (e : ReadError). RefusesLast n c.args.rows c.args.cols (ls ++ bytes ∷ []) e) (sym c.refusal.ensures)
+    subst (λ (e : ReadError). RefusesLast n c.args.rows c.args.cols (ls ++ bytes ∷ []) e) (sym c.line_refusal.ensures)
     (line_bad c.args.rows c.args.cols c.args.number n bytes c.args.edits.now.items ls r number_is (sym (c.is_skipped.ensures bytes l) ∙ c.if-is_skipped.false) c.in-Err.kind
     (subst (λ (x : ℕ). first_kind (edit_rules c.args.rows c.args.cols x (words bytes)) ≡ Some c.in-Err.kind) k j))
 

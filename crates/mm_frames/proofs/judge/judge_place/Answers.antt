@@ -1,0 +1,11 @@
+use Rattle.mm_defs.specs.Words.{word, words}
+use Rattle.mm_defs.specs.Numbers.{number}
+use Rattle.mm_frames.proofs.EditLaws.{place_judged}
+use Rattle.mm_frames.proofs.judge.judge_place.Goals as goal
+
+pub returns-clause-judged : goal.returns-clause-judged
+returns-clause-judged c bytes l =
+    let a = c.in-Some.ensures bytes l in
+    let b = c.in-Some-number.ensures bytes l in
+    place_judged c.args.rows c.args.cols (words bytes) c.place_within.result a.0 b.0
+    (c.place_within.ensures.judged (number (word (words bytes) 1)) (number (word (words bytes) 2)) a.1 b.1)
