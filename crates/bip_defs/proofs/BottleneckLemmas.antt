@@ -8,7 +8,7 @@ use Rattle.bip_defs.specs.Lists.{Among, IsRising, Lists}
 use Rattle.bip_defs.specs.Matching.{IsMatching, cols_of}
 use Rattle.bip_defs.specs.Matrix.{IsEntry, Matrix, Place, cols, column, neighbours, upto}
 use Rattle.bip_defs.proofs.Duality.{hall_bound}
-use Rattle.bip_defs.proofs.Sets.{entry_col, few_distinct, filter_complete, filter_sound, rising_distinct, rising_filter, upto_length, upto_lists, upto_rising}
+use Rattle.bip_defs.proofs.Sets.{entry_col, few_distinct, filter_complete, filter_sound, rising_distinct, rising_filter, test_is, upto_length, upto_lists, upto_rising}
 use Rattle.bip_defs.proofs.Transposed.{upto_at}
 
 -- Restricted matrices.
@@ -55,9 +55,6 @@ restricted_lists a passes c l = record {
     bounded r h (no nlt) = absurd (subst (Among r) (restricted_past a passes c (omega arith)) h)
 
 -- Above a weight.
-
-test_is : (x y : ℕ) → x < y → nat_lt x y ≡ true
-test_is x y lt = grind (arith, nat_tests)
 
 test_says : (x y : ℕ) → nat_lt x y ≡ true → x < y
 test_says x y h = grind (arith, nat_tests)

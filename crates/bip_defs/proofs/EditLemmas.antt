@@ -1,7 +1,6 @@
 -- Edited matrices: their entries and places, edits that are taken back, and what an edit leaves of matchings.
-use Rattle.std.proofs.Common.{◌≡◌, ◌≢◌, ◌⊎◌, ◌↔◌, ◌∙◌, ℕ, zero, suc, ◌+◌, ◌<◌, ◌≤◌, ◌&&◌, true, false, not, List, [], ◌∷◌, length, nat_eq, nat_lt, set, get_or, sum_by, refl, sym, ap, subst, inl, inr, ⊎_elim, arith, eq-eqb, ne_eqb, true≢false, get_or-set_same, get_or-set_other}
+use Rattle.std.proofs.Common.{◌≡◌, ◌≢◌, ◌⊎◌, ◌↔◌, ◌∙◌, ℕ, zero, suc, ◌+◌, ◌<◌, ◌≤◌, ◌&&◌, true, false, not, List, [], ◌∷◌, length, nat_eq, set, get_or, sum_by, refl, sym, ap, subst, inl, inr, ⊎_elim, arith, eq-eqb, ne_eqb, true≢false, get_or-set_same, get_or-set_other}
 use Rattle.std.proofs.Math.Decide.{dec_lt}
-use Rattle.std.proofs.lemmas.Bool.Decides.{nat_tests}
 use Rattle.std.proofs.lemmas.List.{length-set, set-get_or, set-set, set_past}
 use Rattle.std.proofs.lemmas.List.Sums.{sum_by-cons}
 use Rattle.bip_defs.specs.EditedMatrix.{AreWithin, Clear, Edit, Set, edited, edited_places, places_after, with_place, with_number, without_place, without_number}
@@ -9,15 +8,9 @@ use Rattle.bip_defs.specs.Lists.{Among, IsRising, Lists}
 use Rattle.bip_defs.specs.Matching.{IsMatching, IsMaximum, IsRank, cols_of, rows_of}
 use Rattle.bip_defs.specs.Matrix.{HasPlaces, IsEntry, Matrix, Place, cols, column, entry_count}
 use Rattle.bip_defs.proofs.Exchange.{adds_pair, drops_pair}
-use Rattle.bip_defs.proofs.Sets.{below_each_from, below_each_sound, distinct_pairs, drops_gone, drops_length, entry_col, filter_complete, filter_sound, is_among, number_same, place_same, rising_filter, rising_unique, taken}
+use Rattle.bip_defs.proofs.Sets.{below_each_from, below_each_sound, distinct_pairs, drops_gone, drops_length, entry_col, filter_complete, filter_sound, is_among, number_same, place_same, rising_filter, rising_unique, taken, test_is, test_is_not}
 
 -- Rising lists with a number more or less.
-
-test_is : (x y : ℕ) → x < y → nat_lt x y ≡ true
-test_is x y lt = grind (arith, nat_tests)
-
-test_is_not : (x y : ℕ) → y ≤ x → nat_lt x y ≡ false
-test_is_not x y le = grind (arith, nat_tests)
 
 -- where the number is put in
 with_cases : (x y : ℕ) (ys : List ℕ) → ((x < y) × (with_number x (y ∷ ys) ≡ x ∷ y ∷ ys)) ⊎ (((x ≡ y) × (with_number x (y ∷ ys) ≡ y ∷ ys)) ⊎ ((y < x) × (with_number x (y ∷ ys) ≡ y ∷ with_number x ys)))

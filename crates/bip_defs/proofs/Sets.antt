@@ -1,6 +1,7 @@
 -- Lists that stand for sets: members, what is left without one of them, pigeonholes, rising lists.
-use Rattle.std.proofs.Common.{◌≡◌, ◌≢◌, ◌⊎◌, ◌↔◌, ◌∙◌, ℕ, zero, suc, ◌+◌, ◌<◌, ◌≤◌, Bool, true, false, cond, not, List, [], ◌∷◌, ◌++◌, map, filter, length, nat_eq, refl, sym, ap, subst, inl, inr, ⊎_elim, arith, zero-le, suc-le-suc, le_of_suc-le-suc, lt_irrefl, ap₂, not-suc-le-zero, ◌||◌, Contains, slice_index_or, eq-eqb, eqb-true, true≢false, take, drop, set, get_or, get_or-set_same, get_or-set_other}
+use Rattle.std.proofs.Common.{◌≡◌, ◌≢◌, ◌⊎◌, ◌↔◌, ◌∙◌, ℕ, zero, suc, ◌+◌, ◌<◌, ◌≤◌, Bool, true, false, cond, not, List, [], ◌∷◌, ◌++◌, map, filter, length, nat_eq, nat_lt, refl, sym, ap, subst, inl, inr, ⊎_elim, arith, zero-le, suc-le-suc, le_of_suc-le-suc, lt_irrefl, ap₂, not-suc-le-zero, ◌||◌, Contains, slice_index_or, eq-eqb, eqb-true, true≢false, take, drop, set, get_or, get_or-set_same, get_or-set_other}
 use Rattle.std.proofs.Math.Decide.{dec_lt, ℕ_discrete}
+use Rattle.std.proofs.lemmas.Bool.Decides.{nat_tests}
 use Rattle.std.proofs.lemmas.List.{get_or-map, get_or_past}
 use Rattle.std.proofs.Math.Seq.{take-append_seam}
 use Rattle.std.proofs.lemmas.List.Filters.{length-filter_both}
@@ -46,6 +47,12 @@ distinct_last (y ∷ xs) x a new = (λ h. ⊎_elim a.0 (λ (e : y ≡ x). new (i
 
 pub number_same : (x y : ℕ) → (x ≡ y) ⊎ (x ≢ y)
 number_same x y = elim (ℕ_discrete x y) [ yes e ↦ inl e | no ne ↦ inr ne ]
+
+pub test_is : (x y : ℕ) → x < y → nat_lt x y ≡ true
+test_is x y lt = grind (arith, nat_tests)
+
+pub test_is_not : (x y : ℕ) → y ≤ x → nat_lt x y ≡ false
+test_is_not x y le = grind (arith, nat_tests)
 
 pub place_same : (p q : Place) → (p ≡ q) ⊎ (p ≢ q)
 place_same p q = by (number_same p.0 q.0) (number_same p.1 q.1)

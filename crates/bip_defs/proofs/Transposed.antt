@@ -1,8 +1,9 @@
 -- The transpose: rows for columns, and what that makes of matchings and parts.
-use Rattle.std.proofs.Common.{◌≡◌, ◌∙◌, ℕ, zero, suc, ◌+◌, ◌<◌, true, List, [], ◌∷◌, length, nat_eq, slice_index_or, refl, sym, ap, subst, arith}
+use Rattle.std.proofs.Common.{◌≡◌, ◌∙◌, ℕ, zero, suc, ◌+◌, ◌<◌, Bool, true, List, [], ◌∷◌, length, nat_eq, slice_index_or, refl, sym, ap, subst, arith}
 use Rattle.std.proofs.lemmas.List.{get_or-map, length-map}
 use Rattle.std.specs.List.{list_any}
 use Rattle.bip_defs.specs.Lists.{Among, Lists}
+use Rattle.bip_defs.specs.Marks.{Marks}
 use Rattle.bip_defs.specs.Matching.{IsMatching, IsMaximum, cols_of, rows_of, transposed_places}
 use Rattle.bip_defs.specs.Matrix.{IsEntry, IsTransposeOf, Matrix, Place, column, cols, row_list, transpose, upto, upto_from}
 use Rattle.bip_defs.specs.Parts.{IsHorizontalCol, IsHorizontalRow, IsSquareCol, IsSquareRow, IsVerticalCol, IsVerticalRow}
@@ -98,6 +99,13 @@ turned_vertical_col a b c t h = horizontal_row_turned b a c (transpose_back a b 
 
 pub turned_horizontal_row : (a b : Matrix) (r : ℕ) → IsTransposeOf a b → IsVerticalCol b r → IsHorizontalRow a r
 turned_horizontal_row a b r t v = vertical_col_turned b a r (transpose_back a b t) v
+
+-- marks of the transpose's horizontal columns, as marks of the vertical rows
+pub turned_marks : (a : Matrix) (marks : List Bool) → Marks (cols (transpose a)) (IsHorizontalCol (transpose a)) marks → Marks a.rows (IsVerticalRow a) marks
+turned_marks a marks k = record {
+  long = k.long ∙ transpose_cols a;
+  exact = λ i lt. (λ h. turned_vertical a (transpose a) i (transpose_is a) ((k.exact i (rw transpose_cols lt)).0 h), λ v. (k.exact i (rw transpose_cols lt)).1 (vertical_turned a (transpose a) i (transpose_is a) v));
+}
 
 pub square_row_turned : (a b : Matrix) (r : ℕ) → IsTransposeOf a b → IsSquareRow a r → IsSquareCol b r
 square_row_turned a b r t s = (rw t.cols_are s.0, λ h. s.2 (turned_vertical a b r t h), λ v. s.1 (turned_horizontal_row a b r t v))

@@ -1,5 +1,5 @@
 -- Words on lists that stand for sets.
-use Rattle.std.specs.Prelude.{◌≡◌, ◌⊎◌, ℕ, ◌<◌, Bool, true, false, Option, None, List, [], ◌∷◌, map, slice_index_or}
+use Rattle.std.specs.Prelude.{◌≡◌, ◌⊎◌, ℕ, ◌<◌, Bool, true, false, Option, None, List, [], ◌∷◌, length, map, slice_index, slice_index_or}
 
 -- x is one of the list
 abbrev pub Among : {X : Type 0} → X → List X → Type 0
@@ -26,6 +26,10 @@ pub record Lists (P : ℕ → Type 0) (xs : List ℕ) : Type 0 where
   pub rising : IsRising xs
   pub sound : (x : ℕ) → Among x xs → P x
   pub complete : (x : ℕ) → P x → Among x xs
+
+-- the number stands at this place of the list
+abbrev pub StandsAt : List ℕ → ℕ → ℕ → Type 0
+StandsAt xs x i = (i < length xs) × (slice_index xs i ≡ x)
 
 -- the number's place in a list of marks has one
 abbrev pub IsMarked : List Bool → ℕ → Type 0

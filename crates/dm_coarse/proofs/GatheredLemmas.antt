@@ -2,11 +2,11 @@
 use Rattle.std.proofs.Common.{◌≡◌, ◌∙◌, ℕ, ◌<◌, ◌≤◌, List, [], ◌∷◌, get_or, map, refl, sym, ap, subst, inl, inr, arith, le_antisymm}
 use Rattle.bip_defs.specs.Blocks.{Block, ColAt, RowAt, Vertex, least_col}
 use Rattle.bip_defs.specs.ConnectedComponents.{AreOrderedComponents, IsComponentWith, IsConnectedComponent, IsHorizontalVertex, Joined, alone, to_col, to_row}
-use Rattle.bip_defs.specs.Lists.{Among, IsRising, Lists}
+use Rattle.bip_defs.specs.Lists.{Among, IsRising, Lists, StandsAt}
 use Rattle.bip_defs.specs.Matrix.{Matrix, cols, upto}
 use Rattle.bip_defs.proofs.Connected.{component_same, joined_back, joined_inside, turned_block}
 use Rattle.bip_defs.proofs.Sets.{among_map, among_map_back, below_each_from, below_each_sound, lists_same, upto_complete, upto_rising, upto_sound}
-use Rattle.id_groups.specs.Groups.{StandsAt, block_of}
+use Rattle.id_groups.specs.Groups.{block_of}
 use Rattle.sp_pattern.specs.Stored.{piece}
 use Rattle.dm_coarse.specs.Gathered.{AreGathered}
 use Rattle.dm_coarse.specs.Numbering.{AreNumbers}

@@ -9,7 +9,8 @@ use Rattle.bip_defs.specs.Matrix.{IsEntry, IsTransposeOf, Matrix, cols}
 use Rattle.bip_defs.specs.Parts.{IsHorizontalCol}
 use Rattle.bip_defs.proofs.Full.{few_below}
 use Rattle.bip_defs.proofs.Sets.{among_at, among_last, among_left, among_right, below_each_sound, distinct_last, number_among, number_same, place_among, rising_distinct, rising_last}
-use Rattle.dm_coarse.specs.Numbering.{AreNumbers, AreSearched, Extends, IsAsLong, IsOfRoot, IsScanning, IsSearch, none}
+use Rattle.bip_graph.specs.Matching.{none}
+use Rattle.dm_coarse.specs.Numbering.{AreNumbers, AreSearched, Extends, IsAsLong, IsOfRoot, IsScanning, IsSearch}
 
 -- Marks.
 

@@ -10,7 +10,7 @@ use Rattle.bip_defs.specs.Matrix.{Matrix, Place, cols, column, transpose}
 use Rattle.bip_defs.specs.Parts.{IsHorizontalCol, IsHorizontalRow, IsSquareCol, IsSquareRow, IsVerticalCol, IsVerticalRow}
 use Rattle.bip_defs.proofs.Sets.{among_last, among_left, among_right, entry_col, lists_same, number_among, number_same, rising_last}
 use Rattle.bip_defs.proofs.Square.{horizontal_mate, rows_apart}
-use Rattle.bip_defs.proofs.Transposed.{horizontal_turned, square_col_turned, square_row_turned, transpose_back, transpose_cols, transpose_is, turned_horizontal, turned_matching, turned_maximum, turned_twice, turned_vertical, turned_vertical_col, vertical_col_turned, vertical_turned}
+use Rattle.bip_defs.proofs.Transposed.{horizontal_turned, square_col_turned, square_row_turned, transpose_back, transpose_cols, transpose_is, turned_horizontal, turned_marks, turned_matching, turned_maximum, turned_twice, turned_vertical, turned_vertical_col, vertical_col_turned, vertical_turned}
 use Rattle.bip_graph.specs.Matching.{IsMatchingOf, IsMaximumOf, Pairing, transposed}
 use Rattle.dm_coarse.specs.Searches.{AreMarksIfMaximum}
 
@@ -114,16 +114,7 @@ split_end a n hs ss vs le s = (
   all_below (IsVerticalRow a) n vs (λ x h. let lt = h.0 in omega arith) s.vertical,
 )
 
-pub items_same : {X : Type 0} {v w : Vec X Global} → v ≡ w → v.items ≡ w.items
-items_same e = λ i. (e i).items
-
 -- The transpose.
-
-pub turned_marks : (a : Matrix) (marks : List Bool) → Marks (cols (transpose a)) (IsHorizontalCol (transpose a)) marks → Marks a.rows (IsVerticalRow a) marks
-turned_marks a marks k = record {
-  long = k.long ∙ transpose_cols a;
-  exact = λ i lt. (λ h. turned_vertical a (transpose a) i (transpose_is a) ((k.exact i (rw transpose_cols lt)).0 h), λ v. (k.exact i (rw transpose_cols lt)).1 (vertical_turned a (transpose a) i (transpose_is a) v));
-}
 
 pub marks_turned : (a : Matrix) (marks : List Bool) → Marks a.rows (IsVerticalRow a) marks → Marks (cols (transpose a)) (IsHorizontalCol (transpose a)) marks
 marks_turned a marks k = record {

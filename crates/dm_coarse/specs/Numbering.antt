@@ -5,10 +5,7 @@ use Rattle.bip_defs.specs.ConnectedComponents.{IsHorizontalVertex, Joined}
 use Rattle.bip_defs.specs.Lists.{Among, AreDistinct, IsMarked, IsRising}
 use Rattle.bip_defs.specs.Matrix.{IsEntry, Matrix, cols}
 use Rattle.bip_defs.specs.Parts.{IsHorizontalCol}
-
--- stands for no number
-abbrev pub none : ℕ
-none = 4294967295
+use Rattle.bip_graph.specs.Matching.{none}
 
 -- chains join the vertex with the column from which component k was found
 abbrev pub IsOfRoot : Matrix → List ℕ → ℕ → Vertex → Type 0
@@ -32,8 +29,8 @@ pub record AreNumbers (a : Matrix) (count : ℕ) (rs cs : List ℕ) : Type 0 whe
   pub same : (r c : ℕ) → IsHorizontalCol a c → IsEntry a r c
       → slice_index rs r ≡ slice_index cs c
 
--- the columns of the part that are marked wait, the others are queued and have a number, as some rows have; the columns
--- before the place in the queue are scanned, those from there on have the last number
+-- the columns of the part that are marked wait, the others are queued and have a number, as some rows have, where `none` is
+-- no number; the columns before the place in the queue are scanned, those from there on have the last number
 pub record IsSearch (a : Matrix) (roots : List ℕ) (place : ℕ) (waiting : List Bool)
     (rs cs queue : List ℕ) : Type 0 where
   pub long_waiting : length waiting ≡ cols a

@@ -5,7 +5,8 @@ ghost use Rattle.std.specs.Prelude.{◌≡◌, ◌+◌, ◌<◌, ◌^◌, ◌++�
 ghost use Rattle.bip_defs.specs.Lists.{Among, IsMarked, Lists};
 ghost use Rattle.bip_defs.specs.Matrix.{IsEntry, IsTransposeOf, Matrix, cols};
 ghost use Rattle.bip_defs.specs.Parts.{IsHorizontalCol};
-ghost use Rattle.dm_coarse.specs.Numbering.{AreNumbers, AreSearched, Extends, IsAsLong, IsScanning, none};
+ghost use Rattle.bip_graph.specs.Matching.{none};
+ghost use Rattle.dm_coarse.specs.Numbering.{AreNumbers, AreSearched, Extends, IsAsLong, IsScanning};
 
 use sp_ids::{Col, Id, OutOfMemory};
 use sp_pattern::Side;

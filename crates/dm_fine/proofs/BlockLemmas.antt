@@ -4,7 +4,7 @@ use Rattle.std.specs.List.{list_any}
 use Rattle.std.proofs.lemmas.List.{get_or_default}
 use Rattle.bip_defs.specs.Blocks.{AreBlocksOf, AreInOrder, Block, IsBlock, MeetsNoOther, least_col}
 use Rattle.bip_defs.specs.Components.{IsComponent}
-use Rattle.bip_defs.specs.Lists.{Among, AreDistinct, Lists}
+use Rattle.bip_defs.specs.Lists.{Among, AreDistinct, Lists, StandsAt}
 use Rattle.bip_defs.specs.Matching.{IsMatching}
 use Rattle.bip_defs.specs.Matrix.{IsEntry, Matrix, Place, cols, column, row_list, upto}
 use Rattle.bip_defs.specs.Parts.{IsSquareCol}
@@ -15,7 +15,7 @@ use Rattle.bip_graph.specs.Matching.{none}
 use Rattle.square_components.specs.Numbers.{AreNumbered, look}
 use Rattle.dm_fine.specs.BlockOrder.{AreOrdered, Follow}
 use Rattle.dm_fine.specs.Groups.{AreApart, AreRowGroups}
-use Rattle.id_groups.specs.Groups.{AreGroups, StandsAt, block_of}
+use Rattle.id_groups.specs.Groups.{AreGroups, block_of}
 use Rattle.dm_fine.specs.InDegrees.{IsGathered, least_of, row_edges, edges_at, edges_into}
 use Rattle.dm_fine.proofs.Gathered.{least_stands}
 use Rattle.dm_fine.proofs.OrderLemmas.{follow_distinct, follow_fresh, follow_range}

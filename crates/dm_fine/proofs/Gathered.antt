@@ -1,11 +1,11 @@
 -- What is known of gathered components while they are put in order.
 use Rattle.std.proofs.Common.{◌≡◌, ◌≢◌, ◌∙◌, ℕ, ◌<◌, List, [], ◌∷◌, length, get_or, refl, ap, arith}
-use Rattle.bip_defs.specs.Lists.{IsRising}
+use Rattle.bip_defs.specs.Lists.{IsRising, StandsAt}
 use Rattle.bip_defs.specs.Matrix.{Matrix, cols, row_list}
 use Rattle.bip_defs.proofs.Sets.{among_at}
 use Rattle.sp_pattern.specs.Stored.{piece}
 use Rattle.dm_fine.specs.BlockOrder.{Follow}
-use Rattle.id_groups.specs.Groups.{AreGroups, StandsAt}
+use Rattle.id_groups.specs.Groups.{AreGroups}
 use Rattle.dm_fine.specs.InDegrees.{AreReady, HaveLeast, IsGathered, least_of, edges_at, edges_into, row_edges}
 use Rattle.dm_fine.proofs.OrderLemmas.{AreLeft, IsTaken, taken_next}
 use Rattle.dm_fine.proofs.Sums.{sum_none}

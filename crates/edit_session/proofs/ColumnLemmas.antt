@@ -1,20 +1,19 @@
 -- Columns that a search by halves goes through, and what an edit of one leaves of the matrix.
-use Rattle.std.proofs.Common.{◌≡◌, ◌↔◌, ◌∙◌, ℕ, zero, suc, ◌+◌, ◌-◌, ◌^◌, ◌<◌, ◌≤◌, false, true, true≢false, List, [], ◌∷◌, length, get_or, set, nat_lt, refl, sym, ap, subst, arith, eq-eqb, ne_eqb, Ok, Err, IfErr, IfOk, IsTrue, MatchResult}
+use Rattle.std.proofs.Common.{◌≡◌, ◌↔◌, ◌∙◌, ℕ, zero, suc, ◌+◌, ◌-◌, ◌^◌, ◌<◌, ◌≤◌, false, true, true≢false, List, [], ◌∷◌, length, get_or, set, refl, sym, ap, subst, arith, eq-eqb, ne_eqb, Ok, Err, IfErr, IfOk, IsTrue, MatchResult}
 use Rattle.std.specs.Prelude.{Result, is_ok}
 use Rattle.std.specs.List.Sorted.{IsBinarySearchResult}
 use Rattle.std.specs.Ordering.{nat_cmp}
 use Rattle.std.proofs.Math.Decide.{dec_lt}
-use Rattle.std.proofs.lemmas.Bool.Decides.{nat_tests}
 use Rattle.std.proofs.lemmas.List.{length-set}
 use Rattle.std.proofs.lemmas.List.Edits.{length-remove}
 use Rattle.std.proofs.lemmas.List.Sorted.{searched}
 use Rattle.std.specs.List.{insert, remove}
 use Rattle.bip_defs.specs.EditedMatrix.{with_number, with_place, without_number, without_place}
-use Rattle.bip_defs.specs.Lists.{Among, IsRising, Lists}
+use Rattle.bip_defs.specs.Lists.{Among, IsRising, Lists, StandsAt}
 use Rattle.bip_defs.specs.Matrix.{IsEntry, Matrix, Place, cols, column, entry_count}
 use Rattle.bip_defs.proofs.EditLemmas.{changed_here, with_again, with_count, with_lists, without_absent, without_count, without_lists, without_none}
-use Rattle.bip_defs.proofs.Sets.{among_at, below_each_sound, place_among}
-use Rattle.edit_session.specs.Columns.{IsCounted, IsGap, RoomyMatrix, StandsAt}
+use Rattle.bip_defs.proofs.Sets.{among_at, below_each_sound, place_among, test_is, test_is_not}
+use Rattle.edit_session.specs.Columns.{IsCounted, IsGap, RoomyMatrix}
 
 -- the numbers of a rising list in order
 pub rising_order : (xs : List ℕ) → IsRising xs → (i j : ℕ) → i ≤ j → j < length xs → get_or xs i 0 ≤ get_or xs j 0
@@ -23,12 +22,6 @@ rising_order (x ∷ xs) a zero zero le lt = omega arith
 rising_order (x ∷ xs) a zero (suc j) le lt = let b = below_each_sound x (get_or xs j 0) xs a.0 (among_at xs j 0 (omega arith)) in omega (arith, b)
 rising_order (x ∷ xs) a (suc i) zero le lt = absurd (omega arith)
 rising_order (x ∷ xs) a (suc i) (suc j) le lt = rising_order xs a.1 i j (omega arith) (omega arith)
-
-test_is : (x y : ℕ) → x < y → nat_lt x y ≡ true
-test_is x y lt = grind (arith, nat_tests)
-
-test_is_not : (x y : ℕ) → y ≤ x → nat_lt x y ≡ false
-test_is_not x y le = grind (arith, nat_tests)
 
 with_first : (x y : ℕ) (ys : List ℕ) → x < y → with_number x (y ∷ ys) ≡ x ∷ y ∷ ys
 with_first x y ys lt = rw (test_is x y lt) refl

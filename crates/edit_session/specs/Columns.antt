@@ -17,10 +17,6 @@ pub record IsCounted (a : Matrix) (entries : ℕ) : Type 0 where
   pub pattern : IsPattern a
   pub count : entry_count a ≡ entries
 
--- the number stands at this place of the list
-abbrev pub StandsAt : List ℕ → ℕ → ℕ → Type 0
-StandsAt xs x at = (at < length xs) × (slice_index xs at ≡ x)
-
 -- the numbers before this place of the list are less, and those from there on greater
 pub record IsGap (xs : List ℕ) (x at : ℕ) : Type 0 where
   pub within : at ≤ length xs

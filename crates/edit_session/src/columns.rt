@@ -2,8 +2,9 @@
 
 ghost use Rattle.std.specs.Prelude.{◌≡◌, ◌↔◌, ◌+◌, ◌<◌, ◌^◌, length, IfErr, IfOk, IsTrue, OnOk, is_ok};
 ghost use Rattle.bip_defs.specs.EditedMatrix.{with_place, without_place};
+ghost use Rattle.bip_defs.specs.Lists.{StandsAt};
 ghost use Rattle.bip_defs.specs.Matrix.{IsEntry, cols, column, entry_count};
-ghost use Rattle.edit_session.specs.Columns.{HasRoom, IsGap, RoomyMatrix, StandsAt};
+ghost use Rattle.edit_session.specs.Columns.{HasRoom, IsGap, RoomyMatrix};
 ghost use Rattle.sp_pattern.specs.Stored.{IsPattern};
 
 use crate::arena::Arena;

@@ -1,31 +1,21 @@
 -- The parts of columns.
-use Rattle.std.proofs.Common.{◌≡◌, ◌∙◌, ℕ, ◌+◌, ◌<◌, ◌≤◌, Bool, List, [], ◌∷◌, ◌++◌, length, length-append, take, get_or, refl, sym, ap, subst, arith, Result, Ok, Err, IfOk}
+use Rattle.std.proofs.Common.{◌≡◌, ◌∙◌, ℕ, ◌+◌, ◌<◌, ◌≤◌, Bool, List, [], ◌∷◌, ◌++◌, length, length-append, take, get_or, refl, sym, ap, subst, arith}
 use Rattle.std.proofs.lemmas.List.{get_or_append_left, take_all}
 use Rattle.std.proofs.Math.Decide.{dec_lt}
 use Rattle.bip_defs.specs.Lists.{Among, IsMarked, Lists}
 use Rattle.bip_defs.specs.Marks.{Marks}
-use Rattle.bip_defs.specs.Matrix.{IsEntry, Matrix, cols, transpose}
-use Rattle.bip_defs.specs.Parts.{IsHorizontalCol, IsVerticalCol, IsVerticalRow}
-use Rattle.bip_defs.proofs.Transposed.{transpose_cols, transpose_is, turned_maximum, turned_vertical, vertical_turned}
+use Rattle.bip_defs.specs.Matrix.{IsEntry, Matrix, transpose}
+use Rattle.bip_defs.specs.Parts.{IsVerticalCol, IsVerticalRow}
+use Rattle.bip_defs.proofs.Transposed.{transpose_cols, transpose_is, turned_maximum}
 use Rattle.bip_graph.specs.Matching.{IsMaximumOf, Pairing, transposed}
 use Rattle.least_match.specs.Outcomes.{IsIn}
 use Rattle.least_match.specs.declared.parts.Part.{Part}
 use Rattle.least_match.specs.declared.parts.Part.TheVariants.{Square}
 
-pub ok_map : {A E : Type 0} (r : Result A E) (P Q : A → Type 0) → ((x : A) → P x → Q x) → IfOk r P → IfOk r Q
-ok_map (Ok x) P Q f h = f x h
-ok_map (Err e) P Q f h = h
-
 pub turned_known : (a : Matrix) (m : Pairing) → IsMaximumOf a m → IsMaximumOf (transpose a) (transposed m)
 turned_known a m k = record {
   matching = record { rows = k.matching.cols; cols = k.matching.rows ∙ sym (transpose_cols a); matching = (turned_maximum a (transpose a) m.pairs (transpose_is a) k.maximum).matching };
   maximum = turned_maximum a (transpose a) m.pairs (transpose_is a) k.maximum;
-}
-
-pub turned_marks : (a : Matrix) (marks : List Bool) → Marks (cols (transpose a)) (IsHorizontalCol (transpose a)) marks → Marks a.rows (IsVerticalRow a) marks
-turned_marks a marks k = record {
-  long = k.long ∙ transpose_cols a;
-  exact = λ i lt. (λ h. turned_vertical a (transpose a) i (transpose_is a) ((k.exact i (rw transpose_cols lt)).0 h), λ v. (k.exact i (rw transpose_cols lt)).1 (vertical_turned a (transpose a) i (transpose_is a) v));
 }
 
 -- a column none of whose rows is vertical

@@ -9,8 +9,9 @@ use Rattle.bip_defs.specs.Queues.{Queue, at, heads}
 use Rattle.bip_defs.proofs.Full.{few_below}
 use Rattle.bip_defs.proofs.Queues.{at_push, heads_push}
 use Rattle.bip_defs.proofs.Sets.{among_at, among_last, among_left, among_right, distinct_last, one_row}
+use Rattle.hall_witness.specs.Search.{IsPrefix}
 use Rattle.least_match.specs.Classes.{IsOther, IsInTail}
-use Rattle.least_match.specs.Trees.{AreSearchTrees, Enters, IsPrefix, IsScanned, IsScannedBack, IsTree, LeadsTo, Looks}
+use Rattle.least_match.specs.Trees.{AreSearchTrees, Enters, IsScanned, IsScannedBack, IsTree, LeadsTo, Looks}
 use Rattle.least_match.specs.Outcomes.{AreScanned, AreScannedBack}
 use Rattle.least_match.proofs.TreeLemmas.{at_last}
 

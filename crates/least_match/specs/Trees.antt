@@ -47,10 +47,6 @@ pub record AreSearchTrees (a : Matrix) (m : List Place) (classes : List ℕ) (j 
   pub backward_leads : LeadsBack a m backward
   pub apart : (c : ℕ) → Among c (heads forward) → ¬ Among c (heads backward)
 
--- the queue has grown at its end
-abbrev pub IsPrefix : Queue → Queue → Type 0
-IsPrefix old new = (more : Queue) × (new ≡ old ++ more)
-
 -- a column of the tree stays as it is; another one is added, behind its parent
 abbrev pub Enters : ℕ → ℕ → Queue → Queue → Type 0
 Enters c parent old new = (Among c (heads old) × (new ≡ old))

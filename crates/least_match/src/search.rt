@@ -7,10 +7,11 @@ ghost use Rattle.bip_defs.specs.Matching.{cols_of};
 ghost use Rattle.bip_defs.specs.Matrix.{IsEntry, cols};
 ghost use Rattle.bip_defs.specs.Queues.{at, heads};
 ghost use Rattle.bip_graph.specs.Matching.{IsMatchingOf};
+ghost use Rattle.hall_witness.specs.Search.{IsPrefix};
 ghost use Rattle.least_match.specs.Classes.{IsOther, IsInTail};
 ghost use Rattle.least_match.specs.Exchanges.{Meets};
 ghost use Rattle.least_match.specs.Outcomes.{EndsAs, IsTurn};
-ghost use Rattle.least_match.specs.Trees.{AreSearchTrees, Enters, IsPrefix, IsScanned, IsScannedBack, LeadsTo, Looks};
+ghost use Rattle.least_match.specs.Trees.{AreSearchTrees, Enters, IsScanned, IsScannedBack, LeadsTo, Looks};
 
 use crate::exchange::{Meeting, mate};
 use crate::parts::Part;

@@ -5,6 +5,7 @@ use Rattle.std.proofs.Math.Seq.{get_or-append_seam}
 use Rattle.std.proofs.lemmas.List.{get_or-map, get_or_append_left, length-map, map-append}
 use Rattle.bip_defs.specs.Lists.{Among, AreDistinct}
 use Rattle.bip_defs.specs.Matrix.{IsEntry, Matrix, Place}
+use Rattle.bip_defs.proofs.Queues.{distinct_at}
 use Rattle.bip_defs.proofs.Sets.{among_at, among_left, among_map, place_among}
 use Rattle.path_search.specs.Forests.{IsFound, reached_at, reached_cols}
 use Rattle.path_search.specs.declared.reached.Reached.{Reached}
@@ -46,12 +47,6 @@ pub grown_among : (q more : List Reached) (c : ℕ) → Among c (reached_cols q)
 grown_among q more c h = subst (λ xs. Among c xs) (sym (map-append (λ (y : Reached). y.col) q more)) (among_left c (reached_cols q) (reached_cols more) h)
 
 -- distinct columns stand at one place each
-distinct_at : (xs : List ℕ) (i j : ℕ) → AreDistinct xs → i < j → j < length xs → get_or xs i 0 ≢ get_or xs j 0
-distinct_at [] i j a lt within e = absurd (omega arith)
-distinct_at (x ∷ xs) i zero a lt within e = absurd (omega arith)
-distinct_at (x ∷ xs) zero (suc j) a lt within e = a.0 (subst (λ y. Among y xs) (sym e) (among_at xs j 0 (omega arith)))
-distinct_at (x ∷ xs) (suc i) (suc j) a lt within e = distinct_at xs i j a.1 (omega arith) (omega arith) e
-
 places_differ : (q : List Reached) (i j : ℕ) → AreDistinct (reached_cols q) → i < j → j < length q → (reached_at q i).col ≢ (reached_at q j).col
 places_differ q i j a lt within e = distinct_at (reached_cols q) i j a lt (omega (arith, length-map q (λ (y : Reached). y.col))) (col_at q i (omega arith) ∙ e ∙ sym (col_at q j within))
 

@@ -1,20 +1,16 @@
-use Rattle.std.proofs.Common.{◌≡◌, ◌++◌, ℕ, Bool, List, Result, Ok, Err, IfOk, ap, subst, sym}
+use Rattle.std.proofs.Common.{◌≡◌, ◌++◌, ℕ, Bool, List, ap, subst, sym}
+use Rattle.std.proofs.lemmas.Result.{IfOk-weaker}
 use Rattle.mm_defs.specs.Calls.{Intake}
 use Rattle.mm_defs.specs.declared.kinds.Kind.{Kind}
-use Rattle.sp_ids.specs.declared.memory.OutOfMemory.{OutOfMemory}
 use Rattle.btf_tool.specs.FileAnswer.{IsFaulty}
-use Rattle.btf_tool.specs.declared.file_answer.FileAnswer.{FileAnswer}
 use Rattle.btf_tool.proofs.LentFiles.{lent_limit, lent_malformed, lent_read}
 use Rattle.btf_tool.proofs.file_answer.answer_bytes.Goals as goal
 
-then : {P Q : FileAnswer → Type 0} (r : Result FileAnswer OutOfMemory) → IfOk r P → ((x : FileAnswer) → P x → Q x) → IfOk r Q
-then (Ok x) h f = f x h
-then (Err e) h f = tt
-
 pub returns-in-Ok : goal.returns-in-Ok
 returns-in-Ok g c =
-    then c.analysed.result c.analysed.ensures (λ answer is. is c.args.bytes.now
+    IfOk-weaker c.analysed.result _ _ (λ answer is. is c.args.bytes.now
     (lent_read c.in_ok-input.input c.args.bytes.now c.new-source.result c.read_matrix.new.source _ c.in-Ok.triples (ap (λ (i : Intake). i.ahead) c.in_ok-input.ensures) c.new-source.ensures c.in-Ok.ensures.answer))
+    c.analysed.ensures
 
 same_fault : {bytes : List ℕ} {limit : Bool} {line told : ℕ} {kind known : Kind} → line ≡ told → kind ≡ known → IsFaulty bytes limit told known → IsFaulty bytes limit line kind
 same_fault {bytes = bytes} {limit = limit} {told = told} {kind = kind} line-is kind-is h =

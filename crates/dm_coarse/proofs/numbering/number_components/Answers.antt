@@ -3,7 +3,7 @@ use Rattle.std.proofs.lemmas.List.{get_or_read, length-map}
 use Rattle.bip_defs.specs.Lists.{IsMarked}
 use Rattle.bip_defs.specs.Matrix.{cols}
 use Rattle.bip_defs.proofs.Slices.{number_at, number_read}
-use Rattle.dm_coarse.specs.Numbering.{none}
+use Rattle.bip_graph.specs.Matching.{none}
 use Rattle.dm_coarse.proofs.NumberingLemmas.{least_waiting, numbering_end, numbering_more, numbering_skip, numbering_small, search_begun}
 use Rattle.dm_coarse.proofs.numbering.number_components.Goals as goal
 use Rattle.dm_coarse.proofs.numbering.number_components.Goals.{then-index+in_ok-enter+in_ok-explore, else-index}

@@ -1,6 +1,6 @@
 use Rattle.std.proofs.Common.{◌≡◌, ◌∙◌, ap, arith, replicate, rules, []}
 use Rattle.bip_defs.specs.Matrix.{cols}
-use Rattle.dm_coarse.specs.Numbering.{none}
+use Rattle.bip_graph.specs.Matching.{none}
 use Rattle.dm_coarse.proofs.NumberingLemmas.{opened}
 use Rattle.dm_coarse.proofs.numbering.open.Goals as goal
 

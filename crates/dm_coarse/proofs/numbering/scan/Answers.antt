@@ -3,7 +3,7 @@ use Rattle.std.proofs.lemmas.List.{get_or_read, length-map}
 use Rattle.bip_defs.specs.Matrix.{cols}
 use Rattle.bip_defs.proofs.Sets.{among_at}
 use Rattle.bip_defs.proofs.Slices.{number_at, number_read}
-use Rattle.dm_coarse.specs.Numbering.{none}
+use Rattle.bip_graph.specs.Matching.{none}
 use Rattle.dm_coarse.proofs.NumberingLemmas.{col_scan_end, col_scan_more, col_scan_skip, scanning_at}
 use Rattle.dm_coarse.proofs.numbering.scan.Goals as goal
 use Rattle.dm_coarse.proofs.numbering.scan.Goals.{then-index+in_ok-scan_row, else-index}

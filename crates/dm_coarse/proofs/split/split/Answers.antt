@@ -1,5 +1,6 @@
 use Rattle.std.proofs.Common.{◌∙◌, arith}
-use Rattle.dm_coarse.proofs.SplitLemmas.{items_same, more_horizontal, more_square, more_vertical, split_end}
+use Rattle.bip_defs.proofs.Slices.{items_same}
+use Rattle.dm_coarse.proofs.SplitLemmas.{more_horizontal, more_square, more_vertical, split_end}
 use Rattle.dm_coarse.proofs.split.split.Goals as goal
 use Rattle.dm_coarse.proofs.split.split.Goals.{in-Horizontal+in_ok-push-in-Horizontal, in-Square+in_ok-push-in-Square, in-Vertical+in_ok-push-in-Vertical}
 

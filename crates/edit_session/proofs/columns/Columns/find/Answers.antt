@@ -1,8 +1,8 @@
 use Rattle.std.proofs.Common.{◌≡◌, ◌∙◌, sym, subst, IfErr, IfOk}
 use Rattle.std.proofs.lemmas.List.{map-id}
-use Rattle.bip_defs.specs.Lists.{Lists}
+use Rattle.bip_defs.specs.Lists.{Lists, StandsAt}
 use Rattle.bip_defs.specs.Matrix.{IsEntry, column}
-use Rattle.edit_session.specs.Columns.{IsGap, StandsAt}
+use Rattle.edit_session.specs.Columns.{IsGap}
 use Rattle.edit_session.proofs.ColumnLemmas.{entry_found, gap_found, stands_found}
 use Rattle.edit_session.proofs.columns.Columns.find.Goals as goal
 

@@ -1,5 +1,6 @@
 use Rattle.std.proofs.Common.{◌≡◌, ℕ, take}
-use Rattle.least_match.specs.Trees.{AreSearchTrees, IsPrefix}
+use Rattle.hall_witness.specs.Search.{IsPrefix}
+use Rattle.least_match.specs.Trees.{AreSearchTrees}
 use Rattle.least_match.proofs.SearchLemmas.{AreSeen}
 use Rattle.least_match.proofs.search.ClassTail.scan_forward.Given as goal
 
