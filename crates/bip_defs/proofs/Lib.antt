@@ -11,9 +11,11 @@ pub mod Fine
 pub mod Full
 pub mod FullMatchings
 pub mod LeastMatching
+pub mod Occurrences
 pub mod Paired
 pub mod Queues
 pub mod Reaching
+pub mod Results
 pub mod Searches
 pub mod Sets
 pub mod Slices
@@ -25,3 +27,4 @@ pub mod Together
 pub mod Transposed
 pub mod Triangular
 pub mod Uniqueness
+pub mod WordValues

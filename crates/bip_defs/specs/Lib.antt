@@ -10,6 +10,7 @@ pub mod Lists
 pub mod Marks
 pub mod Matching
 pub mod Matrix
+pub mod Occurrences
 pub mod Once
 pub mod Parts
 pub mod Paths
@@ -21,3 +22,4 @@ pub mod Tallies
 pub mod Triangular
 pub mod Walks
 pub mod Witness
+pub mod WordValues

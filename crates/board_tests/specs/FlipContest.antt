@@ -1,7 +1,8 @@
 -- The board that four seats contest in a test: a hundred trees, each of the row and the column of
 -- its number.
 use Rattle.std.specs.Prelude.{◌≡◌, ◌⊎◌, ℕ, ◌+◌, ◌<◌, ◌≤◌, Some}
-use Rattle.flip_words.specs.Board.{Board, held}
+use Rattle.bip_defs.specs.WordValues.{held}
+use Rattle.flip_words.specs.Board.{Board}
 use Rattle.flip_words.specs.Seat.{HasSet, IsSameSeat, Seat}
 
 pub record IsContested (b : Board) : Type 0 where

@@ -3,7 +3,7 @@
 
 ghost use Rattle.std.specs.Prelude.{◌≡◌, ℕ, ◌+◌, ◌<◌, Some, [], ◌∷◌, length, IfOk};
 ghost use Rattle.std.specs.Thread.{IsSync};
-ghost use Rattle.flip_words.specs.Board.{held};
+ghost use Rattle.bip_defs.specs.WordValues.{held};
 ghost use Rattle.flip_words.specs.Seat.{AreAllSeats, new_seats};
 ghost use Rattle.board_tests.specs.FlipContest.{HasVisited, IsContested, Visits};
 

@@ -1,6 +1,5 @@
 -- What a worker has gathered from free rows, and what is covered by it.
-use Rattle.std.proofs.Common.{◌≡◌, ◌∙◌, ℕ, ◌+◌, ◌<◌, List, [], ◌∷◌, ◌++◌, length, take, slice_index_or, Result, Ok, Err, OnOk, refl, sym, ap, subst, inl, inr, ⊎_elim}
-use Rattle.std.proofs.lemmas.List.{take_more}
+use Rattle.std.proofs.Common.{◌≡◌, ℕ, ◌+◌, List, [], ◌∷◌, ◌++◌, refl, sym, subst, inl, inr, ⊎_elim}
 use Rattle.bip_defs.specs.Forest.{State}
 use Rattle.bip_defs.specs.Lists.{Among}
 use Rattle.bip_defs.proofs.Sets.{among_last, among_left, among_right}
@@ -10,12 +9,6 @@ use Rattle.bottom_up.specs.Candidates.{HasGathered, IsCandidate, IsCovered, Stay
 use Rattle.level_sharing.specs.Progress.{CanClaim, HasSettled, IsThroughRow}
 use Rattle.level_sharing.specs.Shares.{IsOwn, Share}
 use Rattle.level_sharing.specs.declared.candidate.Candidate.{Candidate}
-
--- what holds of the first k of a list and of the next holds of the first k + 1
-pub each_more : {X : Type 0} (P : X → Type 0) (xs : List X) (k : ℕ) (x : X) → k < length xs → x ≡ slice_index_or xs k x → ((y : X) → Among y (take k xs) → P y) → P x → (y : X) → Among y (take (k + 1) xs) → P y
-each_more P xs k x inside e had new y m =
-    let grown : take (k + 1) xs ≡ take k xs ++ x ∷ [] = take_more xs k x inside ∙ ap (λ z. take k xs ++ z ∷ []) (sym e) in
-    ⊎_elim (had y) (λ same. subst P (sym same) new) (among_last y x (take k xs) (subst (λ l. Among y l) grown m))
 
 -- Candidates.
 
@@ -56,7 +49,3 @@ covered_last s w xs x = inr (x, among_right x xs (x ∷ []) (inl refl), refl)
 pub covered_through : (s : State) (v w : WorkerState) (xs : List Candidate) → ((r : ℕ) → IsThroughRow s v r → IsThroughRow s w r) → ((x : Candidate) → Among x xs → IsThroughRow s w x.row) → (r : ℕ) → IsCovered s v xs r → IsThroughRow s w r
 covered_through s v w xs on all r (inl t) = on r t
 covered_through s v w xs on all r (inr (x, m, e)) = subst (IsThroughRow s w) e (all x m)
-
-pub ok_both : {A E P Q R : Type 0} (r : Result A E) → (P → Q → R) → OnOk r P → OnOk r Q → OnOk r R
-ok_both (Ok a) f p q = f p q
-ok_both (Err e) f p q = tt

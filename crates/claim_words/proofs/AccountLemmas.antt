@@ -1,31 +1,13 @@
 -- One more word that is listed, and lists in another order.
-use Rattle.std.proofs.Common.{◌≡◌, ◌≢◌, ◌∙◌, ◌⊎◌, ℕ, ◌+◌, ◌<◌, ◌==◌, if◌then◌else◌, Option, None, Some, List, set, length, refl, sym, ap, subst, ⊎_elim, arith, eq-eqb, ne_eqb, length-set, get_or-set_same, get_or-set_other}
+use Rattle.std.proofs.Common.{◌≡◌, ◌≢◌, ◌∙◌, ◌⊎◌, ℕ, ◌+◌, ◌<◌, ◌==◌, if◌then◌else◌, Option, None, Some, List, set, length, refl, sym, ap, subst, ⊎_elim, arith, length-set, get_or-set_same, get_or-set_other}
+use Rattle.std.proofs.lemmas.Option.{none-some}
 use Rattle.bip_defs.specs.Lists.{Among}
+use Rattle.bip_defs.specs.Occurrences.{times}
+use Rattle.bip_defs.specs.WordValues.{held, is_added}
+use Rattle.bip_defs.proofs.Occurrences.{one_else, one_here}
 use Rattle.bip_defs.proofs.Sets.{number_same}
-use Rattle.claim_words.specs.Accounts.{Accounts, is_added, times}
-use Rattle.claim_words.specs.Board.{held}
-
-pub one_here : (i j : ℕ) → i ≡ j → ◌≡◌ {A = ℕ} (if i == j then 1 else 0) 1
-one_here i j e = rw (eq-eqb i j e) refl
-
-pub one_else : (i j : ℕ) → i ≢ j → ◌≡◌ {A = ℕ} (if i == j then 1 else 0) 0
-one_else i j ne = rw (ne_eqb i j ne) refl
-
-pub some_same : {x y : ℕ} → ◌≡◌ {A = Option ℕ} (Some x) (Some y) → x ≡ y
-some_same e = cc
-
-pub not_some : {x : ℕ} → ◌≡◌ {A = Option ℕ} None (Some x) → ⊥
-not_some e = cc
-
-pub held_same : (now : List (Option ℕ)) (i : ℕ) (o : Option ℕ) → i < length now → held (set now i o) i ≡ o
-held_same now i o lt = get_or-set_same now i o None lt
-
-pub held_other : (now : List (Option ℕ)) (i j : ℕ) (o : Option ℕ) → j ≢ i → held (set now i o) j ≡ held now j
-held_other now i j o ne = get_or-set_other now i j o None ne
-
--- a word that was empty gets a value, and all others stay
-pub held_grows : (now : List (Option ℕ)) (i x j y : ℕ) → held now i ≡ None → held now j ≡ Some y → held (set now i (Some x)) j ≡ Some y
-held_grows now i x j y empty e = ⊎_elim (λ (s : j ≡ i). absurd (not_some (sym empty ∙ subst (λ k. held now k ≡ Some y) s e))) (λ ne. held_other now i j (Some x) ne ∙ e) (number_same j i)
+use Rattle.bip_defs.proofs.WordValues.{held_grows}
+use Rattle.claim_words.specs.Accounts.{Accounts}
 
 -- a word that was opened with a value isn't empty
 opened_empty : (opened now : List (Option ℕ)) (i : ℕ) → ((x : ℕ) → held opened i ≡ Some x → held now i ≡ Some x) → held now i ≡ None → held opened i ≡ None
@@ -33,7 +15,7 @@ opened_empty opened now i stays empty = by (held opened i) refl
   where
     by : (o : Option ℕ) → held opened i ≡ o → o ≡ None
     by None e = refl
-    by (Some x) e = absurd (not_some (sym empty ∙ stays x e))
+    by (Some x) e = absurd (none-some _ (sym empty ∙ stays x e))
 
 -- one word more, which was empty
 pub accounts_added : (opened now : List (Option ℕ)) (listed more : List (ℕ × ℕ)) (i x : ℕ) → Accounts opened now listed → i < length now → held now i ≡ None
@@ -42,7 +24,7 @@ pub accounts_added : (opened now : List (Option ℕ)) (listed more : List (ℕ �
 accounts_added opened now listed more i x a lt empty count from = record {
   as_many = length-set now i (Some x) ∙ a.as_many;
   stays = λ j y e. held_grows now i x j y empty (a.stays j y e);
-  stands = λ j y h. ⊎_elim (λ (e : ◌≡◌ {A = ℕ × ℕ} (j, y) (i, x)). subst (λ (p : ℕ × ℕ). held (set now i (Some x)) p.0 ≡ Some p.1) (sym e) (held_same now i (Some x) lt)) (λ t. held_grows now i x j y empty (a.stands j y t)) (from (j, y) h);
+  stands = λ j y h. ⊎_elim (λ (e : ◌≡◌ {A = ℕ × ℕ} (j, y) (i, x)). subst (λ (p : ℕ × ℕ). held (set now i (Some x)) p.0 ≡ Some p.1) (sym e) (get_or-set_same now i (Some x) None lt)) (λ t. held_grows now i x j y empty (a.stands j y t)) (from (j, y) h);
   once = λ j. ⊎_elim (here j) (other j) (number_same i j);
 }
   where
@@ -51,7 +33,7 @@ accounts_added opened now listed more i x a lt empty count from = record {
 
     here_at : times i more ≡ is_added (held opened i) (held (set now i (Some x)) i)
     here_at =
-        let added : is_added (held opened i) (held (set now i (Some x)) i) ≡ 1 = subst (λ o. is_added o (held (set now i (Some x)) i) ≡ 1) (sym (opened_empty opened now i (a.stays i) empty)) (subst (λ o. is_added None o ≡ 1) (sym (held_same now i (Some x) lt)) refl) in
+        let added : is_added (held opened i) (held (set now i (Some x)) i) ≡ 1 = subst (λ o. is_added o (held (set now i (Some x)) i) ≡ 1) (sym (opened_empty opened now i (a.stays i) empty)) (subst (λ o. is_added None o ≡ 1) (sym (get_or-set_same now i (Some x) None lt)) refl) in
         omega (arith, count i, one_here i i refl, before, added)
 
     here : (j : ℕ) → i ≡ j → times j more ≡ is_added (held opened j) (held (set now i (Some x)) j)
@@ -59,7 +41,7 @@ accounts_added opened now listed more i x a lt empty count from = record {
 
     other : (j : ℕ) → i ≢ j → times j more ≡ is_added (held opened j) (held (set now i (Some x)) j)
     other j ne =
-        let same : is_added (held opened j) (held (set now i (Some x)) j) ≡ is_added (held opened j) (held now j) = ap (is_added (held opened j)) (held_other now i j (Some x) (λ e. ne (sym e))) in
+        let same : is_added (held opened j) (held (set now i (Some x)) j) ≡ is_added (held opened j) (held now j) = ap (is_added (held opened j)) (get_or-set_other now i j (Some x) None (λ e. ne (sym e))) in
         let was = a.once j in
         omega (arith, count j, one_else i j ne, same, was)
 

@@ -3,8 +3,9 @@ use Rattle.std.proofs.Common.{◌≡◌, ◌∙◌, ℕ, zero, suc, ◌+◌, ◌
 use mathlib.Core.Option.{some, some-injective, some-ne-none}
 use lib.ListN.{get_elem?}
 use Rattle.atomic_table.specs.Table.{Final, Me, Seen}
-use Rattle.claim_words.specs.Board.{Board, Words, held}
-use Rattle.claim_words.specs.WordCodes.{AllFit, decoded, rows_in, value_of}
+use Rattle.bip_defs.specs.WordValues.{held, value_of}
+use Rattle.claim_words.specs.Board.{Board, Words}
+use Rattle.claim_words.specs.WordCodes.{AllFit, decoded, rows_in}
 use Rattle.claim_words.specs.Listed.{all_listed}
 use Rattle.claim_words.specs.Rule.{Kept, Known, known, listed_by}
 use Rattle.claim_words.specs.Seat.{Seat, first_seat, gathered}

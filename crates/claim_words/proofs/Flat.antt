@@ -4,13 +4,10 @@ use Rattle.std.proofs.lemmas.Grind.{flat_map-append}
 use mathlib.Core.Option.{some, some-injective, some-ne-none}
 use lib.ListN.{get_elem?}
 use Rattle.bip_defs.specs.Lists.{Among}
+use Rattle.bip_defs.specs.Occurrences.{times}
+use Rattle.bip_defs.proofs.Occurrences.{times_append}
 use Rattle.bip_defs.proofs.Sets.{among_either, among_left, among_right}
 use Rattle.atomic_table.proofs.Lists.{set_else}
-use Rattle.claim_words.specs.Accounts.{times}
-
-pub times_append : (i : ℕ) (xs ys : List (ℕ × ℕ)) → times i (xs ++ ys) ≡ times i xs + times i ys
-times_append i [] ys = omega arith
-times_append i (x ∷ xs) ys = let e = times_append i xs ys in omega (arith, e)
 
 module _ {L X : Type 0} (g : L → List X) where
   -- each element comes from the list that has changed, or was there

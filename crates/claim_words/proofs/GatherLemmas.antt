@@ -3,14 +3,14 @@ use Rattle.std.proofs.Common.{◌≡◌, ◌∙◌, ℕ, ◌+◌, List, [], ◌�
 use Rattle.std.proofs.lemmas.Grind.{flat_map-append}
 use Rattle.std.proofs.lemmas.List.{map-append}
 use Rattle.bip_defs.specs.Lists.{Among}
+use Rattle.bip_defs.specs.Occurrences.{times}
+use Rattle.bip_defs.proofs.Occurrences.{times_append}
 use Rattle.bip_defs.proofs.Sets.{among_either, among_left, among_right}
-use Rattle.claim_words.specs.Accounts.{times}
 use Rattle.claim_words.specs.Board.{Board, Words}
 use Rattle.claim_words.specs.Listed.{Listed, all_listed, followed_by}
 use Rattle.claim_words.specs.Seat.{AreNumbered, Seat, first_seat, gathered, lists_of}
 use Rattle.claim_words.specs.Settles.{Settles}
 use Rattle.claim_words.proofs.AccountLemmas.{accounts_moved}
-use Rattle.claim_words.proofs.Flat.{times_append}
 
 -- Numbers.
 

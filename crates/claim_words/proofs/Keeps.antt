@@ -1,13 +1,15 @@
 -- Each kind of step keeps the rule, and tells its seat what it tells.
-use Rattle.std.proofs.Common.{◌≡◌, ◌∙◌, ℕ, zero, suc, ◌+◌, ◌<◌, ◌≤◌, Option, None, Some, List, [], ◌∷◌, map, set, length, slice_index, refl, sym, ap, subst, ⊎_elim, arith, one-add}
+use Rattle.std.proofs.Common.{◌≡◌, ◌∙◌, ℕ, zero, suc, ◌+◌, ◌<◌, ◌≤◌, Option, None, Some, List, [], ◌∷◌, map, set, length, slice_index, refl, sym, ap, subst, ⊎_elim, arith}
 use Rattle.std.proofs.lemmas.List.{length-set, map-set, get_or-set_other}
 use mathlib.Core.Option.{some}
 use lib.ListN.{get_elem?}
 use Rattle.atomic_table.specs.Table.{State}
 use Rattle.atomic_table.proofs.Lists.{at_map}
 use Rattle.bip_defs.specs.Lists.{Among}
-use Rattle.claim_words.specs.Board.{Words, held}
-use Rattle.claim_words.specs.WordCodes.{decoded, roots_in, rows_in, value_of}
+use Rattle.bip_defs.specs.WordValues.{held, value_of}
+use Rattle.bip_defs.proofs.WordValues.{value_there}
+use Rattle.claim_words.specs.Board.{Words}
+use Rattle.claim_words.specs.WordCodes.{decoded, roots_in, rows_in}
 use Rattle.claim_words.specs.Listed.{Listed, Sight, all_listed, claimed, looked, root_word, row_word, won}
 use Rattle.claim_words.specs.Rule.{Kept, Known, listed_by}
 use Rattle.claim_words.specs.Settles.{Settles, Stands}
@@ -28,9 +30,6 @@ fits_set (w ∷ ws) (suc i) x fits le (suc j) = fits_set ws i x (λ m. fits (suc
 -- the same slots, with other words and views
 abbrev pub with_words : {S : Type 0} → State S (Option Known) → List ℕ → List (Option Known) → State S (Option Known)
 with_words s words views = record { words = words; homes = s.homes; views = views }
-
-pub value_there : (x : ℕ) → value_of (1 + x) ≡ Some x
-value_there x = subst (λ n. value_of n ≡ Some x) (sym (one-add x)) refl
 
 module _ {S : Type 0} (n : ℕ) (opened : List ℕ) (s : State S (Option Known)) (kept : Kept n opened s) (id : ℕ) (k : Known) (at : get_elem? s.views id ≡ some (Some k)) where
   listed_at : get_elem? (map listed_by s.views) id ≡ some k.listed

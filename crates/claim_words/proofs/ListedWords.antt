@@ -1,15 +1,19 @@
 -- What a list that accounts for words tells of them.
 use Rattle.std.proofs.Common.{◌≡◌, ◌≢◌, ◌∙◌, ◌⊎◌, ℕ, zero, suc, ◌<◌, ◌≤◌, Option, None, Some, List, [], ◌∷◌, map, flat_map, length, refl, sym, ap, subst, inl, inr, ⊎_elim, arith, eq-eqb, ne_eqb}
+use Rattle.std.proofs.lemmas.Option.{none-some, same_Some}
 use Rattle.bip_defs.specs.Lists.{Among, AreDistinct}
+use Rattle.bip_defs.specs.Matrix.{upto}
+use Rattle.bip_defs.specs.Occurrences.{times}
+use Rattle.bip_defs.specs.WordValues.{held, is_added}
+use Rattle.bip_defs.proofs.Occurrences.{one_else, one_here}
 use Rattle.bip_defs.proofs.Sets.{among_left, among_right, number_same, few_distinct, upto_complete, upto_length, among_map_back}
-use Rattle.claim_words.specs.Accounts.{Accounts, first_listed, is_added, listed_word, times, value_or}
-use Rattle.claim_words.specs.Board.{Board, Words, held}
+use Rattle.bip_defs.proofs.WordValues.{added_few}
+use Rattle.claim_words.specs.Accounts.{Accounts, first_listed, listed_word, value_or}
+use Rattle.claim_words.specs.Board.{Board, Words}
 use Rattle.claim_words.specs.Listed.{Listed, root_word, row_word}
 use Rattle.claim_words.specs.Seat.{KnowsRoot, KnowsRow, Seat, lists_of}
 use Rattle.claim_words.specs.Settles.{Settles, SettlesAll}
-use Rattle.claim_words.proofs.AccountLemmas.{not_some, one_else, one_here, some_same}
 use Rattle.std.proofs.lemmas.List.{length-map}
-use Rattle.bip_defs.specs.Matrix.{upto}
 
 -- How often a word is listed.
 
@@ -46,11 +50,6 @@ times_once i ((j, y) ∷ xs) (new, apart) = ⊎_elim
 
 -- Words and their lists.
 
-added_few : (o n : Option ℕ) → is_added o n ≤ 1
-added_few None None = omega arith
-added_few None (Some x) = omega arith
-added_few (Some y) n = omega arith
-
 pub listed_apart : (opened now : List (Option ℕ)) (listed : List (ℕ × ℕ)) → Accounts opened now listed → AreDistinct (map (λ (p : ℕ × ℕ). p.0) listed)
 listed_apart opened now listed a = times_distinct listed (λ i. let e = a.once i in let few = added_few (held opened i) (held now i) in omega (arith, e, few))
 
@@ -70,7 +69,7 @@ held_from opened now listed i x a holds = by (held opened i) refl
     by None e =
         let some : times i listed ≡ 1 = a.once i ∙ subst (λ o. is_added o (held now i) ≡ 1) (sym e) (subst (λ n. is_added None n ≡ 1) (sym holds) refl) in
         let (y, h) = times_some i listed (omega (arith, some)) in
-        inr (subst (λ z. Among (i, z) listed) (some_same (sym (a.stands i y h) ∙ holds)) h)
+        inr (subst (λ z. Among (i, z) listed) (same_Some _ _ (sym (a.stands i y h) ∙ holds)) h)
     by (Some y) e = inl (sym (a.stays i y e) ∙ holds)
 
 first_here : (i j y : ℕ) (xs : List (ℕ × ℕ)) → j ≡ i → first_listed i ((j, y) ∷ xs) ≡ Some y
@@ -112,7 +111,7 @@ same_words opened now other listed a b = same_held now other (a.as_many ∙ sym 
 -- no more words are listed than there are
 
 held_below : (xs : List (Option ℕ)) (i x : ℕ) → held xs i ≡ Some x → i < length xs
-held_below [] i x e = absurd (not_some e)
+held_below [] i x e = absurd (none-some _ e)
 held_below (y ∷ xs) zero x e = omega arith
 held_below (y ∷ xs) (suc i) x e = let rest = held_below xs i x e in omega (arith, rest)
 

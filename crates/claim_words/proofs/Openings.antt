@@ -6,13 +6,15 @@ use Rattle.std.proofs.Math.Seq.{drop-append_seam, take-append_seam}
 use mathlib.Core.Option.{some, some-injective, some-ne-none}
 use lib.ListN.{get_elem?}
 use Rattle.atomic_table.specs.Table.{opening}
-use Rattle.claim_words.specs.Accounts.{Accounts, is_added}
-use Rattle.claim_words.specs.Board.{Board, held}
-use Rattle.claim_words.specs.WordCodes.{AllFit, code_by, roots_in, rows_in, value_of, words_for}
+use Rattle.bip_defs.specs.Occurrences.{below}
+use Rattle.bip_defs.specs.WordValues.{held, is_added, value_of}
+use Rattle.bip_defs.proofs.Occurrences.{one_else}
+use Rattle.claim_words.specs.Accounts.{Accounts}
+use Rattle.claim_words.specs.Board.{Board}
+use Rattle.claim_words.specs.WordCodes.{AllFit, code_by, roots_in, rows_in, words_for}
 use Rattle.claim_words.specs.Listed.{nothing}
-use Rattle.claim_words.specs.Rule.{AreSeated, Kept, Known, below, has_number, opener}
+use Rattle.claim_words.specs.Rule.{AreSeated, Kept, Known, has_number, opener}
 use Rattle.claim_words.specs.Seat.{Seat, first_seat, more_seats, new_seat}
-use Rattle.claim_words.proofs.AccountLemmas.{one_else}
 use Rattle.claim_words.proofs.WordCodes.{coded_read}
 use Rattle.claim_words.proofs.SeatNumbers.{known_same}
 

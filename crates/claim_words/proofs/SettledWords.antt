@@ -3,13 +3,17 @@ use Rattle.std.proofs.Common.{◌≡◌, ◌≢◌, ◌∙◌, ◌⊎◌, ℕ, �
 use mathlib.Core.Option.{some}
 use lib.ListN.{get_elem?}
 use Rattle.bip_defs.specs.Lists.{Among}
+use Rattle.bip_defs.specs.Occurrences.{times}
+use Rattle.bip_defs.specs.WordValues.{held}
+use Rattle.bip_defs.proofs.Occurrences.{times_append}
 use Rattle.bip_defs.proofs.Sets.{among_last}
-use Rattle.claim_words.specs.Accounts.{Accounts, times}
-use Rattle.claim_words.specs.Board.{Words, held}
+use Rattle.bip_defs.proofs.WordValues.{held_grows}
+use Rattle.claim_words.specs.Accounts.{Accounts}
+use Rattle.claim_words.specs.Board.{Words}
 use Rattle.claim_words.specs.Listed.{Listed, Sight, all_listed, claimed, followed_by, looked, nothing, root_word, row_word, won}
 use Rattle.claim_words.specs.Settles.{Settles, Stands}
-use Rattle.claim_words.proofs.AccountLemmas.{accounts_added, accounts_moved, held_grows}
-use Rattle.claim_words.proofs.Flat.{among_flat, among_moved, among_set, flat_same, flat_snoc, times_append, times_moved, times_set}
+use Rattle.claim_words.proofs.AccountLemmas.{accounts_added, accounts_moved}
+use Rattle.claim_words.proofs.Flat.{among_flat, among_moved, among_set, flat_same, flat_snoc, times_moved, times_set}
 
 abbrev claims_of : Listed → List (ℕ × ℕ)
 claims_of l = l.claims

@@ -1,18 +1,18 @@
 -- What a seat shows after a step.
 use Rattle.std.proofs.Common.{◌≡◌, ◌∙◌, ℕ, Option, None, Some, List, [], ◌∷◌, ◌++◌, refl, sym, ap, subst, inl, inr, ⊎_elim, arith}
+use Rattle.std.proofs.lemmas.Option.{none-some}
 use Rattle.atomic_table.specs.Seated.{TableId}
 use Rattle.atomic_table.specs.Table.{Me}
 use Rattle.bip_defs.specs.Lists.{Among}
+use Rattle.bip_defs.specs.Occurrences.{times}
+use Rattle.bip_defs.specs.WordValues.{value_of}
+use Rattle.bip_defs.proofs.Occurrences.{one_else, one_here, times_append}
 use Rattle.bip_defs.proofs.Sets.{number_same}
-use Rattle.claim_words.specs.Accounts.{times}
 use Rattle.claim_words.specs.Listed.{Listed, claimed, looked, root_word, row_word, won}
 use Rattle.claim_words.specs.Rule.{Known, known}
 use Rattle.claim_words.specs.Seat.{KnowsRoot, KnowsRow, Seat, after_claim, after_look, after_win, with_listed}
-use Rattle.claim_words.specs.WordCodes.{value_of}
 use Rattle.claim_words.specs.Steps.{KnewRoot, KnewRow, Tells, knowing}
 use Rattle.claim_words.specs.Stored.{IsOpen, shown}
-use Rattle.claim_words.proofs.AccountLemmas.{not_some, one_else, one_here}
-use Rattle.claim_words.proofs.Flat.{times_append}
 
 pub open_after : {S : Type 0} {me now : Me S (Option Known)} {k : Known} {Knew : ℕ → Type 0} {l : Listed} {found : ℕ} → IsOpen me → Tells k Knew l found me now → IsOpen now
 open_after live fact = subst IsOpen (sym fact.after_is) (refl, live.1)
@@ -33,7 +33,7 @@ module _ {S : Type 0} (table after : TableId) (me now : Me S (Option Known)) (s 
   -- what a claim ensures: the seat lists what the step found, a value that it knew was found, and what it got is listed once
   pub claim_answer : (row col found : ℕ) (answer : Option ℕ) → answer ≡ value_of found → Tells (known me.0) (KnewRow (known me.0) row) (claimed (known me.0).listed row col (value_of found)) found me now
       → (shown after (known now.0) ≡ after_claim s row col answer) × ((x : ℕ) → KnowsRow s row x → answer ≡ Some x) × (answer ≡ None → times row (known now.0).listed.claims ≡ 1)
-  claim_answer row col found answer e fact = (seat, knows, (λ none. subst (λ (t : Seat). times row t.listed.claims ≡ 1) (sym seat) (subst (λ o. times row (after_claim s row col o).listed.claims ≡ 1) (sym none) (times_last row col s.listed.claims (λ y h. not_some (sym none ∙ knows y (inr (inl h))))))))
+  claim_answer row col found answer e fact = (seat, knows, (λ none. subst (λ (t : Seat). times row t.listed.claims ≡ 1) (sym seat) (subst (λ o. times row (after_claim s row col o).listed.claims ≡ 1) (sym none) (times_last row col s.listed.claims (λ y h. none-some _ (sym none ∙ knows y (inr (inl h))))))))
     where
       seat : shown after (known now.0) ≡ after_claim s row col answer
       seat = subst (λ o. shown after (known now.0) ≡ after_claim s row col o) (sym e) (shown_after (λ l. claimed l row col (value_of found)) fact.after_is)
@@ -43,7 +43,7 @@ module _ {S : Type 0} (table after : TableId) (me now : Me S (Option Known)) (s 
 
   pub win_answer : (root leaf found : ℕ) (answer : Option ℕ) → answer ≡ value_of found → Tells (known me.0) (KnewRoot (known me.0) root) (won (known me.0).listed root leaf (value_of found)) found me now
       → (shown after (known now.0) ≡ after_win s root leaf answer) × ((x : ℕ) → KnowsRoot s root x → answer ≡ Some x) × (answer ≡ None → times root (known now.0).listed.wins ≡ 1)
-  win_answer root leaf found answer e fact = (seat, knows, (λ none. subst (λ (t : Seat). times root t.listed.wins ≡ 1) (sym seat) (subst (λ o. times root (after_win s root leaf o).listed.wins ≡ 1) (sym none) (times_last root leaf s.listed.wins (λ y h. not_some (sym none ∙ knows y (inr (inl h))))))))
+  win_answer root leaf found answer e fact = (seat, knows, (λ none. subst (λ (t : Seat). times root t.listed.wins ≡ 1) (sym seat) (subst (λ o. times root (after_win s root leaf o).listed.wins ≡ 1) (sym none) (times_last root leaf s.listed.wins (λ y h. none-some _ (sym none ∙ knows y (inr (inl h))))))))
     where
       seat : shown after (known now.0) ≡ after_win s root leaf answer
       seat = subst (λ o. shown after (known now.0) ≡ after_win s root leaf o) (sym e) (shown_after (λ l. won l root leaf (value_of found)) fact.after_is)

@@ -1,13 +1,15 @@
 -- What a step asks of the table, for each kind of step.
-use Rattle.std.proofs.Common.{◌≡◌, ◌∙◌, ℕ, zero, suc, ◌+◌, ◌<◌, ◌≤◌, ◌==◌, Option, None, Some, List, [], ◌∷◌, ◌++◌, map, set, length, slice_index, refl, sym, ap, subst, arith, ne_eqb}
+use Rattle.std.proofs.Common.{◌≡◌, ◌∙◌, ℕ, zero, suc, ◌+◌, ◌<◌, ◌≤◌, ◌==◌, Option, None, Some, List, [], ◌∷◌, ◌++◌, map, set, length, slice_index, refl, sym, ap, subst, arith}
 use Rattle.std.proofs.lemmas.List.{map-append, map-set, set-get_or}
 use mathlib.Core.Option.{none, some}
 use lib.ListN.{get_elem?}
 use prog.Atomic.{either}
 use Rattle.atomic_table.specs.Table.{Act, Allows, Joins, Me, Splits, State, Valid, carried_after, keeps, step, stepped}
 use Rattle.atomic_table.proofs.Lists.{at_map, set_again, set_else}
+use Rattle.bip_defs.specs.WordValues.{value_of}
+use Rattle.bip_defs.proofs.WordValues.{unwritten}
 use Rattle.claim_words.specs.Board.{Words}
-use Rattle.claim_words.specs.WordCodes.{decoded, roots_in, rows_in, value_of}
+use Rattle.claim_words.specs.WordCodes.{decoded, roots_in, rows_in}
 use Rattle.claim_words.specs.Listed.{Listed, all_listed, claimed, looked, nothing, root_word, row_word, won}
 use Rattle.claim_words.specs.Rule.{Kept, Known, known, listed_by}
 use Rattle.claim_words.specs.Settles.{Settles}
@@ -17,10 +19,6 @@ use Rattle.claim_words.proofs.WordCodes.{rows_long}
 use Rattle.claim_words.proofs.Keeps.{kept_claim, kept_look, kept_win, root_sight, root_stands, root_within, row_sight, row_stands, row_within, with_words}
 use Rattle.claim_words.proofs.SeatNumbers.{alone, known_same, seated_fewer, seated_more}
 use Rattle.claim_words.proofs.SettledWords.{settles_join, settles_new}
-
--- a word that held a value stays
-unwritten : (ws : List ℕ) (i new y : ℕ) → slice_index ws i ≡ suc y → set ws i (either (suc y == 0) new (suc y)) ≡ ws
-unwritten ws i new y e = ap (λ b. set ws i (either b new (suc y))) (ne_eqb (suc y) 0 (λ f. omega arith)) ∙ ap (set ws i) (sym e) ∙ set-get_or ws i 0
 
 module _ {S : Type 0} (n : ℕ) (opened : List ℕ) (slots id : ℕ) (me : Me S (Option Known)) (live : IsOpen me) where
   -- what is told of the seat's view, and of the operands

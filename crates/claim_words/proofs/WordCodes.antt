@@ -3,8 +3,8 @@ use Rattle.std.proofs.Common.{◌≡◌, ◌∙◌, ℕ, ◌+◌, ◌<◌, ◌�
 use Rattle.std.proofs.lemmas.List.{drop-set-add, drop-set-lt, take-set-le, length-map, length-take, length-drop, map-set, get_or-map, get_or-take, get_or-drop}
 use Rattle.std.proofs.lemmas.Grind.{get_or_after_one}
 use Rattle.std.proofs.Math.Seq.{take-set-lt}
-use Rattle.claim_words.specs.Board.{held}
-use Rattle.claim_words.specs.WordCodes.{code_by, roots_in, rows_in, value_of, AllFit}
+use Rattle.bip_defs.specs.WordValues.{held, value_of}
+use Rattle.claim_words.specs.WordCodes.{code_by, roots_in, rows_in, AllFit}
 
 -- Which words there are.
 

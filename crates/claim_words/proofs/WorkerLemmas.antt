@@ -3,15 +3,16 @@ use Rattle.std.proofs.Common.{◌≡◌, ◌∙◌, ◌⊎◌, ◌↔◌, ℕ, �
 use Rattle.std.proofs.lemmas.Grind.{flat_map-append}
 use Rattle.std.proofs.lemmas.List.{length-map}
 use Rattle.std.proofs.lemmas.List.Folds.{flat_map-map}
+use Rattle.std.proofs.lemmas.Option.{same_Some}
 use Rattle.bip_defs.specs.Lists.{Among}
+use Rattle.bip_defs.specs.Occurrences.{times}
+use Rattle.bip_defs.proofs.Occurrences.{times_append}
 use Rattle.bip_defs.proofs.Sets.{among_either, among_left, among_right}
-use Rattle.claim_words.specs.Accounts.{times, value_or}
+use Rattle.claim_words.specs.Accounts.{value_or}
 use Rattle.claim_words.specs.Board.{Board}
 use Rattle.claim_words.specs.Listed.{Listed, Sight, claimed, followed_by, looked, nothing, root_word, row_word, won}
 use Rattle.claim_words.specs.Seat.{AreNumbered, KnowsRoot, KnowsRow, Seat, after_claim, after_look, after_win, lists_of, with_listed}
 use Rattle.claim_words.specs.WorkerState.{AreAllWorkers, HasGrown, HaveGrown, WorkerState, fresh_claims_of, fresh_lists, fresh_wins_of, seated, seats_of, settled, with_more, work_after_claim, work_after_look, work_after_win}
-use Rattle.claim_words.proofs.AccountLemmas.{some_same}
-use Rattle.claim_words.proofs.Flat.{times_append}
 
 -- Steps.
 
@@ -99,12 +100,12 @@ at_the_end : {X : Type 0} (x : X) (xs : List X) → Among x (xs ++ x ∷ [])
 at_the_end x xs = among_right x xs (x ∷ []) (inl refl)
 
 pub knows_claim : (s : Seat) (row col x : ℕ) (found : Option ℕ) → value_or found (Some col) ≡ Some x → KnowsRow (after_claim s row col found) row x
-knows_claim s row col x None e = inr (inl (subst (λ y. Among (row, y) (s.listed.claims ++ (row, col) ∷ [])) (some_same e) (at_the_end (row, col) s.listed.claims)))
-knows_claim s row col x (Some y) e = inr (inr (subst (λ z. Among (row_word row (Some z)) (s.listed.seen ++ row_word row (Some y) ∷ [])) (some_same e) (at_the_end (row_word row (Some y)) s.listed.seen)))
+knows_claim s row col x None e = inr (inl (subst (λ y. Among (row, y) (s.listed.claims ++ (row, col) ∷ [])) (same_Some _ _ e) (at_the_end (row, col) s.listed.claims)))
+knows_claim s row col x (Some y) e = inr (inr (subst (λ z. Among (row_word row (Some z)) (s.listed.seen ++ row_word row (Some y) ∷ [])) (same_Some _ _ e) (at_the_end (row_word row (Some y)) s.listed.seen)))
 
 pub knows_win : (s : Seat) (root leaf x : ℕ) (found : Option ℕ) → value_or found (Some leaf) ≡ Some x → KnowsRoot (after_win s root leaf found) root x
-knows_win s root leaf x None e = inr (inl (subst (λ y. Among (root, y) (s.listed.wins ++ (root, leaf) ∷ [])) (some_same e) (at_the_end (root, leaf) s.listed.wins)))
-knows_win s root leaf x (Some y) e = inr (inr (subst (λ z. Among (root_word root (Some z)) (s.listed.seen ++ root_word root (Some y) ∷ [])) (some_same e) (at_the_end (root_word root (Some y)) s.listed.seen)))
+knows_win s root leaf x None e = inr (inl (subst (λ y. Among (root, y) (s.listed.wins ++ (root, leaf) ∷ [])) (same_Some _ _ e) (at_the_end (root, leaf) s.listed.wins)))
+knows_win s root leaf x (Some y) e = inr (inr (subst (λ z. Among (root_word root (Some z)) (s.listed.seen ++ root_word root (Some y) ∷ [])) (same_Some _ _ e) (at_the_end (root_word root (Some y)) s.listed.seen)))
 
 pub knows_look_row : (s : Seat) (row x : ℕ) → KnowsRow (after_look s (row_word row (Some x))) row x
 knows_look_row s row x = inr (inr (at_the_end (row_word row (Some x)) s.listed.seen))

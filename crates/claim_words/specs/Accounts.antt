@@ -1,19 +1,9 @@
 -- How lists of claims, or of wins, account for words: each entry of a list is a word and the value
 -- that it got.
-use Rattle.std.specs.Prelude.{◌≡◌, ℕ, ◌+◌, ◌==◌, if◌then◌else◌, List, [], ◌∷◌, Option, None, Some, length}
+use Rattle.std.specs.Prelude.{◌≡◌, ℕ, ◌==◌, if◌then◌else◌, List, [], ◌∷◌, Option, None, Some, length}
 use Rattle.bip_defs.specs.Lists.{Among}
-use Rattle.claim_words.specs.Board.{held}
-
--- how often a word is listed
-abbrev pub times : ℕ → List (ℕ × ℕ) → ℕ
-times i [] = 0
-times i (p ∷ ps) = (if p.0 == i then 1 else 0) + times i ps
-
--- 1 where a word that was opened empty holds a value, and else 0
-abbrev pub is_added : Option ℕ → Option ℕ → ℕ
-is_added None None = 0
-is_added None (Some x) = 1
-is_added (Some y) now = 0
+use Rattle.bip_defs.specs.Occurrences.{times}
+use Rattle.bip_defs.specs.WordValues.{held, is_added}
 
 -- A word that was opened with a value holds it, and is not listed. A word that was opened empty is
 -- empty and not listed, or holds the value that is listed for it, once

@@ -2,7 +2,6 @@
 -- a leaf wins.
 use Rattle.std.specs.Prelude.{ℕ, List, Option}
 use Rattle.atomic_table.specs.Seated.{TableId}
-use Rattle.bip_defs.specs.Lists.{option_at}
 
 -- the table of shared words in which a board stands, and what the words of the rows and of the
 -- roots held when it was opened
@@ -19,7 +18,3 @@ pub record Words : Type 0 where
 -- what they hold when the board is opened
 abbrev pub opened_words : Board → Words
 opened_words b = record { rows = b.rows; roots = b.roots }
-
--- what the word of a number holds; none past the last word
-abbrev pub held : List (Option ℕ) → ℕ → Option ℕ
-held words i = option_at words i

@@ -1,9 +1,10 @@
 -- The rule of a board's table: what is true of its words and of what all seats know, between any
 -- two steps.
-use Rattle.std.specs.Prelude.{◌≡◌, ℕ, zero, suc, ◌≤◌, ◌==◌, if◌then◌else◌, List, [], Option, None, Some, length, map, slice_index, sum_by}
+use Rattle.std.specs.Prelude.{◌≡◌, ℕ, ◌≤◌, ◌==◌, if◌then◌else◌, List, [], Option, None, Some, length, map, slice_index, sum_by}
 use mathlib.Core.Option.{some}
 use lib.ListN.{get_elem?}
 use Rattle.atomic_table.specs.Table.{State}
+use Rattle.bip_defs.specs.Occurrences.{below}
 use Rattle.claim_words.specs.WordCodes.{decoded, roots_in, rows_in, AllFit}
 use Rattle.claim_words.specs.Listed.{Listed, all_listed, nothing}
 use Rattle.claim_words.specs.Settles.{Settles}
@@ -33,12 +34,6 @@ listed_by (Some k) = k.listed
 abbrev pub has_number : ℕ → Option Known → ℕ
 has_number n None = 0
 has_number n (Some k) = if k.number == n then 1 else 0
-
--- 1 where n is below the count, and else 0
-abbrev pub below : ℕ → ℕ → ℕ
-below n zero = 0
-below zero (suc count) = 1
-below (suc n) (suc count) = below n count
 
 -- Of each number below the count there is one seat, and no other seat is left. The seat 0 keeps the
 -- count

@@ -1,7 +1,8 @@
 -- A seat at a board: what one thread knows of the words.
 use Rattle.std.specs.Prelude.{◌≡◌, ◌⊎◌, ℕ, zero, suc, ◌+◌, List, [], ◌∷◌, Option, Some, length, map}
 use Rattle.bip_defs.specs.Lists.{Among}
-use Rattle.claim_words.specs.Board.{Board, held}
+use Rattle.bip_defs.specs.WordValues.{held}
+use Rattle.claim_words.specs.Board.{Board}
 use Rattle.claim_words.specs.Listed.{Listed, Sight, claimed, looked, nothing, root_word, row_word, won, all_listed, followed_by}
 
 -- its board, its number, how many seats the board has (which the seat 0 alone keeps), and what it

@@ -1,8 +1,9 @@
 -- What lists tell of the words of a board.
 use Rattle.std.specs.Prelude.{◌≡◌, ℕ, List, Option, None, Some}
 use Rattle.bip_defs.specs.Lists.{Among}
+use Rattle.bip_defs.specs.WordValues.{held}
 use Rattle.claim_words.specs.Accounts.{Accounts}
-use Rattle.claim_words.specs.Board.{Board, Words, held}
+use Rattle.claim_words.specs.Board.{Board, Words}
 use Rattle.claim_words.specs.Listed.{Listed, Sight, all_listed, root_word, row_word}
 use Rattle.claim_words.specs.Seat.{Seat, lists_of}
 

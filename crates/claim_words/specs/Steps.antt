@@ -1,9 +1,9 @@
 -- What each kind of step tells its seat, and what a split and a join do to views.
 use Rattle.std.specs.Prelude.{◌≡◌, ◌⊎◌, ℕ, ◌+◌, ◌-◌, ◌≤◌, Option, None, Some, length}
 use Rattle.bip_defs.specs.Lists.{Among}
+use Rattle.bip_defs.specs.WordValues.{held, value_of}
 use Rattle.atomic_table.specs.Table.{Me, Step}
-use Rattle.claim_words.specs.Board.{Words, held}
-use Rattle.claim_words.specs.WordCodes.{value_of}
+use Rattle.claim_words.specs.Board.{Words}
 use Rattle.claim_words.specs.Listed.{Listed, claimed, followed_by, looked, nothing, root_word, row_word, won}
 use Rattle.claim_words.specs.Rule.{Known}
 use Rattle.claim_words.specs.Settles.{Settles}

@@ -1,11 +1,8 @@
 -- How a board's words are kept: the spare word first, then the words of the rows, then those of the
 -- roots. A word is 0 where it is empty, and else 1 more than its value.
-use Rattle.std.specs.Prelude.{ℕ, zero, suc, ◌+◌, List, Option, None, Some, map, take, drop, ◌≤◌, ◌∷◌, ◌++◌, slice_index}
+use Rattle.std.specs.Prelude.{ℕ, ◌+◌, List, Option, None, Some, map, take, drop, ◌≤◌, ◌∷◌, ◌++◌, slice_index}
+use Rattle.bip_defs.specs.WordValues.{value_of}
 use Rattle.claim_words.specs.Board.{Words}
-
-abbrev pub value_of : ℕ → Option ℕ
-value_of zero = None
-value_of (suc x) = Some x
 
 -- the word that holds a value, which has this number
 abbrev pub code_by : {X : Type 0} → (X → ℕ) → Option X → ℕ

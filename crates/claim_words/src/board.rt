@@ -1,10 +1,11 @@
 //! The board.
 
 ghost use Rattle.std.specs.Prelude.{◌≡◌, ℕ, ◌+◌, ◌<◌, ◌≤◌, Some, None, length, map, ◌++◌, option_map, IfOk, OnOk};
-ghost use Rattle.claim_words.specs.Accounts.{times};
+ghost use Rattle.bip_defs.specs.Occurrences.{times};
+ghost use Rattle.bip_defs.specs.WordValues.{value_of};
 ghost use Rattle.claim_words.specs.Answers.{col_before, leaf_before};
 ghost use Rattle.claim_words.specs.Board.{Words};
-ghost use Rattle.claim_words.specs.WordCodes.{AllFit, code_by, value_of, words_for};
+ghost use Rattle.claim_words.specs.WordCodes.{AllFit, code_by, words_for};
 ghost use Rattle.claim_words.specs.Listed.{followed_by, nothing, root_word, row_word};
 ghost use Rattle.claim_words.specs.Seat.{KnowsRoot, KnowsRow, after_claim, after_look, after_win, first_seat, new_seat, new_seats};
 ghost use Rattle.claim_words.specs.Settles.{Settles};

@@ -1,7 +1,7 @@
 //! A board that is closed.
 
 ghost use Rattle.std.specs.Prelude.{◌≡◌, ◌<◌, length, IfErr, IfOk};
-ghost use Rattle.claim_words.specs.Board.{held};
+ghost use Rattle.bip_defs.specs.WordValues.{held};
 ghost use Rattle.claim_words.specs.Seat.{AreAllSeats, first_seat, gathered};
 ghost use Rattle.claim_words.specs.Settles.{SettlesAll};
 

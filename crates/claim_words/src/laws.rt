@@ -2,8 +2,10 @@
 
 ghost use Rattle.std.specs.Prelude.{◌≡◌, ◌⊎◌, ℕ, ◌+◌, ◌≤◌, List, ◌++◌, Option, None, Some, length};
 ghost use Rattle.bip_defs.specs.Lists.{Among, AreDistinct, numbers_of};
-ghost use Rattle.claim_words.specs.Accounts.{Accounts, listed_word, times};
-ghost use Rattle.claim_words.specs.Board.{Board, Words, held, opened_words};
+ghost use Rattle.bip_defs.specs.Occurrences.{times};
+ghost use Rattle.bip_defs.specs.WordValues.{held};
+ghost use Rattle.claim_words.specs.Accounts.{Accounts, listed_word};
+ghost use Rattle.claim_words.specs.Board.{Board, Words, opened_words};
 ghost use Rattle.claim_words.specs.Listed.{Listed, root_word, row_word};
 ghost use Rattle.claim_words.specs.Seat.{AreAllSeats, KnowsRoot, KnowsRow, Seat, new_seats};
 ghost use Rattle.claim_words.specs.Settles.{Settles, SettlesAll};

@@ -2,7 +2,8 @@
 
 ghost use Rattle.std.specs.Prelude.{◌≡◌, ◌↔◌, ◌⊎◌, ℕ, ◌+◌, List, [], ◌++◌, Option, Some, length, map};
 ghost use Rattle.bip_defs.specs.Lists.{Among};
-ghost use Rattle.claim_words.specs.Accounts.{times, value_or};
+ghost use Rattle.bip_defs.specs.Occurrences.{times};
+ghost use Rattle.claim_words.specs.Accounts.{value_or};
 ghost use Rattle.claim_words.specs.Board.{Board};
 ghost use Rattle.claim_words.specs.Listed.{Listed, Sight, claimed, followed_by, looked, nothing, root_word, row_word, won};
 ghost use Rattle.claim_words.specs.Seat.{KnowsRoot, KnowsRow, Seat, after_claim, after_look, after_win};

@@ -3,43 +3,30 @@ use Rattle.std.proofs.Common.{◌≡◌, ◌≢◌, ◌∙◌, ◌⊎◌, ℕ, �
 use mathlib.Core.Option.{some}
 use lib.ListN.{get_elem?}
 use Rattle.bip_defs.specs.Lists.{Among}
+use Rattle.bip_defs.specs.Occurrences.{times}
+use Rattle.bip_defs.specs.WordValues.{held}
+use Rattle.bip_defs.proofs.Occurrences.{one_else, one_here}
 use Rattle.bip_defs.proofs.Sets.{number_same}
-use Rattle.flip_words.specs.Accounts.{Sets, Settles, Takes, is_held, times}
-use Rattle.flip_words.specs.Board.{held}
+use Rattle.bip_defs.proofs.WordValues.{held_grows}
+use Rattle.flip_words.specs.Accounts.{Sets, Settles, Takes, is_held}
 use Rattle.flip_words.specs.Listed.{Listed, all_listed, followed_by, looked, nothing, put, took}
-use Rattle.flip_words.proofs.Flat.{among_moved, flat_same, flat_snoc, from_last, one_else, one_here, times_more, times_moved, times_some}
-
-pub some_same : {x y : ℕ} → ◌≡◌ {A = Option ℕ} (Some x) (Some y) → x ≡ y
-some_same e = cc
-
-pub not_some : {x : ℕ} → ◌≡◌ {A = Option ℕ} None (Some x) → ⊥
-not_some e = cc
-
-held_same : (now : List (Option ℕ)) (i : ℕ) (o : Option ℕ) → i < length now → held (set now i o) i ≡ o
-held_same now i o lt = get_or-set_same now i o None lt
-
-held_other : (now : List (Option ℕ)) (i j : ℕ) (o : Option ℕ) → j ≢ i → held (set now i o) j ≡ held now j
-held_other now i j o ne = get_or-set_other now i j o None ne
-
--- a word that was empty gets a number, and what stood stands
-held_grows : (now : List (Option ℕ)) (i x j y : ℕ) → held now i ≡ None → held now j ≡ Some y → held (set now i (Some x)) j ≡ Some y
-held_grows now i x j y empty e = ⊎_elim (λ (s : j ≡ i). absurd (not_some (sym empty ∙ subst (λ k. held now k ≡ Some y) s e))) (λ ne. held_other now i j (Some x) ne ∙ e) (number_same j i)
+use Rattle.flip_words.proofs.Flat.{among_moved, flat_same, flat_snoc, from_last, times_more, times_moved, times_some}
 
 -- The tree i, which no seat had taken, is taken by the seat x.
 module _ (trees : ℕ) (now : List (Option ℕ)) (listed more : List (ℕ × ℕ)) (i x : ℕ) (a : Takes trees now listed) (lt : i < length now) (empty : held now i ≡ None)
     (count : (j : ℕ) → times j more ≡ times j listed + (if i == j then 1 else 0)) (from : (p : ℕ × ℕ) → Among p more → (p ≡ (i, x)) ⊎ Among p listed) where
   takes_once : (j : ℕ) → (i ≡ j) ⊎ (i ≢ j) → times j more ≡ is_held (held (set now i (Some x)) j)
   takes_once j (inl e) = subst (λ k. times k more ≡ is_held (held (set now i (Some x)) k)) e
-      (let was : times i listed ≡ 0 = a.once i ∙ ap is_held empty in let is : is_held (held (set now i (Some x)) i) ≡ 1 = ap is_held (held_same now i (Some x) lt) in omega (arith, count i, one_here i i refl, was, is))
+      (let was : times i listed ≡ 0 = a.once i ∙ ap is_held empty in let is : is_held (held (set now i (Some x)) i) ≡ 1 = ap is_held (get_or-set_same now i (Some x) None lt) in omega (arith, count i, one_here i i refl, was, is))
   takes_once j (inr ne) =
-      let same : is_held (held (set now i (Some x)) j) ≡ is_held (held now j) = ap is_held (held_other now i j (Some x) (λ e. ne (sym e))) in
+      let same : is_held (held (set now i (Some x)) j) ≡ is_held (held now j) = ap is_held (get_or-set_other now i j (Some x) None (λ e. ne (sym e))) in
       let was = a.once j in
       omega (arith, count j, one_else i j ne, same, was)
 
   pub takes_more : Takes trees (set now i (Some x)) more
   takes_more = record {
     as_many = length-set now i (Some x) ∙ a.as_many;
-    stands = λ j y h. ⊎_elim (λ (e : ◌≡◌ {A = ℕ × ℕ} (j, y) (i, x)). subst (λ (p : ℕ × ℕ). held (set now i (Some x)) p.0 ≡ Some p.1) (sym e) (held_same now i (Some x) lt)) (λ t. held_grows now i x j y empty (a.stands j y t)) (from (j, y) h);
+    stands = λ j y h. ⊎_elim (λ (e : ◌≡◌ {A = ℕ × ℕ} (j, y) (i, x)). subst (λ (p : ℕ × ℕ). held (set now i (Some x)) p.0 ≡ Some p.1) (sym e) (get_or-set_same now i (Some x) None lt)) (λ t. held_grows now i x j y empty (a.stands j y t)) (from (j, y) h);
     once = λ j. takes_once j (number_same i j);
   }
 
@@ -47,7 +34,7 @@ module _ (trees : ℕ) (now : List (Option ℕ)) (listed more : List (ℕ × ℕ
 module _ (opened now : List (Option ℕ)) (listed more : List (ℕ × ℕ)) (i x : ℕ) (a : Sets opened now listed) (lt : i < length now) (unset : times i listed ≡ 0)
     (count : (j : ℕ) → times j more ≡ times j listed + (if i == j then 1 else 0)) (from : (p : ℕ × ℕ) → Among p more → (p ≡ (i, x)) ⊎ Among p listed) where
   sets_stays : (j : ℕ) → times j more ≡ 0 → held (set now i (Some x)) j ≡ held opened j
-  sets_stays j none = ⊎_elim (λ (e : i ≡ j). absurd (omega (arith, none, count j, one_here i j e))) (λ ne. held_other now i j (Some x) (λ e. ne (sym e)) ∙ a.stays j (omega (arith, none, count j))) (number_same i j)
+  sets_stays j none = ⊎_elim (λ (e : i ≡ j). absurd (omega (arith, none, count j, one_here i j e))) (λ ne. get_or-set_other now i j (Some x) None (λ e. ne (sym e)) ∙ a.stays j (omega (arith, none, count j))) (number_same i j)
 
   sets_once : (j : ℕ) → (i ≡ j) ⊎ (i ≢ j) → times j more ≤ 1
   sets_once j (inl e) = let was = subst (λ k. times k listed ≡ 0) e unset in omega (arith, count j, one_here i j e, was)
@@ -60,7 +47,7 @@ module _ (opened now : List (Option ℕ)) (listed more : List (ℕ × ℕ)) (i x
   pub sets_more : Sets opened (set now i (Some x)) more
   sets_more = record {
     as_many = length-set now i (Some x) ∙ a.as_many;
-    stands = λ j y h. ⊎_elim (λ (e : ◌≡◌ {A = ℕ × ℕ} (j, y) (i, x)). subst (λ (p : ℕ × ℕ). held (set now i (Some x)) p.0 ≡ Some p.1) (sym e) (held_same now i (Some x) lt)) (λ t. held_other now i j (Some x) (listed_other j y t) ∙ a.stands j y t) (from (j, y) h);
+    stands = λ j y h. ⊎_elim (λ (e : ◌≡◌ {A = ℕ × ℕ} (j, y) (i, x)). subst (λ (p : ℕ × ℕ). held (set now i (Some x)) p.0 ≡ Some p.1) (sym e) (get_or-set_same now i (Some x) None lt)) (λ t. get_or-set_other now i j (Some x) None (listed_other j y t) ∙ a.stands j y t) (from (j, y) h);
     stays = sets_stays;
     once = λ j. sets_once j (number_same i j);
   }

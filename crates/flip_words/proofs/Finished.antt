@@ -7,10 +7,13 @@ use lib.ListN.{get_elem?}
 use Rattle.atomic_table.specs.Seated.{TableId}
 use Rattle.atomic_table.specs.Table.{Final, Seen}
 use Rattle.bip_defs.specs.Lists.{Among}
+use Rattle.bip_defs.specs.Occurrences.{times}
+use Rattle.bip_defs.specs.WordValues.{held}
+use Rattle.bip_defs.proofs.Occurrences.{times_append}
 use Rattle.bip_defs.proofs.Sets.{among_either, among_last, among_left, among_right}
 use Rattle.bip_graph.specs.Mates.{Mated}
-use Rattle.flip_words.specs.Accounts.{Settles, times}
-use Rattle.flip_words.specs.Board.{Board, held}
+use Rattle.flip_words.specs.Accounts.{Settles}
+use Rattle.flip_words.specs.Board.{Board}
 use Rattle.flip_words.specs.WordCodes.{mate_of, mates_in, takers_in}
 use Rattle.flip_words.specs.Listed.{Listed, all_listed, followed_by}
 use Rattle.flip_words.specs.Rule.{Kept, Known, known, opened_in}
@@ -19,7 +22,6 @@ use Rattle.flip_words.specs.Seat.{AreNumbered, IsRightful, Seat, first_seat, lis
 use Rattle.flip_words.specs.Stored.{AreLeft, AreSized, board_in}
 use Rattle.flip_words.proofs.AccountLemmas.{sets_moved, takes_moved}
 use Rattle.flip_words.proofs.WordCodes.{mate_read, vertices_long}
-use Rattle.flip_words.proofs.Flat.{times_append}
 use Rattle.flip_words.proofs.SeatNumbers.{alone}
 
 pub rightful_more : (seats : List Seat) (i : ℕ) (seat : Seat) → i < length seats → seat ≡ get_or seats i seat → ((s : Seat) → Among s (take i seats) → IsRightful s) → IsRightful seat → (s : Seat) → Among s (take (i + 1) seats) → IsRightful s

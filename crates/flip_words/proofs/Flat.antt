@@ -1,24 +1,15 @@
 -- Lists of all seats, one after the other, where the lists of one seat change.
-use Rattle.std.proofs.Common.{◌≡◌, ◌≢◌, ◌∙◌, ◌⊎◌, ℕ, zero, suc, ◌+◌, ◌<◌, ◌≤◌, ◌==◌, if◌then◌else◌, List, [], ◌∷◌, ◌++◌, set, flat_map, refl, sym, ap, subst, inl, inr, ⊎_elim, arith, eq-eqb, ne_eqb, append-nil}
+use Rattle.std.proofs.Common.{◌≡◌, ◌≢◌, ◌∙◌, ◌⊎◌, ℕ, zero, suc, ◌+◌, ◌<◌, ◌≤◌, ◌==◌, if◌then◌else◌, List, [], ◌∷◌, ◌++◌, set, flat_map, refl, sym, ap, subst, inl, inr, ⊎_elim, arith, append-nil}
 use Rattle.std.proofs.lemmas.Grind.{flat_map-append}
 use mathlib.Core.Option.{some, some-injective, some-ne-none}
 use lib.ListN.{get_elem?}
 use Rattle.atomic_table.proofs.Lists.{set_else}
 use Rattle.bip_defs.specs.Lists.{Among}
+use Rattle.bip_defs.specs.Occurrences.{times}
+use Rattle.bip_defs.proofs.Occurrences.{one_else, one_here, times_append}
 use Rattle.bip_defs.proofs.Sets.{among_either, among_last, among_left, among_right, number_same}
-use Rattle.flip_words.specs.Accounts.{times}
 
 -- How often a number is listed.
-
-pub one_here : (i j : ℕ) → i ≡ j → ◌≡◌ {A = ℕ} (if i == j then 1 else 0) 1
-one_here i j e = rw (eq-eqb i j e) refl
-
-pub one_else : (i j : ℕ) → i ≢ j → ◌≡◌ {A = ℕ} (if i == j then 1 else 0) 0
-one_else i j ne = rw (ne_eqb i j ne) refl
-
-pub times_append : (i : ℕ) (xs ys : List (ℕ × ℕ)) → times i (xs ++ ys) ≡ times i xs + times i ys
-times_append i [] ys = omega arith
-times_append i (x ∷ xs) ys = let e = times_append i xs ys in omega (arith, e)
 
 pub times_some : (i x : ℕ) (ps : List (ℕ × ℕ)) → Among (i, x) ps → 0 < times i ps
 times_some i x [] h = elim h [ ]

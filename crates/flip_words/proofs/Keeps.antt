@@ -1,20 +1,23 @@
 -- Each kind of step keeps the rule.
 use Rattle.std.proofs.Common.{◌≡◌, ◌≢◌, ◌∙◌, ◌⊎◌, ℕ, zero, suc, ◌+◌, ◌<◌, ◌≤◌, Option, None, Some, List, [], ◌∷◌, map, set, flat_map, get_or, length, slice_index, refl, sym, ap, subst, ⊎_elim, arith, get_or-set_same, get_or-set_other}
 use Rattle.std.proofs.lemmas.List.{length-set, map-set, set-get_or}
+use Rattle.std.proofs.lemmas.Option.{same_Some}
 use mathlib.Core.Option.{some, some-injective, some-ne-none}
 use lib.ListN.{get_elem?}
 use Rattle.atomic_table.specs.Table.{State}
 use Rattle.atomic_table.proofs.Lists.{at_map, at_set}
 use Rattle.bip_defs.specs.Lists.{Among}
+use Rattle.bip_defs.specs.Occurrences.{times}
+use Rattle.bip_defs.specs.WordValues.{held, value_of}
 use Rattle.bip_defs.proofs.Sets.{among_either, among_last, among_left, among_right, number_same}
-use Rattle.flip_words.specs.Accounts.{Settles, is_held, times}
-use Rattle.flip_words.specs.Board.{held}
-use Rattle.flip_words.specs.WordCodes.{half, mate_of, mates_in, takers_in, tree_of, trees_in, value_of, vertex_word}
+use Rattle.bip_defs.proofs.WordValues.{value_there}
+use Rattle.flip_words.specs.Accounts.{Settles, is_held}
+use Rattle.flip_words.specs.WordCodes.{half, mate_of, mates_in, takers_in, tree_of, trees_in, vertex_word}
 use Rattle.flip_words.specs.Listed.{Listed, all_listed, followed_by, looked, put, took}
 use Rattle.flip_words.specs.Rule.{IsOfTaken, Kept, Known, SetsItsOwn, listed_by}
 use Rattle.flip_words.specs.Steps.{knowing}
-use Rattle.flip_words.proofs.AccountLemmas.{sets_of, settles_look, settles_put, settles_seen, settles_take, some_same}
-use Rattle.flip_words.proofs.WordCodes.{mate_coded, mate_read, taker_below, taker_read, takers_put, takers_take, tree_coded, value_there, vertices_put, vertices_take}
+use Rattle.flip_words.proofs.AccountLemmas.{sets_of, settles_look, settles_put, settles_seen, settles_take}
+use Rattle.flip_words.proofs.WordCodes.{mate_coded, mate_read, taker_below, taker_read, takers_put, takers_take, tree_coded, vertices_put, vertices_take}
 use Rattle.flip_words.proofs.Flat.{among_flat, times_none, times_some, times_two}
 use Rattle.flip_words.proofs.SeatNumbers.{seated_step}
 
@@ -72,7 +75,7 @@ module _ {S : Type 0} (rows cols : ℕ) (opened : List ℕ) (s : State S (Option
             (λ ne.
             let w = from_map listed_by s.views i l l_at in
             let t = kept.owners i w.0 w.1 v x (subst (λ (m : Listed). Among (v, x) m.sets) (sym w.2) h) in
-            let same : t.0 ≡ of.0 = some_same (sym t.2 ∙ of.2) in
+            let same : t.0 ≡ of.0 = same_Some _ _ (sym t.2 ∙ of.2) in
             let theirs = times_some t.0 t.1 l.taken (subst (λ (m : Listed). Among (t.0, t.1) m.taken) w.2 t.3) in
             let theirs_too = subst (λ r. 0 < times r l.taken) same theirs in
             let own = times_some of.0 of.1 k.listed.taken of.3 in

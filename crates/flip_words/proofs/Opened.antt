@@ -8,17 +8,19 @@ use mathlib.Core.Option.{some, some-injective, some-ne-none}
 use lib.ListN.{get_elem?}
 use Rattle.atomic_table.specs.Seated.{TableId}
 use Rattle.atomic_table.specs.Table.{opening}
+use Rattle.bip_defs.specs.Occurrences.{below}
+use Rattle.bip_defs.specs.WordValues.{held, value_of}
+use Rattle.bip_defs.proofs.Occurrences.{one_else}
 use Rattle.bip_graph.specs.Matching.{Pairing}
 use Rattle.flip_words.specs.Accounts.{is_held}
-use Rattle.flip_words.specs.Board.{Board, IsOpenedFrom, held}
-use Rattle.flip_words.specs.WordCodes.{mate_of, mates_in, takers_in, tree_of, trees_in, value_of}
+use Rattle.flip_words.specs.Board.{Board, IsOpenedFrom}
+use Rattle.flip_words.specs.WordCodes.{mate_of, mates_in, takers_in, tree_of, trees_in}
 use Rattle.flip_words.specs.Listed.{nothing}
 use Rattle.flip_words.specs.OpenedBoards.{AreLaid, AreOpening, IsMateIn}
-use Rattle.flip_words.specs.Rule.{Kept, Known, SetsItsOwn, below, has_number, listed_by, opened_in, opener}
+use Rattle.flip_words.specs.Rule.{Kept, Known, SetsItsOwn, has_number, listed_by, opened_in, opener}
 use Rattle.flip_words.specs.Seat.{first_seat, more_seats, new_seat}
 use Rattle.flip_words.specs.Stored.{board_in}
 use Rattle.flip_words.proofs.WordCodes.{taker_read, takers_long}
-use Rattle.flip_words.proofs.Flat.{one_else}
 use Rattle.flip_words.proofs.SeatNumbers.{known_same}
 
 -- the one view of a board that is opened

@@ -1,15 +1,16 @@
 -- The words with which a board is opened, vertex by vertex.
 use Rattle.std.proofs.Common.{◌≡◌, ◌∙◌, ℕ, zero, suc, ◌+◌, ◌*◌, ◌<◌, ◌≤◌, List, [], ◌∷◌, ◌++◌, Option, None, Some, IfSome, IfNone, replicate, take, length, get_or, sym, ap, subst, arith, append_assoc}
 use Rattle.std.proofs.lemmas.List.{get_or_read, length-append, length-map, length-take-le, map-append, take_more}
+use Rattle.std.proofs.lemmas.Option.{none-some, same_Some}
 use Rattle.bip_defs.specs.Lists.{Among, AreDistinct}
 use Rattle.bip_defs.specs.Matching.{cols_of, rows_of}
 use Rattle.bip_defs.specs.Matrix.{Place}
+use Rattle.bip_defs.specs.WordValues.{held}
 use Rattle.bip_defs.proofs.Sets.{col_among, one_col, one_row, row_among}
 use Rattle.bip_graph.specs.Matching.{Pairing}
-use Rattle.flip_words.specs.Board.{AreTrees, held}
+use Rattle.flip_words.specs.Board.{AreTrees}
 use Rattle.flip_words.specs.WordCodes.{code_of, half, mate_of, tree_of, vertex_word}
 use Rattle.flip_words.specs.OpenedBoards.{AreLaid, IsMateIn}
-use Rattle.flip_words.proofs.AccountLemmas.{not_some, some_same}
 use Rattle.flip_words.proofs.WordCodes.{mate_coded, tree_coded}
 
 -- Codes fit half a word.
@@ -37,23 +38,23 @@ row_within pairs c rows (Some r) found within = within r c found
 
 pub mate_of_row : (m : Pairing) (r : ℕ) (mate : Option ℕ) → AreDistinct (rows_of m.pairs) → r < m.rows → IfSome mate (λ c. Among (r, c) m.pairs) → IfNone mate (¬ Among r (rows_of m.pairs)) → IsMateIn m r mate
 mate_of_row m r None differ lt found none = record {
-  of_row = λ c within. ((λ e. absurd (not_some e)), (λ h. absurd (none (row_among r c m.pairs h))));
+  of_row = λ c within. ((λ e. absurd (none-some _ e)), (λ h. absurd (none (row_among r c m.pairs h))));
   of_col = λ s c e. absurd (omega (arith, e));
 }
 mate_of_row m r (Some d) differ lt found none = record {
-  of_row = λ c within. ((λ e. subst (λ x. Among (r, x) m.pairs) (some_same e) found), (λ h. ap Some (one_col m.pairs differ r d c found h)));
+  of_row = λ c within. ((λ e. subst (λ x. Among (r, x) m.pairs) (same_Some _ _ e) found), (λ h. ap Some (one_col m.pairs differ r d c found h)));
   of_col = λ s c e. absurd (omega (arith, e));
 }
 
 pub mate_of_col : (m : Pairing) (c : ℕ) (mate : Option ℕ) → AreDistinct (cols_of m.pairs) → IfSome mate (λ r. Among (r, c) m.pairs) → IfNone mate (¬ Among c (cols_of m.pairs)) → IsMateIn m (m.rows + c) mate
 mate_of_col m c None differ found none = record {
   of_row = λ d within. absurd (omega arith);
-  of_col = λ r d e. ((λ f. absurd (not_some f)), (λ h. absurd (none (subst (λ x. Among x (cols_of m.pairs)) (let s : d ≡ c = omega (arith, e) in s) (col_among r d m.pairs h)))));
+  of_col = λ r d e. ((λ f. absurd (none-some _ f)), (λ h. absurd (none (subst (λ x. Among x (cols_of m.pairs)) (let s : d ≡ c = omega (arith, e) in s) (col_among r d m.pairs h)))));
 }
 mate_of_col m c (Some s) differ found none = record {
   of_row = λ d within. absurd (omega arith);
   of_col = λ r d e. let same : c ≡ d = omega (arith, e) in (
-    (λ f. subst (λ x. Among (r, x) m.pairs) same (subst (λ x. Among (x, c) m.pairs) (some_same f) found)),
+    (λ f. subst (λ x. Among (r, x) m.pairs) same (subst (λ x. Among (x, c) m.pairs) (same_Some _ _ f) found)),
     (λ h. ap Some (one_row m.pairs differ s r c found (subst (λ x. Among (r, x) m.pairs) (sym same) h))),
   );
 }

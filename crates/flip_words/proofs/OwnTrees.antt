@@ -1,8 +1,9 @@
 -- What a seat lists stays its own: trees that it took itself, and vertices of such trees.
 use Rattle.std.proofs.Common.{◌≡◌, ◌⊎◌, ◌∙◌, ℕ, Option, None, Some, List, [], ◌∷◌, sym, ap, subst, inl, ⊎_elim}
 use Rattle.bip_defs.specs.Lists.{Among}
+use Rattle.bip_defs.specs.WordValues.{held}
 use Rattle.bip_defs.proofs.Sets.{among_last, among_left}
-use Rattle.flip_words.specs.Board.{Board, held}
+use Rattle.flip_words.specs.Board.{Board}
 use Rattle.flip_words.specs.Listed.{with_taken}
 use Rattle.flip_words.specs.Seat.{IsRightful, Seat, Took, TookTreeOf, after_look, after_set, after_take}
 

@@ -4,15 +4,17 @@ use Rattle.std.specs.List.{AllZip}
 use Rattle.std.proofs.lemmas.List.{get_or-append-add}
 use Rattle.std.proofs.lemmas.Slice.Zip.{AllZip-long}
 use Rattle.std.proofs.Math.ListN.{get_or-append}
+use Rattle.std.proofs.lemmas.Option.{same_Some}
 use Rattle.bip_defs.specs.Lists.{Among, option_at}
+use Rattle.bip_defs.specs.Occurrences.{times}
+use Rattle.bip_defs.specs.WordValues.{held}
 use Rattle.bip_defs.proofs.Sets.{among_either, among_left, among_right}
 use Rattle.bip_graph.specs.Mates.{Mated}
-use Rattle.flip_words.specs.Accounts.{is_held, times}
-use Rattle.flip_words.specs.Board.{Board, col_vertex, held}
+use Rattle.flip_words.specs.Accounts.{is_held}
+use Rattle.flip_words.specs.Board.{Board, col_vertex}
 use Rattle.flip_words.specs.ClosedBoards.{AreMatesAfter, HaveOneTakerEach, SettlesAll}
 use Rattle.flip_words.specs.Listed.{Listed}
 use Rattle.flip_words.specs.Seat.{AreAllSeats, AreNumbered, HasSeen, HasSet, HasSetTo, IsSameSeat, Seat, Took, lists_of, more_seats, new_seats}
-use Rattle.flip_words.proofs.AccountLemmas.{some_same}
 use Rattle.flip_words.proofs.Flat.{times_none, times_one}
 
 -- All seats.
@@ -83,13 +85,13 @@ module _ (b : Board) (m : Mated) (ss : List Seat) (all : SettlesAll b m ss) wher
   taker_is s root h took = all.settles.takes.stands root s.number (of_all (λ (l : Listed). l.taken) ss s (root, s.number) h took)
 
   one_taker : AreAllSeats b ss → (s t : Seat) (root : ℕ) → Among s ss → Among t ss → Took s root → Took t root → s ≡ t
-  one_taker a s t root h k p q = one_of_all b ss s t a h k (some_same (sym (taker_is s root h p) ∙ taker_is t root k q))
+  one_taker a s t root h k p q = one_of_all b ss s t a h k (same_Some _ _ (sym (taker_is s root h p) ∙ taker_is t root k q))
 
   one_setter : AreAllSeats b ss → (s t : Seat) (vertex : ℕ) → Among s ss → Among t ss → HasSet s vertex → HasSet t vertex → s ≡ t
   one_setter a s t vertex h k p q =
       let mine = (all.rightful s h).sets vertex p.0 p.1 in
       let theirs = (all.rightful t k).sets vertex q.0 q.1 in
-      let same : theirs.0 ≡ mine.0 = some_same (sym theirs.1 ∙ ap (λ (d : Board). held d.trees vertex) (board_of_all b ss t a k ∙ sym (board_of_all b ss s a h)) ∙ mine.1) in
+      let same : theirs.0 ≡ mine.0 = same_Some _ _ (sym theirs.1 ∙ ap (λ (d : Board). held d.trees vertex) (board_of_all b ss t a k ∙ sym (board_of_all b ss s a h)) ∙ mine.1) in
       one_taker a s t mine.0 h k mine.2 (subst (Took t) same theirs.2)
 
   seen_taker : (s : Seat) (root number : ℕ) → Among s ss → HasSeen s root number → (t : Seat) × Among t ss × Took t root × (t.number ≡ number)
@@ -99,7 +101,7 @@ module _ (b : Board) (m : Mated) (ss : List Seat) (all : SettlesAll b m ss) wher
       let entry = times_one root (flat_map (λ (l : Listed). l.taken) (lists_of ss)) some in
       let taker = of_one (λ (l : Listed). l.taken) ss (root, entry.0) entry.1 in
       let own = (all.rightful taker.0 taker.1).taken root entry.0 taker.2 in
-      let same : entry.0 ≡ number = some_same (sym (all.settles.takes.stands root entry.0 entry.1) ∙ stands) in
+      let same : entry.0 ≡ number = same_Some _ _ (sym (all.settles.takes.stands root entry.0 entry.1) ∙ stands) in
       (taker.0, taker.1, subst (λ n. Among (root, n) taker.0.listed.taken) own taker.2, sym own ∙ same)
 
   pub one_taker_each : AreAllSeats b ss → HaveOneTakerEach ss

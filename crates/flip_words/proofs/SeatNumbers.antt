@@ -1,14 +1,15 @@
 -- The numbers of the seats, where the view of one seat changes, a seat is split off, or one is joined to another.
-use Rattle.std.proofs.Common.{◌≡◌, ◌≢◌, ◌∙◌, ℕ, zero, suc, ◌+◌, ◌≤◌, ◌==◌, if◌then◌else◌, Option, None, Some, List, [], ◌∷◌, ◌++◌, map, set, sum_by, flat_map, refl, sym, ap, subst, ⊎_elim, arith, append-nil, one-add}
+use Rattle.std.proofs.Common.{◌≡◌, ◌≢◌, ◌∙◌, ℕ, zero, suc, ◌+◌, ◌≤◌, ◌==◌, if◌then◌else◌, Option, None, Some, List, [], ◌∷◌, ◌++◌, map, set, sum_by, flat_map, refl, sym, ap, subst, ⊎_elim, arith, append-nil}
 use Rattle.std.proofs.lemmas.List.Sums.{sum_by-cons, sum_by_push}
 use mathlib.Core.Option.{some, some-injective, some-ne-none}
 use lib.ListN.{get_elem?}
 use Rattle.atomic_table.proofs.Lists.{at_set, at_snoc, set_else}
+use Rattle.bip_defs.specs.Occurrences.{below}
+use Rattle.bip_defs.proofs.Occurrences.{below_more, below_once, below_one, one_here}
 use Rattle.bip_defs.proofs.Sets.{number_same}
 use Rattle.flip_words.specs.Listed.{Listed, all_listed, nothing}
-use Rattle.flip_words.specs.Rule.{AreSeated, Known, Opened, below, has_number, known, listed_by}
+use Rattle.flip_words.specs.Rule.{AreSeated, Known, Opened, has_number, known, listed_by}
 use Rattle.flip_words.specs.Steps.{counting_more, joined, knowing, newcomer}
-use Rattle.flip_words.proofs.Flat.{one_else, one_here}
 
 -- Sums over views.
 
@@ -31,24 +32,6 @@ module _ {V : Type 0} (f : V → ℕ) where
   total_two (x ∷ vs) (suc i) (suc j) v w at there ne = let le = total_two vs i j v w at there (λ e. ne (ap suc e)) in omega (arith, le, sum_by-cons f x vs)
 
 -- Numbers below a count.
-
-below_suc : (n count : ℕ) → below n (suc count) ≡ below n count + (if count == n then 1 else 0)
-below_suc zero zero = refl
-below_suc zero (suc count) = let e = one_else (suc count) 0 (λ f. omega arith) in omega (arith, e)
-below_suc (suc n) zero = let e = one_else 0 (suc n) (λ f. omega arith) in omega (arith, e)
-below_suc (suc n) (suc count) = ⊎_elim (λ (e : count ≡ n). let same = one_here (suc count) (suc n) (ap suc e) in let was = one_here count n e in let more = below_suc n count in omega (arith, same, was, more)) (λ (ne : count ≢ n). let same = one_else (suc count) (suc n) (λ f. ne (omega arith)) in let was = one_else count n ne in let more = below_suc n count in omega (arith, same, was, more)) (number_same count n)
-
-below_more : (n count : ℕ) → below n (1 + count) ≡ below n count + (if count == n then 1 else 0)
-below_more n count = subst (λ c. below n c ≡ below n count + (if count == n then 1 else 0)) (sym (one-add count)) (below_suc n count)
-
-below_once : (n count : ℕ) → below n count ≤ 1
-below_once n zero = omega arith
-below_once zero (suc count) = omega arith
-below_once (suc n) (suc count) = below_once n count
-
-below_one : (n : ℕ) → n ≢ 0 → below n 1 ≡ 0
-below_one zero ne = absurd (ne refl)
-below_one (suc n) ne = refl
 
 -- Views.
 

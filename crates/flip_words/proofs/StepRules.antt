@@ -1,5 +1,5 @@
 -- What a step asks of the table, for each kind of step.
-use Rattle.std.proofs.Common.{◌≡◌, ◌≢◌, ◌∙◌, ℕ, zero, suc, ◌+◌, ◌-◌, ◌%◌, ◌<◌, ◌≤◌, ◌==◌, Option, None, Some, List, [], ◌∷◌, ◌++◌, map, set, length, slice_index, refl, sym, ap, subst, ⊎_elim, arith, ne_eqb}
+use Rattle.std.proofs.Common.{◌≡◌, ◌≢◌, ◌∙◌, ℕ, zero, suc, ◌+◌, ◌-◌, ◌%◌, ◌<◌, ◌≤◌, ◌==◌, Option, None, Some, List, [], ◌∷◌, ◌++◌, map, set, length, slice_index, refl, sym, ap, subst, ⊎_elim, arith}
 use Rattle.std.proofs.lemmas.List.{map-append, map-set, set-get_or}
 use mathlib.Core.Option.{none, some}
 use lib.ListN.{get_elem?}
@@ -7,9 +7,10 @@ use prog.Atomic.{either}
 use Rattle.atomic_table.specs.Table.{Act, Allows, Joins, Me, Splits, State, Valid, carried_after, keeps, step, stepped}
 use Rattle.atomic_table.proofs.Lists.{at_map, at_set, at_snoc, set_again, set_else}
 use Rattle.bip_defs.specs.Lists.{Among}
+use Rattle.bip_defs.specs.WordValues.{held, value_of}
+use Rattle.bip_defs.proofs.WordValues.{unwritten}
 use Rattle.flip_words.specs.Accounts.{Settles}
-use Rattle.flip_words.specs.Board.{held}
-use Rattle.flip_words.specs.WordCodes.{half, mate_of, mates_in, takers_in, trees_in, value_of, vertex_word}
+use Rattle.flip_words.specs.WordCodes.{half, mate_of, mates_in, takers_in, trees_in, vertex_word}
 use Rattle.flip_words.specs.Listed.{all_listed, looked, nothing, put, took}
 use Rattle.flip_words.specs.Rule.{IsOfTaken, Kept, Known, SetsItsOwn, known, listed_by, opened_in}
 use Rattle.flip_words.specs.Steps.{TellsLook, TellsMate, TellsSet, TellsTake, TellsTaken, counting_more, joined, knowing, newcomer}
@@ -17,10 +18,6 @@ use Rattle.flip_words.specs.Stored.{IsOpen}
 use Rattle.flip_words.proofs.AccountLemmas.{settles_join, settles_new}
 use Rattle.flip_words.proofs.Keeps.{kept_look, kept_put, kept_seen, kept_take, mate_stands, mate_stays, owns_both, taker_stands, with_words}
 use Rattle.flip_words.proofs.SeatNumbers.{known_same, seated_fewer, seated_more}
-
--- a word that held a number stays
-unwritten : (ws : List ℕ) (i new y : ℕ) → slice_index ws i ≡ suc y → set ws i (either (suc y == 0) new (suc y)) ≡ ws
-unwritten ws i new y e = ap (λ b. set ws i (either b new (suc y))) (ne_eqb (suc y) 0 (λ f. omega arith)) ∙ ap (set ws i) (sym e) ∙ set-get_or ws i 0
 
 module _ {S : Type 0} (rows cols : ℕ) (opened : List ℕ) (slots id : ℕ) (me : Me S (Option Known)) (live : IsOpen me) where
   -- what is told of the seat's view and of the word

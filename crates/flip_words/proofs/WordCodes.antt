@@ -1,14 +1,12 @@
 -- Words as numbers, and what they hold.
-use Rattle.std.proofs.Common.{◌≡◌, ◌∙◌, ℕ, ◌+◌, ◌-◌, ◌%◌, ◌<◌, ◌≤◌, List, Option, None, Some, map, take, drop, set, length, get_or, refl, sym, ap, subst, arith, add_assoc, one-add}
+use Rattle.std.proofs.Common.{◌≡◌, ◌∙◌, ℕ, ◌+◌, ◌-◌, ◌%◌, ◌<◌, ◌≤◌, List, Option, None, Some, map, take, drop, set, length, get_or, refl, sym, ap, subst, arith, add_assoc}
 use Rattle.std.proofs.lemmas.List.{drop-set-add, drop-set-lt, take-set-le, length-map, length-take, length-drop, map-set, get_or-map, get_or-take, get_or-drop}
 use Rattle.std.proofs.lemmas.Grind.{get_or_after_one}
 use Rattle.std.proofs.lemmas.Nat.{div-mul-add, mod-mul-add}
 use Rattle.std.proofs.Math.Seq.{take-set-lt}
-use Rattle.flip_words.specs.Board.{held}
-use Rattle.flip_words.specs.WordCodes.{code_of, half, mate_of, mates_in, takers_in, tree_of, value_of, vertex_word}
-
-pub value_there : (x : ℕ) → value_of (1 + x) ≡ Some x
-value_there x = subst (λ n. value_of n ≡ Some x) (sym (one-add x)) refl
+use Rattle.bip_defs.specs.WordValues.{held, value_of}
+use Rattle.bip_defs.proofs.WordValues.{value_there}
+use Rattle.flip_words.specs.WordCodes.{code_of, half, mate_of, mates_in, takers_in, tree_of, vertex_word}
 
 -- Which words there are.
 

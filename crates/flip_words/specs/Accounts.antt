@@ -1,14 +1,10 @@
 -- How the lists of seats account for the words: each entry of a list is a tree or a vertex, and
 -- what was written there.
-use Rattle.std.specs.Prelude.{◌≡◌, ℕ, ◌+◌, ◌≤◌, ◌==◌, if◌then◌else◌, List, [], ◌∷◌, Option, None, Some, length}
+use Rattle.std.specs.Prelude.{◌≡◌, ℕ, ◌≤◌, List, Option, None, Some, length}
 use Rattle.bip_defs.specs.Lists.{Among}
-use Rattle.flip_words.specs.Board.{held}
+use Rattle.bip_defs.specs.Occurrences.{times}
+use Rattle.bip_defs.specs.WordValues.{held}
 use Rattle.flip_words.specs.Listed.{Listed}
-
--- how often a number is listed
-abbrev pub times : ℕ → List (ℕ × ℕ) → ℕ
-times i [] = 0
-times i (p ∷ ps) = (if p.0 == i then 1 else 0) + times i ps
 
 -- 1 where a word holds something, and else 0
 abbrev pub is_held : Option ℕ → ℕ

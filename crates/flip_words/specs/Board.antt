@@ -4,7 +4,8 @@
 -- of its root, a column.
 use Rattle.std.specs.Prelude.{◌≡◌, ◌↔◌, ℕ, ◌+◌, ◌<◌, List, Option, Some, length}
 use Rattle.atomic_table.specs.Seated.{TableId}
-use Rattle.bip_defs.specs.Lists.{Among, option_at}
+use Rattle.bip_defs.specs.Lists.{Among}
+use Rattle.bip_defs.specs.WordValues.{held}
 use Rattle.bip_graph.specs.Matching.{Pairing}
 
 -- the table of shared words in which a board stands, the numbers of rows and columns, and for each
@@ -15,10 +16,6 @@ pub record Board : Type 0 where
   pub cols : ℕ
   pub mates : List (Option ℕ)
   pub trees : List (Option ℕ)
-
--- what the word of a number holds; none past the last word
-abbrev pub held : List (Option ℕ) → ℕ → Option ℕ
-held words i = option_at words i
 
 -- the vertex that is the column
 abbrev pub col_vertex : Board → ℕ → ℕ

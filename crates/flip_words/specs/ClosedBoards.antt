@@ -1,9 +1,10 @@
 -- What closing a board tells.
 use Rattle.std.specs.Prelude.{◌≡◌, ℕ, ◌<◌, List, [], ◌∷◌, ◌++◌, Option, Some, length}
 use Rattle.bip_defs.specs.Lists.{Among, option_at}
+use Rattle.bip_defs.specs.WordValues.{held}
 use Rattle.bip_graph.specs.Mates.{Mated}
 use Rattle.flip_words.specs.Accounts.{Settles}
-use Rattle.flip_words.specs.Board.{Board, col_vertex, held}
+use Rattle.flip_words.specs.Board.{Board, col_vertex}
 use Rattle.flip_words.specs.Listed.{Listed, all_listed, followed_by, nothing}
 use Rattle.flip_words.specs.Seat.{HasSeen, HasSet, HasSetTo, IsRightful, Seat, Took, lists_of}
 

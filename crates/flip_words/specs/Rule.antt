@@ -1,12 +1,13 @@
 -- The rule of a board's table: what is true of its words and of what all seats know, between any
 -- two steps.
-use Rattle.std.specs.Prelude.{◌≡◌, ℕ, zero, suc, ◌+◌, ◌<◌, ◌≤◌, ◌==◌, if◌then◌else◌, List, [], Option, None, Some, length, map, slice_index, sum_by}
+use Rattle.std.specs.Prelude.{◌≡◌, ℕ, ◌+◌, ◌<◌, ◌≤◌, ◌==◌, if◌then◌else◌, List, [], Option, None, Some, length, map, slice_index, sum_by}
 use mathlib.Core.Option.{some}
 use lib.ListN.{get_elem?}
 use Rattle.atomic_table.specs.Table.{State}
 use Rattle.bip_defs.specs.Lists.{Among}
+use Rattle.bip_defs.specs.Occurrences.{below}
+use Rattle.bip_defs.specs.WordValues.{held}
 use Rattle.flip_words.specs.Accounts.{Settles}
-use Rattle.flip_words.specs.Board.{held}
 use Rattle.flip_words.specs.WordCodes.{half, mates_in, takers_in, trees_in}
 use Rattle.flip_words.specs.Listed.{Listed, all_listed, nothing}
 
@@ -56,12 +57,6 @@ listed_by (Some k) = k.listed
 abbrev pub has_number : ℕ → Option Known → ℕ
 has_number n None = 0
 has_number n (Some k) = if k.number == n then 1 else 0
-
--- 1 where n is below the count, and else 0
-abbrev pub below : ℕ → ℕ → ℕ
-below n zero = 0
-below zero (suc count) = 1
-below (suc n) (suc count) = below n count
 
 -- Of each number below the count there is one seat, and no other seat is left. The seat 0 keeps the
 -- count

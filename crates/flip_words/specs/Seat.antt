@@ -1,7 +1,8 @@
 -- A seat at a board: what one thread has done with the words, and what it knows of them.
 use Rattle.std.specs.Prelude.{◌≡◌, ◌⊎◌, ℕ, zero, suc, ◌+◌, List, [], ◌∷◌, Option, Some, length, map}
 use Rattle.bip_defs.specs.Lists.{Among}
-use Rattle.flip_words.specs.Board.{Board, held}
+use Rattle.bip_defs.specs.WordValues.{held}
+use Rattle.flip_words.specs.Board.{Board}
 use Rattle.flip_words.specs.Listed.{Listed, looked, nothing, put, took}
 
 -- its board, its number, how many seats the board has (which the seat 0 alone keeps), and what it

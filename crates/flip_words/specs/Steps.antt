@@ -2,8 +2,8 @@
 use Rattle.std.specs.Prelude.{◌≡◌, ◌⊎◌, ℕ, ◌+◌, ◌-◌, ◌%◌, ◌≤◌, Option, None, Some}
 use Rattle.atomic_table.specs.Table.{Me, Step}
 use Rattle.bip_defs.specs.Lists.{Among}
-use Rattle.flip_words.specs.Board.{held}
-use Rattle.flip_words.specs.WordCodes.{half, mate_of, value_of}
+use Rattle.bip_defs.specs.WordValues.{held, value_of}
+use Rattle.flip_words.specs.WordCodes.{half, mate_of}
 use Rattle.flip_words.specs.Listed.{Listed, followed_by, looked, nothing, put, took}
 use Rattle.flip_words.specs.Rule.{IsOfTaken, Known}
 

@@ -2,15 +2,12 @@
 -- the vertices. A tree's word is 0, or 1 more than the number of the seat that took the tree. A
 -- vertex's word has the tree in its upper half and the mate in its lower half, each 0 for none and
 -- else 1 more than its number.
-use Rattle.std.specs.Prelude.{ℕ, zero, suc, ◌+◌, ◌*◌, ◌/◌, ◌%◌, List, Option, None, Some, map, take, drop}
+use Rattle.std.specs.Prelude.{ℕ, ◌+◌, ◌*◌, ◌/◌, ◌%◌, List, Option, None, Some, map, take, drop}
+use Rattle.bip_defs.specs.WordValues.{value_of}
 
 -- one more than the largest number of half a word
 abbrev pub half : ℕ
 half = 4294967296
-
-abbrev pub value_of : ℕ → Option ℕ
-value_of zero = None
-value_of (suc x) = Some x
 
 abbrev pub code_of : Option ℕ → ℕ
 code_of None = 0

@@ -3,8 +3,9 @@
 ghost use Rattle.std.specs.Prelude.{◌≡◌, ℕ, ◌+◌, ◌<◌, ◌≤◌, ◌++◌, Some, length, IfOk, IfErr};
 ghost use Rattle.std.specs.Mem.Slots.{IsFull, slots_items, slots_len};
 ghost use Rattle.bip_defs.specs.Lists.{Among};
+ghost use Rattle.bip_defs.specs.WordValues.{held};
 ghost use Rattle.sp_ids.specs.Limits.{max_workers};
-ghost use Rattle.flip_words.specs.Board.{AreTrees, IsOpenedFrom, col_vertex, held};
+ghost use Rattle.flip_words.specs.Board.{AreTrees, IsOpenedFrom, col_vertex};
 ghost use Rattle.flip_words.specs.ClosedBoards.{SettlesAll, gathered};
 ghost use Rattle.flip_words.specs.WordCodes.{half};
 ghost use Rattle.flip_words.specs.Listed.{followed_by, nothing};

@@ -1,7 +1,8 @@
 //! How the words of a board are coded.
 
 ghost use Rattle.std.specs.Prelude.{◌≡◌, ◌+◌, ◌<◌, ◌≤◌, IfSome};
-ghost use Rattle.flip_words.specs.WordCodes.{half, mate_of, value_of};
+ghost use Rattle.bip_defs.specs.WordValues.{value_of};
+ghost use Rattle.flip_words.specs.WordCodes.{half, mate_of};
 
 use sp_ids::{Col, Row};
 

@@ -1,9 +1,9 @@
 -- Lists that grow at their end, and lists of the same members.
-use Rattle.std.proofs.Common.{◌≡◌, ℕ, ◌<◌, Bool, true, false, not, Option, None, Some, IfSome, IfNone, List, [], ◌∷◌, ◌++◌, length, map, slice_index_or, refl, sym, ap, subst, inl, inr, arith, true≢false}
+use Rattle.std.proofs.Common.{◌≡◌, ℕ, Bool, true, false, not, Option, None, Some, IfSome, IfNone, List, [], ◌∷◌, ◌++◌, length, map, refl, sym, ap, subst, inl, inr, arith, true≢false}
 use Rattle.bip_defs.specs.Lists.{Among, AreDistinct}
 use Rattle.bip_defs.specs.Matching.{IsMatching}
 use Rattle.bip_defs.specs.Matrix.{Matrix, Place}
-use Rattle.bip_defs.proofs.Sets.{among_at, among_map_back, few_distinct, one_col, one_row}
+use Rattle.bip_defs.proofs.Sets.{among_map_back, few_distinct, one_col, one_row}
 
 pub map_last : {X Y : Type 0} (f : X → Y) (xs : List X) (x : X) → map f (xs ++ x ∷ []) ≡ map f xs ++ f x ∷ []
 map_last f [] x = refl
@@ -24,10 +24,6 @@ same_matching a m n k once over = record {
 
 pub same_length : (m n : List Place) → AreDistinct m → AreDistinct n → ((p : Place) → Among p m → Among p n) → ((p : Place) → Among p n → Among p m) → length m ≡ length n
 same_length m n a b over back = let le = few_distinct m n a over in let ge = few_distinct n m b back in omega (arith, le, ge)
-
--- what was read at a place is on the list
-pub read_among : {X : Type 0} (x : X) (xs : List X) (k : ℕ) → k < length xs → x ≡ slice_index_or xs k x → Among x xs
-read_among x xs k lt e = subst (λ y. Among y xs) (sym e) (among_at xs k x lt)
 
 -- Answers of code.
 

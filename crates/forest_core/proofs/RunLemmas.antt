@@ -1,8 +1,10 @@
 -- Forests that grow, and what legal events lead to.
 use Rattle.std.proofs.Common.{◌≡◌, ◌∙◌, ℕ, ◌<◌, List, [], ◌∷◌, ◌++◌, refl, sym, ap, subst, inl, inr, ⊎_elim}
+use Rattle.bip_defs.specs.Forest.{InForest, RootOf, State, grown_by, roots_of}
 use Rattle.bip_defs.specs.Lists.{Among}
 use Rattle.bip_defs.specs.Matching.{Covers, cols_of, rows_of}
 use Rattle.bip_defs.specs.Matrix.{IsEntry, Matrix, Place, cols}
+use Rattle.bip_defs.proofs.Covers.{covers_more}
 use Rattle.bip_defs.proofs.Sets.{among_left, col_among, col_pair, number_among, one_col, row_among, row_pair}
 use Rattle.sp_ids.specs.Events.{claim_events, claims_then_wins, win_events}
 use Rattle.std.proofs.lemmas.List.{append_assoc, append-nil}
@@ -11,7 +13,6 @@ use Rattle.sp_ids.specs.declared.events.Event.TheVariants.{Claim, Win, Flip, Gra
 use Rattle.forest_core.specs.Current.{IsCurrent, OnPath, leaf, up}
 use Rattle.forest_core.specs.Events.{AreClaimsAndWins, Becomes, Grows, IsLegal, LeadsTo, Runs}
 use Rattle.forest_core.specs.Sound.{IsSound}
-use Rattle.bip_defs.specs.Forest.{InForest, RootOf, State, grown_by, roots_of}
 use Rattle.forest_core.proofs.Roots.{path_root, root_more}
 use Rattle.forest_core.proofs.Soundness.{event_sound, run_last, run_matrix}
 
@@ -42,9 +43,6 @@ leads_matrix s t (es, h) = run_matrix s t es h
 
 covers_same : (m n : List Place) → n ≡ m → Covers m n
 covers_same m n e = record { rows = λ r h. subst (λ (ps : List Place). Among r (rows_of ps)) (sym e) h; cols = λ c h. subst (λ (ps : List Place). Among c (cols_of ps)) (sym e) h }
-
-covers_on : (m n o : List Place) → Covers m n → Covers n o → Covers m o
-covers_on m n o h g = record { rows = λ r i. g.rows r (h.rows r i); cols = λ c i. g.cols c (h.cols c i) }
 
 -- a row on an exchanged path goes to the column that claimed it, and its base mate to the next row
 -- of the path
@@ -78,7 +76,7 @@ event_covers s t Done k h = covers_same s.base t.base (ap (λ (u : State). u.bas
 
 run_covers : (s t : State) (es : List Event) → IsSound s → Runs s es t → Covers s.base t.base
 run_covers s t [] k h = covers_same s.base t.base (ap (λ (u : State). u.base) h)
-run_covers s t (e ∷ es) k (l, u, h, rest) = covers_on s.base u.base t.base (event_covers s u e k h) (run_covers u t es (event_sound s u e k l h) rest)
+run_covers s t (e ∷ es) k (l, u, h, rest) = covers_more (event_covers s u e k h) (run_covers u t es (event_sound s u e k l h) rest)
 
 pub leads_covers : (s t : State) → IsSound s → LeadsTo s t → Covers s.base t.base
 leads_covers s t k (es, h) = run_covers s t es k h

@@ -1,6 +1,8 @@
 -- What the tables of a forest say of it, and that each change keeps them.
 use Rattle.std.proofs.Common.{◌≡◌, ◌≢◌, ◌⊎◌, ◌↔◌, ◌∙◌, ℕ, ◌<◌, ◌≤◌, Bool, true, false, List, [], ◌∷◌, ◌++◌, length, length-append, length-set, set, slice_index_or, Option, None, Some, IfSome, IfNone, refl, sym, ap, subst, inl, inr, ⊎_elim, arith}
 use Rattle.std.proofs.lemmas.List.{length-map, get_or-set_other, get_or-set_same, get_or_append_left, get_or_past, get_or_push}
+use Rattle.std.proofs.lemmas.Option.{none-some, same_Some}
+use Rattle.bip_defs.specs.Forest.{InForest, IsRootOfRow, RootOf, State, above, itself, roots_of}
 use Rattle.bip_defs.specs.Lists.{Among}
 use Rattle.bip_defs.specs.Matching.{rows_of}
 use Rattle.bip_defs.specs.Matrix.{Place, cols}
@@ -10,12 +12,11 @@ use Rattle.bip_graph.specs.Matching.{Pairing}
 use Rattle.sp_ids.specs.declared.events.Event.TheVariants.{Claim, Win, Flip}
 use Rattle.forest_core.specs.Events.{IsLegal}
 use Rattle.forest_core.specs.Sound.{IsSound}
-use Rattle.bip_defs.specs.Forest.{InForest, IsRootOfRow, RootOf, State, above, itself, roots_of}
 use Rattle.forest_core.specs.Stored.{AreClaimRoots, AreMarks, AreRowTrees, HasRootAt, IsStored, Tables}
 use Rattle.forest_core.specs.Tables.{Claimed, IsTableOf, beside}
 use Rattle.forest_core.proofs.Roots.{claims_differ, claims_entries, has_root, one_root_of_row, root_more, root_of_claimer}
 use Rattle.forest_core.proofs.Soundness.{claimed_sound, flipped_sound, in_tree_more, won_sound}
-use Rattle.forest_core.proofs.TableLemmas.{IsMadeTo, not_none, some_same, table_put}
+use Rattle.forest_core.proofs.TableLemmas.{IsMadeTo, table_put}
 
 -- What is known of a table's pairs.
 
@@ -23,7 +24,7 @@ pub table_found : (pairs : List Place) (t : List (Option ℕ)) (k v : ℕ) → I
 table_found pairs t k v of e = (of k v).0 (sym e)
 
 pub table_missed : (pairs : List Place) (t : List (Option ℕ)) (k : ℕ) → IsTableOf pairs t → None ≡ beside t k → ¬ Among k (rows_of pairs)
-table_missed pairs t k of e h = let (v, g) = row_pair k pairs h in not_none (e ∙ (of k v).1 g)
+table_missed pairs t k of e h = let (v, g) = row_pair k pairs h in none-some _ (e ∙ (of k v).1 g)
 
 pub table_there : (pairs : List Place) (t : List (Option ℕ)) (k : ℕ) → IsTableOf pairs t → Among k (rows_of pairs) → (v : ℕ) × (beside t k ≡ Some v)
 table_there pairs t k of h = let (v, g) = row_pair k pairs h in (v, (of k v).1 g)
@@ -47,7 +48,7 @@ if_rooted s t r (Some x) are e = (are r x).0 (sym e)
 
 -- what stands beside a number in a table lies within the table
 pub beside_within : (t : List (Option ℕ)) (k v : ℕ) → beside t k ≡ Some v → k < length t
-beside_within t k v e = ⊎_elim (λ (le : length t ≤ k). absurd (not_none (sym (get_or_past t k None le) ∙ e))) (λ lt. lt) (below k (length t))
+beside_within t k v e = ⊎_elim (λ (le : length t ≤ k). absurd (none-some _ (sym (get_or_past t k None le) ∙ e))) (λ lt. lt) (below k (length t))
   where
     below : (i n : ℕ) → (n ≤ i) ⊎ (i < n)
     below i n = grind arith
@@ -165,7 +166,7 @@ stored_claim s m t u r c x k long legal w holders_are roots_are = record {
     here q y e =
         let at : beside (set t.claimed.roots r (Some x)) q ≡ Some x = ap (beside (set t.claimed.roots r (Some x))) e ∙ get_or-set_same t.claimed.roots r (Some x) None long in
         let new : IsRootOfRow s.base (s.claims ++ (r, c) ∷ []) x q = (c, subst (λ z. Among {X = Place} (z, c) (s.claims ++ (r, c) ∷ [])) (sym e) (among_right (r, c) s.claims ((r, c) ∷ []) (inl refl)), more) in (
-          λ f. subst (λ z. IsRootOfRow s.base (s.claims ++ (r, c) ∷ []) z q) (some_same (sym at ∙ f)) new,
+          λ f. subst (λ z. IsRootOfRow s.base (s.claims ++ (r, c) ∷ []) z q) (same_Some _ _ (sym at ∙ f)) new,
           λ v. at ∙ ap (λ (z : ℕ). Some z) (one_root_of_row (record s { claims = s.claims ++ (r, c) ∷ [] }) sound x y q new v),
         )
 

@@ -1,6 +1,7 @@
 -- What is read from tables, and what they hold after a change.
 use Rattle.std.proofs.Common.{◌≡◌, ◌≢◌, ◌⊎◌, ◌↔◌, ◌∙◌, ℕ, zero, suc, ◌+◌, ◌<◌, ◌≤◌, List, [], ◌∷◌, ◌++◌, map, replicate, set, length, length-append, Option, None, Some, IfSome, IfNone, refl, sym, ap, subst, inl, ⊎_elim, arith, ne_eqb, eq-eqb}
 use Rattle.std.proofs.lemmas.List.{length-map, get_or-map, get_or-replicate, get_or_append_left, get_or_past, get_or_push, length-replicate, get_or-set_other, get_or-set_same, map-set}
+use Rattle.std.proofs.lemmas.Option.{none-some, same_Some}
 use Rattle.bip_defs.specs.Lists.{Among}
 use Rattle.bip_defs.specs.Matching.{rows_of}
 use Rattle.bip_defs.specs.Matrix.{Place}
@@ -12,12 +13,6 @@ read_none n e = rw (eq-eqb n 4294967295 e) refl
 
 pub read_some : (n : ℕ) → n ≢ 4294967295 → read n ≡ Some n
 read_some n ne = rw (ne_eqb n 4294967295 ne) refl
-
-pub some_same : {x y : ℕ} → ◌≡◌ {A = Option ℕ} (Some x) (Some y) → x ≡ y
-some_same e = cc
-
-pub not_none : {x : ℕ} → ◌≡◌ {A = Option ℕ} None (Some x) → ⊥
-not_none e = cc
 
 -- What is read.
 
@@ -47,8 +42,8 @@ root_some h x ne = rw (ne_eqb h 4294967295 ne) refl
 
 -- a row with a root has a holder
 pub seen_alike : {W : Type 0} (h x : W → ℕ) (ws : List W) → AreAlike (record { holders = map (λ w. holder_in (h w)) ws; roots = map (λ w. root_in (h w) (x w)) ws })
-seen_alike h x [] r y e = absurd (not_none (sym (get_or_past (map (λ w. root_in (h w) (x w)) []) r None (omega arith)) ∙ e))
-seen_alike h x (w ∷ ws) zero y e = ⊎_elim (λ (n : h w ≡ 4294967295). absurd (not_none (sym (root_none (h w) (x w) n) ∙ e))) (λ n. (h w, read_some (h w) n)) (number_same (h w) 4294967295)
+seen_alike h x [] r y e = absurd (none-some _ (sym (get_or_past (map (λ w. root_in (h w) (x w)) []) r None (omega arith)) ∙ e))
+seen_alike h x (w ∷ ws) zero y e = ⊎_elim (λ (n : h w ≡ 4294967295). absurd (none-some _ (sym (root_none (h w) (x w) n) ∙ e))) (λ n. (h w, read_some (h w) n)) (number_same (h w) 4294967295)
 seen_alike h x (w ∷ ws) (suc r) y e = seen_alike h x ws r y e
 
 -- Tables of lists.
@@ -65,7 +60,7 @@ table_put pairs t k v of lt new j w = ⊎_elim same other (number_same j k)
   where
     same : j ≡ k → (beside (set t k (Some v)) j ≡ Some w) ↔ Among (j, w) (pairs ++ (k, v) ∷ [])
     same e = (
-      λ f. let g : v ≡ w = some_same (sym (beside_same t k (Some v) lt) ∙ ap (beside (set t k (Some v))) (sym e) ∙ f) in among_right (j, w) pairs ((k, v) ∷ []) (inl (λ i. (e i, sym g i))),
+      λ f. let g : v ≡ w = same_Some _ _ (sym (beside_same t k (Some v) lt) ∙ ap (beside (set t k (Some v))) (sym e) ∙ f) in among_right (j, w) pairs ((k, v) ∷ []) (inl (λ i. (e i, sym g i))),
       λ h. ap (beside (set t k (Some v))) e ∙ beside_same t k (Some v) lt ∙ ap (λ (x : ℕ). Some x) (⊎_elim (λ g. absurd (new (subst (λ x. Among x (rows_of pairs)) e (row_among j w pairs g)))) (λ (g : (j, w) ≡ (k, v)). sym (ap (λ (p : Place). p.1) g)) (among_last (j, w) (k, v) pairs h)),
     )
 
@@ -81,7 +76,7 @@ table_clear pairs new t k of lt gone over back j w = ⊎_elim same other (number
   where
     same : j ≡ k → (beside (set t k None) j ≡ Some w) ↔ Among (j, w) new
     same e = (
-      λ f. absurd (not_none (sym (beside_same t k None lt) ∙ ap (beside (set t k None)) (sym e) ∙ f)),
+      λ f. absurd (none-some _ (sym (beside_same t k None lt) ∙ ap (beside (set t k None)) (sym e) ∙ f)),
       λ h. absurd (gone (subst (λ x. Among x (rows_of new)) e (row_among j w new h))),
     )
 
@@ -127,5 +122,5 @@ made_more P n t o k is = record {
 
 -- what an answer says of one number
 pub some_is : (P : ℕ → Type 0) (o : Option ℕ) → ((v w : ℕ) → P v → P w → v ≡ w) → IfSome o P → IfNone o ((v : ℕ) → ¬ P v) → (v : ℕ) → (o ≡ Some v) ↔ P v
-some_is P None one found none v = (λ e. absurd (not_none e), λ p. absurd (none v p))
-some_is P (Some x) one found none v = (λ e. subst P (some_same e) found, λ p. ap (λ (i : ℕ). Some i) (one x v found p))
+some_is P None one found none v = (λ e. absurd (none-some _ e), λ p. absurd (none v p))
+some_is P (Some x) one found none v = (λ e. subst P (same_Some _ _ e) found, λ p. ap (λ (i : ℕ). Some i) (one x v found p))

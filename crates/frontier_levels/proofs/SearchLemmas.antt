@@ -1,6 +1,5 @@
 -- What a search from the frontier down has gathered and claimed so far.
-use Rattle.std.proofs.Common.{◌≡◌, ◌∙◌, ◌⊎◌, ℕ, ◌+◌, ◌<◌, List, [], ◌∷◌, ◌++◌, length, take, slice_index_or, Result, Ok, Err, OnOk, refl, sym, ap, subst, inl, inr, ⊎_elim}
-use Rattle.std.proofs.lemmas.List.{take_more}
+use Rattle.std.proofs.Common.{◌≡◌, ◌⊎◌, ℕ, ◌+◌, ◌<◌, List, [], ◌∷◌, ◌++◌, length, refl, sym, subst, inl, inr, ⊎_elim}
 use Rattle.bip_defs.specs.Forest.{State}
 use Rattle.bip_defs.specs.Lists.{Among}
 use Rattle.bip_defs.specs.Matrix.{column}
@@ -13,16 +12,6 @@ use Rattle.level_sharing.specs.Candidates.{IsCovered, IsDecided}
 use Rattle.level_sharing.specs.Progress.{CanClaim, HasSettled, IsThroughColumn, KnowsHolder, KnowsLeaf}
 use Rattle.level_sharing.specs.Shares.{by_columns}
 use Rattle.level_sharing.specs.declared.candidate.Candidate.{Candidate}
-
--- what holds of the first k of a list and of the next holds of the first k + 1
-pub one_more : {X : Type 0} (P : X → Type 0) (xs : List X) (k : ℕ) (x : X) → k < length xs → x ≡ slice_index_or xs k x → ((y : X) → Among y (take k xs) → P y) → P x → (y : X) → Among y (take (k + 1) xs) → P y
-one_more P xs k x inside e had new y m =
-    let grown : take (k + 1) xs ≡ take k xs ++ x ∷ [] = take_more xs k x inside ∙ ap (λ z. take k xs ++ z ∷ []) (sym e) in
-    ⊎_elim (had y) (λ same. subst P (sym same) new) (among_last y x (take k xs) (subst (λ l. Among y l) grown m))
-
-pub ok_both : {A E P Q R : Type 0} (r : Result A E) → (P → Q → R) → OnOk r P → OnOk r Q → OnOk r R
-ok_both (Ok a) f p q = f p q
-ok_both (Err e) f p q = tt
 
 -- Candidates.
 

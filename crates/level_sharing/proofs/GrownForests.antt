@@ -4,8 +4,9 @@ use Rattle.bip_defs.specs.Forest.{HasWon, InForest, IsRootOfRow, IsSettled, IsUs
 use Rattle.bip_defs.specs.Lists.{Among, AreNew}
 use Rattle.bip_defs.specs.Matching.{cols_of, rows_of}
 use Rattle.bip_defs.specs.Matrix.{IsEntry, Place}
+use Rattle.bip_defs.specs.WordValues.{held}
 use Rattle.bip_defs.proofs.Sets.{among_either, among_left, among_map, among_right, row_among, row_pair}
-use Rattle.claim_words.specs.Board.{Board, Words, held}
+use Rattle.claim_words.specs.Board.{Board, Words}
 use Rattle.claim_words.specs.Seat.{AreNumbered, KnowsRoot, KnowsRow, Seat}
 use Rattle.claim_words.specs.Settles.{SettlesAll}
 use Rattle.claim_words.specs.WorkerState.{AreAllWorkers, HaveGrown, WorkerState, fresh_claims_of, fresh_lists, fresh_wins_of, seats_of}

@@ -1,9 +1,12 @@
 -- What the entries tell by which the list of all words has grown.
 use Rattle.std.proofs.Common.{◌≡◌, ◌≢◌, ◌∙◌, ◌⊎◌, ℕ, ◌+◌, ◌≤◌, Option, None, Some, List, ◌++◌, map, sym, subst, ⊎_elim, arith}
+use Rattle.std.proofs.lemmas.Option.{none-some, same_Some}
 use Rattle.bip_defs.specs.Lists.{Among, AreDistinct, AreNew}
+use Rattle.bip_defs.specs.Occurrences.{times}
+use Rattle.bip_defs.specs.WordValues.{held}
 use Rattle.bip_defs.proofs.Sets.{among_either, among_left, among_right, number_same, row_pair}
-use Rattle.claim_words.specs.Accounts.{Accounts, is_added, times}
-use Rattle.claim_words.specs.Board.{held}
+use Rattle.bip_defs.proofs.WordValues.{added_few}
+use Rattle.claim_words.specs.Accounts.{Accounts}
 use Rattle.level_sharing.specs.Agreement.{HoldThese}
 
 -- what the board's laws tell of lists that account for words
@@ -22,17 +25,6 @@ pub record IsExtended (opened was now : List (Option ℕ)) (before after fresh :
   pub had : (p : ℕ × ℕ) → Among p before → Among p after
   pub new : (p : ℕ × ℕ) → Among p fresh → Among p after
 
-value_same : {x y : ℕ} → ◌≡◌ {A = Option ℕ} (Some x) (Some y) → x ≡ y
-value_same e = cc
-
-not_a_value : {x : ℕ} → ◌≡◌ {A = Option ℕ} None (Some x) → ⊥
-not_a_value e = cc
-
-added_few : (o n : Option ℕ) → is_added o n ≤ 1
-added_few None None = omega arith
-added_few None (Some x) = omega arith
-added_few (Some y) n = omega arith
-
 times_few : (opened was now : List (Option ℕ)) (before after fresh : List (ℕ × ℕ)) → IsExtended opened was now before after fresh → (i : ℕ) → times i before + times i fresh ≤ 1
 times_few opened was now before after fresh x i = let few = added_few (held opened i) (held now i) in let once = x.at_last.once i in let adds = x.adds i in omega (arith, few, once, adds)
 
@@ -41,7 +33,7 @@ fresh_new l opened was now old before after fresh x holds = record {
   differ = l.distinct fresh (λ i. let few = times_few opened was now before after fresh x i in omega (arith, few));
   apart = λ i h g. let (c, m) = row_pair i fresh h in let (d, n) = row_pair i old g in
       ⊎_elim
-      (λ (e : held opened i ≡ Some d). not_a_value (sym ((l.stands opened now after i c x.at_last (x.new (i, c) m)).0) ∙ e))
+      (λ (e : held opened i ≡ Some d). none-some _ (sym ((l.stands opened now after i c x.at_last (x.new (i, c) m)).0) ∙ e))
       (λ k. let one = l.listed i d before k in let two = l.listed i c fresh m in let few = times_few opened was now before after fresh x i in absurd (omega (arith, one, two, few)))
       (l.from opened was before i d x.at_first ((holds i d).1 n));
 }
@@ -54,7 +46,7 @@ words_extended l opened was now old before after fresh x holds i v = (to, suffix
 
     -- a list whose entries are all listed at last has the word with the value that it holds
     by_list : (xs : List (ℕ × ℕ)) → ((p : ℕ × ℕ) → Among p xs → Among p after) → held now i ≡ Some v → 1 ≤ times i xs → Among (i, v) xs
-    by_list xs over e le = let (y, k) = l.some i xs le in subst (λ z. Among {X = ℕ × ℕ} (i, z) xs) (value_same (sym (x.at_last.stands i y (over (i, y) k)) ∙ e)) k
+    by_list xs over e le = let (y, k) = l.some i xs le in subst (λ z. Among {X = ℕ × ℕ} (i, z) xs) (same_Some _ _ (sym (x.at_last.stands i y (over (i, y) k)) ∙ e)) k
 
     to : held now i ≡ Some v → Among (i, v) (old ++ fresh)
     to e = ⊎_elim

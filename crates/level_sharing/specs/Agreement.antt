@@ -1,7 +1,8 @@
 -- When a board of words and its workers agree with the claims and the leaves of a forest.
 use Rattle.std.specs.Prelude.{◌≡◌, ◌↔◌, ℕ, List, [], Option, Some}
 use Rattle.bip_defs.specs.Lists.{Among}
-use Rattle.claim_words.specs.Board.{Board, Words, held}
+use Rattle.bip_defs.specs.WordValues.{held}
+use Rattle.claim_words.specs.Board.{Board, Words}
 use Rattle.claim_words.specs.Settles.{SettlesAll}
 use Rattle.claim_words.specs.WorkerState.{AreAllWorkers, WorkerState, fresh_claims_of, fresh_wins_of, seats_of}
 

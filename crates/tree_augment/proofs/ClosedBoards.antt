@@ -4,9 +4,10 @@ use Rattle.bip_defs.specs.Forest.{IsRootOfRow, State, roots_of}
 use Rattle.bip_defs.specs.Lists.{Among, AreDistinct, option_at, numbers_of}
 use Rattle.bip_defs.specs.Matching.{rows_of}
 use Rattle.bip_defs.specs.Matrix.{Place}
+use Rattle.bip_defs.specs.WordValues.{held}
 use Rattle.bip_defs.proofs.Sets.{number_among, one_col, row_among, row_pair}
 use Rattle.bip_graph.specs.Mates.{Mated}
-use Rattle.flip_words.specs.Board.{Board, col_vertex, held}
+use Rattle.flip_words.specs.Board.{Board, col_vertex}
 use Rattle.flip_words.specs.ClosedBoards.{AreMatesAfter, HaveOneTakerEach, SettlesAll}
 use Rattle.flip_words.specs.Seat.{AreAllSeats, HasSet, HasSetTo, Seat, Took}
 use Rattle.forest_core.specs.Current.{IsOnPathOf, IsPairAfter, OnPath, leaf, up}

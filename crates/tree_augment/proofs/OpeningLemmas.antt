@@ -4,7 +4,8 @@ use Rattle.std.proofs.lemmas.List.{get_or-append-add}
 use Rattle.std.proofs.Math.ListN.{get_or-append}
 use Rattle.bip_defs.specs.Forest.{IsRootOfRow, RootOf, State}
 use Rattle.bip_defs.specs.Matrix.{cols}
-use Rattle.flip_words.specs.Board.{AreTrees, Board, IsOpenedFrom, col_vertex, held}
+use Rattle.bip_defs.specs.WordValues.{held}
+use Rattle.flip_words.specs.Board.{AreTrees, Board, IsOpenedFrom, col_vertex}
 use Rattle.forest_core.specs.Current.{base_of}
 use Rattle.forest_core.specs.Stored.{AreColTrees, AreRowTrees}
 use Rattle.flip_words.specs.Seat.{Seat, more_seats, new_seats}

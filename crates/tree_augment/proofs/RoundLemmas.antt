@@ -3,9 +3,10 @@ use Rattle.std.proofs.Common.{◌≡◌, ◌⊎◌, ◌↔◌, ◌∙◌, ℕ, �
 use Rattle.bip_defs.specs.Forest.{State, roots_of}
 use Rattle.bip_defs.specs.Lists.{Among}
 use Rattle.bip_defs.specs.Matrix.{Place}
-use Rattle.std.proofs.lemmas.List.{append-nil, map-append, take_all, take_more}
+use Rattle.bip_defs.specs.WordValues.{held}
 use Rattle.bip_defs.proofs.Sets.{among_either, among_last, among_left, among_right, row_among, row_pair}
-use Rattle.flip_words.specs.Board.{Board, col_vertex, held}
+use Rattle.std.proofs.lemmas.List.{append-nil, map-append, take_all, take_more}
+use Rattle.flip_words.specs.Board.{Board, col_vertex}
 use Rattle.flip_words.specs.Seat.{HasSet, HasSetTo, IsRightful, KnowsTaker, Seat, Took, after_take}
 use Rattle.tree_augment.specs.Augmented.{AreAsked, ExchangesItsPaths, HasAsked, HasMet, IsOnTakenPath, IsPathPair, none, saw, took}
 use Rattle.tree_augment.specs.Rounds.{AsksFor, HasExchanged}

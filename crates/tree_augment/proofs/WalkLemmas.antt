@@ -6,8 +6,9 @@ use Rattle.bip_defs.specs.Lists.{Among, AreDistinct}
 use Rattle.bip_defs.specs.Matching.{cols_of, rows_of}
 use Rattle.bip_defs.specs.Matrix.{Place, cols, upto}
 use Rattle.bip_defs.specs.Paths.{Alternates, BeginsUnmatched}
+use Rattle.bip_defs.specs.WordValues.{held}
 use Rattle.bip_defs.proofs.Sets.{among_either, among_last, among_left, among_right, col_among, col_pair, few_distinct, one_col, one_row, row_among, row_pair, upto_complete, upto_length}
-use Rattle.flip_words.specs.Board.{Board, col_vertex, held}
+use Rattle.flip_words.specs.Board.{Board, col_vertex}
 use Rattle.flip_words.specs.Seat.{HasSet, HasSetTo, Seat, Took, after_set, with_listed}
 use Rattle.forest_core.specs.Current.{OnPath, leaf}
 use Rattle.forest_core.specs.Paths.{IsPath}

@@ -1,7 +1,8 @@
 -- A flip board that was opened from a forest.
 use Rattle.std.specs.Prelude.{◌≡◌, ◌↔◌, ℕ, ◌<◌, Some}
 use Rattle.bip_defs.specs.Forest.{IsRootOfRow, RootOf, State}
-use Rattle.flip_words.specs.Board.{Board, IsOpenedFrom, col_vertex, held}
+use Rattle.bip_defs.specs.WordValues.{held}
+use Rattle.flip_words.specs.Board.{Board, IsOpenedFrom, col_vertex}
 use Rattle.forest_core.specs.Current.{base_of}
 
 -- The board was opened with the mates of the forest's base matching and with its trees: the tree of

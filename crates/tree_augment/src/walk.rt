@@ -2,7 +2,7 @@
 
 ghost use Rattle.std.specs.Prelude.{◌≡◌, ℕ, Some};
 ghost use Rattle.bip_defs.specs.Lists.{Among};
-ghost use Rattle.flip_words.specs.Board.{held};
+ghost use Rattle.bip_defs.specs.WordValues.{held};
 ghost use Rattle.flip_words.specs.Seat.{HasSet, Took};
 ghost use Rattle.tree_augment.specs.ForestBoards.{IsBoardOf};
 ghost use Rattle.tree_augment.specs.Rounds.{HasExchanged};

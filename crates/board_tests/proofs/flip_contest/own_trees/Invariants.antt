@@ -1,5 +1,5 @@
 use Rattle.std.proofs.Common.{◌≡◌, ◌<◌, ℕ, Some, length}
-use Rattle.flip_words.specs.Board.{held}
+use Rattle.bip_defs.specs.WordValues.{held}
 use Rattle.board_tests.proofs.flip_contest.own_trees.Given as goal
 
 pub record invariant-loop-tree (l : goal.Live-loop-tree) : Type 0 where

@@ -1,11 +1,11 @@
 use Rattle.std.proofs.Common.{◌∙◌, List, sym, subst}
 use Rattle.std.proofs.lemmas.List.{take_all}
 use Rattle.bip_defs.specs.Lists.{Among}
-use Rattle.bip_defs.proofs.Slices.{read_among}
+use Rattle.bip_defs.proofs.Slices.{each_more, read_among}
 use Rattle.level_sharing.specs.Progress.{IsThroughRow}
 use Rattle.level_sharing.specs.Shares.{of_rows}
 use Rattle.level_sharing.specs.declared.candidate.Candidate.{Candidate}
-use Rattle.bottom_up.proofs.CandidateLemmas.{covered_through, each_more}
+use Rattle.bottom_up.proofs.CandidateLemmas.{covered_through}
 use Rattle.bottom_up.proofs.SearchLemmas.{same_board}
 use Rattle.bottom_up.proofs.search.claim_each.Goals as goal
 

@@ -5,9 +5,10 @@ use Rattle.bip_defs.specs.Forest.{InForest}
 use Rattle.bip_defs.specs.Lists.{Among}
 use Rattle.bip_defs.specs.Matrix.{IsEntry, Matrix}
 use Rattle.bip_defs.proofs.Sets.{entry_col}
+use Rattle.bip_defs.proofs.Slices.{each_more}
 use Rattle.level_sharing.specs.Progress.{KnowsWon}
 use Rattle.level_sharing.specs.Shares.{of_rows}
-use Rattle.bottom_up.proofs.SearchLemmas.{entry_at, one_more, same_board}
+use Rattle.bottom_up.proofs.SearchLemmas.{entry_at, same_board}
 use Rattle.bottom_up.proofs.search.find.Goals as goal
 
 pub root_without_leaf-requires-clause-col : goal.root_without_leaf-requires-clause-col
@@ -36,6 +37,6 @@ pub loop-col-preserved : goal.loop-col-preserved
 loop-col-preserved c = record {
   progress = λ own. c.steps_are_progress.ensures.on c.args.forest.now own _ _ _ (c.loop-col.invariant.progress own) (c.root_without_leaf.ensures.progress own);
   settled = c.root_without_leaf.ensures.settled;
-  won = one_more (λ d. InForest c.args.forest.now d → KnowsWon c.args.forest.now c.root_without_leaf.new.worker d) c.cols_of-cols.result.now c.loop-col.col-index c.col-item.result
-      (λ d h inside. c.steps_are_remembered.ensures.won c.args.forest.now (of_rows []) _ _ d (c.root_without_leaf.ensures.progress (of_rows [])) (c.loop-col.invariant.won d h inside)) c.loop-col-test.true c.col-item.is c.in_default.ensures.none;
+  won = each_more (λ d. InForest c.args.forest.now d → KnowsWon c.args.forest.now c.root_without_leaf.new.worker d) c.cols_of-cols.result.now c.loop-col.col-index c.col-item.result c.loop-col-test.true c.col-item.is
+      (λ d h inside. c.steps_are_remembered.ensures.won c.args.forest.now (of_rows []) _ _ d (c.root_without_leaf.ensures.progress (of_rows [])) (c.loop-col.invariant.won d h inside)) c.in_default.ensures.none;
 }

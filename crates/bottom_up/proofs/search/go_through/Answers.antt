@@ -1,14 +1,14 @@
 use Rattle.std.proofs.Common.{List, subst, sym}
 use Rattle.std.proofs.lemmas.List.{take_all}
 use Rattle.bip_defs.specs.Lists.{Among}
+use Rattle.bip_defs.proofs.Results.{ok_both}
+use Rattle.bip_defs.proofs.Slices.{each_more, read_among}
 use Rattle.bottom_up.specs.Candidates.{HasGathered, IsCovered}
 use Rattle.level_sharing.specs.declared.candidate.Candidate.{Candidate}
-use Rattle.bottom_up.proofs.CandidateLemmas.{ok_both}
-use Rattle.bottom_up.proofs.SearchLemmas.{item_among, one_more}
 use Rattle.bottom_up.proofs.search.go_through.Goals as goal
 
 pub gather-requires-clause-row : goal.gather-requires-clause-row
-gather-requires-clause-row c = item_among _ _ _ c.loop-row-test.true c.row-item.is
+gather-requires-clause-row c = read_among _ _ _ c.loop-row-test.true c.row-item.is
 
 pub returns-in_err-gather-clause-progress : goal.returns-in_err-gather-clause-progress
 returns-in_err-gather-clause-progress c = c.steps_are_progress.ensures.on _ _ _ _ _ c.loop-row.invariant.progress c.gather.ensures.progress
@@ -19,8 +19,8 @@ loop-row-preserved c =
     record {
       progress = c.steps_are_progress.ensures.on _ _ _ _ _ c.loop-row.invariant.progress step.progress;
       gathered = step.gathered;
-      covered = one_more (λ r. IsCovered c.args.forest.now c.gather.new.worker c.gather.new.candidates.items r) c.args.rows.now c.loop-row.row-index c.row-item.result
-          (λ r h. step.stays r (c.loop-row.invariant.covered r h)) c.loop-row-test.true c.row-item.is step.row;
+      covered = each_more (λ r. IsCovered c.args.forest.now c.gather.new.worker c.gather.new.candidates.items r) c.args.rows.now c.loop-row.row-index c.row-item.result c.loop-row-test.true c.row-item.is
+          (λ r h. step.stays r (c.loop-row.invariant.covered r h)) step.row;
     }
 
 pub claim_each-requires-clause-gathered : goal.claim_each-requires-clause-gathered

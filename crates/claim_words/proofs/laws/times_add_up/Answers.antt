@@ -1,4 +1,4 @@
-use Rattle.claim_words.proofs.Flat.{times_append}
+use Rattle.bip_defs.proofs.Occurrences.{times_append}
 use Rattle.claim_words.proofs.ListedWords as listing
 use Rattle.claim_words.proofs.laws.times_add_up.Goals as goal
 

@@ -1,7 +1,7 @@
 use Rattle.std.proofs.Common.{arith, subst, take}
 use Rattle.bip_defs.specs.Lists.{Among}
+use Rattle.bip_defs.proofs.Slices.{read_among}
 use Rattle.forest_core.proofs.Currents.{path_entries}
-use Rattle.forest_core.proofs.Members.{read_among}
 use Rattle.forest_core.proofs.PathLemmas.{can_trace, exchanging_more, exchanging_start, path_in_range, root_held}
 use Rattle.forest_core.proofs.paths.exchange.Goals as goal
 

@@ -1,5 +1,5 @@
 use Rattle.std.proofs.Common.{◌≤◌, arith, drop_of_length-le, length, refl, subst}
-use Rattle.forest_core.proofs.Members.{read_among}
+use Rattle.bip_defs.proofs.Slices.{read_among}
 use Rattle.forest_core.proofs.TableLemmas.{IsWithin, within_none}
 use Rattle.forest_core.proofs.renew.clear_leaves.Goals as goal
 

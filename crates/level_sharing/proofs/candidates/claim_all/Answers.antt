@@ -1,10 +1,10 @@
 use Rattle.std.proofs.Common.{◌∙◌, List, sym, subst, inl, inr}
 use Rattle.std.proofs.lemmas.List.{take_all}
 use Rattle.bip_defs.specs.Lists.{Among}
-use Rattle.bip_defs.proofs.Slices.{read_among}
+use Rattle.bip_defs.proofs.Slices.{each_more, read_among}
 use Rattle.level_sharing.specs.Candidates.{IsDecided}
 use Rattle.level_sharing.specs.declared.candidate.Candidate.{Candidate}
-use Rattle.level_sharing.proofs.CandidateLemmas.{decided_same, decided_stays, one_more}
+use Rattle.level_sharing.proofs.CandidateLemmas.{decided_same, decided_stays}
 use Rattle.level_sharing.proofs.candidates.claim_all.Goals as goal
 
 pub claim_one-requires-clause-range : goal.claim_one-requires-clause-range
@@ -21,7 +21,7 @@ loop-candidate-preserved c =
       seat = c.claim_one.ensures.seat ∙ c.loop-candidate.invariant.seat;
       progress = λ s own all. c.steps_are_progress.ensures.on s own c.args.worker.now c.loop-candidate.worker c.claim_one.new.worker (c.loop-candidate.invariant.progress s own all) (c.claim_one.ensures.progress s own (all c.candidate-item.result listed));
       settled = λ s own all h. c.in_ok-claim_one.ensures.settled s own (all c.candidate-item.result listed) (c.loop-candidate.invariant.settled s own all h);
-      decided = λ s own all. one_more (λ (x : Candidate). IsDecided c.claim_one.new.worker x.row x.root) c.args.candidates.now c.loop-candidate.candidate-index c.candidate-item.result c.loop-candidate-test.true c.candidate-item.is
+      decided = λ s own all. each_more (λ (x : Candidate). IsDecided c.claim_one.new.worker x.row x.root) c.args.candidates.now c.loop-candidate.candidate-index c.candidate-item.result c.loop-candidate-test.true c.candidate-item.is
           (λ x m. decided_stays s own c.loop-candidate.worker c.claim_one.new.worker x.row x.root
           (record { row = λ r y. c.workers_know_more.ensures.row c.loop-candidate.worker c.claim_one.new.worker r y; root = λ r y. c.workers_know_more.ensures.root c.loop-candidate.worker c.claim_one.new.worker r y })
           (c.claim_one.ensures.progress s own (all c.candidate-item.result listed))

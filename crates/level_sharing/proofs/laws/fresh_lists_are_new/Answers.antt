@@ -1,10 +1,10 @@
 use Rattle.std.proofs.Common.{◌≡◌, ℕ, ◌+◌, List, [], subst, inl, inr, arith}
+use Rattle.bip_defs.specs.Occurrences.{times}
 use Rattle.claim_words.specs.Board.{Board, Words}
 use Rattle.claim_words.specs.Settles.{SettlesAll}
 use Rattle.claim_words.specs.WorkerState.{HaveGrown, WorkerState, fresh_claims_of, fresh_wins_of, listed_by_workers, seats_of}
 use Rattle.level_sharing.specs.Agreement.{Agree}
 use Rattle.level_sharing.proofs.NewWords.{IsExtended, WordLaws, fresh_new, words_extended}
-use Rattle.claim_words.specs.Accounts.{times}
 use Rattle.level_sharing.proofs.laws.fresh_lists_are_new.Goals as goal
 
 laws : goal.After-fresh_lists_are_listed → WordLaws

@@ -1,6 +1,7 @@
 use Rattle.std.proofs.Common.{◌∙◌, ◌<◌, length, sym, ap, subst}
 use Rattle.bip_defs.specs.Lists.{Among}
-use Rattle.flip_words.specs.Board.{Board, held}
+use Rattle.bip_defs.specs.WordValues.{held}
+use Rattle.flip_words.specs.Board.{Board}
 use Rattle.flip_words.specs.WordCodes.{mates_in}
 use Rattle.flip_words.specs.Rule.{known}
 use Rattle.flip_words.specs.Seat.{Seat}

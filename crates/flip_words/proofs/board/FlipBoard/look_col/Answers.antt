@@ -1,6 +1,7 @@
 use Rattle.std.proofs.Common.{◌≡◌, ◌∙◌, ◌+◌, sym, ap, subst}
 use Rattle.bip_defs.specs.Lists.{Among}
-use Rattle.flip_words.specs.Board.{Board, held}
+use Rattle.bip_defs.specs.WordValues.{held}
+use Rattle.flip_words.specs.Board.{Board}
 use Rattle.flip_words.specs.Seat.{IsRightful, LeavesUnset, Seat}
 use Rattle.flip_words.proofs.OwnTrees.{rightful_look}
 use Rattle.flip_words.proofs.board.FlipBoard.look_col.Goals as goal

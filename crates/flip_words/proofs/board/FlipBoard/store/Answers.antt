@@ -1,6 +1,7 @@
 use Rattle.std.proofs.Common.{◌≡◌, ◌∙◌, ◌<◌, Option, Some, length, refl, sym, ap, subst}
 use Rattle.atomic_table.specs.Table.{Me}
-use Rattle.flip_words.specs.Board.{Board, held}
+use Rattle.bip_defs.specs.WordValues.{held}
+use Rattle.flip_words.specs.Board.{Board}
 use Rattle.flip_words.specs.WordCodes.{mates_in, trees_in}
 use Rattle.flip_words.specs.Listed.{put}
 use Rattle.flip_words.specs.Rule.{IsOfTaken, Known, Opened, known}

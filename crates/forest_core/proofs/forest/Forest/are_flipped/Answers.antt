@@ -1,10 +1,11 @@
 use Rattle.std.proofs.Common.{◌∙◌, ◌≤◌, List, ap, arith, length, refl, take, sym, subst, true≢false, ⊎_elim, ◌++◌, ◌∷◌, []}
 use Rattle.std.proofs.lemmas.List.{take_all, take_more}
+use Rattle.bip_defs.specs.Forest.{roots_of}
 use Rattle.bip_defs.specs.Lists.{Among}
 use Rattle.bip_defs.specs.Matrix.{Place}
 use Rattle.bip_defs.proofs.Sets.{among_last, row_among}
-use Rattle.bip_defs.specs.Forest.{roots_of}
-use Rattle.forest_core.proofs.Members.{map_last, read_among, known_false}
+use Rattle.bip_defs.proofs.Slices.{read_among}
+use Rattle.forest_core.proofs.Members.{map_last, known_false}
 use Rattle.forest_core.proofs.StoredForests.{leaf_in_range}
 use Rattle.forest_core.proofs.forest.Forest.are_flipped.Goals as goal
 

@@ -4,7 +4,8 @@ use Rattle.bip_defs.specs.Lists.{Among}
 use Rattle.bip_defs.specs.Matching.{rows_of}
 use Rattle.bip_defs.specs.Matrix.{IsEntry, Matrix}
 use Rattle.bip_defs.proofs.Sets.{among_last}
-use Rattle.forest_core.proofs.Members.{read_among, known_false}
+use Rattle.bip_defs.proofs.Slices.{read_among}
+use Rattle.forest_core.proofs.Members.{known_false}
 use Rattle.forest_core.proofs.forest.Forest.is_used_up.Goals as goal
 
 pub is_claimed-requires : goal.is_claimed-requires

@@ -2,10 +2,9 @@ use Rattle.std.proofs.Common.{ℕ, List, sym, subst}
 use Rattle.std.proofs.lemmas.List.{take_all}
 use Rattle.bip_defs.specs.Lists.{Among}
 use Rattle.bip_defs.specs.Matrix.{IsEntry, Matrix}
-use Rattle.bip_defs.proofs.Slices.{read_among}
+use Rattle.bip_defs.proofs.Slices.{each_more, read_among}
 use Rattle.level_sharing.specs.Candidates.{IsCovered}
 use Rattle.level_sharing.specs.Shares.{by_columns}
-use Rattle.frontier_levels.proofs.SearchLemmas.{one_more}
 use Rattle.frontier_levels.proofs.search.Search.gather_rows.Goals as goal
 
 pub rows_of-row-items-requires : goal.rows_of-row-items-requires
@@ -23,7 +22,7 @@ loop-row-preserved c =
       progress = c.steps_are_progress.ensures.on c.args.self.now.forest.now (by_columns c.args.self.now.share.now) c.args.worker.now c.loop-row.worker c.gather_row.new.worker c.loop-row.invariant.progress step.progress;
       gathered = step.gathered;
       stays = λ row root covered. step.stays row root (c.loop-row.invariant.stays row root covered);
-      covered = one_more (λ r. IsCovered c.gather_row.new.worker c.gather_row.new.candidates.items r c.args.root) c.rows_of-row-items.result.now c.loop-row.row-index c.row-item.result c.loop-row-test.true c.row-item.is
+      covered = each_more (λ r. IsCovered c.gather_row.new.worker c.gather_row.new.candidates.items r c.args.root) c.rows_of-row-items.result.now c.loop-row.row-index c.row-item.result c.loop-row-test.true c.row-item.is
           (λ r m. step.stays r c.args.root (c.loop-row.invariant.covered r m)) step.row;
     }
 

@@ -1,13 +1,14 @@
 use Rattle.std.proofs.Common.{ℕ, List, sym, subst}
 use Rattle.std.proofs.lemmas.List.{take_all}
 use Rattle.bip_defs.specs.Lists.{Among}
-use Rattle.bip_defs.proofs.Slices.{read_among}
+use Rattle.bip_defs.proofs.Results.{ok_both}
+use Rattle.bip_defs.proofs.Slices.{each_more, read_among}
 use Rattle.frontier_levels.specs.Search.{IsCoveredColumn}
 use Rattle.level_sharing.specs.Candidates.{AreCandidates, AreOnBoard}
 use Rattle.level_sharing.specs.Progress.{Progress}
 use Rattle.level_sharing.specs.Shares.{by_columns}
 use Rattle.level_sharing.specs.declared.candidate.Candidate.{Candidate}
-use Rattle.frontier_levels.proofs.SearchLemmas.{column_stays, ok_both, one_more, through_column}
+use Rattle.frontier_levels.proofs.SearchLemmas.{column_stays, through_column}
 use Rattle.frontier_levels.proofs.search.Search.run.Goals as goal
 
 pub gather-requires-clause-col : goal.gather-requires-clause-col
@@ -20,7 +21,7 @@ loop-col-preserved c =
     let step = c.in_ok-gather.ensures in record {
       progress = c.steps_are_progress.ensures.on s own c.args.worker.now c.loop-col.worker c.gather.new.worker c.loop-col.invariant.progress step.progress;
       gathered = step.gathered;
-      columns = one_more (λ d. IsCoveredColumn s c.gather.new.worker c.gather.new.candidates.items d) c.args.self.now.share.now c.loop-col.col-index c.col-item.result c.loop-col-test.true c.col-item.is
+      columns = each_more (λ d. IsCoveredColumn s c.gather.new.worker c.gather.new.candidates.items d) c.args.self.now.share.now c.loop-col.col-index c.col-item.result c.loop-col-test.true c.col-item.is
           (λ d m. column_stays s c.loop-col.worker c.gather.new.worker c.loop-col.candidates.items c.gather.new.candidates.items d
           (λ x. c.steps_are_remembered.ensures.leaf s own c.loop-col.worker c.gather.new.worker x step.progress) step.stays (c.loop-col.invariant.columns d m))
           step.column;
