@@ -2,14 +2,14 @@
 use Rattle.std.proofs.Common.{◌≡◌, ◌≢◌, ◌↔◌, ◌∙◌, ℕ, ◌+◌, ◌-◌, ◌<◌, Bool, true, false, if◌then◌else◌, IsTrue, nat_lt, true≢false, List, [], ◌∷◌, length, Result, Ok, Err, IfOk, refl, sym, ap, subst, arith}
 use Rattle.std.proofs.Math.Decide.{dec_lt}
 use Rattle.std.proofs.lemmas.Bool.{lt-ltb, ltb-true}
-use Rattle.bip_defs.specs.Matching.{Covers, IsMatching, IsMaximum}
+use Rattle.bip_defs.specs.Forest.{IsRested, State}
+use Rattle.bip_defs.specs.Matching.{IsMatching, IsMaximum}
 use Rattle.bip_defs.specs.Matrix.{Matrix, Place, cols}
 use Rattle.bip_defs.proofs.Full.{matching_few}
 use Rattle.bip_defs.proofs.Reaching.{same_size_maximum}
 use Rattle.sp_ids.specs.declared.events.Event.{Event}
 use Rattle.forest_core.specs.Events.{Grows, LeadsTo, Runs}
 use Rattle.forest_core.specs.Sound.{IsSound}
-use Rattle.bip_defs.specs.Forest.{IsRested, State}
 
 -- the laws that runs keep a forest sound, and its matrix
 abbrev pub StaySound : Type 0
@@ -59,9 +59,6 @@ phases_fall a s t k false matching e growth fact = omega (arith, growth)
 -- the matching that is left is as long as the base, since no root is flipped
 pub left_maximum : (a : Matrix) (s : State) (n : List Place) → IsRested s → IsMaximum a s.base → s.matrix ≡ a → IsMatching s.matrix n → length n ≡ length s.base + length s.flipped → IsMaximum a n
 left_maximum a s n rested max e matching size = same_size_maximum a s.base n max (subst (λ (b : Matrix). IsMatching b n) e matching) (let none = ap (λ (xs : List ℕ). length xs) rested.none_flipped in omega (arith, size, none))
-
-pub covers_on : (m n o : List Place) → Covers m n → Covers n o → Covers m o
-covers_on m n o h g = record { rows = λ r i. g.rows r (h.rows r i); cols = λ c i. g.cols c (h.cols c i) }
 
 -- Answers of code.
 

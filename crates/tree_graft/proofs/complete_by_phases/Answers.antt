@@ -1,9 +1,10 @@
 use Rattle.std.proofs.Common.{◌∙◌, ap, subst, sym, true≢false, refl}
+use Rattle.bip_defs.specs.Forest.{IsRested, State, new_forest}
 use Rattle.bip_defs.specs.Matching.{IsMatching}
 use Rattle.bip_defs.specs.Matrix.{Matrix, cols}
+use Rattle.bip_defs.proofs.Covers.{covers_more}
 use Rattle.forest_core.specs.Events.{LeadsTo}
-use Rattle.bip_defs.specs.Forest.{IsRested, State, new_forest}
-use Rattle.tree_graft.proofs.PhaseLemmas.{covers_on, last_phase, lead_matching, left_maximum, phases_fall, known_none, known_some}
+use Rattle.tree_graft.proofs.PhaseLemmas.{last_phase, lead_matching, left_maximum, phases_fall, known_none, known_some}
 use Rattle.tree_graft.proofs.SearchLemmas.{nothing_to_claim}
 use Rattle.tree_graft.proofs.complete_by_phases.Goals as goal
 
@@ -70,4 +71,4 @@ returns-clause-covered g c =
     let k = c.loop-grows.invariant in
     let new = c.events_keep_sound.ensures.new c.args.pattern.now c.args.matching.pairs c.requires.matching.matching in
     let sound = c.events_keep_sound.ensures.runs first c.loop-grows.forest k.legal.0 new k.legal.1 in
-    covers_on c.args.matching.pairs c.loop-grows.forest.base c.into_matching.result.pairs (c.events_keep_covered.ensures.runs first c.loop-grows.forest new k.legal) (c.events_keep_covered.ensures.current c.loop-grows.forest c.into_matching.result.pairs sound c.into_matching.ensures.current)
+    covers_more (c.events_keep_covered.ensures.runs first c.loop-grows.forest new k.legal) (c.events_keep_covered.ensures.current c.loop-grows.forest c.into_matching.result.pairs sound c.into_matching.ensures.current)
