@@ -1,27 +1,21 @@
 //! Perfect matchings of greatest least weight, by all ways for full tables, which count from 0.
 //! Those of matrices that were worked out by hand are in `run_tests`.
 
-ghost use Rattle.std.specs.Prelude.{◌≡◌};
-ghost use Rattle.sp_ids.specs.declared.triples.Field.TheVariants.{Integer};
-
 use crate::small::integers_of;
 use bip_graph::Bottleneck;
 use bottleneck::best;
-use sp_ids::{Col, OutOfMemory, Triples};
+use sp_ids::{Col, Row};
 use sp_pattern::{Pattern, Weights};
 use std::process::Abort;
+use std::test::Fail;
 use std::thread::Threads;
 
-fn answer<R: Abort + AllocGlobal + Threads + Sync>(
-    rt: &R,
-    given: &Triples,
-) -> Result<Bottleneck, OutOfMemory>
-    requires { given.now.field ≡ Integer }
-{
-    let pattern = Pattern::build(rt, rt.alloc(), given)?;
-    match Weights::build(rt.alloc(), &pattern, given) {
-        Ok(weights) => best(rt.alloc(), &pattern, &weights),
-        Err(_) => Err(OutOfMemory),
+// The magnitude of a table's entry, and 0 outside of the table.
+fn weight(table: &[[i64; 4]; 4], row: usize, col: usize) -> u64 {
+    if row < 4 && col < 4 {
+        table[row][col].unsigned_abs()
+    } else {
+        0
     }
 }
 
@@ -37,7 +31,7 @@ fn by_all_ways(table: &[[i64; 4]; 4], size: usize, col: usize, taken: [bool; 4])
             let mut next = taken;
             next[row] = true;
             let rest = by_all_ways(table, size, col + 1, next);
-            let least = table[row][col].unsigned_abs().min(rest);
+            let least = weight(table, row, col).min(rest);
             if least > most {
                 most = least;
             }
@@ -46,22 +40,34 @@ fn by_all_ways(table: &[[i64; 4]; 4], size: usize, col: usize, taken: [bool; 4])
     most
 }
 
-// How many rows of a table have an entry above a weight in these columns.
+// Whether a row of a table has an entry above a weight in these columns.
+fn is_above(table: &[[i64; 4]; 4], row: usize, columns: &[Col], least: u64) -> bool {
+    for col in columns {
+        if weight(table, row, col.0 as usize) > least {
+            return true;
+        }
+    }
+    false
+}
+
+// How many rows of a table have such an entry.
 fn rows_above(table: &[[i64; 4]; 4], size: usize, columns: &[Col], least: u64) -> usize {
     let mut count: usize = 0;
-    for row in 0..4 {
-        let mut above = false;
-        for col in columns {
-            let col = col.0 as usize;
-            if col < 4 && table[row][col].unsigned_abs() > least {
-                above = true;
-            }
-        }
-        if row < size && above {
+    for row in 0..size {
+        if is_above(table, row, columns, least) {
             count = count.saturating_add(1);
         }
     }
     count
+}
+
+// The least weight of these pairs, and the greatest number where there is none.
+fn least_of(table: &[[i64; 4]; 4], pairs: &[(Row, Col)]) -> u64 {
+    let mut least = u64::MAX;
+    for (row, col) in pairs {
+        least = least.min(weight(table, row.0 as usize, col.0 as usize));
+    }
+    least
 }
 
 // The answer for a full matrix has the least weight that all ways have at most, in one pair and in
@@ -70,7 +76,7 @@ fn is_greatest<R: Abort + AllocGlobal + Threads + Sync>(
     rt: &R,
     size: u32,
     table: &[[i64; 4]; 4],
-) -> Result<(), OutOfMemory> {
+) -> Result<(), Fail> {
     let mut entries = Vec::new(rt.alloc());
     for row in 0..4 {
         for col in 0..4 {
@@ -80,20 +86,16 @@ fn is_greatest<R: Abort + AllocGlobal + Threads + Sync>(
         }
     }
     let given = integers_of(rt, size, size, entries.as_slice())?;
-    let found = answer(rt, &given)?;
+    let pattern = Pattern::build(rt, rt.alloc(), &given)?;
+    let weights = Weights::build(rt.alloc(), &pattern, &given)?;
+    let found = best(rt.alloc(), &pattern, &weights)?;
     match &found {
         Bottleneck::Best { pairs, least, hall } => {
             let least = *least;
             let size = size as usize;
             assert_eq!(rt; least, by_all_ways(table, size, 0, [false; 4]));
             assert_eq!(rt; pairs.as_slice().len(), size);
-            let mut lightest = u64::MAX;
-            for (row, col) in pairs.as_slice() {
-                let (row, col) = (row.0 as usize, col.0 as usize);
-                assert!(rt; row < 4 && col < 4);
-                lightest = lightest.min(table[row][col].unsigned_abs());
-            }
-            assert_eq!(rt; lightest, least);
+            assert_eq!(rt; least_of(table, pairs.as_slice()), least);
             let columns = hall.as_slice();
             assert!(rt; rows_above(table, size, columns, least) < columns.len());
         }
@@ -118,7 +120,7 @@ static TABLES: [(u32, [[i64; 4]; 4]); 9] = [
 ];
 
 #[test]
-fn greatest_of_all_ways(rt: HostRuntime) -> Result<(), OutOfMemory> {
+fn greatest_of_all_ways(rt: HostRuntime) -> Result<(), Fail> {
     for (size, table) in &TABLES {
         is_greatest(&rt, *size, table)?;
     }

@@ -1,30 +1,15 @@
 //! Heaviest diagonals of full tables, by all ways. Those of matrices that were worked out by hand
 //! are in `run_tests`.
 
-ghost use Rattle.std.specs.Prelude.{◌≡◌};
-ghost use Rattle.sp_ids.specs.declared.triples.Field.TheVariants.{Integer};
-
 use crate::small::integers_of;
 use bip_graph::Heaviest;
 use integer_diagonal::heaviest;
-use sp_ids::{OutOfMemory, Triples};
+use sp_ids::OutOfMemory;
 use sp_pattern::{Pattern, Weights};
 use std::alloc::Global;
 use std::process::Abort;
+use std::test::Fail;
 use std::thread::Threads;
-
-fn answer<R: Abort + AllocGlobal + Threads + Sync>(
-    rt: &R,
-    given: &Triples,
-) -> Result<Heaviest, OutOfMemory>
-    requires { given.now.field ≡ Integer }
-{
-    let pattern = Pattern::build(rt, rt.alloc(), given)?;
-    match Weights::build(rt.alloc(), &pattern, given) {
-        Ok(weights) => heaviest(rt.alloc(), &pattern, &weights),
-        Err(_) => Err(OutOfMemory),
-    }
-}
 
 // No entry weighs more than the prices of its row and its column together.
 fn are_fair<R: Abort>(rt: &R, entries: &[(u32, u32, i64)], u: &[i128], v: &[i128]) {
@@ -78,10 +63,12 @@ fn is_greatest<R: Abort + AllocGlobal + Threads + Sync>(
     rt: &R,
     size: u32,
     table: &[[i64; 4]; 4],
-) -> Result<(), OutOfMemory> {
+) -> Result<(), Fail> {
     let entries = entries_of(rt.alloc(), table, size)?;
     let given = integers_of(rt, size, size, entries.as_slice())?;
-    let found = answer(rt, &given)?;
+    let pattern = Pattern::build(rt, rt.alloc(), &given)?;
+    let weights = Weights::build(rt.alloc(), &pattern, &given)?;
+    let found = heaviest(rt.alloc(), &pattern, &weights)?;
     match &found {
         Heaviest::Diagonal { pairs, u, v, sum } => {
             assert_eq!(rt; pairs.as_slice().len(), size as usize);
@@ -110,7 +97,7 @@ static TABLES: [(u32, [[i64; 4]; 4]); 7] = [
 ];
 
 #[test]
-fn greatest_of_all_ways(rt: HostRuntime) -> Result<(), OutOfMemory> {
+fn greatest_of_all_ways(rt: HostRuntime) -> Result<(), Fail> {
     for (size, table) in &TABLES {
         is_greatest(&rt, *size, table)?;
     }

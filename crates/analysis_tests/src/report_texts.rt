@@ -1,6 +1,7 @@
 //! A report, a summary and pairs of small matrices, worked out by hand. Whole runs show more
 //! reports in `run_tests`.
 
+use crate::small::{matching_of, pattern_of};
 use bip_graph::{Blocks, Components, Decomposition, Matching, Parts};
 use btf_text::{TextBuf, write_load, write_pairs, write_report};
 use sp_ids::{Col, OutOfMemory, Row};
@@ -50,19 +51,8 @@ fn three_parts(alloc: Global) -> Result<Decomposition, OutOfMemory> {
     })
 }
 
-/// Matches a row and a column, if both are there and unmatched.
-fn join(matching: &mut Matching, row: Row, col: Col) {
-    if row.0 >= matching.rows() || col.0 >= matching.cols() {
-        return;
-    }
-    if matching.row_of(col).is_some() {
-        return;
-    }
-    if matching.col_of(row).is_some() {
-        return;
-    }
-    matching.pair(row, col);
-}
+/// The places of its entries, which count from 1.
+const THREE_PARTS: [(u32, u32); 7] = [(1, 1), (1, 2), (1, 3), (2, 3), (2, 4), (3, 4), (4, 4)];
 
 #[test]
 fn the_summary_and_the_report_of_three_parts(rt: HostRuntime) -> Result<(), Fail> {
@@ -75,10 +65,8 @@ fn the_summary_and_the_report_of_three_parts(rt: HostRuntime) -> Result<(), Fail
     let text = b"matrix 4 4 7\nrank 3\nhorizontal 1 2\nsquare 1 1\nvertical 2 1\n";
     assert_eq!(rt; out.bytes(), text.as_slice());
 
-    let mut matching = Matching::empty(alloc, 4, 4)?;
-    join(&mut matching, Row(2), Col(3));
-    join(&mut matching, Row(0), Col(0));
-    join(&mut matching, Row(1), Col(2));
+    let pattern = pattern_of(&rt, 4, 4, &THREE_PARTS)?;
+    let matching = matching_of(&rt, &pattern, &[(3, 4), (1, 1), (2, 3)])?;
     let mut out = SteadySink::new(alloc, 1000, 7)?;
     assert_eq!(rt;
         write_report(&mut out, &mut buf, &dec, None, &matching, true, true),
@@ -135,9 +123,8 @@ fn a_report_that_is_cut_off(rt: HostRuntime) -> Result<(), Fail> {
 #[test]
 fn pairs_alone(rt: HostRuntime) -> Result<(), Fail> {
     let alloc = rt.alloc();
-    let mut matching = Matching::empty(alloc, 11, 3)?;
-    join(&mut matching, Row(0), Col(2));
-    join(&mut matching, Row(10), Col(0));
+    let pairs = [(1, 3), (11, 1)];
+    let matching = matching_of(&rt, &pattern_of(&rt, 11, 3, &pairs)?, &pairs)?;
     let mut buf = TextBuf::new(alloc)?;
     let mut out = SteadySink::new(alloc, 100, 5)?;
     assert_eq!(rt; write_pairs(&mut out, &mut buf, &matching), Ok(()));

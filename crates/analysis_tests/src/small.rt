@@ -21,12 +21,12 @@ fn push<R: Abort>(
     requires { triples.old.field ≢ Integer → value ≡ pos 0 }
     ensures { triples.new.field ≡ triples.old.field }
 {
-    let in_range = 0 < row && row <= triples.rows() && 0 < col && col <= triples.cols();
-    assert!(rt;
-        in_range && triples.len() < 100,
-        "row {row} and column {col}"
-    );
-    triples.push(Row(row - 1), Col(col - 1), value)
+    // 0 becomes the greatest number, which is below no count.
+    let (row, col) = (row.wrapping_sub(1), col.wrapping_sub(1));
+    assert!(rt; row < triples.rows(), "row {row}, counted from 0");
+    assert!(rt; col < triples.cols(), "column {col}, counted from 0");
+    assert!(rt; triples.len() < 100);
+    triples.push(Row(row), Col(col), value)
 }
 
 /// The matrix with entries at these places. Fails the test where a place is out of range.
@@ -93,7 +93,7 @@ fn pair_up<R: Abort>(rt: &R, pattern: &Pattern, matching: &mut Matching, row: Ro
 pub(crate) fn are<R: Abort, I: Id>(rt: &R, name: &str, ids: &[I], numbers: &[u32]) {
     assert_eq!(rt; ids.len(), numbers.len(), "{name}");
     for (id, number) in ids.iter().zip(numbers) {
-        assert_eq!(rt; Some(id.number()), number.checked_sub(1), "{name}");
+        assert_eq!(rt; id.number(), number.wrapping_sub(1), "{name}");
     }
 }
 

@@ -1,8 +1,8 @@
 -- What the steps of a run say together.
-use Rattle.std.proofs.Common.{◌≡◌, ◌∙◌, ℕ, List, refl, sym, subst, arith, Option, Some, None, Ok, Err, Result, IfOk}
+use Rattle.std.proofs.Common.{◌≡◌, ◌∙◌, ℕ, List, refl, sym, subst, Option, Some, None, Ok, Err, Result, IfOk}
 use Rattle.sp_ids.specs.declared.outcomes.Status.{Status}
 use Rattle.sp_ports.specs.Bytes.{WhereKnown}
-use Rattle.sp_ports.specs.Device.{Device, FailsOnceAtMost, IsSteady, IsUntouched, WroteAsFar}
+use Rattle.sp_ports.specs.Device.{Device, IsUntouched, WroteAsFar}
 use Rattle.btf_words.specs.BatchWords.{AreTaken}
 use Rattle.btf_words.specs.declared.jobs.WordsError.{WordsError}
 use Rattle.btf_tool.specs.Jobs.{OfReading}
@@ -29,10 +29,6 @@ untouched_tells input same = subst (λ (after : Option (List ℕ)). WhereKnown i
     still : (bytes : Option (List ℕ)) → WhereKnown bytes bytes (λ x y. Unit {0})
     still None = tt
     still (Some x) = tt
-
--- a device that did not fail, or that failed once, failed once at most
-pub steady_counts : (d : Device) → IsSteady d → FailsOnceAtMost d
-steady_counts d same = record { later = omega (arith, same); once = omega (arith, same) }
 
 -- ---- over words that are taken
 

@@ -1,6 +1,7 @@
 -- What the reading of a batch says, from what the reader answers.
-use Rattle.std.proofs.Common.{◌≡◌, ℕ, true, false, Ok, refl, List, [], Err, Option, Some, None, Result, sym, subst}
+use Rattle.std.proofs.Common.{◌≡◌, ℕ, Ok, refl, List, [], Err, Option, Some, None, Result, sym, subst}
 use Rattle.std.specs.Result.{IsErrAnd}
+use Rattle.sp_ids.specs.Limits.{max_input_bytes}
 use Rattle.sp_ports.specs.Bytes.{WhereKnown}
 use Rattle.sp_ports.specs.Device.{Device, HasReadFault}
 use Rattle.mm_defs.specs.Calls.{Intake, call_on, room}
@@ -25,10 +26,6 @@ pub as_refusal : {T : Type 0} (result : Result T Refusal) (refusal : Refusal) (Q
 as_refusal (Ok v) refusal Q is q = absurd is
 as_refusal (Err e) refusal Q is q = subst (λ (r : Refusal). Q (Err r)) (sym is) q
 
--- an input before its first byte
-abbrev pub fresh : Intake
-fresh = record { limit = 68719476736; taken = 0; ahead = []; at_end = false; lines = 0; good = true }
-
 refused : (input : Device) (e : BatchError) → WhereKnown input.before input.after (λ x y. RefusesBatch (reading input x y) e)
     → (e ≡ errors.ReadFault → HasReadFault input) → IsUnread input (refusal_for e)
 refused input (errors.Malformed file kind) h rose = h
@@ -37,11 +34,11 @@ refused input errors.TooLong h rose = h
 refused input errors.ReadFault h rose = (rose refl, where_known input.before input.after h (λ x y before f. (f.0, f.2)))
 refused input errors.OutOfMemory h rose = where_known input.before input.after h (λ x y before f. tt)
 
--- it could not be read
-pub batch_refused : (input : Device) (start : Intake) (e : BatchError) → start ≡ fresh
+-- an input of which nothing was taken could not be read
+pub batch_refused : (input : Device) (start : Intake) (e : BatchError) → room start ≡ max_input_bytes → start.ahead ≡ []
     → WhereKnown input.before input.after (λ x y. RefusesBatch (call_on (room start) start.ahead input.failed_before input.failed_after x y) e)
     → (e ≡ errors.ReadFault → HasReadFault input) → IsUnread input (refusal_for e)
-batch_refused input start e is answer rose =
-    refused input e
-    (subst (λ (i : Intake). WhereKnown input.before input.after (λ x y. RefusesBatch (call_on (room i) i.ahead input.failed_before input.failed_after x y) e)) is answer)
-    rose
+batch_refused input start e room_is ahead_is answer rose = refused input e (subst (λ (n : ℕ). OverCall n []) room_is (subst (λ (xs : List ℕ). OverCall (room start) xs) ahead_is answer)) rose
+  where
+    OverCall : ℕ → List ℕ → Type 0
+    OverCall n xs = WhereKnown input.before input.after (λ x y. RefusesBatch (call_on n xs input.failed_before input.failed_after x y) e)

@@ -3,14 +3,14 @@ use Rattle.std.proofs.Common.{◌≡◌, ◌≢◌, ◌<◌, ◌+◌, ◌∙◌,
 use Rattle.std.proofs.lemmas.List.{take-append-drop, take_more}
 use Rattle.bip_defs.proofs.Uniqueness.{same_matrix}
 use Rattle.bip_defs.specs.ConnectedComponents as connected
-use Rattle.bip_defs.specs.Matrix.{HasPlaces, Matrix, cols}
+use Rattle.bip_defs.specs.Matrix.{HasPlaces, Matrix}
 use Rattle.bip_graph.specs.Answers.{IsAnalysis, orders_of, report_of, where_asked}
 use Rattle.bip_graph.specs.Decompositions.{Decomposes, components_of, decomposition_of}
-use Rattle.bip_graph.specs.Texts.{Report, Sizes, report_text, sizes_of}
+use Rattle.bip_graph.specs.Texts.{Report, Sizes, report_text}
 use Rattle.bip_graph.specs.declared.answers.Decomposition.{Decomposition}
 use Rattle.btf_lines.specs.Lines.{limit_line, malformed_line}
 use Rattle.btf_text.specs.Batches.{behind_file_line, files_end}
-use Rattle.btf_text.specs.Reports.{reported, sizes_in}
+use Rattle.btf_text.specs.Reports.{reported}
 use Rattle.btf_tool.specs.FileAnswer.{IsFileAnswer}
 use Rattle.btf_tool.specs.declared.answers.Answer.{Answer}
 use Rattle.btf_tool.specs.declared.answers.Answer.TheVariants.{Negative, Positive}
@@ -56,15 +56,8 @@ one_text one files s t p q =
 
 -- ---- the text of the answers
 
-same_sizes : (a : Matrix) (d : Decomposition) → Decomposes a d → sizes_in d ≡ sizes_of a
-same_sizes a d is =
-    ap (λ (k : ℕ). sized k d.n d.e) is.rows ∙ ap (λ (k : ℕ). sized a.rows k d.e) is.cols_are ∙ ap (λ (k : ℕ). sized a.rows (cols a) k) is.entries
-  where
-    sized : ℕ → ℕ → ℕ → Sizes
-    sized m n e = record { rows = m; cols = n; entries = e }
-
 same_report : (a : Matrix) (d : Decomposition) (components : Option connected.Components) → Decomposes a d → reported d components false None ≡ report_of a (decomposition_of d) components false None
-same_report a d components is = ap with_sizes (same_sizes a d is)
+same_report a d components is = ap with_sizes (λ i. record { rows = is.rows i; cols = is.cols_are i; entries = is.entries i })
   where
     with_sizes : Sizes → Report
     with_sizes s = record {

@@ -1,8 +1,7 @@
 //! The reading of the files.
 
-ghost use Rattle.std.specs.Prelude.{◌≡◌, [], true, false, IfErr, IfOk};
+ghost use Rattle.std.specs.Prelude.{IfErr, IfOk};
 ghost use Rattle.mm_frames.specs.Batches.{files_of};
-ghost use Rattle.sp_ids.specs.Limits.{max_input_bytes};
 ghost use Rattle.sp_ports.specs.Device.{FailsOnceAtMost, IsSteady, seen};
 ghost use Rattle.btf_tool.specs.Jobs.{GavePrefix, OfReading};
 ghost use Rattle.batch_core.specs.BatchRuns.{IsUnread, WasRead};
@@ -11,7 +10,7 @@ ghost use Rattle.batch_core.specs.Shares.{IsWithinLimits};
 use crate::Refusal;
 use mm_frames::read_files;
 use mm_reader::Input;
-use sp_ids::{MAX_INPUT_BYTES, OutOfMemory};
+use sp_ids::MAX_INPUT_BYTES;
 use sp_ports::Source;
 use std::alloc::Global;
 
@@ -25,21 +24,6 @@ pub(crate) fn read_batch<S: Source>(alloc: Global, input: &mut S) -> Result<Vec<
     ensures counts { FailsOnceAtMost (seen S.left S.faults input.old input.new) }
     ensures gave { OfReading (seen S.left S.faults input.old input.new) GavePrefix }
 {
-    let mut bytes = new_input(alloc)?;
+    let mut bytes = Input::new(alloc, MAX_INPUT_BYTES)?;
     Ok(read_files(alloc, &mut bytes, input)?)
-}
-
-/// An input before its first byte, with the limit on its bytes.
-fn new_input(alloc: Global) -> Result<Input, OutOfMemory>
-    ensures { IfOk result
-        (λ input. input ≡ record {
-          limit = max_input_bytes;
-          taken = 0;
-          ahead = [];
-          at_end = false;
-          lines = 0;
-          good = true;
-        }) }
-{
-    Input::new(alloc, MAX_INPUT_BYTES)
 }

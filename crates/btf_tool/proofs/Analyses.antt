@@ -1,27 +1,20 @@
 -- What is found of a matrix is what its texts say.
-use Rattle.std.proofs.Common.{◌||◌, Bool, true, false, Option, List, [], ◌∷◌, ◌≡◌, ◌∙◌, ℕ, ap, codes, refl, sym}
+use Rattle.std.proofs.Common.{◌||◌, Bool, true, false, Option, List, [], ◌∷◌, ◌≡◌, ℕ, ap, codes, refl, sym}
 use Rattle.bip_defs.specs.ConnectedComponents.{Components}
 use Rattle.bip_defs.specs.Lists.{IsRising}
 use Rattle.bip_defs.specs.Matching.{cols_of}
-use Rattle.bip_defs.specs.Matrix.{Matrix, Place, cols}
+use Rattle.bip_defs.specs.Matrix.{Matrix, Place}
 use Rattle.bip_graph.specs.Answers.{AreOfVersion, ArePairs, IsAnalysis, IsMaximumOrLeast, orders_of, report_of, where_asked}
 use Rattle.bip_graph.specs.Decompositions.{Decomposes, decomposition_of}
-use Rattle.bip_graph.specs.Texts.{Report, Sizes, matrix_line, rank_line, report_text, sizes_of, square_line, text_of}
+use Rattle.bip_graph.specs.Texts.{Report, Sizes, matrix_line, rank_line, report_text, square_line, text_of}
 use Rattle.bip_graph.specs.declared.answers.Decomposition.{Decomposition}
-use Rattle.btf_text.specs.Reports.{lengths_line, reported, sizes_in, summary_text}
+use Rattle.btf_text.specs.Reports.{lengths_line, reported, summary_text}
 use Rattle.btf_tool.specs.Summaries.{IsSummary}
-
-same_sizes : (a : Matrix) (d : Decomposition) → Decomposes a d → sizes_in d ≡ sizes_of a
-same_sizes a d is =
-    ap (λ (k : ℕ). sized k d.n d.e) is.rows ∙ ap (λ (k : ℕ). sized a.rows k d.e) is.cols_are ∙ ap (λ (k : ℕ). sized a.rows (cols a) k) is.entries
-  where
-    sized : ℕ → ℕ → ℕ → Sizes
-    sized m n e = record { rows = m; cols = n; entries = e }
 
 -- what is reported of it by its decomposition is its report
 pub report_is : (a : Matrix) (d : Decomposition) (components : Option Components) (order : Bool) (pairs : Option (List Place)) → Decomposes a d
     → reported d components order pairs ≡ report_of a (decomposition_of d) components order pairs
-report_is a d components order pairs is = ap with_sizes (same_sizes a d is)
+report_is a d components order pairs is = ap with_sizes (λ i. record { rows = is.rows i; cols = is.cols_are i; entries = is.entries i })
   where
     with_sizes : Sizes → Report
     with_sizes s = record {
@@ -59,7 +52,7 @@ pub summary_answers : (a : Matrix) (d : Decomposition) → Decomposes a d → Is
 summary_answers a d is = record {
   decomposition = decomposition_of d;
   is_decomposition = is.decomposition;
-  spelled = ap over (same_sizes a d is);
+  spelled = ap over (λ i. record { rows = is.rows i; cols = is.cols_are i; entries = is.entries i });
 }
   where
     over : Sizes → List ℕ

@@ -1,11 +1,10 @@
 //! The reading of the matrix, and of what follows it.
 
-ghost use Rattle.std.specs.Prelude.{◌≡◌, [], true, false, ℕ, List, IfErr, IfOk};
+ghost use Rattle.std.specs.Prelude.{◌≡◌, [], true, ℕ, List, IfErr, IfOk};
 ghost use Rattle.std.specs.List.{All};
 ghost use Rattle.mm_defs.specs.Words.{lines};
 ghost use Rattle.mm_frames.specs.Edits.{IsWithinMatrix, edits_of};
 ghost use Rattle.btf_tool.specs.Inputs as forms;
-ghost use Rattle.sp_ids.specs.Limits.{max_input_bytes};
 ghost use Rattle.sp_ports.specs.Device.{FailsOnceAtMost, seen};
 ghost use Rattle.btf_tool.specs.Jobs.{GavePrefix, OfReading};
 ghost use Rattle.btf_tool.specs.Refusals.{refusal_for};
@@ -15,7 +14,7 @@ use crate::Refusal;
 use mm_defs::{End, ReadError};
 use mm_frames::{Edit, read_edits};
 use mm_reader::{Input, read_matrix, read_rest};
-use sp_ids::{MAX_INPUT_BYTES, OutOfMemory, Triples};
+use sp_ids::{MAX_INPUT_BYTES, Triples};
 use sp_ports::Source;
 use std::alloc::Global;
 
@@ -42,7 +41,7 @@ pub(crate) fn read_file<S: Source>(alloc: Global, input: &mut S) -> Result<Tripl
     ensures counts { FailsOnceAtMost (seen S.left S.faults input.old input.new) }
     ensures gave { OfReading (seen S.left S.faults input.old input.new) GavePrefix }
 {
-    let mut bytes = new_input(alloc)?;
+    let mut bytes = Input::new(alloc, MAX_INPUT_BYTES)?;
     Ok(read_matrix(alloc, &mut bytes, input, End::File)?)
 }
 
@@ -57,7 +56,7 @@ pub(crate) fn read_followed<S: Source>(alloc: Global, input: &mut S) -> Result<F
     ensures counts { FailsOnceAtMost (seen S.left S.faults input.old input.new) }
     ensures gave { OfReading (seen S.left S.faults input.old input.new) GavePrefix }
 {
-    let mut bytes = new_input(alloc)?;
+    let mut bytes = Input::new(alloc, MAX_INPUT_BYTES)?;
     let triples = read_matrix(alloc, &mut bytes, input, End::LastEntry)?;
     let rest = read_rest(alloc, &mut bytes, input)?;
     Ok(Followed { triples, rest })
@@ -76,26 +75,11 @@ pub(crate) fn read_edited<S: Source>(alloc: Global, input: &mut S) -> Result<Edi
     ensures counts { FailsOnceAtMost (seen S.left S.faults input.old input.new) }
     ensures gave { OfReading (seen S.left S.faults input.old input.new) GavePrefix }
 {
-    let mut bytes = new_input(alloc)?;
+    let mut bytes = Input::new(alloc, MAX_INPUT_BYTES)?;
     let triples = read_matrix(alloc, &mut bytes, input, End::LastEntry)?;
     let (rows, cols) = (triples.rows(), triples.cols());
     let edits = read_edits(alloc, &mut bytes, input, rows, cols)?;
     Ok(Edited { triples, edits })
-}
-
-/// An input before its first byte, with the limit on its bytes.
-fn new_input(alloc: Global) -> Result<Input, OutOfMemory>
-    ensures { IfOk result
-        (λ input. input ≡ record {
-          limit = max_input_bytes;
-          taken = 0;
-          ahead = [];
-          at_end = false;
-          lines = 0;
-          good = true;
-        }) }
-{
-    Input::new(alloc, MAX_INPUT_BYTES)
 }
 
 impl From<ReadError> for Refusal {

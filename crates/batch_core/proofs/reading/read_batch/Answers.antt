@@ -1,6 +1,7 @@
 use Rattle.std.proofs.Common.{◌≤◌, ap, Err, IfErr, List, ℕ, length}
 use Rattle.std.proofs.lemmas.List.{length-map}
 use Rattle.std.proofs.lemmas.List.Elements.{All-map}
+use Rattle.mm_defs.specs.Calls.{Intake, room}
 use Rattle.sp_ids.specs.Limits.{max_batch_file_bytes}
 use Rattle.sp_ports.specs.Device.{seen}
 use Rattle.batch_core.specs.BatchRefusals.{refusal_for}
@@ -13,7 +14,7 @@ returns-in_err-read_files-clause-unread g c =
     let e = c.in_err-read_files.ensures in
     let input = seen g.S.Source.left g.S.Source.faults c.args.input.now c.read_files.new.source in
     as_refusal c.from_residual-in_err-read_files.result (refusal_for c.in_err-read_files.field-0.0) (λ r. IfErr r (IsUnread input)) c.from_residual-in_err-read_files.ensures.1
-    (batch_refused input _ c.in_err-read_files.field-0.0 c.in_ok-bytes.ensures e.answer (λ x. e.cause.failed (ap Err x)))
+    (batch_refused input c.in_ok-bytes.bytes c.in_err-read_files.field-0.0 (ap room c.in_ok-bytes.ensures) (ap (λ (i : Intake). i.ahead) c.in_ok-bytes.ensures) e.answer (λ x. e.cause.failed (ap Err x)))
 
 pub returns-clause-limits : goal.returns-clause-limits
 returns-clause-limits g c = record {
