@@ -132,7 +132,7 @@ def over_odd_devices(program, work):
     file = os.path.join(work, "three_parts.mtx")
     with open(file, "w") as out:
         out.write(THREE_PARTS)
-    shell(program, f"\"$BTF\" analyse < {file} | head -c 0; exit ${{PIPESTATUS[0]}}", 6, "btf: write fault\n", "a pipe that nobody reads")
+    shell(program, f"{{ sleep 0.3; \"$BTF\" analyse < {file}; }} | true; exit ${{PIPESTATUS[0]}}", 6, "btf: write fault\n", "a pipe that nobody reads")
     shell(program, "\"$BTF\" load --size 100000 --seed 1 | true; exit ${PIPESTATUS[0]}", 6, "btf: write fault\n", "a pipe that is closed first")
     shell(program, f"\"$BTF\" rank < {file} > /dev/full", 6, "btf: write fault\n", "a full device")
     shell(program, f"\"$BTF\" rank < {file} >&-", 6, "btf: write fault\n", "a closed standard output")
