@@ -6,7 +6,7 @@ ghost use Rattle.btf_words.specs.Table.{engine_rule, flag_rule, drop_zeros_rule,
 
 use clap::builder::ValueParser;
 use clap::{Arg, ArgAction};
-use sp_ids::{MAX_LOAD_SIZE, MAX_WORKERS};
+use sp_ids::{MAX_LOAD_SEED, MAX_LOAD_SIZE, MAX_WORKERS};
 use std::alloc::Global;
 
 /// `--engine E`, where E is one of these names: `graft` where it is not given.
@@ -90,7 +90,7 @@ pub(crate) fn seed<'a>(alloc: Global) -> Arg<'a>
     ensures rule { rule_of result ≡ seed_rule }
     ensures local { result.global ≡ false }
 {
-    number(alloc, "seed", 0, u64::MAX)
+    number(alloc, "seed", 0, MAX_LOAD_SEED)
 }
 
 fn flag<'a>(alloc: Global, name: &'a str) -> Arg<'a>

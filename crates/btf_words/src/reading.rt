@@ -11,7 +11,7 @@ use crate::commands::command_line;
 use crate::{Engine, Job, ReportOptions, Search, WordsError};
 use clap::ArgMatches;
 use clap::error::ErrorKind;
-use sp_ids::{MAX_LOAD_SIZE, MAX_WORKERS};
+use sp_ids::{MAX_LOAD_SEED, MAX_LOAD_SIZE, MAX_WORKERS};
 use std::alloc::Global;
 
 /// The job that the words after the program's name name.
@@ -176,7 +176,7 @@ fn size_of(options: &ArgMatches<'_>) -> u32
 fn seed_of(options: &ArgMatches<'_>) -> u64
     ensures { result ≡ seed_in (rows_of (found_of options.now)) }
 {
-    number_of(options, "seed", 0, 0, u64::MAX)
+    number_of(options, "seed", 0, 0, MAX_LOAD_SEED)
 }
 
 /// The number of an option within its bounds, and `none` where it is not given.

@@ -21,6 +21,9 @@ pub const MAX_WORKERS: u32 = 64;
 /// The most rows and columns of a matrix that is made from a number.
 pub const MAX_LOAD_SIZE: u32 = 16_777_216;
 
+/// The greatest number from which a matrix is made.
+pub const MAX_LOAD_SEED: u64 = 18_446_744_073_709_551_615;
+
 /// The most edit lines behind a matrix.
 pub const MAX_EDITS: u32 = 16_777_216;
 
