@@ -90,8 +90,8 @@ impl Matching {
         }
     }
 
-    /// What each matching is: its pairs have distinct rows, rise by column, and lie within the rows
-    /// and columns. Does nothing when it runs: it names the fact for proofs.
+    /// What holds of every matching: its pairs have distinct rows, rise by column, and lie within
+    /// its rows and columns. A fact for proofs, at no cost.
     pub fn is_matching(&self)
         ensures { IsPairing self.now }
     {
