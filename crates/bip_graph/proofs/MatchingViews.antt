@@ -5,7 +5,7 @@ use Rattle.bip_defs.specs.Lists.{Among, AreDistinct, IsRising}
 use Rattle.bip_defs.specs.Matching.{cols_of, rows_of}
 use Rattle.bip_defs.specs.Paths.{Reassigns}
 use Rattle.bip_defs.proofs.Sets.{row_pair}
-use Rattle.bip_graph.specs.Matching.{AreMates, Pairing, none, pairs_of}
+use Rattle.bip_graph.specs.Matching.{AreMates, IsPairing, Pairing, none, pairs_of}
 use Rattle.bip_graph.proofs.Arrays.{cols_rising, missed, read, stored, unread}
 use Rattle.bip_graph.proofs.MateArrays.{back, row_missed, row_stored, row_unread, rows_differ}
 use Rattle.bip_graph.proofs.RowGiven.{AreFree, IsTaken, IsHanded, handed_gives}
@@ -47,6 +47,14 @@ seen_rows_within xs ys n v r c m seen = subst (λ (w : Pairing). Among (r, c) w.
 
 pub seen_cols_within : (xs ys : List ℕ) (v : Pairing) (r c : ℕ) → shown xs ys ≡ v → Among (r, c) v.pairs → c < v.cols
 seen_cols_within xs ys v r c seen = subst (λ (w : Pairing). Among (r, c) w.pairs → c < w.cols) seen (λ h. (read xs r c h).0)
+
+pub seen_pairing : {xs ys : List ℕ} {n : ℕ} {v : Pairing} → AreMates xs ys n → shown xs ys ≡ v → IsPairing v
+seen_pairing {xs = xs} {ys = ys} {n = n} {v = v} m seen = record {
+  rows_differ = seen_rows_differ xs ys n v m seen;
+  cols_rise = seen_cols_rise xs ys v seen;
+  rows_within = λ r c. seen_rows_within xs ys n v r c m seen;
+  cols_within = λ r c. seen_cols_within xs ys v r c seen;
+}
 
 -- What is known where a row is given to a column.
 

@@ -1,6 +1,7 @@
 -- What contracts see of a matching, and how two flat arrays store it.
 use Rattle.std.specs.Prelude.{◌≡◌, ◌≢◌, ℕ, zero, suc, ◌<◌, ◌^◌, ◌==◌, if◌then◌else◌, List, [], ◌∷◌, length, slice_index}
-use Rattle.bip_defs.specs.Matching.{IsMatching, IsMaximum, transposed_places}
+use Rattle.bip_defs.specs.Lists.{Among, AreDistinct, IsRising}
+use Rattle.bip_defs.specs.Matching.{IsMatching, IsMaximum, cols_of, rows_of, transposed_places}
 use Rattle.bip_defs.specs.Matrix.{Matrix, Place, cols}
 
 -- the numbers of rows and columns, and the pairs, rising by column
@@ -8,6 +9,13 @@ pub record Pairing : Type 0 where
   pub rows : ℕ
   pub cols : ℕ
   pub pairs : List Place
+
+-- the pairs have distinct rows, rise by column, and lie within the rows and columns
+pub record IsPairing (m : Pairing) : Type 0 where
+  pub rows_differ : AreDistinct (rows_of m.pairs)
+  pub cols_rise : IsRising (cols_of m.pairs)
+  pub rows_within : (r c : ℕ) → Among (r, c) m.pairs → r < m.rows
+  pub cols_within : (r c : ℕ) → Among (r, c) m.pairs → c < m.cols
 
 -- a matching of the matrix's entries, over its rows and columns
 pub record IsMatchingOf (a : Matrix) (m : Pairing) : Type 0 where

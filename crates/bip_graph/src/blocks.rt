@@ -152,8 +152,8 @@ impl Blocks {
         self.cols.reserve(cols.len())?;
         self.rows.extend_from_slice(rows)?;
         self.cols.extend_from_slice(cols)?;
-        self.row_ends.push(self.rows.len() as u32)?;
-        self.col_ends.push(self.cols.len() as u32)?;
+        self.row_ends.push_reserved(self.rows.len() as u32);
+        self.col_ends.push_reserved(self.cols.len() as u32);
         Ok(())
     }
 }

@@ -6,7 +6,7 @@ ghost use Rattle.bip_defs.specs.Matching.{Covers, IsMatching, rows_of, cols_of};
 ghost use Rattle.bip_defs.specs.Matrix.{AreEntries, Matrix, Place};
 ghost use Rattle.bip_defs.specs.Paths.{Exchanges, Reassigns, IsAugmenting};
 ghost use Rattle.bip_graph.specs.Mates.{AreMutual};
-ghost use Rattle.bip_graph.specs.Matching.{Pairing, pairs_of};
+ghost use Rattle.bip_graph.specs.Matching.{IsPairing, Pairing, pairs_of};
 
 use crate::mates::Mates;
 use sp_ids::{Col, OutOfMemory, Row};
@@ -90,6 +90,14 @@ impl Matching {
         }
     }
 
+    /// What holds of every matching: its pairs have distinct rows, rise by column, and lie within
+    /// its rows and columns. A fact for proofs, at no cost.
+    pub fn is_matching(&self)
+        ensures { IsPairing self.now }
+    {
+        let _size = self.size;
+    }
+
     /// The number of rows, matched or not. Each row of a pair is below it.
     pub fn rows(&self) -> u32
         ensures count { result ≡ self.now.rows }
@@ -113,6 +121,24 @@ impl Matching {
         ensures cols_rise { IsRising (cols_of self.now.pairs) }
     {
         self.size
+    }
+
+    /// The pairs, rising by column.
+    ///
+    /// Answers `OutOfMemory` where the list, 8 bytes a pair, can't be had. Work: one read for each
+    /// column.
+    pub fn pairs(&self, alloc: Global) -> Result<Vec<(Row, Col)>, OutOfMemory>
+        ensures { IfOk result (λ pairs. pairs.items ≡ self.now.pairs) }
+    {
+        let mut pairs = Vec::with_capacity(alloc, self.size as usize)?;
+        let mut col = 0;
+        for row in self.row_of_col.as_slice() {
+            if *row != NONE {
+                pairs.push_reserved((Row(*row), Col(col)));
+            }
+            col += 1;
+        }
+        Ok(pairs)
     }
 
     /// The mate of a column, if it has one.
@@ -204,8 +230,7 @@ impl Matching {
         // What was matched stays matched.
         ensures covered { Covers self.old.pairs self.new.pairs }
     {
-        // `size` tells the proof that rows and columns differ, before and after.
-        let _before = self.size();
+        self.is_matching();
         let last = path.len() - 1;
         for i in 0..last {
             let step = path[i];
@@ -213,7 +238,7 @@ impl Matching {
         }
         let step = path[last];
         self.pair(step.0, step.1);
-        let _after = self.size();
+        self.is_matching();
     }
 }
 

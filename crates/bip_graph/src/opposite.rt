@@ -95,8 +95,7 @@ impl Opposite for Col {
 
     // Read backwards, with rows for columns, it is an augmenting path of the matrix.
     fn exchange(matching: &mut Matching, path: &mut [(Row, Col)]) {
-        // `size` tells the proof that rows and columns differ.
-        let _size = matching.size();
+        matching.is_matching();
         transpose_path(path);
         matching.flip(path);
     }

@@ -65,21 +65,12 @@ pub fn trace_back<T: Parents>(trees: &T, leaf: Row, from: T::Reached, path: &mut
 {
     path.clear();
     let mut at = from;
-    put(path, (leaf, trees.col(at)));
+    path.push_reserved((leaf, trees.col(at)));
     while let Some((row, parent)) = trees.parent(at) {
         at = parent;
-        put(path, (row, trees.col(at)));
+        path.push_reserved((row, trees.col(at)));
     }
     path.as_mut_slice().reverse();
-}
-
-// Appends within the room that was taken.
-fn put(path: &mut Vec<(Row, Col)>, pair: (Row, Col))
-    requires { vec_len path.old < vec_capacity path.old }
-    ensures items { path.new.items ≡ path.old.items ++ pair ∷ [] }
-    ensures room { vec_capacity path.old ≤ vec_capacity path.new }
-{
-    let _room = path.push(pair).is_ok();
 }
 
 /// The columns that a search has reached, each with the place of its parent, and the matching.
@@ -129,8 +120,7 @@ impl Queue<'_> {
             ⊎ IsReachedIn self.now.matching.now.pairs self.now.columns.now p.0 p.1 }
         ensures room { vec_capacity path.old ≤ vec_capacity path.new }
     {
-        // `size` tells the proof that rows and columns differ.
-        let _size = self.matching.size();
+        self.matching.is_matching();
         trace_back(self, leaf, self.columns[place as usize], path);
     }
 }

@@ -121,6 +121,6 @@ made_more P n t o k is = record {
         (λ f. (k.are j v lt).0 (sym same ∙ f), λ p. same ∙ (k.are j v lt).1 p)
 
 -- what an answer says of one number
-pub some_is : (P : ℕ → Type 0) (o : Option ℕ) → ((v w : ℕ) → P v → P w → v ≡ w) → IfSome o P → IfNone o ((v : ℕ) → ¬ P v) → (v : ℕ) → (o ≡ Some v) ↔ P v
-some_is P None one found none v = (λ e. absurd (none-some _ e), λ p. absurd (none v p))
-some_is P (Some x) one found none v = (λ e. subst P (same_Some _ _ e) found, λ p. ap (λ (i : ℕ). Some i) (one x v found p))
+pub some_is : (P : ℕ → Type 0) (N : Type 0) (o : Option ℕ) → ((v w : ℕ) → P v → P w → v ≡ w) → IfSome o P → (N → (v : ℕ) → ¬ P v) → IfNone o N → (v : ℕ) → (o ≡ Some v) ↔ P v
+some_is P N None one found has_none none v = (λ e. absurd (none-some _ e), λ p. absurd (has_none none v p))
+some_is P N (Some x) one found has_none none v = (λ e. subst P (same_Some _ _ e) found, λ p. ap (λ (i : ℕ). Some i) (one x v found p))

@@ -16,7 +16,6 @@ ghost use Rattle.sp_ids.specs.declared.events.Event.TheVariants.{Claim, Win, Fli
 use crate::adopted::Adopted;
 use crate::claim_table::ClaimTable;
 use crate::paths::exchange;
-use crate::put::put;
 use crate::renew::{clear_claims, clear_leaves, keep};
 use crate::table::Table;
 use bip_graph::{Matching, Mates};
@@ -383,8 +382,8 @@ impl<'p> Forest<'p> {
         self.pattern.is_pattern();
         self.claimed.is_alike();
         self.claimed.put(row, col, root);
-        put(&mut self.claims, (row, col));
-        put(&mut self.claim_roots, root);
+        self.claims.push_reserved((row, col));
+        self.claim_roots.push_reserved(root);
     }
 
     /// A root takes a claimed row of its tree, which has no base mate, as its leaf. Takes no
@@ -396,7 +395,7 @@ impl<'p> Forest<'p> {
     {
         self.pattern.is_pattern();
         self.leaf_of.put(root.number(), leaf.number());
-        put(&mut self.leaves, (root, leaf));
+        self.leaves.push_reserved((root, leaf));
     }
 
     /// Exchanges the path of a root with a leaf: it belongs to the current matching from now on.
@@ -407,7 +406,7 @@ impl<'p> Forest<'p> {
         ensures { self.new ≡ record self.old { flipped = self.old.flipped ++ root ∷ [] } }
     {
         self.marks[root.number() as usize] = true;
-        put(&mut self.flipped, root);
+        self.flipped.push_reserved(root);
     }
 
     /// Flips each root with a leaf that is not flipped, in the order of the leaves, where the
@@ -426,8 +425,7 @@ impl<'p> Forest<'p> {
         self.is_sound();
         self.flip_all();
         let matching = Matching::of(mates);
-        // `size` tells the proof that rows and columns differ.
-        let _size = matching.size();
+        matching.is_matching();
         let flips = self.flipped.as_slice().len();
         self.adopted = Some(Adopted { matching, flips });
     }

@@ -11,7 +11,6 @@ mod forest;
 mod laws;
 mod lists;
 mod paths;
-mod put;
 mod renew;
 mod runs;
 mod table;

@@ -25,7 +25,7 @@ impl<'p> Forest<'p> {
         let rows = self.pattern().rows();
         let mut list = Vec::with_capacity(alloc, rows as usize)?;
         for row in 0..rows {
-            list.push(self.holder(Row(row)))?;
+            list.push_reserved(self.holder(Row(row)));
         }
         Ok(list)
     }
@@ -41,7 +41,7 @@ impl<'p> Forest<'p> {
         let cols = self.pattern().cols();
         let mut list = Vec::with_capacity(alloc, cols as usize)?;
         for col in 0..cols {
-            list.push(self.leaf(Col(col)))?;
+            list.push_reserved(self.leaf(Col(col)));
         }
         Ok(list)
     }
@@ -57,7 +57,7 @@ impl<'p> Forest<'p> {
         let rows = self.pattern().rows();
         let mut list = Vec::with_capacity(alloc, rows as usize)?;
         for row in 0..rows {
-            list.push(self.root_of_row(Row(row)))?;
+            list.push_reserved(self.root_of_row(Row(row)));
         }
         Ok(list)
     }
@@ -74,7 +74,7 @@ impl<'p> Forest<'p> {
         let cols = self.pattern().cols();
         let mut list = Vec::with_capacity(alloc, cols as usize)?;
         for col in 0..cols {
-            list.push(self.root_of(Col(col)))?;
+            list.push_reserved(self.root_of(Col(col)));
         }
         Ok(list)
     }

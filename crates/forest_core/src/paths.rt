@@ -8,7 +8,6 @@ ghost use Rattle.bip_defs.specs.Forest.{State};
 
 use crate::adopted::{Adopted, replace_base};
 use crate::claim_table::ClaimTable;
-use crate::put::put;
 use crate::table::Table;
 use bip_graph::{Matching, Parents, trace_back};
 use sp_ids::{Col, Id, Row};

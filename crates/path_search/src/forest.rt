@@ -11,7 +11,7 @@ ghost use Rattle.path_search.specs.Batches.{Follows, HaveRows, numbers_in};
 ghost use Rattle.path_search.specs.Forests.{Extends, HaveNoPath, IsForest, IsLeafOf, LeadOn, Progresses, Spreads, Traces, Visits, reached_at};
 
 use crate::batches::{Candidate, ROOM, gather, keep_unmarked, look_up, no_lists};
-use crate::columns::{put, unmark_all};
+use crate::columns::{sizes_fit, unmark_all};
 use crate::reached::{Reached, RootedQueue};
 use bip_graph::{Matching, Opposite, trace_back};
 use sp_ids::{Col, OutOfMemory, Row};
@@ -97,7 +97,7 @@ impl SearchForest {
         requires { length self.old.queue < self.old.cols }
         ensures { self.new ≡ record self.old { queue = self.old.queue ++ next ∷ [] } }
     {
-        put(&mut self.queue, next);
+        self.queue.push_reserved(next);
     }
 
     fn reached(&self) -> usize
@@ -389,8 +389,7 @@ impl SearchForest {
         ensures progresses { Progresses (S.matrix side.now) (F.seen matching.old)
             (F.seen matching.new) self.old self.new (place + at) (place + result) }
     {
-        // Places fit, since there are no more than columns.
-        let _cols = side.cols();
+        sizes_fit::<F, S>(side);
         let (end, len) = gather(lists, at, place, candidates);
         if end == at {
             self.grow(side, matching, place + at as u32);
@@ -422,8 +421,7 @@ impl SearchForest {
         ensures progresses { Progresses (S.matrix side.now) (F.seen matching.old)
             (F.seen matching.new) self.old self.new place result }
     {
-        // Places fit, since there are no more than columns.
-        let _cols = side.cols();
+        sizes_fit::<F, S>(side);
         let count = look_up(side, matching, self.queue(), place as usize, lists);
         let batch = &lists[..count];
         let mut at = 0;
@@ -459,8 +457,7 @@ impl SearchForest {
             × IsMaximum (S.matrix side.now) (F.seen matching.old).pairs)
             ⊎ (length (F.seen matching.old).pairs < length (F.seen matching.new).pairs) }
     {
-        // Places fit, since there are no more than columns.
-        let _cols = side.cols();
+        sizes_fit::<F, S>(side);
         self.start(side, matching);
         let mut lists = no_lists(side);
         let mut candidates = [Candidate {

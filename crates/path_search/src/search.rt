@@ -11,7 +11,7 @@ ghost use Rattle.path_search.specs.Search.{Augments, Exhausts, Fails, Finds, Has
 ghost use Rattle.path_search.specs.Advances.{Advances, Descends};
 ghost use Rattle.path_search.specs.Trails.{HasPassed, IsSearchAt, read_place};
 
-use crate::columns::{next_unmarked, put, row_at, unmark, unmark_all, unmatched_row};
+use crate::columns::{next_unmarked, row_at, sizes_fit, unmark, unmark_all, unmatched_row};
 use crate::step::{Position, Step};
 use bip_graph::{Matching, Opposite};
 use sp_ids::{Col, Id, OutOfMemory, Row};
@@ -98,8 +98,8 @@ impl Search {
         } }
     {
         self.marks[row.0 as usize] = true;
-        put(&mut self.visited, row);
-        put(&mut self.path, (row, col));
+        self.visited.push_reserved(row);
+        self.path.push_reserved((row, col));
     }
 
     // Ends the path.
@@ -107,7 +107,7 @@ impl Search {
         requires room { length self.old.path < length self.old.marks }
         ensures { self.new ≡ record self.old { path = self.old.path ++ (row, col) ∷ [] } }
     {
-        put(&mut self.path, (row, col));
+        self.path.push_reserved((row, col));
     }
 
     // Notes the place from where the list of the path's last column is left to be read.
@@ -115,7 +115,7 @@ impl Search {
         requires room { length self.old.places < length self.old.marks }
         ensures { self.new ≡ record self.old { places = self.old.places ++ place ∷ [] } }
     {
-        put(&mut self.places, place);
+        self.places.push_reserved(place);
     }
 
     // Leaves the path's last pair: the place from where its column is left to be read.
@@ -149,8 +149,7 @@ impl Search {
             (λ r. IsEntry (S.matrix side.now) r col
             × (¬ Among r (rows_of (F.seen matching.now).pairs))) }
     {
-        // A column has no more rows than fit.
-        let _rows = side.rows();
+        sizes_fit::<F, S>(side);
         let rows = side.rows_of(col);
         let look = &mut self.look[col.0 as usize];
         unmatched_row(rows, matching, look)
@@ -270,8 +269,7 @@ impl Search {
             (Exhausts (S.matrix side.now)
             (F.seen matching.now).pairs self.new.marks self.new.visited root) }
     {
-        // The rows fit, and so do the places in a column's list.
-        let _rows = side.rows();
+        sizes_fit::<F, S>(side);
         self.start(root);
         let mut at = Position {
             col: root,

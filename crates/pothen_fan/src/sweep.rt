@@ -109,7 +109,7 @@ fn extend<F: Opposite, S: Side<F>>(
     match F::row_of(matching, root) {
         Some(_) => {}
         None => {
-            let _found = search.augment(side, matching, root, reversed);
+            search.augment(side, matching, root, reversed);
         }
     }
 }

@@ -30,12 +30,12 @@ ends a pairs mates s max are k empty placed = record {
       let (t, g) = col_pair c k.pairs (k.mates_of.perfect.covers_col c square) in
       subst (λ x. Among (x, c) k.pairs) (one_row pairs max.matching.cols_differ t r c (over t c g) h) g;
   components = record {
-    joined = λ c d sc sd e. k.state.joined c d (has c sc) e;
+    joined = λ c d sc sd e. k.state.done.joined c d (has c sc) e;
     falling = falling;
   };
-  below = λ c square. k.state.below c (has c square);
-  used = λ x lt. let (c, e) = k.state.used x lt in (c, k.state.square c (λ z. let f = k.state.few in let g = k.mates_of.few in omega arith), e);
-  outside = λ c out. ⊎_elim (λ e. e) (λ ne. absurd (out (k.state.square c ne))) (number_same (look s.number c) none);
+  below = λ c square. k.state.done.below c (has c square);
+  used = λ x lt. let (c, e) = k.state.done.used x lt in (c, k.state.done.square c (λ z. let f = k.state.few in let g = k.mates_of.few in omega arith), e);
+  outside = λ c out. ⊎_elim (λ e. e) (λ ne. absurd (out (k.state.done.square c ne))) (number_same (look s.number c) none);
   few = let f = k.state.few in omega arith;
 }
   where
@@ -54,4 +54,4 @@ ends a pairs mates s max are k empty placed = record {
         let (x, lt, f) = place_among r 0 (column a c) e.1 in
         let g : target a mates c x ≡ d = ap (look mates) f ∙ k.mates_of.complete r d h in
         fall c d (λ z. let l = (k.mates_of.perfect.only_cols d (col_among r d k.pairs h)).0 in let w = k.mates_of.few in omega arith)
-        (subst (Falls s.number c) g (k.state.falling c x (has c square) lt))
+        (subst (Falls s.number c) g (k.state.done.falling c x (has c square) lt))

@@ -45,11 +45,13 @@ emitted a m mates s b starts number k small few_cols split before numbered = rec
   visited = λ c h. ⊎_elim (λ y. subst (λ x. look s.place x ≢ none) y.3 (λ z. let p = (k.on y.0 y.2).place in let lt = y.2 in omega arith)) (λ o. k.visited c (λ z. h (numbered.others c o ∙ z))) (sides c);
   walks = walks;
   scanned = scanned;
-  square = λ c h. ⊎_elim (λ y. subst (IsSquareCol a) y.3 (k.on y.0 y.2).square) (λ o. k.square c (λ z. h (numbered.others c o ∙ z))) (sides c);
-  falling = falling;
-  below = λ c h. ⊎_elim (λ y. let z = now y in omega arith) (λ o. let z = numbered.others c o in let lt = k.below c (λ w. h (z ∙ w)) in omega arith) (sides c);
-  used = λ x lt. ⊎_elim (λ (e : x ≡ s.count). (get_or s.stack b 0, numbered.given b (le_refl b) within ∙ sym e)) (λ ne. let (c, e) = k.used x (omega arith) in (c, numbered.others c (apart c (let z = count_small in λ w. absurd (omega arith))) ∙ e)) (number_same x s.count);
-  joined = joined;
+  done = record {
+    square = λ c h. ⊎_elim (λ y. subst (IsSquareCol a) y.3 (k.on y.0 y.2).square) (λ o. k.done.square c (λ z. h (numbered.others c o ∙ z))) (sides c);
+    falling = falling;
+    below = λ c h. ⊎_elim (λ y. let z = now y in omega arith) (λ o. let z = numbered.others c o in let lt = k.done.below c (λ w. h (z ∙ w)) in omega arith) (sides c);
+    used = λ x lt. ⊎_elim (λ (e : x ≡ s.count). (get_or s.stack b 0, numbered.given b (le_refl b) within ∙ sym e)) (λ ne. let (c, e) = k.done.used x (omega arith) in (c, numbered.others c (apart c (let z = count_small in λ w. absurd (omega arith))) ∙ e)) (number_same x s.count);
+    joined = joined;
+  };
   waiting = waiting;
   todo_in = λ i h. let lt = before i h in omega (arith, shorter);
   todo_rises = k.todo_rises;
@@ -137,15 +139,15 @@ emitted a m mates s b starts number k small few_cols split before numbered = rec
     old_falls c d h (names.Falls.falls z le) = names.Falls.falls (stays d z) (let e = numbered.others c (apart c h) in let f = numbered.others d (apart d z) in omega arith)
 
     new_falls : (i d : ℕ) → b ≤ i → i < length s.stack → Settled s i d → Falls number (get_or s.stack i 0) d
-    new_falls i d le li (names.Settled.nowhere z) = names.Falls.nowhere z
-    new_falls i d le li (names.Settled.finished z) = names.Falls.falls (stays d z) (let e = numbered.given i le li in let f = numbered.others d (apart d z) in let lt = k.below d z in omega arith)
-    new_falls i d le li (names.Settled.stacked z c) = ⊎_elim
+    new_falls i d le li (names.IsSettled.nowhere z) = names.Falls.nowhere z
+    new_falls i d le li (names.IsSettled.finished z) = names.Falls.falls (stays d z) (let e = numbered.given i le li in let f = numbered.others d (apart d z) in let lt = k.done.below d z in omega arith)
+    new_falls i d le li (names.IsSettled.stacked z c) = ⊎_elim
         (λ y. let e = now y in names.Falls.falls (λ w. absurd (omega (arith, count_small))) (let f = numbered.given i le li in omega arith))
         (λ o. ⊎_elim
         (λ (f : look s.number d ≡ none).
         let p = k.placed d z f in
         absurd (⊎_elim (λ (lt : look s.place d < b). let w = c b on_b lt in omega arith) (λ w. o (look s.place d) w p.0 p.1) (less (look s.place d) b)))
-        (λ ne. names.Falls.falls (stays d ne) (let e = numbered.given i le li in let f = numbered.others d o in let lt = k.below d ne in omega arith))
+        (λ ne. names.Falls.falls (stays d ne) (let e = numbered.given i le li in let f = numbered.others d o in let lt = k.done.below d ne in omega arith))
         (number_same (look s.number d) none))
         (sides d)
 
@@ -155,7 +157,7 @@ emitted a m mates s b starts number k small few_cols split before numbered = rec
     falling : (c x : ℕ) → look number c ≢ none → x < degree a c → Falls number c (target a mates c x)
     falling c x h lt = ⊎_elim
         (λ y. subst (λ z. Falls number z (target a mates z x)) y.3 (new_falls y.0 (target a mates (get_or s.stack y.0 0) x) y.1 y.2 (k.scanned y.0 x y.2 (let e = no_left y.0 y.1 y.2 in omega arith) (let e = ap (degree a) y.3 in omega arith))))
-        (λ o. let ne : look s.number c ≢ none = λ z. h (numbered.others c o ∙ z) in old_falls c (target a mates c x) ne (k.falling c x ne lt))
+        (λ o. let ne : look s.number c ≢ none = λ z. h (numbered.others c o ∙ z) in old_falls c (target a mates c x) ne (k.done.falling c x ne lt))
         (sides c)
 
     last : (i j : ℕ) → b ≤ j → Clear s.starts j i
@@ -165,11 +167,11 @@ emitted a m mates s b starts number k small few_cols split before numbered = rec
     joined c d h e = ⊎_elim
         (λ y. ⊎_elim
         (λ z. subst (λ w. Walk a m w d) y.3 (subst (λ w. Walk a m (get_or s.stack y.0 0) w) z.3 (k.walks y.0 z.0 y.2 z.2 (last y.0 z.0 z.1))))
-        (λ o. absurd (let f = now y in let g = numbered.others d o in let lt = k.below d (λ w. let v = count_small in absurd (omega arith)) in omega arith))
+        (λ o. absurd (let f = now y in let g = numbered.others d o in let lt = k.done.below d (λ w. let v = count_small in absurd (omega arith)) in omega arith))
         (sides d))
         (λ o. let g = numbered.others c o in let ne : look s.number c ≢ none = λ z. h (g ∙ z) in ⊎_elim
-        (λ z. absurd (let f = now z in let lt = k.below c ne in omega arith))
-        (λ q. k.joined c d ne (sym g ∙ e ∙ numbered.others d q))
+        (λ z. absurd (let f = now z in let lt = k.done.below c ne in omega arith))
+        (λ q. k.done.joined c d ne (sym g ∙ e ∙ numbered.others d q))
         (sides d))
         (sides c)
 

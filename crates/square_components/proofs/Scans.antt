@@ -5,7 +5,6 @@ use Rattle.bip_defs.specs.Lists.{Among, Lists}
 use Rattle.bip_defs.specs.Matrix.{IsEntry, Matrix, cols, column}
 use Rattle.bip_defs.specs.Parts.{IsSquareCol}
 use Rattle.bip_defs.proofs.Sets.{among_at}
-use Rattle.bip_defs.specs.Matrix as matrices
 use Rattle.bip_graph.specs.Matching.{none}
 use Rattle.square_components.specs.Numbers.{look}
 use Rattle.square_components.specs.Stacks.{IsDepthFirst, PathState, degree, target}

@@ -46,11 +46,7 @@ entered a m mates s d k square fresh small reach = record {
   visited = λ c h e. ⊎_elim (λ (f : c ≡ d). big (sym (subst (λ x. look (set s.place d (length s.stack)) x ≡ length s.stack) (sym f) at_d) ∙ e)) (λ ne. k.visited c h (sym (place_other c ne) ∙ e)) (number_same c d);
   walks = walks;
   scanned = scanned;
-  square = k.square;
-  falling = k.falling;
-  below = k.below;
-  used = k.used;
-  joined = k.joined;
+  done = k.done;
   waiting = λ i lt h. ⊎_elim (λ (e : i ≡ length s.stack). among_right i s.todo (length s.stack ∷ []) (inl e)) (λ ne. among_left i s.todo (length s.stack ∷ []) (k.waiting i (old i lt ne) (λ z. h (left_old i (old i lt ne) ∙ z)))) (number_same i (length s.stack));
   todo_in = λ i h. ⊎_elim (λ g. let lt = k.todo_in i g in omega (arith, longer)) (λ (e : i ≡ length s.stack). omega (arith, longer, e)) (among_last i (length s.stack) s.todo h);
   todo_rises = rising_last s.todo (length s.stack) k.todo_rises k.todo_in;
@@ -164,11 +160,7 @@ advanced a m mates s p l k lt e settled = record {
   visited = k.visited;
   walks = k.walks;
   scanned = scanned;
-  square = k.square;
-  falling = k.falling;
-  below = k.below;
-  used = k.used;
-  joined = k.joined;
+  done = k.done;
   waiting = λ i li h. ⊎_elim (λ (f : i ≡ p). k.waiting i li (λ z. let y : get_or s.left (get_or s.stack p 0) 0 ≡ 0 = subst (λ x. get_or s.left (get_or s.stack x 0) 0 ≡ 0) f z in omega (arith, e, y))) (λ ne. k.waiting i li (λ z. h (other i li ne ∙ z))) (number_same i p);
   todo_in = k.todo_in;
   todo_rises = k.todo_rises;
@@ -195,18 +187,13 @@ advanced a m mates s p l k lt e settled = record {
         (λ ne. let z = other i li ne in omega (arith, z, le))
         (number_same i p)
 
-    again : (i d : ℕ) → Settled s i d → Settled (advancing s (get_or s.stack p 0) l) i d
-    again i d (nowhere z) = nowhere z
-    again i d (finished z) = finished z
-    again i d (stacked z c) = stacked z c
-
     scanned : (i x : ℕ) → i < length s.stack → get_or (set s.left (get_or s.stack p 0) l) (get_or s.stack i 0) 0 ≤ x → x < degree a (get_or s.stack i 0) → Settled (advancing s (get_or s.stack p 0) l) i (target a mates (get_or s.stack i 0) x)
     scanned i x li le below = ⊎_elim
         (λ (f : i ≡ p). ⊎_elim
-        (λ (g : x ≡ l). again i (target a mates (get_or s.stack i 0) x) (subst (λ z. Settled s i (target a mates (get_or s.stack i 0) z)) (sym g) (subst (λ z. Settled s z (target a mates (get_or s.stack z 0) l)) (sym f) settled)))
-        (λ ne. again i (target a mates (get_or s.stack i 0) x) (k.scanned i x li (let z : get_or (set s.left (get_or s.stack p 0) l) (get_or s.stack i 0) 0 ≡ l = ap (λ y. get_or (set s.left (get_or s.stack p 0) l) (get_or s.stack y 0) 0) f ∙ get_or-set_same s.left (get_or s.stack p 0) l 0 within in let w : get_or s.left (get_or s.stack i 0) 0 ≡ l + 1 = ap (λ y. get_or s.left (get_or s.stack y 0) 0) f ∙ e in omega (arith, z, w, ne)) below))
+        (λ (g : x ≡ l). (subst (λ z. Settled s i (target a mates (get_or s.stack i 0) z)) (sym g) (subst (λ z. Settled s z (target a mates (get_or s.stack z 0) l)) (sym f) settled)))
+        (λ ne. (k.scanned i x li (let z : get_or (set s.left (get_or s.stack p 0) l) (get_or s.stack i 0) 0 ≡ l = ap (λ y. get_or (set s.left (get_or s.stack p 0) l) (get_or s.stack y 0) 0) f ∙ get_or-set_same s.left (get_or s.stack p 0) l 0 within in let w : get_or s.left (get_or s.stack i 0) 0 ≡ l + 1 = ap (λ y. get_or s.left (get_or s.stack y 0) 0) f ∙ e in omega (arith, z, w, ne)) below))
         (number_same x l))
-        (λ ne. again i (target a mates (get_or s.stack i 0) x) (k.scanned i x li (let z = other i li ne in omega (arith, z)) below))
+        (λ ne. (k.scanned i x li (let z = other i li ne in omega (arith, z)) below))
         (number_same i p)
 
 -- The components after the place t are joined to that of t.
@@ -220,16 +207,12 @@ merged a m mates s starts p t k lt top within onto up = record {
   left_long = k.left_long;
   place_long = k.place_long;
   number_long = k.number_long;
-  on = λ i li. record { square = (k.on i li).square; place = (k.on i li).place; number = (k.on i li).number; left = (k.on i li).left };
+  on = k.on;
   placed = k.placed;
   visited = k.visited;
   walks = walks;
   scanned = λ i x li le below. again i (target a mates (get_or s.stack i 0) x) (k.scanned i x li le below);
-  square = k.square;
-  falling = k.falling;
-  below = k.below;
-  used = k.used;
-  joined = k.joined;
+  done = k.done;
   waiting = k.waiting;
   todo_in = k.todo_in;
   todo_rises = k.todo_rises;
@@ -262,16 +245,12 @@ left_off a m mates s todo p k e done = record {
   left_long = k.left_long;
   place_long = k.place_long;
   number_long = k.number_long;
-  on = λ i li. record { square = (k.on i li).square; place = (k.on i li).place; number = (k.on i li).number; left = (k.on i li).left };
+  on = k.on;
   placed = k.placed;
   visited = k.visited;
   walks = k.walks;
-  scanned = λ i x li le below. again i (target a mates (get_or s.stack i 0) x) (k.scanned i x li le below);
-  square = k.square;
-  falling = k.falling;
-  below = k.below;
-  used = k.used;
-  joined = k.joined;
+  scanned = k.scanned;
+  done = k.done;
   waiting = λ i li h. ⊎_elim (λ g. g) (λ (f : i ≡ p). absurd (h (ap (λ x. get_or s.left (get_or s.stack x 0) 0) f ∙ done))) (among_last i p todo (subst (Among i) e (k.waiting i li h)));
   todo_in = λ i h. k.todo_in i (subst (Among i) (sym e) (among_left i todo (p ∷ []) h));
   todo_rises = rising_front todo p (subst IsRising e k.todo_rises);
@@ -282,8 +261,3 @@ left_off a m mates s todo p k e done = record {
   few_on = k.few_on;
   few_todo = let f = k.few_todo in let l = ap length e in let z = length-append todo (p ∷ []) in omega arith;
 }
-  where
-    again : (i d : ℕ) → Settled s i d → Settled (leaving s todo) i d
-    again i d (nowhere z) = nowhere z
-    again i d (finished z) = finished z
-    again i d (stacked z c) = stacked z c

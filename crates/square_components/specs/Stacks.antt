@@ -40,21 +40,36 @@ abbrev pub Clear : List ℕ → ℕ → ℕ → Type 0
 Clear starts j i = (b : ℕ) → Among b starts → j < b → i < b
 
 -- where an entry of the column at the place i leads to: nowhere in the square part, to a finished column, or to one of its own component or a later one
-pub data Settled (s : PathState) (i d : ℕ) : Type 0 where
-  nowhere : d ≡ none → Settled s i d
-  finished : look s.number d ≢ none → Settled s i d
-  stacked : look s.place d ≢ none → Clear s.starts (look s.place d) i → Settled s i d
+pub data IsSettled (starts place number : List ℕ) (i d : ℕ) : Type 0 where
+  nowhere : d ≡ none → IsSettled starts place number i d
+  finished : look number d ≢ none → IsSettled starts place number i d
+  stacked : look place d ≢ none → Clear starts (look place d) i → IsSettled starts place number i d
+
+abbrev pub Settled : PathState → ℕ → ℕ → Type 0
+Settled s i d = IsSettled s.starts s.place s.number i d
 
 -- an entry of a finished column leads nowhere, or to a finished column of no greater number
 pub data Falls (number : List ℕ) (c d : ℕ) : Type 0 where
   nowhere : d ≡ none → Falls number c d
   falls : look number d ≢ none → look number d ≤ look number c → Falls number c d
 
-pub record IsOn (a : Matrix) (s : PathState) (i c : ℕ) : Type 0 where
+-- a square column that is not finished, with this place
+pub record HasPlace (a : Matrix) (entries places numbers : List ℕ) (i c : ℕ) : Type 0 where
   pub square : IsSquareCol a c
-  pub place : look s.place c ≡ i
-  pub number : look s.number c ≡ none
-  pub left : slice_index s.left c ≤ degree a c
+  pub place : look places c ≡ i
+  pub number : look numbers c ≡ none
+  pub left : slice_index entries c ≤ degree a c
+
+abbrev pub IsOn : Matrix → PathState → ℕ → ℕ → Type 0
+IsOn a s i c = HasPlace a s.left s.place s.number i c
+
+-- the finished columns, in so many components
+pub record AreFinished (a : Matrix) (m : List Place) (mates number : List ℕ) (count : ℕ) : Type 0 where
+  pub square : (c : ℕ) → look number c ≢ none → IsSquareCol a c
+  pub falling : (c x : ℕ) → look number c ≢ none → x < degree a c → Falls number c (target a mates c x)
+  pub below : (c : ℕ) → look number c ≢ none → look number c < count
+  pub used : (k : ℕ) → k < count → (c : ℕ) × (look number c ≡ k)
+  pub joined : (c d : ℕ) → look number c ≢ none → look number c ≡ look number d → Walk a m c d
 
 abbrev pub one_free : ℕ → ℕ
 one_free p = if nat_eq p none then 1 else 0
@@ -80,12 +95,7 @@ pub record IsState (a : Matrix) (m : List Place) (mates : List ℕ) (s : PathSta
   pub scanned : (i x : ℕ) → i < length s.stack → slice_index s.left (slice_index s.stack i) ≤ x
       → x < degree a (slice_index s.stack i)
       → Settled s i (target a mates (slice_index s.stack i) x)
-  pub square : (c : ℕ) → look s.number c ≢ none → IsSquareCol a c
-  pub falling : (c x : ℕ) → look s.number c ≢ none → x < degree a c
-      → Falls s.number c (target a mates c x)
-  pub below : (c : ℕ) → look s.number c ≢ none → look s.number c < s.count
-  pub used : (k : ℕ) → k < s.count → (c : ℕ) × (look s.number c ≡ k)
-  pub joined : (c d : ℕ) → look s.number c ≢ none → look s.number c ≡ look s.number d → Walk a m c d
+  pub done : AreFinished a m mates s.number s.count
   pub waiting : (i : ℕ) → i < length s.stack → slice_index s.left (slice_index s.stack i) ≢ 0
       → Among i s.todo
   pub todo_in : (i : ℕ) → Among i s.todo → i < length s.stack

@@ -111,9 +111,9 @@ impl Search {
         ensures { self.new ≡ entering self.old col entries }
     {
         let at = self.stack.len() as u32;
-        put(&mut self.stack, col);
-        put(&mut self.starts, at);
-        put(&mut self.todo, at);
+        self.stack.push_reserved(col);
+        self.starts.push_reserved(at);
+        self.todo.push_reserved(at);
         self.left[col as usize] = entries;
         self.place[col as usize] = at;
     }
@@ -212,15 +212,6 @@ impl Search {
     }
 }
 
-// Appends within the room that was taken.
-fn put(list: &mut Vec<u32>, item: u32)
-    requires { length list.old.items < vec_capacity list.old }
-    ensures items { list.new.items ≡ list.old.items ++ item ∷ [] }
-    ensures capacity { vec_capacity list.old ≤ vec_capacity list.new }
-{
-    let _room = list.push(item).is_ok();
-}
-
 // The last of a list.
 fn last(list: &[u32]) -> Option<u32>
     ensures some { IfSome result (λ x. IsLast list.now x) }
@@ -238,7 +229,7 @@ fn cut(list: &mut Vec<u32>)
         → list.new.items ≡ prefix }
     ensures capacity { vec_capacity list.old ≤ vec_capacity list.new }
 {
-    let _last = list.pop();
+    list.pop();
 }
 
 // Takes the places above this one off a rising list.

@@ -15,12 +15,12 @@ flip-requires-clause-in_range c = λ r x h.
     (within.1, within.0)
 
 pub flip-requires-clause-path : goal.flip-requires-clause-path
-flip-requires-clause-path c = subst (λ (z : List Place). IsAugmenting c.args.matching.now.pairs z) (sym c.transpose_path.ensures) (backwards_augments c.args.matching.now.pairs c.args.path.now c.size-size.ensures.rows_differ c.requires.path)
+flip-requires-clause-path c = subst (λ (z : List Place). IsAugmenting c.args.matching.now.pairs z) (sym c.transpose_path.ensures) (backwards_augments c.args.matching.now.pairs c.args.path.now c.is_matching.ensures.rows_differ c.requires.path)
 
 pub returns-clause-pairs : goal.returns-clause-pairs
 returns-clause-pairs c =
-    let cols : AreDistinct (cols_of c.args.matching.now.pairs) = rising_distinct _ c.size-size.ensures.cols_rise in
-    backwards_exchanges c.args.matching.now.pairs c.flip.new.self.pairs c.args.path.now c.size-size.ensures.rows_differ cols c.requires.path (subst (λ (z : List Place). Exchanges z c.args.matching.now.pairs c.flip.new.self.pairs) c.transpose_path.ensures c.flip.ensures.pairs)
+    let cols : AreDistinct (cols_of c.args.matching.now.pairs) = rising_distinct _ c.is_matching.ensures.cols_rise in
+    backwards_exchanges c.args.matching.now.pairs c.flip.new.self.pairs c.args.path.now c.is_matching.ensures.rows_differ cols c.requires.path (subst (λ (z : List Place). Exchanges z c.args.matching.now.pairs c.flip.new.self.pairs) c.transpose_path.ensures c.flip.ensures.pairs)
 
 pub returns-clause-size : goal.returns-clause-size
 returns-clause-size c = omega (arith, turned_length c.args.matching.now.pairs, turned_length c.flip.new.self.pairs, c.flip.ensures.size)

@@ -3,7 +3,7 @@ use Rattle.bip_graph.proofs.QueueTrees.{queue_depth, queue_traced, queue_trees}
 use Rattle.bip_graph.proofs.trace.Queue.path_to.Goals as goal
 
 pub trace_back-requires-clause-trees : goal.trace_back-requires-clause-trees
-trace_back-requires-clause-trees c = queue_trees _ _ c.size-size.ensures.rows_differ c.size-size.ensures.cols_rise c.requires.queue
+trace_back-requires-clause-trees c = queue_trees _ _ c.is_matching.ensures.rows_differ c.is_matching.ensures.cols_rise c.requires.queue
 
 pub trace_back-requires-clause-kept : goal.trace_back-requires-clause-kept
 trace_back-requires-clause-kept c = (c.requires.queue, among_at _ _ _ c.requires.place)

@@ -17,7 +17,7 @@ invariant_of-self c =
     let room = c.self.invariant.1 in (
       c.self.invariant.0,
       record { claims = room.claims; claim_roots = room.claim_roots; path = room.path; leaves = room.leaves; flipped = room.flipped },
-      adopted_now s (state_of c.self.inside) c.args.mates c.of-matching.result (s.flipped ++ unflipped s) (length c.as_slice-flips.result.now) c.is_sound.ensures c.requires.exchanged (c.self.view_is ∙ c.flip_all.ensures) (flipped_only s c.is_sound.ensures) (all_flipped s) (ap length c.as_slice-flips.ensures.value) c.of-matching.ensures.rows c.of-matching.ensures.cols c.of-matching.ensures.pairs c.size-size.ensures.rows_differ c.size-size.ensures.cols_rise,
+      adopted_now s (state_of c.self.inside) c.args.mates c.of-matching.result (s.flipped ++ unflipped s) (length c.as_slice-flips.result.now) c.is_sound.ensures c.requires.exchanged (c.self.view_is ∙ c.flip_all.ensures) (flipped_only s c.is_sound.ensures) (all_flipped s) (ap length c.as_slice-flips.ensures.value) c.of-matching.ensures.rows c.of-matching.ensures.cols c.of-matching.ensures.pairs c.is_matching.ensures.rows_differ c.is_matching.ensures.cols_rise,
     )
 
 pub returns-clause-flips : goal.returns-clause-flips

@@ -16,8 +16,8 @@ index_mut-requires c =
     let e = c.number.ensures in
     search rules
 
-pub put-requires : goal.put-requires
-put-requires c =
+pub push_reserved-requires : goal.push_reserved-requires
+push_reserved-requires c =
     let legal = subst (λ (s : State). IsLegal s (Flip c.args.root)) (sym c.self.view_is) c.requires in
     let lt : length c.self.inside.flipped.items < cols (state_of c.self.inside).matrix = flip_room (state_of c.self.inside) c.args.root c.self.invariant.0.sound legal in
     let room = c.self.invariant.1.flipped in
@@ -27,7 +27,7 @@ pub invariant_of-self : goal.invariant_of-self
 invariant_of-self c =
     let legal = subst (λ (s : State). IsLegal s (Flip c.args.root)) (sym c.self.view_is) c.requires in
     let room = c.self.invariant.1 in (
-      stored_flip_at (state_of c.self.inside) _ (tables_of c.self.inside) _ c.args.root _ c.self.invariant.0 legal c.put.ensures.items (ap (λ (i : ℕ). set c.self.inside.marks.items i true) c.number.ensures),
-      record { claims = room.claims; claim_roots = room.claim_roots; path = room.path; leaves = room.leaves; flipped = (let le = room.flipped in let more = c.put.ensures.capacity in omega (arith, le, more)) },
-      adopted_flip (state_of c.self.inside) _ c.args.root c.self.inside.adopted c.put.ensures.items c.self.invariant.2,
+      stored_flip_at (state_of c.self.inside) _ (tables_of c.self.inside) _ c.args.root _ c.self.invariant.0 legal c.push_reserved.ensures.items (ap (λ (i : ℕ). set c.self.inside.marks.items i true) c.number.ensures),
+      record { claims = room.claims; claim_roots = room.claim_roots; path = room.path; leaves = room.leaves; flipped = (let le = room.flipped in let more = c.push_reserved.ensures.capacity in omega (arith, le, more)) },
+      adopted_flip (state_of c.self.inside) _ c.args.root c.self.inside.adopted c.push_reserved.ensures.items c.self.invariant.2,
     )

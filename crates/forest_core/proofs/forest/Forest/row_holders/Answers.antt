@@ -3,7 +3,6 @@ use Rattle.bip_defs.specs.Lists.{Among}
 use Rattle.bip_defs.specs.Matching.{rows_of}
 use Rattle.bip_defs.specs.Matrix.{Matrix, Place}
 use Rattle.bip_defs.proofs.Sets.{one_col, row_among}
-use Rattle.forest_core.proofs.Members.{if_none}
 use Rattle.forest_core.proofs.Roots.{claims_differ}
 use Rattle.forest_core.proofs.StoredForests.{claim_in_range, made_all}
 use Rattle.forest_core.proofs.TableLemmas.{made_more, some_is}
@@ -12,11 +11,14 @@ use Rattle.forest_core.proofs.forest.Forest.row_holders.Goals as goal
 pub loop-row-preserved : goal.loop-row-preserved
 loop-row-preserved c =
     let s = c.args.self.now in
-    rw c.in_ok-push.ensures.items (made_more (λ (k v : ℕ). Among {X = Place} (k, v) s.claims) c.loop-row.row c.loop-row.list.items c.holder.result c.loop-row.invariant (some_is (λ v. Among {X = Place} (c.loop-row.row, v) s.claims) c.holder.result (λ v w h g. one_col s.claims (claims_differ s.matrix s.base [] s.claims c.is_sound.ensures.claims) c.loop-row.row v w h g) c.holder.ensures.found (if_none (¬ Among c.loop-row.row (rows_of s.claims)) ((v : ℕ) → ¬ Among {X = Place} (c.loop-row.row, v) s.claims) c.holder.result (λ n v h. n (row_among c.loop-row.row v s.claims h)) c.holder.ensures.none)))
+    record {
+      made = rw c.push_reserved.ensures.items (made_more (λ (k v : ℕ). Among {X = Place} (k, v) s.claims) c.loop-row.row c.loop-row.list.items c.holder.result c.loop-row.invariant.made (some_is (λ v. Among {X = Place} (c.loop-row.row, v) s.claims) (¬ Among c.loop-row.row (rows_of s.claims)) c.holder.result (λ v w h g. one_col s.claims (claims_differ s.matrix s.base [] s.claims c.is_sound.ensures.claims) c.loop-row.row v w h g) c.holder.ensures.found (λ n v h. n (row_among c.loop-row.row v s.claims h)) c.holder.ensures.none));
+      room = rw c.push_reserved.ensures.capacity c.loop-row.invariant.room;
+    }
 
 pub returns-clause-holders : goal.returns-clause-holders
 returns-clause-holders c =
     let s = c.args.self.now in
-    made_all (λ (k v : ℕ). Among {X = Place} (k, v) s.claims) c.loop-row.row c.loop-row.list.items c.loop-row.invariant (λ k v h.
+    made_all (λ (k v : ℕ). Among {X = Place} (k, v) s.claims) c.loop-row.row c.loop-row.list.items c.loop-row.invariant.made (λ k v h.
     let lt = (claim_in_range s c.is_sound.ensures k v h).0 in
     omega (arith, lt, c.loop-row-test.false, c.rows-rows.ensures, ap (λ (a : Matrix). a.rows) c.pattern.ensures))

@@ -1,7 +1,10 @@
-use Rattle.std.proofs.Common.{ℕ}
+use Rattle.std.proofs.Common.{ℕ, ◌≤◌, vec_capacity}
 use Rattle.bip_defs.specs.Forest.{IsRootOfRow}
 use Rattle.forest_core.proofs.TableLemmas.{IsMadeTo}
 use Rattle.forest_core.proofs.forest.Forest.row_trees.Given as goal
 
 abbrev pub invariant-loop-row : goal.invariant-loop-row
-invariant-loop-row l = IsMadeTo (λ (k v : ℕ). IsRootOfRow l.self.base l.self.claims v k) l.row l.list.items
+invariant-loop-row l = record {
+  made : IsMadeTo (λ (k v : ℕ). IsRootOfRow l.self.base l.self.claims v k) l.row l.list.items;
+  room : l.rows ≤ vec_capacity l.list;
+}

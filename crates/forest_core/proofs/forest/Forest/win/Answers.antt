@@ -21,8 +21,8 @@ put-requires-clause-value c =
     let lt : c.args.leaf < (state_of c.self.inside).matrix.rows = (claim_in_range (state_of c.self.inside) c.self.invariant.0.sound c.args.leaf legal.3.0 legal.3.1).0 in
     omega (arith, lt, c.is_pattern.ensures.few_rows, c.number-2.ensures)
 
-pub put-requires-2 : goal.put-requires-2
-put-requires-2 c =
+pub push_reserved-requires : goal.push_reserved-requires
+push_reserved-requires c =
     let legal = subst (λ (s : State). IsLegal s (Win c.args.root c.args.leaf)) (sym c.self.view_is) c.requires in
     let lt : length c.self.inside.leaves.items < cols (state_of c.self.inside).matrix = win_room (state_of c.self.inside) c.args.root c.args.leaf c.self.invariant.0.sound legal in
     let room = c.self.invariant.1.leaves in
@@ -32,12 +32,12 @@ pub invariant_of-self : goal.invariant_of-self
 invariant_of-self c =
     let legal = subst (λ (s : State). IsLegal s (Win c.args.root c.args.leaf)) (sym c.self.view_is) c.requires in
     let room = c.self.invariant.1 in
-    let stored = stored_win_at (state_of c.self.inside) _ (tables_of c.self.inside) _ c.args.root c.args.leaf _ c.self.invariant.0 legal c.put-2.ensures.items
+    let stored = stored_win_at (state_of c.self.inside) _ (tables_of c.self.inside) _ c.args.root c.args.leaf _ c.self.invariant.0 legal c.push_reserved.ensures.items
     (c.put.ensures ∙ ap (λ (i : ℕ). set c.self.inside.leaf_of i (Some c.number-2.result)) c.number.ensures ∙ ap (λ (x : ℕ). set c.self.inside.leaf_of c.args.root (Some x)) c.number-2.ensures) in (
       stored,
-      record { claims = room.claims; claim_roots = room.claim_roots; path = room.path; leaves = (let le = room.leaves in let more = c.put-2.ensures.capacity in omega (arith, le, more)); flipped = room.flipped },
-      adopted_win (state_of c.self.inside) _ (c.args.root, c.args.leaf) c.self.inside.adopted c.self.invariant.0.sound stored.sound c.put-2.ensures.items c.self.invariant.2,
+      record { claims = room.claims; claim_roots = room.claim_roots; path = room.path; leaves = (let le = room.leaves in let more = c.push_reserved.ensures.capacity in omega (arith, le, more)); flipped = room.flipped },
+      adopted_win (state_of c.self.inside) _ (c.args.root, c.args.leaf) c.self.inside.adopted c.self.invariant.0.sound stored.sound c.push_reserved.ensures.items c.self.invariant.2,
     )
 
 pub returns-clause-grows : goal.returns-clause-grows
-returns-clause-grows c = win_grows_at (state_of c.self.inside) c.args.self.now c.args.root c.args.leaf _ c.self.view_is c.put-2.ensures.items c.requires
+returns-clause-grows c = win_grows_at (state_of c.self.inside) c.args.self.now c.args.root c.args.leaf _ c.self.view_is c.push_reserved.ensures.items c.requires
