@@ -53,6 +53,16 @@ module _ {B L : Type 0} where
   pub one_of_all : {b : B} (ss : List (Seat B L)) (s t : Seat B L) → HoldsAllSeats b ss → Among s ss → Among t ss → s.number ≡ t.number → s ≡ t
   one_of_all ss s t all h k e = one_counted t.number ss (let was = all.numbers t.number in omega (arith, was, below_once t.number (length ss))) s t h k e refl
 
+  -- they are as few as each of them counts
+  pub few_of_counted : {b : B} (most : ℕ) (ss : List (Seat B L)) → HoldsAllSeats b ss → ((s : Seat B L) → Among s ss → s.seats ≤ most) → length ss ≤ most
+  few_of_counted most ss all few =
+      let own = all.numbers 0 in
+      let there = below_is 0 (length ss) (let some = all.some in omega (arith, some)) in
+      let (s, h, zeroth) = counted_some 0 ss (omega (arith, own, there)) in
+      let le = few s h in
+      let is = all.counted s h zeroth in
+      omega (arith, le, is)
+
   -- Seats in the order of their numbers are all seats.
 
   numbered_counts : (b : B) (first : ℕ) (ss : List (Seat B L)) → AreNumbered b first ss → (n : ℕ) → sum_by (has_number n) ss + below n first ≡ below n (first + length ss)
