@@ -11,8 +11,8 @@ use Rattle.claim_words.specs.Stored.{IsLaid, board_in, shown}
 -- A seat of a board is of the board's table, and knows what the words held when it was opened
 pub record IsOf (table id : TableId) (k : Known) (rows : ℕ) (opened : List ℕ) : Type 0 where
   pub same_table : table ≡ id
-  pub same_rows : k.rows ≡ rows_in rows opened
-  pub same_roots : k.roots ≡ roots_in rows opened
+  pub same_rows : k.opened.rows ≡ rows_in rows opened
+  pub same_roots : k.opened.roots ≡ roots_in rows opened
 
 pub is_of : (table id : TableId) (k : Known) (rows : ℕ) (opened : List ℕ) (s : Seat) (b : Board) → shown table k ≡ s → s.board ≡ b → board_in id rows opened ≡ b → IsOf table id k rows opened
 is_of table id k rows opened s b view same board =

@@ -1,5 +1,6 @@
 -- A board that is closed with its last seat.
 use Rattle.std.proofs.Common.{◌≡◌, ◌∙◌, ℕ, zero, suc, ◌+◌, ◌<◌, ◌≤◌, Option, Some, List, [], ◌∷◌, get_or, map, length, sym, ap, subst, arith}
+use Rattle.std.specs.List.Sorted.{IsPermutation}
 use mathlib.Core.Option.{some, some-injective, some-ne-none}
 use lib.ListN.{get_elem?}
 use Rattle.atomic_table.specs.Table.{Final, Me, Seen}
@@ -12,8 +13,8 @@ use Rattle.claim_words.specs.Seat.{Seat, first_seat, gathered}
 use Rattle.claim_words.specs.Settles.{Settles, SettlesAll}
 use Rattle.claim_words.specs.Stored.{IsLeft, IsOpen, shown}
 use Rattle.claim_words.proofs.WordCodes.{root_read, row_read}
-use Rattle.claim_words.proofs.GatherLemmas.{settles_gathered}
-use Rattle.claim_words.proofs.SeatNumbers.{alone}
+use Rattle.claim_words.proofs.GatherLemmas.{settles_gathered, settles_permuted}
+use Rattle.claim_words.proofs.SettledWords.{alone}
 
 -- What is read.
 
@@ -41,18 +42,18 @@ left n rows opened words xs id v fact there (s, (kept, at), same, long, homes) =
   rows_there = let many = sym (ap length same) ∙ kept.as_many in omega (arith, many, fact, there);
 }
 
-pub last_known : {S : Type 0} (n rows : ℕ) (opened words : List ℕ) (xs : List S) (id : ℕ) (table : Rattle.atomic_table.specs.Seated.TableId) (me : Me S (Option Known)) (b : Board) (ss : List Seat)
-    → IsOpen me → n ≡ rows → shown table (known me.0) ≡ first_seat b 1 (gathered ss) → Final (Seen (Kept n opened) id me.0) words xs → SettlesAll b (decoded rows words) ss
-last_known n rows opened words xs id table me b ss live fact view (s, (kept, at), same, long, homes) =
-    settles_gathered b.rows b.roots (decoded rows words) ss
+pub last_known : {S : Type 0} (n rows : ℕ) (opened words : List ℕ) (xs : List S) (id : ℕ) (table : Rattle.atomic_table.specs.Seated.TableId) (me : Me S (Option Known)) (b : Board) (ss ts : List Seat)
+    → IsPermutation ss ts → IsOpen me → n ≡ rows → shown table (known me.0) ≡ first_seat b 1 (gathered ts) → Final (Seen (Kept n opened) id me.0) words xs → SettlesAll b (decoded rows words) ss
+last_known n rows opened words xs id table me b ss ts moved live fact view (s, (kept, at), same, long, homes) =
+    settles_permuted b.rows b.roots (decoded rows words) ss ts moved (settles_gathered b.rows b.roots (decoded rows words) ts
     (subst (λ (t : Seat). Settles t.board.rows t.board.roots (decoded rows words) t.listed) view
-    (subst (λ m. Settles (known me.0).rows (known me.0).roots (decoded m words) (known me.0).listed) fact
-    (subst (λ ws. Settles (known me.0).rows (known me.0).roots (decoded n ws) (known me.0).listed) same account)))
+    (subst (λ m. Settles (known me.0).opened.rows (known me.0).opened.roots (decoded m words) (known me.0).listed) fact
+    (subst (λ ws. Settles (known me.0).opened.rows (known me.0).opened.roots (decoded n ws) (known me.0).listed) same account))))
   where
     there : get_elem? s.views id ≡ some (Some (known me.0))
     there = at ∙ ap some live.0
 
-    account : Settles (known me.0).rows (known me.0).roots (decoded n s.words) (known me.0).listed
-    account = subst (Settles (known me.0).rows (known me.0).roots (decoded n s.words)) (alone kept.seats id (known me.0) there (ap (λ (t : Seat). t.number) view) (ap (λ (t : Seat). t.seats) view))
-        (subst (λ rows. Settles rows (known me.0).roots (decoded n s.words) (all_listed (map listed_by s.views))) (sym (kept.seats.opened id (known me.0) there).0)
-        (subst (λ roots. Settles (rows_in n opened) roots (decoded n s.words) (all_listed (map listed_by s.views))) (sym (kept.seats.opened id (known me.0) there).1) kept.settles))
+    account : Settles (known me.0).opened.rows (known me.0).opened.roots (decoded n s.words) (known me.0).listed
+    account = subst (Settles (known me.0).opened.rows (known me.0).opened.roots (decoded n s.words)) (alone kept.seats id (known me.0) there (ap (λ (t : Seat). t.number) view) (ap (λ (t : Seat). t.seats) view))
+        (subst (λ rows. Settles rows (known me.0).opened.roots (decoded n s.words) (all_listed (map listed_by s.views))) (sym (ap (λ (o : Words). o.rows) (kept.seats.opened id (known me.0) there)))
+        (subst (λ roots. Settles (rows_in n opened) roots (decoded n s.words) (all_listed (map listed_by s.views))) (sym (ap (λ (o : Words). o.roots) (kept.seats.opened id (known me.0) there))) kept.settles))

@@ -1,37 +1,22 @@
 -- Seats that the seat 0 takes in, the highest number first.
-use Rattle.std.proofs.Common.{◌≡◌, ◌∙◌, ℕ, ◌+◌, List, [], ◌∷◌, ◌++◌, flat_map, length, sym, ap, subst, ⊎_elim, arith, append_assoc, append-nil, length-append}
-use Rattle.std.proofs.lemmas.Grind.{flat_map-append}
-use Rattle.std.proofs.lemmas.List.{map-append}
-use Rattle.bip_defs.specs.Lists.{Among}
-use Rattle.bip_defs.specs.Occurrences.{times}
-use Rattle.bip_defs.proofs.Occurrences.{times_append}
-use Rattle.bip_defs.proofs.Sets.{among_either, among_left, among_right}
+use Rattle.std.proofs.Common.{◌≡◌, ◌∙◌, ℕ, ◌+◌, List, [], ◌∷◌, ◌++◌, flat_map, length, sym, ap, subst, arith, length-append}
 use Rattle.claim_words.specs.Board.{Board, Words}
 use Rattle.claim_words.specs.Listed.{Listed, all_listed, followed_by}
 use Rattle.claim_words.specs.Seat.{AreNumbered, Seat, first_seat, gathered, lists_of}
 use Rattle.claim_words.specs.Settles.{Settles}
+use Rattle.board_seats.proofs.Flat.{among_turned, times_turned}
+use Rattle.board_seats.proofs.Numbered.{among_moved_seats, flat_last, numbered_last, times_moved_seats}
+use Rattle.std.specs.List.Sorted.{IsPermutation}
 use Rattle.claim_words.proofs.AccountLemmas.{accounts_moved}
+use Rattle.claim_words.proofs.SettledWords.{claims_of, seen_of, wins_of}
 
--- Numbers.
-
-pub numbered_last : (b : Board) (n : ℕ) (ss : List Seat) (s : Seat) → AreNumbered b n (ss ++ s ∷ []) → AreNumbered b n ss × (s.board ≡ b) × (s.number ≡ n + length ss)
-numbered_last b n [] s (board, number, rest) = (tt, board, number ∙ omega arith)
-numbered_last b n (r ∷ ss) s (board, number, rest) =
-    let (before, last_board, last_number) = numbered_last b (1 + n) ss s rest in
-    ((board, number, before), last_board, last_number ∙ omega arith)
-
--- Lists.
-
--- the list of the last seat goes to before that of the seat 0
-flat_last : {X : Type 0} (g : Listed → List X) (ls : List Listed) (l : Listed) (xs : List X) → flat_map g (ls ++ l ∷ []) ++ xs ≡ flat_map g ls ++ (g l ++ xs)
-flat_last g ls l xs = ap (λ ys. ys ++ xs) (flat_map-append g ls (l ∷ []) ∙ ap (λ ys. flat_map g ls ++ ys) (append-nil (g l))) ∙ append_assoc (flat_map g ls) (g l) xs
-
+-- the lists of the last seat go to before those of the seat 0
 pub listed_last : (ss : List Seat) (s : Seat) (l : Listed) → followed_by (all_listed (lists_of (ss ++ s ∷ []))) l ≡ followed_by (all_listed (lists_of ss)) (followed_by s.listed l)
-listed_last ss s l = ap (λ ls. followed_by (all_listed ls) l) (map-append (λ (t : Seat). t.listed) ss (s ∷ [])) ∙ (λ i. record {
-  claims = flat_last (λ (m : Listed). m.claims) (lists_of ss) s.listed l.claims i;
-  wins = flat_last (λ (m : Listed). m.wins) (lists_of ss) s.listed l.wins i;
-  seen = flat_last (λ (m : Listed). m.seen) (lists_of ss) s.listed l.seen i;
-})
+listed_last ss s l = λ i. record {
+  claims = flat_last (λ (m : Listed). m.claims) ss s l.claims i;
+  wins = flat_last (λ (m : Listed). m.wins) ss s l.wins i;
+  seen = flat_last (λ (m : Listed). m.seen) ss s l.seen i;
+}
 
 -- All seats of a board.
 
@@ -51,12 +36,6 @@ last_taken b ss first now s all total numbered e is same =
 
 -- The seat 0's list at the end or at the head is the same for the words.
 
-times_turned : (i : ℕ) (xs ys : List (ℕ × ℕ)) → times i (xs ++ ys) ≡ times i (ys ++ xs)
-times_turned i xs ys = omega (arith, times_append i xs ys, times_append i ys xs)
-
-among_turned : {X : Type 0} (x : X) (xs ys : List X) → Among x (xs ++ ys) → Among x (ys ++ xs)
-among_turned x xs ys h = ⊎_elim (among_right x ys xs) (among_left x ys xs) (among_either x xs ys h)
-
 settles_turned : (rows roots : List (Rattle.std.specs.Prelude.Option ℕ)) (words : Words) (l m : Listed) → Settles rows roots words (followed_by l m) → Settles rows roots words (followed_by m l)
 settles_turned rows roots words l m a = record {
   claims = accounts_moved rows words.rows (l.claims ++ m.claims) (m.claims ++ l.claims) a.claims (λ i. times_turned i m.claims l.claims) (λ p. among_turned p m.claims l.claims);
@@ -67,3 +46,11 @@ settles_turned rows roots words l m a = record {
 pub settles_gathered : (rows roots : List (Rattle.std.specs.Prelude.Option ℕ)) (words : Words) (ss : List Seat) → Settles rows roots words (gathered ss) → Settles rows roots words (all_listed (lists_of ss))
 settles_gathered rows roots words [] a = a
 settles_gathered rows roots words (s ∷ ss) a = settles_turned rows roots words (all_listed (lists_of ss)) s.listed a
+
+-- seats in another order account for the same words
+pub settles_permuted : (rows roots : List (Rattle.std.specs.Prelude.Option ℕ)) (words : Words) (ss ts : List Seat) → IsPermutation ss ts → Settles rows roots words (all_listed (lists_of ts)) → Settles rows roots words (all_listed (lists_of ss))
+settles_permuted rows roots words ss ts moved a = record {
+  claims = accounts_moved rows words.rows (flat_map claims_of (lists_of ts)) (flat_map claims_of (lists_of ss)) a.claims (λ i. sym (times_moved_seats claims_of i ss ts moved)) (λ p. among_moved_seats claims_of ss ts p moved);
+  wins = accounts_moved roots words.roots (flat_map wins_of (lists_of ts)) (flat_map wins_of (lists_of ss)) a.wins (λ i. sym (times_moved_seats wins_of i ss ts moved)) (λ p. among_moved_seats wins_of ss ts p moved);
+  seen = λ s h. a.seen s (among_moved_seats seen_of ss ts s moved h);
+}

@@ -15,8 +15,8 @@ use Rattle.claim_words.specs.Rule.{Kept, Known, listed_by}
 use Rattle.claim_words.specs.Settles.{Settles, Stands}
 use Rattle.claim_words.specs.Steps.{KnewRoot, KnewRow, knowing}
 use Rattle.claim_words.proofs.WordCodes.{root_read, roots_root, roots_row, row_below, row_read, rows_root, rows_row}
-use Rattle.claim_words.proofs.Flat.{among_flat}
-use Rattle.claim_words.proofs.SeatNumbers.{seated_step}
+use Rattle.board_seats.proofs.Flat.{among_flat}
+use Rattle.board_seats.proofs.SeatNumbers.{seated_step}
 use Rattle.claim_words.proofs.SettledWords.{settles_claim, settles_look, settles_win}
 
 -- a word that is written fits
@@ -35,11 +35,11 @@ module _ {S : Type 0} (n : ℕ) (opened : List ℕ) (s : State S (Option Known))
   listed_at : get_elem? (map listed_by s.views) id ≡ some k.listed
   listed_at = at_map listed_by s.views id (Some k) at
 
-  pub row_within : (row : ℕ) → row < length k.rows → row < length (rows_in n s.words)
-  row_within row lt = subst (λ m. row < m) (ap length (kept.seats.opened id k at).0 ∙ sym kept.settles.claims.as_many) lt
+  pub row_within : (row : ℕ) → row < length k.opened.rows → row < length (rows_in n s.words)
+  row_within row lt = subst (λ m. row < m) (ap length (ap (λ (o : Words). o.rows) (kept.seats.opened id k at)) ∙ sym kept.settles.claims.as_many) lt
 
-  pub root_within : (root : ℕ) → root < length k.roots → root < length (roots_in n s.words)
-  root_within root lt = subst (λ m. root < m) (ap length (kept.seats.opened id k at).1 ∙ sym kept.settles.wins.as_many) lt
+  pub root_within : (root : ℕ) → root < length k.opened.roots → root < length (roots_in n s.words)
+  root_within root lt = subst (λ m. root < m) (ap length (ap (λ (o : Words). o.roots) (kept.seats.opened id k at)) ∙ sym kept.settles.wins.as_many) lt
 
   -- words and lists that settle, as the rule has them
   ruled : (words : List ℕ) (w : Words) (l : Listed) → w ≡ decoded n words → Settles (rows_in n opened) (roots_in n opened) w (all_listed (set (map listed_by s.views) id l))
@@ -47,7 +47,7 @@ module _ {S : Type 0} (n : ℕ) (opened : List ℕ) (s : State S (Option Known))
   ruled words w l e a = subst (λ v. Settles (rows_in n opened) (roots_in n opened) v (all_listed (map listed_by (set s.views id (knowing k l))))) e
       (subst (λ ls. Settles (rows_in n opened) (roots_in n opened) w (all_listed ls)) (sym (map-set listed_by s.views id (knowing k l))) a)
 
-  pub kept_claim : (row col : ℕ) → row < length k.rows → 1 + col ≤ 4294967296 → slice_index s.words (1 + row) ≡ 0
+  pub kept_claim : (row col : ℕ) → row < length k.opened.rows → 1 + col ≤ 4294967296 → slice_index s.words (1 + row) ≡ 0
       → Kept n opened (with_words s (set s.words (1 + row) (1 + col)) (set s.views id (knowing k (claimed k.listed row col None))))
   kept_claim row col lt le empty =
       let within = row_within row lt in
@@ -62,7 +62,7 @@ module _ {S : Type 0} (n : ℕ) (opened : List ℕ) (s : State S (Option Known))
             (settles_claim (map listed_by s.views) kept.settles id k.listed listed_at row col within (row_read n s.words row within ∙ ap value_of empty));
       }
 
-  pub kept_win : (root leaf : ℕ) → root < length k.roots → 1 + leaf ≤ 4294967296 → slice_index s.words (1 + n + root) ≡ 0
+  pub kept_win : (root leaf : ℕ) → root < length k.opened.roots → 1 + leaf ≤ 4294967296 → slice_index s.words (1 + n + root) ≡ 0
       → Kept n opened (with_words s (set s.words (1 + n + root) (1 + leaf)) (set s.views id (knowing k (won k.listed root leaf None))))
   kept_win root leaf lt le empty =
       let within = root_within root lt in
@@ -87,16 +87,16 @@ module _ {S : Type 0} (n : ℕ) (opened : List ℕ) (s : State S (Option Known))
 
   -- a value that the seat knew is what stands in the word
 
-  pub row_stands : (row x : ℕ) → row < length k.rows → KnewRow k row x → value_of (slice_index s.words (1 + row)) ≡ Some x
+  pub row_stands : (row x : ℕ) → row < length k.opened.rows → KnewRow k row x → value_of (slice_index s.words (1 + row)) ≡ Some x
   row_stands row x lt knew = sym (row_read n s.words row (row_within row lt)) ∙ ⊎_elim
-      (λ (e : held k.rows row ≡ Some x). kept.settles.claims.stays row x (subst (λ rows. held rows row ≡ Some x) (kept.seats.opened id k at).0 e))
+      (λ (e : held k.opened.rows row ≡ Some x). kept.settles.claims.stays row x (subst (λ rows. held rows row ≡ Some x) (ap (λ (o : Words). o.rows) (kept.seats.opened id k at)) e))
       (λ t. ⊎_elim
       (λ (h : Among (row, x) k.listed.claims). kept.settles.claims.stands row x (among_flat (λ (l : Listed). l.claims) (map listed_by s.views) id k.listed (row, x) listed_at h))
       (λ (h : Among (row_word row (Some x)) k.listed.seen). kept.settles.seen (row_word row (Some x)) (among_flat (λ (l : Listed). l.seen) (map listed_by s.views) id k.listed (row_word row (Some x)) listed_at h)) t) knew
 
-  pub root_stands : (root x : ℕ) → root < length k.roots → KnewRoot k root x → value_of (slice_index s.words (1 + n + root)) ≡ Some x
+  pub root_stands : (root x : ℕ) → root < length k.opened.roots → KnewRoot k root x → value_of (slice_index s.words (1 + n + root)) ≡ Some x
   root_stands root x lt knew = sym (root_read n s.words root (root_within root lt)) ∙ ⊎_elim
-      (λ (e : held k.roots root ≡ Some x). kept.settles.wins.stays root x (subst (λ roots. held roots root ≡ Some x) (kept.seats.opened id k at).1 e))
+      (λ (e : held k.opened.roots root ≡ Some x). kept.settles.wins.stays root x (subst (λ roots. held roots root ≡ Some x) (ap (λ (o : Words). o.roots) (kept.seats.opened id k at)) e))
       (λ t. ⊎_elim
       (λ (h : Among (root, x) k.listed.wins). kept.settles.wins.stands root x (among_flat (λ (l : Listed). l.wins) (map listed_by s.views) id k.listed (root, x) listed_at h))
       (λ (h : Among (root_word root (Some x)) k.listed.seen). kept.settles.seen (root_word root (Some x)) (among_flat (λ (l : Listed). l.seen) (map listed_by s.views) id k.listed (root_word root (Some x)) listed_at h)) t) knew

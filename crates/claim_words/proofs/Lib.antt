@@ -1,14 +1,12 @@
 mod AccountLemmas
 mod Boards
 mod ClosedBoards
-mod Flat
 mod GatherLemmas
 mod Keeps
 mod ListedWords
 mod Openings
 mod Reseated
 mod SeatLemmas
-mod SeatNumbers
 mod SettledWords
 mod Shown
 mod StepRules

@@ -1,37 +1,28 @@
 -- A board at the start, and its seats.
-use Rattle.std.proofs.Common.{◌≡◌, ◌∙◌, ℕ, zero, suc, ◌+◌, ◌<◌, ◌==◌, if◌then◌else◌, Option, None, Some, List, [], ◌∷◌, ◌++◌, map, take, drop, length, get_or, slice_index, refl, sym, ap, ap₂, subst, subst₂, arith, one-add, add-one, append_assoc}
+use Rattle.std.proofs.Common.{◌≡◌, ◌∙◌, ℕ, ◌+◌, ◌<◌, Option, None, Some, List, [], ◌∷◌, ◌++◌, map, take, drop, length, get_or, slice_index, refl, sym, ap, ap₂, subst, subst₂, arith, one-add, append_assoc}
 use Rattle.std.proofs.lemmas.List.{length-map, map-append, take_more}
-use Rattle.std.proofs.lemmas.List.Sums.{sum_by-cons}
 use Rattle.std.proofs.Math.Seq.{drop-append_seam, take-append_seam}
-use mathlib.Core.Option.{some, some-injective, some-ne-none}
-use lib.ListN.{get_elem?}
 use Rattle.atomic_table.specs.Table.{opening}
-use Rattle.bip_defs.specs.Occurrences.{below}
 use Rattle.bip_defs.specs.WordValues.{held, is_added, value_of}
-use Rattle.bip_defs.proofs.Occurrences.{one_else}
 use Rattle.claim_words.specs.Accounts.{Accounts}
 use Rattle.claim_words.specs.Board.{Board}
-use Rattle.claim_words.specs.WordCodes.{AllFit, code_by, roots_in, rows_in, words_for}
+use Rattle.claim_words.specs.WordCodes.{AllFit, code_by, decoded, roots_in, rows_in, words_for}
 use Rattle.claim_words.specs.Listed.{nothing}
-use Rattle.claim_words.specs.Rule.{AreSeated, Kept, Known, has_number, opener}
+use Rattle.claim_words.specs.Rule.{Kept, opener}
 use Rattle.claim_words.specs.Seat.{Seat, first_seat, more_seats, new_seat}
 use Rattle.claim_words.proofs.WordCodes.{coded_read}
-use Rattle.claim_words.proofs.SeatNumbers.{known_same}
+use Rattle.board_seats.proofs.Numbered.{more_last}
+use Rattle.board_seats.proofs.SeatNumbers.{seated_alone}
 
 -- Seats.
 
-more_seats_suc : (b : Board) (n k : ℕ) → more_seats b n (suc k) ≡ more_seats b n k ++ new_seat b (n + k) ∷ []
-more_seats_suc b n zero = ap (λ m. new_seat b m ∷ []) (omega arith)
-more_seats_suc b n (suc k) = ap (λ ss. new_seat b n ∷ ss) (more_seats_suc b (1 + n) k ∙ ap (λ m. more_seats b (1 + n) k ++ new_seat b m ∷ []) (omega arith))
-
 -- one seat more
 
-pub first_more : (b : Board) (first now : Seat) (made : ℕ) → first ≡ first_seat b (1 + made) nothing → now ≡ first_seat b (1 + first.seats) first.listed → now ≡ first_seat b (1 + (made + 1)) nothing
-first_more b first now made was e = e ∙ ap (λ (s : Seat). first_seat b (1 + s.seats) s.listed) was ∙ ap (λ n. first_seat b n nothing) (omega arith)
+pub first_more : (b : Board) (first now : Seat) (made : ℕ) → first ≡ first_seat b (1 + made) nothing → now ≡ first_seat b (1 + (1 + made)) first.listed → now ≡ first_seat b (1 + (made + 1)) nothing
+first_more b first now made was e = e ∙ ap (λ (s : Seat). first_seat b (1 + (1 + made)) s.listed) was ∙ ap (λ n. first_seat b n nothing) (omega arith)
 
-pub others_more : (b : Board) (first other : Seat) (before : List Seat) (made : ℕ) → first ≡ first_seat b (1 + made) nothing → other ≡ new_seat b first.seats → before ≡ more_seats b 1 made → before ++ other ∷ [] ≡ more_seats b 1 (made + 1)
-others_more b first other before made was e same = ap₂ (λ ss (s : Seat). ss ++ s ∷ []) same (e ∙ ap (λ (s : Seat). new_seat b s.seats) was)
-    ∙ subst (λ m. more_seats b 1 made ++ new_seat b (1 + made) ∷ [] ≡ more_seats b 1 m) (sym (add-one made)) (sym (more_seats_suc b 1 made))
+pub others_more : (b : Board) (other : Seat) (before : List Seat) (made : ℕ) → other ≡ new_seat b (1 + made) → before ≡ more_seats b 1 made → before ++ other ∷ [] ≡ more_seats b 1 (made + 1)
+others_more b other before made new same = ap₂ (λ ss (s : Seat). ss ++ s ∷ []) same new ∙ sym (more_last nothing b 1 made)
 
 -- Words.
 
@@ -63,33 +54,12 @@ accounts_none opened = record {
   once = λ i. nothing_added (held opened i);
 }
 
-first_below : (n : ℕ) → (if 0 == n then 1 else 0) ≡ below n 1
-first_below zero = refl
-first_below (suc n) = one_else 0 (suc n) (λ e. omega arith)
-
-seated_alone : (k : Known) → k.number ≡ 0 → k.seats ≡ 1 → AreSeated k.rows k.roots (Some k ∷ [])
-seated_alone k zeroth one = record {
-  count = 1;
-  some_seat = omega arith;
-  numbers = λ n. sum_by-cons (has_number n) (Some k) [] ∙ subst (λ m. m + 0 ≡ below n 1) (sym (ap (λ (m : ℕ). if m == n then 1 else 0) zeroth)) (let e = first_below n in omega (arith, e));
-  keeps_count = count;
-  opened = same;
-}
-  where
-    count : (id : ℕ) (j : Known) → get_elem? (Some k ∷ []) id ≡ some (Some j) → j.number ≡ 0 → j.seats ≡ 1
-    count zero j at num = subst (λ (m : Known). m.seats ≡ 1) (known_same (some-injective (Some k) (Some j) at)) one
-    count (suc id) j at num = absurd (some-ne-none (Some j) (sym at))
-
-    same : (id : ℕ) (j : Known) → get_elem? (Some k ∷ []) id ≡ some (Some j) → (j.rows ≡ k.rows) × (j.roots ≡ k.roots)
-    same zero j at = subst (λ (m : Known). (m.rows ≡ k.rows) × (m.roots ≡ k.roots)) (known_same (some-injective (Some k) (Some j) at)) (refl, refl)
-    same (suc id) j at = absurd (some-ne-none (Some j) (sym at))
-
 opens : {S : Type 0} (n : ℕ) (words : List ℕ) → slice_index words 0 ≡ 0 → AllFit words → Kept n words (opening {S = S} words [] (opener n words))
 opens n words spare fits = record {
   spare = spare;
   as_many = refl;
   fits = fits;
-  seats = seated_alone (record { rows = rows_in n words; roots = roots_in n words; number = 0; seats = 1; listed = nothing }) refl refl;
+  seats = seated_alone nothing (decoded n words);
   settles = record { claims = accounts_none (rows_in n words); wins = accounts_none (roots_in n words); seen = λ sight h. absurd h };
 }
 

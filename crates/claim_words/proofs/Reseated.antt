@@ -5,7 +5,8 @@ use Rattle.claim_words.specs.Board.{Board, Words}
 use Rattle.claim_words.specs.Listed.{Listed, all_listed, followed_by, nothing}
 use Rattle.claim_words.specs.Seat.{AreNumbered, Seat, first_seat, lists_of, new_seat, gathered}
 use Rattle.claim_words.specs.WorkerState.{WorkerState, re_seated, seats_of, with_seat, AreAllWorkers, after_gather, fresh_lists}
-use Rattle.claim_words.proofs.GatherLemmas.{numbered_last, settles_gathered}
+use Rattle.claim_words.proofs.GatherLemmas.{settles_gathered}
+use Rattle.board_seats.proofs.Numbered.{numbered_last}
 use Rattle.claim_words.specs.Settles.{Settles, SettlesAll}
 
 seats_last : (ws : List WorkerState) (w : WorkerState) → seats_of (ws ++ w ∷ []) ≡ seats_of ws ++ w.seat ∷ []
@@ -36,6 +37,10 @@ last_first b others rest s first l out is = is ∙ ap (λ n. first_seat b n l) (
 
 pub renewed_first : (b : Board) (others rest : List WorkerState) (s now : Seat) (l : Listed) → LastOut b others rest s → now ≡ first_seat b s.number l → now ≡ first_seat b (1 + length rest) now.listed
 renewed_first b others rest s now l out is = subst (λ (t : Seat). t ≡ first_seat b (1 + length rest) t.listed) (sym is) (ap (λ n. first_seat b n l) out.number)
+
+-- the seat 0 counts so many seats again as the number of the one that was taken out
+pub renewed_at : (b : Board) (first : Seat) (n number : ℕ) (l : Listed) → first ≡ first_seat b n l → number ≡ n → first ≡ first_seat b number first.listed
+renewed_at b first n number l is e = subst (λ m. first ≡ first_seat b m first.listed) (sym e) (subst (λ (t : Seat). t ≡ first_seat b n t.listed) (sym is) refl)
 
 -- the new seat goes to the last worker
 re_seated_last : (b : Board) (n : ℕ) (ws : List WorkerState) (w : WorkerState) → re_seated b n (ws ++ w ∷ []) ≡ re_seated b n ws ++ with_seat w (new_seat b (n + length ws)) ∷ []

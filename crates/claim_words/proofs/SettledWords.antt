@@ -1,39 +1,36 @@
 -- The lists of all seats account for the words after each kind of step.
-use Rattle.std.proofs.Common.{◌≡◌, ◌≢◌, ◌∙◌, ◌⊎◌, ℕ, ◌+◌, ◌<◌, ◌==◌, if◌then◌else◌, Option, None, Some, List, [], ◌∷◌, ◌++◌, set, flat_map, length, refl, sym, ap, subst, inl, inr, ⊎_elim, arith}
+use Rattle.std.proofs.Common.{◌≡◌, ◌≢◌, ℕ, ◌<◌, Option, None, Some, List, [], ◌∷◌, ◌++◌, map, set, flat_map, length, refl, sym, subst, ⊎_elim}
 use mathlib.Core.Option.{some}
 use lib.ListN.{get_elem?}
 use Rattle.bip_defs.specs.Lists.{Among}
-use Rattle.bip_defs.specs.Occurrences.{times}
 use Rattle.bip_defs.specs.WordValues.{held}
-use Rattle.bip_defs.proofs.Occurrences.{times_append}
-use Rattle.bip_defs.proofs.Sets.{among_last}
 use Rattle.bip_defs.proofs.WordValues.{held_grows}
 use Rattle.claim_words.specs.Accounts.{Accounts}
 use Rattle.claim_words.specs.Board.{Words}
 use Rattle.claim_words.specs.Listed.{Listed, Sight, all_listed, claimed, followed_by, looked, nothing, root_word, row_word, won}
 use Rattle.claim_words.specs.Settles.{Settles, Stands}
 use Rattle.claim_words.proofs.AccountLemmas.{accounts_added, accounts_moved}
-use Rattle.claim_words.proofs.Flat.{among_flat, among_moved, among_set, flat_same, flat_snoc, times_moved, times_set}
+use Rattle.board_seats.proofs.Flat.{among_moved, flat_same, flat_snoc, from_last, times_more, times_moved}
+use Rattle.board_seats.proofs.SeatNumbers.{only_flat, only_seat}
+use Rattle.board_seats.specs.View.{AreSeated}
+use Rattle.claim_words.specs.Rule.{Known, listed_by}
 
-abbrev claims_of : Listed → List (ℕ × ℕ)
+abbrev pub claims_of : Listed → List (ℕ × ℕ)
 claims_of l = l.claims
 
-abbrev wins_of : Listed → List (ℕ × ℕ)
+abbrev pub wins_of : Listed → List (ℕ × ℕ)
 wins_of l = l.wins
 
-abbrev seen_of : Listed → List Sight
+abbrev pub seen_of : Listed → List Sight
 seen_of l = l.seen
 
--- an entry at the end of one list is one entry more of all
-
-one_more : (g : Listed → List (ℕ × ℕ)) (ls : List Listed) (id : ℕ) (l m : Listed) (i x : ℕ) → get_elem? ls id ≡ some l → g m ≡ g l ++ (i, x) ∷ [] → (j : ℕ) → times j (flat_map g (set ls id m)) ≡ times j (flat_map g ls) + (if i == j then 1 else 0)
-one_more g ls id l m i x at e j =
-    let all = times_set g ls id l m j at in
-    let own = ap (times j) e ∙ times_append j (g l) ((i, x) ∷ []) in
-    omega (arith, all, own)
-
-from_last : {X : Type 0} (g : Listed → List X) (ls : List Listed) (id : ℕ) (l m : Listed) (y : X) → get_elem? ls id ≡ some l → g m ≡ g l ++ y ∷ [] → (x : X) → Among x (flat_map g (set ls id m)) → (x ≡ y) ⊎ Among x (flat_map g ls)
-from_last g ls id l m y at e x h = ⊎_elim (λ (t : Among x (g m)). ⊎_elim (λ (u : Among x (g l)). inr (among_flat g ls id l x at u)) inl (among_last x y (g l) (subst (Among x) e t))) inr (among_set g ls id m x h)
+-- where the seat 0 is the only one, its lists are all that there are
+pub alone : {o : Words} {views : List (Option Known)} → AreSeated o views → (id : ℕ) (k : Known) → get_elem? views id ≡ some (Some k) → k.number ≡ 0 → k.seats ≡ 1 → all_listed (map listed_by views) ≡ k.listed
+alone {views = views} a id k at zeroth one = λ i. record {
+  claims = only_flat nothing claims_of refl views id k at (only_seat a id k at zeroth one) i;
+  wins = only_flat nothing wins_of refl views id k at (only_seat a id k at zeroth one) i;
+  seen = only_flat nothing seen_of refl views id k at (only_seat a id k at zeroth one) i;
+}
 
 -- what was seen stands after a write to an empty word
 
@@ -54,7 +51,7 @@ module _ {rows roots : List (Option ℕ)} {w : Words} (ls : List Listed) (a : Se
     pub settles_claim : (row col : ℕ) → row < length w.rows → held w.rows row ≡ None → Settles rows roots (record { rows = set w.rows row (Some col); roots = w.roots }) (all_listed (set ls id (claimed l row col None)))
     settles_claim row col lt empty = record {
       claims = accounts_added rows w.rows (flat_map claims_of ls) (flat_map claims_of (set ls id (claimed l row col None))) row col a.claims lt empty
-          (one_more claims_of ls id l (claimed l row col None) row col at refl) (from_last claims_of ls id l (claimed l row col None) (row, col) at refl);
+          (times_more claims_of ls id l (claimed l row col None) row col at refl) (from_last claims_of ls id l (claimed l row col None) (row, col) at refl);
       wins = subst (Accounts roots w.roots) (sym (flat_same wins_of ls id l (claimed l row col None) at refl)) a.wins;
       seen = λ sight h. row_grows w row col empty sight (a.seen sight (subst (Among sight) (flat_same seen_of ls id l (claimed l row col None) at refl) h));
     }
@@ -63,7 +60,7 @@ module _ {rows roots : List (Option ℕ)} {w : Words} (ls : List Listed) (a : Se
     settles_win root leaf lt empty = record {
       claims = subst (Accounts rows w.rows) (sym (flat_same claims_of ls id l (won l root leaf None) at refl)) a.claims;
       wins = accounts_added roots w.roots (flat_map wins_of ls) (flat_map wins_of (set ls id (won l root leaf None))) root leaf a.wins lt empty
-          (one_more wins_of ls id l (won l root leaf None) root leaf at refl) (from_last wins_of ls id l (won l root leaf None) (root, leaf) at refl);
+          (times_more wins_of ls id l (won l root leaf None) root leaf at refl) (from_last wins_of ls id l (won l root leaf None) (root, leaf) at refl);
       seen = λ sight h. root_grows w root leaf empty sight (a.seen sight (subst (Among sight) (flat_same seen_of ls id l (won l root leaf None) at refl) h));
     }
 

@@ -1,29 +1,24 @@
 -- What a seat shows after a step.
-use Rattle.std.proofs.Common.{◌≡◌, ◌∙◌, ℕ, Option, None, Some, List, [], ◌∷◌, ◌++◌, refl, sym, ap, subst, inl, inr, ⊎_elim, arith}
+use Rattle.std.proofs.Common.{◌≡◌, ◌∙◌, ℕ, Option, None, Some, List, [], ◌∷◌, ◌++◌, refl, sym, ap, subst, inl, inr, arith}
 use Rattle.std.proofs.lemmas.Option.{none-some}
 use Rattle.atomic_table.specs.Seated.{TableId}
 use Rattle.atomic_table.specs.Table.{Me}
 use Rattle.bip_defs.specs.Lists.{Among}
 use Rattle.bip_defs.specs.Occurrences.{times}
 use Rattle.bip_defs.specs.WordValues.{value_of}
-use Rattle.bip_defs.proofs.Occurrences.{one_else, one_here, times_append}
-use Rattle.bip_defs.proofs.Sets.{number_same}
+use Rattle.bip_defs.proofs.Occurrences.{one_here, times_append}
 use Rattle.claim_words.specs.Listed.{Listed, claimed, looked, root_word, row_word, won}
 use Rattle.claim_words.specs.Rule.{Known, known}
 use Rattle.claim_words.specs.Seat.{KnowsRoot, KnowsRow, Seat, after_claim, after_look, after_win, with_listed}
 use Rattle.claim_words.specs.Steps.{KnewRoot, KnewRow, Tells, knowing}
-use Rattle.claim_words.specs.Stored.{IsOpen, shown}
+use Rattle.claim_words.specs.Stored.{IsStored, shown}
+use Rattle.board_seats.proofs.Flat.{times_none}
 
-pub open_after : {S : Type 0} {me now : Me S (Option Known)} {k : Known} {Knew : ℕ → Type 0} {l : Listed} {found : ℕ} → IsOpen me → Tells k Knew l found me now → IsOpen now
-open_after live fact = subst IsOpen (sym fact.after_is) (refl, live.1)
-
--- a word of which no value is listed is not listed
-unlisted : (i : ℕ) (ps : List (ℕ × ℕ)) → ((x : ℕ) → ¬ Among (i, x) ps) → times i ps ≡ 0
-unlisted i [] none = refl
-unlisted i ((j, x) ∷ ps) none = ⊎_elim (λ (e : j ≡ i). absurd (none x (inl (λ k. (sym e k, x))))) (λ ne. let rest = unlisted i ps (λ y h. none y (inr h)) in omega (arith, rest, one_else j i ne)) (number_same j i)
+pub open_after : {S : Type 0} {number : ℕ} {me now : Me S (Option Known)} {Knew : ℕ → Type 0} {l : Listed} {found : ℕ} → IsStored number me → Tells (known me.0) Knew l found me now → IsStored number now
+open_after {number = number} stored fact = subst (IsStored number) (sym fact.after_is) (record { live = (refl, stored.live.1); number_is = stored.number_is; below = stored.below; few = stored.few })
 
 times_last : (i x : ℕ) (ps : List (ℕ × ℕ)) → ((y : ℕ) → ¬ Among (i, y) ps) → times i (ps ++ (i, x) ∷ []) ≡ 1
-times_last i x ps none = let all = times_append i ps ((i, x) ∷ []) in let before = unlisted i ps none in omega (arith, all, before, one_here i i refl)
+times_last i x ps none = let all = times_append i ps ((i, x) ∷ []) in let before = times_none i ps none in omega (arith, all, before, one_here i i refl)
 
 module _ {S : Type 0} (table after : TableId) (me now : Me S (Option Known)) (s : Seat) (same : after ≡ table) (view : shown table (known me.0) ≡ s) where
   shown_after : (f : Listed → Listed) → now ≡ (knowing (known me.0) (f (known me.0).listed), me.1) → shown after (known now.0) ≡ with_listed s (f s.listed)

@@ -10,14 +10,15 @@ use Rattle.bip_defs.specs.WordValues.{value_of}
 use Rattle.bip_defs.proofs.WordValues.{unwritten}
 use Rattle.claim_words.specs.Board.{Words}
 use Rattle.claim_words.specs.WordCodes.{decoded, roots_in, rows_in}
-use Rattle.claim_words.specs.Listed.{Listed, all_listed, claimed, looked, nothing, root_word, row_word, won}
+use Rattle.claim_words.specs.Listed.{Listed, all_listed, claimed, followed_by, looked, nothing, root_word, row_word, won}
 use Rattle.claim_words.specs.Rule.{Kept, Known, known, listed_by}
 use Rattle.claim_words.specs.Settles.{Settles}
 use Rattle.claim_words.specs.Steps.{KnewRoot, KnewRow, Tells, TellsAll, TellsClaim, TellsRoot, TellsRow, TellsWin, counting_more, joined, knowing, newcomer}
 use Rattle.claim_words.specs.Stored.{IsOpen}
 use Rattle.claim_words.proofs.WordCodes.{rows_long}
 use Rattle.claim_words.proofs.Keeps.{kept_claim, kept_look, kept_win, root_sight, root_stands, root_within, row_sight, row_stands, row_within, with_words}
-use Rattle.claim_words.proofs.SeatNumbers.{alone, known_same, seated_fewer, seated_more}
+use Rattle.claim_words.proofs.SettledWords.{alone}
+use Rattle.board_seats.proofs.SeatNumbers.{known_same, seated_fewer, seated_more}
 use Rattle.claim_words.proofs.SettledWords.{settles_join, settles_new}
 
 module _ {S : Type 0} (n : ℕ) (opened : List ℕ) (slots id : ℕ) (me : Me S (Option Known)) (live : IsOpen me) where
@@ -34,7 +35,7 @@ module _ {S : Type 0} (n : ℕ) (opened : List ℕ) (slots id : ℕ) (me : Me S 
     after_is = refl;
   }
 
-  pub allows_claim : (row col : ℕ) → row < length (known me.0).rows → col < 4294967296 → Allows (Kept n opened) slots id me (1 + row) (λ x. either (x == 0) (1 + col) x) (TellsClaim (step slots (1 + row) 0 (1 + col) none) me)
+  pub allows_claim : (row col : ℕ) → row < length (known me.0).opened.rows → col < 4294967296 → Allows (Kept n opened) slots id me (1 + row) (λ x. either (x == 0) (1 + col) x) (TellsClaim (step slots (1 + row) 0 (1 + col) none) me)
   allows_claim row col lt few s kept many at fits = by (slice_index s.words (1 + row)) refl
     where
       there : get_elem? s.views id ≡ some (Some (known me.0))
@@ -58,7 +59,7 @@ module _ {S : Type 0} (n : ℕ) (opened : List ℕ) (slots id : ℕ) (me : Me S 
         tells (suc y) e,
       )
 
-  pub allows_row : (row : ℕ) → row < length (known me.0).rows → Allows (Kept n opened) slots id me (1 + row) (λ x. x) (TellsRow (step slots (1 + row) 0 0 none) me)
+  pub allows_row : (row : ℕ) → row < length (known me.0).opened.rows → Allows (Kept n opened) slots id me (1 + row) (λ x. x) (TellsRow (step slots (1 + row) 0 0 none) me)
   allows_row row lt s kept many at fits = (
     knowing (known me.0) (looked (known me.0).listed (row_word row (value_of (slice_index s.words (1 + row))))),
     keeps,
@@ -76,10 +77,10 @@ module _ {S : Type 0} (n : ℕ) (opened : List ℕ) (slots id : ℕ) (me : Me S 
           (fact (KnewRow (known me.0) row) s (1 + row) (slice_index s.words (1 + row)) (looked (known me.0).listed (row_word row (value_of (slice_index s.words (1 + row))))) kept refl (λ y. row_stands n opened s kept id (known me.0) there row y lt)) k r 0 same (omega arith) refl
 
   -- the rows are as many as the board has
-  rows_are : (s : State S (Option Known)) → Kept n opened s → get_elem? s.views id ≡ some me.0 → 1 + n ≤ length opened → (k : Known) → me.0 ≡ Some k → length k.rows ≡ n
-  rows_are s kept at le k same = ap length (kept.seats.opened id k (at ∙ ap some same)).0 ∙ rows_long n opened le
+  rows_are : (s : State S (Option Known)) → Kept n opened s → get_elem? s.views id ≡ some me.0 → 1 + n ≤ length opened → (k : Known) → me.0 ≡ Some k → length k.opened.rows ≡ n
+  rows_are s kept at le k same = ap length (ap (λ (o : Words). o.rows) (kept.seats.opened id k (at ∙ ap some same))) ∙ rows_long n opened le
 
-  allows_win : (root leaf : ℕ) → root < length (known me.0).roots → leaf < 4294967296 → 1 + n ≤ length opened
+  allows_win : (root leaf : ℕ) → root < length (known me.0).opened.roots → leaf < 4294967296 → 1 + n ≤ length opened
       → Allows (Kept n opened) slots id me (1 + n + root) (λ x. either (x == 0) (1 + leaf) x) (TellsWin (step slots (1 + n + root) 0 (1 + leaf) none) me)
   allows_win root leaf lt few le s kept many at fits = by (slice_index s.words (1 + n + root)) refl
     where
@@ -104,7 +105,7 @@ module _ {S : Type 0} (n : ℕ) (opened : List ℕ) (slots id : ℕ) (me : Me S 
         tells (suc y) e,
       )
 
-  allows_root : (root : ℕ) → root < length (known me.0).roots → 1 + n ≤ length opened → Allows (Kept n opened) slots id me (1 + n + root) (λ x. x) (TellsRoot (step slots (1 + n + root) 0 0 none) me)
+  allows_root : (root : ℕ) → root < length (known me.0).opened.roots → 1 + n ≤ length opened → Allows (Kept n opened) slots id me (1 + n + root) (λ x. x) (TellsRoot (step slots (1 + n + root) 0 0 none) me)
   allows_root root lt le s kept many at fits = (
     knowing (known me.0) (looked (known me.0).listed (root_word root (value_of (slice_index s.words (1 + n + root))))),
     keeps,
@@ -123,11 +124,11 @@ module _ {S : Type 0} (n : ℕ) (opened : List ℕ) (slots id : ℕ) (me : Me S 
 
   -- the same where the board has the number of rows by itself
 
-  pub allows_win_at : (rows root leaf : ℕ) → n ≡ rows → root < length (known me.0).roots → leaf < 4294967296 → 1 + n ≤ length opened
+  pub allows_win_at : (rows root leaf : ℕ) → n ≡ rows → root < length (known me.0).opened.roots → leaf < 4294967296 → 1 + n ≤ length opened
       → Allows (Kept n opened) slots id me (1 + rows + root) (λ x. either (x == 0) (1 + leaf) x) (TellsWin (step slots (1 + rows + root) 0 (1 + leaf) none) me)
   allows_win_at rows root leaf e lt few le = subst (λ m. Allows (Kept n opened) slots id me (1 + m + root) (λ x. either (x == 0) (1 + leaf) x) (TellsWin (step slots (1 + m + root) 0 (1 + leaf) none) me)) e (allows_win root leaf lt few le)
 
-  pub allows_root_at : (rows root : ℕ) → n ≡ rows → root < length (known me.0).roots → 1 + n ≤ length opened → Allows (Kept n opened) slots id me (1 + rows + root) (λ x. x) (TellsRoot (step slots (1 + rows + root) 0 0 none) me)
+  pub allows_root_at : (rows root : ℕ) → n ≡ rows → root < length (known me.0).opened.roots → 1 + n ≤ length opened → Allows (Kept n opened) slots id me (1 + rows + root) (λ x. x) (TellsRoot (step slots (1 + rows + root) 0 0 none) me)
   allows_root_at rows root e lt le = subst (λ m. Allows (Kept n opened) slots id me (1 + m + root) (λ x. x) (TellsRoot (step slots (1 + m + root) 0 0 none) me)) e (allows_root root lt le)
 
   -- the seat 0, once no other is left
@@ -137,23 +138,23 @@ module _ {S : Type 0} (n : ℕ) (opened : List ℕ) (slots id : ℕ) (me : Me S 
     keeps,
     tt,
     subst (λ ws. Kept n opened (with_words s ws (set s.views id me.0))) (sym (set-get_or s.words 0 0)) (subst (λ vs. Kept n opened (with_words s s.words vs)) (sym (set_again s.views id me.0 at)) kept),
-    (refl, (λ k same. subst (λ m. (words : Words) × Settles m.rows m.roots words m.listed) (known_same (sym live.0 ∙ same)) (decoded n s.words, account))),
+    (refl, (λ k same. subst (λ m. (words : Words) × Settles m.opened.rows m.opened.roots words m.listed) (known_same (sym live.0 ∙ same)) (decoded n s.words, account))),
   )
     where
       there : get_elem? s.views id ≡ some (Some (known me.0))
       there = at ∙ ap some live.0
 
-      account : Settles (known me.0).rows (known me.0).roots (decoded n s.words) (known me.0).listed
-      account = subst (Settles (known me.0).rows (known me.0).roots (decoded n s.words)) (alone kept.seats id (known me.0) there zeroth one)
-          (subst (λ rows. Settles rows (known me.0).roots (decoded n s.words) (all_listed (map listed_by s.views))) (sym (kept.seats.opened id (known me.0) there).0)
-          (subst (λ roots. Settles (rows_in n opened) roots (decoded n s.words) (all_listed (map listed_by s.views))) (sym (kept.seats.opened id (known me.0) there).1) kept.settles))
+      account : Settles (known me.0).opened.rows (known me.0).opened.roots (decoded n s.words) (known me.0).listed
+      account = subst (Settles (known me.0).opened.rows (known me.0).opened.roots (decoded n s.words)) (alone kept.seats id (known me.0) there zeroth one)
+          (subst (λ rows. Settles rows (known me.0).opened.roots (decoded n s.words) (all_listed (map listed_by s.views))) (sym (ap (λ (o : Words). o.rows) (kept.seats.opened id (known me.0) there)))
+          (subst (λ roots. Settles (rows_in n opened) roots (decoded n s.words) (all_listed (map listed_by s.views))) (sym (ap (λ (o : Words). o.roots) (kept.seats.opened id (known me.0) there))) kept.settles))
 
   pub splits : (known me.0).number ≡ 0 → Splits (Kept {S = S} n opened) id me.0 (counting_more me.0) (newcomer me.0)
   splits zeroth s kept at = subst (λ o. Kept n opened (with_words s s.words (set s.views id (counting_more o) ++ newcomer o ∷ []))) (sym live.0) record {
     spare = kept.spare;
     as_many = kept.as_many;
     fits = kept.fits;
-    seats = seated_more kept.seats id (known me.0) there zeroth;
+    seats = seated_more kept.seats id (known me.0) there nothing zeroth;
     settles = subst (λ ls. Settles (rows_in n opened) (roots_in n opened) (decoded n s.words) (all_listed ls)) (sym lists) (settles_new (map listed_by s.views) kept.settles);
   }
     where
@@ -169,7 +170,7 @@ module _ {S : Type 0} (n : ℕ) (opened : List ℕ) (slots id : ℕ) (me : Me S 
     spare = kept.spare;
     as_many = kept.as_many;
     fits = kept.fits;
-    seats = seated_fewer kept.seats id (known me.0) there zeroth other (known mine) ne other_there highest;
+    seats = seated_fewer kept.seats id (known me.0) there followed_by zeroth other (known mine) ne other_there highest;
     settles = subst (λ ls. Settles (rows_in n opened) (roots_in n opened) (decoded n s.words) (all_listed ls)) (sym lists)
         (settles_join (map listed_by s.views) kept.settles id (known me.0).listed (at_map listed_by s.views id (Some (known me.0)) there) other (known mine).listed ne list_there);
   }

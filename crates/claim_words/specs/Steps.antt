@@ -1,30 +1,23 @@
 -- What each kind of step tells its seat, and what a split and a join do to views.
-use Rattle.std.specs.Prelude.{◌≡◌, ◌⊎◌, ℕ, ◌+◌, ◌-◌, ◌≤◌, Option, None, Some, length}
+use Rattle.std.specs.Prelude.{◌≡◌, ◌⊎◌, ℕ, ◌+◌, ◌≤◌, Option, Some, length}
 use Rattle.bip_defs.specs.Lists.{Among}
 use Rattle.bip_defs.specs.WordValues.{held, value_of}
 use Rattle.atomic_table.specs.Table.{Me, Step}
+use Rattle.board_seats.specs.View as views
 use Rattle.claim_words.specs.Board.{Words}
 use Rattle.claim_words.specs.Listed.{Listed, claimed, followed_by, looked, nothing, root_word, row_word, won}
 use Rattle.claim_words.specs.Rule.{Known}
 use Rattle.claim_words.specs.Settles.{Settles}
-
-abbrev pub knowing : Known → Listed → Option Known
-knowing k l = Some (record {
-  rows = k.rows;
-  roots = k.roots;
-  number = k.number;
-  seats = k.seats;
-  listed = l;
-})
+pub use Rattle.board_seats.specs.View.{counting_more, knowing}
 
 -- the seat knew of a value of the row's word, or of the root's
 
 abbrev pub KnewRow : Known → ℕ → ℕ → Type 0
-KnewRow k row col = (held k.rows row ≡ Some col)
+KnewRow k row col = (held k.opened.rows row ≡ Some col)
     ⊎ (Among (row, col) k.listed.claims ⊎ Among (row_word row (Some col)) k.listed.seen)
 
 abbrev pub KnewRoot : Known → ℕ → ℕ → Type 0
-KnewRoot k root leaf = (held k.roots root ≡ Some leaf)
+KnewRoot k root leaf = (held k.opened.roots root ≡ Some leaf)
     ⊎ (Among (root, leaf) k.listed.wins ⊎ Among (root_word root (Some leaf)) k.listed.seen)
 
 -- What a step on a word tells: the number found fits, a value that the seat knew is what was found,
@@ -45,7 +38,7 @@ module _ {S : Type 0} where
   -- an exchange of a root's word
   abbrev pub TellsWin : Step S → Me S (Option Known) → ℕ → Me S (Option Known) → Type 0
   TellsWin st before found after = (k : Known) (root leaf : ℕ) → before.0 ≡ Some k
-      → st.word ≡ 1 + length k.rows + root → st.second ≡ 1 + leaf
+      → st.word ≡ 1 + length k.opened.rows + root → st.second ≡ 1 + leaf
       → Tells k (KnewRoot k root) (won k.listed root leaf (value_of found)) found before after
 
   -- a load of a row's word
@@ -56,45 +49,19 @@ module _ {S : Type 0} where
   -- a load of a root's word
   abbrev pub TellsRoot : Step S → Me S (Option Known) → ℕ → Me S (Option Known) → Type 0
   TellsRoot st before found after = (k : Known) (root : ℕ) → before.0 ≡ Some k
-      → st.word ≡ 1 + length k.rows + root
+      → st.word ≡ 1 + length k.opened.rows + root
       → Tells k (KnewRoot k root) (looked k.listed (root_word root (value_of found)))
       found before after
 
   -- a load of the spare word by the seat 0 while no other is left: its lists account for all words
   abbrev pub TellsAll : Step S → Me S (Option Known) → ℕ → Me S (Option Known) → Type 0
   TellsAll st before found after = (after ≡ before)
-      × ((k : Known) → before.0 ≡ Some k → (words : Words) × Settles k.rows k.roots words k.listed)
+      × ((k : Known) → before.0 ≡ Some k → (words : Words) × Settles k.opened.rows k.opened.roots words k.listed)
 
--- The seat 0 splits off a seat with the next number.
-
-abbrev pub counting_more : Option Known → Option Known
-counting_more None = None
-counting_more (Some k) = Some (record {
-  rows = k.rows;
-  roots = k.roots;
-  number = k.number;
-  seats = 1 + k.seats;
-  listed = k.listed;
-})
+-- a seat that is split off, and the lists of one that is taken in before those of the seat 0
 
 abbrev pub newcomer : Option Known → Option Known
-newcomer None = None
-newcomer (Some k) = Some (record {
-  rows = k.rows;
-  roots = k.roots;
-  number = k.seats;
-  seats = 0;
-  listed = nothing;
-})
+newcomer = views.newcomer nothing
 
--- the seat 0 takes in the lists of the seat with the highest number, before its own
 abbrev pub joined : Option Known → Option Known → Option Known
-joined None w = None
-joined (Some k) None = Some k
-joined (Some k) (Some j) = Some (record {
-  rows = k.rows;
-  roots = k.roots;
-  number = k.number;
-  seats = k.seats - 1;
-  listed = followed_by j.listed k.listed;
-})
+joined = views.joined followed_by

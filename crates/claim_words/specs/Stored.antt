@@ -6,11 +6,12 @@ use Rattle.claim_words.specs.Board.{Board}
 use Rattle.claim_words.specs.WordCodes.{roots_in, rows_in, AllFit}
 use Rattle.claim_words.specs.Rule.{Known, known, nobody}
 use Rattle.claim_words.specs.Seat.{Seat}
+use Rattle.sp_ids.specs.Limits.{max_workers}
 
 -- what a seat of this table shows
 abbrev pub shown : TableId → Known → Seat
 shown id k = record {
-  board = record { id = id; rows = k.rows; roots = k.roots };
+  board = record { id = id; rows = k.opened.rows; roots = k.opened.roots };
   number = k.number;
   seats = k.seats;
   listed = k.listed;
@@ -19,6 +20,13 @@ shown id k = record {
 -- a seat that was not joined to another, and holds no slot
 abbrev pub IsOpen : {S : Type 0} → Me S (Option Known) → Type 0
 IsOpen me = (me.0 ≡ Some (known me.0)) × (me.1 ≡ [])
+
+-- such a seat, which keeps its number, below 64, and counts 64 seats at most
+pub record IsStored {S : Type 0} (number : ℕ) (me : Me S (Option Known)) : Type 0 where
+  pub live : IsOpen me
+  pub number_is : number ≡ (known me.0).number
+  pub below : number < max_workers
+  pub few : (known me.0).seats ≤ max_workers
 
 -- a board in this table, which was opened with these words
 abbrev pub board_in : TableId → ℕ → List ℕ → Board

@@ -161,7 +161,7 @@ impl ClaimBoard {
             table,
             rows: rows.len(),
         };
-        Ok((board, ClaimSeat { seat }))
+        Ok((board, ClaimSeat { seat, number: 0 }))
     }
 
     // The seat 0 and so many others.
@@ -171,12 +171,13 @@ impl ClaimBoard {
         mut first: ClaimSeat,
         others: u32,
     ) -> Result<Vec<ClaimSeat>, OutOfMemory>
-        requires { first ≡ first_seat self.now 1 nothing }
+        requires first { first ≡ first_seat self.now 1 nothing }
+        requires few { others < max_workers }
         ensures { IfOk result (λ seats. seats.items ≡ new_seats self.now (1 + others)) }
     {
         let mut seats = Vec::new(alloc);
         for made in 0..others {
-            seats.push(self.split(&mut first))?;
+            seats.push(self.split(&mut first, 1 + made))?;
         }
         seats.insert(0, first)?;
         Ok(seats)
@@ -248,14 +249,16 @@ impl ClaimBoard {
         identified(leaf)
     }
 
-    // One more seat, which the seat 0 splits off.
-    pub(crate) fn split(&self, first: &mut ClaimSeat) -> ClaimSeat
-        requires first { first.old ≡ first_seat self.now first.old.seats first.old.listed }
-        ensures first { first.new ≡ first_seat self.now (1 + first.old.seats) first.old.listed }
-        ensures new { result ≡ new_seat self.now first.old.seats }
+    // The next seat, of this number, which the seat 0 splits off.
+    pub(crate) fn split(&self, first: &mut ClaimSeat, number: u32) -> ClaimSeat
+        requires first { first.old ≡ first_seat self.now number first.old.listed }
+        requires few { number < max_workers }
+        ensures first { first.new ≡ first_seat self.now (1 + number) first.old.listed }
+        ensures new { result ≡ new_seat self.now number }
     {
         ClaimSeat {
             seat: self.table.shared.split_seat::<Newcomer>(&mut first.seat),
+            number,
         }
     }
 
@@ -266,7 +269,7 @@ impl ClaimBoard {
         ensures { first.new
             ≡ first_seat self.now last.number (followed_by last.listed first.old.listed) }
     {
-        let ClaimSeat { seat } = last;
+        let ClaimSeat { seat, number: _ } = last;
         self.table
             .shared
             .join_seat::<TakesIn>(&mut first.seat, seat);

@@ -2,7 +2,7 @@
 
 ghost use Rattle.std.specs.Prelude.{◌≡◌, ◌<◌, length, IfErr, IfOk};
 ghost use Rattle.bip_defs.specs.WordValues.{held};
-ghost use Rattle.claim_words.specs.Seat.{AreAllSeats, first_seat, gathered};
+ghost use Rattle.claim_words.specs.Seat.{AreAllSeats, HoldsAllSeats, first_seat, gathered};
 ghost use Rattle.claim_words.specs.Settles.{SettlesAll};
 
 use crate::board::{ClaimBoard, identified, value};
@@ -61,15 +61,16 @@ impl Drop for Closed {
 }
 
 impl ClaimBoard {
-    /// Closes the board, once all its seats are there, in the order of their numbers: each word
+    /// Closes the board, once all its seats are there, in any order: each word
     /// that was opened with a value holds it and no seat lists it, each other word is empty and
     /// listed by no seat, or holds what one seat lists for it, once, and each value that was seen
     /// stands. It takes no memory, and an `Err` would hand all back.
-    pub fn close(self, seats: Vec<ClaimSeat>) -> Result<Closed, (ClaimBoard, Vec<ClaimSeat>)>
-        requires { AreAllSeats self seats.items }
+    pub fn close(self, mut seats: Vec<ClaimSeat>) -> Result<Closed, (ClaimBoard, Vec<ClaimSeat>)>
+        requires { HoldsAllSeats self seats.items }
         ensures ok { IfOk result (λ words. SettlesAll self words seats.items) }
         ensures err { IfErr result (λ back. (back.0 ≡ self) × (back.1.items ≡ seats.items)) }
     {
+        seats.sort_unstable_by_key(|seat| seat.number());
         let first = self.join_all(seats);
         let ClaimBoard { table, rows } = self;
         Ok(Closed {

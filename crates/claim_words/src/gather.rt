@@ -52,8 +52,9 @@ impl ClaimBoard {
         let Some(seat) = last.seat.take() else {
             unreachable!()
         };
+        let number = seat.number();
         self.join(first, seat);
         self.renew(first, rest);
-        last.seat = Some(self.split(first));
+        last.seat = Some(self.split(first, number));
     }
 }

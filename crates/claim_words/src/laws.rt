@@ -7,7 +7,7 @@ ghost use Rattle.bip_defs.specs.WordValues.{held};
 ghost use Rattle.claim_words.specs.Accounts.{Accounts, listed_word};
 ghost use Rattle.claim_words.specs.Board.{Board, Words, opened_words};
 ghost use Rattle.claim_words.specs.Listed.{Listed, root_word, row_word};
-ghost use Rattle.claim_words.specs.Seat.{AreAllSeats, KnowsRoot, KnowsRow, Seat, new_seats};
+ghost use Rattle.claim_words.specs.Seat.{AreAllSeats, HoldsAllSeats, KnowsRoot, KnowsRow, Seat, new_seats};
 ghost use Rattle.claim_words.specs.Settles.{Settles, SettlesAll};
 
 /// Where a list accounts for words, each word is the value with which it was opened, or else what
@@ -67,10 +67,17 @@ pub fn known_values_stand()
         → (held roots root ≡ Some leaf) ⊎ Among (root, leaf) l.wins }
 {}
 
-/// New seats are as many as were asked for, and at least one of them is all seats of the board.
-/// What they list, which is nothing, accounts for the words as they were when the board was opened.
+/// New seats are as many as were asked for, and at least one of them is all seats of the board, in
+/// the order of their numbers. What they list, which is nothing, accounts for the words as they were when the board was opened.
 pub fn new_seats_are_all()
     ensures all { (b : Board) (seats : ℕ) → 1 ≤ seats → AreAllSeats b (new_seats b seats) }
+    ensures in_any_order { (b : Board) (seats : ℕ) → 1 ≤ seats → HoldsAllSeats b (new_seats b seats) }
     ensures many { (b : Board) (seats : ℕ) → length (new_seats b seats) ≡ seats }
     ensures words { (b : Board) (seats : ℕ) → SettlesAll b (opened_words b) (new_seats b seats) }
+{}
+
+/// Seats that are all seats of a board in the order of their numbers are all its seats in any
+/// order.
+pub fn seats_in_order_are_all()
+    ensures { (b : Board) (ss : List Seat) → AreAllSeats b ss → HoldsAllSeats b ss }
 {}

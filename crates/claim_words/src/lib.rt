@@ -22,10 +22,11 @@ pub use answers::{Claimed, Won};
 pub use board::ClaimBoard;
 pub use closed::Closed;
 pub use laws::{
-    known_values_stand, listed_words_stand, new_seats_are_all, times_add_up, words_are_listed,
+    known_values_stand, listed_words_stand, new_seats_are_all, seats_in_order_are_all, times_add_up,
+    words_are_listed,
 };
 pub use seat::ClaimSeat;
-pub use worker::Worker;
+pub use worker::{Worker, workers_are_few};
 pub use worker_laws::{
     fresh_lists_add_up, fresh_lists_are_listed, fresh_lists_join, seats_stay, steps_add_to_lists,
     workers_grow, workers_know_more,

@@ -1,10 +1,12 @@
 //! Workers.
 
-ghost use Rattle.std.specs.Prelude.{◌≡◌, ℕ, ◌<◌, [], ◌∷◌, ◌++◌, Some, length, vec_len, vec_capacity, IfOk, OnErr};
+ghost use Rattle.std.specs.Prelude.{◌≡◌, ℕ, ◌<◌, ◌≤◌, Some, length, IfOk, OnErr};
 ghost use Rattle.claim_words.specs.Answers.{col_before, leaf_before};
+ghost use Rattle.claim_words.specs.Board.{Board};
 ghost use Rattle.claim_words.specs.Listed.{root_word, row_word};
 ghost use Rattle.claim_words.specs.Seat.{KnowsRoot, KnowsRow};
-ghost use Rattle.claim_words.specs.WorkerState.{seated, settled, work_after_claim, work_after_look, work_after_win};
+ghost use Rattle.claim_words.specs.WorkerState.{AreAllWorkers, seated, settled, work_after_claim, work_after_look, work_after_win};
+ghost use Rattle.sp_ids.specs.Limits.{max_workers};
 
 use crate::answers::{Claimed, Won};
 use crate::board::ClaimBoard;
@@ -40,16 +42,6 @@ impl Model for Worker {
     ghost invariant = { λ w. w.seat ≡ Some (seat_in w.seat) };
 }
 
-// Adds an entry to a list that has room for it.
-fn note<T: Drop>(list: &mut Vec<T>, entry: T)
-    requires { vec_len list.old < vec_capacity list.old }
-    ensures { list.new.items ≡ list.old.items ++ entry ∷ [] }
-{
-    let Ok(()) = list.push(entry) else {
-        unreachable!()
-    };
-}
-
 impl Worker {
     /// A worker on this seat, with empty fresh lists. It takes no memory yet.
     pub fn new(alloc: Global, seat: ClaimSeat) -> Worker
@@ -79,7 +71,7 @@ impl Worker {
         };
         let answer = board.claim(seat, row, col);
         if let Claimed::Mine = answer {
-            note(&mut self.fresh_claims, (row, col));
+            self.fresh_claims.push_reserved((row, col));
         }
         Ok(answer)
     }
@@ -101,7 +93,7 @@ impl Worker {
         };
         let answer = board.win(seat, root, leaf);
         if let Won::Mine = answer {
-            note(&mut self.fresh_wins, (root, leaf));
+            self.fresh_wins.push_reserved((root, leaf));
         }
         Ok(answer)
     }
@@ -154,6 +146,16 @@ impl Worker {
         self.fresh_wins.clear();
     }
 
+    // Its seat counts 64 seats at most.
+    fn counts_few(&self)
+        ensures { self.now.seat.seats ≤ max_workers }
+    {
+        let Some(seat) = &self.seat else {
+            unreachable!()
+        };
+        seat.number();
+    }
+
     /// Gives the seat back.
     pub fn into_seat(self) -> ClaimSeat
         ensures { result ≡ self.seat }
@@ -165,5 +167,14 @@ impl Worker {
         } = self;
         let Some(seat) = seat else { unreachable!() };
         seat
+    }
+}
+
+/// Workers that have all seats of a board are few: 64 at most.
+pub fn workers_are_few(workers: &[Worker])
+    ensures { (b : Board) → AreAllWorkers b workers.now → length workers.now ≤ max_workers }
+{
+    if let Some(first) = workers.first() {
+        first.counts_few();
     }
 }

@@ -10,7 +10,7 @@ use Rattle.bip_defs.proofs.Sets.{number_same}
 use Rattle.bip_defs.proofs.WordValues.{held_grows}
 use Rattle.flip_words.specs.Accounts.{Sets, Settles, Takes, is_held}
 use Rattle.flip_words.specs.Listed.{Listed, all_listed, followed_by, looked, nothing, put, took}
-use Rattle.flip_words.proofs.Flat.{among_moved, flat_same, flat_snoc, from_last, times_more, times_moved, times_some}
+use Rattle.board_seats.proofs.Flat.{among_moved, flat_same, flat_snoc, from_last, times_more, times_moved, times_some}
 
 -- The tree i, which no seat had taken, is taken by the seat x.
 module _ (trees : ℕ) (now : List (Option ℕ)) (listed more : List (ℕ × ℕ)) (i x : ℕ) (a : Takes trees now listed) (lt : i < length now) (empty : held now i ≡ None)

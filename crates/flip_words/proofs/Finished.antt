@@ -1,7 +1,7 @@
 -- A board that is closed: all seats in one, and the mates that the words hold.
-use Rattle.std.proofs.Common.{◌≡◌, ◌∙◌, ℕ, zero, suc, ◌+◌, ◌-◌, ◌<◌, List, [], ◌∷◌, ◌++◌, Option, None, Some, flat_map, set, take, drop, length, get_or, sym, ap, subst, ⊎_elim, arith, append_assoc, append-nil}
-use Rattle.std.proofs.lemmas.Grind.{flat_map-append}
-use Rattle.std.proofs.lemmas.List.{get_or-drop, length-append, length-drop, map-append, take_more, take_more_set}
+use Rattle.std.proofs.Common.{◌≡◌, ◌∙◌, ℕ, zero, suc, ◌+◌, ◌-◌, ◌<◌, List, [], ◌∷◌, ◌++◌, Option, None, Some, flat_map, map, set, take, drop, length, get_or, refl, sym, ap, subst, ⊎_elim, arith, append_assoc, append-nil}
+use Rattle.std.specs.List.Sorted.{IsPermutation}
+use Rattle.std.proofs.lemmas.List.{get_or-drop, length-append, length-drop, take_more, take_more_set}
 use mathlib.Core.Option.{some, some-injective, some-ne-none}
 use lib.ListN.{get_elem?}
 use Rattle.atomic_table.specs.Seated.{TableId}
@@ -15,17 +15,21 @@ use Rattle.bip_graph.specs.Mates.{Mated}
 use Rattle.flip_words.specs.Accounts.{Settles}
 use Rattle.flip_words.specs.Board.{Board}
 use Rattle.flip_words.specs.WordCodes.{mate_of, mates_in, takers_in}
-use Rattle.flip_words.specs.Listed.{Listed, all_listed, followed_by}
-use Rattle.flip_words.specs.Rule.{Kept, Known, known, opened_in}
+use Rattle.flip_words.specs.Listed.{Listed, all_listed, followed_by, nothing}
+use Rattle.flip_words.specs.Rule.{Kept, Known, Opened, known, listed_by, opened_in}
 use Rattle.flip_words.specs.ClosedBoards.{gathered, SettlesAll}
 use Rattle.flip_words.specs.Seat.{AreNumbered, IsRightful, Seat, first_seat, lists_of}
 use Rattle.flip_words.specs.Stored.{AreLeft, AreSized, board_in}
 use Rattle.flip_words.proofs.AccountLemmas.{sets_moved, takes_moved}
 use Rattle.flip_words.proofs.WordCodes.{mate_read, vertices_long}
-use Rattle.flip_words.proofs.SeatNumbers.{alone}
+use Rattle.board_seats.proofs.Flat.{among_turned, times_turned}
+use Rattle.board_seats.proofs.Numbered.{among_moved_seats, flat_last, numbered_last, times_moved_seats}
+use Rattle.board_seats.proofs.SeatNumbers.{only_flat, only_seat}
+use Rattle.board_seats.specs.View.{AreSeated}
 
-pub rightful_more : (seats : List Seat) (i : ℕ) (seat : Seat) → i < length seats → seat ≡ get_or seats i seat → ((s : Seat) → Among s (take i seats) → IsRightful s) → IsRightful seat → (s : Seat) → Among s (take (i + 1) seats) → IsRightful s
-rightful_more seats i seat lt at before own s h = ⊎_elim (before s) (λ (e : s ≡ seat). subst IsRightful (sym e) own) (among_last s seat (take i seats) (subst (Among s) (take_more seats i seat lt ∙ ap (λ t. take i seats ++ t ∷ []) (sym at)) h))
+-- one seat more has a property
+pub each_more : (P : Seat → Type 0) (seats : List Seat) (i : ℕ) (seat : Seat) → i < length seats → seat ≡ get_or seats i seat → ((s : Seat) → Among s (take i seats) → P s) → P seat → (s : Seat) → Among s (take (i + 1) seats) → P s
+each_more P seats i seat lt at before own s h = ⊎_elim (before s) (λ (e : s ≡ seat). subst P (sym e) own) (among_last s seat (take i seats) (subst (Among s) (take_more seats i seat lt ∙ ap (λ t. take i seats ++ t ∷ []) (sym at)) h))
 
 -- All seats in one.
 
@@ -35,20 +39,13 @@ pub record IsJoined (b : Board) (whole : Listed) (others : List Seat) (first : S
   pub first_is : first ≡ first_seat b (1 + length others) first.listed
   pub lists : followed_by (all_listed (lists_of others)) first.listed ≡ whole
 
-numbered_last : (b : Board) (number : ℕ) (others : List Seat) (last : Seat) → AreNumbered b number (others ++ last ∷ []) → AreNumbered b number others × (last.board ≡ b) × (last.number ≡ number + length others)
-numbered_last b number [] last a = (tt, a.0, a.1 ∙ (let e : number ≡ number + 0 = omega arith in e))
-numbered_last b number (s ∷ ss) last a = let r = numbered_last b (1 + number) ss last a.2 in ((a.0, a.1, r.0), r.1, r.2 ∙ (let e : 1 + number + length ss ≡ number + suc (length ss) = omega arith in e))
-
-last_first : (others : List Listed) (l m : Listed) → followed_by (all_listed (others ++ l ∷ [])) m ≡ followed_by (all_listed others) (followed_by l m)
-last_first others l m = λ i. record {
-  taken = by (λ (k : Listed). k.taken) i;
-  seen = by (λ (k : Listed). k.seen) i;
-  sets = by (λ (k : Listed). k.sets) i;
-  looks = by (λ (k : Listed). k.looks) i;
+last_first : (others : List Seat) (last : Seat) (m : Listed) → followed_by (all_listed (lists_of (others ++ last ∷ []))) m ≡ followed_by (all_listed (lists_of others)) (followed_by last.listed m)
+last_first others last m = λ i. record {
+  taken = flat_last (λ (k : Listed). k.taken) others last m.taken i;
+  seen = flat_last (λ (k : Listed). k.seen) others last m.seen i;
+  sets = flat_last (λ (k : Listed). k.sets) others last m.sets i;
+  looks = flat_last (λ (k : Listed). k.looks) others last m.looks i;
 }
-  where
-    by : {X : Type 0} (g : Listed → List X) → flat_map g (others ++ l ∷ []) ++ g m ≡ flat_map g others ++ (g l ++ g m)
-    by g = ap (λ xs. xs ++ g m) (flat_map-append g others (l ∷ []) ∙ ap (λ xs. flat_map g others ++ xs) (append-nil (g l))) ∙ append_assoc (flat_map g others) (g l) (g m)
 
 module _ {b : Board} {whole : Listed} {others : List Seat} {first : Seat} (rest : List Seat) (last : Seat) (j : IsJoined b whole others first) (popped : others ≡ rest ++ last ∷ []) where
   pub last_is : AreNumbered b 1 rest × (last.board ≡ b) × (last.number ≡ 1 + length rest)
@@ -61,10 +58,19 @@ module _ {b : Board} {whole : Listed} {others : List Seat} {first : Seat} (rest 
   joined_more is = subst (IsJoined b whole rest) (sym is) record {
     numbered = last_is.0;
     first_is = λ i. first_seat b (last_is.2 i) (followed_by last.listed first.listed);
-    lists = sym (last_first (lists_of rest) last.listed first.listed) ∙ ap (λ ls. followed_by (all_listed ls) first.listed) (sym (map-append (λ (s : Seat). s.listed) rest (last ∷ [])) ∙ ap lists_of (sym popped)) ∙ j.lists;
+    lists = sym (last_first rest last first.listed) ∙ ap (λ ss. followed_by (all_listed (lists_of ss)) first.listed) (sym popped) ∙ j.lists;
   }
 
 -- The words that are left.
+
+-- where the seat 0 is the only one, its lists are all that there are
+alone : {o : Opened} {views : List (Option Known)} → AreSeated o views → (id : ℕ) (k : Known) → get_elem? views id ≡ some (Some k) → k.number ≡ 0 → k.seats ≡ 1 → all_listed (map listed_by views) ≡ k.listed
+alone {views = views} a id k at zeroth one = λ i. record {
+  taken = only_flat nothing (λ (l : Listed). l.taken) refl views id k at (only_seat a id k at zeroth one) i;
+  seen = only_flat nothing (λ (l : Listed). l.seen) refl views id k at (only_seat a id k at zeroth one) i;
+  sets = only_flat nothing (λ (l : Listed). l.sets) refl views id k at (only_seat a id k at zeroth one) i;
+  looks = only_flat nothing (λ (l : Listed). l.looks) refl views id k at (only_seat a id k at zeroth one) i;
+}
 
 pub left : {S : Type 0} (table : TableId) (rows cols : ℕ) (opened : List ℕ) (id : ℕ) (v : Option Known) (words : List ℕ) (homes : List S) → Final (Seen (Kept rows cols opened) id v) words homes → v ≡ Some (known v) → (known v).number ≡ 0 → (known v).seats ≡ 1
     → length opened ≡ 1 + cols + (rows + cols) → AreLeft (board_in table (opened_in rows cols opened)) (known v).listed words
@@ -99,30 +105,33 @@ module _ (rows cols : ℕ) (ws : List ℕ) (many : length ws ≡ 1 + cols + (row
       found : held (drop rows (mates_in cols ws)) c ≡ mate_of word
       found = get_or-drop rows (mates_in cols ws) c None ∙ mate_found cols ws (rows + c) word (omega (arith, all_vertices, lt)) (ap (get_elem? ws) (let e : 1 + cols + (rows + c) ≡ 1 + cols + rows + c = omega arith in e) ∙ at)
 
--- The lists of all seats, in their order.
+-- The lists of all seats, in another order.
 
 settles_turned : {trees : ℕ} {opened takers mates : List (Option ℕ)} (l m : Listed) → Settles trees opened takers mates (followed_by m l) → Settles trees opened takers mates (followed_by l m)
 settles_turned {trees = trees} {opened = opened} {takers = takers} {mates = mates} l m a = record {
-  takes = takes_moved trees takers (m.taken ++ l.taken) (l.taken ++ m.taken) a.takes (λ i. as_often i l.taken m.taken) (λ p. turned p l.taken m.taken);
-  seen = λ r n h. a.seen r n (turned (r, n) l.seen m.seen h);
-  sets = sets_moved opened mates (m.sets ++ l.sets) (l.sets ++ m.sets) a.sets (λ i. as_often i l.sets m.sets) (λ p. turned p l.sets m.sets);
+  takes = takes_moved trees takers (m.taken ++ l.taken) (l.taken ++ m.taken) a.takes (λ i. times_turned i l.taken m.taken) (λ p. among_turned p l.taken m.taken);
+  seen = λ r n h. a.seen r n (among_turned (r, n) l.seen m.seen h);
+  sets = sets_moved opened mates (m.sets ++ l.sets) (l.sets ++ m.sets) a.sets (λ i. times_turned i l.sets m.sets) (λ p. among_turned p l.sets m.sets);
 }
-  where
-    as_often : (i : ℕ) (xs ys : List (ℕ × ℕ)) → times i (xs ++ ys) ≡ times i (ys ++ xs)
-    as_often i xs ys = omega (arith, times_append i xs ys, times_append i ys xs)
 
-    turned : (p : ℕ × ℕ) (xs ys : List (ℕ × ℕ)) → Among p (xs ++ ys) → Among p (ys ++ xs)
-    turned p xs ys h = ⊎_elim (among_right p ys xs) (among_left p ys xs) (among_either p xs ys h)
+settles_permuted : {trees : ℕ} {opened takers mates : List (Option ℕ)} (ss ts : List Seat) → IsPermutation ss ts → Settles trees opened takers mates (all_listed (lists_of ts)) → Settles trees opened takers mates (all_listed (lists_of ss))
+settles_permuted {trees = trees} {opened = opened} {takers = takers} {mates = mates} ss ts moved a = record {
+  takes = takes_moved trees takers (flat_map (λ (l : Listed). l.taken) (lists_of ts)) (flat_map (λ (l : Listed). l.taken) (lists_of ss)) a.takes
+      (λ i. sym (times_moved_seats (λ (l : Listed). l.taken) i ss ts moved)) (λ p. among_moved_seats (λ (l : Listed). l.taken) ss ts p moved);
+  seen = λ r n h. a.seen r n (among_moved_seats (λ (l : Listed). l.seen) ss ts (r, n) moved h);
+  sets = sets_moved opened mates (flat_map (λ (l : Listed). l.sets) (lists_of ts)) (flat_map (λ (l : Listed). l.sets) (lists_of ss)) a.sets
+      (λ i. sym (times_moved_seats (λ (l : Listed). l.sets) i ss ts moved)) (λ p. among_moved_seats (λ (l : Listed). l.sets) ss ts p moved);
+}
 
 settles_gathered : {trees : ℕ} {opened takers mates : List (Option ℕ)} (ss : List Seat) → Settles trees opened takers mates (gathered ss) → Settles trees opened takers mates (all_listed (lists_of ss))
 settles_gathered [] a = a
 settles_gathered (s ∷ ss) a = settles_turned s.listed (all_listed (lists_of ss)) a
 
-pub settles_all : (b : Board) (ss : List Seat) (l : Listed) (words : List ℕ) (m : Mated) → AreLeft b l words → l ≡ gathered ss → ((s : Seat) → Among s ss → IsRightful s) → AreSized m b.rows b.cols → m.rows ++ m.cols ≡ mates_in b.cols words → SettlesAll b m ss
-settles_all b ss l words m a is own sized mates = record {
+pub settles_all : (b : Board) (ss ts : List Seat) (l : Listed) (words : List ℕ) (m : Mated) → IsPermutation ss ts → AreLeft b l words → l ≡ gathered ts → ((s : Seat) → Among s ss → IsRightful s) → AreSized m b.rows b.cols → m.rows ++ m.cols ≡ mates_in b.cols words → SettlesAll b m ss
+settles_all b ss ts l words m moved a is own sized mates = record {
   rows = sized.rows_are;
   cols = sized.cols_are;
   rightful = own;
   takers = takers_in b.cols words;
-  settles = settles_gathered ss (subst (Settles b.cols b.mates (takers_in b.cols words) (m.rows ++ m.cols)) is (subst (λ ms. Settles b.cols b.mates (takers_in b.cols words) ms l) (sym mates) a.settles));
+  settles = settles_permuted ss ts moved (settles_gathered ts (subst (Settles b.cols b.mates (takers_in b.cols words) (m.rows ++ m.cols)) is (subst (λ ms. Settles b.cols b.mates (takers_in b.cols words) ms l) (sym mates) a.settles)));
 }

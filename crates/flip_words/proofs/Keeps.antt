@@ -18,8 +18,8 @@ use Rattle.flip_words.specs.Rule.{IsOfTaken, Kept, Known, SetsItsOwn, listed_by}
 use Rattle.flip_words.specs.Steps.{knowing}
 use Rattle.flip_words.proofs.AccountLemmas.{sets_of, settles_look, settles_put, settles_seen, settles_take}
 use Rattle.flip_words.proofs.WordCodes.{mate_coded, mate_read, taker_below, taker_read, takers_put, takers_take, tree_coded, vertices_put, vertices_take}
-use Rattle.flip_words.proofs.Flat.{among_flat, times_none, times_some, times_two}
-use Rattle.flip_words.proofs.SeatNumbers.{seated_step}
+use Rattle.board_seats.proofs.Flat.{among_flat, times_none, times_some, times_two}
+use Rattle.board_seats.proofs.SeatNumbers.{seated_step}
 
 -- the same slots, with other words and views
 abbrev pub with_words : {S : Type 0} → State S (Option Known) → List ℕ → List (Option Known) → State S (Option Known)

@@ -1,12 +1,10 @@
 pub mod AccountLemmas
 pub mod Boards
 pub mod Finished
-pub mod Flat
 pub mod Keeps
 pub mod Opened
 pub mod OpenedWords
 pub mod OwnTrees
 pub mod SeatLaws
-pub mod SeatNumbers
 pub mod StepRules
 pub mod WordCodes

@@ -17,20 +17,12 @@ use Rattle.flip_words.specs.Board.{Board, IsOpenedFrom}
 use Rattle.flip_words.specs.WordCodes.{mate_of, mates_in, takers_in, tree_of, trees_in}
 use Rattle.flip_words.specs.Listed.{nothing}
 use Rattle.flip_words.specs.OpenedBoards.{AreLaid, AreOpening, IsMateIn}
-use Rattle.flip_words.specs.Rule.{Kept, Known, SetsItsOwn, has_number, listed_by, opened_in, opener}
+use Rattle.flip_words.specs.Rule.{Kept, SetsItsOwn, listed_by, opened_in, opener}
 use Rattle.flip_words.specs.Seat.{first_seat, more_seats, new_seat}
 use Rattle.flip_words.specs.Stored.{board_in}
 use Rattle.flip_words.proofs.WordCodes.{taker_read, takers_long}
-use Rattle.flip_words.proofs.SeatNumbers.{known_same}
-
--- the one view of a board that is opened
-only_view : {v : Option Known} (id : ℕ) (w : Option Known) → get_elem? (v ∷ []) id ≡ some w → v ≡ w
-only_view {v = v} zero w at = some-injective v w at
-only_view (suc id) w at = absurd (some-ne-none w (sym at))
-
-one_number : (n : ℕ) → ◌≡◌ {A = ℕ} (if 0 == n then 1 else 0) (below n 1)
-one_number zero = refl
-one_number (suc n) = one_else 0 (suc n) (λ f. omega arith)
+use Rattle.board_seats.proofs.Numbered.{more_last}
+use Rattle.board_seats.proofs.SeatNumbers.{only_view, seated_alone}
 
 pub kept_opening : {S : Type 0} (rows cols : ℕ) (words : List ℕ) → AreOpening rows cols words → Kept rows cols words (opening {S = S} words [] (opener rows cols words))
 kept_opening rows cols words a = record {
@@ -38,13 +30,7 @@ kept_opening rows cols words a = record {
   as_many = refl;
   fits = λ root lt. let e = a.empty (1 + root) (omega arith) in omega (arith, e);
   trees = refl;
-  seats = record {
-    count = 1;
-    some_seat = omega arith;
-    numbers = λ n. let e = sum_by-cons (has_number n) (opener rows cols words) [] in omega (arith, e, one_number n);
-    keeps_count = λ id k at zeroth. ap (λ (j : Known). j.seats) (sym (known_same (only_view id (Some k) at)));
-    opened = λ id k at. ap (λ (j : Known). j.opened) (sym (known_same (only_view id (Some k) at)));
-  };
+  seats = seated_alone nothing (opened_in rows cols words);
   settles = record {
     takes = record {
       as_many = takers_long cols words (omega (arith, a.as_many));
@@ -97,12 +83,8 @@ module _ (m : Pairing) (trees : List (Option ℕ)) (words : List ℕ) (a : AreLa
 
 -- New seats.
 
-pub more_last : (b : Board) (number count : ℕ) → more_seats b number (count + 1) ≡ more_seats b number count ++ new_seat b (number + count) ∷ []
-more_last b number zero = ap (λ n. new_seat b n ∷ []) (let e : number ≡ number + 0 = omega arith in e)
-more_last b number (suc count) = ap (more_seats b number) (let e : suc count + 1 ≡ suc (count + 1) = omega arith in e) ∙ ap (λ ss. new_seat b number ∷ ss) (more_last b (1 + number) count ∙ ap (λ n. more_seats b (1 + number) count ++ new_seat b n ∷ []) (let e : 1 + number + count ≡ number + suc count = omega arith in e))
-
 pub seats_more : (b : Board) (n : ℕ) → 1 ≤ n → first_seat b (1 + n) nothing ∷ (more_seats b 1 (n - 1) ++ new_seat b n ∷ []) ≡ first_seat b (n + 1) nothing ∷ more_seats b 1 (n + 1 - 1)
-seats_more b n least = λ i. first_seat b (count i) nothing ∷ (sym (more_last b 1 (n - 1) ∙ ap (λ m. more_seats b 1 (n - 1) ++ new_seat b m ∷ []) last) ∙ ap (more_seats b 1) same) i
+seats_more b n least = λ i. first_seat b (count i) nothing ∷ (sym (more_last nothing b 1 (n - 1) ∙ ap (λ m. more_seats b 1 (n - 1) ++ new_seat b m ∷ []) last) ∙ ap (more_seats b 1) same) i
   where
     count : 1 + n ≡ n + 1
     count = omega arith

@@ -11,13 +11,13 @@ use Rattle.bip_defs.specs.WordValues.{held, value_of}
 use Rattle.bip_defs.proofs.WordValues.{unwritten}
 use Rattle.flip_words.specs.Accounts.{Settles}
 use Rattle.flip_words.specs.WordCodes.{half, mate_of, mates_in, takers_in, trees_in, vertex_word}
-use Rattle.flip_words.specs.Listed.{all_listed, looked, nothing, put, took}
+use Rattle.flip_words.specs.Listed.{all_listed, followed_by, looked, nothing, put, took}
 use Rattle.flip_words.specs.Rule.{IsOfTaken, Kept, Known, SetsItsOwn, known, listed_by, opened_in}
 use Rattle.flip_words.specs.Steps.{TellsLook, TellsMate, TellsSet, TellsTake, TellsTaken, counting_more, joined, knowing, newcomer}
 use Rattle.flip_words.specs.Stored.{IsOpen}
 use Rattle.flip_words.proofs.AccountLemmas.{settles_join, settles_new}
 use Rattle.flip_words.proofs.Keeps.{kept_look, kept_put, kept_seen, kept_take, mate_stands, mate_stays, owns_both, taker_stands, with_words}
-use Rattle.flip_words.proofs.SeatNumbers.{known_same, seated_fewer, seated_more}
+use Rattle.board_seats.proofs.SeatNumbers.{known_same, seated_fewer, seated_more}
 
 module _ {S : Type 0} (rows cols : ℕ) (opened : List ℕ) (slots id : ℕ) (me : Me S (Option Known)) (live : IsOpen me) where
   -- what is told of the seat's view and of the word
@@ -115,7 +115,7 @@ module _ {S : Type 0} (rows cols : ℕ) (opened : List ℕ) (slots id : ℕ) (me
     as_many = kept.as_many;
     fits = kept.fits;
     trees = kept.trees;
-    seats = seated_more kept.seats id (known me.0) (there s at) zeroth;
+    seats = seated_more kept.seats id (known me.0) (there s at) nothing zeroth;
     settles = subst (λ ls. Settles cols (mates_in cols opened) (takers_in cols s.words) (mates_in cols s.words) (all_listed ls)) (sym lists) (settles_new (map listed_by s.views) kept.settles);
     owners = λ i v v_at. ⊎_elim (owners i v) (λ (e : newcomer (Some (known me.0)) ≡ v). subst (λ w. SetsItsOwn (trees_in cols opened) (listed_by w)) e (λ vertex mate h. elim h [ ])) (at_snoc (set s.views id (counting_more (Some (known me.0)))) (newcomer (Some (known me.0))) v i v_at);
   }
@@ -133,7 +133,7 @@ module _ {S : Type 0} (rows cols : ℕ) (opened : List ℕ) (slots id : ℕ) (me
     as_many = kept.as_many;
     fits = kept.fits;
     trees = kept.trees;
-    seats = seated_fewer kept.seats id (known me.0) (there s at) zeroth other (known mine) ne other_there highest;
+    seats = seated_fewer kept.seats id (known me.0) (there s at) followed_by zeroth other (known mine) ne other_there highest;
     settles = subst (λ ls. Settles cols (mates_in cols opened) (takers_in cols s.words) (mates_in cols s.words) (all_listed ls)) (sym lists)
         (settles_join (map listed_by s.views) kept.settles id (known me.0).listed (at_map listed_by s.views id (Some (known me.0)) (there s at)) other (known mine).listed ne list_there);
     owners = λ i v v_at. ⊎_elim (λ (t : (i ≡ other) × (None ≡ v)). subst (λ w. SetsItsOwn (trees_in cols opened) (listed_by w)) t.1 (λ vertex mate h. elim h [ ])) (λ (t : (i ≢ other) × (get_elem? (set s.views id (joined (Some (known me.0)) (Some (known mine)))) i ≡ some v)). owners i v t.1) (at_set (set s.views id (joined (Some (known me.0)) (Some (known mine)))) other i None v v_at);

@@ -1,12 +1,13 @@
 -- The rule of a board's table: what is true of its words and of what all seats know, between any
 -- two steps.
-use Rattle.std.specs.Prelude.{◌≡◌, ℕ, ◌+◌, ◌<◌, ◌≤◌, ◌==◌, if◌then◌else◌, List, [], Option, None, Some, length, map, slice_index, sum_by}
+use Rattle.std.specs.Prelude.{◌≡◌, ℕ, ◌+◌, ◌<◌, ◌≤◌, List, [], Option, Some, length, map, slice_index}
 use mathlib.Core.Option.{some}
 use lib.ListN.{get_elem?}
 use Rattle.atomic_table.specs.Table.{State}
 use Rattle.bip_defs.specs.Lists.{Among}
-use Rattle.bip_defs.specs.Occurrences.{below}
 use Rattle.bip_defs.specs.WordValues.{held}
+use Rattle.board_seats.specs.View as views
+use Rattle.board_seats.specs.View.{AreSeated}
 use Rattle.flip_words.specs.Accounts.{Settles}
 use Rattle.flip_words.specs.WordCodes.{half, mates_in, takers_in, trees_in}
 use Rattle.flip_words.specs.Listed.{Listed, all_listed, nothing}
@@ -28,16 +29,10 @@ opened_in rows cols words = record {
   trees = trees_in cols words;
 }
 
--- what a seat knows: what its board was opened with, its number, how many seats there are (which
--- the seat 0 alone keeps), and its lists
-pub record Known : Type 0 where
-  pub opened : Opened
-  pub number : ℕ
-  pub seats : ℕ
-  pub listed : Listed
+abbrev pub Known : Type 0
+Known = views.Known Opened Listed
 
--- The view of a seat; none once it was joined to another.
-
+-- what the view of a seat that was joined to another stands for
 abbrev pub nobody : Known
 nobody = record {
   opened = record { rows = 0; cols = 0; mates = []; trees = [] };
@@ -47,26 +42,10 @@ nobody = record {
 }
 
 abbrev pub known : Option Known → Known
-known None = nobody
-known (Some k) = k
+known = views.known_or nobody
 
 abbrev pub listed_by : Option Known → Listed
-listed_by None = nothing
-listed_by (Some k) = k.listed
-
-abbrev pub has_number : ℕ → Option Known → ℕ
-has_number n None = 0
-has_number n (Some k) = if k.number == n then 1 else 0
-
--- Of each number below the count there is one seat, and no other seat is left. The seat 0 keeps the
--- count
-pub record AreSeated (o : Opened) (views : List (Option Known)) : Type 0 where
-  pub count : ℕ
-  pub some_seat : 1 ≤ count
-  pub numbers : (n : ℕ) → sum_by (has_number n) views ≡ below n count
-  pub keeps_count : (id : ℕ) (k : Known) → get_elem? views id ≡ some (Some k) → k.number ≡ 0
-      → k.seats ≡ count
-  pub opened : (id : ℕ) (k : Known) → get_elem? views id ≡ some (Some k) → k.opened ≡ o
+listed_by = views.listed_or nothing
 
 -- the vertex is of a tree that is listed as taken
 abbrev pub IsOfTaken : List (Option ℕ) → Listed → ℕ → Type 0
@@ -94,9 +73,4 @@ pub record Kept {S : Type 0} (rows cols : ℕ) (opened : List ℕ)
 
 -- the first seat of a board that is opened with these words
 abbrev pub opener : ℕ → ℕ → List ℕ → Option Known
-opener rows cols opened = Some (record {
-  opened = opened_in rows cols opened;
-  number = 0;
-  seats = 1;
-  listed = nothing;
-})
+opener rows cols opened = views.opener nothing (opened_in rows cols opened)

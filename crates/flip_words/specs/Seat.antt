@@ -1,22 +1,15 @@
 -- A seat at a board: what one thread has done with the words, and what it knows of them.
-use Rattle.std.specs.Prelude.{◌≡◌, ◌⊎◌, ℕ, zero, suc, ◌+◌, List, [], ◌∷◌, Option, Some, length, map}
+use Rattle.std.specs.Prelude.{◌≡◌, ◌⊎◌, ℕ, List, Option, Some}
 use Rattle.bip_defs.specs.Lists.{Among}
 use Rattle.bip_defs.specs.WordValues.{held}
+use Rattle.board_seats.specs.Seat as seats
+use Rattle.board_seats.specs.Seat.{with_listed}
 use Rattle.flip_words.specs.Board.{Board}
 use Rattle.flip_words.specs.Listed.{Listed, looked, nothing, put, took}
+pub use Rattle.board_seats.specs.Seat.{AreAllSeats, AreNumbered, HoldsAllSeats, IsSameSeat, first_seat, lists_of}
 
--- its board, its number, how many seats the board has (which the seat 0 alone keeps), and what it
--- lists
-pub record Seat : Type 0 where
-  pub board : Board
-  pub number : ℕ
-  pub seats : ℕ
-  pub listed : Listed
-
--- A seat with other lists.
-
-abbrev pub with_listed : Seat → Listed → Seat
-with_listed s l = record { board = s.board; number = s.number; seats = s.seats; listed = l }
+abbrev pub Seat : Type 0
+Seat = seats.Seat Board Listed
 
 -- after a take of a tree, whose word held `found`
 abbrev pub after_take : Seat → ℕ → Option ℕ → Seat
@@ -62,42 +55,13 @@ pub record IsRightful (s : Seat) : Type 0 where
   pub taken : (root number : ℕ) → Among (root, number) s.listed.taken → number ≡ s.number
   pub sets : (vertex mate : ℕ) → HasSetTo s vertex mate → TookTreeOf s vertex
 
--- All seats of a board.
+-- New seats, which list nothing yet: one, so many from a number on, and all of a board.
 
--- the seat 0 of a board with so many seats
-abbrev pub first_seat : Board → ℕ → Listed → Seat
-first_seat b seats l = record { board = b; number = 0; seats = seats; listed = l }
-
--- another seat, which lists nothing yet
 abbrev pub new_seat : Board → ℕ → Seat
-new_seat b number = record { board = b; number = number; seats = 0; listed = nothing }
+new_seat = seats.new_seat nothing
 
--- so many seats from this number on, which list nothing yet
 abbrev pub more_seats : Board → ℕ → ℕ → List Seat
-more_seats b number zero = []
-more_seats b number (suc count) = new_seat b number ∷ more_seats b (1 + number) count
+more_seats = seats.more_seats nothing
 
--- so many seats that list nothing yet, at least one
 abbrev pub new_seats : Board → ℕ → List Seat
-new_seats b zero = []
-new_seats b (suc others) = first_seat b (1 + others) nothing ∷ more_seats b 1 others
-
--- seats of this board, with the numbers from this one on
-abbrev pub AreNumbered : Board → ℕ → List Seat → Type 0
-AreNumbered b number [] = Unit {0}
-AreNumbered b number (s ∷ ss) = (s.board ≡ b) × (s.number ≡ number) × AreNumbered b (1 + number) ss
-
--- all seats of this board, in the order of their numbers
-abbrev pub AreAllSeats : Board → List Seat → Type 0
-AreAllSeats b [] = ⊥
-AreAllSeats b (s ∷ others) = (s.board ≡ b) × (s.number ≡ 0) × (s.seats ≡ 1 + length others)
-    × AreNumbered b 1 others
-
--- the same seat, whatever it lists
-pub record IsSameSeat (s t : Seat) : Type 0 where
-  pub board : t.board ≡ s.board
-  pub number : t.number ≡ s.number
-  pub seats : t.seats ≡ s.seats
-
-abbrev pub lists_of : List Seat → List Listed
-lists_of ss = map (λ (s : Seat). s.listed) ss
+new_seats = seats.new_seats nothing

@@ -1,15 +1,13 @@
 -- What each kind of step tells its seat, and what a split and a join do to views.
-use Rattle.std.specs.Prelude.{◌≡◌, ◌⊎◌, ℕ, ◌+◌, ◌-◌, ◌%◌, ◌≤◌, Option, None, Some}
+use Rattle.std.specs.Prelude.{◌≡◌, ◌⊎◌, ℕ, ◌+◌, ◌-◌, ◌%◌, ◌≤◌, Option, Some}
 use Rattle.atomic_table.specs.Table.{Me, Step}
 use Rattle.bip_defs.specs.Lists.{Among}
 use Rattle.bip_defs.specs.WordValues.{held, value_of}
+use Rattle.board_seats.specs.View as views
 use Rattle.flip_words.specs.WordCodes.{half, mate_of}
 use Rattle.flip_words.specs.Listed.{Listed, followed_by, looked, nothing, put, took}
 use Rattle.flip_words.specs.Rule.{IsOfTaken, Known}
-
--- the seat with other lists
-abbrev pub knowing : Known → Listed → Option Known
-knowing k l = Some (record { opened = k.opened; number = k.number; seats = k.seats; listed = l })
+pub use Rattle.board_seats.specs.View.{counting_more, knowing}
 
 -- A take: the number found fits, a taker that the seat knew is the one that was found, and the tree
 -- or its taker is listed
@@ -47,33 +45,10 @@ module _ {S : Type 0} where
   TellsLook st before found after = (k : Known) (vertex : ℕ) → before.0 ≡ Some k
       → st.word ≡ 1 + k.opened.cols + vertex → TellsMate k vertex found before after
 
--- The seat 0 splits off a seat with the next number.
-
-abbrev pub counting_more : Option Known → Option Known
-counting_more None = None
-counting_more (Some k) = Some (record {
-  opened = k.opened;
-  number = k.number;
-  seats = 1 + k.seats;
-  listed = k.listed;
-})
+-- a seat that is split off, and the lists of one that is taken in before those of the seat 0
 
 abbrev pub newcomer : Option Known → Option Known
-newcomer None = None
-newcomer (Some k) = Some (record {
-  opened = k.opened;
-  number = k.seats;
-  seats = 0;
-  listed = nothing;
-})
+newcomer = views.newcomer nothing
 
--- the seat 0 takes in the lists of the seat with the highest number, before its own
 abbrev pub joined : Option Known → Option Known → Option Known
-joined None w = None
-joined (Some k) None = Some k
-joined (Some k) (Some j) = Some (record {
-  opened = k.opened;
-  number = k.number;
-  seats = k.seats - 1;
-  listed = followed_by j.listed k.listed;
-})
+joined = views.joined followed_by

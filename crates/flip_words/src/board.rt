@@ -2,7 +2,6 @@
 
 ghost use Rattle.std.specs.Prelude.{◌≡◌, ℕ, ◌+◌, ◌<◌, ◌≤◌, ◌++◌, Some, length, IfOk, IfErr};
 ghost use Rattle.std.specs.Mem.Slots.{IsFull, slots_items, slots_len};
-ghost use Rattle.bip_defs.specs.Lists.{Among};
 ghost use Rattle.bip_defs.specs.WordValues.{held};
 ghost use Rattle.sp_ids.specs.Limits.{max_workers};
 ghost use Rattle.flip_words.specs.Board.{AreTrees, IsOpenedFrom, col_vertex};
@@ -11,7 +10,7 @@ ghost use Rattle.flip_words.specs.WordCodes.{half};
 ghost use Rattle.flip_words.specs.Listed.{followed_by, nothing};
 ghost use Rattle.flip_words.specs.OpenedBoards.{AreOpening};
 ghost use Rattle.flip_words.specs.Rule.{opened_in};
-ghost use Rattle.flip_words.specs.Seat.{AreAllSeats, HasSet, HasSetTo, IsRightful, KnowsTaker, LeavesUnset, Seat, Took, after_look, after_set, after_take, first_seat, new_seat, new_seats};
+ghost use Rattle.flip_words.specs.Seat.{AreAllSeats, HasSet, HasSetTo, HoldsAllSeats, KnowsTaker, LeavesUnset, Took, after_look, after_set, after_take, first_seat, new_seat, new_seats};
 ghost use Rattle.flip_words.specs.Stored.{AreLeft, board_in};
 ghost use Rattle.flip_words.specs.Taken.{taker_before};
 
@@ -19,6 +18,7 @@ use crate::closing::read_mates;
 use crate::opening::lay_words;
 use crate::plays::{Newcomer, OneTakerEach, Take, TakesIn, VertexLook, VertexSet};
 use crate::seat::{FlipSeat, TableSeat};
+use crate::seats::are_rightful;
 use crate::taken::Taken;
 use crate::views::{Opening, View};
 use crate::words;
@@ -52,16 +52,6 @@ impl Model for FlipBoard {
 
     ghost invariant = { λ b. IsLaid b.table.shared.table_id b.rows b.cols
         b.table.shared.key.rows b.table.shared.key.cols b.table.shared.key.words.value.items };
-}
-
-// Each of these seats has taken itself what it lists as taken, and set vertices of such trees
-// alone.
-fn are_rightful(seats: &[FlipSeat])
-    ensures { (s : Seat) → Among s seats.now → IsRightful s }
-{
-    for seat in seats {
-        seat.is_rightful();
-    }
 }
 
 // What a take answers where the tree's word held this.
@@ -130,7 +120,7 @@ impl FlipBoard {
         first: TableSeat,
         seats: u32,
     ) -> Result<Vec<FlipSeat>, OutOfMemory>
-        requires seats { 1 ≤ seats }
+        requires seats { (1 ≤ seats) × (seats ≤ max_workers) }
         requires first { first ≡ first_seat self.now 1 nothing }
         ensures { IfOk result (λ all. all.items ≡ new_seats self.now seats) }
     {
@@ -148,7 +138,8 @@ impl FlipBoard {
 
     // The next seat, of this number, which the seat 0 splits off.
     fn split(&self, first: &mut FlipSeat, number: u32) -> FlipSeat
-        requires { first.old ≡ first_seat self.now number nothing }
+        requires first { first.old ≡ first_seat self.now number nothing }
+        requires few { number < max_workers }
         ensures first { first.new ≡ first_seat self.now (1 + number) nothing }
         ensures next { result ≡ new_seat self.now number }
     {
@@ -259,17 +250,17 @@ impl FlipBoard {
         words::as_row(self.load(&mut seat.place, self.rows + col.number() as usize))
     }
 
-    /// The mates, once all seats are back: those with which the board was opened, changed by what
-    /// the seats have set.
+    /// The mates, once all seats are back, in any order: those with which the board was opened,
+    /// changed by what the seats have set.
     ///
     /// Where the two arrays of the mates can't be had, the board and the seats are handed back as
     /// they were. Work: one read and one write for each row and each column.
     pub fn close(
         self,
         alloc: Global,
-        seats: Vec<FlipSeat>,
+        mut seats: Vec<FlipSeat>,
     ) -> Result<Mates, (FlipBoard, Vec<FlipSeat>)>
-        requires { AreAllSeats self seats.items }
+        requires { HoldsAllSeats self seats.items }
         ensures ok { IfOk result (λ m. SettlesAll self m seats.items) }
         ensures err { IfErr result (λ back. (back.0 ≡ self) × (back.1.items ≡ seats.items)) }
     {
@@ -278,6 +269,7 @@ impl FlipBoard {
             return Err((self, seats));
         };
         are_rightful(seats.as_slice());
+        seats.sort_unstable_by_key(|seat| seat.number());
         let whole = self.join_all(seats);
         let words = self.end(whole);
         read_mates(&words, rows, cols, &mut mates);

@@ -5,22 +5,29 @@ ghost use Rattle.std.specs.List.{AllZip};
 ghost use Rattle.bip_graph.specs.Mates.{Mated};
 ghost use Rattle.flip_words.specs.Board.{Board};
 ghost use Rattle.flip_words.specs.ClosedBoards.{AreMatesAfter, HaveOneTakerEach, SettlesAll};
-ghost use Rattle.flip_words.specs.Seat.{AreAllSeats, IsSameSeat, Seat, new_seats};
+ghost use Rattle.flip_words.specs.Seat.{AreAllSeats, HoldsAllSeats, IsSameSeat, Seat, new_seats};
 
-/// The seats with which a board is opened are all its seats.
+/// The seats with which a board is opened are all its seats, in the order of their numbers.
 pub fn new_seats_are_all()
-    ensures { (b : Board) (count : ℕ) → 1 ≤ count → AreAllSeats b (new_seats b count) }
+    ensures order { (b : Board) (count : ℕ) → 1 ≤ count → AreAllSeats b (new_seats b count) }
+    ensures all { (b : Board) (count : ℕ) → 1 ≤ count → HoldsAllSeats b (new_seats b count) }
+{}
+
+/// Seats that are all seats of a board in the order of their numbers are all its seats in any
+/// order.
+pub fn seats_in_order_are_all()
+    ensures { (b : Board) (ss : List Seat) → AreAllSeats b ss → HoldsAllSeats b ss }
 {}
 
 /// All seats of a board stay all its seats, whatever they list.
 pub fn seats_stay_all()
-    ensures { (b : Board) (ss ts : List Seat) → AllZip IsSameSeat ss ts → AreAllSeats b ss
-        → AreAllSeats b ts }
+    ensures { (b : Board) (ss ts : List Seat) → AllZip IsSameSeat ss ts → HoldsAllSeats b ss
+        → HoldsAllSeats b ts }
 {}
 
 /// At the close of a board each tree has one taker at most.
 pub fn each_tree_has_one_taker()
-    ensures { (b : Board) (m : Mated) (ss : List Seat) → AreAllSeats b ss → SettlesAll b m ss
+    ensures { (b : Board) (m : Mated) (ss : List Seat) → HoldsAllSeats b ss → SettlesAll b m ss
         → HaveOneTakerEach ss }
 {}
 

@@ -13,12 +13,17 @@ mod laws;
 mod opening;
 mod plays;
 mod seat;
+mod seats;
 mod taken;
 mod views;
 mod words;
 
 pub use bip_graph::Mates;
 pub use board::FlipBoard;
-pub use laws::{each_tree_has_one_taker, mates_are_those_set, new_seats_are_all, seats_stay_all};
+pub use laws::{
+    each_tree_has_one_taker, mates_are_those_set, new_seats_are_all, seats_in_order_are_all,
+    seats_stay_all,
+};
 pub use seat::FlipSeat;
+pub use seats::seats_are_few;
 pub use taken::Taken;

@@ -1,6 +1,8 @@
 //! Seats.
 
+ghost use Rattle.std.specs.Prelude.{◌≡◌, ◌≤◌};
 ghost use Rattle.flip_words.specs.Seat.{IsRightful};
+ghost use Rattle.sp_ids.specs.Limits.{max_workers};
 
 use crate::views::View;
 use atomic_table::Seat;
@@ -35,14 +37,17 @@ pub struct FlipSeat {
 
 impl Model for FlipSeat {
     ghost use Rattle.std.specs.Prelude.{◌≡◌};
+    ghost use Rattle.std.specs.Prelude.{◌≤◌};
     ghost use Rattle.flip_words.specs.Seat as model;
     ghost use Rattle.flip_words.specs.Seat.{IsRightful};
+    ghost use Rattle.sp_ids.specs.Limits.{max_workers};
 
     ghost Value = { model.Seat };
 
     ghost view = { λ s. s.place };
 
-    ghost invariant = { λ s. (s.number ≡ s.place.number) × IsRightful s.place };
+    ghost invariant = { λ s. (s.number ≡ s.place.number) × IsRightful s.place
+        × (s.place.seats ≤ max_workers) };
 }
 
 impl FlipSeat {
@@ -52,5 +57,13 @@ impl FlipSeat {
         ensures { IsRightful self.now }
     {
         let _number = self.number;
+    }
+
+    // Its number, and that it counts 64 seats at most.
+    pub(crate) fn number(&self) -> u32
+        ensures number { result ≡ self.now.number }
+        ensures few { self.now.seats ≤ max_workers }
+    {
+        self.number
     }
 }

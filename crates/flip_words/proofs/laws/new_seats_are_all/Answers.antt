@@ -1,5 +1,7 @@
-use Rattle.flip_words.proofs.SeatLaws.{new_all}
+use Rattle.board_seats.proofs.Numbered.{in_order, new_all}
+use Rattle.flip_words.specs.Listed.{nothing}
+use Rattle.flip_words.specs.Seat.{new_seats}
 use Rattle.flip_words.proofs.laws.new_seats_are_all.Goals as goal
 
 pub returns : goal.returns
-returns c b count = new_all b count
+returns c = record { order = new_all nothing; all = λ b count some. in_order b (new_seats b count) (new_all nothing b count some) }

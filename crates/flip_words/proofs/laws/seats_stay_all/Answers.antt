@@ -1,4 +1,4 @@
-use Rattle.flip_words.proofs.SeatLaws.{stay_all}
+use Rattle.board_seats.proofs.Numbered.{stay_all}
 use Rattle.flip_words.proofs.laws.seats_stay_all.Goals as goal
 
 pub returns : goal.returns

@@ -9,5 +9,5 @@ load-requires c =
     let of = is_of _ _ _ _ _ _ _ c.first.view_is (ap (λ (s : Seat). s.board) c.requires) c.self.view_is in (
       of.same_table,
       some_words _ _ _ _ c.self.invariant,
-      allows_all _ _ _ _ _ c.first.invariant (ap (λ (s : Seat). s.number) (c.first.view_is ∙ c.requires)) (ap (λ (s : Seat). s.seats) (c.first.view_is ∙ c.requires)),
+      allows_all _ _ _ _ _ c.first.invariant.live (ap (λ (s : Seat). s.number) (c.first.view_is ∙ c.requires)) (ap (λ (s : Seat). s.seats) (c.first.view_is ∙ c.requires)),
     )

@@ -12,18 +12,18 @@ compare_exchange-found-requires c =
     let within = row_in_range _ _ _ _ _ c.self.view_is (subst (λ r. r < length c.args.self.now.rows) (sym c.number.ensures) c.requires.row) in (
       of.same_table,
       subst (λ m. 1 + c.number.result < m) (sym c.self.invariant.all) (row_below _ _ _ within).1,
-      allows_claim _ _ _ _ _ c.seat.invariant _ _ (subst (λ rows. c.number.result < length rows) (sym of.same_rows) within) (omega arith),
+      allows_claim _ _ _ _ _ c.seat.invariant.live _ _ (subst (λ rows. c.number.result < length rows) (sym of.same_rows) within) (omega arith),
     )
 
 pub value-requires : goal.value-requires
-value-requires c = (c.compare_exchange-found.ensures.2 _ _ _ c.seat.invariant.0 refl refl).fits
+value-requires c = (c.compare_exchange-found.ensures.2 _ _ _ c.seat.invariant.live.0 refl refl).fits
 
 pub invariant_of-seat : goal.invariant_of-seat
-invariant_of-seat c = open_after c.seat.invariant (c.compare_exchange-found.ensures.2 _ _ _ c.seat.invariant.0 refl refl)
+invariant_of-seat c = open_after c.seat.invariant (c.compare_exchange-found.ensures.2 _ _ _ c.seat.invariant.live.0 refl refl)
 
 pub returns : goal.returns
 returns c =
-    let fact = c.compare_exchange-found.ensures.2 _ c.args.row c.args.col c.seat.invariant.0 (ap (λ n. 1 + n) c.number.ensures) (ap (λ n. 1 + n) c.number-2.ensures) in
+    let fact = c.compare_exchange-found.ensures.2 _ c.args.row c.args.col c.seat.invariant.live.0 (ap (λ n. 1 + n) c.number.ensures) (ap (λ n. 1 + n) c.number-2.ensures) in
     let a = claim_answer c.seat.inside.seat.table_id c.compare_exchange-found.new.seat.table_id c.seat.inside.seat.me c.compare_exchange-found.new.seat.me c.args.seat.now
     c.compare_exchange-found.ensures.0 c.seat.view_is c.args.row c.args.col c.compare_exchange-found.result (col_before c.claimed.result) (c.claimed.ensures ∙ c.value.ensures) fact in
     record { seat = a.0; known = a.1; once = a.2 }

@@ -11,7 +11,7 @@ join_seat-requires c =
     let highest = ap (λ (s : Seat). s.seats) (c.first.view_is ∙ c.requires.first) ∙ ap (λ (s : Seat). 1 + s.number) (sym c.last.view_is) in (
       of.same_table,
       last_of.same_table,
-      c.last.invariant.1,
+      c.last.invariant.live.1,
       some_words _ _ _ _ c.self.invariant,
-      joins _ _ 0 _ _ c.first.invariant _ _ c.last.invariant.0 (ap (λ (s : Seat). s.number) (c.first.view_is ∙ c.requires.first)) highest,
+      joins _ _ 0 _ _ c.first.invariant.live _ _ c.last.invariant.live.0 (ap (λ (s : Seat). s.number) (c.first.view_is ∙ c.requires.first)) highest,
     )

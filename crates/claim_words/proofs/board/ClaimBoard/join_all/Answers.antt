@@ -1,6 +1,7 @@
 use Rattle.std.proofs.Common.{subst}
 use Rattle.claim_words.specs.Seat.{AreNumbered}
-use Rattle.claim_words.proofs.GatherLemmas.{last_highest, last_taken, numbered_last}
+use Rattle.claim_words.proofs.GatherLemmas.{last_highest, last_taken}
+use Rattle.board_seats.proofs.Numbered.{numbered_last}
 use Rattle.claim_words.proofs.board.ClaimBoard.join_all.Goals as goal
 
 pub join-requires-clause-first : goal.join-requires-clause-first

@@ -1,6 +1,7 @@
-use Rattle.std.proofs.Common.{◌∙◌, ◌+◌, sym, ap}
+use Rattle.std.proofs.Common.{◌∙◌, ◌+◌, sym, ap, ◌≤◌, subst}
 use Rattle.flip_words.specs.Board.{Board}
 use Rattle.flip_words.specs.Seat.{Seat}
+use Rattle.sp_ids.specs.Limits.{max_workers}
 use Rattle.flip_words.proofs.OwnTrees.{rightful_set}
 use Rattle.flip_words.proofs.board.FlipBoard.set_col.Goals as goal
 
@@ -8,4 +9,5 @@ pub invariant_of-seat : goal.invariant_of-seat
 invariant_of-seat c = (
   c.seat.invariant.0 ∙ sym (ap (λ (s : Seat). s.number) c.store.ensures),
   rightful_set (c.args.self.now.rows + c.args.col) _ _ c.seat.view_is c.store.ensures (λ i. (sym c.self.invariant.rows_known ∙ ap (λ (b : Board). b.rows) c.self.view_is) i + c.number.ensures i) c.requires.seat c.requires.tree c.requires.took c.seat.invariant.1,
+  subst (λ (s : Seat). s.seats ≤ max_workers) (sym c.store.ensures) c.seat.invariant.2,
 )

@@ -7,5 +7,5 @@ use Rattle.flip_words.proofs.board.FlipBoard.split.Goals as goal
 pub split_seat-requires : goal.split_seat-requires
 split_seat-requires c =
     let view = ap (λ f. f.place) c.first-inside.view_is ∙ c.first.view_is in
-    let first = is_of view (ap (λ (s : Seat). s.board) c.requires) c.self.view_is in
-    (first.same_table, omega (arith, c.self.invariant.all, c.self.invariant.many), splits _ _ _ 0 _ _ c.first-inside.invariant (ap (λ (s : Seat). s.number) (view ∙ c.requires)))
+    let first = is_of view (ap (λ (s : Seat). s.board) c.requires.first) c.self.view_is in
+    (first.same_table, omega (arith, c.self.invariant.all, c.self.invariant.many), splits _ _ _ 0 _ _ c.first-inside.invariant (ap (λ (s : Seat). s.number) (view ∙ c.requires.first)))

@@ -23,6 +23,16 @@ pub times_one : (i : ℕ) (ps : List (ℕ × ℕ)) → 0 < times i ps → (x : �
 times_one i [] lt = absurd (omega arith)
 times_one i (p ∷ ps) lt = ⊎_elim (λ (e : p.0 ≡ i). (p.1, inl (λ k. (sym e k, p.1)))) (λ ne. let t = times_one i ps (omega (arith, one_else p.0 i ne)) in (t.0, inr t.1)) (number_same p.0 i)
 
+-- two lists in the other order
+
+pub times_turned : (i : ℕ) (xs ys : List (ℕ × ℕ)) → times i (xs ++ ys) ≡ times i (ys ++ xs)
+times_turned i xs ys = omega (arith, times_append i xs ys, times_append i ys xs)
+
+pub among_turned : {X : Type 0} (x : X) (xs ys : List X) → Among x (xs ++ ys) → Among x (ys ++ xs)
+among_turned x xs ys h = ⊎_elim (among_right x ys xs) (among_left x ys xs) (among_either x xs ys h)
+
+-- Lists of many.
+
 module _ {L X : Type 0} (g : L → List X) where
   -- each element comes from the lists that have changed, or was there
   pub among_set : (ls : List L) (k : ℕ) (m : L) (x : X) → Among x (flat_map g (set ls k m)) → Among x (g m) ⊎ Among x (flat_map g ls)
