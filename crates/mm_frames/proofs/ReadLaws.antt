@@ -1,23 +1,26 @@
 -- What a reader of edit lines has read, byte by byte and at the end.
-use Rattle.std.proofs.Common.{◌≡◌, ◌≢◌, ℕ, ◌+◌, ◌<◌, ◌^◌, Bool, true, false, if◌then◌else◌, List, [], ◌∷◌, ◌++◌, length, refl, sym, ap, ◌∙◌, append-nil, arith, length-append, eq-eqb, ne_eqb, Option, Some, None, slice_get}
+use Rattle.std.proofs.Common.{◌≡◌, ◌≢◌, ℕ, ◌+◌, ◌<◌, ◌^◌, Bool, true, false, if◌then◌else◌, List, [], ◌∷◌, ◌++◌, length, refl, sym, ap, ◌∙◌, append-nil, arith, length-append, eq-eqb, ne_eqb, Option, Some, None, Result, Ok, Err, MatchResult, slice_get}
+use Rattle.std.specs.Global.{Vec}
 use Rattle.sp_ports.specs.Bytes.{WhereKnown}
 use Rattle.mm_defs.specs.declared.answers.ReadError.{ReadError}
 use Rattle.mm_defs.specs.declared.answers.ReadError.TheVariants as errors
 use Rattle.mm_defs.specs.Words.{is_lf, has_bytes, lines, open_line}
 use Rattle.mm_defs.specs.File.{Fault}
-use Rattle.mm_defs.specs.Calls.{Call, call_on, ended, given}
+use Rattle.mm_defs.specs.Calls.{Call, Intake, IsAnswerTo, call_on, ended, given, offered}
+use Rattle.mm_defs.proofs.AnswerLemmas.{given_all, given_prefix}
 use Rattle.mm_defs.proofs.Lines.{lines-none, open_line-none, lines-push_lf, open_line-push_lf, lines-push, open_line-push, lines-ended, lines-append}
 use Rattle.mm_reader.specs.declared.line.LineSoFar.{LineSoFar}
 use Rattle.sp_ports.specs.Device.{Device}
 use Rattle.mm_reader.specs.Fronts.{Front, Stops, UsesByte}
+use Rattle.mm_reader.specs.Inputs.{OnCall}
 use Rattle.mm_reader.specs.Lines.{IsLine}
 use Rattle.mm_frames.specs.declared.edit.Edit.{Edit}
 use Rattle.mm_defs.specs.EditLines.{edit_faults}
-use Rattle.mm_frames.specs.Edits.{first_bad_edit, RefusesEdits}
+use Rattle.mm_frames.specs.Edits.{ReadsEdits, RefusesEdits, first_bad_edit}
 use Rattle.mm_frames.specs.Stages.{AreRead, HasRead, HasUsed, RefusesLast, StandsAfter}
 use Rattle.mm_defs.proofs.EditLineLemmas.{edit_faults-append}
 use Rattle.mm_frames.proofs.EditLaws.{none_read}
-use Rattle.mm_frames.proofs.UsedLaws.{fits, none_used, one_more, stopped_used, rose_since, used_first, past_given, failed_given, where_known}
+use Rattle.mm_frames.proofs.UsedLaws.{fits, none_used, on_call, one_more, stopped_used, rose_since, used_first, past_given, failed_given, where_known}
 
 has_bytes-push : (xs : List ℕ) (b : ℕ) → has_bytes (xs ++ b ∷ []) ≡ true
 has_bytes-push [] b = refl
@@ -174,3 +177,41 @@ module _ (rows cols : ℕ) (f0 f f2 : Front) (old now now2 : Option (List ℕ)) 
       let e = lines-push_lf h.used b (eq-eqb b 10 lf) in
       where_known f0 f2 old now2 (h.used ++ b ∷ []) (one_more f0 f f2 old now now2 fm fa h.used h.so_far b u) fb fa (λ call after. RefusesEdits f0.lines rows cols call error)
       (λ before after o d k. line_refused rows cols f0 f2 fb fa (h.used ++ b ∷ []) before after k error (rw e bad))
+
+-- ---- a bad line is answered
+
+-- no line is bad of what was given, where no line is of all that was offered
+good_given : (n rows cols : ℕ) (call : Call) → edit_faults n rows cols (lines true (offered call)) ≡ [] → first_bad_edit n rows cols call ≡ None
+good_given n rows cols call good = by (ended call) refl
+  where
+    some_bad : (xs : List Fault) → edit_faults n rows cols (lines false (given call)) ≡ xs → xs ≡ []
+    some_bad [] e = refl
+    some_bad (x ∷ xs) e =
+        let p = given_prefix call in
+        let r = lines-append true (given call) p.0 in
+        let k = edit_faults-append n rows cols (lines false (given call)) r.0 in
+        let all = rw (← p.1) at good in
+        let z : x ∷ xs ++ k.0 ≡ [] = ap (λ (t : List Fault). t ++ k.0) (sym e) ∙ sym k.1 ∙ ap (edit_faults n rows cols) (sym r.1) ∙ all in
+        absurd cc
+
+    by : (e : Bool) → ended call ≡ e → first_bad_edit n rows cols call ≡ None
+    by true e = let k = given_all call e in rw (e, k) (rw good refl)
+    by false e = let f = some_bad (edit_faults n rows cols (lines false (given call))) refl in rw e (rw f refl)
+
+-- a bad line is answered, and the first one
+bad_line_known : (n rows cols : ℕ) (call : Call) (left : List ℕ) (result : Result (Vec Edit) ReadError) → MatchResult result (λ v. ReadsEdits n rows cols call v.items left) (RefusesEdits n rows cols call)
+    → (fault : Fault) → first_bad_edit n rows cols call ≡ Some fault → IsAnswerTo fault result
+bad_line_known n rows cols call left (Ok v) h fault bad = let k = good_given n rows cols call h.good in absurd cc
+bad_line_known n rows cols call left (Err (errors.Malformed line kind)) h fault bad = cc
+bad_line_known n rows cols call left (Err (errors.Limit line kind)) h fault bad = cc
+bad_line_known n rows cols call left (Err errors.TooLong) h fault bad = let k = h.0 in cc
+bad_line_known n rows cols call left (Err errors.ReadFault) h fault bad = let k = h.0 in cc
+bad_line_known n rows cols call left (Err errors.OutOfMemory) h fault bad = tt
+
+pub bad_line_on_call : (rows cols : ℕ) (input : Intake) (source : Device) (ahead : List ℕ) (result : Result (Vec Edit) ReadError)
+    → OnCall input source (λ call. MatchResult result (λ v. ReadsEdits input.lines rows cols call v.items (ahead ++ call.after)) (RefusesEdits input.lines rows cols call))
+    → OnCall input source (λ call. (fault : Fault) → first_bad_edit input.lines rows cols call ≡ Some fault → IsAnswerTo fault result)
+bad_line_on_call rows cols input source ahead result h =
+    on_call input source (λ call. MatchResult result (λ v. ReadsEdits input.lines rows cols call v.items (ahead ++ call.after)) (RefusesEdits input.lines rows cols call))
+    (λ call. (fault : Fault) → first_bad_edit input.lines rows cols call ≡ Some fault → IsAnswerTo fault result)
+    (λ call k. bad_line_known input.lines rows cols call (ahead ++ call.after) result k) h
