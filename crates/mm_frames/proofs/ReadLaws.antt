@@ -9,10 +9,10 @@ use Rattle.mm_defs.specs.File.{Fault}
 use Rattle.mm_defs.specs.Calls.{Call, Intake, IsAnswerTo, call_on, ended, given, offered}
 use Rattle.mm_defs.proofs.AnswerLemmas.{given_all, given_prefix}
 use Rattle.mm_defs.proofs.Lines.{lines-none, open_line-none, lines-push_lf, open_line-push_lf, lines-push, open_line-push, lines-ended, lines-append}
-use Rattle.mm_reader.specs.declared.line.LineSoFar.{LineSoFar}
 use Rattle.sp_ports.specs.Device.{Device}
 use Rattle.mm_reader.specs.Fronts.{Front, Stops, UsesByte}
 use Rattle.mm_reader.specs.Inputs.{OnCall}
+use Rattle.mm_reader.specs.KeptLines.{KeptLine}
 use Rattle.mm_reader.specs.Lines.{IsLine}
 use Rattle.mm_frames.specs.declared.edit.Edit.{Edit}
 use Rattle.mm_defs.specs.EditLines.{edit_faults}
@@ -28,27 +28,27 @@ has_bytes-push (x ∷ xs) b = refl
 
 -- ---- byte by byte
 
-pub stands_at_start : (n rows cols : ℕ) (l : LineSoFar) → IsLine l.tokens l.count l.inside [] → StandsAfter n rows cols [] l false []
+pub stands_at_start : (n rows cols : ℕ) (l : KeptLine) → IsLine l [] → StandsAfter n rows cols [] l false []
 stands_at_start n rows cols l is =
     let a = lines-none false in
     record { lines_are = rw a (none_read n rows cols); open_is = rw open_line-none is; begun_is = rw open_line-none refl }
 
 module _ (n rows cols : ℕ) (bytes : List ℕ) (b : ℕ) where
-  pub byte_stands : (es : List Edit) (l l2 : LineSoFar) (begun : Bool) → b ≢ 10 → StandsAfter n rows cols es l begun bytes → IsLine l2.tokens l2.count l2.inside (open_line bytes ++ b ∷ []) → StandsAfter n rows cols es l2 true (bytes ++ b ∷ [])
+  pub byte_stands : (es : List Edit) (l l2 : KeptLine) (begun : Bool) → b ≢ 10 → StandsAfter n rows cols es l begun bytes → IsLine l2 (open_line bytes ++ b ∷ []) → StandsAfter n rows cols es l2 true (bytes ++ b ∷ [])
   byte_stands es l l2 begun other h is =
       let f : is_lf b ≡ false = ne_eqb b 10 other in
       let k = lines-push bytes b f in
       let o = open_line-push bytes b f in
       record { lines_are = rw k h.lines_are; open_is = rw o is; begun_is = rw o (sym (has_bytes-push (open_line bytes) b)) }
 
-  pub lf_stands : (es : List Edit) (l2 : LineSoFar) → b ≡ 10 → AreRead n rows cols (lines false bytes ++ open_line bytes ∷ []) es → IsLine l2.tokens l2.count l2.inside [] → StandsAfter n rows cols es l2 false (bytes ++ b ∷ [])
+  pub lf_stands : (es : List Edit) (l2 : KeptLine) → b ≡ 10 → AreRead n rows cols (lines false bytes ++ open_line bytes ∷ []) es → IsLine l2 [] → StandsAfter n rows cols es l2 false (bytes ++ b ∷ [])
   lf_stands es l2 lf h is =
       let f : is_lf b ≡ true = eq-eqb b 10 lf in
       let k = lines-push_lf bytes b f in
       let o = open_line-push_lf bytes b f in
       record { lines_are = rw k h; open_is = rw o is; begun_is = rw o refl }
 
-pub read_at_start : (rows cols : ℕ) (f : Front) (left : Option (List ℕ)) (l : LineSoFar) → IsLine l.tokens l.count l.inside [] → HasRead rows cols f f left left [] l false
+pub read_at_start : (rows cols : ℕ) (f : Front) (left : Option (List ℕ)) (l : KeptLine) → IsLine l [] → HasRead rows cols f f left left [] l false
 read_at_start rows cols f left l is = record {
   used = [];
   so_far = none_used f left;
@@ -57,7 +57,7 @@ read_at_start rows cols f left l is = record {
 }
 
 -- one more byte was used
-module _ (rows cols : ℕ) (f0 f f2 : Front) (old now now2 : Option (List ℕ)) (fb fa : ℕ) (b : ℕ) (es es2 : List Edit) (l l2 : LineSoFar) (begun begun2 : Bool)
+module _ (rows cols : ℕ) (f0 f f2 : Front) (old now now2 : Option (List ℕ)) (fb fa : ℕ) (b : ℕ) (es es2 : List Edit) (l l2 : KeptLine) (begun begun2 : Bool)
     (h : HasRead rows cols f0 f old now es l begun) (u : UsesByte f f2 (record { before = now; after = now2; failed_before = fb; failed_after = fa }) b) where
   pub read_more : length (lines false (h.used ++ b ∷ [])) ≡ length (lines false h.used) + (if is_lf b then 1 else 0) → StandsAfter f0.lines rows cols es2 l2 begun2 (h.used ++ b ∷ [])
       → HasRead rows cols f0 f2 old now2 es2 l2 begun2
@@ -73,15 +73,15 @@ module _ (rows cols : ℕ) (f0 f f2 : Front) (old now now2 : Option (List ℕ)) 
       add_more a c d = omega arith
 
 -- one more byte, by what it is
-module _ (rows cols : ℕ) (f0 f f2 : Front) (old now now2 : Option (List ℕ)) (fb fa : ℕ) (b : ℕ) (es : List Edit) (l l2 : LineSoFar) (begun : Bool)
+module _ (rows cols : ℕ) (f0 f f2 : Front) (old now now2 : Option (List ℕ)) (fb fa : ℕ) (b : ℕ) (es : List Edit) (l l2 : KeptLine) (begun : Bool)
     (h : HasRead rows cols f0 f old now es l begun) (u : UsesByte f f2 (record { before = now; after = now2; failed_before = fb; failed_after = fa }) b) where
-  pub read_byte : b ≢ 10 → IsLine l2.tokens l2.count l2.inside (open_line h.used ++ b ∷ []) → HasRead rows cols f0 f2 old now2 es l2 true
+  pub read_byte : b ≢ 10 → IsLine l2 (open_line h.used ++ b ∷ []) → HasRead rows cols f0 f2 old now2 es l2 true
   read_byte other is =
       let e : is_lf b ≡ false = ne_eqb b 10 other in
       let k = lines-push h.used b e in
       read_more rows cols f0 f f2 old now now2 fb fa b es es l l2 begun true h u (rw (k, e) (omega arith)) (byte_stands f0.lines rows cols h.used b es l l2 begun other h.stands is)
 
-  pub read_lf : (es2 : List Edit) → b ≡ 10 → AreRead f0.lines rows cols (lines false h.used ++ open_line h.used ∷ []) es2 → IsLine l2.tokens l2.count l2.inside [] → HasRead rows cols f0 f2 old now2 es2 l2 false
+  pub read_lf : (es2 : List Edit) → b ≡ 10 → AreRead f0.lines rows cols (lines false h.used ++ open_line h.used ∷ []) es2 → IsLine l2 [] → HasRead rows cols f0 f2 old now2 es2 l2 false
   read_lf es2 lf r is =
       let e : is_lf b ≡ true = eq-eqb b 10 lf in
       let k = lines-push_lf h.used b e in
@@ -151,7 +151,7 @@ module _ (rows cols : ℕ) (f0 f : Front) (fb fa : ℕ) (used before after : Lis
 
 -- ---- of a source that may tell its bytes
 
-module _ (rows cols : ℕ) (f0 f f2 : Front) (old now now2 : Option (List ℕ)) (fb fm fa : ℕ) (es : List Edit) (l : LineSoFar) (begun : Bool) (h : HasRead rows cols f0 f old now es l begun) where
+module _ (rows cols : ℕ) (f0 f f2 : Front) (old now now2 : Option (List ℕ)) (fb fm fa : ℕ) (es : List Edit) (l : KeptLine) (begun : Bool) (h : HasRead rows cols f0 f old now es l begun) where
   abbrev device : Device
   device = record { before = now; after = now2; failed_before = fm; failed_after = fa }
 

@@ -56,7 +56,7 @@ pub fn stopped(error: ReadError) -> BatchError
 /// Judges the header of a file behind so many: the first kind of fault that applies, or how many
 /// bytes it tells.
 fn judge_header(before: usize, line: &LineSoFar) -> Result<u64, Kind>
-    ensures judged { (bytes : List ℕ) → IsLine line.now.tokens line.now.count line.now.inside bytes
+    ensures judged { (bytes : List ℕ) → IsLine line.now bytes
         → JudgedHeader (header_rules before (words bytes)) (file_bytes (words bytes)) result }
     ensures kind { IfErr result (λ kind. is_frame_kind kind ≡ true) }
     ensures few { IfOk result (λ n. before < max_batch_files) }
@@ -84,7 +84,7 @@ fn judge_header(before: usize, line: &LineSoFar) -> Result<u64, Kind>
 /// A header has come, behind so many files, with its LF or with the end of the input.
 fn take_header(before: usize, line: &LineSoFar, last: bool) -> Result<FrameHeader, BatchError>
     requires { before ≤ max_batch_files }
-    ensures taken { (bytes : List ℕ) → IsLine line.now.tokens line.now.count line.now.inside bytes
+    ensures taken { (bytes : List ℕ) → IsLine line.now bytes
         → HeaderIs before last (words bytes) result }
     ensures kind { IfErr result HasFrameKind }
     ensures few { IfOk result (λ header. before < max_batch_files) }

@@ -16,7 +16,7 @@ use sp_ids::{Col, MAX_EDITS, Row};
 
 /// Judges an edit line behind so many, of a matrix of so many rows and columns.
 pub fn judge_edit(before: usize, rows: u32, cols: u32, line: &LineSoFar) -> Result<Edit, Kind>
-    ensures judged { (bytes : List ℕ) → IsLine line.now.tokens line.now.count line.now.inside bytes
+    ensures judged { (bytes : List ℕ) → IsLine line.now bytes
         → JudgedEdit (edit_rules rows cols before (words bytes)) (edit (words bytes)) result }
     ensures kind { IfErr result (λ kind. is_edit_kind kind ≡ true) }
     ensures within { IfOk result (IsWithinMatrix rows cols) }
@@ -49,7 +49,7 @@ pub fn judge_edit(before: usize, rows: u32, cols: u32, line: &LineSoFar) -> Resu
 
 /// Judges the row and the column that the line tells.
 fn judge_place(rows: u32, cols: u32, line: &LineSoFar) -> Result<(Row, Col), Kind>
-    ensures judged { (bytes : List ℕ) → IsLine line.now.tokens line.now.count line.now.inside bytes
+    ensures judged { (bytes : List ℕ) → IsLine line.now bytes
         → JudgedPlace (edit_place_rules rows cols (words bytes)) (number (word (words bytes) 1))
         (number (word (words bytes) 2)) result }
     ensures kind { IfErr result (λ kind. is_edit_kind kind ≡ true) }

@@ -28,7 +28,7 @@ fn take_line(
     edits: &mut Vec<Edit>,
 ) -> Result<(), ReadError>
     ensures steps { (n : ℕ) (bytes : List ℕ)
-        → IsLine line.now.tokens line.now.count line.now.inside bytes
+        → IsLine line.now bytes
         → TakesLine rows cols number n bytes edits.old.items edits.new.items result }
     ensures kind { HasItsKind result }
     ensures family { IfErr result HasEditKind }
