@@ -1,15 +1,19 @@
 -- Whole batches: their files, and their first bad frame.
-use Rattle.std.proofs.Common.{◌≡◌, ◌≢◌, ℕ, zero, suc, ◌+◌, ◌<◌, ◌≤◌, Bool, true, false, ◌&&◌, ◌||◌, nat_lt, List, [], ◌∷◌, ◌++◌, length, take, refl, sym, ap, ◌∙◌, arith, Option, Some, None}
+use Rattle.std.proofs.Common.{◌≡◌, ◌≢◌, ℕ, zero, suc, ◌+◌, ◌<◌, ◌≤◌, Bool, true, false, ◌&&◌, ◌||◌, nat_lt, List, [], ◌∷◌, ◌++◌, length, take, refl, sym, ap, ◌∙◌, arith, Option, Some, None, Result, Ok, Err, MatchResult}
+use Rattle.std.specs.Global.{Vec}
 use Rattle.sp_ids.specs.Limits.{max_batch_files}
+use Rattle.sp_ports.specs.Device.{Device}
 use Rattle.mm_defs.specs.declared.kinds.Kind.{Kind}
 use Rattle.mm_defs.specs.declared.kinds.Kind.TheVariants.{ShortFile}
 use Rattle.mm_defs.specs.Faults.{first_kind}
-use Rattle.mm_defs.specs.Calls.{Call, ended, given, offered}
+use Rattle.mm_defs.specs.Calls.{Call, Intake, ended, given, offered}
 use Rattle.mm_defs.proofs.AnswerLemmas.{given_all, given_prefix, length_got}
+use Rattle.mm_reader.specs.Inputs.{OnCall}
 use Rattle.mm_frames.specs.declared.batch.BatchError.{BatchError}
 use Rattle.mm_frames.specs.declared.batch.BatchError.TheVariants as errors
-use Rattle.mm_frames.specs.Batches.{AreFrames, BatchFault, HasFrame, IsBatch, RefusesBatch, TellsFrame, bad_frame_among, bad_frame_from, behind_frame, behind_header, fault_or, file_bytes, first_bad_file, first_bad_frame, frame_kind, has_lf, header_rules, header_words}
+use Rattle.mm_frames.specs.Batches.{AreFrames, BatchFault, HasFrame, IsBatch, IsFrameAnswerTo, ReadsBatch, RefusesBatch, TellsFrame, bad_frame_among, bad_frame_from, behind_frame, behind_header, fault_or, file_bytes, files_of, first_bad_file, first_bad_frame, frame_kind, has_lf, header_rules, header_words}
 use Rattle.mm_frames.proofs.FrameLaws.{behind_frame-more, few_before, file-is, frame_has_no_kind, frame_is, has_lf-more, header_words-more, kind_first, kind_later, length-behind_frame, none_more, rest-is, some_bytes}
+use Rattle.mm_frames.proofs.UsedLaws.{on_call}
 
 -- ---- frame by frame
 
@@ -170,3 +174,16 @@ batch_read call (errors.Limit file kind) files h batch fits steady = let n = bat
 batch_read call errors.TooLong files h batch fits steady = let k = length_got call in absurd (omega (arith, h.1))
 batch_read call errors.ReadFault files h batch fits steady = absurd (omega (arith, h.1))
 batch_read call errors.OutOfMemory files h batch fits steady = refl
+
+-- a bad frame is answered, and the first one
+bad_frame_known : (call : Call) (left : List ℕ) (result : Result (Vec (Vec ℕ)) BatchError) → MatchResult result (λ v. ReadsBatch call (files_of v.items) left) (RefusesBatch call)
+    → (fault : BatchFault) → first_bad_file call ≡ Some fault → IsFrameAnswerTo fault result
+bad_frame_known call left (Ok v) h fault bad = let n = batch_given call (files_of v.items) h.batch in absurd cc
+bad_frame_known call left (Err error) h fault bad = reported call error fault h bad
+
+pub bad_frame_on_call : (input : Intake) (source : Device) (ahead : List ℕ) (result : Result (Vec (Vec ℕ)) BatchError)
+    → OnCall input source (λ call. MatchResult result (λ v. ReadsBatch call (files_of v.items) (ahead ++ call.after)) (RefusesBatch call))
+    → OnCall input source (λ call. (fault : BatchFault) → first_bad_file call ≡ Some fault → IsFrameAnswerTo fault result)
+bad_frame_on_call input source ahead result h =
+    on_call input source (λ call. MatchResult result (λ v. ReadsBatch call (files_of v.items) (ahead ++ call.after)) (RefusesBatch call)) (λ call. (fault : BatchFault) → first_bad_file call ≡ Some fault → IsFrameAnswerTo fault result)
+    (λ call k. bad_frame_known call (ahead ++ call.after) result k) h

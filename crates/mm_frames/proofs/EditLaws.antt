@@ -1,18 +1,19 @@
 -- One more edit line.
-use Rattle.std.proofs.Common.{◌≡◌, ℕ, ◌+◌, Bool, true, false, if◌then◌else◌, List, [], ◌∷◌, ◌++◌, length, map, refl, sym, ap, ◌∙◌, append-nil, arith, Some, None, Result, Ok, Err}
+use Rattle.std.proofs.Common.{◌≡◌, ℕ, ◌+◌, Bool, true, false, if◌then◌else◌, List, [], ◌∷◌, ◌++◌, length, map, refl, sym, ap, ◌∙◌, append-nil, arith, Some, None, Result, Ok, Err, IfErr}
 use Rattle.std.proofs.lemmas.List.{length-map, map-append}
 use Rattle.mm_defs.specs.declared.answers.ReadError.TheVariants as errors
 use Rattle.mm_defs.specs.declared.kinds.Kind.{Kind}
+use Rattle.mm_defs.specs.declared.kinds.Kind.TheVariants.{ColumnRange, RowRange}
 use Rattle.mm_defs.specs.Words.{Line, Word, word, words, is_skipped}
 use Rattle.mm_defs.specs.Numbers.{is_number, number}
-use Rattle.mm_defs.specs.Faults.{first_kind, is_limit}
+use Rattle.mm_defs.specs.Faults.{first_kind, is_limit, is_outside}
 use Rattle.mm_defs.specs.File.{Fault, fault_by}
 use Rattle.mm_defs.proofs.EditLineLemmas.{edit_lines-append, faults_from-append}
 use Rattle.mm_defs.proofs.Roles.{line_at}
 use Rattle.mm_frames.specs.declared.edit.Edit.{Edit}
 use Rattle.mm_reader.specs.Judged.{JudgedPlace, range_rules}
 use Rattle.mm_defs.specs.EditLines.{edit_place_rules, edit_rules, edit_lines, edit_faults_from, edit_faults}
-use Rattle.mm_frames.specs.Edits.{edit}
+use Rattle.mm_frames.specs.Edits.{edit, is_edit_kind}
 use Rattle.mm_frames.specs.Stages.{AreRead, RefusesLast}
 
 -- the row and the column of a line are numbers
@@ -21,6 +22,19 @@ pub place_judged : (rows cols : ℕ) (ws : List Word) (r : Result (ℕ × ℕ) K
     → JudgedPlace (edit_place_rules rows cols ws) (number (word ws 1)) (number (word ws 2)) r
 place_judged rows cols ws (Ok p) a b j = (rw (a, b) j.0, j.1, j.2)
 place_judged rows cols ws (Err kind) a b j = rw (a, b) j
+
+-- a place that is not in the matrix
+pub range_kind : (rows cols i j : ℕ) (r : Result (ℕ × ℕ) Kind) → JudgedPlace (range_rules rows cols i j) i j r → IfErr r (λ kind. is_edit_kind kind ≡ true)
+range_kind rows cols i j (Ok p) h = tt
+range_kind rows cols i j (Err kind) h = by (is_outside rows i) (is_outside cols j) refl refl
+  where
+    told : (x : Kind) → Some x ≡ Some kind → is_edit_kind x ≡ true → is_edit_kind kind ≡ true
+    told x e k = cc
+
+    by : (a b : Bool) → is_outside rows i ≡ a → is_outside cols j ≡ b → is_edit_kind kind ≡ true
+    by true b e f = let k = rw e at h in told RowRange k refl
+    by false true e f = let k = rw (e, f) at h in told ColumnRange k refl
+    by false false e f = let k = rw (e, f) at h in absurd cc
 
 pub none_read : (n rows cols : ℕ) → AreRead n rows cols [] []
 unfolding edit_faults

@@ -9,8 +9,8 @@ use Rattle.mm_defs.specs.declared.kinds.Kind.{Kind}
 use Rattle.mm_defs.specs.declared.kinds.Kind.TheVariants.{ShortFile}
 use Rattle.mm_defs.specs.Words.{has_bytes, is_lf, words}
 use Rattle.mm_defs.specs.Faults.{first_kind}
-use Rattle.mm_reader.specs.declared.line.LineSoFar.{LineSoFar}
 use Rattle.mm_reader.specs.Fronts.{Front, IsOver, Stops, UsesByte}
+use Rattle.mm_reader.specs.KeptLines.{KeptLine}
 use Rattle.mm_reader.specs.Lines.{IsLine}
 use Rattle.mm_frames.specs.declared.batch.BatchError.{BatchError}
 use Rattle.mm_frames.specs.declared.batch.BatchError.TheVariants as errors
@@ -121,7 +121,7 @@ module _ (f0 f f2 : Front) (old now now2 : Option (List ℕ)) (fb fm fa : ℕ) (
 
   -- ---- of a header
 
-  module _ (before : ℕ) (l : LineSoFar) (begun : Bool) (h : BeginsLine f0 f old now l begun) where
+  module _ (before : ℕ) (l : KeptLine) (begun : Bool) (h : BeginsLine f0 f old now l begun) where
     pub header_stopped : (error : ReadError) (e : BatchError) → Stops f f2 device error → IsSameStop error e → UsesSuch f0 f2 source (AnswersHeader before f2 source (Err e))
     header_stopped error e p same = record {
       used = h.used;
@@ -170,7 +170,7 @@ module _ (f0 f f2 : Front) (old now now2 : Option (List ℕ)) (fb fm fa : ℕ) (
         };
       }
 
-      pub line_goes_on : (l2 : LineSoFar) → b ≢ 10 → IsLine l2.tokens l2.count l2.inside (h.used ++ b ∷ []) → BeginsLine f0 f2 old now2 l2 true
+      pub line_goes_on : (l2 : KeptLine) → b ≢ 10 → IsLine l2 (h.used ++ b ∷ []) → BeginsLine f0 f2 old now2 l2 true
       line_goes_on l2 other is = record {
         used = h.used ++ b ∷ [];
         so_far = one_more f0 f f2 old now now2 fm fa h.used h.so_far b u;

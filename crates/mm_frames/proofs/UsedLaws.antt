@@ -6,8 +6,9 @@ use Rattle.sp_ports.specs.Bytes.{Gives, WhereKnown}
 use Rattle.sp_ports.specs.Device.{Device, SourceRose}
 use Rattle.mm_defs.specs.declared.answers.ReadError.{ReadError}
 use Rattle.mm_defs.specs.declared.answers.ReadError.TheVariants as errors
-use Rattle.mm_defs.specs.Calls.{Call, call_on, ended, given, got, offered, TakesAtMostOnePast}
+use Rattle.mm_defs.specs.Calls.{Call, Intake, room, call_on, ended, given, got, offered, TakesAtMostOnePast}
 use Rattle.mm_reader.specs.Fronts.{Front, IsOver, Stops, UsesByte}
+use Rattle.mm_reader.specs.Inputs.{OnCall}
 use Rattle.mm_frames.specs.Stages.{HasUsed}
 
 gives_then : (a b c : Option (List ℕ)) (x y : List ℕ) → Gives a b x → Gives b c y → Gives a c (x ++ y)
@@ -169,3 +170,13 @@ module _ (f0 f : Front) (old now : Option (List ℕ)) (used : List ℕ) (h : Has
 
     pub most_known : length f.ahead ≤ f.room + 1 → WhereKnown old now (λ before after. TakesAtMostOnePast (call_on f0.room f0.ahead fb fa before after))
     most_known one = where_known (λ call after. TakesAtMostOnePast call) (λ before after e d u. most_one_past f0 f fb fa used before after u one)
+
+-- what follows of a call from what holds of it
+pub on_call : (input : Intake) (source : Device) (P Q : Call → Type 0) → ((call : Call) → P call → Q call) → OnCall input source P → OnCall input source Q
+on_call input source P Q k h = by source.before source.after h
+  where
+    by : (old now : Option (List ℕ)) → WhereKnown old now (λ before after. P (call_on (room input) input.ahead source.failed_before source.failed_after before after))
+        → WhereKnown old now (λ before after. Q (call_on (room input) input.ahead source.failed_before source.failed_after before after))
+    by None now p = tt
+    by (Some before) None p = p
+    by (Some before) (Some after) p = k (call_on (room input) input.ahead source.failed_before source.failed_after before after) p

@@ -157,6 +157,27 @@ TellsFrame fault errors.TooLong = ⊥
 TellsFrame fault errors.ReadFault = ⊥
 TellsFrame fault errors.OutOfMemory = Unit {0}
 
+-- the same of what a reader of files answers
+abbrev pub IsFrameAnswerTo : {T : Type 0} → BatchFault → Result T BatchError → Type 0
+IsFrameAnswerTo fault (Ok files) = ⊥
+IsFrameAnswerTo fault (Err error) = TellsFrame fault error
+
+-- the kinds of bad frames
+abbrev pub is_frame_kind : Kind → Bool
+is_frame_kind BatchHeader = true
+is_frame_kind Files = true
+is_frame_kind FileBytes = true
+is_frame_kind ShortFile = true
+is_frame_kind kind = false
+
+-- A kind of a bad frame is told: what is answered as Malformed passes no limit, and what is answered as Limit does.
+abbrev pub HasFrameKind : BatchError → Type 0
+HasFrameKind (errors.Malformed file kind) = (is_frame_kind kind ≡ true) × (is_limit kind ≡ false)
+HasFrameKind (errors.Limit file kind) = (is_frame_kind kind ≡ true) × (is_limit kind ≡ true)
+HasFrameKind errors.TooLong = Unit {0}
+HasFrameKind errors.ReadFault = Unit {0}
+HasFrameKind errors.OutOfMemory = Unit {0}
+
 -- the bytes of each file
 abbrev pub files_of : List (Vec ℕ) → List (List ℕ)
 files_of files = map (λ file. file.items) files

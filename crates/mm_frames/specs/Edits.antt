@@ -2,6 +2,8 @@
 use Rattle.std.specs.Prelude.{◌≡◌, ◌≤◌, ◌<◌, ◌-◌, ℕ, Bool, true, false, if◌then◌else◌, List, [], length, map, slice_get, Option, Some, None, Result, Ok, Err}
 use Rattle.mm_defs.specs.declared.answers.ReadError.{ReadError}
 use Rattle.mm_defs.specs.declared.answers.ReadError.TheVariants as errors
+use Rattle.mm_defs.specs.declared.kinds.Kind.{Kind}
+use Rattle.mm_defs.specs.declared.kinds.Kind.TheVariants.{Edits, EditWord, EditWords, RowNumber, ColumnNumber, RowRange, ColumnRange}
 use Rattle.mm_defs.specs.EditLines.{edit_faults, edit_lines, is_report, is_set}
 use Rattle.mm_defs.specs.Words.{Word, Line, word, lines}
 use Rattle.mm_defs.specs.Numbers.{number}
@@ -52,6 +54,25 @@ RefusesEdits n rows cols call errors.TooLong = (first_bad_edit n rows cols call 
 RefusesEdits n rows cols call errors.ReadFault = (first_bad_edit n rows cols call ≡ None)
     × (call.failures_before < call.failures_after) × (length (got call) ≤ call.room)
 RefusesEdits n rows cols call errors.OutOfMemory = Unit {0}
+
+-- the kinds of bad edit lines
+abbrev pub is_edit_kind : Kind → Bool
+is_edit_kind Edits = true
+is_edit_kind EditWord = true
+is_edit_kind EditWords = true
+is_edit_kind RowNumber = true
+is_edit_kind ColumnNumber = true
+is_edit_kind RowRange = true
+is_edit_kind ColumnRange = true
+is_edit_kind kind = false
+
+-- where a line is told, a kind of a bad edit line is
+abbrev pub HasEditKind : ReadError → Type 0
+HasEditKind (errors.Malformed line kind) = is_edit_kind kind ≡ true
+HasEditKind (errors.Limit line kind) = is_edit_kind kind ≡ true
+HasEditKind errors.TooLong = Unit {0}
+HasEditKind errors.ReadFault = Unit {0}
+HasEditKind errors.OutOfMemory = Unit {0}
 
 -- every place that is set or cleared is one of the matrix
 abbrev pub IsWithinMatrix : ℕ → ℕ → Edit → Type 0

@@ -10,8 +10,8 @@ use Rattle.mm_defs.specs.declared.kinds.Kind.{Kind}
 use Rattle.mm_defs.specs.declared.kinds.Kind.TheVariants.{ShortFile}
 use Rattle.mm_defs.specs.Words.{Word, has_bytes, words}
 use Rattle.mm_defs.specs.Faults.{Rule, first_kind, is_limit}
-use Rattle.mm_reader.specs.declared.line.LineSoFar.{LineSoFar}
 use Rattle.mm_reader.specs.Fronts.{Front}
+use Rattle.mm_reader.specs.KeptLines.{KeptLine}
 use Rattle.mm_reader.specs.Lines.{IsLine}
 use Rattle.mm_frames.specs.declared.batch.BatchError.{BatchError}
 use Rattle.mm_frames.specs.declared.batch.BatchError.TheVariants as errors
@@ -128,12 +128,12 @@ AnswersFile before line bytes now source (Err error) used =
 -- ---- where the reader stands
 
 -- a line has begun, and is kept by its words
-pub record BeginsLine (first now : Front) (old new : Option (List ℕ)) (line : LineSoFar)
+pub record BeginsLine (first now : Front) (old new : Option (List ℕ)) (line : KeptLine)
     (begun : Bool) : Type 0 where
   pub used : List ℕ
   pub so_far : HasUsed first now old new used
   pub one_line : has_lf used ≡ false
-  pub line_is : IsLine line.tokens line.count line.inside used
+  pub line_is : IsLine line used
   pub begun_is : begun ≡ has_bytes used
 
 -- The bytes are whole frames of these files: what follows them is judged as what stands behind so many files, and its

@@ -4,9 +4,9 @@ use Rattle.mm_defs.specs.declared.answers.ReadError.{ReadError}
 use Rattle.mm_defs.specs.declared.answers.ReadError.TheVariants as errors
 use Rattle.mm_defs.specs.Words.{lines, open_line, has_bytes}
 use Rattle.mm_defs.specs.Faults.{is_limit}
-use Rattle.mm_reader.specs.declared.line.LineSoFar.{LineSoFar}
 use Rattle.sp_ports.specs.Bytes.{Gives}
 use Rattle.mm_reader.specs.Fronts.{Front}
+use Rattle.mm_reader.specs.KeptLines.{KeptLine}
 use Rattle.mm_reader.specs.Lines.{IsLine}
 use Rattle.mm_frames.specs.declared.edit.Edit.{Edit}
 use Rattle.mm_defs.specs.EditLines.{edit_faults}
@@ -38,10 +38,10 @@ TakesLine rows cols number n line before after (Err error) = (ls : List (List �
     → RefusesLast n rows cols (ls ++ line ∷ []) error
 
 -- These bytes have come: their lines are read, and the open line is kept by its words.
-pub record StandsAfter (n rows cols : ℕ) (es : List Edit) (line : LineSoFar) (begun : Bool)
+pub record StandsAfter (n rows cols : ℕ) (es : List Edit) (line : KeptLine) (begun : Bool)
     (bytes : List ℕ) : Type 0 where
   pub lines_are : AreRead n rows cols (lines false bytes) es
-  pub open_is : IsLine line.tokens line.count line.inside (open_line bytes)
+  pub open_is : IsLine line (open_line bytes)
   pub begun_is : begun ≡ has_bytes (open_line bytes)
 
 -- These bytes were used: those ahead first, and then what the source gave.
@@ -53,7 +53,7 @@ pub record HasUsed (first now : Front) (old new : Option (List ℕ)) (used : Lis
 
 -- Some bytes were used, and the reader stands behind them.
 pub record HasRead (rows cols : ℕ) (first now : Front) (old new : Option (List ℕ)) (es : List Edit)
-    (line : LineSoFar) (begun : Bool) : Type 0 where
+    (line : KeptLine) (begun : Bool) : Type 0 where
   pub used : List ℕ
   pub so_far : HasUsed first now old new used
   pub lines_are : now.lines ≡ first.lines + length (lines false used)

@@ -1,6 +1,6 @@
 //! Reading the files of a batch.
 
-ghost use Rattle.std.specs.Prelude.{◌≡◌, ◌≤◌, ◌<◌, ◌+◌, ◌++◌, ℕ, List, length, IfOk, IsTrue, MatchResult};
+ghost use Rattle.std.specs.Prelude.{◌≡◌, ◌≤◌, ◌<◌, ◌+◌, ◌++◌, ℕ, List, Some, length, IfErr, IfOk, IsTrue, MatchResult};
 ghost use Rattle.std.specs.List.{All};
 ghost use Rattle.sp_ids.specs.Limits.{max_batch_files, max_batch_file_bytes};
 ghost use Rattle.sp_ports.specs.Bytes.{GivesPrefix, IsAtEnd};
@@ -8,7 +8,7 @@ ghost use Rattle.sp_ports.specs.Device.{seen};
 ghost use Rattle.mm_defs.specs.Calls.{TakesAtMostOnePast, room};
 ghost use Rattle.mm_reader.specs.Fronts.{front};
 ghost use Rattle.mm_reader.specs.Inputs.{OnCall};
-ghost use Rattle.mm_frames.specs.Batches.{FailsByFailedRead, ReadsBatch, RefusesBatch, StaysGood, files_of};
+ghost use Rattle.mm_frames.specs.Batches.{BatchFault, FailsByFailedRead, HasFrameKind, IsFrameAnswerTo, ReadsBatch, RefusesBatch, StaysGood, files_of, first_bad_file};
 ghost use Rattle.mm_frames.specs.Frames.{AnswersFile, AnswersLast, IsGoodHeader, UsesSuch};
 
 use crate::batch::BatchError;
@@ -47,6 +47,7 @@ fn read_file<S: Source>(
         (seen S.left S.faults source.old source.new)
         (AnswersFile before line bytes (front input.new)
         (seen S.left S.faults source.old source.new) result) }
+    ensures kind { IfErr result HasFrameKind }
     ensures small { IfOk result (λ file. length file.items ≤ max_batch_file_bytes) }
     ensures most { length input.new.ahead ≤ room input.new + 1 }
     ensures cause { FailsByFailedRead (seen S.left S.faults source.old source.new) result }
@@ -75,6 +76,7 @@ fn read_file<S: Source>(
 fn end_with(alloc: Global, bytes: u64, files: Vec<Vec<u8>>) -> Result<Vec<Vec<u8>>, BatchError>
     requires { length files.items < max_batch_files }
     ensures answer { AnswersLast (files_of files.items) bytes result }
+    ensures kind { IfErr result HasFrameKind }
     ensures few { IfOk result (λ v. length v.items ≤ max_batch_files) }
     ensures small { All (λ file. length file.items ≤ max_batch_file_bytes) files.items
         → IfOk result (λ v. All (λ file. length file.items ≤ max_batch_file_bytes) v.items) }
@@ -111,6 +113,14 @@ pub fn read_files<S: Source>(
     ensures answer { OnCall input.old (seen S.left S.faults source.old source.new) (λ call.
         MatchResult result (λ v. ReadsBatch call (files_of v.items)
         (input.new.ahead ++ call.after)) (RefusesBatch call)) }
+
+    // A bad frame is answered, and the first one.
+    ensures bad { OnCall input.old (seen S.left S.faults source.old source.new)
+        (λ call. (fault : BatchFault) →
+        first_bad_file call ≡ Some fault → IsFrameAnswerTo fault result) }
+
+    // `Limit` tells what passes a limit, and `Malformed` what does not: a kind of frames.
+    ensures kind { IfErr result HasFrameKind }
 
     // The files are within the limits.
     ensures few { IfOk result (λ v. length v.items ≤ max_batch_files) }

@@ -1,6 +1,6 @@
 //! The header of a file in a batch: the line that tells how many bytes the file has.
 
-ghost use Rattle.std.specs.Prelude.{◌≡◌, ◌≤◌, ◌<◌, ◌+◌, ℕ, List, IfOk, IfSome, IsTrue, length, if◌then◌else◌};
+ghost use Rattle.std.specs.Prelude.{◌≡◌, ◌≤◌, ◌<◌, ◌+◌, ℕ, List, IfErr, IfOk, IfSome, IsTrue, length, if◌then◌else◌, true};
 ghost use Rattle.sp_ids.specs.Limits.{max_batch_files, max_batch_file_bytes};
 ghost use Rattle.sp_ports.specs.Bytes.{IsAtEnd};
 ghost use Rattle.sp_ports.specs.Device.{seen};
@@ -9,7 +9,7 @@ ghost use Rattle.mm_defs.specs.Words.{words};
 ghost use Rattle.mm_defs.specs.Calls.{room};
 ghost use Rattle.mm_reader.specs.Fronts.{front};
 ghost use Rattle.mm_reader.specs.Lines.{IsLine};
-ghost use Rattle.mm_frames.specs.Batches.{FailsByFailedRead, StaysGood, file_bytes, header_rules};
+ghost use Rattle.mm_frames.specs.Batches.{FailsByFailedRead, HasFrameKind, StaysGood, file_bytes, header_rules, is_frame_kind};
 ghost use Rattle.mm_frames.specs.Frames.{AnswersHeader, HeaderIs, IsSameStop, JudgedHeader, UsesSuch};
 
 use crate::batch::BatchError;
@@ -28,9 +28,10 @@ pub struct FrameHeader {
 /// The answer to a bad frame, behind so many files.
 pub fn refusal(before: usize, kind: Kind) -> BatchError
     requires { before ≤ max_batch_files }
-    ensures { result ≡ (if is_limit kind
+    ensures refusal { result ≡ (if is_limit kind
         then BatchError.Limit (before + 1) kind
         else BatchError.Malformed (before + 1) kind) }
+    ensures kind { is_frame_kind kind ≡ true → HasFrameKind result }
 {
     let file = before as u32 + 1;
     if kind.is_limit() {
@@ -42,7 +43,8 @@ pub fn refusal(before: usize, kind: Kind) -> BatchError
 
 /// The answer where no byte was given.
 pub fn stopped(error: ReadError) -> BatchError
-    ensures { IsSameStop error result }
+    ensures same { IsSameStop error result }
+    ensures kind { HasFrameKind result }
 {
     match error {
         ReadError::TooLong => BatchError::TooLong,
@@ -54,8 +56,9 @@ pub fn stopped(error: ReadError) -> BatchError
 /// Judges the header of a file behind so many: the first kind of fault that applies, or how many
 /// bytes it tells.
 fn judge_header(before: usize, line: &LineSoFar) -> Result<u64, Kind>
-    ensures judged { (bytes : List ℕ) → IsLine line.now.tokens line.now.count line.now.inside bytes
+    ensures judged { (bytes : List ℕ) → IsLine line.now bytes
         → JudgedHeader (header_rules before (words bytes)) (file_bytes (words bytes)) result }
+    ensures kind { IfErr result (λ kind. is_frame_kind kind ≡ true) }
     ensures few { IfOk result (λ n. before < max_batch_files) }
     ensures small { IfOk result (λ n. n ≤ max_batch_file_bytes) }
 {
@@ -81,8 +84,9 @@ fn judge_header(before: usize, line: &LineSoFar) -> Result<u64, Kind>
 /// A header has come, behind so many files, with its LF or with the end of the input.
 fn take_header(before: usize, line: &LineSoFar, last: bool) -> Result<FrameHeader, BatchError>
     requires { before ≤ max_batch_files }
-    ensures taken { (bytes : List ℕ) → IsLine line.now.tokens line.now.count line.now.inside bytes
+    ensures taken { (bytes : List ℕ) → IsLine line.now bytes
         → HeaderIs before last (words bytes) result }
+    ensures kind { IfErr result HasFrameKind }
     ensures few { IfOk result (λ header. before < max_batch_files) }
     ensures small { IfOk result (λ header. header.bytes ≤ max_batch_file_bytes) }
 {
@@ -106,6 +110,7 @@ pub fn read_header<S: Source>(
         (seen S.left S.faults source.old source.new)
         (AnswersHeader before (front input.new) (seen S.left S.faults source.old source.new)
         result) }
+    ensures kind { IfErr result HasFrameKind }
     ensures few { IfOk result (λ header. IfSome header (λ h. before < max_batch_files)) }
     ensures small { IfOk result (λ header. IfSome header (λ h. h.bytes ≤ max_batch_file_bytes)) }
     ensures most { length input.new.ahead ≤ room input.new + 1 }

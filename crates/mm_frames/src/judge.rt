@@ -1,11 +1,11 @@
 //! The judge of edit lines: the first kind of fault that applies, or what the line says.
 
-ghost use Rattle.std.specs.Prelude.{◌<◌, ℕ, List, IfOk};
+ghost use Rattle.std.specs.Prelude.{◌≡◌, ◌<◌, ℕ, List, IfErr, IfOk, true};
 ghost use Rattle.mm_defs.specs.Words.{word, words};
 ghost use Rattle.mm_defs.specs.Numbers.{number};
 ghost use Rattle.mm_reader.specs.Lines.{IsLine};
 ghost use Rattle.mm_defs.specs.EditLines.{edit_place_rules, edit_rules};
-ghost use Rattle.mm_frames.specs.Edits.{edit, IsWithinMatrix};
+ghost use Rattle.mm_frames.specs.Edits.{edit, is_edit_kind, IsWithinMatrix};
 ghost use Rattle.mm_reader.specs.Judged.{JudgedPlace};
 ghost use Rattle.mm_frames.specs.Judged.{JudgedEdit};
 
@@ -16,8 +16,9 @@ use sp_ids::{Col, MAX_EDITS, Row};
 
 /// Judges an edit line behind so many, of a matrix of so many rows and columns.
 pub fn judge_edit(before: usize, rows: u32, cols: u32, line: &LineSoFar) -> Result<Edit, Kind>
-    ensures judged { (bytes : List ℕ) → IsLine line.now.tokens line.now.count line.now.inside bytes
+    ensures judged { (bytes : List ℕ) → IsLine line.now bytes
         → JudgedEdit (edit_rules rows cols before (words bytes)) (edit (words bytes)) result }
+    ensures kind { IfErr result (λ kind. is_edit_kind kind ≡ true) }
     ensures within { IfOk result (IsWithinMatrix rows cols) }
 {
     if before >= MAX_EDITS as usize {
@@ -48,9 +49,10 @@ pub fn judge_edit(before: usize, rows: u32, cols: u32, line: &LineSoFar) -> Resu
 
 /// Judges the row and the column that the line tells.
 fn judge_place(rows: u32, cols: u32, line: &LineSoFar) -> Result<(Row, Col), Kind>
-    ensures judged { (bytes : List ℕ) → IsLine line.now.tokens line.now.count line.now.inside bytes
+    ensures judged { (bytes : List ℕ) → IsLine line.now bytes
         → JudgedPlace (edit_place_rules rows cols (words bytes)) (number (word (words bytes) 1))
         (number (word (words bytes) 2)) result }
+    ensures kind { IfErr result (λ kind. is_edit_kind kind ≡ true) }
     ensures within { IfOk result (λ p. (p.0 < rows) × (p.1 < cols)) }
 {
     let row = match line.number(1) {

@@ -1,12 +1,13 @@
 //! Reading edit lines.
 
-ghost use Rattle.std.specs.Prelude.{◌≡◌, ◌<◌, ◌+◌, ◌^◌, ◌++◌, ℕ, List, length, true, false, IfOk, IsTrue, MatchResult};
+ghost use Rattle.std.specs.Prelude.{◌≡◌, ◌<◌, ◌+◌, ◌^◌, ◌++◌, ℕ, List, Some, length, true, false, IfErr, IfOk, IsTrue, MatchResult};
 ghost use Rattle.std.specs.List.{All};
 ghost use Rattle.sp_ports.specs.Bytes.{GivesPrefix, IsAtEnd};
 ghost use Rattle.sp_ports.specs.Device.{seen};
+ghost use Rattle.mm_defs.specs.File.{Fault};
 ghost use Rattle.mm_defs.specs.Words.{lines};
-ghost use Rattle.mm_defs.specs.Calls.{HasItsKind, TakesAtMostOnePast};
-ghost use Rattle.mm_frames.specs.Edits.{IsWithinMatrix, KeepsGood, ReadsEdits, RefusesEdits, edits_of};
+ghost use Rattle.mm_defs.specs.Calls.{HasItsKind, IsAnswerTo, TakesAtMostOnePast};
+ghost use Rattle.mm_frames.specs.Edits.{HasEditKind, IsWithinMatrix, KeepsGood, ReadsEdits, RefusesEdits, edits_of, first_bad_edit};
 ghost use Rattle.mm_frames.specs.Stages.{AreRead, RefusesLast, StandsAfter, TakesLine};
 ghost use Rattle.mm_reader.specs.Inputs.{FailsByReadFault, OnCall};
 ghost use Rattle.mm_reader.specs.Lines.{IsLine};
@@ -27,9 +28,10 @@ fn take_line(
     edits: &mut Vec<Edit>,
 ) -> Result<(), ReadError>
     ensures steps { (n : ℕ) (bytes : List ℕ)
-        → IsLine line.now.tokens line.now.count line.now.inside bytes
+        → IsLine line.now bytes
         → TakesLine rows cols number n bytes edits.old.items edits.new.items result }
     ensures kind { HasItsKind result }
+    ensures family { IfErr result HasEditKind }
     ensures within { All (IsWithinMatrix rows cols) edits.old.items
         → All (IsWithinMatrix rows cols) edits.new.items }
 {
@@ -62,6 +64,7 @@ fn finish(
         → MatchResult result (λ v. AreRead n rows cols (lines true bytes) v.items)
         (RefusesLast n rows cols (lines true bytes)) }
     ensures kind { HasItsKind result }
+    ensures family { IfErr result HasEditKind }
     ensures within { All (IsWithinMatrix rows cols) edits.items
         → IfOk result (λ v. All (IsWithinMatrix rows cols) v.items) }
 {
@@ -96,8 +99,14 @@ pub fn read_edits<S: Source>(
         MatchResult result (λ v. ReadsEdits input.old.lines rows cols call v.items
         (input.new.ahead ++ call.after)) (RefusesEdits input.old.lines rows cols call)) }
 
-    // `Limit` tells what passes a limit, and `Malformed` what does not.
+    // A bad line is answered, and the first one.
+    ensures bad { OnCall input.old (seen S.left S.faults source.old source.new)
+        (λ call. (fault : Fault) →
+        first_bad_edit input.old.lines rows cols call ≡ Some fault → IsAnswerTo fault result) }
+
+    // `Limit` tells what passes a limit, and `Malformed` what does not: a kind of edit lines.
     ensures kind { HasItsKind result }
+    ensures family { IfErr result HasEditKind }
 
     // The edits are what some lines say, also where the source does not tell its bytes.
     ensures said { IfOk result

@@ -6,11 +6,11 @@ use Rattle.mm_defs.specs.declared.answers.End.TheVariants.{File, LastEntry}
 use Rattle.mm_defs.specs.Words.{is_lf, lines, open_line}
 use Rattle.mm_defs.proofs.Lines.{lines-none, open_line-none, lines-push_lf, open_line-push_lf, lines-push, open_line-push}
 use Rattle.mm_defs.proofs.Roles.{line_faults-none}
-use Rattle.mm_reader.specs.declared.line.LineSoFar.{LineSoFar}
 use Rattle.mm_reader.specs.declared.machine.Machine.{Machine}
 use Rattle.mm_reader.specs.declared.machine.Phase.TheVariants as phases
 use Rattle.mm_reader.specs.declared.machine.Stop.{Stop}
 use Rattle.mm_reader.specs.declared.machine.Stop.TheVariants as stops
+use Rattle.mm_reader.specs.KeptLines.{KeptLine}
 use Rattle.mm_reader.specs.Lines.{IsLine}
 use Rattle.mm_reader.specs.Machine.{is_complete, StopsAt}
 use Rattle.mm_reader.specs.Stages.{IsBetween, IsAfter, StopsIn}
@@ -25,7 +25,7 @@ banner_open File e = cc
 banner_open LastEntry e = cc
 
 -- no byte has come
-pub at_start : (end : End) (t : entries.Entries) (l : LineSoFar) → IsLine l.tokens l.count l.inside [] → IsAfter end (record { phase = phases.Banner; number = 0; triples = t; begun = false; line = l }) []
+pub at_start : (end : End) (t : entries.Entries) (l : KeptLine) → IsLine l [] → IsAfter end (record { phase = phases.Banner; number = 0; triples = t; begun = false; line = l }) []
 at_start end t l is =
     let n = lines-none false in
     record {
@@ -61,7 +61,7 @@ lf_stops end bytes b (stops.Bad line kind) e h =
 lf_stops end bytes b stops.Memory e h = tt
 
 -- another byte
-pub byte_comes : (end : End) (m : Machine) (l : LineSoFar) (bytes : List ℕ) (b : ℕ) → b ≢ 10 → IsAfter end m bytes → IsLine l.tokens l.count l.inside (open_line bytes ++ b ∷ [])
+pub byte_comes : (end : End) (m : Machine) (l : KeptLine) (bytes : List ℕ) (b : ℕ) → b ≢ 10 → IsAfter end m bytes → IsLine l (open_line bytes ++ b ∷ [])
     → IsAfter end (record { phase = m.phase; number = m.number; triples = m.triples; begun = true; line = l }) (bytes ++ b ∷ [])
 byte_comes end m l bytes b e h is =
     let other : is_lf b ≡ false = ne_eqb b 10 e in

@@ -1,23 +1,39 @@
 -- What is kept of a line, byte by byte.
-use Rattle.std.proofs.Common.{◌≡◌, ◌≢◌, ℕ, suc, ◌+◌, ◌-◌, ◌<◌, ◌≤◌, Bool, true, false, List, [], ◌∷◌, ◌++◌, length, take, set, get_or, map, refl, sym, ap, ◌∙◌, subst, arith, length-append, length-set, take_all, take-suc-set, get_or-take, take-take, add-one}
+use Rattle.std.proofs.Common.{◌≡◌, ◌≢◌, ℕ, suc, ◌+◌, ◌-◌, ◌<◌, ◌≤◌, Bool, true, false, List, [], ◌∷◌, ◌++◌, length, min, take, set, get_or, map, refl, sym, ap, ◌∙◌, subst, arith, length-append, length-set, take_all, take-suc-set, get_or-take, take-take, add-one}
 use Rattle.std.proofs.Math.Seq.{take-append_seam, get_or-append_seam}
 use Rattle.std.proofs.lemmas.List.{map-append, take-append-le, length-map}
 use Rattle.mm_defs.specs.Words.{Word, words, is_blank}
 use Rattle.mm_reader.specs.declared.line.Token.{Token}
 use Rattle.mm_reader.specs.Tokens.{token_of}
-use Rattle.mm_reader.specs.Lines.{IsLine}
+use Rattle.mm_reader.specs.declared.line.LineSoFar.TheInside.{Inside}
+use Rattle.mm_reader.specs.KeptLines.{KeptLine}
+use Rattle.mm_reader.specs.Lines.{IsLine, in_word, kept_of}
 use Rattle.mm_reader.proofs.Words.{GoesOn, words-none, words-blank, in_word-blank, in_word-push, words-begin, words-go_on}
 
-pub nothing : (tokens : List Token) → length tokens ≡ 5 → IsLine tokens 0 false []
-nothing tokens e = record {
-  places = e;
+-- the same of the fields, of which those past the count say nothing
+pub record HasLine (tokens : List Token) (count : ℕ) (inside : Bool) (line : List ℕ) : Type 0 where
+  pub places : length tokens ≡ 5
+  pub tokens_are : take count tokens ≡ map token_of (take 5 (words line))
+  pub count_is : count ≡ min (length (words line)) 6
+  pub inside_is : inside ≡ in_word line
+
+pub fields_of : (l : Inside) (kept : KeptLine) → kept_of l ≡ kept → length l.tokens ≡ 5 → (line : List ℕ) → IsLine kept line → HasLine l.tokens l.count l.inside line
+fields_of l kept view places line h =
+    let k = rw (← view) at h in
+    record { places = places; tokens_are = k.tokens_are; count_is = k.count_is; inside_is = k.inside_is }
+
+pub as_line : (tokens : List Token) (count : ℕ) (inside : Bool) (line : List ℕ) → HasLine tokens count inside line → IsLine (record { tokens = take count tokens; count = count; inside = inside }) line
+as_line tokens count inside line h = record { tokens_are = h.tokens_are; count_is = h.count_is; inside_is = h.inside_is }
+
+pub nothing : IsLine (record { tokens = []; count = 0; inside = false }) []
+nothing = record {
   tokens_are = rw words-none refl;
   count_is = rw words-none refl;
   inside_is = refl;
 }
 
-module _ (tokens : List Token) (count : ℕ) (inside : Bool) (line : List ℕ) (b : ℕ) (l : IsLine tokens count inside line) where
-  pub blank_comes : is_blank b ≡ true → IsLine tokens count false (line ++ b ∷ [])
+module _ (tokens : List Token) (count : ℕ) (inside : Bool) (line : List ℕ) (b : ℕ) (l : HasLine tokens count inside line) where
+  pub blank_comes : is_blank b ≡ true → HasLine tokens count false (line ++ b ∷ [])
   blank_comes e = record {
     places = l.places;
     tokens_are = rw (words-blank line b e) l.tokens_are;
@@ -28,7 +44,7 @@ module _ (tokens : List Token) (count : ℕ) (inside : Bool) (line : List ℕ) (
   length_more : words (line ++ b ∷ []) ≡ words line ++ (b ∷ []) ∷ [] → length (words (line ++ b ∷ [])) ≡ length (words line) + 1
   length_more k = ap length k ∙ length-append (words line) ((b ∷ []) ∷ [])
 
-  pub word_begins : is_blank b ≡ false → inside ≡ false → count < 5 → IsLine (set tokens count (token_of (b ∷ []))) (count + 1) true (line ++ b ∷ [])
+  pub word_begins : is_blank b ≡ false → inside ≡ false → count < 5 → HasLine (set tokens count (token_of (b ∷ []))) (count + 1) true (line ++ b ∷ [])
   word_begins e out low =
       let k : words (line ++ b ∷ []) ≡ words line ++ (b ∷ []) ∷ [] = words-begin line b e (sym l.inside_is ∙ out) in
       let n : length (words line) ≡ count = omega (arith, l.count_is) in
@@ -49,7 +65,7 @@ module _ (tokens : List Token) (count : ℕ) (inside : Bool) (line : List ℕ) (
         inside_is = sym (in_word-push line b e);
       }
 
-  pub word_past : is_blank b ≡ false → inside ≡ false → 5 ≤ count → IsLine tokens 6 true (line ++ b ∷ [])
+  pub word_past : is_blank b ≡ false → inside ≡ false → 5 ≤ count → HasLine tokens 6 true (line ++ b ∷ [])
   word_past e out high =
       let k : words (line ++ b ∷ []) ≡ words line ++ (b ∷ []) ∷ [] = words-begin line b e (sym l.inside_is ∙ out) in
       let m = length_more k in
@@ -70,7 +86,7 @@ module _ (tokens : List Token) (count : ℕ) (inside : Bool) (line : List ℕ) (
 
   pub word_goes_on : (old new : Token) → is_blank b ≡ false → inside ≡ true → count ≢ 0 → count ≤ 5
       → ((c : ℕ) (cs : List ℕ) → get_or tokens (count - 1) old ≡ token_of (c ∷ cs) → new ≡ token_of ((c ∷ cs) ++ b ∷ []))
-      → IsLine (set tokens (count - 1) new) count inside (line ++ b ∷ [])
+      → HasLine (set tokens (count - 1) new) count inside (line ++ b ∷ [])
   word_goes_on old new e isin some low pushed =
       let g = words-go_on line b e (sym l.inside_is ∙ isin) in
       let n = length_same g in
@@ -104,7 +120,7 @@ module _ (tokens : List Token) (count : ℕ) (inside : Bool) (line : List ℕ) (
         inside_is = isin ∙ sym (in_word-push line b e);
       }
 
-  pub word_goes_on_past : is_blank b ≡ false → inside ≡ true → 5 < count → IsLine tokens count inside (line ++ b ∷ [])
+  pub word_goes_on_past : is_blank b ≡ false → inside ≡ true → 5 < count → HasLine tokens count inside (line ++ b ∷ [])
   word_goes_on_past e isin high =
       let g = words-go_on line b e (sym l.inside_is ∙ isin) in
       let n = length_same g in

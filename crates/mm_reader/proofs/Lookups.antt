@@ -6,14 +6,14 @@ use Rattle.mm_defs.specs.Words.{Word, words, word}
 use Rattle.mm_defs.specs.Header.{spells}
 use Rattle.mm_reader.specs.declared.line.Token.{Token}
 use Rattle.mm_reader.specs.Tokens.{token_of}
-use Rattle.mm_reader.specs.Lines.{IsLine}
+use Rattle.mm_reader.proofs.LineSteps.{HasLine}
 
 get_or-map : (ws : List Word) (k : ℕ) (d : Token) → k < length ws → get_or (map token_of ws) k d ≡ token_of (get_or ws k [])
 get_or-map [] k d h = absurd (omega arith)
 get_or-map (w ∷ ws) zero d h = refl
 get_or-map (w ∷ ws) (suc k) d h = get_or-map ws k d (omega arith)
 
-module _ (tokens : List Token) (count : ℕ) (inside : Bool) (line : List ℕ) (l : IsLine tokens count inside line) where
+module _ (tokens : List Token) (count : ℕ) (inside : Bool) (line : List ℕ) (l : HasLine tokens count inside line) where
   -- a word that is kept
   pub token_at : (k : ℕ) (d : Token) → k < 5 → k < count → get_or tokens k d ≡ token_of (word (words line) k)
   token_at k d few kept =

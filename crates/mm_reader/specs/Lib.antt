@@ -3,6 +3,7 @@ pub mod ArrayPlaces
 pub mod Fronts
 pub mod Inputs
 pub mod Judged
+pub mod KeptLines
 pub mod Lines
 pub mod Machine
 pub mod Places

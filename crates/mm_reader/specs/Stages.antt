@@ -20,14 +20,14 @@ begun_lines m = m.number + (if m.begun then 1 else 0)
 pub record IsBetween (end : End) (m : Machine) (ls : List (List ℕ)) : Type 0 where
   pub lines_are : HasLines end m.phase m.triples ls
   pub number_is : m.number ≡ length ls
-  pub open_is : IsLine m.line.tokens m.line.count m.line.inside []
+  pub open_is : IsLine m.line []
   pub begun_is : m.begun ≡ false
 
 -- These bytes have come: their lines are good, and the open line is kept by its words.
 pub record IsAfter (end : End) (m : Machine) (bytes : List ℕ) : Type 0 where
   pub lines_are : HasLines end m.phase m.triples (lines false bytes)
   pub number_is : m.number ≡ length (lines false bytes)
-  pub open_is : IsLine m.line.tokens m.line.count m.line.inside (open_line bytes)
+  pub open_is : IsLine m.line (open_line bytes)
   pub begun_is : m.begun ≡ has_bytes (open_line bytes)
 
 -- some bytes have come

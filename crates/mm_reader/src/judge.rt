@@ -29,7 +29,7 @@ pub struct Entry {
 
 /// Judges line 1.
 pub fn judge_banner(line: &LineSoFar) -> Result<Header, Kind>
-    ensures judged { (bytes : List ℕ) → IsLine line.now.tokens line.now.count line.now.inside bytes
+    ensures judged { (bytes : List ℕ) → IsLine line.now bytes
         → Judged (banner_rules (words bytes)) (header (words bytes)) result }
     ensures header { IfOk result IsHeader }
 {
@@ -69,7 +69,7 @@ pub fn judge_banner(line: &LineSoFar) -> Result<Header, Kind>
 
 /// The format that the third word names.
 fn format(line: &LineSoFar) -> Option<Format>
-    ensures { (bytes : List ℕ) → IsLine line.now.tokens line.now.count line.now.inside bytes
+    ensures { (bytes : List ℕ) → IsLine line.now bytes
         → result ≡ named formats (word (words bytes) 2) }
 {
     if line.spells(2, b"coordinate") {
@@ -83,7 +83,7 @@ fn format(line: &LineSoFar) -> Option<Format>
 
 /// The field that the fourth word names.
 fn field(line: &LineSoFar) -> Option<Field>
-    ensures { (bytes : List ℕ) → IsLine line.now.tokens line.now.count line.now.inside bytes
+    ensures { (bytes : List ℕ) → IsLine line.now bytes
         → result ≡ named fields (word (words bytes) 3) }
 {
     if line.spells(3, b"real") {
@@ -101,7 +101,7 @@ fn field(line: &LineSoFar) -> Option<Field>
 
 /// The symmetry that the fifth word names.
 fn symmetry(line: &LineSoFar) -> Option<Symmetry>
-    ensures { (bytes : List ℕ) → IsLine line.now.tokens line.now.count line.now.inside bytes
+    ensures { (bytes : List ℕ) → IsLine line.now bytes
         → result ≡ named symmetries (word (words bytes) 4) }
 {
     if line.spells(4, b"general") {
@@ -149,7 +149,7 @@ fn may_combine(field: Field, symmetry: Symmetry) -> bool
 
 /// Judges the size line.
 pub fn judge_size(header: Header, line: &LineSoFar) -> Result<Size, Kind>
-    ensures judged { (bytes : List ℕ) → IsLine line.now.tokens line.now.count line.now.inside bytes
+    ensures judged { (bytes : List ℕ) → IsLine line.now bytes
         → Judged (size_rules header (words bytes)) (size header (words bytes)) result }
     ensures within { IfOk result (IsWithin header) }
 {
@@ -268,7 +268,7 @@ fn judge_count(header: Header, rows: u32, cols: u32, count: u64) -> Result<Size,
 /// Judges an entry line.
 pub fn judge_entry(header: Header, size: Size, line: &LineSoFar) -> Result<Entry, Kind>
     requires { IsWithin header size }
-    ensures judged { (bytes : List ℕ) → IsLine line.now.tokens line.now.count line.now.inside bytes
+    ensures judged { (bytes : List ℕ) → IsLine line.now bytes
         → JudgedEntry (coordinate_rules header size (words bytes)) (triple header (words bytes))
         result }
     ensures inside { IfOk result (λ e. (e.row < size.rows) × (e.col < size.cols)) }
@@ -371,7 +371,7 @@ fn value_of(field: Field, value: Option<Integer>) -> Result<i64, Kind>
 /// Judges a value line of an array file, whose field is integer.
 pub fn judge_value(header: Header, line: &LineSoFar) -> Result<i64, Kind>
     requires { header.field ≡ Field.Integer }
-    ensures judged { (bytes : List ℕ) → IsLine line.now.tokens line.now.count line.now.inside bytes
+    ensures judged { (bytes : List ℕ) → IsLine line.now bytes
         → Judged (array_rules header (words bytes)) (integer (word (words bytes) 0)) result }
     ensures small { IfOk result (λ v. nat_abs v ≤ MAX_VALUE) }
 {

@@ -10,6 +10,7 @@ ghost use Rattle.mm_reader.specs.Lines.{IsLine};
 
 use crate::number::{Integer, Number};
 use crate::text::Text;
+use std::marker::Model;
 
 /// A word, by what the rules ask of it.
 #[derive(Drop)]
@@ -24,11 +25,23 @@ const WORDS: usize = 5;
 /// A line so far, by what the rules ask of its words. It takes no memory.
 #[derive(Drop)]
 pub struct LineSoFar {
-    pub tokens: [Token; WORDS],
+    tokens: [Token; WORDS],
     /// How many words have begun, up to one more than are kept.
-    pub count: usize,
+    count: usize,
     /// The last word may go on.
-    pub inside: bool,
+    inside: bool,
+}
+
+impl Model for LineSoFar {
+    ghost use Rattle.mm_reader.specs.KeptLines.{KeptLine};
+
+    ghost Value = { KeptLine };
+
+    ghost use Rattle.mm_reader.specs.Lines.{kept_of, HasPlaces};
+
+    ghost view = { kept_of };
+
+    ghost invariant = { HasPlaces };
 }
 
 /// Space, tab and CR.
@@ -64,7 +77,7 @@ impl Token {
 impl LineSoFar {
     /// Nothing has come.
     pub fn new() -> LineSoFar
-        ensures { IsLine result.tokens result.count result.inside [] }
+        ensures { IsLine result [] }
     {
         LineSoFar {
             tokens: [
@@ -81,8 +94,8 @@ impl LineSoFar {
 
     /// A new line begins.
     pub fn clear(&mut self)
-        ensures { (line : List ℕ) → IsLine self.old.tokens self.old.count self.old.inside line
-            → IsLine self.new.tokens self.new.count self.new.inside [] }
+        ensures { (line : List ℕ) → IsLine self.old line
+            → IsLine self.new [] }
     {
         self.count = 0;
         self.inside = false;
@@ -90,8 +103,8 @@ impl LineSoFar {
 
     /// One more byte comes.
     pub fn push(&mut self, byte: u8)
-        ensures { (line : List ℕ) → IsLine self.old.tokens self.old.count self.old.inside line
-            → IsLine self.new.tokens self.new.count self.new.inside (line ++ byte ∷ []) }
+        ensures { (line : List ℕ) → IsLine self.old line
+            → IsLine self.new (line ++ byte ∷ []) }
     {
         if is_blank(byte) {
             self.inside = false;
@@ -106,8 +119,8 @@ impl LineSoFar {
     fn begin(&mut self, byte: u8)
         requires { is_blank byte ≡ false }
         ensures { (line : List ℕ) → self.old.inside ≡ false
-            → IsLine self.old.tokens self.old.count self.old.inside line
-            → IsLine self.new.tokens self.new.count self.new.inside (line ++ byte ∷ []) }
+            → IsLine self.old line
+            → IsLine self.new (line ++ byte ∷ []) }
     {
         self.inside = true;
         if self.count < WORDS {
@@ -122,8 +135,8 @@ impl LineSoFar {
     fn go_on(&mut self, byte: u8)
         requires { is_blank byte ≡ false }
         ensures { (line : List ℕ) → self.old.inside ≡ true
-            → IsLine self.old.tokens self.old.count self.old.inside line
-            → IsLine self.new.tokens self.new.count self.new.inside (line ++ byte ∷ []) }
+            → IsLine self.old line
+            → IsLine self.new (line ++ byte ∷ []) }
     {
         if self.count == 0 {
             return;
@@ -137,7 +150,7 @@ impl LineSoFar {
     /// Whether it has so many words. The number is 5 at most.
     pub fn has_words(&self, count: usize) -> bool
         requires { count ≤ 5 }
-        ensures { (line : List ℕ) → IsLine self.now.tokens self.now.count self.now.inside line
+        ensures { (line : List ℕ) → IsLine self.now line
             → result ≡ (length (words line) == count) }
     {
         self.count == count
@@ -145,7 +158,7 @@ impl LineSoFar {
 
     /// Whether it is skipped: it has no words, or the first begins with a percent sign.
     pub fn is_skipped(&self) -> bool
-        ensures { (line : List ℕ) → IsLine self.now.tokens self.now.count self.now.inside line
+        ensures { (line : List ℕ) → IsLine self.now line
             → result ≡ is_skipped (words line) }
     {
         if self.count == 0 {
@@ -160,7 +173,7 @@ impl LineSoFar {
         requires word { k < 5 }
         requires short { length text.now < 15 }
         requires some { 0 < length text.now }
-        ensures { (line : List ℕ) → IsLine self.now.tokens self.now.count self.now.inside line
+        ensures { (line : List ℕ) → IsLine self.now line
             → result ≡ bytes_eq (word (words line) k) text.now }
     {
         if self.count <= k {
@@ -176,7 +189,7 @@ impl LineSoFar {
         requires short { length text.now < 15 }
         requires some { 0 < length text.now }
         requires lower { map to_ascii_lowercase text.now ≡ text.now }
-        ensures { (line : List ℕ) → IsLine self.now.tokens self.now.count self.now.inside line
+        ensures { (line : List ℕ) → IsLine self.now line
             → result ≡ spells text.now (word (words line) k) }
     {
         if self.count <= k {
@@ -188,7 +201,7 @@ impl LineSoFar {
     /// A word as a number, if it is one. The words are numbered from 0 to 4.
     pub fn number(&self, k: usize) -> Option<u64>
         requires { k < 5 }
-        ensures { (line : List ℕ) → IsLine self.now.tokens self.now.count self.now.inside line
+        ensures { (line : List ℕ) → IsLine self.now line
             → ReadsNumber (word (words line) k) result }
     {
         if self.count <= k {
@@ -200,7 +213,7 @@ impl LineSoFar {
     /// A word as an integer, if it is one. The words are numbered from 0 to 4.
     pub fn integer(&self, k: usize) -> Option<Integer>
         requires { k < 5 }
-        ensures { (line : List ℕ) → IsLine self.now.tokens self.now.count self.now.inside line
+        ensures { (line : List ℕ) → IsLine self.now line
             → ReadsInteger (word (words line) k) result }
     {
         if self.count <= k {

@@ -70,7 +70,7 @@ pub fn is_complete(end: End, phase: Phase) -> bool
 /// Line 1 has come.
 fn after_banner(line: &LineSoFar) -> Result<Phase, Stop>
     ensures steps { (end : End) (bytes : List ℕ) (t : Entries)
-        → IsLine line.now.tokens line.now.count line.now.inside bytes
+        → IsLine line.now bytes
         → Steps end (bytes ∷ []) t result }
     ensures ready { (t : Entries) → IfOk result (λ phase. IsReady phase t) }
 {
@@ -90,7 +90,7 @@ fn after_size(
 ) -> Result<Phase, Stop>
     requires { IsHeader header }
     ensures steps { (end : End) (ls : List (List ℕ)) (bytes : List ℕ)
-        → IsLine line.now.tokens line.now.count line.now.inside bytes
+        → IsLine line.now bytes
         → HasBanner header ls → later_lines ls ≡ [] → line_faults end ls ≡ []
         → number ≡ length ls + 1
         → Steps end (ls ++ bytes ∷ []) triples.new result }
@@ -127,7 +127,7 @@ fn after_line(
 ) -> Result<Phase, Stop>
     requires { HasRoom header size done place triples.old }
     ensures steps { (end : End) (bytes : List ℕ)
-        → IsLine line.now.tokens line.now.count line.now.inside bytes
+        → IsLine line.now bytes
         → is_complete end (Phase.Entries header size done place) ≡ false
         → TakesLine header size done triples.old number end bytes triples.new result }
     ensures ready { IfOk result (λ phase. IsReady phase triples.new) }
@@ -166,7 +166,7 @@ fn after_entry(
     requires low { done < size.count }
     requires format { header.format ≡ Format.Coordinate }
     ensures steps { (end : End) (bytes : List ℕ)
-        → IsLine line.now.tokens line.now.count line.now.inside bytes
+        → IsLine line.now bytes
         → is_skipped (words bytes) ≡ false
         → TakesLine header size done triples.old number end bytes triples.new result }
     ensures ready { IfOk result (λ phase. IsReady phase triples.new) }
@@ -191,7 +191,7 @@ fn after_value(
     requires low { done < size.count }
     requires format { header.format ≡ Format.Array }
     ensures steps { (end : End) (bytes : List ℕ)
-        → IsLine line.now.tokens line.now.count line.now.inside bytes
+        → IsLine line.now bytes
         → is_skipped (words bytes) ≡ false
         → TakesLine header size done triples.old number end bytes triples.new result }
     ensures ready { IfOk result (λ phase. IsReady phase triples.new) }
@@ -366,7 +366,7 @@ fn next_phase(
 ) -> Result<Phase, Stop>
     requires { IsReady phase triples.old }
     ensures steps { (end : End) (ls : List (List ℕ)) (bytes : List ℕ)
-        → IsLine line.now.tokens line.now.count line.now.inside bytes
+        → IsLine line.now bytes
         → HasLines end phase triples.old ls → number ≡ length ls + 1 → is_complete end phase ≡ false
         → Steps end (ls ++ bytes ∷ []) triples.new result }
     ensures ready { IfOk result (λ next. IsReady next triples.new) }
@@ -391,7 +391,7 @@ fn end_line(alloc: Global, m: &mut Machine) -> Result<(), Stop>
     ensures number { OnOk result (begun_lines m.new ≡ m.old.number + 1) }
     ensures closed { OnOk result (m.new.begun ≡ false) }
     ensures steps { (end : End) (ls : List (List ℕ)) (bytes : List ℕ)
-        → IsLine m.old.line.tokens m.old.line.count m.old.line.inside bytes
+        → IsLine m.old.line bytes
         → HasLines end m.old.phase m.old.triples ls → m.old.number ≡ length ls
         → is_complete end m.old.phase ≡ false
         → MatchResult result (λ _. IsBetween end m.new (ls ++ bytes ∷ []))

@@ -9,7 +9,7 @@ returns-in-Err-clause-answer g c line good =
     let i = c.loop-input.invariant in
     file_stopped (front c.args.input.now) (front c.loop-input.input) (front c.next_byte.new.input) (g.S.Source.left c.args.source.now) (g.S.Source.left c.loop-input.source) (g.S.Source.left c.next_byte.new.source)
     (g.S.Source.faults c.args.source.now) (g.S.Source.faults c.loop-input.source) (g.S.Source.faults c.next_byte.new.source) i.steady c.args.before c.args.bytes c.loop-input.file.items line i.used good (omega (arith, c.loop-input-test.true, c.len.ensures, c.loop-input.file.ok.0))
-    c.in-Err.error c.stopped.result c.in-Err.ensures.err c.stopped.ensures
+    c.in-Err.error c.stopped.result c.in-Err.ensures.err c.stopped.ensures.same
 
 pub returns-in-Ok-None-clause-answer : goal.returns-in-Ok-None-clause-answer
 returns-in-Ok-None-clause-answer g c line good =

@@ -1,12 +1,14 @@
-use Rattle.std.proofs.Common.{◌≡◌, ◌≤◌, ℕ, [], ◌∷◌, ◌++◌, length, refl, ap, ◌∙◌, arith}
+use Rattle.std.proofs.Common.{◌≡◌, ◌≤◌, ℕ, [], ◌∷◌, ◌++◌, length, Ok, refl, ap, ◌∙◌, arith}
 use Rattle.std.specs.Global.{Vec}
 use Rattle.std.specs.Vec.{vec_len}
 use Rattle.std.proofs.lemmas.List.{length-map, map-append}
 use Rattle.std.proofs.lemmas.List.Elements.{All-push}
 use Rattle.std.proofs.lemmas.Result.{err_from_is_err_and}
 use Rattle.sp_ids.specs.Limits.{max_batch_file_bytes}
+use Rattle.sp_ports.specs.Device.{seen}
 use Rattle.mm_reader.specs.Fronts.{front}
 use Rattle.mm_frames.specs.Batches.{files_of}
+use Rattle.mm_frames.proofs.BatchLaws.{bad_frame_on_call}
 use Rattle.mm_frames.proofs.UsedLaws.{most_known}
 use Rattle.mm_frames.proofs.WholeLaws.{end_answered, file_answered, file_used, files_none, header_answered, header_used, last_answered, less_room, one_file_more}
 use Rattle.mm_frames.proofs.files.read_files.Goals as goal
@@ -162,3 +164,23 @@ reading-preserved g c =
           let header = c.in_ok-read_header.ensures.stays old.0 in
           (c.in_ok-file.ensures.stays header, c.in_ok-file.ensures.unasked header ∙ c.in_ok-read_header.ensures.unasked old.0 ∙ old.1);
     }
+
+pub returns-in_err-read_header-clause-bad : goal.returns-in_err-read_header-clause-bad
+returns-in_err-read_header-clause-bad g c =
+    bad_frame_on_call c.args.input.now (seen g.S.Source.left g.S.Source.faults c.args.source.now c.read_header.new.source) c.read_header.new.input.ahead c.from_residual.result
+    (returns-in_err-read_header-clause-answer g c)
+
+pub returns-in-None-clause-bad : goal.returns-in-None-clause-bad
+returns-in-None-clause-bad g c =
+    bad_frame_on_call c.args.input.now (seen g.S.Source.left g.S.Source.faults c.args.source.now c.read_header.new.source) c.read_header.new.input.ahead (Ok c.reading.files)
+    (returns-in-None-clause-answer g c)
+
+pub returns-then-header-clause-bad : goal.returns-then-header-clause-bad
+returns-then-header-clause-bad g c =
+    bad_frame_on_call c.args.input.now (seen g.S.Source.left g.S.Source.faults c.args.source.now c.read_header.new.source) c.read_header.new.input.ahead c.end_with.result
+    (returns-then-header-clause-answer g c)
+
+pub returns-in_err-file-clause-bad : goal.returns-in_err-file-clause-bad
+returns-in_err-file-clause-bad g c =
+    bad_frame_on_call c.args.input.now (seen g.S.Source.left g.S.Source.faults c.args.source.now c.read_file.new.source) c.read_file.new.input.ahead c.from_residual-in_err-file.result
+    (returns-in_err-file-clause-answer g c)

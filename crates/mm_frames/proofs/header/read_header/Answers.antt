@@ -8,7 +8,7 @@ pub returns-in-Err-clause-answer : goal.returns-in-Err-clause-answer
 returns-in-Err-clause-answer g c =
     let i = c.reading.invariant in
     header_stopped (front c.args.input.now) (front c.reading.input) (front c.next_byte.new.input) (g.S.Source.left c.args.source.now) (g.S.Source.left c.reading.source) (g.S.Source.left c.next_byte.new.source)
-    (g.S.Source.faults c.args.source.now) (g.S.Source.faults c.reading.source) (g.S.Source.faults c.next_byte.new.source) i.steady c.args.before c.reading.line c.reading.begun i.begins c.in-Err.error c.stopped.result c.in-Err.ensures.err c.stopped.ensures
+    (g.S.Source.faults c.args.source.now) (g.S.Source.faults c.reading.source) (g.S.Source.faults c.next_byte.new.source) i.steady c.args.before c.reading.line c.reading.begun i.begins c.in-Err.error c.stopped.result c.in-Err.ensures.err c.stopped.ensures.same
 
 pub returns-in_err-take_header-in-Ok-None-clause-answer : goal.returns-in_err-take_header-in-Ok-None-clause-answer
 returns-in_err-take_header-in-Ok-None-clause-answer g c =

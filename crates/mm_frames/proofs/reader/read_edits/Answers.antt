@@ -1,10 +1,11 @@
 use Rattle.std.proofs.Common.{◌≡◌, false, length, List, [], ◌∷◌, ◌++◌, refl, sym, ap, subst, ◌∙◌, arith}
 use Rattle.std.proofs.lemmas.Result.{err_from_is_err_and}
+use Rattle.sp_ports.specs.Device.{seen}
 use Rattle.mm_defs.specs.Words.{lines, open_line}
 use Rattle.mm_reader.specs.Fronts.{front}
 use Rattle.mm_frames.specs.declared.edit.Edit.{Edit}
 use Rattle.mm_frames.specs.Stages.{HasRead}
-use Rattle.mm_frames.proofs.ReadLaws.{read_at_start, read_byte, read_lf, lf_number, byte_fits, stop_known, line_known}
+use Rattle.mm_frames.proofs.ReadLaws.{bad_line_on_call, read_at_start, read_byte, read_lf, lf_number, byte_fits, stop_known, line_known}
 use Rattle.mm_frames.proofs.UsedLaws.{stopped_used, one_more, most_known}
 use Rattle.mm_frames.proofs.reader.read_edits.Goals as goal
 
@@ -117,3 +118,13 @@ reading-preserved g c =
       fits = λ e. byte_fits c.args.rows c.args.cols (front c.args.input.now) (front c.reading.input) (front c.next_byte.new.input) (g.S.Source.left c.args.source.now) (g.S.Source.left c.reading.source) (g.S.Source.left c.next_byte.new.source)
           (g.S.Source.faults c.reading.source) (g.S.Source.faults c.next_byte.new.source) b.byte c.reading.edits.items c.reading.line c.push.new.self c.reading.begun r u b.byte-test.1 c.in_ok-next_byte.ensures.fits;
     }
+
+pub returns-in_err-next_byte-clause-bad : goal.returns-in_err-next_byte-clause-bad
+returns-in_err-next_byte-clause-bad g c =
+    bad_line_on_call c.args.rows c.args.cols c.args.input.now (seen g.S.Source.left g.S.Source.faults c.args.source.now c.next_byte.new.source) c.next_byte.new.input.ahead c.from_residual.result
+    (returns-in_err-next_byte-clause-answer g c)
+
+pub returns-in_err-take_line-in-Some-eq10-clause-bad : goal.returns-in_err-take_line-in-Some-eq10-clause-bad
+returns-in_err-take_line-in-Some-eq10-clause-bad g c =
+    bad_line_on_call c.args.rows c.args.cols c.args.input.now (seen g.S.Source.left g.S.Source.faults c.args.source.now c.next_byte.new.source) c.next_byte.new.input.ahead c.from_residual-in_err-take_line-in-Some-eq10.result
+    (returns-in_err-take_line-in-Some-eq10-clause-answer g c)

@@ -1,14 +1,17 @@
-use Rattle.std.proofs.Common.{set, subst}
+use Rattle.std.proofs.Common.{set, subst, sym, ◌∷◌, [], ◌++◌, true, ◌+◌, ◌∙◌, ap}
 use Rattle.mm_reader.specs.declared.line.Token.{Token}
-use Rattle.mm_reader.specs.Lines.{IsLine}
-use Rattle.mm_reader.proofs.LineSteps.{word_begins, word_past}
+use Rattle.mm_reader.specs.KeptLines.{KeptLine}
+use Rattle.mm_reader.proofs.LineSteps.{HasLine, as_line, fields_of, word_begins, word_past}
 use Rattle.mm_reader.proofs.line.LineSoFar.begin.Goals as goal
-use Rattle.std.proofs.Common.{sym, ◌∷◌, [], ◌++◌, true, ◌+◌}
 
 pub returns-then-self-lt-WORDS : goal.returns-then-self-lt-WORDS
 returns-then-self-lt-WORDS c line out l =
-    let h = word_begins c.args.self.now.tokens c.args.self.now.count c.args.self.now.inside line c.args.byte l c.requires out c.if-self-lt-WORDS.true in
-    subst (λ (t : Token). IsLine (set c.args.self.now.tokens c.args.self.now.count t) (c.args.self.now.count + 1) true (line ++ c.args.byte ∷ [])) (sym c.first.ensures) h
+    let closed = ap (λ (k : KeptLine). k.inside) c.self.view_is ∙ out in
+    let h = word_begins c.self.inside.tokens c.self.inside.count c.self.inside.inside line c.args.byte (fields_of c.self.inside c.args.self.now c.self.view_is c.self.invariant line l) c.requires closed c.if-self-lt-WORDS.true in
+    as_line _ (c.self.inside.count + 1) true (line ++ c.args.byte ∷ [])
+    (subst (λ (t : Token). HasLine (set c.self.inside.tokens c.self.inside.count t) (c.self.inside.count + 1) true (line ++ c.args.byte ∷ [])) (sym c.first.ensures) h)
 
 pub returns-else-self-lt-WORDS : goal.returns-else-self-lt-WORDS
-returns-else-self-lt-WORDS c line out l = word_past c.args.self.now.tokens c.args.self.now.count c.args.self.now.inside line c.args.byte l c.requires out c.if-self-lt-WORDS.false
+returns-else-self-lt-WORDS c line out l =
+    let closed = ap (λ (k : KeptLine). k.inside) c.self.view_is ∙ out in
+    as_line c.self.inside.tokens 6 true (line ++ c.args.byte ∷ []) (word_past c.self.inside.tokens c.self.inside.count c.self.inside.inside line c.args.byte (fields_of c.self.inside c.args.self.now c.self.view_is c.self.invariant line l) c.requires closed c.if-self-lt-WORDS.false)

@@ -2,4 +2,4 @@ use Rattle.mm_reader.proofs.LineSteps.{nothing}
 use Rattle.mm_reader.proofs.line.LineSoFar.clear.Goals as goal
 
 pub returns : goal.returns
-returns c line l = nothing c.args.self.now.tokens l.places
+returns c line l = nothing

@@ -1,11 +1,22 @@
-use Rattle.mm_reader.proofs.LineSteps.{word_goes_on, word_goes_on_past, none_goes_on}
+use Rattle.std.proofs.Common.{[], ◌∷◌, ◌++◌, ◌∙◌, ap, subst}
+use Rattle.mm_reader.specs.KeptLines.{KeptLine}
+use Rattle.mm_reader.specs.Lines.{IsLine}
+use Rattle.mm_reader.proofs.LineSteps.{as_line, fields_of, none_goes_on, word_goes_on, word_goes_on_past}
 use Rattle.mm_reader.proofs.line.LineSoFar.go_on.Goals as goal
 
 pub returns-then-self-eq0 : goal.returns-then-self-eq0
-returns-then-self-eq0 c line isin l = absurd (none_goes_on c.args.self.now.tokens c.args.self.now.count c.args.self.now.inside line c.args.byte l isin c.requires c.if-self-eq0.true)
+returns-then-self-eq0 c line isin l =
+    let is = ap (λ (k : KeptLine). k.inside) c.self.view_is ∙ isin in
+    absurd (none_goes_on c.self.inside.tokens c.self.inside.count c.self.inside.inside line c.args.byte (fields_of c.self.inside c.args.self.now c.self.view_is c.self.invariant line l) is c.requires c.if-self-eq0.true)
 
 pub returns-then-self-gt-WORDS : goal.returns-then-self-gt-WORDS
-returns-then-self-gt-WORDS c line isin l = word_goes_on_past c.args.self.now.tokens c.args.self.now.count c.args.self.now.inside line c.args.byte l c.requires isin c.if-self-gt-WORDS.true
+returns-then-self-gt-WORDS c line isin l =
+    let is = ap (λ (k : KeptLine). k.inside) c.self.view_is ∙ isin in
+    subst (λ (k : KeptLine). IsLine k (line ++ c.args.byte ∷ [])) c.self.view_is
+    (as_line c.self.inside.tokens c.self.inside.count c.self.inside.inside (line ++ c.args.byte ∷ []) (word_goes_on_past c.self.inside.tokens c.self.inside.count c.self.inside.inside line c.args.byte (fields_of c.self.inside c.args.self.now c.self.view_is c.self.invariant line l) c.requires is c.if-self-gt-WORDS.true))
 
 pub returns : goal.returns
-returns c line isin l = word_goes_on c.args.self.now.tokens c.args.self.now.count c.args.self.now.inside line c.args.byte l c.index-self-self.result _ c.requires isin c.if-self-eq0.false c.if-self-gt-WORDS.false c.push.ensures
+returns c line isin l =
+    let is = ap (λ (k : KeptLine). k.inside) c.self.view_is ∙ isin in
+    as_line _ c.self.inside.count c.self.inside.inside (line ++ c.args.byte ∷ [])
+    (word_goes_on c.self.inside.tokens c.self.inside.count c.self.inside.inside line c.args.byte (fields_of c.self.inside c.args.self.now c.self.view_is c.self.invariant line l) c.index-self-self.result _ c.requires is c.if-self-eq0.false c.if-self-gt-WORDS.false c.push.ensures)

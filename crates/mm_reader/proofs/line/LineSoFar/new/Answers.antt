@@ -1,6 +1,5 @@
-use Rattle.std.proofs.Common.{refl}
 use Rattle.mm_reader.proofs.LineSteps.{nothing}
 use Rattle.mm_reader.proofs.line.LineSoFar.new.Goals as goal
 
 pub returns : goal.returns
-returns c = nothing _ refl
+returns c = nothing
