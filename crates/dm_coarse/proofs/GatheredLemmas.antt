@@ -3,11 +3,10 @@ use Rattle.std.proofs.Common.{◌≡◌, ◌∙◌, ℕ, ◌<◌, ◌≤◌, Lis
 use Rattle.bip_defs.specs.Blocks.{Block, ColAt, RowAt, Vertex, least_col}
 use Rattle.bip_defs.specs.ConnectedComponents.{AreOrderedComponents, IsComponentWith, IsConnectedComponent, IsHorizontalVertex, Joined, alone, to_col, to_row}
 use Rattle.bip_defs.specs.Lists.{Among, IsRising, Lists, StandsAt}
-use Rattle.bip_defs.specs.Matrix.{Matrix, cols, upto}
+use Rattle.bip_defs.specs.Matrix.{Matrix, upto}
 use Rattle.bip_defs.proofs.Connected.{component_same, joined_back, joined_inside, turned_block}
 use Rattle.bip_defs.proofs.Sets.{among_map, among_map_back, below_each_from, below_each_sound, lists_same, upto_complete, upto_rising, upto_sound}
-use Rattle.id_groups.specs.Groups.{block_of}
-use Rattle.sp_pattern.specs.Stored.{piece}
+use Rattle.id_groups.specs.Groups.{block_of, group}
 use Rattle.dm_coarse.specs.Gathered.{AreGathered}
 use Rattle.dm_coarse.specs.Numbering.{AreNumbers}
 use Rattle.dm_coarse.proofs.NumberingLemmas.{rising_at}
@@ -22,7 +21,7 @@ first_among : (xs : List ℕ) (x : ℕ) → Among x xs → Among (get_or xs 0 0)
 first_among [] x on = elim on [ ]
 first_among (y ∷ xs) x on = inl refl
 
-module _ (a : Matrix) (count : ℕ) (rs r cs c : List ℕ) (g : AreGathered a count rs r cs c) where
+module _ (a : Matrix) (count : ℕ) (rs cs : List (List ℕ)) (g : AreGathered a count rs cs) where
   P : Vertex → Type 0
   P = IsHorizontalVertex a
 
@@ -33,7 +32,7 @@ module _ (a : Matrix) (count : ℕ) (rs r cs c : List ℕ) (g : AreGathered a co
   root k = get_or n.roots k 0
 
   block : ℕ → Block
-  block k = block_of rs r cs c k
+  block k = block_of rs cs k
 
   -- the vertex has the number
   Has : ℕ → Vertex → Type 0
@@ -58,14 +57,14 @@ module _ (a : Matrix) (count : ℕ) (rs r cs c : List ℕ) (g : AreGathered a co
   unfolding P root block
   component k lt = record {
     inside = (n.root k lt).0;
-    rows = lists_same (StandsAt g.row_numbers k) (λ i. Joined a P (ColAt (root k)) (RowAt i)) (piece rs r k)
+    rows = lists_same (StandsAt g.row_numbers k) (λ i. Joined a P (ColAt (root k)) (RowAt i)) (group rs k)
         (λ i h. let o = n.row i (let l = n.long_rows in let m = h.0 in omega (arith, l, m)) (rw h.1 lt) in subst (λ x. Joined a P (ColAt (root x)) (RowAt i)) h.1 o.1)
         (λ i y. (let l = n.long_rows in let m = (row_in i (joined_inside a P (n.root k lt).0 y)) in omega (arith, l, m), row_number k i lt y))
-        (g.by_row.parts k lt);
-    cols = lists_same (StandsAt g.col_numbers k) (λ j. Joined a P (ColAt (root k)) (ColAt j)) (piece cs c k)
+        (g.by_row.lists k lt);
+    cols = lists_same (StandsAt g.col_numbers k) (λ j. Joined a P (ColAt (root k)) (ColAt j)) (group cs k)
         (λ j h. let o = n.col j (let l = n.long_cols in let m = h.0 in omega (arith, l, m)) (rw h.1 lt) in subst (λ x. Joined a P (ColAt (root x)) (ColAt j)) h.1 o.0.1)
         (λ j y. (let l = n.long_cols in let m = (joined_inside a P (n.root k lt).0 y).0 in omega (arith, l, m), col_number k j lt y))
-        (g.by_col.parts k lt);
+        (g.by_col.lists k lt);
   }
     where
       row_in : (i : ℕ) → IsHorizontalVertex a (RowAt i) → i < a.rows
@@ -75,22 +74,22 @@ module _ (a : Matrix) (count : ℕ) (rs r cs c : List ℕ) (g : AreGathered a co
   least : (k : ℕ) → k < count → least_col (block k) ≡ root k
   unfolding root block
   least k lt =
-      let l : Lists (StandsAt g.col_numbers k) (piece cs c k) = g.by_col.parts k lt in
+      let l : Lists (StandsAt g.col_numbers k) (group cs k) = g.by_col.lists k lt in
       let h = n.root k lt in
-      let on : Among (root k) (piece cs c k) = l.complete (root k) (let m = h.0.0 in let q = n.long_cols in omega (arith, m, q), h.1) in
-      let first = l.sound (get_or (piece cs c k) 0 0) (first_among (piece cs c k) (root k) on) in
-      let above = (n.col (get_or (piece cs c k) 0 0) (let m = first.0 in let q = n.long_cols in omega (arith, m, q)) (rw first.1 lt)).1 in
-      le_antisymm (first_least (piece cs c k) (root k) l.rising on) (subst (λ x. get_or n.roots x 0 ≤ get_or (piece cs c k) 0 0) first.1 above)
+      let on : Among (root k) (group cs k) = l.complete (root k) (let m = h.0.0 in let q = n.long_cols in omega (arith, m, q), h.1) in
+      let first = l.sound (get_or (group cs k) 0 0) (first_among (group cs k) (root k) on) in
+      let above = (n.col (get_or (group cs k) 0 0) (let m = first.0 in let q = n.long_cols in omega (arith, m, q)) (rw first.1 lt)).1 in
+      le_antisymm (first_least (group cs k) (root k) l.rising on) (subst (λ x. get_or n.roots x 0 ≤ get_or (group cs k) 0 0) first.1 above)
 
-  rising_blocks : (ks : List ℕ) → IsRising ks → ((k : ℕ) → Among k ks → k < count) → IsRising (map least_col (map (block_of rs r cs c) ks))
+  rising_blocks : (ks : List ℕ) → IsRising ks → ((k : ℕ) → Among k ks → k < count) → IsRising (map least_col (map (block_of rs cs) ks))
   unfolding root block
   rising_blocks [] rising within = tt
-  rising_blocks (k ∷ ks) rising within = (below_each_from (least_col (block k)) (map least_col (map (block_of rs r cs c) ks)) later, rising_blocks ks rising.1 (λ j on. within j (inr on)))
+  rising_blocks (k ∷ ks) rising within = (below_each_from (least_col (block k)) (map least_col (map (block_of rs cs) ks)) later, rising_blocks ks rising.1 (λ j on. within j (inr on)))
     where
-      later : (y : ℕ) → Among y (map least_col (map (block_of rs r cs c) ks)) → least_col (block k) < y
+      later : (y : ℕ) → Among y (map least_col (map (block_of rs cs) ks)) → least_col (block k) < y
       later y h =
-          let (b, on, is) = among_map_back least_col y (map (block_of rs r cs c) ks) h in
-          let (j, among, same) = among_map_back (block_of rs r cs c) b ks on in
+          let (b, on, is) = among_map_back least_col y (map (block_of rs cs) ks) h in
+          let (j, among, same) = among_map_back (block_of rs cs) b ks on in
           let kt = within k (inl refl) in
           let jt = within j (inr among) in
           let up = rising_at n.roots k j n.rising (below_each_sound k j ks rising.0 among) (rw n.count_is jt) in
@@ -105,18 +104,18 @@ module _ (a : Matrix) (count : ℕ) (rs r cs c : List ℕ) (g : AreGathered a co
       let o = n.row i e.0 lt in
       (get_or g.row_numbers i 0, lt, joined_back a P o.1)
 
-  pub are_components : AreOrderedComponents a (IsHorizontalVertex a) least_col (map (block_of rs r cs c) (upto count))
+  pub are_components : AreOrderedComponents a (IsHorizontalVertex a) least_col (map (block_of rs cs) (upto count))
   unfolding P root block
   are_components = record {
-    sound = λ b h. let (k, on, is) = among_map_back (block_of rs r cs c) b (upto count) h in
+    sound = λ b h. let (k, on, is) = among_map_back (block_of rs cs) b (upto count) h in
         subst (IsConnectedComponent a P) is (ColAt (root k), component k (omega (arith, (upto_sound 0 count k on).1)));
     complete = λ b x. let (k, lt, y) = has_root x.0 x.1.inside in
-        subst (λ d. Among d (map (block_of rs r cs c) (upto count))) (sym (component_same a P x.0 (ColAt (root k)) b (block k) x.1 (component k lt) y))
-        (among_map (block_of rs r cs c) k (upto count) (upto_complete 0 count k (omega arith) (omega (arith, lt))));
+        subst (λ d. Among d (map (block_of rs cs) (upto count))) (sym (component_same a P x.0 (ColAt (root k)) b (block k) x.1 (component k lt) y))
+        (among_map (block_of rs cs) k (upto count) (upto_complete 0 count k (omega arith) (omega (arith, lt))));
     rising = rising_blocks (upto count) (upto_rising 0 count) (λ k on. omega (arith, (upto_sound 0 count k on).1));
   }
 
 -- the same with columns for rows
-pub turned_listed : (rs r cs c ks : List ℕ) → map turned_block (map (block_of rs r cs c) ks) ≡ map (block_of cs c rs r) ks
-turned_listed rs r cs c [] = refl
-turned_listed rs r cs c (k ∷ ks) = ap (λ (bs : List Block). block_of cs c rs r k ∷ bs) (turned_listed rs r cs c ks)
+pub turned_listed : (rs cs : List (List ℕ)) (ks : List ℕ) → map turned_block (map (block_of rs cs) ks) ≡ map (block_of cs rs) ks
+turned_listed rs cs [] = refl
+turned_listed rs cs (k ∷ ks) = ap (λ (bs : List Block). block_of cs rs k ∷ bs) (turned_listed rs cs ks)

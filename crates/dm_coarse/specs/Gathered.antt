@@ -4,10 +4,9 @@ use Rattle.bip_defs.specs.Matrix.{Matrix}
 use Rattle.id_groups.specs.Groups.{AreGroups}
 use Rattle.dm_coarse.specs.Numbering.{AreNumbers}
 
-pub record AreGathered (a : Matrix) (count : ℕ)
-    (row_starts rows col_starts cols : List ℕ) : Type 0 where
+pub record AreGathered (a : Matrix) (count : ℕ) (rows columns : List (List ℕ)) : Type 0 where
   pub row_numbers : List ℕ
   pub col_numbers : List ℕ
   pub numbers : AreNumbers a count row_numbers col_numbers
-  pub by_row : AreGroups row_numbers count row_starts rows
-  pub by_col : AreGroups col_numbers count col_starts cols
+  pub by_row : AreGroups row_numbers count rows
+  pub by_col : AreGroups col_numbers count columns

@@ -35,101 +35,84 @@ pub fn components(
     requires { ArePartsOf pattern.now (parts_of parts.now) }
     ensures { IfOk result (λ c. AreConnectedComponents pattern.now (components_of c)) }
 {
-    let horizontal = horizontal_components(alloc, pattern, parts.hc.as_slice())?;
-    let vertical = vertical_components(alloc, pattern, parts.vr.as_slice())?;
+    let horizontal = horizontal_components(alloc, pattern, parts)?;
+    let vertical = vertical_components(alloc, pattern, parts)?;
     Ok(Components {
         horizontal,
         vertical,
     })
 }
 
-// The components of the horizontal part, which has these columns.
+// The components of the horizontal part.
 fn horizontal_components(
     alloc: Global,
     pattern: &Pattern,
-    cols: &[Col],
+    parts: &Parts,
 ) -> Result<Blocks, OutOfMemory>
-    requires { Lists (IsHorizontalCol pattern.now) cols.now }
+    requires { ArePartsOf pattern.now (parts_of parts.now) }
     ensures { IfOk result
         (λ b. AreOrderedComponents pattern.now (IsHorizontalVertex pattern.now) least_col b) }
 {
     pattern.is_pattern();
     let from_rows = FromRows { pattern };
+    let cols = parts.hc.as_slice();
     let found = search_part::<Row, Col, Pattern, FromRows>(alloc, pattern, &from_rows, cols)?;
-    listed(alloc, found.count, &found.rows, &found.cols)
+    let (rows, cols) = found;
+    listed(alloc, &rows, &cols, parts.hr.len(), parts.hc.len())
 }
 
-// The components of the vertical part, which has these rows: those of the horizontal part of the
-// transpose.
+// The components of the vertical part: those of the horizontal part of the transpose.
 fn vertical_components(
     alloc: Global,
     pattern: &Pattern,
-    rows: &[Row],
+    parts: &Parts,
 ) -> Result<Blocks, OutOfMemory>
-    requires { Lists (IsVerticalRow pattern.now) rows.now }
+    requires { ArePartsOf pattern.now (parts_of parts.now) }
     ensures { IfOk result
         (λ b. AreOrderedComponents pattern.now (IsVerticalVertex pattern.now) least_row b) }
 {
     pattern.is_pattern();
     let from_rows = FromRows { pattern };
+    let rows = parts.vr.as_slice();
     let found = search_part::<Col, Row, FromRows, Pattern>(alloc, &from_rows, pattern, rows)?;
-    listed(alloc, found.count, &found.cols, &found.rows)
+    let (cols, rows) = found;
+    listed(alloc, &rows, &cols, parts.vr.len(), parts.vc.len())
 }
 
-// The rows and the columns of each component.
-#[derive(Drop)]
-struct Gathered<F, N> {
-    count: u32,
-    rows: Groups<F>,
-    cols: Groups<N>,
-}
-
-// The components of the horizontal part of the matrix that a side sees, which has these columns;
-// `across` sees its transpose.
+// The rows and the columns of each component of the horizontal part of the matrix that a side sees,
+// which has these columns; `across` sees its transpose.
 fn search_part<F: Id, N: Id, S: Side<F>, T: Side<N>>(
     alloc: Global,
     side: &S,
     across: &T,
     columns: &[N],
-) -> Result<Gathered<F, N>, OutOfMemory>
+) -> Result<(Groups<F>, Groups<N>), OutOfMemory>
     requires across { IsTransposeOf (S.matrix side.now) (T.matrix across.now) }
     requires columns { Lists (IsHorizontalCol (S.matrix side.now)) (map N.number columns.now) }
     requires few_rows { Matrix.rows (S.matrix side.now) < 2 ^ 32 }
     requires few_cols { cols (S.matrix side.now) < 2 ^ 32 }
-    ensures { IfOk result
-        (λ g. AreGathered (S.matrix side.now) g.count g.rows.starts.items
-        (map F.number g.rows.places.items) g.cols.starts.items
-        (map N.number g.cols.places.items)) }
+    ensures { IfOk result (λ g. AreGathered (S.matrix side.now) (length g.1) g.0 g.1) }
 {
     let numbers = number_components(alloc, side, across, columns)?;
     let rows = gather(alloc, numbers.rows.as_slice(), numbers.count)?;
     let cols = gather(alloc, numbers.cols.as_slice(), numbers.count)?;
-    Ok(Gathered {
-        count: numbers.count,
-        rows,
-        cols,
-    })
+    Ok((rows, cols))
 }
 
-// The components as blocks. Work: one copy of each row and column.
+// The components as blocks, with room for so many rows and columns in all. Work: one copy of each
+// row and column.
 fn listed(
     alloc: Global,
-    count: u32,
     rows: &Groups<Row>,
     cols: &Groups<Col>,
+    all_rows: usize,
+    all_cols: usize,
 ) -> Result<Blocks, OutOfMemory>
-    requires rows { length rows.now.starts.items ≡ count + 1 }
-    requires cols { length cols.now.starts.items ≡ count + 1 }
-    ensures { IfOk result
-        (λ b. b ≡ map (block_of rows.now.starts.items rows.now.places.items cols.now.starts.items
-        cols.now.places.items) (upto count)) }
+    requires { length rows.now ≡ length cols.now }
+    ensures { IfOk result (λ b. b ≡ map (block_of rows.now cols.now) (upto (length cols.now))) }
 {
-    let mut blocks = Blocks::with_room(
-        alloc,
-        count as usize,
-        rows.places.len(),
-        cols.places.len(),
-    )?;
+    let count = cols.count();
+    let mut blocks = Blocks::with_room(alloc, count as usize, all_rows, all_cols)?;
     for number in 0..count {
         blocks.push(rows.of(number), cols.of(number))?;
     }

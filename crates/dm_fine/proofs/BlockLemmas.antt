@@ -6,16 +6,15 @@ use Rattle.bip_defs.specs.Blocks.{AreBlocksOf, AreInOrder, Block, IsBlock, Meets
 use Rattle.bip_defs.specs.Components.{IsComponent}
 use Rattle.bip_defs.specs.Lists.{Among, AreDistinct, Lists, StandsAt}
 use Rattle.bip_defs.specs.Matching.{IsMatching}
-use Rattle.bip_defs.specs.Matrix.{IsEntry, Matrix, Place, cols, column, row_list, upto}
+use Rattle.bip_defs.specs.Matrix.{IsEntry, Matrix, Place, cols, column, entry_count, row_list, upto}
 use Rattle.bip_defs.specs.Parts.{IsSquareCol}
 use Rattle.bip_defs.proofs.Fine.{block_is_component, component_is_block}
 use Rattle.bip_defs.proofs.Sets.{among_left, among_right, among_map, among_map_back, among_test, entry_col, filter_complete, filter_sound, lists_same, lists_unique, number_same, one_col, row_among, upto_lists}
-use Rattle.sp_pattern.specs.Stored.{piece}
 use Rattle.bip_graph.specs.Matching.{none}
 use Rattle.square_components.specs.Numbers.{AreNumbered, look}
-use Rattle.dm_fine.specs.BlockOrder.{AreOrdered, Follow}
+use Rattle.dm_fine.specs.BlockOrder.{AreOrdered, AreOrderedBlocks, Follow}
 use Rattle.dm_fine.specs.Groups.{AreApart, AreRowGroups}
-use Rattle.id_groups.specs.Groups.{AreGroups, block_of}
+use Rattle.id_groups.specs.Groups.{AreGroups, block_of, group}
 use Rattle.dm_fine.specs.InDegrees.{IsGathered, least_of, row_edges, edges_at, edges_into}
 use Rattle.dm_fine.proofs.Gathered.{least_stands}
 use Rattle.dm_fine.proofs.OrderLemmas.{follow_distinct, follow_fresh, follow_range}
@@ -34,18 +33,18 @@ number_square a m numbers n c small s lt below = col_stable a c lt (λ off. let 
 looked : (a : Matrix) (m : List Place) (numbers : List ℕ) (n c : ℕ) → AreNumbered a m numbers n → c < cols a → get_or numbers c 0 ≡ look numbers c
 looked a m numbers n c s lt = let long = s.long in get_or_default numbers c 0 none (omega (arith, long, lt))
 
-cols_component : (a : Matrix) (m : List Place) (numbers : List ℕ) (n : ℕ) (cs c : List ℕ) (k : ℕ) → cols a < 2 ^ 32 → AreNumbered a m numbers n → AreGroups numbers n cs c → k < n → Lists (λ x. IsSquareCol a x × (look numbers x ≡ k)) (piece cs c k)
-cols_component a m numbers n cs c k small s g lt = lists_same (StandsAt numbers k) (λ x. IsSquareCol a x × (look numbers x ≡ k)) (piece cs c k)
+cols_component : (a : Matrix) (m : List Place) (numbers : List ℕ) (n : ℕ) (cs : List (List ℕ)) (k : ℕ) → cols a < 2 ^ 32 → AreNumbered a m numbers n → AreGroups numbers n cs → k < n → Lists (λ x. IsSquareCol a x × (look numbers x ≡ k)) (group cs k)
+cols_component a m numbers n cs k small s g lt = lists_same (StandsAt numbers k) (λ x. IsSquareCol a x × (look numbers x ≡ k)) (group cs k)
     (λ x h.
     let long = s.long in
     let within : x < cols a = let l = h.0 in omega (arith, l, long) in
     let is : look numbers x ≡ k = sym (looked a m numbers n x s within) ∙ h.1 in
     (number_square a m numbers n x small s within (omega (arith, is, lt)), is))
     (λ x h. let long = s.long in let within = h.0.0 in (omega (arith, long, within), looked a m numbers n x s within ∙ h.1))
-    (g.parts k lt)
+    (g.lists k lt)
 
-rows_component : (a : Matrix) (m : List Place) (numbers : List ℕ) (n : ℕ) (rs r : List ℕ) (k : ℕ) → cols a < 2 ^ 32 → IsMatching a m → (s : AreNumbered a m numbers n) → AreRowGroups m numbers a.rows n rs r → k < n → Lists (λ x. (c : ℕ) × Among (x, c) s.square × (look numbers c ≡ k)) (piece rs r k)
-rows_component a m numbers n rs r k small matching s g lt = lists_same (StandsAt g.of_rows k) (λ x. (c : ℕ) × Among (x, c) s.square × (look numbers c ≡ k)) (piece rs r k) over back (g.groups.parts k lt)
+rows_component : (a : Matrix) (m : List Place) (numbers : List ℕ) (n : ℕ) (rs : List (List ℕ)) (k : ℕ) → cols a < 2 ^ 32 → IsMatching a m → (s : AreNumbered a m numbers n) → AreRowGroups m numbers a.rows n rs → k < n → Lists (λ x. (c : ℕ) × Among (x, c) s.square × (look numbers c ≡ k)) (group rs k)
+rows_component a m numbers n rs k small matching s g lt = lists_same (StandsAt g.of_rows k) (λ x. (c : ℕ) × Among (x, c) s.square × (look numbers c ≡ k)) (group rs k) over back (g.groups.lists k lt)
   where
     over : (x : ℕ) → StandsAt g.of_rows k x → (c : ℕ) × Among (x, c) s.square × (look numbers c ≡ k)
     over x h = ⊎_elim
@@ -80,25 +79,25 @@ from_row : (a : Matrix) (r c : ℕ) → r < a.rows → Among c (row_list a r) �
 from_row a r c lt h = (lt, (among_test r (column a c)).0 (filter_sound (λ d. list_any (nat_eq r) (column a d)) c (upto (cols a)) h).1)
 
 -- an entry of a column of j in a row of another is an edge
-entry_edges : (a : Matrix) (numbers rs r : List ℕ) (j k x c : ℕ) → j ≢ k → Among x (piece rs r k) → get_or numbers c 0 ≡ j → IsEntry a x c → edges_into (row_list a) numbers rs r j k ≢ 0
-entry_edges a numbers rs r j k x c ne h is e nil =
+entry_edges : (a : Matrix) (numbers : List ℕ) (rs : List (List ℕ)) (j k x c : ℕ) → j ≢ k → Among x (group rs k) → get_or numbers c 0 ≡ j → IsEntry a x c → edges_into (row_list a) numbers rs j k ≢ 0
+entry_edges a numbers rs j k x c ne h is e nil =
     let hit = edges_hit k j (get_or numbers c 0) is (λ f. ne (sym is ∙ f)) in
     let inner = sum_some (λ d. edges_at k j (get_or numbers d 0)) (row_list a x) c (in_row a x c e) in
-    let outer = sum_some (λ y. row_edges numbers k j (row_list a y)) (piece rs r k) x h in
+    let outer = sum_some (λ y. row_edges numbers k j (row_list a y)) (group rs k) x h in
     absurd (omega (arith, hit, inner, outer, nil))
 
 -- an edge is such an entry
-record IsEdge (a : Matrix) (numbers rs r : List ℕ) (j k : ℕ) : Type 0 where
+record IsEdge (a : Matrix) (numbers : List ℕ) (rs : List (List ℕ)) (j k : ℕ) : Type 0 where
   row : ℕ
   col : ℕ
   other : j ≢ k
-  on : Among row (piece rs r k)
+  on : Among row (group rs k)
   is : get_or numbers col 0 ≡ j
   entry : IsEntry a row col
 
-edges_entry : (a : Matrix) (numbers rs r : List ℕ) (j k : ℕ) → ((x : ℕ) → Among x (piece rs r k) → x < a.rows) → edges_into (row_list a) numbers rs r j k ≢ 0 → IsEdge a numbers rs r j k
-edges_entry a numbers rs r j k within ne =
-    let (x, on, some) = sum_from (λ y. row_edges numbers k j (row_list a y)) (piece rs r k) ne in
+edges_entry : (a : Matrix) (numbers : List ℕ) (rs : List (List ℕ)) (j k : ℕ) → ((x : ℕ) → Among x (group rs k) → x < a.rows) → edges_into (row_list a) numbers rs j k ≢ 0 → IsEdge a numbers rs j k
+edges_entry a numbers rs j k within ne =
+    let (x, on, some) = sum_from (λ y. row_edges numbers k j (row_list a y)) (group rs k) ne in
     let (c, at, one) = sum_from (λ d. edges_at k j (get_or numbers d 0)) (row_list a x) some in
     record {
       row = x;
@@ -109,17 +108,18 @@ edges_entry a numbers rs r j k within ne =
       entry = from_row a x c (within x on) at;
     }
 
-pub gathered : (a : Matrix) (m : List Place) (numbers : List ℕ) (n : ℕ) (rs r cs c : List ℕ) → cols a < 2 ^ 32 → IsMatching a m → AreNumbered a m numbers n → AreRowGroups m numbers a.rows n rs r → AreGroups numbers n cs c → IsGathered a numbers n rs r cs c
-gathered a m numbers n rs r cs c small matching s g h = record {
+pub gathered : (a : Matrix) (m : List Place) (numbers : List ℕ) (n : ℕ) (rs cs : List (List ℕ)) → cols a < 2 ^ 32 → entry_count a < 2 ^ 32 → IsMatching a m → AreNumbered a m numbers n → AreRowGroups m numbers a.rows n rs → AreGroups numbers n cs → IsGathered a numbers n rs cs
+gathered a m numbers n rs cs small few matching s g h = record {
   numbered = s.long;
-  by_row = subst (λ x. AreApart x n rs r) g.mates.long (groups_apart g.of_rows n rs r g.groups);
+  few = few;
+  by_row = subst (λ x. AreApart x n rs) g.mates.long (groups_apart g.of_rows n rs g.groups);
   by_col = h;
-  some = λ k lt. let (x, square, is) = s.used k lt in some_at x (piece cs c k) ((cols_component a m numbers n cs c k small s h lt).complete x (square, is));
+  some = λ k lt. let (x, square, is) = s.used k lt in some_at x (group cs k) ((cols_component a m numbers n cs k small s h lt).complete x (square, is));
   falls = λ j k lt kt ne.
-      let w = edges_entry a numbers rs r j k (λ x on. let l = ((g.groups.parts k kt).sound x on).0 in let long = g.mates.long in omega (arith, l, long)) ne in
+      let w = edges_entry a numbers rs j k (λ x on. let l = ((g.groups.lists k kt).sound x on).0 in let long = g.mates.long in omega (arith, l, long)) ne in
       let within = entry_col a w.row w.col w.entry in
       let is : look numbers w.col ≡ j = sym (looked a m numbers n w.col s within) ∙ w.is in
-      let (d, p, e) = (rows_component a m numbers n rs r k small matching s g kt).sound w.row w.on in
+      let (d, p, e) = (rows_component a m numbers n rs k small matching s g kt).sound w.row w.on in
       let le = s.components.falling w.row w.col d (number_square a m numbers n w.col small s within (omega (arith, is, lt))) w.entry p in
       omega (arith, le, is, e);
 }
@@ -130,10 +130,10 @@ gathered a m numbers n rs r cs c small matching s g h = record {
 
 -- Blocks.
 
-component : (a : Matrix) (m : List Place) (numbers : List ℕ) (n : ℕ) (rs r cs c : List ℕ) (k : ℕ) → cols a < 2 ^ 32 → IsMatching a m → (s : AreNumbered a m numbers n) → AreRowGroups m numbers a.rows n rs r → AreGroups numbers n cs c → k < n → IsComponent a s.square (look numbers) k (block_of rs r cs c k)
-component a m numbers n rs r cs c k small matching s g h lt = record {
-  rows = rows_component a m numbers n rs r k small matching s g lt;
-  cols = cols_component a m numbers n cs c k small s h lt;
+component : (a : Matrix) (m : List Place) (numbers : List ℕ) (n : ℕ) (rs cs : List (List ℕ)) (k : ℕ) → cols a < 2 ^ 32 → IsMatching a m → (s : AreNumbered a m numbers n) → AreRowGroups m numbers a.rows n rs → AreGroups numbers n cs → k < n → IsComponent a s.square (look numbers) k (block_of rs cs k)
+component a m numbers n rs cs k small matching s g h lt = record {
+  rows = rows_component a m numbers n rs k small matching s g lt;
+  cols = cols_component a m numbers n cs k small s h lt;
 }
 
 component_same : (a : Matrix) (m : List Place) (number : ℕ → ℕ) (k : ℕ) (b d : Block) → IsComponent a m number k b → IsComponent a m number k d → b ≡ d
@@ -143,11 +143,11 @@ component_same a m number k b d x y = λ i. record {
 }
 
 -- two components have two blocks
-blocks_apart : (numbers : List ℕ) (n : ℕ) (rs r cs c : List ℕ) (j k : ℕ) → AreGroups numbers n cs c → ((i : ℕ) → i < n → 0 < length (piece cs c i)) → j < n → k < n → block_of rs r cs c j ≡ block_of rs r cs c k → j ≡ k
-blocks_apart numbers n rs r cs c j k g some jt kt e =
-    sym (least_stands numbers n cs c j g jt (some j jt)).1
+blocks_apart : (numbers : List ℕ) (n : ℕ) (rs cs : List (List ℕ)) (j k : ℕ) → AreGroups numbers n cs → ((i : ℕ) → i < n → 0 < length (group cs i)) → j < n → k < n → block_of rs cs j ≡ block_of rs cs k → j ≡ k
+blocks_apart numbers n rs cs j k g some jt kt e =
+    sym (least_stands numbers n cs j g jt (some j jt)).1
     ∙ ap (λ (b : Block). get_or numbers (least_col b) 0) e
-    ∙ (least_stands numbers n cs c k g kt (some k kt)).1
+    ∙ (least_stands numbers n cs k g kt (some k kt)).1
 
 distinct_blocks : (f : ℕ → Block) (ks : List ℕ) → ((j k : ℕ) → Among j ks → Among k ks → f j ≡ f k → j ≡ k) → AreDistinct ks → AreDistinct (map f ks)
 distinct_blocks f [] own d = tt
@@ -200,8 +200,8 @@ follow_order a n w least f before (k ∷ ks) seen at follow all = (free, first, 
 
 -- The whole.
 
-pub are_blocks : (a : Matrix) (m : List Place) (numbers : List ℕ) (n : ℕ) (rs r cs c ks : List ℕ) → cols a < 2 ^ 32 → IsMatching a m → AreNumbered a m numbers n → AreRowGroups m numbers a.rows n rs r → AreGroups numbers n cs c → AreOrdered n (edges_into (row_list a) numbers rs r) (least_of cs c) ks → AreBlocksOf a (map (block_of rs r cs c) ks)
-are_blocks a m numbers n rs r cs c ks small matching s g h ordered = record {
+are_blocks : (a : Matrix) (m : List Place) (numbers : List ℕ) (n : ℕ) (rs cs : List (List ℕ)) (ks : List ℕ) → cols a < 2 ^ 32 → IsMatching a m → AreNumbered a m numbers n → AreRowGroups m numbers a.rows n rs → IsGathered a numbers n rs cs → AreOrdered n (edges_into (row_list a) numbers rs) (least_of cs) ks → AreBlocksOf a (map (block_of rs cs) ks)
+are_blocks a m numbers n rs cs ks small matching s g all ordered = record {
   sound = λ b on.
       let (k, there, e) = among_map_back f b ks on in
       let (x, square, is) = s.used k (range k there) in
@@ -215,33 +215,38 @@ are_blocks a m numbers n rs r cs c ks small matching s g h ordered = record {
 }
   where
     f : ℕ → Block
-    f k = block_of rs r cs c k
+    f k = block_of rs cs k
 
     w : ℕ → ℕ → ℕ
-    w j k = edges_into (row_list a) numbers rs r j k
+    w j k = edges_into (row_list a) numbers rs j k
 
     least : ℕ → ℕ
-    least k = least_of cs c k
+    least k = least_of cs k
 
-    all_gathered : IsGathered a numbers n rs r cs c
-    all_gathered = gathered a m numbers n rs r cs c small matching s g h
+    h : AreGroups numbers n cs
+    h = all.by_col
 
     range : (k : ℕ) → Among k ks → k < n
     range k on = follow_range n w least [] ks k ordered.follow on
 
     comp : (k : ℕ) → k < n → IsComponent a s.square (look numbers) k (f k)
-    comp k lt = component a m numbers n rs r cs c k small matching s g h lt
+    comp k lt = component a m numbers n rs cs k small matching s g h lt
 
     own : (j k : ℕ) → j < n → k < n → f j ≡ f k → j ≡ k
-    own j k jt kt e = blocks_apart numbers n rs r cs c j k h all_gathered.some jt kt e
+    own j k jt kt e = blocks_apart numbers n rs cs j k h all.some jt kt e
 
     seen : AreApartAndSeen a n w f
     seen = record {
       own = own;
-      over = λ j k x d jt kt ne on in_col entry. entry_edges a numbers rs r j k x d ne on ((h.parts j jt).sound d in_col).1 entry;
+      over = λ j k x d jt kt ne on in_col entry. entry_edges a numbers rs j k x d ne on ((h.lists j jt).sound d in_col).1 entry;
       back = λ j k jt kt ne.
-          let q = edges_entry a numbers rs r j k (λ x on. all_gathered.by_row.below k x kt on) ne in
+          let q = edges_entry a numbers rs j k (λ x on. all.by_row.below k x kt on) ne in
           let within = entry_col a q.row q.col q.entry in
           let long = s.long in
-          (q.other, q.row, q.col, q.on, (h.parts j jt).complete q.col (omega (arith, within, long), q.is), q.entry);
+          (q.other, q.row, q.col, q.on, (h.lists j jt).complete q.col (omega (arith, within, long), q.is), q.entry);
     }
+
+pub ordered_blocks : (a : Matrix) (m : List Place) (numbers : List ℕ) (n : ℕ) (rs cs : List (List ℕ)) (bs : List Block) → cols a < 2 ^ 32 → IsMatching a m → AreNumbered a m numbers n → AreRowGroups m numbers a.rows n rs → IsGathered a numbers n rs cs → AreOrderedBlocks a numbers rs cs bs → AreBlocksOf a bs
+ordered_blocks a m numbers n rs cs bs small matching s g all o =
+    subst (AreBlocksOf a) (sym o.blocks) (are_blocks a m numbers n rs cs o.order small matching s g all
+    (subst (λ x. AreOrdered x (edges_into (row_list a) numbers rs) (least_of cs) o.order) all.by_col.long o.ordered))

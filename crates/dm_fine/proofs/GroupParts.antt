@@ -1,4 +1,4 @@
--- Parts of a flat list that share nothing: their numbers taken together, and how many entries the rows of all components have.
+-- Groups that share nothing: their numbers taken together, and how many entries the rows of all components have.
 use Rattle.std.proofs.Common.{◌≡◌, ◌⊎◌, ◌∙◌, ℕ, ◌<◌, ◌≤◌, Bool, true, false, cond, List, [], ◌∷◌, filter, length, nat_eq, get_or, sum_by, refl, sym, ap, subst, inl, inr, arith, zero-le}
 use Rattle.std.specs.List.{flat_map, list_any}
 use Rattle.std.proofs.lemmas.Bool.Decides.{nat_tests}
@@ -7,48 +7,47 @@ use Rattle.bip_defs.specs.Lists.{Among, AreDistinct}
 use Rattle.bip_defs.specs.Matrix.{Matrix, cols, column, entry_count, row_list, upto}
 use Rattle.bip_defs.proofs.Sets.{among_either, among_test, few_distinct, filter_distinct, filter_sound, rising_distinct, upto_lists}
 use Rattle.bip_defs.proofs.Counts.{distinct_append}
-use Rattle.sp_pattern.specs.Stored.{piece}
 use Rattle.dm_fine.specs.Groups.{AreApart}
-use Rattle.id_groups.specs.Groups.{AreGroups}
+use Rattle.id_groups.specs.Groups.{AreGroups, group}
 use Rattle.dm_fine.specs.InDegrees.{row_edges, edges_at, edges_into}
 use Rattle.dm_fine.proofs.Sums.{sum_covered, sum_le, sum_places, sum_swapped, sum_same}
 
-pub groups_apart : (numbers : List ℕ) (count : ℕ) (starts flat : List ℕ) → AreGroups numbers count starts flat → AreApart (length numbers) count starts flat
-groups_apart numbers count starts flat g = record {
+pub groups_apart : (numbers : List ℕ) (count : ℕ) (groups : List (List ℕ)) → AreGroups numbers count groups → AreApart (length numbers) count groups
+groups_apart numbers count groups g = record {
   long = g.long;
-  rising = λ k lt. (g.parts k lt).rising;
-  below = λ k i lt h. ((g.parts k lt).sound i h).0;
-  apart = λ k l i kt lt h m. sym ((g.parts k kt).sound i h).1 ∙ ((g.parts l lt).sound i m).1;
+  rising = λ k lt. (g.lists k lt).rising;
+  below = λ k i lt h. ((g.lists k lt).sound i h).0;
+  apart = λ k l i kt lt h m. sym ((g.lists k kt).sound i h).1 ∙ ((g.lists l lt).sound i m).1;
 }
 
 -- these parts one after another
-abbrev pub joined : List ℕ → List ℕ → List ℕ → List ℕ
-joined starts flat ks = flat_map (piece starts flat) ks
+abbrev pub joined : List (List ℕ) → List ℕ → List ℕ
+joined groups ks = flat_map (group groups) ks
 
-joined_among : (starts flat ks : List ℕ) (i : ℕ) → Among i (joined starts flat ks) → (k : ℕ) × Among k ks × Among i (piece starts flat k)
-joined_among starts flat [] i h = elim h [ ]
-joined_among starts flat (k ∷ ks) i h = by (joined_among starts flat ks i) (among_either i (piece starts flat k) (joined starts flat ks) h)
+joined_among : (groups : List (List ℕ)) (ks : List ℕ) (i : ℕ) → Among i (joined groups ks) → (k : ℕ) × Among k ks × Among i (group groups k)
+joined_among groups [] i h = elim h [ ]
+joined_among groups (k ∷ ks) i h = by (joined_among groups ks i) (among_either i (group groups k) (joined groups ks) h)
   where
-    by : (Among i (joined starts flat ks) → (j : ℕ) × Among j ks × Among i (piece starts flat j)) → Among i (piece starts flat k) ⊎ Among i (joined starts flat ks) → (j : ℕ) × Among j (k ∷ ks) × Among i (piece starts flat j)
+    by : (Among i (joined groups ks) → (j : ℕ) × Among j ks × Among i (group groups j)) → Among i (group groups k) ⊎ Among i (joined groups ks) → (j : ℕ) × Among j (k ∷ ks) × Among i (group groups j)
     by rest (inl g) = (k, inl refl, g)
     by rest (inr g) = let (j, m, at) = rest g in (j, inr m, at)
 
-pub joined_distinct : (n count : ℕ) (starts flat ks : List ℕ) → AreApart n count starts flat → AreDistinct ks → ((k : ℕ) → Among k ks → k < count) → AreDistinct (joined starts flat ks)
-joined_distinct n count starts flat [] a d within = tt
-joined_distinct n count starts flat (k ∷ ks) a d within = distinct_append (piece starts flat k) (joined starts flat ks)
-    (rising_distinct (piece starts flat k) (a.rising k (within k (inl refl))))
-    (joined_distinct n count starts flat ks a d.1 (λ j h. within j (inr h)))
-    (λ i h m. let (j, on, at) = joined_among starts flat ks i m in d.0 (subst (λ l. Among l ks) (a.apart j k i (within j (inr on)) (within k (inl refl)) at h) on))
+pub joined_distinct : (n count : ℕ) (groups : List (List ℕ)) (ks : List ℕ) → AreApart n count groups → AreDistinct ks → ((k : ℕ) → Among k ks → k < count) → AreDistinct (joined groups ks)
+joined_distinct n count groups [] a d within = tt
+joined_distinct n count groups (k ∷ ks) a d within = distinct_append (group groups k) (joined groups ks)
+    (rising_distinct (group groups k) (a.rising k (within k (inl refl))))
+    (joined_distinct n count groups ks a d.1 (λ j h. within j (inr h)))
+    (λ i h m. let (j, on, at) = joined_among groups ks i m in d.0 (subst (λ l. Among l ks) (a.apart j k i (within j (inr on)) (within k (inl refl)) at h) on))
 
-pub joined_below : (n count : ℕ) (starts flat ks : List ℕ) → AreApart n count starts flat → ((k : ℕ) → Among k ks → k < count) → (i : ℕ) → Among i (joined starts flat ks) → i < n
-joined_below n count starts flat ks a within i h = let (k, on, at) = joined_among starts flat ks i h in a.below k i (within k on) at
+pub joined_below : (n count : ℕ) (groups : List (List ℕ)) (ks : List ℕ) → AreApart n count groups → ((k : ℕ) → Among k ks → k < count) → (i : ℕ) → Among i (joined groups ks) → i < n
+joined_below n count groups ks a within i h = let (k, on, at) = joined_among groups ks i h in a.below k i (within k on) at
 
-sum_joined : (f : ℕ → ℕ) (starts flat ks : List ℕ) → sum_by (λ k. sum_by f (piece starts flat k)) ks ≡ sum_by f (joined starts flat ks)
-sum_joined f starts flat [] = refl
-sum_joined f starts flat (k ∷ ks) =
-    let rest = sum_joined f starts flat ks in
-    let one = sum_by-cons (λ j. sum_by f (piece starts flat j)) k ks in
-    let two = sum_by-append f (piece starts flat k) (joined starts flat ks) in
+sum_joined : (f : ℕ → ℕ) (groups : List (List ℕ)) (ks : List ℕ) → sum_by (λ k. sum_by f (group groups k)) ks ≡ sum_by f (joined groups ks)
+sum_joined f groups [] = refl
+sum_joined f groups (k ∷ ks) =
+    let rest = sum_joined f groups ks in
+    let one = sum_by-cons (λ j. sum_by f (group groups j)) k ks in
+    let two = sum_by-append f (group groups k) (joined groups ks) in
     omega (arith, rest, one, two)
 
 -- The entries of all rows are those of all columns.
@@ -87,13 +86,13 @@ row_few numbers own j [] = zero-le
 row_few numbers own j (c ∷ cs) = let rest = row_few numbers own j cs in let one = sum_by-cons (λ d. edges_at own j (get_or numbers d 0)) c cs in let here = edges_one own j (get_or numbers c 0) in omega (arith, rest, one, here)
 
 -- no more edges than entries
-pub edges_few : (a : Matrix) (numbers : List ℕ) (count : ℕ) (starts flat : List ℕ) (j : ℕ) → AreApart a.rows count starts flat → sum_by (edges_into (row_list a) numbers starts flat j) (upto count) ≤ entry_count a
-edges_few a numbers count starts flat j apart =
-    let each = sum_le (edges_into (row_list a) numbers starts flat j) (λ k. sum_by (λ r. length (row_list a r)) (piece starts flat k)) (upto count)
-    (λ k h. sum_le (λ r. row_edges numbers k j (row_list a r)) (λ r. length (row_list a r)) (piece starts flat k) (λ r m. row_few numbers k j (row_list a r))) in
-    let flat_sum = sum_joined (λ r. length (row_list a r)) starts flat (upto count) in
-    let within = sum_covered (λ r. length (row_list a r)) (joined starts flat (upto count)) (upto a.rows)
-    (joined_distinct a.rows count starts flat (upto count) apart (rising_distinct (upto count) (upto_lists count).rising) (λ k h. (upto_lists count).sound k h))
-    (λ r h. inl ((upto_lists a.rows).complete r (joined_below a.rows count starts flat (upto count) apart (λ k m. (upto_lists count).sound k m) r h))) in
+pub edges_few : (a : Matrix) (numbers : List ℕ) (count : ℕ) (groups : List (List ℕ)) (j : ℕ) → AreApart a.rows count groups → sum_by (edges_into (row_list a) numbers groups j) (upto count) ≤ entry_count a
+edges_few a numbers count groups j apart =
+    let each = sum_le (edges_into (row_list a) numbers groups j) (λ k. sum_by (λ r. length (row_list a r)) (group groups k)) (upto count)
+    (λ k h. sum_le (λ r. row_edges numbers k j (row_list a r)) (λ r. length (row_list a r)) (group groups k) (λ r m. row_few numbers k j (row_list a r))) in
+    let flat_sum = sum_joined (λ r. length (row_list a r)) groups (upto count) in
+    let within = sum_covered (λ r. length (row_list a r)) (joined groups (upto count)) (upto a.rows)
+    (joined_distinct a.rows count groups (upto count) apart (rising_distinct (upto count) (upto_lists count).rising) (λ k h. (upto_lists count).sound k h))
+    (λ r h. inl ((upto_lists a.rows).complete r (joined_below a.rows count groups (upto count) apart (λ k m. (upto_lists count).sound k m) r h))) in
     let all = rows_count a in
     omega (arith, each, flat_sum, within, all)

@@ -1,7 +1,8 @@
 -- The order of components: each taken one is the next, and none is left over.
-use Rattle.std.proofs.Common.{◌≡◌, ◌≢◌, ◌⊎◌, ◌∙◌, ℕ, zero, suc, ◌+◌, ◌<◌, ◌≤◌, List, [], ◌∷◌, ◌++◌, length, get_or, sum_by, refl, sym, ap, subst, inl, inr, ⊎_elim, arith, append_assoc, lt_irrefl}
-use Rattle.std.proofs.lemmas.List.{append-nil}
+use Rattle.std.proofs.Common.{◌≡◌, ◌≢◌, ◌⊎◌, ◌∙◌, ℕ, zero, suc, ◌+◌, ◌<◌, ◌≤◌, List, [], ◌∷◌, ◌++◌, length, get_or, map, sum_by, refl, sym, ap, subst, inl, inr, ⊎_elim, arith, append_assoc, lt_irrefl}
+use Rattle.std.proofs.lemmas.List.{append-nil, length-map, length_push, map-append}
 use Rattle.std.proofs.lemmas.List.Sums.{sum_by-cons, sum_by_push}
+use Rattle.bip_defs.specs.Blocks.{Block}
 use Rattle.bip_defs.specs.Lists.{Among, AreDistinct, IsRising}
 use Rattle.bip_defs.specs.Matrix.{upto}
 use Rattle.bip_defs.proofs.Sets.{among_last, among_left, among_right, below_each_sound, few_distinct, number_among, number_same, rising_distinct, upto_length, upto_lists}
@@ -161,3 +162,39 @@ ready_out k least in_degrees ready set some = record {
   complete = λ j lt z nh. ⊎_elim (λ (e : j ≡ k). absurd (some (ap (λ i. get_or in_degrees i 0) (sym e) ∙ z))) (λ ne. set.complete j (omega (arith, lt, ne)) z nh) (number_same j k);
   gone_done = λ j h. elim h [ ];
 }
+
+-- The blocks so far.
+
+-- some components are gone, in order, and these blocks are theirs
+pub record IsOrdering (n : ℕ) (w : ℕ → ℕ → ℕ) (least : ℕ → ℕ) (block : ℕ → Block) (in_degrees ready : List ℕ) (bs : List Block) : Type 0 where
+  pub gone : List ℕ
+  pub follow : Follow n w least [] gone
+  pub left : AreLeft n w gone in_degrees
+  pub set : AreReady n least gone in_degrees ready
+  pub blocks : bs ≡ map block gone
+
+-- while one is taken there are fewer blocks than components
+pub ordering_few : (n : ℕ) (w : ℕ → ℕ → ℕ) (least : ℕ → ℕ) (block : ℕ → Block) (in_degrees members ready : List ℕ) (bs : List Block) (k : ℕ) → (o : IsOrdering n w least block in_degrees members bs) → IsTaken n w least o.gone in_degrees ready k → length bs < n
+ordering_few n w least block in_degrees members ready bs k o taken =
+    let few = follow_few n w least (o.gone ++ k ∷ []) (follow_more n w least [] o.gone k o.follow taken.next) in
+    let more = length_push o.gone k in
+    let same : length bs ≡ length o.gone = ap length o.blocks ∙ length-map o.gone block in
+    omega (arith, few, more, same)
+
+-- one more is gone
+pub ordering_next : (n : ℕ) (w : ℕ → ℕ → ℕ) (least : ℕ → ℕ) (block : ℕ → Block) (in_degrees members ready in_degrees2 ready2 : List ℕ) (bs bs2 : List Block) (k : ℕ) → (o : IsOrdering n w least block in_degrees members bs) → IsTaken n w least o.gone in_degrees ready k → bs2 ≡ bs ++ block k ∷ [] → ((j : ℕ) → j < n → get_or in_degrees j 0 ≡ get_or in_degrees2 j 0 + w j k) → MoreSources n least in_degrees ready in_degrees2 ready2 → IsOrdering n w least block in_degrees2 ready2 bs2
+ordering_next n w least block in_degrees members ready in_degrees2 ready2 bs bs2 k o taken more_blocks fell more = record {
+  gone = o.gone ++ k ∷ [];
+  follow = follow;
+  left = left_next n w o.gone in_degrees in_degrees2 k o.left fell;
+  set = ready_after n least (o.gone ++ k ∷ []) in_degrees ready in_degrees2 ready2 (λ j h. follow_range n w least [] (o.gone ++ k ∷ []) j follow h) taken.set more;
+  blocks = more_blocks ∙ ap (λ (bs : List Block). bs ++ block k ∷ []) o.blocks ∙ sym (map-append block o.gone (k ∷ []));
+}
+  where
+    follow : Follow n w least [] (o.gone ++ k ∷ [])
+    follow = follow_more n w least [] o.gone k o.follow taken.next
+
+-- the component that is taken is still counted
+pub ordering_counted : (n : ℕ) (w : ℕ → ℕ → ℕ) (least : ℕ → ℕ) (block : ℕ → Block) (in_degrees members ready : List ℕ) (bs : List Block) (j k : ℕ) → (o : IsOrdering n w least block in_degrees members bs) → IsTaken n w least o.gone in_degrees ready k → j < n → w j k ≤ get_or in_degrees j 0
+ordering_counted n w least block in_degrees members ready bs j k o taken lt =
+    still_counted n w o.gone in_degrees j k o.left (follow_distinct n w least [] o.gone o.follow) (λ i h. follow_range n w least [] o.gone i o.follow h) lt taken.next.in_range taken.next.fresh

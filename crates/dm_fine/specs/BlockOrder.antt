@@ -1,6 +1,10 @@
 -- The order of components, by the edges into them and by their least columns.
-use Rattle.std.specs.Prelude.{◌≢◌, ℕ, ◌<◌, ◌≤◌, List, [], ◌∷◌, ◌++◌}
+use Rattle.std.specs.Prelude.{◌≡◌, ◌≢◌, ℕ, ◌<◌, ◌≤◌, List, [], ◌∷◌, ◌++◌, length, map}
+use Rattle.bip_defs.specs.Blocks.{Block}
 use Rattle.bip_defs.specs.Lists.{Among}
+use Rattle.bip_defs.specs.Matrix.{Matrix, row_list}
+use Rattle.dm_fine.specs.InDegrees.{edges_into, least_of}
+use Rattle.id_groups.specs.Groups.{block_of}
 
 -- after those before, k has entries in rows of no other component, and the least column of all that haven't
 pub record IsNext (count : ℕ) (edges_into : ℕ → ℕ → ℕ) (least : ℕ → ℕ) (before : List ℕ)
@@ -22,3 +26,11 @@ pub record AreOrdered (count : ℕ) (edges_into : ℕ → ℕ → ℕ) (least : 
     (ks : List ℕ) : Type 0 where
   pub follow : Follow count edges_into least [] ks
   pub all : (k : ℕ) → k < count → Among k ks
+
+-- the components that have these rows and columns, as blocks in order
+pub record AreOrderedBlocks (a : Matrix) (numbers : List ℕ) (rows cols : List (List ℕ))
+    (bs : List Block) : Type 0 where
+  pub order : List ℕ
+  pub ordered : AreOrdered (length cols) (edges_into (row_list a) numbers rows) (least_of cols)
+      order
+  pub blocks : bs ≡ map (block_of rows cols) order

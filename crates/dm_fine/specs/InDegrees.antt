@@ -1,10 +1,9 @@
 -- The edges of the graph of components, one for each entry that a column of one has in a row of another, and in-degrees.
-use Rattle.std.specs.Prelude.{◌≡◌, ◌≢◌, ◌⊎◌, ℕ, ◌+◌, ◌<◌, ◌≤◌, List, length, nat_eq, if◌then◌else◌, slice_index, sum_by}
+use Rattle.std.specs.Prelude.{◌≡◌, ◌≢◌, ◌⊎◌, ℕ, ◌^◌, ◌<◌, ◌≤◌, List, length, nat_eq, if◌then◌else◌, slice_index, sum_by}
 use Rattle.bip_defs.specs.Lists.{Among}
-use Rattle.bip_defs.specs.Matrix.{Matrix, cols, row_list}
-use Rattle.sp_pattern.specs.Stored.{piece}
+use Rattle.bip_defs.specs.Matrix.{Matrix, cols, entry_count, row_list}
 use Rattle.dm_fine.specs.Groups.{AreApart}
-use Rattle.id_groups.specs.Groups.{AreGroups}
+use Rattle.id_groups.specs.Groups.{AreGroups, group}
 
 -- one where the number is j, and j is not the row's own component
 abbrev pub edges_at : ℕ → ℕ → ℕ → ℕ
@@ -19,18 +18,18 @@ abbrev pub edges_in : (ℕ → List ℕ) → List ℕ → ℕ → ℕ → List �
 edges_in line numbers own j rows = sum_by (λ r. row_edges numbers own j (line r)) rows
 
 -- the same in the rows of component k
-abbrev pub edges_into : (ℕ → List ℕ) → List ℕ → List ℕ → List ℕ → ℕ → ℕ → ℕ
-edges_into line numbers starts rows j k = edges_in line numbers k j (piece starts rows k)
+abbrev pub edges_into : (ℕ → List ℕ) → List ℕ → List (List ℕ) → ℕ → ℕ → ℕ
+edges_into line numbers rows j k = edges_in line numbers k j (group rows k)
 
--- the least place of component j
-abbrev pub least_of : List ℕ → List ℕ → ℕ → ℕ
-least_of starts cols j = slice_index (piece starts cols j) 0
+-- the least column of component j
+abbrev pub least_of : List (List ℕ) → ℕ → ℕ
+least_of cols j = slice_index (group cols j) 0
 
--- each of n components has a least place, below the bound
-pub record HaveLeast (n bound : ℕ) (starts places : List ℕ) : Type 0 where
-  pub long : length starts ≡ n + 1
-  pub some : (j : ℕ) → j < n → 0 < length (piece starts places j)
-  pub below : (j : ℕ) → j < n → least_of starts places j < bound
+-- each of n components has a least column, below the bound
+pub record HaveLeast (n bound : ℕ) (cols : List (List ℕ)) : Type 0 where
+  pub long : length cols ≡ n
+  pub some : (j : ℕ) → j < n → 0 < length (group cols j)
+  pub below : (j : ℕ) → j < n → least_of cols j < bound
 
 -- the least columns of the components that have come to in-degree 0 are put in
 pub record MoreSources (count : ℕ) (least : ℕ → ℕ)
@@ -51,13 +50,14 @@ pub record AreReady (count : ℕ) (least : ℕ → ℕ) (gone in_degrees ready :
       → Among (least j) ready
   pub gone_done : (j : ℕ) → Among j gone → slice_index in_degrees j ≡ 0
 
--- what the search for the order knows of the components: their rows and columns in flat lists
+-- what the search for the order knows of the components, by the rows and the columns of each
 pub record IsGathered (a : Matrix) (numbers : List ℕ) (count : ℕ)
-    (row_starts row_places col_starts col_places : List ℕ) : Type 0 where
+    (rows columns : List (List ℕ)) : Type 0 where
   pub numbered : length numbers ≡ cols a
-  pub by_row : AreApart a.rows count row_starts row_places
-  pub by_col : AreGroups numbers count col_starts col_places
-  pub some : (k : ℕ) → k < count → 0 < length (piece col_starts col_places k)
+  pub few : entry_count a < 2 ^ 32
+  pub by_row : AreApart a.rows count rows
+  pub by_col : AreGroups numbers count columns
+  pub some : (k : ℕ) → k < count → 0 < length (group columns k)
   -- no edge leads into a component from one of a greater number
   pub falls : (j k : ℕ) → j < count → k < count
-      → edges_into (row_list a) numbers row_starts row_places j k ≢ 0 → k ≤ j
+      → edges_into (row_list a) numbers rows j k ≢ 0 → k ≤ j

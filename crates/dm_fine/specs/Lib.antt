@@ -1,3 +1,4 @@
 pub mod BlockOrder
+pub mod Component
 pub mod Groups
 pub mod InDegrees

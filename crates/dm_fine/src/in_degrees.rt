@@ -2,10 +2,11 @@
 
 ghost use Rattle.std.specs.Prelude.{◌≡◌, ◌+◌, ◌<◌, ◌≤◌, ◌^◌, ℕ, length, slice_index, sum_by, IfOk};
 ghost use Rattle.bip_defs.specs.Lists.{Among};
-ghost use Rattle.bip_defs.specs.Matrix.{cols, row_list, upto};
-ghost use Rattle.dm_fine.specs.InDegrees.{MoreSources, HaveLeast, least_of, row_edges, edges_at, edges_into, edges_in};
+ghost use Rattle.bip_defs.specs.Matrix.{cols, entry_count, row_list, upto};
+ghost use Rattle.dm_fine.specs.Component.{IsOfMatrix, edges_from};
 ghost use Rattle.dm_fine.specs.Groups.{AreApart};
-ghost use Rattle.sp_pattern.specs.Stored.{piece};
+ghost use Rattle.dm_fine.specs.InDegrees.{HaveLeast, MoreSources, edges_at, edges_into, least_of, row_edges};
+ghost use Rattle.id_groups.specs.Groups.{group};
 
 use id_groups::Groups;
 use int_set::IntSet;
@@ -13,53 +14,108 @@ use sp_ids::{Col, OutOfMemory, Row};
 use sp_pattern::Pattern;
 use std::alloc::Global;
 
+/// A component: its number, and its rows, among the numbers of all columns.
+#[derive(Clone, Copy)]
+pub struct Component<'p> {
+    pub pattern: &'p Pattern,
+    pub numbers: &'p [u32],
+    pub own: u32,
+    pub rows: &'p [Row],
+}
+
 /// How many entries the columns of each component have in rows of others.
 pub fn count(
     alloc: Global,
     pattern: &Pattern,
     numbers: &[u32],
     rows: &Groups<Row>,
-    count: u32,
 ) -> Result<Vec<u32>, OutOfMemory>
     requires numbers { length numbers.now ≡ cols pattern.now }
-    requires rows { AreApart pattern.now.rows count rows.now.starts.items rows.now.places.items }
-    requires few { (j : ℕ) → j < count
-        → sum_by (edges_into (row_list pattern.now) numbers.now rows.now.starts.items
-        rows.now.places.items j) (upto count) < 2 ^ 32 }
-    ensures length { IfOk result (λ v. length v.items ≡ count) }
+    requires rows { AreApart pattern.now.rows (length rows.now) rows.now }
+    requires few { entry_count pattern.now < 2 ^ 32 }
+    ensures length { IfOk result (λ v. length v.items ≡ length rows.now) }
     ensures in_degrees { IfOk result
-        (λ v. (j : ℕ) → j < count
+        (λ v. (j : ℕ) → j < length rows.now
         → slice_index v.items j
-        ≡ sum_by (edges_into (row_list pattern.now) numbers.now rows.now.starts.items
-        rows.now.places.items j) (upto count)) }
+        ≡ sum_by (edges_into (row_list pattern.now) numbers.now rows.now j)
+        (upto (length rows.now))) }
 {
+    let count = rows.count();
     let mut in_degrees = vec![in alloc; 0; count as usize]?;
     for own in 0..count {
-        count_rows(
+        let component = Component {
             pattern,
             numbers,
             own,
-            rows.of(own),
-            in_degrees.as_mut_slice(),
-        );
+            rows: rows.of(own),
+        };
+        component.count_entries(in_degrees.as_mut_slice());
     }
     Ok(in_degrees)
 }
 
-// Counts the entries in these rows of one component.
-fn count_rows(pattern: &Pattern, numbers: &[u32], own: u32, rows: &[Row], in_degrees: &mut [u32])
-    requires numbers { length numbers.now ≡ cols pattern.now }
-    requires rows { (r : ℕ) → Among r rows.now → r < pattern.now.rows }
-    requires few { (j : ℕ) → j < length in_degrees.old
-        → slice_index in_degrees.old j + edges_in
-        (row_list pattern.now) numbers.now own j rows.now < 2 ^ 32 }
-    ensures { (j : ℕ) → j < length in_degrees.old
-        → slice_index in_degrees.new j
-        ≡ slice_index in_degrees.old j + edges_in
-        (row_list pattern.now) numbers.now own j rows.now }
-{
-    for row in rows {
-        count_row(numbers, own, pattern.cols_of(*row), in_degrees);
+impl Component<'_> {
+    // Counts its entries in columns of each other component.
+    fn count_entries(&self, in_degrees: &mut [u32])
+        requires of_matrix { IsOfMatrix self.now }
+        requires few { (j : ℕ) → j < length in_degrees.old
+            → slice_index in_degrees.old j + edges_from self.now j < 2 ^ 32 }
+        ensures { (j : ℕ) → j < length in_degrees.old
+            → slice_index in_degrees.new j ≡ slice_index in_degrees.old j + edges_from self.now j }
+    {
+        for row in self.rows {
+            count_row(
+                self.numbers,
+                self.own,
+                self.pattern.cols_of(*row),
+                in_degrees,
+            );
+        }
+    }
+
+    /// Takes its entries in columns of each other component off, and puts in the least columns of
+    /// those that have come to in-degree 0.
+    pub fn remove_entries(&self, least: &Groups<Col>, in_degrees: &mut [u32], ready: &mut IntSet)
+        requires of_matrix { IsOfMatrix self.now }
+        requires least { HaveLeast (length in_degrees.old) ready.old.bound least.now }
+        requires counted { (j : ℕ) → j < length in_degrees.old
+            → edges_from self.now j ≤ slice_index in_degrees.old j }
+        ensures in_degrees { (j : ℕ) → j < length in_degrees.old
+            → slice_index in_degrees.old j ≡ slice_index in_degrees.new j + edges_from self.now j }
+        ensures more { MoreSources (length in_degrees.old) (least_of least.now) in_degrees.old
+            ready.old.members in_degrees.new ready.new.members }
+        ensures bound { ready.new.bound ≡ ready.old.bound }
+    {
+        for row in self.rows {
+            self.remove_row(self.pattern.cols_of(*row), least, in_degrees, ready);
+        }
+    }
+
+    // Takes the entries of a row that has these columns off.
+    fn remove_row(
+        &self,
+        cols: &[Col],
+        least: &Groups<Col>,
+        in_degrees: &mut [u32],
+        ready: &mut IntSet,
+    )
+        requires cols { (c : ℕ) → Among c cols.now → c < length self.now.numbers.now }
+        requires least { HaveLeast (length in_degrees.old) ready.old.bound least.now }
+        requires counted { (j : ℕ) → j < length in_degrees.old
+            → row_edges self.now.numbers.now self.now.own j cols.now
+            ≤ slice_index in_degrees.old j }
+        ensures in_degrees { (j : ℕ) → j < length in_degrees.old
+            → slice_index in_degrees.old j
+            ≡ slice_index in_degrees.new j
+            + row_edges self.now.numbers.now self.now.own j cols.now }
+        ensures more { MoreSources (length in_degrees.old) (least_of least.now) in_degrees.old
+            ready.old.members in_degrees.new ready.new.members }
+        ensures bound { ready.new.bound ≡ ready.old.bound }
+    {
+        for col in cols {
+            let number = self.numbers[col.0 as usize];
+            remove_one(self.own, number, least, in_degrees, ready);
+        }
     }
 }
 
@@ -90,71 +146,6 @@ fn count_one(own: u32, number: u32, in_degrees: &mut [u32])
     }
 }
 
-/// Takes the entries in these rows of one component off, and puts in the least columns of those
-/// that have come to in-degree 0.
-pub fn remove(
-    pattern: &Pattern,
-    numbers: &[u32],
-    own: u32,
-    rows: &[Row],
-    least: &Groups<Col>,
-    in_degrees: &mut [u32],
-    ready: &mut IntSet,
-)
-    requires numbers { length numbers.now ≡ cols pattern.now }
-    requires rows { (r : ℕ) → Among r rows.now → r < pattern.now.rows }
-    requires least { HaveLeast
-        (length in_degrees.old) ready.old.bound least.now.starts.items least.now.places.items }
-    requires counted { (j : ℕ) → j < length in_degrees.old
-        → edges_in (row_list pattern.now) numbers.now own j rows.now ≤ slice_index in_degrees.old
-        j }
-    ensures in_degrees { (j : ℕ) → j < length in_degrees.old
-        → slice_index in_degrees.old j
-        ≡ slice_index in_degrees.new j + edges_in
-        (row_list pattern.now) numbers.now own j rows.now }
-    ensures more { MoreSources (length in_degrees.old)
-        (least_of least.now.starts.items least.now.places.items) in_degrees.old ready.old.members
-        in_degrees.new ready.new.members }
-    ensures bound { ready.new.bound ≡ ready.old.bound }
-{
-    for row in rows {
-        remove_row(
-            numbers,
-            own,
-            pattern.cols_of(*row),
-            least,
-            in_degrees,
-            ready,
-        );
-    }
-}
-
-fn remove_row(
-    numbers: &[u32],
-    own: u32,
-    cols: &[Col],
-    least: &Groups<Col>,
-    in_degrees: &mut [u32],
-    ready: &mut IntSet,
-)
-    requires cols { (c : ℕ) → Among c cols.now → c < length numbers.now }
-    requires least { HaveLeast
-        (length in_degrees.old) ready.old.bound least.now.starts.items least.now.places.items }
-    requires counted { (j : ℕ) → j < length in_degrees.old
-        → row_edges numbers.now own j cols.now ≤ slice_index in_degrees.old j }
-    ensures in_degrees { (j : ℕ) → j < length in_degrees.old
-        → slice_index in_degrees.old j
-        ≡ slice_index in_degrees.new j + row_edges numbers.now own j cols.now }
-    ensures more { MoreSources (length in_degrees.old)
-        (least_of least.now.starts.items least.now.places.items) in_degrees.old ready.old.members
-        in_degrees.new ready.new.members }
-    ensures bound { ready.new.bound ≡ ready.old.bound }
-{
-    for col in cols {
-        remove_one(own, numbers[col.0 as usize], least, in_degrees, ready);
-    }
-}
-
 // Takes an entry off, where it is in a column of another component.
 #[inline(always)]
 fn remove_one(
@@ -164,15 +155,13 @@ fn remove_one(
     in_degrees: &mut [u32],
     ready: &mut IntSet,
 )
-    requires least { HaveLeast
-        (length in_degrees.old) ready.old.bound least.now.starts.items least.now.places.items }
+    requires least { HaveLeast (length in_degrees.old) ready.old.bound least.now }
     requires counted { (j : ℕ) → j < length in_degrees.old
         → edges_at own j number ≤ slice_index in_degrees.old j }
     ensures in_degrees { (j : ℕ) → j < length in_degrees.old
         → slice_index in_degrees.old j ≡ slice_index in_degrees.new j + edges_at own j number }
-    ensures more { MoreSources (length in_degrees.old)
-        (least_of least.now.starts.items least.now.places.items) in_degrees.old ready.old.members
-        in_degrees.new ready.new.members }
+    ensures more { MoreSources (length in_degrees.old) (least_of least.now) in_degrees.old
+        ready.old.members in_degrees.new ready.new.members }
     ensures bound { ready.new.bound ≡ ready.old.bound }
 {
     if number == own || number as usize >= in_degrees.len() {
@@ -187,9 +176,9 @@ fn remove_one(
 
 /// The least column of a component.
 pub fn first(cols: &Groups<Col>, number: u32) -> u32
-    requires number { number + 1 < length cols.now.starts.items }
-    requires some { 0 < length (piece cols.now.starts.items cols.now.places.items number) }
-    ensures { result ≡ least_of cols.now.starts.items cols.now.places.items number }
+    requires number { number < length cols.now }
+    requires some { 0 < length (group cols.now number) }
+    ensures { result ≡ least_of cols.now number }
 {
     let own = cols.of(number);
     let least = own[0];

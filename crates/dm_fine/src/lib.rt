@@ -2,7 +2,6 @@
 #![tactic(auto)]
 
 mod in_degrees;
-mod listed;
 mod mates;
 mod order;
 
@@ -12,7 +11,6 @@ ghost use Rattle.bip_defs.specs.Parts.{ArePartsOf};
 ghost use Rattle.bip_graph.specs.Matching.{IsMaximumOf};
 ghost use Rattle.bip_graph.specs.Decompositions.{parts_of};
 
-use crate::listed::listed;
 use crate::mates::mates;
 use crate::order::order;
 use bip_graph::{Blocks, Matching, Parts};
@@ -31,7 +29,7 @@ use std::alloc::Global;
 /// They are put in order by a topological sort that takes the least source.
 ///
 /// Answers `OutOfMemory` where 4 bytes a row and 24 a column can't be had for the components, or
-/// then 8 a row, 12 a column and 24 a block. Work: each entry of a square column is looked at twice
+/// then 8 a row, 12 a column and 20 a block. Work: each entry of a square column is looked at twice
 /// at most and each of a square row twice, and each row, column and block a fixed number of times,
 /// but that a block looks at some words of the set of least columns.
 pub fn fine(
@@ -50,6 +48,8 @@ pub fn fine(
     let numbers = components.numbers.as_slice();
     let rows = mates(alloc, matching, numbers, count)?;
     let cols = gather(alloc, numbers, count)?;
-    let order = order(alloc, pattern, numbers, count, &rows, &cols)?;
-    listed(alloc, order.as_slice(), &rows, &cols)
+    let (square_rows, square_cols) = (parts.sr.len(), parts.sc.len());
+    let mut blocks = Blocks::with_room(alloc, count as usize, square_rows, square_cols)?;
+    order(alloc, pattern, numbers, &rows, &cols, &mut blocks)?;
+    Ok(blocks)
 }

@@ -21,11 +21,10 @@ pub fn mates(
     numbers: &[u32],
     count: u32,
 ) -> Result<Groups<Row>, OutOfMemory>
-    requires cols { length numbers.now ≡ matching.now.cols }
+    requires cols { (r c : ℕ) → Among (r, c) matching.now.pairs → c < length numbers.now }
     requires few_rows { matching.now.rows < 2 ^ 32 }
     ensures { IfOk result
-        (λ g. AreRowGroups matching.now.pairs numbers.now matching.now.rows count g.starts.items
-        g.places.items) }
+        (λ g. AreRowGroups matching.now.pairs numbers.now matching.now.rows count g) }
 {
     let of_rows = of_mates(alloc, matching, numbers)?;
     gather(alloc, of_rows.as_slice(), count)
@@ -33,12 +32,10 @@ pub fn mates(
 
 // For each row the number of its mate, or 2^32 - 1 where it has none.
 fn of_mates(alloc: Global, matching: &Matching, numbers: &[u32]) -> Result<Vec<u32>, OutOfMemory>
-    requires { length numbers.now ≡ matching.now.cols }
+    requires { (r c : ℕ) → Among (r, c) matching.now.pairs → c < length numbers.now }
     ensures { IfOk result
         (λ v. AreOfMates matching.now.pairs numbers.now matching.now.rows v.items) }
 {
-    // It tells the proof that each column of a pair is below it.
-    let _cols = matching.cols();
     let rows = matching.rows();
     let mut of_rows = Vec::with_capacity(alloc, rows as usize)?;
     for row in 0..rows {

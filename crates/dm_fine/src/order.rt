@@ -1,69 +1,68 @@
 //! The order of the components.
 
-ghost use Rattle.std.specs.Prelude.{◌≡◌, [], length, IfOk};
-ghost use Rattle.bip_defs.specs.Matrix.{row_list};
-ghost use Rattle.dm_fine.specs.BlockOrder.{AreOrdered};
-ghost use Rattle.dm_fine.specs.InDegrees.{AreReady, HaveLeast, IsGathered, least_of, edges_into};
+ghost use Rattle.std.specs.Prelude.{◌≡◌, [], length, IfOk, OnOk};
+ghost use Rattle.dm_fine.specs.BlockOrder.{AreOrderedBlocks};
+ghost use Rattle.dm_fine.specs.InDegrees.{AreReady, HaveLeast, IsGathered, least_of};
 
-use crate::in_degrees;
+use crate::in_degrees::{self, Component};
+use bip_graph::Blocks;
 use id_groups::Groups;
 use int_set::IntSet;
 use sp_ids::{Col, OutOfMemory, Row};
 use sp_pattern::Pattern;
 use std::alloc::Global;
 
-/// The components in order: each time, of those that have no entry in rows of another that is still
-/// to come, the one with the least column.
+/// Appends the components as blocks in order: each time, of those that have no entry in rows of
+/// another that is still to come, the one with the least column.
 ///
 /// A topological sort that takes the least source (Kahn 1962), with a set of least columns for the
-/// sources. It takes 8 bytes a component, and a bit and a little more a column. Work: two looks at
-/// each entry of the components' rows, and one insertion in the set and one removal a component.
+/// sources. It takes 4 bytes a component, and a bit and a little more a column. Work: two looks at
+/// each entry of the components' rows, one insertion in the set and one removal a component, and
+/// one copy of each row and column.
 pub fn order(
     alloc: Global,
     pattern: &Pattern,
     numbers: &[u32],
-    count: u32,
     rows: &Groups<Row>,
     cols: &Groups<Col>,
-) -> Result<Vec<u32>, OutOfMemory>
-    requires { IsGathered pattern.now numbers.now count rows.now.starts.items rows.now.places.items
-        cols.now.starts.items cols.now.places.items }
-    ensures { IfOk result
-        (λ v. AreOrdered count
-        (edges_into (row_list pattern.now) numbers.now rows.now.starts.items rows.now.places.items)
-        (least_of cols.now.starts.items cols.now.places.items) v.items) }
+    blocks: &mut Blocks,
+) -> Result<(), OutOfMemory>
+    requires gathered { IsGathered pattern.now numbers.now (length cols.now) rows.now cols.now }
+    requires none { blocks.old ≡ [] }
+    ensures { OnOk result
+        (AreOrderedBlocks pattern.now numbers.now rows.now cols.now blocks.new) }
 {
-    pattern.is_pattern();
-    let mut in_degrees = in_degrees::count(alloc, pattern, numbers, rows, count)?;
-    let mut ready = sources(alloc, pattern.cols(), count, in_degrees.as_slice(), cols)?;
-    let mut order = Vec::with_capacity(alloc, count as usize)?;
+    let mut in_degrees = in_degrees::count(alloc, pattern, numbers, rows)?;
+    let mut ready = sources(alloc, pattern.cols(), in_degrees.as_slice(), cols)?;
     while let Some(col) = ready.take_least() {
         let own = numbers[col as usize];
-        order.push(own)?;
         let own_rows = rows.of(own);
-        let left = in_degrees.as_mut_slice();
-        in_degrees::remove(pattern, numbers, own, own_rows, cols, left, &mut ready);
+        blocks.push(own_rows, cols.of(own))?;
+        let component = Component {
+            pattern,
+            numbers,
+            own,
+            rows: own_rows,
+        };
+        component.remove_entries(cols, in_degrees.as_mut_slice(), &mut ready);
     }
-    Ok(order)
+    Ok(())
 }
 
 // The least columns of the components of in-degree 0.
 fn sources(
     alloc: Global,
     bound: u32,
-    count: u32,
     in_degrees: &[u32],
     cols: &Groups<Col>,
 ) -> Result<IntSet, OutOfMemory>
-    requires long { length in_degrees.now ≡ count }
-    requires least { HaveLeast count bound cols.now.starts.items cols.now.places.items }
+    requires least { HaveLeast (length in_degrees.now) bound cols.now }
     ensures ready { IfOk result
-        (λ s. AreReady count (least_of cols.now.starts.items cols.now.places.items) []
-        in_degrees.now s.members) }
+        (λ s. AreReady (length cols.now) (least_of cols.now) [] in_degrees.now s.members) }
     ensures bound { IfOk result (λ s. s.bound ≡ bound) }
 {
     let mut ready = IntSet::new(alloc, bound)?;
-    for k in 0..count {
+    for k in 0..cols.count() {
         if in_degrees[k as usize] == 0 {
             ready.insert(in_degrees::first(cols, k));
         }

@@ -1,5 +1,4 @@
 use Rattle.std.proofs.Common.{sym, subst}
-use Rattle.std.proofs.lemmas.List.{map-id}
 use Rattle.std.proofs.lemmas.Result.{IfOk-weaker}
 use Rattle.bip_defs.specs.Blocks.{least_col}
 use Rattle.bip_defs.specs.ConnectedComponents.{AreOrderedComponents, IsHorizontalVertex}
@@ -13,5 +12,5 @@ search_part-requires-clause-across c = transpose_is c.args.pattern.now
 pub returns : goal.returns
 returns c =
     let a = c.args.pattern.now in
-    let found = are_components a c.in_ok-found.found.count _ _ _ _ (rw (map-id, map-id) at c.in_ok-found.ensures) in
+    let found = are_components a _ _ _ c.in_ok-found.ensures in
     IfOk-weaker c.listed.result _ _ (λ b e. subst (AreOrderedComponents a (IsHorizontalVertex a) least_col) (sym e) found) c.listed.ensures

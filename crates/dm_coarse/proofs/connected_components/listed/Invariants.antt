@@ -4,4 +4,4 @@ use Rattle.id_groups.specs.Groups.{block_of}
 use Rattle.dm_coarse.proofs.connected_components.listed.Given as goal
 
 abbrev pub invariant-loop-number : goal.invariant-loop-number
-invariant-loop-number l = l.blocks ≡ map (block_of l.rows.starts.items l.rows.places.items l.cols.starts.items l.cols.places.items) (upto l.number)
+invariant-loop-number l = l.blocks ≡ map (block_of l.rows l.cols) (upto l.number)

@@ -1,7 +1,6 @@
 use Rattle.std.proofs.Common.{◌≡◌, ◌∙◌, ◌<◌, arith, false, length, map, rules, subst, sym, true≢false}
 use Rattle.std.proofs.lemmas.List.{get_or_read, length-map}
 use Rattle.bip_defs.specs.Lists.{IsMarked}
-use Rattle.bip_defs.specs.Matrix.{cols}
 use Rattle.bip_defs.proofs.Slices.{number_at, number_read}
 use Rattle.bip_graph.specs.Matching.{none}
 use Rattle.dm_coarse.proofs.NumberingLemmas.{least_waiting, numbering_end, numbering_more, numbering_skip, numbering_small, search_begun}

@@ -1,5 +1,4 @@
 use Rattle.std.proofs.Common.{◌≡◌, ◌∙◌, ap, arith, replicate, rules, []}
-use Rattle.bip_defs.specs.Matrix.{cols}
 use Rattle.bip_graph.specs.Matching.{none}
 use Rattle.dm_coarse.proofs.NumberingLemmas.{opened}
 use Rattle.dm_coarse.proofs.numbering.open.Goals as goal

@@ -6,5 +6,5 @@ use Rattle.dm_fine.proofs.in_degrees.count.Given as goal
 abbrev pub invariant-loop-own : goal.invariant-loop-own
 invariant-loop-own l = record {
   long : length l.in_degrees.items ≡ l.count;
-  in_degrees : (j : ℕ) → j < l.count → get_or l.in_degrees.items j 0 ≡ sum_by (edges_into (row_list l.pattern) l.numbers l.rows.starts.items l.rows.places.items j) (upto l.own);
+  in_degrees : (j : ℕ) → j < l.count → get_or l.in_degrees.items j 0 ≡ sum_by (edges_into (row_list l.pattern) l.numbers l.rows j) (upto l.own);
 }

@@ -1,80 +1,84 @@
-use Rattle.std.proofs.Common.{rules, ◌∙◌, ◌≤◌, ◌++◌, ◌∷◌, [], length, get_or, refl, ap, subst, arith}
-use Rattle.bip_defs.specs.Matrix.{row_list}
-use Rattle.std.proofs.lemmas.List.{length_push}
+use Rattle.std.proofs.Common.{rules, ◌∙◌, length, ap, subst, arith}
+use Rattle.std.proofs.lemmas.List.{length_push, map-id}
 use Rattle.bip_defs.proofs.Sets.{written_over}
-use Rattle.dm_fine.specs.InDegrees.{AreReady, least_of, edges_into}
+use Rattle.dm_fine.specs.InDegrees.{AreReady, least_of}
 use Rattle.dm_fine.proofs.Gathered.{gathered_falls, gathered_least, gathered_taken}
-use Rattle.dm_fine.proofs.OrderLemmas.{all_gone, follow_distinct, follow_few, follow_more, follow_range, left_next, ready_after, still_counted}
-use Rattle.dm_fine.proofs.GroupParts.{edges_few}
+use Rattle.dm_fine.proofs.OrderLemmas.{all_gone, ordering_counted, ordering_few, ordering_next}
 use Rattle.dm_fine.proofs.order.order.Goals as goal
 
-pub count-requires-clause-few : goal.count-requires-clause-few
-count-requires-clause-few c = λ j lt.
-    let few = edges_few c.args.pattern.now c.args.numbers.now c.args.count c.args.rows.now.starts.items c.args.rows.now.places.items j c.requires.by_row in
-    let all = c.is_pattern.ensures.few_entries in
-    omega (arith, few, all)
+pub count-requires-clause-rows : goal.count-requires-clause-rows
+count-requires-clause-rows c = rw c.requires.gathered.by_row.long c.requires.gathered.by_row
 
-pub sources-requires-clause-least : goal.sources-requires-clause-least
-sources-requires-clause-least c = rw c.cols.ensures (gathered_least _ _ _ _ _ _ _ c.requires)
+pub sources-requires : goal.sources-requires
+sources-requires c = rw (c.as_slice.ensures.value, c.in_ok-in_degrees.ensures.length, c.requires.gathered.by_row.long, c.cols.ensures) (record { least = gathered_least _ _ _ _ _ c.requires.gathered })
 
 pub of-own_rows-requires : goal.of-own_rows-requires
 of-own_rows-requires c =
-    let taken = gathered_taken _ _ _ _ _ _ _ _ _ _ _ c.in-Some.col (get_or c.args.numbers.now c.in-Some.col 0) c.requires c.loop-col.invariant.left c.loop-col.invariant.follow c.loop-col.invariant.set c.in-Some.ensures.rising c.in-Some.ensures.least refl in
+    let taken = gathered_taken _ _ _ _ _ _ _ _ _ _ c.requires.gathered c.loop-col.invariant.ordering c.in-Some.ensures.rising c.in-Some.ensures.least in
     let lt = taken.next.in_range in
-    let long = c.requires.by_row.long in
+    let long = c.requires.gathered.by_row.long in
     omega (arith, lt, long)
 
-pub remove-requires-clause-rows : goal.remove-requires-clause-rows
-remove-requires-clause-rows c =
-    let taken = gathered_taken _ _ _ _ _ _ _ _ _ _ _ c.in-Some.col (get_or c.args.numbers.now c.in-Some.col 0) c.requires c.loop-col.invariant.left c.loop-col.invariant.follow c.loop-col.invariant.set c.in-Some.ensures.rising c.in-Some.ensures.least refl in
-    rw c.of-own_rows.ensures (λ r h. c.requires.by_row.below _ r taken.next.in_range h)
+pub of-requires : goal.of-requires
+of-requires c =
+    let taken = gathered_taken _ _ _ _ _ _ _ _ _ _ c.requires.gathered c.loop-col.invariant.ordering c.in-Some.ensures.rising c.in-Some.ensures.least in
+    taken.next.in_range
 
-pub remove-requires-clause-least : goal.remove-requires-clause-least
-remove-requires-clause-least c =
-    rw (c.as_mut_slice-left.ensures.value, c.loop-col.invariant.long, c.in-Some.ensures.bound, c.loop-col.invariant.bound) (gathered_least _ _ _ _ _ _ _ c.requires)
+pub remove_entries-requires-clause-of_matrix : goal.remove_entries-requires-clause-of_matrix
+remove_entries-requires-clause-of_matrix c =
+    let taken = gathered_taken _ _ _ _ _ _ _ _ _ _ c.requires.gathered c.loop-col.invariant.ordering c.in-Some.ensures.rising c.in-Some.ensures.least in
+    let rows = rw map-id at c.of-own_rows.ensures in
+    record {
+      numbered = c.requires.gathered.numbered;
+      rows = rw rows (λ r h. c.requires.gathered.by_row.below _ r taken.next.in_range h);
+    }
 
-pub remove-requires-clause-counted : goal.remove-requires-clause-counted
-remove-requires-clause-counted c =
-    let taken = gathered_taken _ _ _ _ _ _ _ _ _ _ _ c.in-Some.col (get_or c.args.numbers.now c.in-Some.col 0) c.requires c.loop-col.invariant.left c.loop-col.invariant.follow c.loop-col.invariant.set c.in-Some.ensures.rising c.in-Some.ensures.least refl in
-    rw (c.as_mut_slice-left.ensures.value, c.of-own_rows.ensures)
-    (λ j lt.
-    let long = c.loop-col.invariant.long in
-    still_counted c.args.count (edges_into (row_list c.args.pattern.now) c.args.numbers.now c.args.rows.now.starts.items c.args.rows.now.places.items) c.loop-col.order.items c.loop-col.in_degrees.items j _ c.loop-col.invariant.left
-    (follow_distinct _ _ _ _ _ c.loop-col.invariant.follow) (λ k h. follow_range _ _ _ _ _ k c.loop-col.invariant.follow h) (omega (arith, long, lt)) taken.next.in_range taken.next.fresh)
+pub remove_entries-requires-clause-least : goal.remove_entries-requires-clause-least
+remove_entries-requires-clause-least c =
+    rw (c.as_mut_slice.ensures.value, c.loop-col.invariant.long, c.in-Some.ensures.bound, c.loop-col.invariant.bound) (gathered_least _ _ _ _ _ c.requires.gathered)
+
+pub remove_entries-requires-clause-counted : goal.remove_entries-requires-clause-counted
+remove_entries-requires-clause-counted c =
+    let taken = gathered_taken _ _ _ _ _ _ _ _ _ _ c.requires.gathered c.loop-col.invariant.ordering c.in-Some.ensures.rising c.in-Some.ensures.least in
+    let rows = rw map-id at c.of-own_rows.ensures in
+    rw (c.as_mut_slice.ensures.value, rows)
+    (λ j lt. let long = c.loop-col.invariant.long in ordering_counted _ _ _ _ _ _ _ _ j _ c.loop-col.invariant.ordering taken (omega (arith, long, lt)))
 
 pub loop-col-smaller : goal.loop-col-smaller
 loop-col-smaller c =
-    let taken = gathered_taken _ _ _ _ _ _ _ _ _ _ _ c.in-Some.col (get_or c.args.numbers.now c.in-Some.col 0) c.requires c.loop-col.invariant.left c.loop-col.invariant.follow c.loop-col.invariant.set c.in-Some.ensures.rising c.in-Some.ensures.least refl in
-    let few : length (c.loop-col.order.items ++ get_or c.args.numbers.now c.in-Some.col 0 ∷ []) ≤ c.args.count = follow_few _ _ _ _ (follow_more _ _ _ [] _ _ c.loop-col.invariant.follow taken.next) in
-    let long = length_push c.loop-col.order.items (get_or c.args.numbers.now c.in-Some.col 0) in
-    let same = ap length c.in_ok-push.ensures.items in
-    omega (arith, few, long, same)
+    let taken = gathered_taken _ _ _ _ _ _ _ _ _ _ c.requires.gathered c.loop-col.invariant.ordering c.in-Some.ensures.rising c.in-Some.ensures.least in
+    let few = ordering_few _ _ _ _ _ _ _ _ _ c.loop-col.invariant.ordering taken in
+    let same = ap length c.in_ok-push.ensures.ok in
+    let more = length_push c.loop-col.blocks (record { rows = c.of-own_rows.result.now; cols = c.of.result.now }) in
+    omega (arith, few, same, more)
 
 pub loop-col-preserved : goal.loop-col-preserved
 loop-col-preserved c =
-    let n = c.args.count in
-    let w = edges_into (row_list c.args.pattern.now) c.args.numbers.now c.args.rows.now.starts.items c.args.rows.now.places.items in
-    let least = least_of c.args.cols.now.starts.items c.args.cols.now.places.items in
-    let own = get_or c.args.numbers.now c.in-Some.col 0 in
-    let taken = gathered_taken _ _ _ _ _ _ _ _ _ _ _ c.in-Some.col own c.requires c.loop-col.invariant.left c.loop-col.invariant.follow c.loop-col.invariant.set c.in-Some.ensures.rising c.in-Some.ensures.least refl in
-    let follow = follow_more n w least [] c.loop-col.order.items own c.loop-col.invariant.follow taken.next in
-    let value = c.as_mut_slice-left.ensures.value in
+    let taken = gathered_taken _ _ _ _ _ _ _ _ _ _ c.requires.gathered c.loop-col.invariant.ordering c.in-Some.ensures.rising c.in-Some.ensures.least in
+    let rows = rw map-id at c.of-own_rows.ensures in
+    let cols = rw map-id at c.of.ensures in
+    let value = c.as_mut_slice.ensures.value in
     let all = c.loop-col.invariant.long in
-    let long = rw value at c.remove.auto.in_degrees in
-    let fell = rw (value, c.of-own_rows.ensures) at c.remove.ensures.in_degrees in
-    let more = rw (value, all) at c.remove.ensures.more in
-    rw (written_over c.remove.new.in_degrees c.loop-col.in_degrees.items c.loop-col.in_degrees.len long (search rules), c.in_ok-push.ensures.items)
+    let long = rw value at c.remove_entries.auto.in_degrees in
+    let fell = rw (value, rows) at c.remove_entries.ensures.in_degrees in
+    let more = rw (value, all) at c.remove_entries.ensures.more in
+    let pushed = rw (rows, cols) at c.in_ok-push.ensures.ok in
+    rw (written_over c.remove_entries.new.in_degrees c.loop-col.in_degrees.items c.loop-col.in_degrees.len long (search rules))
     (record {
-      follow = follow;
-      left = left_next n w c.loop-col.order.items c.loop-col.in_degrees.items c.remove.new.in_degrees own c.loop-col.invariant.left (λ j lt. fell j (omega (arith, all, lt)));
-      set = ready_after n least (c.loop-col.order.items ++ own ∷ []) c.loop-col.in_degrees.items c.take_least.new.self.members c.remove.new.in_degrees c.remove.new.ready.members (λ k h. follow_range n w least [] (c.loop-col.order.items ++ own ∷ []) k follow h) taken.set more;
+      ordering = ordering_next _ _ _ _ _ _ _ _ _ _ _ _ c.loop-col.invariant.ordering taken pushed (λ j lt. fell j (omega (arith, all, lt))) more;
       long = long ∙ all;
-      bound = c.remove.ensures.bound ∙ c.in-Some.ensures.bound ∙ c.loop-col.invariant.bound;
+      bound = c.remove_entries.ensures.bound ∙ c.in-Some.ensures.bound ∙ c.loop-col.invariant.bound;
     })
 
 pub returns : goal.returns
-returns c = record {
-  follow = c.loop-col.invariant.follow;
-  all = all_gone _ _ _ c.loop-col.order.items c.loop-col.in_degrees.items (gathered_falls _ _ _ _ _ _ _ c.requires) c.loop-col.invariant.left
-      (subst (AreReady c.args.count (least_of c.args.cols.now.starts.items c.args.cols.now.places.items) c.loop-col.order.items c.loop-col.in_degrees.items) c.in_default.ensures.none.0 c.loop-col.invariant.set);
-}
+returns c =
+    let o = c.loop-col.invariant.ordering in
+    record {
+      order = o.gone;
+      ordered = record {
+        follow = o.follow;
+        all = all_gone _ _ _ o.gone c.loop-col.in_degrees.items (gathered_falls _ _ _ _ _ c.requires.gathered) o.left
+            (subst (AreReady (length c.args.cols.now) (least_of c.args.cols.now) o.gone c.loop-col.in_degrees.items) c.in_default.ensures.none.0 o.set);
+      };
+      blocks = o.blocks;
+    }

@@ -1,4 +1,4 @@
-use Rattle.std.proofs.Common.{◌≡◌, ◌∙◌, [], subst, arith}
+use Rattle.std.proofs.Common.{◌≡◌, ◌∙◌, [], length, subst, arith}
 use Rattle.dm_fine.specs.InDegrees.{AreReady, least_of}
 use Rattle.dm_fine.proofs.OrderLemmas.{ready_in, ready_out}
 use Rattle.dm_fine.proofs.order.sources.Goals as goal
@@ -18,5 +18,5 @@ loop-k-preserved c =
 
 pub returns-clause-ready : goal.returns-clause-ready
 returns-clause-ready c =
-    let end : c.loop-k.k ≡ c.args.count = let past = c.loop-k-test.false in let within = c.loop-k.auto.k-end in omega (arith, past, within) in
-    subst (λ n. AreReady n (least_of c.args.cols.now.starts.items c.args.cols.now.places.items) [] c.args.in_degrees.now c.loop-k.ready.members) end c.loop-k.invariant.set
+    let end : c.loop-k.k ≡ length c.args.cols.now = let past = c.loop-k-test.false in let within = c.loop-k.auto.k-end in let all = c.count-k-end.ensures in omega (arith, past, within, all) in
+    subst (λ n. AreReady n (least_of c.args.cols.now) [] c.args.in_degrees.now c.loop-k.ready.members) end c.loop-k.invariant.set

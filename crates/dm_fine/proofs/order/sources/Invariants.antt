@@ -4,6 +4,6 @@ use Rattle.dm_fine.proofs.order.sources.Given as goal
 
 abbrev pub invariant-loop-k : goal.invariant-loop-k
 invariant-loop-k l = record {
-  set : AreReady l.k (least_of l.cols.starts.items l.cols.places.items) [] l.in_degrees l.ready.members;
+  set : AreReady l.k (least_of l.cols) [] l.in_degrees l.ready.members;
   bound : l.ready.bound ≡ l.bound;
 }
