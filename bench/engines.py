@@ -15,20 +15,11 @@ and makes the exit status 1. The machine's load at the start of each file stands
 import argparse
 import hashlib
 import os
-import resource
-import subprocess
 import sys
 import tempfile
-import time
 
+from processes import entries_of, once
 from run import PATTERNS, build, matrix
-
-
-def entries_of(path):
-    """How many entries a file has."""
-    with open(path, "rb") as file:
-        file.readline()
-        return int(file.readline().split()[2])
 
 
 def digest(path):
@@ -38,18 +29,6 @@ def digest(path):
         while piece := text.read(1 << 16):
             found.update(piece)
     return found.hexdigest()
-
-
-def once(command, path, out, limit):
-    """Wall and processor seconds and peak bytes of one run, or none where it took too long or failed."""
-    with open(path, "rb") as file, open(out, "wb") as text:
-        begin = time.monotonic()
-        child = subprocess.Popen(command, stdin=file, stdout=text, stderr=subprocess.DEVNULL,
-                                 preexec_fn=lambda: resource.setrlimit(resource.RLIMIT_CPU, (limit, limit)))
-        _, status, usage = os.wait4(child.pid, 0)
-        child.returncode = status
-        wall = time.monotonic() - begin
-    return (wall, usage.ru_utime + usage.ru_stime, usage.ru_maxrss * 1024) if status == 0 else None
 
 
 def runs(options, path):

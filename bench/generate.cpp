@@ -214,6 +214,14 @@ static Matrix load(u64 n, u64 seed) {
   return a;
 }
 
+// So many random places in each column.
+static Matrix rectangular(u64 rows, u64 cols, int places, Random &random) {
+  Matrix a{rows, cols};
+  for (u64 j = 0; j < cols; j++)
+    for (int k = 0; k < places; k++) a.add(random.below(rows), j);
+  return a;
+}
+
 // A band of eleven diagonals.
 static Matrix band(u64 n) {
   Matrix a{n, n};
@@ -280,6 +288,9 @@ int main(int argc, char **argv) {
   else if (family == "lattice") a = chessboard(n, random);
   else if (family == "ring") a = closed_band(n);
   else if (family == "load") a = load(n, seed);
+  else if (family == "load30") a = load(std::max<u64>(n / 30, 1) * 30, seed);
+  else if (family == "wide") a = rectangular(std::max<u64>(n * 4 / 5, 1), n, 4, random);
+  else if (family == "tall") a = rectangular(std::max<u64>(n * 5 / 4, 1), n, 5, random);
   else if (family == "band" || family == "bandi") a = band(n);
   else {
     std::fprintf(stderr, "generate: no such family\n");

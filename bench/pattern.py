@@ -21,125 +21,6 @@ import scratch
 
 CRATES = os.path.join(os.path.dirname(os.path.dirname(os.path.abspath(__file__))), "crates")
 
-PROGRAM = """//! Takes times of `Pattern::build`.
-#![tactic(auto)]
-
-use sp_ids::{Col, Field, Row, Triples};
-use sp_pattern::Pattern;
-use std::alloc::Global;
-use std::env;
-use std::time::Instant;
-
-fn add(triples: &mut Triples, row: u32, col: u32, mirror: bool)
-    requires { ⊥ }
-{
-    triples.push(Row(row), Col(col), 0).unwrap();
-    if mirror && row != col {
-        triples.push(Row(col), Col(row), 0).unwrap();
-    }
-}
-
-fn next(state: &mut u64, limit: u32) -> u32
-    requires { ⊥ }
-{
-    *state = state.wrapping_mul(6364136223846793005).wrapping_add(1442695040888963407);
-    ((*state >> 33) % limit as u64) as u32
-}
-
-// The point of a grid and those about it, each a row of its column, or a column of its row.
-fn add_star(triples: &mut Triples, side: u32, point: u32, by_col: bool)
-    requires { ⊥ }
-{
-    let (x, y) = (point % side, point / side);
-    let about = [
-        (y > 0, point.wrapping_sub(side)),
-        (x > 0, point.wrapping_sub(1)),
-        (true, point),
-        (x + 1 < side, point + 1),
-        (y + 1 < side, point + side),
-    ];
-    for k in 0..5 {
-        let (inside, other) = about[k];
-        if inside {
-            if by_col {
-                add(triples, other, point, false);
-            } else {
-                add(triples, point, other, false);
-            }
-        }
-    }
-}
-
-// The entries on and below the diagonal of the same matrix, each with its mirror image behind it.
-fn add_half(triples: &mut Triples, side: u32, point: u32, by_col: bool)
-    requires { ⊥ }
-{
-    let (x, y) = (point % side, point / side);
-    if by_col {
-        add(triples, point, point, true);
-        if x + 1 < side {
-            add(triples, point + 1, point, true);
-        }
-        if y + 1 < side {
-            add(triples, point + side, point, true);
-        }
-    } else {
-        if y > 0 {
-            add(triples, point, point - side, true);
-        }
-        if x > 0 {
-            add(triples, point, point - 1, true);
-        }
-        add(triples, point, point, true);
-    }
-}
-
-// One column's share of places at random, symmetric ones on and below the diagonal.
-fn add_random(triples: &mut Triples, size: u32, symmetric: bool, state: &mut u64)
-    requires { ⊥ }
-{
-    for _ in 0..if symmetric { 5 } else { 10 } {
-        let (a, b) = (next(state, size), next(state, size));
-        if symmetric {
-            add(triples, a.max(b), a.min(b), true);
-        } else {
-            add(triples, a, b, false);
-        }
-    }
-}
-
-// Words: the shape, the size or the side of the grid, and whether to build.
-fn main(rt: HostRuntime) {
-    gap::gap_take();
-    let alloc = rt.alloc();
-    let mut numbers = Vec::new(alloc);
-    for word in env::args(&rt).unwrap() {
-        numbers.push(word.as_str().parse::<u32>().unwrap_or(0)).unwrap();
-    }
-    let (shape, side) = (numbers[1], numbers[2]);
-    let size = if shape < 4 { side * side } else { side };
-    let mut triples = Triples::new(alloc, size, size, Field::Pattern).unwrap();
-    let mut state = 1u64;
-    for point in 0..size {
-        if shape < 2 {
-            add_star(&mut triples, side, point, shape == 0);
-        } else if shape < 4 {
-            add_half(&mut triples, side, point, shape == 2);
-        } else {
-            add_random(&mut triples, size, shape == 4, &mut state);
-        }
-    }
-    let start = Instant::now(&rt).unwrap();
-    let mut entries = 0;
-    if numbers[3] == 1 {
-        let pattern = Pattern::build(&rt, alloc, &triples).unwrap();
-        entries = pattern.entries();
-    }
-    let spent = start.elapsed(&rt).unwrap().as_nanos() as u64;
-    println!(&rt; "{} {} {}", triples.len(), entries, spent).unwrap();
-}
-"""
-
 # shape: its number for the program, and how many columns give an entry
 SHAPES = {
     "grid, by columns": (0, 1 / 5),
@@ -194,7 +75,7 @@ def main():
         work = os.path.join(args.work, str(at))
         os.makedirs(work, exist_ok=True)
         uses = ["sp_ids", "sp_pattern"]
-        programs.append(scratch.build(work, os.path.abspath(crates), "builds", uses, PROGRAM, ["0", "2", "1"]))
+        programs.append(scratch.build(work, os.path.abspath(crates), "builds", uses, scratch.text("pattern"), ["0", "2", "1"]))
     counts = [int(word) for word in args.processors.split(",")]
     print("| Entries | Number |" + "".join(f" {count} processor{'s' if count > 1 else ''} |" for count in counts))
     print("|---|---|" + "---|" * len(counts))

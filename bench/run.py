@@ -17,12 +17,12 @@ of one run compare programs, and stand there against the fastest packaged peer; 
 """
 import argparse
 import os
-import resource
 import statistics
 import subprocess
 import sys
 import tempfile
-import time
+
+from processes import entries_of, once
 
 HERE = os.path.dirname(os.path.abspath(__file__))
 
@@ -40,11 +40,14 @@ COLUMNS = {
     "hexa": 1 / 4.5,
     "lattice": 1 / 3.84,
     "ring": 1 / 3,
+    "load30": 1 / 3,
+    "wide": 1 / 4,
+    "tall": 1 / 5,
     "er12i": 1 / 13,
     "circuiti": 0.29,
     "bandi": 1 / 11,
 }
-PATTERNS = "er27,er10,rmat,grid2d,circuit,hilo,fewg,load,ksbad"
+PATTERNS = "er27,er10,rmat,grid2d,circuit,hilo,fewg,load,ksbad,hexa,lattice,ring,load30,wide,tall"
 
 # job: its families, how many entries, and its peers
 JOBS = {
@@ -131,16 +134,39 @@ def agree(job, text, other):
     return all(mine.get(word) == line for word, line in counts(other).items())
 
 
-def once(command, path, out, limit, clock):
-    """Seconds and peak bytes of one run, or none where it took too long or has no answer."""
-    with open(path, "rb") as file, open(out, "wb") as text:
-        begin = time.monotonic()
-        child = subprocess.Popen(command, stdin=file, stdout=text, stderr=subprocess.DEVNULL,
-                                 preexec_fn=lambda: resource.setrlimit(resource.RLIMIT_CPU, (limit, limit)))
-        _, status, usage = os.wait4(child.pid, 0)
-        child.returncode = status
-        seconds = time.monotonic() - begin if clock == "wall" else usage.ru_utime + usage.ru_stime
-        return (seconds, usage.ru_maxrss * 1024) if status == 0 else None
+def runs(options, tools, path):
+    """The seconds of each run of each tool that has an answer in time, in turns, with its peak bytes and its text."""
+    clock = 0 if options.clock == "wall" else 1
+    times, peaks, texts, late = {name: [] for name in tools}, {}, {}, set()
+    for _ in range(options.repeats):
+        for name, command in tools.items():
+            if name in late:
+                continue
+            out = os.path.join(options.work, name + ".out")
+            done = once(command, path, out, options.limit)
+            if done is None:
+                late.add(name)
+                continue
+            times[name].append(done[clock])
+            peaks[name] = done[2]
+            with open(out, "rb") as text:
+                texts[name] = text.read()
+    return times, peaks, texts
+
+
+def line(options, tools, path, family):
+    """One line of the table, and whether the texts agree."""
+    entries = entries_of(path)
+    times, peaks, texts = runs(options, tools, path)
+    differing = [name for name, text in texts.items() if "btf" in texts and not agree(options.job, texts["btf"], text)]
+    for name in differing:
+        print(f"run.py: {name} and btf differ on {path}", file=sys.stderr)
+    median = {name: statistics.median(ts) for name, ts in times.items() if ts}
+    packaged = [t for name, t in median.items() if name in JOBS[options.job][2].split(",")]
+    ratio = f"{median['btf'] / min(packaged):.2f}" if packaged and "btf" in median else "-"
+    cells = [f"{median[name] * 1e9 / entries:.0f}" if name in median else "-" for name in tools]
+    peak = f"{peaks['btf'] / entries:.0f}" if "btf" in peaks else "-"
+    return f"| {family} | {entries} | " + " | ".join(cells) + f" | {ratio} | {peak} |", not differing
 
 
 def main():
@@ -170,34 +196,9 @@ def main():
     differs = False
     for family in options.families.split(","):
         for size in options.entries.split(","):
-            path = matrix(options.work, family, int(size))
-            with open(path, "rb") as file:
-                file.readline()
-                entries = int(file.readline().split()[2])
-            times, peaks, texts, late = {name: [] for name in tools}, {}, {}, set()
-            for _ in range(options.repeats):
-                for name, command in tools.items():
-                    if name in late:
-                        continue
-                    out = os.path.join(options.work, name + ".out")
-                    done = once(command, path, out, options.limit, options.clock)
-                    if done is None:
-                        late.add(name)
-                        continue
-                    times[name].append(done[0])
-                    peaks[name] = done[1]
-                    with open(out, "rb") as text:
-                        texts[name] = text.read()
-            for name, text in texts.items():
-                if "btf" in texts and not agree(options.job, texts["btf"], text):
-                    print(f"run.py: {name} and btf differ on {path}", file=sys.stderr)
-                    differs = True
-            median = {name: statistics.median(ts) for name, ts in times.items() if ts}
-            packaged = [t for name, t in median.items() if name in JOBS[options.job][2].split(",")]
-            ratio = f"{median['btf'] / min(packaged):.2f}" if packaged and "btf" in median else "-"
-            cells = [f"{median[name] * 1e9 / entries:.0f}" if name in median else "-" for name in tools]
-            peak = f"{peaks['btf'] / entries:.0f}" if "btf" in peaks else "-"
-            print(f"| {family} | {entries} | " + " | ".join(cells) + f" | {ratio} | {peak} |", flush=True)
+            text, same = line(options, tools, matrix(options.work, family, int(size)), family)
+            print(text, flush=True)
+            differs = differs or not same
     sys.exit(1 if differs else 0)
 
 

@@ -28,6 +28,13 @@ def run(command, **more):
     return done.stdout
 
 
+def text(name):
+    """The program of this name, from the file NAME.rattle beside this one: no `.rt`, since the gate refuses such files
+    outside of crates."""
+    with open(os.path.join(os.path.dirname(os.path.abspath(__file__)), name + ".rattle"), encoding="utf-8") as file:
+        return file.read()
+
+
 def build(work, crates, name, uses, program, words):
     """The path of the program of this text and name, over the crates `uses` of the folder `crates`; `words` are some
     that it can be run with."""

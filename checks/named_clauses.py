@@ -1,11 +1,12 @@
 #!/usr/bin/env python3
-"""Looks whether each function and clause that README names as the one that carries a claim is there.
+"""Looks whether each function and clause that a page names as the one that carries a claim is there.
 
     checks/named_clauses.py
 
-In the last column of README's table of what is proved stands `function` or `function: clause, clause`, for the crates of
-the row. Each has to be a public function, or a method of a trait, in the src/ of one of them, or of a crate that the field
-names, with these clauses in its contract. The same is asked of docs/REFUSALS.md: its calls and its clauses. It ends with 1
+In the last column of the table of docs/PROVED.md stands `function` or `function: clause, clause`, for the crates of the row. Each
+has to be a public function, or a method of a trait, in the src/ of one of them, or of a crate that the field names, with these
+clauses in its contract. The same is asked of docs/REFUSALS.md: its calls and its clauses. `Type::function` is that of the type or
+trait alone, `crate::function` that of the crate alone; a bare name that several types of the crate have is refused. It ends with 1
 and a line for each that is not there. It reads no contract: whether a clause says what is claimed is for people.
 """
 import functools
@@ -15,21 +16,44 @@ import sys
 
 ROOT = os.path.join(os.path.dirname(os.path.abspath(__file__)), "..")
 CODE = re.compile(r"`([^`]+)`")
+OWNER = re.compile(r"^(?:pub )?(?:(impl|trait)\b)(?:<[^{]*?>)? ?(.*?)(?: \{|$)")
+FUNCTION = re.compile(r"^( *)(?:#\[[^\]]*\] )?(pub(?:\(crate\))? )?(?:unsafe )?(?:extern \"C\" )?fn (\w+)")
+CLAUSE = re.compile(r"^\s*(?:ensures|requires) (?:(\w+) )?\{")
+CRATES = set(os.listdir(os.path.join(ROOT, "crates")))
+
+
+def owner_of(line):
+    """The type of an `impl`, the trait of a `trait`, and whether what stands in it is public by itself."""
+    found = OWNER.match(line)
+    if not found:
+        return None
+    kind, rest = found.groups()
+    implemented = " for " in rest
+    name = re.match(r"\w+", (rest.split(" for ")[1] if implemented else rest).lstrip("&").split("::")[-1])
+    return (name.group(0) if name else "", kind == "trait" or implemented)
 
 
 @functools.lru_cache(None)
 def contracts(crate):
-    """For each function of a crate, by its name, the names of the clauses in all contracts of that name."""
-    found = {}
-    for folder, _, files in os.walk(os.path.join(ROOT, "crates", crate, "src")):
+    """For each public function of a crate, of a program for each function, by its name, the clauses of each owner: a type,
+    a trait, or none."""
+    found, source = {}, os.path.join(ROOT, "crates", crate, "src")
+    program = os.path.exists(os.path.join(source, "main.rt"))
+    for folder, _, files in os.walk(source):
         for name in files:
             with open(os.path.join(folder, name), encoding="utf-8") as file:
-                text = file.read()
-            heads = list(re.finditer(r"\bfn (\w+)", text))
-            for head, after in zip(heads, heads[1:] + [None]):
-                body = text[head.end():after.start() if after else len(text)]
-                clauses = re.findall(r"^\s*(?:ensures|requires) (?:(\w+) )?\{", body, re.M)
-                found.setdefault(head.group(1), set()).update(clauses)
+                owner, clauses = (None, False), set()
+                for line in file:
+                    if not line.startswith((" ", "}", "\n")):
+                        owner = owner_of(line) or (None, False)
+                    head = FUNCTION.match(line)
+                    if head:
+                        public = program or head.group(2) == "pub " or (owner[1] and head.group(1))
+                        whose = owner[0] if head.group(1) else None
+                        clauses = found.setdefault(head.group(3), {}).setdefault(whose, set()) if public else set()
+                    clause = CLAUSE.match(line)
+                    if clause:
+                        clauses.add(clause.group(1))
     return found
 
 
@@ -42,45 +66,63 @@ def rows(path):
 
 
 def missing(call, clauses, crates):
-    """What is missing of a function `name` or `Type::name` with these clauses in one of the crates."""
-    name = call.split("::")[-1]
-    have = [contracts(crate).get(name) for crate in crates]
-    have = [clauses_of for clauses_of in have if clauses_of is not None]
+    """What is missing of a function with these clauses in one of the crates."""
+    *whose, name = call.split("::")
+    if whose and whose[-1] in CRATES:
+        crates, whose = [whose[-1]], []
+    have = {}
+    for crate in crates:
+        for owner, known in contracts(crate).get(name, {}).items():
+            if not whose or owner == whose[-1]:
+                have[crate, owner] = known
     if not have:
         return [f"no function {call} in {', '.join(crates)}"]
-    return [f"no clause {clause} of {call}" for clause in clauses if not any(clause in it for it in have)]
+    free = {place: known for place, known in have.items() if place[1] is None}
+    have = free or have
+    if len({owner for _, owner in have}) > 1:
+        return [f"{call} is of several types: {', '.join(sorted(owner for _, owner in have))}"]
+    return [f"no clause {clause} of {call}" for clause in clauses if not any(clause in known for known in have.values())]
 
 
-def readme():
-    known, crates, faults = set(os.listdir(os.path.join(ROOT, "crates"))), [], []
-    for cells in rows("README.md"):
-        named = [word for word in CODE.findall(cells[0]) if word in known]
+def with_owner(calls, crates):
+    """The calls, each with the type before it where it has none and is one of that type's."""
+    whose = ""
+    for call in calls:
+        if "::" in call:
+            whose = call.rsplit("::", 1)[0]
+        elif whose and missing(f"{whose}::{call}", [], crates) == []:
+            call = f"{whose}::{call}"
+        yield call
+
+
+def proved():
+    crates, faults = [], []
+    for cells in rows("docs/PROVED.md"):
+        named = [word for word in CODE.findall(cells[0]) if word in CRATES]
         if named:
             crates = named
         if len(cells) != 3 or not crates or cells[0] == "Crate":
             continue
         codes = CODE.findall(cells[2])
-        within = crates + [word for word in codes if word in known]
-        for code in codes:
-            if code in known:
-                continue
-            call, _, clauses = code.partition(":") if "::" not in code else re.match(r"([\w:]+\w)(:?)(.*)", code).groups()
-            faults += missing(call, [c.strip() for c in clauses.split(",") if c.strip()], within)
+        within = crates + [word for word in codes if word in CRATES]
+        named = [re.match(r"((?:\w+::)*\w+)(?:: (.*))?", code).groups() for code in codes if code not in CRATES]
+        for call, (_, clauses) in zip(with_owner([call for call, _ in named], within), named):
+            faults += missing(call, [clause.strip() for clause in (clauses or "").split(",") if clause.strip()], within)
     return faults
 
 
 def refusals():
-    known, calls, faults = sorted(os.listdir(os.path.join(ROOT, "crates"))), [], []
+    calls, faults = [], []
     for cells in rows("docs/REFUSALS.md"):
         if len(cells) != 5 or cells[0] == "Call":
             continue
-        calls = CODE.findall(cells[0]) or calls
+        calls = list(with_owner(CODE.findall(cells[0]), sorted(CRATES))) or calls
         for call in calls:
-            faults += missing(call, CODE.findall(cells[4]), known)
+            faults += missing(call, CODE.findall(cells[4]), sorted(CRATES))
     return faults
 
 
 if __name__ == "__main__":
-    FAULTS = readme() + refusals()
+    FAULTS = proved() + refusals()
     print("\n".join(FAULTS) if FAULTS else "all are there")
     sys.exit(1 if FAULTS else 0)
