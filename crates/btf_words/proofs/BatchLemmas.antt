@@ -6,8 +6,7 @@ use Rattle.clap.specs.declared.error.kind.ErrorKind.TheVariants as kind
 use Rattle.clap.specs.declared.parser.matches.ArgMatches.{ArgMatches}
 use Rattle.sp_ids.specs.Limits.{max_workers}
 use Rattle.btf_words.specs.BatchWords.{AreTaken, btf_batch, workers_of}
-use Rattle.btf_words.specs.Table.{default_workers}
-use Rattle.btf_words.specs.Words.{number_or}
+use Rattle.btf_words.specs.Words.{number_in}
 use Rattle.std.specs.Prelude.{codes}
 
 -- words with which clap finds no fault are taken
@@ -17,10 +16,10 @@ taken app words line none = sym (ap (λ (a : App). fault_of a words) line) ∙ n
 
 -- the number that was found is that of the words
 pub number_found : (app : App) (words : List Text) (m : ArgMatches) (n : ℕ) → app ≡ btf_batch → HasMatchesOf app words m
-    → n ≡ number_or default_workers 1 max_workers (codes "workers") (rows_of (found_of m)) → n ≡ workers_of words
+    → n ≡ number_in 1 max_workers (codes "workers") (rows_of (found_of m)) → n ≡ workers_of words
 unfolding workers_of
 number_found app words m n line matches is =
-    is ∙ ap (number_or default_workers 1 max_workers (codes "workers")) ((matches (ap is_simple line)).0 ∙ ap (λ (a : App). matches_of a words) line)
+    is ∙ ap (number_in 1 max_workers (codes "workers")) ((matches (ap is_simple line)).0 ∙ ap (λ (a : App). matches_of a words) line)
 
 -- words that clap refuses for another cause than memory are not taken
 pub refused : (app : App) (words : List Text) (e : Error) → app ≡ btf_batch

@@ -4,8 +4,8 @@ use Rattle.std.specs.Prelude.{◌≡◌, ◌≤◌, ℕ, true, List, [], ◌∷�
 use Rattle.clap.specs.Words.{App, Shape, Text, fault_of, matches_of}
 use Rattle.clap.specs.Simple.{new_shape}
 use Rattle.sp_ids.specs.Limits.{max_workers}
-use Rattle.btf_words.specs.Table.{default_workers, workers_rule}
-use Rattle.btf_words.specs.Words.{number_or}
+use Rattle.btf_words.specs.Table.{workers_rule}
+use Rattle.btf_words.specs.Words.{number_in}
 
 -- the words that follow the program's name are its arguments, its one option is `--workers W`, and no word asks for help
 -- or the version
@@ -23,10 +23,10 @@ btf_batch = record { top = program; subs = [] }
 unfoldable pub AreTaken : List Text → Type 0
 AreTaken words = fault_of btf_batch words ≡ []
 
--- how many workers the words name: the number of the option, and the default where it is not given
+-- how many workers the words name: the number of the option, defaults included
 unfoldable pub workers_of : List Text → ℕ
 workers_of words =
-    number_or default_workers 1 max_workers (codes "workers") (matches_of btf_batch words)
+    number_in 1 max_workers (codes "workers") (matches_of btf_batch words)
 
 abbrev pub IsWithinLimits : ℕ → Type 0
 IsWithinLimits workers = (1 ≤ workers) × (workers ≤ max_workers)

@@ -16,9 +16,6 @@ engine_names = codes "plain" ∷ codes "mc21" ∷ codes "pf" ∷ codes "graft" �
 abbrev pub default_engine : Text
 default_engine = codes "graft"
 
-abbrev pub default_workers : ℕ
-default_workers = 4
-
 -- reports are written in the versions 1 to this one, and in this one where none is named
 abbrev pub latest_version : ℕ
 latest_version = 2
@@ -45,14 +42,14 @@ abbrev pub number_rule : Text → ℕ → ℕ → Rule
 number_rule id low high =
     record (option_rule id) { required = true; parser = Some (vp.Unsigned low high) }
 
--- `--engine E`, where E is one of these names
+-- `--engine E`, where E is one of these names, and the default where it is not given
 abbrev pub engine_rule : Names → Rule
 engine_rule names = record (option_rule (codes "engine")) {
   parser = Some (vp.Names names);
   defaults = default_engine ∷ [];
 }
 
--- `--workers W`
+-- `--workers W`: 4 where it is not given
 abbrev pub workers_rule : Rule
 workers_rule = record (option_rule (codes "workers")) {
   parser = Some (vp.Unsigned 1 max_workers);

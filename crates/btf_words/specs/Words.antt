@@ -7,7 +7,7 @@ use Rattle.std.specs.Str.Parse.{digits_value, without_leading_plus}
 use Rattle.clap.specs.Words.{Row, Text, fault_of, first_of, subcommand_of}
 use Rattle.clap.specs.ValueTests.{is_unsigned_in}
 use Rattle.sp_ids.specs.Limits.{max_load_seed, max_load_size, max_workers}
-use Rattle.btf_words.specs.Table.{Names, btf, btf_over, default_engine, default_workers, latest_version}
+use Rattle.btf_words.specs.Table.{Names, btf, btf_over, default_engine, latest_version}
 use Rattle.btf_words.specs.declared.jobs.Engine.{Engine}
 use Rattle.btf_words.specs.declared.jobs.Engine.TheVariants.{Plain, Mc21, Pf, Graft}
 use Rattle.btf_words.specs.declared.jobs.Job.{Job}
@@ -39,27 +39,27 @@ abbrev pub number_within : ℕ → ℕ → Text → ℕ
 number_within low high text = if is_unsigned_in low high text
     then digits_value 10 (without_leading_plus text) else low
 
--- the number of an option, and this one where it is not given
-abbrev pub number_or : ℕ → ℕ → ℕ → Text → List Row → ℕ
-number_or none low high id rows = option_map_or (number_within low high) (first_of id rows) none
+-- the number of an option that has a value: it must be given, or has a default in the table of commands
+abbrev pub number_in : ℕ → ℕ → Text → List Row → ℕ
+number_in low high id rows = option_map_or (number_within low high) (first_of id rows) low
 
 abbrev pub size_in : List Row → ℕ
-size_in = number_or 1 1 max_load_size (codes "size")
+size_in = number_in 1 max_load_size (codes "size")
 
 abbrev pub seed_in : List Row → ℕ
-seed_in = number_or 0 0 max_load_seed (codes "seed")
+seed_in = number_in 0 max_load_seed (codes "seed")
 
 -- the engine and how many workers search
 abbrev pub search_in : List Row → Search
 search_in rows = record {
   engine = engine_in rows;
-  workers = number_or default_workers 1 max_workers (codes "workers") rows;
+  workers = number_in 1 max_workers (codes "workers") rows;
 }
 
 -- what the report has
 abbrev pub report_in : List Row → ReportOptions
 report_in rows = record {
-  version = number_or latest_version 1 latest_version (codes "report") rows;
+  version = number_in 1 latest_version (codes "report") rows;
   order = is_given (codes "order") rows;
   pairs = is_given (codes "pairs") rows;
   least = is_given (codes "least") rows;

@@ -31,7 +31,7 @@ pub fn read_batch_words(alloc: Global, words: &[String]) -> Result<u32, WordsErr
     };
     match program.try_get_matches_from(words) {
         Ok(matches) => {
-            let workers = number_of(&matches, "workers", 4, 1, u64::from(MAX_WORKERS));
+            let workers = number_of(&matches, "workers", 1, u64::from(MAX_WORKERS));
             Ok(workers as u32)
         }
         Err(error) => match error.kind() {

@@ -9,7 +9,10 @@ use clap::{Arg, ArgAction};
 use sp_ids::{MAX_LOAD_SEED, MAX_LOAD_SIZE, MAX_WORKERS};
 use std::alloc::Global;
 
-/// `--engine E`, where E is one of these names: `graft` where it is not given.
+/// The engine where none is named.
+pub(crate) const DEFAULT_ENGINE: &str = "graft";
+
+/// `--engine E`, where E is one of these names: the default where it is not given.
 pub(crate) fn engine<'a>(alloc: Global, engines: &'a [&'a str]) -> Arg<'a>
     ensures rule { rule_of result ≡ engine_rule engines.entry }
     ensures local { result.global ≡ false }
@@ -18,7 +21,7 @@ pub(crate) fn engine<'a>(alloc: Global, engines: &'a [&'a str]) -> Arg<'a>
         .long("engine")
         .action(ArgAction::Set)
         .value_parser(engines)
-        .default_value("graft")
+        .default_value(DEFAULT_ENGINE)
 }
 
 /// `--workers W`: 4 where it is not given.

@@ -4,10 +4,11 @@ ghost use Rattle.std.specs.Prelude.{◌≡◌, ◌≤◌, List, IfOk, IfSome, Is
 ghost use Rattle.clap.specs.Words.{Text, first_of, found_of, rows_of, subcommand_rows_of};
 ghost use Rattle.sp_ids.specs.Limits.{max_load_size};
 ghost use Rattle.btf_words.specs.Table.{Names, engine_names, texts_of};
-ghost use Rattle.btf_words.specs.Words.{AreTaken, HasWorkers, IsWithinLimits, ReadsAlike, engine_in, engine_named as engine_of_name, drops_zeros, is_given, IsVersion, job_from, job_of, number_or, number_within, report_in, search_in, seed_in, size_in};
+ghost use Rattle.btf_words.specs.Words.{AreTaken, HasWorkers, IsWithinLimits, ReadsAlike, engine_in, engine_named as engine_of_name, drops_zeros, is_given, IsVersion, job_from, job_of, number_in, number_within, report_in, search_in, seed_in, size_in};
 ghost use Rattle.btf_words.specs.declared.jobs.Job.{Job as JobValue};
 
 use crate::commands::command_line;
+use crate::options::DEFAULT_ENGINE;
 use crate::{Engine, Job, ReportOptions, Search, WordsError};
 use clap::ArgMatches;
 use clap::error::ErrorKind;
@@ -104,7 +105,7 @@ fn search_of(options: &ArgMatches<'_>) -> Search
 {
     Search {
         engine: engine_of(options),
-        workers: number_of(options, "workers", 4, 1, u64::from(MAX_WORKERS)) as u32,
+        workers: number_of(options, "workers", 1, u64::from(MAX_WORKERS)) as u32,
     }
 }
 
@@ -113,7 +114,7 @@ fn report_of(options: &ArgMatches<'_>) -> ReportOptions
     ensures version { IsVersion result.version }
 {
     ReportOptions {
-        version: number_of(options, "report", 2, 1, 2) as u32,
+        version: number_of(options, "report", 1, 2) as u32,
         order: flag_of(options, "order"),
         pairs: flag_of(options, "pairs"),
         least: flag_of(options, "least"),
@@ -136,10 +137,7 @@ fn value_of<'a>(options: &ArgMatches<'a>, name: &str) -> Option<&'a str>
 fn engine_of(options: &ArgMatches<'_>) -> Engine
     ensures { result ≡ engine_in (rows_of (found_of options.now)) }
 {
-    match value_of(options, "engine") {
-        Some(name) => engine_named(name),
-        None => Engine::Graft,
-    }
+    engine_named(value_of(options, "engine").unwrap_or(DEFAULT_ENGINE))
 }
 
 fn engine_named(name: &str) -> Engine
@@ -170,25 +168,25 @@ fn size_of(options: &ArgMatches<'_>) -> u32
         ≡ size_in (rows_of (found_of options.now)) }
     ensures range { (1 ≤ result) × (result ≤ max_load_size) }
 {
-    number_of(options, "size", 1, 1, u64::from(MAX_LOAD_SIZE)) as u32
+    number_of(options, "size", 1, u64::from(MAX_LOAD_SIZE)) as u32
 }
 
 fn seed_of(options: &ArgMatches<'_>) -> u64
     ensures { result ≡ seed_in (rows_of (found_of options.now)) }
 {
-    number_of(options, "seed", 0, 0, MAX_LOAD_SEED)
+    number_of(options, "seed", 0, MAX_LOAD_SEED)
 }
 
-/// The number of an option within its bounds, and `none` where it is not given.
-pub(crate) fn number_of(options: &ArgMatches<'_>, name: &str, none: u64, low: u64, high: u64) -> u64
-    requires least { low ≤ none }
-    requires most { none ≤ high }
-    ensures number { result ≡ number_or none low high name.now (rows_of (found_of options.now)) }
+/// The number of an option within its bounds. An option that need not be given has its default as
+/// its value where it is not.
+pub(crate) fn number_of(options: &ArgMatches<'_>, name: &str, low: u64, high: u64) -> u64
+    requires { low ≤ high }
+    ensures number { result ≡ number_in low high name.now (rows_of (found_of options.now)) }
     ensures range { (low ≤ result) × (result ≤ high) }
 {
     match value_of(options, name) {
         Some(text) => bounded_number(text, low, high),
-        None => none,
+        None => low,
     }
 }
 
