@@ -27,5 +27,5 @@ IsParted p m n = (q : Place) → Among q n ↔ (Among q m × (q.0 ≢ p.0))
 abbrev pub IsSearched : Matrix → List Place → List Place → ℕ → ℕ → Type 0
 IsSearched a m n old new =
     ((path : List Place) × IsAugmentingPath a m path × Exchanges path m n
-        × (old + length path ≤ new))
+    × (old + length path ≤ new))
     ⊎ ((w : List ℕ) × IsWitness a m w × (n ≡ m) × (new ≡ old + steps_of a w))
