@@ -9,7 +9,7 @@ ghost use Rattle.sp_pattern.specs.Stored.{IsPattern};
 
 use crate::arena::Arena;
 use sp_ids::{Col, OutOfMemory, Row};
-use sp_pattern::Side;
+use sp_pattern::Neighbours;
 use std::alloc::Global;
 use std::marker::Model;
 
@@ -39,7 +39,7 @@ impl Model for Columns {
         IsCounted (record { rows = s.rows; columns = s.lists.lists }) s.entries };
 }
 
-impl Side<Row> for Columns {
+impl Neighbours for Columns {
     ghost matrix = { λ s. s.matrix };
 
     fn rows(&self) -> u32 {
@@ -60,27 +60,37 @@ impl Columns {
     ///
     /// Answers `OutOfMemory` where 16 bytes a column and 4 an entry can't be had. Work: one copy of
     /// the lists.
-    pub fn of<S: Side<Row>>(alloc: Global, side: &S, entries: u32) -> Result<Columns, OutOfMemory>
-        requires pattern { IsPattern (S.matrix side.now) }
-        requires entries { entry_count (S.matrix side.now) ≡ entries }
-        ensures { IfOk result (λ s. s.matrix ≡ S.matrix side.now) }
+    pub fn of<N: Neighbours>(
+        alloc: Global,
+        neighbours: &N,
+        entries: u32,
+    ) -> Result<Columns, OutOfMemory>
+        requires pattern { IsPattern (N.matrix neighbours.now) }
+        requires entries { entry_count (N.matrix neighbours.now) ≡ entries }
+        ensures { IfOk result (λ s. s.matrix ≡ N.matrix neighbours.now) }
     {
-        let mut lists = Arena::with_capacity(alloc, side.cols() as usize, entries as usize)?;
-        for col in 0..side.cols() {
-            lists.push(side.rows_of(Col(col)))?;
+        let mut lists = Arena::with_capacity(alloc, neighbours.cols() as usize, entries as usize)?;
+        for col in 0..neighbours.cols() {
+            lists.push(neighbours.rows_of(Col(col)))?;
         }
         Ok(Columns {
-            rows: side.rows(),
+            rows: neighbours.rows(),
             entries,
             lists,
         })
     }
 
-    /// The number of entries. Sizes fit 32 bits, and each column's list is the rising one of its
-    /// entries.
+    /// Its sizes fit 32 bits, and each column's list is the rising one of its entries: a fact for
+    /// proofs, at no cost.
+    pub fn is_pattern(&self)
+        ensures { IsPattern self.now.matrix }
+    {
+        let _entries = self.entries;
+    }
+
+    /// The number of entries.
     pub fn entries(&self) -> u32
-        ensures entries { result ≡ entry_count self.now.matrix }
-        ensures pattern { IsPattern self.now.matrix }
+        ensures { result ≡ entry_count self.now.matrix }
     {
         self.entries
     }
@@ -131,6 +141,7 @@ impl Columns {
     fn pack(&mut self, alloc: Global) -> Result<(), OutOfMemory>
         ensures matrix { self.new.matrix ≡ self.old.matrix }
     {
+        self.is_pattern();
         let packed = Columns::of(alloc, self, self.entries())?;
         self.lists = packed.lists;
         Ok(())

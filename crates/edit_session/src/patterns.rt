@@ -9,7 +9,7 @@ ghost use Rattle.sp_ids.specs.declared.triples.Field.TheVariants as fields;
 
 use crate::columns::Columns;
 use sp_ids::{Col, Field, OutOfMemory, Row, Triples};
-use sp_pattern::{Pattern, Side};
+use sp_pattern::{Neighbours, Pattern};
 use std::alloc::Global;
 use std::thread::Threads;
 
@@ -33,8 +33,7 @@ fn triples_of(alloc: Global, columns: &Columns) -> Result<Triples, OutOfMemory>
     ensures { IfOk result
         (λ t. HasPlaces t.rows t.cols (places t) columns.now.matrix) }
 {
-    // `entries` tells the proof that the columns' lists rise.
-    let _count = columns.entries();
+    columns.is_pattern();
     let mut triples = Triples::new(alloc, columns.rows(), columns.cols(), Field::Pattern)?;
     for col in 0..columns.cols() {
         push_column(&mut triples, columns.rows_of(Col(col)), Col(col))?;

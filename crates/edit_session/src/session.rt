@@ -1,14 +1,14 @@
 //! A matrix under edits, and a maximum matching of it.
 
-ghost use Rattle.std.specs.Prelude.{◌≡◌, ◌↔◌, ◌+◌, ◌<◌, ◌≤◌, length, IfOk, IsTrue, OnErr, OnOk};
+ghost use Rattle.std.specs.Prelude.{◌≡◌, ◌↔◌, ◌⊎◌, ◌+◌, ◌<◌, ◌≤◌, List, length, IfOk, IsTrue, OnErr, OnOk};
 ghost use Rattle.bip_defs.specs.ConnectedComponents.{AreConnectedComponents};
 ghost use Rattle.bip_defs.specs.EditedMatrix.{with_place, without_place};
 ghost use Rattle.bip_defs.specs.Lists.{Among};
-ghost use Rattle.bip_defs.specs.Matching.{IsRank};
-ghost use Rattle.bip_defs.specs.Matrix.{IsEntry, cols, entry_count};
+ghost use Rattle.bip_defs.specs.Matching.{IsRank, cols_of, rows_of};
+ghost use Rattle.bip_defs.specs.Matrix.{IsEntry, Place, cols, entry_count};
 ghost use Rattle.bip_graph.specs.Decompositions.{Decomposes, components_of};
 ghost use Rattle.bip_graph.specs.Matching.{IsMatchingOf, IsMaximumOf};
-ghost use Rattle.edit_session.specs.Sessions.{IsNearMaximum, MatchedMatrix};
+ghost use Rattle.edit_session.specs.Sessions.{IsNearMaximum, IsParted, IsSearched, MatchedMatrix};
 
 use crate::columns::Columns;
 use crate::patterns::pattern_of;
@@ -17,7 +17,7 @@ use dm_coarse::{coarse, components};
 use dm_fine::fine;
 use hall_witness::{Reach, Steps, reach_in};
 use sp_ids::{Col, OutOfMemory, Row};
-use sp_pattern::{Pattern, Side};
+use sp_pattern::{Neighbours, Pattern};
 use std::alloc::Global;
 use std::marker::Model;
 use std::sync::ledger::Ledger;
@@ -132,6 +132,9 @@ impl Session {
     ///
     /// A step is a column that a search takes up or an entry that it looks at. There is no search
     /// where the entry was there, or where its row and its column have no mate and become a pair.
+    /// Else there is one: it makes at least as many steps as the path that it finds has pairs, and
+    /// where it finds none, one for each column that some maximum matching of the new matrix misses
+    /// and one for each of their entries.
     /// Answers `OutOfMemory` where there is no memory for the entry or for a search, 9 bytes a
     /// column and 8 a pair of a path; the session is then as it was. Work: the search, and beside
     /// it a search by halves in the column and one move of each of its rows, in the mean over many
@@ -151,9 +154,13 @@ impl Session {
         ensures steps { steps.new ≤ steps.old
             + (cols self.old.matrix + entry_count (with_place self.old.matrix (row, col))) }
         ensures no_step { IsEntry self.old.matrix row col → steps.new ≡ steps.old }
+        ensures searched { OnOk result (¬ IsEntry self.old.matrix row col
+            → Among row (rows_of self.old.matching.pairs)
+            ⊎ Among col (cols_of self.old.matching.pairs)
+            → IsSearched self.new.matrix self.old.matching.pairs self.new.matching.pairs
+            steps.old steps.new) }
     {
-        // `entries` tells the proof that the columns' lists rise.
-        let _count = self.columns.entries();
+        self.columns.is_pattern();
         if self.columns.has(row, col) {
             return Ok(self.rank());
         }
@@ -172,7 +179,7 @@ impl Session {
     /// Clears an entry, and gives the rank of the matrix then. Where there is none nothing changes.
     ///
     /// Steps are counted as in [`Session::set`]. There is no search where the entry was no pair of
-    /// the matching. Answers `OutOfMemory` where there is no memory for a search; the session is
+    /// the matching, and one from the other pairs where it was. Answers `OutOfMemory` where there is no memory for a search; the session is
     /// then as it was. Work: the search, and beside it a search by halves in the column and one
     /// move of each of its rows.
     pub fn clear<L: Ledger>(
@@ -187,12 +194,14 @@ impl Session {
         ensures steps { steps.new
             ≤ steps.old + (cols self.old.matrix + entry_count self.old.matrix) }
         ensures no_step { ¬ Among (row, col) self.old.matching.pairs → steps.new ≡ steps.old }
+        ensures searched { OnOk result (Among (row, col) self.old.matching.pairs
+            → (rest : List Place) × IsParted (row, col) self.old.matching.pairs rest
+            × IsSearched self.new.matrix rest self.new.matching.pairs steps.old steps.new) }
     {
         if self.columns.has(row, col) {
             return self.clear_entry(row, col, steps);
         }
-        // `entries` tells the proof that the columns' lists rise.
-        let _count = self.columns.entries();
+        self.columns.is_pattern();
         Ok(self.rank())
     }
 
@@ -210,24 +219,25 @@ impl Session {
         ensures steps { steps.new
             ≤ steps.old + (cols self.old.matrix + entry_count self.old.matrix) }
         ensures no_step { ¬ Among (row, col) self.old.matching.pairs → steps.new ≡ steps.old }
+        ensures searched { OnOk result (Among (row, col) self.old.matching.pairs
+            → (rest : List Place) × IsParted (row, col) self.old.matching.pairs rest
+            × IsSearched self.new.matrix rest self.new.matching.pairs steps.old steps.new) }
     {
-        // `size` tells the proof that the pairs rise by column, `entries` that the columns' lists
-        // rise.
-        let _before = self.matching.size();
-        let _count = self.columns.entries();
+        self.matching.is_matching();
+        self.columns.is_pattern();
         let were_mates = are_mates(&self.matching, row, col);
         self.columns.take(row, col);
         if !were_mates {
             return Ok(self.rank());
         }
         self.matching.unpair(row, col);
-        let _parted = self.matching.size();
+        self.matching.is_matching();
         match augment(self.alloc, &self.columns, &mut self.matching, steps) {
             Ok(()) => Ok(self.rank()),
             Err(refused) => {
                 self.columns.put(row, col);
                 self.matching.pair(row, col);
-                let _after = self.matching.size();
+                self.matching.is_matching();
                 Err(refused)
             }
         }
@@ -239,7 +249,7 @@ fn are_mates(matching: &Matching, row: Row, col: Col) -> bool
     requires { col < matching.now.cols }
     ensures { IsTrue result ↔ Among (row, col) matching.now.pairs }
 {
-    let _before = matching.size();
+    matching.is_matching();
     match matching.row_of(col) {
         Some(mate) => mate.0 == row.0,
         None => false,
@@ -263,10 +273,14 @@ fn match_entry<L: Ledger>(
     ensures unchanged { OnErr result (matching.new ≡ matching.old) }
     ensures steps { steps.new
         ≤ steps.old + (cols columns.now.matrix + entry_count columns.now.matrix) }
+    ensures searched { OnOk result (Among row (rows_of matching.old.pairs)
+        ⊎ Among col (cols_of matching.old.pairs)
+        → IsSearched columns.now.matrix matching.old.pairs matching.new.pairs
+        steps.old steps.new) }
 {
     if matching.row_of(col).is_none() && matching.col_of(row).is_none() {
         matching.pair(row, col);
-        let _after = matching.size();
+        matching.is_matching();
         return Ok(());
     }
     augment(alloc, columns, matching, steps)
@@ -286,6 +300,9 @@ fn augment<L: Ledger>(
     ensures unchanged { OnErr result (matching.new ≡ matching.old) }
     ensures steps { steps.new
         ≤ steps.old + (cols columns.now.matrix + entry_count columns.now.matrix) }
+    ensures searched { OnOk result
+        (IsSearched columns.now.matrix matching.old.pairs matching.new.pairs
+        steps.old steps.new) }
 {
     match reach_in(alloc, columns, matching, steps)? {
         Reach::Path(path) => matching.flip(path.as_slice()),

@@ -1,4 +1,5 @@
 pub mod MarkLemmas
+pub mod PathLemmas
 pub mod Phases
 pub mod ScanLemmas
 pub mod SearchLemmas

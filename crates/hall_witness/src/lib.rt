@@ -11,4 +11,4 @@ pub use answer::Reach;
 pub use engine::plain;
 pub use search::{reached, reached_if_maximum};
 pub use steps::Steps;
-pub use witness::{reach, reach_in};
+pub use witness::{hall_set, reach, reach_in};

@@ -33,13 +33,28 @@ pub trait Side<Far: Id> {
 }
 
 /// A set of places within a number of rows and columns, which lends the rows of each column: all
-/// that a search from the columns asks of a matrix. A pattern is one, and so is whatever is seen as
+/// that a search from the columns asks of a matrix. A pattern is one, and whatever is one is seen as
 /// a [`Side`] from its columns.
-pub trait Neighbours: Side<Row> {}
+pub trait Neighbours {
+    /// The matrix whose entries are the places.
+    ghost matrix: { Self → Matrix };
 
-impl<N: Side<Row>> Neighbours for N {}
+    /// The number of rows.
+    fn rows(&self) -> u32
+        ensures { result ≡ Matrix.rows (matrix self.now) };
 
-impl Side<Row> for Pattern {
+    /// The number of columns.
+    fn cols(&self) -> u32
+        ensures { result ≡ cols (matrix self.now) };
+
+    /// The rows of a column's places, rising, each once, lent without copying.
+    fn rows_of(&self, col: Col) -> &[Row]
+        requires { col < cols (matrix self.now) }
+        ensures rows { Lists (λ r. IsEntry (matrix self.now) r col) result.now }
+        ensures column { result.now ≡ column (matrix self.now) col };
+}
+
+impl Neighbours for Pattern {
     ghost matrix = { λ a. a };
 
     fn rows(&self) -> u32 {
@@ -52,6 +67,22 @@ impl Side<Row> for Pattern {
 
     fn rows_of(&self, col: Col) -> &[Row] {
         Pattern::rows_of(self, col)
+    }
+}
+
+impl<N: Neighbours> Side<Row> for N {
+    ghost matrix = { λ a. N.matrix a };
+
+    fn rows(&self) -> u32 {
+        Neighbours::rows(self)
+    }
+
+    fn cols(&self) -> u32 {
+        Neighbours::cols(self)
+    }
+
+    fn rows_of(&self, col: Col) -> &[Row] {
+        Neighbours::rows_of(self, col)
     }
 }
 

@@ -1,17 +1,19 @@
-use Rattle.std.proofs.Common.{◌≡◌, ◌<◌, ◌∙◌, ap, subst, sym, true≢false}
+use Rattle.std.proofs.Common.{◌≡◌, ◌⊎◌, ◌<◌, ◌∙◌, ap, subst, sym, true≢false}
 use Rattle.bip_defs.specs.EditedMatrix.{with_place, without_place}
+use Rattle.bip_defs.specs.Lists.{Among}
+use Rattle.bip_defs.specs.Matching.{cols_of, rows_of}
 use Rattle.bip_defs.specs.Matrix.{IsEntry, Matrix, cols}
 use Rattle.bip_defs.proofs.EditLemmas.{with_place_new, without_goes_back}
 use Rattle.bip_graph.specs.Matching.{IsMatchingOf, IsMaximumOf, Pairing}
-use Rattle.edit_session.specs.Sessions.{IsNearMaximum, MatchedMatrix}
+use Rattle.edit_session.specs.Sessions.{IsNearMaximum, IsSearched, MatchedMatrix}
 use Rattle.edit_session.proofs.SessionLemmas.{room_left, same_session, set_again, set_matching, set_near}
 use Rattle.edit_session.proofs.session.Session.set.Goals as goal
 
 pub returns-then-has-clause-matrix : goal.returns-then-has-clause-matrix
-returns-then-has-clause-matrix g c = set_again c.self.inside.columns.matrix c.self.inside.matching (c.args.row, c.args.col) c.args.self.now c.self.view_is c.entries-count.ensures.pattern (c.has.ensures.0 c.if-has.true)
+returns-then-has-clause-matrix g c = set_again c.self.inside.columns.matrix c.self.inside.matching (c.args.row, c.args.col) c.args.self.now c.self.view_is c.is_pattern.ensures (c.has.ensures.0 c.if-has.true)
 
 pub make_room-requires-clause-few : goal.make_room-requires-clause-few
-make_room-requires-clause-few g c = room_left c.self.inside.columns.matrix c.args.row c.args.col c.entries-count.ensures.pattern
+make_room-requires-clause-few g c = room_left c.self.inside.columns.matrix c.args.row c.args.col c.is_pattern.ensures
     (subst (λ (w : MatchedMatrix). c.args.row < w.matrix.rows) (sym c.self.view_is) c.requires.row)
     (λ e. true≢false (sym (c.has.ensures.1 e) ∙ c.if-has.false))
 
@@ -37,7 +39,7 @@ invariant_of-self-in-Err g c =
     let a = c.self.inside.columns.matrix in
     let put : c.put.new.self.matrix ≡ with_place a (c.args.row, c.args.col) = c.put.ensures.matrix ∙ ap (λ (b : Matrix). with_place b (c.args.row, c.args.col)) c.in_ok-make_room.ensures.matrix in
     let back : c.take.new.self.matrix ≡ a = c.take.ensures.matrix ∙ ap (λ (b : Matrix). without_place b (c.args.row, c.args.col)) put
-    ∙ without_goes_back a (c.args.row, c.args.col) (c.entries-count.ensures.pattern.columns c.args.col) (λ e. true≢false (sym (c.has.ensures.1 e) ∙ c.if-has.false)) (subst (λ (w : MatchedMatrix). c.args.col < cols w.matrix) (sym c.self.view_is) c.requires.col) in
+    ∙ without_goes_back a (c.args.row, c.args.col) (c.is_pattern.ensures.columns c.args.col) (λ e. true≢false (sym (c.has.ensures.1 e) ∙ c.if-has.false)) (subst (λ (w : MatchedMatrix). c.args.col < cols w.matrix) (sym c.self.view_is) c.requires.col) in
     subst (λ (m : Pairing). IsMaximumOf c.take.new.self.matrix m) (sym c.in-Err.ensures.unchanged) (subst (λ (b : Matrix). IsMaximumOf b c.self.inside.matching) (sym back) c.self.invariant)
 
 pub returns-in-Err-clause-unchanged : goal.returns-in-Err-clause-unchanged
@@ -45,5 +47,12 @@ returns-in-Err-clause-unchanged g c =
     let a = c.self.inside.columns.matrix in
     let put : c.put.new.self.matrix ≡ with_place a (c.args.row, c.args.col) = c.put.ensures.matrix ∙ ap (λ (b : Matrix). with_place b (c.args.row, c.args.col)) c.in_ok-make_room.ensures.matrix in
     let back : c.take.new.self.matrix ≡ a = c.take.ensures.matrix ∙ ap (λ (b : Matrix). without_place b (c.args.row, c.args.col)) put
-    ∙ without_goes_back a (c.args.row, c.args.col) (c.entries-count.ensures.pattern.columns c.args.col) (λ e. true≢false (sym (c.has.ensures.1 e) ∙ c.if-has.false)) (subst (λ (w : MatchedMatrix). c.args.col < cols w.matrix) (sym c.self.view_is) c.requires.col) in
+    ∙ without_goes_back a (c.args.row, c.args.col) (c.is_pattern.ensures.columns c.args.col) (λ e. true≢false (sym (c.has.ensures.1 e) ∙ c.if-has.false)) (subst (λ (w : MatchedMatrix). c.args.col < cols w.matrix) (sym c.self.view_is) c.requires.col) in
     same_session back c.in-Err.ensures.unchanged c.self.view_is
+
+pub returns-then-has-clause-searched : goal.returns-then-has-clause-searched
+returns-then-has-clause-searched g c none mated = absurd (none (subst (λ (w : MatchedMatrix). IsEntry w.matrix c.args.row c.args.col) c.self.view_is (c.has.ensures.0 c.if-has.true)))
+
+pub returns-in-Ok-clause-searched : goal.returns-in-Ok-clause-searched
+returns-in-Ok-clause-searched g c none = subst (λ (w : MatchedMatrix). Among c.args.row (rows_of w.matching.pairs) ⊎ Among c.args.col (cols_of w.matching.pairs)
+    → IsSearched c.put.new.self.matrix w.matching.pairs c.match_entry.new.matching.pairs c.args.steps.now c.match_entry.new.steps) c.self.view_is c.in-Ok.ensures.searched

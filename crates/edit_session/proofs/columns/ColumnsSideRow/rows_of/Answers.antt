@@ -1,9 +1,0 @@
-use Rattle.std.proofs.Common.{subst, map}
-use Rattle.std.proofs.lemmas.List.{map-id}
-use Rattle.bip_defs.specs.Lists.{Lists}
-use Rattle.bip_defs.specs.Matrix.{IsEntry}
-use Rattle.edit_session.specs.Columns.{RoomyMatrix}
-use Rattle.edit_session.proofs.columns.ColumnsSideRow.rows_of.Goals as goal
-
-pub returns-clause-rows : goal.returns-clause-rows
-returns-clause-rows c = subst (λ (w : RoomyMatrix). Lists (λ r. IsEntry w.matrix r c.args.col) (map (λ x. x) c.list.result.now)) c.self.view_is (rw (map-id, c.list.ensures, c.col.view_is) (c.self.invariant.pattern.columns c.args.col))
