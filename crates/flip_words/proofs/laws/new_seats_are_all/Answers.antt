@@ -4,4 +4,4 @@ use Rattle.flip_words.specs.Seat.{new_seats}
 use Rattle.flip_words.proofs.laws.new_seats_are_all.Goals as goal
 
 pub returns : goal.returns
-returns c = record { order = new_all nothing; all = λ b count some. in_order b (new_seats b count) (new_all nothing b count some) }
+returns c = record { all = new_all nothing; in_any_order = λ b count some. in_order b (new_seats b count) (new_all nothing b count some) }
