@@ -21,7 +21,8 @@ use std::alloc::Global;
 /// them, the horizontal ones by their least columns and the vertical ones by their least rows.
 ///
 /// Two searches, breadth first over the entries of a part in both orders: from the columns of the
-/// horizontal part, and from the rows of the vertical part over the transpose, which is not made.
+/// horizontal part, and from the rows of the vertical part over the transpose, which is not made. A
+/// part that is empty costs nothing.
 ///
 /// Answers `OutOfMemory` where 4 bytes a row and 9 a column can't be had for the search of a part
 /// (for the vertical part 9 a row and 4 a column), then 4 a row and a column and 8 a component to
@@ -53,9 +54,12 @@ fn horizontal_components(
     ensures { IfOk result
         (λ b. AreOrderedComponents pattern.now (IsHorizontalVertex pattern.now) least_col b) }
 {
+    let cols = parts.hc.as_slice();
+    if cols.is_empty() {
+        return Ok(Blocks::new(alloc));
+    }
     pattern.is_pattern();
     let from_rows = FromRows { pattern };
-    let cols = parts.hc.as_slice();
     let found = search_part::<Row, Col, Pattern, FromRows>(alloc, pattern, &from_rows, cols)?;
     let (rows, cols) = found;
     listed(alloc, &rows, &cols, parts.hr.len(), parts.hc.len())
@@ -71,9 +75,12 @@ fn vertical_components(
     ensures { IfOk result
         (λ b. AreOrderedComponents pattern.now (IsVerticalVertex pattern.now) least_row b) }
 {
+    let rows = parts.vr.as_slice();
+    if rows.is_empty() {
+        return Ok(Blocks::new(alloc));
+    }
     pattern.is_pattern();
     let from_rows = FromRows { pattern };
-    let rows = parts.vr.as_slice();
     let found = search_part::<Col, Row, FromRows, Pattern>(alloc, &from_rows, pattern, rows)?;
     let (cols, rows) = found;
     listed(alloc, &rows, &cols, parts.vr.len(), parts.vc.len())
