@@ -16,6 +16,7 @@ use id_groups::{Groups, gather};
 use sp_ids::{Col, Id, OutOfMemory, Row};
 use sp_pattern::{FromRows, Pattern, Side};
 use std::alloc::Global;
+use std::thread::{Threads, join};
 
 /// The connected components of the horizontal and of the vertical part, from the parts: all of
 /// them, the horizontal ones by their least columns and the vertical ones by their least rows.
@@ -41,6 +42,31 @@ pub fn components(
     Ok(Components {
         horizontal,
         vertical,
+    })
+}
+
+/// [`components`], those of both parts at once: where no thread can be made, one after the other.
+///
+/// Answers `OutOfMemory` where the memory of both searches can't be had. Where one part is empty it
+/// makes no thread.
+pub fn components_at_once<R: Threads + Sync>(
+    rt: &R,
+    alloc: Global,
+    pattern: &Pattern,
+    parts: &Parts,
+) -> Result<Components, OutOfMemory>
+    requires { ArePartsOf pattern.now (parts_of parts.now) }
+    ensures { IfOk result (λ c. AreConnectedComponents pattern.now (components_of c)) }
+{
+    if parts.hc.is_empty() || parts.vr.is_empty() {
+        return components(alloc, pattern, parts);
+    }
+    let of_columns = move || horizontal_components(alloc, pattern, parts);
+    let of_rows = move || vertical_components(alloc, pattern, parts);
+    let (horizontal, vertical) = join(rt, of_columns, of_rows);
+    Ok(Components {
+        horizontal: horizontal?,
+        vertical: vertical?,
     })
 }
 
