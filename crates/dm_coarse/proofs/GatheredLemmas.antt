@@ -1,9 +1,10 @@
 -- The numbered rows and columns of a horizontal part are its connected components, in order.
-use Rattle.std.proofs.Common.{◌≡◌, ◌∙◌, ℕ, ◌<◌, ◌≤◌, List, [], ◌∷◌, get_or, map, refl, sym, ap, subst, inl, inr, arith, le_antisymm}
+use Rattle.std.proofs.Common.{◌≡◌, ◌∙◌, ℕ, ◌<◌, ◌≤◌, List, [], ◌∷◌, get_or, length, map, refl, sym, ap, subst, inl, inr, arith, le_antisymm}
 use Rattle.bip_defs.specs.Blocks.{Block, ColAt, RowAt, Vertex, least_col}
-use Rattle.bip_defs.specs.ConnectedComponents.{AreOrderedComponents, IsComponentWith, IsConnectedComponent, IsHorizontalVertex, Joined, alone, to_col, to_row}
+use Rattle.bip_defs.specs.ConnectedComponents.{AreOrderedComponents, IsComponentWith, IsConnectedComponent, IsHorizontalVertex, IsVerticalVertex, Joined, alone, least_row, to_col, to_row}
 use Rattle.bip_defs.specs.Lists.{Among, IsRising, Lists, StandsAt}
 use Rattle.bip_defs.specs.Matrix.{Matrix, upto}
+use Rattle.bip_defs.specs.Parts.{IsHorizontalCol, IsVerticalRow}
 use Rattle.bip_defs.proofs.Connected.{component_same, joined_back, joined_inside, turned_block}
 use Rattle.bip_defs.proofs.Sets.{among_map, among_map_back, below_each_from, below_each_sound, lists_same, upto_complete, upto_rising, upto_sound}
 use Rattle.id_groups.specs.Groups.{block_of, group}
@@ -119,3 +120,36 @@ module _ (a : Matrix) (count : ℕ) (rs cs : List (List ℕ)) (g : AreGathered a
 pub turned_listed : (rs cs : List (List ℕ)) (ks : List ℕ) → map turned_block (map (block_of rs cs) ks) ≡ map (block_of cs rs) ks
 turned_listed rs cs [] = refl
 turned_listed rs cs (k ∷ ks) = ap (λ (bs : List Block). block_of cs rs k ∷ bs) (turned_listed rs cs ks)
+
+-- A part without vertices has no components.
+
+none_among : (xs : List ℕ) (x : ℕ) → length xs ≡ 0 → ¬ Among x xs
+none_among [] x empty on = elim on [ ]
+none_among (y ∷ xs) x empty on = absurd (omega (arith, empty))
+
+no_components : (a : Matrix) (P : Vertex → Type 0) (least : Block → ℕ) → ((v : Vertex) → ¬ P v) → AreOrderedComponents a P least []
+no_components a P least none = record {
+  sound = λ b h. elim h [ ];
+  complete = λ b x. absurd (none x.0 x.1.inside);
+  rising = tt;
+}
+
+pub no_horizontal : (a : Matrix) (cols : List ℕ) → Lists (IsHorizontalCol a) cols → length cols ≡ 0 → AreOrderedComponents a (IsHorizontalVertex a) least_col []
+no_horizontal a cols all empty = no_components a (IsHorizontalVertex a) least_col none
+  where
+    no_col : (c : ℕ) → ¬ IsHorizontalCol a c
+    no_col c h = none_among cols c empty (all.complete c h)
+
+    none : (v : Vertex) → ¬ IsHorizontalVertex a v
+    none (ColAt c) h = no_col c h
+    none (RowAt r) h = no_col h.0 h.1
+
+pub no_vertical : (a : Matrix) (rows : List ℕ) → Lists (IsVerticalRow a) rows → length rows ≡ 0 → AreOrderedComponents a (IsVerticalVertex a) least_row []
+no_vertical a rows all empty = no_components a (IsVerticalVertex a) least_row none
+  where
+    no_row : (r : ℕ) → ¬ IsVerticalRow a r
+    no_row r h = none_among rows r empty (all.complete r h)
+
+    none : (v : Vertex) → ¬ IsVerticalVertex a v
+    none (RowAt r) h = no_row r h
+    none (ColAt c) h = no_row h.0 h.1

@@ -16,12 +16,14 @@ use id_groups::{Groups, gather};
 use sp_ids::{Col, Id, OutOfMemory, Row};
 use sp_pattern::{FromRows, Pattern, Side};
 use std::alloc::Global;
+use std::thread::{Threads, join};
 
 /// The connected components of the horizontal and of the vertical part, from the parts: all of
 /// them, the horizontal ones by their least columns and the vertical ones by their least rows.
 ///
 /// Two searches, breadth first over the entries of a part in both orders: from the columns of the
-/// horizontal part, and from the rows of the vertical part over the transpose, which is not made.
+/// horizontal part, and from the rows of the vertical part over the transpose, which is not made. A
+/// part that is empty costs nothing.
 ///
 /// Answers `OutOfMemory` where 4 bytes a row and 9 a column can't be had for the search of a part
 /// (for the vertical part 9 a row and 4 a column), then 4 a row and a column and 8 a component to
@@ -43,6 +45,31 @@ pub fn components(
     })
 }
 
+/// [`components`], those of both parts at once: where no thread can be made, one after the other.
+///
+/// Answers `OutOfMemory` where the memory of both searches can't be had. Where one part is empty it
+/// makes no thread.
+pub fn components_at_once<R: Threads + Sync>(
+    rt: &R,
+    alloc: Global,
+    pattern: &Pattern,
+    parts: &Parts,
+) -> Result<Components, OutOfMemory>
+    requires { ArePartsOf pattern.now (parts_of parts.now) }
+    ensures { IfOk result (λ c. AreConnectedComponents pattern.now (components_of c)) }
+{
+    if parts.hc.is_empty() || parts.vr.is_empty() {
+        return components(alloc, pattern, parts);
+    }
+    let of_columns = move || horizontal_components(alloc, pattern, parts);
+    let of_rows = move || vertical_components(alloc, pattern, parts);
+    let (horizontal, vertical) = join(rt, of_columns, of_rows);
+    Ok(Components {
+        horizontal: horizontal?,
+        vertical: vertical?,
+    })
+}
+
 // The components of the horizontal part.
 fn horizontal_components(
     alloc: Global,
@@ -53,9 +80,12 @@ fn horizontal_components(
     ensures { IfOk result
         (λ b. AreOrderedComponents pattern.now (IsHorizontalVertex pattern.now) least_col b) }
 {
+    let cols = parts.hc.as_slice();
+    if cols.is_empty() {
+        return Ok(Blocks::new(alloc));
+    }
     pattern.is_pattern();
     let from_rows = FromRows { pattern };
-    let cols = parts.hc.as_slice();
     let found = search_part::<Row, Col, Pattern, FromRows>(alloc, pattern, &from_rows, cols)?;
     let (rows, cols) = found;
     listed(alloc, &rows, &cols, parts.hr.len(), parts.hc.len())
@@ -71,9 +101,12 @@ fn vertical_components(
     ensures { IfOk result
         (λ b. AreOrderedComponents pattern.now (IsVerticalVertex pattern.now) least_row b) }
 {
+    let rows = parts.vr.as_slice();
+    if rows.is_empty() {
+        return Ok(Blocks::new(alloc));
+    }
     pattern.is_pattern();
     let from_rows = FromRows { pattern };
-    let rows = parts.vr.as_slice();
     let found = search_part::<Col, Row, FromRows, Pattern>(alloc, &from_rows, pattern, rows)?;
     let (cols, rows) = found;
     listed(alloc, &rows, &cols, parts.vr.len(), parts.vc.len())

@@ -18,7 +18,7 @@ ghost use Rattle.bip_graph.specs.Matching.{IsMatchingOf, IsMaximumOf};
 use crate::searches::Matched;
 use crate::split::{split_cols, split_rows};
 use bip_graph::{Matching, Parts};
-pub use connected_components::components;
+pub use connected_components::{components, components_at_once};
 use sp_ids::OutOfMemory;
 use sp_pattern::Pattern;
 use std::alloc::Global;

@@ -1,4 +1,4 @@
-use Rattle.std.proofs.Common.{◌∙◌, ap, arith, length, map, sym, subst}
+use Rattle.std.proofs.Common.{rules, ◌≡◌, ◌∙◌, ap, arith, length, map, sym, subst}
 use Rattle.std.proofs.lemmas.List.{map-id}
 use Rattle.std.proofs.lemmas.Result.{IfOk-weaker}
 use Rattle.bip_defs.specs.ConnectedComponents.{AreOrderedComponents, IsVerticalVertex, least_row}
@@ -9,7 +9,7 @@ use Rattle.bip_defs.proofs.Connected.{vertical_components}
 use Rattle.bip_defs.proofs.Sets.{lists_same}
 use Rattle.bip_defs.proofs.Transposed.{transpose_back, transpose_cols, transpose_is, turned_vertical, vertical_turned}
 use Rattle.id_groups.specs.Groups.{block_of}
-use Rattle.dm_coarse.proofs.GatheredLemmas.{are_components, turned_listed}
+use Rattle.dm_coarse.proofs.GatheredLemmas.{are_components, no_vertical, turned_listed}
 use Rattle.dm_coarse.proofs.connected_components.vertical_components.Goals as goal
 
 pub search_part-requires-clause-across : goal.search_part-requires-clause-across
@@ -33,3 +33,8 @@ returns c =
     let turned = vertical_components a (transpose a) _ (transpose_is a) (are_components (transpose a) _ _ _ gathered) in
     let same = turned_listed cols rows (upto (length rows)) ∙ ap (λ n. map (block_of rows cols) (upto n)) (sym gathered.by_row.long) in
     IfOk-weaker c.listed.result _ _ (λ b e. subst (AreOrderedComponents a (IsVerticalVertex a) least_row) (same ∙ sym e) turned) c.listed.ensures
+
+pub returns-then-is_empty : goal.returns-then-is_empty
+returns-then-is_empty c =
+    let empty : length c.args.parts.now.vr.items ≡ 0 = search rules in
+    rw c.new.ensures (no_vertical _ _ c.requires.vertical_rows empty)
