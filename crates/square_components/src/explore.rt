@@ -9,11 +9,11 @@ ghost use Rattle.square_components.specs.Numbers.{look};
 ghost use Rattle.square_components.specs.Stacks.{IsDepthFirst, degree, work};
 ghost use Rattle.square_components.specs.Steps.{IsLast, HasTreeEdge, StaysPlaced};
 
-use crate::search::Search;
+use crate::search::ComponentSearch;
 use sp_ids::Col;
 use sp_pattern::Pattern;
 
-impl Search {
+impl ComponentSearch {
     /// Searches from each of these square columns that an earlier one does not lead to.
     pub fn explore_all(&mut self, pattern: &Pattern, mates: &[u32], cols: &[Col])
         requires search { IsDepthFirst pattern.now mates.now self.old }

@@ -12,7 +12,7 @@ ghost use Rattle.bip_graph.specs.Decompositions.{parts_of};
 ghost use Rattle.square_components.specs.Numbers.{AreNumbered};
 
 use crate::mates::square_mates;
-use crate::search::Search;
+use crate::search::ComponentSearch;
 use bip_graph::{Matching, Parts};
 use sp_ids::OutOfMemory;
 use sp_pattern::Pattern;
@@ -46,7 +46,7 @@ pub fn strong_components(
         (λ s. AreNumbered pattern.now matching.now.pairs s.numbers.items s.count) }
 {
     let mates = square_mates(alloc, pattern, matching, parts.sr.as_slice())?;
-    let mut search = Search::new(alloc, pattern.cols())?;
+    let mut search = ComponentSearch::new(alloc, pattern.cols())?;
     search.explore_all(pattern, mates.as_slice(), parts.sc.as_slice());
     let (numbers, count) = search.end();
     Ok(Components { numbers, count })

@@ -17,7 +17,7 @@ pub const NONE: u32 = u32::MAX;
 /// The state of the search. The columns of the path are kept in the order in which they were
 /// entered, cut into the components that are known so far.
 #[derive(Drop)]
-pub struct Search {
+pub struct ComponentSearch {
     stack: Vec<u32>,
     starts: Vec<u32>,
     todo: Vec<u32>,
@@ -27,7 +27,7 @@ pub struct Search {
     count: u32,
 }
 
-impl Model for Search {
+impl Model for ComponentSearch {
     ghost use Rattle.std.specs.Prelude.{length, vec_capacity, ◌≤◌};
     ghost use Rattle.square_components.specs.Stacks.{PathState};
 
@@ -48,9 +48,9 @@ impl Model for Search {
         × (length s.place.items ≤ vec_capacity s.todo) };
 }
 
-impl Search {
+impl ComponentSearch {
     /// The search of so many columns, of which none was entered.
-    pub fn new(alloc: Global, cols: u32) -> Result<Search, OutOfMemory>
+    pub fn new(alloc: Global, cols: u32) -> Result<ComponentSearch, OutOfMemory>
         ensures { IfOk result (λ s. s ≡ beginning cols) }
     {
         let room = cols as usize;
@@ -60,7 +60,7 @@ impl Search {
         let left = vec![in alloc; 0u32; room]?;
         let place = vec![in alloc; NONE; room]?;
         let number = vec![in alloc; NONE; room]?;
-        Ok(Search {
+        Ok(ComponentSearch {
             stack,
             starts,
             todo,

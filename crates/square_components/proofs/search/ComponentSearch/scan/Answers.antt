@@ -2,7 +2,7 @@ use Rattle.std.proofs.Common.{◌-◌, ap, arith, get_or, length, sym, subst}
 use Rattle.square_components.specs.Steps.{HasTreeEdge}
 use Rattle.square_components.proofs.Scans.{IsScan, row_in, scan_begins, scan_found, scan_left, scan_next, scan_range, target_read}
 use Rattle.square_components.proofs.SearchLemmas.{top_in}
-use Rattle.square_components.proofs.search.Search.scan.Goals as goal
+use Rattle.square_components.proofs.search.ComponentSearch.scan.Goals as goal
 
 pub col_at-col-requires : goal.col_at-col-requires
 col_at-col-requires c = top_in _ _ _ _ c.requires.search c.requires.at

@@ -3,7 +3,7 @@ use Rattle.square_components.specs.Numbers.{look}
 use Rattle.square_components.specs.Stacks.{PathState}
 use Rattle.square_components.specs.Steps.{AreUpTo, joined}
 use Rattle.square_components.proofs.Changes.{look_read}
-use Rattle.square_components.proofs.search.Search.settle.Goals as goal
+use Rattle.square_components.proofs.search.ComponentSearch.settle.Goals as goal
 
 pub returns : goal.returns
 returns c =

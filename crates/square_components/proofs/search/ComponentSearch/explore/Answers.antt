@@ -4,7 +4,7 @@ use Rattle.square_components.specs.Numbers.{look}
 use Rattle.square_components.specs.Stacks.{IsDepthFirst, degree}
 use Rattle.square_components.specs.Steps.{StaysPlaced, entering}
 use Rattle.square_components.proofs.SearchLemmas.{entered_placed, entered_same, enters_first, path_empty}
-use Rattle.square_components.proofs.search.Search.explore.Goals as goal
+use Rattle.square_components.proofs.search.ComponentSearch.explore.Goals as goal
 
 pub loop-at-init : goal.loop-at-init
 loop-at-init c =

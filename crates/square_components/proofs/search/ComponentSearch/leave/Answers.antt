@@ -1,7 +1,7 @@
 use Rattle.std.proofs.Common.{◌≡◌, ◌∙◌, ap, length, sym, subst}
 use Rattle.square_components.specs.Stacks.{PathState}
 use Rattle.square_components.specs.Steps.{AssignsNumber, finishes, finishing, goes_back, leaving}
-use Rattle.square_components.proofs.search.Search.leave.Goals as goal
+use Rattle.square_components.proofs.search.ComponentSearch.leave.Goals as goal
 
 pub returns-then-last_start-at : goal.returns-then-last_start-at
 returns-then-last_start-at c =

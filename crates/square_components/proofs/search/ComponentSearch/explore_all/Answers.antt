@@ -3,7 +3,7 @@ use Rattle.bip_defs.proofs.Sets.{place_among}
 use Rattle.bip_graph.specs.Matching.{none}
 use Rattle.square_components.specs.Numbers.{look}
 use Rattle.square_components.proofs.Scans.{item_among}
-use Rattle.square_components.proofs.search.Search.explore_all.Goals as goal
+use Rattle.square_components.proofs.search.ComponentSearch.explore_all.Goals as goal
 
 pub is_placed-requires : goal.is_placed-requires
 is_placed-requires c =

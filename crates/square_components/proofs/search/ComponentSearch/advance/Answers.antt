@@ -2,7 +2,7 @@ use Rattle.std.proofs.Common.{◌≡◌, ◌<◌, ap, arith, sym, subst}
 use Rattle.square_components.specs.Stacks.{IsDepthFirst, PathState, degree, work}
 use Rattle.square_components.specs.Steps.{IsLast, entering}
 use Rattle.square_components.proofs.SearchLemmas.{count_few, entered_same, enters_next, has_room, has_start, leaves, less_entered, next_square, top_in}
-use Rattle.square_components.proofs.search.Search.advance.Goals as goal
+use Rattle.square_components.proofs.search.ComponentSearch.advance.Goals as goal
 
 pub entries_of-requires : goal.entries_of-requires
 entries_of-requires c = (next_square _ _ _ _ _ c.in-Some.ensures.search c.in-Some.ensures.found).0

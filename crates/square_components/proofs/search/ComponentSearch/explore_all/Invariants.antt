@@ -2,7 +2,7 @@ use Rattle.std.proofs.Common.{◌≡◌, ◌≢◌, ℕ, ◌<◌, [], slice_inde
 use Rattle.bip_graph.specs.Matching.{none}
 use Rattle.square_components.specs.Numbers.{look}
 use Rattle.square_components.specs.Stacks.{IsDepthFirst}
-use Rattle.square_components.proofs.search.Search.explore_all.Given as goal
+use Rattle.square_components.proofs.search.ComponentSearch.explore_all.Given as goal
 
 abbrev pub invariant-loop-col : goal.invariant-loop-col
 invariant-loop-col l = record {

@@ -3,7 +3,7 @@ use Rattle.bip_graph.specs.Matching.{none}
 use Rattle.square_components.specs.Numbers.{look}
 use Rattle.square_components.specs.Stacks.{IsDepthFirst, work}
 use Rattle.square_components.specs.Steps.{StaysPlaced}
-use Rattle.square_components.proofs.search.Search.explore.Given as goal
+use Rattle.square_components.proofs.search.ComponentSearch.explore.Given as goal
 
 abbrev pub invariant-loop-at : goal.invariant-loop-at
 invariant-loop-at l = record {
