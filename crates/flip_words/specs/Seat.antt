@@ -3,10 +3,9 @@ use Rattle.std.specs.Prelude.{◌≡◌, ◌⊎◌, ℕ, List, Option, Some}
 use Rattle.bip_defs.specs.Lists.{Among}
 use Rattle.bip_defs.specs.WordValues.{held}
 use Rattle.board_seats.specs.Seat as seats
-use Rattle.board_seats.specs.Seat.{with_listed}
 use Rattle.flip_words.specs.Board.{Board}
 use Rattle.flip_words.specs.Listed.{Listed, looked, nothing, put, took}
-pub use Rattle.board_seats.specs.Seat.{AreAllSeats, AreNumbered, HoldsAllSeats, IsSameSeat, first_seat, lists_of}
+pub use Rattle.board_seats.specs.Seat.{AreAllSeats, AreNumbered, HoldsAllSeats, IsSameSeat, first_seat, lists_of, with_listed}
 
 abbrev pub Seat : Type 0
 Seat = seats.Seat Board Listed

@@ -1,5 +1,5 @@
 -- What a board closes with once its seats have augmented a forest.
-use Rattle.std.proofs.Common.{◌≡◌, ◌⊎◌, ◌↔◌, ◌∙◌, ℕ, ◌+◌, ◌<◌, List, [], ◌∷◌, Some, refl, sym, ap, subst, inl, inr, ⊎_elim}
+use Rattle.std.proofs.Common.{◌≡◌, ◌⊎◌, ◌↔◌, ◌∙◌, ℕ, ◌+◌, ◌<◌, List, [], ◌∷◌, Some, refl, sym, ap, subst, inl, inr, ⊎_elim, arith}
 use Rattle.bip_defs.specs.Forest.{IsRootOfRow, State, roots_of}
 use Rattle.bip_defs.specs.Lists.{Among, AreDistinct, option_at, numbers_of}
 use Rattle.bip_defs.specs.Matching.{rows_of}
@@ -9,7 +9,7 @@ use Rattle.bip_defs.proofs.Sets.{number_among, one_col, row_among, row_pair}
 use Rattle.bip_graph.specs.Mates.{Mated}
 use Rattle.flip_words.specs.Board.{Board, col_vertex}
 use Rattle.flip_words.specs.ClosedBoards.{AreMatesAfter, HaveOneTakerEach, SettlesAll}
-use Rattle.flip_words.specs.Seat.{AreAllSeats, HasSet, HasSetTo, Seat, Took}
+use Rattle.flip_words.specs.Seat.{HasSet, HasSetTo, HoldsAllSeats, Seat, Took}
 use Rattle.forest_core.specs.Current.{IsOnPathOf, IsPairAfter, OnPath, leaf, up}
 use Rattle.forest_core.specs.Exchanged.{AreExchanged}
 use Rattle.forest_core.specs.Sound.{IsSound}
@@ -28,8 +28,8 @@ set_by [] v = inr (λ t n. absurd n)
 set_by (t ∷ ts) v = ⊎_elim (λ h. inl (t, inl refl, h)) (λ n. ⊎_elim (λ (k : IsSetBySome ts v). inl (k.0, inr k.1, k.2)) (λ none. inr (λ u i. ⊎_elim (λ (e : u ≡ t). subst (λ (w : Seat). ¬ HasSet w v) (sym e) n) (λ j. none u j) i)) (set_by ts v)) (seat_set t v)
 
 -- there is a seat
-some_seat : (b : Board) (ts : List Seat) → AreAllSeats b ts → (t : Seat) × Among t ts
-some_seat b [] n = absurd n
+some_seat : (b : Board) (ts : List Seat) → HoldsAllSeats b ts → (t : Seat) × Among t ts
+some_seat b [] all = absurd (let some = all.some in omega (arith, some))
 some_seat b (t ∷ ts) all = (t, inl refl)
 
 module _ {s : State} {b : Board} {ts : List Seat} {m : Mated} (k : IsSound s) (of : IsBoardOf s b) (done : HaveAugmented s b ts) (one : HaveOneTakerEach ts) (after : AreMatesAfter b ts m) (once : AreDistinct (rows_of s.claims)) (tree : (x r : ℕ) → OnPath s.base s.claims s.leaves x r → IsRootOfRow s.base s.claims x r) where

@@ -5,7 +5,7 @@ use Rattle.std.proofs.lemmas.Slice.Zip.{AllZip-long}
 use Rattle.bip_defs.specs.Forest.{State, roots_of}
 use Rattle.bip_defs.specs.Lists.{Among}
 use Rattle.flip_words.specs.Board.{Board, col_vertex}
-use Rattle.flip_words.specs.Seat.{AreAllSeats, AreNumbered, HasSetTo, IsRightful, IsSameSeat, Seat, Took}
+use Rattle.flip_words.specs.Seat.{HasSetTo, HoldsAllSeats, IsRightful, IsSameSeat, Seat, Took}
 use Rattle.level_sharing.specs.Each.{EachFrom, EachPairFrom}
 use Rattle.tree_augment.specs.Augmented.{ExchangesItsPaths, HasAsked, HaveAugmented, HaveTakenNone, IsOnTakenPath, once_round}
 use Rattle.tree_augment.specs.ForestBoards.{IsBoardOf}
@@ -28,16 +28,6 @@ module _ {t : Seat} (own : IsRightful t) (none : t.listed.taken ≡ []) where
     cols = λ r c. (λ h. absurd (set_none (col_vertex b c) r h), λ (h : IsOnTakenPath s t (r, c)). absurd (took_none h.0 h.1));
   }
 
-numbered_boards : {b : Board} (n : ℕ) (ts : List Seat) → AreNumbered b n ts → (t : Seat) → Among t ts → t.board ≡ b
-numbered_boards n [] all t h = absurd h
-numbered_boards {b = b} n (u ∷ ts) all t (inl e) = subst (λ (z : Seat). z.board ≡ b) (sym e) all.0
-numbered_boards n (u ∷ ts) all t (inr h) = numbered_boards (1 + n) ts all.2 t h
-
-all_boards : {b : Board} (ts : List Seat) → AreAllSeats b ts → (t : Seat) → Among t ts → t.board ≡ b
-all_boards [] n t h = absurd n
-all_boards {b = b} (u ∷ ts) all t (inl e) = subst (λ (z : Seat). z.board ≡ b) (sym e) all.0
-all_boards (u ∷ ts) all t (inr h) = numbered_boards 1 ts all.3 t h
-
 ready_from : {s : State} {b : Board} (workers n : ℕ) (ts : List Seat) → IsBoardOf s b → n + length ts ≤ workers → ((t : Seat) → Among t ts → (t.board ≡ b) × (t.listed.taken ≡ [])) → EachFrom (λ k t. CanGoRound s b workers k t) n ts
 ready_from workers n [] of few each = tt
 ready_from workers n (t ∷ ts) of few each = (
@@ -45,8 +35,8 @@ ready_from workers n (t ∷ ts) of few each = (
   ready_from workers (suc n) ts of (omega (arith, few)) (λ u h. each u (inr h)),
 )
 
-pub ready : {s : State} {b : Board} (ts : List Seat) → IsBoardOf s b → AreAllSeats b ts → ((t : Seat) → Among t ts → t.listed.taken ≡ []) → EachFrom (λ k t. CanGoRound s b (length ts) k t) 0 ts
-ready ts of all none = ready_from (length ts) 0 ts of (omega arith) (λ t h. (all_boards ts all t h, none t h))
+pub ready : {s : State} {b : Board} (ts : List Seat) → IsBoardOf s b → HoldsAllSeats b ts → ((t : Seat) → Among t ts → t.listed.taken ≡ []) → EachFrom (λ k t. CanGoRound s b (length ts) k t) 0 ts
+ready ts of all none = ready_from (length ts) 0 ts of (omega arith) (λ t h. (all.boards t h, none t h))
 
 -- Seats after their rounds.
 
@@ -70,7 +60,7 @@ module _ (s : State) (b : Board) (workers : ℕ) where
   rounds n (t ∷ ts) [] h none = absurd h
   rounds n (t ∷ ts) (u ∷ us) h none = (has_asked (none t (inl refl)) h.0.asked, rounds (suc n) ts us h.1 (λ v i. none v (inr i)))
 
-pub augmented : {s : State} {b : Board} (ts us : List Seat) → HaveTakenNone ts → EachPairFrom (λ k t u. HasGoneRound s b (length ts) k t u) 0 ts us → (AllZip IsSameSeat ts us → AreAllSeats b us) → HaveAugmented s b us
+pub augmented : {s : State} {b : Board} (ts us : List Seat) → HaveTakenNone ts → EachPairFrom (λ k t u. HasGoneRound s b (length ts) k t u) 0 ts us → (AllZip IsSameSeat ts us → HoldsAllSeats b us) → HaveAugmented s b us
 augmented {s = s} {b = b} ts us none h all = record {
   all = all (same_seats s b (length ts) 0 ts us h);
   rounds = subst (λ n. EachFrom (λ (k : ℕ). HasAsked (roots_of (once_round s.leaves n k))) 0 us) (sym (AllZip-long IsSameSeat ts us (same_seats s b (length ts) 0 ts us h))) (rounds s b (length ts) 0 ts us h none);

@@ -4,7 +4,7 @@ use Rattle.bip_defs.specs.Forest.{State, roots_of}
 use Rattle.bip_defs.specs.Lists.{Among}
 use Rattle.bip_defs.specs.Matrix.{Place}
 use Rattle.flip_words.specs.Board.{Board, col_vertex}
-use Rattle.flip_words.specs.Seat.{AreAllSeats, HasSeen, HasSetTo, Seat, Took}
+use Rattle.flip_words.specs.Seat.{HasSeen, HasSetTo, HoldsAllSeats, Seat, Took}
 use Rattle.forest_core.specs.Current.{OnPath}
 use Rattle.level_sharing.specs.Each.{EachFrom}
 
@@ -53,11 +53,11 @@ pub record HasAsked (xs : List ℕ) (t : Seat) : Type 0 where
   pub saw : t.listed.seen ≡ before ++ seen
   pub asked : AreAsked t.number xs t.listed.taken seen
 
--- These are all seats of the board. Each went once round the roots with a leaf, from the start of
+-- These are all seats of the board, in any order. Each went once round the roots with a leaf, from the start of
 -- its share of them on, and asked for the tree of each. It has met each of these roots, and has
 -- exchanged the paths of the trees that it took
 pub record HaveAugmented (s : State) (b : Board) (ts : List Seat) : Type 0 where
-  pub all : AreAllSeats b ts
+  pub all : HoldsAllSeats b ts
   pub rounds : EachFrom (λ (i : ℕ). HasAsked (roots_of (once_round s.leaves (length ts) i))) 0 ts
   pub met : (t : Seat) (x : ℕ) → Among t ts → Among x (roots_of s.leaves) → HasMet t x
   pub paths : (t : Seat) → Among t ts → ExchangesItsPaths s b t

@@ -2,7 +2,7 @@
 
 ghost use Rattle.std.specs.Prelude.{◌≡◌, ◌≤◌, length, IfOk};
 ghost use Rattle.bip_defs.specs.Matrix.{cols};
-ghost use Rattle.flip_words.specs.Seat.{AreAllSeats};
+ghost use Rattle.flip_words.specs.Seat.{AreAllSeats, HoldsAllSeats};
 ghost use Rattle.forest_core.specs.Stored.{AreColTrees, AreRowTrees};
 ghost use Rattle.sp_ids.specs.Limits.{max_workers};
 ghost use Rattle.tree_augment.specs.Augmented.{HaveTakenNone};
@@ -29,7 +29,8 @@ pub fn open<R: Threads + Sync>(
 ) -> Result<(FlipBoard, Vec<FlipSeat>), OutOfMemory>
     requires seats { (1 ≤ seats) × (seats ≤ max_workers) }
     ensures board { IfOk result (λ b. IsBoardOf forest.now b.0) }
-    ensures all { IfOk result (λ b. AreAllSeats b.0 b.1.items) }
+    ensures order { IfOk result (λ b. AreAllSeats b.0 b.1.items) }
+    ensures all { IfOk result (λ b. HoldsAllSeats b.0 b.1.items) }
     ensures count { IfOk result (λ b. length b.1.items ≡ seats) }
     ensures none_taken { IfOk result (λ b. HaveTakenNone b.1.items) }
 {

@@ -1,13 +1,12 @@
 //! All workers at once.
 
-ghost use Rattle.std.specs.Prelude.{◌≡◌, ◌≤◌, [], length};
-ghost use Rattle.flip_words.specs.Seat.{AreAllSeats};
-ghost use Rattle.sp_ids.specs.Limits.{max_workers};
+ghost use Rattle.std.specs.Prelude.{◌≡◌, []};
+ghost use Rattle.flip_words.specs.Seat.{HoldsAllSeats};
 ghost use Rattle.tree_augment.specs.Augmented.{HaveAugmented, HaveTakenNone};
 ghost use Rattle.tree_augment.specs.ForestBoards.{IsBoardOf};
 
 use crate::rounds::go_round;
-use flip_words::{FlipBoard, FlipSeat, seats_stay_all};
+use flip_words::{FlipBoard, FlipSeat, seats_are_few, seats_stay_all};
 use forest_core::Forest;
 use level_sharing::{Work, share_start, work_at_once};
 use sp_ports::Gate;
@@ -42,7 +41,8 @@ impl<'a, 'p> Work<FlipSeat, Infallible> for Rounds<'a, 'p> {
 }
 
 /// Exchanges the path of each root with a leaf on a board that was opened from the forest, on which
-/// nothing is taken yet, by as many workers as there are seats.
+/// nothing is taken yet, by as many workers as there are seats. These are all the board's, in any
+/// order.
 ///
 /// Of w workers, the worker i goes once round the roots with a leaf in their order, from the place
 /// `i * l / w` of a list of l of them on, and exchanges the path of each whose tree no seat took
@@ -58,12 +58,12 @@ pub fn augment<R: Threads + Sync, G: Gate>(
 )
     requires board { IsBoardOf forest.now board.now }
     requires none_flipped { forest.now.flipped ≡ [] }
-    requires few { length seats.old ≤ max_workers }
-    requires all { AreAllSeats board.now seats.old }
+    requires all { HoldsAllSeats board.now seats.old }
     requires none_taken { HaveTakenNone seats.old }
     ensures { HaveAugmented forest.entry.now board.entry.now seats.new }
 {
     seats_stay_all();
+    seats_are_few(seats);
     let rounds = Rounds {
         forest,
         board,

@@ -3,7 +3,7 @@ use Rattle.bip_graph.specs.Matching.{Pairing}
 use Rattle.bip_defs.specs.Matrix.{cols}
 use Rattle.forest_core.specs.Stored.{AreColTrees, AreRowTrees}
 use Rattle.flip_words.specs.Board.{AreTrees, IsOpenedFrom}
-use Rattle.flip_words.specs.Seat.{AreAllSeats, Seat}
+use Rattle.flip_words.specs.Seat.{AreAllSeats, HoldsAllSeats, Seat}
 use Rattle.tree_augment.specs.Augmented.{HaveTakenNone}
 use Rattle.tree_augment.proofs.OpeningLemmas.{col_trees_fit, if_ok, new_count, new_taken_none, opened_board, row_trees_fit}
 use Rattle.tree_augment.proofs.opening.open.Goals as goal
@@ -35,8 +35,11 @@ returns-clause-board g c =
     (subst (λ (p : Pairing × List (Option ℕ)). IsOpenedFrom p.0 p.1 b.0) (λ i. (c.base.ensures i, c.as_slice.ensures.value i ++ c.as_slice-2.ensures.value i)) o)
     row_long row_trees col_trees) c.new.ensures.board
 
+pub returns-clause-order : goal.returns-clause-order
+returns-clause-order g c = if_ok c.new.result (λ b are. subst (AreAllSeats b.0) (sym are) (c.new_seats_are_all.ensures.all b.0 c.args.seats c.requires.seats.0)) c.new.ensures.seats
+
 pub returns-clause-all : goal.returns-clause-all
-returns-clause-all g c = if_ok c.new.result (λ b are. subst (AreAllSeats b.0) (sym are) (c.new_seats_are_all.ensures b.0 c.args.seats c.requires.seats.0)) c.new.ensures.seats
+returns-clause-all g c = if_ok c.new.result (λ b are. subst (HoldsAllSeats b.0) (sym are) (c.new_seats_are_all.ensures.in_any_order b.0 c.args.seats c.requires.seats.0)) c.new.ensures.seats
 
 pub returns-clause-count : goal.returns-clause-count
 returns-clause-count g c = if_ok c.new.result (λ b are. ap (λ (ts : List Seat). length ts) are ∙ new_count b.0 c.args.seats) c.new.ensures.seats
