@@ -199,13 +199,7 @@ fn take(
     ensures settled { OnOk result (HasSettled forest.now worker.new) }
     ensures through { OnOk result (IsThroughRow forest.now worker.new candidate.row) }
 {
-    let Candidate {
-        row,
-        col,
-        root,
-        free,
-    } = candidate;
-    claim_row(board, worker, row, col, root, free)?;
+    claim_row(board, worker, candidate)?;
     Ok(())
 }
 

@@ -1,21 +1,19 @@
 -- The forest that a level leaves, and what the workers know of it.
-use Rattle.std.proofs.Common.{◌≡◌, ◌⊎◌, ℕ, zero, suc, ◌+◌, ◌<◌, List, [], ◌∷◌, ◌++◌, length, refl, sym, subst, inl, inr, ⊎_elim, arith, Some}
+use Rattle.std.proofs.Common.{◌≡◌, ◌⊎◌, ℕ, zero, suc, ◌+◌, ◌<◌, List, [], ◌∷◌, ◌++◌, length, refl, sym, subst, inl, inr, ⊎_elim, arith}
 use Rattle.bip_defs.specs.Forest.{HasWon, InForest, IsRootOfRow, IsSettled, IsUsedUp, IsWon, RootOf, above, itself, roots_of}
 use Rattle.bip_defs.specs.Lists.{Among, AreNew}
 use Rattle.bip_defs.specs.Matching.{cols_of, rows_of}
 use Rattle.bip_defs.specs.Matrix.{IsEntry, Place}
-use Rattle.bip_defs.specs.WordValues.{held}
 use Rattle.bip_defs.proofs.Sets.{among_either, among_left, among_map, among_right, row_among, row_pair}
-use Rattle.claim_words.specs.Board.{Board, Words}
-use Rattle.claim_words.specs.Seat.{AreNumbered, KnowsRoot, KnowsRow, Seat}
-use Rattle.claim_words.specs.Settles.{SettlesAll}
-use Rattle.claim_words.specs.WorkerState.{AreAllWorkers, HaveGrown, WorkerState, fresh_claims_of, fresh_lists, fresh_wins_of, seats_of}
-use Rattle.level_sharing.specs.Agreement.{Agree, HoldThese, Shows}
+use Rattle.claim_words.specs.Board.{Board}
+use Rattle.claim_words.specs.Seat.{AreNumbered, KnowsRoot}
+use Rattle.claim_words.specs.WorkerState.{AreAllWorkers, WorkerState, fresh_claims_of, fresh_wins_of, seats_of}
+use Rattle.level_sharing.specs.Agreement.{HoldThese, Shows}
 use Rattle.level_sharing.specs.Each.{EachPairFrom}
-use Rattle.level_sharing.specs.Level.{AreThroughColumns, AreThroughRows, Level, forest_after}
+use Rattle.level_sharing.specs.Level.{AreThroughColumns, AreThroughRows, Level, WordsTell, forest_after}
 use Rattle.level_sharing.specs.Progress.{HasSettled, IsLeafFor, IsThroughColumns, IsThroughRows, KnowsHolder, KnowsWon}
 use Rattle.level_sharing.specs.Shares.{share_of}
-use Rattle.level_sharing.proofs.LevelLemmas.{Began, all_began, fresh_claims_are, fresh_wins_are, lists_grow}
+use Rattle.level_sharing.proofs.LevelLemmas.{Began, all_began, fresh_claims_are, fresh_wins_are}
 use Rattle.level_sharing.proofs.ShareLemmas.{shares_cover_list}
 
 -- Trees grow.
@@ -74,53 +72,15 @@ board_of b w [] h m = absurd h
 board_of b w (u ∷ ws) (board, number, count, h) (inl e) = subst (λ (z : WorkerState). z.seat.board ≡ b) (sym e) board
 board_of b w (u ∷ ws) (board, number, count, h) (inr m) = numbered_board b 1 w ws h m
 
--- What the laws on fresh lists and on known values tell of a level.
-pub record LevelTold (l : Level) : Type 0 where
-  pub all : AreAllWorkers l.board l.after
-  pub same_claims : fresh_claims_of l.gathered ≡ fresh_claims_of l.after
-  pub same_wins : fresh_wins_of l.gathered ≡ fresh_wins_of l.after
-  pub new_claims : AreNew l.forest.claims (fresh_claims_of l.after)
-  pub new_wins : AreNew l.forest.leaves (fresh_wins_of l.after)
-  pub rows : HoldThese (l.forest.claims ++ fresh_claims_of l.after) l.words.rows
-  pub roots : HoldThese (l.forest.leaves ++ fresh_wins_of l.after) l.words.roots
-  pub row_known : (v : Seat) (row col : ℕ) → Among v (seats_of l.after) → v.board ≡ l.board → KnowsRow v row col → held l.words.rows row ≡ Some col
-  pub root_known : (v : Seat) (root leaf : ℕ) → Among v (seats_of l.after) → v.board ≡ l.board → KnowsRoot v root leaf → held l.words.roots root ≡ Some leaf
-
--- The laws on fresh lists and on known values.
-pub record LevelLaws : Type 0 where
-  pub all : (b : Board) (vs ws : List WorkerState) → HaveGrown vs ws → AreAllWorkers b vs → AreAllWorkers b ws
-  pub same_claims : (vs ws : List WorkerState) → fresh_lists vs ≡ fresh_lists ws → fresh_claims_of vs ≡ fresh_claims_of ws
-  pub same_wins : (vs ws : List WorkerState) → fresh_lists vs ≡ fresh_lists ws → fresh_wins_of vs ≡ fresh_wins_of ws
-  pub claims : (b : Board) (words : Words) (before after : List WorkerState) (claims leaves : List (ℕ × ℕ)) → Agree b before claims leaves → HaveGrown before after → SettlesAll b words (seats_of after) → AreNew claims (fresh_claims_of after)
-  pub wins : (b : Board) (words : Words) (before after : List WorkerState) (claims leaves : List (ℕ × ℕ)) → Agree b before claims leaves → HaveGrown before after → SettlesAll b words (seats_of after) → AreNew leaves (fresh_wins_of after)
-  pub rows : (b : Board) (words : Words) (before after : List WorkerState) (claims leaves : List (ℕ × ℕ)) → Agree b before claims leaves → HaveGrown before after → SettlesAll b words (seats_of after) → HoldThese (claims ++ fresh_claims_of after) words.rows
-  pub roots : (b : Board) (words : Words) (before after : List WorkerState) (claims leaves : List (ℕ × ℕ)) → Agree b before claims leaves → HaveGrown before after → SettlesAll b words (seats_of after) → HoldThese (leaves ++ fresh_wins_of after) words.roots
-  pub row_known : (b : Board) (words : Words) (ss : List Seat) (v : Seat) (row col : ℕ) → SettlesAll b words ss → Among v ss → v.board ≡ b → KnowsRow v row col → held words.rows row ≡ Some col
-  pub root_known : (b : Board) (words : Words) (ss : List Seat) (v : Seat) (root leaf : ℕ) → SettlesAll b words ss → Among v ss → v.board ≡ b → KnowsRoot v root leaf → held words.roots root ≡ Some leaf
-
-pub level_known : LevelLaws → (l : Level) → LevelTold l
-level_known laws l =
-    let grow = lists_grow l.forest l.own 0 l.before l.after l.progress in record {
-      all = laws.all l.board l.before l.after grow l.agree.shows.all_workers;
-      same_claims = laws.same_claims l.gathered l.after l.fresh;
-      same_wins = laws.same_wins l.gathered l.after l.fresh;
-      new_claims = laws.claims l.board l.words l.before l.after l.forest.claims l.forest.leaves l.agree grow l.settles;
-      new_wins = laws.wins l.board l.words l.before l.after l.forest.claims l.forest.leaves l.agree grow l.settles;
-      rows = laws.rows l.board l.words l.before l.after l.forest.claims l.forest.leaves l.agree grow l.settles;
-      roots = laws.roots l.board l.words l.before l.after l.forest.claims l.forest.leaves l.agree grow l.settles;
-      row_known = λ v row col. laws.row_known l.board l.words (seats_of l.after) v row col l.settles;
-      root_known = λ v root leaf. laws.root_known l.board l.words (seats_of l.after) v root leaf l.settles;
-    }
-
 began : (l : Level) → EachPairFrom (λ (j : ℕ). λ (v w : WorkerState). Began l.forest (l.own j) v w) 0 l.before l.after
 began l = all_began l.forest l.own 0 l.before l.after l.progress l.agree.no_claims l.agree.no_wins
 
-pub places : (l : Level) → LevelTold l → (r c : ℕ) → Among (r, c) (fresh_claims_of l.gathered) → IsEntry l.forest.matrix r c × InForest l.forest c
+pub places : (l : Level) → WordsTell l → (r c : ℕ) → Among (r, c) (fresh_claims_of l.gathered) → IsEntry l.forest.matrix r c × InForest l.forest c
 places l t r c m =
     let by = claim_by _ 0 l.before l.after (r, c) (began l) (subst (λ (ps : List Place). Among (r, c) ps) t.same_claims m) in
     by.has.progress.entries r c (subst (λ (ps : List Place). Among (r, c) ps) (fresh_claims_are l.forest (l.own by.number) by.was by.worker by.has) by.lists)
 
-leaf_for : (l : Level) (x r : ℕ) (w : WorkerState) → LevelTold l → Among w l.after → IsLeafFor l.forest w x r
+leaf_for : (l : Level) (x r : ℕ) (w : WorkerState) → WordsTell l → Among w l.after → IsLeafFor l.forest w x r
     → (¬ Among x (cols_of l.forest.base)) × (¬ Among r (rows_of l.forest.base)) × IsRootOfRow l.forest.base (l.forest.claims ++ fresh_claims_of l.gathered) x r
 leaf_for l x r w t m (free, (c, claimed, root)) = (
   root_unmatched l.forest.base l.forest.claims x c root,
@@ -132,19 +92,19 @@ leaf_for l x r w t m (free, (c, claimed, root)) = (
   ),
 )
 
-pub leaves : (l : Level) → LevelTold l → (x r : ℕ) → Among (x, r) (fresh_wins_of l.gathered)
+pub leaves : (l : Level) → WordsTell l → (x r : ℕ) → Among (x, r) (fresh_wins_of l.gathered)
     → (¬ Among x (cols_of l.forest.base)) × (¬ Among r (rows_of l.forest.base)) × IsRootOfRow l.forest.base (l.forest.claims ++ fresh_claims_of l.gathered) x r
 leaves l t x r m =
     let by = win_by _ 0 l.before l.after (x, r) (began l) (subst (λ (ps : List (ℕ × ℕ)). Among (x, r) ps) t.same_wins m) in
     leaf_for l x r by.worker t by.one_of (by.has.progress.leaves x r (subst (λ (ps : List (ℕ × ℕ)). Among (x, r) ps) (fresh_wins_are l.forest (l.own by.number) by.was by.worker by.has) by.lists))
 
-pub new_claims_of : (l : Level) → LevelTold l → AreNew l.forest.claims (fresh_claims_of l.gathered)
+pub new_claims_of : (l : Level) → WordsTell l → AreNew l.forest.claims (fresh_claims_of l.gathered)
 new_claims_of l t = subst (λ (ps : List Place). AreNew l.forest.claims ps) (sym t.same_claims) t.new_claims
 
-pub new_wins_of : (l : Level) → LevelTold l → AreNew l.forest.leaves (fresh_wins_of l.gathered)
+pub new_wins_of : (l : Level) → WordsTell l → AreNew l.forest.leaves (fresh_wins_of l.gathered)
 new_wins_of l t = subst (λ (ps : List (ℕ × ℕ)). AreNew l.forest.leaves ps) (sym t.same_wins) t.new_wins
 
-pub shown : (l : Level) → LevelTold l → Shows l.board l.gathered (forest_after l).claims (forest_after l).leaves
+pub shown : (l : Level) → WordsTell l → Shows l.board l.gathered (forest_after l).claims (forest_after l).leaves
 shown l t = record {
   all_workers = l.all_workers;
   words = l.words;
@@ -158,23 +118,23 @@ shown l t = record {
 seat_among : (w : WorkerState) (ws : List WorkerState) → Among w ws → Among w.seat (seats_of ws)
 seat_among w ws m = among_map (λ (z : WorkerState). z.seat) w ws m
 
-holder_stands : (l : Level) (w : WorkerState) (r : ℕ) → LevelTold l → Among w l.after → KnowsHolder w r → Among r (rows_of (forest_after l).claims)
+holder_stands : (l : Level) (w : WorkerState) (r : ℕ) → WordsTell l → Among w l.after → KnowsHolder w r → Among r (rows_of (forest_after l).claims)
 holder_stands l w r t m (c, k) =
     let held_by = t.row_known w.seat r c (seat_among w l.after m) (board_of l.board w l.after t.all m) k in
     subst (λ (ps : List Place). Among r (rows_of (l.forest.claims ++ ps))) (sym t.same_claims) (row_among r c (l.forest.claims ++ fresh_claims_of l.after) ((t.rows r c).0 held_by))
 
-leaf_stands : (l : Level) (w : WorkerState) (x r : ℕ) → LevelTold l → Among w l.after → KnowsRoot w.seat x r → Among x (roots_of (forest_after l).leaves)
+leaf_stands : (l : Level) (w : WorkerState) (x r : ℕ) → WordsTell l → Among w l.after → KnowsRoot w.seat x r → Among x (roots_of (forest_after l).leaves)
 leaf_stands l w x r t m k =
     let won_by = t.root_known w.seat x r (seat_among w l.after m) (board_of l.board w l.after t.all m) k in
     subst (λ (ps : List (ℕ × ℕ)). Among x (roots_of (l.forest.leaves ++ ps))) (sym t.same_wins) (among_map (λ (p : ℕ × ℕ). p.0) (x, r) (l.forest.leaves ++ fresh_wins_of l.after) ((t.roots x r).0 won_by))
 
-won_stands : (l : Level) (w : WorkerState) (c : ℕ) → LevelTold l → Among w l.after → KnowsWon l.forest w c → HasWon (forest_after l) c
+won_stands : (l : Level) (w : WorkerState) (c : ℕ) → WordsTell l → Among w l.after → KnowsWon l.forest w c → HasWon (forest_after l) c
 won_stands l w c t m (x, root, (r, k)) = (x, root_grows l.forest.base l.forest.claims (fresh_claims_of l.gathered) x c root, leaf_stands l w x r t m k)
 
 -- Settled.
 
 pub settled_after : (l : Level) (P : ℕ → WorkerState → WorkerState → Type 0) → ((i : ℕ) (v w : WorkerState) → P i v w → HasSettled l.forest w)
-    → LevelTold l → EachPairFrom P 0 l.before l.after → IsSettled l.forest → IsSettled (forest_after l)
+    → WordsTell l → EachPairFrom P 0 l.before l.after → IsSettled l.forest → IsSettled (forest_after l)
 settled_after l P has t each old r m free =
     let (c, k) = row_pair r (l.forest.claims ++ fresh_claims_of l.gathered) m in
     ⊎_elim (was c) (is_new c) (among_either (r, c) l.forest.claims (fresh_claims_of l.gathered) k)
@@ -212,11 +172,11 @@ some_worker b (w ∷ ws) h = omega arith
 in_a_share : (l : Level) (xs : List ℕ) (x : ℕ) (Q : List ℕ → WorkerState → Type 0) → Among x xs
     → EachPairFrom (λ (i : ℕ). λ (v w : WorkerState). Q (share_of xs (length l.before) i) w) 0 l.before l.after → (share : List ℕ) × (w : WorkerState) × Among x share × Among w l.after × Q share w
 in_a_share l xs x Q m each =
-    let (i, few, mine) = shares_cover_list xs (length l.before) x (some_worker l.board l.before l.agree.shows.all_workers) m in
+    let (i, few, mine) = shares_cover_list xs (length l.before) x (some_worker l.board l.before l.agree.listed.all_workers) m in
     let (v, w, one, q) = numbered _ 0 i l.before l.after each few in
     (share_of xs (length l.before) i, w, mine, one, subst (λ k. Q (share_of xs (length l.before) k) w) (let e : 0 + i ≡ i = omega arith in e) q)
 
-pub columns_after : (l : Level) (cols : List ℕ) (c : ℕ) → LevelTold l → AreThroughColumns l cols → Among c cols
+pub columns_after : (l : Level) (cols : List ℕ) (c : ℕ) → WordsTell l → AreThroughColumns l cols → Among c cols
     → HasWon (forest_after l) c ⊎ IsUsedUp (forest_after l) c
 columns_after l cols c t through m =
     let (share, w, mine, one, q) = in_a_share l cols c (λ ss u. IsThroughColumns l.forest ss u) m through in
@@ -225,7 +185,7 @@ columns_after l cols c t through m =
     (λ all_held. inr (λ r entry. holder_stands l w r t one (all_held r entry)))
     (q.columns c mine)
 
-pub rows_after : (l : Level) (rows : List ℕ) (r c : ℕ) → LevelTold l → AreThroughRows l rows → Among r rows
+pub rows_after : (l : Level) (rows : List ℕ) (r c : ℕ) → WordsTell l → AreThroughRows l rows → Among r rows
     → IsEntry l.forest.matrix r c → InForest l.forest c → Among r (rows_of (forest_after l).claims) ⊎ HasWon (forest_after l) c
 rows_after l rows r c t through m entry inside =
     let (share, w, mine, one, q) = in_a_share l rows r (λ ss u. IsThroughRows l.forest ss u) m through in

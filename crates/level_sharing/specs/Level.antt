@@ -1,10 +1,13 @@
 -- A level: each worker has made some progress, and then their seats were gathered.
-use Rattle.std.specs.Prelude.{◌≡◌, ℕ, List, length}
+use Rattle.std.specs.Prelude.{◌≡◌, ℕ, List, ◌++◌, length, Some}
 use Rattle.bip_defs.specs.Forest.{State}
+use Rattle.bip_defs.specs.Lists.{Among, AreNew}
+use Rattle.bip_defs.specs.WordValues.{held}
 use Rattle.claim_words.specs.Board.{Board, Words}
+use Rattle.claim_words.specs.Seat.{KnowsRoot, KnowsRow, Seat}
 use Rattle.claim_words.specs.Settles.{SettlesAll}
-use Rattle.claim_words.specs.WorkerState.{AreAllWorkers, WorkerState, fresh_lists, seats_of}
-use Rattle.level_sharing.specs.Agreement.{Agree}
+use Rattle.claim_words.specs.WorkerState.{AreAllWorkers, WorkerState, fresh_claims_of, fresh_lists, fresh_wins_of, seats_of}
+use Rattle.level_sharing.specs.Agreement.{Agree, HoldThese}
 use Rattle.level_sharing.specs.Each.{EachPairFrom}
 use Rattle.level_sharing.specs.Growth.{grown}
 use Rattle.level_sharing.specs.Progress.{IsThroughColumns, IsThroughRows, Progress}
@@ -32,6 +35,47 @@ pub record Level : Type 0 where
   pub words : Words
   pub settles : SettlesAll board words (seats_of after)
   pub settles_gathered : SettlesAll board words (seats_of gathered)
+
+-- what `gather` tells of workers, and the words that it found
+abbrev pub AreGathered : Board → List WorkerState → List WorkerState → Type 0
+AreGathered b after gathered = AreAllWorkers b gathered × (fresh_lists gathered ≡ fresh_lists after)
+    × ((words : Words) × SettlesAll b words (seats_of after) × SettlesAll b words (seats_of gathered))
+
+-- the level of workers that went through it and were gathered
+abbrev pub level_of : (b : Board) (s : State) (own : ℕ → Share)
+    (before after gathered : List WorkerState) → Agree b before s.claims s.leaves
+    → HaveProgressed s own before after → AreGathered b after gathered → Level
+level_of b s own before after gathered agree progress (all_workers, fresh, (words, settles, again)) =
+    record {
+      board = b;
+      forest = s;
+      own = own;
+      before = before;
+      after = after;
+      gathered = gathered;
+      agree = agree;
+      progress = progress;
+      all_workers = all_workers;
+      fresh = fresh;
+      words = words;
+      settles = settles;
+      settles_gathered = again;
+    }
+
+-- What the words tell of a level. The fresh lists are of new words, the words hold the old claims
+-- and leaves with the fresh ones, and what a worker knew stands
+pub record WordsTell (l : Level) : Type 0 where
+  pub all : AreAllWorkers l.board l.after
+  pub same_claims : fresh_claims_of l.gathered ≡ fresh_claims_of l.after
+  pub same_wins : fresh_wins_of l.gathered ≡ fresh_wins_of l.after
+  pub new_claims : AreNew l.forest.claims (fresh_claims_of l.after)
+  pub new_wins : AreNew l.forest.leaves (fresh_wins_of l.after)
+  pub rows : HoldThese (l.forest.claims ++ fresh_claims_of l.after) l.words.rows
+  pub roots : HoldThese (l.forest.leaves ++ fresh_wins_of l.after) l.words.roots
+  pub row_known : (v : Seat) (row col : ℕ) → Among v (seats_of l.after) → v.board ≡ l.board
+      → KnowsRow v row col → held l.words.rows row ≡ Some col
+  pub root_known : (v : Seat) (root leaf : ℕ) → Among v (seats_of l.after) → v.board ≡ l.board
+      → KnowsRoot v root leaf → held l.words.roots root ≡ Some leaf
 
 -- the forest that the level leaves
 abbrev pub forest_after : Level → State

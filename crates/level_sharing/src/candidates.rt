@@ -64,16 +64,10 @@ fn claim_one(
     steps_are_progress();
     steps_are_remembered();
     steps_settle();
-    let Candidate {
-        row,
-        col,
-        root,
-        free,
-    } = candidate;
-    match worker.look_root(board, root) {
+    match worker.look_root(board, candidate.root) {
         Some(_) => Ok(()),
         None => {
-            claim_row(board, worker, row, col, root, free)?;
+            claim_row(board, worker, candidate)?;
             Ok(())
         }
     }

@@ -5,11 +5,12 @@ ghost use Rattle.bip_defs.specs.Forest.{State};
 ghost use Rattle.level_sharing.specs.Progress.{CanClaim, HasSettled, KnowsHolder, KnowsLeaf, Progress};
 ghost use Rattle.level_sharing.specs.Shares.{Share};
 
+use crate::candidate::Candidate;
 use crate::steps::{steps_are_progress, steps_are_remembered, steps_settle};
 use claim_words::{ClaimBoard, Claimed, Worker};
-use sp_ids::{Col, OutOfMemory, Row};
+use sp_ids::OutOfMemory;
 
-/// A worker claims a row for a column of the forest. Where it gets the row, and the row is free,
+/// A worker claims a candidate's row for its column. Where it gets the row, and the row is free,
 /// without a base mate, it wins the column's root for it. Tells whether it knows then that the root
 /// has a leaf.
 ///
@@ -18,24 +19,30 @@ use sp_ids::{Col, OutOfMemory, Row};
 pub fn claim_row(
     board: &ClaimBoard,
     worker: &mut Worker,
-    row: Row,
-    col: Col,
-    root: Col,
-    free: bool,
+    candidate: Candidate,
 ) -> Result<bool, OutOfMemory>
     requires seat { worker.old.seat.board ≡ board.now }
-    requires range { (row < length board.now.rows) × (root < length board.now.roots) }
-    ensures progress { (s : State) (own : Share) → CanClaim s own row col root free
+    requires range { (candidate.row < length board.now.rows)
+        × (candidate.root < length board.now.roots) }
+    ensures progress { (s : State) (own : Share)
+        → CanClaim s own candidate.row candidate.col candidate.root candidate.free
         → Progress s own worker.old worker.new }
-    ensures settled { OnOk result ((s : State) (own : Share) → CanClaim s own row col root free
+    ensures settled { OnOk result ((s : State) (own : Share)
+        → CanClaim s own candidate.row candidate.col candidate.root candidate.free
         → HasSettled s worker.old → HasSettled s worker.new) }
     ensures seat { worker.new.seat.board ≡ worker.old.seat.board }
-    ensures holder { OnOk result (KnowsHolder worker.new row) }
-    ensures leaf { IfOk result (λ won. IsTrue won → KnowsLeaf worker.new root) }
+    ensures holder { OnOk result (KnowsHolder worker.new candidate.row) }
+    ensures leaf { IfOk result (λ won. IsTrue won → KnowsLeaf worker.new candidate.root) }
 {
     steps_are_progress();
     steps_are_remembered();
     steps_settle();
+    let Candidate {
+        row,
+        col,
+        root,
+        free,
+    } = candidate;
     match worker.claim(board, row, col)? {
         Claimed::Held(_) => Ok(false),
         Claimed::Mine => {

@@ -6,12 +6,12 @@ ghost use Rattle.claim_words.specs.Board.{Board, Words};
 ghost use Rattle.claim_words.specs.Seat.{new_seats};
 ghost use Rattle.claim_words.specs.Settles.{SettlesAll};
 ghost use Rattle.claim_words.specs.WorkerState.{HaveGrown, WorkerState, fresh_claims_of, fresh_wins_of, seated, seats_of, settled};
-ghost use Rattle.level_sharing.specs.Agreement.{Agree, HoldThese, Shows};
+ghost use Rattle.level_sharing.specs.Agreement.{Agree, HoldThese, ListThese, Shows};
 ghost use Rattle.level_sharing.specs.Shares.{share_of};
 
 use claim_words::{
     fresh_lists_add_up, fresh_lists_are_listed, listed_words_stand, new_seats_are_all, seats_stay,
-    times_add_up,
+    times_add_up, workers_grow,
 };
 
 /// Board and workers agreed with a forest, and since then the workers have listed more. Then the
@@ -43,11 +43,27 @@ pub fn fresh_lists_are_new()
     fresh_lists_are_listed();
 }
 
-/// Workers that show the claims and the leaves of a forest agree with it once they are settled.
-pub fn settled_workers_agree()
-    ensures { (b : Board) (ws : List WorkerState) (claims leaves : List (ℕ × ℕ))
-        → Shows b ws claims leaves → Agree b (map settled ws) claims leaves }
+/// Board and workers agreed with a forest, and since then the workers have listed more, by whatever
+/// steps. Then they list the claims and the leaves that there were with the fresh ones: no seats
+/// need be gathered for that.
+pub fn fresh_lists_are_added()
+    ensures { (b : Board) (before after : List WorkerState) (claims leaves : List (ℕ × ℕ))
+        → Agree b before claims leaves → HaveGrown before after
+        → ListThese b after (claims ++ fresh_claims_of after) (leaves ++ fresh_wins_of after) }
 {
+    workers_grow();
+    fresh_lists_are_listed();
+}
+
+/// Workers that list the claims and the leaves of a forest agree with it once they are settled, and
+/// so do workers that show them, since they list them.
+pub fn settled_workers_agree()
+    ensures listed { (b : Board) (ws : List WorkerState) (claims leaves : List (ℕ × ℕ))
+        → ListThese b ws claims leaves → Agree b (map settled ws) claims leaves }
+    ensures shown { (b : Board) (ws : List WorkerState) (claims leaves : List (ℕ × ℕ))
+        → Shows b ws claims leaves → ListThese b ws claims leaves }
+{
+    listed_words_stand();
     seats_stay();
 }
 

@@ -7,7 +7,7 @@ ghost use Rattle.bip_defs.specs.Matching.{cols_of, rows_of};
 ghost use Rattle.bip_defs.specs.Matrix.{IsEntry};
 ghost use Rattle.claim_words.specs.WorkerState.{fresh_claims_of, fresh_wins_of};
 ghost use Rattle.level_sharing.specs.Agreement.{Shows};
-ghost use Rattle.level_sharing.specs.Level.{AreThroughColumns, AreThroughRows, Level, forest_after};
+ghost use Rattle.level_sharing.specs.Level.{AreThroughColumns, AreThroughRows, Level, WordsTell, forest_after};
 ghost use Rattle.level_sharing.specs.Shares.{KeepToShares};
 
 use crate::laws::fresh_lists_are_new;
@@ -19,6 +19,16 @@ pub fn levels_keep_to_shares()
     ensures many { (l : Level) → length l.gathered ≡ length l.before }
 {
     workers_grow();
+}
+
+// What the words tell of a level.
+fn words_tell_of_levels()
+    ensures { (l : Level) → WordsTell l }
+{
+    fresh_lists_join();
+    workers_grow();
+    fresh_lists_are_new();
+    known_values_stand();
 }
 
 /// A level is legal: its fresh claims are of new rows, at places of the matrix and by columns that
@@ -33,10 +43,7 @@ pub fn levels_are_legal()
         → (¬ Among x (cols_of l.forest.base)) × (¬ Among r (rows_of l.forest.base))
         × IsRootOfRow l.forest.base (l.forest.claims ++ fresh_claims_of l.gathered) x r }
 {
-    fresh_lists_join();
-    workers_grow();
-    fresh_lists_are_new();
-    known_values_stand();
+    words_tell_of_levels();
 }
 
 /// After a level board and workers show the forest that the level leaves.
@@ -44,10 +51,7 @@ pub fn levels_are_shown()
     ensures { (l : Level)
         → Shows l.board l.gathered (forest_after l).claims (forest_after l).leaves }
 {
-    fresh_lists_join();
-    workers_grow();
-    fresh_lists_are_new();
-    known_values_stand();
+    words_tell_of_levels();
 }
 
 /// A level of which each worker is through with its share of these columns leaves a settled forest
@@ -58,10 +62,7 @@ pub fn levels_go_through_columns()
     ensures columns { (l : Level) (cols : List ℕ) (c : ℕ) → AreThroughColumns l cols → Among c cols
         → HasWon (forest_after l) c ⊎ IsUsedUp (forest_after l) c }
 {
-    fresh_lists_join();
-    workers_grow();
-    fresh_lists_are_new();
-    known_values_stand();
+    words_tell_of_levels();
 }
 
 /// A level of which each worker is through with its share of these rows leaves a settled forest
@@ -74,8 +75,5 @@ pub fn levels_go_through_rows()
         → IsEntry l.forest.matrix r c → InForest l.forest c
         → Among r (rows_of (forest_after l).claims) ⊎ HasWon (forest_after l) c }
 {
-    fresh_lists_join();
-    workers_grow();
-    fresh_lists_are_new();
-    known_values_stand();
+    words_tell_of_levels();
 }

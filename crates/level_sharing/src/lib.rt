@@ -20,7 +20,8 @@ pub use candidate::Candidate;
 pub use candidates::claim_all;
 pub use claims::claim_row;
 pub use laws::{
-    fresh_lists_are_new, new_workers_agree, settled_workers_agree, shares_cover_a_list,
+    fresh_lists_are_added, fresh_lists_are_new, new_workers_agree, settled_workers_agree,
+    shares_cover_a_list,
 };
 pub use levels::{
     levels_are_legal, levels_are_shown, levels_go_through_columns, levels_go_through_rows,

@@ -1,18 +1,19 @@
 use Rattle.std.proofs.Common.{length}
 use Rattle.std.proofs.lemmas.Result.{on_ok_weaker}
+use Rattle.level_sharing.specs.Level.{level_of}
 use Rattle.level_sharing.specs.Shares.{shares_of_rows}
-use Rattle.bottom_up.proofs.LevelLemmas.{keep_to_rows, level_of}
+use Rattle.bottom_up.proofs.LevelLemmas.{keep_to_rows}
 use Rattle.bottom_up.proofs.level.attach.Goals as goal
 
 pub work_at_once-result-requires-clause-begin : goal.work_at_once-result-requires-clause-begin
 work_at_once-result-requires-clause-begin g c κs within = c.workers_are_at_the_start.ensures c.args.forest.now c.args.board.now c.args.workers.now _ _ c.requires.agree
 
 pub gather-requires : goal.gather-requires
-gather-requires g c = c.progress_keeps_seats.ensures c.args.forest.now (shares_of_rows c.args.free.now (length c.args.workers.now)) c.args.board.now c.args.workers.now c.work_at_once-result.new.workers c.work_at_once-result.ensures.always c.requires.agree.shows.all_workers
+gather-requires g c = c.progress_keeps_seats.ensures c.args.forest.now (shares_of_rows c.args.free.now (length c.args.workers.now)) c.args.board.now c.args.workers.now c.work_at_once-result.new.workers c.work_at_once-result.ensures.always c.requires.agree.listed.all_workers
 
 pub returns : goal.returns
 returns g c =
-    let level = level_of c.args.board.now c.args.forest.now c.args.free.now c.args.workers.now c.work_at_once-result.new.workers c.gather.new.workers c.requires.agree c.work_at_once-result.ensures.always c.gather.ensures.all c.gather.ensures.fresh c.gather.ensures.words in
+    let level = level_of c.args.board.now c.args.forest.now (shares_of_rows c.args.free.now (length c.args.workers.now)) c.args.workers.now c.work_at_once-result.new.workers c.gather.new.workers c.requires.agree c.work_at_once-result.ensures.always (c.gather.ensures.all, c.gather.ensures.fresh, c.gather.ensures.words) in
     record {
       legal = c.new_pairs_run.ensures c.args.forest.now _ _ (c.levels_are_legal.ensures.claims level) (c.levels_are_legal.ensures.places level) (c.levels_are_legal.ensures.wins level) (c.levels_are_legal.ensures.leaves level);
       words = c.levels_are_shown.ensures level;

@@ -16,4 +16,7 @@ make_wins-requires c =
     subst (λ (s : State). Runs s (win_events (fresh_wins_of c.args.workers.now)) (with_leaves s (fresh_wins_of c.args.workers.now))) (sym c.make_claims.ensures) wins
 
 pub returns-clause-agree : goal.returns-clause-agree
-returns-clause-agree c = λ b shows. subst (λ (ws : List WorkerState). Agree b ws c.make_wins.new.forest.claims c.make_wins.new.forest.leaves) (sym c.settle.ensures) (c.settled_workers_agree.ensures b c.args.workers.now _ _ shows)
+returns-clause-agree c = λ b shows. subst (λ (ws : List WorkerState). Agree b ws c.make_wins.new.forest.claims c.make_wins.new.forest.leaves) (sym c.settle.ensures) (c.settled_workers_agree.ensures.listed b c.args.workers.now _ _ (c.settled_workers_agree.ensures.shown b c.args.workers.now _ _ shows))
+
+pub returns-clause-listed : goal.returns-clause-listed
+returns-clause-listed c = λ b listed. subst (λ (ws : List WorkerState). Agree b ws c.make_wins.new.forest.claims c.make_wins.new.forest.leaves) (sym c.settle.ensures) (c.settled_workers_agree.ensures.listed b c.args.workers.now _ _ listed)

@@ -1,6 +1,7 @@
 use Rattle.std.proofs.Common.{length, sym, subst}
 use Rattle.std.proofs.lemmas.Result.{on_ok_weaker}
-use Rattle.frontier_levels.proofs.LevelLemmas.{all_may_begin, level_down}
+use Rattle.frontier_levels.proofs.LevelLemmas.{all_may_begin}
+use Rattle.level_sharing.specs.Level.{level_of}
 use Rattle.level_sharing.specs.Shares.{KeepToShares, shares_by_columns}
 use Rattle.frontier_levels.proofs.levels.top_down.Goals as goal
 
@@ -11,27 +12,15 @@ work_at_once-result-requires-clause-begin g c κs within =
     (c.workers_are_at_the_start.ensures c.args.forest.now c.args.board.now c.args.workers.now c.args.forest.now.claims c.args.forest.now.leaves c.requires.agree)
 
 pub gather-requires : goal.gather-requires
-gather-requires g c = c.progress_keeps_seats.ensures c.args.forest.now (shares_by_columns c.args.frontier.now (length c.args.workers.now)) c.args.board.now c.args.workers.now c.work_at_once-result.new.workers c.work_at_once-result.ensures.always c.requires.agree.shows.all_workers
+gather-requires g c = c.progress_keeps_seats.ensures c.args.forest.now (shares_by_columns c.args.frontier.now (length c.args.workers.now)) c.args.board.now c.args.workers.now c.work_at_once-result.new.workers c.work_at_once-result.ensures.always c.requires.agree.listed.all_workers
 
-pub returns-clause-legal : goal.returns-clause-legal
-returns-clause-legal g c =
-    let l = level_down c.args.forest.now c.args.board.now c.args.frontier.now c.args.workers.now c.work_at_once-result.new.workers c.gather.new.workers c.requires.agree c.work_at_once-result.ensures.always c.gather.ensures.all c.gather.ensures.fresh c.gather.ensures.words in
-    c.new_pairs_run.ensures c.args.forest.now _ _ (c.levels_are_legal.ensures.claims l) (c.levels_are_legal.ensures.places l) (c.levels_are_legal.ensures.wins l) (c.levels_are_legal.ensures.leaves l)
-
-pub returns-clause-words : goal.returns-clause-words
-returns-clause-words g c = c.levels_are_shown.ensures (level_down c.args.forest.now c.args.board.now c.args.frontier.now c.args.workers.now c.work_at_once-result.new.workers c.gather.new.workers c.requires.agree c.work_at_once-result.ensures.always c.gather.ensures.all c.gather.ensures.fresh c.gather.ensures.words)
-
-pub returns-clause-shares : goal.returns-clause-shares
-returns-clause-shares g c =
-    let l = level_down c.args.forest.now c.args.board.now c.args.frontier.now c.args.workers.now c.work_at_once-result.new.workers c.gather.new.workers c.requires.agree c.work_at_once-result.ensures.always c.gather.ensures.all c.gather.ensures.fresh c.gather.ensures.words in
-    subst (λ n. KeepToShares (shares_by_columns c.args.frontier.now n) c.gather.new.workers) (sym (c.levels_keep_to_shares.ensures.many l)) (c.levels_keep_to_shares.ensures.shares l)
-
-pub returns-clause-settled : goal.returns-clause-settled
-returns-clause-settled g c =
-    let l = level_down c.args.forest.now c.args.board.now c.args.frontier.now c.args.workers.now c.work_at_once-result.new.workers c.gather.new.workers c.requires.agree c.work_at_once-result.ensures.always c.gather.ensures.all c.gather.ensures.fresh c.gather.ensures.words in
-    on_ok_weaker c.work_at_once-result.result (λ through. c.levels_go_through_columns.ensures.settled l c.args.frontier.now through c.requires.settled) c.work_at_once-result.ensures.ok
-
-pub returns-clause-frontier : goal.returns-clause-frontier
-returns-clause-frontier g c =
-    let l = level_down c.args.forest.now c.args.board.now c.args.frontier.now c.args.workers.now c.work_at_once-result.new.workers c.gather.new.workers c.requires.agree c.work_at_once-result.ensures.always c.gather.ensures.all c.gather.ensures.fresh c.gather.ensures.words in
-    on_ok_weaker c.work_at_once-result.result (λ through d. c.levels_go_through_columns.ensures.columns l c.args.frontier.now d through) c.work_at_once-result.ensures.ok
+pub returns : goal.returns
+returns g c =
+    let l = level_of c.args.board.now c.args.forest.now (shares_by_columns c.args.frontier.now (length c.args.workers.now)) c.args.workers.now c.work_at_once-result.new.workers c.gather.new.workers c.requires.agree c.work_at_once-result.ensures.always (c.gather.ensures.all, c.gather.ensures.fresh, c.gather.ensures.words) in
+    record {
+      legal = c.new_pairs_run.ensures c.args.forest.now _ _ (c.levels_are_legal.ensures.claims l) (c.levels_are_legal.ensures.places l) (c.levels_are_legal.ensures.wins l) (c.levels_are_legal.ensures.leaves l);
+      words = c.levels_are_shown.ensures l;
+      shares = subst (λ n. KeepToShares (shares_by_columns c.args.frontier.now n) c.gather.new.workers) (sym (c.levels_keep_to_shares.ensures.many l)) (c.levels_keep_to_shares.ensures.shares l);
+      settled = on_ok_weaker c.work_at_once-result.result (λ through. c.levels_go_through_columns.ensures.settled l c.args.frontier.now through c.requires.settled) c.work_at_once-result.ensures.ok;
+      frontier = on_ok_weaker c.work_at_once-result.result (λ through d. c.levels_go_through_columns.ensures.columns l c.args.frontier.now d through) c.work_at_once-result.ensures.ok;
+    }

@@ -1,23 +1,10 @@
-use Rattle.level_sharing.proofs.GrownForests.{LevelLaws, level_known, leaves, new_claims_of, new_wins_of, places}
+use Rattle.level_sharing.proofs.GrownForests.{leaves, new_claims_of, new_wins_of, places}
 use Rattle.level_sharing.proofs.levels.levels_are_legal.Goals as goal
-
-laws : goal.After-known_values_stand → LevelLaws
-laws c = record {
-  all = c.workers_grow.ensures.all;
-  same_claims = c.fresh_lists_join.ensures.same_claims;
-  same_wins = c.fresh_lists_join.ensures.same_wins;
-  claims = c.fresh_lists_are_new.ensures.claims;
-  wins = c.fresh_lists_are_new.ensures.wins;
-  rows = c.fresh_lists_are_new.ensures.rows;
-  roots = c.fresh_lists_are_new.ensures.roots;
-  row_known = c.known_values_stand.ensures.rows;
-  root_known = c.known_values_stand.ensures.roots;
-}
 
 pub returns : goal.returns
 returns c = record {
-  claims = λ l. new_claims_of l (level_known (laws c) l);
-  places = λ l. places l (level_known (laws c) l);
-  wins = λ l. new_wins_of l (level_known (laws c) l);
-  leaves = λ l. leaves l (level_known (laws c) l);
+  claims = λ l. new_claims_of l (c.words_tell_of_levels.ensures l);
+  places = λ l. places l (c.words_tell_of_levels.ensures l);
+  wins = λ l. new_wins_of l (c.words_tell_of_levels.ensures l);
+  leaves = λ l. leaves l (c.words_tell_of_levels.ensures l);
 }
