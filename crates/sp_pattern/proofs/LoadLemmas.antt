@@ -1,12 +1,13 @@
 -- The load matrix, column by column.
-use Rattle.std.proofs.Common.{◌≡◌, ◌≢◌, ◌⊎◌, ◌↔◌, ◌∙◌, ℕ, zero, suc, ◌+◌, ◌*◌, ◌/◌, ◌%◌, ◌<◌, ◌≤◌, List, [], ◌∷◌, ◌++◌, length, map, nat_eq, if◌then◌else◌, refl, sym, ap, arith, subst, inl, inr, ⊎_elim, eq-eqb, append_assoc, append-nil, false, length-append}
+use Rattle.std.proofs.Common.{◌≡◌, ◌≢◌, ◌⊎◌, ◌↔◌, ◌∙◌, ℕ, zero, suc, ◌+◌, ◌*◌, ◌/◌, ◌%◌, ◌<◌, ◌≤◌, List, [], ◌∷◌, ◌++◌, length, map, nat_eq, if◌then◌else◌, refl, sym, ap, arith, subst, inl, inr, ⊎_elim, eq-eqb, append_assoc, append-nil, false, length-append, slice_index_or, IsPermutation}
 use Rattle.std.proofs.Math.Nat.{div-add-mod, add-mul-mod_self_left, mod-lt}
 use Rattle.std.proofs.lemmas.Bool.Decides.{nat_tests}
+use Rattle.std.proofs.lemmas.List.Sorted.{Contains-permutation, IsPermutation-sym, length_permutation}
 use Rattle.std.specs.List.{flat_map}
 use Rattle.bip_defs.specs.Lists.{Among, IsRising}
 use Rattle.bip_defs.specs.Matching.{transposed_places}
 use Rattle.bip_defs.specs.Matrix.{Place, upto, upto_from}
-use Rattle.bip_defs.proofs.Sets.{among_either, among_last, among_left, among_right, below_each_sound, number_same, upto_complete, upto_sound}
+use Rattle.bip_defs.proofs.Sets.{among_either, among_from_contains, among_last, among_left, among_right, below_each_sound, contains_from_among, number_same, upto_complete, upto_sound}
 use Rattle.bip_defs.proofs.Transposed.{turned_among, turned_back, turned_length}
 use Rattle.sp_pattern.specs.Load.{IsOneOf, after_one, distinct_of, load_column, load_places}
 use Rattle.sp_pattern.specs.Pairs.{IsBefore, IsCompressed, IsOrderOf, Pair}
@@ -58,6 +59,27 @@ columns_back size seed (k ∷ ks) c r (inr h) g = among_right (r, c) (load_colum
 length-columns : (size seed : ℕ) (k n : ℕ) → length (flat_map (load_column size seed) (upto_from k n)) ≡ 3 * n
 length-columns size seed k zero = refl
 length-columns size seed k (suc n) = let rest = length-columns size seed (suc k) n in omega (arith, rest)
+
+-- Three numbers in another order.
+
+among_three : (xs : List ℕ) → length xs ≡ 3 → (x : ℕ) → Among x xs ↔ IsOneOf (slice_index_or xs 0 0) (slice_index_or xs 1 0) (slice_index_or xs 2 0) x
+among_three (a ∷ b ∷ c ∷ []) long x = ((λ h. elim h [ inl e ↦ inl e | inr g ↦ elim g [ inl e ↦ inr (inl e) | inr k ↦ elim k [ inl e ↦ inr (inr e) | inr l ↦ absurd l ] ] ]), λ h. elim h [ inl e ↦ inl e | inr g ↦ elim g [ inl e ↦ inr (inl e) | inr e ↦ inr (inr (inl e)) ] ])
+among_three [] long x = absurd (omega (arith, long))
+among_three (a ∷ []) long x = absurd (omega (arith, long))
+among_three (a ∷ b ∷ []) long x = absurd (omega (arith, long))
+among_three (a ∷ b ∷ c ∷ d ∷ xs) long x = absurd (omega (arith, long))
+
+one_of_permuted : (xs ys : List ℕ) → length xs ≡ 3 → IsPermutation xs ys → (x : ℕ) → IsOneOf (slice_index_or xs 0 0) (slice_index_or xs 1 0) (slice_index_or xs 2 0) x → IsOneOf (slice_index_or ys 0 0) (slice_index_or ys 1 0) (slice_index_or ys 2 0) x
+one_of_permuted xs ys long moved x h =
+    let kept = Contains-permutation xs ys x moved (contains_from_among x xs ((among_three xs long x).1 h)) in
+    (among_three ys (length_permutation xs ys moved ∙ long) x).0 (among_from_contains x ys kept)
+
+-- three numbers in another order are the same three
+pub same_three : (a b c : ℕ) (ys : List ℕ) → IsPermutation (a ∷ b ∷ c ∷ []) ys → (x : ℕ) → IsOneOf (slice_index_or ys 0 0) (slice_index_or ys 1 0) (slice_index_or ys 2 0) x ↔ IsOneOf a b c x
+same_three a b c ys moved x = (
+  one_of_permuted ys (a ∷ b ∷ c ∷ []) (length_permutation _ ys moved) (IsPermutation-sym _ ys moved) x,
+  one_of_permuted (a ∷ b ∷ c ∷ []) ys refl moved x,
+)
 
 -- Three numbers in order, each once.
 
