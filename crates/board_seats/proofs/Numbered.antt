@@ -135,11 +135,11 @@ module _ {B L : Type 0} where
       let back = IsPermutation-sym ss ts moved in
       numbered_all b ts (let some = all.some in omega (arith, some, long)) (λ s h zeroth. all.counted s (among_permuted ts ss s back h) zeroth ∙ sym long)
       (sorted_numbered 0 ts (λ s h. all.boards s (among_permuted ts ss s back h)) (λ n.
-        let counts = all.numbers n in
-        let same = sum_by-IsPermutation (has_number n) ss ts moved in
-        let none = below_not n 0 (omega arith) in
-        let e : below n (length ss) ≡ below n (0 + length ts) = ap (below n) (omega (arith, long)) in
-        omega (arith, counts, same, none, e)) rising)
+      let counts = all.numbers n in
+      let same = sum_by-IsPermutation (has_number n) ss ts moved in
+      let none = below_not n 0 (omega arith) in
+      let e : below n (length ss) ≡ below n (0 + length ts) = ap (below n) (omega (arith, long)) in
+      omega (arith, counts, same, none, e)) rising)
 
   -- All seats stay all seats, whatever they list.
 

@@ -22,8 +22,8 @@ pub use answers::{Claimed, Won};
 pub use board::ClaimBoard;
 pub use closed::Closed;
 pub use laws::{
-    known_values_stand, listed_words_stand, new_seats_are_all, seats_in_order_are_all, times_add_up,
-    words_are_listed,
+    known_values_stand, listed_words_stand, new_seats_are_all, seats_in_order_are_all,
+    times_add_up, words_are_listed,
 };
 pub use seat::ClaimSeat;
 pub use worker::{Worker, workers_are_few};

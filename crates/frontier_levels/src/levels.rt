@@ -8,10 +8,9 @@ ghost use Rattle.forest_core.specs.Events.{Runs};
 ghost use Rattle.level_sharing.specs.Agreement.{Agree, Shows};
 ghost use Rattle.level_sharing.specs.Growth.{fresh_events, grown};
 ghost use Rattle.level_sharing.specs.Shares.{KeepToColumns};
-ghost use Rattle.sp_ids.specs.Limits.{max_workers};
 
 use crate::search::Search;
-use claim_words::{ClaimBoard, Worker};
+use claim_words::{ClaimBoard, Worker, workers_are_few};
 use forest_core::{Forest, new_pairs_run};
 use level_sharing::{
     Work, levels_are_legal, levels_are_shown, levels_go_through_columns, levels_keep_to_shares,
@@ -43,7 +42,6 @@ pub fn top_down<R: Threads + Sync, G: Gate>(
     workers: &mut [Worker],
     gate: &G,
 ) -> Result<(), OutOfMemory>
-    requires few { length workers.old ≤ max_workers }
     requires agree { Agree board.now workers.old forest.now.claims forest.now.leaves }
     requires rows { length board.now.rows ≡ forest.now.matrix.rows }
     requires roots { length board.now.roots ≡ cols forest.now.matrix }
@@ -59,6 +57,7 @@ pub fn top_down<R: Threads + Sync, G: Gate>(
         → HasWon (grown forest.entry.now workers.new) c
         ⊎ IsUsedUp (grown forest.entry.now workers.new) c) }
 {
+    workers_are_few(workers);
     workers_are_at_the_start();
     progress_keeps_seats();
     levels_are_legal();

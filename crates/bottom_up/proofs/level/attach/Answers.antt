@@ -1,4 +1,4 @@
-use Rattle.std.proofs.Common.{length}
+use Rattle.std.proofs.Common.{length, arith}
 use Rattle.std.proofs.lemmas.Result.{on_ok_weaker}
 use Rattle.level_sharing.specs.Level.{level_of}
 use Rattle.level_sharing.specs.Shares.{shares_of_rows}
@@ -21,3 +21,7 @@ returns g c =
       settled = on_ok_weaker c.work_at_once-result.result (λ through. c.levels_go_through_rows.ensures.settled level c.args.free.now through c.requires.settled) c.work_at_once-result.ensures.ok;
       rows = on_ok_weaker c.work_at_once-result.result (λ through r d. c.levels_go_through_rows.ensures.rows level c.args.free.now r d through) c.work_at_once-result.ensures.ok;
     }
+
+pub work_at_once-result-requires-clause-few : goal.work_at_once-result-requires-clause-few
+work_at_once-result-requires-clause-few g c κs within =
+    let few = c.workers_are_few.ensures c.args.board.now c.requires.agree.listed.all_workers in omega (arith, few)

@@ -1,4 +1,4 @@
-use Rattle.std.proofs.Common.{length, sym, subst}
+use Rattle.std.proofs.Common.{length, sym, subst, arith}
 use Rattle.std.proofs.lemmas.Result.{on_ok_weaker}
 use Rattle.frontier_levels.proofs.LevelLemmas.{all_may_begin}
 use Rattle.level_sharing.specs.Level.{level_of}
@@ -24,3 +24,7 @@ returns g c =
       settled = on_ok_weaker c.work_at_once-result.result (λ through. c.levels_go_through_columns.ensures.settled l c.args.frontier.now through c.requires.settled) c.work_at_once-result.ensures.ok;
       frontier = on_ok_weaker c.work_at_once-result.result (λ through d. c.levels_go_through_columns.ensures.columns l c.args.frontier.now d through) c.work_at_once-result.ensures.ok;
     }
+
+pub work_at_once-result-requires-clause-few : goal.work_at_once-result-requires-clause-few
+work_at_once-result-requires-clause-few g c κs within =
+    let few = c.workers_are_few.ensures c.args.board.now c.requires.agree.listed.all_workers in omega (arith, few)
