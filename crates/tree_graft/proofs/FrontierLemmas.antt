@@ -6,10 +6,11 @@ use Rattle.bip_defs.specs.Lists.{Among, Lists}
 use Rattle.bip_defs.specs.Matching.{IsMatching, cols_of, rows_of}
 use Rattle.bip_defs.specs.Matrix.{IsEntry, Matrix, Place, cols}
 use Rattle.bip_defs.proofs.Full.{few_below}
-use Rattle.bip_defs.proofs.Sets.{among_either, among_last, among_left, among_right, entry_col, number_among, one_col, rising_distinct, row_among, row_pair}
-use Rattle.bip_defs.specs.Forest.{HasWon, InForest, IsWon, RootOf, State, above, roots_of}
+use Rattle.bip_defs.proofs.Sets.{among_either, among_last, among_left, among_right, distinct_last, entry_col, number_among, one_col, one_row, rising_distinct, row_among, row_pair}
+use Rattle.bip_defs.specs.Forest.{HasWon, InForest, IsRootOfRow, IsWon, RootOf, State, above, roots_of}
 use Rattle.forest_core.specs.Events.{Grows}
 use Rattle.tree_graft.specs.Search.{AreMatesOf, IsFrontier, IsScanned, levels_left}
+use Rattle.tree_graft.proofs.SearchLemmas.{row_last, rows_had, rows_more}
 
 -- what is scanned stays scanned
 pub scanned_more : (s t : State) → Grows s t → (c : ℕ) → IsScanned s c → IsScanned t c
@@ -21,6 +22,7 @@ scanned_more s t g c (inr all) = inr (g.used_up c all)
 pub unmatched_are_frontier : (s : State) (f : List ℕ) → s.claims ≡ [] → cols s.matrix < 2 ^ 32 → Lists (λ c. (c < cols s.matrix) × (¬ Among c (cols_of s.base))) f → IsFrontier s f
 unmatched_are_frontier s f none few k = record {
   few = let short = few_below (cols s.matrix) f (rising_distinct f k.rising) (λ c h. (k.sound c h).0) in omega (arith, short, few);
+  once = rising_distinct f k.rising;
   inside = λ c h. ((k.sound c h).0, inl (k.sound c h).1);
   others = λ c i. inl (root c i);
 }
@@ -66,10 +68,18 @@ claimed_or_last s t last e r h = among_either r (rows_of s.claims) (rows_of last
 pub last_claimed : (s t : State) (last : List Place) → t.claims ≡ s.claims ++ last → (r : ℕ) → Among r (rows_of last) → Among r (rows_of t.claims)
 last_claimed s t last e r h = subst (Among r) (sym (ap rows_of e ∙ map-append (λ (p : Place). p.0) s.claims last)) (among_right r (rows_of s.claims) (rows_of last) h)
 
-pub next_is_frontier : (s t : State) (last : List Place) (f : List ℕ) → IsMatching t.matrix t.base → Grows s t → t.claims ≡ s.claims ++ last → length t.claims < 2 ^ 32 → ((c : ℕ) → InForest s c → IsScanned t c) → AreMatesOf t last f → IsFrontier t f
-next_is_frontier s t last f k g e few scanned mates = record {
-  few = let short = mates.few in let long = ap (λ (ps : List Place). length ps) e ∙ length-append s.claims last in omega (arith, few, short, long);
-  inside = λ c h. let (r, l, m) = mates.sound c h in (entry_col t.matrix r c (k.entries r c m), inr (r, m, last_claimed s t last e r l));
+-- a claimed row's root has a leaf, or has none
+pub won_or_not : (s : State) → ((r : ℕ) → Among r (rows_of s.claims) → (x : ℕ) × IsRootOfRow s.base s.claims x r) → ((x y r : ℕ) → IsRootOfRow s.base s.claims x r → IsRootOfRow s.base s.claims y r → x ≡ y) → (r : ℕ) → Among r (rows_of s.claims) → IsWon s r ⊎ (¬ IsWon s r)
+won_or_not s some one r h = let (x, up) = some r h in ⊎_elim
+    (λ (l : Among x (roots_of s.leaves)). inl (x, up, l))
+    (λ (none : ¬ Among x (roots_of s.leaves)). inr (λ (y, v, l). none (subst (λ z. Among z (roots_of s.leaves)) (one y x r v up) l)))
+    (number_among x (roots_of s.leaves))
+
+pub next_is_frontier : (s t : State) (last : List Place) (f : List ℕ) → IsMatching t.matrix t.base → ((r : ℕ) → Among r (rows_of t.claims) → IsWon t r ⊎ (¬ IsWon t r)) → Grows s t → t.claims ≡ s.claims ++ last → length t.claims < 2 ^ 32 → ((c : ℕ) → InForest s c → IsScanned t c) → AreMatesOf t last f → IsFrontier t f
+next_is_frontier s t last f k won g e few scanned are = record {
+  few = let short = are.few in let long = ap (λ (ps : List Place). length ps) e ∙ length-append s.claims last in omega (arith, few, short, long);
+  once = are.mates.distinct;
+  inside = λ c h. let (r, l, m, _) = are.mates.sound c h in (entry_col t.matrix r c (k.entries r c m), inr (r, m, last_claimed s t last e r l));
   others = λ c i. others c i;
 }
   where
@@ -80,7 +90,10 @@ next_is_frontier s t last f k g e few scanned mates = record {
     others c (lt, inl free) = before c (subst (λ (a : Matrix). c < cols a) g.matrix lt, inl (subst (λ (m : List Place). ¬ Among c (cols_of m)) g.base free))
     others c (lt, inr (r, m, h)) = ⊎_elim
         (λ l. before c (subst (λ (a : Matrix). c < cols a) g.matrix lt, inr (r, subst (λ (n : List Place). Among (r, c) n) g.base m, l)))
-        (λ l. ⊎_elim (λ (i : Among c f). inl i) (λ (w : HasWon t c). inr (inl w)) (mates.complete r c l m))
+        (λ l. ⊎_elim
+        (λ (w : IsWon t r). let (x, (d, i, up), leaf) = w in inr (inl (x, above r m i up, leaf)))
+        (λ (none : ¬ IsWon t r). inl (are.mates.complete c (r, l, m, none)))
+        (won r h))
         (claimed_or_last s t last e r h)
 
 -- The last level.
@@ -97,35 +110,24 @@ levels_fall s t (d ∷ ds) (h ∷ hs) ne same few more = let rows = ap (λ (a : 
 
 -- The mates of one claimed row after the other.
 
-rows_more : (last : List Place) (p : Place) (r : ℕ) → Among r (rows_of (last ++ p ∷ [])) → Among r (rows_of last) ⊎ (r ≡ p.0)
-rows_more last p r h = among_last r p.0 (rows_of last) (subst (Among r) (map-append (λ (q : Place). q.0) last (p ∷ [])) h)
-
-rows_had : (last : List Place) (p : Place) (r : ℕ) → Among r (rows_of last) → Among r (rows_of (last ++ p ∷ []))
-rows_had last p r h = subst (Among r) (sym (map-append (λ (q : Place). q.0) last (p ∷ []))) (among_left r (rows_of last) (p.0 ∷ []) h)
-
-row_last : (last : List Place) (p : Place) → Among p.0 (rows_of (last ++ p ∷ []))
-row_last last p = subst (Among p.0) (sym (map-append (λ (q : Place). q.0) last (p ∷ []))) (among_right p.0 (rows_of last) (p.0 ∷ []) (inl refl))
-
 -- the mate is put on the list
-pub mates_more : (s : State) (last : List Place) (f : List ℕ) (p : Place) (d : ℕ) → IsMatching s.matrix s.base → AreMatesOf s last f → Among (p.0, d) s.base → AreMatesOf s (last ++ p ∷ []) (f ++ d ∷ [])
-mates_more s last f p d k mates n = record {
-  few = let le = mates.few in omega (arith, le, length-append last (p ∷ []), length-append f (d ∷ []));
-  sound = λ c h. ⊎_elim (λ i. let (r, l, m) = mates.sound c i in (r, rows_had last p r l, m)) (λ (e : c ≡ d). (p.0, row_last last p, subst (λ z. Among {X = Place} (p.0, z) s.base) (sym e) n)) (among_last c d f h);
-  complete = λ r c h m. ⊎_elim (λ l. ⊎_elim (λ i. inl (among_left c f (d ∷ []) i)) (λ w. inr w) (mates.complete r c l m)) (λ (e : r ≡ p.0). inl (among_right c f (d ∷ []) (inl (one_col s.base k.rows_differ p.0 c d (subst (λ z. Among {X = Place} (z, c) s.base) e m) n)))) (rows_more last p r h);
+pub mates_more : (s : State) (last : List Place) (f : List ℕ) (p : Place) (d : ℕ) → IsMatching s.matrix s.base → (¬ Among p.0 (rows_of last)) → AreMatesOf s last f → (¬ IsWon s p.0) → Among (p.0, d) s.base → AreMatesOf s (last ++ p ∷ []) (f ++ d ∷ [])
+mates_more s last f p d k apart are none n = record {
+  few = let le = are.few in omega (arith, le, length-append last (p ∷ []), length-append f (d ∷ []));
+  mates = record {
+    distinct = distinct_last f d are.mates.distinct (λ h. let (r, l, m, _) = are.mates.sound d h in apart (subst (λ z. Among z (rows_of last)) (one_row s.base k.cols_differ r p.0 d m n) l));
+    sound = λ c h. ⊎_elim (λ i. let (r, l, m, w) = are.mates.sound c i in (r, rows_had last p r l, m, w)) (λ (e : c ≡ d). (p.0, row_last last p, subst (λ z. Among {X = Place} (p.0, z) s.base) (sym e) n, none)) (among_last c d f h);
+    complete = λ c (r, h, m, w). ⊎_elim (λ l. among_left c f (d ∷ []) (are.mates.complete c (r, l, m, w))) (λ (e : r ≡ p.0). among_right c f (d ∷ []) (inl (one_col s.base k.rows_differ p.0 c d (subst (λ z. Among {X = Place} (z, c) s.base) e m) n))) (rows_more last p r h);
+  };
 }
 
--- the row's root has a leaf
-pub mates_won : (s : State) (last : List Place) (f : List ℕ) (p : Place) → AreMatesOf s last f → IsWon s p.0 → AreMatesOf s (last ++ p ∷ []) f
-mates_won s last f p mates (x, (d, i, w), l) = record {
-  few = let le = mates.few in omega (arith, le, length-append last (p ∷ []));
-  sound = λ c h. let (r, g, m) = mates.sound c h in (r, rows_had last p r g, m);
-  complete = λ r c h m. ⊎_elim (λ g. mates.complete r c g m) (λ (e : r ≡ p.0). inr (x, above p.0 (subst (λ z. Among {X = Place} (z, c) s.base) e m) i w, l)) (rows_more last p r h);
-}
-
--- the row has no base mate
-pub mates_same : (s : State) (last : List Place) (f : List ℕ) (p : Place) → AreMatesOf s last f → ¬ Among p.0 (rows_of s.base) → AreMatesOf s (last ++ p ∷ []) f
-mates_same s last f p mates free = record {
-  few = let le = mates.few in omega (arith, le, length-append last (p ∷ []));
-  sound = λ c h. let (r, g, m) = mates.sound c h in (r, rows_had last p r g, m);
-  complete = λ r c h m. ⊎_elim (λ g. mates.complete r c g m) (λ (e : r ≡ p.0). absurd (free (subst (λ z. Among z (rows_of s.base)) e (row_among r c s.base m)))) (rows_more last p r h);
+-- the row's root has a leaf, or the row has no base mate
+pub mates_same : (s : State) (last : List Place) (f : List ℕ) (p : Place) → AreMatesOf s last f → ((c : ℕ) → Among (p.0, c) s.base → IsWon s p.0) → AreMatesOf s (last ++ p ∷ []) f
+mates_same s last f p are won = record {
+  few = let le = are.few in omega (arith, le, length-append last (p ∷ []));
+  mates = record {
+    distinct = are.mates.distinct;
+    sound = λ c h. let (r, l, m, w) = are.mates.sound c h in (r, rows_had last p r l, m, w);
+    complete = λ c (r, h, m, w). ⊎_elim (λ l. are.mates.complete c (r, l, m, w)) (λ (e : r ≡ p.0). absurd (w (subst (IsWon s) (sym e) (won c (subst (λ z. Among {X = Place} (z, c) s.base) e m))))) (rows_more last p r h);
+  };
 }

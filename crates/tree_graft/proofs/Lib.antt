@@ -1,4 +1,5 @@
 mod AugmentLemmas
+mod CountLemmas
 mod FrontierLemmas
 mod LevelLemmas
 mod PhaseLemmas

@@ -1,10 +1,11 @@
 -- What holds at the end of a search, and lists that are filled in order.
-use Rattle.std.proofs.Common.{◌≡◌, ◌≢◌, ◌∙◌, ◌==◌, ℕ, ◌+◌, ◌<◌, Bool, true, true≢false, Option, None, Some, IfNone, IfSome, false, is_some, List, [], ◌∷◌, ◌++◌, length, slice_index_or, refl, sym, subst, inl, inr, ⊎_elim, arith}
+use Rattle.std.proofs.Common.{◌≡◌, ◌≢◌, ◌∙◌, ◌==◌, ℕ, ◌+◌, ◌<◌, Bool, true, true≢false, Option, None, Some, IfNone, IfSome, false, is_some, List, [], ◌∷◌, ◌++◌, length, slice_index_or, take, ◌⊎◌, refl, sym, subst, inl, inr, ⊎_elim, arith}
 use Rattle.std.proofs.lemmas.Bool.{eqb-true}
-use Rattle.bip_defs.specs.Lists.{Among, Lists}
+use Rattle.std.proofs.lemmas.List.{get_or-map, length-map, map-append, take-map}
+use Rattle.bip_defs.specs.Lists.{Among, AreDistinct, Lists}
 use Rattle.bip_defs.specs.Matching.{cols_of, rows_of}
 use Rattle.bip_defs.specs.Matrix.{IsEntry, Place}
-use Rattle.bip_defs.proofs.Sets.{among_at, among_last, among_left, among_right, number_same, rising_last, row_among}
+use Rattle.bip_defs.proofs.Sets.{among_at, apart_from_front, among_last, among_left, among_right, number_same, rising_last, row_among}
 use Rattle.sp_ids.specs.declared.events.Event.TheVariants.{Done}
 use Rattle.forest_core.specs.Events.{IsLegal}
 use Rattle.bip_defs.specs.Forest.{InForest, IsRested, State, roots_of}
@@ -39,6 +40,30 @@ level_same P n xs k np = record {
   sound = λ x h. (let lt = (k.sound x h).0 in omega (arith, lt), (k.sound x h).1);
   complete = λ x h. ⊎_elim (λ (e : x ≡ n). absurd (np (subst P e h.1))) (λ (ne : x ≢ n). k.complete x (let lt = h.0 in omega arith, h.1)) (number_same x n);
 }
+
+-- Rows of claims.
+
+-- the rows of one claim more
+pub rows_more : (last : List Place) (p : Place) (r : ℕ) → Among r (rows_of (last ++ p ∷ [])) → Among r (rows_of last) ⊎ (r ≡ p.0)
+rows_more last p r h = among_last r p.0 (rows_of last) (subst (Among r) (map-append (λ (q : Place). q.0) last (p ∷ [])) h)
+
+pub rows_had : (last : List Place) (p : Place) (r : ℕ) → Among r (rows_of last) → Among r (rows_of (last ++ p ∷ []))
+rows_had last p r h = subst (Among r) (sym (map-append (λ (q : Place). q.0) last (p ∷ []))) (among_left r (rows_of last) (p.0 ∷ []) h)
+
+pub row_last : (last : List Place) (p : Place) → Among p.0 (rows_of (last ++ p ∷ []))
+row_last last p = subst (Among p.0) (sym (map-append (λ (q : Place). q.0) last (p ∷ []))) (among_right p.0 (rows_of last) (p.0 ∷ []) (inl refl))
+
+-- where the rows differ, a row is not among those before it
+pub row_apart : (ps : List Place) (k : ℕ) (d : Place) → k < length ps → AreDistinct (rows_of ps) → ¬ Among (slice_index_or ps k d).0 (rows_of (take k ps))
+row_apart ps k d lt differ h = apart_from_front k 0 (rows_of ps)
+    (let long = length-map ps (λ (q : Place). q.0) in omega (arith, lt, long))
+    differ
+    (subst (λ z. Among z (take k (rows_of ps))) (sym (get_or-map (λ (q : Place). q.0) ps k d 0 lt)) (subst (Among (slice_index_or ps k d).0) (sym (take-map (λ (q : Place). q.0) k ps)) h))
+
+-- the rows of the last claims differ where all do
+pub last_differ : (xs ys : List Place) → AreDistinct (rows_of (xs ++ ys)) → AreDistinct (rows_of ys)
+last_differ [] ys d = d
+last_differ (x ∷ xs) ys d = last_differ xs ys d.1
 
 -- the row of a claim that was read there
 pub row_read : (p : Place) (ps : List Place) (k : ℕ) → k < length ps → p ≡ slice_index_or ps k p → Among p.0 (rows_of ps)

@@ -1,9 +1,10 @@
 -- The search of a phase, level by level.
 use Rattle.std.specs.Prelude.{◌≡◌, ◌⊎◌, ℕ, ◌+◌, ◌-◌, ◌≤◌, ◌<◌, ◌^◌, List, [], ◌∷◌, length}
-use Rattle.bip_defs.specs.Lists.{Among}
+use Rattle.bip_defs.specs.Forest.{HasWon, InForest, IsSettled, IsUsedUp, IsWon, State}
+use Rattle.bip_defs.specs.Lists.{Among, AreDistinct}
 use Rattle.bip_defs.specs.Matching.{cols_of, rows_of}
 use Rattle.bip_defs.specs.Matrix.{Place, cols}
-use Rattle.bip_defs.specs.Forest.{HasWon, InForest, IsSettled, IsUsedUp, State}
+use Rattle.bip_defs.specs.Once.{ListsOnce}
 use Rattle.claim_words.specs.Board.{Board}
 use Rattle.claim_words.specs.WorkerState.{WorkerState}
 use Rattle.level_sharing.specs.Agreement.{Agree}
@@ -21,18 +22,22 @@ IsUnclaimed s r = (r < s.matrix.rows) × (¬ Among r (rows_of s.claims))
 abbrev pub IsScanned : State → ℕ → Type 0
 IsScanned s c = HasWon s c ⊎ IsUsedUp s c
 
--- columns of the forest, few enough for 32 bits, and every other column in the forest is scanned
+-- columns of the forest, each once and few enough for 32 bits, and every other column in the forest
+-- is scanned
 pub record IsFrontier (s : State) (frontier : List ℕ) : Type 0 where
   pub few : length frontier < 2 ^ 32
+  pub once : AreDistinct frontier
   pub inside : (c : ℕ) → Among c frontier → InForest s c
   pub others : (c : ℕ) → InForest s c → Among c frontier ⊎ IsScanned s c
 
--- base mates of rows that were claimed last, all of them but for some whose root has a leaf
+-- the base mate of a row that was claimed last and whose root has no leaf
+abbrev pub IsMateOf : State → List Place → ℕ → Type 0
+IsMateOf s last c = (r : ℕ) × Among r (rows_of last) × Among (r, c) s.base × (¬ IsWon s r)
+
+-- these, each once, and no more than the rows
 pub record AreMatesOf (s : State) (last : List Place) (columns : List ℕ) : Type 0 where
   pub few : length columns ≤ length last
-  pub sound : (c : ℕ) → Among c columns → (r : ℕ) × Among r (rows_of last) × Among (r, c) s.base
-  pub complete : (r c : ℕ) → Among r (rows_of last) → Among (r, c) s.base
-      → Among c columns ⊎ HasWon s c
+  pub mates : ListsOnce (IsMateOf s last) columns
 
 -- a settled forest of 32-bit sizes, with a board and workers who agree with it
 pub record IsReadyForLevel (b : Board) (ws : List WorkerState) (s : State) : Type 0 where

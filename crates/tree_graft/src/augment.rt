@@ -1,17 +1,14 @@
 //! The exchange of all paths of a phase.
 
-ghost use Rattle.std.specs.Prelude.{◌≡◌, ◌+◌, ◌<◌, ◌≤◌, ◌^◌, [], length, IfOk, OnOk};
+ghost use Rattle.std.specs.Prelude.{◌≡◌, ◌+◌, ◌≤◌, [], length, IfOk, OnOk};
 ghost use Rattle.bip_defs.specs.Forest.{IsRested, IsSettled};
 ghost use Rattle.forest_core.specs.Events.{AreFlipped, LeadsTo};
 ghost use Rattle.forest_core.specs.Exchanged.{AreExchanged};
 ghost use Rattle.sp_ids.specs.Limits.{max_workers};
 
-use crate::frontiers::claim_count;
-use crate::switches::keeps_trees;
+use crate::switches::trees_stay;
 use bip_graph::Mates;
-use forest_core::{
-    Forest, claims_are_in_the_forest, columns_have_one_root, forests_are_rested, runs_join,
-};
+use forest_core::{Forest, forests_are_rested, runs_join};
 use sp_ids::OutOfMemory;
 use sp_ports::Gate;
 use std::alloc::Global;
@@ -83,32 +80,4 @@ fn renew(forest: &mut Forest, keeps: bool)
     } else {
         forest.rebuild();
     }
-}
-
-// Whether the trees without a leaf are to be kept: by how many columns stand in them, and how many
-// rows the others free.
-fn trees_stay(forest: &Forest) -> bool {
-    forest.is_sound();
-    claims_are_in_the_forest();
-    columns_have_one_root();
-    let cols = forest.pattern().cols();
-    let claims = claim_count(forest);
-    let freed = freed_rows(forest);
-    let roots = cols - forest.base().size() - forest.leaves().len() as u32;
-    let kept = roots.saturating_add(claims - freed);
-    keeps_trees(kept, freed)
-}
-
-// How many rows are claimed in trees with a leaf.
-fn freed_rows(forest: &Forest) -> u32
-    requires { length forest.now.claims < 2 ^ 32 }
-    ensures { result ≤ length forest.now.claims }
-{
-    let mut freed: u32 = 0;
-    for root in forest.claim_roots() {
-        if forest.has_leaf(*root) {
-            freed += 1;
-        }
-    }
-    freed
 }

@@ -1,12 +1,12 @@
 //! The columns and the rows from which a level starts.
 
-ghost use Rattle.std.specs.Prelude.{◌≡◌, ℕ, ◌<◌, length, IsTrue, OnOk};
+ghost use Rattle.std.specs.Prelude.{ℕ, ◌↔◌, ◌<◌, IsTrue, OnOk};
 ghost use Rattle.bip_defs.specs.Forest.{IsWon};
-ghost use Rattle.bip_defs.specs.Lists.{Among, Lists};
+ghost use Rattle.bip_defs.specs.Lists.{Among, AreDistinct, Lists};
 ghost use Rattle.bip_defs.specs.Matching.{rows_of};
 ghost use Rattle.tree_graft.specs.Search.{AreMatesOf, IsUnclaimed, IsUnmatched};
 
-use forest_core::{Forest, claims_are_in_the_forest};
+use forest_core::{Forest, claims_are_in_the_forest, rows_have_one_root};
 use sp_ids::{Col, OutOfMemory, Row};
 
 /// Puts all columns without a base mate into the list.
@@ -36,6 +36,7 @@ pub fn unclaimed_rows(forest: &Forest, rows: &mut Vec<Row>) -> Result<(), OutOfM
 }
 
 /// Puts the base mates of these claimed rows into the list, but for those whose root has a leaf.
+/// The rows differ.
 pub fn mates_of(
     forest: &Forest,
     claims: &[(Row, Col)],
@@ -43,6 +44,7 @@ pub fn mates_of(
 ) -> Result<(), OutOfMemory>
     requires claimed { (r : ℕ) → Among r (rows_of claims.now)
         → Among r (rows_of forest.now.claims) }
+    requires differ { AreDistinct (rows_of claims.now) }
     ensures { OnOk result (AreMatesOf forest.now claims.now columns.new.items) }
 {
     forest.is_sound();
@@ -64,21 +66,12 @@ pub fn mates_of(
 // Whether the root of a claimed row has a leaf.
 fn is_won(forest: &Forest, row: Row) -> bool
     requires { row < forest.now.matrix.rows }
-    ensures { IsTrue result → IsWon forest.now row }
+    ensures { IsTrue result ↔ IsWon forest.now row }
 {
+    forest.is_sound();
+    rows_have_one_root();
     match forest.root_of_row(row) {
         Some(root) => forest.has_leaf(root),
         None => false,
     }
-}
-
-/// How many rows are claimed.
-pub fn claim_count(forest: &Forest) -> u32
-    ensures { result ≡ length forest.now.claims }
-{
-    forest.is_sound();
-    claims_are_in_the_forest();
-    // There are at most as many claims as rows, whose number fits.
-    let _rows = forest.pattern().rows();
-    forest.claims().len() as u32
 }

@@ -14,12 +14,15 @@ ghost use Rattle.level_sharing.specs.Growth.{fresh_events, grown};
 ghost use Rattle.sp_ids.specs.Limits.{max_workers};
 ghost use Rattle.tree_graft.specs.Search.{AreMatesOf, AreOfNewClaims, IsFrontier, IsScanned, IsReadyForLevel};
 
-use crate::frontiers::{claim_count, mates_of, unclaimed_rows, unmatched_columns};
-use crate::switches::goes_top_down;
+use crate::frontiers::{mates_of, unclaimed_rows, unmatched_columns};
+use crate::switches::goes_down_from;
 use bip_graph::Matching;
 use bottom_up::attach;
 use claim_words::{ClaimBoard, ClaimSeat, Worker};
-use forest_core::{Forest, claims_and_wins_grow, claims_are_in_the_forest, columns_have_one_root};
+use forest_core::{
+    Forest, claims_and_wins_grow, claims_are_in_the_forest, columns_have_one_root,
+    rows_have_one_root,
+};
 use frontier_levels::{absorb, open, top_down};
 use sp_ids::{Col, OutOfMemory, Row};
 use sp_pattern::Pattern;
@@ -145,10 +148,7 @@ fn level<R: Threads + Sync, G: Gate>(
     ensures frontier { OnOk result (IsFrontier forest.new frontier.new.items) }
     ensures more { OnOk result (AreOfNewClaims forest.old frontier.new.items forest.new) }
 {
-    forest.is_sound();
-    claims_are_in_the_forest();
-    let unclaimed = forest.pattern().rows() - claim_count(forest);
-    if goes_top_down(frontier.as_slice().len() as u32, unclaimed) {
+    if goes_down_from(forest, frontier.as_slice()) {
         level_down(rt, forest, board, workers, frontier, gate)
     } else {
         level_up(rt, forest, board, workers, frontier, free, gate)
@@ -173,6 +173,7 @@ fn level_down<R: Threads + Sync, G: Gate>(
 {
     claims_and_wins_grow();
     claims_are_in_the_forest();
+    rows_have_one_root();
     let done = top_down(rt, forest, board, frontier.as_slice(), workers, gate);
     let next = end_level(forest, workers, frontier);
     forest.is_sound();
@@ -199,6 +200,7 @@ fn level_up<R: Threads + Sync, G: Gate>(
     claims_and_wins_grow();
     claims_are_in_the_forest();
     columns_have_one_root();
+    rows_have_one_root();
     unclaimed_rows(forest, free)?;
     let done = attach(rt, forest, board, free.as_slice(), workers, gate);
     let next = end_level(forest, workers, frontier);
@@ -223,6 +225,8 @@ fn end_level(
 {
     let before = forest.claims().len();
     absorb(forest, workers);
+    forest.is_sound();
+    claims_are_in_the_forest();
     mates_of(forest, &forest.claims()[before..], frontier)
 }
 

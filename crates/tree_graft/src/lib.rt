@@ -8,6 +8,7 @@
 #![tactic(auto)]
 
 mod augment;
+mod counts;
 mod frontiers;
 mod levels;
 mod switches;

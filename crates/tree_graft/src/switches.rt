@@ -1,7 +1,13 @@
 //! The choices that a phase makes by counts. They change no answer.
 
-ghost use Rattle.std.specs.Prelude.{◌↔◌, ◌<◌, ◌*◌, IsTrue};
+ghost use Rattle.std.specs.Prelude.{ℕ, ◌↔◌, ◌<◌, ◌*◌, ◌^◌, length, IsTrue};
+ghost use Rattle.bip_defs.specs.Forest.{IsSettled};
+ghost use Rattle.tree_graft.specs.Counts.{IsCountOf, IsFreed, IsKept};
+ghost use Rattle.tree_graft.specs.Search.{IsUnclaimed};
 
+use crate::counts::{freed_count, kept_count, unclaimed_count};
+use forest_core::Forest;
+use sp_ids::Col;
 use sp_pattern::Pattern;
 
 // So many rows and columns are searched by workers alone.
@@ -21,6 +27,27 @@ pub fn keeps_trees(kept: u32, freed: u32) -> bool
     ensures { IsTrue result ↔ (freed < 5 * kept) }
 {
     u64::from(freed) < 5 * u64::from(kept)
+}
+
+/// Whether the next level goes down from this frontier: as `goes_top_down` says of the numbers of
+/// its columns and of the rows that are not claimed.
+pub fn goes_down_from(forest: &Forest, frontier: &[Col]) -> bool
+    requires { length frontier.now < 2 ^ 32 }
+    ensures { (unclaimed : ℕ) → IsCountOf (IsUnclaimed forest.now) unclaimed
+        → IsTrue result ↔ (5 * length frontier.now < unclaimed) }
+{
+    goes_top_down(frontier.len() as u32, unclaimed_count(forest))
+}
+
+/// Whether the trees without a leaf are to be kept: as `keeps_trees` says of the numbers of the
+/// columns in them and of the rows that the other trees free.
+pub fn trees_stay(forest: &Forest) -> bool
+    requires { IsSettled forest.now }
+    ensures { (kept freed : ℕ) → IsCountOf (IsKept forest.now) kept
+        → IsCountOf (IsFreed forest.now) freed → IsTrue result ↔ (freed < 5 * kept) }
+{
+    let freed = freed_count(forest);
+    keeps_trees(kept_count(forest, freed), freed)
 }
 
 /// Whether a pattern is so small that workers search it from the start.

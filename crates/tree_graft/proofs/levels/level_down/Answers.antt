@@ -7,7 +7,7 @@ use Rattle.claim_words.specs.WorkerState.{fresh_claims_of}
 use Rattle.level_sharing.specs.Agreement.{Shows}
 use Rattle.sp_ids.specs.Limits.{max_workers}
 use Rattle.tree_graft.specs.Search.{IsScanned}
-use Rattle.tree_graft.proofs.FrontierLemmas.{all_scanned, next_is_frontier}
+use Rattle.tree_graft.proofs.FrontierLemmas.{all_scanned, next_is_frontier, won_or_not}
 use Rattle.tree_graft.proofs.LevelLemmas.{level_grows, searched_on}
 use Rattle.tree_graft.proofs.levels.level_down.Goals as goal
 
@@ -40,7 +40,8 @@ returns-clause-frontier g c =
     let rows = ap (λ (u : State). u.matrix.rows) c.end_level-next.ensures.forest in
     let few : length t.claims < 2 ^ 32 = omega (arith, within, rows, c.requires.search.small.0) in
     let scanned = all_scanned s t c.args.frontier.now.items c.requires.frontier grows (λ x h. subst (λ u. IsScanned u x) (sym c.end_level-next.ensures.forest) (c.in_ok-done.ensures.frontier x (subst (Among x) (sym c.as_slice.ensures.value) h))) in
-    on_ok_weaker c.end_level-next.result (λ mates. next_is_frontier s t last c.end_level-next.new.frontier.items c.is_sound.ensures.base grows claims few scanned mates) c.end_level-next.ensures.mates
+    let won = won_or_not t (λ r h. c.rows_have_one_root.ensures.some t r c.is_sound.ensures h) (λ x y r v w. c.rows_have_one_root.ensures.one t x y r c.is_sound.ensures v w) in
+    on_ok_weaker c.end_level-next.result (λ mates. next_is_frontier s t last c.end_level-next.new.frontier.items c.is_sound.ensures.base won grows claims few scanned mates) c.end_level-next.ensures.mates
 
 pub returns-clause-more : goal.returns-clause-more
 returns-clause-more g c =
