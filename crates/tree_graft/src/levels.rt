@@ -18,7 +18,7 @@ use crate::frontiers::{mates_of, unclaimed_rows, unmatched_columns};
 use crate::switches::goes_down_from;
 use bip_graph::Matching;
 use bottom_up::attach;
-use claim_words::{ClaimBoard, ClaimSeat, Worker};
+use claim_words::{ClaimBoard, ClaimSeat, Worker, seats_in_order_are_all};
 use forest_core::{
     Forest, claims_and_wins_grow, claims_are_in_the_forest, columns_have_one_root,
     rows_have_one_root,
@@ -235,6 +235,7 @@ fn close(alloc: Global, board: ClaimBoard, workers: Vec<Worker>) -> Result<(), O
     requires { AreAllWorkers board workers.items }
 {
     let seats = seats_of_all(alloc, workers)?;
+    seats_in_order_are_all();
     match board.close(seats) {
         Ok(_words) => Ok(()),
         Err(_back) => Err(OutOfMemory),
