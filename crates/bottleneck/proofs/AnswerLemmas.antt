@@ -1,7 +1,7 @@
 -- Perfect matchings that are best.
-use Rattle.std.proofs.Common.{◌≡◌, ◌⊎◌, ◌∙◌, ℕ, ◌<◌, ◌≤◌, List, length, sym, ap, subst, inl, inr, arith}
+use Rattle.std.proofs.Common.{◌≡◌, ◌⊎◌, ◌∙◌, ℕ, ◌<◌, ◌≤◌, List, length, ap, subst, inl, inr, arith}
 use Rattle.bip_defs.specs.Bottleneck.{IsBest, IsFull, IsLeastWeight, above}
-use Rattle.bip_defs.specs.Lists.{Among, IsRising, Lists}
+use Rattle.bip_defs.specs.Lists.{IsRising, Lists}
 use Rattle.bip_defs.specs.Matching.{IsMatching, cols_of}
 use Rattle.bip_defs.specs.Matrix.{Matrix, Place, cols, neighbours}
 use Rattle.bip_defs.specs.Parts.{IsHorizontalCol}
