@@ -3,7 +3,8 @@ use Rattle.std.proofs.Common.{◌≡◌, ◌∙◌, ℕ, zero, suc, ◌+◌, ◌
 use Rattle.std.proofs.lemmas.List.{take_more}
 use Rattle.bip_defs.specs.Bottleneck.{IsLeastWeight}
 use Rattle.bip_defs.specs.Lists.{Among}
-use Rattle.bip_defs.specs.Matrix.{Place}
+use Rattle.bip_defs.specs.Matching.{IsMatching}
+use Rattle.bip_defs.specs.Matrix.{AreEntries, IsEntry, Matrix, Place}
 use Rattle.bip_defs.proofs.Sets.{among_last, among_left, among_right}
 
 -- one pair has the weight, and none has less
@@ -33,6 +34,10 @@ least_kept weight m p least new l e le = record {
   has = let (r, c, h, is) = l.has in (r, c, among_left (r, c) m (p ∷ []) h, is);
   all = λ r c h. ⊎_elim (λ (k : Among (r, c) m). l.all r c k) (λ (k : (r, c) ≡ p). let same = ap (λ (q : Place). weight q.0 q.1) k in omega (arith, e, same, le)) (among_last (r, c) p m h);
 }
+
+-- the pairs of a matching are entries, as they are listed
+pub are_entries : (a b : Matrix) (m n : List Place) → b ≡ a → IsMatching a m → n ≡ m → AreEntries b n
+are_entries a b m n same k listed r c h = subst (λ (z : Matrix). IsEntry z r c) (sym same) (k.entries r c (subst (λ (z : List Place). Among {X = Place} (r, c) z) listed h))
 
 -- The loop over the pairs.
 

@@ -2,18 +2,19 @@
 
 ghost use Rattle.std.specs.Prelude.{◌≡◌, ◌<◌, ◌⊎◌, length, IfOk};
 ghost use Rattle.bip_defs.specs.Bottleneck.{IsFull, IsLeastWeight, above};
+ghost use Rattle.bip_defs.specs.Lists.{IsRising};
 ghost use Rattle.bip_defs.specs.Matching.{cols_of};
-ghost use Rattle.bip_defs.specs.Matrix.{cols, upto};
+ghost use Rattle.bip_defs.specs.Matrix.{cols};
 ghost use Rattle.bip_graph.specs.Matching.{IsMatchingOf, IsMaximumOf};
 ghost use Rattle.bottleneck.specs.Answers.{IsBottleneck};
 ghost use Rattle.sp_pattern.specs.Weights.{Weighing, weight_at};
 
 use crate::bound::{bound, bounded_matching};
 use crate::heavier::heavier_matching;
-use crate::pairs::{least_of, pairs_of};
+use crate::pairs::least_of;
 use crate::thresholds::raised;
 use bip_graph::{Bottleneck, Matching};
-use hall_witness::{Reach, reach};
+use hall_witness::hall_set;
 use pothen_fan::complete;
 use sp_ids::{Col, OutOfMemory, Row};
 use sp_pattern::{Pattern, Weights};
@@ -56,13 +57,11 @@ fn singular(
     requires short { length matching.now.pairs < cols pattern.now }
     ensures { IfOk result (λ b. (w : Weighing) → w.matrix ≡ pattern.now → IsBottleneck w b) }
 {
-    match reach(alloc, pattern, matching)? {
-        Reach::Path(_) => unreachable!(),
-        Reach::Witness(hall) => Ok(Bottleneck::Singular {
-            rank: matching.size(),
-            hall,
-        }),
-    }
+    let hall = hall_set(alloc, pattern, matching)?;
+    Ok(Bottleneck::Singular {
+        rank: matching.size(),
+        hall,
+    })
 }
 
 // The answer from a perfect matching: it is shown to be best, or one of greater least weight is
@@ -81,15 +80,16 @@ fn shown(
 {
     let cols = pattern.cols();
     let mut matching = matching;
-    let mut pairs = pairs_of(alloc, pattern, &matching)?;
+    let mut pairs = matching.pairs(alloc)?;
     let mut least = least_of(weights, pairs.as_slice());
     loop {
         let (heavier, next) = heavier_matching(alloc, pattern, weights, &matching, least)?;
         if cols == 0 || next.size() < cols {
+            matching.is_matching();
             return with_hall_set(alloc, pattern, weights, &heavier, &next, pairs, least);
         }
         matching = next;
-        pairs = pairs_of(alloc, pattern, &matching)?;
+        pairs = matching.pairs(alloc)?;
         least = least_of(weights, pairs.as_slice());
     }
 }
@@ -107,15 +107,13 @@ fn with_hall_set(
     requires of { weights.now.matrix ≡ pattern.now }
     requires square { pattern.now.rows ≡ cols pattern.now }
     requires full { IsFull pattern.now pairs.items }
-    requires cols { cols_of pairs.items ≡ upto (cols pattern.now) }
+    requires rising { IsRising (cols_of pairs.items) }
     requires least { IsLeastWeight (weight_at weights.now) pairs.items least }
     requires above { heavier.now ≡ above pattern.now (weight_at weights.now) least }
     requires maximum { IsMaximumOf heavier.now maximum.now }
     requires short { (cols pattern.now ≡ 0) ⊎ (length maximum.now.pairs < cols pattern.now) }
     ensures { IfOk result (IsBottleneck weights.now) }
 {
-    match reach(alloc, heavier, maximum)? {
-        Reach::Path(_) => unreachable!(),
-        Reach::Witness(hall) => Ok(Bottleneck::Best { pairs, least, hall }),
-    }
+    let hall = hall_set(alloc, heavier, maximum)?;
+    Ok(Bottleneck::Best { pairs, least, hall })
 }

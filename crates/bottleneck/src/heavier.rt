@@ -66,7 +66,6 @@ fn keep(pattern: &Pattern, left: &mut Matching, row: Row, col: Col)
 {
     if pattern.has(row, col) {
         left.pair(row, col);
-        // Tells the proof that no row and no column stands twice.
-        let _size = left.size();
+        left.is_matching();
     }
 }

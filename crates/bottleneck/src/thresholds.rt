@@ -5,7 +5,7 @@ ghost use Rattle.bip_defs.specs.Matrix.{cols};
 ghost use Rattle.bip_graph.specs.Matching.{IsMatchingOf};
 
 use crate::heavier::heavier_matching;
-use crate::pairs::{least_of, pairs_of};
+use crate::pairs::least_of;
 use bip_graph::Matching;
 use sp_ids::{Col, OutOfMemory};
 use sp_pattern::{Pattern, Weights};
@@ -28,7 +28,7 @@ pub fn raised(
     ensures matching { IfOk result (IsMatchingOf pattern.now) }
     ensures full { IfOk result (λ m. length m.pairs ≡ cols pattern.now) }
 {
-    let pairs = pairs_of(alloc, pattern, &matching)?;
+    let pairs = matching.pairs(alloc)?;
     let least = least_of(weights, pairs.as_slice());
     drop(pairs);
     let thresholds = weights_between(alloc, pattern, weights, least, bound)?;

@@ -1,43 +1,63 @@
 use Rattle.std.proofs.Common.{◌<◌, ◌∙◌, List, arith, sym, subst}
-use Rattle.bip_defs.specs.Bottleneck.{IsLeastWeight}
-use Rattle.bip_defs.specs.Lists.{Among}
-use Rattle.bip_defs.specs.Matrix.{IsEntry, Matrix, Place, cols}
-use Rattle.bip_graph.specs.Matching.{IsMatchingOf}
+use Rattle.bip_defs.specs.Bottleneck.{IsFull, IsLeastWeight}
+use Rattle.bip_defs.specs.Lists.{IsRising}
+use Rattle.bip_defs.specs.Matching.{cols_of}
+use Rattle.bip_defs.specs.Matrix.{Place, cols}
+use Rattle.bip_defs.proofs.FullMatchings.{long_full}
 use Rattle.sp_pattern.specs.Weights.{weight_at}
 use Rattle.bottleneck.proofs.AnswerLemmas.{not_short, progress}
 use Rattle.bottleneck.proofs.HeavierLemmas.{lowered}
-use Rattle.bottleneck.proofs.PairLemmas.{positive}
+use Rattle.bottleneck.proofs.PairLemmas.{are_entries, positive}
 use Rattle.bottleneck.proofs.answer.shown.Goals as goal
 
 pub least_of-least-requires : goal.least_of-least-requires
-least_of-least-requires c r k h = subst (λ (z : Matrix). IsEntry z r k) (sym c.requires.of) (c.in_ok-pairs.ensures.full.matching.entries r k (subst (λ (z : List Place). Among {X = Place} (r, k) z) c.as_slice.ensures.value h))
+least_of-least-requires c = are_entries c.args.pattern.now c.args.weights.now.matrix c.args.matching.pairs c.as_slice.result.now c.requires.of c.requires.matching.matching (c.as_slice.ensures.value ∙ c.in_ok-pairs.ensures)
 
-pub pairs_of-requires-in-loop-pairs-clause-matching : goal.pairs_of-requires-in-loop-pairs-clause-matching
-pairs_of-requires-in-loop-pairs-clause-matching c = lowered c.args.pattern.now c.in_ok-heavier.heavier (weight_at c.args.weights.now) c.loop-pairs.least c.in_ok-heavier.next c.in_ok-heavier.ensures.pattern c.in_ok-heavier.ensures.maximum.matching
+pub loop-pairs-init : goal.loop-pairs-init
+loop-pairs-init c = record {
+  matching = c.requires.matching;
+  full = c.requires.full;
+  pairs = c.in_ok-pairs.ensures;
+  least = subst (λ (z : List Place). IsLeastWeight (weight_at c.args.weights.now) z c.least_of-least.result) (c.as_slice.ensures.value ∙ c.in_ok-pairs.ensures) c.least_of-least.ensures;
+}
 
-pub pairs_of-requires-in-loop-pairs-clause-full : goal.pairs_of-requires-in-loop-pairs-clause-full
-pairs_of-requires-in-loop-pairs-clause-full c =
-    let k : IsMatchingOf c.args.pattern.now c.in_ok-heavier.next = lowered c.args.pattern.now c.in_ok-heavier.heavier (weight_at c.args.weights.now) c.loop-pairs.least c.in_ok-heavier.next c.in_ok-heavier.ensures.pattern c.in_ok-heavier.ensures.maximum.matching in
-    let size = c.size.ensures.size in
-    let n = c.cols-cols.ensures in
-    let long = c.if-size-cols.false in
-    not_short c.args.pattern.now c.in_ok-heavier.next.pairs k.matching (omega (arith, size, n, long))
+pub with_hall_set-requires-clause-full : goal.with_hall_set-requires-clause-full
+with_hall_set-requires-clause-full c =
+    let i = c.loop-pairs.invariant in
+    let long = i.full in
+    subst (λ (z : List Place). IsFull c.args.pattern.now z) (sym i.pairs) (long_full c.args.pattern.now c.loop-pairs.matching.pairs c.requires.square i.matching.matching (omega (arith, long)))
+
+pub with_hall_set-requires-clause-rising : goal.with_hall_set-requires-clause-rising
+with_hall_set-requires-clause-rising c = subst (λ (z : List Place). IsRising (cols_of z)) (sym c.loop-pairs.invariant.pairs) c.is_matching.ensures.cols_rise
+
+pub with_hall_set-requires-clause-least : goal.with_hall_set-requires-clause-least
+with_hall_set-requires-clause-least c = subst (λ (z : List Place). IsLeastWeight (weight_at c.args.weights.now) z c.loop-pairs.least) (sym c.loop-pairs.invariant.pairs) c.loop-pairs.invariant.least
 
 pub least_of-least-requires-in-loop-pairs : goal.least_of-least-requires-in-loop-pairs
-least_of-least-requires-in-loop-pairs c r k h = subst (λ (z : Matrix). IsEntry z r k) (sym c.requires.of) (c.in_ok-pairs-2.ensures.full.matching.entries r k (subst (λ (z : List Place). Among {X = Place} (r, k) z) c.as_slice-in-loop-pairs.ensures.value h))
+least_of-least-requires-in-loop-pairs c =
+    let k = lowered c.args.pattern.now c.in_ok-heavier.heavier (weight_at c.args.weights.now) c.loop-pairs.least c.in_ok-heavier.next c.in_ok-heavier.ensures.pattern c.in_ok-heavier.ensures.maximum.matching in
+    are_entries c.args.pattern.now c.args.weights.now.matrix c.in_ok-heavier.next.pairs c.as_slice-in-loop-pairs.result.now c.requires.of k.matching (c.as_slice-in-loop-pairs.ensures.value ∙ c.in_ok-pairs-2.ensures)
 
 pub loop-pairs-smaller : goal.loop-pairs-smaller
 loop-pairs-smaller c =
-    let l = subst (λ (z : List Place). IsLeastWeight (weight_at c.args.weights.now) z c.least_of-least-in-loop-pairs.result) c.as_slice-in-loop-pairs.ensures.value c.least_of-least-in-loop-pairs.ensures in
+    let l = subst (λ (z : List Place). IsLeastWeight (weight_at c.args.weights.now) z c.least_of-least-in-loop-pairs.result) (c.as_slice-in-loop-pairs.ensures.value ∙ c.in_ok-pairs-2.ensures) c.least_of-least-in-loop-pairs.ensures in
     let some = positive (cols c.args.pattern.now) (λ e. c.if-cols-eq0.false (c.cols-cols.ensures ∙ e)) in
-    let lt : c.loop-pairs.least < c.least_of-least-in-loop-pairs.result = progress c.args.pattern.now c.in_ok-heavier.heavier (weight_at c.args.weights.now) c.loop-pairs.least c.least_of-least-in-loop-pairs.result c.in_ok-heavier.next.pairs c.in_ok-pairs-2.pairs.items c.in_ok-heavier.ensures.pattern c.in_ok-heavier.ensures.maximum.matching.matching c.in_ok-pairs-2.ensures.pairs c.in_ok-pairs-2.ensures.cols some l in
+    let size = c.size.ensures.size in
+    let n = c.cols-cols.ensures in
+    let long = c.if-size-cols.false in
+    let lt : c.loop-pairs.least < c.least_of-least-in-loop-pairs.result = progress c.args.pattern.now c.in_ok-heavier.heavier (weight_at c.args.weights.now) c.loop-pairs.least c.least_of-least-in-loop-pairs.result c.in_ok-heavier.next.pairs c.in_ok-heavier.ensures.pattern c.in_ok-heavier.ensures.maximum.matching.matching (omega (arith, size, n, long, some)) l in
     let fits = c.least_of-least-in-loop-pairs.type_inv in
     omega (arith, lt, fits)
 
 pub loop-pairs-preserved : goal.loop-pairs-preserved
-loop-pairs-preserved c = record {
-  matching = lowered c.args.pattern.now c.in_ok-heavier.heavier (weight_at c.args.weights.now) c.loop-pairs.least c.in_ok-heavier.next c.in_ok-heavier.ensures.pattern c.in_ok-heavier.ensures.maximum.matching;
-  full = c.in_ok-pairs-2.ensures.full;
-  columns = c.in_ok-pairs-2.ensures.cols;
-  least = subst (λ (z : List Place). IsLeastWeight (weight_at c.args.weights.now) z c.least_of-least-in-loop-pairs.result) c.as_slice-in-loop-pairs.ensures.value c.least_of-least-in-loop-pairs.ensures;
-}
+loop-pairs-preserved c =
+    let k = lowered c.args.pattern.now c.in_ok-heavier.heavier (weight_at c.args.weights.now) c.loop-pairs.least c.in_ok-heavier.next c.in_ok-heavier.ensures.pattern c.in_ok-heavier.ensures.maximum.matching in
+    let size = c.size.ensures.size in
+    let n = c.cols-cols.ensures in
+    let long = c.if-size-cols.false in
+    record {
+      matching = k;
+      full = not_short c.args.pattern.now c.in_ok-heavier.next.pairs k.matching (omega (arith, size, n, long));
+      pairs = c.in_ok-pairs-2.ensures;
+      least = subst (λ (z : List Place). IsLeastWeight (weight_at c.args.weights.now) z c.least_of-least-in-loop-pairs.result) (c.as_slice-in-loop-pairs.ensures.value ∙ c.in_ok-pairs-2.ensures) c.least_of-least-in-loop-pairs.ensures;
+    }

@@ -1,14 +1,13 @@
-use Rattle.std.proofs.Common.{◌∙◌, List, ap, arith, length, sym, subst}
-use Rattle.bip_defs.specs.Lists.{Among}
-use Rattle.bip_defs.specs.Matrix.{IsEntry, Matrix, Place}
+use Rattle.std.proofs.Common.{◌∙◌, ap, arith, length, sym, subst}
 use Rattle.bip_graph.specs.Matching.{IsMatchingOf, Pairing}
 use Rattle.sp_pattern.specs.Weights.{weight_at}
 use Rattle.bottleneck.proofs.HeavierLemmas.{lowered}
+use Rattle.bottleneck.proofs.PairLemmas.{are_entries}
 use Rattle.bottleneck.proofs.thresholds.raised.Goals as goal
 use Rattle.bottleneck.proofs.thresholds.raised.Goals.{then-size-cols, else-size-cols}
 
 pub least_of-least-requires : goal.least_of-least-requires
-least_of-least-requires c r k h = subst (λ (z : Matrix). IsEntry z r k) (sym c.requires.of) (c.in_ok-pairs.ensures.full.matching.entries r k (subst (λ (z : List Place). Among {X = Place} (r, k) z) c.as_slice.ensures.value h))
+least_of-least-requires c = are_entries c.args.pattern.now c.args.weights.now.matrix c.args.matching.pairs c.as_slice.result.now c.requires.of c.requires.matching.matching (c.as_slice.ensures.value ∙ c.in_ok-pairs.ensures)
 
 pub loop-low-preserved : goal.loop-low-preserved
 loop-low-preserved c =
