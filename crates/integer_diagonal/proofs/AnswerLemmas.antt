@@ -5,10 +5,10 @@ use Rattle.std.proofs.lemmas.List.{get_or-map, length-map}
 use Rattle.bip_defs.specs.Bottleneck.{IsFull, IsSingular}
 use Rattle.bip_defs.specs.Lists.{Among, Lists}
 use Rattle.bip_defs.specs.Matching.{Covers, IsMatching, IsMaximum, cols_of}
-use Rattle.bip_defs.specs.Matrix.{IsEntry, Matrix, Place, cols}
+use Rattle.bip_defs.specs.Matrix.{IsEntry, Matrix, Place, cols, upto}
 use Rattle.bip_defs.specs.Parts.{IsHorizontalCol}
 use Rattle.bip_defs.proofs.FullMatchings.{long_full, short_singular}
-use Rattle.bip_defs.proofs.Sets.{entry_col}
+use Rattle.bip_defs.proofs.Sets.{entry_col, few_distinct, rising_distinct, upto_length, upto_lists, upto_rising}
 use Rattle.bip_graph.specs.Matching.{IsMatchingOf, Pairing}
 use Rattle.integer_diagonal.proofs.Bounds.{pair_cheap}
 use Rattle.integer_diagonal.proofs.Cheap.{cheap_entry}
@@ -34,6 +34,10 @@ pub singular_shown : (a : Matrix) (m : List Place) (hall : List ℕ) (rank : ℕ
 singular_shown a m hall rank square none most e horizontal =
     short_singular a m hall rank square most e (λ (is : length m ≡ cols a). none m (long_full a m square most.matching (omega (arith, is)))) horizontal
 
+-- a matching of a square matrix that has all its columns
+pub mated_full : (a : Matrix) (m : List Place) → a.rows ≡ cols a → IsMatching a m → ((c : ℕ) → c < cols a → Among c (cols_of m)) → IsFull a m
+mated_full a m square k all = long_full a m square k (omega (arith, length-map m (λ (p : Place). p.1), upto_length 0 (cols a), few_distinct (upto (cols a)) (cols_of m) (rising_distinct (upto (cols a)) (upto_rising 0 (cols a))) (λ c h. all c ((upto_lists (cols a)).sound c h))))
+
 -- the prices as they are answered
 module _ (x : Priced) (u v : List ℤ) where
   row_price : u ≡ map (λ p. pos p -ℤ pos x.top) x.prices → (r : ℕ) → r < length x.prices → price u r ≡ pos (slice_index x.prices r) -ℤ pos x.top
@@ -42,12 +46,12 @@ module _ (x : Priced) (u v : List ℤ) where
   col_price : v ≡ map (λ o. pos (x.top + x.top) -ℤ pos o) x.duals → (c : ℕ) → c < length x.duals → price v c ≡ pos (x.top + x.top) -ℤ pos (dual x c)
   col_price e c lt = ap (λ (z : List ℤ). price z c) e ∙ get_or-map (λ o. pos (x.top + x.top) -ℤ pos o) x.duals c 0 (pos 0) lt
 
-  pub fair_prices : (m n : List Place) → IsFeasible x → IsMatching (cheap x) m → ((r c : ℕ) → Among (r, c) n → Among (r, c) m) → u ≡ map (λ p. pos p -ℤ pos x.top) x.prices → v ≡ map (λ o. pos (x.top + x.top) -ℤ pos o) x.duals → AreFair x.weighing n u v
-  fair_prices m n f k part eu ev = record {
+  pub fair_prices : (m : List Place) → IsFeasible x → IsMatching (cheap x) m → u ≡ map (λ p. pos p -ℤ pos x.top) x.prices → v ≡ map (λ o. pos (x.top + x.top) -ℤ pos o) x.duals → AreFair x.weighing m u v
+  fair_prices m f k eu ev = record {
     by_row = ap (λ (z : List ℤ). length z) eu ∙ length-map x.prices (λ p. pos p -ℤ pos x.top) ∙ f.prices_are;
     by_col = ap (λ (z : List ℤ). length z) ev ∙ length-map x.duals (λ o. pos (x.top + x.top) -ℤ pos o) ∙ f.duals_are;
     covers = λ r c e. (let (eru, ecv) = both r c e in let low = f.covers r c e in let small = f.small r c e in omega (arith, ints, eru, ecv, low, small));
-    meets = λ r c h. (let on = part r c h in let e = (cheap_entry x r c (k.entries r c on)).0 in let met = pair_cheap x m r c k on in let (eru, ecv) = both r c e in let small = f.small r c e in omega (arith, ints, eru, ecv, met, small));
+    meets = λ r c h. (let e = (cheap_entry x r c (k.entries r c h)).0 in let met = pair_cheap x m r c k h in let (eru, ecv) = both r c e in let small = f.small r c e in omega (arith, ints, eru, ecv, met, small));
   }
     where
       both : (r c : ℕ) → IsEntry x.weighing.matrix r c → (price u r ≡ pos (slice_index x.prices r) -ℤ pos x.top) × (price v c ≡ pos (x.top + x.top) -ℤ pos (dual x c))

@@ -3,7 +3,7 @@
 ghost use Rattle.std.specs.Prelude.{◌≡◌, ◌↔◌, ℕ, pos, ◌+◌, ◌-◌, ◌-ℤ◌, ◌^◌, ◌<◌, List, length, map, slice_index, true, false, IfOk, IsTrue, OnOk};
 ghost use Rattle.bip_defs.specs.Lists.{Among};
 ghost use Rattle.bip_defs.specs.Matching.{cols_of};
-ghost use Rattle.bip_defs.specs.Matrix.{AreEntries, Place, cols, upto};
+ghost use Rattle.bip_defs.specs.Matrix.{AreEntries, Place, cols};
 ghost use Rattle.bip_graph.specs.Matching.{IsMatchingOf};
 ghost use Rattle.integer_diagonal.specs.Heaviest.{IsHeaviest};
 ghost use Rattle.integer_diagonal.specs.Amounts.{HasRoom};
@@ -19,7 +19,7 @@ use crate::search::Search;
 use crate::start::{greatest_of_all, start};
 use crate::width::Width;
 use bip_graph::{Heaviest, Matching};
-use hall_witness::{Reach, reach};
+use hall_witness::hall_set;
 use pothen_fan::complete;
 use sp_ids::{Col, OutOfMemory, Row};
 use sp_pattern::{Pattern, Weights};
@@ -133,13 +133,11 @@ fn singular(alloc: Global, pattern: &Pattern, matching: Matching) -> Result<Heav
     ensures { IfOk result (λ h. (w : Weighing) → w.matrix ≡ pattern.now → IsHeaviest w h) }
 {
     let maximum = complete(alloc, pattern, matching)?;
-    match reach(alloc, pattern, &maximum)? {
-        Reach::Path(_) => unreachable!(),
-        Reach::Witness(hall) => Ok(Heaviest::Singular {
-            rank: maximum.size(),
-            hall,
-        }),
-    }
+    let hall = hall_set(alloc, pattern, &maximum)?;
+    Ok(Heaviest::Singular {
+        rank: maximum.size(),
+        hall,
+    })
 }
 
 // The answer where all columns have mates.
@@ -160,28 +158,12 @@ fn diagonal<W: Width>(
         → Among c (cols_of assignment.matching.pairs) }
     ensures { IfOk result (IsHeaviest weights.now) }
 {
-    let pairs = pairs_of(alloc, &assignment.matching)?;
+    assignment.matching.is_matching();
+    let pairs = assignment.matching.pairs(alloc)?;
     let sum = sum_of(weights, pairs.as_slice());
     let u = row_prices(alloc, assignment.prices, assignment.top)?;
     let v = col_prices(alloc, assignment.duals, assignment.top)?;
     Ok(Heaviest::Diagonal { pairs, u, v, sum })
-}
-
-// The pairs in order of their columns, all of which have mates.
-fn pairs_of(alloc: Global, matching: &Matching) -> Result<Vec<(Row, Col)>, OutOfMemory>
-    requires { (c : ℕ) → c < matching.now.cols → Among c (cols_of matching.now.pairs) }
-    ensures cols { IfOk result (λ pairs. cols_of pairs.items ≡ upto matching.now.cols) }
-    ensures pairs { IfOk result
-        (λ pairs. (r c : ℕ) → Among (r, c) pairs.items → Among (r, c) matching.now.pairs) }
-{
-    let mut pairs = Vec::with_capacity(alloc, matching.cols() as usize)?;
-    for col in 0..matching.cols() {
-        match matching.row_of(Col(col)) {
-            Some(row) => pairs.push((row, Col(col)))?,
-            None => unreachable!(),
-        }
-    }
-    Ok(pairs)
 }
 
 // The sum of the weights of these entries.

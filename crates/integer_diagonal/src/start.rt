@@ -41,8 +41,7 @@ pub fn start<W: Width>(
             matching.pair(row, Col(col));
         }
     }
-    // `size` tells the proof that rows and columns differ.
-    let _size = matching.size();
+    matching.is_matching();
     Ok(Assignment {
         top,
         prices,

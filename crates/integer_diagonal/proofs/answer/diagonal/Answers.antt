@@ -1,37 +1,31 @@
-use Rattle.std.proofs.Common.{◌≡◌, ◌∙◌, ℕ, pos, ◌+◌, ◌-ℤ◌, List, length, map, sym, subst, ap, arith, rules, FitsSigned}
+use Rattle.std.proofs.Common.{◌<◌, ◌≡◌, ◌∙◌, ℕ, pos, ◌+◌, ◌-ℤ◌, List, length, map, sym, subst, ap, arith, rules, FitsSigned}
 use Rattle.std.specs.Int.{w128}
 use Rattle.std.proofs.lemmas.Int.{to_z-of_z}
-use Rattle.std.proofs.lemmas.List.{length-map}
-use Rattle.bip_defs.specs.Lists.{Among, IsRising}
+use Rattle.bip_defs.specs.Lists.{Among}
 use Rattle.bip_defs.specs.Matching.{cols_of}
-use Rattle.bip_defs.specs.Matrix.{Matrix, Place, cols, upto}
-use Rattle.bip_defs.proofs.Sets.{upto_length, upto_rising}
-use Rattle.bip_defs.proofs.FullMatchings.{part_full}
-use Rattle.integer_diagonal.proofs.AnswerLemmas.{cheap_matching, fair_prices}
+use Rattle.bip_defs.specs.Matrix.{Matrix, Place, cols}
+use Rattle.bip_defs.proofs.Full.{matching_few}
+use Rattle.integer_diagonal.proofs.AnswerLemmas.{cheap_matching, fair_prices, mated_full}
 use Rattle.integer_diagonal.proofs.Augmented.{dual_small}
 use Rattle.integer_diagonal.specs.Duals.{priced}
 use Rattle.integer_diagonal.specs.Amounts.{HasRoom}
 use Rattle.integer_diagonal.specs.Prices.{total}
 use Rattle.integer_diagonal.proofs.answer.diagonal.Goals as goal
 
-pub pairs_of-requires : goal.pairs_of-requires
-pairs_of-requires g c k lt = c.requires.all_cols k (let same = ap cols c.requires.of in let all = c.requires.assignment.cols_are in omega (arith, lt, all, same))
-
 pub sum_of-sum-requires-clause-entries : goal.sum_of-sum-requires-clause-entries
 sum_of-sum-requires-clause-entries g c r k h =
     let x = priced c.args.weights.now c.args.assignment in
     let m = c.args.assignment.matching.pairs in
-    (cheap_matching x m c.requires.assignment.matching).entries r k (c.in_ok-pairs.ensures.pairs r k (subst (λ (z : List Place). Among {X = Place} (r, k) z) c.as_slice.ensures.value h))
+    (cheap_matching x m c.requires.assignment.matching).entries r k (subst (λ (z : List Place). Among {X = Place} (r, k) z) (c.as_slice.ensures.value ∙ c.in_ok-pairs.ensures) h)
 
 pub sum_of-sum-requires-clause-few : goal.sum_of-sum-requires-clause-few
 sum_of-sum-requires-clause-few g c =
-    let n = c.in_ok-pairs.pairs.items in
-    let same = length-map n (λ (p : Place). p.1) in
-    let all = ap (λ (z : List ℕ). length z) c.in_ok-pairs.ensures.cols in
-    let long = upto_length 0 c.args.assignment.matching.cols in
-    let lent = ap (λ (z : List Place). length z) c.as_slice.ensures.value in
+    let x = priced c.args.weights.now c.args.assignment in
+    let m = c.args.assignment.matching.pairs in
+    let few = matching_few c.args.weights.now.matrix m (cheap_matching x m c.requires.assignment.matching) in
+    let same = ap (λ (z : List Place). length z) (c.as_slice.ensures.value ∙ c.in_ok-pairs.ensures) in
     let matrices = ap cols c.requires.of in
-    omega (arith, same, all, long, lent, matrices, c.requires.assignment.cols_are, c.requires.few)
+    omega (arith, few, same, matrices, c.requires.few)
 
 pub row_prices-requires : goal.row_prices-requires
 row_prices-requires g c i =
@@ -51,18 +45,16 @@ returns g c =
     let x = priced c.args.weights.now c.args.assignment in
     let w = c.args.weights.now in
     let m = c.args.assignment.matching.pairs in
-    let n = c.in_ok-pairs.pairs.items in
     let k = c.requires.assignment.matching in
     let square : w.matrix.rows ≡ cols w.matrix = subst (λ (z : Matrix). z.rows ≡ cols z) (sym c.requires.of) c.requires.square in
-    let all : cols_of n ≡ upto (cols w.matrix) = c.in_ok-pairs.ensures.cols ∙ ap upto c.requires.assignment.cols_are in
     let eu : c.in_ok-u.u.items ≡ map (λ p. pos p -ℤ pos c.args.assignment.top) c.args.assignment.prices.items = c.in_ok-u.ensures in
     let ev : c.in_ok-v.v.items ≡ map (λ o. pos (c.args.assignment.top + c.args.assignment.top) -ℤ pos o) c.args.assignment.duals.items = c.in_ok-v.ensures in
     let fits : FitsSigned w128 c.sum_of-sum.result = search rules in
-    let lent : pos (total w c.as_slice.result.now) ≡ pos (total w n) = ap (λ (z : List Place). pos (total w z)) c.as_slice.ensures.value in
-    record {
+    let lent : pos (total w c.as_slice.result.now) ≡ pos (total w m) = ap (λ (z : List Place). pos (total w z)) (c.as_slice.ensures.value ∙ c.in_ok-pairs.ensures) in
+    rw c.in_ok-pairs.ensures record {
       square = square;
-      full = part_full w.matrix m n square (cheap_matching x m k) all c.in_ok-pairs.ensures.pairs;
-      rising = subst (λ (z : List ℕ). IsRising z) (sym all) (upto_rising 0 (cols w.matrix));
-      fair = fair_prices x c.in_ok-u.u.items c.in_ok-v.v.items m n c.requires.assignment.feasible k c.in_ok-pairs.ensures.pairs eu ev;
+      full = mated_full w.matrix m square (cheap_matching x m k) (subst (λ (z : Matrix). (d : ℕ) → d < cols z → Among d (cols_of m)) (sym c.requires.of) c.requires.all_cols);
+      rising = c.is_matching.ensures.cols_rise;
+      fair = fair_prices x c.in_ok-u.u.items c.in_ok-v.v.items m c.requires.assignment.feasible k eu ev;
       sum_is = rw (to_z-of_z w128 c.sum_of-sum.result fits) (c.sum_of-sum.ensures ∙ lent);
     }

@@ -39,4 +39,4 @@ returns-clause-assignment g c =
     let os = c.in_ok-duals.duals.items in
     let same = ap cols (sym c.requires.of) in
     let prices : AreFirstPrices w c.args.top (cols c.args.pattern.now) os ps = subst (λ (z : List ℕ). AreFirstPrices w c.args.top (cols c.args.pattern.now) z ps) c.as_slice.ensures.value c.in_ok-prices.ensures in
-    start_assigned (begun w c.args.top ps os) c.loop-col.col c.loop-col.matching (λ r k e. c.requires.small r k e.1) c.loop-col.invariant (subst (λ k. AreFirstDuals w c.args.top k os) same c.in_ok-duals.ensures) (subst (λ k. AreFirstPrices w c.args.top k os ps) same prices) c.size-size.ensures.rows_differ c.size-size.ensures.cols_rise
+    start_assigned (begun w c.args.top ps os) c.loop-col.col c.loop-col.matching (λ r k e. c.requires.small r k e.1) c.loop-col.invariant (subst (λ k. AreFirstDuals w c.args.top k os) same c.in_ok-duals.ensures) (subst (λ k. AreFirstPrices w c.args.top k os ps) same prices) c.is_matching.ensures.rows_differ c.is_matching.ensures.cols_rise
