@@ -25,7 +25,7 @@ use Rattle.btf_tool.specs.declared.answers.Answer.TheVariants.{Negative, Positiv
 use Rattle.btf_tool.specs.declared.refusals.Refusal.{Refusal}
 use Rattle.btf_tool.specs.declared.refusals.Refusal.TheVariants.{Usage, Malformed, Limit, TooLong, SumLimit, NeedsInteger, ReadFault, WriteFault, OutOfMemory}
 use Rattle.sp_ports.specs.Device.{Device, FailsOnceAtMost, HasWriteFault, IsSteady, IsUntouched, WroteAsFar}
-use Rattle.btf_tool.specs.Jobs.{GavePrefix, IsAnswer as IsJobAnswer, IsFitFor, IsMatrixOf, NeedsIntegers, OfReading, ReadsFile, Weighs, WithAnswer, WithFileAnswer, drops_of, form_of, reading}
+use Rattle.btf_tool.specs.Jobs.{GavePrefix, IsFitFor, IsMatrixOf, IsTextOf, NeedsIntegers, OfReading, ReadsFile, WasRead, Weighs, WithAnswer, WithFileAnswer, drops_of, form_of, reading}
 use Rattle.btf_tool.specs.Inputs.{Form, IsGoodInput, first_bad_in}
 use Rattle.btf_tool.specs.Inputs as forms
 use Rattle.btf_tool.specs.VerdictText.{answer_of}
@@ -91,6 +91,22 @@ over_file (Load size seed search) answer input P reads h = absurd reads
 over_file Edit answer input P reads h = h
 over_file (Bottleneck drop_zeros) answer input P reads h = h
 
+-- the answer over a file that an input gave which tells its bytes
+record IsAnswerOver (job : Job) (call : Call) (answer : Answer) (text : List ℕ) : Type 0 where
+  entries : Entries
+  rest : List ℕ
+  matrix : Matrix
+  was_read : WasRead (form_of job) call entries rest
+  is_fit : IsFitFor job entries
+  is_matrix : IsMatrixOf (drops_of job) entries matrix
+  fits : IsPattern matrix
+  is_text : IsTextOf job entries matrix rest answer text
+
+answer_told : (job : Job) (answer : Answer) (input : Device) (P : List ℕ → Type 0) → WithFileAnswer job answer input P → OfReading input (λ call. (text : List ℕ) × IsAnswerOver job call answer text)
+answer_told job answer input P (text, is, done) =
+    where_known input.before input.after is.was_read
+    (λ x y before read. (text, record { entries = is.entries; rest = is.rest; matrix = is.matrix; was_read = read; is_fit = is.is_fit; is_matrix = is.is_matrix; fits = is.fits; is_text = is.is_text }))
+
 -- a matrix that was made was answered as was asked
 made_positive : (job : Job) (answer : Answer) (input : Device) (P : List ℕ → Type 0) → ¬ ReadsFile job → WithAnswer job answer input P → answer ≡ Positive
 made_positive (Rank drop_zeros) answer input P makes h = absurd (makes tt)
@@ -107,7 +123,7 @@ HasOneVerdict = (a : Matrix) (bytes : List ℕ) (v w : Verdict) → IsPattern a 
 
 -- the answer over a good file is the one of that file
 ends_well : HasOneVerdict → FullHasRank → (job : Job) (call : Call) (answer : Answer) (text : List ℕ) (t : Entries) (rest : List ℕ) (status : Status) → ReadsFile job
-    → IsJobAnswer job call answer text → IsGoodInput (form_of job) (offered call) t rest → IsOrNoMemory status (status_of_answer answer) → EndsWell job t rest status
+    → IsAnswerOver job call answer text → IsGoodInput (form_of job) (offered call) t rest → IsOrNoMemory status (status_of_answer answer) → EndsWell job t rest status
 ends_well one_verdict full_rank (Rank drop_zeros) call answer text t rest status file h good ends = subst (λ (x : Answer). IsOrNoMemory status (status_of_answer x)) h.is_text.0 ends
 ends_well one_verdict full_rank (Analyse search report drop_zeros) call answer text t rest status file h good ends = subst (λ (x : Answer). IsOrNoMemory status (status_of_answer x)) h.is_text.0 ends
 ends_well one_verdict full_rank (Diagonal drop_zeros) call answer text t rest status file h good ends =
@@ -122,7 +138,7 @@ ends_well one_verdict full_rank (Check drop_zeros) call answer text t rest statu
       let same_a : h.matrix ≡ a = same_matrix _ _ _ h.matrix a mine matrix in
       let v : IsVerdict h.matrix h.rest h.is_text.verdict = h.is_text.is_verdict in
       let w : IsVerdict h.matrix h.rest verdict = subst (λ (bytes : List ℕ). IsVerdict h.matrix bytes verdict) (sym same_bytes) (subst (λ (x : Matrix). IsVerdict x rest verdict) (sym same_a) is_verdict) in
-      let same_v : h.is_text.verdict ≡ verdict = one_verdict h.matrix h.rest h.is_text.verdict verdict h.is_text.fits v w in
+      let same_v : h.is_text.verdict ≡ verdict = one_verdict h.matrix h.rest h.is_text.verdict verdict h.fits v w in
       subst (λ (x : Answer). IsOrNoMemory status (status_of_answer x)) (h.is_text.answer_is ∙ ap answer_of same_v) ends;
 }
   where
@@ -137,13 +153,13 @@ ends_well one_verdict full_rank (Bottleneck drop_zeros) call answer text t rest 
     (comes_to_bottleneck full_rank drop_zeros h.entries h.matrix answer text status h.is_matrix h.is_text ends)
 
 -- the file of a job that needs integers, and answered over it, is an integer file
-answer_integer : (job : Job) (call : Call) (answer : Answer) (text : List ℕ) (t : Entries) (rest : List ℕ) → NeedsIntegers job → IsJobAnswer job call answer text
+answer_integer : (job : Job) (call : Call) (answer : Answer) (text : List ℕ) (t : Entries) (rest : List ℕ) → NeedsIntegers job → IsAnswerOver job call answer text
     → IsGoodInput (form_of job) (offered call) t rest → t.field ≡ Integer
 answer_integer job call answer text t rest needs h good =
     subst (λ (x : Entries). x.field ≡ Integer) (same_entries (form_of job) (offered call) h.entries t h.rest rest h.was_read.good good) (h.is_fit needs)
 
 -- and no sum of a file that was weighed passes the limit
-own_within : (job : Job) (call : Call) (answer : Answer) (text : List ℕ) (r c : ℕ) → Weighs job → (h : IsJobAnswer job call answer text) → weight_limit < weight_of h.entries r c → ⊥
+own_within : (job : Job) (call : Call) (answer : Answer) (text : List ℕ) (r c : ℕ) → Weighs job → (h : IsAnswerOver job call answer text) → weight_limit < weight_of h.entries r c → ⊥
 own_within (Rank drop_zeros) call answer text r c weighs h past = weighs
 own_within (Analyse search report drop_zeros) call answer text r c weighs h past = weighs
 own_within (Diagonal drop_zeros) call answer text r c weighs h past = no_sum_past drop_zeros h.entries h.matrix h.is_text.weighing r c h.is_matrix h.is_text.are_weights past
@@ -152,7 +168,7 @@ own_within (Load size seed search) call answer text r c weighs h past = weighs
 own_within Edit call answer text r c weighs h past = weighs
 own_within (Bottleneck drop_zeros) call answer text r c weighs h past = no_sum_past drop_zeros h.entries h.matrix h.is_text.weighing r c h.is_matrix h.is_text.are_weights past
 
-answer_within : (job : Job) (call : Call) (answer : Answer) (text : List ℕ) (t : Entries) (rest : List ℕ) (r c : ℕ) → Weighs job → IsJobAnswer job call answer text
+answer_within : (job : Job) (call : Call) (answer : Answer) (text : List ℕ) (t : Entries) (rest : List ℕ) (r c : ℕ) → Weighs job → IsAnswerOver job call answer text
     → IsGoodInput (form_of job) (offered call) t rest → weight_limit < weight_of t r c → ⊥
 answer_within job call answer text t rest r c weighs h good past =
     own_within job call answer text r c weighs h
@@ -186,8 +202,8 @@ answered one_verdict full_rank r status P answer job names written ends = record
       subst (λ (x : Answer). IsOrNoMemory status (status_of_answer x)) positive (ends no_write);
 }
   where
-    over : (other : Job) → NamesReader r.words other → WithFileAnswer other answer r.input P
-    over other reader = over_file other answer r.input P reader.1 (in_place r.words job other names reader.0 (λ (j : Job). WithAnswer j answer r.input P) written)
+    over : (other : Job) → NamesReader r.words other → OfReading r.input (λ call. (text : List ℕ) × IsAnswerOver other call answer text)
+    over other reader = answer_told other answer r.input P (over_file other answer r.input P reader.1 (in_place r.words job other names reader.0 (λ (j : Job). WithAnswer j answer r.input P) written))
 
 -- the run was refused for a bad line
 bad : (r : Run) (status : Status) (line : ℕ) (kind : Kind) (limit : Bool) → status ≡ (if limit then statuses.Limit else statuses.Malformed)

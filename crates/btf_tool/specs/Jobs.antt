@@ -11,6 +11,7 @@ use Rattle.mm_defs.specs.Calls.{Call, call_on, offered}
 use Rattle.mm_defs.specs.Words.{lines}
 use Rattle.mm_frames.specs.Edits.{edits_of}
 use Rattle.sp_ports.specs.Bytes.{WhereKnown}
+use Rattle.sp_pattern.specs.Stored.{IsPattern}
 use Rattle.sp_pattern.specs.Weights.{nonzero_places}
 use Rattle.btf_tool.specs.declared.answers.Answer.{Answer}
 use Rattle.btf_tool.specs.declared.answers.Answer.TheVariants.{Negative, Positive}
@@ -158,14 +159,17 @@ IsTextOf Edit t a rest answer text = (answer ≡ Positive)
     × IsSessionText a (edits_of 0 (lines true rest)) text
 IsTextOf (Bottleneck drop_zeros) t a rest answer text = IsBottleneckText t a answer text
 
--- a good file was read, of the field that the job needs, with what follows it, and this is what the job answers
-pub record IsAnswer (job : Job) (call : Call) (answer : Answer) (text : List ℕ) : Type 0 where
+-- What the job answers over a file of the field that it needs, whose matrix's sizes fit 32 bits. Where the input tells its
+-- bytes they were that file, which was a good one, with what follows it.
+pub record IsAnswer (job : Job) (input : Device) (answer : Answer)
+    (text : List ℕ) : Type 0 where
   pub entries : Entries
   pub rest : List ℕ
   pub matrix : Matrix
-  pub was_read : WasRead (form_of job) call entries rest
+  pub was_read : OfReading input (λ call. WasRead (form_of job) call entries rest)
   pub is_fit : IsFitFor job entries
   pub is_matrix : IsMatrixOf (drops_of job) entries matrix
+  pub fits : IsPattern matrix
   pub is_text : IsTextOf job entries matrix rest answer text
 
 -- a matrix was made, and this is its summary
@@ -175,10 +179,9 @@ pub record IsLoadAnswer (size seed : ℕ) (answer : Answer) (text : List ℕ) : 
   pub is_summary : IsSummary matrix text
   pub positive : answer ≡ Positive
 
--- what was done with the answer over a file, where the input tells its bytes
+-- what was done with the answer over a file, whether the input tells its bytes or not
 abbrev pub WithFileAnswer : Job → Answer → Device → (List ℕ → Type 0) → Type 0
-WithFileAnswer job answer input P = OfReading input
-    (λ call. (text : List ℕ) × IsAnswer job call answer text × P text)
+WithFileAnswer job answer input P = (text : List ℕ) × IsAnswer job input answer text × P text
 
 -- what was done with the job's answer
 abbrev pub WithAnswer : Job → Answer → Device → (List ℕ → Type 0) → Type 0

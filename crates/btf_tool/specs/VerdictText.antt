@@ -1,7 +1,6 @@
 -- What `check` answers.
 use Rattle.std.specs.Prelude.{◌≡◌, ℕ, List}
 use Rattle.bip_defs.specs.Matrix.{Matrix}
-use Rattle.sp_pattern.specs.Stored.{IsPattern}
 use Rattle.btf_check.specs.Verdicts.{IsVerdict}
 use Rattle.btf_check.specs.declared.verdict.Verdict.{Verdict}
 use Rattle.btf_check.specs.declared.verdict.Verdict.TheVariants.{Invalid, Valid}
@@ -18,10 +17,9 @@ abbrev pub answer_of : Verdict → Answer
 answer_of Valid = Positive
 answer_of (Invalid reason) = Negative
 
--- the line of the verdict on these bytes, over a matrix whose sizes fit 32 bits
+-- the line of the verdict on these bytes
 pub record IsVerdictText (a : Matrix) (bytes : List ℕ) (answer : Answer)
     (text : List ℕ) : Type 0 where
-  pub fits : IsPattern a
   pub verdict : Verdict
   pub is_verdict : IsVerdict a bytes verdict
   pub answer_is : answer ≡ answer_of verdict

@@ -33,7 +33,6 @@ pub(crate) fn check<R: Threads + Sync, S: Source, O: Sink>(
     let Followed { triples, rest } = file;
     let pattern = matrix_of(rt, alloc, &triples, drop_zeros)?;
     drop(triples);
-    pattern.is_pattern();
     let verdict = judge(rt, alloc, &pattern, rest.as_slice())?;
     let written = write_verdict(out, verdict);
     hand_on(out, written)?;

@@ -5,7 +5,6 @@ ghost use Rattle.btf_words.specs.declared.jobs.Job.TheVariants.{Diagonal};
 ghost use Rattle.sp_ports.specs.Device.{seen};
 ghost use Rattle.btf_tool.specs.Diagonals.{answer_on};
 ghost use Rattle.btf_tool.specs.Jobs.{GavePrefix, OfReading};
-ghost use Rattle.btf_tool.specs.Refusals.{refusal_without_weights};
 ghost use Rattle.btf_tool.specs.Runs.{JobSays};
 
 use crate::matrix::matrix_of;
@@ -16,7 +15,7 @@ use bip_graph::Heaviest;
 use btf_text::{TextBuf, write_diagonal};
 use integer_diagonal::heaviest;
 use sp_ids::Field;
-use sp_pattern::{WeightError, Weights};
+use sp_pattern::Weights;
 use sp_ports::{Sink, Source};
 use std::alloc::Global;
 use std::thread::Threads;
@@ -45,17 +44,6 @@ pub(crate) fn diagonal<R: Threads + Sync, S: Source, O: Sink>(
     let written = write_diagonal(out, &mut buf, &answer, &pattern, &weights);
     hand_on(out, written)?;
     Ok(answer_of(&answer))
-}
-
-impl From<WeightError> for Refusal {
-    ghost from_gives = { λ error refusal. refusal ≡ refusal_without_weights error };
-
-    fn from(error: WeightError) -> Refusal {
-        match error {
-            WeightError::SumLimit { row, col } => Refusal::SumLimit { row, col },
-            WeightError::OutOfMemory => Refusal::OutOfMemory,
-        }
-    }
 }
 
 /// Whether there is a diagonal.

@@ -33,6 +33,7 @@ pub(crate) fn edit<R: Threads + Sync, S: Source, O: Sink, G: Gate>(
     let file = read_edited(alloc, input)?;
     let Edited { triples, edits } = file;
     let pattern = Pattern::build(rt, alloc, &triples)?;
+    pattern.is_pattern();
     drop(triples);
     let matching = solve(rt, alloc, &pattern, Engine::Pf, 1, gate)?;
     let replies = replies_to(rt, alloc, pattern, matching, edits.as_slice())?;

@@ -26,5 +26,5 @@ pub use btf_words::Engine;
 pub use command::run;
 pub use engines::solve;
 pub use file_answer::{FileAnswer, answer_bytes};
-pub use laws::one_summary;
+pub use laws::{one_summary, unused_input_tells};
 pub use refusals::{Refusal, refuse};

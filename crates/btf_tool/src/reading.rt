@@ -7,11 +7,10 @@ ghost use Rattle.mm_frames.specs.Edits.{IsWithinMatrix, edits_of};
 ghost use Rattle.btf_tool.specs.Inputs as forms;
 ghost use Rattle.sp_ports.specs.Device.{FailsOnceAtMost, seen};
 ghost use Rattle.btf_tool.specs.Jobs.{GavePrefix, OfReading};
-ghost use Rattle.btf_tool.specs.Refusals.{refusal_for};
 ghost use Rattle.btf_tool.specs.Runs.{IsReadAs, IsUnread};
 
 use crate::Refusal;
-use mm_defs::{End, ReadError};
+use mm_defs::End;
 use mm_frames::{Edit, read_edits};
 use mm_reader::{Input, read_matrix, read_rest};
 use sp_ids::{MAX_INPUT_BYTES, Triples};
@@ -80,19 +79,4 @@ pub(crate) fn read_edited<S: Source>(alloc: Global, input: &mut S) -> Result<Edi
     let (rows, cols) = (triples.rows(), triples.cols());
     let edits = read_edits(alloc, &mut bytes, input, rows, cols)?;
     Ok(Edited { triples, edits })
-}
-
-impl From<ReadError> for Refusal {
-    ghost from_gives = { λ error refusal. refusal ≡ refusal_for error };
-
-    /// Where an input could not be read.
-    fn from(error: ReadError) -> Refusal {
-        match error {
-            ReadError::Malformed { line, kind } => Refusal::Malformed { line, kind },
-            ReadError::Limit { line, kind } => Refusal::Limit { line, kind },
-            ReadError::TooLong => Refusal::TooLong,
-            ReadError::ReadFault => Refusal::ReadFault,
-            ReadError::OutOfMemory => Refusal::OutOfMemory,
-        }
-    }
 }

@@ -2,13 +2,14 @@
 
 ghost use Rattle.std.specs.Prelude.{◌≡◌};
 ghost use Rattle.btf_tool.specs.declared.refusals.Refusal.TheVariants.{OutOfMemory as NoMemory, WriteFault};
-ghost use Rattle.btf_tool.specs.Refusals.{status_of, line_of};
+ghost use Rattle.btf_tool.specs.Refusals.{line_of, refusal_for, refusal_without_weights, status_of};
 ghost use Rattle.sp_ports.specs.Device.{WroteAsFar, seen};
 
 use btf_lines::{limit_line, malformed_line, sum_limit_line};
 use btf_words::usage_line;
-use mm_defs::Kind;
+use mm_defs::{Kind, ReadError};
 use sp_ids::{Col, OutOfMemory, Row, Status};
+use sp_pattern::WeightError;
 use sp_ports::{Failed, Sink, write_all};
 
 /// Why a run is refused.
@@ -52,6 +53,33 @@ impl From<Failed> for Refusal {
     }
 }
 
+impl From<ReadError> for Refusal {
+    ghost from_gives = { λ error refusal. refusal ≡ refusal_for error };
+
+    /// Where an input could not be read.
+    fn from(error: ReadError) -> Refusal {
+        match error {
+            ReadError::Malformed { line, kind } => Refusal::Malformed { line, kind },
+            ReadError::Limit { line, kind } => Refusal::Limit { line, kind },
+            ReadError::TooLong => Refusal::TooLong,
+            ReadError::ReadFault => Refusal::ReadFault,
+            ReadError::OutOfMemory => Refusal::OutOfMemory,
+        }
+    }
+}
+
+impl From<WeightError> for Refusal {
+    ghost from_gives = { λ error refusal. refusal ≡ refusal_without_weights error };
+
+    /// Where an integer file gives no weights.
+    fn from(error: WeightError) -> Refusal {
+        match error {
+            WeightError::SumLimit { row, col } => Refusal::SumLimit { row, col },
+            WeightError::OutOfMemory => Refusal::OutOfMemory,
+        }
+    }
+}
+
 impl Refusal {
     /// The status with which the run ends.
     pub fn status(&self) -> Status
@@ -73,21 +101,27 @@ impl Refusal {
         ensures { WroteAsFar (seen E.taken E.faults err.old err.new) (line_of self.now) }
     {
         match self {
-            Refusal::Usage => put(err, usage_line().as_bytes()),
-            Refusal::Malformed { line, kind } => put(err, malformed_line(*line, *kind).as_bytes()),
-            Refusal::Limit { line, kind } => put(err, limit_line(*line, *kind).as_bytes()),
-            Refusal::TooLong => put(err, b"btf: limit: TooLong\n"),
-            Refusal::SumLimit { row, col } => put(err, sum_limit_line(*row, *col).as_bytes()),
-            Refusal::NeedsInteger => put(err, b"btf: needs an integer file\n"),
-            Refusal::ReadFault => put(err, b"btf: read fault\n"),
-            Refusal::WriteFault => put(err, b"btf: write fault\n"),
-            Refusal::OutOfMemory => put(err, b"btf: out of memory\n"),
+            Refusal::Usage => write_line(err, usage_line().as_bytes()),
+            Refusal::Malformed { line, kind } => write_line(
+                err,
+                malformed_line(*line, *kind).as_bytes(),
+            ),
+            Refusal::Limit { line, kind } => write_line(err, limit_line(*line, *kind).as_bytes()),
+            Refusal::TooLong => write_line(err, b"btf: limit: TooLong\n"),
+            Refusal::SumLimit { row, col } => write_line(
+                err,
+                sum_limit_line(*row, *col).as_bytes(),
+            ),
+            Refusal::NeedsInteger => write_line(err, b"btf: needs an integer file\n"),
+            Refusal::ReadFault => write_line(err, b"btf: read fault\n"),
+            Refusal::WriteFault => write_line(err, b"btf: write fault\n"),
+            Refusal::OutOfMemory => write_line(err, b"btf: out of memory\n"),
         }
     }
 }
 
 /// Writes a line, or as much of it as the device takes.
-fn put<E: Sink>(err: &mut E, line: &[u8])
+fn write_line<E: Sink>(err: &mut E, line: &[u8])
     ensures { WroteAsFar (seen E.taken E.faults err.old err.new) line.now }
 {
     match write_all(err, line) {

@@ -17,7 +17,7 @@ returns-in_err-hand_on-clause-says g c =
     let out = seen g.O.Sink.taken g.O.Sink.faults c.args.out.now c.hand_on.new.out in
     as_refusal _ WriteFault (JobSays Edit input out) c.from_residual-in_err-hand_on.ensures.1
     (job_not_written Edit Positive input out _ c.in_ok-file.file.triples rest a tt read c.in_ok-file.ensures.counts
-    (λ needs. absurd needs) c.in_ok-pattern.ensures (refl, session) (c.in_err-hand_on.ensures _ _ _ c.write_replies-written.ensures))
+    (λ needs. absurd needs) c.in_ok-pattern.ensures c.is_pattern.ensures (refl, session) (c.in_err-hand_on.ensures _ _ _ c.write_replies-written.ensures))
 
 pub returns-clause-says : goal.returns-clause-says
 returns-clause-says g c =
@@ -27,4 +27,4 @@ returns-clause-says g c =
     let input = seen g.S.Source.left g.S.Source.faults c.args.input.now c.read_edited.new.input in
     let out = seen g.O.Sink.taken g.O.Sink.faults c.args.out.now c.hand_on.new.out in
     job_written Edit Positive input out _ c.in_ok-file.file.triples rest a tt read
-    (λ needs. absurd needs) c.in_ok-pattern.ensures (refl, session) (c.in_ok-hand_on.ensures _ _ _ c.write_replies-written.ensures)
+    (λ needs. absurd needs) c.in_ok-pattern.ensures c.is_pattern.ensures (refl, session) (c.in_ok-hand_on.ensures _ _ _ c.write_replies-written.ensures)

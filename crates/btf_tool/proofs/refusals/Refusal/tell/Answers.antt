@@ -5,29 +5,29 @@ use Rattle.btf_tool.proofs.refusals.Refusal.tell.Goals as goal
 pub returns-in-Malformed : goal.returns-in-Malformed
 returns-in-Malformed g c =
     rw c.in-Malformed.is
-    (subst (λ (line : List ℕ). WroteAsFar (seen g.E.Sink.taken g.E.Sink.faults c.args.err.now c.put-in-Malformed.new.err) line)
-    (c.as_bytes-in-Malformed.ensures ∙ c.malformed_line.ensures) c.put-in-Malformed.ensures)
+    (subst (λ (line : List ℕ). WroteAsFar (seen g.E.Sink.taken g.E.Sink.faults c.args.err.now c.write_line-in-Malformed.new.err) line)
+    (c.as_bytes-in-Malformed.ensures ∙ c.malformed_line.ensures) c.write_line-in-Malformed.ensures)
 
 pub returns-in-Limit : goal.returns-in-Limit
 returns-in-Limit g c =
     rw c.in-Limit.is
-    (subst (λ (line : List ℕ). WroteAsFar (seen g.E.Sink.taken g.E.Sink.faults c.args.err.now c.put-in-Limit.new.err) line)
-    (c.as_bytes-in-Limit.ensures ∙ c.limit_line.ensures) c.put-in-Limit.ensures)
+    (subst (λ (line : List ℕ). WroteAsFar (seen g.E.Sink.taken g.E.Sink.faults c.args.err.now c.write_line-in-Limit.new.err) line)
+    (c.as_bytes-in-Limit.ensures ∙ c.limit_line.ensures) c.write_line-in-Limit.ensures)
 
 pub returns-in-SumLimit : goal.returns-in-SumLimit
 returns-in-SumLimit g c =
     rw c.in-SumLimit.is
-    (subst (λ (line : List ℕ). WroteAsFar (seen g.E.Sink.taken g.E.Sink.faults c.args.err.now c.put-in-SumLimit.new.err) line)
-    (c.as_bytes-in-SumLimit.ensures ∙ c.sum_limit_line.ensures) c.put-in-SumLimit.ensures)
+    (subst (λ (line : List ℕ). WroteAsFar (seen g.E.Sink.taken g.E.Sink.faults c.args.err.now c.write_line-in-SumLimit.new.err) line)
+    (c.as_bytes-in-SumLimit.ensures ∙ c.sum_limit_line.ensures) c.write_line-in-SumLimit.ensures)
 
 pub returns-in-NeedsInteger : goal.returns-in-NeedsInteger
-returns-in-NeedsInteger g c = rw c.in-NeedsInteger.is c.put-in-NeedsInteger.ensures
+returns-in-NeedsInteger g c = rw c.in-NeedsInteger.is c.write_line-in-NeedsInteger.ensures
 
 pub returns-in-ReadFault : goal.returns-in-ReadFault
-returns-in-ReadFault g c = rw c.in-ReadFault.is c.put-in-ReadFault.ensures
+returns-in-ReadFault g c = rw c.in-ReadFault.is c.write_line-in-ReadFault.ensures
 
 pub returns-in-WriteFault : goal.returns-in-WriteFault
-returns-in-WriteFault g c = rw c.in-WriteFault.is c.put-in-WriteFault.ensures
+returns-in-WriteFault g c = rw c.in-WriteFault.is c.write_line-in-WriteFault.ensures
 
 pub returns-in-OutOfMemory : goal.returns-in-OutOfMemory
-returns-in-OutOfMemory g c = rw c.in-OutOfMemory.is c.put-in-OutOfMemory.ensures
+returns-in-OutOfMemory g c = rw c.in-OutOfMemory.is c.write_line-in-OutOfMemory.ensures
