@@ -10,42 +10,12 @@ use flip_words::Taken;
 use forest_core::Forest;
 use sp_ids::{Col, Event, OutOfMemory, Row};
 use sp_pattern::Pattern;
-use sp_ports::Gate;
+use sp_ports::{Gate, MeetGate, NoGate};
 use std::process::Abort;
-use std::sync::atomic::{AtomicU32, Ordering};
 use std::test::Fail;
 use std::thread::Threads;
+use test_gates::BarrierGate;
 use tree_augment::{augment, closed_mates_are_exchanged, open};
-
-// Counts how often the workers 0 and 1 arrive.
-#[derive(Drop)]
-struct CountingGate {
-    zero: AtomicU32,
-    one: AtomicU32,
-}
-
-impl CountingGate {
-    fn new() -> CountingGate {
-        CountingGate {
-            zero: AtomicU32::new(0),
-            one: AtomicU32::new(0),
-        }
-    }
-
-    fn arrivals(&self) -> (u32, u32) {
-        (
-            self.zero.load(Ordering::SeqCst),
-            self.one.load(Ordering::SeqCst),
-        )
-    }
-}
-
-impl Gate for CountingGate {
-    fn arrive(&self, worker: u32) {
-        let count = if worker == 0 { &self.zero } else { &self.one };
-        let _before = count.fetch_add(1, Ordering::SeqCst);
-    }
-}
 
 fn claim<R: Abort>(rt: &R, forest: &mut Forest, row: Row, col: Col)
     ensures matrix { forest.new.matrix ≡ forest.old.matrix }
@@ -75,11 +45,11 @@ fn forest_of_one_path<'p, R: Abort + AllocGlobal>(
 }
 
 // What a board closes with, once so many workers have augmented the forest.
-fn augmented<R: AllocGlobal + Threads + Sync>(
+fn augmented<R: AllocGlobal + Threads + Sync, G: Gate>(
     rt: &R,
     forest: &Forest,
     workers: u32,
-    gate: &CountingGate,
+    gate: &G,
 ) -> Result<Mates, OutOfMemory>
     requires workers { (1 ≤ workers) × (workers ≤ max_workers) }
     requires none_flipped { forest.now.flipped ≡ [] }
@@ -95,10 +65,11 @@ fn augmented<R: AllocGlobal + Threads + Sync>(
     }
 }
 
-fn exchanges_the_path<R: Abort + AllocGlobal + Threads + Sync>(
+// So many workers exchange the one path at this gate.
+fn exchanges_the_path<R: Abort + AllocGlobal + Threads + Sync, G: Gate>(
     rt: &R,
     workers: u32,
-    gate: &CountingGate,
+    gate: &G,
 ) -> Result<(), OutOfMemory>
     requires { (1 ≤ workers) × (workers ≤ max_workers) }
 {
@@ -111,19 +82,23 @@ fn exchanges_the_path<R: Abort + AllocGlobal + Threads + Sync>(
     Ok(())
 }
 
+// Each worker arrives once, and with several of them all work at once.
 #[test]
-fn one_worker_augments(rt: HostRuntime) -> Result<(), Fail> {
-    let gate = CountingGate::new();
-    exchanges_the_path(&rt, 1, &gate)?;
-    assert_eq!(rt; gate.arrivals(), (1, 0));
+fn workers_augment_together(rt: HostRuntime) -> Result<(), Fail> {
+    for workers in [1, 2, 3] {
+        let gate = BarrierGate::new(rt.alloc(), workers)?;
+        exchanges_the_path(&rt, workers, &gate)?;
+        assert!(rt; gate.have_arrived(workers, 1) && !gate.ran_out());
+    }
     Ok(())
 }
 
 #[test]
-fn two_workers_augment(rt: HostRuntime) -> Result<(), Fail> {
-    let gate = CountingGate::new();
+fn two_workers_meet(rt: HostRuntime) -> Result<(), Fail> {
+    let gate = MeetGate::new(rt.alloc())?;
     exchanges_the_path(&rt, 2, &gate)?;
-    assert_eq!(rt; gate.arrivals(), (1, 1));
+    assert_eq!(rt; (gate.arrivals(0), gate.arrivals(1)), (1, 1));
+    assert!(rt; !gate.ran_out());
     Ok(())
 }
 
@@ -133,13 +108,7 @@ fn the_taker_asks_again(rt: HostRuntime) -> Result<(), Fail> {
     let pattern = pattern_of_three(&rt)?;
     let forest = forest_of_one_path(&rt, &pattern)?;
     let (board, mut seats) = open(&rt, rt.alloc(), &forest, 1)?;
-    augment(
-        &rt,
-        &forest,
-        &board,
-        seats.as_mut_slice(),
-        &CountingGate::new(),
-    );
+    augment(&rt, &forest, &board, seats.as_mut_slice(), &NoGate);
     assert_eq!(rt; board.take(&mut seats[0], Col(1)), Taken::Held(0));
     Ok(())
 }

@@ -9,9 +9,11 @@ ghost use Rattle.claim_words.specs.WorkerState.{AreAllWorkers, fresh_lists, seat
 
 use claim_words::{ClaimBoard, ClaimSeat, Claimed, Closed, Won, Worker};
 use sp_ids::{Col, Id, OutOfMemory, Row};
+use sp_ports::Gate;
 use std::alloc::Global;
 use std::test::Fail;
 use std::thread::{Threads, join_mut};
+use test_gates::BarrierGate;
 
 // A board and its two seats.
 fn board_for_two(
@@ -75,10 +77,11 @@ fn one_leaf_for_a_root(rt: HostRuntime) -> Result<(), Fail> {
     Ok(())
 }
 
-// Both seats claim the row 0 at once, for the columns 0 and 1.
+// Both seats claim the row 0 at once, for the columns 0 and 1, once both threads have come.
 fn claim_at_once<R: Threads>(
     rt: &R,
     board: &ClaimBoard,
+    gate: &BarrierGate,
     zero: &mut ClaimSeat,
     one: &mut ClaimSeat,
 ) -> (Claimed, Claimed)
@@ -92,11 +95,17 @@ fn claim_at_once<R: Threads>(
         &mut || -> Claimed
             requires { (zero.now.board ≡ board.now) × (0 < length board.now.rows) }
             ensures { zero.exit.now ≡ after_claim zero.entry.now 0 0 (col_before result) }
-        { board.claim(zero, Row(0), Col(0)) },
+        {
+            gate.arrive(0);
+            board.claim(zero, Row(0), Col(0))
+        },
         &mut || -> Claimed
             requires { (one.now.board ≡ board.now) × (0 < length board.now.rows) }
             ensures { one.exit.now ≡ after_claim one.entry.now 0 1 (col_before result) }
-        { board.claim(one, Row(0), Col(1)) },
+        {
+            gate.arrive(1);
+            board.claim(one, Row(0), Col(1))
+        },
     )
 }
 
@@ -120,7 +129,9 @@ fn winner(zero: Claimed, one: Claimed) -> Option<Col> {
 #[test]
 fn two_threads_on_one_row(rt: HostRuntime) -> Result<(), Fail> {
     let (board, mut zero, mut one) = board_for_two(rt.alloc(), &[None], &[None, None])?;
-    let (first, second) = claim_at_once(&rt, &board, &mut zero, &mut one);
+    let gate = BarrierGate::new(rt.alloc(), 2)?;
+    let (first, second) = claim_at_once(&rt, &board, &gate, &mut zero, &mut one);
+    assert!(rt; gate.have_arrived(2, 1) && !gate.ran_out());
     let won = winner(first, second);
     assert!(rt; won.is_some());
     assert_eq!(rt; board.look_row(&mut zero, Row(0)), won);

@@ -1,5 +1,5 @@
 //! A board of 1,000 rows and 4 roots that four seats contest at once: each claims every row and
-//! wins each root.
+//! wins each root, once all four have come.
 
 ghost use Rattle.std.specs.Prelude.{◌≡◌, [], ◌∷◌, length, IfOk};
 ghost use Rattle.std.specs.Thread.{IsSync};
@@ -9,10 +9,12 @@ ghost use Rattle.board_tests.specs.ClaimContest.{Contests, IsContested};
 use claim_words::{ClaimBoard, ClaimSeat, Claimed, Closed, Won};
 use crossbeam_queue::ArrayQueue;
 use sp_ids::{Col, OutOfMemory, Row};
+use sp_ports::Gate;
 use std::alloc::Global;
 use std::sync::Wait;
 use std::test::Fail;
 use std::thread::{Threads, join_mut};
+use test_gates::BarrierGate;
 
 const ROWS: u32 = 1000;
 
@@ -21,22 +23,25 @@ const ROOTS: u32 = 4;
 // A seat's number, and how many of its claims and of its wins were `Mine`.
 type Count = (u32, u32, u32);
 
-// A seat, and what it was told of each row and of each root.
+// A seat, the gate at which it waits for the others, and what it was told of each row and of each
+// root.
 #[derive(Drop)]
-struct Contender {
+struct Contender<'a> {
     seat: ClaimSeat,
     number: u32,
+    gate: &'a BarrierGate,
     holders: Vec<Col>,
     leaves: Vec<Row>,
 }
 
-impl Contender {
-    fn new(alloc: Global, seat: ClaimSeat, number: u32) -> Contender
+impl<'a> Contender<'a> {
+    fn new(alloc: Global, seat: ClaimSeat, number: u32, gate: &'a BarrierGate) -> Contender<'a>
         ensures { result.seat ≡ seat }
     {
         Contender {
             seat,
             number,
+            gate,
             holders: Vec::new(alloc),
             leaves: Vec::new(alloc),
         }
@@ -101,13 +106,14 @@ fn win_all(
 fn contend<R: Wait>(
     rt: &R,
     board: &ClaimBoard,
-    me: &mut Contender,
+    me: &mut Contender<'_>,
     counts: &ArrayQueue<Count>,
 ) -> Result<(), OutOfMemory>
     requires { Contests board.now me.old.seat }
     ensures { IsSameSeat me.old.seat me.new.seat }
 {
     let number = me.number;
+    me.gate.arrive(number);
     let rows = claim_all(board, &mut me.seat, Col(number), &mut me.holders)?;
     let roots = win_all(board, &mut me.seat, Row(number), &mut me.leaves)?;
     let _kept = counts.push(rt, (number, rows, roots)).is_ok();
@@ -118,8 +124,8 @@ fn contend<R: Wait>(
 fn contend_by_two<R: Threads + Wait + Sync>(
     rt: &R,
     board: &ClaimBoard,
-    left: &mut Contender,
-    right: &mut Contender,
+    left: &mut Contender<'_>,
+    right: &mut Contender<'_>,
     counts: &ArrayQueue<Count>,
 ) -> Result<(), OutOfMemory>
     requires { Contests board.now left.old.seat × Contests board.now right.old.seat }
@@ -143,10 +149,10 @@ fn contend_by_two<R: Threads + Wait + Sync>(
 fn contend_by_four<R: Threads + Wait + Sync>(
     rt: &R,
     board: &ClaimBoard,
-    zero: &mut Contender,
-    one: &mut Contender,
-    two: &mut Contender,
-    three: &mut Contender,
+    zero: &mut Contender<'_>,
+    one: &mut Contender<'_>,
+    two: &mut Contender<'_>,
+    three: &mut Contender<'_>,
     counts: &ArrayQueue<Count>,
 ) -> Result<(), OutOfMemory>
     requires lower { Contests board.now zero.old.seat × Contests board.now one.old.seat }
@@ -200,7 +206,7 @@ fn roots_agree(board: &ClaimBoard, seat: &mut ClaimSeat, leaves: &[Row]) -> bool
 }
 
 // Whether the seat's looks give what it was told.
-fn looks_agree(board: &ClaimBoard, me: &mut Contender) -> bool
+fn looks_agree(board: &ClaimBoard, me: &mut Contender<'_>) -> bool
     requires { Contests board.now me.old.seat }
     ensures { IsSameSeat me.old.seat me.new.seat }
 {
@@ -242,9 +248,19 @@ fn sums<R: Wait>(rt: &R, counts: &ArrayQueue<Count>) -> ([bool; 4], u32, u32) {
 }
 
 // The board and its four seats.
-fn board_for_four(
+fn board_for_four<'a>(
     alloc: Global,
-) -> Result<(ClaimBoard, Contender, Contender, Contender, Contender), OutOfMemory>
+    gate: &'a BarrierGate,
+) -> Result<
+    (
+        ClaimBoard,
+        Contender<'a>,
+        Contender<'a>,
+        Contender<'a>,
+        Contender<'a>,
+    ),
+    OutOfMemory,
+>
     ensures board { IfOk result (λ b. IsContested b.0) }
     ensures seats { IfOk result (λ b. b.1.seat ∷ b.2.seat ∷ b.3.seat ∷ b.4.seat ∷ []
         ≡ new_seats b.0 4) }
@@ -264,10 +280,10 @@ fn board_for_four(
     };
     Ok((
         board,
-        Contender::new(alloc, zero, 0),
-        Contender::new(alloc, one, 1),
-        Contender::new(alloc, two, 2),
-        Contender::new(alloc, three, 3),
+        Contender::new(alloc, zero, 0, gate),
+        Contender::new(alloc, one, 1, gate),
+        Contender::new(alloc, two, 2, gate),
+        Contender::new(alloc, three, 3, gate),
     ))
 }
 
@@ -275,10 +291,10 @@ fn board_for_four(
 fn closed_shows(
     alloc: Global,
     board: ClaimBoard,
-    zero: Contender,
-    one: Contender,
-    two: Contender,
-    three: Contender,
+    zero: Contender<'_>,
+    one: Contender<'_>,
+    two: Contender<'_>,
+    three: Contender<'_>,
 ) -> Result<bool, OutOfMemory>
     requires board { IsContested board }
     requires seats { AreAllSeats board (zero.seat ∷ one.seat ∷ two.seat ∷ three.seat ∷ []) }
@@ -301,10 +317,12 @@ fn closed_shows(
 #[test]
 fn four_seats_on_every_word(rt: HostRuntime) -> Result<(), Fail> {
     let counts = ArrayQueue::new(rt.alloc(), 4)?;
-    let (board, mut zero, mut one, mut two, mut three) = board_for_four(rt.alloc())?;
+    let gate = BarrierGate::new(rt.alloc(), 4)?;
+    let (board, mut zero, mut one, mut two, mut three) = board_for_four(rt.alloc(), &gate)?;
     contend_by_four(
         &rt, &board, &mut zero, &mut one, &mut two, &mut three, &counts,
     )?;
+    assert!(rt; gate.have_arrived(4, 1) && !gate.ran_out());
     assert_eq!(rt; sums(&rt, &counts), ([true; 4], 1000, 4));
     assert!(rt; looks_agree(&board, &mut zero) && looks_agree(&board, &mut one));
     assert!(rt; looks_agree(&board, &mut two) && looks_agree(&board, &mut three));

@@ -9,9 +9,11 @@ use crate::small::has_the_path;
 use bip_graph::{Matching, Mates};
 use flip_words::{FlipBoard, FlipSeat, Taken};
 use sp_ids::{Col, OutOfMemory, Row};
+use sp_ports::Gate;
 use std::alloc::Global;
 use std::test::Fail;
 use std::thread::{Threads, join_mut};
+use test_gates::BarrierGate;
 
 // Three rows and three columns, of which row 0 and column 2 are matched. Rows 0 and 1 and columns 1
 // and 2 are in the tree of column 1, column 0 is a tree of its own, and row 2 is in no tree. Two
@@ -93,10 +95,11 @@ fn a_seat_asks_for_its_own_tree(rt: HostRuntime) -> Result<(), Fail> {
     Ok(())
 }
 
-// Both seats ask for the tree of column 1 at once.
+// Both seats ask for the tree of column 1 at once, once both threads have come.
 fn take_at_once<R: Threads>(
     rt: &R,
     board: &FlipBoard,
+    gate: &BarrierGate,
     zero: &mut FlipSeat,
     one: &mut FlipSeat,
 ) -> (Taken, Taken)
@@ -110,18 +113,26 @@ fn take_at_once<R: Threads>(
         &mut || -> Taken
             requires { (zero.now.board ≡ board.now) × (board.now.cols ≡ 3) }
             ensures { zero.exit.now ≡ after_take zero.entry.now 1 (taker_before result) }
-        { board.take(zero, Col(1)) },
+        {
+            gate.arrive(0);
+            board.take(zero, Col(1))
+        },
         &mut || -> Taken
             requires { (one.now.board ≡ board.now) × (board.now.cols ≡ 3) }
             ensures { one.exit.now ≡ after_take one.entry.now 1 (taker_before result) }
-        { board.take(one, Col(1)) },
+        {
+            gate.arrive(1);
+            board.take(one, Col(1))
+        },
     )
 }
 
 #[test]
 fn two_threads_take_one_tree(rt: HostRuntime) -> Result<(), Fail> {
     let (board, mut zero, mut one) = board_for_two(rt.alloc())?;
-    let taken = take_at_once(&rt, &board, &mut zero, &mut one);
+    let gate = BarrierGate::new(rt.alloc(), 2)?;
+    let taken = take_at_once(&rt, &board, &gate, &mut zero, &mut one);
+    assert!(rt; gate.have_arrived(2, 1) && !gate.ran_out());
     let first = taken == (Taken::Mine, Taken::Held(0));
     let second = taken == (Taken::Held(1), Taken::Mine);
     assert!(rt; first || second);

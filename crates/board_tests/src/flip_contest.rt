@@ -1,5 +1,5 @@
-//! A board of a hundred trees that four seats contest at once: each seat goes round all trees, and
-//! the taker of a tree matches its row with its column.
+//! A board of a hundred trees that four seats contest at once: once all four have come, each seat
+//! goes round all trees, and the taker of a tree matches its row with its column.
 
 ghost use Rattle.std.specs.Prelude.{◌≡◌, ℕ, ◌+◌, ◌<◌, Some, [], ◌∷◌, length, IfOk};
 ghost use Rattle.std.specs.Thread.{IsSync};
@@ -10,9 +10,11 @@ ghost use Rattle.board_tests.specs.FlipContest.{HasVisited, IsContested, Visits}
 use bip_graph::{Matching, Mates};
 use flip_words::{FlipBoard, FlipSeat, Taken};
 use sp_ids::{Col, OutOfMemory, Row};
+use sp_ports::Gate;
 use std::alloc::Global;
 use std::test::Fail;
 use std::thread::{Threads, join_mut};
+use test_gates::BarrierGate;
 
 const TREES: u32 = 100;
 
@@ -33,11 +35,12 @@ fn visit(board: &FlipBoard, seat: &mut FlipSeat, tree: u32) -> u32
     }
 }
 
-// One seat's part. Tells how many trees it took.
-fn contend(board: &FlipBoard, seat: &mut FlipSeat) -> u32
+// The part of the seat with this number. Tells how many trees it took.
+fn contend(board: &FlipBoard, gate: &BarrierGate, number: u32, seat: &mut FlipSeat) -> u32
     requires { HasVisited board.now 0 seat.old }
     ensures { Visits board.now 100 seat.old seat.new }
 {
+    gate.arrive(number);
     let mut mine = 0u32;
     for tree in 0..TREES {
         let taken = visit(board, seat, tree);
@@ -46,10 +49,12 @@ fn contend(board: &FlipBoard, seat: &mut FlipSeat) -> u32
     mine
 }
 
-// Two of them at once.
+// Two of them at once, with these numbers.
 fn contend_by_two<R: Threads>(
     rt: &R,
     board: &FlipBoard,
+    gate: &BarrierGate,
+    numbers: (u32, u32),
     left: &mut FlipSeat,
     right: &mut FlipSeat,
 ) -> u32
@@ -61,11 +66,11 @@ fn contend_by_two<R: Threads>(
         &mut || -> u32
             requires { HasVisited board.now 0 left.now }
             ensures { Visits board.entry.now 100 left.entry.now left.exit.now }
-        { contend(board, left) },
+        { contend(board, gate, numbers.0, left) },
         &mut || -> u32
             requires { HasVisited board.now 0 right.now }
             ensures { Visits board.entry.now 100 right.entry.now right.exit.now }
-        { contend(board, right) },
+        { contend(board, gate, numbers.1, right) },
     );
     first.saturating_add(second)
 }
@@ -74,6 +79,7 @@ fn contend_by_two<R: Threads>(
 fn contend_by_four<R: Threads + Sync>(
     rt: &R,
     board: &FlipBoard,
+    gate: &BarrierGate,
     zero: &mut FlipSeat,
     one: &mut FlipSeat,
     two: &mut FlipSeat,
@@ -92,13 +98,13 @@ fn contend_by_four<R: Threads + Sync>(
                 × HasVisited board.now 0 one.now }
             ensures { Visits board.entry.now 100 zero.entry.now zero.exit.now
                 × Visits board.entry.now 100 one.entry.now one.exit.now }
-        { contend_by_two(rt, board, zero, one) },
+        { contend_by_two(rt, board, gate, (0, 1), zero, one) },
         &mut || -> u32
             requires { IsSync R.row × HasVisited board.now 0 two.now
                 × HasVisited board.now 0 three.now }
             ensures { Visits board.entry.now 100 two.entry.now two.exit.now
                 × Visits board.entry.now 100 three.entry.now three.exit.now }
-        { contend_by_two(rt, board, two, three) },
+        { contend_by_two(rt, board, gate, (2, 3), two, three) },
     );
     first.saturating_add(second)
 }
@@ -185,7 +191,11 @@ fn are_exchanged(mates: &Mates) -> bool
 #[test]
 fn four_seats_on_every_tree(rt: HostRuntime) -> Result<(), Fail> {
     let (board, mut zero, mut one, mut two, mut three) = board_for_four(rt.alloc())?;
-    let taken = contend_by_four(&rt, &board, &mut zero, &mut one, &mut two, &mut three);
+    let gate = BarrierGate::new(rt.alloc(), 4)?;
+    let taken = contend_by_four(
+        &rt, &board, &gate, &mut zero, &mut one, &mut two, &mut three,
+    );
+    assert!(rt; gate.have_arrived(4, 1) && !gate.ran_out());
     assert_eq!(rt; taken, TREES);
     let mates = close_for_four(rt.alloc(), board, zero, one, two, three)?;
     assert!(rt; are_exchanged(&mates));

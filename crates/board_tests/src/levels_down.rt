@@ -11,6 +11,7 @@ use sp_ports::{Gate, MeetGate};
 use std::process::Abort;
 use std::test::Fail;
 use std::thread::Threads;
+use test_gates::BarrierGate;
 
 // Opens a board, goes through one level from both columns with two workers, and makes it on the
 // forest.
@@ -39,25 +40,30 @@ fn row_is_claimed_and_won<R: Abort>(rt: &R, forest: &Forest) {
     assert_eq!(rt; forest.leaves(), [(col, Row(0))].as_slice());
 }
 
-// Workers 0 and 1 have arrived once, and no other.
-fn two_have_arrived<R: Abort>(rt: &R, gate: &MeetGate) {
-    assert_eq!(rt; gate.arrivals(0), 1);
-    assert_eq!(rt; gate.arrivals(1), 1);
-    assert_eq!(rt; gate.arrivals(2), 0);
-    assert!(rt; !gate.ran_out());
+// A level over the one row, which two workers claim at this gate.
+fn row_is_claimed_at<R: Abort + AllocGlobal + Threads + Sync, G: Gate>(
+    rt: &R,
+    gate: &G,
+) -> Result<(), OutOfMemory> {
+    let pattern = one_row(rt)?;
+    let matching = Matching::empty(rt.alloc(), pattern.rows(), pattern.cols())?;
+    let mut forest = Forest::new(rt.alloc(), &pattern, matching)?;
+    forests_are_rested();
+    assert!(rt; forest.is_inside(Col(0)));
+    assert!(rt; forest.is_inside(Col(1)));
+    level(rt, &mut forest, gate)?;
+    row_is_claimed_and_won(rt, &forest);
+    Ok(())
 }
 
 #[test]
 fn one_row_is_claimed_and_won_by_one_of_two_workers(rt: HostRuntime) -> Result<(), Fail> {
-    let pattern = one_row(&rt)?;
-    let matching = Matching::empty(rt.alloc(), pattern.rows(), pattern.cols())?;
-    let mut forest = Forest::new(rt.alloc(), &pattern, matching)?;
-    forests_are_rested();
-    let gate = MeetGate::new(rt.alloc())?;
-    assert!(rt; forest.is_inside(Col(0)));
-    assert!(rt; forest.is_inside(Col(1)));
-    level(&rt, &mut forest, &gate)?;
-    row_is_claimed_and_won(&rt, &forest);
-    two_have_arrived(&rt, &gate);
+    let meeting = MeetGate::new(rt.alloc())?;
+    row_is_claimed_at(&rt, &meeting)?;
+    assert_eq!(rt; (meeting.arrivals(0), meeting.arrivals(1)), (1, 1));
+    assert!(rt; !meeting.ran_out());
+    let barrier = BarrierGate::new(rt.alloc(), 2)?;
+    row_is_claimed_at(&rt, &barrier)?;
+    assert!(rt; barrier.have_arrived(2, 1) && !barrier.ran_out());
     Ok(())
 }

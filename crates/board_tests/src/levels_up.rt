@@ -18,6 +18,7 @@ use std::alloc::Global;
 use std::process::Abort;
 use std::test::Fail;
 use std::thread::Threads;
+use test_gates::BarrierGate;
 
 // Row 0 was matched with column 2. Column 1 claimed row 0 and column 2 row 1, and the path from
 // there to column 1 was exchanged.
@@ -99,16 +100,28 @@ fn has_claimed<R: Abort>(rt: &R, worker: &Worker, claims: &[(Row, Col)]) {
     assert!(rt; worker.fresh_wins().is_empty());
 }
 
-// The columns 1 and 2 are matched with the rows 0 and 1 now, no row is claimed, and of the columns
-// only 0 is in the forest.
+// A level of two workers at this gate. The columns 1 and 2 are matched with the rows 0 and 1 now, no
+// row is claimed, and of the columns only 0 is in the forest.
+fn row_is_claimed_at<R: Abort + AllocGlobal + Threads + Sync, G: Gate>(
+    rt: &R,
+    gate: &G,
+) -> Result<(), OutOfMemory> {
+    let pattern = pattern_of_three(rt)?;
+    let forest = forest_after_a_graft(rt, &pattern)?;
+    let workers = level(rt, &forest, gate)?;
+    has_claimed(rt, &workers[0], &[(Row(0), Col(0))]);
+    has_claimed(rt, &workers[1], &[]);
+    Ok(())
+}
+
 #[test]
 fn a_column_claims_the_row_that_is_free_again(rt: HostRuntime) -> Result<(), Fail> {
-    let pattern = pattern_of_three(&rt)?;
-    let forest = forest_after_a_graft(&rt, &pattern)?;
-    let gate = MeetGate::new(rt.alloc())?;
-    let workers = level(&rt, &forest, &gate)?;
-    has_claimed(&rt, &workers[0], &[(Row(0), Col(0))]);
-    has_claimed(&rt, &workers[1], &[]);
-    assert_eq!(rt; (gate.arrivals(0), gate.arrivals(1)), (1, 1));
+    let meeting = MeetGate::new(rt.alloc())?;
+    row_is_claimed_at(&rt, &meeting)?;
+    assert_eq!(rt; (meeting.arrivals(0), meeting.arrivals(1)), (1, 1));
+    assert!(rt; !meeting.ran_out());
+    let barrier = BarrierGate::new(rt.alloc(), 2)?;
+    row_is_claimed_at(&rt, &barrier)?;
+    assert!(rt; barrier.have_arrived(2, 1) && !barrier.ran_out());
     Ok(())
 }

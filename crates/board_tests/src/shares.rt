@@ -4,6 +4,7 @@ use level_sharing::{Work, share, work_at_once};
 use sp_ports::MeetGate;
 use std::convert::Infallible;
 use std::test::Fail;
+use test_gates::BarrierGate;
 
 // Each worker adds its number to what it keeps.
 struct AddNumber;
@@ -34,6 +35,16 @@ fn each_worker_arrives_once_and_works_once(rt: HostRuntime) -> Result<(), Fail> 
     assert_eq!(rt; gate.arrivals(2), 1);
     assert_eq!(rt; gate.arrivals(3), 0);
     assert!(rt; !gate.ran_out());
+    Ok(())
+}
+
+#[test]
+fn three_workers_work_at_once(rt: HostRuntime) -> Result<(), Fail> {
+    let gate = BarrierGate::new(rt.alloc(), 3)?;
+    let mut sums = [10, 20, 30];
+    let Ok(()) = work_at_once(&rt, &gate, &AddNumber, &mut sums);
+    assert_eq!(rt; sums, [10, 21, 32]);
+    assert!(rt; gate.have_arrived(3, 1) && !gate.ran_out());
     Ok(())
 }
 
