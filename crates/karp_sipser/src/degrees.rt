@@ -38,6 +38,7 @@ impl Unmatched {
     }
 
     // Without this one of them, where there are any.
+    #[inline(always)]
     fn without(self, number: u32) -> Unmatched
         ensures count { result.count ≡ self.count - 1 }
         ensures sum { result.sum ≡ wrapping_sub self.sum number }
@@ -138,9 +139,9 @@ pub fn lower<I: Id>(degrees: &mut [Unmatched], ids: &[I], neighbour: u32, ones: 
 {
     for id in ids {
         let at = id.number();
-        let unmatched = degrees[at as usize];
-        degrees[at as usize] = unmatched.without(neighbour);
-        if unmatched.count == 2 {
+        let unmatched = &mut degrees[at as usize];
+        *unmatched = unmatched.without(neighbour);
+        if unmatched.count == 1 {
             ones.insert(at);
         }
     }

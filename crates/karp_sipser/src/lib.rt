@@ -30,8 +30,9 @@ use std::alloc::Global;
 ///
 /// Answers `OutOfMemory` where its tables can't be had: 12 bytes a row and 12 a column for the
 /// matching, the degrees and the sums, and an eighth of a byte each for the waiting ones. Work: each
-/// entry is looked at twice at first; later a column's entries twice at most and a row's once at
-/// most, and each row and column goes in and out of a set once at most.
+/// entry is looked at five times at most, twice where sums are added up, twice where degrees are
+/// lowered and once where a column with more neighbours is taken, and each row and column goes in
+/// and out of a set once at most.
 pub fn start(alloc: Global, pattern: &Pattern) -> Result<Matching, OutOfMemory>
     ensures start { IfOk result (λ m. IsStart pattern.now m.pairs) }
     ensures matching { IfOk result (IsMatchingOf pattern.now) }
