@@ -1,12 +1,14 @@
 -- The degrees show which pair is taken next.
-use Rattle.std.proofs.Common.{◌≤◌, false, nat_lt, ◌≡◌, ◌≢◌, ℕ, ◌<◌, List, slice_index, subst, inl, inr, arith}
+use Rattle.std.proofs.Common.{◌≤◌, ◌^◌, false, nat_lt, ◌≡◌, ◌≢◌, ℕ, ◌<◌, List, slice_index, subst, inl, inr, arith}
 use Rattle.std.proofs.lemmas.Bool.{cases_eq, cases_lt, ltb-false}
 use Rattle.bip_defs.proofs.Sets.{entry_col}
 use Rattle.bip_defs.specs.Lists.{Among, Lists}
 use Rattle.bip_defs.specs.Matrix.{cols, IsEntry, Matrix, Place}
 use Rattle.bip_defs.specs.Start.{by_any, by_col, by_row, ColOfOne, ColOfSome, IsChoice, IsFree, IsLeast, RowOfOne}
-use Rattle.karp_sipser.specs.Counts.{AreDegrees, IsCount}
+use Rattle.karp_sipser.specs.Counts.{AreDegrees, AreSums, counts, IsCount, sums}
+use Rattle.karp_sipser.specs.declared.degrees.Unmatched.{Unmatched}
 use Rattle.karp_sipser.proofs.Counts.{count_has, count_only, count_some, only_count}
+use Rattle.karp_sipser.proofs.Sums.{sum_only}
 
 -- a free entry gives its column and its row a degree
 pub free_degrees : (a : Matrix) (m : List Place) (cd rd : List ℕ) (r c : ℕ) → AreDegrees a m cd rd → IsFree a m r c → (slice_index cd c ≢ 0) × (slice_index rd r ≢ 0)
@@ -35,25 +37,32 @@ one_col a m cd rd c d o = only_count (λ r. IsFree a m r c) (slice_index cd c) o
 pub one_row : (a : Matrix) (m : List Place) (cd rd : List ℕ) (r : ℕ) → AreDegrees a m cd rd → RowOfOne a m r → slice_index rd r ≡ 1
 one_row a m cd rd r d o = only_count (λ c. IsFree a m r c) (slice_index rd r) o.0 (d.row r o.1.0.0.0) o.1
 
+-- the sum of a column of degree one is its row that is free
+pub col_sum : (a : Matrix) (m : List Place) (columns rows : List Unmatched) (r c : ℕ) → a.rows < 2 ^ 32 → AreDegrees a m (counts columns) (counts rows) → AreSums a m columns rows
+    → c < cols a → slice_index (counts columns) c ≡ 1 → slice_index (sums columns) c ≡ r → IsFree a m r c
+col_sum a m columns rows r c few d s lt one is =
+    subst (λ x. IsFree a m x c) is
+    (sum_only (λ x. IsFree a m x c) (slice_index (counts columns) c) (slice_index (sums columns) c) (λ x f. omega (arith, f.0.0, few)) (d.col c lt) one (s.col c lt (omega (arith, one))))
+
+pub row_sum : (a : Matrix) (m : List Place) (columns rows : List Unmatched) (r c : ℕ) → cols a < 2 ^ 32 → AreDegrees a m (counts columns) (counts rows) → AreSums a m columns rows
+    → r < a.rows → slice_index (counts rows) r ≡ 1 → slice_index (sums rows) r ≡ c → IsFree a m r c
+row_sum a m columns rows r c few d s lt one is =
+    subst (λ x. IsFree a m r x) is
+    (sum_only (λ x. IsFree a m r x) (slice_index (counts rows) r) (slice_index (sums rows) r) (λ x f. omega (arith, entry_col a r x f.0, few)) (d.row r lt) one (s.row r lt (omega (arith, one))))
+
 -- the first of a list that has a degree
 abbrev pub IsFirst : List ℕ → List ℕ → ℕ → Type 0
 IsFirst degrees xs = IsLeast (λ x. Among x xs × (slice_index degrees x ≢ 0))
 
--- the least column of degree one, with a row that has a degree
-pub chooses_col : (a : Matrix) (m : List Place) (cd rd rs : List ℕ) (r c : ℕ) → AreDegrees a m cd rd → c < cols a → IsLeast (λ x. slice_index cd x ≡ 1) c
-    → Lists (λ s. IsEntry a s c) rs → IsFirst rd rs r → IsChoice a m (r, c)
-chooses_col a m cd rd rs r c d lt least in_col first =
-    let some : slice_index cd c ≢ 0 = omega (arith, least.0) in
-    let f = degrees_free a m cd rd r c d (in_col.sound r first.0.0) some first.0.1 in
+-- the least column of degree one, with its row
+pub chooses_col : (a : Matrix) (m : List Place) (cd rd : List ℕ) (r c : ℕ) → AreDegrees a m cd rd → c < cols a → IsLeast (λ x. slice_index cd x ≡ 1) c → IsFree a m r c → IsChoice a m (r, c)
+chooses_col a m cd rd r c d lt least f =
     let one : IsCount (λ s. IsFree a m s c) 1 = subst (IsCount (λ s. IsFree a m s c)) least.0 (d.col c lt) in
     by_col r c ((r, count_only (λ s. IsFree a m s c) r one f), λ y o. least.1 y (one_col a m cd rd y d o)) f
 
--- else the least row of degree one, with a column that has a degree
-pub chooses_row : (a : Matrix) (m : List Place) (cd rd cs : List ℕ) (r c : ℕ) → AreDegrees a m cd rd → ((x : ℕ) → slice_index cd x ≢ 1) → r < a.rows → IsLeast (λ x. slice_index rd x ≡ 1) r
-    → Lists (λ b. IsEntry a r b) cs → IsFirst cd cs c → IsChoice a m (r, c)
-chooses_row a m cd rd cs r c d none lt least in_row first =
-    let some : slice_index rd r ≢ 0 = omega (arith, least.0) in
-    let f = degrees_free a m cd rd r c d (in_row.sound c first.0.0) first.0.1 some in
+-- else the least row of degree one, with its column
+pub chooses_row : (a : Matrix) (m : List Place) (cd rd : List ℕ) (r c : ℕ) → AreDegrees a m cd rd → ((x : ℕ) → slice_index cd x ≢ 1) → r < a.rows → IsLeast (λ x. slice_index rd x ≡ 1) r → IsFree a m r c → IsChoice a m (r, c)
+chooses_row a m cd rd r c d none lt least f =
     let one : IsCount (λ b. IsFree a m r b) 1 = subst (IsCount (λ b. IsFree a m r b)) least.0 (d.row r lt) in
     by_row r c (λ x o. none x (one_col a m cd rd x d o)) ((c, count_only (λ b. IsFree a m r b) c one f), λ y o. least.1 y (one_row a m cd rd y d o)) f
 
@@ -79,10 +88,6 @@ chooses_none a m cd rd d none r c f = (free_degrees a m cd rd r c d f).0 (none c
 pub some_row : (a : Matrix) (m : List Place) (cd rd rs : List ℕ) (c : ℕ) → AreDegrees a m cd rd → c < cols a → slice_index cd c ≢ 0 → Lists (λ s. IsEntry a s c) rs
     → (x : ℕ) × Among x rs × (slice_index rd x ≢ 0)
 some_row a m cd rd rs c d lt ne in_col = let (r, f) = col_free a m cd rd c d lt ne in (r, in_col.complete r f.0, (free_degrees a m cd rd r c d f).1)
-
-pub some_col : (a : Matrix) (m : List Place) (cd rd cs : List ℕ) (r : ℕ) → AreDegrees a m cd rd → r < a.rows → slice_index rd r ≢ 0 → Lists (λ b. IsEntry a r b) cs
-    → (x : ℕ) × Among x cs × (slice_index cd x ≢ 0)
-some_col a m cd rd cs r d lt ne in_row = let (c, f) = row_free a m cd rd r d lt ne in (c, in_row.complete c f.0, (free_degrees a m cd rd r c d f).0)
 
 -- where the column has one free entry, the other rows of its entries have no degree
 alone_in_col : (a : Matrix) (m : List Place) (cd rd : List ℕ) (r c : ℕ) → AreDegrees a m cd rd → IsFree a m r c → slice_index cd c ≤ 1 → (s : ℕ) → s ≢ r → IsEntry a s c → slice_index rd s ≡ 0

@@ -54,19 +54,24 @@ drops_rising : {x : ℕ} {xs ys : List ℕ} → Drops x xs ys → IsRising xs �
 drops_rising here up = up.1
 drops_rising (later {xs = xs} {ys = ys} y d) up = (below_each_from y ys (λ z h. below_each_sound y z xs up.0 (drops_only d z h)), drops_rising d up.1)
 
+-- the list without one that has P
+pub lists_without : (P Q : ℕ → Type 0) (x : ℕ) (xs : List ℕ) → Lists P xs → P x → ((y : ℕ) → Q y → P y × (y ≢ x)) → ((y : ℕ) → P y → y ≢ x → Q y) → (ys : List ℕ) × Drops x xs ys × Lists Q ys
+lists_without P Q x xs l p to from =
+    let (ys, d) = taken x xs (l.complete x p) in (
+      ys,
+      d,
+      record {
+        rising = drops_rising d l.rising;
+        sound = λ y h. from y (l.sound y (drops_only d y h)) (λ e. drops_gone d (rising_distinct xs l.rising) (subst (λ z. Among z ys) e h));
+        complete = λ y q. let m = to y q in ⊎_elim (λ e. absurd (m.1 e)) (λ h. h) (drops_kept d y (l.complete y m.0));
+      },
+    )
+
 -- without one that has P, the count is one less
 pub count_without : (P Q : ℕ → Type 0) (n x : ℕ) → IsCount P n → P x → ((y : ℕ) → Q y → P y × (y ≢ x)) → ((y : ℕ) → P y → y ≢ x → Q y) → IsCount Q (n - 1)
 count_without P Q n x k p to from =
-    let (ys, d) = taken x k.having (k.lists.complete x p) in
-    record {
-      having = ys;
-      lists = record {
-        rising = drops_rising d k.lists.rising;
-        sound = λ y h. from y (k.lists.sound y (drops_only d y h)) (λ e. drops_gone d (rising_distinct k.having k.lists.rising) (subst (λ z. Among z ys) e h));
-        complete = λ y q. let m = to y q in ⊎_elim (λ e. absurd (m.1 e)) (λ h. h) (drops_kept d y (k.lists.complete y m.0));
-      };
-      size = omega (arith, drops_length d, k.size);
-    }
+    let (ys, d, l) = lists_without P Q x k.having k.lists p to from in
+    record { having = ys; lists = l; size = omega (arith, drops_length d, k.size) }
 
 -- where nothing has P, the count is 0
 pub count_none : (P : ℕ → Type 0) → ((x : ℕ) → ¬ P x) → IsCount P 0
@@ -79,10 +84,10 @@ no_count P n k none = elim (number_same n 0) [ inl e ↦ e | inr ne ↦ let (x, 
 pub few_having : (P : ℕ → Type 0) (n : ℕ) (xs : List ℕ) → Lists P xs → ((x : ℕ) → P x → x < n) → length xs ≤ n
 few_having P n xs l below = omega (arith, few_distinct xs (upto n) (rising_distinct xs l.rising) (λ x h. (upto_lists n).complete x (below x (l.sound x h))), upto_length 0 n)
 
--- the counts of a list that has grown by one
-pub counted_next : (F : ℕ → ℕ → Type 0) (counts : List ℕ) (k n : ℕ) → length counts ≡ k → ((x : ℕ) → x < k → IsCount (F x) (slice_index counts x)) → IsCount (F k) n
-    → (x : ℕ) → x < k + 1 → IsCount (F x) (slice_index (counts ++ n ∷ []) x)
-counted_next F counts k n long before last x lt = elim (number_same x k) [
-  | inl e ↦ subst (λ z. IsCount (F z) (slice_index (counts ++ n ∷ []) z)) (sym e) (subst (IsCount (F k)) (sym (get_or_at counts n [] 0 k long)) last)
-  | inr ne ↦ subst (IsCount (F x)) (sym (get_or_append_left counts (n ∷ []) 0 x (omega arith))) (before x (omega arith))
+-- what holds of each number of a list that has grown by one
+pub each_next : (F : ℕ → ℕ → Type 0) (ns : List ℕ) (k n : ℕ) → length ns ≡ k → ((x : ℕ) → x < k → F x (slice_index ns x)) → F k n
+    → (x : ℕ) → x < k + 1 → F x (slice_index (ns ++ n ∷ []) x)
+each_next F ns k n long before last x lt = elim (number_same x k) [
+  | inl e ↦ subst (λ z. F z (slice_index (ns ++ n ∷ []) z)) (sym e) (subst (F k) (sym (get_or_at ns n [] 0 k long)) last)
+  | inr ne ↦ subst (F x) (sym (get_or_append_left ns (n ∷ []) 0 x (omega arith))) (before x (omega arith))
 ]

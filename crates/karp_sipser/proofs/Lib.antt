@@ -1,6 +1,9 @@
 pub mod Choices
 pub mod Counts
+pub mod Tables
 pub mod Free
+pub mod LeftOut
 pub mod LongestMatchings
 pub mod Prefixes
+pub mod Sums
 pub mod TakenPairs

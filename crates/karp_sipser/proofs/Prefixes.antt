@@ -49,44 +49,46 @@ pub none_next : (degrees xs : List ℕ) (i : ℕ) → i < length xs → ((x : �
     → (x : ℕ) → Among x (take (i + 1) xs) → slice_index degrees x ≡ 0
 none_next degrees xs i lt none here x h = ⊎_elim (λ k. none x k) (λ e. rw e here) (front_next x i xs lt h)
 
--- the degrees of the prefix are lowered, the others are as before, and those of one are among the members
-pub record IsLowering (old new members prefix : List ℕ) : Type 0 where
+-- the numbers of the prefix are those of f, the others are as before
+pub record IsChanged (f : ℕ → ℕ) (old new prefix : List ℕ) : Type 0 where
   pub long : length new ≡ length old
-  pub lowered : (x : ℕ) → Among x prefix → slice_index new x ≡ slice_index old x - 1
+  pub changed : (x : ℕ) → Among x prefix → slice_index new x ≡ f (slice_index old x)
   pub kept : (x : ℕ) → ¬ Among x prefix → slice_index new x ≡ slice_index old x
-  pub ones : HoldsOnes new members
 
-pub lowering_next : (old new members more xs : List ℕ) (i : ℕ) → IsRising xs → i < length xs → slice_index xs i < length old → IsLowering old new members (take i xs)
-    → ((x : ℕ) → Among x members → Among x more) → (slice_index new (slice_index xs i) ≡ 2 → Among (slice_index xs i) more)
-    → IsLowering old (slice_set new (slice_index xs i) (slice_index new (slice_index xs i) - 1)) more (take (i + 1) xs)
-lowering_next old new members more xs i up lt inside s grows two =
+changed_here : (f : ℕ → ℕ) (old new xs : List ℕ) (i : ℕ) → IsRising xs → i < length xs → slice_index xs i < length old → IsChanged f old new (take i xs)
+    → IsChanged f old (slice_set new (slice_index xs i) (f (slice_index new (slice_index xs i)))) (take (i + 1) xs)
+changed_here f old new xs i up lt inside s =
     let x = slice_index xs i in
-    let d = slice_index new x in
+    let n = f (slice_index new x) in
     let fresh = not_in_front i xs up lt in
     let room : x < length new = omega (arith, s.long) in
-    let here : slice_index (slice_set new x (d - 1)) x ≡ d - 1 = get_or-set_same new x (d - 1) 0 room in
-    let off : (y : ℕ) → y ≢ x → slice_index (slice_set new x (d - 1)) y ≡ slice_index new y = λ y ne. get_or-set_other new x y (d - 1) 0 ne in
+    let here : slice_index (slice_set new x n) x ≡ n = get_or-set_same new x n 0 room in
+    let off : (y : ℕ) → y ≢ x → slice_index (slice_set new x n) y ≡ slice_index new y = λ y ne. get_or-set_other new x y n 0 ne in
     record {
-      long = length-set new x (d - 1) ∙ s.long;
-      lowered = λ y h. elim (cases_eq y x) [
-        | inl e ↦ rw e (here ∙ ap (λ n. n - 1) (s.kept x fresh))
-        | inr ne ↦ off y ne ∙ s.lowered y (⊎_elim (λ k. k) (λ e. absurd (ne e)) (front_next y i xs lt h))
+      long = length-set new x n ∙ s.long;
+      changed = λ y h. elim (cases_eq y x) [
+        | inl e ↦ rw e (here ∙ ap f (s.kept x fresh))
+        | inr ne ↦ off y ne ∙ s.changed y (⊎_elim (λ k. k) (λ e. absurd (ne e)) (front_next y i xs lt h))
       ];
       kept = λ y h. let ne : y ≢ x = λ e. h (rw (e, take_more xs i 0 lt) (among_right x (take i xs) (x ∷ []) (inl refl))) in off y ne ∙ s.kept y (λ k. h (rw (take_more xs i 0 lt) (among_left y (take i xs) (x ∷ []) k)));
-      ones = λ y one. elim (cases_eq y x) [
-        | inl e ↦ let low : slice_index (slice_set new x (d - 1)) x ≡ 1 = subst (λ z. slice_index (slice_set new x (d - 1)) z ≡ 1) e one in rw e (two (omega (arith, low, here)))
-        | inr ne ↦ grows y (s.ones y (sym (off y ne) ∙ one))
-      ];
     }
 
 -- the same, of an element that was read
-pub lowering_step : (old new members more xs : List ℕ) (i x lower : ℕ) → IsRising xs → i < length xs → slice_index xs i ≡ x → x < length old → IsLowering old new members (take i xs)
-    → ((y : ℕ) → Among y members → Among y more) → (slice_index new x ≡ 2 → Among x more) → lower ≡ slice_index new x - 1
-    → IsLowering old (slice_set new x lower) more (take (i + 1) xs)
-lowering_step old new members more xs i x lower up lt at inside s grows two low =
-    subst (λ y. IsLowering old (slice_set new y lower) more (take (i + 1) xs)) at
-    (rw (let e : lower ≡ slice_index new (slice_index xs i) - 1 = rw at low in e)
-    (lowering_next old new members more xs i up lt (rw at inside) s grows (λ e. rw at (two (rw (← at) e)))))
+pub changed_next : (f : ℕ → ℕ) (old new xs : List ℕ) (i x n : ℕ) → IsRising xs → i < length xs → slice_index xs i ≡ x → x < length old → IsChanged f old new (take i xs) → n ≡ f (slice_index new x)
+    → IsChanged f old (slice_set new x n) (take (i + 1) xs)
+changed_next f old new xs i x n up lt at inside s is =
+    subst (λ y. IsChanged f old (slice_set new y n) (take (i + 1) xs)) at
+    (rw (let e : n ≡ f (slice_index new (slice_index xs i)) = rw at is in e) (changed_here f old new xs i up lt (rw at inside) s))
+
+-- where a degree is lowered, those of one are still among the members
+pub ones_next : (degrees members more : List ℕ) (x n : ℕ) → x < length degrees → HoldsOnes degrees members → ((y : ℕ) → Among y members → Among y more) → (slice_index degrees x ≡ 2 → Among x more)
+    → n ≡ slice_index degrees x - 1 → HoldsOnes (slice_set degrees x n) more
+ones_next degrees members more x n inside ones grows two low y one = elim (cases_eq y x) [
+  | inl e ↦
+      let here : slice_index (slice_set degrees x n) x ≡ 1 = subst (λ z. slice_index (slice_set degrees x n) z ≡ 1) e one in
+      rw e (two (omega (arith, here, get_or-set_same degrees x n 0 inside, low)))
+  | inr ne ↦ grows y (ones y (sym (get_or-set_other degrees x y n 0 ne) ∙ one))
+]
 
 -- an element that was read is on the list, and its number is in range
 pub read_among : {X : Type 0} (f : X → ℕ) (xs : List X) (i n : ℕ) (x : X) → i < length xs → x ≡ slice_index_or xs i x → ((y : ℕ) → Among y (map f xs) → y < n) → f x < n

@@ -25,9 +25,14 @@ use std::alloc::Global;
 /// of the first two kinds is in some maximum matching of what was left
 /// ([`only_neighbours_lose_nothing`]), so the start is often maximum or nearly so.
 ///
-/// Answers `OutOfMemory` where its tables can't be had: 8 bytes a row and 8 a column for the
-/// matching and the degrees, and an eighth of a byte each for the waiting ones. Work: each entry is
-/// looked at four times at most, and each row and column goes in and out of a set once at most.
+/// Beside each degree it keeps the sum of the numbers of the unmatched neighbours, so where there is
+/// one neighbour no entry is looked at to find it.
+///
+/// Answers `OutOfMemory` where its tables can't be had: 12 bytes a row and 12 a column for the
+/// matching, the degrees and the sums, and an eighth of a byte each for the waiting ones. Work: each
+/// entry is looked at five times at most, twice where sums are added up, twice where degrees are
+/// lowered and once where a column with more neighbours is taken, and each row and column goes in
+/// and out of a set once at most.
 pub fn start(alloc: Global, pattern: &Pattern) -> Result<Matching, OutOfMemory>
     ensures start { IfOk result (λ m. IsStart pattern.now m.pairs) }
     ensures matching { IfOk result (IsMatchingOf pattern.now) }
@@ -38,7 +43,6 @@ pub fn start(alloc: Global, pattern: &Pattern) -> Result<Matching, OutOfMemory>
         rest.take(pattern, row, col);
     }
     let matching = rest.matching;
-    // Tells the proof that no row and no column stands twice.
-    let _size = matching.size();
+    matching.is_matching();
     Ok(matching)
 }

@@ -4,10 +4,12 @@ ghost use Rattle.std.specs.Prelude.{◌≡◌, ◌⊎◌, ◌↔◌, ℕ, suc, �
 ghost use Rattle.bip_defs.specs.Lists.{Among};
 ghost use Rattle.bip_defs.specs.Matrix.{cols, Place};
 ghost use Rattle.bip_defs.specs.Start.{IsFree, IsChoice};
-ghost use Rattle.karp_sipser.specs.Counts.{IsCount};
+ghost use Rattle.karp_sipser.specs.Counts.{IsCount, IsSum, counts, sums};
 ghost use Rattle.karp_sipser.specs.Rest.{HasOnes, HasOnesBut, IsUnmatchedRest};
 
-use crate::degrees::{first_with_degree, leave_out, next_with_degree, of_one, take_of_one};
+use crate::degrees::{
+    Unmatched, first_with_degree, leave_out, next_with_degree, of_one, take_of_one,
+};
 use bip_graph::Matching;
 use int_set::IntSet;
 use sp_ids::{Col, OutOfMemory, Row};
@@ -18,41 +20,47 @@ use std::alloc::Global;
 #[derive(Drop)]
 pub struct Rest {
     pub matching: Matching,
-    pub col_degrees: Vec<u32>,
-    pub row_degrees: Vec<u32>,
+    pub col_degrees: Vec<Unmatched>,
+    pub row_degrees: Vec<Unmatched>,
     pub cols_of_one: IntSet,
     pub rows_of_one: IntSet,
     pub next_col: usize,
 }
 
-/// For each column how many entries it has.
-fn col_degrees(alloc: Global, pattern: &Pattern) -> Result<Vec<u32>, OutOfMemory>
+/// For each column the rows of its entries.
+fn col_degrees(alloc: Global, pattern: &Pattern) -> Result<Vec<Unmatched>, OutOfMemory>
     ensures long { IfOk result (λ d. length d.items ≡ cols pattern.now) }
     ensures degrees { IfOk result
         (λ d. (c : ℕ) → c < cols pattern.now
-        → IsCount (λ r. IsFree pattern.now [] r c) (slice_index d.items c)) }
+        → IsCount (λ r. IsFree pattern.now [] r c) (slice_index (counts d.items) c)) }
+    ensures sums { IfOk result
+        (λ d. (c : ℕ) → c < cols pattern.now
+        → IsSum (λ r. IsFree pattern.now [] r c) (slice_index (sums d.items) c)) }
 {
     pattern.is_pattern();
     let count = pattern.cols();
     let mut degrees = Vec::with_capacity(alloc, count as usize)?;
     for col in 0..count {
-        degrees.push(pattern.rows_of(Col(col)).len() as u32)?;
+        degrees.push(Unmatched::all(pattern.rows_of(Col(col))))?;
     }
     Ok(degrees)
 }
 
-/// For each row how many entries it has.
-fn row_degrees(alloc: Global, pattern: &Pattern) -> Result<Vec<u32>, OutOfMemory>
+/// For each row the columns of its entries.
+fn row_degrees(alloc: Global, pattern: &Pattern) -> Result<Vec<Unmatched>, OutOfMemory>
     ensures long { IfOk result (λ d. length d.items ≡ pattern.now.rows) }
     ensures degrees { IfOk result
         (λ d. (r : ℕ) → r < pattern.now.rows
-        → IsCount (λ c. IsFree pattern.now [] r c) (slice_index d.items r)) }
+        → IsCount (λ c. IsFree pattern.now [] r c) (slice_index (counts d.items) r)) }
+    ensures sums { IfOk result
+        (λ d. (r : ℕ) → r < pattern.now.rows
+        → IsSum (λ c. IsFree pattern.now [] r c) (slice_index (sums d.items) r)) }
 {
     pattern.is_pattern();
     let count = pattern.rows();
     let mut degrees = Vec::with_capacity(alloc, count as usize)?;
     for row in 0..count {
-        degrees.push(pattern.cols_of(Row(row)).len() as u32)?;
+        degrees.push(Unmatched::all(pattern.cols_of(Row(row))))?;
     }
     Ok(degrees)
 }
@@ -96,13 +104,12 @@ impl Rest {
         pattern.is_pattern();
         let col_degrees = self.col_degrees.as_slice();
         let row_degrees = self.row_degrees.as_slice();
-        if let Some(number) = take_of_one(col_degrees, &mut self.cols_of_one) {
-            let col = Col(number);
-            return Some((first_with_degree(row_degrees, pattern.rows_of(col)), col));
+        // The sum of one row or column is its number.
+        if let Some((col, row)) = take_of_one(col_degrees, &mut self.cols_of_one) {
+            return Some((Row(row), Col(col)));
         }
-        if let Some(number) = take_of_one(row_degrees, &mut self.rows_of_one) {
-            let row = Row(number);
-            return Some((row, first_with_degree(col_degrees, pattern.cols_of(row))));
+        if let Some((row, col)) = take_of_one(row_degrees, &mut self.rows_of_one) {
+            return Some((Row(row), Col(col)));
         }
         self.next_col = next_with_degree(col_degrees, self.next_col);
         if self.next_col == col_degrees.len() {
@@ -124,15 +131,17 @@ impl Rest {
         ensures size { length self.new.matching.pairs ≡ suc (length self.old.matching.pairs) }
         ensures next { self.new.next_col ≡ self.old.next_col }
     {
+        pattern.is_pattern();
         self.matching.pair(row, col);
         let cols = self.col_degrees.as_mut_slice();
         let rows = self.row_degrees.as_mut_slice();
-        let more_rows = cols[col.0 as usize] > 1;
-        let more_cols = rows[row.0 as usize] > 1;
+        let more_rows = cols[col.0 as usize].count > 1;
+        let more_cols = rows[row.0 as usize].count > 1;
         leave_out(
             rows,
             row,
             pattern.rows_of(col),
+            col.0,
             more_rows,
             &mut self.rows_of_one,
         );
@@ -140,6 +149,7 @@ impl Rest {
             cols,
             col,
             pattern.cols_of(row),
+            row.0,
             more_cols,
             &mut self.cols_of_one,
         );

@@ -28,7 +28,7 @@ pub returns-clause-matching : goal.returns-clause-matching
 returns-clause-matching c = record {
   rows = c.choose.ensures.rest.same_rows;
   cols = c.choose.ensures.rest.same_cols;
-  matching = rw c.choose.ensures.matching (way_matching c.args.pattern.now c.loop-row.rest.matching.pairs c.loop-row.invariant.2 (rw c.choose.ensures.matching at c.size-size.ensures.rows_differ) (rw c.choose.ensures.matching at c.size-size.ensures.cols_rise));
+  matching = rw c.choose.ensures.matching (way_matching c.args.pattern.now c.loop-row.rest.matching.pairs c.loop-row.invariant.2 (rw c.choose.ensures.matching at c.is_matching.ensures.rows_differ) (rw c.choose.ensures.matching at c.is_matching.ensures.cols_rise));
 }
 
 pub returns-clause-maximal : goal.returns-clause-maximal

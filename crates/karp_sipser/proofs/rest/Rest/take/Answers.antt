@@ -1,21 +1,24 @@
-use Rattle.std.proofs.Common.{rules, drop, take, ◌++◌, ◌≡◌, ◌∙◌, ℕ, List, map, length, ap, subst, arith}
+use Rattle.std.proofs.Common.{drop, take, ◌++◌, ◌≡◌, ◌∙◌, ℕ, List, map, length, nat_lt, false, ap, sym, subst, arith}
 use Rattle.std.proofs.lemmas.List.{map-id}
 use Rattle.bip_defs.proofs.Sets.{written_over, entry_col}
 use Rattle.bip_defs.specs.Lists.{Lists}
 use Rattle.bip_defs.specs.Matrix.{IsEntry}
+use Rattle.karp_sipser.specs.Counts.{counts}
+use Rattle.karp_sipser.specs.declared.degrees.Unmatched.{Unmatched}
 use Rattle.karp_sipser.proofs.Choices.{alone_col, alone_row}
-use Rattle.karp_sipser.proofs.Free.{AreLowered, degrees_after, still_none}
+use Rattle.karp_sipser.proofs.Free.{AreLowered, AreReduced, degrees_after, still_none, sums_after}
+use Rattle.karp_sipser.proofs.Tables.{count_at, counts_long}
 use Rattle.karp_sipser.proofs.rest.Rest.take.Goals as goal
 
 pub leave_out-requires-clause-in_range : goal.leave_out-requires-clause-in_range
 leave_out-requires-clause-in_range c =
     let rows : Lists (λ r. IsEntry c.args.pattern.now r c.args.col) (map (λ (x : ℕ). x) c.rows_of.result.now) = rw map-id c.rows_of.ensures.rows in
-    λ x h. omega (arith, (rows.sound x h).0, c.requires.rest.degrees.long_rows, ap length c.as_mut_slice-rows.ensures.value)
+    λ x h. omega (arith, (rows.sound x h).0, c.requires.rest.degrees.long_rows, counts_long c.args.self.now.row_degrees.items, ap length c.as_mut_slice-rows.ensures.value)
 
 pub leave_out-requires-2-clause-in_range : goal.leave_out-requires-2-clause-in_range
 leave_out-requires-2-clause-in_range c =
     let columns : Lists (λ b. IsEntry c.args.pattern.now c.args.row b) (map (λ (x : ℕ). x) c.cols_of.result.now) = rw map-id c.cols_of.ensures.cols in
-    λ x h. omega (arith, entry_col c.args.pattern.now c.args.row x (columns.sound x h), c.requires.rest.degrees.long_cols, ap length c.as_mut_slice-cols.ensures.value)
+    λ x h. omega (arith, entry_col c.args.pattern.now c.args.row x (columns.sound x h), c.requires.rest.degrees.long_cols, counts_long c.args.self.now.col_degrees.items, ap length c.as_mut_slice-cols.ensures.value)
 
 pub returns-clause-rest : goal.returns-clause-rest
 returns-clause-rest c =
@@ -25,18 +28,31 @@ returns-clause-rest c =
     let back_r : take s.row_degrees.len (c.leave_out.new.degrees ++ drop (length c.leave_out.new.degrees) s.row_degrees.items) ≡ c.leave_out.new.degrees = written_over c.leave_out.new.degrees s.row_degrees.items s.row_degrees.len (omega arith) (omega arith) in
     let rows : Lists (λ r. IsEntry a r c.args.col) (map (λ (x : ℕ). x) c.rows_of.result.now) = rw map-id c.rows_of.ensures.rows in
     let columns : Lists (λ b. IsEntry a c.args.row b) (map (λ (x : ℕ). x) c.cols_of.result.now) = rw map-id c.cols_of.ensures.cols in
-    let lr : AreLowered (map (λ (x : ℕ). x) c.rows_of.result.now) c.args.row s.row_degrees.items c.leave_out.new.degrees =
-    subst (λ (z : List ℕ). AreLowered (map (λ (x : ℕ). x) c.rows_of.result.now) c.args.row z c.leave_out.new.degrees) c.as_mut_slice-rows.ensures.value
-    (record { long = search rules; matched = c.leave_out.ensures.matched; lowered = c.leave_out.ensures.lowered; kept = c.leave_out.ensures.kept }) in
-    let lc : AreLowered (map (λ (x : ℕ). x) c.cols_of.result.now) c.args.col s.col_degrees.items c.leave_out-2.new.degrees =
-    subst (λ (z : List ℕ). AreLowered (map (λ (x : ℕ). x) c.cols_of.result.now) c.args.col z c.leave_out-2.new.degrees) c.as_mut_slice-cols.ensures.value
-    (record { long = search rules; matched = c.leave_out-2.ensures.matched; lowered = c.leave_out-2.ensures.lowered; kept = c.leave_out-2.ensures.kept }) in
+    let same_r : length c.leave_out.new.degrees ≡ length s.row_degrees.items = omega arith in
+    let long_r : length (counts c.leave_out.new.degrees) ≡ length (counts s.row_degrees.items) = counts_long c.leave_out.new.degrees ∙ same_r ∙ sym (counts_long s.row_degrees.items) in
+    let lr : AreLowered (map (λ (x : ℕ). x) c.rows_of.result.now) c.args.row (counts s.row_degrees.items) (counts c.leave_out.new.degrees) =
+    subst (λ (z : List Unmatched). AreLowered (map (λ (x : ℕ). x) c.rows_of.result.now) c.args.row (counts z) (counts c.leave_out.new.degrees)) c.as_mut_slice-rows.ensures.value
+    (record { matched = c.leave_out.ensures.matched; lowered = c.leave_out.ensures.lowered; kept = c.leave_out.ensures.kept }) in
+    let reduced_r : AreReduced (map (λ (x : ℕ). x) c.rows_of.result.now) c.col-2.inside.0 s.row_degrees.items c.leave_out.new.degrees =
+    subst (λ (z : List Unmatched). AreReduced (map (λ (x : ℕ). x) c.rows_of.result.now) c.col-2.inside.0 z c.leave_out.new.degrees) c.as_mut_slice-rows.ensures.value
+    (record { reduced = c.leave_out.ensures.sums; kept = c.leave_out.ensures.kept_sums }) in
+    let sr : AreReduced (map (λ (x : ℕ). x) c.rows_of.result.now) c.args.col s.row_degrees.items c.leave_out.new.degrees = subst (λ (m : ℕ). AreReduced (map (λ (x : ℕ). x) c.rows_of.result.now) m s.row_degrees.items c.leave_out.new.degrees) c.col-2.view_is reduced_r in
+    let same_c : length c.leave_out-2.new.degrees ≡ length s.col_degrees.items = omega arith in
+    let long_c : length (counts c.leave_out-2.new.degrees) ≡ length (counts s.col_degrees.items) = counts_long c.leave_out-2.new.degrees ∙ same_c ∙ sym (counts_long s.col_degrees.items) in
+    let lc : AreLowered (map (λ (x : ℕ). x) c.cols_of.result.now) c.args.col (counts s.col_degrees.items) (counts c.leave_out-2.new.degrees) =
+    subst (λ (z : List Unmatched). AreLowered (map (λ (x : ℕ). x) c.cols_of.result.now) c.args.col (counts z) (counts c.leave_out-2.new.degrees)) c.as_mut_slice-cols.ensures.value
+    (record { matched = c.leave_out-2.ensures.matched; lowered = c.leave_out-2.ensures.lowered; kept = c.leave_out-2.ensures.kept }) in
+    let reduced_c : AreReduced (map (λ (x : ℕ). x) c.cols_of.result.now) c.row-2.inside.0 s.col_degrees.items c.leave_out-2.new.degrees =
+    subst (λ (z : List Unmatched). AreReduced (map (λ (x : ℕ). x) c.cols_of.result.now) c.row-2.inside.0 z c.leave_out-2.new.degrees) c.as_mut_slice-cols.ensures.value
+    (record { reduced = c.leave_out-2.ensures.sums; kept = c.leave_out-2.ensures.kept_sums }) in
+    let sc : AreReduced (map (λ (x : ℕ). x) c.cols_of.result.now) c.args.row s.col_degrees.items c.leave_out-2.new.degrees = subst (λ (m : ℕ). AreReduced (map (λ (x : ℕ). x) c.cols_of.result.now) m s.col_degrees.items c.leave_out-2.new.degrees) c.row-2.view_is reduced_c in
     record {
       same_rows = c.pair.ensures.sizes.0 ∙ c.requires.rest.same_rows;
       same_cols = c.pair.ensures.sizes.1 ∙ c.requires.rest.same_cols;
-      degrees = rw (back_c, back_r) (degrees_after a (c.args.row, c.args.col) s.matching.pairs c.pair.new.self.pairs _ _ _ _ _ _ c.requires.rest.degrees c.pair.ensures.added c.requires.free rows columns lc lr);
-      cols_bound = c.leave_out-2.ensures.bound ∙ ap length c.as_mut_slice-cols.ensures.value ∙ c.requires.rest.degrees.long_cols;
-      rows_bound = c.leave_out.ensures.bound ∙ ap length c.as_mut_slice-rows.ensures.value ∙ c.requires.rest.degrees.long_rows;
+      degrees = rw (back_c, back_r) (degrees_after a (c.args.row, c.args.col) s.matching.pairs c.pair.new.self.pairs _ _ _ _ _ _ c.requires.rest.degrees c.pair.ensures.added c.requires.free rows columns long_c long_r lc lr);
+      sums = rw (back_c, back_r) (sums_after a (c.args.row, c.args.col) s.matching.pairs c.pair.new.self.pairs _ _ s.col_degrees.items s.row_degrees.items c.leave_out-2.new.degrees c.leave_out.new.degrees (omega (arith, c.requires.free.0.0, c.is_pattern.ensures.few_rows)) (omega (arith, entry_col a c.args.row c.args.col c.requires.free.0, c.is_pattern.ensures.few_cols)) c.requires.rest.degrees c.requires.rest.sums c.pair.ensures.added c.requires.free rows columns lc lr sc sr);
+      cols_bound = c.leave_out-2.ensures.bound ∙ ap length c.as_mut_slice-cols.ensures.value ∙ sym (counts_long s.col_degrees.items) ∙ c.requires.rest.degrees.long_cols;
+      rows_bound = c.leave_out.ensures.bound ∙ ap length c.as_mut_slice-rows.ensures.value ∙ sym (counts_long s.row_degrees.items) ∙ c.requires.rest.degrees.long_rows;
       passed = c.requires.rest.passed;
       below = λ x lt. rw back_c (still_none _ c.args.col x _ _ lc (c.requires.rest.below x lt));
     }
@@ -51,9 +67,9 @@ returns-clause-ones c =
 pub leave_out-requires-clause-alone : goal.leave_out-requires-clause-alone
 leave_out-requires-clause-alone c =
     let rows : Lists (λ r. IsEntry c.args.pattern.now r c.args.col) (map (λ (x : ℕ). x) c.rows_of.result.now) = rw map-id c.rows_of.ensures.rows in
-    λ test. alone_col c.args.pattern.now c.args.self.now.matching.pairs _ _ _ _ _ c.args.row c.args.col _ c.requires.rest.degrees c.requires.free c.as_mut_slice-cols.ensures.value c.as_mut_slice-rows.ensures.value c.col.view_is test rows
+    λ test. alone_col c.args.pattern.now c.args.self.now.matching.pairs _ _ _ _ _ c.args.row c.args.col _ c.requires.rest.degrees c.requires.free (ap counts c.as_mut_slice-cols.ensures.value) (ap counts c.as_mut_slice-rows.ensures.value) c.col.view_is (subst (λ n. nat_lt 1 n ≡ false) (count_at c.as_mut_slice-cols.result.now c.col.inside.0) test) rows
 
 pub leave_out-requires-2-clause-alone : goal.leave_out-requires-2-clause-alone
 leave_out-requires-2-clause-alone c =
     let columns : Lists (λ b. IsEntry c.args.pattern.now c.args.row b) (map (λ (x : ℕ). x) c.cols_of.result.now) = rw map-id c.cols_of.ensures.cols in
-    λ test. alone_row c.args.pattern.now c.args.self.now.matching.pairs _ _ _ _ _ c.args.row c.args.col _ c.requires.rest.degrees c.requires.free c.as_mut_slice-cols.ensures.value c.as_mut_slice-rows.ensures.value c.row.view_is test columns
+    λ test. alone_row c.args.pattern.now c.args.self.now.matching.pairs _ _ _ _ _ c.args.row c.args.col _ c.requires.rest.degrees c.requires.free (ap counts c.as_mut_slice-cols.ensures.value) (ap counts c.as_mut_slice-rows.ensures.value) c.row.view_is (subst (λ n. nat_lt 1 n ≡ false) (count_at c.as_mut_slice-rows.result.now c.row.inside.0) test) columns
