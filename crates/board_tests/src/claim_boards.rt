@@ -7,7 +7,7 @@ ghost use Rattle.claim_words.specs.Seat.{AreAllSeats, after_claim, first_seat, n
 ghost use Rattle.claim_words.specs.Settles.{SettlesAll};
 ghost use Rattle.claim_words.specs.WorkerState.{AreAllWorkers, fresh_lists, seated};
 
-use claim_words::{ClaimBoard, ClaimSeat, Claimed, Closed, Won, Worker};
+use claim_words::{ClaimBoard, ClaimSeat, Claimed, Closed, Won, Worker, seats_in_order_are_all};
 use sp_ids::{Col, Id, OutOfMemory, Row};
 use sp_ports::Gate;
 use std::alloc::Global;
@@ -43,6 +43,7 @@ fn close_for_two(
     requires { AreAllSeats board (zero ∷ one ∷ []) }
     ensures { IfOk result (λ words. SettlesAll board words (zero ∷ one ∷ [])) }
 {
+    seats_in_order_are_all();
     let mut seats = Vec::new(alloc);
     seats.push(zero)?;
     seats.push(one)?;

@@ -6,7 +6,7 @@ ghost use Rattle.std.specs.Thread.{IsSync};
 ghost use Rattle.claim_words.specs.Seat.{AreAllSeats, IsSameSeat, new_seats};
 ghost use Rattle.board_tests.specs.ClaimContest.{Contests, IsContested};
 
-use claim_words::{ClaimBoard, ClaimSeat, Claimed, Closed, Won};
+use claim_words::{ClaimBoard, ClaimSeat, Claimed, Closed, Won, seats_in_order_are_all};
 use crossbeam_queue::ArrayQueue;
 use sp_ids::{Col, OutOfMemory, Row};
 use sp_ports::Gate;
@@ -299,6 +299,7 @@ fn closed_shows(
     requires board { IsContested board }
     requires seats { AreAllSeats board (zero.seat ∷ one.seat ∷ two.seat ∷ three.seat ∷ []) }
 {
+    seats_in_order_are_all();
     let mut seats = Vec::new(alloc);
     seats.push(zero.seat)?;
     seats.push(one.seat)?;

@@ -7,7 +7,7 @@ ghost use Rattle.flip_words.specs.Taken.{taker_before};
 
 use crate::small::has_the_path;
 use bip_graph::{Matching, Mates};
-use flip_words::{FlipBoard, FlipSeat, Taken};
+use flip_words::{FlipBoard, FlipSeat, Taken, seats_in_order_are_all};
 use sp_ids::{Col, OutOfMemory, Row};
 use sp_ports::Gate;
 use std::alloc::Global;
@@ -63,6 +63,7 @@ fn close_for_two(
     ensures rows { IfOk result (λ m. length m.rows ≡ board.rows) }
     ensures cols { IfOk result (λ m. length m.cols ≡ board.cols) }
 {
+    seats_in_order_are_all();
     let mut seats = Vec::new(alloc);
     seats.push(zero)?;
     seats.push(one)?;

@@ -8,7 +8,7 @@ ghost use Rattle.flip_words.specs.Seat.{AreAllSeats, new_seats};
 ghost use Rattle.board_tests.specs.FlipContest.{HasVisited, IsContested, Visits};
 
 use bip_graph::{Matching, Mates};
-use flip_words::{FlipBoard, FlipSeat, Taken};
+use flip_words::{FlipBoard, FlipSeat, Taken, seats_in_order_are_all};
 use sp_ids::{Col, OutOfMemory, Row};
 use sp_ports::Gate;
 use std::alloc::Global;
@@ -165,6 +165,7 @@ fn close_for_four(
     requires seats { AreAllSeats board (zero ∷ one ∷ two ∷ three ∷ []) }
     ensures { IfOk result (λ m. (length m.rows ≡ 100) × (length m.cols ≡ 100)) }
 {
+    seats_in_order_are_all();
     let mut seats = Vec::new(alloc);
     seats.push(zero)?;
     seats.push(one)?;
