@@ -65,8 +65,8 @@ pub fn of_one(alloc: Global, degrees: &[Unmatched]) -> Result<IntSet, OutOfMemor
     Ok(ones)
 }
 
-/// The least vertex of degree one, which is taken out of the set, and the sum that stands beside its
-/// degree. Others that the set still has but whose degree is no longer one are taken out too.
+/// The least vertex of degree one, which is taken out of the set, and the sum beside its degree.
+/// Others that the set still has but whose degree is no longer one are taken out too.
 pub fn take_of_one(degrees: &[Unmatched], ones: &mut IntSet) -> Option<(u32, u32)>
     requires bound { ones.old.bound ≡ length degrees.now }
     requires ones { HoldsOnes (counts degrees.now) ones.old.members }
@@ -106,8 +106,10 @@ pub fn next_with_degree(degrees: &[Unmatched], from: usize) -> usize
 pub fn first_with_degree<I: Id>(degrees: &[Unmatched], ids: &[I]) -> I
     requires rising { IsRising (map I.number ids.now) }
     requires in_range { (x : ℕ) → Among x (map I.number ids.now) → x < length degrees.now }
-    requires some { (x : ℕ) × Among x (map I.number ids.now) × (slice_index (counts degrees.now) x ≢ 0) }
-    ensures least { IsLeast (λ x. Among x (map I.number ids.now) × (slice_index (counts degrees.now) x ≢ 0))
+    requires some { (x : ℕ) × Among x (map I.number ids.now)
+        × (slice_index (counts degrees.now) x ≢ 0) }
+    ensures least { IsLeast
+        (λ x. Among x (map I.number ids.now) × (slice_index (counts degrees.now) x ≢ 0))
         (I.number result) }
 {
     for id in ids {

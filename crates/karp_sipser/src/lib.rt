@@ -25,14 +25,14 @@ use std::alloc::Global;
 /// of the first two kinds is in some maximum matching of what was left
 /// ([`only_neighbours_lose_nothing`]), so the start is often maximum or nearly so.
 ///
-/// Beside each degree it keeps the sum of the numbers of the unmatched neighbours, so where there is
-/// one neighbour no entry is looked at to find it.
+/// Beside each degree it keeps the sum of the numbers of the unmatched neighbours. Where there is
+/// one neighbour the sum is its number, and no entry is looked at to find it.
 ///
 /// Answers `OutOfMemory` where its tables can't be had: 12 bytes a row and 12 a column for the
-/// matching, the degrees and the sums, and an eighth of a byte each for the waiting ones. Work: each
-/// entry is looked at five times at most, twice where sums are added up, twice where degrees are
-/// lowered and once where a column with more neighbours is taken, and each row and column goes in
-/// and out of a set once at most.
+/// matching, the degrees and the sums, and an eighth of a byte each for the waiting ones. Work:
+/// each entry is looked at five times at most, twice where sums are added up, twice where degrees
+/// are lowered and once where a column with more neighbours is taken, and each row and column goes
+/// in and out of a set once at most.
 pub fn start(alloc: Global, pattern: &Pattern) -> Result<Matching, OutOfMemory>
     ensures start { IfOk result (λ m. IsStart pattern.now m.pairs) }
     ensures matching { IfOk result (IsMatchingOf pattern.now) }
