@@ -1,12 +1,12 @@
 //! Edit lines behind a matrix, which are read from a source in memory.
 
-ghost use Rattle.std.specs.Prelude.{◌<◌};
+ghost use Rattle.std.specs.Prelude.{◌<◌, ◌≤◌, length, None, IfOk};
 
 use mm_defs::{End, Kind, ReadError};
 use mm_frames::{Edit, read_edits};
 use mm_reader::{Input, read_matrix};
-use sp_ids::{Col, Row};
-use sp_ports::MemSource;
+use sp_ids::{Col, MAX_INPUT_BYTES, Row};
+use sp_ports::{Failed, MemSource, Source};
 use std::alloc::{AllocError, Global};
 use std::test::Fail;
 
@@ -82,5 +82,39 @@ fn bad_edit_lines_are_known(rt: HostRuntime) -> Result<(), Fail> {
             assert_eq!(rt; answer.err(), Some(*error));
         }
     }
+    Ok(())
+}
+
+/// A source that has no end and gives one edit line after another. It does not tell its bytes.
+#[derive(Drop)]
+struct Reports {
+    given: u32,
+}
+
+impl Source for Reports {
+    ghost left = { λ _. None };
+
+    ghost faults = { λ _. 0 };
+
+    fn read(&mut self, buf: &mut [u8]) -> Result<usize, Failed> {
+        for byte in buf.iter_mut() {
+            *byte = b"report\n"[(self.given % 7) as usize];
+            self.given = self.given.wrapping_add(1);
+        }
+        Ok(buf.len())
+    }
+}
+
+// 16,777,216 edit lines are taken, and not one more.
+#[test]
+fn edit_lines_are_limited_in_number(rt: HostRuntime) -> Result<(), Fail> {
+    let mut source = Reports { given: 0 };
+    let mut input = Input::new(rt.alloc(), MAX_INPUT_BYTES)?;
+    let answer = read_edits(rt.alloc(), &mut input, &mut source, 2, 3);
+    let many = ReadError::Limit {
+        line: 16_777_217,
+        kind: Kind::Edits,
+    };
+    assert_eq!(rt; answer.err(), Some(many));
     Ok(())
 }

@@ -7,7 +7,7 @@ use std::test::Fail;
 
 /// Words of each command with each of its options, a line each, and the job that they name.
 #[rattlefmt::skip]
-static SPELLINGS: [(&str, Job); 60] = [
+static SPELLINGS: [(&str, Job); 62] = [
     ("rank", Job::Rank { drop_zeros: false }),
     ("rank --", Job::Rank { drop_zeros: false }),
     ("rank --drop-zeros", Job::Rank { drop_zeros: true }),
@@ -233,6 +233,16 @@ static SPELLINGS: [(&str, Job); 60] = [
         size: 30,
         seed: 7,
         search: Search { engine: Engine::Mc21, workers: 4 },
+    }),
+    ("load --engine pf --size 30 --seed 7", Job::Load {
+        size: 30,
+        seed: 7,
+        search: Search { engine: Engine::Pf, workers: 4 },
+    }),
+    ("load --size 30 --seed 7 --engine=pf", Job::Load {
+        size: 30,
+        seed: 7,
+        search: Search { engine: Engine::Pf, workers: 4 },
     }),
     ("load --size 30 --engine=graft --seed 7", Job::Load {
         size: 30,
