@@ -1,1 +1,2 @@
 pub mod FlipContestLemmas
+pub mod Swapped

@@ -34,6 +34,7 @@ fn board_for_two(
     Ok((board, zero, one))
 }
 
+// Closes the board with its seats in another order than that of their numbers.
 fn close_for_two(
     alloc: Global,
     board: ClaimBoard,
@@ -41,12 +42,12 @@ fn close_for_two(
     one: ClaimSeat,
 ) -> Result<Closed, OutOfMemory>
     requires { AreAllSeats board (zero ∷ one ∷ []) }
-    ensures { IfOk result (λ words. SettlesAll board words (zero ∷ one ∷ [])) }
+    ensures { IfOk result (λ words. SettlesAll board words (one ∷ zero ∷ [])) }
 {
     seats_in_order_are_all();
     let mut seats = Vec::new(alloc);
-    seats.push(zero)?;
     seats.push(one)?;
+    seats.push(zero)?;
     match board.close(seats) {
         Ok(closed) => Ok(closed),
         Err(_) => Err(OutOfMemory),

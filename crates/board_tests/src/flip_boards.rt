@@ -53,6 +53,7 @@ fn exchange(board: &FlipBoard, seat: &mut FlipSeat)
     board.set_col(seat, Col(1), Col(2), Row(1));
 }
 
+// Closes the board with its seats in another order than that of their numbers.
 fn close_for_two(
     alloc: Global,
     board: FlipBoard,
@@ -65,8 +66,8 @@ fn close_for_two(
 {
     seats_in_order_are_all();
     let mut seats = Vec::new(alloc);
-    seats.push(zero)?;
     seats.push(one)?;
+    seats.push(zero)?;
     match board.close(alloc, seats) {
         Ok(mates) => Ok(mates),
         Err(_) => Err(OutOfMemory),
