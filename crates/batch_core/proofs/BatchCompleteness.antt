@@ -18,7 +18,7 @@ use Rattle.btf_tool.specs.Runs.{IsOrNoMemory, Run}
 use Rattle.btf_tool.specs.declared.answers.Answer.{Answer}
 use Rattle.btf_tool.specs.declared.answers.Answer.TheVariants.{Negative, Positive}
 use Rattle.batch_core.specs.BatchRefusals.{status_of}
-use Rattle.batch_core.specs.BatchRuns.{Completes, EndsWell, HasCause, IsAnswerFor, IsBadFile, Says, WithAnswer, status_of_fault}
+use Rattle.batch_core.specs.BatchRuns.{Completes, EndsWell, HasCause, IsAnswer, IsAnswerFor, IsBadFile, Says, WithAnswer, status_of_fault}
 use Rattle.batch_core.specs.declared.refusals.Refusal.{Refusal}
 use Rattle.batch_core.specs.declared.refusals.Refusal.TheVariants.{Limit, Malformed, OutOfMemory, ReadFault, TooLong, Usage, WriteFault}
 use Rattle.batch_core.proofs.BatchReadings.{where_known}
@@ -96,15 +96,18 @@ module _ (laws : Laws) where
       → (¬ HasWriteFault r.out → IsOrNoMemory status (status_of_answer answer)) → Completes r status
   answered r status P answer taken written ends = record {
     usage = λ not. absurd (not taken);
-    bad_file = λ _. where_known r.input.before r.input.after written
-        (λ x y before h fault bad. absurd (clash (first_bad_file (reading r.input x y)) fault (batch_given (reading r.input x y) h.1.files h.1.was_read.batch) bad));
-    good = λ _ no_read no_write. where_known r.input.before r.input.after written
-        (λ x y before h files batch few. subst (λ (fs : List (List ℕ)). EndsWell fs status) (laws.one_list x h.1.files files h.1.was_read.batch batch)
-        (ends_well h.1.files answer status h.1.answer_is (ends no_write)));
-    not_good = λ _ no_read. where_known r.input.before r.input.after written (λ x y before h none. absurd (none h.1.files h.1.was_read.batch h.1.was_read.within));
-    too_many = λ _. where_known r.input.before r.input.after written (λ x y before h none past. absurd (not_past (reading r.input x y) h.1.was_read.within past));
-    too_long = λ _ no_read. where_known r.input.before r.input.after written (λ x y before h past none. absurd (not_long x h.1.was_read.within past));
+    bad_file = λ _. where_known r.input.before r.input.after is.was_read
+        (λ x y before read fault bad. absurd (clash (first_bad_file (reading r.input x y)) fault (batch_given (reading r.input x y) is.files read.batch) bad));
+    good = λ _ no_read no_write. where_known r.input.before r.input.after is.was_read
+        (λ x y before read files batch few. subst (λ (fs : List (List ℕ)). EndsWell fs status) (laws.one_list x is.files files read.batch batch)
+        (ends_well is.files answer status is.answer_is (ends no_write)));
+    not_good = λ _ no_read. where_known r.input.before r.input.after is.was_read (λ x y before read none. absurd (none is.files read.batch read.within));
+    too_many = λ _. where_known r.input.before r.input.after is.was_read (λ x y before read none past. absurd (not_past (reading r.input x y) read.within past));
+    too_long = λ _ no_read. where_known r.input.before r.input.after is.was_read (λ x y before read past none. absurd (not_long x read.within past));
   }
+    where
+      is : IsAnswer r.input answer written.0
+      is = written.1
 
   -- how a bad frame is told
   told : Bool → ℕ → Kind → BatchError

@@ -1,49 +1,36 @@
 -- What the steps of a run say together.
-use Rattle.std.proofs.Common.{◌≡◌, ◌∙◌, ℕ, List, refl, sym, subst, Option, Some, None, Ok, Err, Result, IfOk}
+use Rattle.std.proofs.Common.{◌≡◌, ◌∙◌, ℕ, List, refl, sym, subst, Option, Ok, Err, Result, IfOk}
 use Rattle.sp_ids.specs.declared.outcomes.Status.{Status}
-use Rattle.sp_ports.specs.Bytes.{WhereKnown}
 use Rattle.sp_ports.specs.Device.{Device, IsUntouched, WroteAsFar}
 use Rattle.btf_words.specs.BatchWords.{AreTaken}
 use Rattle.btf_words.specs.declared.jobs.WordsError.{WordsError}
 use Rattle.btf_tool.specs.Jobs.{OfReading}
 use Rattle.btf_tool.specs.Refusals.{status_of_answer}
-use Rattle.btf_tool.specs.Runs.{Run, StaysKnown}
+use Rattle.btf_tool.specs.Runs.{Run}
 use Rattle.btf_tool.specs.declared.answers.Answer.{Answer}
 use Rattle.btf_tool.specs.declared.answers.Answer.TheVariants.{Negative, Positive}
 use Rattle.btf_tool.specs.declared.file_answer.FileAnswer.{FileAnswer}
 use Rattle.batch_core.specs.BatchRefusals.{line_of, status_of}
 use Rattle.batch_core.specs.BatchRuns.{BatchSays, HasCause, Says, WasRead, WithAnswer}
 use Rattle.batch_core.specs.BatchText.{answer_of, text_of_slots}
-use Rattle.batch_core.specs.Shares.{AreFull, AreSlotsOf, Slots}
+use Rattle.batch_core.specs.Shares.{AreFull, AreSlotsOf, IsWithinLimits, Slots}
 use Rattle.batch_core.specs.declared.refusals.Refusal.{Refusal}
 use Rattle.batch_core.specs.declared.refusals.Refusal.TheVariants.{Limit, Malformed, OutOfMemory, ReadFault, TooLong, Usage, WriteFault}
-use Rattle.batch_core.proofs.BatchReadings.{where_known}
 use Rattle.batch_core.proofs.BatchTexts.{AreAnswered, all_answered, slots_answer, slots_text}
-
--- ---- the devices
-
--- an input that tells its bytes and was not used tells them still
-pub untouched_tells : (input : Device) → IsUntouched input → StaysKnown input
-untouched_tells input same = subst (λ (after : Option (List ℕ)). WhereKnown input.before after (λ x y. Unit {0})) (sym same.0) (still input.before)
-  where
-    still : (bytes : Option (List ℕ)) → WhereKnown bytes bytes (λ x y. Unit {0})
-    still None = tt
-    still (Some x) = tt
 
 -- ---- over words that are taken
 
 -- this is what is answered over the files that were read
-pub with_answer : (input : Device) (files : List (List ℕ)) (slots : List (Option FileAnswer)) (P : List ℕ → Type 0) → OfReading input (λ call. WasRead call files) → AreAnswered files slots
+pub with_answer : (input : Device) (files : List (List ℕ)) (slots : List (Option FileAnswer)) (P : List ℕ → Type 0) → OfReading input (λ call. WasRead call files) → IsWithinLimits files → AreAnswered files slots
     → P (text_of_slots slots) → WithAnswer (answer_of slots) input P
-with_answer input files slots P read are done =
-    where_known input.before input.after read
-    (λ x y before h. (text_of_slots slots, record { files = files; was_read = h; answer_is = slots_answer files slots are; is_text = slots_text files slots are }, done))
+with_answer input files slots P read limits are done =
+    (text_of_slots slots, record { files = files; was_read = read; limits = limits; answer_is = slots_answer files slots are; is_text = slots_text files slots are }, done)
 
 -- the same, where the files and the slots are those of the answers
 pub with_answers : (input : Device) (files given : List (List ℕ)) (answers : Slots) (slots : List (Option FileAnswer)) (P : List ℕ → Type 0) → OfReading input (λ call. WasRead call files)
-    → answers.files ≡ given → given ≡ files → AreSlotsOf answers.files answers.slots → AreFull answers → slots ≡ answers.slots → P (text_of_slots slots) → WithAnswer (answer_of slots) input P
-with_answers input files given answers slots P read of_given same are full these done =
-    with_answer input files slots P read
+    → IsWithinLimits files → answers.files ≡ given → given ≡ files → AreSlotsOf answers.files answers.slots → AreFull answers → slots ≡ answers.slots → P (text_of_slots slots) → WithAnswer (answer_of slots) input P
+with_answers input files given answers slots P read limits of_given same are full these done =
+    with_answer input files slots P read limits
     (subst (λ (s : List (Option FileAnswer)). AreAnswered files s) (sym these)
     (subst (λ (fs : List (List ℕ)). AreAnswered fs answers.slots) (of_given ∙ same) (all_answered answers.files answers.slots are full))) done
 

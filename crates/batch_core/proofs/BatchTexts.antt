@@ -12,6 +12,7 @@ use Rattle.btf_lines.specs.Lines.{limit_line, malformed_line}
 use Rattle.btf_text.specs.Batches.{behind_file_line, files_end}
 use Rattle.btf_text.specs.Reports.{reported}
 use Rattle.btf_tool.specs.FileAnswer.{IsFileAnswer}
+use Rattle.btf_tool.specs.Runs.{status_of_fault}
 use Rattle.btf_tool.specs.declared.answers.Answer.{Answer}
 use Rattle.btf_tool.specs.declared.answers.Answer.TheVariants.{Negative, Positive}
 use Rattle.btf_tool.specs.declared.file_answer.FileAnswer as found
@@ -20,8 +21,10 @@ use Rattle.mm_defs.proofs.Prefixes.{good_file}
 use Rattle.mm_defs.specs.File.{Fault, first_fault}
 use Rattle.mm_defs.specs.declared.answers.End.TheVariants.{File}
 use Rattle.sp_ids.specs.Entries.{Entries, places}
+use Rattle.sp_ids.specs.Exit.{exit_code}
+use Rattle.sp_ids.specs.declared.outcomes.Status.TheVariants as statuses
 use Rattle.batch_core.specs.BatchRuns.{IsAnswerFor}
-use Rattle.batch_core.specs.BatchText.{AreFileTexts, IsBatchText, IsFileText, answer_of, line_of_fault, status_of_fault, text_of_answer, text_of_slots, texts_of_slots}
+use Rattle.batch_core.specs.BatchText.{AreFileTexts, IsBatchText, IsFileText, answer_of, line_of_fault, text_of_answer, text_of_slots, texts_of_slots}
 use Rattle.batch_core.specs.Shares.{AreSlotsOf, IsAnswerAt, slot_at}
 
 -- what the law `one_report` says
@@ -43,7 +46,7 @@ one_file_text one number file s t (inr p) (inl q) = absurd (no_fault_and_one _ p
 one_file_text one number file s t (inr p) (inr q) =
     let some : Some p.fault ≡ Some q.fault = sym p.first ∙ q.first in
     let same : p.fault ≡ q.fault = cc in
-    p.spelled ∙ ap (λ (f : Fault). behind_file_line number (status_of_fault f) (line_of_fault f)) same ∙ sym q.spelled
+    p.spelled ∙ ap (λ (f : Fault). behind_file_line number (exit_code (status_of_fault f)) (line_of_fault f)) same ∙ sym q.spelled
 
 one_texts : HasOneReport → (number : ℕ) (files : List (List ℕ)) (s t : List ℕ) → AreFileTexts number files s → AreFileTexts number files t → s ≡ t
 one_texts one number [] s t p q = p ∙ sym q
@@ -94,7 +97,7 @@ answer_text number file (Reported d c) is = inl (record {
 answer_text number file (Bad limit line kind) is = inr (record {
   fault = record { line = line; kind = kind };
   first = is.first;
-  spelled = ap (λ (b : Bool). behind_file_line number (if b then 4 else 3) (if b then limit_line line kind else malformed_line line kind)) is.limit_is;
+  spelled = ap (λ (b : Bool). behind_file_line number (exit_code (if b then statuses.Limit else statuses.Malformed)) (if b then limit_line line kind else malformed_line line kind)) is.limit_is;
 })
 
 -- each file has a full slot, with the answer to it

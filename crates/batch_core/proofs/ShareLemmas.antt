@@ -26,16 +26,15 @@ unfolding one_claim
 claim_listed l row col None = λ i. record { claims = l.claims ++ (row, col) ∷ []; wins = sym (append-nil l.wins) i; seen = sym (append-nil l.seen) i }
 claim_listed l row col (Some found) = λ i. record { claims = sym (append-nil l.claims) i; wins = sym (append-nil l.wins) i; seen = l.seen ++ row_word row (Some found) ∷ [] }
 
--- a seat that has claimed a row knows whose it is
+-- a seat that has claimed a row lists it, or has seen it held
 pub claim_known : (s : Seat) (row col : ℕ) (found : Option ℕ) → IsKnown (after_claim s row col found) row
-claim_known s row col None = (col, inr (inl (among_right (row, col) s.listed.claims ((row, col) ∷ []) (inl refl))))
-claim_known s row col (Some found) = (found, inr (inr (among_right (row_word row (Some found)) s.listed.seen (row_word row (Some found) ∷ []) (inl refl))))
+claim_known s row col None = (col, inl (among_right (row, col) s.listed.claims ((row, col) ∷ []) (inl refl)))
+claim_known s row col (Some found) = (found, inr (among_right (row_word row (Some found)) s.listed.seen (row_word row (Some found) ∷ []) (inl refl)))
 
 -- what it knows it knows when it has listed more
 known_later : (s : Seat) (more : Listed) (row : ℕ) → IsKnown s row → IsKnown (with_listed s (followed_by s.listed more)) row
-known_later s more row (col, inl opened) = (col, inl opened)
-known_later s more row (col, inr (inl own)) = (col, inr (inl (among_left (row, col) s.listed.claims more.claims own)))
-known_later s more row (col, inr (inr seen)) = (col, inr (inr (among_left (row_word row (Some col)) s.listed.seen more.seen seen)))
+known_later s more row (col, inl own) = (col, inl (among_left (row, col) s.listed.claims more.claims own))
+known_later s more row (col, inr seen) = (col, inr (among_left (row_word row (Some col)) s.listed.seen more.seen seen))
 
 pub known_on : (old new : Share) (row : ℕ) → Continues old new → IsKnown old.seat row → IsKnown new.seat row
 known_on old new row h known = subst (λ (s : Seat). IsKnown s row) (sym h.seat) (known_later old.seat h.listed row known)

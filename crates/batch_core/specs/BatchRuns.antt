@@ -14,6 +14,7 @@ use Rattle.btf_tool.specs.Jobs.{OfReading}
 use Rattle.btf_tool.specs.Runs.{IsOrNoMemory, Run, StaysKnown}
 use Rattle.batch_core.specs.BatchRefusals.{line_of, status_of}
 use Rattle.batch_core.specs.BatchText.{AreGood, IsBatchText}
+use Rattle.batch_core.specs.Shares.{IsWithinLimits}
 use Rattle.batch_core.specs.declared.refusals.Refusal.{Refusal}
 use Rattle.batch_core.specs.declared.refusals.Refusal.TheVariants.{Limit, Malformed, OutOfMemory, ReadFault, TooLong, Usage, WriteFault}
 
@@ -30,17 +31,17 @@ abbrev pub IsAnswerFor : List (List ℕ) → Answer → Type 0
 IsAnswerFor files Positive = AreGood files
 IsAnswerFor files Negative = ¬ AreGood files
 
--- a batch was read, and this is what is answered over it
-pub record IsAnswer (call : Call) (answer : Answer) (text : List ℕ) : Type 0 where
+-- What is answered over the files of a batch within the limits. Where the input tells its bytes they were that batch.
+pub record IsAnswer (input : Device) (answer : Answer) (text : List ℕ) : Type 0 where
   pub files : List (List ℕ)
-  pub was_read : WasRead call files
+  pub was_read : OfReading input (λ call. WasRead call files)
+  pub limits : IsWithinLimits files
   pub answer_is : IsAnswerFor files answer
   pub is_text : IsBatchText files text
 
--- what was done with the answer, where the input tells its bytes
+-- what was done with the answer, whether the input tells its bytes or not
 abbrev pub WithAnswer : Answer → Device → (List ℕ → Type 0) → Type 0
-WithAnswer answer input P = OfReading input
-    (λ call. (text : List ℕ) × IsAnswer call answer text × P text)
+WithAnswer answer input P = (text : List ℕ) × IsAnswer input answer text × P text
 
 -- The words were taken, the whole answer was written, and nothing else.
 pub record IsAnswered (r : Run) (answer : Answer) : Type 0 where

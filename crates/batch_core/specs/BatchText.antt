@@ -11,20 +11,20 @@ use Rattle.btf_tool.specs.declared.answers.Answer.{Answer}
 use Rattle.btf_tool.specs.declared.answers.Answer.TheVariants.{Negative, Positive}
 use Rattle.btf_tool.specs.declared.file_answer.FileAnswer.{FileAnswer}
 use Rattle.btf_tool.specs.declared.file_answer.FileAnswer.TheVariants.{Bad, Report}
+use Rattle.btf_tool.specs.Runs.{status_of_fault}
 use Rattle.mm_defs.specs.Faults.{is_limit}
 use Rattle.mm_defs.specs.File.{Fault, Reads, first_fault}
 use Rattle.mm_defs.specs.declared.answers.End.TheVariants.{File}
 use Rattle.sp_ids.specs.Entries.{Entries, places}
+use Rattle.sp_ids.specs.Exit.{exit_code}
+use Rattle.sp_ids.specs.declared.outcomes.Status.TheVariants as statuses
 
--- the status of a file with this fault, as a program over the file alone would have it, and its line
-abbrev pub status_of_fault : Fault → ℕ
-status_of_fault fault = if is_limit fault.kind then 4 else 3
-
+-- the line of a file with this fault, as a program over the file alone would write it
 abbrev pub line_of_fault : Fault → List ℕ
 line_of_fault fault = if is_limit fault.kind then limit_line fault.line fault.kind
     else malformed_line fault.line fault.kind
 
--- The file is good: its line, and the report of its matrix in version 2 without orders and pairs.
+-- The file is good: its line, with the status of a run over it alone, and the report of its matrix in version 2 without orders and pairs.
 pub record IsTextOfGood (number : ℕ) (file text : List ℕ) : Type 0 where
   pub entries : Entries
   pub matrix : Matrix
@@ -32,13 +32,13 @@ pub record IsTextOfGood (number : ℕ) (file text : List ℕ) : Type 0 where
   pub reads : Reads file File entries []
   pub is_matrix : HasPlaces entries.rows entries.cols (places entries) matrix
   pub is_report : IsAnalysis matrix 2 false false false report
-  pub spelled : text ≡ behind_file_line number 0 report
+  pub spelled : text ≡ behind_file_line number (exit_code statuses.Ok) report
 
--- The file has a fault: its line, and that of the first fault.
+-- The file has a fault: its line, with the status of a run over it alone, and that of the first fault.
 pub record IsTextOfBad (number : ℕ) (file text : List ℕ) : Type 0 where
   pub fault : Fault
   pub first : first_fault File true file ≡ Some fault
-  pub spelled : text ≡ behind_file_line number (status_of_fault fault) (line_of_fault fault)
+  pub spelled : text ≡ behind_file_line number (exit_code (status_of_fault fault)) (line_of_fault fault)
 
 abbrev pub IsFileText : ℕ → List ℕ → List ℕ → Type 0
 IsFileText number file text = IsTextOfGood number file text ⊎ IsTextOfBad number file text
@@ -66,7 +66,8 @@ AreGood files = AllByRecursion (λ file. first_fault File true file ≡ None) fi
 abbrev pub text_of_answer : ℕ → FileAnswer → List ℕ
 text_of_answer number (Report d c) =
     file_report number (reported d (Some (components_of c)) false None)
-text_of_answer number (Bad limit line kind) = behind_file_line number (if limit then 4 else 3)
+text_of_answer number (Bad limit line kind) = behind_file_line number
+    (exit_code (if limit then statuses.Limit else statuses.Malformed))
     (if limit then limit_line line kind else malformed_line line kind)
 
 -- the texts of the full slots, numbered from this number on

@@ -1,12 +1,12 @@
 -- A worker's share of a batch, and the answers to all of its files.
-use Rattle.std.specs.Prelude.{◌≡◌, ◌≢◌, ◌≤◌, ◌<◌, ℕ, zero, suc, List, [], ◌∷◌, ◌++◌, length, map, slice_get, slice_index_or, Option, Some, None}
+use Rattle.std.specs.Prelude.{◌≡◌, ◌≢◌, ◌≤◌, ◌<◌, ◌⊎◌, ℕ, zero, suc, List, [], ◌∷◌, ◌++◌, length, map, slice_get, slice_index_or, Option, Some, None}
 use Rattle.std.specs.List.{All}
 use Rattle.bip_defs.specs.Lists.{Among}
 use Rattle.btf_tool.specs.FileAnswer.{IsFileAnswer}
 use Rattle.btf_tool.specs.declared.file_answer.FileAnswer.{FileAnswer}
 use Rattle.claim_words.specs.Board.{Board}
-use Rattle.claim_words.specs.Listed.{Listed, followed_by}
-use Rattle.claim_words.specs.Seat.{KnowsRow, Seat, with_listed}
+use Rattle.claim_words.specs.Listed.{Listed, followed_by, row_word}
+use Rattle.claim_words.specs.Seat.{Seat, with_listed}
 use Rattle.sp_ids.specs.Limits.{max_batch_file_bytes, max_batch_files}
 
 -- a batch that is answered: at most so many files, each within the limit
@@ -63,11 +63,12 @@ pub record AnswersItsClaims (worker : ℕ) (old new : Share) : Type 0 where
   pub claimed : (i other : ℕ) → Among (i, other) continues.listed.claims
       → (other ≡ worker) × Among i (answered new.answers)
 
--- the seat knows a worker whose the file is: it has claimed the file for it, or has seen it there
+-- the seat lists the file as claimed for some worker, or has seen it held by one
 abbrev pub IsKnown : Seat → ℕ → Type 0
-IsKnown seat i = (worker : ℕ) × KnowsRow seat i worker
+IsKnown seat i = (worker : ℕ) × (Among (i, worker) seat.listed.claims
+    ⊎ Among (row_word i (Some worker)) seat.listed.seen)
 
--- where it had memory for a whole round: each file is known to be some worker's, and this worker's are answered
+-- where it had memory for a whole round: each file is listed or was seen held, and this worker's are answered
 pub record GoesRound (worker : ℕ) (old new : Share) : Type 0 where
   pub known : (i : ℕ) → i < length new.files → IsKnown new.seat i
   pub own : AnswersItsClaims worker old new

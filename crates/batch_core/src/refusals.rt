@@ -83,21 +83,24 @@ impl Refusal {
         ensures { WroteAsFar (seen E.taken E.faults err.old err.new) (line_of self.now) }
     {
         match self {
-            Refusal::Usage => put(err, batch_usage_line().as_bytes()),
+            Refusal::Usage => write_line(err, batch_usage_line().as_bytes()),
             Refusal::Malformed { file, kind } => {
-                put(err, batch_malformed_line(*file, *kind).as_bytes());
+                write_line(err, batch_malformed_line(*file, *kind).as_bytes());
             }
-            Refusal::Limit { file, kind } => put(err, batch_limit_line(*file, *kind).as_bytes()),
-            Refusal::TooLong => put(err, b"btf_batch: limit: TooLong\n"),
-            Refusal::ReadFault => put(err, b"btf_batch: read fault\n"),
-            Refusal::WriteFault => put(err, b"btf_batch: write fault\n"),
-            Refusal::OutOfMemory => put(err, b"btf_batch: out of memory\n"),
+            Refusal::Limit { file, kind } => write_line(
+                err,
+                batch_limit_line(*file, *kind).as_bytes(),
+            ),
+            Refusal::TooLong => write_line(err, b"btf_batch: limit: TooLong\n"),
+            Refusal::ReadFault => write_line(err, b"btf_batch: read fault\n"),
+            Refusal::WriteFault => write_line(err, b"btf_batch: write fault\n"),
+            Refusal::OutOfMemory => write_line(err, b"btf_batch: out of memory\n"),
         }
     }
 }
 
 /// Writes a line, or as much of it as the device takes.
-fn put<E: Sink>(err: &mut E, line: &[u8])
+fn write_line<E: Sink>(err: &mut E, line: &[u8])
     ensures { WroteAsFar (seen E.taken E.faults err.old err.new) line.now }
 {
     match write_all(err, line) {

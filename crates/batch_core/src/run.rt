@@ -11,7 +11,7 @@ use crate::reading::read_batch;
 use crate::refusals::{Refusal, refuse};
 use crate::texts::{answer_of, write_answers};
 use btf_text::TextBuf;
-use btf_tool::Answer;
+use btf_tool::{Answer, unused_input_tells};
 use btf_words::{WordsError, read_batch_words};
 use mm_frames::{
     bad_frame_stays, batch_has_no_bad_frame, batch_has_one_list_of_files, good_batch_is_read,
@@ -72,6 +72,8 @@ pub fn run_batch<R: Threads + Sync, S: Source, O: Sink, E: Sink, G: Gate>(
     batch_has_no_bad_frame();
     bad_frame_stays();
     good_batch_is_read();
+    // What was not read is told as before.
+    unused_input_tells();
     match read_batch_words(alloc, words) {
         Err(WordsError::Usage) => refuse(err, &Refusal::Usage),
         Err(WordsError::OutOfMemory) => refuse(err, &Refusal::OutOfMemory),

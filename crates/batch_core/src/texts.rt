@@ -1,12 +1,14 @@
 //! The text of the answers to all files.
 
 ghost use Rattle.std.specs.Prelude.{◌≡◌};
+ghost use Rattle.sp_ids.specs.Exit.{exit_code};
 ghost use Rattle.sp_ports.specs.Device.{Writes, seen};
 ghost use Rattle.batch_core.specs.BatchText.{answer_of, text_of_answer, text_of_slots, texts_of_slots};
 
 use btf_lines::{limit_line, malformed_line};
 use btf_text::{TextBuf, write_file_fault, write_file_report, write_files_end};
 use btf_tool::{Answer, FileAnswer};
+use sp_ids::Status;
 use sp_ports::{Failed, Sink, taken_in_turn};
 
 /// Writes what is answered to the file of this number, which counts from 1.
@@ -26,13 +28,20 @@ fn write_answer<K: Sink>(
         FileAnswer::Bad { limit, line, kind } => {
             if *limit {
                 let why = limit_line(*line, *kind);
-                write_file_fault(out, buf, number, 4, why.as_bytes())
+                write_file_fault(out, buf, number, code_of(Status::Limit), why.as_bytes())
             } else {
                 let why = malformed_line(*line, *kind);
-                write_file_fault(out, buf, number, 3, why.as_bytes())
+                write_file_fault(out, buf, number, code_of(Status::Malformed), why.as_bytes())
             }
         }
     }
+}
+
+/// The number that stands for a status.
+fn code_of(status: Status) -> u64
+    ensures { result ≡ exit_code status }
+{
+    u64::from(status.code())
 }
 
 /// Writes what is answered to each file, in order. It takes no memory.

@@ -1,5 +1,5 @@
 use Rattle.std.proofs.Common.{inl, inr}
-use Rattle.batch_core.proofs.refusals.put.Goals as goal
+use Rattle.batch_core.proofs.refusals.write_line.Goals as goal
 
 pub returns-in-Ok : goal.returns-in-Ok
 returns-in-Ok g c = inl c.in-Ok.ensures

@@ -23,7 +23,7 @@ returns-in_err-write_answers-clause-says g c =
         (
           answer_of c.slots-slots.result.now,
           with_answers input (files_of c.in_ok-files.files.items) (files_of c.as_slice.result.now) c.in_ok-answers.answers c.slots-slots.result.now (TookPrefix out)
-              c.in_ok-files.ensures.read c.in_ok-answers.ensures.files (ap files_of c.as_slice.ensures.value) c.slots-slots.ensures.answers c.in_ok-answers.ensures.full
+              c.in_ok-files.ensures.read c.in_ok-files.ensures.limits c.in_ok-answers.ensures.files (ap files_of c.as_slice.ensures.value) c.slots-slots.ensures.answers c.in_ok-answers.ensures.full
               c.slots-slots.ensures.slots took,
         ),
       ),
@@ -38,6 +38,6 @@ returns-clause-says g c =
       took.steady,
       subst (λ (answer : Answer). WithAnswer answer input (Took out)) (sym c.answer_of.ensures)
           (with_answers input (files_of c.in_ok-files.files.items) (files_of c.as_slice.result.now) c.in_ok-answers.answers c.slots-slots.result.now (Took out)
-          c.in_ok-files.ensures.read c.in_ok-answers.ensures.files (ap files_of c.as_slice.ensures.value) c.slots-slots.ensures.answers c.in_ok-answers.ensures.full
+          c.in_ok-files.ensures.read c.in_ok-files.ensures.limits c.in_ok-answers.ensures.files (ap files_of c.as_slice.ensures.value) c.slots-slots.ensures.answers c.in_ok-answers.ensures.full
           c.slots-slots.ensures.slots took),
     )

@@ -2,7 +2,7 @@ use Rattle.std.proofs.Common.{Err, ap, arith, map, refl, string_bytes, ◌∙◌
 use Rattle.sp_ports.specs.Device.{seen}
 use Rattle.batch_core.specs.declared.refusals.Refusal.TheVariants.{OutOfMemory, Usage}
 use Rattle.batch_core.proofs.BatchCompleteness.{completes}
-use Rattle.batch_core.proofs.BatchOutcomes.{answer_says, refusal_says, refused_says, untouched_tells, words_taken}
+use Rattle.batch_core.proofs.BatchOutcomes.{answer_says, refusal_says, refused_says, words_taken}
 use Rattle.batch_core.proofs.run.run_batch.Goals as goal
 
 pub returns-in-Err-Usage-clause-says : goal.returns-in-Err-Usage-clause-says
@@ -14,7 +14,7 @@ pub returns-in-Err-OutOfMemory-clause-says : goal.returns-in-Err-OutOfMemory-cla
 returns-in-Err-OutOfMemory-clause-says g c =
     let unused = seen g.S.Source.left g.S.Source.faults c.args.input.now c.args.input.now in
     refusal_says _ _ OutOfMemory c.refuse-in-Err-OutOfMemory.ensures.status c.refuse-in-Err-OutOfMemory.ensures.line
-    (record { later = omega arith; once = omega arith }, untouched_tells unused (refl, refl), (refl, refl))
+    (record { later = omega arith; once = omega arith }, c.unused_input_tells.ensures unused (refl, refl), (refl, refl))
 
 pub returns-in-Ok-perform-clause-says : goal.returns-in-Ok-perform-clause-says
 returns-in-Ok-perform-clause-says g c =
