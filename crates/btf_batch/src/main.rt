@@ -7,10 +7,8 @@ ghost use Rattle.std.specs.Process.{exit_status};
 ghost use Rattle.btf_batch.specs.Ends.{EndsWith, EndsWithoutWords, want_of_words};
 ghost use Rattle.sp_ports.specs.Device.{seen};
 
-mod devices;
-
 use batch_core::{Refusal, refuse, run_batch};
-use devices::{StderrSink, StdinSource, StdoutSink};
+use process_ports::{StderrSink, StdinSource, StdoutSink};
 use sp_ports::{NoGate, Sink, Source};
 use std::process::ExitCode;
 use std::thread::Threads;
@@ -88,6 +86,8 @@ fn want_of_words(error: &io::Error) -> Refusal
 mod tests {
     use super::{behind_name, want_of_words};
     use batch_core::Refusal;
+    use process_ports::{StderrSink, StdinSource, StdoutSink};
+    use sp_ports::{Sink, Source};
     use std::io::{Error, ErrorKind};
     use std::test::Fail;
 
@@ -116,5 +116,33 @@ mod tests {
             want_of_words(&Error::from(ErrorKind::InvalidData)),
             Refusal::Usage
         );
+    }
+
+    #[test]
+    fn standard_input_is_read_to_its_end(rt: HostRuntime) -> Result<(), Fail> {
+        let mut source = StdinSource::new(rt.stdin());
+        let mut buffer = [0u8; 16];
+        for _ in 0..1000 {
+            if source.read(&mut buffer) == Ok(0) {
+                return Ok(());
+            }
+        }
+        panic!(rt; "there is no end")
+    }
+
+    #[test]
+    fn standard_output_takes_bytes(rt: HostRuntime) -> Result<(), Fail> {
+        let mut sink = StdoutSink::new(rt.stdout());
+        assert_eq!(rt; sink.write(b"."), Ok(1));
+        assert_eq!(rt; sink.flush(), Ok(()));
+        Ok(())
+    }
+
+    #[test]
+    fn standard_error_takes_bytes(rt: HostRuntime) -> Result<(), Fail> {
+        let mut sink = StderrSink::new(rt.stderr());
+        assert_eq!(rt; sink.write(b"."), Ok(1));
+        assert_eq!(rt; sink.flush(), Ok(()));
+        Ok(())
     }
 }

@@ -1,5 +1,0 @@
-use Rattle.btf_batch.proofs.Failing.{failed_once}
-use Rattle.btf_batch.proofs.devices.OutgoingSink.flush.Goals as goal
-
-pub returns-in-Err-clause-cause : goal.returns-in-Err-clause-cause
-returns-in-Err-clause-cause g c = failed_once _ _ _ c.count_failure.ensures.counted c.count_failure.ensures.grows
