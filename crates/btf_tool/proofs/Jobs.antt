@@ -20,6 +20,7 @@ use Rattle.btf_tool.specs.declared.answers.Answer.{Answer}
 use Rattle.btf_tool.specs.declared.answers.Answer.TheVariants.{Negative, Positive}
 use Rattle.btf_tool.specs.declared.refusals.Refusal.{Refusal}
 use Rattle.btf_tool.specs.declared.refusals.Refusal.TheVariants.{WriteFault, OutOfMemory}
+use Rattle.mm_reader.specs.EntryLimits.{AreWithinLimits}
 use Rattle.sp_ports.specs.Device.{Device, FailsOnceAtMost, IsUntouched, Took, TookPrefix}
 use Rattle.btf_tool.specs.Jobs.{IsFitFor, IsMatrixOf, IsTextOf, MayAnswer, OfReading, ReadsFile, WasRead, WithAnswer, WithFileAnswer, drops_of, form_of}
 use Rattle.btf_tool.specs.VerdictText.{IsVerdictText, answer_of, verdict_text}
@@ -47,10 +48,10 @@ from_file Edit answer input P reads h = h
 from_file (Bottleneck drop_zeros) answer input P reads h = h
 
 with_answer : (job : Job) (answer : Answer) (input : Device) (P : List ℕ → Type 0) (text : List ℕ) (t : Entries) (rest : List ℕ) (a : Matrix) → ReadsFile job → OfReading input (λ call. WasRead (form_of job) call t rest)
-    → IsFitFor job t → IsMatrixOf (drops_of job) t a → IsPattern a → IsTextOf job t a rest answer text → P text → WithAnswer job answer input P
-with_answer job answer input P text t rest a reads read fit matrix fits is_text p =
+    → AreWithinLimits t → IsFitFor job t → IsMatrixOf (drops_of job) t a → IsPattern a → IsTextOf job t a rest answer text → P text → WithAnswer job answer input P
+with_answer job answer input P text t rest a reads read within fit matrix fits is_text p =
     from_file job answer input P reads
-    (text, record { entries = t; rest = rest; matrix = a; was_read = read; is_fit = fit; is_matrix = matrix; fits = fits; is_text = is_text }, p)
+    (text, record { entries = t; rest = rest; matrix = a; was_read = read; within = within; is_fit = fit; is_matrix = matrix; fits = fits; is_text = is_text }, p)
 
 -- a text of the job's is one of an answer that it may give
 may_answer : (job : Job) (answer : Answer) (t : Entries) (a : Matrix) (rest text : List ℕ) → IsTextOf job t a rest answer text → MayAnswer job answer
@@ -66,15 +67,15 @@ may_answer (Bottleneck drop_zeros) Positive t a rest text h = tt
 may_answer (Bottleneck drop_zeros) Negative t a rest text h = tt
 
 -- the answer was written, or a write of it failed
-pub job_written : (job : Job) (answer : Answer) (input out : Device) (text : List ℕ) (t : Entries) (rest : List ℕ) (a : Matrix) → ReadsFile job → IsReadAs (form_of job) input t rest → IsFitFor job t
+pub job_written : (job : Job) (answer : Answer) (input out : Device) (text : List ℕ) (t : Entries) (rest : List ℕ) (a : Matrix) → ReadsFile job → IsReadAs (form_of job) input t rest → AreWithinLimits t → IsFitFor job t
     → IsMatrixOf (drops_of job) t a → IsPattern a → IsTextOf job t a rest answer text → Took out text → JobSays job input out (Ok answer)
-job_written job answer input out text t rest a reads says fit matrix fits is_text took =
-    (may_answer job answer t a rest text is_text, says.0, took.steady, with_answer job answer input (Took out) text t rest a reads says.1 fit matrix fits is_text took)
+job_written job answer input out text t rest a reads says within fit matrix fits is_text took =
+    (may_answer job answer t a rest text is_text, says.0, took.steady, with_answer job answer input (Took out) text t rest a reads says.1 within fit matrix fits is_text took)
 
-pub job_not_written : (job : Job) (answer : Answer) (input out : Device) (text : List ℕ) (t : Entries) (rest : List ℕ) (a : Matrix) → ReadsFile job → IsReadAs (form_of job) input t rest → FailsOnceAtMost input
+pub job_not_written : (job : Job) (answer : Answer) (input out : Device) (text : List ℕ) (t : Entries) (rest : List ℕ) (a : Matrix) → ReadsFile job → IsReadAs (form_of job) input t rest → AreWithinLimits t → FailsOnceAtMost input
     → IsFitFor job t → IsMatrixOf (drops_of job) t a → IsPattern a → IsTextOf job t a rest answer text → TookPrefix out text → JobSays job input out (Err WriteFault)
-job_not_written job answer input out text t rest a reads says counts fit matrix fits is_text prefix =
-    (counts, prefix.counts, (prefix.fault, says.0, (answer, with_answer job answer input (TookPrefix out) text t rest a reads says.1 fit matrix fits is_text prefix)))
+job_not_written job answer input out text t rest a reads says within counts fit matrix fits is_text prefix =
+    (counts, prefix.counts, (prefix.fault, says.0, (answer, with_answer job answer input (TookPrefix out) text t rest a reads says.1 within fit matrix fits is_text prefix)))
 
 -- the text of the same lists
 pub same_text : (Q : List ℕ → Type 0) (s : Sizes) (k : ℕ) (rows others cols more : List ℕ) → rows ≡ others → cols ≡ more → Q (rank_text s k rows cols) → Q (rank_text s k others more)

@@ -10,6 +10,7 @@ use Rattle.btf_words.specs.declared.jobs.Job.TheVariants.{Rank, Analyse, Diagona
 use Rattle.mm_defs.specs.Calls.{Call, call_on, offered}
 use Rattle.mm_defs.specs.Words.{lines}
 use Rattle.mm_frames.specs.Edits.{edits_of}
+use Rattle.mm_reader.specs.EntryLimits.{AreWithinLimits}
 use Rattle.sp_ports.specs.Bytes.{WhereKnown}
 use Rattle.sp_pattern.specs.Stored.{IsPattern}
 use Rattle.sp_pattern.specs.Weights.{nonzero_places}
@@ -159,14 +160,15 @@ IsTextOf Edit t a rest answer text = (answer ≡ Positive)
     × IsSessionText a (edits_of 0 (lines true rest)) text
 IsTextOf (Bottleneck drop_zeros) t a rest answer text = IsBottleneckText t a answer text
 
--- What the job answers over a file of the field that it needs, whose matrix's sizes fit 32 bits. Where the input tells its
--- bytes they were that file, which was a good one, with what follows it.
+-- What the job answers over a file of the field that it needs, whose sizes are within the limits. Where the input tells
+-- its bytes they were that file, which was a good one, with what follows it.
 pub record IsAnswer (job : Job) (input : Device) (answer : Answer)
     (text : List ℕ) : Type 0 where
   pub entries : Entries
   pub rest : List ℕ
   pub matrix : Matrix
   pub was_read : OfReading input (λ call. WasRead (form_of job) call entries rest)
+  pub within : AreWithinLimits entries
   pub is_fit : IsFitFor job entries
   pub is_matrix : IsMatrixOf (drops_of job) entries matrix
   pub fits : IsPattern matrix

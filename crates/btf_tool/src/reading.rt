@@ -4,6 +4,7 @@ ghost use Rattle.std.specs.Prelude.{◌≡◌, [], true, ℕ, List, IfErr, IfOk}
 ghost use Rattle.std.specs.List.{All};
 ghost use Rattle.mm_defs.specs.Words.{lines};
 ghost use Rattle.mm_frames.specs.Edits.{IsWithinMatrix, edits_of};
+ghost use Rattle.mm_reader.specs.EntryLimits.{AreWithinLimits};
 ghost use Rattle.btf_tool.specs.Inputs as forms;
 ghost use Rattle.sp_ports.specs.Device.{FailsOnceAtMost, seen};
 ghost use Rattle.btf_tool.specs.Jobs.{GavePrefix, OfReading};
@@ -35,6 +36,7 @@ pub(crate) struct Edited {
 pub(crate) fn read_file<S: Source>(alloc: Global, input: &mut S) -> Result<Triples, Refusal>
     ensures read { IfOk result
         (λ t. IsReadAs forms.Alone (seen S.left S.faults input.old input.new) t []) }
+    ensures limits { IfOk result AreWithinLimits }
     ensures unread { IfErr result
         (IsUnread forms.Alone (seen S.left S.faults input.old input.new)) }
     ensures counts { FailsOnceAtMost (seen S.left S.faults input.old input.new) }
@@ -50,6 +52,7 @@ pub(crate) fn read_followed<S: Source>(alloc: Global, input: &mut S) -> Result<F
     ensures read { IfOk result
         (λ f. IsReadAs forms.Followed
         (seen S.left S.faults input.old input.new) f.triples f.rest.items) }
+    ensures limits { IfOk result (λ f. AreWithinLimits f.triples) }
     ensures unread { IfErr result
         (IsUnread forms.Followed (seen S.left S.faults input.old input.new)) }
     ensures counts { FailsOnceAtMost (seen S.left S.faults input.old input.new) }
@@ -67,6 +70,7 @@ pub(crate) fn read_edited<S: Source>(alloc: Global, input: &mut S) -> Result<Edi
     ensures read { IfOk result (λ f. (rest : List ℕ)
         × IsReadAs forms.Edited (seen S.left S.faults input.old input.new) f.triples rest
         × (f.edits.items ≡ edits_of 0 (lines true rest))) }
+    ensures limits { IfOk result (λ f. AreWithinLimits f.triples) }
     ensures within { IfOk result
         (λ f. All (IsWithinMatrix f.triples.rows f.triples.cols) f.edits.items) }
     ensures unread { IfErr result

@@ -4,6 +4,7 @@ pub mod Calls
 pub mod CompleteLaws
 pub mod EightDigits
 pub mod EndLaws
+pub mod EntryLimits
 pub mod Exits
 pub mod FrontLaws
 pub mod Judges

@@ -6,6 +6,7 @@ ghost use Rattle.std.specs.Result.{IsErrOf};
 ghost use Rattle.sp_ports.specs.Bytes.{GivesPrefix, IsAtEnd, WhereKnown};
 ghost use Rattle.sp_ports.specs.Device.{seen};
 ghost use Rattle.mm_defs.specs.Words.{is_lf};
+ghost use Rattle.mm_reader.specs.EntryLimits.{AreWithinLimits};
 ghost use Rattle.mm_reader.specs.Fronts.{front, Advances, Stops};
 ghost use Rattle.mm_reader.specs.Inputs.{FailsByReadFault, OnCall};
 ghost use Rattle.mm_defs.specs.File.{Fault};
@@ -130,6 +131,9 @@ pub fn read_matrix<S: Source>(
 
     // `Limit` tells what passes a limit, and `Malformed` what does not.
     ensures kind { HasItsKind result }
+
+    // What was read is within the limits, whatever the source tells of its bytes.
+    ensures within { IfOk result AreWithinLimits }
 
     // Where the bytes given did not do, a matrix that ends with its last entry line had not ended
     // in them.

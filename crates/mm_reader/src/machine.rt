@@ -7,6 +7,7 @@ ghost use Rattle.mm_defs.specs.Words.{is_skipped, words};
 ghost use Rattle.mm_defs.specs.Header.{is_general, is_integer_field};
 ghost use Rattle.mm_defs.specs.File.{Reads, mirror, placed, with_mirrors, line_faults, later_lines};
 ghost use Rattle.mm_reader.specs.Lines.{IsLine};
+ghost use Rattle.mm_reader.specs.EntryLimits.{AreWithinLimits};
 ghost use Rattle.mm_reader.specs.Judged.{IsHeader, triple_of};
 ghost use Rattle.mm_reader.specs.Machine.{HasBanner, HasLines, HasRoom, IsReady, Steps, StopsAt, TakesLine, is_complete};
 ghost use Rattle.mm_reader.specs.Stages.{begun_lines, IsBetween, IsAfter, IsAll, GoesOn, Halts, Lacks, StopsIn, StopsWithin, StopsAtEnd};
@@ -639,9 +640,10 @@ pub fn feed(alloc: Global, m: &mut Machine, end: End, piece: &[u8]) -> Result<us
 pub fn finish(alloc: Global, m: &mut Machine) -> Result<(), Stop>
     requires ready { IsReady m.old.phase m.old.triples }
     requires room { begun_lines m.old < 2 ^ 64 }
-    ensures { (end : End) (bytes : List ℕ) → IsAfter end m.old bytes
+    ensures steps { (end : End) (bytes : List ℕ) → IsAfter end m.old bytes
         → is_complete end m.old.phase ≡ false
         → MatchResult result (λ _. Reads bytes end m.new.triples []) (StopsAtEnd end bytes) }
+    ensures within { OnOk result (AreWithinLimits m.new.triples) }
 {
     if !m.begun {
         return missing(m.phase, m.number);
@@ -652,9 +654,10 @@ pub fn finish(alloc: Global, m: &mut Machine) -> Result<(), Stop>
 
 /// What is missing at the end of the input.
 fn missing(phase: Phase, number: u64) -> Result<(), Stop>
-    ensures { (end : End) (t : Entries) (ls : List (List ℕ)) → HasLines end phase t ls
+    ensures steps { (end : End) (t : Entries) (ls : List (List ℕ)) → HasLines end phase t ls
         → number ≡ length ls
         → MatchResult result (λ _. IsAll end phase t ls) (Lacks end ls) }
+    ensures within { (t : Entries) → IsReady phase t → OnOk result (AreWithinLimits t) }
 {
     match phase {
         Phase::Banner => Err(Stop::Bad {

@@ -7,6 +7,7 @@ ghost use Rattle.sp_ports.specs.Device.{seen};
 ghost use Rattle.mm_defs.specs.Faults.{is_limit};
 ghost use Rattle.mm_defs.specs.File.{Reads};
 ghost use Rattle.mm_defs.specs.Calls.{HasItsKind, LacksLf, TakesAtMostOnePast};
+ghost use Rattle.mm_reader.specs.EntryLimits.{AreWithinLimits};
 ghost use Rattle.mm_reader.specs.Inputs.{FailsByReadFault};
 ghost use Rattle.mm_reader.specs.Machine.{IsReady, is_complete};
 ghost use Rattle.mm_reader.specs.Stages.{begun_lines, IsAfter, StandsSomewhere};
@@ -76,8 +77,10 @@ fn consume(alloc: Global, m: &mut Machine, end: End, window: &mut Window) -> Res
 fn conclude(alloc: Global, m: Machine) -> Result<Triples, ReadError>
     requires ready { IsReady m.phase m.triples }
     requires room { begun_lines m < 2 ^ 64 }
-    ensures { (end : End) (bytes : List ℕ) → IsAfter end m bytes → is_complete end m.phase ≡ false
+    ensures steps { (end : End) (bytes : List ℕ) → IsAfter end m bytes
+        → is_complete end m.phase ≡ false
         → MatchResult result (λ t. Reads bytes end t []) (RefusesAtEnd end bytes) }
+    ensures within { IfOk result AreWithinLimits }
 {
     let mut m = m;
     match finish(alloc, &mut m) {
@@ -106,6 +109,7 @@ pub fn matrix<S: Source>(
     ensures known { OnCallOf window.old (seen S.left S.faults source.old source.new) (λ call.
         Answers end call window.new result) }
     ensures kind { HasItsKind result }
+    ensures within { IfOk result AreWithinLimits }
     ensures gave { GivesPrefix (S.left source.old) (S.left source.new) }
     ensures most { OnCallOf window.old
         (seen S.left S.faults source.old source.new) TakesAtMostOnePast }

@@ -20,7 +20,7 @@ returns-in_err-hand_on-clause-says g c =
     let input = seen g.S.Source.left g.S.Source.faults c.args.input.now c.read_file.new.input in
     let out = seen g.O.Sink.taken g.O.Sink.faults c.args.out.now c.hand_on.new.out in
     as_refusal _ WriteFault (JobSays job input out) c.from_residual-in_err-hand_on.ensures.1
-    (job_not_written job Positive input out _ c.in_ok-triples.triples [] c.in_ok-pattern.pattern tt c.in_ok-triples.ensures.read c.in_ok-triples.ensures.counts
+    (job_not_written job Positive input out _ c.in_ok-triples.triples [] c.in_ok-pattern.pattern tt c.in_ok-triples.ensures.read c.in_ok-triples.ensures.limits c.in_ok-triples.ensures.counts
     c.in_ok-pattern.ensures.fit c.in_ok-pattern.ensures.matrix c.in_ok-pattern.ensures.fits (refl, answers)
     (c.in_err-hand_on.ensures _ _ _ (c.write_report-written.ensures.of_matrix c.in_ok-pattern.pattern c.in_ok-decomposition.ensures)))
 
@@ -32,7 +32,7 @@ returns-clause-says g c =
     let job = Analyse c.args.options.search report c.args.options.drop_zeros in
     let input = seen g.S.Source.left g.S.Source.faults c.args.input.now c.read_file.new.input in
     let out = seen g.O.Sink.taken g.O.Sink.faults c.args.out.now c.hand_on.new.out in
-    job_written job Positive input out _ c.in_ok-triples.triples [] c.in_ok-pattern.pattern tt c.in_ok-triples.ensures.read
+    job_written job Positive input out _ c.in_ok-triples.triples [] c.in_ok-pattern.pattern tt c.in_ok-triples.ensures.read c.in_ok-triples.ensures.limits
     c.in_ok-pattern.ensures.fit c.in_ok-pattern.ensures.matrix c.in_ok-pattern.ensures.fits (refl, answers)
     (c.in_ok-hand_on.ensures _ _ _ (c.write_report-written.ensures.of_matrix c.in_ok-pattern.pattern c.in_ok-decomposition.ensures))
 

@@ -17,7 +17,7 @@ returns-in_err-hand_on-clause-says g c =
     subst (λ (bytes : List ℕ). IsVerdict c.in_ok-pattern.pattern bytes c.in_ok-verdict.verdict) c.as_slice.ensures.value c.in_ok-verdict.ensures in
     as_refusal _ WriteFault (JobSays job input out) c.from_residual-in_err-hand_on.ensures.1
     (job_not_written job (answer_of c.in_ok-verdict.verdict) input out _ c.in_ok-file.file.triples c.in_ok-file.file.rest.items c.in_ok-pattern.pattern tt
-    c.in_ok-file.ensures.read c.in_ok-file.ensures.counts c.in_ok-pattern.ensures.fit c.in_ok-pattern.ensures.matrix c.in_ok-pattern.ensures.fits
+    c.in_ok-file.ensures.read c.in_ok-file.ensures.limits c.in_ok-file.ensures.counts c.in_ok-pattern.ensures.fit c.in_ok-pattern.ensures.matrix c.in_ok-pattern.ensures.fits
     (verdict_answers c.in_ok-pattern.pattern c.in_ok-file.file.rest.items c.in_ok-verdict.verdict verdict)
     (c.in_err-hand_on.ensures _ _ _ c.write_verdict-written.ensures))
 
@@ -29,6 +29,6 @@ returns-clause-says g c =
     subst (λ (bytes : List ℕ). IsVerdict c.in_ok-pattern.pattern bytes c.in_ok-verdict.verdict) c.as_slice.ensures.value c.in_ok-verdict.ensures in
     rw c.answer_of.ensures
     (job_written (Check c.args.drop_zeros) (answer_of c.in_ok-verdict.verdict) input out _ c.in_ok-file.file.triples c.in_ok-file.file.rest.items c.in_ok-pattern.pattern tt
-    c.in_ok-file.ensures.read c.in_ok-pattern.ensures.fit c.in_ok-pattern.ensures.matrix c.in_ok-pattern.ensures.fits
+    c.in_ok-file.ensures.read c.in_ok-file.ensures.limits c.in_ok-pattern.ensures.fit c.in_ok-pattern.ensures.matrix c.in_ok-pattern.ensures.fits
     (verdict_answers c.in_ok-pattern.pattern c.in_ok-file.file.rest.items c.in_ok-verdict.verdict verdict)
     (c.in_ok-hand_on.ensures _ _ _ c.write_verdict-written.ensures))

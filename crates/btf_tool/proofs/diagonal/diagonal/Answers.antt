@@ -21,7 +21,7 @@ returns-in_err-hand_on-clause-says g c =
     let integer : c.in_ok-triples.triples.field ≡ Integer = sym c.field.ensures ∙ c.in-Integer.is in
     as_refusal _ WriteFault (JobSays job input out) c.from_residual-in_err-hand_on.ensures.1
     (job_not_written job (answer_on c.in_ok-answer.answer) input out _ c.in_ok-triples.triples [] c.in_ok-pattern.pattern tt
-    c.in_ok-triples.ensures.read c.in_ok-triples.ensures.counts (λ _. integer) c.in_ok-pattern.ensures.matrix c.in_ok-pattern.ensures.fits
+    c.in_ok-triples.ensures.read c.in_ok-triples.ensures.limits c.in_ok-triples.ensures.counts (λ _. integer) c.in_ok-pattern.ensures.matrix c.in_ok-pattern.ensures.fits
     (diagonal_answers _ _ c.in_ok-weights.weights c.in_ok-answer.answer c.in_ok-weights.ensures.weights c.in_ok-answer.ensures)
     (c.in_err-hand_on.ensures _ _ _ c.write_diagonal-written.ensures))
 
@@ -32,6 +32,6 @@ returns-clause-says g c =
     let integer : c.in_ok-triples.triples.field ≡ Integer = sym c.field.ensures ∙ c.in-Integer.is in
     rw c.answer_of.ensures
     (job_written (Diagonal c.args.drop_zeros) (answer_on c.in_ok-answer.answer) input out _ c.in_ok-triples.triples [] c.in_ok-pattern.pattern tt
-    c.in_ok-triples.ensures.read (λ _. integer) c.in_ok-pattern.ensures.matrix c.in_ok-pattern.ensures.fits
+    c.in_ok-triples.ensures.read c.in_ok-triples.ensures.limits (λ _. integer) c.in_ok-pattern.ensures.matrix c.in_ok-pattern.ensures.fits
     (diagonal_answers _ _ c.in_ok-weights.weights c.in_ok-answer.answer c.in_ok-weights.ensures.weights c.in_ok-answer.ensures)
     (c.in_ok-hand_on.ensures _ _ _ c.write_diagonal-written.ensures))

@@ -3,6 +3,7 @@ use Rattle.std.proofs.lemmas.Result.{err_from_is_err_and}
 use Rattle.sp_ports.specs.Device.{SourceRose}
 use Rattle.mm_defs.specs.declared.answers.ReadError.TheVariants as errors
 use Rattle.mm_reader.specs.Windows.{ahead_of}
+use Rattle.mm_reader.proofs.EntryLimits.{complete_within}
 use Rattle.mm_reader.proofs.Exits.{rose_since, exit_refused, exit_fault, exit_done, exit_end, memory_known, closed_used, file_open, on_ok, refused_kind, refused_no_fault, ended_kind, ended_no_fault, ended_in_room, same_error, turn_smaller, all_used}
 use Rattle.mm_reader.proofs.Progress.{fed_start, fed_consumed, fed_refilled, none_used, more_used, not_refilled, keeps, counted_known, most_known, closed_known, at_end_known}
 use Rattle.mm_reader.proofs.reader.matrix.Goals as goal
@@ -13,6 +14,7 @@ returns-in-Err g c =
     record {
       known = memory_known c.args.end c.args.window.now c.args.window.now _ _ _;
       kind = tt;
+      within = tt;
       gave = (h.gave, h.known);
       most = most_known c.args.window.now c.args.window.now [] (g.S.Source.faults c.args.source.now) (g.S.Source.faults c.args.source.now) _ _ h c.requires.window;
       cause = record { counts = record { later = omega arith; once = omega arith }; steady = tt; failed = λ e. absurd cc };
@@ -41,6 +43,7 @@ returns-in_err-done g c =
     (record {
       known = exit_refused c.args.end c.args.window.now (g.S.Source.faults c.args.source.now) (g.S.Source.faults c.reading.source) c.reading.m c.reading.window i.window c.consume.new.window _ _ c.in_err-done.field-0.0 i.fed e.err;
       kind = refused_kind _ _ _ _ _ (e.err i.fed.used i.fed.stands);
+      within = tt;
       gave = (h.gave, h.known);
       most = most_known c.args.window.now c.consume.new.window _ (g.S.Source.faults c.args.source.now) (g.S.Source.faults c.reading.source) _ _ h e.window;
       cause = record { counts = record { later = omega (arith, i.steady); once = omega (arith, i.steady) }; steady = tt; failed = λ x. absurd (refused_no_fault _ _ _ _ _ (e.err i.fed.used i.fed.stands) x) };
@@ -67,6 +70,7 @@ returns-then-done g c =
       known = exit_done c.args.end c.args.window.now (g.S.Source.faults c.args.source.now) (g.S.Source.faults c.reading.source) c.consume.new.m c.consume.new.window e.window
           _ _ c.triples_of.result f (sym e.ok.done_is ∙ c.if-done.true) closed c.triples_of.ensures;
       kind = tt;
+      within = rw c.triples_of.ensures (complete_within c.args.end c.consume.new.m.phase c.consume.new.m.triples e.ok.ready (sym e.ok.done_is ∙ c.if-done.true));
       gave = (h.gave, h.known);
       most = most_known c.args.window.now c.consume.new.window f.used (g.S.Source.faults c.args.source.now) (g.S.Source.faults c.reading.source) _ _ h e.window;
       cause = record { counts = record { later = omega (arith, i.steady); once = omega (arith, i.steady) }; steady = i.steady; failed = λ x. absurd cc };
@@ -88,11 +92,12 @@ returns-then-window g c =
     let u = e.ok.uses in
     let f = fed_consumed c.args.end c.args.window.now c.reading.window c.consume.new.window (g.S.Source.left c.args.source.now) (g.S.Source.left c.reading.source) c.reading.m c.consume.new.m c.in_ok-done.done i.fed e.ok in
     let h = f.so_far in
-    let answer = c.conclude.ensures c.args.end f.used f.stands (sym e.ok.done_is ∙ c.if-done.false) in
+    let answer = c.conclude.ensures.steps c.args.end f.used f.stands (sym e.ok.done_is ∙ c.if-done.false) in
     record {
       known = exit_end c.args.end c.args.window.now (g.S.Source.faults c.args.source.now) (g.S.Source.faults c.reading.source) c.consume.new.m c.consume.new.window e.window
-          _ _ c.conclude.result f (e.ok.all c.if-done.false) (i.at_end (rw (← u.at_end_same) c.if-window.true)) i.steady (sym e.ok.done_is ∙ c.if-done.false) c.conclude.ensures;
+          _ _ c.conclude.result f (e.ok.all c.if-done.false) (i.at_end (rw (← u.at_end_same) c.if-window.true)) i.steady (sym e.ok.done_is ∙ c.if-done.false) c.conclude.ensures.steps;
       kind = ended_kind _ c.args.end f.used c.conclude.result answer;
+      within = c.conclude.ensures.within;
       gave = (h.gave, h.known);
       most = most_known c.args.window.now c.consume.new.window f.used (g.S.Source.faults c.args.source.now) (g.S.Source.faults c.reading.source) _ _ h e.window;
       cause = record { counts = record { later = omega (arith, i.steady); once = omega (arith, i.steady) }; steady = on_ok _ c.conclude.result i.steady; failed = λ x. absurd (ended_no_fault _ c.args.end f.used c.conclude.result answer x) };
@@ -122,6 +127,7 @@ returns-in-Err-refill g c =
       known = rw r.kept (exit_fault c.args.end c.args.window.now (g.S.Source.faults c.args.source.now) (g.S.Source.faults c.refill.new.source) c.consume.new.m c.consume.new.window e.window c.refill.new.window
           (g.S.Source.left c.args.source.now) (g.S.Source.left c.reading.source) f none (sym e.ok.done_is ∙ c.if-done.false) s);
       kind = tt;
+      within = tt;
       gave = (h.gave, h.known);
       most = most_known c.args.window.now c.refill.new.window f.used (g.S.Source.faults c.args.source.now) (g.S.Source.faults c.refill.new.source) _ _ h r.window;
       cause = record { counts = record { later = omega (arith, i.steady, r.cause.counts.later); once = omega (arith, i.steady, r.cause.counts.once) }; steady = tt; failed = λ x. s };
