@@ -84,10 +84,10 @@ made_named words job names maker = subst (λ (j : Job). ¬ ReadsFile j) (one_job
 -- a job that reads a file answered over it
 over_file : (job : Job) (answer : Answer) (input : Device) (P : List ℕ → Type 0) → ReadsFile job → WithAnswer job answer input P → WithFileAnswer job answer input P
 over_file (Rank drop_zeros) answer input P reads h = h
-over_file (Analyse search report drop_zeros) answer input P reads h = h
+over_file (Analyse choice report drop_zeros) answer input P reads h = h
 over_file (Diagonal drop_zeros) answer input P reads h = h
 over_file (Check drop_zeros) answer input P reads h = h
-over_file (Load size seed search) answer input P reads h = absurd reads
+over_file (Load size seed choice) answer input P reads h = absurd reads
 over_file Edit answer input P reads h = h
 over_file (Bottleneck drop_zeros) answer input P reads h = h
 
@@ -110,10 +110,10 @@ answer_told job answer input P (text, is, done) =
 -- a matrix that was made was answered as was asked
 made_positive : (job : Job) (answer : Answer) (input : Device) (P : List ℕ → Type 0) → ¬ ReadsFile job → WithAnswer job answer input P → answer ≡ Positive
 made_positive (Rank drop_zeros) answer input P makes h = absurd (makes tt)
-made_positive (Analyse search report drop_zeros) answer input P makes h = absurd (makes tt)
+made_positive (Analyse choice report drop_zeros) answer input P makes h = absurd (makes tt)
 made_positive (Diagonal drop_zeros) answer input P makes h = absurd (makes tt)
 made_positive (Check drop_zeros) answer input P makes h = absurd (makes tt)
-made_positive (Load size seed search) answer input P makes h = h.1.positive
+made_positive (Load size seed choice) answer input P makes h = h.1.positive
 made_positive Edit answer input P makes h = absurd (makes tt)
 made_positive (Bottleneck drop_zeros) answer input P makes h = absurd (makes tt)
 
@@ -125,7 +125,7 @@ HasOneVerdict = (a : Matrix) (bytes : List ℕ) (v w : Verdict) → IsPattern a 
 ends_well : HasOneVerdict → FullHasRank → (job : Job) (call : Call) (answer : Answer) (text : List ℕ) (t : Entries) (rest : List ℕ) (status : Status) → ReadsFile job
     → IsAnswerOver job call answer text → IsGoodInput (form_of job) (offered call) t rest → IsOrNoMemory status (status_of_answer answer) → EndsWell job t rest status
 ends_well one_verdict full_rank (Rank drop_zeros) call answer text t rest status file h good ends = subst (λ (x : Answer). IsOrNoMemory status (status_of_answer x)) h.is_text.0 ends
-ends_well one_verdict full_rank (Analyse search report drop_zeros) call answer text t rest status file h good ends = subst (λ (x : Answer). IsOrNoMemory status (status_of_answer x)) h.is_text.0 ends
+ends_well one_verdict full_rank (Analyse choice report drop_zeros) call answer text t rest status file h good ends = subst (λ (x : Answer). IsOrNoMemory status (status_of_answer x)) h.is_text.0 ends
 ends_well one_verdict full_rank (Diagonal drop_zeros) call answer text t rest status file h good ends =
     subst (λ (x : Entries). ComesToDiagonal drop_zeros x status) (same_entries forms.Alone (offered call) h.entries t h.rest rest h.was_read.good good)
     (comes_to_diagonal full_rank drop_zeros h.entries h.matrix answer text status h.is_matrix h.is_text ends)
@@ -146,7 +146,7 @@ ends_well one_verdict full_rank (Check drop_zeros) call answer text t rest statu
     comes Positive ends = inr ends
     comes Negative (inl is) = inl is
     comes Negative (inr none) = inr (inr none)
-ends_well one_verdict full_rank (Load size seed search) call answer text t rest status file h good ends = absurd file
+ends_well one_verdict full_rank (Load size seed choice) call answer text t rest status file h good ends = absurd file
 ends_well one_verdict full_rank Edit call answer text t rest status file h good ends = subst (λ (x : Answer). IsOrNoMemory status (status_of_answer x)) h.is_text.0 ends
 ends_well one_verdict full_rank (Bottleneck drop_zeros) call answer text t rest status file h good ends =
     subst (λ (x : Entries). ComesToDiagonal drop_zeros x status) (same_entries forms.Alone (offered call) h.entries t h.rest rest h.was_read.good good)
@@ -161,10 +161,10 @@ answer_integer job call answer text t rest needs h good =
 -- and no sum of a file that was weighed passes the limit
 own_within : (job : Job) (call : Call) (answer : Answer) (text : List ℕ) (r c : ℕ) → Weighs job → (h : IsAnswerOver job call answer text) → weight_limit < weight_of h.entries r c → ⊥
 own_within (Rank drop_zeros) call answer text r c weighs h past = weighs
-own_within (Analyse search report drop_zeros) call answer text r c weighs h past = weighs
+own_within (Analyse choice report drop_zeros) call answer text r c weighs h past = weighs
 own_within (Diagonal drop_zeros) call answer text r c weighs h past = no_sum_past drop_zeros h.entries h.matrix h.is_text.weighing r c h.is_matrix h.is_text.are_weights past
 own_within (Check drop_zeros) call answer text r c weighs h past = weighs
-own_within (Load size seed search) call answer text r c weighs h past = weighs
+own_within (Load size seed choice) call answer text r c weighs h past = weighs
 own_within Edit call answer text r c weighs h past = weighs
 own_within (Bottleneck drop_zeros) call answer text r c weighs h past = no_sum_past drop_zeros h.entries h.matrix h.is_text.weighing r c h.is_matrix h.is_text.are_weights past
 
@@ -237,39 +237,39 @@ bad r status line kind limit said job names reads is first = record {
 -- a job that is out of memory ends as it may
 no_memory_ends : (job : Job) (t : Entries) (rest : List ℕ) (status : Status) → status ≡ statuses.OutOfMemory → EndsWell job t rest status
 no_memory_ends (Rank drop_zeros) t rest status said = inr said
-no_memory_ends (Analyse search report drop_zeros) t rest status said = inr said
+no_memory_ends (Analyse choice report drop_zeros) t rest status said = inr said
 no_memory_ends (Diagonal drop_zeros) t rest status said = no_diagonal_memory drop_zeros t status said
 no_memory_ends (Check drop_zeros) t rest status said = record { comes = inr (inr said); right = λ a verdict matrix is_verdict. inr said }
-no_memory_ends (Load size seed search) t rest status said = inr said
+no_memory_ends (Load size seed choice) t rest status said = inr said
 no_memory_ends Edit t rest status said = inr said
 no_memory_ends (Bottleneck drop_zeros) t rest status said = no_diagonal_memory drop_zeros t status said
 
 -- a job that needs integers reads a file
 needs_reads : (job : Job) → NeedsIntegers job → ReadsFile job
 needs_reads (Rank drop_zeros) needs = tt
-needs_reads (Analyse search report drop_zeros) needs = tt
+needs_reads (Analyse choice report drop_zeros) needs = tt
 needs_reads (Diagonal drop_zeros) needs = tt
 needs_reads (Check drop_zeros) needs = tt
-needs_reads (Load size seed search) needs = absurd needs
+needs_reads (Load size seed choice) needs = absurd needs
 needs_reads Edit needs = tt
 needs_reads (Bottleneck drop_zeros) needs = tt
 
 -- a job that adds up values needs integers, and ends over its file as one that has a diagonal
 weighs_needs : (job : Job) → Weighs job → NeedsIntegers job
 weighs_needs (Rank drop_zeros) weighs = absurd weighs
-weighs_needs (Analyse search report drop_zeros) weighs = absurd weighs
+weighs_needs (Analyse choice report drop_zeros) weighs = absurd weighs
 weighs_needs (Diagonal drop_zeros) weighs = tt
 weighs_needs (Check drop_zeros) weighs = absurd weighs
-weighs_needs (Load size seed search) weighs = absurd weighs
+weighs_needs (Load size seed choice) weighs = absurd weighs
 weighs_needs Edit weighs = absurd weighs
 weighs_needs (Bottleneck drop_zeros) weighs = tt
 
 weighs_ends : (job : Job) (t : Entries) (rest : List ℕ) (status : Status) → Weighs job → ComesToDiagonal (drops_of job) t status → EndsWell job t rest status
 weighs_ends (Rank drop_zeros) t rest status weighs comes = absurd weighs
-weighs_ends (Analyse search report drop_zeros) t rest status weighs comes = absurd weighs
+weighs_ends (Analyse choice report drop_zeros) t rest status weighs comes = absurd weighs
 weighs_ends (Diagonal drop_zeros) t rest status weighs comes = comes
 weighs_ends (Check drop_zeros) t rest status weighs comes = absurd weighs
-weighs_ends (Load size seed search) t rest status weighs comes = absurd weighs
+weighs_ends (Load size seed choice) t rest status weighs comes = absurd weighs
 weighs_ends Edit t rest status weighs comes = absurd weighs
 weighs_ends (Bottleneck drop_zeros) t rest status weighs comes = comes
 

@@ -40,10 +40,10 @@ no_memory job input out t rest says later same = (later, untouched_counts out sa
 -- a job that reads a file answers over it
 from_file : (job : Job) (answer : Answer) (input : Device) (P : List ℕ → Type 0) → ReadsFile job → WithFileAnswer job answer input P → WithAnswer job answer input P
 from_file (Rank drop_zeros) answer input P reads h = h
-from_file (Analyse search report drop_zeros) answer input P reads h = h
+from_file (Analyse choice report drop_zeros) answer input P reads h = h
 from_file (Diagonal drop_zeros) answer input P reads h = h
 from_file (Check drop_zeros) answer input P reads h = h
-from_file (Load size seed search) answer input P reads h = absurd reads
+from_file (Load size seed choice) answer input P reads h = absurd reads
 from_file Edit answer input P reads h = h
 from_file (Bottleneck drop_zeros) answer input P reads h = h
 
@@ -56,12 +56,12 @@ with_answer job answer input P text t rest a reads read within fit matrix fits i
 -- a text of the job's is one of an answer that it may give
 may_answer : (job : Job) (answer : Answer) (t : Entries) (a : Matrix) (rest text : List ℕ) → IsTextOf job t a rest answer text → MayAnswer job answer
 may_answer (Rank drop_zeros) answer t a rest text h = subst (λ (x : Answer). MayAnswer (Rank drop_zeros) x) (sym h.0) tt
-may_answer (Analyse search report drop_zeros) answer t a rest text h = subst (λ (x : Answer). MayAnswer (Analyse search report drop_zeros) x) (sym h.0) tt
+may_answer (Analyse choice report drop_zeros) answer t a rest text h = subst (λ (x : Answer). MayAnswer (Analyse choice report drop_zeros) x) (sym h.0) tt
 may_answer (Diagonal drop_zeros) Positive t a rest text h = tt
 may_answer (Diagonal drop_zeros) Negative t a rest text h = tt
 may_answer (Check drop_zeros) Positive t a rest text h = tt
 may_answer (Check drop_zeros) Negative t a rest text h = tt
-may_answer (Load size seed search) answer t a rest text h = subst (λ (x : Answer). MayAnswer (Load size seed search) x) (sym h.0) tt
+may_answer (Load size seed choice) answer t a rest text h = subst (λ (x : Answer). MayAnswer (Load size seed choice) x) (sym h.0) tt
 may_answer Edit answer t a rest text h = subst (λ (x : Answer). MayAnswer Edit x) (sym h.0) tt
 may_answer (Bottleneck drop_zeros) Positive t a rest text h = tt
 may_answer (Bottleneck drop_zeros) Negative t a rest text h = tt

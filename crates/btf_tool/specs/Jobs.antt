@@ -46,7 +46,7 @@ traits_of (Rank drop_zeros) = record {
   drops = drop_zeros;
   denies = false;
 }
-traits_of (Analyse search report drop_zeros) = record {
+traits_of (Analyse choice report drop_zeros) = record {
   reads = true;
   form = forms.Alone;
   weighs = false;
@@ -67,7 +67,7 @@ traits_of (Check drop_zeros) = record {
   drops = drop_zeros;
   denies = true;
 }
-traits_of (Load size seed search) = record {
+traits_of (Load size seed choice) = record {
   reads = false;
   form = forms.Alone;
   weighs = false;
@@ -151,11 +151,11 @@ IsMatrixOf drop_zeros t a = HasPlaces t.rows t.cols (entry_places drop_zeros t) 
 -- the text that a job answers over its file, the file's matrix and what followed the file, and whether it is what was asked for
 abbrev pub IsTextOf : Job → Entries → Matrix → List ℕ → Answer → List ℕ → Type 0
 IsTextOf (Rank drop_zeros) t a rest answer text = (answer ≡ Positive) × IsRankText a text
-IsTextOf (Analyse search report drop_zeros) t a rest answer text = (answer ≡ Positive)
+IsTextOf (Analyse choice report drop_zeros) t a rest answer text = (answer ≡ Positive)
     × IsAnalysis a report.version report.order report.pairs report.least text
 IsTextOf (Diagonal drop_zeros) t a rest answer text = IsDiagonalText t a answer text
 IsTextOf (Check drop_zeros) t a rest answer text = IsVerdictText a rest answer text
-IsTextOf (Load size seed search) t a rest answer text = (answer ≡ Positive) × IsSummary a text
+IsTextOf (Load size seed choice) t a rest answer text = (answer ≡ Positive) × IsSummary a text
 IsTextOf Edit t a rest answer text = (answer ≡ Positive)
     × IsSessionText a (edits_of 0 (lines true rest)) text
 IsTextOf (Bottleneck drop_zeros) t a rest answer text = IsBottleneckText t a answer text
@@ -187,6 +187,6 @@ WithFileAnswer job answer input P = (text : List ℕ) × IsAnswer job input answ
 
 -- what was done with the job's answer
 abbrev pub WithAnswer : Job → Answer → Device → (List ℕ → Type 0) → Type 0
-WithAnswer (Load size seed search) answer input P = (text : List ℕ)
+WithAnswer (Load size seed choice) answer input P = (text : List ℕ)
     × IsLoadAnswer size seed answer text × P text
 WithAnswer job answer input P = WithFileAnswer job answer input P

@@ -19,7 +19,7 @@ use crate::writing::hand_on;
 use crate::{Answer, Refusal};
 use bip_graph::{Components, Parts};
 use btf_text::{TextBuf, write_report};
-use btf_words::{ReportOptions, Search};
+use btf_words::{EngineChoice, ReportOptions};
 use dm_coarse::components;
 use sp_ids::OutOfMemory;
 use sp_pattern::Pattern;
@@ -30,7 +30,7 @@ use std::thread::Threads;
 /// What an analysis is asked for: who searches, what its report has, and whether zeros are dropped.
 #[derive(Clone, Copy)]
 pub(crate) struct Options {
-    pub(crate) search: Search,
+    pub(crate) choice: EngineChoice,
     pub(crate) report: ReportOptions,
     pub(crate) drop_zeros: bool,
 }
@@ -45,9 +45,9 @@ pub(crate) fn analyse<R: Threads + Sync, S: Source, O: Sink, G: Gate>(
     out: &mut O,
     gate: &G,
 ) -> Result<Answer, Refusal>
-    requires workers { HasWorkers options.search }
+    requires workers { HasWorkers options.choice }
     requires version { IsVersion options.report.version }
-    ensures says { JobSays (Analyse options.search options.report options.drop_zeros)
+    ensures says { JobSays (Analyse options.choice options.report options.drop_zeros)
         (seen S.left S.faults input.old input.new) (seen O.taken O.faults out.old out.new) result }
     ensures gave { OfReading (seen S.left S.faults input.old input.new) GavePrefix }
 {
@@ -61,7 +61,7 @@ pub(crate) fn analyse<R: Threads + Sync, S: Source, O: Sink, G: Gate>(
         ..
     } = options.report;
     let listed = lists_pairs(options.report);
-    let matching = matching_for(rt, alloc, &pattern, options.search, least, gate)?;
+    let matching = matching_for(rt, alloc, &pattern, options.choice, least, gate)?;
     // `size` tells the proof that the pairs rise.
     let _pairs = matching.size();
     let decomposition = decompose(rt, alloc, &pattern, &matching)?;

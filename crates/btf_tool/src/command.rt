@@ -103,12 +103,12 @@ fn perform<R: Threads + Sync, S: Source, O: Sink, G: Gate>(
     match job {
         Job::Rank { drop_zeros } => rank(rt, alloc, drop_zeros, input, out, gate),
         Job::Analyse {
-            search,
+            choice,
             report,
             drop_zeros,
         } => {
             let options = Options {
-                search,
+                choice,
                 report,
                 drop_zeros,
             };
@@ -116,7 +116,7 @@ fn perform<R: Threads + Sync, S: Source, O: Sink, G: Gate>(
         }
         Job::Diagonal { drop_zeros } => diagonal(rt, alloc, drop_zeros, input, out),
         Job::Check { drop_zeros } => check(rt, alloc, drop_zeros, input, out),
-        Job::Load { size, seed, search } => load(rt, alloc, size, seed, search, out, gate),
+        Job::Load { size, seed, choice } => load(rt, alloc, size, seed, choice, out, gate),
         Job::Edit => edit(rt, alloc, input, out, gate),
         Job::Bottleneck { drop_zeros } => bottleneck(rt, alloc, drop_zeros, input, out),
     }

@@ -7,7 +7,7 @@ ghost use Rattle.btf_words.specs.Words.{HasWorkers};
 ghost use Rattle.sp_ids.specs.Limits.{max_workers};
 
 use bip_graph::Matching;
-use btf_words::{Engine, Search};
+use btf_words::{Engine, EngineChoice};
 use hall_witness::plain;
 use karp_sipser::start;
 use least_match::least as least_matching;
@@ -61,15 +61,15 @@ pub(crate) fn matching_for<R: Threads + Sync, G: Gate>(
     rt: &R,
     alloc: Global,
     pattern: &Pattern,
-    search: Search,
+    choice: EngineChoice,
     least: bool,
     gate: &G,
 ) -> Result<Matching, OutOfMemory>
-    requires workers { HasWorkers search }
+    requires workers { HasWorkers choice }
     ensures maximum { IfOk result (IsMaximumOf pattern.now) }
     ensures least { IfOk result (λ m. IsMaximumOrLeast pattern.now least m.pairs) }
 {
-    let matching = solve(rt, alloc, pattern, search.engine, search.workers, gate)?;
+    let matching = solve(rt, alloc, pattern, choice.engine, choice.workers, gate)?;
     if !least {
         return Ok(matching);
     }

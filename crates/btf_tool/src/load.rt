@@ -16,7 +16,7 @@ use crate::writing::hand_on;
 use crate::{Answer, Refusal};
 use bip_graph::Decomposition;
 use btf_text::{TextBuf, write_load};
-use btf_words::Search;
+use btf_words::EngineChoice;
 use sp_ids::OutOfMemory;
 use sp_pattern::load_matrix;
 use sp_ports::{Gate, Sink};
@@ -30,17 +30,17 @@ pub(crate) fn load<R: Threads + Sync, O: Sink, G: Gate>(
     alloc: Global,
     size: u32,
     seed: u64,
-    search: Search,
+    choice: EngineChoice,
     out: &mut O,
     gate: &G,
 ) -> Result<Answer, Refusal>
     requires some { 1 ≤ size }
     requires few { size ≤ max_load_size }
-    requires workers { HasWorkers search }
+    requires workers { HasWorkers choice }
     ensures { (input : Device) → IsUntouched input
-        → JobSays (Load size seed search) input (seen O.taken O.faults out.old out.new) result }
+        → JobSays (Load size seed choice) input (seen O.taken O.faults out.old out.new) result }
 {
-    let decomposition = decomposition_of(rt, alloc, size, seed, search, gate)?;
+    let decomposition = decomposition_of(rt, alloc, size, seed, choice, gate)?;
     let mut buf = TextBuf::new(alloc)?;
     let written = write_load(out, &mut buf, &decomposition);
     hand_on(out, written)?;
@@ -53,16 +53,16 @@ fn decomposition_of<R: Threads + Sync, G: Gate>(
     alloc: Global,
     size: u32,
     seed: u64,
-    search: Search,
+    choice: EngineChoice,
     gate: &G,
 ) -> Result<Decomposition, OutOfMemory>
     requires some { 1 ≤ size }
     requires few { size ≤ max_load_size }
-    requires workers { HasWorkers search }
+    requires workers { HasWorkers choice }
     ensures { IfOk result
         (λ d. (a : Matrix) × IsLoadMatrix size seed a × Decomposes a d) }
 {
     let pattern = load_matrix(rt, alloc, size, seed)?;
-    let matching = matching_for(rt, alloc, &pattern, search, false, gate)?;
+    let matching = matching_for(rt, alloc, &pattern, choice, false, gate)?;
     decompose(rt, alloc, &pattern, &matching)
 }

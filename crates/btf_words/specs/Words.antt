@@ -12,7 +12,7 @@ use Rattle.btf_words.specs.declared.jobs.Engine.{Engine}
 use Rattle.btf_words.specs.declared.jobs.Engine.TheVariants.{Plain, Mc21, Pf, Graft}
 use Rattle.btf_words.specs.declared.jobs.Job.{Job}
 use Rattle.btf_words.specs.declared.jobs.ReportOptions.{ReportOptions}
-use Rattle.btf_words.specs.declared.jobs.Search.{Search}
+use Rattle.btf_words.specs.declared.jobs.EngineChoice.{EngineChoice}
 use Rattle.btf_words.specs.declared.jobs.Job.TheVariants.{Rank, Analyse, Diagonal, Check, Load, Edit, Bottleneck}
 
 -- clap's definitions find no fault with the words
@@ -50,8 +50,8 @@ abbrev pub seed_in : List Row → ℕ
 seed_in = number_in 0 max_load_seed (codes "seed")
 
 -- the engine and how many workers search
-abbrev pub search_in : List Row → Search
-search_in rows = record {
+abbrev pub choice_in : List Row → EngineChoice
+choice_in rows = record {
   engine = engine_in rows;
   workers = number_in 1 max_workers (codes "workers") rows;
 }
@@ -74,11 +74,11 @@ drops_zeros = is_given (codes "drop-zeros")
 abbrev pub job_from : Text × List Row → Option Job
 job_from m = if bytes_eq m.0 (codes "rank") then Some (Rank (drops_zeros m.1))
     else (if bytes_eq m.0 (codes "analyse")
-    then Some (Analyse (search_in m.1) (report_in m.1) (drops_zeros m.1))
+    then Some (Analyse (choice_in m.1) (report_in m.1) (drops_zeros m.1))
     else (if bytes_eq m.0 (codes "diagonal") then Some (Diagonal (drops_zeros m.1))
     else (if bytes_eq m.0 (codes "check") then Some (Check (drops_zeros m.1))
     else (if bytes_eq m.0 (codes "load")
-    then Some (Load (size_in m.1) (seed_in m.1) (search_in m.1))
+    then Some (Load (size_in m.1) (seed_in m.1) (choice_in m.1))
     else (if bytes_eq m.0 (codes "edit") then Some Edit
     else (if bytes_eq m.0 (codes "bottleneck") then Some (Bottleneck (drops_zeros m.1))
     else None))))))
@@ -93,15 +93,15 @@ abbrev pub ReadsAlike : Names → List Text → Type 0
 ReadsAlike names words = (fault_of (btf_over names) words ≡ fault_of btf words)
     × (subcommand_of (btf_over names) words ≡ subcommand_of btf words)
 
-abbrev pub HasWorkers : Search → Type 0
-HasWorkers search = (1 ≤ search.workers) × (search.workers ≤ max_workers)
+abbrev pub HasWorkers : EngineChoice → Type 0
+HasWorkers choice = (1 ≤ choice.workers) × (choice.workers ≤ max_workers)
 
 abbrev pub IsVersion : ℕ → Type 0
 IsVersion version = (1 ≤ version) × (version ≤ latest_version)
 
 -- the matrix that a job makes, the number of its workers and its report's version are within the limits
 abbrev pub IsWithinLimits : Job → Type 0
-IsWithinLimits (Load size seed search) = (1 ≤ size) × (size ≤ max_load_size) × HasWorkers search
-IsWithinLimits (Analyse search report drop_zeros) =
-    HasWorkers search × IsVersion report.version
+IsWithinLimits (Load size seed choice) = (1 ≤ size) × (size ≤ max_load_size) × HasWorkers choice
+IsWithinLimits (Analyse choice report drop_zeros) =
+    HasWorkers choice × IsVersion report.version
 IsWithinLimits _ = ⊤

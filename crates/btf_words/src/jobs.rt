@@ -15,9 +15,9 @@ pub enum Engine {
     Graft,
 }
 
-/// Who searches for a maximum matching.
+/// Which engine searches for a maximum matching, and with how many workers.
 #[derive(Clone, Copy, Debug, PartialEq, Eq)]
-pub struct Search {
+pub struct EngineChoice {
     /// How it is searched for.
     pub engine: Engine,
     /// How many workers search at once, where the engine is `Graft`: 1 to 64.
@@ -48,8 +48,8 @@ pub enum Job {
     },
     /// The whole structural analysis.
     Analyse {
-        /// Who searches.
-        search: Search,
+        /// Which engine searches, and with how many workers.
+        choice: EngineChoice,
         /// What the report has.
         report: ReportOptions,
         /// Whether places whose values add up to 0 are left out.
@@ -71,8 +71,8 @@ pub enum Job {
         size: u32,
         /// The number that it is made from.
         seed: u64,
-        /// Who searches.
-        search: Search,
+        /// Which engine searches, and with how many workers.
+        choice: EngineChoice,
     },
     /// The ranks and reports of a matrix under the edits that follow it.
     Edit,

@@ -14,6 +14,6 @@ mod reading;
 mod usage;
 
 pub use batch::{batch_usage_line, read_batch_words};
-pub use jobs::{Engine, Job, ReportOptions, Search, WordsError};
+pub use jobs::{Engine, EngineChoice, Job, ReportOptions, WordsError};
 pub use reading::{names_lie_anywhere, read_words, taken_words_name_a_job};
 pub use usage::usage_line;

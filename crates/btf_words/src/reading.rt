@@ -4,12 +4,12 @@ ghost use Rattle.std.specs.Prelude.{◌≡◌, ◌≤◌, List, IfOk, IfSome, Is
 ghost use Rattle.clap.specs.Words.{Text, first_of, found_of, rows_of, subcommand_rows_of};
 ghost use Rattle.sp_ids.specs.Limits.{max_load_size};
 ghost use Rattle.btf_words.specs.Table.{Names, engine_names, texts_of};
-ghost use Rattle.btf_words.specs.Words.{AreTaken, HasWorkers, IsWithinLimits, ReadsAlike, engine_in, engine_named as engine_of_name, drops_zeros, is_given, IsVersion, job_from, job_of, number_in, number_within, report_in, search_in, seed_in, size_in};
+ghost use Rattle.btf_words.specs.Words.{AreTaken, HasWorkers, IsWithinLimits, ReadsAlike, engine_in, engine_named as engine_of_name, drops_zeros, is_given, IsVersion, job_from, job_of, number_in, number_within, report_in, choice_in, seed_in, size_in};
 ghost use Rattle.btf_words.specs.declared.jobs.Job.{Job as JobValue};
 
 use crate::commands::command_line;
 use crate::options::DEFAULT_ENGINE;
-use crate::{Engine, Job, ReportOptions, Search, WordsError};
+use crate::{Engine, EngineChoice, Job, ReportOptions, WordsError};
 use clap::ArgMatches;
 use clap::error::ErrorKind;
 use sp_ids::{MAX_LOAD_SEED, MAX_LOAD_SIZE, MAX_WORKERS};
@@ -70,7 +70,7 @@ fn job_named(name: &str, options: &ArgMatches<'_>) -> Option<Job>
         })
     } else if name == "analyse" {
         Some(Job::Analyse {
-            search: search_of(options),
+            choice: choice_of(options),
             report: report_of(options),
             drop_zeros: drops_zeros_of(options),
         })
@@ -86,7 +86,7 @@ fn job_named(name: &str, options: &ArgMatches<'_>) -> Option<Job>
         Some(Job::Load {
             size: size_of(options),
             seed: seed_of(options),
-            search: search_of(options),
+            choice: choice_of(options),
         })
     } else if name == "edit" {
         Some(Job::Edit)
@@ -99,11 +99,11 @@ fn job_named(name: &str, options: &ArgMatches<'_>) -> Option<Job>
     }
 }
 
-fn search_of(options: &ArgMatches<'_>) -> Search
-    ensures search { result ≡ search_in (rows_of (found_of options.now)) }
+fn choice_of(options: &ArgMatches<'_>) -> EngineChoice
+    ensures choice { result ≡ choice_in (rows_of (found_of options.now)) }
     ensures workers { HasWorkers result }
 {
-    Search {
+    EngineChoice {
         engine: engine_of(options),
         workers: number_of(options, "workers", 1, u64::from(MAX_WORKERS)) as u32,
     }

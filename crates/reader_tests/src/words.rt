@@ -1,6 +1,6 @@
 //! The words of `btf`: which are taken, and the jobs that they name.
 
-use btf_words::{Engine, Job, ReportOptions, Search, WordsError, read_words};
+use btf_words::{Engine, EngineChoice, Job, ReportOptions, WordsError, read_words};
 use std::alloc::{AllocError, Global};
 use std::process::Abort;
 use std::test::Fail;
@@ -25,234 +25,234 @@ static SPELLINGS: [(&str, Job); 62] = [
     ("edit", Job::Edit),
     ("edit --", Job::Edit),
     ("analyse", Job::Analyse {
-        search: Search { engine: Engine::Graft, workers: 4 },
+        choice: EngineChoice { engine: Engine::Graft, workers: 4 },
         report: ReportOptions { version: 2, order: false, pairs: false, least: false },
         drop_zeros: false,
     }),
     ("analyse --", Job::Analyse {
-        search: Search { engine: Engine::Graft, workers: 4 },
+        choice: EngineChoice { engine: Engine::Graft, workers: 4 },
         report: ReportOptions { version: 2, order: false, pairs: false, least: false },
         drop_zeros: false,
     }),
     ("analyse --engine plain", Job::Analyse {
-        search: Search { engine: Engine::Plain, workers: 4 },
+        choice: EngineChoice { engine: Engine::Plain, workers: 4 },
         report: ReportOptions { version: 2, order: false, pairs: false, least: false },
         drop_zeros: false,
     }),
     ("analyse --engine=plain", Job::Analyse {
-        search: Search { engine: Engine::Plain, workers: 4 },
+        choice: EngineChoice { engine: Engine::Plain, workers: 4 },
         report: ReportOptions { version: 2, order: false, pairs: false, least: false },
         drop_zeros: false,
     }),
     ("analyse --engine mc21", Job::Analyse {
-        search: Search { engine: Engine::Mc21, workers: 4 },
+        choice: EngineChoice { engine: Engine::Mc21, workers: 4 },
         report: ReportOptions { version: 2, order: false, pairs: false, least: false },
         drop_zeros: false,
     }),
     ("analyse --engine=mc21", Job::Analyse {
-        search: Search { engine: Engine::Mc21, workers: 4 },
+        choice: EngineChoice { engine: Engine::Mc21, workers: 4 },
         report: ReportOptions { version: 2, order: false, pairs: false, least: false },
         drop_zeros: false,
     }),
     ("analyse --engine pf", Job::Analyse {
-        search: Search { engine: Engine::Pf, workers: 4 },
+        choice: EngineChoice { engine: Engine::Pf, workers: 4 },
         report: ReportOptions { version: 2, order: false, pairs: false, least: false },
         drop_zeros: false,
     }),
     ("analyse --engine=pf", Job::Analyse {
-        search: Search { engine: Engine::Pf, workers: 4 },
+        choice: EngineChoice { engine: Engine::Pf, workers: 4 },
         report: ReportOptions { version: 2, order: false, pairs: false, least: false },
         drop_zeros: false,
     }),
     ("analyse --engine graft", Job::Analyse {
-        search: Search { engine: Engine::Graft, workers: 4 },
+        choice: EngineChoice { engine: Engine::Graft, workers: 4 },
         report: ReportOptions { version: 2, order: false, pairs: false, least: false },
         drop_zeros: false,
     }),
     ("analyse --engine=graft", Job::Analyse {
-        search: Search { engine: Engine::Graft, workers: 4 },
+        choice: EngineChoice { engine: Engine::Graft, workers: 4 },
         report: ReportOptions { version: 2, order: false, pairs: false, least: false },
         drop_zeros: false,
     }),
     ("analyse --order", Job::Analyse {
-        search: Search { engine: Engine::Graft, workers: 4 },
+        choice: EngineChoice { engine: Engine::Graft, workers: 4 },
         report: ReportOptions { version: 2, order: true, pairs: false, least: false },
         drop_zeros: false,
     }),
     ("analyse --pairs", Job::Analyse {
-        search: Search { engine: Engine::Graft, workers: 4 },
+        choice: EngineChoice { engine: Engine::Graft, workers: 4 },
         report: ReportOptions { version: 2, order: false, pairs: true, least: false },
         drop_zeros: false,
     }),
     ("analyse --order --pairs", Job::Analyse {
-        search: Search { engine: Engine::Graft, workers: 4 },
+        choice: EngineChoice { engine: Engine::Graft, workers: 4 },
         report: ReportOptions { version: 2, order: true, pairs: true, least: false },
         drop_zeros: false,
     }),
     ("analyse --pairs --order", Job::Analyse {
-        search: Search { engine: Engine::Graft, workers: 4 },
+        choice: EngineChoice { engine: Engine::Graft, workers: 4 },
         report: ReportOptions { version: 2, order: true, pairs: true, least: false },
         drop_zeros: false,
     }),
     ("analyse --order --engine mc21", Job::Analyse {
-        search: Search { engine: Engine::Mc21, workers: 4 },
+        choice: EngineChoice { engine: Engine::Mc21, workers: 4 },
         report: ReportOptions { version: 2, order: true, pairs: false, least: false },
         drop_zeros: false,
     }),
     ("analyse --pairs --engine mc21 --order", Job::Analyse {
-        search: Search { engine: Engine::Mc21, workers: 4 },
+        choice: EngineChoice { engine: Engine::Mc21, workers: 4 },
         report: ReportOptions { version: 2, order: true, pairs: true, least: false },
         drop_zeros: false,
     }),
     ("analyse --order --engine=plain --pairs --", Job::Analyse {
-        search: Search { engine: Engine::Plain, workers: 4 },
+        choice: EngineChoice { engine: Engine::Plain, workers: 4 },
         report: ReportOptions { version: 2, order: true, pairs: true, least: false },
         drop_zeros: false,
     }),
     ("analyse --drop-zeros --order", Job::Analyse {
-        search: Search { engine: Engine::Graft, workers: 4 },
+        choice: EngineChoice { engine: Engine::Graft, workers: 4 },
         report: ReportOptions { version: 2, order: true, pairs: false, least: false },
         drop_zeros: true,
     }),
     ("analyse --order --drop-zeros", Job::Analyse {
-        search: Search { engine: Engine::Graft, workers: 4 },
+        choice: EngineChoice { engine: Engine::Graft, workers: 4 },
         report: ReportOptions { version: 2, order: true, pairs: false, least: false },
         drop_zeros: true,
     }),
     ("analyse --least", Job::Analyse {
-        search: Search { engine: Engine::Graft, workers: 4 },
+        choice: EngineChoice { engine: Engine::Graft, workers: 4 },
         report: ReportOptions { version: 2, order: false, pairs: false, least: true },
         drop_zeros: false,
     }),
     ("analyse --least --", Job::Analyse {
-        search: Search { engine: Engine::Graft, workers: 4 },
+        choice: EngineChoice { engine: Engine::Graft, workers: 4 },
         report: ReportOptions { version: 2, order: false, pairs: false, least: true },
         drop_zeros: false,
     }),
     ("analyse --least --pairs", Job::Analyse {
-        search: Search { engine: Engine::Graft, workers: 4 },
+        choice: EngineChoice { engine: Engine::Graft, workers: 4 },
         report: ReportOptions { version: 2, order: false, pairs: true, least: true },
         drop_zeros: false,
     }),
     ("analyse --pairs --least", Job::Analyse {
-        search: Search { engine: Engine::Graft, workers: 4 },
+        choice: EngineChoice { engine: Engine::Graft, workers: 4 },
         report: ReportOptions { version: 2, order: false, pairs: true, least: true },
         drop_zeros: false,
     }),
     ("analyse --order --least", Job::Analyse {
-        search: Search { engine: Engine::Graft, workers: 4 },
+        choice: EngineChoice { engine: Engine::Graft, workers: 4 },
         report: ReportOptions { version: 2, order: true, pairs: false, least: true },
         drop_zeros: false,
     }),
     ("analyse --pairs --least --order", Job::Analyse {
-        search: Search { engine: Engine::Graft, workers: 4 },
+        choice: EngineChoice { engine: Engine::Graft, workers: 4 },
         report: ReportOptions { version: 2, order: true, pairs: true, least: true },
         drop_zeros: false,
     }),
     ("analyse --least --engine mc21 --order", Job::Analyse {
-        search: Search { engine: Engine::Mc21, workers: 4 },
+        choice: EngineChoice { engine: Engine::Mc21, workers: 4 },
         report: ReportOptions { version: 2, order: true, pairs: false, least: true },
         drop_zeros: false,
     }),
     ("analyse --engine=mc21 --least", Job::Analyse {
-        search: Search { engine: Engine::Mc21, workers: 4 },
+        choice: EngineChoice { engine: Engine::Mc21, workers: 4 },
         report: ReportOptions { version: 2, order: false, pairs: false, least: true },
         drop_zeros: false,
     }),
     ("analyse --pairs --report 1", Job::Analyse {
-        search: Search { engine: Engine::Graft, workers: 4 },
+        choice: EngineChoice { engine: Engine::Graft, workers: 4 },
         report: ReportOptions { version: 1, order: false, pairs: true, least: false },
         drop_zeros: false,
     }),
     ("analyse --report=1 --pairs", Job::Analyse {
-        search: Search { engine: Engine::Graft, workers: 4 },
+        choice: EngineChoice { engine: Engine::Graft, workers: 4 },
         report: ReportOptions { version: 1, order: false, pairs: true, least: false },
         drop_zeros: false,
     }),
     ("analyse --pairs --report 2", Job::Analyse {
-        search: Search { engine: Engine::Graft, workers: 4 },
+        choice: EngineChoice { engine: Engine::Graft, workers: 4 },
         report: ReportOptions { version: 2, order: false, pairs: true, least: false },
         drop_zeros: false,
     }),
     ("analyse --pairs --report +02", Job::Analyse {
-        search: Search { engine: Engine::Graft, workers: 4 },
+        choice: EngineChoice { engine: Engine::Graft, workers: 4 },
         report: ReportOptions { version: 2, order: false, pairs: true, least: false },
         drop_zeros: false,
     }),
     ("analyse --workers 1", Job::Analyse {
-        search: Search { engine: Engine::Graft, workers: 1 },
+        choice: EngineChoice { engine: Engine::Graft, workers: 1 },
         report: ReportOptions { version: 2, order: false, pairs: false, least: false },
         drop_zeros: false,
     }),
     ("analyse --workers 64", Job::Analyse {
-        search: Search { engine: Engine::Graft, workers: 64 },
+        choice: EngineChoice { engine: Engine::Graft, workers: 64 },
         report: ReportOptions { version: 2, order: false, pairs: false, least: false },
         drop_zeros: false,
     }),
     ("analyse --workers=2", Job::Analyse {
-        search: Search { engine: Engine::Graft, workers: 2 },
+        choice: EngineChoice { engine: Engine::Graft, workers: 2 },
         report: ReportOptions { version: 2, order: false, pairs: false, least: false },
         drop_zeros: false,
     }),
     ("analyse --workers 007", Job::Analyse {
-        search: Search { engine: Engine::Graft, workers: 7 },
+        choice: EngineChoice { engine: Engine::Graft, workers: 7 },
         report: ReportOptions { version: 2, order: false, pairs: false, least: false },
         drop_zeros: false,
     }),
     ("analyse --workers +8", Job::Analyse {
-        search: Search { engine: Engine::Graft, workers: 8 },
+        choice: EngineChoice { engine: Engine::Graft, workers: 8 },
         report: ReportOptions { version: 2, order: false, pairs: false, least: false },
         drop_zeros: false,
     }),
     ("analyse --workers 3 --engine pf", Job::Analyse {
-        search: Search { engine: Engine::Pf, workers: 3 },
+        choice: EngineChoice { engine: Engine::Pf, workers: 3 },
         report: ReportOptions { version: 2, order: false, pairs: false, least: false },
         drop_zeros: false,
     }),
     ("load --workers 64 --size 2 --seed 1", Job::Load {
         size: 2,
         seed: 1,
-        search: Search { engine: Engine::Graft, workers: 64 },
+        choice: EngineChoice { engine: Engine::Graft, workers: 64 },
     }),
     ("load --size 1 --seed 0", Job::Load {
         size: 1,
         seed: 0,
-        search: Search { engine: Engine::Graft, workers: 4 },
+        choice: EngineChoice { engine: Engine::Graft, workers: 4 },
     }),
     ("load --seed 0 --size 1 --", Job::Load {
         size: 1,
         seed: 0,
-        search: Search { engine: Engine::Graft, workers: 4 },
+        choice: EngineChoice { engine: Engine::Graft, workers: 4 },
     }),
     ("load --seed=18446744073709551615 --size=16777216", Job::Load {
         size: 16777216,
         seed: 18446744073709551615,
-        search: Search { engine: Engine::Graft, workers: 4 },
+        choice: EngineChoice { engine: Engine::Graft, workers: 4 },
     }),
     ("load --engine mc21 --seed 7 --size 30", Job::Load {
         size: 30,
         seed: 7,
-        search: Search { engine: Engine::Mc21, workers: 4 },
+        choice: EngineChoice { engine: Engine::Mc21, workers: 4 },
     }),
     ("load --engine pf --size 30 --seed 7", Job::Load {
         size: 30,
         seed: 7,
-        search: Search { engine: Engine::Pf, workers: 4 },
+        choice: EngineChoice { engine: Engine::Pf, workers: 4 },
     }),
     ("load --size 30 --seed 7 --engine=pf", Job::Load {
         size: 30,
         seed: 7,
-        search: Search { engine: Engine::Pf, workers: 4 },
+        choice: EngineChoice { engine: Engine::Pf, workers: 4 },
     }),
     ("load --size 30 --engine=graft --seed 7", Job::Load {
         size: 30,
         seed: 7,
-        search: Search { engine: Engine::Graft, workers: 4 },
+        choice: EngineChoice { engine: Engine::Graft, workers: 4 },
     }),
     ("load --size 007 --engine=plain --seed +4", Job::Load {
         size: 7,
         seed: 4,
-        search: Search { engine: Engine::Plain, workers: 4 },
+        choice: EngineChoice { engine: Engine::Plain, workers: 4 },
     }),
 ];
 

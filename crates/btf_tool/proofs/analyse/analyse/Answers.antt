@@ -16,7 +16,7 @@ returns-in_err-hand_on-clause-says g c =
     let report = c.args.options.report in
     let of_version = subst (λ (o : Option Components). AreOfVersion c.in_ok-pattern.pattern report.version (components_in o)) (sym c.as_ref.ensures.value) c.in_ok-components.ensures in
     let answers = analysis_answers _ _ _ report.version _ report.order report.pairs report.least _ c.in_ok-decomposition.ensures c.in_ok-matching.ensures.least c.size-pairs.ensures.cols_rise of_version c.lists_pairs-listed.ensures in
-    let job = Analyse c.args.options.search report c.args.options.drop_zeros in
+    let job = Analyse c.args.options.choice report c.args.options.drop_zeros in
     let input = seen g.S.Source.left g.S.Source.faults c.args.input.now c.read_file.new.input in
     let out = seen g.O.Sink.taken g.O.Sink.faults c.args.out.now c.hand_on.new.out in
     as_refusal _ WriteFault (JobSays job input out) c.from_residual-in_err-hand_on.ensures.1
@@ -29,7 +29,7 @@ returns-clause-says g c =
     let report = c.args.options.report in
     let of_version = subst (λ (o : Option Components). AreOfVersion c.in_ok-pattern.pattern report.version (components_in o)) (sym c.as_ref.ensures.value) c.in_ok-components.ensures in
     let answers = analysis_answers _ _ _ report.version _ report.order report.pairs report.least _ c.in_ok-decomposition.ensures c.in_ok-matching.ensures.least c.size-pairs.ensures.cols_rise of_version c.lists_pairs-listed.ensures in
-    let job = Analyse c.args.options.search report c.args.options.drop_zeros in
+    let job = Analyse c.args.options.choice report c.args.options.drop_zeros in
     let input = seen g.S.Source.left g.S.Source.faults c.args.input.now c.read_file.new.input in
     let out = seen g.O.Sink.taken g.O.Sink.faults c.args.out.now c.hand_on.new.out in
     job_written job Positive input out _ c.in_ok-triples.triples [] c.in_ok-pattern.pattern tt c.in_ok-triples.ensures.read c.in_ok-triples.ensures.limits
@@ -38,7 +38,7 @@ returns-clause-says g c =
 
 pub returns-in_err-components-clause-says : goal.returns-in_err-components-clause-says
 returns-in_err-components-clause-says g c =
-    let job = Analyse c.args.options.search c.args.options.report c.args.options.drop_zeros in
+    let job = Analyse c.args.options.choice c.args.options.report c.args.options.drop_zeros in
     let input = seen g.S.Source.left g.S.Source.faults c.args.input.now c.read_file.new.input in
     let out = seen g.O.Sink.taken g.O.Sink.faults c.args.out.now c.args.out.now in
     as_refusal _ OutOfMemory (JobSays job input out) c.from_residual-in_err-components.ensures.1
@@ -46,7 +46,7 @@ returns-in_err-components-clause-says g c =
 
 pub returns-in_err-buf-clause-says : goal.returns-in_err-buf-clause-says
 returns-in_err-buf-clause-says g c =
-    let job = Analyse c.args.options.search c.args.options.report c.args.options.drop_zeros in
+    let job = Analyse c.args.options.choice c.args.options.report c.args.options.drop_zeros in
     let input = seen g.S.Source.left g.S.Source.faults c.args.input.now c.read_file.new.input in
     let out = seen g.O.Sink.taken g.O.Sink.faults c.args.out.now c.args.out.now in
     as_refusal _ OutOfMemory (JobSays job input out) c.from_residual-in_err-buf.ensures.1
