@@ -1,21 +1,21 @@
 //! The whole program over devices that are handed in.
 #![tactic(auto)]
 
-mod analyse;
+mod analyse_job;
 mod answers;
 mod bottleneck_job;
-mod check;
+mod check_job;
 mod command;
 mod decompose;
-mod diagonal;
-mod edit;
+mod diagonal_job;
+mod edit_job;
 mod engines;
 mod file_answer;
 mod laws;
-mod load;
+mod load_job;
 mod matrix;
 mod neighbours;
-mod rank;
+mod rank_job;
 mod reading;
 mod refusals;
 mod replies;

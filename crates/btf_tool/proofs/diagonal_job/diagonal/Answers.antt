@@ -7,7 +7,7 @@ use Rattle.btf_tool.specs.Runs.{JobSays}
 use Rattle.btf_tool.specs.declared.refusals.Refusal.TheVariants.{WriteFault}
 use Rattle.btf_tool.proofs.Diagonals.{heaviest_entries}
 use Rattle.btf_tool.proofs.Jobs.{as_refusal, diagonal_answers, job_not_written, job_written}
-use Rattle.btf_tool.proofs.diagonal.diagonal.Goals as goal
+use Rattle.btf_tool.proofs.diagonal_job.diagonal.Goals as goal
 
 pub write_diagonal-written-requires-clause-entries : goal.write_diagonal-written-requires-clause-entries
 write_diagonal-written-requires-clause-entries g c =

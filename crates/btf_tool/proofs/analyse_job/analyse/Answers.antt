@@ -9,7 +9,7 @@ use Rattle.btf_tool.specs.declared.answers.Answer.TheVariants.{Positive}
 use Rattle.btf_tool.specs.declared.refusals.Refusal.TheVariants.{OutOfMemory, WriteFault}
 use Rattle.btf_tool.proofs.Analyses.{analysis_answers}
 use Rattle.btf_tool.proofs.Jobs.{as_refusal, job_not_written, job_written, no_memory}
-use Rattle.btf_tool.proofs.analyse.analyse.Goals as goal
+use Rattle.btf_tool.proofs.analyse_job.analyse.Goals as goal
 
 pub returns-in_err-hand_on-clause-says : goal.returns-in_err-hand_on-clause-says
 returns-in_err-hand_on-clause-says g c =

@@ -5,7 +5,7 @@ use Rattle.btf_tool.specs.declared.refusals.Refusal.TheVariants.{WriteFault}
 use Rattle.btf_tool.proofs.Analyses.{summary_answers}
 use Rattle.btf_tool.proofs.Jobs.{as_refusal}
 use Rattle.btf_tool.proofs.Loads.{load_not_written, load_written}
-use Rattle.btf_tool.proofs.load.load.Goals as goal
+use Rattle.btf_tool.proofs.load_job.load.Goals as goal
 
 pub returns-in_err-hand_on : goal.returns-in_err-hand_on
 returns-in_err-hand_on g c input same =

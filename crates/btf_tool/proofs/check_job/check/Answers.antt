@@ -6,7 +6,7 @@ use Rattle.btf_tool.specs.VerdictText.{answer_of}
 use Rattle.btf_tool.specs.Runs.{JobSays}
 use Rattle.btf_tool.specs.declared.refusals.Refusal.TheVariants.{WriteFault}
 use Rattle.btf_tool.proofs.Jobs.{as_refusal, job_not_written, job_written, verdict_answers}
-use Rattle.btf_tool.proofs.check.check.Goals as goal
+use Rattle.btf_tool.proofs.check_job.check.Goals as goal
 
 pub returns-in_err-hand_on-clause-says : goal.returns-in_err-hand_on-clause-says
 returns-in_err-hand_on-clause-says g c =

@@ -5,7 +5,7 @@ use Rattle.btf_tool.specs.Runs.{JobSays}
 use Rattle.btf_tool.specs.declared.answers.Answer.TheVariants.{Positive}
 use Rattle.btf_tool.specs.declared.refusals.Refusal.TheVariants.{WriteFault}
 use Rattle.btf_tool.proofs.Jobs.{as_refusal, job_not_written, job_written, rank_answers, same_text}
-use Rattle.btf_tool.proofs.rank.rank.Goals as goal
+use Rattle.btf_tool.proofs.rank_job.rank.Goals as goal
 
 pub returns-in_err-hand_on-clause-says : goal.returns-in_err-hand_on-clause-says
 returns-in_err-hand_on-clause-says g c =

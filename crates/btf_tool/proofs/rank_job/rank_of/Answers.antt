@@ -2,7 +2,7 @@ use Rattle.std.proofs.Common.{subst, sym, List, ℕ}
 use Rattle.bip_defs.specs.Lists.{Among, Lists}
 use Rattle.btf_tool.specs.Neighbours.{Touches}
 use Rattle.btf_tool.proofs.NeighbourLemmas.{horizontal_rows}
-use Rattle.btf_tool.proofs.rank.rank_of.Goals as goal
+use Rattle.btf_tool.proofs.rank_job.rank_of.Goals as goal
 
 pub neighbours-requires : goal.neighbours-requires
 neighbours-requires g c column h = (c.in_ok-cols.ensures.sound column (subst (λ (w : List ℕ). Among column w) c.as_slice.ensures.value h)).0

@@ -6,7 +6,7 @@ use Rattle.btf_tool.specs.declared.answers.Answer.TheVariants.{Positive}
 use Rattle.btf_tool.specs.declared.refusals.Refusal.TheVariants.{WriteFault}
 use Rattle.btf_tool.proofs.Jobs.{as_refusal, job_not_written, job_written}
 use Rattle.btf_tool.proofs.Sessions.{same_session}
-use Rattle.btf_tool.proofs.edit.edit.Goals as goal
+use Rattle.btf_tool.proofs.edit_job.edit.Goals as goal
 
 pub returns-in_err-hand_on-clause-says : goal.returns-in_err-hand_on-clause-says
 returns-in_err-hand_on-clause-says g c =
