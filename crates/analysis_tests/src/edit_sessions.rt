@@ -127,6 +127,23 @@ fn make_edit<R: Abort, L: Ledger>(
     }
 }
 
+/// Makes an edit, and gives the rank. Where memory is refused once, the session is the one of the
+/// places before it, and then the edit is made all the same.
+fn edit_or_again<R: Abort + AllocGlobal + Threads + Sync, L: Ledger>(
+    rt: &R,
+    session: &mut Session,
+    edit: Edit,
+    places: &[(u32, u32)],
+    steps: &mut Steps<L>,
+) -> Result<u32, Fail> {
+    if let Ok(rank) = make_edit(rt, session, edit, steps) {
+        return Ok(rank);
+    }
+    let (rows, cols) = (session.rows(), session.cols());
+    is_from_scratch(rt, session, rows, cols, places)?;
+    Ok(make_edit(rt, session, edit, steps)?)
+}
+
 /// The places after an edit.
 fn after_edit(
     alloc: Global,
@@ -215,7 +232,7 @@ fn replay<R: Abort + AllocGlobal + Threads + Sync, L: Ledger>(
     let mut steps = Steps::<L>::new(blank);
     assert_eq!(rt; session.rank(), edits.rank);
     for (change, rank) in edits.edits {
-        let found = make_edit(rt, &mut session, *change, &mut steps)?;
+        let found = edit_or_again(rt, &mut session, *change, places.as_slice(), &mut steps)?;
         assert_eq!(rt; (found, session.rank()), (*rank, *rank), "{change:?}");
         places = after_edit(rt.alloc(), places.as_slice(), *change)?;
         is_from_scratch(rt, &session, edits.rows, edits.cols, places.as_slice())?;

@@ -1,17 +1,12 @@
-//! Runs of events on the forest of alternating trees, and its phases, worked out by hand.
+//! Runs of events on the forest of alternating trees, worked out by hand.
 
-ghost use Rattle.std.specs.Prelude.{OnOk};
-ghost use Rattle.bip_defs.specs.Forest.{IsRested};
-
-use crate::small::{has_pairs, matching_of, pattern_of};
+use crate::small::{are_pairs, has_pairs, matching_of, pattern_of};
 use forest_core::{Forest, every_run};
 use sp_ids::{Col, Event, Id, OutOfMemory, Row};
 use sp_pattern::Pattern;
-use sp_ports::{MeetGate, NoGate};
 use std::process::Abort;
 use std::test::Fail;
 use std::thread::Threads;
-use tree_graft::{goes_top_down, keeps_trees, phase};
 
 /// Pairs of a row and a column, which count from 1.
 type Pairs = &'static [(u32, u32)];
@@ -250,15 +245,6 @@ fn tells_cols<R: Abort>(rt: &R, forest: &Forest<'_>, state: &State) {
     }
 }
 
-/// Claims stand in the order in which they were made.
-fn tells_claims<R: Abort>(rt: &R, forest: &Forest<'_>, claims: &[(u32, u32)]) {
-    assert_eq!(rt; forest.claims().len(), claims.len());
-    for (claim, wanted) in forest.claims().iter().zip(claims) {
-        assert_eq!(rt; Some(claim.0.0), wanted.0.checked_sub(1));
-        assert_eq!(rt; Some(claim.1.0), wanted.1.checked_sub(1));
-    }
-}
-
 /// The forest of two trees after the events that grow it and a few more.
 fn two_trees<'p, R: Abort + AllocGlobal>(
     rt: &R,
@@ -280,7 +266,8 @@ fn tells<R: Abort + AllocGlobal>(
     let forest = two_trees(rt, pattern, state.last)?;
     tells_rows(rt, &forest, state);
     tells_cols(rt, &forest, state);
-    tells_claims(rt, &forest, state.claims);
+    // Claims stand in the order in which they were made.
+    are_pairs(rt, "two trees", forest.claims(), state.claims);
     Ok(())
 }
 
@@ -321,93 +308,6 @@ fn what_is_not_legal(rt: HostRuntime) -> Result<(), Fail> {
     }
     assert!(rt; forest.may(event_of(&rt, Flip(1))));
     Ok(())
-}
-
-/// Three phases add so many pairs, the last of them none. Then the forest is done, with so many
-/// claims.
-fn phases_add<R: Abort + AllocGlobal + Threads + Sync>(
-    rt: &R,
-    forest: &mut Forest<'_>,
-    workers: u32,
-    growth: u32,
-    claims: usize,
-) -> Result<(), OutOfMemory>
-    requires { IsRested forest.old }
-{
-    assert!(rt; 1 <= workers && workers <= 64);
-    let first = phase(rt, rt.alloc(), forest, workers, &NoGate)?;
-    assert!(rt; 0 < first);
-    let second = phase(rt, rt.alloc(), forest, workers, &NoGate)?;
-    assert_eq!(rt; first.saturating_add(second), growth);
-    assert_eq!(rt; phase(rt, rt.alloc(), forest, workers, &NoGate)?, 0);
-    assert!(rt; forest.done() && forest.claims().len() == claims);
-    Ok(())
-}
-
-/// One path, and then the row leads from the one column to the other.
-#[test]
-fn phases_on_one_row(rt: HostRuntime) -> Result<(), Fail> {
-    let pattern = pattern_of(&rt, 1, 2, &[(1, 1), (1, 2)])?;
-    for workers in [1, 2, 3, 64] {
-        let none = matching_of(&rt, &pattern, &[])?;
-        let mut forest = Forest::new(rt.alloc(), &pattern, none)?;
-        phases_add(&rt, &mut forest, workers, 1, 1)?;
-    }
-    Ok(())
-}
-
-/// Two paths, in one phase or in two, and then all rows and columns are matched in the one way that
-/// there is.
-#[test]
-fn phases_beside_a_single_entry(rt: HostRuntime) -> Result<(), Fail> {
-    let pattern = pattern_of(&rt, 3, 3, &[(1, 1), (1, 2), (3, 2), (1, 3), (2, 3)])?;
-    for workers in [1, 2, 3, 64] {
-        let matching = matching_of(&rt, &pattern, &[(1, 3)])?;
-        let mut forest = Forest::new(rt.alloc(), &pattern, matching)?;
-        phases_add(&rt, &mut forest, workers, 2, 0)?;
-        let matching = forest.into_matching();
-        has_pairs(&rt, "a single entry", &matching, &[(1, 1), (3, 2), (2, 3)]);
-    }
-    Ok(())
-}
-
-/// A phase by two workers adds so many pairs, and each has arrived so often since the gate was
-/// made.
-fn arrive_together<R: Abort + AllocGlobal + Threads + Sync>(
-    rt: &R,
-    forest: &mut Forest<'_>,
-    gate: &MeetGate,
-    growth: u32,
-    arrivals: u64,
-) -> Result<(), OutOfMemory>
-    requires { IsRested forest.old }
-    ensures { OnOk result (IsRested forest.new) }
-{
-    assert_eq!(rt; phase(rt, rt.alloc(), forest, 2, gate)?, growth);
-    assert_eq!(rt; gate.arrivals(0), arrivals);
-    assert_eq!(rt; gate.arrivals(1), arrivals);
-    Ok(())
-}
-
-/// The first phase goes up once and exchanges a path. The second goes up twice, at last with no row
-/// to claim.
-#[test]
-fn workers_arrive_in_each_phase(rt: HostRuntime) -> Result<(), Fail> {
-    let pattern = pattern_of(&rt, 1, 2, &[(1, 1), (1, 2)])?;
-    let none = matching_of(&rt, &pattern, &[])?;
-    let mut forest = Forest::new(rt.alloc(), &pattern, none)?;
-    let gate = MeetGate::new(rt.alloc())?;
-    arrive_together(&rt, &mut forest, &gate, 1, 2)?;
-    arrive_together(&rt, &mut forest, &gate, 0, 4)?;
-    assert!(rt; !gate.ran_out());
-    Ok(())
-}
-
-/// Five rows to a column are the bounds of both choices.
-#[test]
-fn choices_at_five_rows_a_column(rt: HostRuntime) {
-    assert!(rt; !goes_top_down(1, 5) && goes_top_down(1, 6) && !goes_top_down(0, 0));
-    assert!(rt; !keeps_trees(1, 5) && keeps_trees(2, 9));
 }
 
 /// The numbers of a list, which count from 1, with 0 for none.

@@ -33,6 +33,8 @@ mod parts;
 #[cfg(test)]
 mod patterns;
 #[cfg(test)]
+mod phases;
+#[cfg(test)]
 mod read_reports;
 #[cfg(test)]
 mod reply_texts;
@@ -43,7 +45,11 @@ mod searches;
 #[cfg(test)]
 mod small;
 #[cfg(test)]
+mod tables;
+#[cfg(test)]
 mod texts;
+#[cfg(test)]
+mod thresholds;
 #[cfg(test)]
 mod verdicts;
 #[cfg(test)]

@@ -2,7 +2,7 @@
 //! of a number, worked out by hand. Tables count rows and columns from 1.
 
 use crate::small::{integers_of, pattern_of};
-use sp_ids::{Col, Field, OutOfMemory, Row, Triples};
+use sp_ids::{Col, Field, Id, OutOfMemory, Row, Triples};
 use sp_pattern::{Pattern, Weights, load_matrix};
 use std::process::Abort;
 use std::test::Fail;
@@ -49,16 +49,65 @@ fn far_apart<R: Abort + AllocGlobal>(
     Ok(triples)
 }
 
-// So many places that lie so far apart are turned round block by block.
+// Whether a place is one of these, where there are 131,072 rows and columns.
+fn is_far_apart(row: u32, col: u32) -> bool {
+    col.wrapping_sub(row.wrapping_mul(513)) % 131072 < 16
+}
+
+// Whether a list has sixteen rising numbers.
+fn are_sixteen<I: Id>(list: &[I]) -> bool {
+    let mut last: Option<u32> = None;
+    for id in list {
+        if let Some(before) = last {
+            if before >= id.number() {
+                return false;
+            }
+        }
+        last = Some(id.number());
+    }
+    list.len() == 16
+}
+
+// Whether each row has its sixteen columns, in order.
+fn rows_are_far_apart(pattern: &Pattern) -> bool {
+    for row in 0..pattern.rows() {
+        let cols = pattern.cols_of(Row(row));
+        for col in cols {
+            if !is_far_apart(row, col.0) {
+                return false;
+            }
+        }
+        if !are_sixteen(cols) {
+            return false;
+        }
+    }
+    true
+}
+
+// Whether each column has its sixteen rows, in order.
+fn cols_are_far_apart(pattern: &Pattern) -> bool {
+    for col in 0..pattern.cols() {
+        let rows = pattern.rows_of(Col(col));
+        for row in rows {
+            if !is_far_apart(row.0, col) {
+                return false;
+            }
+        }
+        if !are_sixteen(rows) {
+            return false;
+        }
+    }
+    true
+}
+
+// So many places that lie so far apart are turned round block by block. 513 is odd, so each column
+// has as many rows as each row has columns.
 #[test]
 fn many_places_far_apart(rt: HostRuntime) -> Result<(), Fail> {
     let pattern = Pattern::build(&rt, rt.alloc(), &far_apart(&rt, 131072, 2097152)?)?;
     assert_eq!(rt; (pattern.rows(), pattern.entries()), (131072, 2097152));
-    let cols = pattern.cols_of(Row(1));
-    assert_eq!(rt; cols.len(), 16);
-    for t in 0..16u32 {
-        assert_eq!(rt; cols[t as usize], Col(t.wrapping_add(513)));
-    }
+    assert!(rt; rows_are_far_apart(&pattern));
+    assert!(rt; cols_are_far_apart(&pattern));
     Ok(())
 }
 

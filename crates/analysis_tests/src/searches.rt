@@ -4,10 +4,10 @@
 ghost use Rattle.std.specs.Prelude.{◌≡◌, ◌<◌};
 ghost use Rattle.bip_graph.specs.Matching.{IsMatchingOf};
 
-use crate::small::{are, matching_of, pattern_of};
+use crate::small::{are, are_pairs, matching_of, pattern_of};
 use bip_graph::Matching;
-use hall_witness::{Reach, Steps, reach_in, reached_if_maximum};
-use sp_ids::{Col, OutOfMemory, Row};
+use hall_witness::{Reach, Steps, reach, reach_in, reached_if_maximum};
+use sp_ids::OutOfMemory;
 use sp_pattern::Pattern;
 use std::marker::Brand;
 use std::process::Abort;
@@ -100,16 +100,6 @@ const SEARCHES: [Search<'static>; 8] = [
     },
 ];
 
-/// Compares a path with pairs that count from 1.
-fn is_path<R: Abort>(rt: &R, name: &str, path: &[(Row, Col)], pairs: &[(u32, u32)]) {
-    assert_eq!(rt; path.len(), pairs.len(), "{name}");
-    for (place, (row, col)) in path.iter().zip(pairs) {
-        let (found_row, found_col) = *place;
-        assert_eq!(rt; Some(found_row.0), row.checked_sub(1), "{name}");
-        assert_eq!(rt; Some(found_col.0), col.checked_sub(1), "{name}");
-    }
-}
-
 /// Compares marks, one for each column, with numbers that count from 1.
 fn has_marks<R: Abort>(rt: &R, search: &Search<'_>, marks: &[bool], numbers: &[u32]) {
     assert_eq!(rt; marks.len(), search.cols as usize, "{}", search.name);
@@ -140,25 +130,31 @@ fn marks<R: Abort + AllocGlobal>(
     Ok(())
 }
 
+/// Compares the columns or the path that a search has found.
+fn is_wanted<R: Abort>(rt: &R, search: &Search<'_>, found: &Reach) {
+    match (found, search.wanted) {
+        (Reach::Witness(columns), Wanted::Missed(numbers)) => {
+            are(rt, search.name, columns.as_slice(), numbers);
+        }
+        (Reach::Path(path), Wanted::Path(pairs)) => {
+            are_pairs(rt, search.name, path.as_slice(), pairs);
+        }
+        _ => assert!(rt; false, "{}", search.name),
+    }
+}
+
+/// The search finds what it is to find, with its steps counted and without.
 fn finds<R: Abort + AllocGlobal + Threads + Sync, L: Ledger>(
     rt: &R,
     search: &Search<'_>,
     steps: &mut Steps<L>,
 ) -> Result<(), OutOfMemory> {
-    let name = search.name;
     let pattern = pattern_of(rt, search.rows, search.cols, search.places)?;
     let matching = matching_of(rt, &pattern, search.pairs)?;
     marks(rt, search, &pattern, &matching)?;
-    match (
-        reach_in(rt.alloc(), &pattern, &matching, steps)?,
-        search.wanted,
-    ) {
-        (Reach::Witness(columns), Wanted::Missed(numbers)) => {
-            are(rt, name, columns.as_slice(), numbers);
-        }
-        (Reach::Path(path), Wanted::Path(pairs)) => is_path(rt, name, path.as_slice(), pairs),
-        _ => assert!(rt; false, "{name}"),
-    }
+    is_wanted(rt, search, &reach(rt.alloc(), &pattern, &matching)?);
+    let counted = reach_in(rt.alloc(), &pattern, &matching, steps)?;
+    is_wanted(rt, search, &counted);
     Ok(())
 }
 

@@ -89,11 +89,25 @@ fn pair_up<R: Abort>(rt: &R, pattern: &Pattern, matching: &mut Matching, row: Ro
     let _size = matching.size();
 }
 
-/// Compares rows or columns with numbers that count from 1.
+/// Compares rows or columns with numbers that count from 1. No row or column has number 0.
 pub(crate) fn are<R: Abort, I: Id>(rt: &R, name: &str, ids: &[I], numbers: &[u32]) {
     assert_eq!(rt; ids.len(), numbers.len(), "{name}");
     for (id, number) in ids.iter().zip(numbers) {
-        assert_eq!(rt; id.number(), number.wrapping_sub(1), "{name}");
+        assert_eq!(rt; Some(id.number()), number.checked_sub(1), "{name}");
+    }
+}
+
+/// Compares pairs, in their order, with numbers that count from 1.
+pub(crate) fn are_pairs<R: Abort>(
+    rt: &R,
+    name: &str,
+    pairs: &[(Row, Col)],
+    numbers: &[(u32, u32)],
+) {
+    assert_eq!(rt; pairs.len(), numbers.len(), "{name}");
+    for (pair, wanted) in pairs.iter().zip(numbers) {
+        assert_eq!(rt; Some(pair.0.0), wanted.0.checked_sub(1), "{name}");
+        assert_eq!(rt; Some(pair.1.0), wanted.1.checked_sub(1), "{name}");
     }
 }
 

@@ -1,8 +1,9 @@
-//! Whole runs over batches, with texts worked out by hand.
+//! Whole runs over batches, with texts worked out by hand. That workers answer a batch at once is
+//! tested in `run_tests`.
 
 use crate::run_batch;
 use sp_ids::Status;
-use sp_ports::{Gate, MeetGate, MemSink, MemSource, NoGate};
+use sp_ports::{MemSink, MemSource, NoGate};
 use std::process::Abort;
 use std::test::Fail;
 use std::thread::Threads;
@@ -37,12 +38,11 @@ struct Outcome {
 }
 
 /// Runs over a batch whose bytes come in pieces of 7, and compares the status and what was written.
-fn expect_at<R: Threads + Abort + AllocGlobal + Sync, G: Gate>(
+fn expect<R: Threads + Abort + AllocGlobal + Sync>(
     rt: &R,
     words: &[&str],
     batch: &[u8],
     failing: &Failing,
-    gate: &G,
     expected: &Outcome,
 ) -> Result<(), Fail> {
     let alloc = rt.alloc();
@@ -60,7 +60,7 @@ fn expect_at<R: Threads + Abort + AllocGlobal + Sync, G: Gate>(
         &mut input,
         &mut out,
         &mut err,
-        gate,
+        &NoGate,
     );
     assert_eq!(rt; status, expected.status);
     assert_eq!(rt; out.bytes(), expected.out.as_bytes());
@@ -156,35 +156,16 @@ static RUNS: [Run; 11] = [
 fn runs_on_steady_devices(rt: HostRuntime) -> Result<(), Fail> {
     for run in &RUNS {
         let batch = run.batch.as_bytes();
-        expect_at(&rt, run.words, batch, &NONE_FAILS, &NoGate, &run.expected)?;
+        expect(&rt, run.words, batch, &NONE_FAILS, &run.expected)?;
     }
     Ok(())
 }
 
-#[test]
-fn two_workers_meet(rt: HostRuntime) -> Result<(), Fail> {
-    let gate = MeetGate::new(rt.alloc())?;
-    let batch = GOOD_AND_BAD.as_bytes();
-    let expected = &GOOD_AND_BAD_OUTCOME;
-    expect_at(
-        &rt,
-        &["--workers", "2"],
-        batch,
-        &NONE_FAILS,
-        &gate,
-        expected,
-    )?;
-    assert_eq!(rt; gate.arrivals(0), 1);
-    assert_eq!(rt; gate.arrivals(1), 1);
-    assert!(rt; !gate.ran_out());
-    Ok(())
-}
-
 /// A read that fails; writes that fail, where the text is taken in two pieces for the first file,
-/// one for the second and one for the end, and the last call is the flush; and a line of a refusal
-/// that is not taken, which changes nothing.
+/// one for the second and one for the end, and the last call is the flush, so that nothing is lost
+/// where the one behind it fails; and a line of a refusal that is not taken, which changes nothing.
 #[rattlefmt::skip]
-static FAULTS: [(Failing, &str, Outcome); 4] = [
+static FAULTS: [(Failing, &str, Outcome); 5] = [
     (
         Failing { input: &[3], out: &[], err: &[] },
         GOOD_AND_BAD,
@@ -205,6 +186,11 @@ static FAULTS: [(Failing, &str, Outcome); 4] = [
         Outcome { status: Status::WriteFault, out: GOOD_AND_BAD_TEXT, err: "btf_batch: write fault\n" },
     ),
     (
+        Failing { input: &[], out: &[5], err: &[] },
+        GOOD_AND_BAD,
+        GOOD_AND_BAD_OUTCOME,
+    ),
+    (
         Failing { input: &[], out: &[], err: &[0] },
         "x",
         Outcome { status: Status::Malformed, out: "", err: "" },
@@ -214,7 +200,7 @@ static FAULTS: [(Failing, &str, Outcome); 4] = [
 #[test]
 fn runs_on_failing_devices(rt: HostRuntime) -> Result<(), Fail> {
     for (failing, batch, expected) in &FAULTS {
-        expect_at(&rt, &[], batch.as_bytes(), failing, &NoGate, expected)?;
+        expect(&rt, &[], batch.as_bytes(), failing, expected)?;
     }
     Ok(())
 }

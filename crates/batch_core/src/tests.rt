@@ -211,7 +211,6 @@ fn workers_find_all<R: Threads + Sync, G: Gate>(
     Ok(are_all_found(&answers))
 }
 
-// Whole runs show that two workers meet.
 #[test]
 fn any_number_of_workers_finds_the_same(rt: HostRuntime) -> Result<(), Fail> {
     let alloc = rt.alloc();

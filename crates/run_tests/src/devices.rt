@@ -141,22 +141,26 @@ fn lines_of_refusals_may_be_lost(rt: HostRuntime) -> Result<(), Fail> {
 }
 
 // Calls of 10 bytes write the 39 bytes of `rank` in 4, the 96 of `analyse` in 10, the 6 of `check`
-// in 1, the 59 of `load` in 6 and the 16 of `diagonal` in 2. The one after them hands the text on,
-// and is the last.
+// in 1, the 59 of `load` in 6, the 16 of `diagonal` in 2, the 7 of `edit` in 1 and the 52 of
+// `bottleneck` in 6. The one after them hands the text on, and is the last.
 #[test]
 fn a_text_is_handed_on_once(rt: HostRuntime) -> Result<(), Fail> {
     let judged =
         "%%MatrixMarket matrix coordinate pattern general\n1 1 1\n1 1\nbtf 1\nmatrix 1 1 1\nrank 1\nhorizontal 0 0\nsquare 1 1\nblock 1 1\nrows 1\ncolumns 1\nvertical 0 0\npairs 1\n1 1\nend\n";
     let tall = "%%MatrixMarket matrix coordinate integer general\n2 1 1\n1 1 1\n";
+    let zero = "%%MatrixMarket matrix coordinate integer general\n1 1 2\n1 1 5\n1 1 -5\n";
+    let best = "bottleneck 1 0\n1 1 0\nabove_rows\nabove_columns 1\nend\n";
     let summary = "matrix 1 1 1\nrank 1\nhorizontal 0 0\nsquare 1 1\nvertical 0 0\n";
     let (yes, no) = (Status::Ok, Status::Negative);
     let load = ["load", "--size", "1", "--seed", "5"];
-    let runs: [(&[&str], &str, &str, Status, u8); 5] = [
+    let runs: [(&[&str], &str, &str, Status, u8); 7] = [
         (&["rank"], SMALLEST, SMALLEST_RANK, yes, 4),
         (&REPORT, SMALLEST, SMALLEST_REPORT, yes, 10),
         (&["check"], judged, "valid\n", yes, 1),
         (&load, "", summary, yes, 6),
         (&["diagonal"], tall, "rectangular 2 1\n", no, 2),
+        (&["edit"], SMALLEST, "rank 1\n", yes, 1),
+        (&["bottleneck"], zero, best, yes, 6),
     ];
     for (words, file, text, status, writes) in runs {
         let writes = u64::from(writes);

@@ -90,14 +90,14 @@ fn refused_files(rt: HostRuntime) -> Result<(), Fail> {
 // No bytes at all, and the first bytes of a compressed file.
 #[test]
 fn refused_bytes(rt: HostRuntime) -> Result<(), Fail> {
+    let line = b"btf: malformed line 1: NoBanner\n";
     for bytes in [b"".as_slice(), b"\x1f\x8b\x08".as_slice()] {
-        let found = outcome_of(&rt, &["rank"], bytes, &STEADY)?;
-        assert_eq!(rt; found.status, Status::Malformed);
-        assert_eq!(rt; found.out.bytes(), b"".as_slice());
-        assert_eq!(rt;
-            found.err.bytes(),
-            b"btf: malformed line 1: NoBanner\n".as_slice()
-        );
+        for job in ["rank", "analyse", "diagonal"] {
+            let found = outcome_of(&rt, &[job], bytes, &STEADY)?;
+            assert_eq!(rt; found.status, Status::Malformed, "{job}");
+            assert_eq!(rt; found.out.bytes(), b"".as_slice(), "{job}");
+            assert_eq!(rt; found.err.bytes(), line.as_slice(), "{job}");
+        }
     }
     Ok(())
 }

@@ -50,14 +50,15 @@ static VALID: [Change; 3] = [
 
 /// Changes after which the bytes are no report.
 #[rattlefmt::skip]
-static NO_REPORT: [Change; 7] = [
+static NO_REPORT: [Change; 8] = [
     Change { from: 0, to: 20, others: b"" },
     Change { from: 0, to: 20, others: b"requests are not reports\n" },
     Change { from: 7, to: 8, others: b"block 1 1\r\n" },
     // It is cut before its last byte, or goes on behind it.
     Change { from: 19, to: 20, others: b"end" },
     Change { from: 19, to: 20, others: b"end\n\n" },
-    // There are fewer pairs than told, and a row has number 0.
+    // A number begins with a zero, there are fewer pairs than told, and a row has number 0.
+    Change { from: 2, to: 3, others: b"rank 03\n" },
     Change { from: 15, to: 16, others: b"pairs 4294967295\n" },
     Change { from: 16, to: 17, others: b"0 1\n" },
 ];

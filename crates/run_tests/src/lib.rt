@@ -1,4 +1,5 @@
-//! Tests of the whole program over devices in memory, and of the engines as its words name them.
+//! Tests of both programs, whole, over devices in memory, and of the engines as their words name
+//! them.
 //! There is nothing here for other crates.
 #![tactic(auto)]
 
@@ -6,6 +7,8 @@
 mod analyse;
 #[cfg(test)]
 mod array_files;
+#[cfg(test)]
+mod batches;
 #[cfg(test)]
 mod bottlenecks;
 #[cfg(test)]

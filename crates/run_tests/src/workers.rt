@@ -3,28 +3,48 @@
 
 use crate::runs::{BANNER, THREE_PARTS, answer, file_of, run_over};
 use sp_ids::Status;
-use sp_ports::{MeetGate, MemSink, MemSource};
+use sp_ports::{Gate, MeetGate, MemSink, MemSource};
 use std::process::Abort;
 use std::test::Fail;
 use std::thread::Threads;
+use test_gates::BarrierGate;
 
-// Worker 0 waits at each of its arrivals until worker 1 has arrived as often.
-#[test]
-fn two_workers_meet(rt: HostRuntime) -> Result<(), Fail> {
+/// Two workers at this gate find the parts of the matrix of size 30 and number 0.
+fn two_search_at<R: Threads + Abort + AllocGlobal + Sync, G: Gate>(
+    rt: &R,
+    gate: &G,
+) -> Result<(), Fail> {
     let alloc = rt.alloc();
-    let gate = MeetGate::new(alloc)?;
     let mut input = MemSource::new(Vec::new(alloc), 1, Vec::new(alloc));
     let mut out = MemSink::new(alloc, 4096, 4096, Vec::new(alloc))?;
     let mut err = MemSink::new(alloc, 4096, 4096, Vec::new(alloc))?;
     let words = ["load", "--size", "30", "--seed", "0", "--workers", "2"];
-    let status = run_over(&rt, &words, &mut input, &mut out, &mut err, &gate)?;
+    let status = run_over(rt, &words, &mut input, &mut out, &mut err, gate)?;
     assert_eq!(rt; status, Status::Ok);
     let text = "matrix 30 30 85\nrank 22\nhorizontal 22 30\nsquare 0 0\nvertical 8 0\n";
     assert_eq!(rt; out.bytes(), text.as_bytes());
+    Ok(())
+}
+
+// Worker 0 waits at each of its arrivals until worker 1 has arrived as often.
+#[test]
+fn two_workers_meet(rt: HostRuntime) -> Result<(), Fail> {
+    let gate = MeetGate::new(rt.alloc())?;
+    two_search_at(&rt, &gate)?;
     assert!(rt; !gate.ran_out());
     assert!(rt; 0 < gate.arrivals(0));
     assert_eq!(rt; gate.arrivals(0), gate.arrivals(1));
     assert_eq!(rt; gate.arrivals(2), 0);
+    Ok(())
+}
+
+// Each of the two waits for the other.
+#[test]
+fn two_workers_wait_for_each_other(rt: HostRuntime) -> Result<(), Fail> {
+    let gate = BarrierGate::new(rt.alloc(), 2)?;
+    two_search_at(&rt, &gate)?;
+    assert!(rt; 0 < gate.arrivals(0) && gate.have_arrived(2, gate.arrivals(0)));
+    assert!(rt; !gate.ran_out());
     Ok(())
 }
 
