@@ -15,7 +15,7 @@ use claim_words::{ClaimBoard, Worker, workers_are_few};
 use forest_core::{Forest, new_pairs_run};
 use level_sharing::{
     levels_are_legal, levels_are_shown, levels_go_through_rows, levels_keep_to_shares,
-    progress_keeps_seats, work_at_once, workers_are_at_the_start,
+    progress_keeps_seats, share_work, workers_are_at_the_start,
 };
 use sp_ids::{OutOfMemory, Row};
 use sp_ports::Gate;
@@ -27,7 +27,8 @@ use std::thread::Threads;
 ///
 /// Of w workers, the worker i has the places from `i * l / w` up to `(i + 1) * l / w` of a list of
 /// l free rows; it calls `gate.arrive(i)` once, whether its share is empty or not. Workers run at
-/// once as far as threads can be had, and want of a thread changes nothing. A row that is claimed
+/// once where there is enough to do (`share_work`), as far as threads can be had, and want of a
+/// thread changes nothing. A row that is claimed
 /// already, or is listed twice, is not claimed again. Answers `OutOfMemory` where a fresh list
 /// can't grow: what is listed then stands, and the level is not done. Memory: 8 bytes for each
 /// fresh claim and win, and 8 KiB of the stack for each worker. Work: at most two looks at each
@@ -74,7 +75,7 @@ pub fn attach<R: Threads + Sync, G: Gate>(
         free,
         workers: count,
     };
-    let result = work_at_once(rt, gate, &search, workers);
+    let result = share_work(rt, gate, &search, free.len(), workers);
     board.gather(workers);
     result
 }

@@ -14,7 +14,7 @@ use claim_words::{ClaimBoard, Worker, workers_are_few};
 use forest_core::{Forest, new_pairs_run};
 use level_sharing::{
     Work, levels_are_legal, levels_are_shown, levels_go_through_columns, levels_keep_to_shares,
-    progress_keeps_seats, share, shares_cover_a_list, work_at_once, workers_are_at_the_start,
+    progress_keeps_seats, share, share_work, shares_cover_a_list, workers_are_at_the_start,
 };
 use sp_ids::{Col, OutOfMemory};
 use sp_ports::Gate;
@@ -26,7 +26,8 @@ use std::thread::Threads;
 ///
 /// Of w workers, the worker i has the places from `i * l / w` up to `(i + 1) * l / w` of a frontier
 /// of l columns; it calls `gate.arrive(i)` once, whether its share is empty or not. Workers run at
-/// once as far as threads can be had, and want of a thread changes nothing. Answers `OutOfMemory`
+/// once where there is enough to do (`share_work`), as far as threads can be had, and want of a
+/// thread changes nothing. Answers `OutOfMemory`
 /// where a fresh list can't grow: what is listed then stands, and the level is not done. Memory: 8
 /// bytes for each fresh claim and win, and 8 KiB of the stack for each worker. Work: one look at
 /// each entry of the frontier's columns, and one more look and two exchanges at most for each row
@@ -71,7 +72,7 @@ pub fn top_down<R: Threads + Sync, G: Gate>(
         frontier,
         workers: workers.len(),
     };
-    let result = work_at_once(rt, gate, &down, workers);
+    let result = share_work(rt, gate, &down, frontier.len(), workers);
     board.gather(workers);
     result
 }

@@ -32,4 +32,4 @@ pub use steps::{
     progress_keeps_seats, steps_are_progress, steps_are_remembered, steps_settle,
     workers_are_at_the_start, workers_stay_through,
 };
-pub use work::{Work, work_at_once};
+pub use work::{Work, share_work, work_at_once};

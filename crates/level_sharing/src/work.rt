@@ -26,6 +26,62 @@ pub trait Work<T, E>: Sync {
         ensures ok { OnOk result (completes self.now number worker.old worker.new) };
 }
 
+// Fewer items to share are done sooner by one thread than others are started for them.
+const WORTH_THREADS: usize = 2_000;
+
+/// Each worker does its part of work on so many items: at once with the others where there are at
+/// least 2,000 items, or where the gate needs threads, and else one after the other, the highest
+/// number first.
+///
+/// What holds afterwards is the same either way. Each worker calls `gate.arrive` with its number
+/// once, before its part. Answers the fault of the first worker that ended early; all the others
+/// did their parts nonetheless. Work: as `work_at_once`, or no thread is started.
+pub fn share_work<R: Threads + Sync, G: Gate, T: Send, E: Send + Drop, W: Work<T, E>>(
+    rt: &R,
+    gate: &G,
+    work: &W,
+    items: usize,
+    workers: &mut [T],
+) -> Result<(), E>
+    requires few { length workers.old < 2 ^ 32 }
+    requires begin { EachFrom (W.can_begin work.now) 0 workers.old }
+    ensures always { EachPairFrom (W.leaves work.now) 0 workers.old workers.new }
+    ensures ok { OnOk result (EachPairFrom (W.completes work.now) 0 workers.old workers.new) }
+{
+    if items < WORTH_THREADS && !gate.needs_threads() {
+        work_in_turn(gate, work, 0, workers)
+    } else {
+        work_from(rt, gate, work, 0, workers)
+    }
+}
+
+// Each worker does its part, the highest number first. The first of them has this number.
+fn work_in_turn<G: Gate, T, E: Drop, W: Work<T, E>>(
+    gate: &G,
+    work: &W,
+    first: u32,
+    workers: &mut [T],
+) -> Result<(), E>
+    requires { AreReady (W.can_begin work.now) first workers.old }
+    ensures always { EachPairFrom (W.leaves work.now) first workers.old workers.new }
+    ensures ok { OnOk result (EachPairFrom (W.completes work.now) first workers.old workers.new) }
+{
+    if workers.is_empty() {
+        return Ok(());
+    }
+    if workers.len() == 1 {
+        return do_part(gate, work, first, &mut workers[0]);
+    }
+    let half = workers.len() / 2;
+    let (prefix, suffix) = workers.split_at_mut(half);
+    let next = first + half as u32;
+    halves_are_ready(work, first, next, prefix, suffix);
+    let high = work_in_turn(gate, work, next, suffix);
+    let low = work_in_turn(gate, work, first, prefix);
+    low?;
+    high
+}
+
 /// Each worker does its part, at once with the others as far as threads can be had.
 ///
 /// The workers are numbered from 0 in the order of the slice. Each calls `gate.arrive` with its
@@ -62,8 +118,7 @@ fn work_from<R: Threads + Sync, G: Gate, T: Send, E: Send + Drop, W: Work<T, E>>
         return Ok(());
     }
     if workers.len() == 1 {
-        gate.arrive(first);
-        return work.run(first, &mut workers[0]);
+        return do_part(gate, work, first, &mut workers[0]);
     }
     let half = workers.len() / 2;
     let (prefix, suffix) = workers.split_at_mut(half);
@@ -88,6 +143,21 @@ fn work_from<R: Threads + Sync, G: Gate, T: Send, E: Send + Drop, W: Work<T, E>>
     );
     low?;
     high
+}
+
+// The worker with this number arrives and does its part.
+fn do_part<G: Gate, T, E, W: Work<T, E>>(
+    gate: &G,
+    work: &W,
+    number: u32,
+    worker: &mut T,
+) -> Result<(), E>
+    requires { W.can_begin work.now number worker.old }
+    ensures always { W.leaves work.now number worker.old worker.new }
+    ensures ok { OnOk result (W.completes work.now number worker.old worker.new) }
+{
+    gate.arrive(number);
+    work.run(number, worker)
 }
 
 // The workers of both halves are ready, where those of the whole are.

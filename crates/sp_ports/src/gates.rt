@@ -10,6 +10,14 @@ pub trait Gate: Sync {
     /// A worker has come to its share. Each worker calls it once in each level of a search, in each
     /// exchange of paths and in each batch that the workers share.
     fn arrive(&self, worker: u32);
+
+    /// Whether workers are to have threads of their own however little there is to do. It changes
+    /// no answer. Unless a gate says otherwise they need not: what costs less than the start of a
+    /// thread is then done by one worker after the other. A gate at which workers wait for each
+    /// other says that they do.
+    fn needs_threads(&self) -> bool {
+        false
+    }
 }
 
 /// Returns at once.
@@ -82,5 +90,9 @@ impl Gate for MeetGate {
         if worker == 0 {
             self.meet(before.saturating_add(1));
         }
+    }
+
+    fn needs_threads(&self) -> bool {
+        true
     }
 }

@@ -104,4 +104,8 @@ impl Gate for BarrierGate {
             self.meet(before.saturating_add(1));
         }
     }
+
+    fn needs_threads(&self) -> bool {
+        true
+    }
 }

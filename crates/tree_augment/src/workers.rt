@@ -8,7 +8,7 @@ ghost use Rattle.tree_augment.specs.ForestBoards.{IsBoardOf};
 use crate::rounds::go_round;
 use flip_words::{FlipBoard, FlipSeat, seats_are_few, seats_stay_all};
 use forest_core::Forest;
-use level_sharing::{Work, share_start, work_at_once};
+use level_sharing::{Work, share_start, share_work};
 use sp_ports::Gate;
 use std::convert::Infallible;
 use std::thread::Threads;
@@ -46,8 +46,8 @@ impl<'a, 'p> Work<FlipSeat, Infallible> for Rounds<'a, 'p> {
 ///
 /// Of w workers, the worker i goes once round the roots with a leaf in their order, from the place
 /// `i * l / w` of a list of l of them on, and exchanges the path of each whose tree no seat took
-/// before. It calls `gate.arrive(i)` once, before its round. Workers run at once as far as threads
-/// can be had. Takes no memory and waits for nothing but the gate. Work: each worker looks once at
+/// before. It calls `gate.arrive(i)` once, before its round. Workers run at once where there are
+/// many roots with a leaf (`share_work`), as far as threads can be had. Takes no memory and waits for nothing but the gate. Work: each worker looks once at
 /// each root with a leaf; two looks and two sets for each row of a path.
 pub fn augment<R: Threads + Sync, G: Gate>(
     rt: &R,
@@ -69,5 +69,5 @@ pub fn augment<R: Threads + Sync, G: Gate>(
         board,
         workers: seats.len(),
     };
-    let Ok(()) = work_at_once(rt, gate, &rounds, seats);
+    let Ok(()) = share_work(rt, gate, &rounds, forest.leaves().len(), seats);
 }

@@ -23,7 +23,7 @@ ghost use Rattle.sp_ids.specs.declared.events.Event.TheVariants.{Done};
 
 use crate::augment::augment;
 use crate::levels::{can_grow, grow};
-use crate::switches::is_small;
+use crate::switches::{is_large, is_small};
 pub use crate::switches::{goes_top_down, keeps_trees};
 use bip_graph::Matching;
 use forest_core::{
@@ -88,17 +88,18 @@ pub fn phase<R: Threads + Sync, G: Gate>(
 
 /// A maximum matching, in which every row and column that was matched before is matched.
 ///
-/// The matching must be of the pattern's entries and sizes, and there may be 1 to 64 workers. Of a
-/// pattern with more than 10,000 rows or columns the matching is first made longer by depth-first
-/// phases on the calling thread, as long as these match many: most of what a good start leaves is
-/// found so, at less cost than a board. Then phases by workers follow, until one gives 0, unless
-/// each column that has an entry is matched by then.
+/// The matching must be of the pattern's entries and sizes, and there may be 1 to 64 workers. Serial
+/// phases on the calling thread come first, since they cost less than the boards that workers share:
+/// of a pattern with at most 6,000,000 rows and columns together until the matching is maximum, of
+/// a larger one depth-first, as long as they match many. Then phases by workers follow, until one
+/// gives 0, unless each column that has an entry is matched by then. Where the gate needs threads
+/// the workers have a pattern of at most 10,000 rows and 10,000 columns to themselves.
 ///
 /// Answers `OutOfMemory` where there is no memory for the forest and a phase, at most 56 bytes a
-/// row and 57 a column, or for the workers' lists; the matching is dropped then. The depth-first
-/// phases take at most 17 bytes a row or column, before the forest is made. Where each column that
-/// has an entry is matched it takes no memory. Work: phases, of which all but the last make the
-/// matching larger.
+/// row and 57 a column, or for the workers' lists; the matching is dropped then. The serial phases
+/// take at most 30 bytes a row or column, before the forest is made. Where each column that has an
+/// entry is matched it takes no memory. Work: phases, of which all but the last by each kind of
+/// worker make the matching larger.
 pub fn complete<R: Threads + Sync, G: Gate>(
     rt: &R,
     alloc: Global,
@@ -113,11 +114,29 @@ pub fn complete<R: Threads + Sync, G: Gate>(
     ensures maximum { IfOk result (λ m. IsMaximumOf pattern.now m) }
     ensures covered { IfOk result (λ m. Covers matching.pairs m.pairs) }
 {
-    if is_small(pattern) || !can_grow(pattern, &matching) {
+    let workers_alone = gate.needs_threads() && is_small(pattern);
+    if workers_alone || !can_grow(pattern, &matching) {
         return complete_by_phases(rt, alloc, pattern, matching, workers, gate);
     }
-    let longer = lengthen(alloc, pattern, matching)?;
+    let longer = lengthen_alone(alloc, pattern, matching)?;
     complete_by_phases(rt, alloc, pattern, longer, workers, gate)
+}
+
+// What serial phases make of a matching: a maximum one, unless the pattern is large.
+fn lengthen_alone(
+    alloc: Global,
+    pattern: &Pattern,
+    matching: Matching,
+) -> Result<Matching, OutOfMemory>
+    requires matching { IsMatchingOf pattern.now matching }
+    ensures matching { IfOk result (λ m. IsMatchingOf pattern.now m) }
+    ensures covered { IfOk result (λ m. Covers matching.pairs m.pairs) }
+{
+    if is_large(pattern) {
+        lengthen(alloc, pattern, matching)
+    } else {
+        pothen_fan::complete(alloc, pattern, matching)
+    }
 }
 
 // A maximum matching by phases of the workers, until one gives 0.

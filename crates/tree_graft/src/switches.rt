@@ -10,8 +10,11 @@ use forest_core::Forest;
 use sp_ids::Col;
 use sp_pattern::Pattern;
 
-// So many rows and columns are searched by workers alone.
+// So many rows and columns are searched by workers alone, where a gate needs threads.
 const SMALL: u32 = 10_000;
+
+// Of so many rows and columns together the boards of a phase by workers cost more than it saves.
+const LARGE: u64 = 6_000_000;
 
 /// Whether a level goes down from the frontier, and not up from the unclaimed rows: exactly where
 /// there are more than five unclaimed rows for each column of the frontier. It takes no memory.
@@ -50,7 +53,12 @@ pub fn trees_stay(forest: &Forest) -> bool
     keeps_trees(kept_count(forest, freed), freed)
 }
 
-/// Whether a pattern is so small that workers search it from the start.
+/// Whether a pattern has more rows and columns than serial phases search to the end.
+pub fn is_large(pattern: &Pattern) -> bool {
+    u64::from(pattern.rows()) + u64::from(pattern.cols()) > LARGE
+}
+
+/// Whether a pattern is so small that workers search it from the start, where they are to meet.
 pub fn is_small(pattern: &Pattern) -> bool {
     pattern.rows() <= SMALL && pattern.cols() <= SMALL
 }
