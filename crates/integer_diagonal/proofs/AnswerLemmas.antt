@@ -2,12 +2,11 @@
 use Rattle.std.proofs.Common.{◌≡◌, ◌∙◌, ℕ, ℤ, pos, ◌-ℤ◌, slice_index, ◌+◌, ◌<◌, List, [], length, map, ap, arith, below_more}
 use Rattle.std.proofs.lemmas.Int.{ints}
 use Rattle.std.proofs.lemmas.List.{get_or-map, length-map}
-use Rattle.bip_defs.specs.Bottleneck.{IsFull, IsSingular}
-use Rattle.bip_defs.specs.Lists.{Among, Lists}
-use Rattle.bip_defs.specs.Matching.{Covers, IsMatching, IsMaximum, cols_of}
+use Rattle.bip_defs.specs.Bottleneck.{IsFull}
+use Rattle.bip_defs.specs.Lists.{Among}
+use Rattle.bip_defs.specs.Matching.{Covers, IsMatching, cols_of}
 use Rattle.bip_defs.specs.Matrix.{IsEntry, Matrix, Place, cols, upto}
-use Rattle.bip_defs.specs.Parts.{IsHorizontalCol}
-use Rattle.bip_defs.proofs.FullMatchings.{long_full, short_singular}
+use Rattle.bip_defs.proofs.FullMatchings.{long_full}
 use Rattle.bip_defs.proofs.Sets.{entry_col, few_distinct, rising_distinct, upto_length, upto_lists, upto_rising}
 use Rattle.bip_graph.specs.Matching.{IsMatchingOf, Pairing}
 use Rattle.integer_diagonal.proofs.Bounds.{pair_cheap}
@@ -28,11 +27,6 @@ cheap_matching x m k = record {
 
 pub matching_of : (x : Priced) (m : Pairing) → IsAssigned x m → IsMatchingOf x.weighing.matrix m
 matching_of x m a = record { rows = a.rows_are; cols = a.cols_are; matching = cheap_matching x m.pairs a.matching }
-
--- a maximum matching of a square matrix that has no full one
-pub singular_shown : (a : Matrix) (m : List Place) (hall : List ℕ) (rank : ℕ) → a.rows ≡ cols a → ((other : List Place) → ¬ IsFull a other) → IsMaximum a m → rank ≡ length m → Lists (IsHorizontalCol a) hall → IsSingular a rank hall
-singular_shown a m hall rank square none most e horizontal =
-    short_singular a m hall rank square most e (λ (is : length m ≡ cols a). none m (long_full a m square most.matching (omega (arith, is)))) horizontal
 
 -- a matching of a square matrix that has all its columns
 pub mated_full : (a : Matrix) (m : List Place) → a.rows ≡ cols a → IsMatching a m → ((c : ℕ) → c < cols a → Among c (cols_of m)) → IsFull a m

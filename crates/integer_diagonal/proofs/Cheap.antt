@@ -1,5 +1,5 @@
 -- The entries that cost as much as their columns' dual variables.
-use Rattle.std.proofs.Common.{◌≡◌, ◌∙◌, ℕ, zero, suc, ◌+◌, ◌<◌, true, [], get_or, nat_eq, sym, ap, subst, arith}
+use Rattle.std.proofs.Common.{◌≡◌, ◌≢◌, ◌∙◌, ℕ, zero, suc, ◌+◌, ◌<◌, false, true, [], get_or, nat_eq, sym, ap, subst, arith}
 use Rattle.std.proofs.lemmas.Bool.Decides.{nat_tests}
 use Rattle.std.proofs.lemmas.List.{get_or-map, length-map}
 use Rattle.bip_defs.specs.Lists.{Among}
@@ -22,8 +22,11 @@ cheap_column x c lt = get_or-map (cheap_rows x) (upto (cols x.weighing.matrix)) 
 test_true : (a b : ℕ) → nat_eq a b ≡ true → a ≡ b
 test_true a b e = grind (arith, nat_tests)
 
-true_test : (a b : ℕ) → a ≡ b → nat_eq a b ≡ true
+pub true_test : (a b : ℕ) → a ≡ b → nat_eq a b ≡ true
 true_test a b e = grind (arith, nat_tests)
+
+pub false_test : (a b : ℕ) → a ≢ b → nat_eq a b ≡ false
+false_test a b ne = grind (arith, nat_tests)
 
 pub cheap_entry : (x : Priced) (r c : ℕ) → IsEntry (cheap x) r c → IsEntry x.weighing.matrix r c × (paid x r c ≡ dual x c)
 cheap_entry x r c e =

@@ -15,3 +15,4 @@ pub mod Repeated
 pub mod ScanLemmas
 pub mod SearchInvariant
 pub mod StartLemmas
+pub mod TightLemmas

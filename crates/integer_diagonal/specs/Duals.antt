@@ -1,5 +1,5 @@
 -- A matching of cheapest entries, with the prices of rows and the dual variables of columns.
-use Rattle.std.specs.Prelude.{◌≡◌, ℕ, ◌+◌, ◌-◌, ◌*◌, ◌≤◌, List, map, filter, length, nat_eq, slice_index}
+use Rattle.std.specs.Prelude.{◌≡◌, ℕ, ◌+◌, ◌-◌, ◌*◌, ◌<◌, ◌≤◌, List, map, filter, length, nat_eq, slice_index}
 use Rattle.bip_defs.specs.Lists.{Among}
 use Rattle.bip_defs.specs.Matching.{IsMatching, cols_of, rows_of}
 use Rattle.bip_defs.specs.Matrix.{IsEntry, Matrix, Place, cols, column, upto}
@@ -46,6 +46,11 @@ pub record IsFeasible (x : Priced) : Type 0 where
   pub duals_are : length x.duals ≡ cols x.weighing.matrix
   pub small : (r c : ℕ) → IsEntry x.weighing.matrix r c → weight_at x.weighing r c ≤ x.top
   pub covers : (r c : ℕ) → IsEntry x.weighing.matrix r c → dual x c ≤ paid x r c
+
+-- and no entry can cost as much as this
+pub record IsPayable (x : Priced) (limit : ℕ) : Type 0 where
+  pub feasible : IsFeasible x
+  pub fits : (r : ℕ) → slice_index x.prices r + x.top < limit
 
 -- no price is greater
 abbrev pub most : Priced → ℕ

@@ -1,6 +1,6 @@
 //! The three cases.
 
-ghost use Rattle.std.specs.Prelude.{◌≡◌, ◌↔◌, ℕ, pos, ◌+◌, ◌-◌, ◌-ℤ◌, ◌^◌, ◌<◌, List, length, map, slice_index, true, false, IfOk, IsTrue, OnOk};
+ghost use Rattle.std.specs.Prelude.{◌≡◌, ◌↔◌, ℕ, pos, ◌+◌, ◌-◌, ◌-ℤ◌, ◌^◌, ◌<◌, List, length, map, slice_index, IfNone, IfOk, IfSome, IsTrue, OnOk};
 ghost use Rattle.bip_defs.specs.Lists.{Among};
 ghost use Rattle.bip_defs.specs.Matching.{cols_of};
 ghost use Rattle.bip_defs.specs.Matrix.{AreEntries, Place, cols};
@@ -17,6 +17,7 @@ use crate::assignment::Assignment;
 use crate::path::extend;
 use crate::search::Search;
 use crate::start::{greatest_of_all, start};
+use crate::tight::match_tight;
 use crate::width::Width;
 use bip_graph::{Heaviest, Matching};
 use hall_witness::hall_set;
@@ -31,13 +32,18 @@ use std::alloc::Global;
 ///
 /// The weights must be those of the pattern. `Rectangular` exactly where the matrix has not as many
 /// rows as columns; `Singular` exactly where it has, and its rank is less, with the columns that
-/// some maximum matching misses. Answers `OutOfMemory` where there is no memory for the tables and
-/// the heap of a search. The tables take 65 bytes a row or column where the greatest weight times 3
-/// n + 4, for n columns, is less than 2^64 - 1: then all sums of a search are kept in numbers of 64
-/// bits. Else they are kept in numbers of 128 bits, and the tables take 97 bytes a row or column.
-/// Work: at most one search for each column, each of which looks at each entry once at most and
-/// keeps what it reaches in a heap (Kuhn 1955; Munkres 1957; Duff and Koster 2001); where it ends
-/// with no diagonal, the phases of a maximum matching and one search more.
+/// some maximum matching misses. Answers `OutOfMemory` where there is no memory for a pattern of
+/// the entries that cost as much as the first prices ask, for what `pothen_fan::complete` takes,
+/// for a copy of the matching, or for the tables and the heap of a search. The tables take 65 bytes
+/// a row or column where the greatest weight times 3 n + 4, for n columns, is less than 2^64 - 1:
+/// then all sums of a search are kept in numbers of 64 bits. Else they are kept in numbers of 128
+/// bits, and the tables take 97 bytes a row or column.
+///
+/// Work: the phases of a maximum matching of the entries that cost as much as the first prices ask,
+/// which is all there is to do where all weights are equal; if it leaves columns unmatched, those
+/// of a maximum matching of the whole pattern, after which a matrix with no diagonal is answered.
+/// Else one search for each column that is left, each of which looks at each entry once at most and
+/// keeps what it reaches in a heap (Kuhn 1955; Munkres 1957; Duff and Koster 2001).
 pub fn heaviest(
     alloc: Global,
     pattern: &Pattern,
@@ -80,16 +86,19 @@ fn heaviest_of_square<W: Width>(
     requires room { HasRoom (cols pattern.now) top W.limit }
     ensures { IfOk result (IsHeaviest weights.now) }
 {
-    let mut assignment = start::<W>(alloc, pattern, weights, top)?;
-    if match_all(alloc, pattern, weights, &mut assignment)? {
-        diagonal(alloc, pattern, weights, assignment)
-    } else {
-        singular(alloc, pattern, assignment.into_matching())
+    let assignment = start::<W>(alloc, pattern, weights, top)?;
+    let mut assignment = match_tight(alloc, pattern, weights, assignment)?;
+    if assignment.matching.size() == pattern.cols() {
+        return diagonal(alloc, pattern, weights, assignment);
     }
+    if let Some(singular) = singular(alloc, pattern, &assignment.matching)? {
+        return Ok(singular);
+    }
+    match_all(alloc, pattern, weights, &mut assignment)?;
+    diagonal(alloc, pattern, weights, assignment)
 }
 
-// Gives each column a mate, one after another. Whether that went: where it did not, the matrix has
-// no full matching.
+// Gives each column a mate, one after another. There must be a full matching.
 //
 // What the searches keep is given back at the end.
 fn match_all<W: Width>(
@@ -97,19 +106,17 @@ fn match_all<W: Width>(
     pattern: &Pattern,
     weights: &Weights,
     assignment: &mut Assignment<W>,
-) -> Result<bool, OutOfMemory>
+) -> Result<(), OutOfMemory>
     requires of { weights.now.matrix ≡ pattern.now }
     requires assignment { IsAssignment weights.now assignment.old }
     requires square { pattern.now.rows ≡ cols pattern.now }
     requires few { cols pattern.now < 2 ^ 32 }
     requires room { HasRoom (cols pattern.now) assignment.old.top W.limit }
+    requires full { (m : List Place) × IsFull pattern.now m }
     ensures assignment { OnOk result (IsAssignment weights.now assignment.new) }
     ensures top { OnOk result (assignment.new.top ≡ assignment.old.top) }
-    ensures all { IfOk result
-        (λ b. b ≡ true → (c : ℕ) → c < cols pattern.now
+    ensures all { OnOk result ((c : ℕ) → c < cols pattern.now
         → Among c (cols_of assignment.new.matching.pairs)) }
-    ensures stuck { IfOk result
-        (λ b. b ≡ false → (other : List Place) → ¬ IsFull pattern.now other) }
 {
     let mut search = Search::new(alloc, pattern.rows())?;
     let mut path: Vec<(Row, Col)> = Vec::with_capacity(alloc, pattern.cols() as usize)?;
@@ -118,26 +125,36 @@ fn match_all<W: Width>(
         if assignment.matching.row_of(root).is_none() {
             let found = extend(pattern, weights, assignment, &mut search, &mut path, root)?;
             if !found {
-                return Ok(false);
+                unreachable!()
             }
         }
     }
-    Ok(true)
+    Ok(())
 }
 
-// The answer where the matrix has no diagonal.
-fn singular(alloc: Global, pattern: &Pattern, matching: Matching) -> Result<Heaviest, OutOfMemory>
-    requires matching { IsMatchingOf pattern.now matching }
+// The answer where the matrix has no diagonal. The matching, which is made longer in a copy, says
+// where to begin.
+fn singular(
+    alloc: Global,
+    pattern: &Pattern,
+    matching: &Matching,
+) -> Result<Option<Heaviest>, OutOfMemory>
+    requires matching { IsMatchingOf pattern.now matching.now }
     requires square { pattern.now.rows ≡ cols pattern.now }
-    requires none { (other : List Place) → ¬ IsFull pattern.now other }
-    ensures { IfOk result (λ h. (w : Weighing) → w.matrix ≡ pattern.now → IsHeaviest w h) }
+    ensures some { IfOk result (λ answer. IfSome answer
+        (λ h. (w : Weighing) → w.matrix ≡ pattern.now → IsHeaviest w h)) }
+    ensures none { IfOk result (λ answer. IfNone answer
+        ((m : List Place) × IsFull pattern.now m)) }
 {
-    let maximum = complete(alloc, pattern, matching)?;
+    let maximum = complete(alloc, pattern, matching.copy(alloc)?)?;
+    if maximum.size() == pattern.cols() {
+        return Ok(None);
+    }
     let hall = hall_set(alloc, pattern, &maximum)?;
-    Ok(Heaviest::Singular {
+    Ok(Some(Heaviest::Singular {
         rank: maximum.size(),
         hall,
-    })
+    }))
 }
 
 // The answer where all columns have mates.

@@ -1,7 +1,5 @@
 //! A matching with its prices.
 
-ghost use Rattle.std.specs.Prelude.{◌≡◌};
-
 use crate::amount::Amount;
 use crate::width::Width;
 use bip_graph::Matching;
@@ -15,13 +13,4 @@ pub struct Assignment<W: Width> {
     pub prices: Vec<Amount<W>>,
     pub duals: Vec<Amount<W>>,
     pub matching: Matching,
-}
-
-impl<W: Width> Assignment<W> {
-    /// The matching alone. The prices are given back.
-    pub fn into_matching(self) -> Matching
-        ensures { result ≡ self.matching }
-    {
-        self.matching
-    }
 }

@@ -13,6 +13,7 @@ mod laws;
 mod path;
 mod search;
 mod start;
+mod tight;
 mod width;
 
 pub use answer::heaviest;

@@ -1,18 +1,19 @@
 -- Some entries of a matrix, column by column.
-use Rattle.std.proofs.Common.{◌≡◌, ◌≢◌, ◌⊎◌, ◌↔◌, ◌∙◌, ℕ, ℤ, pos, ◌+◌, ◌<◌, ◌≤◌, Bool, true, false, List, [], ◌∷◌, ◌++◌, length, get_or, take, if◌then◌else◌, nat_lt, refl, sym, ap, arith, subst, inl, inr, ⊎_elim, length-append, append-nil, append_assoc, true≢false}
+use Rattle.std.proofs.Common.{◌≡◌, ◌≢◌, ◌⊎◌, ◌↔◌, ◌∙◌, ℕ, ℤ, pos, ◌+◌, ◌<◌, ◌≤◌, Bool, not, true, false, List, [], ◌∷◌, ◌++◌, filter, length, get_or, take, if◌then◌else◌, nat_lt, refl, sym, ap, arith, subst, inl, inr, ⊎_elim, length-append, append-nil, append_assoc, true≢false}
 use Rattle.std.proofs.lemmas.List.{get_or_default, take_more, length-take-le}
+use Rattle.std.proofs.lemmas.List.Filters.{length-filter_both}
 use Rattle.std.specs.Int.RustNames.{unsigned_abs}
 use Rattle.bip_defs.specs.Bottleneck.{restricted}
 use Rattle.bip_defs.specs.Lists.{Among, IsRising, Lists}
 use Rattle.bip_defs.specs.Matching.{transposed_places}
 use Rattle.bip_defs.specs.Matrix.{HasPlaces, IsEntry, Matrix, Place, cols, column}
 use Rattle.bip_defs.proofs.BottleneckLemmas.{restricted_back, restricted_cols, restricted_lists, restricted_over}
-use Rattle.bip_defs.proofs.Sets.{among_either, among_left, among_right, below_each_from, below_each_sound, entry_col, filter_complete, filter_sound, number_same}
+use Rattle.bip_defs.proofs.Sets.{among_either, among_left, among_right, below_each_from, below_each_sound, entry_col, filter_complete, filter_sound, number_same, rising_filter}
 use Rattle.bip_defs.proofs.Transposed.{turned_among, turned_back}
 use Rattle.bip_defs.proofs.Uniqueness.{same_matrix}
 use Rattle.sp_ids.specs.Entries.{Entries, places}
 use Rattle.sp_pattern.specs.Pairs.{IsCompressed, IsOrderOf, Pair}
-use Rattle.sp_pattern.specs.Restricted.{AreTaken, Decides, taken}
+use Rattle.sp_pattern.specs.Restricted.{AreKept, Decides, passing_rows, taken, taken_rows}
 use Rattle.sp_pattern.specs.Weights.{AreSums, Weighing, nonzero_places, place_in, position, start_of, weight_at, weight_of}
 use Rattle.sp_pattern.proofs.Both.{order_itself}
 use Rattle.sp_pattern.proofs.LoadLemmas.{compressed_extend, with_outer, with_outer_back, with_outer_over}
@@ -110,65 +111,94 @@ taking_no takes from k xs old items longer lt test was same =
 
 -- The loop over the columns.
 
--- the entries that are taken of the first k columns stand in the flat list
-pub record IsTaking (a : Matrix) (takes : ℕ → Bool) (k : ℕ) (starts flat : List ℕ) : Type 0 where
+-- the rows that are kept of the first k columns stand in the flat list
+pub record IsKeeping (a : Matrix) (kept : ℕ → List ℕ) (k : ℕ) (starts flat : List ℕ) : Type 0 where
   pub pairs : List Pair
   pub compressed : IsCompressed pairs starts flat
   pub long : length starts ≡ k
-  pub members : (p : Pair) → Among p pairs ↔ ((p.0 < k) × Among p.1 (taken takes (start_of a p.0) (column a p.0)))
+  pub members : (p : Pair) → Among p pairs ↔ ((p.0 < k) × Among p.1 (kept p.0))
   pub few : length flat ≤ start_of a k
 
-pub taking_step : (a : Matrix) (takes : ℕ → Bool) (k from : ℕ) (starts opened flat longer col : List ℕ) → IsRising (column a k) → IsTaking a takes k starts flat → k < cols a → length opened ≡ k + 1
-    → ((ds : List Pair) → IsCompressed ds starts flat → IsCompressed ds opened flat) → from ≡ start_of a k → col ≡ column a k → longer ≡ flat ++ taken takes from col → IsTaking a takes (k + 1) opened longer
-taking_step a takes k from starts opened flat longer col up t lt long kept begin is more = record {
-  pairs = t.pairs ++ with_outer k js;
-  compressed = rw same (compressed_extend t.pairs opened flat k js long (taken_rising takes (start_of a k) (column a k) up) (λ q x h g. inl ((t.members q).0 h).0) (kept t.pairs t.compressed));
+pub keeping_step : (a : Matrix) (kept : ℕ → List ℕ) (k : ℕ) (starts opened flat longer : List ℕ) → IsRising (kept k) → length (kept k) ≤ length (column a k) → IsKeeping a kept k starts flat → k < cols a → length opened ≡ k + 1
+    → ((ds : List Pair) → IsCompressed ds starts flat → IsCompressed ds opened flat) → longer ≡ flat ++ kept k → IsKeeping a kept (k + 1) opened longer
+keeping_step a kept k starts opened flat longer up some t lt long stays more = record {
+  pairs = t.pairs ++ with_outer k (kept k);
+  compressed = rw more (compressed_extend t.pairs opened flat k (kept k) long up (λ q x h g. inl ((t.members q).0 h).0) (stays t.pairs t.compressed));
   long = long;
   members = λ p. (over p, back p);
   few =
       let f = t.few in
-      let some = length_taken takes (start_of a k) (column a k) in
       let next = start_more a k lt in
-      rw (same, length-append) (omega (arith, f, some, next));
+      rw (more, length-append) (omega (arith, f, some, next));
 }
   where
-    js : List ℕ
-    js = taken takes (start_of a k) (column a k)
-
-    same : longer ≡ flat ++ taken takes (start_of a k) (column a k)
-    same = more ∙ ap (λ i. flat ++ taken takes i col) begin ∙ ap (λ xs. flat ++ taken takes (start_of a k) xs) is
-
-    over : (p : Pair) → Among p (t.pairs ++ with_outer k (taken takes (start_of a k) (column a k))) → (p.0 < k + 1) × Among p.1 (taken takes (start_of a p.0) (column a p.0))
+    over : (p : Pair) → Among p (t.pairs ++ with_outer k (kept k)) → (p.0 < k + 1) × Among p.1 (kept p.0)
     over p h = ⊎_elim (λ (g : Among p t.pairs). let both = (t.members p).0 g in (let l = both.0 in omega (arith, l), both.1))
-        (λ (g : Among p (with_outer k (taken takes (start_of a k) (column a k)))). let both = with_outer_over k (taken takes (start_of a k) (column a k)) p g in (let e = both.0 in omega (arith, e), subst (λ c. Among p.1 (taken takes (start_of a c) (column a c))) (sym both.0) both.1))
-        (among_either p t.pairs (with_outer k (taken takes (start_of a k) (column a k))) h)
+        (λ (g : Among p (with_outer k (kept k))). let both = with_outer_over k (kept k) p g in (let e = both.0 in omega (arith, e), subst (λ c. Among p.1 (kept c)) (sym both.0) both.1))
+        (among_either p t.pairs (with_outer k (kept k)) h)
 
-    back : (p : Pair) → (p.0 < k + 1) × Among p.1 (taken takes (start_of a p.0) (column a p.0)) → Among p (t.pairs ++ with_outer k (taken takes (start_of a k) (column a k)))
+    back : (p : Pair) → (p.0 < k + 1) × Among p.1 (kept p.0) → Among p (t.pairs ++ with_outer k (kept k))
     back p h = by (number_same p.0 k)
       where
-        by : (p.0 ≡ k) ⊎ (p.0 ≢ k) → Among p (t.pairs ++ with_outer k (taken takes (start_of a k) (column a k)))
+        by : (p.0 ≡ k) ⊎ (p.0 ≢ k) → Among p (t.pairs ++ with_outer k (kept k))
         by (inl e) =
-            let row : Among p.1 (taken takes (start_of a k) (column a k)) = subst (λ c. Among p.1 (taken takes (start_of a c) (column a c))) e h.1 in
-            among_right p t.pairs (with_outer k (taken takes (start_of a k) (column a k))) (subst (λ i. Among (i, p.1) (with_outer k (taken takes (start_of a k) (column a k)))) (sym e) (with_outer_back k (taken takes (start_of a k) (column a k)) p.1 row))
-        by (inr ne) = among_left p t.pairs (with_outer k (taken takes (start_of a k) (column a k))) ((t.members p).1 (let l = h.0 in omega (arith, l, ne), h.1))
+            let row : Among p.1 (kept k) = subst (λ c. Among p.1 (kept c)) e h.1 in
+            among_right p t.pairs (with_outer k (kept k)) (subst (λ i. Among (i, p.1) (with_outer k (kept k))) (sym e) (with_outer_back k (kept k) p.1 row))
+        by (inr ne) = among_left p t.pairs (with_outer k (kept k)) ((t.members p).1 (let l = h.0 in omega (arith, l, ne), h.1))
 
-pub taking_end : (a : Matrix) (takes : ℕ → Bool) (k : ℕ) (starts opened flat : List ℕ) → ((c : ℕ) → Lists (λ r. IsEntry a r c) (column a c)) → IsTaking a takes k starts flat → k ≡ cols a → length opened ≡ cols a + 1
-    → ((ds : List Pair) → IsCompressed ds starts flat → IsCompressed ds opened flat) → AreTaken a takes opened flat
-taking_end a takes k starts opened flat listed t done long kept = record {
+pub keeping_end : (a : Matrix) (kept : ℕ → List ℕ) (k : ℕ) (starts opened flat : List ℕ) → ((r c : ℕ) → Among r (kept c) → IsEntry a r c) → IsKeeping a kept k starts flat → k ≡ cols a → length opened ≡ cols a + 1
+    → ((ds : List Pair) → IsCompressed ds starts flat → IsCompressed ds opened flat) → AreKept a kept opened flat
+keeping_end a kept k starts opened flat entries t done long stays = record {
   order = record {
     pairs = t.pairs;
     long = long;
-    compressed = kept t.pairs t.compressed;
-    inside = λ p h. let both = (t.members p).0 h in (let l = both.0 in omega (arith, l, done), ((listed p.0).sound p.1 (taken_over takes (start_of a p.0) (column a p.0) p.1 (listed p.0).rising both.1).0).0);
+    compressed = stays t.pairs t.compressed;
+    inside = λ p h. let both = (t.members p).0 h in (let l = both.0 in omega (arith, l, done), (entries p.1 p.0 both.1).0);
   };
   same = λ p. ((λ h. let both = (t.members p).0 h in (let l = both.0 in omega (arith, l, done), both.1)), λ h. (t.members p).1 (let l = h.0 in omega (arith, l, done), h.1));
   few = let f = t.few in let all = start_le a k in omega (arith, f, all);
 }
 
--- What has the places that are taken is the restricted matrix.
+-- The entries that are taken.
 
-pub restricted_made : (a b : Matrix) (takes : ℕ → Bool) (passes : ℕ → ℕ → Bool) (starts flat : List ℕ) → ((c : ℕ) → Lists (λ r. IsEntry a r c) (column a c)) → (t : AreTaken a takes starts flat) → HasPlaces a.rows (cols a) (transposed_places t.order.pairs) b → Decides a takes passes → b ≡ restricted a passes
-restricted_made a b takes passes starts flat listed t h decides = same_matrix a.rows (cols a) (transposed_places t.order.pairs) b (restricted a passes) h record {
+-- they are entries
+taken_entries : (a : Matrix) (takes : ℕ → Bool) → ((c : ℕ) → Lists (λ r. IsEntry a r c) (column a c)) → (r c : ℕ) → Among r (taken_rows a takes c) → IsEntry a r c
+taken_entries a takes listed r c h = (listed c).sound r (taken_over takes (start_of a c) (column a c) r (listed c).rising h).0
+
+pub taking_step : (a : Matrix) (takes : ℕ → Bool) (k from : ℕ) (starts opened flat longer col : List ℕ) → IsRising (column a k) → IsKeeping a (taken_rows a takes) k starts flat → k < cols a → length opened ≡ k + 1
+    → ((ds : List Pair) → IsCompressed ds starts flat → IsCompressed ds opened flat) → from ≡ start_of a k → col ≡ column a k → longer ≡ flat ++ taken takes from col → IsKeeping a (taken_rows a takes) (k + 1) opened longer
+taking_step a takes k from starts opened flat longer col up t lt long stays begin is more =
+    keeping_step a (taken_rows a takes) k starts opened flat longer (taken_rising takes (start_of a k) (column a k) up) (length_taken takes (start_of a k) (column a k)) t lt long stays
+    (more ∙ ap (λ i. flat ++ taken takes i col) begin ∙ ap (λ xs. flat ++ taken takes (start_of a k) xs) is)
+
+pub taking_end : (a : Matrix) (takes : ℕ → Bool) (k : ℕ) (starts opened flat : List ℕ) → ((c : ℕ) → Lists (λ r. IsEntry a r c) (column a c)) → IsKeeping a (taken_rows a takes) k starts flat → k ≡ cols a → length opened ≡ cols a + 1
+    → ((ds : List Pair) → IsCompressed ds starts flat → IsCompressed ds opened flat) → AreKept a (taken_rows a takes) opened flat
+taking_end a takes k starts opened flat listed t done long stays = keeping_end a (taken_rows a takes) k starts opened flat (taken_entries a takes listed) t done long stays
+
+-- The entries that pass a test.
+
+-- they are entries
+passing_entries : (a : Matrix) (passes : ℕ → ℕ → Bool) → ((c : ℕ) → Lists (λ r. IsEntry a r c) (column a c)) → (r c : ℕ) → Among r (passing_rows a passes c) → IsEntry a r c
+passing_entries a passes listed r c h = (listed c).sound r (filter_sound (λ s. passes s c) r (column a c) h).0
+
+pub passing_step : (a : Matrix) (passes : ℕ → ℕ → Bool) (k : ℕ) (starts opened flat longer col : List ℕ) → IsRising (column a k) → IsKeeping a (passing_rows a passes) k starts flat → k < cols a → length opened ≡ k + 1
+    → ((ds : List Pair) → IsCompressed ds starts flat → IsCompressed ds opened flat) → col ≡ column a k → longer ≡ flat ++ filter (λ r. passes r k) col → IsKeeping a (passing_rows a passes) (k + 1) opened longer
+passing_step a passes k starts opened flat longer col up t lt long stays is more =
+    keeping_step a (passing_rows a passes) k starts opened flat longer (rising_filter (λ r. passes r k) (column a k) up) (let both = length-filter_both (λ r. passes r k) (λ r. not (passes r k)) (λ r. refl) (column a k) in omega (arith, both)) t lt long stays
+    (more ∙ ap (λ xs. flat ++ filter (λ r. passes r k) xs) is)
+
+pub passing_end : (a : Matrix) (passes : ℕ → ℕ → Bool) (k : ℕ) (starts opened flat : List ℕ) → ((c : ℕ) → Lists (λ r. IsEntry a r c) (column a c)) → IsKeeping a (passing_rows a passes) k starts flat → k ≡ cols a → length opened ≡ cols a + 1
+    → ((ds : List Pair) → IsCompressed ds starts flat → IsCompressed ds opened flat) → AreKept a (passing_rows a passes) opened flat
+passing_end a passes k starts opened flat listed t done long stays = keeping_end a (passing_rows a passes) k starts opened flat (passing_entries a passes listed) t done long stays
+
+-- What has the places that are kept is the restricted matrix, where they are those that pass.
+
+-- each column's rows that are kept are those whose entries pass
+abbrev pub ArePassing : Matrix → (ℕ → List ℕ) → (ℕ → ℕ → Bool) → Type 0
+ArePassing a kept passes = (r c : ℕ) → Among r (kept c) ↔ (IsEntry a r c × (passes r c ≡ true))
+
+pub restricted_made : (a b : Matrix) (kept : ℕ → List ℕ) (passes : ℕ → ℕ → Bool) (starts flat : List ℕ) → ((c : ℕ) → Lists (λ r. IsEntry a r c) (column a c)) → (t : AreKept a kept starts flat) → HasPlaces a.rows (cols a) (transposed_places t.order.pairs) b → ArePassing a kept passes → b ≡ restricted a passes
+restricted_made a b kept passes starts flat listed t h passing = same_matrix a.rows (cols a) (transposed_places t.order.pairs) b (restricted a passes) h record {
   rows_are = refl;
   cols_are = restricted_cols a passes;
   entries = λ r c. (over r c, back r c);
@@ -178,22 +208,47 @@ restricted_made a b takes passes starts flat listed t h decides = same_matrix a.
     over : (r c : ℕ) → IsEntry (restricted a passes) r c → Among (r, c) (transposed_places t.order.pairs)
     over r c e =
         let both = restricted_over a passes r c e in
-        turned_among c r t.order.pairs ((t.same (c, r)).1 (entry_col a r c both.0, taken_back takes (start_of a c) (column a c) r (listed c).rising both.0.1 (decides r c both.0 ∙ both.1)))
+        turned_among c r t.order.pairs ((t.same (c, r)).1 (entry_col a r c both.0, (passing r c).1 both))
 
     back : (r c : ℕ) → Among (r, c) (transposed_places t.order.pairs) → IsEntry (restricted a passes) r c
     back r c k =
         let there = (t.same (c, r)).0 (turned_back c r t.order.pairs k) in
-        let both = taken_over takes (start_of a c) (column a c) r (listed c).rising there.1 in
+        let both = (passing r c).0 there.1 in
+        restricted_back a passes r c both.0 both.1
+
+taken_passing : (a : Matrix) (takes : ℕ → Bool) (passes : ℕ → ℕ → Bool) → ((c : ℕ) → Lists (λ r. IsEntry a r c) (column a c)) → Decides a takes passes → ArePassing a (taken_rows a takes) passes
+taken_passing a takes passes listed decides r c = (over, back)
+  where
+    over : Among r (taken_rows a takes c) → IsEntry a r c × (passes r c ≡ true)
+    over h =
+        let both = taken_over takes (start_of a c) (column a c) r (listed c).rising h in
         let entry = (listed c).sound r both.0 in
-        restricted_back a passes r c entry (sym (decides r c entry) ∙ both.1)
+        (entry, sym (decides r c entry) ∙ both.1)
+
+    back : IsEntry a r c × (passes r c ≡ true) → Among r (taken_rows a takes c)
+    back both = taken_back takes (start_of a c) (column a c) r (listed c).rising both.0.1 (decides r c both.0 ∙ both.1)
+
+tested_passing : (a : Matrix) (passes : ℕ → ℕ → Bool) → ((c : ℕ) → Lists (λ r. IsEntry a r c) (column a c)) → ArePassing a (passing_rows a passes) passes
+tested_passing a passes listed r c = (
+  (λ h. let both = filter_sound (λ s. passes s c) r (column a c) h in ((listed c).sound r both.0, both.1)),
+  λ both. filter_complete (λ s. passes s c) r (column a c) both.0.1 both.1,
+)
 
 -- as the calls say it
-pub restricted_from : (a b : Matrix) (takes : ℕ → Bool) (passes : ℕ → ℕ → Bool) (rows columns : ℕ) (starts flat : List ℕ) → ((c : ℕ) → Lists (λ r. IsEntry a r c) (column a c)) → AreTaken a takes starts flat → rows ≡ a.rows → columns ≡ cols a
-    → ((ps : List Pair) → IsOrderOf columns rows ps starts flat → HasPlaces rows columns (transposed_places ps) b) → Decides a takes passes → b ≡ restricted a passes
-restricted_from a b takes passes rows columns starts flat listed t er ec h decides =
+made_from : (a b : Matrix) (kept : ℕ → List ℕ) (passes : ℕ → ℕ → Bool) (rows columns : ℕ) (starts flat : List ℕ) → ((c : ℕ) → Lists (λ r. IsEntry a r c) (column a c)) → AreKept a kept starts flat → rows ≡ a.rows → columns ≡ cols a
+    → ((ps : List Pair) → IsOrderOf columns rows ps starts flat → HasPlaces rows columns (transposed_places ps) b) → ArePassing a kept passes → b ≡ restricted a passes
+made_from a b kept passes rows columns starts flat listed t er ec h passing =
     let order : IsOrderOf columns rows t.order.pairs starts flat = rw (er, ec) (order_itself (cols a) a.rows starts flat t.order) in
     let places : HasPlaces a.rows (cols a) (transposed_places t.order.pairs) b = rw (er, ec) at (h t.order.pairs order) in
-    restricted_made a b takes passes starts flat listed t places decides
+    restricted_made a b kept passes starts flat listed t places passing
+
+pub restricted_from : (a b : Matrix) (takes : ℕ → Bool) (passes : ℕ → ℕ → Bool) (rows columns : ℕ) (starts flat : List ℕ) → ((c : ℕ) → Lists (λ r. IsEntry a r c) (column a c)) → AreKept a (taken_rows a takes) starts flat → rows ≡ a.rows → columns ≡ cols a
+    → ((ps : List Pair) → IsOrderOf columns rows ps starts flat → HasPlaces rows columns (transposed_places ps) b) → Decides a takes passes → b ≡ restricted a passes
+restricted_from a b takes passes rows columns starts flat listed t er ec h decides = made_from a b (taken_rows a takes) passes rows columns starts flat listed t er ec h (taken_passing a takes passes listed decides)
+
+pub filtered_from : (a b : Matrix) (passes : ℕ → ℕ → Bool) (rows columns : ℕ) (starts flat : List ℕ) → ((c : ℕ) → Lists (λ r. IsEntry a r c) (column a c)) → AreKept a (passing_rows a passes) starts flat → rows ≡ a.rows → columns ≡ cols a
+    → ((ps : List Pair) → IsOrderOf columns rows ps starts flat → HasPlaces rows columns (transposed_places ps) b) → b ≡ restricted a passes
+filtered_from a b passes rows columns starts flat listed t er ec h = made_from a b (passing_rows a passes) passes rows columns starts flat listed t er ec h (tested_passing a passes listed)
 
 -- the weight of an entry is the one that is read where it stands
 pub weights_decide : (w : Weighing) (a : Matrix) (least : ℕ) (ws : List ℕ) → w.matrix ≡ a → ws ≡ w.weights → Decides a (λ at. nat_lt least (get_or ws at 0)) (λ r c. nat_lt least (weight_at w r c))

@@ -1,5 +1,5 @@
--- Some entries of a matrix, by where they stand.
-use Rattle.std.specs.Prelude.{◌≡◌, ◌↔◌, ℕ, ◌+◌, ◌<◌, ◌≤◌, Bool, List, [], ◌∷◌, length, if◌then◌else◌}
+-- Some entries of a matrix, column by column.
+use Rattle.std.specs.Prelude.{◌≡◌, ◌↔◌, ℕ, ◌+◌, ◌<◌, ◌≤◌, Bool, List, [], ◌∷◌, filter, length, if◌then◌else◌}
 use Rattle.bip_defs.specs.Lists.{Among}
 use Rattle.bip_defs.specs.Matrix.{IsEntry, Matrix, cols, column, entry_count}
 use Rattle.sp_pattern.specs.Pairs.{IsOrder, Pair}
@@ -10,14 +10,18 @@ abbrev pub taken : (ℕ → Bool) → ℕ → List ℕ → List ℕ
 taken takes at [] = []
 taken takes at (x ∷ xs) = if takes at then x ∷ taken takes (at + 1) xs else taken takes (at + 1) xs
 
--- the pair of a column and a row whose entry is taken
-abbrev pub IsTaken : Matrix → (ℕ → Bool) → Pair → Type 0
-IsTaken a takes p = (p.0 < cols a) × Among p.1 (taken takes (start_of a p.0) (column a p.0))
+-- the rows of a column's entries that are taken, by where these stand
+abbrev pub taken_rows : Matrix → (ℕ → Bool) → ℕ → List ℕ
+taken_rows a takes c = taken takes (start_of a c) (column a c)
 
--- the flat lists have the rows of the entries that are taken, column by column
-pub record AreTaken (a : Matrix) (takes : ℕ → Bool) (starts flat : List ℕ) : Type 0 where
+-- the rows of a column's entries that pass a test of their row and column
+abbrev pub passing_rows : Matrix → (ℕ → ℕ → Bool) → ℕ → List ℕ
+passing_rows a passes c = filter (λ r. passes r c) (column a c)
+
+-- the flat lists have these rows of each column, column by column
+pub record AreKept (a : Matrix) (kept : ℕ → List ℕ) (starts flat : List ℕ) : Type 0 where
   pub order : IsOrder (cols a) a.rows starts flat
-  pub same : (p : Pair) → Among p order.pairs ↔ IsTaken a takes p
+  pub same : (p : Pair) → Among p order.pairs ↔ ((p.0 < cols a) × Among p.1 (kept p.0))
   pub few : length flat ≤ entry_count a
 
 -- the entries that are taken are those that pass a test of their row and column

@@ -3,6 +3,7 @@
 
 mod compress;
 mod ends;
+mod filter;
 mod halves;
 mod laws;
 mod load;
@@ -18,6 +19,7 @@ mod sums;
 mod transpose;
 mod weights;
 
+pub use filter::Filter;
 pub use laws::search_finds_members;
 pub use load::load_matrix;
 pub use pattern::Pattern;

@@ -5,7 +5,7 @@ ghost use Rattle.std.specs.Int.RustNames.{unsigned_abs};
 ghost use Rattle.bip_defs.specs.Bottleneck.{above, restricted};
 ghost use Rattle.bip_defs.specs.Matrix.{HasPlaces, entry_count};
 ghost use Rattle.sp_ids.specs.declared.triples.Field.TheVariants.{Integer};
-ghost use Rattle.sp_pattern.specs.Restricted.{AreTaken, Decides, taken};
+ghost use Rattle.sp_pattern.specs.Restricted.{AreKept, Decides, taken, taken_rows};
 ghost use Rattle.sp_pattern.specs.Weights.{nonzero_places, weight_at};
 
 use crate::compress::open;
@@ -129,7 +129,7 @@ impl Pattern {
     ) -> Result<(Vec<u32>, Vec<Row>), OutOfMemory>
         requires { C.count choice.now ≡ entry_count self.now }
         ensures { IfOk result
-            (λ o. AreTaken self.now (C.takes choice.now) o.0.items o.1.items) }
+            (λ o. AreKept self.now (taken_rows self.now (C.takes choice.now)) o.0.items o.1.items) }
     {
         self.is_pattern();
         let cols = self.cols();

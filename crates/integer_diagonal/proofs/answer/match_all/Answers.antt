@@ -1,4 +1,4 @@
-use Rattle.std.proofs.Common.{◌≡◌, ◌∙◌, ◌+◌, not, false, true, ap, rules}
+use Rattle.std.proofs.Common.{◌≡◌, ◌∙◌, ◌+◌, not, true, ap, rules}
 use Rattle.bip_defs.specs.Lists.{Among}
 use Rattle.bip_defs.specs.Matrix.{Place}
 use Rattle.bip_defs.proofs.Sets.{col_among}
@@ -27,8 +27,3 @@ loop-col-preserved g c =
           let next : AreMated w rows a s (n + 1) = mated_same w rows a s n i (col_among r n a.matching.pairs pair) in
           record { mated = rw (b.assignment-is, b.search-is) next; top = rw b.assignment-is c.loop-col.invariant.top; room = rw b.path-is c.loop-col.invariant.room })
     ]
-
-pub returns-then-not-found-clause-stuck : goal.returns-then-not-found-clause-stuck
-returns-then-not-found-clause-stuck g c =
-    let none : c.in_ok-found.found ≡ false = search rules in
-    λ e. c.in_ok-found.ensures.stuck none
