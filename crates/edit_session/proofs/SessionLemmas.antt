@@ -1,6 +1,6 @@
 -- What an edit leaves of a maximum matching, and of the session where it is taken back.
 use Rattle.std.proofs.Common.{◌≡◌, ◌≢◌, ◌⊎◌, ◌↔◌, ◌∙◌, ℕ, suc, ◌+◌, ◌^◌, ◌<◌, ◌≤◌, true, false, true≢false, List, ◌∷◌, length, nat_eq, refl, sym, ap, subst, inl, inr, ⊎_elim, arith, eq-eqb, eqb-true, IsTrue}
-use Rattle.std.proofs.lemmas.List.{length-set}
+use Rattle.std.proofs.lemmas.List.{length-map, length-set}
 use Rattle.bip_defs.specs.EditedMatrix.{with_place, without_place}
 use Rattle.bip_defs.specs.Lists.{Among, AreDistinct, IsRising}
 use Rattle.bip_defs.specs.Matching.{IsMatching, IsMaximum, cols_of, rows_of}
@@ -11,7 +11,7 @@ use Rattle.bip_defs.proofs.LeastMatching.{rising_pairs}
 use Rattle.bip_defs.proofs.Sets.{col_among, col_pair, entry_col, one_col, one_row, place_same, rising_distinct, row_pair}
 use Rattle.bip_graph.specs.Matching.{IsMatchingOf, IsMaximumOf, Pairing}
 use Rattle.sp_pattern.specs.Stored.{IsPattern}
-use Rattle.edit_session.specs.Sessions.{IsNearMaximum, MatchedMatrix}
+use Rattle.edit_session.specs.Sessions.{IsFull, IsNearMaximum, MatchedMatrix}
 
 -- Pairs.
 
@@ -22,6 +22,27 @@ pub no_mates : (m : List Place) (r c : ℕ) → ¬ Among c (cols_of m) → IsTru
 no_mates m r c out = (λ (t : false ≡ true). absurd (true≢false (sym t)), λ h. absurd (out (col_among r c m h)))
 
 -- A matching that is one pair short at most.
+
+-- a matching of all rows, or of all columns, is maximum
+pub full_maximum : (a : Matrix) (m : Pairing) → IsMatchingOf a m → IsFull a m.pairs → IsMaximumOf a m
+full_maximum a m k full = record { matching = k; maximum = record { matching = k.matching; longest = λ o l. by o l full } }
+  where
+    few_rows : (o : List Place) → IsMatching a o → length o ≤ a.rows
+    few_rows o l = let few = few_below a.rows (rows_of o) l.rows_differ (λ r h. let (c, on) = row_pair r o h in (l.entries r c on).0) in let long = length-map o (λ (p : Place). p.0) in omega (arith, few, long)
+
+    few_cols : (o : List Place) → IsMatching a o → length o ≤ cols a
+    few_cols o l = let few = few_below (cols a) (cols_of o) l.cols_differ (λ c h. let (r, on) = col_pair c o h in entry_col a r c (l.entries r c on)) in let long = length-map o (λ (p : Place). p.1) in omega (arith, few, long)
+
+    by : (o : List Place) → IsMatching a o → IsFull a m.pairs → length o ≤ length m.pairs
+    by o l (inl e) = let few = few_rows o l in omega (arith, few, e)
+    by o l (inr e) = let few = few_cols o l in omega (arith, few, e)
+
+-- setting an entry leaves the numbers of rows and columns
+pub set_full : (a b : Matrix) (m : List Place) (p : Place) → b ≡ with_place a p → IsFull a m ↔ IsFull b m
+set_full a b m p e = (λ f. subst (λ z. IsFull z m) (sym e) (⊎_elim (λ r. inl r) (λ c. inr (c ∙ sym same)) f), λ f. ⊎_elim (λ r. inl r) (λ c. inr (c ∙ same)) (subst (λ z. IsFull z m) e f))
+  where
+    same : cols (with_place a p) ≡ cols a
+    same = length-set a.columns p.1 _
 
 pub path_in_range : (a : Matrix) (m : Pairing) (path : List Place) → IsMatchingOf a m → AreEntries a path → (r c : ℕ) → Among (r, c) path → (r < m.rows) × (c < m.cols)
 path_in_range a m path k es r c h = let e = es r c h in let lt = entry_col a r c e in let row = e.0 in (rw k.rows row, rw k.cols lt)

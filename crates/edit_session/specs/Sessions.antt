@@ -2,7 +2,7 @@
 use Rattle.std.specs.Prelude.{◌≡◌, ◌≢◌, ◌⊎◌, ◌↔◌, ℕ, suc, ◌+◌, ◌≤◌, List, length}
 use Rattle.bip_defs.specs.Lists.{Among}
 use Rattle.bip_defs.specs.Matching.{IsMatching}
-use Rattle.bip_defs.specs.Matrix.{Matrix, Place}
+use Rattle.bip_defs.specs.Matrix.{Matrix, Place, cols}
 use Rattle.bip_defs.specs.Paths.{Exchanges}
 use Rattle.bip_defs.specs.Witness.{IsAugmentingPath, IsWitness}
 use Rattle.bip_graph.specs.Matching.{Pairing}
@@ -12,6 +12,10 @@ use Rattle.hall_witness.specs.SearchSteps.{steps_of}
 pub record MatchedMatrix : Type 0 where
   pub matrix : Matrix
   pub matching : Pairing
+
+-- each row is matched, or each column
+abbrev pub IsFull : Matrix → List Place → Type 0
+IsFull a m = (length m ≡ a.rows) ⊎ (length m ≡ cols a)
 
 -- no matching has more than one pair more
 abbrev pub IsNearMaximum : Matrix → List Place → Type 0

@@ -8,7 +8,7 @@ ghost use Rattle.bip_defs.specs.Matching.{IsRank, cols_of, rows_of};
 ghost use Rattle.bip_defs.specs.Matrix.{IsEntry, Place, cols, entry_count};
 ghost use Rattle.bip_graph.specs.Decompositions.{Decomposes, components_of};
 ghost use Rattle.bip_graph.specs.Matching.{IsMatchingOf, IsMaximumOf};
-ghost use Rattle.edit_session.specs.Sessions.{IsNearMaximum, IsParted, IsSearched, MatchedMatrix};
+ghost use Rattle.edit_session.specs.Sessions.{IsFull, IsNearMaximum, IsParted, IsSearched, MatchedMatrix};
 
 use crate::columns::Columns;
 use crate::patterns::pattern_of;
@@ -131,8 +131,8 @@ impl Session {
     /// entries.
     ///
     /// A step is a column that a search takes up or an entry that it looks at. There is no search
-    /// where the entry was there, or where its row and its column have no mate and become a pair.
-    /// Else there is one: it makes at least as many steps as the path that it finds has pairs, and
+    /// where the entry was there, where the rank is already the number of rows or of columns, or
+    /// where its row and its column have no mate and become a pair. Else there is one: it makes at least as many steps as the path that it finds has pairs, and
     /// where it finds none, one for each column that some maximum matching of the new matrix misses
     /// and one for each of their entries.
     /// Answers `OutOfMemory` where there is no memory for the entry or for a search, 9 bytes a
@@ -154,7 +154,9 @@ impl Session {
         ensures steps { steps.new ≤ steps.old
             + (cols self.old.matrix + entry_count (with_place self.old.matrix (row, col))) }
         ensures no_step { IsEntry self.old.matrix row col → steps.new ≡ steps.old }
+        ensures no_search { IsFull self.old.matrix self.old.matching.pairs → steps.new ≡ steps.old }
         ensures searched { OnOk result (¬ IsEntry self.old.matrix row col
+            → ¬ IsFull self.old.matrix self.old.matching.pairs
             → Among row (rows_of self.old.matching.pairs)
             ⊎ Among col (cols_of self.old.matching.pairs)
             → IsSearched self.new.matrix self.old.matching.pairs self.new.matching.pairs
@@ -256,8 +258,17 @@ fn are_mates(matching: &Matching, row: Row, col: Col) -> bool
     }
 }
 
-// Makes a matching maximum where one more entry is new: the entry's row and column become a pair
-// where both have no mate, else a search decides.
+// Whether each row is matched, or each column.
+fn is_full(columns: &Columns, matching: &Matching) -> bool
+    requires { IsMatchingOf columns.now.matrix matching.now }
+    ensures { IsTrue result ↔ IsFull columns.now.matrix matching.now.pairs }
+{
+    let size = matching.size();
+    size == columns.rows() || size == columns.cols()
+}
+
+// Makes a matching maximum where one more entry is new: it is, where each row or each column is
+// matched; the entry's row and column become a pair where both have no mate; else a search decides.
 fn match_entry<L: Ledger>(
     alloc: Global,
     columns: &Columns,
@@ -273,11 +284,16 @@ fn match_entry<L: Ledger>(
     ensures unchanged { OnErr result (matching.new ≡ matching.old) }
     ensures steps { steps.new
         ≤ steps.old + (cols columns.now.matrix + entry_count columns.now.matrix) }
-    ensures searched { OnOk result (Among row (rows_of matching.old.pairs)
+    ensures no_search { IsFull columns.now.matrix matching.old.pairs → steps.new ≡ steps.old }
+    ensures searched { OnOk result (¬ IsFull columns.now.matrix matching.old.pairs
+        → Among row (rows_of matching.old.pairs)
         ⊎ Among col (cols_of matching.old.pairs)
         → IsSearched columns.now.matrix matching.old.pairs matching.new.pairs
         steps.old steps.new) }
 {
+    if is_full(columns, matching) {
+        return Ok(());
+    }
     if matching.row_of(col).is_none() && matching.col_of(row).is_none() {
         matching.pair(row, col);
         matching.is_matching();

@@ -5,8 +5,8 @@ use Rattle.bip_defs.specs.Matching.{cols_of, rows_of}
 use Rattle.bip_defs.specs.Matrix.{IsEntry, Matrix, cols}
 use Rattle.bip_defs.proofs.EditLemmas.{with_place_new, without_goes_back}
 use Rattle.bip_graph.specs.Matching.{IsMatchingOf, IsMaximumOf, Pairing}
-use Rattle.edit_session.specs.Sessions.{IsNearMaximum, IsSearched, MatchedMatrix}
-use Rattle.edit_session.proofs.SessionLemmas.{room_left, same_session, set_again, set_matching, set_near}
+use Rattle.edit_session.specs.Sessions.{IsFull, IsNearMaximum, IsSearched, MatchedMatrix}
+use Rattle.edit_session.proofs.SessionLemmas.{room_left, same_session, set_again, set_full, set_matching, set_near}
 use Rattle.edit_session.proofs.session.Session.set.Goals as goal
 
 pub returns-then-has-clause-matrix : goal.returns-then-has-clause-matrix
@@ -51,8 +51,23 @@ returns-in-Err-clause-unchanged g c =
     same_session back c.in-Err.ensures.unchanged c.self.view_is
 
 pub returns-then-has-clause-searched : goal.returns-then-has-clause-searched
-returns-then-has-clause-searched g c none mated = absurd (none (subst (λ (w : MatchedMatrix). IsEntry w.matrix c.args.row c.args.col) c.self.view_is (c.has.ensures.0 c.if-has.true)))
+returns-then-has-clause-searched g c none partial mated = absurd (none (subst (λ (w : MatchedMatrix). IsEntry w.matrix c.args.row c.args.col) c.self.view_is (c.has.ensures.0 c.if-has.true)))
 
 pub returns-in-Ok-clause-searched : goal.returns-in-Ok-clause-searched
-returns-in-Ok-clause-searched g c none = subst (λ (w : MatchedMatrix). Among c.args.row (rows_of w.matching.pairs) ⊎ Among c.args.col (cols_of w.matching.pairs)
-    → IsSearched c.put.new.self.matrix w.matching.pairs c.match_entry.new.matching.pairs c.args.steps.now c.match_entry.new.steps) c.self.view_is c.in-Ok.ensures.searched
+returns-in-Ok-clause-searched g c none =
+    let a = c.self.inside.columns.matrix in
+    let put : c.put.new.self.matrix ≡ with_place a (c.args.row, c.args.col) = c.put.ensures.matrix ∙ ap (λ (b : Matrix). with_place b (c.args.row, c.args.col)) c.in_ok-make_room.ensures.matrix in
+    subst (λ (w : MatchedMatrix). ¬ IsFull w.matrix w.matching.pairs → Among c.args.row (rows_of w.matching.pairs) ⊎ Among c.args.col (cols_of w.matching.pairs)
+    → IsSearched c.put.new.self.matrix w.matching.pairs c.match_entry.new.matching.pairs c.args.steps.now c.match_entry.new.steps) c.self.view_is (λ partial. c.in-Ok.ensures.searched (λ full. partial ((set_full a c.put.new.self.matrix c.self.inside.matching.pairs (c.args.row, c.args.col) put).1 full)))
+
+pub returns-in-Ok-clause-no_search : goal.returns-in-Ok-clause-no_search
+returns-in-Ok-clause-no_search g c =
+    let a = c.self.inside.columns.matrix in
+    let put : c.put.new.self.matrix ≡ with_place a (c.args.row, c.args.col) = c.put.ensures.matrix ∙ ap (λ (b : Matrix). with_place b (c.args.row, c.args.col)) c.in_ok-make_room.ensures.matrix in
+    subst (λ (w : MatchedMatrix). IsFull w.matrix w.matching.pairs → c.match_entry.new.steps ≡ c.args.steps.now) c.self.view_is (λ full. c.match_entry.ensures.no_search ((set_full a c.put.new.self.matrix c.self.inside.matching.pairs (c.args.row, c.args.col) put).0 full))
+
+pub returns-in-Err-clause-no_search : goal.returns-in-Err-clause-no_search
+returns-in-Err-clause-no_search g c =
+    let a = c.self.inside.columns.matrix in
+    let put : c.put.new.self.matrix ≡ with_place a (c.args.row, c.args.col) = c.put.ensures.matrix ∙ ap (λ (b : Matrix). with_place b (c.args.row, c.args.col)) c.in_ok-make_room.ensures.matrix in
+    subst (λ (w : MatchedMatrix). IsFull w.matrix w.matching.pairs → c.match_entry.new.steps ≡ c.args.steps.now) c.self.view_is (λ full. c.match_entry.ensures.no_search ((set_full a c.put.new.self.matrix c.self.inside.matching.pairs (c.args.row, c.args.col) put).0 full))
