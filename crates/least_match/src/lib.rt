@@ -11,10 +11,14 @@ mod way;
 
 ghost use Rattle.std.specs.Prelude.{IfOk};
 ghost use Rattle.bip_defs.specs.LeastMatching.{IsLeastMaximum};
+ghost use Rattle.bip_defs.specs.Parts.{ArePartsOf};
+ghost use Rattle.bip_graph.specs.Decompositions.{parts_of};
 ghost use Rattle.bip_graph.specs.Matching.{IsMaximumOf};
+ghost use Rattle.least_match.specs.Outcomes.{AreParted};
 
 use crate::exchanges::Exchanges;
-use bip_graph::Matching;
+use crate::parts::{Part, listed_parts, parts};
+use bip_graph::{Matching, Parts};
 use sp_ids::{Col, OutOfMemory};
 use sp_pattern::Pattern;
 use std::alloc::Global;
@@ -44,8 +48,45 @@ pub fn least(alloc: Global, pattern: &Pattern, matching: Matching) -> Result<Mat
     ensures least { IfOk result (λ m. IsLeastMaximum pattern.now m.pairs) }
     ensures maximum { IfOk result (IsMaximumOf pattern.now) }
 {
+    let parts = parts(alloc, pattern, &matching)?;
+    settled(alloc, pattern, matching, parts)
+}
+
+/// [`least`], where the coarse parts of the matrix are known: the same matching, and the two
+/// searches for them are not made.
+///
+/// The parts must be the pattern's. Answers `OutOfMemory` where 30 bytes a column can't be had.
+/// Work: as `least` without the two searches.
+pub fn least_by_parts(
+    alloc: Global,
+    pattern: &Pattern,
+    matching: Matching,
+    parts: &Parts,
+) -> Result<Matching, OutOfMemory>
+    requires maximum { IsMaximumOf pattern.now matching }
+    requires parts { ArePartsOf pattern.now (parts_of parts.now) }
+    ensures least { IfOk result (λ m. IsLeastMaximum pattern.now m.pairs) }
+    ensures maximum { IfOk result (IsMaximumOf pattern.now) }
+{
+    let parts = listed_parts(alloc, pattern, parts)?;
+    settled(alloc, pattern, matching, parts)
+}
+
+// The least maximum matching, from one of which the columns' parts are known: each column settled,
+// one after the other.
+fn settled(
+    alloc: Global,
+    pattern: &Pattern,
+    matching: Matching,
+    parts: Vec<Part>,
+) -> Result<Matching, OutOfMemory>
+    requires maximum { IsMaximumOf pattern.now matching }
+    requires parts { AreParted pattern.now parts.items }
+    ensures least { IfOk result (λ m. IsLeastMaximum pattern.now m.pairs) }
+    ensures maximum { IfOk result (IsMaximumOf pattern.now) }
+{
     let mut matching = matching;
-    let mut exchanges = Exchanges::new(alloc, pattern, &matching)?;
+    let mut exchanges = Exchanges::new(alloc, pattern, &matching, parts)?;
     for col in 0..pattern.cols() {
         exchanges.settle(&mut matching, Col(col));
     }
