@@ -62,7 +62,11 @@ pub fn listed_parts(
     ensures { IfOk result (λ v. AreParted pattern.now v.items) }
 {
     let mut of_cols = vec![in alloc; Part::Square; pattern.cols() as usize]?;
-    give(of_cols.as_mut_slice(), parts.hc.as_slice(), Part::Horizontal);
+    give(
+        of_cols.as_mut_slice(),
+        parts.hc.as_slice(),
+        Part::Horizontal,
+    );
     give(of_cols.as_mut_slice(), parts.vc.as_slice(), Part::Vertical);
     Ok(of_cols)
 }

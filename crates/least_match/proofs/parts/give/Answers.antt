@@ -1,6 +1,5 @@
-use Rattle.std.proofs.Common.{◌≡◌, ◌∙◌, arith, get_or, sym}
+use Rattle.std.proofs.Common.{◌≡◌, ◌∙◌, arith, sym}
 use Rattle.std.proofs.lemmas.List.{get_or_read}
-use Rattle.bip_defs.proofs.Sets.{among_at}
 use Rattle.least_match.proofs.PartLemmas.{given_more}
 use Rattle.least_match.proofs.SearchLemmas.{item_among}
 use Rattle.least_match.proofs.parts.give.Goals as goal

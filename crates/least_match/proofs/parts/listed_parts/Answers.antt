@@ -1,9 +1,8 @@
-use Rattle.std.proofs.Common.{◌≡◌, ◌∙◌, ◌++◌, ◌<◌, List, ap, arith, drop, length, replicate, rules, subst, sym, take}
+use Rattle.std.proofs.Common.{◌≡◌, ◌∙◌, ◌++◌, List, ap, arith, drop, length, replicate, rules, subst, sym, take}
 use Rattle.std.proofs.lemmas.List.{length-replicate}
 use Rattle.bip_defs.specs.Lists.{Among, Lists}
-use Rattle.bip_defs.specs.Matrix.{cols}
 use Rattle.bip_defs.proofs.Sets.{entry_col, written_over}
-use Rattle.least_match.specs.Outcomes.{AreParted, IsGiven}
+use Rattle.least_match.specs.Outcomes.{IsGiven}
 use Rattle.least_match.specs.declared.parts.Part.{Part}
 use Rattle.least_match.specs.declared.parts.Part.TheVariants.{Horizontal, Square, Vertical}
 use Rattle.least_match.proofs.PartLemmas.{parted_by_lists}
@@ -12,19 +11,19 @@ use Rattle.least_match.proofs.parts.listed_parts.Goals as goal
 pub give-requires : goal.give-requires
 give-requires c = record {
   cols = λ x h. let within = (c.requires.horizontal_cols.sound x (subst (Among x) c.as_slice.ensures.value h)).0 in
-  let start : length c.in_ok-of_cols.of_cols.items ≡ c.cols.result = ap length (c.in_ok-of_cols.ensures.items_if_clones_equal (λ y same. same)) ∙ length-replicate {A = Part} c.cols.result Square in
-  let same = ap length c.as_mut_slice.ensures.value in
-  omega (arith, within, start, same, c.cols.ensures);
+      let start : length c.in_ok-of_cols.of_cols.items ≡ c.cols.result = ap length (c.in_ok-of_cols.ensures.items_if_clones_equal (λ y same. same)) ∙ length-replicate {A = Part} c.cols.result Square in
+      let same = ap length c.as_mut_slice.ensures.value in
+      omega (arith, within, start, same, c.cols.ensures);
 }
 
 pub give-requires-2 : goal.give-requires-2
 give-requires-2 c = record {
   cols = λ x h. let (r, row, e) = c.requires.vertical_cols.sound x (subst (Among x) c.as_slice-2.ensures.value h) in
-  let within = entry_col _ r x e in
-  let start : length c.in_ok-of_cols.of_cols.items ≡ c.cols.result = ap length (c.in_ok-of_cols.ensures.items_if_clones_equal (λ y same. same)) ∙ length-replicate {A = Part} c.cols.result Square in
-  let long : length c.give.new.parts ≡ length c.in_ok-of_cols.of_cols.items = c.give.ensures.long ∙ ap length c.as_mut_slice.ensures.value in
-  let same = ap length (c.as_mut_slice-2.ensures.value ∙ written_over c.give.new.parts c.in_ok-of_cols.of_cols.items c.in_ok-of_cols.of_cols.len long (search rules)) in
-  omega (arith, within, start, same, long, c.cols.ensures);
+      let within = entry_col _ r x e in
+      let start : length c.in_ok-of_cols.of_cols.items ≡ c.cols.result = ap length (c.in_ok-of_cols.ensures.items_if_clones_equal (λ y same. same)) ∙ length-replicate {A = Part} c.cols.result Square in
+      let long : length c.give.new.parts ≡ length c.in_ok-of_cols.of_cols.items = c.give.ensures.long ∙ ap length c.as_mut_slice.ensures.value in
+      let same = ap length (c.as_mut_slice-2.ensures.value ∙ written_over c.give.new.parts c.in_ok-of_cols.of_cols.items c.in_ok-of_cols.of_cols.len long (search rules)) in
+      omega (arith, within, start, same, long, c.cols.ensures);
 }
 
 pub returns : goal.returns
