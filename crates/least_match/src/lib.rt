@@ -38,11 +38,12 @@ use std::alloc::Global;
 /// Answers `OutOfMemory` where 30 bytes a column can't be had, or before that 10 a row and 10 a
 /// column for two searches. From then on it takes none. Work: a column that has no mate, or has the
 /// least of its rows that are left, costs its entries alone. Searches that fail part the square
-/// part's columns by the smaller set each time, so they look at n log n columns in all; in an outer
-/// part such a search may look at all of it. At most one search a column finds a path. It may look
-/// at all entries that are left, so the worst case is all entries once for each column; in one
-/// large block of entries at random it was some 400 to 1,300 entries where the matrix has 100,000,
-/// and 1,100 to 3,700 where it has 1,000,000.
+/// part by the set with fewer entries each time, so they look at some e log e entries in all, where
+/// there are e, and each at one column or row more; in an outer part such a search may look at all
+/// of it. At most one search a column finds a path. It may look at all entries that are left, so
+/// the worst case is all entries once for each column; in one large block of entries at random it
+/// was some 400 to 1,300 entries where the matrix has 100,000, and 1,100 to 3,700 where it has
+/// 1,000,000.
 pub fn least(alloc: Global, pattern: &Pattern, matching: Matching) -> Result<Matching, OutOfMemory>
     requires maximum { IsMaximumOf pattern.now matching }
     ensures least { IfOk result (λ m. IsLeastMaximum pattern.now m.pairs) }
