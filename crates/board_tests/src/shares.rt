@@ -1,6 +1,6 @@
 //! Workers that do their work at once, and their shares of a list.
 
-use level_sharing::{Work, share, work_at_once};
+use level_sharing::{Work, share, share_work, work_at_once};
 use sp_ports::MeetGate;
 use std::convert::Infallible;
 use std::test::Fail;
@@ -45,6 +45,37 @@ fn three_workers_work_at_once(rt: HostRuntime) -> Result<(), Fail> {
     let Ok(()) = work_at_once(&rt, &gate, &AddNumber, &mut sums);
     assert_eq!(rt; sums, [10, 21, 32]);
     assert!(rt; gate.have_arrived(3, 1) && !gate.ran_out());
+    Ok(())
+}
+
+// Worker 1 comes first, and waits in vain for worker 0, whose part is done after its own.
+#[test]
+fn little_work_starts_no_thread(rt: HostRuntime) -> Result<(), Fail> {
+    let gate = BarrierGate::without_threads(rt.alloc(), 2, 100_000)?;
+    let mut sums = [10, 20];
+    let Ok(()) = share_work(&rt, &gate, &AddNumber, 1_999, &mut sums);
+    assert_eq!(rt; sums, [10, 21]);
+    assert!(rt; gate.have_arrived(2, 1) && gate.ran_out());
+    Ok(())
+}
+
+#[test]
+fn much_work_is_done_at_once(rt: HostRuntime) -> Result<(), Fail> {
+    let gate = BarrierGate::without_threads(rt.alloc(), 2, 10_000_000)?;
+    let mut sums = [10, 20];
+    let Ok(()) = share_work(&rt, &gate, &AddNumber, 2_000, &mut sums);
+    assert_eq!(rt; sums, [10, 21]);
+    assert!(rt; gate.have_arrived(2, 1) && !gate.ran_out());
+    Ok(())
+}
+
+#[test]
+fn a_gate_can_ask_for_threads(rt: HostRuntime) -> Result<(), Fail> {
+    let gate = BarrierGate::new(rt.alloc(), 2)?;
+    let mut sums = [10, 20];
+    let Ok(()) = share_work(&rt, &gate, &AddNumber, 0, &mut sums);
+    assert_eq!(rt; sums, [10, 21]);
+    assert!(rt; gate.have_arrived(2, 1) && !gate.ran_out());
     Ok(())
 }
 

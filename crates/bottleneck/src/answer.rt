@@ -1,16 +1,17 @@
 //! The three cases.
 
-ghost use Rattle.std.specs.Prelude.{◌≡◌, ◌<◌, ◌⊎◌, length, IfOk};
-ghost use Rattle.bip_defs.specs.Bottleneck.{IsFull, IsLeastWeight, above};
+ghost use Rattle.std.specs.Prelude.{◌≡◌, ◌<◌, ◌⊎◌, length, IfOk, IfSome};
+ghost use Rattle.bip_defs.specs.Bottleneck.{IsFull, IsLeastWeight};
 ghost use Rattle.bip_defs.specs.Lists.{IsRising};
 ghost use Rattle.bip_defs.specs.Matching.{cols_of};
 ghost use Rattle.bip_defs.specs.Matrix.{cols};
 ghost use Rattle.bip_graph.specs.Matching.{IsMatchingOf, IsMaximumOf};
 ghost use Rattle.bottleneck.specs.Answers.{IsBottleneck};
+ghost use Rattle.bottleneck.specs.Heavier.{IsHeavier, IsShort};
 ghost use Rattle.sp_pattern.specs.Weights.{Weighing, weight_at};
 
 use crate::bound::{bound, bounded_matching};
-use crate::heavier::heavier_matching;
+use crate::heavier::{Heavier, heavier_matching};
 use crate::pairs::least_of;
 use crate::thresholds::raised;
 use bip_graph::{Bottleneck, Matching};
@@ -42,8 +43,8 @@ pub fn best(alloc: Global, pattern: &Pattern, weights: &Weights) -> Result<Bottl
     if matching.size() < pattern.cols() {
         return singular(alloc, pattern, &matching);
     }
-    let matching = raised(alloc, pattern, weights, matching, bound)?;
-    shown(alloc, pattern, weights, matching)
+    let (matching, short) = raised(alloc, pattern, weights, matching, bound)?;
+    answered(alloc, pattern, weights, matching, short)
 }
 
 // The answer where the matrix has no perfect matching.
@@ -62,6 +63,33 @@ fn singular(
         rank: matching.size(),
         hall,
     })
+}
+
+// The answer from a perfect matching, and from entries above a weight that have none: where that is
+// the matching's least weight, they show that it is best.
+fn answered(
+    alloc: Global,
+    pattern: &Pattern,
+    weights: &Weights,
+    matching: Matching,
+    short: Option<Heavier>,
+) -> Result<Bottleneck, OutOfMemory>
+    requires of { weights.now.matrix ≡ pattern.now }
+    requires square { pattern.now.rows ≡ cols pattern.now }
+    requires matching { IsMatchingOf pattern.now matching }
+    requires full { length matching.pairs ≡ cols pattern.now }
+    requires short { IfSome short (IsShort pattern.now (weight_at weights.now)) }
+    ensures { IfOk result (IsBottleneck weights.now) }
+{
+    if let Some(heavier) = short {
+        let pairs = matching.pairs(alloc)?;
+        let least = least_of(weights, pairs.as_slice());
+        if heavier.above == least {
+            matching.is_matching();
+            return with_hall_set(alloc, pattern, weights, &heavier, pairs);
+        }
+    }
+    shown(alloc, pattern, weights, matching)
 }
 
 // The answer from a perfect matching: it is shown to be best, or one of greater least weight is
@@ -83,12 +111,12 @@ fn shown(
     let mut pairs = matching.pairs(alloc)?;
     let mut least = least_of(weights, pairs.as_slice());
     loop {
-        let (heavier, next) = heavier_matching(alloc, pattern, weights, &matching, least)?;
-        if cols == 0 || next.size() < cols {
+        let heavier = heavier_matching(alloc, pattern, weights, &matching, least)?;
+        if cols == 0 || heavier.maximum.size() < cols {
             matching.is_matching();
-            return with_hall_set(alloc, pattern, weights, &heavier, &next, pairs, least);
+            return with_hall_set(alloc, pattern, weights, &heavier, pairs);
         }
-        matching = next;
+        matching = heavier.maximum;
         pairs = matching.pairs(alloc)?;
         least = least_of(weights, pairs.as_slice());
     }
@@ -99,21 +127,23 @@ fn with_hall_set(
     alloc: Global,
     pattern: &Pattern,
     weights: &Weights,
-    heavier: &Pattern,
-    maximum: &Matching,
+    heavier: &Heavier,
     pairs: Vec<(Row, Col)>,
-    least: u64,
 ) -> Result<Bottleneck, OutOfMemory>
     requires of { weights.now.matrix ≡ pattern.now }
     requires square { pattern.now.rows ≡ cols pattern.now }
     requires full { IsFull pattern.now pairs.items }
     requires rising { IsRising (cols_of pairs.items) }
-    requires least { IsLeastWeight (weight_at weights.now) pairs.items least }
-    requires above { heavier.now ≡ above pattern.now (weight_at weights.now) least }
-    requires maximum { IsMaximumOf heavier.now maximum.now }
-    requires short { (cols pattern.now ≡ 0) ⊎ (length maximum.now.pairs < cols pattern.now) }
+    requires least { IsLeastWeight (weight_at weights.now) pairs.items heavier.now.above }
+    requires heavier { IsHeavier pattern.now (weight_at weights.now) heavier.now }
+    requires short { (cols pattern.now ≡ 0)
+        ⊎ (length heavier.now.maximum.pairs < cols pattern.now) }
     ensures { IfOk result (IsBottleneck weights.now) }
 {
-    let hall = hall_set(alloc, heavier, maximum)?;
-    Ok(Bottleneck::Best { pairs, least, hall })
+    let hall = hall_set(alloc, &heavier.entries, &heavier.maximum)?;
+    Ok(Bottleneck::Best {
+        pairs,
+        least: heavier.above,
+        hall,
+    })
 }

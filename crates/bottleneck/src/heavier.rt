@@ -1,11 +1,11 @@
 //! Maximum matchings of the entries above a weight.
 
 ghost use Rattle.std.specs.Prelude.{◌≡◌, ◌⊎◌, IfOk};
-ghost use Rattle.bip_defs.specs.Bottleneck.{above};
 ghost use Rattle.bip_defs.specs.Lists.{Among, AreDistinct};
 ghost use Rattle.bip_defs.specs.Matching.{cols_of, rows_of};
 ghost use Rattle.bip_defs.specs.Matrix.{Place, cols};
-ghost use Rattle.bip_graph.specs.Matching.{IsMatchingOf, IsMaximumOf};
+ghost use Rattle.bip_graph.specs.Matching.{IsMatchingOf};
+ghost use Rattle.bottleneck.specs.Heavier.{IsHeavier};
 ghost use Rattle.sp_pattern.specs.Weights.{weight_at};
 
 use bip_graph::Matching;
@@ -14,6 +14,14 @@ use sp_ids::{Col, OutOfMemory, Row};
 use sp_pattern::{Pattern, Weights};
 use std::alloc::Global;
 
+/// The entries above a weight, with a maximum matching of them.
+#[derive(Drop)]
+pub struct Heavier {
+    pub above: u64,
+    pub entries: Pattern,
+    pub maximum: Matching,
+}
+
 /// The entries above a weight, and a maximum matching of them, which is made from the pairs of
 /// another matching that are left.
 pub fn heavier_matching(
@@ -21,17 +29,21 @@ pub fn heavier_matching(
     pattern: &Pattern,
     weights: &Weights,
     matching: &Matching,
-    least: u64,
-) -> Result<(Pattern, Matching), OutOfMemory>
+    above: u64,
+) -> Result<Heavier, OutOfMemory>
     requires of { weights.now.matrix ≡ pattern.now }
     requires matching { IsMatchingOf pattern.now matching.now }
-    ensures pattern { IfOk result (λ o. o.0 ≡ above pattern.now (weight_at weights.now) least) }
-    ensures maximum { IfOk result (λ o. IsMaximumOf o.0 o.1) }
+    ensures heavier { IfOk result (IsHeavier pattern.now (weight_at weights.now)) }
+    ensures above { IfOk result (λ h. h.above ≡ above) }
 {
-    let heavier = pattern.above(alloc, weights, least)?;
-    let left = pairs_left(alloc, &heavier, matching)?;
-    let maximum = complete(alloc, &heavier, left)?;
-    Ok((heavier, maximum))
+    let entries = pattern.above(alloc, weights, above)?;
+    let left = pairs_left(alloc, &entries, matching)?;
+    let maximum = complete(alloc, &entries, left)?;
+    Ok(Heavier {
+        above,
+        entries,
+        maximum,
+    })
 }
 
 // The pairs of a matching that are entries of the pattern.

@@ -11,8 +11,8 @@ ghost use Rattle.sp_ports.specs.Device.{seen};
 ghost use Rattle.btf_tool.specs.Jobs.{GavePrefix, OfReading};
 ghost use Rattle.btf_tool.specs.Runs.{JobSays};
 
-use crate::decompose::decompose;
-use crate::engines::matching_for;
+use crate::decompose::decompose_in;
+use crate::engines::{least_if_asked, matching_for};
 use crate::matrix::matrix_of;
 use crate::reading::read_file;
 use crate::writing::hand_on;
@@ -20,7 +20,7 @@ use crate::{Answer, Refusal};
 use bip_graph::{Components, Parts};
 use btf_text::{TextBuf, write_report};
 use btf_words::{EngineChoice, ReportOptions};
-use dm_coarse::components;
+use dm_coarse::{coarse, components};
 use sp_ids::OutOfMemory;
 use sp_pattern::Pattern;
 use sp_ports::{Gate, Sink, Source};
@@ -61,10 +61,12 @@ pub(crate) fn analyse<R: Threads + Sync, S: Source, O: Sink, G: Gate>(
         ..
     } = options.report;
     let listed = lists_pairs(options.report);
-    let matching = matching_for(rt, alloc, &pattern, options.choice, least, gate)?;
+    let found = matching_for(rt, alloc, &pattern, options.choice, gate)?;
+    let parts = coarse(rt, alloc, &pattern, &found)?;
+    let matching = least_if_asked(alloc, &pattern, found, &parts, least)?;
     // `size` tells the proof that the pairs rise.
     let _pairs = matching.size();
-    let decomposition = decompose(rt, alloc, &pattern, &matching)?;
+    let decomposition = decompose_in(alloc, &pattern, &matching, parts)?;
     let components = components_for(alloc, version, &pattern, &decomposition.parts)?;
     let mut buf = TextBuf::new(alloc)?;
     let written = write_report(

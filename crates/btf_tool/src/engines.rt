@@ -1,16 +1,18 @@
 //! The choice of the search that finds a maximum matching.
 
 ghost use Rattle.std.specs.Prelude.{◌≤◌, IfOk};
+ghost use Rattle.bip_defs.specs.Parts.{ArePartsOf};
 ghost use Rattle.bip_graph.specs.Answers.{IsMaximumOrLeast};
+ghost use Rattle.bip_graph.specs.Decompositions.{parts_of};
 ghost use Rattle.bip_graph.specs.Matching.{IsMaximumOf};
 ghost use Rattle.btf_words.specs.Words.{HasWorkers};
 ghost use Rattle.sp_ids.specs.Limits.{max_workers};
 
-use bip_graph::Matching;
+use bip_graph::{Matching, Parts};
 use btf_words::{Engine, EngineChoice};
 use hall_witness::plain;
 use karp_sipser::start;
-use least_match::least as least_matching;
+use least_match::least_by_parts;
 use sp_ids::OutOfMemory;
 use sp_pattern::Pattern;
 use sp_ports::Gate;
@@ -55,23 +57,36 @@ pub fn solve<R: Threads + Sync, G: Gate>(
     }
 }
 
-/// A maximum matching, by the engine that is asked for with so many workers; with `least` the least
-/// one, which is the same for every engine.
+/// A maximum matching, by the engine that is asked for with so many workers.
 pub(crate) fn matching_for<R: Threads + Sync, G: Gate>(
     rt: &R,
     alloc: Global,
     pattern: &Pattern,
     choice: EngineChoice,
-    least: bool,
     gate: &G,
 ) -> Result<Matching, OutOfMemory>
     requires workers { HasWorkers choice }
     ensures maximum { IfOk result (IsMaximumOf pattern.now) }
+{
+    solve(rt, alloc, pattern, choice.engine, choice.workers, gate)
+}
+
+/// A maximum matching of a matrix whose parts these are: this one, or with `least` the least one,
+/// which is the same for every engine.
+pub(crate) fn least_if_asked(
+    alloc: Global,
+    pattern: &Pattern,
+    matching: Matching,
+    parts: &Parts,
+    least: bool,
+) -> Result<Matching, OutOfMemory>
+    requires maximum { IsMaximumOf pattern.now matching }
+    requires parts { ArePartsOf pattern.now (parts_of parts.now) }
+    ensures maximum { IfOk result (IsMaximumOf pattern.now) }
     ensures least { IfOk result (λ m. IsMaximumOrLeast pattern.now least m.pairs) }
 {
-    let matching = solve(rt, alloc, pattern, choice.engine, choice.workers, gate)?;
     if !least {
         return Ok(matching);
     }
-    least_matching(alloc, pattern, matching)
+    least_by_parts(alloc, pattern, matching, parts)
 }

@@ -63,6 +63,6 @@ fn decomposition_of<R: Threads + Sync, G: Gate>(
         (λ d. (a : Matrix) × IsLoadMatrix size seed a × Decomposes a d) }
 {
     let pattern = load_matrix(rt, alloc, size, seed)?;
-    let matching = matching_for(rt, alloc, &pattern, choice, false, gate)?;
+    let matching = matching_for(rt, alloc, &pattern, choice, gate)?;
     decompose(rt, alloc, &pattern, &matching)
 }

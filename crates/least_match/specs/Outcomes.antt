@@ -1,5 +1,6 @@
 -- The parts of columns, and what a search comes to.
 use Rattle.std.specs.Prelude.{◌≡◌, ℕ, ◌<◌, List, length, slice_index_or}
+use Rattle.bip_defs.specs.Lists.{Among}
 use Rattle.bip_defs.specs.Matrix.{Matrix, Place, cols}
 use Rattle.bip_defs.specs.Parts.{IsHorizontalCol, IsVerticalCol}
 use Rattle.bip_defs.specs.Queues.{Queue, at}
@@ -22,6 +23,12 @@ IsIn a c Square = (¬ IsHorizontalCol a c) × (¬ IsVerticalCol a c)
 pub record AreParted (a : Matrix) (parts : List Part) : Type 0 where
   pub long : length parts ≡ cols a
   pub each : (c : ℕ) → c < cols a → IsIn a c (slice_index_or parts c Square)
+
+-- the columns of the list have this part, and all others have the one that they had
+pub record IsGiven (old : List Part) (part : Part) (xs : List ℕ) (new : List Part) : Type 0 where
+  pub long : length new ≡ length old
+  pub given : (c : ℕ) → Among c xs → slice_index_or new c Square ≡ part
+  pub kept : (c : ℕ) → ¬ Among c xs → slice_index_or new c Square ≡ slice_index_or old c Square
 
 -- the horizontal columns may be missed, so a forward tree that is complete shows nothing there
 abbrev pub ForwardDecides : Part → Type 0

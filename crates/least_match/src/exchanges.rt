@@ -8,11 +8,12 @@ ghost use Rattle.bip_defs.specs.Matching.{cols_of};
 ghost use Rattle.bip_defs.specs.Matrix.{IsEntry, Place, cols};
 ghost use Rattle.bip_graph.specs.Matching.{IsMaximumOf};
 ghost use Rattle.least_match.specs.Extensions.{Excludes, Extends, HasAt};
+ghost use Rattle.least_match.specs.Outcomes.{AreParted};
 ghost use Rattle.least_match.specs.Ready.{IsReady};
 
 use crate::classes::Classes;
 use crate::exchange::{pass, swap};
-use crate::parts::{Part, parts};
+use crate::parts::Part;
 use crate::search::{ClassTail, Outcome};
 use crate::tree::Tree;
 use bip_graph::Matching;
@@ -31,18 +32,20 @@ pub struct Exchanges<'p> {
 }
 
 impl<'p> Exchanges<'p> {
-    /// For a matrix with a maximum matching.
+    /// For a matrix with a maximum matching, and with the parts of its columns. The matching is
+    /// there for what is said of the classes.
     ///
     /// Answers `OutOfMemory` where the arrays can't be had.
     pub fn new(
         alloc: Global,
         pattern: &'p Pattern,
-        matching: &Matching,
+        _matching: &Matching,
+        parts: Vec<Part>,
     ) -> Result<Exchanges<'p>, OutOfMemory>
-        requires maximum { IsMaximumOf pattern.now matching.now }
-        ensures ready { IfOk result (IsReady pattern.entry.now matching.now.pairs 0) }
+        requires maximum { IsMaximumOf pattern.now _matching.now }
+        requires parts { AreParted pattern.now parts.items }
+        ensures ready { IfOk result (IsReady pattern.entry.now _matching.now.pairs 0) }
     {
-        let parts = parts(alloc, pattern, matching)?;
         let classes = Classes::new(alloc, parts.as_slice())?;
         let forward = Tree::new(alloc, pattern.cols())?;
         let backward = Tree::new(alloc, pattern.cols())?;

@@ -1,13 +1,15 @@
 //! The parts of a matrix in which its columns lie.
 
-ghost use Rattle.std.specs.Prelude.{◌<◌, IfOk};
+ghost use Rattle.std.specs.Prelude.{ℕ, ◌<◌, length, IfOk};
+ghost use Rattle.bip_defs.specs.Lists.{Among};
 ghost use Rattle.bip_defs.specs.Marks.{Marks};
 ghost use Rattle.bip_defs.specs.Matrix.{cols};
-ghost use Rattle.bip_defs.specs.Parts.{IsHorizontalCol, IsVerticalRow};
+ghost use Rattle.bip_defs.specs.Parts.{ArePartsOf, IsHorizontalCol, IsVerticalRow};
+ghost use Rattle.bip_graph.specs.Decompositions.{parts_of};
 ghost use Rattle.bip_graph.specs.Matching.{IsMaximumOf};
-ghost use Rattle.least_match.specs.Outcomes.{AreParted, IsIn};
+ghost use Rattle.least_match.specs.Outcomes.{AreParted, IsGiven, IsIn};
 
-use bip_graph::Matching;
+use bip_graph::{Matching, Parts};
 use hall_witness::reached;
 use sp_ids::{Col, OutOfMemory};
 use sp_pattern::{FromRows, Pattern};
@@ -46,6 +48,37 @@ pub fn parts(
         parts.push(part)?;
     }
     Ok(parts)
+}
+
+/// The part of each column, from the lists of the parts.
+///
+/// Answers `OutOfMemory` where the list can't be had. Work: one look at each column.
+pub fn listed_parts(
+    alloc: Global,
+    pattern: &Pattern,
+    parts: &Parts,
+) -> Result<Vec<Part>, OutOfMemory>
+    requires { ArePartsOf pattern.now (parts_of parts.now) }
+    ensures { IfOk result (λ v. AreParted pattern.now v.items) }
+{
+    let mut of_cols = vec![in alloc; Part::Square; pattern.cols() as usize]?;
+    give(
+        of_cols.as_mut_slice(),
+        parts.hc.as_slice(),
+        Part::Horizontal,
+    );
+    give(of_cols.as_mut_slice(), parts.vc.as_slice(), Part::Vertical);
+    Ok(of_cols)
+}
+
+// Gives a part to these columns.
+fn give(parts: &mut [Part], cols: &[Col], part: Part)
+    requires cols { (c : ℕ) → Among c cols.now → c < length parts.old }
+    ensures { IsGiven parts.old part cols.now parts.new }
+{
+    for col in cols {
+        parts[col.0 as usize] = part;
+    }
 }
 
 // Marks the rows that some maximum matching misses.

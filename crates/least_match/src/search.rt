@@ -228,11 +228,33 @@ impl ClassTail<'_> {
         None
     }
 
+    // How many entries the column at a place of the forward tree has. It weighs what a search
+    // looked at, so nothing is said of it.
+    fn entries_ahead(&self, forward: &Tree, place: u32) -> u64
+        requires place { place < length forward.now.queue }
+        requires col { (at forward.now.queue place).0 < cols self.now.pattern.now }
+    {
+        let (col, _) = forward.at(place);
+        self.pattern.rows_of(col).len() as u64
+    }
+
+    // How many entries the row of the column at a place of the backward tree has.
+    fn entries_back(&self, matching: &Matching, backward: &Tree, place: u32) -> u64
+        requires matching { IsMatchingOf self.now.pattern.now matching.now }
+        requires place { place < length backward.now.queue }
+        requires col { Among (at backward.now.queue place).0 (cols_of matching.now.pairs) }
+    {
+        let (col, _) = backward.at(place);
+        let row = mate(matching, col);
+        self.pattern.cols_of(row).len() as u64
+    }
+
     /// Searches from the first column of the forward tree, and towards the one of the backward
     /// tree, until a path is found or it is certain that there is none.
     ///
-    /// The tree of which fewer columns were looked at grows next, so that a search which fails
-    /// costs about as much as the smaller of the two sets that it parts.
+    /// The tree of which fewer entries were looked at grows next, so that a search which fails
+    /// costs about as much as the set with fewer entries of the two that it parts, and the entries
+    /// of one column or one row more.
     pub fn search(
         &self,
         matching: &Matching,
@@ -258,8 +280,18 @@ impl ClassTail<'_> {
         let _cols = self.pattern.cols();
         let mut ahead: u32 = 0;
         let mut back: u32 = 0;
+        let mut looked_ahead: u64 = 0;
+        let mut looked_back: u64 = 0;
         loop {
-            match next_turn(part, ahead, forward.len(), back, backward.len()) {
+            let forward_first = looked_ahead <= looked_back;
+            match next_turn(
+                part,
+                ahead,
+                forward.len(),
+                back,
+                backward.len(),
+                forward_first,
+            ) {
                 Turn::EndForward => return Outcome::ForwardEnds,
                 Turn::EndBackward => return Outcome::BackwardEnds,
                 Turn::GrowForward => {
@@ -267,6 +299,7 @@ impl ClassTail<'_> {
                         Some(meeting) => return Outcome::Path(meeting),
                         None => {}
                     }
+                    looked_ahead = looked_ahead.saturating_add(self.entries_ahead(forward, ahead));
                     ahead += 1;
                     continue;
                 }
@@ -275,6 +308,9 @@ impl ClassTail<'_> {
                         Some(meeting) => return Outcome::Path(meeting),
                         None => {}
                     }
+                    looked_back = looked_back.saturating_add(self.entries_back(
+                        matching, backward, back,
+                    ));
                     back += 1;
                     continue;
                 }
@@ -305,12 +341,20 @@ fn enter(col: Col, parent: u32, tree: &mut Tree, other: &Tree) -> Option<u32>
     None
 }
 
-// Which tree grows next, by how many of its columns were looked at, and how many it has.
+// Which tree grows next, by how many of its columns were looked at, and how many it has; where both
+// have columns left, the forward tree if it is first.
 //
 // A forward tree that is complete shows that there is no path, where no maximum matching misses a
 // column of its class; a backward one, where none misses a row of it. One of the two holds in each
 // part.
-fn next_turn(part: Part, ahead: u32, forward: u32, back: u32, backward: u32) -> Turn
+fn next_turn(
+    part: Part,
+    ahead: u32,
+    forward: u32,
+    back: u32,
+    backward: u32,
+    forward_first: bool,
+) -> Turn
     requires within { (ahead ≤ forward) × (back ≤ backward) }
     ensures { IsTurn part ahead forward back backward result }
 {
@@ -320,7 +364,7 @@ fn next_turn(part: Part, ahead: u32, forward: u32, back: u32, backward: u32) -> 
                 Turn::EndBackward
             } else if ahead == forward {
                 Turn::GrowBackward
-            } else if ahead <= back {
+            } else if forward_first {
                 Turn::GrowForward
             } else {
                 Turn::GrowBackward
@@ -331,7 +375,7 @@ fn next_turn(part: Part, ahead: u32, forward: u32, back: u32, backward: u32) -> 
                 Turn::EndForward
             } else if back == backward {
                 Turn::GrowForward
-            } else if ahead <= back {
+            } else if forward_first {
                 Turn::GrowForward
             } else {
                 Turn::GrowBackward
@@ -342,7 +386,7 @@ fn next_turn(part: Part, ahead: u32, forward: u32, back: u32, backward: u32) -> 
                 Turn::EndForward
             } else if back == backward {
                 Turn::EndBackward
-            } else if ahead <= back {
+            } else if forward_first {
                 Turn::GrowForward
             } else {
                 Turn::GrowBackward

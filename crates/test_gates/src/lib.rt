@@ -24,6 +24,7 @@ pub struct BarrierGate {
     arrivals: Vec<AtomicU64>,
     parties: u32,
     turns: u32,
+    needs_threads: bool,
     ran_out: AtomicBool,
 }
 
@@ -36,6 +37,25 @@ impl BarrierGate {
 
     /// The same, where a worker looks at most so many times in one arrival.
     pub fn with_turns(alloc: Global, parties: u32, turns: u32) -> Result<BarrierGate, OutOfMemory> {
+        BarrierGate::make(alloc, parties, turns, true)
+    }
+
+    /// The same, which does not ask for threads: where parts are done one after the other all the
+    /// same, the first of the parties to arrive uses all its turns.
+    pub fn without_threads(
+        alloc: Global,
+        parties: u32,
+        turns: u32,
+    ) -> Result<BarrierGate, OutOfMemory> {
+        BarrierGate::make(alloc, parties, turns, false)
+    }
+
+    fn make(
+        alloc: Global,
+        parties: u32,
+        turns: u32,
+        needs_threads: bool,
+    ) -> Result<BarrierGate, OutOfMemory> {
         let mut arrivals = Vec::with_capacity(alloc, MAX_WORKERS as usize)?;
         for _worker in 0..MAX_WORKERS {
             arrivals.push(AtomicU64::new(0))?;
@@ -44,6 +64,7 @@ impl BarrierGate {
             arrivals,
             parties,
             turns,
+            needs_threads,
             ran_out: AtomicBool::new(false),
         })
     }
@@ -106,6 +127,6 @@ impl Gate for BarrierGate {
     }
 
     fn needs_threads(&self) -> bool {
-        true
+        self.needs_threads
     }
 }

@@ -31,12 +31,12 @@ pub with_hall_set-requires-clause-rising : goal.with_hall_set-requires-clause-ri
 with_hall_set-requires-clause-rising c = subst (λ (z : List Place). IsRising (cols_of z)) (sym c.loop-pairs.invariant.pairs) c.is_matching.ensures.cols_rise
 
 pub with_hall_set-requires-clause-least : goal.with_hall_set-requires-clause-least
-with_hall_set-requires-clause-least c = subst (λ (z : List Place). IsLeastWeight (weight_at c.args.weights.now) z c.loop-pairs.least) (sym c.loop-pairs.invariant.pairs) c.loop-pairs.invariant.least
+with_hall_set-requires-clause-least c = subst (λ (z : List Place). IsLeastWeight (weight_at c.args.weights.now) z c.in_ok-heavier.heavier.above) (sym c.loop-pairs.invariant.pairs) (subst (IsLeastWeight (weight_at c.args.weights.now) c.loop-pairs.matching.pairs) (sym c.in_ok-heavier.ensures.above) c.loop-pairs.invariant.least)
 
 pub least_of-least-requires-in-loop-pairs : goal.least_of-least-requires-in-loop-pairs
 least_of-least-requires-in-loop-pairs c =
-    let k = lowered c.args.pattern.now c.in_ok-heavier.heavier (weight_at c.args.weights.now) c.loop-pairs.least c.in_ok-heavier.next c.in_ok-heavier.ensures.pattern c.in_ok-heavier.ensures.maximum.matching in
-    are_entries c.args.pattern.now c.args.weights.now.matrix c.in_ok-heavier.next.pairs c.as_slice-in-loop-pairs.result.now c.requires.of k.matching (c.as_slice-in-loop-pairs.ensures.value ∙ c.in_ok-pairs-2.ensures)
+    let k = lowered c.args.pattern.now c.in_ok-heavier.heavier.entries (weight_at c.args.weights.now) c.in_ok-heavier.heavier.above c.in_ok-heavier.heavier.maximum c.in_ok-heavier.ensures.heavier.entries c.in_ok-heavier.ensures.heavier.maximum.matching in
+    are_entries c.args.pattern.now c.args.weights.now.matrix c.in_ok-heavier.heavier.maximum.pairs c.as_slice-in-loop-pairs.result.now c.requires.of k.matching (c.as_slice-in-loop-pairs.ensures.value ∙ c.in_ok-pairs-2.ensures)
 
 pub loop-pairs-smaller : goal.loop-pairs-smaller
 loop-pairs-smaller c =
@@ -45,19 +45,19 @@ loop-pairs-smaller c =
     let size = c.size.ensures.size in
     let n = c.cols-cols.ensures in
     let long = c.if-size-cols.false in
-    let lt : c.loop-pairs.least < c.least_of-least-in-loop-pairs.result = progress c.args.pattern.now c.in_ok-heavier.heavier (weight_at c.args.weights.now) c.loop-pairs.least c.least_of-least-in-loop-pairs.result c.in_ok-heavier.next.pairs c.in_ok-heavier.ensures.pattern c.in_ok-heavier.ensures.maximum.matching.matching (omega (arith, size, n, long, some)) l in
+    let lt : c.loop-pairs.least < c.least_of-least-in-loop-pairs.result = subst (λ x. x < c.least_of-least-in-loop-pairs.result) c.in_ok-heavier.ensures.above (progress c.args.pattern.now c.in_ok-heavier.heavier.entries (weight_at c.args.weights.now) c.in_ok-heavier.heavier.above c.least_of-least-in-loop-pairs.result c.in_ok-heavier.heavier.maximum.pairs c.in_ok-heavier.ensures.heavier.entries c.in_ok-heavier.ensures.heavier.maximum.matching.matching (omega (arith, size, n, long, some)) l) in
     let fits = c.least_of-least-in-loop-pairs.type_inv in
     omega (arith, lt, fits)
 
 pub loop-pairs-preserved : goal.loop-pairs-preserved
 loop-pairs-preserved c =
-    let k = lowered c.args.pattern.now c.in_ok-heavier.heavier (weight_at c.args.weights.now) c.loop-pairs.least c.in_ok-heavier.next c.in_ok-heavier.ensures.pattern c.in_ok-heavier.ensures.maximum.matching in
+    let k = lowered c.args.pattern.now c.in_ok-heavier.heavier.entries (weight_at c.args.weights.now) c.in_ok-heavier.heavier.above c.in_ok-heavier.heavier.maximum c.in_ok-heavier.ensures.heavier.entries c.in_ok-heavier.ensures.heavier.maximum.matching in
     let size = c.size.ensures.size in
     let n = c.cols-cols.ensures in
     let long = c.if-size-cols.false in
     record {
       matching = k;
-      full = not_short c.args.pattern.now c.in_ok-heavier.next.pairs k.matching (omega (arith, size, n, long));
+      full = not_short c.args.pattern.now c.in_ok-heavier.heavier.maximum.pairs k.matching (omega (arith, size, n, long));
       pairs = c.in_ok-pairs-2.ensures;
       least = subst (λ (z : List Place). IsLeastWeight (weight_at c.args.weights.now) z c.least_of-least-in-loop-pairs.result) (c.as_slice-in-loop-pairs.ensures.value ∙ c.in_ok-pairs-2.ensures) c.least_of-least-in-loop-pairs.ensures;
     }

@@ -6,5 +6,5 @@ use Rattle.bottleneck.proofs.AnswerLemmas.{best_shown}
 use Rattle.bottleneck.proofs.answer.with_hall_set.Goals as goal
 
 pub returns : goal.returns
-returns c = subst (λ (z : Matrix). IsBest z (weight_at c.args.weights.now) c.args.pairs.items c.args.least c.in_ok-hall.hall.items) (sym c.requires.of)
-    (best_shown c.args.pattern.now c.args.heavier.now (weight_at c.args.weights.now) c.args.pairs.items c.args.maximum.now.pairs c.args.least c.in_ok-hall.hall.items c.requires.square c.requires.full c.requires.rising c.requires.least c.requires.above c.requires.short c.in_ok-hall.ensures)
+returns c = subst (λ (z : Matrix). IsBest z (weight_at c.args.weights.now) c.args.pairs.items c.args.heavier.now.above c.in_ok-hall.hall.items) (sym c.requires.of)
+    (best_shown c.args.pattern.now c.args.heavier.now.entries (weight_at c.args.weights.now) c.args.pairs.items c.args.heavier.now.maximum.pairs c.args.heavier.now.above c.in_ok-hall.hall.items c.requires.square c.requires.full c.requires.rising c.requires.least c.requires.heavier.entries c.requires.short c.in_ok-hall.ensures)

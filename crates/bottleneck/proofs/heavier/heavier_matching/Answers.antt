@@ -5,4 +5,4 @@ use Rattle.bottleneck.proofs.HeavierLemmas.{above_cols}
 use Rattle.bottleneck.proofs.heavier.heavier_matching.Goals as goal
 
 pub pairs_left-requires-clause-cols : goal.pairs_left-requires-clause-cols
-pairs_left-requires-clause-cols c = c.requires.matching.cols ∙ sym (ap cols c.in_ok-heavier.ensures ∙ above_cols c.args.pattern.now (weight_at c.args.weights.now) c.args.least)
+pairs_left-requires-clause-cols c = c.requires.matching.cols ∙ sym (ap cols c.in_ok-entries.ensures ∙ above_cols c.args.pattern.now (weight_at c.args.weights.now) c.args.above)

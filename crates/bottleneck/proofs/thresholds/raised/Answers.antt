@@ -1,27 +1,38 @@
-use Rattle.std.proofs.Common.{◌∙◌, ap, arith, length, sym, subst}
-use Rattle.bip_graph.specs.Matching.{IsMatchingOf, Pairing}
+use Rattle.std.proofs.Common.{◌∙◌, arith}
 use Rattle.sp_pattern.specs.Weights.{weight_at}
+use Rattle.bottleneck.proofs.AnswerLemmas.{not_short}
 use Rattle.bottleneck.proofs.HeavierLemmas.{lowered}
 use Rattle.bottleneck.proofs.PairLemmas.{are_entries}
 use Rattle.bottleneck.proofs.thresholds.raised.Goals as goal
-use Rattle.bottleneck.proofs.thresholds.raised.Goals.{then-size-cols, else-size-cols}
 
 pub least_of-least-requires : goal.least_of-least-requires
 least_of-least-requires c = are_entries c.args.pattern.now c.args.weights.now.matrix c.args.matching.pairs c.as_slice.result.now c.requires.of c.requires.matching.matching (c.as_slice.ensures.value ∙ c.in_ok-pairs.ensures)
 
+pub loop-low-preserved-then-size-cols : goal.loop-low-preserved-then-size-cols
+loop-low-preserved-then-size-cols c =
+    let within = c.loop-low.invariant.within in
+    let lt = c.loop-low-test.true in
+    let size = c.size.ensures.size in
+    let n = c.cols.ensures in
+    let less = c.if-size-cols.true in
+    record {
+      matching = c.loop-low.invariant.matching;
+      full = c.loop-low.invariant.full;
+      short = record { heavier = c.in_ok-heavier.ensures.heavier; short = omega (arith, less, size, n) };
+      within = omega (arith, within, lt);
+    }
+
 pub loop-low-preserved : goal.loop-low-preserved
 loop-low-preserved c =
     let within = c.loop-low.invariant.within in
-    let lt = c.loop-low-test.true in
-    elim c.if-size-cols.branch [
-      | then-size-cols w ↦ record {
-        matching = subst (λ (z : Pairing). IsMatchingOf c.args.pattern.now z) (sym w.matching-is) (lowered c.args.pattern.now c.in_ok-_heavier._heavier (weight_at c.args.weights.now) _ c.in_ok-_heavier.next c.in_ok-_heavier.ensures.pattern c.in_ok-_heavier.ensures.maximum.matching);
-        full = ap (λ (z : Pairing). length z.pairs) w.matching-is ∙ (sym c.size.ensures.size ∙ (w.if-size-cols.true ∙ c.cols.ensures));
-        within = let high = w.high-is in omega (arith, high, within);
-      }
-      | else-size-cols w ↦ record {
-        matching = subst (λ (z : Pairing). IsMatchingOf c.args.pattern.now z) (sym w.matching-is) c.loop-low.invariant.matching;
-        full = ap (λ (z : Pairing). length z.pairs) w.matching-is ∙ c.loop-low.invariant.full;
-        within = let high = w.high-is in omega (arith, high, within, lt);
-      }
-    ]
+    let size = c.size.ensures.size in
+    let n = c.cols.ensures in
+    let long = c.if-size-cols.false in
+    let h = c.in_ok-heavier.ensures.heavier in
+    let k = lowered c.args.pattern.now c.in_ok-heavier.heavier.entries (weight_at c.args.weights.now) c.in_ok-heavier.heavier.above c.in_ok-heavier.heavier.maximum h.entries h.maximum.matching in
+    record {
+      matching = k;
+      full = not_short c.args.pattern.now c.in_ok-heavier.heavier.maximum.pairs k.matching (omega (arith, long, size, n));
+      short = c.loop-low.invariant.short;
+      within = within;
+    }

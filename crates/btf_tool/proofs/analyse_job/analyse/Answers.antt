@@ -51,3 +51,19 @@ returns-in_err-buf-clause-says g c =
     let out = seen g.O.Sink.taken g.O.Sink.faults c.args.out.now c.args.out.now in
     as_refusal _ OutOfMemory (JobSays job input out) c.from_residual-in_err-buf.ensures.1
     (no_memory job input out c.in_ok-triples.triples [] c.in_ok-triples.ensures.read c.in_ok-triples.ensures.counts (refl, refl))
+
+pub returns-in_err-matching-clause-says : goal.returns-in_err-matching-clause-says
+returns-in_err-matching-clause-says g c =
+    let job = Analyse c.args.options.choice c.args.options.report c.args.options.drop_zeros in
+    let input = seen g.S.Source.left g.S.Source.faults c.args.input.now c.read_file.new.input in
+    let out = seen g.O.Sink.taken g.O.Sink.faults c.args.out.now c.args.out.now in
+    as_refusal _ OutOfMemory (JobSays job input out) c.from_residual-in_err-matching.ensures.1
+    (no_memory job input out c.in_ok-triples.triples [] c.in_ok-triples.ensures.read c.in_ok-triples.ensures.counts (refl, refl))
+
+pub returns-in_err-decomposition-clause-says : goal.returns-in_err-decomposition-clause-says
+returns-in_err-decomposition-clause-says g c =
+    let job = Analyse c.args.options.choice c.args.options.report c.args.options.drop_zeros in
+    let input = seen g.S.Source.left g.S.Source.faults c.args.input.now c.read_file.new.input in
+    let out = seen g.O.Sink.taken g.O.Sink.faults c.args.out.now c.args.out.now in
+    as_refusal _ OutOfMemory (JobSays job input out) c.from_residual-in_err-decomposition.ensures.1
+    (no_memory job input out c.in_ok-triples.triples [] c.in_ok-triples.ensures.read c.in_ok-triples.ensures.counts (refl, refl))

@@ -9,8 +9,8 @@ pub returns : goal.returns
 returns c = record {
   ready = record {
     pattern = refl;
-    parts = c.in_ok-parts.ensures;
-    classes = subst (AreClasses c.args.pattern.now c.args.matching.now.pairs 0 c.in_ok-classes.classes.numbers.items) (sym c.in_ok-classes.ensures.count) (first_classes _ _ c.in_ok-parts.parts.items _ c.requires.maximum.maximum c.in_ok-parts.ensures (subst (λ (z : List Part). HaveParts z (length z) c.in_ok-classes.classes.numbers.items) c.as_slice.ensures.value c.in_ok-classes.ensures.parts));
+    parts = c.requires.parts;
+    classes = subst (AreClasses c.args.pattern.now c.args._matching.now.pairs 0 c.in_ok-classes.classes.numbers.items) (sym c.in_ok-classes.ensures.count) (first_classes _ _ c.args.parts.items _ c.requires.maximum.maximum c.requires.parts (subst (λ (z : List Part). HaveParts z (length z) c.in_ok-classes.classes.numbers.items) c.as_slice.ensures.value c.in_ok-classes.ensures.parts));
     forward_cols = ap (λ (z : Reached). z.cols) c.in_ok-forward.ensures ∙ c.cols.ensures;
     backward_cols = ap (λ (z : Reached). z.cols) c.in_ok-backward.ensures ∙ c.cols-2.ensures;
   };

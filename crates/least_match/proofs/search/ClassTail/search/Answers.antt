@@ -2,6 +2,7 @@ use Rattle.std.proofs.Common.{◌∙◌, ◌<◌, arith, length, subst}
 use Rattle.bip_defs.specs.Matrix.{cols}
 use Rattle.bip_defs.proofs.Below.{below_more}
 use Rattle.bip_defs.specs.Queues.{at}
+use Rattle.bip_defs.proofs.Queues.{head_at}
 use Rattle.least_match.specs.Outcomes.{AreScanned, AreScannedBack}
 use Rattle.least_match.specs.Trees.{IsScanned, IsScannedBack}
 use Rattle.least_match.proofs.SearchLemmas.{grown_length, scanned_grown, scanned_grown_back, tree_few}
@@ -70,3 +71,21 @@ loop-forward-preserved c =
       scanned = i.scanned;
       scanned_back = below_more (λ k. IsScannedBack c.args.self.now.pattern.now c.args.matching.now.pairs c.args.self.now.classes.now c.args.self.now.col c.scan_back.new.backward.queue (at c.scan_back.new.backward.queue k).0) c.loop-forward.back (scanned_grown_back _ _ _ _ _ _ _ grows i.back i.scanned_back) c.in-None-scan_back.ensures.scanned;
     }
+
+pub entries_ahead-requires-clause-col : goal.entries_ahead-requires-clause-col
+entries_ahead-requires-clause-col c =
+    let i = c.loop-forward.invariant in
+    let lt = c.in-GrowForward.ensures in
+    let more = grown_length _ _ c.in-None.ensures.grows in
+    let within : c.loop-forward.ahead < length c.scan_forward.new.forward.queue = omega (arith, lt, more, c.len.ensures.count) in
+    let trees = c.in-None.ensures.trees c.requires.trees.0 (i.trees c.requires.trees.0 c.requires.trees.1) in
+    (trees.forward_tree.tail _ (head_at c.scan_forward.new.forward.queue c.loop-forward.ahead within)).within
+
+pub entries_back-requires-clause-col : goal.entries_back-requires-clause-col
+entries_back-requires-clause-col c =
+    let i = c.loop-forward.invariant in
+    let lt = c.in-GrowBackward.ensures in
+    let more = grown_length _ _ c.in-None-scan_back.ensures.grows in
+    let within : c.loop-forward.back < length c.scan_back.new.backward.queue = omega (arith, lt, more, c.len-in-loop-forward.ensures.count) in
+    let trees = c.in-None-scan_back.ensures.trees c.requires.trees.0 (i.trees c.requires.trees.0 c.requires.trees.1) in
+    trees.backward_tree.matched _ (head_at c.scan_back.new.backward.queue c.loop-forward.back within)

@@ -5,7 +5,7 @@ use Rattle.bip_graph.specs.Matching.{IsMaximumOf}
 use Rattle.least_match.specs.Extensions.{Extends, IsLeastBelow}
 use Rattle.least_match.specs.Ready.{IsReady}
 use Rattle.least_match.proofs.ExtensionLemmas.{least_end, least_more, least_start}
-use Rattle.least_match.proofs.least.Goals as goal
+use Rattle.least_match.proofs.settled.Goals as goal
 
 pub loop-col-init : goal.loop-col-init
 loop-col-init c = record {

@@ -2,7 +2,7 @@ use Rattle.std.proofs.Common.{◌≡◌}
 use Rattle.bip_graph.specs.Matching.{IsMaximumOf}
 use Rattle.least_match.specs.Extensions.{IsLeastBelow}
 use Rattle.least_match.specs.Ready.{IsReady}
-use Rattle.least_match.proofs.least.Given as goal
+use Rattle.least_match.proofs.settled.Given as goal
 
 abbrev pub invariant-loop-col : goal.invariant-loop-col
 invariant-loop-col l = record {
