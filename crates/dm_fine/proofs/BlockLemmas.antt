@@ -1,17 +1,19 @@
 -- Components with their rows and columns gathered are the fine blocks, and their order is that of the blocks.
 use Rattle.std.proofs.Common.{◌≡◌, ◌≢◌, ◌⊎◌, ◌∙◌, ℕ, ◌^◌, ◌<◌, ◌≤◌, List, [], ◌∷◌, ◌++◌, map, length, nat_eq, get_or, refl, sym, ap, subst, inl, inr, ⊎_elim, arith}
 use Rattle.std.specs.List.{list_any}
-use Rattle.std.proofs.lemmas.List.{get_or_default}
+use Rattle.std.proofs.Math.Decide.{dec_lt}
+use Rattle.std.proofs.lemmas.List.{get_or_default, get_or_past}
 use Rattle.bip_defs.specs.Blocks.{AreBlocksOf, AreInOrder, Block, IsBlock, MeetsNoOther, least_col}
 use Rattle.bip_defs.specs.Components.{IsComponent}
-use Rattle.bip_defs.specs.Lists.{Among, AreDistinct, Lists, StandsAt}
+use Rattle.bip_defs.specs.Lists.{Among, AreDistinct, IsRising, Lists, StandsAt}
 use Rattle.bip_defs.specs.Matching.{IsMatching}
 use Rattle.bip_defs.specs.Matrix.{IsEntry, Matrix, Place, cols, column, entry_count, row_list, upto}
 use Rattle.bip_defs.specs.Parts.{IsSquareCol}
 use Rattle.bip_defs.proofs.Fine.{block_is_component, component_is_block}
-use Rattle.bip_defs.proofs.Sets.{among_left, among_right, among_map, among_map_back, among_test, entry_col, filter_complete, filter_sound, lists_same, lists_unique, number_same, one_col, row_among, upto_lists}
+use Rattle.bip_defs.proofs.Sets.{among_left, among_right, among_map, among_map_back, among_at, among_test, below_each_sound, col_among, entry_col, filter_complete, filter_sound, lists_same, lists_unique, number_same, one_col, row_among, upto_lists}
 use Rattle.bip_graph.specs.Matching.{none}
 use Rattle.square_components.specs.Numbers.{AreNumbered, look}
+use Rattle.dm_fine.specs.Renumbering.{AreNumberedByLeast, AreRenumbered}
 use Rattle.dm_fine.specs.BlockOrder.{AreOrdered, AreOrderedBlocks, Follow}
 use Rattle.dm_fine.specs.Groups.{AreApart, AreRowGroups}
 use Rattle.id_groups.specs.Groups.{AreGroups, block_of, group}
@@ -27,13 +29,61 @@ use Rattle.dm_fine.proofs.InDegrees.{edges_hit, edges_miss, edges_own_j}
 col_stable : (a : Matrix) (c : ℕ) → c < cols a → ¬ ¬ IsSquareCol a c → IsSquareCol a c
 col_stable a c lt nn = (lt, λ h. nn (λ s. s.1 h), λ v. nn (λ s. s.2 v))
 
-number_square : (a : Matrix) (m : List Place) (numbers : List ℕ) (n c : ℕ) → cols a < 2 ^ 32 → AreNumbered a m numbers n → c < cols a → look numbers c < n → IsSquareCol a c
+-- the numbers of a search, renumbered
+pub by_least : (a : Matrix) (m : List Place) (old new : List ℕ) (count n : ℕ) → cols a < 2 ^ 32 → AreNumbered a m old count → AreRenumbered old count new n → AreNumberedByLeast a m new n
+by_least a m old new count n small s r = record {
+  long = r.long ∙ s.long;
+  square = s.square;
+  perfect = s.perfect;
+  are_pairs = s.are_pairs;
+  all_pairs = s.all_pairs;
+  finished = look old;
+  components = s.components;
+  same = λ c d here there.
+      let is = now c here in let at = now d there in let was = before c here in let then = before d there in
+      let both = r.same c d (within c here) (within d there) (counted c here) (counted d there) in
+      ((λ e. sym was ∙ both.0 (is ∙ e ∙ sym at) ∙ then), (λ e. sym is ∙ both.1 (was ∙ e ∙ sym then) ∙ at));
+  below = λ c here. let lt = r.below c (within c here) (counted c here) in let is = now c here in omega (arith, lt, is);
+  used = λ k lt. let (c, inside, below, is) = r.used k lt in let here = square_of c inside below in (c, here, sym (now c here) ∙ is);
+  outside = λ c off. ⊎_elim (λ (lt : c < length old).
+      let was : get_or old c 0 ≡ none = get_or_default old c 0 none lt ∙ s.outside c off in
+      let all = r.long in
+      sym (get_or_default new c 0 none (omega (arith, all, lt))) ∙ r.outside c lt (λ below. let few = s.few in absurd (omega (arith, below, was, few, small))) ∙ was)
+      (λ le. get_or_past new c none (let all = r.long in omega (arith, all, le))) (inside_or c (length old));
+  few = let le = r.few in let all = s.long in omega (arith, le, all);
+  earlier = λ c k here lt.
+      let is = now c here in
+      let (d, before, below, at) = r.earlier c k (within c here) (counted c here) (omega (arith, is, lt)) in
+      let in_c = within c here in
+      let there = square_of d (omega (arith, before, in_c)) below in
+      (d, before, there, sym (now d there) ∙ at);
+}
+  where
+    inside_or : (c l : ℕ) → (c < l) ⊎ (l ≤ c)
+    inside_or c l = elim (dec_lt c l) [ yes lt ↦ inl lt | no ge ↦ inr (omega (arith, ge)) ]
+
+    within : (c : ℕ) → IsSquareCol a c → c < length old
+    within c here = let lt = here.0 in let long = s.long in omega (arith, lt, long)
+
+    before : (c : ℕ) → IsSquareCol a c → get_or old c 0 ≡ look old c
+    before c here = get_or_default old c 0 none (within c here)
+
+    counted : (c : ℕ) → IsSquareCol a c → get_or old c 0 < count
+    counted c here = let is = before c here in let lt = s.below c here in omega (arith, is, lt)
+
+    now : (c : ℕ) → IsSquareCol a c → get_or new c 0 ≡ look new c
+    now c here = get_or_default new c 0 none (let lt = within c here in let long = r.long in omega (arith, lt, long))
+
+    square_of : (c : ℕ) → c < length old → get_or old c 0 < count → IsSquareCol a c
+    square_of c lt below = col_stable a c (let long = s.long in omega (arith, lt, long)) (λ off. let e : get_or old c 0 ≡ none = get_or_default old c 0 none lt ∙ s.outside c off in let few = s.few in absurd (omega (arith, e, few, below, small)))
+
+number_square : (a : Matrix) (m : List Place) (numbers : List ℕ) (n c : ℕ) → cols a < 2 ^ 32 → AreNumberedByLeast a m numbers n → c < cols a → look numbers c < n → IsSquareCol a c
 number_square a m numbers n c small s lt below = col_stable a c lt (λ off. let e = s.outside c off in let few = s.few in absurd (omega (arith, e, few, below, small)))
 
-looked : (a : Matrix) (m : List Place) (numbers : List ℕ) (n c : ℕ) → AreNumbered a m numbers n → c < cols a → get_or numbers c 0 ≡ look numbers c
+looked : (a : Matrix) (m : List Place) (numbers : List ℕ) (n c : ℕ) → AreNumberedByLeast a m numbers n → c < cols a → get_or numbers c 0 ≡ look numbers c
 looked a m numbers n c s lt = let long = s.long in get_or_default numbers c 0 none (omega (arith, long, lt))
 
-cols_component : (a : Matrix) (m : List Place) (numbers : List ℕ) (n : ℕ) (cs : List (List ℕ)) (k : ℕ) → cols a < 2 ^ 32 → AreNumbered a m numbers n → AreGroups numbers n cs → k < n → Lists (λ x. IsSquareCol a x × (look numbers x ≡ k)) (group cs k)
+cols_component : (a : Matrix) (m : List Place) (numbers : List ℕ) (n : ℕ) (cs : List (List ℕ)) (k : ℕ) → cols a < 2 ^ 32 → AreNumberedByLeast a m numbers n → AreGroups numbers n cs → k < n → Lists (λ x. IsSquareCol a x × (look numbers x ≡ k)) (group cs k)
 cols_component a m numbers n cs k small s g lt = lists_same (StandsAt numbers k) (λ x. IsSquareCol a x × (look numbers x ≡ k)) (group cs k)
     (λ x h.
     let long = s.long in
@@ -43,7 +93,7 @@ cols_component a m numbers n cs k small s g lt = lists_same (StandsAt numbers k)
     (λ x h. let long = s.long in let within = h.0.0 in (omega (arith, long, within), looked a m numbers n x s within ∙ h.1))
     (g.lists k lt)
 
-rows_component : (a : Matrix) (m : List Place) (numbers : List ℕ) (n : ℕ) (rs : List (List ℕ)) (k : ℕ) → cols a < 2 ^ 32 → IsMatching a m → (s : AreNumbered a m numbers n) → AreRowGroups m numbers a.rows n rs → k < n → Lists (λ x. (c : ℕ) × Among (x, c) s.square × (look numbers c ≡ k)) (group rs k)
+rows_component : (a : Matrix) (m : List Place) (numbers : List ℕ) (n : ℕ) (rs : List (List ℕ)) (k : ℕ) → cols a < 2 ^ 32 → IsMatching a m → (s : AreNumberedByLeast a m numbers n) → AreRowGroups m numbers a.rows n rs → k < n → Lists (λ x. (c : ℕ) × Among (x, c) s.square × (look numbers c ≡ k)) (group rs k)
 rows_component a m numbers n rs k small matching s g lt = lists_same (StandsAt g.of_rows k) (λ x. (c : ℕ) × Among (x, c) s.square × (look numbers c ≡ k)) (group rs k) over back (g.groups.lists k lt)
   where
     over : (x : ℕ) → StandsAt g.of_rows k x → (c : ℕ) × Among (x, c) s.square × (look numbers c ≡ k)
@@ -108,32 +158,68 @@ edges_entry a numbers rs j k within ne =
       entry = from_row a x c (within x on) at;
     }
 
-pub gathered : (a : Matrix) (m : List Place) (numbers : List ℕ) (n : ℕ) (rs cs : List (List ℕ)) → cols a < 2 ^ 32 → entry_count a < 2 ^ 32 → IsMatching a m → AreNumbered a m numbers n → AreRowGroups m numbers a.rows n rs → AreGroups numbers n cs → IsGathered a numbers n rs cs
+-- the first of a rising list is its least
+head_least : (x : ℕ) (xs : List ℕ) → IsRising xs → Among x xs → get_or xs 0 0 ≤ x
+head_least x [] rising h = elim h [ ]
+head_least x (y ∷ xs) rising (inl e) = omega (arith, e)
+head_least x (y ∷ xs) rising (inr h) = let lt = below_each_sound y x xs rising.0 h in omega (arith, lt)
+
+pub gathered : (a : Matrix) (m : List Place) (numbers : List ℕ) (n : ℕ) (rs cs : List (List ℕ)) → cols a < 2 ^ 32 → entry_count a < 2 ^ 32 → IsMatching a m → AreNumberedByLeast a m numbers n → AreRowGroups m numbers a.rows n rs → AreGroups numbers n cs → IsGathered a numbers n rs cs
 gathered a m numbers n rs cs small few matching s g h = record {
   numbered = s.long;
   few = few;
   by_row = subst (λ x. AreApart x n rs) g.mates.long (groups_apart g.of_rows n rs g.groups);
   by_col = h;
-  some = λ k lt. let (x, square, is) = s.used k lt in some_at x (group cs k) ((cols_component a m numbers n cs k small s h lt).complete x (square, is));
+  some = some;
+  few_components = let le = s.few in omega (arith, le, small);
+  rises = λ j k le kt. ⊎_elim (λ (e : j ≡ k). rw e (omega arith)) (λ ne. let (square, is) = least k kt in
+      let (d, lt, on, at) = s.earlier (least_of cs k) j square (omega (arith, le, ne, is)) in
+      let first = head_least d (group cs j) (cols_component a m numbers n cs j small s h (omega (arith, le, kt))).rising ((cols_component a m numbers n cs j small s h (omega (arith, le, kt))).complete d (on, at)) in
+      omega (arith, first, lt)) (number_same j k);
+  finished = λ k. s.finished (least_of cs k);
   falls = λ j k lt kt ne.
       let w = edges_entry a numbers rs j k (λ x on. let l = ((g.groups.lists k kt).sound x on).0 in let long = g.mates.long in omega (arith, l, long)) ne in
       let within = entry_col a w.row w.col w.entry in
       let is : look numbers w.col ≡ j = sym (looked a m numbers n w.col s within) ∙ w.is in
       let (d, p, e) = (rows_component a m numbers n rs k small matching s g kt).sound w.row w.on in
-      let le = s.components.falling w.row w.col d (number_square a m numbers n w.col small s within (omega (arith, is, lt))) w.entry p in
-      omega (arith, le, is, e);
+      let square = number_square a m numbers n w.col small s within (omega (arith, is, lt)) in
+      let mate_square = s.perfect.only_cols d (col_among w.row d s.square p) in
+      let le = s.components.falling w.row w.col d square w.entry p in
+      let apart : s.finished d ≢ s.finished w.col = λ f. w.other (sym is ∙ sym ((s.same d w.col mate_square square).1 f) ∙ e) in
+      let here = (s.same d (least_of cs k) mate_square (least k kt).0).0 (e ∙ sym (least k kt).1) in
+      let there = (s.same w.col (least_of cs j) square (least j lt).0).0 (is ∙ sym (least j lt).1) in
+      omega (arith, le, apart, here, there);
 }
   where
     some_at : (x : ℕ) (xs : List ℕ) → Among x xs → 0 < length xs
     some_at x [] on = elim on [ ]
     some_at x (y ∷ xs) on = omega arith
 
+    some : (k : ℕ) → k < n → 0 < length (group cs k)
+    some k lt = let (x, square, is) = s.used k lt in some_at x (group cs k) ((cols_component a m numbers n cs k small s h lt).complete x (square, is))
+
+    least : (k : ℕ) → k < n → IsSquareCol a (least_of cs k) × (look numbers (least_of cs k) ≡ k)
+    least k lt = (cols_component a m numbers n cs k small s h lt).sound (least_of cs k) (among_at (group cs k) 0 0 (some k lt))
+
 -- Blocks.
 
-component : (a : Matrix) (m : List Place) (numbers : List ℕ) (n : ℕ) (rs cs : List (List ℕ)) (k : ℕ) → cols a < 2 ^ 32 → IsMatching a m → (s : AreNumbered a m numbers n) → AreRowGroups m numbers a.rows n rs → AreGroups numbers n cs → k < n → IsComponent a s.square (look numbers) k (block_of rs cs k)
+component : (a : Matrix) (m : List Place) (numbers : List ℕ) (n : ℕ) (rs cs : List (List ℕ)) (k : ℕ) → cols a < 2 ^ 32 → IsMatching a m → (s : AreNumberedByLeast a m numbers n) → AreRowGroups m numbers a.rows n rs → AreGroups numbers n cs → k < n → IsComponent a s.square (look numbers) k (block_of rs cs k)
 component a m numbers n rs cs k small matching s g h lt = record {
   rows = rows_component a m numbers n rs k small matching s g lt;
   cols = cols_component a m numbers n cs k small s h lt;
+}
+
+-- the columns of a number are those that were finished with one of them
+finished_component : (a : Matrix) (m : List Place) (numbers : List ℕ) (n x k : ℕ) (b : Block) → (s : AreNumberedByLeast a m numbers n) → IsSquareCol a x → look numbers x ≡ k → IsComponent a s.square (look numbers) k b → IsComponent a s.square s.finished (s.finished x) b
+finished_component a m numbers n x k b s square is h = record {
+  rows = lists_same (λ r. (c : ℕ) × Among (r, c) s.square × (look numbers c ≡ k)) (λ r. (c : ℕ) × Among (r, c) s.square × (s.finished c ≡ s.finished x)) b.rows
+      (λ r p. let (c, on, e) = p in (c, on, (s.same c x (s.perfect.only_cols c (col_among r c s.square on)) square).0 (e ∙ sym is)))
+      (λ r p. let (c, on, e) = p in (c, on, (s.same c x (s.perfect.only_cols c (col_among r c s.square on)) square).1 e ∙ is))
+      h.rows;
+  cols = lists_same (λ c. IsSquareCol a c × (look numbers c ≡ k)) (λ c. IsSquareCol a c × (s.finished c ≡ s.finished x)) b.cols
+      (λ c p. (p.0, (s.same c x p.0 square).0 (p.1 ∙ sym is)))
+      (λ c p. (p.0, (s.same c x p.0 square).1 p.1 ∙ is))
+      h.cols;
 }
 
 component_same : (a : Matrix) (m : List Place) (number : ℕ → ℕ) (k : ℕ) (b d : Block) → IsComponent a m number k b → IsComponent a m number k d → b ≡ d
@@ -161,18 +247,18 @@ record AreApartAndSeen (a : Matrix) (n : ℕ) (w : ℕ → ℕ → ℕ) (f : ℕ
   over : (j k r c : ℕ) → j < n → k < n → j ≢ k → Among r (f k).rows → Among c (f j).cols → IsEntry a r c → w j k ≢ 0
   back : (j k : ℕ) → j < n → k < n → w j k ≢ 0 → (j ≢ k) × (r : ℕ) × (c : ℕ) × Among r (f k).rows × Among c (f j).cols × IsEntry a r c
 
-follow_order : (a : Matrix) (n : ℕ) (w : ℕ → ℕ → ℕ) (least : ℕ → ℕ) (f : ℕ → Block) (before ks : List ℕ) → AreApartAndSeen a n w f → ((k : ℕ) → least_col (f k) ≡ least k) → Follow n w least before ks → ((k : ℕ) → k < n → Among k before ⊎ Among k ks) → AreInOrder a (map f ks)
-follow_order a n w least f before [] seen at follow all = tt
-follow_order a n w least f before (k ∷ ks) seen at follow all = (free, first, follow_order a n w least f (before ++ k ∷ []) ks seen at follow.1 (λ j lt. rest j (all j lt)))
+follow_order : (a : Matrix) (n : ℕ) (w : ℕ → ℕ → ℕ) (f : ℕ → Block) (before ks : List ℕ) → AreApartAndSeen a n w f → ((j k : ℕ) → j ≤ k → k < n → least_col (f j) ≤ least_col (f k)) → Follow n w before ks → ((k : ℕ) → k < n → Among k before ⊎ Among k ks) → AreInOrder a (map f ks)
+follow_order a n w f before [] seen rises follow all = tt
+follow_order a n w f before (k ∷ ks) seen rises follow all = (free, first, follow_order a n w f (before ++ k ∷ []) ks seen rises follow.1 (λ j lt. rest j (all j lt)))
   where
     kt : k < n
     kt = follow.0.in_range
 
     range : (j : ℕ) → Among j (k ∷ ks) → j < n
-    range j h = follow_range n w least before (k ∷ ks) j follow h
+    range j h = follow_range n w before (k ∷ ks) j follow h
 
     fresh : (j : ℕ) → Among j (k ∷ ks) → ¬ Among j before
-    fresh j h = follow_fresh n w least before (k ∷ ks) j follow h
+    fresh j h = follow_fresh n w before (k ∷ ks) j follow h
 
     free : MeetsNoOther a (map f (k ∷ ks)) (f k)
     free d h ne r c on in_col entry =
@@ -184,9 +270,7 @@ follow_order a n w least f before (k ∷ ks) seen at follow all = (free, first, 
     first d h is_free =
         let (j, there, e) = among_map_back f d (k ∷ ks) h in
         let le = follow.0.first j (range j there) (fresh j there) (λ p pt ne. gone j there (subst (MeetsNoOther a (map f (k ∷ ks))) (sym e) is_free) p pt ne) in
-        let here = at k in
-        let that : least_col d ≡ least j = ap least_col (sym e) ∙ at j in
-        omega (arith, le, here, that)
+        subst (λ (b : Block). least_col (f k) ≤ least_col b) e (rises k j le (range j there))
       where
         gone : (j : ℕ) → Among j (k ∷ ks) → MeetsNoOther a (map f (k ∷ ks)) (f j) → (p : ℕ) → p < n → w j p ≢ 0 → Among p before
         gone j there is_free p pt ne = ⊎_elim (λ g. g) (λ later.
@@ -200,18 +284,18 @@ follow_order a n w least f before (k ∷ ks) seen at follow all = (free, first, 
 
 -- The whole.
 
-are_blocks : (a : Matrix) (m : List Place) (numbers : List ℕ) (n : ℕ) (rs cs : List (List ℕ)) (ks : List ℕ) → cols a < 2 ^ 32 → IsMatching a m → AreNumbered a m numbers n → AreRowGroups m numbers a.rows n rs → IsGathered a numbers n rs cs → AreOrdered n (edges_into (row_list a) numbers rs) (least_of cs) ks → AreBlocksOf a (map (block_of rs cs) ks)
+are_blocks : (a : Matrix) (m : List Place) (numbers : List ℕ) (n : ℕ) (rs cs : List (List ℕ)) (ks : List ℕ) → cols a < 2 ^ 32 → IsMatching a m → AreNumberedByLeast a m numbers n → AreRowGroups m numbers a.rows n rs → IsGathered a numbers n rs cs → AreOrdered n (edges_into (row_list a) numbers rs) ks → AreBlocksOf a (map (block_of rs cs) ks)
 are_blocks a m numbers n rs cs ks small matching s g all ordered = record {
   sound = λ b on.
       let (k, there, e) = among_map_back f b ks on in
       let (x, square, is) = s.used k (range k there) in
-      subst (IsBlock a) e (component_is_block a s.square (look numbers) x (f k) s.perfect s.components square (subst (λ i. IsComponent a s.square (look numbers) i (f k)) (sym is) (comp k (range k there))));
+      subst (IsBlock a) e (component_is_block a s.square s.finished x (f k) s.perfect s.components square (finished_component a m numbers n x k (f k) s square is (comp k (range k there))));
   complete = λ b block.
-      let (x, square, is) = block_is_component a s.square (look numbers) b s.perfect s.components block in
+      let (x, square, is) = block_is_component a s.square s.finished b s.perfect s.components block in
       let lt = s.below x square in
-      subst (λ d. Among d (map f ks)) (component_same a s.square (look numbers) (look numbers x) (f (look numbers x)) b (comp (look numbers x) lt) is) (among_map f (look numbers x) ks (ordered.all (look numbers x) lt));
-  distinct = distinct_blocks f ks (λ j k on there e. own j k (range j on) (range k there) e) (follow_distinct n w least [] ks ordered.follow);
-  in_order = follow_order a n w least f [] ks seen (λ k. refl) ordered.follow (λ k lt. inr (ordered.all k lt));
+      subst (λ d. Among d (map f ks)) (component_same a s.square s.finished (s.finished x) (f (look numbers x)) b (finished_component a m numbers n x (look numbers x) (f (look numbers x)) s square refl (comp (look numbers x) lt)) is) (among_map f (look numbers x) ks (ordered.all (look numbers x) lt));
+  distinct = distinct_blocks f ks (λ j k on there e. own j k (range j on) (range k there) e) (follow_distinct n w [] ks ordered.follow);
+  in_order = follow_order a n w f [] ks seen (λ j k le lt. all.rises j k le lt) ordered.follow (λ k lt. inr (ordered.all k lt));
 }
   where
     f : ℕ → Block
@@ -220,14 +304,11 @@ are_blocks a m numbers n rs cs ks small matching s g all ordered = record {
     w : ℕ → ℕ → ℕ
     w j k = edges_into (row_list a) numbers rs j k
 
-    least : ℕ → ℕ
-    least k = least_of cs k
-
     h : AreGroups numbers n cs
     h = all.by_col
 
     range : (k : ℕ) → Among k ks → k < n
-    range k on = follow_range n w least [] ks k ordered.follow on
+    range k on = follow_range n w [] ks k ordered.follow on
 
     comp : (k : ℕ) → k < n → IsComponent a s.square (look numbers) k (f k)
     comp k lt = component a m numbers n rs cs k small matching s g h lt
@@ -246,7 +327,7 @@ are_blocks a m numbers n rs cs ks small matching s g all ordered = record {
           (q.other, q.row, q.col, q.on, (h.lists j jt).complete q.col (omega (arith, within, long), q.is), q.entry);
     }
 
-pub ordered_blocks : (a : Matrix) (m : List Place) (numbers : List ℕ) (n : ℕ) (rs cs : List (List ℕ)) (bs : List Block) → cols a < 2 ^ 32 → IsMatching a m → AreNumbered a m numbers n → AreRowGroups m numbers a.rows n rs → IsGathered a numbers n rs cs → AreOrderedBlocks a numbers rs cs bs → AreBlocksOf a bs
+pub ordered_blocks : (a : Matrix) (m : List Place) (numbers : List ℕ) (n : ℕ) (rs cs : List (List ℕ)) (bs : List Block) → cols a < 2 ^ 32 → IsMatching a m → AreNumberedByLeast a m numbers n → AreRowGroups m numbers a.rows n rs → IsGathered a numbers n rs cs → AreOrderedBlocks a numbers rs cs bs → AreBlocksOf a bs
 ordered_blocks a m numbers n rs cs bs small matching s g all o =
     subst (AreBlocksOf a) (sym o.blocks) (are_blocks a m numbers n rs cs o.order small matching s g all
-    (subst (λ x. AreOrdered x (edges_into (row_list a) numbers rs) (least_of cs) o.order) all.by_col.long o.ordered))
+    (subst (λ x. AreOrdered x (edges_into (row_list a) numbers rs) o.order) all.by_col.long o.ordered))

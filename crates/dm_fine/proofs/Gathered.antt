@@ -1,11 +1,11 @@
 -- What is known of gathered components while they are put in order.
-use Rattle.std.proofs.Common.{◌≡◌, ◌≢◌, ◌∙◌, ℕ, ◌<◌, List, ◌∷◌, length, get_or, refl, ap, arith}
+use Rattle.std.proofs.Common.{◌≡◌, ℕ, ◌<◌, List, ◌∷◌, length, get_or, refl}
 use Rattle.bip_defs.specs.Blocks.{Block}
 use Rattle.bip_defs.specs.Lists.{IsRising, StandsAt}
-use Rattle.bip_defs.specs.Matrix.{Matrix, cols, row_list}
+use Rattle.bip_defs.specs.Matrix.{Matrix, row_list}
 use Rattle.bip_defs.proofs.Sets.{among_at}
 use Rattle.id_groups.specs.Groups.{AreGroups, block_of, group}
-use Rattle.dm_fine.specs.InDegrees.{HaveLeast, IsGathered, least_of, edges_at, edges_into, row_edges}
+use Rattle.dm_fine.specs.InDegrees.{least_of, edges_at, edges_into, row_edges}
 use Rattle.dm_fine.proofs.OrderLemmas.{IsOrdering, IsTaken, taken_next}
 use Rattle.dm_fine.proofs.Sums.{sum_none}
 use Rattle.dm_fine.proofs.InDegrees.{edges_own_j}
@@ -17,19 +17,6 @@ edges_itself line numbers groups j = sum_none (λ r. row_edges numbers j j (line
 pub least_stands : (numbers : List ℕ) (count : ℕ) (groups : List (List ℕ)) (j : ℕ) → AreGroups numbers count groups → j < count → 0 < length (group groups j) → StandsAt numbers j (least_of groups j)
 least_stands numbers count groups j g lt some = (g.lists j lt).sound (least_of groups j) (among_at (group groups j) 0 0 some)
 
-pub gathered_least : (a : Matrix) (numbers : List ℕ) (count : ℕ) (rs cs : List (List ℕ)) → IsGathered a numbers count rs cs → HaveLeast count (cols a) cs
-gathered_least a numbers count rs cs g = record {
-  long = g.by_col.long;
-  some = g.some;
-  below = λ j lt. let within = (least_stands numbers count cs j g.by_col lt (g.some j lt)).0 in let same = g.numbered in omega (arith, within, same);
-}
-
-pub gathered_falls : (a : Matrix) (numbers : List ℕ) (count : ℕ) (rs cs : List (List ℕ)) → IsGathered a numbers count rs cs → (j p : ℕ) → j < count → p < count → edges_into (row_list a) numbers rs j p ≢ 0 → p < j
-gathered_falls a numbers count rs cs g j p lt pt ne =
-    let le = g.falls j p lt pt ne in
-    let other : p ≢ j = λ e. ne (ap (edges_into (row_list a) numbers rs j) e ∙ edges_itself (row_list a) numbers rs j) in
-    omega (arith, le, other)
-
-pub gathered_taken : (a : Matrix) (numbers : List ℕ) (n : ℕ) (rs cs : List (List ℕ)) (in_degrees members ready : List ℕ) (bs : List Block) (x : ℕ) → IsGathered a numbers n rs cs → (o : IsOrdering n (edges_into (row_list a) numbers rs) (least_of cs) (block_of rs cs) in_degrees members bs) → IsRising members → members ≡ x ∷ ready → IsTaken n (edges_into (row_list a) numbers rs) (least_of cs) o.gone in_degrees ready (get_or numbers x 0)
-gathered_taken a numbers n rs cs in_degrees members ready bs x g o rising are =
-    taken_next n (edges_into (row_list a) numbers rs) (least_of cs) (λ y. get_or numbers y 0) o.gone in_degrees members ready x (get_or numbers x 0) (λ j lt. (least_stands numbers n cs j g.by_col lt (g.some j lt)).1) o.left o.follow o.set rising are refl
+pub gathered_taken : (a : Matrix) (numbers : List ℕ) (n : ℕ) (rs cs : List (List ℕ)) (in_degrees members ready : List ℕ) (bs : List Block) (k : ℕ) → (o : IsOrdering n (edges_into (row_list a) numbers rs) (block_of rs cs) in_degrees members bs) → IsRising members → members ≡ k ∷ ready → IsTaken n (edges_into (row_list a) numbers rs) o.gone in_degrees ready k
+gathered_taken a numbers n rs cs in_degrees members ready bs k o rising are =
+    taken_next n (edges_into (row_list a) numbers rs) o.gone in_degrees members ready k o.left o.follow o.set rising are

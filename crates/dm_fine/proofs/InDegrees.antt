@@ -19,28 +19,28 @@ edges_own_j own j x e = grind (arith, nat_tests)
 
 -- Components that have come to in-degree 0.
 
-pub more_join : (n : ℕ) (least : ℕ → ℕ) (in_degrees ready in_degrees2 ready2 in_degrees3 ready3 : List ℕ) → MoreSources n least in_degrees ready in_degrees2 ready2 → MoreSources n least in_degrees2 ready2 in_degrees3 ready3 → MoreSources n least in_degrees ready in_degrees3 ready3
-more_join n least in_degrees ready in_degrees2 ready2 in_degrees3 ready3 f g = record {
+pub more_join : (n : ℕ) (in_degrees ready in_degrees2 ready2 in_degrees3 ready3 : List ℕ) → MoreSources n in_degrees ready in_degrees2 ready2 → MoreSources n in_degrees2 ready2 in_degrees3 ready3 → MoreSources n in_degrees ready in_degrees3 ready3
+more_join n in_degrees ready in_degrees2 ready2 in_degrees3 ready3 f g = record {
   sound = λ x h. ⊎_elim (λ k. early x (f.sound x k)) (λ k. inr (late x k)) (g.sound x h);
   stays = λ x h. g.stays x (f.stays x h);
-  complete = λ j lt ne e. ⊎_elim (λ (nil : get_or in_degrees2 j 0 ≡ 0). g.stays (least j) (f.complete j lt ne nil)) (λ some. g.complete j lt some e) (number_same (get_or in_degrees2 j 0) 0);
+  complete = λ j lt ne e. ⊎_elim (λ (nil : get_or in_degrees2 j 0 ≡ 0). g.stays j (f.complete j lt ne nil)) (λ some. g.complete j lt some e) (number_same (get_or in_degrees2 j 0) 0);
   falls = λ j lt. let one = f.falls j lt in let two = g.falls j lt in omega (arith, one, two);
 }
   where
-    early : (x : ℕ) → Among x ready ⊎ ((j : ℕ) × (j < n) × (get_or in_degrees j 0 ≢ 0) × (get_or in_degrees2 j 0 ≡ 0) × (x ≡ least j)) → Among x ready ⊎ ((j : ℕ) × (j < n) × (get_or in_degrees j 0 ≢ 0) × (get_or in_degrees3 j 0 ≡ 0) × (x ≡ least j))
+    early : (x : ℕ) → Among x ready ⊎ ((x < n) × (get_or in_degrees x 0 ≢ 0) × (get_or in_degrees2 x 0 ≡ 0)) → Among x ready ⊎ ((x < n) × (get_or in_degrees x 0 ≢ 0) × (get_or in_degrees3 x 0 ≡ 0))
     early x (inl h) = inl h
-    early x (inr h) = let (j, lt, ne, nil, e) = h in inr (j, lt, ne, (let le = g.falls j lt in omega (arith, le, nil)), e)
+    early x (inr h) = let (lt, ne, nil) = h in inr (lt, ne, (let le = g.falls x lt in omega (arith, le, nil)))
 
-    late : (x : ℕ) → (j : ℕ) × (j < n) × (get_or in_degrees2 j 0 ≢ 0) × (get_or in_degrees3 j 0 ≡ 0) × (x ≡ least j) → (j : ℕ) × (j < n) × (get_or in_degrees j 0 ≢ 0) × (get_or in_degrees3 j 0 ≡ 0) × (x ≡ least j)
-    late x h = let (j, lt, ne, nil, e) = h in (j, lt, (λ z. ne (let le = f.falls j lt in omega (arith, le, z))), nil, e)
+    late : (x : ℕ) → (x < n) × (get_or in_degrees2 x 0 ≢ 0) × (get_or in_degrees3 x 0 ≡ 0) → (x < n) × (get_or in_degrees x 0 ≢ 0) × (get_or in_degrees3 x 0 ≡ 0)
+    late x h = let (lt, ne, nil) = h in (lt, (λ z. ne (let le = f.falls x lt in omega (arith, le, z))), nil)
 
 -- the last at x
-pub more_last : (n : ℕ) (least : ℕ → ℕ) (x v : ℕ) (in_degrees ready ready2 : List ℕ) → n ≡ length in_degrees → x < n → get_or in_degrees x 0 ≡ v + 1 → v ≡ 0
-    → ((y : ℕ) → Among y ready2 → (y ≡ least x) ⊎ Among y ready) → ((y : ℕ) → (y ≡ least x) ⊎ Among y ready → Among y ready2) → MoreSources n least in_degrees ready (set in_degrees x v) ready2
-more_last n least x v in_degrees ready ready2 long lt some nil over back = record {
-  sound = λ y h. ⊎_elim (λ (e : y ≡ least x). inr (x, lt, (λ z. absurd (omega (arith, z, some))), get_or-set_same in_degrees x v 0 (omega (arith, long, lt)) ∙ nil, e)) (λ k. inl k) (over y h);
+pub more_last : (n : ℕ) (x v : ℕ) (in_degrees ready ready2 : List ℕ) → n ≡ length in_degrees → x < n → get_or in_degrees x 0 ≡ v + 1 → v ≡ 0
+    → ((y : ℕ) → Among y ready2 → (y ≡ x) ⊎ Among y ready) → ((y : ℕ) → (y ≡ x) ⊎ Among y ready → Among y ready2) → MoreSources n in_degrees ready (set in_degrees x v) ready2
+more_last n x v in_degrees ready ready2 long lt some nil over back = record {
+  sound = λ y h. ⊎_elim (λ (e : y ≡ x). inr (omega (arith, e, lt), (λ z. let was : get_or in_degrees y 0 ≡ get_or in_degrees x 0 = ap (λ i. get_or in_degrees i 0) e in absurd (omega (arith, z, was, some))), ap (λ i. get_or (set in_degrees x v) i 0) e ∙ get_or-set_same in_degrees x v 0 (omega (arith, long, lt)) ∙ nil)) (λ k. inl k) (over y h);
   stays = λ y h. back y (inr h);
-  complete = λ j jt nz e. ⊎_elim (λ (same : j ≡ x). back (least j) (inl (ap least same))) (λ off. absurd (nz (sym (get_or-set_other in_degrees x j v 0 off) ∙ e))) (number_same j x);
+  complete = λ j jt nz e. ⊎_elim (λ (same : j ≡ x). back j (inl same)) (λ off. absurd (nz (sym (get_or-set_other in_degrees x j v 0 off) ∙ e))) (number_same j x);
   falls = λ j jt. ⊎_elim (λ (same : j ≡ x). let now = get_or-set_same in_degrees x v 0 (omega (arith, long, lt)) in let at : get_or (set in_degrees x v) j 0 ≡ get_or (set in_degrees x v) x 0 = ap (λ i. get_or (set in_degrees x v) i 0) same in let was : get_or in_degrees j 0 ≡ get_or in_degrees x 0 = ap (λ i. get_or in_degrees i 0) same in omega (arith, now, at, was, some)) (λ off. let same = get_or-set_other in_degrees x j v 0 off in omega (arith, same)) (number_same j x);
 }
 

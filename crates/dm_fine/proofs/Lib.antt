@@ -4,4 +4,5 @@ pub mod GroupParts
 pub mod InDegrees
 pub mod MateLemmas
 pub mod OrderLemmas
+pub mod RenumberingLemmas
 pub mod Sums

@@ -12,28 +12,28 @@ use Rattle.dm_fine.proofs.Sums.{sum_covered}
 
 -- Followers.
 
-pub follow_range : (n : ℕ) (w : ℕ → ℕ → ℕ) (least : ℕ → ℕ) (before ks : List ℕ) (k : ℕ) → Follow n w least before ks → Among k ks → k < n
-follow_range n w least before [] k f h = elim h [ ]
-follow_range n w least before (j ∷ ks) k f (inl e) = subst (λ i. i < n) (sym e) f.0.in_range
-follow_range n w least before (j ∷ ks) k f (inr h) = follow_range n w least (before ++ j ∷ []) ks k f.1 h
+pub follow_range : (n : ℕ) (w : ℕ → ℕ → ℕ) (before ks : List ℕ) (k : ℕ) → Follow n w before ks → Among k ks → k < n
+follow_range n w before [] k f h = elim h [ ]
+follow_range n w before (j ∷ ks) k f (inl e) = subst (λ i. i < n) (sym e) f.0.in_range
+follow_range n w before (j ∷ ks) k f (inr h) = follow_range n w (before ++ j ∷ []) ks k f.1 h
 
-pub follow_fresh : (n : ℕ) (w : ℕ → ℕ → ℕ) (least : ℕ → ℕ) (before ks : List ℕ) (k : ℕ) → Follow n w least before ks → Among k ks → ¬ Among k before
-follow_fresh n w least before [] k f h = elim h [ ]
-follow_fresh n w least before (j ∷ ks) k f (inl e) = λ g. f.0.fresh (subst (λ i. Among i before) e g)
-follow_fresh n w least before (j ∷ ks) k f (inr h) = λ g. follow_fresh n w least (before ++ j ∷ []) ks k f.1 h (among_left k before (j ∷ []) g)
+pub follow_fresh : (n : ℕ) (w : ℕ → ℕ → ℕ) (before ks : List ℕ) (k : ℕ) → Follow n w before ks → Among k ks → ¬ Among k before
+follow_fresh n w before [] k f h = elim h [ ]
+follow_fresh n w before (j ∷ ks) k f (inl e) = λ g. f.0.fresh (subst (λ i. Among i before) e g)
+follow_fresh n w before (j ∷ ks) k f (inr h) = λ g. follow_fresh n w (before ++ j ∷ []) ks k f.1 h (among_left k before (j ∷ []) g)
 
-pub follow_distinct : (n : ℕ) (w : ℕ → ℕ → ℕ) (least : ℕ → ℕ) (before ks : List ℕ) → Follow n w least before ks → AreDistinct ks
-follow_distinct n w least before [] f = tt
-follow_distinct n w least before (j ∷ ks) f = (λ h. follow_fresh n w least (before ++ j ∷ []) ks j f.1 h (among_right j before (j ∷ []) (inl refl)), follow_distinct n w least (before ++ j ∷ []) ks f.1)
+pub follow_distinct : (n : ℕ) (w : ℕ → ℕ → ℕ) (before ks : List ℕ) → Follow n w before ks → AreDistinct ks
+follow_distinct n w before [] f = tt
+follow_distinct n w before (j ∷ ks) f = (λ h. follow_fresh n w (before ++ j ∷ []) ks j f.1 h (among_right j before (j ∷ []) (inl refl)), follow_distinct n w (before ++ j ∷ []) ks f.1)
 
-pub follow_more : (n : ℕ) (w : ℕ → ℕ → ℕ) (least : ℕ → ℕ) (before ks : List ℕ) (k : ℕ) → Follow n w least before ks → IsNext n w least (before ++ ks) k → Follow n w least before (ks ++ k ∷ [])
-follow_more n w least before [] k f next = (subst (λ z. IsNext n w least z k) (append-nil before) next, tt)
-follow_more n w least before (j ∷ ks) k f next = (f.0, follow_more n w least (before ++ j ∷ []) ks k f.1 (subst (λ z. IsNext n w least z k) (sym (append_assoc before (j ∷ []) ks)) next))
+pub follow_more : (n : ℕ) (w : ℕ → ℕ → ℕ) (before ks : List ℕ) (k : ℕ) → Follow n w before ks → IsNext n w (before ++ ks) k → Follow n w before (ks ++ k ∷ [])
+follow_more n w before [] k f next = (subst (λ z. IsNext n w z k) (append-nil before) next, tt)
+follow_more n w before (j ∷ ks) k f next = (f.0, follow_more n w (before ++ j ∷ []) ks k f.1 (subst (λ z. IsNext n w z k) (sym (append_assoc before (j ∷ []) ks)) next))
 
 -- there are no more of them than components
-pub follow_few : (n : ℕ) (w : ℕ → ℕ → ℕ) (least : ℕ → ℕ) (ks : List ℕ) → Follow n w least [] ks → length ks ≤ n
-follow_few n w least ks f =
-    let few = few_distinct ks (upto n) (follow_distinct n w least [] ks f) (λ k h. (upto_lists n).complete k (follow_range n w least [] ks k f h)) in
+pub follow_few : (n : ℕ) (w : ℕ → ℕ → ℕ) (ks : List ℕ) → Follow n w [] ks → length ks ≤ n
+follow_few n w ks f =
+    let few = few_distinct ks (upto n) (follow_distinct n w [] ks f) (λ k h. (upto_lists n).complete k (follow_range n w [] ks k f h)) in
     let long = upto_length 0 n in
     omega (arith, few, long)
 
@@ -70,95 +70,86 @@ left_next n w gone in_degrees in_degrees2 k left fell j lt = let is = left j lt 
 
 -- The set of those of in-degree 0.
 
--- what holds of the component of a column that is taken out of the set as its least
-pub record IsTaken (n : ℕ) (w : ℕ → ℕ → ℕ) (least : ℕ → ℕ) (gone in_degrees ready : List ℕ) (k : ℕ) : Type 0 where
-  pub next : IsNext n w least gone k
-  pub set : AreReady n least (gone ++ k ∷ []) in_degrees ready
+-- what holds of the component that is taken out of the set as its least
+pub record IsTaken (n : ℕ) (w : ℕ → ℕ → ℕ) (gone in_degrees ready : List ℕ) (k : ℕ) : Type 0 where
+  pub next : IsNext n w gone k
+  pub set : AreReady n (gone ++ k ∷ []) in_degrees ready
 
-pub taken_next : (n : ℕ) (w : ℕ → ℕ → ℕ) (least number : ℕ → ℕ) (gone in_degrees members ready : List ℕ) (x k : ℕ) → ((j : ℕ) → j < n → number (least j) ≡ j) → AreLeft n w gone in_degrees → Follow n w least [] gone → AreReady n least gone in_degrees members → IsRising members → members ≡ x ∷ ready → k ≡ number x → IsTaken n w least gone in_degrees ready k
-taken_next n w least number gone in_degrees members ready x k named left follow all_set all_rising are is = record {
+pub taken_next : (n : ℕ) (w : ℕ → ℕ → ℕ) (gone in_degrees members ready : List ℕ) (k : ℕ) → AreLeft n w gone in_degrees → Follow n w [] gone → AreReady n gone in_degrees members → IsRising members → members ≡ k ∷ ready → IsTaken n w gone in_degrees ready k
+taken_next n w gone in_degrees members ready k left follow all_set all_rising are = record {
   next = record {
     in_range = in_range;
-    fresh = fresh;
+    fresh = one.2;
     free = λ p lt ne. ⊎_elim (λ h. h) (λ nh. absurd (ne (let le = still_counted n w gone in_degrees k p left distinct within in_range lt nh in omega (arith, le, none)))) (number_among p gone);
-    first = λ j lt nh all. smallest (least j) (set.complete j lt (none_counted n w gone in_degrees j left lt all) nh);
+    first = λ j lt nh all. smallest j (set.complete j lt (none_counted n w gone in_degrees j left lt all) nh);
   };
   set = record {
-    sound = λ y h. let (j, lt, nil, nh, e) = set.sound y (inr h) in (j, lt, nil, (λ g. ⊎_elim (λ g. nh g) (λ (same : j ≡ k). above y h (e ∙ ap least same ∙ sym at)) (among_last j k gone g)), e);
-    complete = λ j lt nil nh. ⊎_elim (λ (e : least j ≡ x). absurd (nh (among_right j gone (k ∷ []) (inl (sym (named j lt) ∙ ap number e ∙ sym is))))) (λ h. h) (set.complete j lt nil (λ g. nh (among_left j gone (k ∷ []) g)));
+    sound = λ y h. let (lt, nil, nh) = set.sound y (inr h) in (lt, nil, (λ g. ⊎_elim (λ g. nh g) (λ (same : y ≡ k). above y h same) (among_last y k gone g)));
+    complete = λ j lt nil nh. ⊎_elim (λ (e : j ≡ k). absurd (nh (among_right j gone (k ∷ []) (inl e)))) (λ h. h) (set.complete j lt nil (λ g. nh (among_left j gone (k ∷ []) g)));
     gone_done = λ j h. ⊎_elim (λ g. set.gone_done j g) (λ (e : j ≡ k). ap (λ i. get_or in_degrees i 0) e ∙ none) (among_last j k gone h);
   };
 }
   where
-    set : AreReady n least gone in_degrees (x ∷ ready)
-    set = subst (AreReady n least gone in_degrees) are all_set
+    set : AreReady n gone in_degrees (k ∷ ready)
+    set = subst (AreReady n gone in_degrees) are all_set
 
-    rising : IsRising (x ∷ ready)
+    rising : IsRising (k ∷ ready)
     rising = subst IsRising are all_rising
 
-    one : (j : ℕ) × (j < n) × (get_or in_degrees j 0 ≡ 0) × (¬ Among j gone) × (x ≡ least j)
-    one = set.sound x (inl refl)
-
-    same : k ≡ one.0
-    same = is ∙ ap number one.4 ∙ named one.0 one.1
+    one : (k < n) × (get_or in_degrees k 0 ≡ 0) × (¬ Among k gone)
+    one = set.sound k (inl refl)
 
     in_range : k < n
-    in_range = subst (λ i. i < n) (sym same) one.1
+    in_range = one.0
 
     none : get_or in_degrees k 0 ≡ 0
-    none = ap (λ i. get_or in_degrees i 0) same ∙ one.2
-
-    fresh : ¬ Among k gone
-    fresh h = one.3 (subst (λ i. Among i gone) same h)
-
-    at : x ≡ least k
-    at = one.4 ∙ ap least (sym same)
+    none = one.1
 
     distinct : AreDistinct gone
-    distinct = follow_distinct n w least [] gone follow
+    distinct = follow_distinct n w [] gone follow
 
     within : (j : ℕ) → Among j gone → j < n
-    within j h = follow_range n w least [] gone j follow h
+    within j h = follow_range n w [] gone j follow h
 
-    smallest : (y : ℕ) → Among y (x ∷ ready) → least k ≤ y
-    smallest y (inl e) = let same : least k ≡ x = sym at in omega (arith, same, e)
-    smallest y (inr h) = let lt = below_each_sound x y ready rising.0 h in let same : least k ≡ x = sym at in omega (arith, same, lt)
+    smallest : (y : ℕ) → Among y (k ∷ ready) → k ≤ y
+    smallest y (inl e) = omega (arith, e)
+    smallest y (inr h) = let lt = below_each_sound k y ready rising.0 h in omega (arith, lt)
 
-    above : (y : ℕ) → Among y ready → y ≢ x
-    above y h e = lt_irrefl x (subst (λ z. x < z) e (below_each_sound x y ready rising.0 h))
+    above : (y : ℕ) → Among y ready → y ≢ k
+    above y h e = lt_irrefl k (subst (λ z. k < z) e (below_each_sound k y ready rising.0 h))
 
 -- after some have come to in-degree 0
-pub ready_after : (n : ℕ) (least : ℕ → ℕ) (gone in_degrees ready in_degrees2 ready2 : List ℕ) → ((k : ℕ) → Among k gone → k < n) → AreReady n least gone in_degrees ready → MoreSources n least in_degrees ready in_degrees2 ready2 → AreReady n least gone in_degrees2 ready2
-ready_after n least gone in_degrees ready in_degrees2 ready2 within set more = record {
+pub ready_after : (n : ℕ) (gone in_degrees ready in_degrees2 ready2 : List ℕ) → ((k : ℕ) → Among k gone → k < n) → AreReady n gone in_degrees ready → MoreSources n in_degrees ready in_degrees2 ready2 → AreReady n gone in_degrees2 ready2
+ready_after n gone in_degrees ready in_degrees2 ready2 within set more = record {
   sound = λ x h. by x (more.sound x h);
-  complete = λ j lt nil nh. ⊎_elim (λ (e : get_or in_degrees j 0 ≡ 0). more.stays (least j) (set.complete j lt e nh)) (λ ne. more.complete j lt ne nil) (number_same (get_or in_degrees j 0) 0);
+  complete = λ j lt nil nh. ⊎_elim (λ (e : get_or in_degrees j 0 ≡ 0). more.stays j (set.complete j lt e nh)) (λ ne. more.complete j lt ne nil) (number_same (get_or in_degrees j 0) 0);
   gone_done = λ j h. let e = set.gone_done j h in let le = more.falls j (within j h) in omega (arith, e, le);
 }
   where
-    by : (x : ℕ) → Among x ready ⊎ ((j : ℕ) × (j < n) × (get_or in_degrees j 0 ≢ 0) × (get_or in_degrees2 j 0 ≡ 0) × (x ≡ least j)) → (j : ℕ) × (j < n) × (get_or in_degrees2 j 0 ≡ 0) × (¬ Among j gone) × (x ≡ least j)
-    by x (inl h) = let (j, lt, nil, nh, e) = set.sound x h in (j, lt, (let le = more.falls j lt in omega (arith, le, nil)), nh, e)
-    by x (inr h) = let (j, lt, ne, nil, e) = h in (j, lt, nil, (λ g. ne (set.gone_done j g)), e)
+    by : (x : ℕ) → Among x ready ⊎ ((x < n) × (get_or in_degrees x 0 ≢ 0) × (get_or in_degrees2 x 0 ≡ 0)) → (x < n) × (get_or in_degrees2 x 0 ≡ 0) × (¬ Among x gone)
+    by x (inl h) = let (lt, nil, nh) = set.sound x h in (lt, (let le = more.falls x lt in omega (arith, le, nil)), nh)
+    by x (inr h) = let (lt, ne, nil) = h in (lt, nil, (λ g. ne (set.gone_done x g)))
 
--- Where the set is empty, all are gone: the least of the others would have in-degree 0.
-pub all_gone : (n : ℕ) (w : ℕ → ℕ → ℕ) (least : ℕ → ℕ) (gone in_degrees : List ℕ) → ((j p : ℕ) → j < n → p < n → w j p ≢ 0 → p < j) → AreLeft n w gone in_degrees → AreReady n least gone in_degrees [] → (k : ℕ) → k < n → Among k gone
-all_gone n w least gone in_degrees falls left set k lt = up_to (suc k) k (omega arith) lt
+-- Where the set is empty, all are gone: of the others the one that was finished first would have in-degree 0.
+pub all_gone : (n : ℕ) (w : ℕ → ℕ → ℕ) (finished : ℕ → ℕ) (gone in_degrees : List ℕ) → ((j p : ℕ) → j < n → p < n → w j p ≢ 0 → finished p < finished j) → AreLeft n w gone in_degrees → AreReady n gone in_degrees [] → (k : ℕ) → k < n → Among k gone
+all_gone n w finished gone in_degrees falls left set k lt = up_to (suc (finished k)) k (omega arith) lt
   where
-    up_to : (m k : ℕ) → k < m → k < n → Among k gone
-    up_to zero k lt kt = absurd (omega arith)
+    up_to : (m k : ℕ) → finished k < m → k < n → Among k gone
+    up_to zero k lt kt = absurd (omega (arith, lt))
     up_to (suc m) k lt kt = ⊎_elim (λ h. h) (λ nh. absurd (set.complete k kt (none_counted n w gone in_degrees k left kt (λ p pt ne. up_to m p (let less = falls k p kt pt ne in omega (arith, less, lt)) pt)) nh)) (number_among k gone)
 
 -- The first set, component by component.
 
-pub ready_in : (k : ℕ) (least : ℕ → ℕ) (in_degrees ready ready2 : List ℕ) → AreReady k least [] in_degrees ready → get_or in_degrees k 0 ≡ 0 → ((x : ℕ) → Among x ready2 → (x ≡ least k) ⊎ Among x ready) → ((x : ℕ) → (x ≡ least k) ⊎ Among x ready → Among x ready2) → AreReady (k + 1) least [] in_degrees ready2
-ready_in k least in_degrees ready ready2 set nil over back = record {
-  sound = λ x h. ⊎_elim (λ (e : x ≡ least k). (k, omega arith, nil, (λ g. g), e)) (λ g. let (j, lt, z, nh, e) = set.sound x g in (j, omega (arith, lt), z, nh, e)) (over x h);
-  complete = λ j lt z nh. ⊎_elim (λ (e : j ≡ k). back (least j) (inl (ap least e))) (λ ne. back (least j) (inr (set.complete j (omega (arith, lt, ne)) z nh))) (number_same j k);
+pub ready_in : (k : ℕ) (in_degrees ready ready2 : List ℕ) → AreReady k [] in_degrees ready → get_or in_degrees k 0 ≡ 0 → ((x : ℕ) → Among x ready2 → (x ≡ k) ⊎ Among x ready) → ((x : ℕ) → (x ≡ k) ⊎ Among x ready → Among x ready2) → AreReady (k + 1) [] in_degrees ready2
+ready_in k in_degrees ready ready2 set nil over back = record {
+  sound = λ x h. ⊎_elim (λ (e : x ≡ k). (omega (arith, e), ap (λ i. get_or in_degrees i 0) e ∙ nil, (λ g. g))) (λ g. let (lt, z, nh) = set.sound x g in (omega (arith, lt), z, nh)) (over x h);
+  complete = λ j lt z nh. ⊎_elim (λ (e : j ≡ k). back j (inl e)) (λ ne. back j (inr (set.complete j (omega (arith, lt, ne)) z nh))) (number_same j k);
   gone_done = λ j h. elim h [ ];
 }
 
-pub ready_out : (k : ℕ) (least : ℕ → ℕ) (in_degrees ready : List ℕ) → AreReady k least [] in_degrees ready → get_or in_degrees k 0 ≢ 0 → AreReady (k + 1) least [] in_degrees ready
-ready_out k least in_degrees ready set some = record {
-  sound = λ x h. let (j, lt, z, nh, e) = set.sound x h in (j, omega (arith, lt), z, nh, e);
+pub ready_out : (k : ℕ) (in_degrees ready : List ℕ) → AreReady k [] in_degrees ready → get_or in_degrees k 0 ≢ 0 → AreReady (k + 1) [] in_degrees ready
+ready_out k in_degrees ready set some = record {
+  sound = λ x h. let (lt, z, nh) = set.sound x h in (omega (arith, lt), z, nh);
   complete = λ j lt z nh. ⊎_elim (λ (e : j ≡ k). absurd (some (ap (λ i. get_or in_degrees i 0) (sym e) ∙ z))) (λ ne. set.complete j (omega (arith, lt, ne)) z nh) (number_same j k);
   gone_done = λ j h. elim h [ ];
 }
@@ -166,35 +157,35 @@ ready_out k least in_degrees ready set some = record {
 -- The blocks so far.
 
 -- some components are gone, in order, and these blocks are theirs
-pub record IsOrdering (n : ℕ) (w : ℕ → ℕ → ℕ) (least : ℕ → ℕ) (block : ℕ → Block) (in_degrees ready : List ℕ) (bs : List Block) : Type 0 where
+pub record IsOrdering (n : ℕ) (w : ℕ → ℕ → ℕ) (block : ℕ → Block) (in_degrees ready : List ℕ) (bs : List Block) : Type 0 where
   pub gone : List ℕ
-  pub follow : Follow n w least [] gone
+  pub follow : Follow n w [] gone
   pub left : AreLeft n w gone in_degrees
-  pub set : AreReady n least gone in_degrees ready
+  pub set : AreReady n gone in_degrees ready
   pub blocks : bs ≡ map block gone
 
 -- while one is taken there are fewer blocks than components
-pub ordering_few : (n : ℕ) (w : ℕ → ℕ → ℕ) (least : ℕ → ℕ) (block : ℕ → Block) (in_degrees members ready : List ℕ) (bs : List Block) (k : ℕ) → (o : IsOrdering n w least block in_degrees members bs) → IsTaken n w least o.gone in_degrees ready k → length bs < n
-ordering_few n w least block in_degrees members ready bs k o taken =
-    let few = follow_few n w least (o.gone ++ k ∷ []) (follow_more n w least [] o.gone k o.follow taken.next) in
+pub ordering_few : (n : ℕ) (w : ℕ → ℕ → ℕ) (block : ℕ → Block) (in_degrees members ready : List ℕ) (bs : List Block) (k : ℕ) → (o : IsOrdering n w block in_degrees members bs) → IsTaken n w o.gone in_degrees ready k → length bs < n
+ordering_few n w block in_degrees members ready bs k o taken =
+    let few = follow_few n w (o.gone ++ k ∷ []) (follow_more n w [] o.gone k o.follow taken.next) in
     let more = length_push o.gone k in
     let same : length bs ≡ length o.gone = ap length o.blocks ∙ length-map o.gone block in
     omega (arith, few, more, same)
 
 -- one more is gone
-pub ordering_next : (n : ℕ) (w : ℕ → ℕ → ℕ) (least : ℕ → ℕ) (block : ℕ → Block) (in_degrees members ready in_degrees2 ready2 : List ℕ) (bs bs2 : List Block) (k : ℕ) → (o : IsOrdering n w least block in_degrees members bs) → IsTaken n w least o.gone in_degrees ready k → bs2 ≡ bs ++ block k ∷ [] → ((j : ℕ) → j < n → get_or in_degrees j 0 ≡ get_or in_degrees2 j 0 + w j k) → MoreSources n least in_degrees ready in_degrees2 ready2 → IsOrdering n w least block in_degrees2 ready2 bs2
-ordering_next n w least block in_degrees members ready in_degrees2 ready2 bs bs2 k o taken more_blocks fell more = record {
+pub ordering_next : (n : ℕ) (w : ℕ → ℕ → ℕ) (block : ℕ → Block) (in_degrees members ready in_degrees2 ready2 : List ℕ) (bs bs2 : List Block) (k : ℕ) → (o : IsOrdering n w block in_degrees members bs) → IsTaken n w o.gone in_degrees ready k → bs2 ≡ bs ++ block k ∷ [] → ((j : ℕ) → j < n → get_or in_degrees j 0 ≡ get_or in_degrees2 j 0 + w j k) → MoreSources n in_degrees ready in_degrees2 ready2 → IsOrdering n w block in_degrees2 ready2 bs2
+ordering_next n w block in_degrees members ready in_degrees2 ready2 bs bs2 k o taken more_blocks fell more = record {
   gone = o.gone ++ k ∷ [];
   follow = follow;
   left = left_next n w o.gone in_degrees in_degrees2 k o.left fell;
-  set = ready_after n least (o.gone ++ k ∷ []) in_degrees ready in_degrees2 ready2 (λ j h. follow_range n w least [] (o.gone ++ k ∷ []) j follow h) taken.set more;
+  set = ready_after n (o.gone ++ k ∷ []) in_degrees ready in_degrees2 ready2 (λ j h. follow_range n w [] (o.gone ++ k ∷ []) j follow h) taken.set more;
   blocks = more_blocks ∙ ap (λ (bs : List Block). bs ++ block k ∷ []) o.blocks ∙ sym (map-append block o.gone (k ∷ []));
 }
   where
-    follow : Follow n w least [] (o.gone ++ k ∷ [])
-    follow = follow_more n w least [] o.gone k o.follow taken.next
+    follow : Follow n w [] (o.gone ++ k ∷ [])
+    follow = follow_more n w [] o.gone k o.follow taken.next
 
 -- the component that is taken is still counted
-pub ordering_counted : (n : ℕ) (w : ℕ → ℕ → ℕ) (least : ℕ → ℕ) (block : ℕ → Block) (in_degrees members ready : List ℕ) (bs : List Block) (j k : ℕ) → (o : IsOrdering n w least block in_degrees members bs) → IsTaken n w least o.gone in_degrees ready k → j < n → w j k ≤ get_or in_degrees j 0
-ordering_counted n w least block in_degrees members ready bs j k o taken lt =
-    still_counted n w o.gone in_degrees j k o.left (follow_distinct n w least [] o.gone o.follow) (λ i h. follow_range n w least [] o.gone i o.follow h) lt taken.next.in_range taken.next.fresh
+pub ordering_counted : (n : ℕ) (w : ℕ → ℕ → ℕ) (block : ℕ → Block) (in_degrees members ready : List ℕ) (bs : List Block) (j k : ℕ) → (o : IsOrdering n w block in_degrees members bs) → IsTaken n w o.gone in_degrees ready k → j < n → w j k ≤ get_or in_degrees j 0
+ordering_counted n w block in_degrees members ready bs j k o taken lt =
+    still_counted n w o.gone in_degrees j k o.left (follow_distinct n w [] o.gone o.follow) (λ i h. follow_range n w [] o.gone i o.follow h) lt taken.next.in_range taken.next.fresh

@@ -25,29 +25,20 @@ edges_into line numbers rows j k = edges_in line numbers k j (group rows k)
 abbrev pub least_of : List (List ℕ) → ℕ → ℕ
 least_of cols j = slice_index (group cols j) 0
 
--- each of n components has a least column, below the bound
-pub record HaveLeast (n bound : ℕ) (cols : List (List ℕ)) : Type 0 where
-  pub long : length cols ≡ n
-  pub some : (j : ℕ) → j < n → 0 < length (group cols j)
-  pub below : (j : ℕ) → j < n → least_of cols j < bound
-
--- the least columns of the components that have come to in-degree 0 are put in
-pub record MoreSources (count : ℕ) (least : ℕ → ℕ)
-    (in_degrees ready in_degrees2 ready2 : List ℕ) : Type 0 where
-  pub sound : (x : ℕ) → Among x ready2 → Among x ready
-      ⊎ ((j : ℕ) × (j < count) × (slice_index in_degrees j ≢ 0) × (slice_index in_degrees2 j ≡ 0)
-      × (x ≡ least j))
-  pub stays : (x : ℕ) → Among x ready → Among x ready2
+-- the components that have come to in-degree 0 are put in
+pub record MoreSources (count : ℕ) (in_degrees ready in_degrees2 ready2 : List ℕ) : Type 0 where
+  pub sound : (j : ℕ) → Among j ready2 → Among j ready
+      ⊎ ((j < count) × (slice_index in_degrees j ≢ 0) × (slice_index in_degrees2 j ≡ 0))
+  pub stays : (j : ℕ) → Among j ready → Among j ready2
   pub complete : (j : ℕ) → j < count → slice_index in_degrees j ≢ 0 → slice_index in_degrees2 j ≡ 0
-      → Among (least j) ready2
+      → Among j ready2
   pub falls : (j : ℕ) → j < count → slice_index in_degrees2 j ≤ slice_index in_degrees j
 
--- the least columns of the components of in-degree 0, without those that are gone, which have that in-degree too
-pub record AreReady (count : ℕ) (least : ℕ → ℕ) (gone in_degrees ready : List ℕ) : Type 0 where
-  pub sound : (x : ℕ) → Among x ready
-      → (j : ℕ) × (j < count) × (slice_index in_degrees j ≡ 0) × (¬ Among j gone) × (x ≡ least j)
-  pub complete : (j : ℕ) → j < count → slice_index in_degrees j ≡ 0 → ¬ Among j gone
-      → Among (least j) ready
+-- the components of in-degree 0, without those that are gone, which have that in-degree too
+pub record AreReady (count : ℕ) (gone in_degrees ready : List ℕ) : Type 0 where
+  pub sound : (j : ℕ) → Among j ready
+      → (j < count) × (slice_index in_degrees j ≡ 0) × (¬ Among j gone)
+  pub complete : (j : ℕ) → j < count → slice_index in_degrees j ≡ 0 → ¬ Among j gone → Among j ready
   pub gone_done : (j : ℕ) → Among j gone → slice_index in_degrees j ≡ 0
 
 -- what the search for the order knows of the components, by the rows and the columns of each
@@ -55,9 +46,13 @@ pub record IsGathered (a : Matrix) (numbers : List ℕ) (count : ℕ)
     (rows columns : List (List ℕ)) : Type 0 where
   pub numbered : length numbers ≡ cols a
   pub few : entry_count a < 2 ^ 32
+  pub few_components : count < 2 ^ 32
   pub by_row : AreApart a.rows count rows
   pub by_col : AreGroups numbers count columns
   pub some : (k : ℕ) → k < count → 0 < length (group columns k)
-  -- no edge leads into a component from one of a greater number
+  -- they are numbered by their least columns
+  pub rises : (j k : ℕ) → j ≤ k → k < count → least_of columns j ≤ least_of columns k
+  -- an edge leads into a component from one that the search finished before it
+  pub finished : ℕ → ℕ
   pub falls : (j k : ℕ) → j < count → k < count
-      → edges_into (row_list a) numbers rows j k ≢ 0 → k ≤ j
+      → edges_into (row_list a) numbers rows j k ≢ 0 → finished k < finished j

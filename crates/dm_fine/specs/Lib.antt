@@ -2,3 +2,4 @@ pub mod BlockOrder
 pub mod Component
 pub mod Groups
 pub mod InDegrees
+pub mod Renumbering

@@ -5,8 +5,7 @@ ghost use Rattle.bip_defs.specs.Lists.{Among};
 ghost use Rattle.bip_defs.specs.Matrix.{cols, entry_count, row_list, upto};
 ghost use Rattle.dm_fine.specs.Component.{IsOfMatrix, edges_from};
 ghost use Rattle.dm_fine.specs.Groups.{AreApart};
-ghost use Rattle.dm_fine.specs.InDegrees.{HaveLeast, MoreSources, edges_at, edges_into, least_of, row_edges};
-ghost use Rattle.id_groups.specs.Groups.{group};
+ghost use Rattle.dm_fine.specs.InDegrees.{MoreSources, edges_at, edges_into, row_edges};
 
 use id_groups::Groups;
 use int_set::IntSet;
@@ -73,34 +72,28 @@ impl Component<'_> {
         }
     }
 
-    /// Takes its entries in columns of each other component off, and puts in the least columns of
-    /// those that have come to in-degree 0.
-    pub fn remove_entries(&self, least: &Groups<Col>, in_degrees: &mut [u32], ready: &mut IntSet)
+    /// Takes its entries in columns of each other component off, and puts in those that have come
+    /// to in-degree 0.
+    pub fn remove_entries(&self, in_degrees: &mut [u32], ready: &mut IntSet)
         requires of_matrix { IsOfMatrix self.now }
-        requires least { HaveLeast (length in_degrees.old) ready.old.bound least.now }
+        requires bound { length in_degrees.old ≤ ready.old.bound }
         requires counted { (j : ℕ) → j < length in_degrees.old
             → edges_from self.now j ≤ slice_index in_degrees.old j }
         ensures in_degrees { (j : ℕ) → j < length in_degrees.old
             → slice_index in_degrees.old j ≡ slice_index in_degrees.new j + edges_from self.now j }
-        ensures more { MoreSources (length in_degrees.old) (least_of least.now) in_degrees.old
-            ready.old.members in_degrees.new ready.new.members }
+        ensures more { MoreSources (length in_degrees.old) in_degrees.old ready.old.members
+            in_degrees.new ready.new.members }
         ensures bound { ready.new.bound ≡ ready.old.bound }
     {
         for row in self.rows {
-            self.remove_row(self.pattern.cols_of(*row), least, in_degrees, ready);
+            self.remove_row(self.pattern.cols_of(*row), in_degrees, ready);
         }
     }
 
     // Takes the entries of a row that has these columns off.
-    fn remove_row(
-        &self,
-        cols: &[Col],
-        least: &Groups<Col>,
-        in_degrees: &mut [u32],
-        ready: &mut IntSet,
-    )
+    fn remove_row(&self, cols: &[Col], in_degrees: &mut [u32], ready: &mut IntSet)
         requires cols { (c : ℕ) → Among c cols.now → c < length self.now.numbers.now }
-        requires least { HaveLeast (length in_degrees.old) ready.old.bound least.now }
+        requires bound { length in_degrees.old ≤ ready.old.bound }
         requires counted { (j : ℕ) → j < length in_degrees.old
             → row_edges self.now.numbers.now self.now.own j cols.now
             ≤ slice_index in_degrees.old j }
@@ -108,13 +101,13 @@ impl Component<'_> {
             → slice_index in_degrees.old j
             ≡ slice_index in_degrees.new j
             + row_edges self.now.numbers.now self.now.own j cols.now }
-        ensures more { MoreSources (length in_degrees.old) (least_of least.now) in_degrees.old
-            ready.old.members in_degrees.new ready.new.members }
+        ensures more { MoreSources (length in_degrees.old) in_degrees.old ready.old.members
+            in_degrees.new ready.new.members }
         ensures bound { ready.new.bound ≡ ready.old.bound }
     {
         for col in cols {
             let number = self.numbers[col.0 as usize];
-            remove_one(self.own, number, least, in_degrees, ready);
+            remove_one(self.own, number, in_degrees, ready);
         }
     }
 }
@@ -148,20 +141,14 @@ fn count_one(own: u32, number: u32, in_degrees: &mut [u32])
 
 // Takes an entry off, where it is in a column of another component.
 #[inline(always)]
-fn remove_one(
-    own: u32,
-    number: u32,
-    least: &Groups<Col>,
-    in_degrees: &mut [u32],
-    ready: &mut IntSet,
-)
-    requires least { HaveLeast (length in_degrees.old) ready.old.bound least.now }
+fn remove_one(own: u32, number: u32, in_degrees: &mut [u32], ready: &mut IntSet)
+    requires bound { length in_degrees.old ≤ ready.old.bound }
     requires counted { (j : ℕ) → j < length in_degrees.old
         → edges_at own j number ≤ slice_index in_degrees.old j }
     ensures in_degrees { (j : ℕ) → j < length in_degrees.old
         → slice_index in_degrees.old j ≡ slice_index in_degrees.new j + edges_at own j number }
-    ensures more { MoreSources (length in_degrees.old) (least_of least.now) in_degrees.old
-        ready.old.members in_degrees.new ready.new.members }
+    ensures more { MoreSources (length in_degrees.old) in_degrees.old ready.old.members
+        in_degrees.new ready.new.members }
     ensures bound { ready.new.bound ≡ ready.old.bound }
 {
     if number == own || number as usize >= in_degrees.len() {
@@ -170,17 +157,6 @@ fn remove_one(
     let left = in_degrees[number as usize] - 1;
     in_degrees[number as usize] = left;
     if left == 0 {
-        ready.insert(first(least, number));
+        ready.insert(number);
     }
-}
-
-/// The least column of a component.
-pub fn first(cols: &Groups<Col>, number: u32) -> u32
-    requires number { number < length cols.now }
-    requires some { 0 < length (group cols.now number) }
-    ensures { result ≡ least_of cols.now number }
-{
-    let own = cols.of(number);
-    let least = own[0];
-    least.0
 }

@@ -4,6 +4,7 @@
 mod in_degrees;
 mod mates;
 mod order;
+mod renumbering;
 
 ghost use Rattle.std.specs.Prelude.{IfOk};
 ghost use Rattle.bip_defs.specs.Blocks.{AreBlocksOf};
@@ -13,11 +14,11 @@ ghost use Rattle.bip_graph.specs.Decompositions.{parts_of};
 
 use crate::mates::mates;
 use crate::order::order;
+use crate::renumbering::by_least_column;
 use bip_graph::{Blocks, Matching, Parts};
 use id_groups::gather;
 use sp_ids::OutOfMemory;
 use sp_pattern::Pattern;
-use square_components::strong_components;
 use std::alloc::Global;
 
 /// The fine blocks of a matrix, from a maximum matching and its coarse parts (Dulmage and
@@ -26,7 +27,8 @@ use std::alloc::Global;
 /// the one with the least column.
 ///
 /// The blocks are the strong components of the square columns, each with the mates of its columns.
-/// They are put in order by a topological sort that takes the least source.
+/// They are numbered by their least columns, and put in order by a topological sort that takes the
+/// least source.
 ///
 /// Answers `OutOfMemory` where 4 bytes a row and 24 a column can't be had for the components, or
 /// then 8 a row, 12 a column and 20 a block. Work: each entry of a square column is looked at twice
@@ -43,7 +45,7 @@ pub fn fine(
     ensures { IfOk result (λ b. AreBlocksOf pattern.now b) }
 {
     pattern.is_pattern();
-    let components = strong_components(alloc, pattern, matching, parts)?;
+    let components = by_least_column(alloc, pattern, matching, parts)?;
     let count = components.count;
     let numbers = components.numbers.as_slice();
     let rows = mates(alloc, matching, numbers, count)?;

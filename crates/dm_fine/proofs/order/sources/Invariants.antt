@@ -1,9 +1,9 @@
 use Rattle.std.proofs.Common.{◌≡◌, []}
-use Rattle.dm_fine.specs.InDegrees.{AreReady, least_of}
+use Rattle.dm_fine.specs.InDegrees.{AreReady}
 use Rattle.dm_fine.proofs.order.sources.Given as goal
 
 abbrev pub invariant-loop-k : goal.invariant-loop-k
 invariant-loop-k l = record {
-  set : AreReady l.k (least_of l.cols) [] l.in_degrees l.ready.members;
-  bound : l.ready.bound ≡ l.bound;
+  set : AreReady l.k [] l.in_degrees l.ready.members;
+  bound : l.ready.bound ≡ l.count;
 }

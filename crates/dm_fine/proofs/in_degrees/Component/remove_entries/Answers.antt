@@ -24,7 +24,7 @@ loop-row-preserved c =
       in_degrees = λ j lt.
           let less = rw c.cols_of.ensures.row_list at (c.remove_row.ensures.in_degrees j (omega (arith, long, lt))) in
           take_more_off (λ r. row_edges c.args.self.now.numbers.now c.args.self.now.own j (row_list c.args.self.now.pattern.now r)) c.args.self.now.rows.now c.loop-row.row-index c.row-item.result c.row-item.result (get_or c.args.in_degrees.now j 0) (get_or c.loop-row.in_degrees j 0) (get_or c.remove_row.new.in_degrees j 0) c.loop-row-test.true c.row-item.is (c.loop-row.invariant.in_degrees j (omega (arith, long, lt))) less;
-      more = more_join _ _ _ _ _ _ _ _ c.loop-row.invariant.more (rw all at c.remove_row.ensures.more);
+      more = more_join _ _ _ _ _ _ _ c.loop-row.invariant.more (rw all at c.remove_row.ensures.more);
       bound = c.remove_row.ensures.bound ∙ c.loop-row.invariant.bound;
     }
 

@@ -17,7 +17,7 @@ loop-col-preserved c =
     let all = c.loop-col.auto.in_degrees in
     record {
       in_degrees = λ j lt. take_more_off (λ d. edges_at c.args.self.now.own j (get_or c.args.self.now.numbers.now d 0)) c.args.cols.now c.loop-col.col-index c.col-item.result c.col.inside.0 (get_or c.args.in_degrees.now j 0) (get_or c.loop-col.in_degrees j 0) (get_or c.remove_one.new.in_degrees j 0) c.loop-col-test.true (c.col.view_is ∙ c.col-item.is) (c.loop-col.invariant.in_degrees j (omega (arith, long, lt))) (c.remove_one.ensures.in_degrees j (omega (arith, long, lt)));
-      more = more_join _ _ _ _ _ _ _ _ c.loop-col.invariant.more (rw all at c.remove_one.ensures.more);
+      more = more_join _ _ _ _ _ _ _ c.loop-col.invariant.more (rw all at c.remove_one.ensures.more);
       bound = c.remove_one.ensures.bound ∙ c.loop-col.invariant.bound;
     }
 
