@@ -14,6 +14,7 @@ ghost use Rattle.bip_defs.specs.Matrix.{cols};
 ghost use Rattle.bip_defs.specs.Parts.{ArePartsOf, IsHorizontalCol, IsVerticalRow};
 ghost use Rattle.bip_graph.specs.Decompositions.{parts_of};
 ghost use Rattle.bip_graph.specs.Matching.{IsMatchingOf, IsMaximumOf};
+ghost use Rattle.dm_coarse.specs.Searches.{AreMarksIfMaximum};
 
 use crate::searches::Matched;
 use crate::split::{split_cols, split_rows};
@@ -50,6 +51,23 @@ pub fn coarse<R: Threads + Sync>(
     }
 }
 
+/// [`coarse`] on the calling thread alone, by one search after the other.
+pub fn coarse_in_turn(
+    alloc: Global,
+    pattern: &Pattern,
+    matching: &Matching,
+) -> Result<Parts, OutOfMemory>
+    requires maximum { IsMaximumOf pattern.now matching.now }
+    ensures { IfOk result (λ p. ArePartsOf pattern.now (parts_of p)) }
+{
+    let matched = Matched { pattern, matching };
+    let (cols, rows) = matched.marks_in_turn(alloc);
+    match parts_if_marked(alloc, pattern, matching, cols?, rows?)? {
+        Some(parts) => Ok(parts),
+        None => unreachable!(),
+    }
+}
+
 /// [`coarse`] from a matching of which it is not known whether it is maximum: the same two searches
 /// tell. Where it is not, there are no parts.
 ///
@@ -71,10 +89,33 @@ pub fn coarse_if_maximum<R: Threads + Sync>(
 {
     let matched = Matched { pattern, matching };
     let (cols, rows) = matched.marks(rt, alloc);
-    let Some(cols) = cols? else {
+    parts_if_marked(alloc, pattern, matching, cols?, rows?)
+}
+
+// The parts, where both searches have marked what they look for, which tells that the matching is
+// maximum.
+fn parts_if_marked(
+    alloc: Global,
+    pattern: &Pattern,
+    matching: &Matching,
+    horizontal: Option<Vec<bool>>,
+    vertical: Option<Vec<bool>>,
+) -> Result<Option<Parts>, OutOfMemory>
+    requires matching { IsMatchingOf pattern.now matching.now }
+    requires horizontal { AreMarksIfMaximum pattern.now matching.now.pairs (cols pattern.now)
+        (IsHorizontalCol pattern.now) horizontal }
+    requires vertical { AreMarksIfMaximum pattern.now matching.now.pairs pattern.now.rows
+        (IsVerticalRow pattern.now) vertical }
+    ensures maximum { IfOk result
+        (λ o. IfSome o (λ p. IsMaximum pattern.now matching.now.pairs)) }
+    ensures parts { IfOk result (λ o. IfSome o (λ p. ArePartsOf pattern.now (parts_of p))) }
+    ensures not_maximum { IfOk result
+        (λ o. IfNone o (¬ IsMaximum pattern.now matching.now.pairs)) }
+{
+    let Some(cols) = horizontal else {
         return Ok(None);
     };
-    let Some(rows) = rows? else {
+    let Some(rows) = vertical else {
         return Ok(None);
     };
     let parts = parts_by(alloc, pattern, matching, cols.as_slice(), rows.as_slice())?;

@@ -57,6 +57,24 @@ impl Matched<'_> {
         join(rt, of_cols, of_rows)
     }
 
+    /// [`Matched::marks`], by one search after the other.
+    pub fn marks_in_turn(
+        &self,
+        alloc: Global,
+    ) -> (
+        Result<Option<Vec<bool>>, OutOfMemory>,
+        Result<Option<Vec<bool>>, OutOfMemory>,
+    )
+        ensures cols { IfOk result.0
+            (AreMarksIfMaximum self.now.pattern.now self.now.matching.now.pairs
+            (cols self.now.pattern.now) (IsHorizontalCol self.now.pattern.now)) }
+        ensures rows { IfOk result.1
+            (AreMarksIfMaximum self.now.pattern.now self.now.matching.now.pairs
+            self.now.pattern.now.rows (IsVerticalRow self.now.pattern.now)) }
+    {
+        (self.horizontal_cols(alloc), self.vertical_rows(alloc))
+    }
+
     /// Marks the horizontal columns, if the matching is maximum.
     fn horizontal_cols(&self, alloc: Global) -> Result<Option<Vec<bool>>, OutOfMemory>
         ensures { IfOk result

@@ -1,3 +1,5 @@
+pub mod ColumnErrors
+pub mod Columns
 pub mod Load
 pub mod Mirror
 pub mod Pairs

@@ -1,6 +1,7 @@
 //! Sparse patterns: which places of a matrix have entries, kept by columns and by rows.
 #![tactic(auto)]
 
+mod columns;
 mod compress;
 mod ends;
 mod filter;
@@ -19,8 +20,9 @@ mod sums;
 mod transpose;
 mod weights;
 
+pub use columns::{ColumnsError, Narrow, NumberList, Wide, check_columns};
 pub use filter::Filter;
-pub use laws::search_finds_members;
+pub use laws::{columns_give_their_places, search_finds_members};
 pub use load::load_matrix;
 pub use pattern::Pattern;
 pub use pieces::part;
