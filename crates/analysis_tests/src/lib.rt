@@ -11,6 +11,8 @@ mod bottlenecks;
 #[cfg(test)]
 mod components;
 #[cfg(test)]
+mod compressed_columns;
+#[cfg(test)]
 mod diagonal_texts;
 #[cfg(test)]
 mod diagonals;

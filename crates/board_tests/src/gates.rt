@@ -96,3 +96,14 @@ fn a_party_that_comes_alone_goes_on_in_the_end(rt: HostRuntime) -> Result<(), Ou
     }
     Ok(())
 }
+
+// Worker 0, who comes alone, uses up the turns; nobody else waits.
+#[test]
+fn worker_0_goes_on_in_the_end(rt: HostRuntime) -> Result<(), OutOfMemory> {
+    for (worker, waits) in [(0, true), (1, false), (2, false)] {
+        let gate = MeetGate::with_turns(rt.alloc(), 10)?;
+        gate.arrive(worker);
+        assert_eq!(rt; (gate.arrivals(worker), gate.ran_out()), (1, waits));
+    }
+    Ok(())
+}

@@ -28,30 +28,38 @@ impl Gate for NoGate {
     fn arrive(&self, _worker: u32) {}
 }
 
-// How often worker 0 looks whether worker 1 has come.
+// How often worker 0 looks in one arrival whether worker 1 has come, unless told otherwise.
 const MAX_TURNS: u32 = 50_000_000;
 
 /// Makes two workers meet: the k-th time that worker 0 arrives it waits until worker 1 has arrived
 /// k times.
 ///
-/// It is for tests. Between two looks worker 0 lets other threads run, and after 50,000,000 looks
-/// in one arrival it goes on, so `arrive` returns whatever the other workers do. It counts the
-/// arrivals of workers 0 to 63, and keeps 8 bytes for each.
+/// It is for tests. Between two looks worker 0 lets other threads run, and once it has looked so
+/// often in one arrival as it may it goes on, so `arrive` returns whatever the other workers do. It
+/// counts the arrivals of workers 0 to 63, and keeps 8 bytes for each.
 #[derive(Drop)]
 pub struct MeetGate {
     arrivals: Vec<AtomicU64>,
+    turns: u32,
     ran_out: AtomicBool,
 }
 
 impl MeetGate {
-    /// A gate at which nobody has arrived. Answers `OutOfMemory` where the counts can't be had.
+    /// A gate at which nobody has arrived, where worker 0 looks 50,000,000 times at most. Answers
+    /// `OutOfMemory` where the counts can't be had.
     pub fn new(alloc: Global) -> Result<MeetGate, OutOfMemory> {
+        MeetGate::with_turns(alloc, MAX_TURNS)
+    }
+
+    /// The same, where worker 0 looks at most so many times in one arrival.
+    pub fn with_turns(alloc: Global, turns: u32) -> Result<MeetGate, OutOfMemory> {
         let mut arrivals = Vec::with_capacity(alloc, MAX_WORKERS as usize)?;
         for _worker in 0..MAX_WORKERS {
             arrivals.push(AtomicU64::new(0))?;
         }
         Ok(MeetGate {
             arrivals,
+            turns,
             ran_out: AtomicBool::new(false),
         })
     }
@@ -71,7 +79,7 @@ impl MeetGate {
 
     // Waits until worker 1 has arrived so many times, or all turns are used.
     fn meet(&self, times: u64) {
-        for _turn in 0..MAX_TURNS {
+        for _turn in 0..self.turns {
             if self.arrivals(1) >= times {
                 return;
             }
