@@ -68,7 +68,8 @@ pub fn known_values_stand()
 {}
 
 /// New seats are as many as were asked for, and at least one of them is all seats of the board, in
-/// the order of their numbers. What they list, which is nothing, accounts for the words as they were when the board was opened.
+/// the order of their numbers. What they list, which is nothing, accounts for the words as they
+/// were when the board was opened.
 pub fn new_seats_are_all()
     ensures all { (b : Board) (seats : ℕ) → 1 ≤ seats → AreAllSeats b (new_seats b seats) }
     ensures in_any_order { (b : Board) (seats : ℕ) → 1 ≤ seats → HoldsAllSeats b (new_seats b seats) }

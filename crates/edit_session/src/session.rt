@@ -132,13 +132,13 @@ impl Session {
     ///
     /// A step is a column that a search takes up or an entry that it looks at. There is no search
     /// where the entry was there, where the rank is already the number of rows or of columns, or
-    /// where its row and its column have no mate and become a pair. Else there is one: it makes at least as many steps as the path that it finds has pairs, and
-    /// where it finds none, one for each column that some maximum matching of the new matrix misses
-    /// and one for each of their entries.
-    /// Answers `OutOfMemory` where there is no memory for the entry or for a search, 9 bytes a
-    /// column and 8 a pair of a path; the session is then as it was. Work: the search, and beside
-    /// it a search by halves in the column and one move of each of its rows, in the mean over many
-    /// edits.
+    /// where its row and its column have no mate and become a pair. Else there is one: it makes at
+    /// least as many steps as the path that it finds has pairs, and where it finds none, one for
+    /// each column that some maximum matching of the new matrix misses and one for each of their
+    /// entries. Answers `OutOfMemory` where there is no memory for the entry or for a search, 9
+    /// bytes a column and 8 a pair of a path; the session is then as it was. Work: the search, and
+    /// beside it a search by halves in the column and one move of each of its rows, in the mean
+    /// over many edits.
     pub fn set<L: Ledger>(
         &mut self,
         row: Row,
@@ -181,9 +181,9 @@ impl Session {
     /// Clears an entry, and gives the rank of the matrix then. Where there is none nothing changes.
     ///
     /// Steps are counted as in [`Session::set`]. There is no search where the entry was no pair of
-    /// the matching, and one from the other pairs where it was. Answers `OutOfMemory` where there is no memory for a search; the session is
-    /// then as it was. Work: the search, and beside it a search by halves in the column and one
-    /// move of each of its rows.
+    /// the matching, and one from the other pairs where it was. Answers `OutOfMemory` where there
+    /// is no memory for a search; the session is then as it was. Work: the search, and beside it a
+    /// search by halves in the column and one move of each of its rows.
     pub fn clear<L: Ledger>(
         &mut self,
         row: Row,

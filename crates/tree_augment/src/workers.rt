@@ -47,8 +47,9 @@ impl<'a, 'p> Work<FlipSeat, Infallible> for Rounds<'a, 'p> {
 /// Of w workers, the worker i goes once round the roots with a leaf in their order, from the place
 /// `i * l / w` of a list of l of them on, and exchanges the path of each whose tree no seat took
 /// before. It calls `gate.arrive(i)` once, before its round. Workers run at once where there are
-/// many roots with a leaf (`share_work`), as far as threads can be had. Takes no memory and waits for nothing but the gate. Work: each worker looks once at
-/// each root with a leaf; two looks and two sets for each row of a path.
+/// many roots with a leaf (`share_work`), as far as threads can be had. Takes no memory and waits
+/// for nothing but the gate. Work: each worker looks once at each root with a leaf; two looks and
+/// two sets for each row of a path.
 pub fn augment<R: Threads + Sync, G: Gate>(
     rt: &R,
     forest: &Forest,
