@@ -3,18 +3,21 @@
 interleaved, and prints a table.
 
     bench/engines.py --btf crates/btf/out/btf [--btf OLD] [--work DIR] [--entries 1000000] [--families circuit,er27]
-                     [--workers 1,2,4] [--repeats 5] [--limit SECONDS]
+                     [--workers 1,2,4] [--repeats 5] [--limit SECONDS] [--busy]
 
 It wants g++ for the generator of the files, which are those of `bench/run.py`, and go to DIR (by default bench-work in
 the system's folder for temporary files). Times are those of whole processes of `btf analyse`, from a file in the page
 cache to a text in a file: the least of the repeats, by the wall clock and in processor seconds (user and system, all
 threads). In each field of the table: wall and processor nanoseconds an entry, in brackets the ratio of both to `pf`, and
 then peak bytes an entry. With several programs each has its own lines. All must write the same text; a difference is told
-and makes the exit status 1. The machine's load at the start of each file stands in the last column.
+and makes the exit status 1. The machine's load at the start of each file stands in the last column. With --busy as many
+other processes as there are processors do nothing but turn all the while: a join then waits for a time slice.
 """
 import argparse
+import contextlib
 import hashlib
 import os
+import subprocess
 import sys
 import tempfile
 
@@ -48,6 +51,18 @@ def runs(options, path):
     return [name for name, _ in engines], least, texts
 
 
+@contextlib.contextmanager
+def spinning(count):
+    """So many processes that turn and do nothing, till the end."""
+    others = [subprocess.Popen(["sh", "-c", "while :; do :; done"]) for _ in range(count)]
+    try:
+        yield
+    finally:
+        for other in others:
+            other.kill()
+            other.wait()
+
+
 def cell(done, base, entries):
     """One field of the table."""
     if done is None:
@@ -57,19 +72,8 @@ def cell(done, base, entries):
     return f"{wall * 1e9 / entries:.0f}, {processor * 1e9 / entries:.0f}{ratio}, {peak / entries:.0f}"
 
 
-def main():
-    parser = argparse.ArgumentParser(description=__doc__, formatter_class=argparse.RawDescriptionHelpFormatter)
-    parser.add_argument("--btf", required=True, action="append")
-    parser.add_argument("--work", default=os.path.join(tempfile.gettempdir(), "bench-work"))
-    parser.add_argument("--entries", default="1000000")
-    parser.add_argument("--families", default=PATTERNS)
-    parser.add_argument("--workers", default="1,2,4")
-    parser.add_argument("--repeats", type=int, default=5)
-    parser.add_argument("--limit", type=int, default=60)
-    options = parser.parse_args()
-    os.makedirs(options.work, exist_ok=True)
-    if not build(options.work, "generate"):
-        sys.exit("engines.py: the generator does not compile")
+def table(options):
+    """Prints the table. Whether texts differ."""
     heads, differs = None, False
     for family in options.families.split(","):
         for size in options.entries.split(","):
@@ -88,6 +92,25 @@ def main():
             if len(texts) > 1:
                 print(f"engines.py: texts differ on {path}", file=sys.stderr)
                 differs = True
+    return differs
+
+
+def main():
+    parser = argparse.ArgumentParser(description=__doc__, formatter_class=argparse.RawDescriptionHelpFormatter)
+    parser.add_argument("--btf", required=True, action="append")
+    parser.add_argument("--work", default=os.path.join(tempfile.gettempdir(), "bench-work"))
+    parser.add_argument("--entries", default="1000000")
+    parser.add_argument("--families", default=PATTERNS)
+    parser.add_argument("--workers", default="1,2,4")
+    parser.add_argument("--repeats", type=int, default=5)
+    parser.add_argument("--limit", type=int, default=60)
+    parser.add_argument("--busy", action="store_true")
+    options = parser.parse_args()
+    os.makedirs(options.work, exist_ok=True)
+    if not build(options.work, "generate"):
+        sys.exit("engines.py: the generator does not compile")
+    with spinning(os.cpu_count() if options.busy else 0):
+        differs = table(options)
     sys.exit(1 if differs else 0)
 
 
