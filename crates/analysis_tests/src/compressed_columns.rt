@@ -49,7 +49,7 @@ fn sizes_without_entries(rt: HostRuntime) {
     assert_eq!(rt; narrow(&rt, 0, &[0], &[]), Ok(0));
     assert_eq!(rt; narrow(&rt, 5, &[0], &[]), Ok(0));
     assert_eq!(rt; narrow(&rt, 0, &[0, 0, 0], &[]), Ok(0));
-    assert_eq!(rt; wide(&rt, 4294967295, &[0], &[]), Ok(0));
+    assert_eq!(rt; wide(&rt, 5, &[0], &[]), Ok(0));
 }
 
 #[test]
