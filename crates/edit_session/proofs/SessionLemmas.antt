@@ -1,17 +1,18 @@
--- What an edit leaves of a maximum matching, and of the session where it is taken back.
-use Rattle.std.proofs.Common.{◌≡◌, ◌≢◌, ◌⊎◌, ◌↔◌, ◌∙◌, ℕ, suc, ◌+◌, ◌^◌, ◌<◌, ◌≤◌, true, false, true≢false, List, ◌∷◌, length, nat_eq, refl, sym, ap, subst, inl, inr, ⊎_elim, arith, eq-eqb, eqb-true, IsTrue}
+-- What an edit leaves of a maximum matching and of the cover beside it.
+use Rattle.std.proofs.Common.{◌≡◌, ◌≢◌, ◌⊎◌, ◌↔◌, ◌∙◌, ℕ, suc, ◌+◌, ◌<◌, ◌≤◌, Bool, true, false, true≢false, List, ◌∷◌, length, nat_eq, refl, sym, ap, subst, inl, inr, ⊎_elim, arith, eq-eqb, eqb-true, IsTrue}
 use Rattle.std.proofs.lemmas.List.{length-map, length-set}
 use Rattle.bip_defs.specs.EditedMatrix.{with_place, without_place}
-use Rattle.bip_defs.specs.Lists.{Among, AreDistinct, IsRising}
+use Rattle.bip_defs.specs.Lists.{Among, AreDistinct, IsMarked, IsRising}
 use Rattle.bip_defs.specs.Matching.{IsMatching, IsMaximum, cols_of, rows_of}
-use Rattle.bip_defs.specs.Matrix.{AreEntries, IsEntry, Matrix, Place, cols, column, entry_count}
-use Rattle.bip_defs.proofs.EditLemmas.{had_before, kept_is_maximum, kept_with, one_more, with_again, with_place_over, without_count, without_none, without_place_back}
+use Rattle.bip_defs.specs.Matrix.{IsEntry, Matrix, Place, cols, column, entry_count}
+use Rattle.bip_defs.proofs.EditLemmas.{had_before, kept_is_maximum, kept_with, one_more, with_again, with_place_over, without_count, without_none, without_place_back, without_place_over}
 use Rattle.bip_defs.proofs.Full.{few_below}
-use Rattle.bip_defs.proofs.LeastMatching.{rising_pairs}
-use Rattle.bip_defs.proofs.Sets.{col_among, col_pair, entry_col, one_col, one_row, place_same, rising_distinct, row_pair}
+use Rattle.bip_defs.proofs.Sets.{col_among, col_pair, entry_col, one_row, place_same, rising_distinct, row_pair}
 use Rattle.bip_graph.specs.Matching.{IsMatchingOf, IsMaximumOf, Pairing}
+use Rattle.hall_witness.specs.Covers.{HasMarkedMate, IsCover, IsCovered}
+use Rattle.hall_witness.proofs.CoverLemmas.{cover_cols, cover_length, cover_maximum, cover_rows, inside, outside, tight}
 use Rattle.sp_pattern.specs.Stored.{IsPattern}
-use Rattle.edit_session.specs.Sessions.{IsFull, IsNearMaximum, MatchedMatrix}
+use Rattle.edit_session.specs.Sessions.{IsFull, IsKept, IsNearMaximum, MatchedMatrix}
 
 -- Pairs.
 
@@ -24,7 +25,7 @@ no_mates m r c out = (λ (t : false ≡ true). absurd (true≢false (sym t)), λ
 -- A matching that is one pair short at most.
 
 -- a matching of all rows, or of all columns, is maximum
-pub full_maximum : (a : Matrix) (m : Pairing) → IsMatchingOf a m → IsFull a m.pairs → IsMaximumOf a m
+full_maximum : (a : Matrix) (m : Pairing) → IsMatchingOf a m → IsFull a m.pairs → IsMaximumOf a m
 full_maximum a m k full = record { matching = k; maximum = record { matching = k.matching; longest = λ o l. by o l full } }
   where
     few_rows : (o : List Place) → IsMatching a o → length o ≤ a.rows
@@ -44,34 +45,94 @@ set_full a b m p e = (λ f. subst (λ z. IsFull z m) (sym e) (⊎_elim (λ r. in
     same : cols (with_place a p) ≡ cols a
     same = length-set a.columns p.1 _
 
-pub path_in_range : (a : Matrix) (m : Pairing) (path : List Place) → IsMatchingOf a m → AreEntries a path → (r c : ℕ) → Among (r, c) path → (r < m.rows) × (c < m.cols)
-path_in_range a m path k es r c h = let e = es r c h in let lt = entry_col a r c e in let row = e.0 in (rw k.rows row, rw k.cols lt)
+longer_maximum : (a : Matrix) (m n : Pairing) → IsNearMaximum a m.pairs → IsMatchingOf a n → length n.pairs ≡ suc (length m.pairs) → IsMaximumOf a n
+longer_maximum a m n near l e = record { matching = l; maximum = record { matching = l.matching; longest = λ o h. let few = near o h in omega (arith, few, e) } }
 
-pub longer_maximum : (a : Matrix) (m n : Pairing) → IsMatchingOf a m → IsNearMaximum a m.pairs → IsMatching a n.pairs → (n.rows ≡ m.rows) × (n.cols ≡ m.cols) → length n.pairs ≡ suc (length m.pairs) → IsMaximumOf a n
-longer_maximum a m n k near l sizes e = record {
-  matching = record { rows = sizes.0 ∙ k.rows; cols = sizes.1 ∙ k.cols; matching = l };
-  maximum = record { matching = l; longest = λ o h. let few = near o h in omega (arith, few, e) };
-}
-
-pub paired_matching : (a : Matrix) (m n : List Place) (p : Place) → IsMatching a m → IsEntry a p.0 p.1 → ((q : Place) → Among q n ↔ ((q ≡ p) ⊎ Among q m)) → AreDistinct (rows_of n) → IsRising (cols_of n) → IsMatching a n
+paired_matching : (a : Matrix) (m n : List Place) (p : Place) → IsMatching a m → IsEntry a p.0 p.1 → ((q : Place) → Among q n ↔ ((q ≡ p) ⊎ Among q m)) → AreDistinct (rows_of n) → IsRising (cols_of n) → IsMatching a n
 paired_matching a m n p k e added rows rising = record {
   entries = λ r c h. ⊎_elim (λ (f : (r, c) ≡ p). subst (λ (q : Place). IsEntry a q.0 q.1) (sym f) e) (λ g. k.entries r c g) ((added (r, c)).0 h);
   rows_differ = rows;
   cols_differ = rising_distinct (cols_of n) rising;
 }
 
--- A session that is as it was.
+-- The cover.
 
-abbrev pub matched : Matrix → Pairing → MatchedMatrix
-matched a m = record { matrix = a; matching = m }
+abbrev pub matched : Matrix → Pairing → List Bool → MatchedMatrix
+matched a m marks = record { matrix = a; matching = m; marks = marks }
 
-pub same_session : {a b : Matrix} {m n : Pairing} {now : MatchedMatrix} → b ≡ a → n ≡ m → matched a m ≡ now → matched b n ≡ now
-same_session e f view = (λ i. matched (e i) (f i)) ∙ view
+width : (b : Matrix) (p : Place) → cols (without_place b p) ≡ cols b
+width b p = length-set b.columns p.1 _
+
+-- an entry is the one set, or one of the others
+but_one : (b : Matrix) (p : Place) (r c : ℕ) → IsEntry b r c → ((r, c) ≡ p) ⊎ IsEntry (without_place b p) r c
+but_one b p r c e = ⊎_elim (λ (s : (r, c) ≡ p). inl s) (λ ne. inr (without_place_back b p r c e ne)) (place_same (r, c) p)
+
+-- the cover of the others has the entry
+covers_again : (b : Matrix) (p : Place) (m : List Place) (marks : List Bool) → IsCover (without_place b p) m marks → IsCovered m marks p → IsCover b m marks
+covers_again b p m marks k had = record {
+  long = k.long ∙ width b p;
+  closed = λ r c on e. ⊎_elim (λ (s : (r, c) ≡ p). by r c s on had) (λ old. k.closed r c on old) (but_one b p r c e);
+  unmatched = λ c lt free. k.unmatched c (let w = width b p in omega (arith, w, lt)) free;
+}
+  where
+    by : (r c : ℕ) → (r, c) ≡ p → IsMarked marks c → IsCovered m marks p → HasMarkedMate m marks r
+    by r c s on (inl off) = absurd (off (subst (λ (q : Place). IsMarked marks q.1) s on))
+    by r c s on (inr h) = subst (λ (q : Place). HasMarkedMate m marks q.0) (sym s) h
+
+-- the entry's row and column have become a pair
+covers_paired : (b : Matrix) (p : Place) (m n : List Place) (marks : List Bool) → IsCover (without_place b p) m marks → ((q : Place) → Among q n ↔ ((q ≡ p) ⊎ Among q m)) → IsCover b n marks
+covers_paired b p m n marks k added = record {
+  long = k.long ∙ width b p;
+  closed = λ r c on e. ⊎_elim (λ (s : (r, c) ≡ p). new r c s on) (λ old. kept r (k.closed r c on old)) (but_one b p r c e);
+  unmatched = λ c lt out. k.unmatched c (let w = width b p in omega (arith, w, lt)) (λ h. let (r, pair) = col_pair c m h in out (col_among r c n ((added (r, c)).1 (inr pair))));
+}
+  where
+    new : (r c : ℕ) → (r, c) ≡ p → IsMarked marks c → HasMarkedMate n marks r
+    new r c s on = (c, (added (r, c)).1 (inl s), on)
+
+    kept : (r : ℕ) → HasMarkedMate m marks r → HasMarkedMate n marks r
+    kept r (d, pair, h) = (d, (added (r, d)).1 (inr pair), h)
+
+-- there is one pair more
+covers_longer : (b : Matrix) (p : Place) (m n : List Place) (marks : List Bool) → IsCover (without_place b p) m marks → IsMatching b n → length n ≡ suc (length m) → IsCover b n marks
+covers_longer b p m n marks k l e = tight b marks (p.0 ∷ rows_of (inside marks m)) (cols_of (outside marks m)) n (k.long ∙ width b p) l few rows (λ c lt off. cover_cols (without_place b p) m marks c k (let w = width b p in omega (arith, w, lt)) off)
+  where
+    few : suc (length (rows_of (inside marks m))) + length (cols_of (outside marks m)) ≤ length n
+    few = let sum = cover_length marks m in omega (arith, sum, e)
+
+    rows : (r c : ℕ) → IsMarked marks c → IsEntry b r c → Among r (p.0 ∷ rows_of (inside marks m))
+    rows r c on h = ⊎_elim (λ (s : (r, c) ≡ p). inl (ap (λ (q : Place). q.0) s)) (λ old. inr (cover_rows (without_place b p) m marks r c k on old)) (but_one b p r c h)
+
+-- there are other pairs, as many
+covers_as_long : (b : Matrix) (m n : List Place) (marks : List Bool) → IsCover b m marks → IsMatching b n → length n ≡ length m → IsCover b n marks
+covers_as_long b m n marks k l e = tight b marks (rows_of (inside marks m)) (cols_of (outside marks m)) n k.long l (let sum = cover_length marks m in omega (arith, sum, e)) (λ r c on h. cover_rows b m marks r c k on h) (λ c lt off. cover_cols b m marks c k lt off)
+
+covers_left : (a : Matrix) (p : Place) (m : List Place) (marks : List Bool) → IsCover a m marks → IsCover (without_place a p) m marks
+covers_left a p m marks k = record {
+  long = k.long ∙ sym (width a p);
+  closed = λ r c on e. k.closed r c on (without_place_over a p r c e).0;
+  unmatched = λ c lt free. k.unmatched c (let w = width a p in omega (arith, w, lt)) free;
+}
+
+pub left_long : (a : Matrix) (p : Place) (marks : List Bool) → length marks ≡ cols a → length marks ≡ cols (without_place a p)
+left_long a p marks long = long ∙ sym (width a p)
+
+-- What a session keeps.
+
+pub full_kept : (b : Matrix) (m : Pairing) (marks : List Bool) → IsMatchingOf b m → length marks ≡ cols b → IsFull b m.pairs → IsKept b m marks
+full_kept b m marks l long full = record { maximum = full_maximum b m l full; long = long; cover = inl full }
+
+pub covered_kept : (b : Matrix) (m : Pairing) (marks : List Bool) → IsMatchingOf b m → IsCover b m.pairs marks → IsKept b m marks
+covered_kept b m marks l k = record { maximum = record { matching = l; maximum = cover_maximum b m.pairs marks l.matching k }; long = k.long; cover = inr k }
+
+pub had_kept : (b : Matrix) (p : Place) (m : Pairing) (marks : List Bool) → IsMatchingOf b m → length marks ≡ cols b → IsFull b m.pairs ⊎ IsCover (without_place b p) m.pairs marks → IsCovered m.pairs marks p → IsKept b m marks
+had_kept b p m marks l long (inl full) had = full_kept b m marks l long full
+had_kept b p m marks l long (inr k) had = covered_kept b m marks l (covers_again b p m.pairs marks k had)
 
 -- An entry that is set.
 
-pub set_again : (a : Matrix) (m : Pairing) (p : Place) (now : MatchedMatrix) → matched a m ≡ now → IsPattern a → IsEntry a p.0 p.1 → now.matrix ≡ with_place now.matrix p
-set_again a m p now view k e = subst (λ (w : MatchedMatrix). w.matrix ≡ with_place w.matrix p) view (sym (with_again a p (k.columns p.1) e))
+pub set_again : (a : Matrix) (m : Pairing) (marks : List Bool) (p : Place) (now : MatchedMatrix) → matched a m marks ≡ now → IsPattern a → IsEntry a p.0 p.1 → now.matrix ≡ with_place now.matrix p
+set_again a m marks p now view k e = subst (λ (w : MatchedMatrix). w.matrix ≡ with_place w.matrix p) view (sym (with_again a p (k.columns p.1) e))
 
 pub room_left : (a : Matrix) (r c : ℕ) → IsPattern a → r < a.rows → ¬ IsEntry a r c → length (column a c) < a.rows
 room_left a r c k row ne = few_below a.rows (r ∷ column a c) (λ h. ne (row, h), rising_distinct (column a c) (k.columns c).rising) (λ x h. ⊎_elim (λ (e : x ≡ r). rw e row) (λ g. ((k.columns c).sound x g).0) h)
@@ -82,12 +143,34 @@ set_matching a p m k = record { rows = k.rows; cols = rw length-set k.cols; matc
 pub set_near : (a : Matrix) (p : Place) (m : Pairing) → IsMaximum a m.pairs → IsNearMaximum (with_place a p) m.pairs
 set_near a p m max n k = one_more a (with_place a p) p m.pairs n (with_place_over a p) max k
 
+pub set_long : (a b : Matrix) (p : Place) (marks : List Bool) → b ≡ with_place a p → length marks ≡ cols a → length marks ≡ cols b
+set_long a b p marks e long = subst (λ z. length marks ≡ cols z) (sym e) (long ∙ sym (length-set a.columns p.1 _))
+
+pub set_cover : (a b : Matrix) (p : Place) (m : List Place) (marks : List Bool) → b ≡ with_place a p → without_place (with_place a p) p ≡ a → IsFull a m ⊎ IsCover a m marks → IsFull b m ⊎ IsCover (without_place b p) m marks
+set_cover a b p m marks e back (inl full) = inl ((set_full a b m p e).0 full)
+set_cover a b p m marks e back (inr k) = inr (subst (λ z. IsCover (without_place z p) m marks) (sym e) (subst (λ z. IsCover z m marks) (sym back) k))
+
+pub paired_kept : (b : Matrix) (p : Place) (m n : Pairing) (marks : List Bool) → IsMatchingOf b m → IsNearMaximum b m.pairs → IsEntry b p.0 p.1 → length marks ≡ cols b → ¬ IsFull b m.pairs → IsFull b m.pairs ⊎ IsCover (without_place b p) m.pairs marks → ((q : Place) → Among q n.pairs ↔ ((q ≡ p) ⊎ Among q m.pairs)) → (n.rows ≡ m.rows) × (n.cols ≡ m.cols) → AreDistinct (rows_of n.pairs) → IsRising (cols_of n.pairs) → length n.pairs ≡ suc (length m.pairs) → IsKept b n marks
+paired_kept b p m n marks k near e long part cover added sizes rows rising size = record {
+  maximum = longer_maximum b m n near (record { rows = sizes.0 ∙ k.rows; cols = sizes.1 ∙ k.cols; matching = paired_matching b m.pairs n.pairs p k.matching e added rows rising }) size;
+  long = long;
+  cover = ⊎_elim (λ full. absurd (part full)) (λ h. inr (covers_paired b p m.pairs n.pairs marks h added)) cover;
+}
+
+pub searched_kept : (b : Matrix) (p : Place) (m n : Pairing) (marks marks2 : List Bool) → IsNearMaximum b m.pairs → length marks ≡ cols b → ¬ IsFull b m.pairs → IsFull b m.pairs ⊎ IsCover (without_place b p) m.pairs marks → IsMatchingOf b n → ((length n.pairs ≡ suc (length m.pairs)) × (marks2 ≡ marks)) ⊎ ((n ≡ m) × IsCover b n.pairs marks2) → IsKept b n marks2
+searched_kept b p m n marks marks2 near long part cover l (inr (same, new)) = covered_kept b n marks2 l new
+searched_kept b p m n marks marks2 near long part cover l (inl (e, same)) = record {
+  maximum = longer_maximum b m n near l e;
+  long = ap length same ∙ long;
+  cover = ⊎_elim (λ full. absurd (part full)) (λ h. inr (subst (IsCover b n.pairs) (sym same) (covers_longer b p m.pairs n.pairs marks h l.matching e))) cover;
+}
+
 -- An entry that is cleared.
 
-pub clear_none : (a : Matrix) (m : Pairing) (p : Place) (now : MatchedMatrix) → matched a m ≡ now → IsPattern a → ¬ IsEntry a p.0 p.1 → now.matrix ≡ without_place now.matrix p
-clear_none a m p now view k ne = subst (λ (w : MatchedMatrix). w.matrix ≡ without_place w.matrix p) view (sym (without_none a p (k.columns p.1) ne))
+pub clear_none : (a : Matrix) (m : Pairing) (marks : List Bool) (p : Place) (now : MatchedMatrix) → matched a m marks ≡ now → IsPattern a → ¬ IsEntry a p.0 p.1 → now.matrix ≡ without_place now.matrix p
+clear_none a m marks p now view k ne = subst (λ (w : MatchedMatrix). w.matrix ≡ without_place w.matrix p) view (sym (without_none a p (k.columns p.1) ne))
 
-pub kept_maximum : (a : Matrix) (p : Place) (m : Pairing) → IsMaximumOf a m → ¬ Among p m.pairs → IsMaximumOf (without_place a p) m
+kept_maximum : (a : Matrix) (p : Place) (m : Pairing) → IsMaximumOf a m → ¬ Among p m.pairs → IsMaximumOf (without_place a p) m
 kept_maximum a p m k nh = let max = kept_is_maximum a p m.pairs k.maximum nh in record {
   matching = record { rows = k.matching.rows; cols = rw length-set k.matching.cols; matching = max.matching };
   maximum = max;
@@ -104,33 +187,30 @@ parted_matching a p m n k parted sizes rows rising = record {
   };
 }
 
-pub parted_near : (a : Matrix) (p : Place) (m n : List Place) → IsMaximum a m → length m ≡ suc (length n) → IsNearMaximum (without_place a p) n
+parted_near : (a : Matrix) (p : Place) (m n : List Place) → IsMaximum a m → length m ≡ suc (length n) → IsNearMaximum (without_place a p) n
 parted_near a p m n max e o k = omega (arith, e, max.longest o (had_before a p o k))
 
-pub cleared_few : (a : Matrix) (p : Place) → IsPattern a → IsEntry a p.0 p.1 → entry_count (without_place a p) + 1 < 2 ^ 32
-cleared_few a p k e = let few = k.few_entries in omega (arith, without_count a p (k.columns p.1) e, few)
+clear_full : (a : Matrix) (p : Place) (m n : List Place) → length n ≡ length m → IsFull a m → IsFull (without_place a p) n
+clear_full a p m n e (inl r) = inl (e ∙ r)
+clear_full a p m n e (inr c) = inr (e ∙ c ∙ sym (width a p))
 
-pub parted_row : (p : Place) (m n : List Place) → ((q : Place) → Among q n ↔ (Among q m × (q.0 ≢ p.0))) → ¬ Among p.0 (rows_of n)
-parted_row p m n parted h = let (c, g) = row_pair p.0 n h in ((parted (p.0, c)).0 g).1 refl
+pub left_kept : (a : Matrix) (p : Place) (m : Pairing) (marks : List Bool) → IsKept a m marks → ¬ Among p m.pairs → IsKept (without_place a p) m marks
+left_kept a p m marks k nh = record {
+  maximum = kept_maximum a p m k.maximum nh;
+  long = k.long ∙ sym (width a p);
+  cover = ⊎_elim (λ full. inl (clear_full a p m.pairs m.pairs refl full)) (λ c. inr (covers_left a p m.pairs marks c)) k.cover;
+}
 
-pub parted_col : (p : Place) (m n : List Place) → IsRising (cols_of m) → Among p m → ((q : Place) → Among q n ↔ (Among q m × (q.0 ≢ p.0))) → ¬ Among p.1 (cols_of n)
-parted_col p m n rising h parted k = let (r, g) = col_pair p.1 n k in let (l, ne) = (parted (r, p.1)).0 g in ne (one_row m (rising_distinct (cols_of m) rising) r p.0 p.1 l h)
+pub parted_kept : (a : Matrix) (p : Place) (m parted n : Pairing) (marks marks2 : List Bool) → IsKept a m marks → length m.pairs ≡ suc (length parted.pairs) → IsMatchingOf (without_place a p) n → ((length n.pairs ≡ suc (length parted.pairs)) × (marks2 ≡ marks)) ⊎ ((n ≡ parted) × IsCover (without_place a p) n.pairs marks2) → IsKept (without_place a p) n marks2
+parted_kept a p m parted n marks marks2 k e l (inr (same, new)) = covered_kept (without_place a p) n marks2 l new
+parted_kept a p m parted n marks marks2 k e l (inl (f, same)) = record {
+  maximum = longer_maximum (without_place a p) parted n (parted_near a p m.pairs parted.pairs k.maximum.maximum e) l f;
+  long = ap length same ∙ k.long ∙ sym (width a p);
+  cover = ⊎_elim (λ full. inl (clear_full a p m.pairs n.pairs (f ∙ sym e) full)) (λ c. inr (subst (IsCover (without_place a p) n.pairs) (sym same) (covers_as_long (without_place a p) m.pairs n.pairs marks (covers_left a p m.pairs marks c) l.matching (f ∙ sym e)))) k.cover;
+}
 
-pub restored : (m parted again : Pairing) (p : Place) → Among p m.pairs → AreDistinct (rows_of m.pairs) → IsRising (cols_of m.pairs) → IsRising (cols_of again.pairs) → ((q : Place) → Among q parted.pairs ↔ (Among q m.pairs × (q.0 ≢ p.0))) → (parted.rows ≡ m.rows) × (parted.cols ≡ m.cols)
-    → ((q : Place) → Among q again.pairs ↔ ((q ≡ p) ⊎ Among q parted.pairs)) → (again.rows ≡ parted.rows) × (again.cols ≡ parted.cols) → again ≡ m
-restored m parted again p h differ rising rising2 out sizes added sizes2 = λ i. record { rows = (sizes2.0 ∙ sizes.0) i; cols = (sizes2.1 ∙ sizes.1) i; pairs = rising_pairs again.pairs m.pairs rising2 rising over back i }
-  where
-    over : (q : Place) → Among q again.pairs → Among q m.pairs
-    over q k = ⊎_elim (λ (e : q ≡ p). subst (λ z. Among z m.pairs) (sym e) h) (λ g. ((out q).0 g).0) ((added q).0 k)
-
-    back : (q : Place) → Among q m.pairs → Among q again.pairs
-    back q k = (added q).1 (⊎_elim (λ (e : q ≡ p). inl e) (λ (ne : q ≢ p). inr ((out q).1 (k, λ (e : q.0 ≡ p.0). ne (same q k e)))) (place_same q p))
-      where
-        same : (q : Place) → Among q m.pairs → q.0 ≡ p.0 → q ≡ p
-        same q k e = λ i. (e i, one_col m.pairs differ p.0 q.1 p.1 (subst (λ r. Among (r, q.1) m.pairs) e k) h i)
-
-pub cleared_steps : (a b : Matrix) (m : Pairing) (p : Place) (now : MatchedMatrix) (before after : ℕ) → matched a m ≡ now → b ≡ without_place a p → IsPattern a → IsEntry a p.0 p.1 → after ≤ before + (cols b + entry_count b) → after ≤ before + (cols now.matrix + entry_count now.matrix)
-cleared_steps a b m p now before after view e k entry le = subst (λ (w : MatchedMatrix). after ≤ before + (cols w.matrix + entry_count w.matrix)) view
+pub cleared_steps : (a b : Matrix) (m : Pairing) (marks : List Bool) (p : Place) (now : MatchedMatrix) (before after : ℕ) → matched a m marks ≡ now → b ≡ without_place a p → IsPattern a → IsEntry a p.0 p.1 → after ≤ before + (cols b + entry_count b) → after ≤ before + (cols now.matrix + entry_count now.matrix)
+cleared_steps a b m marks p now before after view e k entry le = subst (λ (w : MatchedMatrix). after ≤ before + (cols w.matrix + entry_count w.matrix)) view
     (let count = without_count a p (k.columns p.1) entry in
     let width : cols (without_place a p) ≡ cols a = length-set a.columns p.1 _ in
     let bound = subst (λ z. after ≤ before + (cols z + entry_count z)) e le in

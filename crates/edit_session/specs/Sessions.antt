@@ -1,17 +1,16 @@
 -- What contracts see of a session.
-use Rattle.std.specs.Prelude.{◌≡◌, ◌≢◌, ◌⊎◌, ◌↔◌, ℕ, suc, ◌+◌, ◌≤◌, List, length}
+use Rattle.std.specs.Prelude.{◌≡◌, ◌≢◌, ◌⊎◌, ◌↔◌, suc, ◌≤◌, Bool, List, length}
 use Rattle.bip_defs.specs.Lists.{Among}
 use Rattle.bip_defs.specs.Matching.{IsMatching}
 use Rattle.bip_defs.specs.Matrix.{Matrix, Place, cols}
-use Rattle.bip_defs.specs.Paths.{Exchanges}
-use Rattle.bip_defs.specs.Witness.{IsAugmentingPath, IsWitness}
-use Rattle.bip_graph.specs.Matching.{Pairing}
-use Rattle.hall_witness.specs.SearchSteps.{steps_of}
+use Rattle.bip_graph.specs.Matching.{IsMaximumOf, Pairing}
+use Rattle.hall_witness.specs.Covers.{IsCover}
 
--- a matrix, and a matching of it
+-- a matrix, a matching of it, and the marks of the vertex cover that is kept beside them
 pub record MatchedMatrix : Type 0 where
   pub matrix : Matrix
   pub matching : Pairing
+  pub marks : List Bool
 
 -- each row is matched, or each column
 abbrev pub IsFull : Matrix → List Place → Type 0
@@ -25,11 +24,9 @@ IsNearMaximum a m = (n : List Place) → IsMatching a n → length n ≤ suc (le
 abbrev pub IsParted : Place → List Place → List Place → Type 0
 IsParted p m n = (q : Place) → Among q n ↔ (Among q m × (q.0 ≢ p.0))
 
--- what one search for an augmenting path makes of a matching, with the count of steps before and after it: it
--- exchanges a path, and counts as many as the path's pairs at least; or there is none, and it counts the steps of
--- the horizontal columns, exactly
-abbrev pub IsSearched : Matrix → List Place → List Place → ℕ → ℕ → Type 0
-IsSearched a m n old new =
-    ((path : List Place) × IsAugmentingPath a m path × Exchanges path m n
-    × (old + length path ≤ new))
-    ⊎ ((w : List ℕ) × IsWitness a m w × (n ≡ m) × (new ≡ old + steps_of a w))
+-- the matching is maximum, and the marks are those of a vertex cover beside it; they need not be where each row is
+-- matched, or each column, for then no entry more gives a longer matching
+pub record IsKept (a : Matrix) (m : Pairing) (marks : List Bool) : Type 0 where
+  pub maximum : IsMaximumOf a m
+  pub long : length marks ≡ cols a
+  pub cover : IsFull a m.pairs ⊎ IsCover a m.pairs marks

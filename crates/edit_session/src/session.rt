@@ -8,14 +8,15 @@ ghost use Rattle.bip_defs.specs.Matching.{IsRank, cols_of, rows_of};
 ghost use Rattle.bip_defs.specs.Matrix.{IsEntry, Place, cols, entry_count};
 ghost use Rattle.bip_graph.specs.Decompositions.{Decomposes, components_of};
 ghost use Rattle.bip_graph.specs.Matching.{IsMatchingOf, IsMaximumOf};
-ghost use Rattle.edit_session.specs.Sessions.{IsFull, IsNearMaximum, IsParted, IsSearched, MatchedMatrix};
+ghost use Rattle.edit_session.specs.Sessions.{IsFull, IsKept, IsNearMaximum, IsParted, MatchedMatrix};
+ghost use Rattle.hall_witness.specs.Covers.{IsCover, IsCovered, IsSearched};
 
 use crate::columns::Columns;
 use crate::patterns::pattern_of;
 use bip_graph::{Components, Decomposition, Matching};
 use dm_coarse::{coarse, components};
 use dm_fine::fine;
-use hall_witness::{Reach, Steps, reach_in};
+use hall_witness::{Cover, Steps};
 use sp_ids::{Col, OutOfMemory, Row};
 use sp_pattern::{Neighbours, Pattern};
 use std::alloc::Global;
@@ -27,30 +28,33 @@ use std::thread::Threads;
 /// matching of it, which each edit keeps maximum.
 ///
 /// An edit changes the rank by one at most, so one search for an augmenting path decides (Berge
-/// 1957), and most edits need none.
+/// 1957), and most edits need none: the session keeps the marks of the vertex cover that the last
+/// search without a path has shown (König 1931). While the matrix has the cover, no entry more in
+/// it raises the rank.
 #[derive(Drop)]
 pub struct Session {
     alloc: Global,
     columns: Columns,
     matching: Matching,
+    cover: Cover,
 }
 
 impl Model for Session {
-    ghost use Rattle.bip_graph.specs.Matching.{IsMaximumOf};
-    ghost use Rattle.edit_session.specs.Sessions.{MatchedMatrix};
+    ghost use Rattle.edit_session.specs.Sessions.{IsKept, MatchedMatrix};
 
     ghost Value = { MatchedMatrix };
 
-    ghost view = { λ s. record { matrix = s.columns.matrix; matching = s.matching } };
+    ghost view = { λ s.
+        record { matrix = s.columns.matrix; matching = s.matching; marks = s.cover } };
 
-    ghost invariant = { λ s. IsMaximumOf s.columns.matrix s.matching };
+    ghost invariant = { λ s. IsKept s.columns.matrix s.matching s.cover };
 }
 
 impl Session {
     /// A session that begins with this matrix. The matching must be a maximum one of its entries.
     ///
-    /// Answers `OutOfMemory` where 16 bytes a column and 4 an entry can't be had. Work: one copy of
-    /// the columns' lists.
+    /// Answers `OutOfMemory` where 42 bytes a column and 4 an entry can't be had. Work: one copy of
+    /// the columns' lists, and one search for the cover.
     pub fn new(alloc: Global, pattern: &Pattern, matching: Matching) -> Result<Session, OutOfMemory>
         requires { IsMaximumOf pattern.now matching }
         ensures matrix { IfOk result (λ s. s.matrix ≡ pattern.now) }
@@ -58,10 +62,12 @@ impl Session {
     {
         pattern.is_pattern();
         let columns = Columns::of(alloc, pattern, pattern.entries())?;
+        let cover = Cover::of(alloc, pattern, &matching)?;
         Ok(Session {
             alloc,
             columns,
             matching,
+            cover,
         })
     }
 
@@ -91,6 +97,8 @@ impl Session {
         ensures rank { IsRank self.now.matrix result }
         ensures pairs { result ≡ length self.now.matching.pairs }
         ensures maximum { IsMaximumOf self.now.matrix self.now.matching }
+        ensures cover { IsFull self.now.matrix self.now.matching.pairs
+            ⊎ IsCover self.now.matrix self.now.matching.pairs self.now.marks }
     {
         self.matching.size()
     }
@@ -131,14 +139,16 @@ impl Session {
     /// entries.
     ///
     /// A step is a column that a search takes up or an entry that it looks at. There is no search
-    /// where the entry was there, where the rank is already the number of rows or of columns, or
+    /// where the entry was there; where the rank is already the number of rows or of columns; where
+    /// the kept cover has the entry: its column is not marked, or its row has a mate that is; or
     /// where its row and its column have no mate and become a pair. Else there is one: it makes at
     /// least as many steps as the path that it finds has pairs, and where it finds none, one for
     /// each column that some maximum matching of the new matrix misses and one for each of their
-    /// entries. Answers `OutOfMemory` where there is no memory for the entry or for a search, 9
-    /// bytes a column and 8 a pair of a path; the session is then as it was. Work: the search, and
-    /// beside it a search by halves in the column and one move of each of its rows, in the mean
-    /// over many edits.
+    /// entries; these columns are marked from then on.
+    /// Answers `OutOfMemory` where there is no memory for the entry; the session is then as it was.
+    /// A search takes none. Work: the search, and where there is one, a look at each column for its
+    /// mate; beside it a search by halves in the column and one move of each of its rows, in the
+    /// mean over many edits.
     pub fn set<L: Ledger>(
         &mut self,
         row: Row,
@@ -154,9 +164,12 @@ impl Session {
         ensures steps { steps.new ≤ steps.old
             + (cols self.old.matrix + entry_count (with_place self.old.matrix (row, col))) }
         ensures no_step { IsEntry self.old.matrix row col → steps.new ≡ steps.old }
-        ensures no_search { IsFull self.old.matrix self.old.matching.pairs → steps.new ≡ steps.old }
+        ensures no_search { IsFull self.old.matrix self.old.matching.pairs
+            ⊎ IsCovered self.old.matching.pairs self.old.marks (row, col)
+            → steps.new ≡ steps.old }
         ensures searched { OnOk result (¬ IsEntry self.old.matrix row col
             → ¬ IsFull self.old.matrix self.old.matching.pairs
+            → ¬ IsCovered self.old.matching.pairs self.old.marks (row, col)
             → Among row (rows_of self.old.matching.pairs)
             ⊎ Among col (cols_of self.old.matching.pairs)
             → IsSearched self.new.matrix self.old.matching.pairs self.new.matching.pairs
@@ -169,21 +182,22 @@ impl Session {
         self.columns.make_room(self.alloc, col)?;
         self.columns.put(row, col);
         let columns = &self.columns;
-        match match_entry(self.alloc, columns, &mut self.matching, row, col, steps) {
-            Ok(()) => Ok(self.rank()),
-            Err(refused) => {
-                self.columns.take(row, col);
-                Err(refused)
-            }
-        }
+        match_entry(
+            columns,
+            &mut self.matching,
+            &mut self.cover,
+            row,
+            col,
+            steps,
+        );
+        Ok(self.rank())
     }
 
     /// Clears an entry, and gives the rank of the matrix then. Where there is none nothing changes.
     ///
     /// Steps are counted as in [`Session::set`]. There is no search where the entry was no pair of
-    /// the matching, and one from the other pairs where it was. Answers `OutOfMemory` where there
-    /// is no memory for a search; the session is then as it was. Work: the search, and beside it a
-    /// search by halves in the column and one move of each of its rows.
+    /// the matching, and one from the other pairs where it was. Takes no memory, so it is never
+    /// refused. Work: as there.
     pub fn clear<L: Ledger>(
         &mut self,
         row: Row,
@@ -234,15 +248,8 @@ impl Session {
         }
         self.matching.unpair(row, col);
         self.matching.is_matching();
-        match augment(self.alloc, &self.columns, &mut self.matching, steps) {
-            Ok(()) => Ok(self.rank()),
-            Err(refused) => {
-                self.columns.put(row, col);
-                self.matching.pair(row, col);
-                self.matching.is_matching();
-                Err(refused)
-            }
-        }
+        self.cover.augment(&self.columns, &mut self.matching, steps);
+        Ok(self.rank())
     }
 }
 
@@ -268,61 +275,44 @@ fn is_full(columns: &Columns, matching: &Matching) -> bool
 }
 
 // Makes a matching maximum where one more entry is new: it is, where each row or each column is
-// matched; the entry's row and column become a pair where both have no mate; else a search decides.
+// matched, or where the cover of the others has the entry; the entry's row and column become a pair
+// where both have no mate; else a search decides.
 fn match_entry<L: Ledger>(
-    alloc: Global,
     columns: &Columns,
     matching: &mut Matching,
+    cover: &mut Cover,
     row: Row,
     col: Col,
     steps: &mut Steps<L>,
-) -> Result<(), OutOfMemory>
+)
     requires entry { IsEntry columns.now.matrix row col }
     requires matching { IsMatchingOf columns.now.matrix matching.old }
     requires near { IsNearMaximum columns.now.matrix matching.old.pairs }
-    ensures maximum { OnOk result (IsMaximumOf columns.now.matrix matching.new) }
-    ensures unchanged { OnErr result (matching.new ≡ matching.old) }
+    requires long { length cover.old ≡ cols columns.now.matrix }
+    requires cover { IsFull columns.now.matrix matching.old.pairs
+        ⊎ IsCover (without_place columns.now.matrix (row, col)) matching.old.pairs cover.old }
+    ensures kept { IsKept columns.now.matrix matching.new cover.new }
     ensures steps { steps.new
         ≤ steps.old + (cols columns.now.matrix + entry_count columns.now.matrix) }
-    ensures no_search { IsFull columns.now.matrix matching.old.pairs → steps.new ≡ steps.old }
-    ensures searched { OnOk result (¬ IsFull columns.now.matrix matching.old.pairs
+    ensures no_search { IsFull columns.now.matrix matching.old.pairs
+        ⊎ IsCovered matching.old.pairs cover.old (row, col) → steps.new ≡ steps.old }
+    ensures searched { ¬ IsFull columns.now.matrix matching.old.pairs
+        → ¬ IsCovered matching.old.pairs cover.old (row, col)
         → Among row (rows_of matching.old.pairs)
         ⊎ Among col (cols_of matching.old.pairs)
         → IsSearched columns.now.matrix matching.old.pairs matching.new.pairs
-        steps.old steps.new) }
+        steps.old steps.new }
 {
     if is_full(columns, matching) {
-        return Ok(());
+        return;
+    }
+    if cover.has(matching, row, col) {
+        return;
     }
     if matching.row_of(col).is_none() && matching.col_of(row).is_none() {
         matching.pair(row, col);
         matching.is_matching();
-        return Ok(());
+        return;
     }
-    augment(alloc, columns, matching, steps)
-}
-
-// Makes a matching maximum that lacks one pair at most: exchanges an augmenting path, if there is
-// one.
-fn augment<L: Ledger>(
-    alloc: Global,
-    columns: &Columns,
-    matching: &mut Matching,
-    steps: &mut Steps<L>,
-) -> Result<(), OutOfMemory>
-    requires matching { IsMatchingOf columns.now.matrix matching.old }
-    requires near { IsNearMaximum columns.now.matrix matching.old.pairs }
-    ensures maximum { OnOk result (IsMaximumOf columns.now.matrix matching.new) }
-    ensures unchanged { OnErr result (matching.new ≡ matching.old) }
-    ensures steps { steps.new
-        ≤ steps.old + (cols columns.now.matrix + entry_count columns.now.matrix) }
-    ensures searched { OnOk result
-        (IsSearched columns.now.matrix matching.old.pairs matching.new.pairs
-        steps.old steps.new) }
-{
-    match reach_in(alloc, columns, matching, steps)? {
-        Reach::Path(path) => matching.flip(path.as_slice()),
-        Reach::Witness(_missed) => {}
-    }
-    Ok(())
+    cover.augment(columns, matching, steps);
 }

@@ -1,3 +1,4 @@
+pub mod CoverLemmas
 pub mod MarkLemmas
 pub mod PathLemmas
 pub mod Phases

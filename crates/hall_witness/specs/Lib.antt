@@ -1,3 +1,4 @@
 pub mod Answers
+pub mod Covers
 pub mod Search
 pub mod SearchSteps

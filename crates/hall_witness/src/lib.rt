@@ -2,12 +2,14 @@
 #![tactic(auto)]
 
 mod answer;
+mod cover;
 mod engine;
 mod search;
 mod steps;
 mod witness;
 
 pub use answer::Reach;
+pub use cover::Cover;
 pub use engine::plain;
 pub use search::{reached, reached_if_maximum};
 pub use steps::Steps;

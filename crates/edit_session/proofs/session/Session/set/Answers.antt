@@ -1,16 +1,17 @@
-use Rattle.std.proofs.Common.{◌≡◌, ◌⊎◌, ◌<◌, ◌∙◌, ap, subst, sym, true≢false}
-use Rattle.bip_defs.specs.EditedMatrix.{with_place, without_place}
+use Rattle.std.proofs.Common.{◌≡◌, ◌⊎◌, ◌<◌, ◌∙◌, ap, inl, inr, subst, sym, true≢false, ⊎_elim}
+use Rattle.bip_defs.specs.EditedMatrix.{with_place}
 use Rattle.bip_defs.specs.Lists.{Among}
 use Rattle.bip_defs.specs.Matching.{cols_of, rows_of}
 use Rattle.bip_defs.specs.Matrix.{IsEntry, Matrix, cols}
 use Rattle.bip_defs.proofs.EditLemmas.{with_place_new, without_goes_back}
-use Rattle.bip_graph.specs.Matching.{IsMatchingOf, IsMaximumOf, Pairing}
-use Rattle.edit_session.specs.Sessions.{IsFull, IsNearMaximum, IsSearched, MatchedMatrix}
-use Rattle.edit_session.proofs.SessionLemmas.{room_left, same_session, set_again, set_full, set_matching, set_near}
+use Rattle.bip_graph.specs.Matching.{IsMatchingOf}
+use Rattle.hall_witness.specs.Covers.{IsCovered, IsSearched}
+use Rattle.edit_session.specs.Sessions.{IsFull, IsNearMaximum, MatchedMatrix}
+use Rattle.edit_session.proofs.SessionLemmas.{room_left, set_again, set_cover, set_full, set_long, set_matching, set_near}
 use Rattle.edit_session.proofs.session.Session.set.Goals as goal
 
 pub returns-then-has-clause-matrix : goal.returns-then-has-clause-matrix
-returns-then-has-clause-matrix g c = set_again c.self.inside.columns.matrix c.self.inside.matching (c.args.row, c.args.col) c.args.self.now c.self.view_is c.is_pattern.ensures (c.has.ensures.0 c.if-has.true)
+returns-then-has-clause-matrix g c = set_again c.self.inside.columns.matrix c.self.inside.matching c.self.inside.cover (c.args.row, c.args.col) c.args.self.now c.self.view_is c.is_pattern.ensures (c.has.ensures.0 c.if-has.true)
 
 pub make_room-requires-clause-few : goal.make_room-requires-clause-few
 make_room-requires-clause-few g c = room_left c.self.inside.columns.matrix c.args.row c.args.col c.is_pattern.ensures
@@ -27,47 +28,39 @@ match_entry-requires-clause-entry g c =
 pub match_entry-requires-clause-matching : goal.match_entry-requires-clause-matching
 match_entry-requires-clause-matching g c =
     let put : c.put.new.self.matrix ≡ with_place c.self.inside.columns.matrix (c.args.row, c.args.col) = c.put.ensures.matrix ∙ ap (λ (a : Matrix). with_place a (c.args.row, c.args.col)) c.in_ok-make_room.ensures.matrix in
-    subst (λ (a : Matrix). IsMatchingOf a c.self.inside.matching) (sym put) (set_matching c.self.inside.columns.matrix (c.args.row, c.args.col) c.self.inside.matching c.self.invariant.matching)
+    subst (λ (a : Matrix). IsMatchingOf a c.self.inside.matching) (sym put) (set_matching c.self.inside.columns.matrix (c.args.row, c.args.col) c.self.inside.matching c.self.invariant.maximum.matching)
 
 pub match_entry-requires-clause-near : goal.match_entry-requires-clause-near
 match_entry-requires-clause-near g c =
     let put : c.put.new.self.matrix ≡ with_place c.self.inside.columns.matrix (c.args.row, c.args.col) = c.put.ensures.matrix ∙ ap (λ (a : Matrix). with_place a (c.args.row, c.args.col)) c.in_ok-make_room.ensures.matrix in
-    subst (λ (a : Matrix). IsNearMaximum a c.self.inside.matching.pairs) (sym put) (set_near c.self.inside.columns.matrix (c.args.row, c.args.col) c.self.inside.matching c.self.invariant.maximum)
+    subst (λ (a : Matrix). IsNearMaximum a c.self.inside.matching.pairs) (sym put) (set_near c.self.inside.columns.matrix (c.args.row, c.args.col) c.self.inside.matching c.self.invariant.maximum.maximum)
 
-pub invariant_of-self-in-Err : goal.invariant_of-self-in-Err
-invariant_of-self-in-Err g c =
+pub match_entry-requires-clause-long : goal.match_entry-requires-clause-long
+match_entry-requires-clause-long g c =
+    let put : c.put.new.self.matrix ≡ with_place c.self.inside.columns.matrix (c.args.row, c.args.col) = c.put.ensures.matrix ∙ ap (λ (a : Matrix). with_place a (c.args.row, c.args.col)) c.in_ok-make_room.ensures.matrix in
+    set_long c.self.inside.columns.matrix c.put.new.self.matrix (c.args.row, c.args.col) c.self.inside.cover put c.self.invariant.long
+
+pub match_entry-requires-clause-cover : goal.match_entry-requires-clause-cover
+match_entry-requires-clause-cover g c =
     let a = c.self.inside.columns.matrix in
     let put : c.put.new.self.matrix ≡ with_place a (c.args.row, c.args.col) = c.put.ensures.matrix ∙ ap (λ (b : Matrix). with_place b (c.args.row, c.args.col)) c.in_ok-make_room.ensures.matrix in
-    let back : c.take.new.self.matrix ≡ a = c.take.ensures.matrix ∙ ap (λ (b : Matrix). without_place b (c.args.row, c.args.col)) put
-    ∙ without_goes_back a (c.args.row, c.args.col) (c.is_pattern.ensures.columns c.args.col) (λ e. true≢false (sym (c.has.ensures.1 e) ∙ c.if-has.false)) (subst (λ (w : MatchedMatrix). c.args.col < cols w.matrix) (sym c.self.view_is) c.requires.col) in
-    subst (λ (m : Pairing). IsMaximumOf c.take.new.self.matrix m) (sym c.in-Err.ensures.unchanged) (subst (λ (b : Matrix). IsMaximumOf b c.self.inside.matching) (sym back) c.self.invariant)
-
-pub returns-in-Err-clause-unchanged : goal.returns-in-Err-clause-unchanged
-returns-in-Err-clause-unchanged g c =
-    let a = c.self.inside.columns.matrix in
-    let put : c.put.new.self.matrix ≡ with_place a (c.args.row, c.args.col) = c.put.ensures.matrix ∙ ap (λ (b : Matrix). with_place b (c.args.row, c.args.col)) c.in_ok-make_room.ensures.matrix in
-    let back : c.take.new.self.matrix ≡ a = c.take.ensures.matrix ∙ ap (λ (b : Matrix). without_place b (c.args.row, c.args.col)) put
-    ∙ without_goes_back a (c.args.row, c.args.col) (c.is_pattern.ensures.columns c.args.col) (λ e. true≢false (sym (c.has.ensures.1 e) ∙ c.if-has.false)) (subst (λ (w : MatchedMatrix). c.args.col < cols w.matrix) (sym c.self.view_is) c.requires.col) in
-    same_session back c.in-Err.ensures.unchanged c.self.view_is
+    set_cover a c.put.new.self.matrix (c.args.row, c.args.col) c.self.inside.matching.pairs c.self.inside.cover put
+    (without_goes_back a (c.args.row, c.args.col) (c.is_pattern.ensures.columns c.args.col) (λ e. true≢false (sym (c.has.ensures.1 e) ∙ c.if-has.false)) (subst (λ (w : MatchedMatrix). c.args.col < cols w.matrix) (sym c.self.view_is) c.requires.col))
+    c.self.invariant.cover
 
 pub returns-then-has-clause-searched : goal.returns-then-has-clause-searched
-returns-then-has-clause-searched g c none partial mated = absurd (none (subst (λ (w : MatchedMatrix). IsEntry w.matrix c.args.row c.args.col) c.self.view_is (c.has.ensures.0 c.if-has.true)))
+returns-then-has-clause-searched g c none partial other mated = absurd (none (subst (λ (w : MatchedMatrix). IsEntry w.matrix c.args.row c.args.col) c.self.view_is (c.has.ensures.0 c.if-has.true)))
 
-pub returns-in-Ok-clause-searched : goal.returns-in-Ok-clause-searched
-returns-in-Ok-clause-searched g c none =
+pub returns-clause-searched : goal.returns-clause-searched
+returns-clause-searched g c none =
     let a = c.self.inside.columns.matrix in
     let put : c.put.new.self.matrix ≡ with_place a (c.args.row, c.args.col) = c.put.ensures.matrix ∙ ap (λ (b : Matrix). with_place b (c.args.row, c.args.col)) c.in_ok-make_room.ensures.matrix in
-    subst (λ (w : MatchedMatrix). ¬ IsFull w.matrix w.matching.pairs → Among c.args.row (rows_of w.matching.pairs) ⊎ Among c.args.col (cols_of w.matching.pairs)
-    → IsSearched c.put.new.self.matrix w.matching.pairs c.match_entry.new.matching.pairs c.args.steps.now c.match_entry.new.steps) c.self.view_is (λ partial. c.in-Ok.ensures.searched (λ full. partial ((set_full a c.put.new.self.matrix c.self.inside.matching.pairs (c.args.row, c.args.col) put).1 full)))
+    subst (λ (w : MatchedMatrix). ¬ IsFull w.matrix w.matching.pairs → ¬ IsCovered w.matching.pairs w.marks (c.args.row, c.args.col) → Among c.args.row (rows_of w.matching.pairs) ⊎ Among c.args.col (cols_of w.matching.pairs)
+    → IsSearched c.put.new.self.matrix w.matching.pairs c.match_entry.new.matching.pairs c.args.steps.now c.match_entry.new.steps) c.self.view_is (λ partial. c.match_entry.ensures.searched (λ full. partial ((set_full a c.put.new.self.matrix c.self.inside.matching.pairs (c.args.row, c.args.col) put).1 full)))
 
-pub returns-in-Ok-clause-no_search : goal.returns-in-Ok-clause-no_search
-returns-in-Ok-clause-no_search g c =
+pub returns-clause-no_search : goal.returns-clause-no_search
+returns-clause-no_search g c =
     let a = c.self.inside.columns.matrix in
     let put : c.put.new.self.matrix ≡ with_place a (c.args.row, c.args.col) = c.put.ensures.matrix ∙ ap (λ (b : Matrix). with_place b (c.args.row, c.args.col)) c.in_ok-make_room.ensures.matrix in
-    subst (λ (w : MatchedMatrix). IsFull w.matrix w.matching.pairs → c.match_entry.new.steps ≡ c.args.steps.now) c.self.view_is (λ full. c.match_entry.ensures.no_search ((set_full a c.put.new.self.matrix c.self.inside.matching.pairs (c.args.row, c.args.col) put).0 full))
-
-pub returns-in-Err-clause-no_search : goal.returns-in-Err-clause-no_search
-returns-in-Err-clause-no_search g c =
-    let a = c.self.inside.columns.matrix in
-    let put : c.put.new.self.matrix ≡ with_place a (c.args.row, c.args.col) = c.put.ensures.matrix ∙ ap (λ (b : Matrix). with_place b (c.args.row, c.args.col)) c.in_ok-make_room.ensures.matrix in
-    subst (λ (w : MatchedMatrix). IsFull w.matrix w.matching.pairs → c.match_entry.new.steps ≡ c.args.steps.now) c.self.view_is (λ full. c.match_entry.ensures.no_search ((set_full a c.put.new.self.matrix c.self.inside.matching.pairs (c.args.row, c.args.col) put).0 full))
+    subst (λ (w : MatchedMatrix). IsFull w.matrix w.matching.pairs ⊎ IsCovered w.matching.pairs w.marks (c.args.row, c.args.col) → c.match_entry.new.steps ≡ c.args.steps.now) c.self.view_is
+    (λ h. c.match_entry.ensures.no_search (⊎_elim (λ full. inl ((set_full a c.put.new.self.matrix c.self.inside.matching.pairs (c.args.row, c.args.col) put).0 full)) (λ had. inr had) h))
