@@ -9,6 +9,6 @@ mod Inputs
 mod Jobs
 mod LentFiles
 mod Loads
-mod NeighbourLemmas
+mod MateLemmas
 mod Sessions
 mod Summaries

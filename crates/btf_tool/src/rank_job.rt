@@ -11,8 +11,8 @@ ghost use Rattle.btf_tool.specs.Ranks.{IsRankOf};
 ghost use Rattle.btf_tool.specs.Runs.{JobSays};
 
 use crate::engines::solve;
+use crate::mates::mates;
 use crate::matrix::matrix_of;
-use crate::neighbours::neighbours;
 use crate::reading::read_file;
 use crate::writing::hand_on;
 use crate::{Answer, Refusal};
@@ -70,8 +70,8 @@ fn rank_of<R: Threads + Sync, G: Gate>(
     let matching = solve(rt, alloc, pattern, Engine::Pf, 1, gate)?;
     let rank = matching.size();
     let cols = horizontal_cols(alloc, pattern, &matching)?;
-    drop(matching);
-    let rows = neighbours(alloc, pattern, cols.as_slice())?;
+    // The horizontal rows are the mates of the horizontal columns.
+    let rows = mates(alloc, &matching, cols.as_slice())?;
     Ok(RankAnswer { rank, rows, cols })
 }
 
