@@ -3,11 +3,19 @@
 //! any order within their column, and may stand there several times. Nothing of the lists is
 //! trusted.
 //!
-//! No call starts a thread. What a call answers of a matrix is what the program `btf` answers of a
-//! file with the same places.
+//! No call starts a thread. What the calls answer of a matrix is what the program `btf` answers of
+//! a file with the same places.
 #![tactic(auto)]
 
+mod block_form;
+mod maximum;
+mod refusals;
+mod row_of_column;
 mod structural_rank;
+mod write;
 
+pub use block_form::{Sizes, decomposition};
+pub use refusals::Refusal;
+pub use row_of_column::matching;
 pub use sp_pattern::{ColumnsError, Narrow, NumberList, Wide};
 pub use structural_rank::rank;

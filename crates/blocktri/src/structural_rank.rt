@@ -2,24 +2,22 @@
 
 ghost use Rattle.std.specs.Prelude.{IfErr, IfOk};
 ghost use Rattle.bip_defs.specs.Matching.{IsRank};
-ghost use Rattle.bip_graph.specs.Matching.{IsMaximumOf};
 ghost use Rattle.blocktri.specs.Answers.{HasMatrix};
 ghost use Rattle.sp_pattern.specs.ColumnErrors.{IsColumnsError};
-ghost use Rattle.sp_pattern.specs.Columns.{AreColumns, matrix_of};
 
-use bip_graph::Matching;
-use karp_sipser::start;
-use pothen_fan::complete;
-use sp_ids::OutOfMemory;
-use sp_pattern::{ColumnsError, NumberList, Pattern, check_columns};
+use crate::maximum::maximum_matching;
+use sp_pattern::{ColumnsError, NumberList, check_columns};
 use std::alloc::Global;
 
-/// The structural rank of a matrix: the size of a maximum matching (Karp and Sipser 1981; Pothen
-/// and Fan 1990).
+/// The structural rank of a matrix: the size of a maximum matching.
 ///
-/// Lists that are no compressed columns are answered by their first fault. Answers `OutOfMemory`
-/// where there is no memory for the pattern or for the search. Memory and work are those of
-/// `Pattern::of_columns`, `karp_sipser::start` and `pothen_fan::complete`.
+/// Lists that are no compressed columns are answered by their first fault. Where each column, or as
+/// many columns as there are rows, finds at the first look a row that no column before it has
+/// taken, their number is the rank, and it takes 4 bytes a row and 4 a column. Else it takes what
+/// the pattern takes, and what the search takes beside it (Karp and Sipser 1981; Pothen and Fan
+/// 1990). Answers `OutOfMemory` where there is no memory for that. Work: two looks at each number at
+/// most, where the first look decides; else what `sp_pattern::Pattern::of_columns`,
+/// `karp_sipser::start` and `pothen_fan::complete` say of theirs.
 pub fn rank<N: NumberList>(alloc: Global, rows: u64, starts: N, ids: N) -> Result<u32, ColumnsError>
     ensures rank { IfOk result
         (λ k. HasMatrix rows (N.numbers starts) (N.numbers ids) (λ a. IsRank a k)) }
@@ -32,18 +30,4 @@ pub fn rank<N: NumberList>(alloc: Global, rows: u64, starts: N, ids: N) -> Resul
         Ok(matching) => Ok(matching.size()),
         Err(_) => Err(ColumnsError::OutOfMemory),
     }
-}
-
-// A maximum matching.
-fn maximum_matching<N: NumberList>(
-    alloc: Global,
-    rows: u32,
-    starts: N,
-    ids: N,
-) -> Result<Matching, OutOfMemory>
-    requires { AreColumns rows (N.numbers starts) (N.numbers ids) }
-    ensures { IfOk result (IsMaximumOf (matrix_of rows (N.numbers starts) (N.numbers ids))) }
-{
-    let pattern = Pattern::of_checked_columns(alloc, rows, starts, ids)?;
-    complete(alloc, &pattern, start(alloc, &pattern)?)
 }

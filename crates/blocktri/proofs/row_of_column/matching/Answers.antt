@@ -1,0 +1,27 @@
+use Rattle.std.proofs.Common.{◌∙◌, arith}
+use Rattle.blocktri.proofs.LookLemmas.{matrix_cols}
+use Rattle.blocktri.proofs.row_of_column.matching.Goals as goal
+
+pub write_rows-requires-clause-long : goal.write_rows-requires-clause-long
+write_rows-requires-clause-long g c =
+    let n = c.in-Ok.ensures.maximum.matching.cols ∙ matrix_cols _ (g.N.NumberList.numbers c.args.starts) (g.N.NumberList.numbers c.args.ids) in
+    let test = c.if-row_of_column-saturating_sub.false in
+    let sub = c.saturating_sub.ensures in
+    let len = c.len.ensures in
+    omega (arith, n, test, sub, len)
+
+pub returns-clause-found : goal.returns-clause-found
+returns-clause-found g c =
+    let test = c.if-row_of_column-saturating_sub.false in
+    let sub = c.saturating_sub.ensures in
+    let len = c.len.ensures in
+    record {
+      columns = c.in_default.ensures.columns;
+      holds = record {
+        pairs = c.in-Ok.matching.pairs;
+        are_pairs = c.in-Ok.ensures.wanted;
+        size_is = c.size.ensures.size;
+        long = let same = c.write_rows.ensures.long in let wide = matrix_cols c.args.rows (g.N.NumberList.numbers c.args.starts) (g.N.NumberList.numbers c.args.ids) in omega (arith, test, sub, len, same, wide);
+        rows = c.write_rows.ensures.rows;
+      };
+    }

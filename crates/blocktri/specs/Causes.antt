@@ -1,0 +1,11 @@
+-- Why there is no answer.
+use Rattle.std.specs.Prelude.{ℕ, List}
+use Rattle.blocktri.specs.declared.refusals.Refusal.{Refusal}
+use Rattle.blocktri.specs.declared.refusals.Refusal.TheVariants.{Lengths, Columns}
+use Rattle.sp_pattern.specs.ColumnErrors.{IsColumnsError}
+
+-- a list to be written has not the right length, where `Fit` is that all have it; else the columns
+-- are at fault, or the memory
+abbrev pub IsRefusal : Type 0 → ℕ → List ℕ → List ℕ → Refusal → Type 0
+IsRefusal Fit rows starts ids Lengths = ¬ Fit
+IsRefusal Fit rows starts ids (Columns error) = Fit × IsColumnsError rows starts ids error

@@ -1,0 +1,30 @@
+//! The statuses of the calls.
+
+ghost use Rattle.std.specs.Prelude.{◌≡◌, ◌≢◌, pos};
+ghost use Rattle.blocktri_c.specs.Statuses.{fault_of, status_of};
+
+use blocktri::{ColumnsError, Refusal};
+
+/// Every call's status where it has an answer.
+pub const OK: i32 = 0;
+
+/// The status where there is no answer, with the place of the fault.
+pub fn status(refusal: Refusal, fault: &mut u64) -> i32
+    ensures status { result ≡ status_of refusal }
+    ensures fault { fault.new ≡ fault_of refusal fault.old }
+    ensures refused { result ≢ pos 0 }
+{
+    match refusal {
+        Refusal::Columns(ColumnsError::OutOfMemory) => 7,
+        Refusal::Columns(ColumnsError::BadStart(at)) => {
+            *fault = at as u64;
+            20
+        }
+        Refusal::Columns(ColumnsError::BadRow(at)) => {
+            *fault = at as u64;
+            21
+        }
+        Refusal::Lengths => 22,
+        Refusal::Columns(ColumnsError::TooManyRows) => 23,
+    }
+}

@@ -1,0 +1,122 @@
+/* blocktri.h: the structure of a sparse matrix, from its compressed columns: structural rank, maximum matching,
+ * Dulmage-Mendelsohn decomposition and block triangular form.
+ *
+ * Link with -lblocktri. C99 or C++. Each call is proved to give the answer that stands here, on every input.
+ *
+ * THE MATRIX. Three arguments give it:
+ *   rows    the number of rows;
+ *   starts  where the row numbers of each column begin in ids: columns + 1 numbers, of which the first is 0, none is less than
+ *           the one before it, and the last is ids_length. Column j has ids[starts[j]], .., ids[starts[j + 1] - 1];
+ *   ids     row numbers, counted from 0, in any order within a column. A place that is given several times is one entry.
+ * Numbers of values play no part. There may be at most 4,294,967,295 rows, 4,294,967,295 columns and 4,294,967,295 ids.
+ * Indices have 32 bits, or 64 bits in the calls whose names end in _64. A signed index may be passed as it stands: a negative
+ * one is a number that no row or start has, and so it is refused.
+ *
+ * Nothing of it is trusted. What is not as it should be is answered by a status, with the place of the first fault.
+ *
+ * POINTERS. A list is passed as a pointer and the number of its elements. No pointer may be null, not even that of an empty list,
+ * and each must be aligned for what it points to. What a call writes may not overlap with anything else that it is passed, and
+ * no other thread may write what a call reads while it runs. An argument of type bool must be true or false.
+ *
+ * THREADS. No call starts a thread, takes a lock or keeps anything: calls may run at the same time.
+ *
+ * MEMORY comes from malloc, and all of it is given back before a call returns.
+ */
+#ifndef BLOCKTRI_H
+#define BLOCKTRI_H
+
+#include <stdbool.h>
+#include <stddef.h>
+#include <stdint.h>
+
+#ifdef __cplusplus
+extern "C" {
+#endif
+
+/* What a call returns. At BLOCKTRI_OK there is an answer, and *fault is as it was. At any other status there is none, and
+ * nothing was written but, where it says so, *fault. */
+enum blocktri_status {
+  BLOCKTRI_OK = 0,
+  BLOCKTRI_OUT_OF_MEMORY = 7,
+  /* starts[*fault] is the first start that is not right; of no starts at all, *fault is 0 */
+  BLOCKTRI_BAD_START = 20,
+  /* the starts are right, and ids[*fault] is the first id that is not less than rows */
+  BLOCKTRI_BAD_ROW = 21,
+  /* a list to be written has not the length that the call asks for; this is looked at before anything else */
+  BLOCKTRI_BAD_LENGTH = 22,
+  /* there are more than 4,294,967,295 rows; this is looked at before the starts */
+  BLOCKTRI_TOO_MANY_ROWS = 23
+};
+
+/* Stands for no row. */
+#define BLOCKTRI_NONE UINT32_C(4294967295)
+
+/* A sentence for a status. */
+static inline const char *blocktri_text(int32_t status) {
+  switch (status) {
+    case BLOCKTRI_OK: return "there is an answer";
+    case BLOCKTRI_OUT_OF_MEMORY: return "there is not enough memory";
+    case BLOCKTRI_BAD_START: return "a start of a column is not right";
+    case BLOCKTRI_BAD_ROW: return "an id is not the number of a row";
+    case BLOCKTRI_BAD_LENGTH: return "a list to be written has the wrong length";
+    case BLOCKTRI_TOO_MANY_ROWS: return "there are too many rows";
+    default: return "this is no status of blocktri";
+  }
+}
+
+/* The structural rank: the size of a maximum matching of rows with columns, and the greatest rank that values at these places
+ * can give.
+ *
+ * *rank gets it. */
+int32_t blocktri_rank(uint32_t rows, const uint32_t *starts, size_t starts_length, const uint32_t *ids, size_t ids_length,
+                      uint32_t *rank, uint64_t *fault);
+int32_t blocktri_rank_64(uint64_t rows, const uint64_t *starts, size_t starts_length, const uint64_t *ids, size_t ids_length,
+                         uint32_t *rank, uint64_t *fault);
+
+/* A maximum matching: row_of_column[j] gets the row of column j, or BLOCKTRI_NONE, and *size the number of pairs.
+ *
+ * row_of_column must have a place for each column. With is_least it is the least maximum matching: of all maximum matchings the
+ * one whose list row_of_column comes first, where no row counts as greater than every row. Without, it may be any. */
+int32_t blocktri_matching(uint32_t rows, const uint32_t *starts, size_t starts_length, const uint32_t *ids, size_t ids_length,
+                          bool is_least, uint32_t *row_of_column, size_t row_of_column_length, uint32_t *size,
+                          uint64_t *fault);
+int32_t blocktri_matching_64(uint64_t rows, const uint64_t *starts, size_t starts_length, const uint64_t *ids,
+                             size_t ids_length, bool is_least, uint32_t *row_of_column, size_t row_of_column_length,
+                             uint32_t *size, uint64_t *fault);
+
+/* The sizes of a block triangular form. The square part has as many columns as rows. */
+struct blocktri_sizes {
+  uint32_t rank;               /* the structural rank */
+  uint32_t horizontal_rows;    /* the part with more columns than rows; 0 columns where there is none */
+  uint32_t horizontal_columns;
+  uint32_t square;             /* the part that a maximum matching covers */
+  uint32_t vertical_rows;      /* the part with more rows than columns; 0 rows where there is none */
+  uint32_t vertical_columns;
+  uint32_t blocks;             /* the fine blocks of the square part */
+};
+
+/* The Dulmage-Mendelsohn decomposition, with the fine blocks of its square part, as orders in which the matrix is block upper
+ * triangular.
+ *
+ * row_order must have a place for each row, column_order one for each column, and block_starts starts_length places. Both orders
+ * have the horizontal part first, then the blocks, then the vertical part. So row row_order[i] of the matrix is row i of the
+ * form, and block b is made of the rows and columns of the form from
+ *     horizontal_rows + block_starts[b]    up to but not    horizontal_rows + block_starts[b + 1],
+ *     horizontal_columns + block_starts[b] up to but not    horizontal_columns + block_starts[b + 1].
+ * block_starts[blocks] is the size of the square part; what stands behind it in block_starts stays as it was.
+ *
+ * The answer does not hang on the matching that is found: each matrix has one decomposition. */
+int32_t blocktri_decomposition(uint32_t rows, const uint32_t *starts, size_t starts_length, const uint32_t *ids,
+                               size_t ids_length, uint32_t *row_order, size_t row_order_length, uint32_t *column_order,
+                               size_t column_order_length, uint32_t *block_starts, size_t block_starts_length,
+                               struct blocktri_sizes *sizes, uint64_t *fault);
+int32_t blocktri_decomposition_64(uint64_t rows, const uint64_t *starts, size_t starts_length, const uint64_t *ids,
+                                  size_t ids_length, uint32_t *row_order, size_t row_order_length, uint32_t *column_order,
+                                  size_t column_order_length, uint32_t *block_starts, size_t block_starts_length,
+                                  struct blocktri_sizes *sizes, uint64_t *fault);
+
+#ifdef __cplusplus
+}
+#endif
+
+#endif

@@ -1,0 +1,74 @@
+/* What the tests share. */
+#ifndef CHECK_H
+#define CHECK_H
+
+#include <inttypes.h>
+#include <stdio.h>
+#include <stdlib.h>
+#include <string.h>
+
+#include "blocktri.h"
+
+/* what is looked at, for the message of a check that fails */
+static const char *about = "";
+
+#define CHECK(holds) \
+  do { \
+    if (!(holds)) { \
+      fprintf(stderr, "%s:%d: %s %s\n", __FILE__, __LINE__, #holds, about); \
+      exit(1); \
+    } \
+  } while (0)
+
+enum { MOST = 16, MOST_IDS = 80, UNTOUCHED = 0x5a5a5a5a };
+
+/* compressed columns with indices of both widths; starts has columns + 1 numbers */
+struct matrix {
+  uint32_t rows, columns, count;
+  uint32_t starts[MOST + 1], ids[MOST_IDS];
+  uint64_t wide_starts[MOST + 1], wide_ids[MOST_IDS];
+};
+
+static inline void widen(struct matrix *a) {
+  for (uint32_t i = 0; i <= a->columns; i++) a->wide_starts[i] = a->starts[i];
+  for (uint32_t i = 0; i < a->count; i++) a->wide_ids[i] = a->ids[i];
+}
+
+/* all that the calls answer, or leave as it is */
+struct answer {
+  uint64_t fault;
+  int32_t rank_status, matching_status, form_status;
+  uint32_t no_padding, rank, size, row_of_column[MOST], row_order[MOST], column_order[MOST], block_starts[MOST + 1];
+  struct blocktri_sizes sizes;
+};
+
+_Static_assert(sizeof(struct answer) == 12 + 8 + 4 * (3 + 4 * MOST + 1) + sizeof(struct blocktri_sizes), "no padding");
+
+static inline struct answer untouched(void) {
+  struct answer answer;
+  memset(&answer, 0x5a, sizeof answer);
+  return answer;
+}
+
+/* asks all calls; both widths must give the same */
+static inline struct answer ask(const struct matrix *a, bool is_least) {
+  struct answer narrow = untouched(), wide = untouched();
+  size_t m = a->rows, n = a->columns;
+  narrow.rank_status = blocktri_rank(a->rows, a->starts, n + 1, a->ids, a->count, &narrow.rank, &narrow.fault);
+  narrow.matching_status = blocktri_matching(a->rows, a->starts, n + 1, a->ids, a->count, is_least, narrow.row_of_column, n,
+                                             &narrow.size, &narrow.fault);
+  narrow.form_status =
+      blocktri_decomposition(a->rows, a->starts, n + 1, a->ids, a->count, narrow.row_order, m, narrow.column_order, n,
+                             narrow.block_starts, n + 1, &narrow.sizes, &narrow.fault);
+  wide.rank_status =
+      blocktri_rank_64(a->rows, a->wide_starts, n + 1, a->wide_ids, a->count, &wide.rank, &wide.fault);
+  wide.matching_status = blocktri_matching_64(a->rows, a->wide_starts, n + 1, a->wide_ids, a->count, is_least,
+                                              wide.row_of_column, n, &wide.size, &wide.fault);
+  wide.form_status =
+      blocktri_decomposition_64(a->rows, a->wide_starts, n + 1, a->wide_ids, a->count, wide.row_order, m, wide.column_order,
+                                n, wide.block_starts, n + 1, &wide.sizes, &wide.fault);
+  CHECK(!memcmp(&narrow, &wide, sizeof narrow));
+  return narrow;
+}
+
+#endif

@@ -1,0 +1,48 @@
+/* Each allocation is refused in turn: the status says so, nothing is written, and nothing is lost (which the sanitizer sees). */
+#include "check.h"
+
+static long calls, failing_at;
+
+void *__real_malloc(size_t size);
+void *__real_realloc(void *old, size_t size);
+void *__wrap_malloc(size_t size);
+void *__wrap_realloc(void *old, size_t size);
+
+void *__wrap_malloc(size_t size) { return ++calls == failing_at ? NULL : __real_malloc(size); }
+void *__wrap_realloc(void *old, size_t size) { return ++calls == failing_at ? NULL : __real_realloc(old, size); }
+
+/* the fourth column falls, and the rank is less than the sides, so that every part of the work is done */
+static struct matrix a = {
+    .rows = 4, .columns = 4, .count = 7, .starts = {0, 1, 2, 4, 7}, .ids = {0, 0, 1, 0, 3, 1, 2}};
+
+static int32_t call(int which, struct answer *got) {
+  switch (which) {
+    case 0: return blocktri_rank(4, a.starts, 5, a.ids, 7, &got->rank, &got->fault);
+    case 1:
+    case 2:
+      return blocktri_matching(4, a.starts, 5, a.ids, 7, which == 2, got->row_of_column, 4, &got->size, &got->fault);
+    default:
+      return blocktri_decomposition(4, a.starts, 5, a.ids, 7, got->row_order, 4, got->column_order, 4, got->block_starts, 5,
+                                    &got->sizes, &got->fault);
+  }
+}
+
+int main(void) {
+  for (int which = 0; which < 4; which++) {
+    long refusals = 0;
+    for (failing_at = 1;; failing_at++) {
+      struct answer got = untouched(), kept = untouched();
+      calls = 0;
+      int32_t status = call(which, &got);
+      if (calls < failing_at) {
+        CHECK(status == BLOCKTRI_OK);
+        break;
+      }
+      CHECK(status == BLOCKTRI_OUT_OF_MEMORY && !memcmp(&got, &kept, sizeof got));
+      refusals++;
+    }
+    CHECK(refusals > 0);
+    failing_at = 0;
+  }
+  return 0;
+}
