@@ -1,5 +1,5 @@
 -- Lists that grow at their end, and lists of the same members.
-use Rattle.std.proofs.Common.{◌≡◌, ℕ, Bool, true, false, not, Option, None, Some, IfSome, IfNone, List, [], ◌∷◌, ◌++◌, length, map, refl, sym, ap, subst, inl, inr, arith, true≢false}
+use Rattle.std.proofs.Common.{◌≡◌, ◌↔◌, ◌∙◌, ℕ, Bool, IsTrue, true, false, not, Option, None, Some, IfSome, IfNone, is_some, List, [], ◌∷◌, ◌++◌, length, map, refl, sym, ap, subst, inl, inr, arith, true≢false}
 use Rattle.bip_defs.specs.Lists.{Among, AreDistinct}
 use Rattle.bip_defs.specs.Matching.{IsMatching}
 use Rattle.bip_defs.specs.Matrix.{Matrix, Place}
@@ -34,6 +34,11 @@ if_some P Q (Some x) f h = f x h
 pub if_none : {X : Type 0} (P Q : Type 0) (o : Option X) → (P → Q) → IfNone o P → IfNone o Q
 if_none P Q None f h = f h
 if_none P Q (Some x) f h = tt
+
+-- a fact that an answer's value shows, and that does not hold where there is none
+pub some_decides : {Q : Type 0} (P : ℕ → Type 0) (o : Option ℕ) (b : Bool) → b ≡ is_some o → ((x : ℕ) → P x → Q) → IfSome o P → IfNone o (¬ Q) → IsTrue b ↔ Q
+some_decides P None b e on f none = (λ t. absurd (true≢false (sym t ∙ e)), λ q. absurd (none q))
+some_decides P (Some x) b e on f none = (λ t. on x f, λ q. e)
 
 pub is_not : (b : Bool) → ¬ (b ≡ true) → not b ≡ true
 is_not true n = absurd (n refl)

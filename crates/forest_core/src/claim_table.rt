@@ -59,7 +59,7 @@ impl ClaimTable {
         ensures alike { AreAlike self.now }
         ensures long { length self.now.roots ≡ length self.now.holders }
     {
-        let _rows = &self.rows;
+        prove!(self.rows.len() == self.len());
     }
 
     /// The column that claimed a row, where the row is claimed.

@@ -15,7 +15,7 @@ ghost use Rattle.sp_ids.specs.declared.events.Event.TheVariants.{Claim, Win, Fli
 
 use crate::adopted::Adopted;
 use crate::claim_table::ClaimTable;
-use crate::paths::exchange;
+use crate::paths::{Flipped, exchange};
 use crate::renew::{clear_claims, clear_leaves, keep};
 use crate::table::Table;
 use bip_graph::{Matching, Mates};
@@ -134,7 +134,7 @@ impl<'p> Forest<'p> {
     pub fn is_sound(&self)
         ensures { IsSound self.now }
     {
-        let _claims = &self.claims;
+        prove!(self.claims.as_slice().len() == self.claims().len());
     }
 
     /// The row that a column is matched with in the base matching.
@@ -260,10 +260,7 @@ impl<'p> Forest<'p> {
         requires { row < self.now.matrix.rows }
         ensures { IsTrue result ↔ Among row (rows_of self.now.claims) }
     {
-        match self.holder(row) {
-            Some(_) => true,
-            None => false,
-        }
+        self.holder(row).is_some()
     }
 
     /// Whether a row has a mate in the base matching.
@@ -271,10 +268,7 @@ impl<'p> Forest<'p> {
         requires { row < self.now.matrix.rows }
         ensures { IsTrue result ↔ Among row (rows_of self.now.base) }
     {
-        match self.base_col(row) {
-            Some(_) => true,
-            None => false,
-        }
+        self.base_col(row).is_some()
     }
 
     // Whether a row is claimed in the tree of this root.
@@ -301,10 +295,7 @@ impl<'p> Forest<'p> {
         if root.number() >= self.pattern().cols() {
             return false;
         }
-        match self.leaf(root) {
-            Some(_) => true,
-            None => false,
-        }
+        self.leaf(root).is_some()
     }
 
     // Whether each root with a leaf is flipped.
@@ -454,15 +445,12 @@ impl<'p> Forest<'p> {
         ensures claims { AreKept self.old self.old.claims self.new.claims }
         ensures size { length self.new.base ≡ length self.old.base + length self.old.flipped }
     {
-        let roots = self.flipped.as_slice();
-        exchange(
-            &mut self.base,
-            &mut self.adopted,
-            &self.claimed,
-            &self.leaf_of,
-            roots,
-            &mut self.path,
-        );
+        let flipped = Flipped {
+            roots: self.flipped.as_slice(),
+            leaf_of: &self.leaf_of,
+            claimed: &self.claimed,
+        };
+        exchange(&mut self.base, &mut self.adopted, &flipped, &mut self.path);
         let claims = self.claims.as_mut_slice();
         let roots = self.claim_roots.as_mut_slice();
         let kept = keep(claims, roots, &mut self.claimed, &self.leaf_of);
@@ -487,15 +475,12 @@ impl<'p> Forest<'p> {
         ensures claims { self.new.claims ≡ [] }
         ensures size { length self.new.base ≡ length self.old.base + length self.old.flipped }
     {
-        let roots = self.flipped.as_slice();
-        exchange(
-            &mut self.base,
-            &mut self.adopted,
-            &self.claimed,
-            &self.leaf_of,
-            roots,
-            &mut self.path,
-        );
+        let flipped = Flipped {
+            roots: self.flipped.as_slice(),
+            leaf_of: &self.leaf_of,
+            claimed: &self.claimed,
+        };
+        exchange(&mut self.base, &mut self.adopted, &flipped, &mut self.path);
         clear_claims(self.claims.as_slice(), &mut self.claimed);
         self.claimed.is_alike();
         self.claims.clear();
@@ -527,15 +512,12 @@ impl<'p> Forest<'p> {
             mut path,
             ..
         } = self;
-        let roots = flipped.as_slice();
-        exchange(
-            &mut base,
-            &mut adopted,
-            &claimed,
-            &leaf_of,
-            roots,
-            &mut path,
-        );
+        let flipped = Flipped {
+            roots: flipped.as_slice(),
+            leaf_of: &leaf_of,
+            claimed: &claimed,
+        };
+        exchange(&mut base, &mut adopted, &flipped, &mut path);
         base
     }
 }

@@ -56,25 +56,37 @@ fn trace(matching: &Matching, claimed: &ClaimTable, leaf: Row, path: &mut Vec<(R
     trace_back(&trees, leaf, claimed.holder_at(leaf), path);
 }
 
-/// Exchanges the paths of these roots, but of those whose paths are exchanged in an adopted
+/// The roots whose paths belong to the current matching, the leaf of each, and the claims through
+/// which its path runs.
+#[derive(Clone, Copy)]
+pub struct Flipped<'t> {
+    pub roots: &'t [Col],
+    pub leaf_of: &'t Table,
+    pub claimed: &'t ClaimTable,
+}
+
+/// Exchanges the paths of flipped roots, but of those whose paths are exchanged in an adopted
 /// matching, which then stands in the base's place.
 pub fn exchange(
     base: &mut Matching,
     adopted: &mut Option<Adopted>,
-    claimed: &ClaimTable,
-    leaf_of: &Table,
-    roots: &[Col],
+    flipped: &Flipped,
     path: &mut Vec<(Row, Col)>,
 )
-    requires room { length claimed.now.holders ≤ vec_capacity path.old }
-    requires forest { (s : State)
-        × CanExchange s base.old adopted.old claimed.now.holders leaf_of.now roots.now }
-    ensures exchanged { (s : State)
-        → CanExchange s base.old adopted.old claimed.now.holders leaf_of.now roots.now
-        → IsExchanged s roots.now base.new }
+    requires room { length flipped.now.claimed.now.holders ≤ vec_capacity path.old }
+    requires forest { (s : State) × CanExchange s base.old adopted.old
+        flipped.now.claimed.now.holders flipped.now.leaf_of.now flipped.now.roots.now }
+    ensures exchanged { (s : State) → CanExchange s base.old adopted.old
+        flipped.now.claimed.now.holders flipped.now.leaf_of.now flipped.now.roots.now
+        → IsExchanged s flipped.now.roots.now base.new }
     ensures adopted { adopted.new ≡ None }
-    ensures room { length claimed.now.holders ≤ vec_capacity path.new }
+    ensures room { length flipped.now.claimed.now.holders ≤ vec_capacity path.new }
 {
+    let Flipped {
+        roots,
+        leaf_of,
+        claimed,
+    } = *flipped;
     let done = replace_base(base, adopted);
     for i in done..roots.len() {
         let root = roots[i];

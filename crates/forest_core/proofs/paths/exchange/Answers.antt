@@ -11,19 +11,19 @@ loop-i-init c = record { room = c.requires.room; exchanged = λ s e. exchanging_
 pub at-requires-clause-within : goal.at-requires-clause-within
 at-requires-clause-within c =
     let (s, e) = c.requires.forest in
-    let held = root_held s _ _ _ _ _ c.index-roots-i.result e (read_among _ c.args.roots.now _ c.loop-i-test.true c.index-roots-i.is) in
+    let held = root_held s _ _ _ _ _ c.index-roots-i.result e (read_among _ c.args.flipped.now.roots.now _ c.loop-i-test.true c.index-roots-i.is) in
     omega (arith, held.0, c.number.ensures)
 
 pub at-requires-clause-some : goal.at-requires-clause-some
 at-requires-clause-some c =
     let (s, e) = c.requires.forest in
-    let held = root_held s _ _ _ _ _ c.index-roots-i.result e (read_among _ c.args.roots.now _ c.loop-i-test.true c.index-roots-i.is) in
+    let held = root_held s _ _ _ _ _ c.index-roots-i.result e (read_among _ c.args.flipped.now.roots.now _ c.loop-i-test.true c.index-roots-i.is) in
     rw c.number.ensures (held.1, held.2)
 
 pub trace-requires-clause-forest : goal.trace-requires-clause-forest
 trace-requires-clause-forest c =
     let (s, e) = c.requires.forest in
-    (s, take c.loop-i.i c.args.roots.now, c.index-roots-i.result, can_trace s _ _ _ _ _ _ _ _ _ e (c.loop-i.invariant.exchanged s e).1 c.loop-i-test.true c.index-roots-i.is (rw c.number.ensures at c.at.ensures))
+    (s, take c.loop-i.i c.args.flipped.now.roots.now, c.index-roots-i.result, can_trace s _ _ _ _ _ _ _ _ _ e (c.loop-i.invariant.exchanged s e).1 c.loop-i-test.true c.index-roots-i.is (rw c.number.ensures at c.at.ensures))
 
 pub flip-requires-clause-in_range : goal.flip-requires-clause-in_range
 flip-requires-clause-in_range c = λ r x h.

@@ -30,18 +30,18 @@ keep-kept-requires-clause-holders c = rw c.as_mut_slice-claims.ensures.value c.s
 
 pub clear_leaves-requires-clause-cols : goal.clear_leaves-requires-clause-cols
 clear_leaves-requires-clause-cols c = λ x r h.
-    let within = leaves_within (state_of c.self.inside) _ (tables_of c.self.inside) c.self.invariant.0 x r (subst (Among (x, r)) c.as_slice.ensures.value h) in
+    let within = leaves_within (state_of c.self.inside) _ (tables_of c.self.inside) c.self.invariant.0 x r (subst (Among (x, r)) c.as_slice-2.ensures.value h) in
     (within.0, rw c.as_mut_slice.ensures.value within.1)
 
 pub clear_leaves-requires-clause-leaf_of : goal.clear_leaves-requires-clause-leaf_of
-clear_leaves-requires-clause-leaf_of c = rw c.as_slice.ensures.value c.self.invariant.0.won
+clear_leaves-requires-clause-leaf_of c = rw c.as_slice-2.ensures.value c.self.invariant.0.won
 
 pub clear_leaves-requires-clause-marks : goal.clear_leaves-requires-clause-marks
-clear_leaves-requires-clause-marks c = rw (c.as_mut_slice.ensures.value, c.as_slice.ensures.value) (marks_within (state_of c.self.inside) _ (tables_of c.self.inside) c.self.invariant.0)
+clear_leaves-requires-clause-marks c = rw (c.as_mut_slice.ensures.value, c.as_slice-2.ensures.value) (marks_within (state_of c.self.inside) _ (tables_of c.self.inside) c.self.invariant.0)
 
 -- the base matching has become the current one
 exchanged : (c : goal.After-clear-2) → IsExchanged (state_of c.self.inside) (state_of c.self.inside).flipped c.exchange.new.base
-exchanged c = exchanged_by (state_of c.self.inside) _ _ c.self.inside.adopted (tables_of c.self.inside) _ c.self.invariant.0 c.self.invariant.2 c.as_slice-roots.ensures.value c.exchange.ensures.exchanged
+exchanged c = exchanged_by (state_of c.self.inside) _ _ c.self.inside.adopted (tables_of c.self.inside) _ c.self.invariant.0 c.self.invariant.2 c.as_slice.ensures.value c.exchange.ensures.exchanged
 
 -- the claims that are left, and their roots
 left : (c : goal.After-clear-2) → c.truncate.new.self.items ≡ take c.keep-kept.result c.keep-kept.new.claims

@@ -1,7 +1,8 @@
-use Rattle.std.proofs.Common.{ap, arith, refl}
+use Rattle.std.proofs.Common.{ℕ, ap, arith}
+use Rattle.bip_defs.specs.Lists.{Among}
 use Rattle.bip_defs.specs.Matrix.{Matrix, cols}
 use Rattle.bip_defs.proofs.Sets.{row_among}
-use Rattle.forest_core.proofs.Members.{known_false}
+use Rattle.forest_core.proofs.Members.{known_false, some_decides}
 use Rattle.forest_core.proofs.StoredForests.{root_with_leaf}
 use Rattle.forest_core.proofs.forest.Forest.has_leaf.Goals as goal
 
@@ -13,5 +14,5 @@ returns-then-number-cols-clause-leaf c = (
       absurd (omega (arith, lt, c.if-number-cols.true, c.cols.ensures, ap (λ (a : Matrix). cols a) c.pattern.ensures, c.number.ensures)),
 )
 
-pub returns-in-Some-clause-leaf : goal.returns-in-Some-clause-leaf
-returns-in-Some-clause-leaf c = (λ h. row_among c.args.root c.in-Some.field-0 c.args.self.now.leaves c.in-Some.ensures.found, λ h. refl)
+pub returns-clause-leaf : goal.returns-clause-leaf
+returns-clause-leaf c = some_decides (λ r. Among {X = ℕ × ℕ} (c.args.root, r) c.args.self.now.leaves) _ _ c.is_some.ensures (λ r m. row_among c.args.root r c.args.self.now.leaves m) c.leaf.ensures.found c.leaf.ensures.none

@@ -10,7 +10,7 @@ use Rattle.forest_core.proofs.forest.Forest.into_matching.Goals as goal
 
 -- the base matching has become the current one
 exchanged : (c : goal.After-drop-self-inside-4) → IsExchanged (state_of c.self.inside) (state_of c.self.inside).flipped c.exchange.new.base
-exchanged c = exchanged_by (state_of c.self.inside) _ _ c.self.inside.adopted (tables_of c.self.inside) _ c.self.invariant.0 c.self.invariant.2 c.as_slice-roots.ensures.value c.exchange.ensures.exchanged
+exchanged c = exchanged_by (state_of c.self.inside) _ _ c.self.inside.adopted (tables_of c.self.inside) _ c.self.invariant.0 c.self.invariant.2 c.as_slice.ensures.value c.exchange.ensures.exchanged
 
 pub returns-clause-current : goal.returns-clause-current
 returns-clause-current c = subst (λ (s : State). IsCurrent s c.exchange.new.base.pairs) c.self.view_is (exchanged c).current

@@ -1,6 +1,8 @@
-use Rattle.std.proofs.Common.{refl}
+use Rattle.bip_defs.specs.Lists.{Among}
+use Rattle.bip_defs.specs.Matrix.{Place}
 use Rattle.bip_defs.proofs.Sets.{row_among}
+use Rattle.forest_core.proofs.Members.{some_decides}
 use Rattle.forest_core.proofs.forest.Forest.is_claimed.Goals as goal
 
-pub returns-in-Some : goal.returns-in-Some
-returns-in-Some c = (λ h. row_among c.args.row c.in-Some.field-0 c.args.self.now.claims c.in-Some.ensures.found, λ h. refl)
+pub returns : goal.returns
+returns c = some_decides (λ d. Among {X = Place} (c.args.row, d) c.args.self.now.claims) _ _ c.is_some.ensures (λ d m. row_among c.args.row d c.args.self.now.claims m) c.holder.ensures.found c.holder.ensures.none

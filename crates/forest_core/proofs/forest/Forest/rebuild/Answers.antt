@@ -10,25 +10,25 @@ use Rattle.bip_defs.proofs.Sets.{written_over}
 use Rattle.forest_core.proofs.forest.Forest.rebuild.Goals as goal
 
 pub clear_claims-requires-clause-rows : goal.clear_claims-requires-clause-rows
-clear_claims-requires-clause-rows c = λ r x h. claims_within (state_of c.self.inside) _ (tables_of c.self.inside) c.self.invariant.0 r x (subst (Among (r, x)) c.as_slice.ensures.value h)
+clear_claims-requires-clause-rows c = λ r x h. claims_within (state_of c.self.inside) _ (tables_of c.self.inside) c.self.invariant.0 r x (subst (Among (r, x)) c.as_slice-2.ensures.value h)
 
 pub clear_claims-requires-clause-holders : goal.clear_claims-requires-clause-holders
-clear_claims-requires-clause-holders c = rw c.as_slice.ensures.value c.self.invariant.0.held
+clear_claims-requires-clause-holders c = rw c.as_slice-2.ensures.value c.self.invariant.0.held
 
 pub clear_leaves-requires-clause-cols : goal.clear_leaves-requires-clause-cols
 clear_leaves-requires-clause-cols c = λ x r h.
-    let within = leaves_within (state_of c.self.inside) _ (tables_of c.self.inside) c.self.invariant.0 x r (subst (Among (x, r)) c.as_slice-2.ensures.value h) in
+    let within = leaves_within (state_of c.self.inside) _ (tables_of c.self.inside) c.self.invariant.0 x r (subst (Among (x, r)) c.as_slice-3.ensures.value h) in
     (within.0, rw c.as_mut_slice.ensures.value within.1)
 
 pub clear_leaves-requires-clause-leaf_of : goal.clear_leaves-requires-clause-leaf_of
-clear_leaves-requires-clause-leaf_of c = rw c.as_slice-2.ensures.value c.self.invariant.0.won
+clear_leaves-requires-clause-leaf_of c = rw c.as_slice-3.ensures.value c.self.invariant.0.won
 
 pub clear_leaves-requires-clause-marks : goal.clear_leaves-requires-clause-marks
-clear_leaves-requires-clause-marks c = rw (c.as_mut_slice.ensures.value, c.as_slice-2.ensures.value) (marks_within (state_of c.self.inside) _ (tables_of c.self.inside) c.self.invariant.0)
+clear_leaves-requires-clause-marks c = rw (c.as_mut_slice.ensures.value, c.as_slice-3.ensures.value) (marks_within (state_of c.self.inside) _ (tables_of c.self.inside) c.self.invariant.0)
 
 -- the base matching has become the current one
 exchanged : (c : goal.After-clear-4) → IsExchanged (state_of c.self.inside) (state_of c.self.inside).flipped c.exchange.new.base
-exchanged c = exchanged_by (state_of c.self.inside) _ _ c.self.inside.adopted (tables_of c.self.inside) _ c.self.invariant.0 c.self.invariant.2 c.as_slice-roots.ensures.value c.exchange.ensures.exchanged
+exchanged c = exchanged_by (state_of c.self.inside) _ _ c.self.inside.adopted (tables_of c.self.inside) _ c.self.invariant.0 c.self.invariant.2 c.as_slice.ensures.value c.exchange.ensures.exchanged
 
 pub invariant_of-self : goal.invariant_of-self
 invariant_of-self c =
