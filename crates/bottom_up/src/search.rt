@@ -14,8 +14,8 @@ use arrayvec::ArrayVec;
 use claim_words::{ClaimBoard, Worker};
 use forest_core::{Forest, columns_have_one_root};
 use level_sharing::{
-    Candidate, Work, claim_row, share, shares_cover_a_list, steps_are_progress,
-    steps_are_remembered, steps_settle, workers_stay_through,
+    Candidate, Work, claim_row, finds_leaf, share, shares_cover_a_list, steps_are_progress,
+    steps_are_remembered, workers_stay_through,
 };
 use sp_ids::{Col, OutOfMemory, Row};
 
@@ -44,221 +44,196 @@ impl<'a, 'p> Work<Worker, OutOfMemory> for Search<'a, 'p> {
 
     fn run(&self, number: u32, worker: &mut Worker) -> Result<(), OutOfMemory> {
         shares_cover_a_list();
-        let rows = share(self.free, self.workers, number as usize);
-        go_through(self.forest, self.board, rows, worker)
+        let own = Search {
+            forest: self.forest,
+            board: self.board,
+            free: share(self.free, self.workers, number as usize),
+            workers: self.workers,
+        };
+        own.go_through(worker)
     }
 }
 
-// The worker looks for a column for each of these rows. It gathers the rows that it may claim, with
-// looks alone, and claims them once there are 512, or no row is left.
-fn go_through(
-    forest: &Forest,
-    board: &ClaimBoard,
-    rows: &[Row],
-    worker: &mut Worker,
-) -> Result<(), OutOfMemory>
-    requires over { IsSearch forest.now board.now rows.now }
-    requires seat { worker.old.seat.board ≡ board.now }
-    requires settled { HasSettled forest.now worker.old }
-    ensures progress { Progress forest.entry.now (of_rows rows.entry.now) worker.old worker.new }
-    ensures through { OnOk result (IsThroughRows forest.entry.now rows.entry.now worker.new) }
-{
-    steps_are_progress();
-    let mut candidates = ArrayVec::new();
-    for row in rows {
-        gather(forest, board, rows, *row, worker, &mut candidates)?;
-    }
-    claim_each(forest, board, rows, candidates.as_slice(), worker)
-}
-
-// It gathers one of the rows, unless it finds no column that may claim it.
-fn gather(
-    forest: &Forest,
-    board: &ClaimBoard,
-    rows: &[Row],
-    row: Row,
-    worker: &mut Worker,
-    candidates: &mut ArrayVec<Candidate, 512>,
-) -> Result<(), OutOfMemory>
-    requires over { IsSearch forest.now board.now rows.now }
-    requires row { Among row rows.now }
-    requires gathered { HasGathered forest.now board.now rows.now worker.old
-        candidates.old.items }
-    ensures progress { Progress forest.now (of_rows rows.now) worker.old worker.new }
-    ensures gathered { OnOk result
-        (HasGathered forest.now board.now rows.now worker.new candidates.new.items) }
-    ensures stays { OnOk result (StaysCovered forest.now worker.old candidates.old.items
-        worker.new candidates.new.items) }
-    ensures row { OnOk result (IsCovered forest.now worker.new candidates.new.items row) }
-{
-    steps_are_progress();
-    workers_stay_through();
-    match find(forest, board, row, worker) {
-        None => Ok(()),
-        Some(candidate) => {
-            make_room(forest, board, rows, worker, candidates)?;
-            candidates.push(candidate);
-            Ok(())
+impl<'a, 'p> Search<'a, 'p> {
+    // The worker looks for a column for each of these rows. It gathers the rows that it may claim,
+    // with looks alone, and claims them once there are 512, or no row is left.
+    fn go_through(&self, worker: &mut Worker) -> Result<(), OutOfMemory>
+        requires seat { worker.old.seat.board ≡ self.now.board.now }
+        requires settled { HasSettled self.now.forest.now worker.old }
+        ensures progress { Progress self.now.forest.now (of_rows self.now.free.now)
+            worker.old worker.new }
+        ensures through { OnOk result
+            (IsThroughRows self.now.forest.now self.now.free.now worker.new) }
+    {
+        steps_are_progress();
+        let mut candidates = ArrayVec::new();
+        for row in self.free {
+            self.gather(*row, worker, &mut candidates)?;
         }
+        self.claim_each(candidates.as_slice(), worker)
     }
-}
 
-// It claims the candidates where no more of them fit.
-fn make_room(
-    forest: &Forest,
-    board: &ClaimBoard,
-    rows: &[Row],
-    worker: &mut Worker,
-    candidates: &mut ArrayVec<Candidate, 512>,
-) -> Result<(), OutOfMemory>
-    requires over { IsSearch forest.now board.now rows.now }
-    requires gathered { HasGathered forest.now board.now rows.now worker.old
-        candidates.old.items }
-    ensures progress { Progress forest.now (of_rows rows.now) worker.old worker.new }
-    ensures gathered { OnOk result
-        (HasGathered forest.now board.now rows.now worker.new candidates.new.items) }
-    ensures stays { OnOk result (StaysCovered forest.now worker.old candidates.old.items
-        worker.new candidates.new.items) }
-    ensures room { OnOk result (array_vec_len candidates.new < 512) }
-{
-    steps_are_progress();
-    if candidates.is_full() {
-        claim_each(forest, board, rows, candidates.as_slice(), worker)?;
-        candidates.clear();
-    }
-    Ok(())
-}
-
-// It claims the candidates, in their order, each for another column where its root has a leaf by
-// then.
-fn claim_each(
-    forest: &Forest,
-    board: &ClaimBoard,
-    rows: &[Row],
-    candidates: &[Candidate],
-    worker: &mut Worker,
-) -> Result<(), OutOfMemory>
-    requires over { IsSearch forest.now board.now rows.now }
-    requires gathered { HasGathered forest.now board.now rows.now worker.old candidates.now }
-    ensures progress { Progress forest.now (of_rows rows.now) worker.old worker.new }
-    ensures seat { worker.new.seat.board ≡ board.now }
-    ensures settled { OnOk result (HasSettled forest.now worker.new) }
-    ensures through { OnOk result ((r : ℕ)
-        → IsCovered forest.now worker.old candidates.now r
-        → IsThroughRow forest.now worker.new r) }
-{
-    steps_are_progress();
-    workers_stay_through();
-    for candidate in candidates {
-        claim(forest, board, *candidate, worker)?;
-    }
-    Ok(())
-}
-
-// It claims a candidate, or its row for another column where its root has a leaf by then.
-fn claim(
-    forest: &Forest,
-    board: &ClaimBoard,
-    candidate: Candidate,
-    worker: &mut Worker,
-) -> Result<(), OutOfMemory>
-    requires sized { IsSized forest.now board.now }
-    requires candidate { IsCandidate forest.now candidate }
-    requires seat { worker.old.seat.board ≡ board.now }
-    requires settled { HasSettled forest.now worker.old }
-    ensures progress { (own : Share) → ((c : ℕ) → IsOwn own (candidate.row, c))
-        → Progress forest.now own worker.old worker.new }
-    ensures settled { OnOk result (HasSettled forest.now worker.new) }
-    ensures through { OnOk result (IsThroughRow forest.now worker.new candidate.row) }
-{
-    steps_are_progress();
-    steps_are_remembered();
-    steps_settle();
-    match worker.look_root(board, candidate.root) {
-        Some(_) => match find(forest, board, candidate.row, worker) {
-            Some(other) => take(forest, board, other, worker),
+    // It gathers one of the rows, unless it finds no column that may claim it.
+    fn gather(
+        &self,
+        row: Row,
+        worker: &mut Worker,
+        candidates: &mut ArrayVec<Candidate, 512>,
+    ) -> Result<(), OutOfMemory>
+        requires row { Among row self.now.free.now }
+        requires gathered { HasGathered self.now.forest.now self.now.board.now self.now.free.now
+            worker.old candidates.old.items }
+        ensures progress { Progress self.now.forest.now (of_rows self.now.free.now)
+            worker.old worker.new }
+        ensures gathered { OnOk result (HasGathered self.now.forest.now self.now.board.now
+            self.now.free.now worker.new candidates.new.items) }
+        ensures stays { OnOk result (StaysCovered self.now.forest.now worker.old
+            candidates.old.items worker.new candidates.new.items) }
+        ensures row { OnOk result
+            (IsCovered self.now.forest.now worker.new candidates.new.items row) }
+    {
+        steps_are_progress();
+        workers_stay_through();
+        match self.find(row, worker) {
             None => Ok(()),
-        },
-        None => take(forest, board, candidate, worker),
-    }
-}
-
-// It claims a candidate for its column.
-fn take(
-    forest: &Forest,
-    board: &ClaimBoard,
-    candidate: Candidate,
-    worker: &mut Worker,
-) -> Result<(), OutOfMemory>
-    requires sized { IsSized forest.now board.now }
-    requires candidate { IsCandidate forest.now candidate }
-    requires seat { worker.old.seat.board ≡ board.now }
-    requires settled { HasSettled forest.now worker.old }
-    ensures progress { (own : Share) → ((c : ℕ) → IsOwn own (candidate.row, c))
-        → Progress forest.now own worker.old worker.new }
-    ensures settled { OnOk result (HasSettled forest.now worker.new) }
-    ensures through { OnOk result (IsThroughRow forest.now worker.new candidate.row) }
-{
-    claim_row(board, worker, candidate)?;
-    Ok(())
-}
-
-// The row with the first column of the forest that has an entry in it and in whose root the worker
-// finds no leaf.
-fn find(forest: &Forest, board: &ClaimBoard, row: Row, worker: &mut Worker) -> Option<Candidate>
-    requires sized { IsSized forest.now board.now }
-    requires row { row < forest.now.matrix.rows }
-    requires seat { worker.old.seat.board ≡ board.now }
-    requires settled { HasSettled forest.now worker.old }
-    ensures progress { (own : Share) → Progress forest.now own worker.old worker.new }
-    ensures settled { HasSettled forest.now worker.new }
-    ensures of_row { IfSome result (λ x. x.row ≡ row) }
-    ensures candidate { IfSome result (λ x. IsCandidate forest.now x) }
-    ensures none { IfNone result (IsThroughRow forest.now worker.new row) }
-{
-    steps_are_progress();
-    steps_are_remembered();
-    let cols = forest.pattern().cols_of(row);
-    for col in cols {
-        if let Some(root) = root_without_leaf(forest, board, *col, worker) {
-            let free = !forest.is_matched(row);
-            return Some(Candidate {
-                row,
-                col: *col,
-                root,
-                free,
-            });
+            Some(candidate) => {
+                self.make_room(worker, candidates)?;
+                candidates.push(candidate);
+                Ok(())
+            }
         }
     }
-    None
-}
 
-// The column's root, where the column is in the forest and the worker finds no leaf of the root.
-fn root_without_leaf(
-    forest: &Forest,
-    board: &ClaimBoard,
-    col: Col,
-    worker: &mut Worker,
-) -> Option<Col>
-    requires sized { IsSized forest.now board.now }
-    requires col { col < cols forest.now.matrix }
-    requires seat { worker.old.seat.board ≡ board.now }
-    requires settled { HasSettled forest.now worker.old }
-    ensures progress { (own : Share) → Progress forest.now own worker.old worker.new }
-    ensures settled { HasSettled forest.now worker.new }
-    ensures inside { IfSome result (λ _. InForest forest.now col) }
-    ensures root { IfSome result (λ x. RootOf forest.now.base forest.now.claims x col) }
-    ensures in_range { IfSome result (λ x. x < cols forest.now.matrix) }
-    ensures none { IfNone result (InForest forest.now col → KnowsWon forest.now worker.new col) }
-{
-    steps_are_progress();
-    steps_are_remembered();
-    steps_settle();
-    columns_have_one_root();
-    forest.is_sound();
-    let root = forest.root_of(col)?;
-    match worker.look_root(board, root) {
-        Some(_) => None,
-        None => Some(root),
+    // It claims the candidates where no more of them fit.
+    fn make_room(
+        &self,
+        worker: &mut Worker,
+        candidates: &mut ArrayVec<Candidate, 512>,
+    ) -> Result<(), OutOfMemory>
+        requires gathered { HasGathered self.now.forest.now self.now.board.now self.now.free.now
+            worker.old candidates.old.items }
+        ensures progress { Progress self.now.forest.now (of_rows self.now.free.now)
+            worker.old worker.new }
+        ensures gathered { OnOk result (HasGathered self.now.forest.now self.now.board.now
+            self.now.free.now worker.new candidates.new.items) }
+        ensures stays { OnOk result (StaysCovered self.now.forest.now worker.old
+            candidates.old.items worker.new candidates.new.items) }
+        ensures room { OnOk result (array_vec_len candidates.new < 512) }
+    {
+        steps_are_progress();
+        if candidates.is_full() {
+            self.claim_each(candidates.as_slice(), worker)?;
+            candidates.clear();
+        }
+        Ok(())
+    }
+
+    // It claims the candidates, in their order, each for another column where its root has a leaf
+    // by then.
+    fn claim_each(&self, candidates: &[Candidate], worker: &mut Worker) -> Result<(), OutOfMemory>
+        requires gathered { HasGathered self.now.forest.now self.now.board.now self.now.free.now
+            worker.old candidates.now }
+        ensures progress { Progress self.now.forest.now (of_rows self.now.free.now)
+            worker.old worker.new }
+        ensures seat { worker.new.seat.board ≡ self.now.board.now }
+        ensures settled { OnOk result (HasSettled self.now.forest.now worker.new) }
+        ensures through { OnOk result ((r : ℕ)
+            → IsCovered self.now.forest.now worker.old candidates.now r
+            → IsThroughRow self.now.forest.now worker.new r) }
+    {
+        steps_are_progress();
+        workers_stay_through();
+        for candidate in candidates {
+            self.claim(*candidate, worker)?;
+        }
+        Ok(())
+    }
+
+    // It claims a candidate, or its row for another column where its root has a leaf by then.
+    fn claim(&self, candidate: Candidate, worker: &mut Worker) -> Result<(), OutOfMemory>
+        requires candidate { IsCandidate self.now.forest.now candidate }
+        requires seat { worker.old.seat.board ≡ self.now.board.now }
+        requires settled { HasSettled self.now.forest.now worker.old }
+        ensures progress { (own : Share) → ((c : ℕ) → IsOwn own (candidate.row, c))
+            → Progress self.now.forest.now own worker.old worker.new }
+        ensures settled { OnOk result (HasSettled self.now.forest.now worker.new) }
+        ensures through { OnOk result (IsThroughRow self.now.forest.now worker.new candidate.row) }
+    {
+        steps_are_progress();
+        if !finds_leaf(self.board, worker, candidate.root) {
+            return self.take(candidate, worker);
+        }
+        match self.find(candidate.row, worker) {
+            Some(other) => self.take(other, worker),
+            None => Ok(()),
+        }
+    }
+
+    // It claims a candidate for its column.
+    fn take(&self, candidate: Candidate, worker: &mut Worker) -> Result<(), OutOfMemory>
+        requires candidate { IsCandidate self.now.forest.now candidate }
+        requires seat { worker.old.seat.board ≡ self.now.board.now }
+        requires settled { HasSettled self.now.forest.now worker.old }
+        ensures progress { (own : Share) → ((c : ℕ) → IsOwn own (candidate.row, c))
+            → Progress self.now.forest.now own worker.old worker.new }
+        ensures settled { OnOk result (HasSettled self.now.forest.now worker.new) }
+        ensures through { OnOk result (IsThroughRow self.now.forest.now worker.new candidate.row) }
+    {
+        claim_row(self.board, worker, candidate)?;
+        Ok(())
+    }
+
+    // The row with the first column of the forest that has an entry in it and in whose root the
+    // worker finds no leaf.
+    fn find(&self, row: Row, worker: &mut Worker) -> Option<Candidate>
+        requires row { row < self.now.forest.now.matrix.rows }
+        requires seat { worker.old.seat.board ≡ self.now.board.now }
+        requires settled { HasSettled self.now.forest.now worker.old }
+        ensures progress { (own : Share) → Progress self.now.forest.now own worker.old worker.new }
+        ensures settled { HasSettled self.now.forest.now worker.new }
+        ensures of_row { IfSome result (λ x. x.row ≡ row) }
+        ensures candidate { IfSome result (λ x. IsCandidate self.now.forest.now x) }
+        ensures none { IfNone result (IsThroughRow self.now.forest.now worker.new row) }
+    {
+        steps_are_progress();
+        steps_are_remembered();
+        let cols = self.forest.pattern().cols_of(row);
+        for col in cols {
+            if let Some(root) = self.root_without_leaf(*col, worker) {
+                let free = !self.forest.is_matched(row);
+                return Some(Candidate {
+                    row,
+                    col: *col,
+                    root,
+                    free,
+                });
+            }
+        }
+        None
+    }
+
+    // The column's root, where the column is in the forest and the worker finds no leaf of the
+    // root.
+    fn root_without_leaf(&self, col: Col, worker: &mut Worker) -> Option<Col>
+        requires col { col < cols self.now.forest.now.matrix }
+        requires seat { worker.old.seat.board ≡ self.now.board.now }
+        requires settled { HasSettled self.now.forest.now worker.old }
+        ensures progress { (own : Share) → Progress self.now.forest.now own worker.old worker.new }
+        ensures settled { HasSettled self.now.forest.now worker.new }
+        ensures inside { IfSome result (λ _. InForest self.now.forest.now col) }
+        ensures root { IfSome result
+            (λ x. RootOf self.now.forest.now.base self.now.forest.now.claims x col) }
+        ensures in_range { IfSome result (λ x. x < cols self.now.forest.now.matrix) }
+        ensures none { IfNone result (InForest self.now.forest.now col
+            → KnowsWon self.now.forest.now worker.new col) }
+    {
+        steps_are_progress();
+        columns_have_one_root();
+        self.forest.is_sound();
+        let root = self.forest.root_of(col)?;
+        if finds_leaf(self.board, worker, root) {
+            return None;
+        }
+        Some(root)
     }
 }

@@ -1,12 +1,11 @@
 -- What a search from the frontier down has gathered and claimed so far.
-use Rattle.std.proofs.Common.{◌≡◌, ◌⊎◌, ℕ, ◌<◌, List, [], ◌∷◌, ◌++◌, length, refl, sym, subst, inl, inr, ⊎_elim}
+use Rattle.std.proofs.Common.{◌≡◌, ◌∙◌, ◌⊎◌, ℕ, ◌<◌, List, [], ◌∷◌, ◌++◌, length, refl, sym, subst, inl, inr, ⊎_elim}
 use Rattle.bip_defs.specs.Forest.{State}
 use Rattle.bip_defs.specs.Lists.{Among}
 use Rattle.bip_defs.specs.Matrix.{column}
 use Rattle.bip_defs.proofs.Sets.{among_last, among_left, among_right}
 use Rattle.claim_words.specs.Board.{Board}
-use Rattle.claim_words.specs.Listed.{Sight}
-use Rattle.claim_words.specs.WorkerState.{WorkerState, work_after_look}
+use Rattle.claim_words.specs.WorkerState.{WorkerState}
 use Rattle.frontier_levels.specs.Search.{HasGathered, IsCoveredColumn, StaysCovered}
 use Rattle.level_sharing.specs.Candidates.{IsCovered, IsDecided}
 use Rattle.level_sharing.specs.Progress.{CanClaim, HasSettled, IsThroughColumn, KnowsHolder, KnowsLeaf}
@@ -19,9 +18,9 @@ use Rattle.level_sharing.specs.declared.candidate.Candidate.{Candidate}
 pub none_gathered : (s : State) (b : Board) (share : List ℕ) (w : WorkerState) → w.seat.board ≡ b → HasSettled s w → HasGathered s b share w []
 none_gathered s b share w seat settled = record { seat = seat; settled = settled; candidates = λ x m. absurd m; on_board = λ x m. absurd m }
 
--- after a look
-pub gathered_after_look : (s : State) (b : Board) (share : List ℕ) (w : WorkerState) (xs : List Candidate) (sight : Sight) → HasSettled s (work_after_look w sight) → HasGathered s b share w xs → HasGathered s b share (work_after_look w sight) xs
-gathered_after_look s b share w xs sight settled g = record { seat = g.seat; settled = settled; candidates = g.candidates; on_board = g.on_board }
+-- another state of the worker
+pub gathered_on : (s : State) (b : Board) (share : List ℕ) (v w : WorkerState) (xs : List Candidate) → w.seat.board ≡ v.seat.board → (HasSettled s v → HasSettled s w) → HasGathered s b share v xs → HasGathered s b share w xs
+gathered_on s b share v w xs seat settled g = record { seat = seat ∙ g.seat; settled = settled g.settled; candidates = g.candidates; on_board = g.on_board }
 
 -- one candidate more
 pub gathered_more : (s : State) (b : Board) (share : List ℕ) (w : WorkerState) (xs : List Candidate) (x : Candidate) → CanClaim s (by_columns share) x.row x.col x.root x.free → (x.row < length b.rows) × (x.root < length b.roots) → HasGathered s b share w xs → HasGathered s b share w (xs ++ x ∷ [])
@@ -33,11 +32,6 @@ gathered_more s b share w xs x can on_board g = record {
 }
 
 -- What is covered.
-
-pub stays_known : (v w : WorkerState) (xs : List Candidate) → ((r : ℕ) → KnowsHolder v r → KnowsHolder w r) → ((x : ℕ) → KnowsLeaf v x → KnowsLeaf w x) → StaysCovered v xs w xs
-stays_known v w xs holder leaf r x (inl (inl h)) = inl (inl (holder r h))
-stays_known v w xs holder leaf r x (inl (inr k)) = inl (inr (leaf x k))
-stays_known v w xs holder leaf r x (inr c) = inr c
 
 pub stays_more : (w : WorkerState) (xs : List Candidate) (x : Candidate) → StaysCovered w xs w (xs ++ x ∷ [])
 stays_more w xs x r root (inl d) = inl d

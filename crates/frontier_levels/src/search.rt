@@ -13,7 +13,9 @@ ghost use Rattle.level_sharing.specs.Shares.{by_columns};
 use arrayvec::ArrayVec;
 use claim_words::{ClaimBoard, Worker};
 use forest_core::Forest;
-use level_sharing::{Candidate, claim_all, steps_are_progress, steps_are_remembered, steps_settle};
+use level_sharing::{
+    Candidate, claim_all, finds_holder, finds_leaf, steps_are_progress, steps_are_remembered,
+};
 use sp_ids::{Col, OutOfMemory, Row};
 
 /// A worker's search through its share of the frontier. It gathers the rows that it may claim, with
@@ -67,12 +69,11 @@ impl<'a, 'p> Search<'a, 'p> {
     {
         steps_are_progress();
         steps_are_remembered();
-        steps_settle();
         let root = self.forest.root(col);
-        match worker.look_root(self.board, root) {
-            Some(_) => Ok(()),
-            None => self.gather_rows(col, root, worker, candidates),
+        if finds_leaf(self.board, worker, root) {
+            return Ok(());
         }
+        self.gather_rows(col, root, worker, candidates)
     }
 
     // It gathers the rows of a column whose root this is.
@@ -131,21 +132,18 @@ impl<'a, 'p> Search<'a, 'p> {
     {
         steps_are_progress();
         steps_are_remembered();
-        steps_settle();
-        match worker.look_row(self.board, row) {
-            Some(_) => Ok(()),
-            None => {
-                self.make_room(worker, candidates)?;
-                let free = !self.forest.is_matched(row);
-                candidates.push(Candidate {
-                    row,
-                    col,
-                    root,
-                    free,
-                });
-                Ok(())
-            }
+        if finds_holder(self.board, worker, row) {
+            return Ok(());
         }
+        self.make_room(worker, candidates)?;
+        let free = !self.forest.is_matched(row);
+        candidates.push(Candidate {
+            row,
+            col,
+            root,
+            free,
+        });
+        Ok(())
     }
 
     // It claims the candidates where no more of them fit.

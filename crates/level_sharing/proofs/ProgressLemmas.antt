@@ -1,5 +1,5 @@
 -- The progress of one worker, step by step.
-use Rattle.std.proofs.Common.{◌≡◌, ◌∙◌, ℕ, List, [], ◌∷◌, ◌++◌, Option, None, Some, refl, sym, ap, subst, ⊎_elim, inl, inr}
+use Rattle.std.proofs.Common.{◌≡◌, ◌∙◌, ℕ, List, [], ◌∷◌, ◌++◌, Option, None, Some, is_some, true, true≢false, refl, sym, ap, subst, ⊎_elim, inl, inr}
 use Rattle.bip_defs.specs.Forest.{InForest, State}
 use Rattle.bip_defs.specs.Lists.{Among}
 use Rattle.bip_defs.specs.Matching.{rows_of}
@@ -14,6 +14,10 @@ use Rattle.level_sharing.specs.Shares.{IsOwn, Share}
 one : {X : Type 0} (P : X → Type 0) (x : X) → P x → (y : X) → Among y (x ∷ []) → P y
 one P x p y (inl e) = subst P (sym e) p
 one P x p y (inr h) = absurd h
+
+pub if_found : {Q : Type 0} (o : Option ℕ) → is_some o ≡ true → ((x : ℕ) → o ≡ Some x → Q) → Q
+if_found None e f = absurd (true≢false (sym e))
+if_found (Some x) e f = f x refl
 
 pub fresh_claims_grow : (s : State) (own : Share) (v w : WorkerState) (p : Progress s own v w) → w.fresh_claims ≡ v.fresh_claims ++ p.more.claims
 fresh_claims_grow s own v w p = ap (λ (u : WorkerState). u.fresh_claims) p.grown

@@ -8,8 +8,9 @@ ghost use Rattle.level_sharing.specs.Shares.{Share};
 
 use crate::candidate::Candidate;
 use crate::claims::claim_row;
-use crate::steps::{steps_are_progress, steps_are_remembered, steps_settle};
-use claim_words::{ClaimBoard, Worker, workers_know_more};
+use crate::looks::finds_leaf;
+use crate::steps::{steps_are_progress, steps_are_remembered};
+use claim_words::{ClaimBoard, Worker};
 use sp_ids::OutOfMemory;
 
 /// A worker claims these candidates, in their order, and passes over those whose root has a leaf by
@@ -36,7 +37,7 @@ pub fn claim_all(
         → IsDecided worker.new row root) }
 {
     steps_are_progress();
-    workers_know_more();
+    steps_are_remembered();
     for candidate in candidates {
         claim_one(board, worker, *candidate)?;
     }
@@ -62,13 +63,8 @@ fn claim_one(
     ensures decided { OnOk result (IsDecided worker.new candidate.row candidate.root) }
 {
     steps_are_progress();
-    steps_are_remembered();
-    steps_settle();
-    match worker.look_root(board, candidate.root) {
-        Some(_) => Ok(()),
-        None => {
-            claim_row(board, worker, candidate)?;
-            Ok(())
-        }
+    if !finds_leaf(board, worker, candidate.root) {
+        claim_row(board, worker, candidate)?;
     }
+    Ok(())
 }

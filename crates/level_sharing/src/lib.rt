@@ -12,6 +12,7 @@ mod candidates;
 mod claims;
 mod laws;
 mod levels;
+mod looks;
 mod shares;
 mod steps;
 mod work;
@@ -27,9 +28,10 @@ pub use levels::{
     levels_are_legal, levels_are_shown, levels_go_through_columns, levels_go_through_rows,
     levels_keep_to_shares,
 };
+pub use looks::{finds_holder, finds_leaf};
 pub use shares::{share, share_start};
 pub use steps::{
     progress_keeps_seats, steps_are_progress, steps_are_remembered, steps_settle,
     workers_are_at_the_start, workers_stay_through,
 };
-pub use work::{Work, share_work, work_at_once};
+pub use work::{Work, processors, share_work, work_at_once};

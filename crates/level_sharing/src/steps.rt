@@ -9,10 +9,12 @@ ghost use Rattle.claim_words.specs.Board.{Board};
 ghost use Rattle.claim_words.specs.Listed.{Sight, root_word, row_word};
 ghost use Rattle.claim_words.specs.WorkerState.{AreAllWorkers, WorkerState, work_after_claim, work_after_look, work_after_win};
 ghost use Rattle.level_sharing.specs.Agreement.{Agree};
+ghost use Rattle.level_sharing.specs.Candidates.{IsCovered, IsDecided};
 ghost use Rattle.level_sharing.specs.Each.{EachFrom};
 ghost use Rattle.level_sharing.specs.Level.{HaveProgressed};
 ghost use Rattle.level_sharing.specs.Progress.{HasSettled, IsAtStart, IsLeafFor, IsThroughColumn, IsThroughRow, KnowsHolder, KnowsLeaf, KnowsWon, Progress};
 ghost use Rattle.level_sharing.specs.Shares.{IsOwn, Share};
+ghost use Rattle.level_sharing.specs.declared.candidate.Candidate.{Candidate};
 
 use claim_words::{steps_add_to_lists, workers_grow, workers_know_more};
 
@@ -44,6 +46,10 @@ pub fn steps_are_remembered()
         → Progress s own v w → KnowsLeaf v x → KnowsLeaf w x }
     ensures won { (s : State) (own : Share) (v w : WorkerState) (c : ℕ)
         → Progress s own v w → KnowsWon s v c → KnowsWon s w c }
+    ensures decided { (s : State) (own : Share) (v w : WorkerState) (r x : ℕ)
+        → Progress s own v w → IsDecided v r x → IsDecided w r x }
+    ensures covered { (s : State) (own : Share) (v w : WorkerState) (xs : List Candidate) (r x : ℕ)
+        → Progress s own v w → IsCovered v xs r x → IsCovered w xs r x }
     ensures claim { (w : WorkerState) (r c : ℕ) (found : Option ℕ)
         → KnowsHolder (work_after_claim w r c found) r }
     ensures win { (w : WorkerState) (x r : ℕ) (found : Option ℕ)

@@ -1,11 +1,11 @@
 //! Workers that do their work at once.
 
-ghost use Rattle.std.specs.Prelude.{◌≡◌, ℕ, ◌+◌, ◌<◌, ◌^◌, ◌++◌, length, OnOk};
+ghost use Rattle.std.specs.Prelude.{◌≡◌, ℕ, ◌+◌, ◌<◌, ◌≤◌, ◌^◌, ◌++◌, length, OnOk};
 ghost use Rattle.std.specs.Thread.{IsSync};
 ghost use Rattle.level_sharing.specs.Each.{AreReady, EachFrom, EachPairFrom};
 
 use sp_ports::Gate;
-use std::thread::{Threads, join_mut};
+use std::thread::{Threads, available_parallelism, join_mut};
 
 /// What each of several workers does, beside the others. A worker keeps a `T` for itself. It may
 /// have to end early, by an `E`: this is `Infallible` where no worker has to.
@@ -51,8 +51,89 @@ pub fn share_work<R: Threads + Sync, G: Gate, T: Send, E: Send + Drop, W: Work<T
     if items < WORTH_THREADS && !gate.needs_threads() {
         work_in_turn(gate, work, 0, workers)
     } else {
-        work_from(rt, gate, work, 0, workers)
+        work_at_once(rt, gate, work, workers)
     }
+}
+
+/// Each worker does its part, at once with the others as far as threads can be had.
+///
+/// The workers are numbered from 0 in the order of the slice. Each calls `gate.arrive` with its
+/// number once, before its part. No more threads work at once than there are processors that the
+/// program may use, unless the gate needs threads; each does the parts of workers that follow each
+/// other then, the highest number first. Want of a thread changes nothing. Answers the fault of the
+/// first worker that ended early; all the others did their parts nonetheless. Work: one thread at
+/// most is started for each worker but the first.
+pub fn work_at_once<R: Threads + Sync, G: Gate, T: Send, E: Send + Drop, W: Work<T, E>>(
+    rt: &R,
+    gate: &G,
+    work: &W,
+    workers: &mut [T],
+) -> Result<(), E>
+    requires few { length workers.old < 2 ^ 32 }
+    requires begin { EachFrom (W.can_begin work.now) 0 workers.old }
+    ensures always { EachPairFrom (W.leaves work.now) 0 workers.old workers.new }
+    ensures ok { OnOk result (EachPairFrom (W.completes work.now) 0 workers.old workers.new) }
+{
+    let threads = if gate.needs_threads() {
+        workers.len()
+    } else {
+        processors(rt)
+    };
+    work_from(rt, gate, work, 0, threads, workers)
+}
+
+/// How many processors the program may use, or 1 where that can't be told. It is asked of the
+/// system each time, at the cost of some calls.
+pub fn processors<R: Threads>(rt: &R) -> usize
+    ensures { 1 ≤ result }
+{
+    match available_parallelism(rt) {
+        Ok(count) => count.get(),
+        Err(_) => 1,
+    }
+}
+
+// The same of workers of which the first has this number, by so many threads at most.
+fn work_from<R: Threads + Sync, G: Gate, T: Send, E: Send + Drop, W: Work<T, E>>(
+    rt: &R,
+    gate: &G,
+    work: &W,
+    first: u32,
+    threads: usize,
+    workers: &mut [T],
+) -> Result<(), E>
+    requires { AreReady (W.can_begin work.now) first workers.old }
+    ensures always { EachPairFrom (W.leaves work.now) first workers.old workers.new }
+    ensures ok { OnOk result (EachPairFrom (W.completes work.now) first workers.old workers.new) }
+{
+    if threads < 2 || workers.len() < 2 {
+        return work_in_turn(gate, work, first, workers);
+    }
+    let high_threads = threads / 2;
+    let low_threads = threads - high_threads;
+    let half = workers.len() / 2;
+    let (prefix, suffix) = workers.split_at_mut(half);
+    let next = first + half as u32;
+    halves_are_ready(work, first, next, prefix, suffix);
+    let (low, high) = join_mut(
+        rt,
+        &mut || -> Result<(), E>
+            requires { IsSync R.row × IsSync G.row × IsSync W.row
+                × (0 < length prefix.now) × AreReady (W.can_begin work.now) first prefix.now }
+            ensures { EachPairFrom (W.leaves work.entry.now) first prefix.entry.now prefix.exit.now
+                × OnOk result
+                (EachPairFrom (W.completes work.entry.now) first prefix.entry.now prefix.exit.now) }
+        { work_from(rt, gate, work, first, low_threads, prefix) },
+        &mut || -> Result<(), E>
+            requires { IsSync R.row × IsSync G.row × IsSync W.row
+                × (0 < length suffix.now) × AreReady (W.can_begin work.now) next suffix.now }
+            ensures { EachPairFrom (W.leaves work.entry.now) next suffix.entry.now suffix.exit.now
+                × OnOk result
+                (EachPairFrom (W.completes work.entry.now) next suffix.entry.now suffix.exit.now) }
+        { work_from(rt, gate, work, next, high_threads, suffix) },
+    );
+    low?;
+    high
 }
 
 // Each worker does its part, the highest number first. The first of them has this number.
@@ -66,82 +147,11 @@ fn work_in_turn<G: Gate, T, E: Drop, W: Work<T, E>>(
     ensures always { EachPairFrom (W.leaves work.now) first workers.old workers.new }
     ensures ok { OnOk result (EachPairFrom (W.completes work.now) first workers.old workers.new) }
 {
-    if workers.is_empty() {
+    let Some((worker, others)) = workers.split_first_mut() else {
         return Ok(());
-    }
-    if workers.len() == 1 {
-        return do_part(gate, work, first, &mut workers[0]);
-    }
-    let half = workers.len() / 2;
-    let (prefix, suffix) = workers.split_at_mut(half);
-    let next = first + half as u32;
-    halves_are_ready(work, first, next, prefix, suffix);
-    let high = work_in_turn(gate, work, next, suffix);
-    let low = work_in_turn(gate, work, first, prefix);
-    low?;
-    high
-}
-
-/// Each worker does its part, at once with the others as far as threads can be had.
-///
-/// The workers are numbered from 0 in the order of the slice. Each calls `gate.arrive` with its
-/// number once, before its part. Want of a thread changes nothing: then one part is done after the
-/// other. Answers the fault of the first worker that ended early; all the others did their parts
-/// nonetheless. Work: one thread is started for each worker but the first.
-pub fn work_at_once<R: Threads + Sync, G: Gate, T: Send, E: Send + Drop, W: Work<T, E>>(
-    rt: &R,
-    gate: &G,
-    work: &W,
-    workers: &mut [T],
-) -> Result<(), E>
-    requires few { length workers.old < 2 ^ 32 }
-    requires begin { EachFrom (W.can_begin work.now) 0 workers.old }
-    ensures always { EachPairFrom (W.leaves work.now) 0 workers.old workers.new }
-    ensures ok { OnOk result (EachPairFrom (W.completes work.now) 0 workers.old workers.new) }
-{
-    work_from(rt, gate, work, 0, workers)
-}
-
-// The same of workers of which the first has this number.
-fn work_from<R: Threads + Sync, G: Gate, T: Send, E: Send + Drop, W: Work<T, E>>(
-    rt: &R,
-    gate: &G,
-    work: &W,
-    first: u32,
-    workers: &mut [T],
-) -> Result<(), E>
-    requires { AreReady (W.can_begin work.now) first workers.old }
-    ensures always { EachPairFrom (W.leaves work.now) first workers.old workers.new }
-    ensures ok { OnOk result (EachPairFrom (W.completes work.now) first workers.old workers.new) }
-{
-    if workers.is_empty() {
-        return Ok(());
-    }
-    if workers.len() == 1 {
-        return do_part(gate, work, first, &mut workers[0]);
-    }
-    let half = workers.len() / 2;
-    let (prefix, suffix) = workers.split_at_mut(half);
-    let next = first + half as u32;
-    halves_are_ready(work, first, next, prefix, suffix);
-    let (low, high) = join_mut(
-        rt,
-        &mut || -> Result<(), E>
-            requires { IsSync R.row × IsSync G.row × IsSync W.row
-                × (0 < length prefix.now) × AreReady (W.can_begin work.now) first prefix.now }
-            ensures { EachPairFrom (W.leaves work.entry.now) first prefix.entry.now prefix.exit.now
-                × OnOk result
-                (EachPairFrom (W.completes work.entry.now) first prefix.entry.now prefix.exit.now) }
-        { work_from(rt, gate, work, first, prefix) },
-        &mut || -> Result<(), E>
-            requires { IsSync R.row × IsSync G.row × IsSync W.row
-                × (0 < length suffix.now) × AreReady (W.can_begin work.now) next suffix.now }
-            ensures { EachPairFrom (W.leaves work.entry.now) next suffix.entry.now suffix.exit.now
-                × OnOk result
-                (EachPairFrom (W.completes work.entry.now) next suffix.entry.now suffix.exit.now) }
-        { work_from(rt, gate, work, next, suffix) },
-    );
-    low?;
+    };
+    let high = work_in_turn(gate, work, first + 1, others);
+    do_part(gate, work, first, worker)?;
     high
 }
 

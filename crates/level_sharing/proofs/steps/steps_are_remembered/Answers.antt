@@ -1,6 +1,9 @@
-use Rattle.std.proofs.Common.{ℕ, Option, None, Some, refl}
+use Rattle.std.proofs.Common.{ℕ, Option, None, Some, refl, inl, inr, ⊎_elim}
 use Rattle.claim_words.specs.WorkerState.{WorkerState, work_after_claim, work_after_win}
-use Rattle.level_sharing.specs.Progress.{KnowsHolder, KnowsLeaf}
+use Rattle.bip_defs.specs.Forest.{State}
+use Rattle.level_sharing.specs.Candidates.{IsDecided}
+use Rattle.level_sharing.specs.Progress.{KnowsHolder, KnowsLeaf, Progress}
+use Rattle.level_sharing.specs.Shares.{Share}
 use Rattle.level_sharing.proofs.ProgressLemmas.{holder_known, won_known}
 use Rattle.level_sharing.proofs.steps.steps_are_remembered.Goals as goal
 
@@ -12,10 +15,21 @@ after_win : goal.After-workers_know_more → (w : WorkerState) (x r : ℕ) (foun
 after_win t w x r None = (r, t.workers_know_more.ensures.win w.seat x r r None refl)
 after_win t w x r (Some q) = (q, t.workers_know_more.ensures.win w.seat x r q (Some q) refl)
 
+holder : goal.After-workers_know_more → (s : State) (own : Share) (v w : WorkerState) (r : ℕ) → Progress s own v w → KnowsHolder v r → KnowsHolder w r
+holder t s own v w r = holder_known s own v w r (λ d. t.workers_know_more.ensures.row v w r d)
+
+leaf : goal.After-workers_know_more → (s : State) (own : Share) (v w : WorkerState) (x : ℕ) → Progress s own v w → KnowsLeaf v x → KnowsLeaf w x
+leaf t s own v w x p (r, known) = (r, t.workers_know_more.ensures.root v w x r (p.more, p.grown) known)
+
+decided : goal.After-workers_know_more → (s : State) (own : Share) (v w : WorkerState) (r x : ℕ) → Progress s own v w → IsDecided v r x → IsDecided w r x
+decided t s own v w r x p = ⊎_elim (λ h. inl (holder t s own v w r p h)) (λ k. inr (leaf t s own v w x p k))
+
 pub returns : goal.returns
 returns c = let known = c.workers_know_more.ensures in record {
-  holder = λ s own v w r. holder_known s own v w r (λ d. known.row v w r d);
-  leaf = λ s own v w x p leaf. (leaf.0, known.root v w x leaf.0 (p.more, p.grown) leaf.1);
+  holder = holder c;
+  leaf = leaf c;
+  decided = decided c;
+  covered = λ s own v w xs r x p. ⊎_elim (λ d. inl (decided c s own v w r x p d)) (λ m. inr m);
   won = λ s own v w d. won_known s own v w d (λ x r. known.root v w x r);
   claim = after_claim c;
   win = after_win c;

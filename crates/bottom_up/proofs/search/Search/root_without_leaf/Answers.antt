@@ -1,18 +1,10 @@
-use Rattle.std.proofs.Common.{None, Some, sym, subst}
-use Rattle.claim_words.specs.Listed.{root_word}
-use Rattle.claim_words.specs.WorkerState.{WorkerState}
-use Rattle.level_sharing.specs.Progress.{HasSettled, KnowsLeaf}
-use Rattle.bottom_up.proofs.search.root_without_leaf.Goals as goal
+use Rattle.bottom_up.proofs.search.Search.root_without_leaf.Goals as goal
 
-pub returns-in-Some-clause-settled : goal.returns-in-Some-clause-settled
-returns-in-Some-clause-settled c = subst (HasSettled c.args.forest.now) (sym c.in-Some.ensures.worker) (c.steps_settle.ensures.look c.args.forest.now c.args.worker.now (root_word c.in_ok-root.root (Some c.in-Some.field-0)) c.requires.settled)
+pub returns-then-finds_leaf-clause-none : goal.returns-then-finds_leaf-clause-none
+returns-then-finds_leaf-clause-none c = λ inside. (c.in_ok-root.root, c.in_ok-root.ensures.found, c.finds_leaf.ensures.leaf c.if-finds_leaf.true)
 
-pub returns-in-Some-clause-none : goal.returns-in-Some-clause-none
-returns-in-Some-clause-none c = λ inside. (
-  c.in_ok-root.root,
-  c.in_ok-root.ensures.found,
-  subst (λ (w : WorkerState). KnowsLeaf w c.in_ok-root.root) (sym c.in-Some.ensures.worker) (c.steps_are_remembered.ensures.look_root c.args.worker.now c.in_ok-root.root c.in-Some.field-0),
-)
+pub returns-then-finds_leaf-clause-settled : goal.returns-then-finds_leaf-clause-settled
+returns-then-finds_leaf-clause-settled c = c.finds_leaf.ensures.settled c.args.self.now.forest.now c.requires.settled
 
-pub returns-in-None-clause-settled : goal.returns-in-None-clause-settled
-returns-in-None-clause-settled c = subst (HasSettled c.args.forest.now) (sym c.in-None.ensures.worker) (c.steps_settle.ensures.look c.args.forest.now c.args.worker.now (root_word c.in_ok-root.root None) c.requires.settled)
+pub returns-clause-settled : goal.returns-clause-settled
+returns-clause-settled c = c.finds_leaf.ensures.settled c.args.self.now.forest.now c.requires.settled

@@ -1,64 +1,44 @@
-use Rattle.std.proofs.Common.{rules, ◌≡◌, ◌∙◌, ◌<◌, List, length, None, Some, not, sym, subst, inl, true≢false}
+use Rattle.std.proofs.Common.{◌∙◌, ◌<◌, List, inl, length, not, subst, sym, true≢false}
 use Rattle.std.proofs.lemmas.Bool.{not-false, not-true}
-use Rattle.claim_words.specs.Listed.{row_word}
-use Rattle.claim_words.specs.WorkerState.{work_after_look}
 use Rattle.frontier_levels.specs.Search.{HasGathered, StaysCovered}
 use Rattle.level_sharing.specs.Candidates.{IsCovered}
-use Rattle.level_sharing.specs.Progress.{CanClaim, KnowsHolder, Progress}
+use Rattle.level_sharing.specs.Progress.{CanClaim}
 use Rattle.level_sharing.specs.Shares.{by_columns}
 use Rattle.level_sharing.specs.declared.candidate.Candidate.{Candidate}
-use Rattle.frontier_levels.proofs.SearchLemmas.{covered_last, gathered_after_look, gathered_more, stays_known, stays_more}
+use Rattle.frontier_levels.proofs.SearchLemmas.{covered_last, gathered_more, gathered_on, stays_more}
 use Rattle.frontier_levels.proofs.search.Search.gather_row.Goals as goal
 
 pub make_room-requires : goal.make_room-requires
-make_room-requires c =
-    let s = c.args.self.now.forest.now in
-    let e : c.look_row.new.self ≡ work_after_look c.args.worker.now (row_word c.args.row None) = search rules in
-    record {
-      gathered = subst (λ w. HasGathered s c.args.self.now.board.now c.args.self.now.share.now w c.args.candidates.now.items) (sym e)
-          (gathered_after_look s c.args.self.now.board.now c.args.self.now.share.now c.args.worker.now c.args.candidates.now.items (row_word c.args.row None) (c.steps_settle.ensures.look s c.args.worker.now (row_word c.args.row None) c.requires.gathered.settled) c.requires.gathered);
-    }
+make_room-requires c = record {
+  gathered = gathered_on _ _ _ _ _ _ c.finds_holder.ensures.seat (c.finds_holder.ensures.settled c.args.self.now.forest.now) c.requires.gathered;
+}
 
-pub returns-in_err-make_room-in-None-clause-progress :
-    goal.returns-in_err-make_room-in-None-clause-progress
-returns-in_err-make_room-in-None-clause-progress c =
+pub returns-then-finds_holder-clause-gathered : goal.returns-then-finds_holder-clause-gathered
+returns-then-finds_holder-clause-gathered c = gathered_on _ _ _ _ _ _ c.finds_holder.ensures.seat (c.finds_holder.ensures.settled c.args.self.now.forest.now) c.requires.gathered
+
+pub returns-then-finds_holder-clause-stays : goal.returns-then-finds_holder-clause-stays
+returns-then-finds_holder-clause-stays c =
     let s = c.args.self.now.forest.now in
     let own = by_columns c.args.self.now.share.now in
-    let e : c.look_row.new.self ≡ work_after_look c.args.worker.now (row_word c.args.row None) = search rules in
-    let look : Progress s own c.args.worker.now c.look_row.new.self = subst (λ w. Progress s own c.args.worker.now w) (sym e) (c.steps_are_progress.ensures.look s own c.args.worker.now (row_word c.args.row None)) in
-    c.steps_are_progress.ensures.on s own c.args.worker.now c.look_row.new.self c.make_room.new.worker look c.make_room.ensures.progress
+    λ row root. c.steps_are_remembered.ensures.covered s own _ _ _ row root (c.finds_holder.ensures.progress s own)
 
-pub returns-in-Some-clause-gathered : goal.returns-in-Some-clause-gathered
-returns-in-Some-clause-gathered c =
-    let s = c.args.self.now.forest.now in
-    let seen = row_word c.args.row (Some c.in-Some.field-0) in
-    let e : c.look_row.new.self ≡ work_after_look c.args.worker.now (row_word c.args.row (Some c.in-Some.field-0)) = search rules in
-    subst (λ w. HasGathered s c.args.self.now.board.now c.args.self.now.share.now w c.args.candidates.now.items) (sym e)
-    (gathered_after_look s c.args.self.now.board.now c.args.self.now.share.now c.args.worker.now c.args.candidates.now.items seen (c.steps_settle.ensures.look s c.args.worker.now seen c.requires.gathered.settled) c.requires.gathered)
+pub returns-then-finds_holder-clause-row : goal.returns-then-finds_holder-clause-row
+returns-then-finds_holder-clause-row c = inl (inl (c.finds_holder.ensures.holder c.if-finds_holder.true))
 
-pub returns-in-Some-clause-stays : goal.returns-in-Some-clause-stays
-returns-in-Some-clause-stays c =
+pub returns-in_err-make_room-clause-progress : goal.returns-in_err-make_room-clause-progress
+returns-in_err-make_room-clause-progress c =
     let s = c.args.self.now.forest.now in
     let own = by_columns c.args.self.now.share.now in
-    let seen = row_word c.args.row (Some c.in-Some.field-0) in
-    let e : c.look_row.new.self ≡ work_after_look c.args.worker.now (row_word c.args.row (Some c.in-Some.field-0)) = search rules in
-    let look : Progress s own c.args.worker.now c.look_row.new.self = subst (λ w. Progress s own c.args.worker.now w) (sym e) (c.steps_are_progress.ensures.look s own c.args.worker.now seen) in
-    stays_known c.args.worker.now c.look_row.new.self c.args.candidates.now.items
-    (λ r. c.steps_are_remembered.ensures.holder s own c.args.worker.now c.look_row.new.self r look)
-    (λ x. c.steps_are_remembered.ensures.leaf s own c.args.worker.now c.look_row.new.self x look)
+    c.steps_are_progress.ensures.on s own _ _ _ (c.finds_holder.ensures.progress s own) c.make_room.ensures.progress
 
-pub returns-in_ok-make_room-in-None-clause-progress :
-    goal.returns-in_ok-make_room-in-None-clause-progress
-returns-in_ok-make_room-in-None-clause-progress c =
+pub returns-clause-progress : goal.returns-clause-progress
+returns-clause-progress c =
     let s = c.args.self.now.forest.now in
     let own = by_columns c.args.self.now.share.now in
-    let e : c.look_row.new.self ≡ work_after_look c.args.worker.now (row_word c.args.row None) = search rules in
-    let look : Progress s own c.args.worker.now c.look_row.new.self = subst (λ w. Progress s own c.args.worker.now w) (sym e) (c.steps_are_progress.ensures.look s own c.args.worker.now (row_word c.args.row None)) in
-    c.steps_are_progress.ensures.on s own c.args.worker.now c.look_row.new.self c.make_room.new.worker look c.make_room.ensures.progress
+    c.steps_are_progress.ensures.on s own _ _ _ (c.finds_holder.ensures.progress s own) c.make_room.ensures.progress
 
-pub returns-in_ok-make_room-in-None-clause-gathered :
-    goal.returns-in_ok-make_room-in-None-clause-gathered
-returns-in_ok-make_room-in-None-clause-gathered c =
+pub returns-clause-gathered : goal.returns-clause-gathered
+returns-clause-gathered c =
     let s = c.args.self.now.forest.now in
     let b = c.args.self.now.board.now in
     let can : CanClaim s (by_columns c.args.self.now.share.now) c.args.row c.args.col c.args.root (not c.is_matched-free.result) = record {
@@ -72,28 +52,18 @@ returns-in_ok-make_room-in-None-clause-gathered c =
     let row : c.args.row < length b.rows = subst (λ n. c.args.row < n) (sym c.requires.search.rows) c.requires.entry.0 in
     let root : c.args.root < length b.roots = subst (λ n. c.args.root < n) (sym c.requires.search.roots) c.requires.in_range in
     subst (λ (l : List Candidate). HasGathered s b c.args.self.now.share.now c.make_room.new.worker l) (sym c.push.ensures.items)
-    (gathered_more s b c.args.self.now.share.now c.make_room.new.worker c.make_room.new.candidates.items (record { row = c.args.row; col = c.args.col; root = c.args.root; free = not c.is_matched-free.result }) can (row, root) c.in_ok-make_room-in-None.ensures.gathered)
+    (gathered_more s b c.args.self.now.share.now c.make_room.new.worker c.make_room.new.candidates.items (record { row = c.args.row; col = c.args.col; root = c.args.root; free = not c.is_matched-free.result }) can (row, root) c.in_ok-make_room.ensures.gathered)
 
-pub returns-in_ok-make_room-in-None-clause-stays :
-    goal.returns-in_ok-make_room-in-None-clause-stays
-returns-in_ok-make_room-in-None-clause-stays c =
+pub returns-clause-stays : goal.returns-clause-stays
+returns-clause-stays c =
     let s = c.args.self.now.forest.now in
     let own = by_columns c.args.self.now.share.now in
-    let e : c.look_row.new.self ≡ work_after_look c.args.worker.now (row_word c.args.row None) = search rules in
-    let look : Progress s own c.args.worker.now c.look_row.new.self = subst (λ w. Progress s own c.args.worker.now w) (sym e) (c.steps_are_progress.ensures.look s own c.args.worker.now (row_word c.args.row None)) in
-    let seen = stays_known c.args.worker.now c.look_row.new.self c.args.candidates.now.items
-    (λ r. c.steps_are_remembered.ensures.holder s own c.args.worker.now c.look_row.new.self r look)
-    (λ x. c.steps_are_remembered.ensures.leaf s own c.args.worker.now c.look_row.new.self x look) in
-    let more : StaysCovered c.make_room.new.worker c.make_room.new.candidates.items c.make_room.new.worker c.push.new.self.items =
-    subst (λ (l : List Candidate). StaysCovered c.make_room.new.worker c.make_room.new.candidates.items c.make_room.new.worker l) (sym c.push.ensures.items) (stays_more c.make_room.new.worker c.make_room.new.candidates.items (record { row = c.args.row; col = c.args.col; root = c.args.root; free = not c.is_matched-free.result })) in
-    λ row root covered. more row root (c.in_ok-make_room-in-None.ensures.stays row root (seen row root covered))
+    let w = c.make_room.new.worker in
+    let xs = c.make_room.new.candidates.items in
+    let more : StaysCovered w xs w c.push.new.self.items = subst (λ (l : List Candidate). StaysCovered w xs w l) (sym c.push.ensures.items) (stays_more w xs (record { row = c.args.row; col = c.args.col; root = c.args.root; free = not c.is_matched-free.result })) in
+    λ row root covered. more row root (c.in_ok-make_room.ensures.stays row root (c.steps_are_remembered.ensures.covered s own _ _ _ row root (c.finds_holder.ensures.progress s own) covered))
 
-pub returns-in_ok-make_room-in-None-clause-row : goal.returns-in_ok-make_room-in-None-clause-row
-returns-in_ok-make_room-in-None-clause-row c =
+pub returns-clause-row : goal.returns-clause-row
+returns-clause-row c =
     subst (λ (l : List Candidate). IsCovered c.make_room.new.worker l c.args.row c.args.root) (sym c.push.ensures.items)
     (covered_last c.make_room.new.worker c.make_room.new.candidates.items (record { row = c.args.row; col = c.args.col; root = c.args.root; free = not c.is_matched-free.result }))
-
-pub returns-in-Some-clause-row : goal.returns-in-Some-clause-row
-returns-in-Some-clause-row c =
-    let e : c.look_row.new.self ≡ work_after_look c.args.worker.now (row_word c.args.row (Some c.in-Some.field-0)) = search rules in
-    inl (inl (subst (λ w. KnowsHolder w c.args.row) (sym e) (c.steps_are_remembered.ensures.look_row c.args.worker.now c.args.row c.in-Some.field-0)))
