@@ -1,3 +1,4 @@
 pub mod Flat
 pub mod Numbered
 pub mod SeatNumbers
+pub mod WordCodes

@@ -1,2 +1,3 @@
 pub mod Seat
 pub mod View
+pub mod WordCodes

@@ -1,11 +1,12 @@
 -- A seat and the board that it is of.
 use Rattle.std.proofs.Common.{◌≡◌, ◌∙◌, ℕ, ◌+◌, ◌<◌, ◌≤◌, Option, None, Some, List, length, option_map, refl, sym, ap, subst, subst₂, arith}
 use Rattle.atomic_table.specs.Seated.{TableId}
+use Rattle.bip_defs.specs.WordValues.{value_of}
 use Rattle.claim_words.specs.Board.{Board}
 use Rattle.claim_words.specs.WordCodes.{roots_in, rows_in}
 use Rattle.claim_words.specs.Rule.{Known}
 use Rattle.claim_words.specs.Seat.{Seat}
-use Rattle.claim_words.proofs.WordCodes.{root_below, rows_long}
+use Rattle.board_seats.proofs.WordCodes.{firsts_long, rest_below}
 use Rattle.claim_words.specs.Stored.{IsLaid, board_in, shown}
 
 -- A seat of a board is of the board's table, and knows what the words held when it was opened
@@ -33,10 +34,10 @@ root_in_range id rows opened b root board lt = subst (λ (d : Board). root < len
 
 -- the word of a root stands behind those of the rows
 pub root_at : (fact rows : ℕ) (opened : List ℕ) (known : List (Option ℕ)) (x root : ℕ) → fact ≡ rows → 1 + fact ≤ length opened → known ≡ rows_in fact opened → x ≡ root → 1 + rows + x ≡ 1 + length known + root
-root_at fact rows opened known x root is there same e = let many = ap length same ∙ rows_long fact opened there in omega (arith, many, is, e)
+root_at fact rows opened known x root is there same e = let many = ap length same ∙ firsts_long fact opened there in omega (arith, many, is, e)
 
 pub root_word_below : (id : TableId) (fact rows root : ℕ) (opened : List ℕ) → IsLaid id rows fact opened → root < length (roots_in fact opened) → 1 + rows + root < id.words
-root_word_below id fact rows root opened a lt = subst₂ (λ m i. 1 + m + root < i) a.rows_known (sym a.all) (root_below fact opened root lt)
+root_word_below id fact rows root opened a lt = subst₂ (λ m i. 1 + m + root < i) a.rows_known (sym a.all) (rest_below value_of fact opened root lt)
 
 -- a row or a column is its number
 pub numbered : (o : Option ℕ) → option_map (λ (x : ℕ). x) o ≡ o

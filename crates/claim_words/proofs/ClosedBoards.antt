@@ -12,7 +12,7 @@ use Rattle.claim_words.specs.Rule.{Kept, Known, known, listed_by}
 use Rattle.claim_words.specs.Seat.{Seat, first_seat, gathered}
 use Rattle.claim_words.specs.Settles.{Settles, SettlesAll}
 use Rattle.claim_words.specs.Stored.{IsLeft, IsOpen, shown}
-use Rattle.claim_words.proofs.WordCodes.{root_read, row_read}
+use Rattle.board_seats.proofs.WordCodes.{first_read, rest_read}
 use Rattle.claim_words.proofs.GatherLemmas.{settles_gathered, settles_permuted}
 use Rattle.claim_words.proofs.SettledWords.{alone}
 
@@ -28,11 +28,11 @@ found_fits ws i w fits at = subst (λ x. x ≤ 4294967296) (found ws i w at) (fi
 
 pub row_held : (n : ℕ) (ws : List ℕ) (now : Words) (x row w : ℕ) → decoded n ws ≡ now → row < length now.rows → x ≡ row → get_elem? ws (1 + x) ≡ some w → value_of w ≡ held now.rows row
 row_held n ws now x row w view lt e at = subst (λ (m : Words). row < length m.rows → value_of w ≡ held m.rows row) view
-    (λ lt'. sym (row_read n ws row lt' ∙ ap value_of (found ws (1 + row) w (subst (λ r. get_elem? ws (1 + r) ≡ some w) e at)))) lt
+    (λ lt'. sym (first_read n ws row lt' ∙ ap value_of (found ws (1 + row) w (subst (λ r. get_elem? ws (1 + r) ≡ some w) e at)))) lt
 
 pub root_held : (n : ℕ) (ws : List ℕ) (now : Words) (x root w : ℕ) → decoded n ws ≡ now → root < length now.roots → x ≡ root → get_elem? ws (1 + n + x) ≡ some w → value_of w ≡ held now.roots root
 root_held n ws now x root w view lt e at = subst (λ (m : Words). root < length m.roots → value_of w ≡ held m.roots root) view
-    (λ lt'. sym (root_read n ws root lt' ∙ ap value_of (found ws (1 + n + root) w (subst (λ r. get_elem? ws (1 + n + r) ≡ some w) e at)))) lt
+    (λ lt'. sym (rest_read value_of n ws root lt' ∙ ap value_of (found ws (1 + n + root) w (subst (λ r. get_elem? ws (1 + n + r) ≡ some w) e at)))) lt
 
 -- What the last seat is told.
 

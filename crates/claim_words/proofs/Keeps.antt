@@ -14,7 +14,7 @@ use Rattle.claim_words.specs.Listed.{Listed, Sight, all_listed, claimed, looked,
 use Rattle.claim_words.specs.Rule.{Kept, Known, listed_by}
 use Rattle.claim_words.specs.Settles.{Settles, Stands}
 use Rattle.claim_words.specs.Steps.{KnewRoot, KnewRow, knowing}
-use Rattle.claim_words.proofs.WordCodes.{root_read, roots_root, roots_row, row_below, row_read, rows_root, rows_row}
+use Rattle.board_seats.proofs.WordCodes.{first_below, first_read, firsts_first, firsts_rest, rest_first, rest_read, rest_rest}
 use Rattle.board_seats.proofs.Flat.{among_flat}
 use Rattle.board_seats.proofs.SeatNumbers.{seated_step}
 use Rattle.claim_words.proofs.SettledWords.{settles_claim, settles_look, settles_win}
@@ -51,15 +51,15 @@ module _ {S : Type 0} (n : ℕ) (opened : List ℕ) (s : State S (Option Known))
       → Kept n opened (with_words s (set s.words (1 + row) (1 + col)) (set s.views id (knowing k (claimed k.listed row col None))))
   kept_claim row col lt le empty =
       let within = row_within row lt in
-      let below = row_below n s.words row within in
+      let below = first_below n s.words row within in
       record {
         spare = get_or-set_other s.words (1 + row) 0 (1 + col) 0 (λ e. omega arith) ∙ kept.spare;
         as_many = length-set s.words (1 + row) (1 + col) ∙ kept.as_many;
         fits = fits_set s.words (1 + row) (1 + col) kept.fits le;
         seats = seated_step kept.seats id k at (claimed k.listed row col None);
         settles = ruled (set s.words (1 + row) (1 + col)) (record { rows = set (rows_in n s.words) row (Some col); roots = roots_in n s.words }) (claimed k.listed row col None)
-            (λ i. record { rows = (ap (set (rows_in n s.words) row) (sym (value_there col)) ∙ sym (rows_row n s.words row (1 + col) below.0)) i; roots = sym (roots_row n s.words row (1 + col) below.0) i })
-            (settles_claim (map listed_by s.views) kept.settles id k.listed listed_at row col within (row_read n s.words row within ∙ ap value_of empty));
+            (λ i. record { rows = (ap (set (rows_in n s.words) row) (sym (value_there col)) ∙ sym (firsts_first n s.words row (1 + col) below.0)) i; roots = sym (rest_first value_of n s.words row (1 + col) below.0) i })
+            (settles_claim (map listed_by s.views) kept.settles id k.listed listed_at row col within (first_read n s.words row within ∙ ap value_of empty));
       }
 
   pub kept_win : (root leaf : ℕ) → root < length k.opened.roots → 1 + leaf ≤ 4294967296 → slice_index s.words (1 + n + root) ≡ 0
@@ -72,8 +72,8 @@ module _ {S : Type 0} (n : ℕ) (opened : List ℕ) (s : State S (Option Known))
         fits = fits_set s.words (1 + n + root) (1 + leaf) kept.fits le;
         seats = seated_step kept.seats id k at (won k.listed root leaf None);
         settles = ruled (set s.words (1 + n + root) (1 + leaf)) (record { rows = rows_in n s.words; roots = set (roots_in n s.words) root (Some leaf) }) (won k.listed root leaf None)
-            (λ i. record { rows = sym (rows_root n s.words root (1 + leaf)) i; roots = (ap (set (roots_in n s.words) root) (sym (value_there leaf)) ∙ sym (roots_root n s.words root (1 + leaf))) i })
-            (settles_win (map listed_by s.views) kept.settles id k.listed listed_at root leaf within (root_read n s.words root within ∙ ap value_of empty));
+            (λ i. record { rows = sym (firsts_rest n s.words root (1 + leaf)) i; roots = (ap (set (roots_in n s.words) root) (sym (value_there leaf)) ∙ sym (rest_rest value_of n s.words root (1 + leaf))) i })
+            (settles_win (map listed_by s.views) kept.settles id k.listed listed_at root leaf within (rest_read value_of n s.words root within ∙ ap value_of empty));
       }
 
   pub kept_look : (sight : Sight) → Stands (decoded n s.words) sight → Kept n opened (with_words s s.words (set s.views id (knowing k (looked k.listed sight))))
@@ -88,14 +88,14 @@ module _ {S : Type 0} (n : ℕ) (opened : List ℕ) (s : State S (Option Known))
   -- a value that the seat knew is what stands in the word
 
   pub row_stands : (row x : ℕ) → row < length k.opened.rows → KnewRow k row x → value_of (slice_index s.words (1 + row)) ≡ Some x
-  row_stands row x lt knew = sym (row_read n s.words row (row_within row lt)) ∙ ⊎_elim
+  row_stands row x lt knew = sym (first_read n s.words row (row_within row lt)) ∙ ⊎_elim
       (λ (e : held k.opened.rows row ≡ Some x). kept.settles.claims.stays row x (subst (λ rows. held rows row ≡ Some x) (ap (λ (o : Words). o.rows) (kept.seats.opened id k at)) e))
       (λ t. ⊎_elim
       (λ (h : Among (row, x) k.listed.claims). kept.settles.claims.stands row x (among_flat (λ (l : Listed). l.claims) (map listed_by s.views) id k.listed (row, x) listed_at h))
       (λ (h : Among (row_word row (Some x)) k.listed.seen). kept.settles.seen (row_word row (Some x)) (among_flat (λ (l : Listed). l.seen) (map listed_by s.views) id k.listed (row_word row (Some x)) listed_at h)) t) knew
 
   pub root_stands : (root x : ℕ) → root < length k.opened.roots → KnewRoot k root x → value_of (slice_index s.words (1 + n + root)) ≡ Some x
-  root_stands root x lt knew = sym (root_read n s.words root (root_within root lt)) ∙ ⊎_elim
+  root_stands root x lt knew = sym (rest_read value_of n s.words root (root_within root lt)) ∙ ⊎_elim
       (λ (e : held k.opened.roots root ≡ Some x). kept.settles.wins.stays root x (subst (λ roots. held roots root ≡ Some x) (ap (λ (o : Words). o.roots) (kept.seats.opened id k at)) e))
       (λ t. ⊎_elim
       (λ (h : Among (root, x) k.listed.wins). kept.settles.wins.stands root x (among_flat (λ (l : Listed). l.wins) (map listed_by s.views) id k.listed (root, x) listed_at h))
@@ -105,8 +105,8 @@ module _ {S : Type 0} (n : ℕ) (opened : List ℕ) (s : State S (Option Known))
 
 pub row_sight : (n : ℕ) (words : List ℕ) (row : ℕ) (x : ℕ) → row < length (rows_in n words) → slice_index words (1 + row) ≡ x → Stands (decoded n words) (row_word row (value_of x))
 row_sight n words row zero lt e = tt
-row_sight n words row (suc x) lt e = row_read n words row lt ∙ ap value_of e
+row_sight n words row (suc x) lt e = first_read n words row lt ∙ ap value_of e
 
 pub root_sight : (n : ℕ) (words : List ℕ) (root : ℕ) (x : ℕ) → root < length (roots_in n words) → slice_index words (1 + n + root) ≡ x → Stands (decoded n words) (root_word root (value_of x))
 root_sight n words root zero lt e = tt
-root_sight n words root (suc x) lt e = root_read n words root lt ∙ ap value_of e
+root_sight n words root (suc x) lt e = rest_read value_of n words root lt ∙ ap value_of e

@@ -15,7 +15,7 @@ use Rattle.claim_words.specs.Rule.{Kept, Known, known, listed_by}
 use Rattle.claim_words.specs.Settles.{Settles}
 use Rattle.claim_words.specs.Steps.{KnewRoot, KnewRow, Tells, TellsAll, TellsClaim, TellsRoot, TellsRow, TellsWin, counting_more, joined, knowing, newcomer}
 use Rattle.claim_words.specs.Stored.{IsOpen}
-use Rattle.claim_words.proofs.WordCodes.{rows_long}
+use Rattle.board_seats.proofs.WordCodes.{firsts_long}
 use Rattle.claim_words.proofs.Keeps.{kept_claim, kept_look, kept_win, root_sight, root_stands, root_within, row_sight, row_stands, row_within, with_words}
 use Rattle.claim_words.proofs.SettledWords.{alone}
 use Rattle.board_seats.proofs.SeatNumbers.{known_same, seated_fewer, seated_more}
@@ -78,7 +78,7 @@ module _ {S : Type 0} (n : ℕ) (opened : List ℕ) (slots id : ℕ) (me : Me S 
 
   -- the rows are as many as the board has
   rows_are : (s : State S (Option Known)) → Kept n opened s → get_elem? s.views id ≡ some me.0 → 1 + n ≤ length opened → (k : Known) → me.0 ≡ Some k → length k.opened.rows ≡ n
-  rows_are s kept at le k same = ap length (ap (λ (o : Words). o.rows) (kept.seats.opened id k (at ∙ ap some same))) ∙ rows_long n opened le
+  rows_are s kept at le k same = ap length (ap (λ (o : Words). o.rows) (kept.seats.opened id k (at ∙ ap some same))) ∙ firsts_long n opened le
 
   allows_win : (root leaf : ℕ) → root < length (known me.0).opened.roots → leaf < 4294967296 → 1 + n ≤ length opened
       → Allows (Kept n opened) slots id me (1 + n + root) (λ x. either (x == 0) (1 + leaf) x) (TellsWin (step slots (1 + n + root) 0 (1 + leaf) none) me)

@@ -1,7 +1,8 @@
 -- How a board's words are kept: the spare word first, then the words of the rows, then those of the
 -- roots. A word is 0 where it is empty, and else 1 more than its value.
-use Rattle.std.specs.Prelude.{ℕ, ◌+◌, List, Option, None, Some, map, take, drop, ◌≤◌, ◌∷◌, ◌++◌, slice_index}
+use Rattle.std.specs.Prelude.{ℕ, ◌+◌, List, Option, None, Some, map, ◌≤◌, ◌∷◌, ◌++◌, slice_index}
 use Rattle.bip_defs.specs.WordValues.{value_of}
+use Rattle.board_seats.specs.WordCodes.{firsts_in, rest_in}
 use Rattle.claim_words.specs.Board.{Words}
 
 -- the word that holds a value, which has this number
@@ -18,10 +19,10 @@ abbrev pub AllFit : List ℕ → Type 0
 AllFit words = (i : ℕ) → slice_index words i ≤ 4294967296
 
 abbrev pub rows_in : ℕ → List ℕ → List (Option ℕ)
-rows_in rows words = map value_of (take rows (drop 1 words))
+rows_in = firsts_in
 
 abbrev pub roots_in : ℕ → List ℕ → List (Option ℕ)
-roots_in rows words = map value_of (drop (1 + rows) words)
+roots_in = rest_in value_of
 
 -- what the words hold, of which so many are the rows'
 abbrev pub decoded : ℕ → List ℕ → Words

@@ -7,7 +7,8 @@ use Rattle.flip_words.specs.Board.{Board}
 use Rattle.flip_words.specs.Rule.{IsOfTaken, Known, Opened, opened_in}
 use Rattle.flip_words.specs.Seat.{HasSet, Seat, TookTreeOf}
 use Rattle.flip_words.specs.Stored.{IsLaid, IsOpen, board_in, shown}
-use Rattle.flip_words.proofs.WordCodes.{vertices_long}
+use Rattle.flip_words.specs.WordCodes.{mate_of}
+use Rattle.board_seats.proofs.WordCodes.{rest_long}
 
 -- A seat of a board is of the board's table, and knows what the board was opened with
 pub record IsOf (table id : TableId) (k : Known) (o : Opened) : Type 0 where
@@ -32,7 +33,7 @@ pub taker_place : {id : TableId} {rows cols known_rows known_cols : ℕ} {opened
 taker_place laid root lt = omega (arith, laid.all, laid.many)
 
 pub vertex_place : {id : TableId} {rows cols known_rows known_cols : ℕ} {opened : List ℕ} → IsLaid id rows cols known_rows known_cols opened → (v : ℕ) → v < length (opened_in known_rows known_cols opened).mates → 1 + cols + v < id.words
-vertex_place {known_cols = known_cols} {opened = opened} laid v lt = omega (arith, laid.all, laid.many, laid.cols_known, lt, vertices_long known_cols opened)
+vertex_place {known_cols = known_cols} {opened = opened} laid v lt = omega (arith, laid.all, laid.many, laid.cols_known, lt, rest_long mate_of known_cols opened)
 
 -- the seat knows where the word is
 pub vertex_word_is : {table id : TableId} {k : Known} {o : Opened} {cols : ℕ} → IsOf table id k o → o.cols ≡ cols → (v : ℕ) → 1 + cols + v ≡ 1 + k.opened.cols + v

@@ -21,7 +21,7 @@ use Rattle.flip_words.specs.ClosedBoards.{gathered, SettlesAll}
 use Rattle.flip_words.specs.Seat.{AreNumbered, IsRightful, Seat, first_seat, lists_of}
 use Rattle.flip_words.specs.Stored.{AreLeft, AreSized, board_in}
 use Rattle.flip_words.proofs.AccountLemmas.{sets_moved, takes_moved}
-use Rattle.flip_words.proofs.WordCodes.{mate_read, vertices_long}
+use Rattle.board_seats.proofs.WordCodes.{rest_long, rest_read}
 use Rattle.board_seats.proofs.Flat.{among_turned, times_turned}
 use Rattle.board_seats.proofs.Numbered.{among_moved_seats, flat_last, numbered_last, times_moved_seats}
 use Rattle.board_seats.proofs.SeatNumbers.{only_flat, only_seat}
@@ -88,11 +88,11 @@ found_at (x ∷ ws) zero w d e = some-injective x w e
 found_at (x ∷ ws) (suc i) w d e = found_at ws i w d e
 
 mate_found : (cols : ℕ) (ws : List ℕ) (v word : ℕ) → v < length (mates_in cols ws) → get_elem? ws (1 + cols + v) ≡ some word → held (mates_in cols ws) v ≡ mate_of word
-mate_found cols ws v word lt e = mate_read cols ws v lt ∙ ap mate_of (found_at ws (1 + cols + v) word 0 e)
+mate_found cols ws v word lt e = rest_read mate_of cols ws v lt ∙ ap mate_of (found_at ws (1 + cols + v) word 0 e)
 
 module _ (rows cols : ℕ) (ws : List ℕ) (many : length ws ≡ 1 + cols + (rows + cols)) where
   all_vertices : length (mates_in cols ws) ≡ rows + cols
-  all_vertices = vertices_long cols ws ∙ (let e : length ws - (1 + cols) ≡ rows + cols = omega (arith, many) in e)
+  all_vertices = rest_long mate_of cols ws ∙ (let e : length ws - (1 + cols) ≡ rows + cols = omega (arith, many) in e)
 
   pub row_more : (mates : List (Option ℕ)) (r word : ℕ) (mate : Option ℕ) → length mates ≡ rows → r < rows → get_elem? ws (1 + cols + r) ≡ some word → mate ≡ mate_of word → take r mates ≡ take r (mates_in cols ws) → take (r + 1) (set mates r mate) ≡ take (r + 1) (mates_in cols ws)
   row_more mates r word mate long lt at is before =

@@ -17,7 +17,8 @@ use Rattle.flip_words.specs.Listed.{Listed, all_listed, followed_by, looked, put
 use Rattle.flip_words.specs.Rule.{IsOfTaken, Kept, Known, SetsItsOwn, listed_by}
 use Rattle.flip_words.specs.Steps.{knowing}
 use Rattle.flip_words.proofs.AccountLemmas.{sets_of, settles_look, settles_put, settles_seen, settles_take}
-use Rattle.flip_words.proofs.WordCodes.{mate_coded, mate_read, taker_below, taker_read, takers_put, takers_take, tree_coded, vertices_put, vertices_take}
+use Rattle.board_seats.proofs.WordCodes.{first_below, first_read, firsts_first, firsts_rest, rest_first, rest_read, rest_rest}
+use Rattle.flip_words.proofs.WordCodes.{mate_coded, tree_coded}
 use Rattle.board_seats.proofs.Flat.{among_flat, times_none, times_some, times_two}
 use Rattle.board_seats.proofs.SeatNumbers.{seated_step}
 
@@ -98,16 +99,16 @@ module _ {S : Type 0} (rows cols : ℕ) (opened : List ℕ) (s : State S (Option
         → Kept rows cols opened (with_words s (set s.words (1 + root) (1 + number)) (set s.views id (knowing k (took k.listed root number None))))
     kept_take root number lt le empty =
         let within = taker_within root lt in
-        let below = taker_below cols s.words root within in
+        let below = first_below cols s.words root within in
         record {
           spare = get_or-set_other s.words (1 + root) 0 (1 + number) 0 (λ e. omega arith) ∙ kept.spare;
           as_many = length-set s.words (1 + root) (1 + number) ∙ kept.as_many;
           fits = λ r r_lt. ⊎_elim (λ (e : r ≡ root). subst (λ n. n ≤ half) (sym (ap (λ i. get_or (set s.words (1 + root) (1 + number)) (1 + i) 0) e ∙ get_or-set_same s.words (1 + root) (1 + number) 0 below.1)) le) (λ ne. subst (λ n. n ≤ half) (sym (get_or-set_other s.words (1 + root) (1 + r) (1 + number) 0 (λ e. ne (omega arith)))) (kept.fits r r_lt)) (number_same r root);
-          trees = vertices_take tree_of cols s.words root (1 + number) lt ∙ kept.trees;
+          trees = rest_first tree_of cols s.words root (1 + number) lt ∙ kept.trees;
           seats = seated_step kept.seats id k at (took k.listed root number None);
           settles = ruled (set s.words (1 + root) (1 + number)) (set (takers_in cols s.words) root (Some number)) (mates_in cols s.words) (took k.listed root number None)
-              (ap (set (takers_in cols s.words) root) (sym (value_there number)) ∙ sym (takers_take cols s.words root (1 + number) lt)) (sym (vertices_take mate_of cols s.words root (1 + number) lt))
-              (settles_take (map listed_by s.views) kept.settles id k.listed listed_at root number within (taker_read cols s.words root within ∙ ap value_of empty));
+              (ap (set (takers_in cols s.words) root) (sym (value_there number)) ∙ sym (firsts_first cols s.words root (1 + number) lt)) (sym (rest_first mate_of cols s.words root (1 + number) lt))
+              (settles_take (map listed_by s.views) kept.settles id k.listed listed_at root number within (first_read cols s.words root within ∙ ap value_of empty));
           owners = owners_step (took k.listed root number None) (owns_took (trees_in cols opened) k.listed root number None (kept.owners id (Some k) at));
         }
 
@@ -125,7 +126,7 @@ module _ {S : Type 0} (rows cols : ℕ) (opened : List ℕ) (s : State S (Option
 
     pub kept_seen : (root number found : ℕ) → root < cols → slice_index s.words (1 + root) ≡ suc found → Kept rows cols opened (with_words s s.words (set s.views id (knowing k (took k.listed root number (Some found)))))
     kept_seen root number found lt e = kept_listed (took k.listed root number (Some found)) (owns_took (trees_in cols opened) k.listed root number (Some found) (kept.owners id (Some k) at))
-        (settles_seen (map listed_by s.views) kept.settles id k.listed listed_at root number found (taker_read cols s.words root (taker_within root lt) ∙ ap value_of e))
+        (settles_seen (map listed_by s.views) kept.settles id k.listed listed_at root number found (first_read cols s.words root (taker_within root lt) ∙ ap value_of e))
 
     pub kept_look : (v : ℕ) (mate : Option ℕ) → Kept rows cols opened (with_words s s.words (set s.views id (knowing k (looked k.listed v mate))))
     kept_look v mate = kept_listed (looked k.listed v mate) (kept.owners id (Some k) at) (settles_look (map listed_by s.views) kept.settles id k.listed listed_at v mate)
@@ -136,10 +137,10 @@ module _ {S : Type 0} (rows cols : ℕ) (opened : List ℕ) (s : State S (Option
       spare = get_or-set_other s.words (1 + cols + v) 0 (vertex_word (Some root) (Some mate)) 0 (λ e. omega arith) ∙ kept.spare;
       as_many = length-set s.words (1 + cols + v) (vertex_word (Some root) (Some mate)) ∙ kept.as_many;
       fits = λ r r_lt. subst (λ n. n ≤ half) (sym (get_or-set_other s.words (1 + cols + v) (1 + r) (vertex_word (Some root) (Some mate)) 0 (λ e. omega arith))) (kept.fits r r_lt);
-      trees = vertices_put tree_of cols s.words v (vertex_word (Some root) (Some mate)) ∙ (λ i. set (kept.trees i) v ((tree_coded (Some root) (Some mate) few ∙ sym tree) i)) ∙ set-get_or (trees_in cols opened) v None;
+      trees = rest_rest tree_of cols s.words v (vertex_word (Some root) (Some mate)) ∙ (λ i. set (kept.trees i) v ((tree_coded (Some root) (Some mate) few ∙ sym tree) i)) ∙ set-get_or (trees_in cols opened) v None;
       seats = seated_step kept.seats id k at (put k.listed v mate);
       settles = ruled (set s.words (1 + cols + v) (vertex_word (Some root) (Some mate))) (takers_in cols s.words) (set (mates_in cols s.words) v (Some mate)) (put k.listed v mate)
-          (sym (takers_put cols s.words v (vertex_word (Some root) (Some mate)))) (ap (set (mates_in cols s.words) v) (sym (mate_coded (Some root) (Some mate) few)) ∙ sym (vertices_put mate_of cols s.words v (vertex_word (Some root) (Some mate))))
+          (sym (firsts_rest cols s.words v (vertex_word (Some root) (Some mate)))) (ap (set (mates_in cols s.words) v) (sym (mate_coded (Some root) (Some mate) few)) ∙ sym (rest_rest mate_of cols s.words v (vertex_word (Some root) (Some mate))))
           (settles_put (map listed_by s.views) kept.settles id k.listed listed_at v mate (vertex_within v lt) (set_by_none v (root, number, tree, taken) unset));
       owners = owners_step (put k.listed v mate) (owns_put (trees_in cols opened) k.listed v mate (kept.owners id (Some k) at) (root, number, tree, taken));
     }
@@ -147,12 +148,12 @@ module _ {S : Type 0} (rows cols : ℕ) (opened : List ℕ) (s : State S (Option
     -- What is found where the seat knows it.
 
     pub taker_stands : (root number : ℕ) → root < cols → Among (root, number) k.listed.taken ⊎ Among (root, number) k.listed.seen → value_of (slice_index s.words (1 + root)) ≡ Some number
-    taker_stands root number lt knew = sym (taker_read cols s.words root (taker_within root lt)) ∙ ⊎_elim
+    taker_stands root number lt knew = sym (first_read cols s.words root (taker_within root lt)) ∙ ⊎_elim
         (λ (h : Among (root, number) k.listed.taken). kept.settles.takes.stands root number (among_flat (λ (l : Listed). l.taken) (map listed_by s.views) id k.listed (root, number) listed_at h))
         (λ (h : Among (root, number) k.listed.seen). kept.settles.seen root number (among_flat (λ (l : Listed). l.seen) (map listed_by s.views) id k.listed (root, number) listed_at h)) knew
 
     pub mate_stands : (v mate : ℕ) → v < length (mates_in cols opened) → Among (v, mate) k.listed.sets → mate_of (slice_index s.words (1 + cols + v)) ≡ Some mate
-    mate_stands v mate lt h = sym (mate_read cols s.words v (vertex_within v lt)) ∙ kept.settles.sets.stands v mate (among_flat sets_of (map listed_by s.views) id k.listed (v, mate) listed_at h)
+    mate_stands v mate lt h = sym (rest_read mate_of cols s.words v (vertex_within v lt)) ∙ kept.settles.sets.stands v mate (among_flat sets_of (map listed_by s.views) id k.listed (v, mate) listed_at h)
 
     pub mate_stays : (v : ℕ) → v < length (mates_in cols opened) → IsOfTaken (trees_in cols opened) k.listed v → ((x : ℕ) → ¬ Among (v, x) k.listed.sets) → mate_of (slice_index s.words (1 + cols + v)) ≡ held (mates_in cols opened) v
-    mate_stays v lt of unset = sym (mate_read cols s.words v (vertex_within v lt)) ∙ kept.settles.sets.stays v (set_by_none v of unset)
+    mate_stays v lt of unset = sym (rest_read mate_of cols s.words v (vertex_within v lt)) ∙ kept.settles.sets.stays v (set_by_none v of unset)

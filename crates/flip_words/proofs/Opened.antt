@@ -20,7 +20,7 @@ use Rattle.flip_words.specs.OpenedBoards.{AreLaid, AreOpening, IsMateIn}
 use Rattle.flip_words.specs.Rule.{Kept, SetsItsOwn, listed_by, opened_in, opener}
 use Rattle.flip_words.specs.Seat.{first_seat, more_seats, new_seat}
 use Rattle.flip_words.specs.Stored.{board_in}
-use Rattle.flip_words.proofs.WordCodes.{taker_read, takers_long}
+use Rattle.board_seats.proofs.WordCodes.{first_read, firsts_long}
 use Rattle.board_seats.proofs.Numbered.{more_last}
 use Rattle.board_seats.proofs.SeatNumbers.{only_view, seated_alone}
 
@@ -33,7 +33,7 @@ kept_opening rows cols words a = record {
   seats = seated_alone nothing (opened_in rows cols words);
   settles = record {
     takes = record {
-      as_many = takers_long cols words (omega (arith, a.as_many));
+      as_many = firsts_long cols words (omega (arith, a.as_many));
       stands = λ root number h. elim h [ ];
       once = λ root. sym (ap is_held (untaken root));
     };
@@ -48,8 +48,8 @@ kept_opening rows cols words a = record {
 
     untaken : (root : ℕ) → held (takers_in cols words) root ≡ None
     untaken root = ⊎_elim
-        (λ lt. taker_read cols words root (subst (λ n. root < n) (sym (takers_long cols words (omega (arith, a.as_many)))) lt) ∙ ap value_of (a.empty (1 + root) (omega arith)))
-        (λ le. get_or_past (takers_in cols words) root None (omega (arith, takers_long cols words (omega (arith, a.as_many))))) (below_or root cols)
+        (λ lt. first_read cols words root (subst (λ n. root < n) (sym (firsts_long cols words (omega (arith, a.as_many)))) lt) ∙ ap value_of (a.empty (1 + root) (omega arith)))
+        (λ le. get_or_past (takers_in cols words) root None (omega (arith, firsts_long cols words (omega (arith, a.as_many))))) (below_or root cols)
 
 -- Words that were laid are words with which a board may be opened.
 

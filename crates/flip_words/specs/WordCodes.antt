@@ -2,8 +2,9 @@
 -- the vertices. A tree's word is 0, or 1 more than the number of the seat that took the tree. A
 -- vertex's word has the tree in its upper half and the mate in its lower half, each 0 for none and
 -- else 1 more than its number.
-use Rattle.std.specs.Prelude.{ℕ, ◌+◌, ◌*◌, ◌/◌, ◌%◌, List, Option, None, Some, map, take, drop}
+use Rattle.std.specs.Prelude.{ℕ, ◌+◌, ◌*◌, ◌/◌, ◌%◌, List, Option, None, Some}
 use Rattle.bip_defs.specs.WordValues.{value_of}
+use Rattle.board_seats.specs.WordCodes.{firsts_in, rest_in}
 
 -- one more than the largest number of half a word
 abbrev pub half : ℕ
@@ -26,10 +27,10 @@ vertex_word tree mate = code_of tree * half + code_of mate
 -- Of the words of a board, of which so many are the trees'.
 
 abbrev pub takers_in : ℕ → List ℕ → List (Option ℕ)
-takers_in cols words = map value_of (take cols (drop 1 words))
+takers_in = firsts_in
 
 abbrev pub mates_in : ℕ → List ℕ → List (Option ℕ)
-mates_in cols words = map mate_of (drop (1 + cols) words)
+mates_in = rest_in mate_of
 
 abbrev pub trees_in : ℕ → List ℕ → List (Option ℕ)
-trees_in cols words = map tree_of (drop (1 + cols) words)
+trees_in = rest_in tree_of

@@ -174,7 +174,7 @@ impl FlipBoard {
         ensures trees { length self.now.trees ≡ self.now.rows + self.now.cols }
         ensures few { (self.now.rows < half) × (self.now.cols < half) }
     {
-        let _cols = self.cols;
+        prove!((self.rows as u64) < words::HALF && (self.cols as u64) < words::HALF);
     }
 
     /// Takes a tree, given by its root, unless a seat has taken it. No memory is taken and nothing

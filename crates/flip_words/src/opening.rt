@@ -52,8 +52,7 @@ pub(crate) fn lay_words(
     ensures { IfOk result
         (λ words. AreLaid matching.now (row_tree.now ++ col_tree.now) words.items) }
 {
-    // `size` tells the proof that rows and columns differ.
-    let _size = matching.size();
+    matching.is_matching();
     let rows = matching.rows();
     let cols = matching.cols();
     let mut words = Vec::with_capacity(alloc, 1 + rows as usize + 2 * cols as usize)?;

@@ -56,7 +56,7 @@ impl FlipSeat {
     pub fn is_rightful(&self)
         ensures { IsRightful self.now }
     {
-        let _number = self.number;
+        prove!(self.number == self.number());
     }
 
     // Its number, and that it counts 64 seats at most.

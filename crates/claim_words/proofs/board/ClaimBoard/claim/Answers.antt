@@ -2,7 +2,7 @@ use Rattle.std.proofs.Common.{◌∙◌, ◌+◌, ◌<◌, length, refl, sym, ap
 use Rattle.claim_words.specs.Answers.{col_before}
 use Rattle.claim_words.proofs.StepRules.{allows_claim}
 use Rattle.claim_words.proofs.Boards.{is_of, row_in_range}
-use Rattle.claim_words.proofs.WordCodes.{row_below}
+use Rattle.board_seats.proofs.WordCodes.{first_below}
 use Rattle.claim_words.proofs.Shown.{claim_answer, open_after}
 use Rattle.claim_words.proofs.board.ClaimBoard.claim.Goals as goal
 
@@ -11,7 +11,7 @@ compare_exchange-found-requires c =
     let of = is_of _ _ _ _ _ _ _ c.seat.view_is c.requires.seat c.self.view_is in
     let within = row_in_range _ _ _ _ _ c.self.view_is (subst (λ r. r < length c.args.self.now.rows) (sym c.number.ensures) c.requires.row) in (
       of.same_table,
-      subst (λ m. 1 + c.number.result < m) (sym c.self.invariant.all) (row_below _ _ _ within).1,
+      subst (λ m. 1 + c.number.result < m) (sym c.self.invariant.all) (first_below _ _ _ within).1,
       allows_claim _ _ _ _ _ c.seat.invariant.live _ _ (subst (λ rows. c.number.result < length rows) (sym of.same_rows) within) (omega arith),
     )
 

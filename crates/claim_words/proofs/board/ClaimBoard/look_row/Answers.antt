@@ -1,7 +1,7 @@
 use Rattle.std.proofs.Common.{◌∙◌, ◌+◌, ◌<◌, length, refl, sym, ap, subst}
 use Rattle.claim_words.proofs.StepRules.{allows_row}
 use Rattle.claim_words.proofs.Boards.{is_of, numbered, row_in_range}
-use Rattle.claim_words.proofs.WordCodes.{row_below}
+use Rattle.board_seats.proofs.WordCodes.{first_below}
 use Rattle.claim_words.proofs.Shown.{open_after, row_answer}
 use Rattle.claim_words.proofs.board.ClaimBoard.look_row.Goals as goal
 
@@ -10,7 +10,7 @@ load-found-requires c =
     let of = is_of _ _ _ _ _ _ _ c.seat.view_is c.requires.seat c.self.view_is in
     let within = row_in_range _ _ _ _ _ c.self.view_is (subst (λ r. r < length c.args.self.now.rows) (sym c.number.ensures) c.requires.row) in (
       of.same_table,
-      subst (λ m. 1 + c.number.result < m) (sym c.self.invariant.all) (row_below _ _ _ within).1,
+      subst (λ m. 1 + c.number.result < m) (sym c.self.invariant.all) (first_below _ _ _ within).1,
       allows_row _ _ _ _ _ c.seat.invariant.live _ (subst (λ rows. c.number.result < length rows) (sym of.same_rows) within),
     )
 
