@@ -1,14 +1,14 @@
 -- How many rows and columns of a forest are of each kind.
-use Rattle.std.proofs.Common.{◌≡◌, ◌∙◌, ◌⊎◌, ◌↔◌, ℕ, suc, ◌+◌, ◌-◌, ◌*◌, ◌<◌, ◌≤◌, Bool, true, IsTrue, List, [], ◌∷◌, ◌++◌, length, slice_index_or, take, refl, sym, ap, subst, inl, inr, ⊎_elim, arith, length-append}
+use Rattle.std.proofs.Common.{◌≡◌, ◌⊎◌, ℕ, suc, ◌+◌, ◌-◌, ◌<◌, ◌≤◌, List, [], ◌∷◌, ◌++◌, length, slice_index_or, take, refl, sym, ap, subst, inl, inr, ⊎_elim, arith, length-append}
 use Rattle.std.proofs.lemmas.List.{length-map, take_all, take_more}
-use Rattle.bip_defs.specs.Forest.{HasWon, InForest, IsRootOfRow, IsSettled, IsWon, RootOf, State, above, itself, roots_of}
+use Rattle.bip_defs.specs.Forest.{IsRootOfRow, IsSettled, IsWon, RootOf, State, above, itself, roots_of}
 use Rattle.bip_defs.specs.Lists.{Among, AreDistinct}
 use Rattle.bip_defs.specs.Matching.{cols_of, rows_of}
 use Rattle.bip_defs.specs.Matrix.{Place, cols, upto}
 use Rattle.bip_defs.specs.Once.{ListsOnce}
 use Rattle.bip_defs.proofs.Counts.{distinct_append}
 use Rattle.bip_defs.proofs.Full.{few_below}
-use Rattle.bip_defs.proofs.Sets.{among_either, among_last, among_left, among_right, beside, beside_lists, col_among, col_pair, distinct_last, entry_col, few_distinct, number_among, one_col, one_row, row_among, row_pair, upto_length, upto_lists}
+use Rattle.bip_defs.proofs.Sets.{among_either, among_last, among_left, among_right, beside, beside_lists, col_among, col_pair, distinct_last, entry_col, few_distinct, number_among, one_col, one_row, row_pair, upto_length, upto_lists}
 use Rattle.bip_defs.proofs.Triangular.{lists_once}
 use Rattle.forest_core.specs.Sound.{IsSound}
 use Rattle.tree_graft.specs.Counts.{IsCountOf, IsFreed, IsKept}

@@ -1,15 +1,15 @@
 -- Levels of a search: what is scanned after each, the columns of the next, and why there is a last.
-use Rattle.std.proofs.Common.{◌≡◌, ◌⊎◌, ◌∙◌, ◌==◌, ℕ, ◌+◌, ◌^◌, ◌<◌, ◌≤◌, true, false, true≢false, List, [], ◌∷◌, ◌++◌, length, refl, sym, ap, subst, inl, inr, ⊎_elim, arith, length-append}
+use Rattle.std.proofs.Common.{◌≡◌, ◌⊎◌, ◌∙◌, ◌==◌, ℕ, ◌+◌, ◌^◌, ◌<◌, ◌≤◌, true, false, true≢false, List, [], ◌∷◌, ◌++◌, length, sym, ap, subst, inl, inr, ⊎_elim, arith, length-append}
 use Rattle.std.proofs.lemmas.Bool.{eqb-true}
 use Rattle.std.proofs.lemmas.List.{map-append}
 use Rattle.bip_defs.specs.Lists.{Among, Lists}
 use Rattle.bip_defs.specs.Matching.{IsMatching, cols_of, rows_of}
 use Rattle.bip_defs.specs.Matrix.{IsEntry, Matrix, Place, cols}
 use Rattle.bip_defs.proofs.Full.{few_below}
-use Rattle.bip_defs.proofs.Sets.{among_either, among_last, among_left, among_right, distinct_last, entry_col, number_among, one_col, one_row, rising_distinct, row_among, row_pair}
+use Rattle.bip_defs.proofs.Sets.{among_either, among_last, among_left, among_right, distinct_last, entry_col, number_among, one_col, one_row, rising_distinct}
 use Rattle.bip_defs.specs.Forest.{HasWon, InForest, IsRootOfRow, IsWon, RootOf, State, above, roots_of}
 use Rattle.forest_core.specs.Events.{Grows}
-use Rattle.tree_graft.specs.Search.{AreMatesOf, IsFrontier, IsScanned, levels_left}
+use Rattle.tree_graft.specs.Search.{AreMatesOf, IsFrontier, IsGoneThrough, IsScanned, levels_left}
 use Rattle.tree_graft.proofs.SearchLemmas.{row_last, rows_had, rows_more}
 
 -- what is scanned stays scanned
@@ -33,10 +33,6 @@ unmatched_are_frontier s f none few k = record {
 
 -- A level: every column that was in the forest is scanned.
 
--- after a level from the frontier
-pub all_scanned : (s t : State) (f : List ℕ) → IsFrontier s f → Grows s t → ((c : ℕ) → Among c f → IsScanned t c) → (c : ℕ) → InForest s c → IsScanned t c
-all_scanned s t f k g scanned c i = ⊎_elim (λ h. scanned c h) (λ h. scanned_more s t g c h) (k.others c i)
-
 -- a column in the forest has a root, and one only
 abbrev pub HaveRoots : State → Type 0
 HaveRoots s = (c : ℕ) → InForest s c → (x : ℕ) × RootOf s.base s.claims x c
@@ -44,21 +40,16 @@ HaveRoots s = (c : ℕ) → InForest s c → (x : ℕ) × RootOf s.base s.claims
 abbrev pub HaveOneRoot : State → Type 0
 HaveOneRoot s = (x y c : ℕ) → RootOf s.base s.claims x c → RootOf s.base s.claims y c → x ≡ y
 
-still_claimed : (s t : State) → Grows s t → (r : ℕ) → Among r (rows_of s.claims) → Among r (rows_of t.claims)
-still_claimed s t g r h = let (d, i) = row_pair r s.claims h in row_among r d t.claims (g.claims (r, d) i)
-
 -- a column is scanned where each of its rows is claimed or its root has a leaf
 won_or_used_up : (t : State) → HaveOneRoot t → (x c : ℕ) → RootOf t.base t.claims x c → ((r : ℕ) → IsEntry t.matrix r c → Among r (rows_of t.claims) ⊎ HasWon t c) → IsScanned t c
 won_or_used_up t one x c w rows = ⊎_elim (λ l. inl (x, w, l)) (λ none. inr (λ r e. ⊎_elim (λ h. h) (λ (y, v, l). absurd (none (subst (λ z. Among z (roots_of t.leaves)) (one y x c v w) l))) (rows r e))) (number_among x (roots_of t.leaves))
 
--- after a level from all unclaimed rows
-pub all_attached : (s t : State) (free : List ℕ) → HaveRoots t → HaveOneRoot t → Grows s t → ((r : ℕ) → r < s.matrix.rows → ¬ Among r (rows_of s.claims) → Among r free) → ((r c : ℕ) → Among r free → IsEntry s.matrix r c → InForest s c → Among r (rows_of t.claims) ⊎ HasWon t c) → (c : ℕ) → InForest s c → IsScanned t c
-all_attached s t free some one g unclaimed attached c i = let (x, w) = some c (g.inside c i) in won_or_used_up t one x c w row
-  where
-    row : (r : ℕ) → IsEntry t.matrix r c → Among r (rows_of t.claims) ⊎ HasWon t c
-    row r e =
-        let here = subst (λ (a : Matrix). IsEntry a r c) g.matrix e in
-        ⊎_elim (λ h. inl (still_claimed s t g r h)) (λ n. attached r c (unclaimed r here.0 n) here i) (number_among r (rows_of s.claims))
+pub scanned_after : (s t : State) → HaveRoots t → HaveOneRoot t → Grows s t → (c : ℕ) → InForest s c → IsGoneThrough s t c → IsScanned t c
+scanned_after s t some one g c i (inl before) = scanned_more s t g c before
+scanned_after s t some one g c i (inr (inl now)) = now
+scanned_after s t some one g c i (inr (inr rows)) =
+    let (x, w) = some c (g.inside c i) in
+    won_or_used_up t one x c w (λ r e. rows r (subst (λ (a : Matrix). IsEntry a r c) g.matrix e))
 
 -- The next frontier.
 

@@ -1,17 +1,21 @@
 -- One level: the forest after it, and the board and the workers.
-use Rattle.std.proofs.Common.{◌≡◌, ◌∙◌, ◌-◌, ◌≤◌, ℕ, List, [], ◌∷◌, ◌++◌, length, take, drop, sym, ap, subst, arith, length-append}
+use Rattle.std.proofs.Common.{◌≡◌, ◌∙◌, ◌⊎◌, ◌-◌, ◌<◌, ◌≤◌, ◌^◌, ℕ, List, [], ◌∷◌, ◌++◌, length, take, drop, sym, ap, subst, arith, inl, inr, ⊎_elim, length-append, Result, Ok, Err, OnOk}
 use Rattle.std.proofs.Math.Seq.{drop-append_seam, take-length}
-use Rattle.bip_defs.specs.Matrix.{Place}
-use Rattle.bip_defs.specs.Forest.{IsSettled, State}
-use Rattle.sp_ids.specs.Events.{claims_then_wins, win_events}
-use Rattle.sp_ids.specs.declared.events.Event.{Event}
-use Rattle.sp_ids.specs.Limits.{max_workers}
-use Rattle.forest_core.specs.Events.{AreClaimsAndWins, Grows, Runs}
-use Rattle.claim_words.specs.Board.{Board}
+use Rattle.std.proofs.lemmas.List.{map-append}
+use Rattle.bip_defs.specs.Forest.{HasWon, InForest, IsSettled, IsWon, State}
+use Rattle.bip_defs.specs.Lists.{Among}
+use Rattle.bip_defs.specs.Matching.{IsMatching, rows_of}
+use Rattle.bip_defs.specs.Matrix.{IsEntry, Matrix, Place, cols}
+use Rattle.bip_defs.proofs.Sets.{among_left, number_among}
 use Rattle.claim_words.specs.WorkerState.{WorkerState, fresh_claims_of, fresh_wins_of}
+use Rattle.forest_core.specs.Events.{AreClaimsAndWins, Grows, Runs}
 use Rattle.level_sharing.specs.Agreement.{Agree}
 use Rattle.level_sharing.specs.Growth.{fresh_events, grown}
-use Rattle.tree_graft.specs.Search.{IsReadyForLevel}
+use Rattle.sp_ids.specs.Events.{claims_then_wins, win_events}
+use Rattle.sp_ids.specs.declared.events.Event.{Event}
+use Rattle.tree_graft.specs.Search.{AreMatesOf, IsAtNextLevel, IsDone, IsGoneThrough, IsReady}
+use Rattle.tree_graft.specs.declared.levels.Search.{Search}
+use Rattle.tree_graft.proofs.FrontierLemmas.{HaveOneRoot, HaveRoots, next_is_frontier, scanned_after}
 
 -- the law that claims and wins let a forest grow
 abbrev pub GrowByRuns : Type 0
@@ -29,20 +33,58 @@ are_claims_and_wins (p ∷ ps) wins = are_claims_and_wins ps wins
 pub level_grows : GrowByRuns → (s t : State) (ws : List WorkerState) → Runs s (fresh_events ws) (grown s ws) → t ≡ grown s ws → Grows s t
 level_grows grow s t ws runs e = subst (Grows s) (sym e) (grow s (grown s ws) (fresh_events ws) (are_claims_and_wins (fresh_claims_of ws) (fresh_wins_of ws)) runs)
 
--- the settled workers and the board agree with the forest after the level
-pub searched_on : (b : Board) (before ws vs : List WorkerState) (s t : State) → IsReadyForLevel b before s → t ≡ grown s ws → length vs ≤ max_workers → Agree b vs t.claims t.leaves → IsSettled (grown s ws) → IsReadyForLevel b vs t
-searched_on b before ws vs s t k e few agree done = subst (IsReadyForLevel b vs) (sym e) (record {
-  few = few;
-  small = k.small;
-  agree = subst (λ (u : State). Agree b vs u.claims u.leaves) e agree;
-  rows = k.rows;
-  roots = k.roots;
-  settled = done;
-})
-
 -- what was claimed since then
 pub last_claims : (xs ys before now : List Place) → before ≡ xs → now ≡ xs ++ ys → take (length now - length before) (drop (length before) now) ≡ ys
 last_claims xs ys before now e f = rw (e, f) (ap (λ n. take n (drop (length xs) (xs ++ ys))) count ∙ ap (λ (zs : List Place). take (length ys) zs) (drop-append_seam xs ys) ∙ take-length ys)
   where
     count : length (xs ++ ys) - length xs ≡ length ys
     count = omega (arith, length-append xs ys)
+
+-- two facts of one success
+pub on_ok_both : {A E P Q R : Type 0} (r : Result A E) → (P → Q → R) → OnOk r P → OnOk r Q → OnOk r R
+on_ok_both (Ok a) f p q = f p q
+on_ok_both (Err e) f p q = tt
+
+-- a level from all unclaimed rows went through each column
+pub through_rows : (s : State) (ws : List WorkerState) (free : List ℕ) → ((r : ℕ) → r < s.matrix.rows → ¬ Among r (rows_of s.claims) → Among r free)
+    → ((r c : ℕ) → Among r free → IsEntry s.matrix r c → InForest s c → Among r (rows_of (grown s ws).claims) ⊎ HasWon (grown s ws) c)
+    → (c : ℕ) → InForest s c → IsGoneThrough s (grown s ws) c
+through_rows s ws free unclaimed attached c i = inr (inr (λ r e. ⊎_elim
+    (λ h. inl (subst (Among r) (sym (map-append (λ (p : Place). p.0) s.claims (fresh_claims_of ws))) (among_left r (rows_of s.claims) (rows_of (fresh_claims_of ws)) h)))
+    (λ n. attached r c (unclaimed r e.0 n) e i)
+    (number_among r (rows_of s.claims))))
+
+-- what else is known of a forest that a level was made on
+pub record IsKnown (t : State) : Type 0 where
+  pub matching : IsMatching t.matrix t.base
+  pub within : length t.claims ≤ t.matrix.rows
+  pub some : HaveRoots t
+  pub one : HaveOneRoot t
+  pub won : (r : ℕ) → Among r (rows_of t.claims) → IsWon t r ⊎ (¬ IsWon t r)
+
+-- the level after one that is done, and made on the forest
+pub next_level : {m : Search} (ws us : List WorkerState) (s t : State) → IsDone m.board ws s → t ≡ grown s ws → Grows s t → m.workers.items ≡ us → length us ≡ length ws → Agree m.board us t.claims t.leaves
+    → IsKnown t → AreMatesOf t (fresh_claims_of ws) m.frontier.items → IsAtNextLevel s m t
+next_level {m = m} ws us s t done e g over many agree known mates = record {
+  level = record {
+    ready = subst (λ (vs : List WorkerState). IsReady m.board vs t) (sym over) (record {
+      sized = record {
+        few = let few = done.sized.few in omega (arith, few, many);
+        small = subst (λ (a : Matrix). (a.rows < 2 ^ 32) × (cols a < 2 ^ 32)) (sym g.matrix) done.sized.small;
+        rows = done.sized.rows ∙ sym (ap (λ (a : Matrix). a.rows) g.matrix);
+        roots = done.sized.roots ∙ sym (ap cols g.matrix);
+      };
+      agree = agree;
+      settled = subst IsSettled (sym e) done.settled;
+    });
+    frontier = next_is_frontier s t (fresh_claims_of ws) m.frontier.items known.matching known.won g claims few (λ c i. scanned_after s t known.some known.one g c i (subst (λ u. IsGoneThrough s u c) (sym e) (done.through c i))) mates;
+  };
+  more = let short = mates.few in let long = ap (λ (ps : List Place). length ps) claims ∙ length-append s.claims (fresh_claims_of ws) in omega (arith, short, long);
+  few = known.within;
+}
+  where
+    claims : t.claims ≡ s.claims ++ fresh_claims_of ws
+    claims = ap (λ (u : State). u.claims) e
+
+    few : length t.claims < 2 ^ 32
+    few = let within = known.within in let rows = ap (λ (a : Matrix). a.rows) g.matrix in let small = done.sized.small.0 in omega (arith, within, rows, small)

@@ -3,12 +3,14 @@ use Rattle.std.specs.Prelude.{◌≡◌, ◌⊎◌, ℕ, ◌+◌, ◌-◌, ◌�
 use Rattle.bip_defs.specs.Forest.{HasWon, InForest, IsSettled, IsUsedUp, IsWon, State}
 use Rattle.bip_defs.specs.Lists.{Among, AreDistinct}
 use Rattle.bip_defs.specs.Matching.{cols_of, rows_of}
-use Rattle.bip_defs.specs.Matrix.{Place, cols}
+use Rattle.bip_defs.specs.Matrix.{IsEntry, Place, cols}
 use Rattle.bip_defs.specs.Once.{ListsOnce}
 use Rattle.claim_words.specs.Board.{Board}
 use Rattle.claim_words.specs.WorkerState.{WorkerState}
-use Rattle.level_sharing.specs.Agreement.{Agree}
+use Rattle.level_sharing.specs.Agreement.{Agree, Shows}
+use Rattle.level_sharing.specs.Growth.{grown}
 use Rattle.sp_ids.specs.Limits.{max_workers}
+use Rattle.tree_graft.specs.declared.levels.Search.{Search}
 
 -- a column of the matrix without a base mate
 abbrev pub IsUnmatched : State → ℕ → Type 0
@@ -39,18 +41,43 @@ pub record AreMatesOf (s : State) (last : List Place) (columns : List ℕ) : Typ
   pub few : length columns ≤ length last
   pub mates : ListsOnce (IsMateOf s last) columns
 
--- a settled forest of 32-bit sizes, with a board and workers who agree with it
-pub record IsReadyForLevel (b : Board) (ws : List WorkerState) (s : State) : Type 0 where
+-- the board has a word for each row and each column of a matrix of 32-bit sizes, and there are 64
+-- workers at most
+pub record IsSized (b : Board) (ws : List WorkerState) (s : State) : Type 0 where
   pub few : length ws ≤ max_workers
   pub small : (s.matrix.rows < 2 ^ 32) × (cols s.matrix < 2 ^ 32)
-  pub agree : Agree b ws s.claims s.leaves
   pub rows : length b.rows ≡ s.matrix.rows
   pub roots : length b.roots ≡ cols s.matrix
+
+-- board and workers agree with a settled forest
+pub record IsReady (b : Board) (ws : List WorkerState) (s : State) : Type 0 where
+  pub sized : IsSized b ws s
+  pub agree : Agree b ws s.claims s.leaves
   pub settled : IsSettled s
 
--- the columns are no more than the rows that were claimed since then
-abbrev pub AreOfNewClaims : State → List ℕ → State → Type 0
-AreOfNewClaims s columns t = length s.claims + length columns ≤ length t.claims
+-- and the frontier is that of the next level
+pub record IsAtLevel (l : Search) (s : State) : Type 0 where
+  pub ready : IsReady l.board l.workers.items s
+  pub frontier : IsFrontier s l.frontier.items
+
+-- from the forest s on a level claimed a row at least for each column of the frontier that it left
+pub record IsAtNextLevel (s : State) (l : Search) (t : State) : Type 0 where
+  pub level : IsAtLevel l t
+  pub more : length s.claims + length l.frontier.items ≤ length t.claims
+  pub few : length t.claims ≤ t.matrix.rows
+
+-- the column was scanned before a level, or is after it, or each of its rows is claimed then, but
+-- where its root has a leaf
+abbrev pub IsGoneThrough : State → State → ℕ → Type 0
+IsGoneThrough s t c = IsScanned s c ⊎ (IsScanned t c
+    ⊎ ((r : ℕ) → IsEntry s.matrix r c → Among r (rows_of t.claims) ⊎ HasWon t c))
+
+-- the workers list a level that went through all columns in the forest, and the board shows it
+pub record IsDone (b : Board) (ws : List WorkerState) (s : State) : Type 0 where
+  pub sized : IsSized b ws s
+  pub shows : Shows b ws (grown s ws).claims (grown s ws).leaves
+  pub settled : IsSettled (grown s ws)
+  pub through : (c : ℕ) → InForest s c → IsGoneThrough s (grown s ws) c
 
 -- levels go on at most so long: each but the last claims a row
 abbrev pub levels_left : State → List ℕ → ℕ

@@ -6,13 +6,11 @@ ghost use Rattle.bip_defs.specs.Lists.{Among};
 ghost use Rattle.bip_defs.specs.Matching.{cols_of};
 ghost use Rattle.bip_defs.specs.Matrix.{IsEntry};
 ghost use Rattle.bip_graph.specs.Matching.{IsMatchingOf};
-ghost use Rattle.claim_words.specs.Board.{Board};
-ghost use Rattle.claim_words.specs.WorkerState.{AreAllWorkers, fresh_claims_of, seats_of};
+ghost use Rattle.claim_words.specs.WorkerState.{AreAllWorkers, seats_of};
 ghost use Rattle.forest_core.specs.Events.{Grows, Runs};
-ghost use Rattle.level_sharing.specs.Agreement.{Agree, Shows};
 ghost use Rattle.level_sharing.specs.Growth.{fresh_events, grown};
 ghost use Rattle.sp_ids.specs.Limits.{max_workers};
-ghost use Rattle.tree_graft.specs.Search.{AreMatesOf, AreOfNewClaims, IsFrontier, IsScanned, IsReadyForLevel};
+ghost use Rattle.tree_graft.specs.Search.{IsAtLevel, IsAtNextLevel, IsDone, IsReady, IsScanned};
 
 use crate::frontiers::{mates_of, unclaimed_rows, unmatched_columns};
 use crate::switches::goes_down_from;
@@ -67,178 +65,175 @@ pub fn grow<R: Threads + Sync, G: Gate>(
     ensures scanned { OnOk result ((c : ℕ) → InForest forest.new c → IsScanned forest.new c) }
 {
     claims_and_wins_grow();
-    let mut frontier = Vec::with_capacity(alloc, forest.pattern().cols() as usize)?;
-    let mut free = Vec::with_capacity(alloc, forest.pattern().rows() as usize)?;
-    let (board, mut list) = open(rt, alloc, forest, workers)?;
-    search(
-        rt,
-        forest,
-        &board,
-        list.as_mut_slice(),
-        &mut frontier,
-        &mut free,
-        gate,
-    )?;
-    close(alloc, board, list)
+    let mut search = Search::open(rt, alloc, forest, workers)?;
+    search.run(rt, forest, gate)?;
+    search.close(alloc)
 }
 
-// Levels, one after the other, until the frontier is empty.
-fn search<R: Threads + Sync, G: Gate>(
-    rt: &R,
-    forest: &mut Forest,
-    board: &ClaimBoard,
-    workers: &mut [Worker],
-    frontier: &mut Vec<Col>,
-    free: &mut Vec<Row>,
-    gate: &G,
-) -> Result<(), OutOfMemory>
-    requires { IsReadyForLevel board.now workers.old forest.old }
-    ensures grown { Grows forest.old forest.new }
-    ensures search { OnOk result (IsReadyForLevel board.entry.now workers.new forest.new) }
-    ensures scanned { OnOk result ((c : ℕ) → InForest forest.new c → IsScanned forest.new c) }
-{
-    claims_and_wins_grow();
-    claims_are_in_the_forest();
-    first_frontier(rt, forest, board, workers, frontier, free, gate)?;
-    while !frontier.as_slice().is_empty() {
-        level(rt, forest, board, workers, frontier, free, gate)?;
+/// The search of one phase: the workers and the board of words that they share, and the columns or
+/// the rows from which a level starts.
+#[derive(Drop)]
+pub(crate) struct Search {
+    pub board: ClaimBoard,
+    pub workers: Vec<Worker>,
+    pub frontier: Vec<Col>,
+    pub free: Vec<Row>,
+}
+
+impl Search {
+    // A search that has made no level yet, by so many workers.
+    fn open<R: Threads + Sync>(
+        rt: &R,
+        alloc: Global,
+        forest: &Forest,
+        workers: u32,
+    ) -> Result<Search, OutOfMemory>
+        requires workers { (1 ≤ workers) × (workers ≤ max_workers) }
+        requires settled { IsSettled forest.now }
+        ensures { IfOk result (λ search. IsReady search.board search.workers.items forest.now) }
+    {
+        let frontier = Vec::with_capacity(alloc, forest.pattern().cols() as usize)?;
+        let free = Vec::with_capacity(alloc, forest.pattern().rows() as usize)?;
         forest.is_sound();
+        let (board, workers) = open(rt, alloc, forest, workers)?;
+        Ok(Search {
+            board,
+            workers,
+            frontier,
+            free,
+        })
     }
-    Ok(())
-}
 
-// The first frontier: all columns without a base mate, or what the unclaimed rows bring where there
-// are trees already.
-fn first_frontier<R: Threads + Sync, G: Gate>(
-    rt: &R,
-    forest: &mut Forest,
-    board: &ClaimBoard,
-    workers: &mut [Worker],
-    frontier: &mut Vec<Col>,
-    free: &mut Vec<Row>,
-    gate: &G,
-) -> Result<(), OutOfMemory>
-    requires { IsReadyForLevel board.now workers.old forest.old }
-    ensures grown { Grows forest.old forest.new }
-    ensures search { OnOk result (IsReadyForLevel board.entry.now workers.new forest.new) }
-    ensures frontier { OnOk result (IsFrontier forest.new frontier.new.items) }
-{
-    claims_and_wins_grow();
-    if forest.claims().is_empty() {
-        unmatched_columns(forest, frontier)
-    } else {
-        level_up(rt, forest, board, workers, frontier, free, gate)
+    // Levels, one after the other, until the frontier is empty.
+    fn run<R: Threads + Sync, G: Gate>(
+        &mut self,
+        rt: &R,
+        forest: &mut Forest,
+        gate: &G,
+    ) -> Result<(), OutOfMemory>
+        requires { IsReady self.old.board self.old.workers.items forest.old }
+        ensures grown { Grows forest.old forest.new }
+        ensures ready { OnOk result
+            (IsReady self.new.board self.new.workers.items forest.new) }
+        ensures scanned { OnOk result ((c : ℕ) → InForest forest.new c → IsScanned forest.new c) }
+    {
+        claims_and_wins_grow();
+        self.first_frontier(rt, forest, gate)?;
+        while !self.frontier.as_slice().is_empty() {
+            self.level(rt, forest, gate)?;
+        }
+        Ok(())
     }
-}
 
-// One level, down or up.
-fn level<R: Threads + Sync, G: Gate>(
-    rt: &R,
-    forest: &mut Forest,
-    board: &ClaimBoard,
-    workers: &mut [Worker],
-    frontier: &mut Vec<Col>,
-    free: &mut Vec<Row>,
-    gate: &G,
-) -> Result<(), OutOfMemory>
-    requires search { IsReadyForLevel board.now workers.old forest.old }
-    requires frontier { IsFrontier forest.old frontier.old.items }
-    ensures grown { Grows forest.old forest.new }
-    ensures search { OnOk result (IsReadyForLevel board.entry.now workers.new forest.new) }
-    ensures frontier { OnOk result (IsFrontier forest.new frontier.new.items) }
-    ensures more { OnOk result (AreOfNewClaims forest.old frontier.new.items forest.new) }
-{
-    if goes_down_from(forest, frontier.as_slice()) {
-        level_down(rt, forest, board, workers, frontier, gate)
-    } else {
-        level_up(rt, forest, board, workers, frontier, free, gate)
+    // The first frontier: all columns without a base mate, or what the unclaimed rows bring where
+    // there are trees already.
+    fn first_frontier<R: Threads + Sync, G: Gate>(
+        &mut self,
+        rt: &R,
+        forest: &mut Forest,
+        gate: &G,
+    ) -> Result<(), OutOfMemory>
+        requires { IsReady self.old.board self.old.workers.items forest.old }
+        ensures grown { Grows forest.old forest.new }
+        ensures level { OnOk result (IsAtLevel self.new forest.new) }
+    {
+        claims_and_wins_grow();
+        if forest.claims().is_empty() {
+            unmatched_columns(forest, &mut self.frontier)
+        } else {
+            self.level_up(rt, forest, gate)
+        }
     }
-}
 
-// One level from the frontier down.
-fn level_down<R: Threads + Sync, G: Gate>(
-    rt: &R,
-    forest: &mut Forest,
-    board: &ClaimBoard,
-    workers: &mut [Worker],
-    frontier: &mut Vec<Col>,
-    gate: &G,
-) -> Result<(), OutOfMemory>
-    requires search { IsReadyForLevel board.now workers.old forest.old }
-    requires frontier { IsFrontier forest.old frontier.old.items }
-    ensures grown { Grows forest.old forest.new }
-    ensures search { OnOk result (IsReadyForLevel board.entry.now workers.new forest.new) }
-    ensures frontier { OnOk result (IsFrontier forest.new frontier.new.items) }
-    ensures more { OnOk result (AreOfNewClaims forest.old frontier.new.items forest.new) }
-{
-    claims_and_wins_grow();
-    claims_are_in_the_forest();
-    rows_have_one_root();
-    let done = top_down(rt, forest, board, frontier.as_slice(), workers, gate);
-    let next = end_level(forest, workers, frontier);
-    forest.is_sound();
-    done?;
-    next
-}
+    // One level, down or up.
+    fn level<R: Threads + Sync, G: Gate>(
+        &mut self,
+        rt: &R,
+        forest: &mut Forest,
+        gate: &G,
+    ) -> Result<(), OutOfMemory>
+        requires { IsAtLevel self.old forest.old }
+        ensures grown { Grows forest.old forest.new }
+        ensures next { OnOk result (IsAtNextLevel forest.old self.new forest.new) }
+    {
+        if goes_down_from(forest, self.frontier.as_slice()) {
+            self.level_down(rt, forest, gate)
+        } else {
+            self.level_up(rt, forest, gate)
+        }
+    }
 
-// One level from all unclaimed rows up.
-fn level_up<R: Threads + Sync, G: Gate>(
-    rt: &R,
-    forest: &mut Forest,
-    board: &ClaimBoard,
-    workers: &mut [Worker],
-    frontier: &mut Vec<Col>,
-    free: &mut Vec<Row>,
-    gate: &G,
-) -> Result<(), OutOfMemory>
-    requires { IsReadyForLevel board.now workers.old forest.old }
-    ensures grown { Grows forest.old forest.new }
-    ensures search { OnOk result (IsReadyForLevel board.entry.now workers.new forest.new) }
-    ensures frontier { OnOk result (IsFrontier forest.new frontier.new.items) }
-    ensures more { OnOk result (AreOfNewClaims forest.old frontier.new.items forest.new) }
-{
-    claims_and_wins_grow();
-    claims_are_in_the_forest();
-    columns_have_one_root();
-    rows_have_one_root();
-    unclaimed_rows(forest, free)?;
-    let done = attach(rt, forest, board, free.as_slice(), workers, gate);
-    let next = end_level(forest, workers, frontier);
-    forest.is_sound();
-    done?;
-    next
-}
+    // One level from the frontier down.
+    fn level_down<R: Threads + Sync, G: Gate>(
+        &mut self,
+        rt: &R,
+        forest: &mut Forest,
+        gate: &G,
+    ) -> Result<(), OutOfMemory>
+        requires { IsAtLevel self.old forest.old }
+        ensures grown { Grows forest.old forest.new }
+        ensures next { OnOk result (IsAtNextLevel forest.old self.new forest.new) }
+    {
+        let frontier = self.frontier.as_slice();
+        let workers = self.workers.as_mut_slice();
+        let done = top_down(rt, forest, &self.board, frontier, workers, gate);
+        self.end_level(forest, done)
+    }
 
-// Makes what the workers claimed and won in a level on the forest, and puts the base mates of the
-// rows that were claimed in place of the frontier, but for those whose root has a leaf.
-fn end_level(
-    forest: &mut Forest,
-    workers: &mut [Worker],
-    frontier: &mut Vec<Col>,
-) -> Result<(), OutOfMemory>
-    requires { Runs forest.old (fresh_events workers.old) (grown forest.old workers.old) }
-    ensures forest { forest.new ≡ grown forest.old workers.old }
-    ensures agree { (b : Board) → Shows b workers.old forest.new.claims forest.new.leaves
-        → Agree b workers.new forest.new.claims forest.new.leaves }
-    ensures mates { OnOk result (AreMatesOf forest.new
-        (fresh_claims_of workers.old) frontier.new.items) }
-{
-    let before = forest.claims().len();
-    absorb(forest, workers);
-    forest.is_sound();
-    claims_are_in_the_forest();
-    mates_of(forest, &forest.claims()[before..], frontier)
-}
+    // One level from all unclaimed rows up.
+    fn level_up<R: Threads + Sync, G: Gate>(
+        &mut self,
+        rt: &R,
+        forest: &mut Forest,
+        gate: &G,
+    ) -> Result<(), OutOfMemory>
+        requires { IsReady self.old.board self.old.workers.items forest.old }
+        ensures grown { Grows forest.old forest.new }
+        ensures next { OnOk result (IsAtNextLevel forest.old self.new forest.new) }
+    {
+        claims_and_wins_grow();
+        unclaimed_rows(forest, &mut self.free)?;
+        let free = self.free.as_slice();
+        let workers = self.workers.as_mut_slice();
+        let done = attach(rt, forest, &self.board, free, workers, gate);
+        self.end_level(forest, done)
+    }
 
-// Closes the board with the seats of all workers.
-fn close(alloc: Global, board: ClaimBoard, workers: Vec<Worker>) -> Result<(), OutOfMemory>
-    requires { AreAllWorkers board workers.items }
-{
-    let seats = seats_of_all(alloc, workers)?;
-    seats_in_order_are_all();
-    match board.close(seats) {
-        Ok(_words) => Ok(()),
-        Err(_back) => Err(OutOfMemory),
+    // Ends a level that is done, or ended early: makes what the workers claimed and won in it on
+    // the forest, and puts the base mates of the rows that were claimed in place of the frontier,
+    // but for those whose root has a leaf.
+    fn end_level(
+        &mut self,
+        forest: &mut Forest,
+        done: Result<(), OutOfMemory>,
+    ) -> Result<(), OutOfMemory>
+        requires legal { Runs forest.old (fresh_events self.old.workers.items)
+            (grown forest.old self.old.workers.items) }
+        requires done { OnOk done (IsDone self.old.board self.old.workers.items forest.old) }
+        ensures grown { Grows forest.old forest.new }
+        ensures next { OnOk result (IsAtNextLevel forest.old self.new forest.new) }
+    {
+        claims_and_wins_grow();
+        claims_are_in_the_forest();
+        columns_have_one_root();
+        rows_have_one_root();
+        let before = forest.claims().len();
+        absorb(forest, self.workers.as_mut_slice());
+        forest.is_sound();
+        done?;
+        mates_of(forest, &forest.claims()[before..], &mut self.frontier)
+    }
+
+    // Closes the board with the seats of all workers.
+    fn close(self, alloc: Global) -> Result<(), OutOfMemory>
+        requires { AreAllWorkers self.board self.workers.items }
+    {
+        let seats = seats_of_all(alloc, self.workers)?;
+        seats_in_order_are_all();
+        match self.board.close(seats) {
+            Ok(_words) => Ok(()),
+            Err(_back) => Err(OutOfMemory),
+        }
     }
 }
 

@@ -1,4 +1,4 @@
-use Rattle.std.proofs.Common.{◌≡◌, ◌∙◌, ◌<◌, length, slice_index_or, arith, subst, sym, true≢false}
+use Rattle.std.proofs.Common.{◌∙◌, ◌<◌, length, arith, subst, sym, true≢false}
 use Rattle.std.proofs.lemmas.List.{get_or_default}
 use Rattle.bip_defs.specs.Forest.{IsRootOfRow, roots_of}
 use Rattle.bip_defs.specs.Lists.{Among}

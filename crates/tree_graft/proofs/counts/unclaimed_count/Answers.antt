@@ -1,7 +1,5 @@
-use Rattle.std.proofs.Common.{◌∙◌, ◌-◌, ap, arith, subst, sym}
+use Rattle.std.proofs.Common.{ap, arith}
 use Rattle.bip_defs.specs.Matrix.{Matrix}
-use Rattle.tree_graft.specs.Counts.{IsCountOf}
-use Rattle.tree_graft.specs.Search.{IsUnclaimed}
 use Rattle.tree_graft.proofs.CountLemmas.{count_unclaimed}
 use Rattle.tree_graft.proofs.counts.unclaimed_count.Goals as goal
 

@@ -1,21 +1,24 @@
-use Rattle.std.proofs.Common.{◌∙◌, List, ap, subst, sym}
+use Rattle.std.proofs.Common.{◌≡◌, ◌∙◌, List, ap, length, rules, subst, sym}
 use Rattle.std.proofs.lemmas.Result.{on_ok_weaker}
+use Rattle.bip_defs.specs.Forest.{State}
 use Rattle.bip_defs.specs.Lists.{Among, AreDistinct}
 use Rattle.bip_defs.specs.Matching.{rows_of}
 use Rattle.bip_defs.specs.Matrix.{Place}
-use Rattle.bip_defs.specs.Forest.{State}
-use Rattle.claim_words.specs.WorkerState.{fresh_claims_of}
-use Rattle.tree_graft.specs.Search.{AreMatesOf}
-use Rattle.tree_graft.proofs.FrontierLemmas.{last_claimed}
-use Rattle.tree_graft.proofs.LevelLemmas.{last_claims}
+use Rattle.bip_defs.proofs.Sets.{written_over}
+use Rattle.claim_words.specs.WorkerState.{WorkerState, fresh_claims_of}
+use Rattle.level_sharing.specs.Agreement.{Shows}
+use Rattle.level_sharing.specs.Growth.{grown}
+use Rattle.tree_graft.specs.Search.{AreMatesOf, IsDone}
+use Rattle.tree_graft.proofs.FrontierLemmas.{last_claimed, won_or_not}
+use Rattle.tree_graft.proofs.LevelLemmas.{IsKnown, last_claims, level_grows, next_level}
 use Rattle.tree_graft.proofs.SearchLemmas.{last_differ}
-use Rattle.tree_graft.proofs.levels.end_level.Goals as goal
+use Rattle.tree_graft.proofs.levels.Search.end_level.Goals as goal
 
 pub mates_of-requires : goal.mates_of-requires
 mates_of-requires c =
     let s = c.args.forest.now in
-    let last = fresh_claims_of c.args.workers.now in
-    let claims = ap (λ (u : State). u.claims) c.absorb.ensures.forest in
+    let last = fresh_claims_of c.args.self.now.workers.items in
+    let claims = ap (λ (u : State). u.claims) (c.absorb.ensures.forest ∙ ap (grown s) c.as_mut_slice.ensures.value) in
     let since = last_claims s.claims last c.claims-before.result.now c.claims.result.now c.claims-before.ensures (c.claims.ensures ∙ claims) in
     let all = c.claims_are_in_the_forest.ensures.rows_differ c.absorb.new.forest c.is_sound.ensures in
     record {
@@ -23,10 +26,35 @@ mates_of-requires c =
       differ = subst (λ (ps : List Place). AreDistinct (rows_of ps)) (sym since) (last_differ s.claims last (subst (λ (ps : List Place). AreDistinct (rows_of ps)) claims all));
     }
 
-pub returns-clause-mates : goal.returns-clause-mates
-returns-clause-mates c =
+pub returns-in_err-done-clause-grown : goal.returns-in_err-done-clause-grown
+returns-in_err-done-clause-grown c = level_grows c.claims_and_wins_grow.ensures.runs c.args.forest.now c.absorb.new.forest c.args.self.now.workers.items c.requires.legal (c.absorb.ensures.forest ∙ ap (grown c.args.forest.now) c.as_mut_slice.ensures.value)
+
+pub returns-clause-grown : goal.returns-clause-grown
+returns-clause-grown c = level_grows c.claims_and_wins_grow.ensures.runs c.args.forest.now c.absorb.new.forest c.args.self.now.workers.items c.requires.legal (c.absorb.ensures.forest ∙ ap (grown c.args.forest.now) c.as_mut_slice.ensures.value)
+
+pub returns-clause-next : goal.returns-clause-next
+returns-clause-next c =
     let s = c.args.forest.now in
-    let last = fresh_claims_of c.args.workers.now in
-    let claims = ap (λ (u : State). u.claims) c.absorb.ensures.forest in
+    let t = c.absorb.new.forest in
+    let b = c.args.self.now.board in
+    let ws = c.args.self.now.workers.items in
+    let us = c.absorb.new.workers in
+    let last = fresh_claims_of ws in
+    let e : t ≡ grown s ws = c.absorb.ensures.forest ∙ ap (grown s) c.as_mut_slice.ensures.value in
+    let claims = ap (λ (u : State). u.claims) e in
     let since = last_claims s.claims last c.claims-before.result.now c.claims.result.now c.claims-before.ensures (c.claims.ensures ∙ claims) in
-    on_ok_weaker c.mates_of.result (λ mates. subst (λ (ps : List Place). AreMatesOf c.absorb.new.forest ps c.mates_of.new.columns.items) since mates) c.mates_of.ensures
+    let grows = level_grows c.claims_and_wins_grow.ensures.runs s t ws c.requires.legal e in
+    let sound = c.is_sound.ensures in
+    let done : IsDone b ws s = rw c.in_ok-done.was at c.requires.done in
+    let shows : Shows b c.as_mut_slice.result.now t.claims t.leaves = subst (λ (vs : List WorkerState). Shows b vs t.claims t.leaves) (sym c.as_mut_slice.ensures.value) (subst (λ (u : State). Shows b ws u.claims u.leaves) (sym e) done.shows) in
+    let long : c.args.self.now.workers.len ≡ length ws = search rules in
+    let many : length us ≡ length ws = c.absorb.auto.workers ∙ ap length c.as_mut_slice.ensures.value in
+    let over = written_over us ws c.args.self.now.workers.len many long in
+    let known : IsKnown t = record {
+      matching = sound.base;
+      within = c.claims_are_in_the_forest.ensures.few t sound;
+      some = λ x i. c.columns_have_one_root.ensures.some t x sound i;
+      one = λ x y z v w. c.columns_have_one_root.ensures.one t x y z sound v w;
+      won = won_or_not t (λ r h. c.rows_have_one_root.ensures.some t r sound h) (λ x y r v w. c.rows_have_one_root.ensures.one t x y r sound v w);
+    } in
+    on_ok_weaker c.mates_of.result (λ mates. next_level ws us s t done e grows over many (c.absorb.ensures.agree b shows) known (subst (λ (ps : List Place). AreMatesOf t ps c.mates_of.new.columns.items) since mates)) c.mates_of.ensures

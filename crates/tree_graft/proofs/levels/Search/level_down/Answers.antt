@@ -1,52 +1,25 @@
-use Rattle.std.proofs.Common.{◌∙◌, ◌^◌, ◌<◌, ◌≤◌, List, length, ap, subst, sym, arith, length-append}
-use Rattle.std.proofs.lemmas.Result.{on_ok_weaker}
+use Rattle.std.proofs.Common.{◌≡◌, ◌∙◌, ◌≤◌, List, ap, inl, inr, length, rules, subst, sym, ⊎_elim}
 use Rattle.bip_defs.specs.Lists.{Among}
-use Rattle.bip_defs.specs.Matrix.{Place}
-use Rattle.bip_defs.specs.Forest.{State}
-use Rattle.claim_words.specs.WorkerState.{fresh_claims_of}
-use Rattle.level_sharing.specs.Agreement.{Shows}
+use Rattle.bip_defs.proofs.Sets.{written_over}
+use Rattle.claim_words.specs.WorkerState.{WorkerState}
 use Rattle.sp_ids.specs.Limits.{max_workers}
-use Rattle.tree_graft.specs.Search.{IsScanned}
-use Rattle.tree_graft.proofs.FrontierLemmas.{all_scanned, next_is_frontier, won_or_not}
-use Rattle.tree_graft.proofs.LevelLemmas.{level_grows, searched_on}
-use Rattle.tree_graft.proofs.levels.level_down.Goals as goal
+use Rattle.tree_graft.specs.Search.{IsDone}
+use Rattle.tree_graft.proofs.LevelLemmas.{on_ok_both}
+use Rattle.tree_graft.proofs.levels.Search.level_down.Goals as goal
 
 pub top_down-done-requires-clause-inside : goal.top_down-done-requires-clause-inside
-top_down-done-requires-clause-inside g c = λ κs lives x h. c.requires.frontier.inside x (subst (Among x) c.as_slice.ensures.value h)
+top_down-done-requires-clause-inside g c = λ κs lives x h. c.requires.frontier.inside x (subst (Among x) c.as_slice-frontier.ensures.value h)
 
-pub returns-in_err-done-clause-grown : goal.returns-in_err-done-clause-grown
-returns-in_err-done-clause-grown g c = level_grows c.claims_and_wins_grow.ensures.runs c.args.forest.now c.end_level-next.new.forest c.top_down-done.new.workers c.top_down-done.ensures.legal c.end_level-next.ensures.forest
-
-pub returns-clause-grown : goal.returns-clause-grown
-returns-clause-grown g c = level_grows c.claims_and_wins_grow.ensures.runs c.args.forest.now c.end_level-next.new.forest c.top_down-done.new.workers c.top_down-done.ensures.legal c.end_level-next.ensures.forest
-
-pub returns-clause-search : goal.returns-clause-search
-returns-clause-search g c =
-    let s = c.args.forest.now in
+pub end_level-requires-clause-done : goal.end_level-requires-clause-done
+end_level-requires-clause-done g c =
     let ws = c.top_down-done.new.workers in
-    let few : length c.end_level-next.new.workers ≤ max_workers = omega (arith, c.requires.search.few, c.top_down-done.auto.workers, c.end_level-next.auto.workers) in
-    let shows = subst (λ (u : State). Shows c.args.board.now ws u.claims u.leaves) (sym c.end_level-next.ensures.forest) c.top_down-done.ensures.words in
-    let all = searched_on c.args.board.now c.args.workers.now ws c.end_level-next.new.workers s c.end_level-next.new.forest c.requires.search c.end_level-next.ensures.forest few (c.end_level-next.ensures.agree c.args.board.now shows) c.in_ok-done.ensures.settled in
-    on_ok_weaker c.end_level-next.result (λ mates. all) c.end_level-next.ensures.mates
-
-pub returns-clause-frontier : goal.returns-clause-frontier
-returns-clause-frontier g c =
-    let s = c.args.forest.now in
-    let t = c.end_level-next.new.forest in
-    let last = fresh_claims_of c.top_down-done.new.workers in
-    let claims = ap (λ (u : State). u.claims) c.end_level-next.ensures.forest in
-    let grows = level_grows c.claims_and_wins_grow.ensures.runs c.args.forest.now c.end_level-next.new.forest c.top_down-done.new.workers c.top_down-done.ensures.legal c.end_level-next.ensures.forest in
-    let within = c.claims_are_in_the_forest.ensures.few t c.is_sound.ensures in
-    let rows = ap (λ (u : State). u.matrix.rows) c.end_level-next.ensures.forest in
-    let few : length t.claims < 2 ^ 32 = omega (arith, within, rows, c.requires.search.small.0) in
-    let scanned = all_scanned s t c.args.frontier.now.items c.requires.frontier grows (λ x h. subst (λ u. IsScanned u x) (sym c.end_level-next.ensures.forest) (c.in_ok-done.ensures.frontier x (subst (Among x) (sym c.as_slice.ensures.value) h))) in
-    let won = won_or_not t (λ r h. c.rows_have_one_root.ensures.some t r c.is_sound.ensures h) (λ x y r v w. c.rows_have_one_root.ensures.one t x y r c.is_sound.ensures v w) in
-    on_ok_weaker c.end_level-next.result (λ mates. next_is_frontier s t last c.end_level-next.new.frontier.items c.is_sound.ensures.base won grows claims few scanned mates) c.end_level-next.ensures.mates
-
-pub returns-clause-more : goal.returns-clause-more
-returns-clause-more g c =
-    let s = c.args.forest.now in
-    let last = fresh_claims_of c.top_down-done.new.workers in
-    let claims = ap (λ (u : State). u.claims) c.end_level-next.ensures.forest in
-    let long = ap (λ (ps : List Place). length ps) claims ∙ length-append s.claims last in
-    on_ok_weaker c.end_level-next.result (λ mates. let short = mates.few in omega (arith, short, long)) c.end_level-next.ensures.mates
+    let long : c.args.self.now.workers.len ≡ length c.args.self.now.workers.items = search rules in
+    let many : length ws ≡ length c.args.self.now.workers.items = c.top_down-done.auto.workers ∙ ap length c.as_mut_slice-workers.ensures.value in
+    let over = written_over ws c.args.self.now.workers.items c.args.self.now.workers.len many long in
+    let sized = c.requires.ready.sized in
+    on_ok_both c.top_down-done.result (λ settled through. subst (λ (us : List WorkerState). IsDone c.args.self.now.board us c.args.forest.now) (sym over) (record {
+      sized = record { few = let few = sized.few in subst (λ n. n ≤ max_workers) (sym many) few; small = sized.small; rows = sized.rows; roots = sized.roots };
+      shows = c.top_down-done.ensures.words;
+      settled = settled;
+      through = λ x i. ⊎_elim (λ h. inr (inl (through x (subst (Among x) (sym c.as_slice-frontier.ensures.value) h)))) (λ s. inl s) (c.requires.frontier.others x i);
+    })) c.top_down-done.ensures.settled c.top_down-done.ensures.frontier

@@ -1,13 +1,12 @@
 use Rattle.forest_core.specs.Events.{Grows}
-use Rattle.tree_graft.specs.Search.{IsFrontier, IsReadyForLevel, levels_left}
-use Rattle.tree_graft.proofs.levels.search.Given as goal
+use Rattle.tree_graft.specs.Search.{IsAtLevel, levels_left}
+use Rattle.tree_graft.proofs.levels.Search.run.Given as goal
 
-abbrev pub invariant-loop-forest : goal.invariant-loop-forest
-invariant-loop-forest g l = record {
+abbrev pub invariant-loop-self : goal.invariant-loop-self
+invariant-loop-self g l = record {
   grown : Grows l.fn.forest l.forest;
-  search : IsReadyForLevel l.board l.workers l.forest;
-  frontier : IsFrontier l.forest l.frontier.items;
+  level : IsAtLevel l.self l.forest;
 }
 
-abbrev pub decreases-loop-forest : goal.decreases-loop-forest
-decreases-loop-forest g l = levels_left l.forest l.frontier.items
+abbrev pub decreases-loop-self : goal.decreases-loop-self
+decreases-loop-self g l = levels_left l.forest l.self.frontier.items
