@@ -2,16 +2,19 @@
 """Times sessions of edits: `btf edit`, `btf rank` anew, and a plain incremental program in C++ (bench/edits.cpp).
 
     apt-get install g++
-    bench/edits.py --btf crates/btf/out/btf [--columns 1000,100000] [--edits 2000] [--blocks 5] [--seed 1] [--work DIR]
+    bench/edits.py --btf crates/btf/out/btf [--columns 1000,100000] [--edits 2000] [--blocks 5] [--clock processor]
+                   [--seed 1] [--work DIR]
 
 Of each number of columns there are three matrices with three entries a column or nearly so: `square`, lower triangular with
 its diagonal, so of full rank with one perfect matching; `wide`, the same with a quarter more columns behind it, of full row
-rank; `deficient`, with all entries at random. The edits are of three kinds: `random` sets a random place or clears a random
-entry; `one place` sets and clears one place in turn that is no entry at first; `pairs` clears entries of the diagonal and
-sets them again, which in `square` are pairs of its one perfect matching.
+rank; `deficient`, with all entries at random. The edits are of four kinds: `random` sets a random place or clears a random
+entry; `others` does the same but for entries of the diagonal, so that in `square` no edit needs a search; `one place` sets
+and clears one place in turn that is no entry at first; `pairs` clears entries of the diagonal and sets them again, which in
+`square` are pairs of its one perfect matching.
 
 A block is one run of a program over a file and its edits, less one over the same file and as many edits that change nothing
-(clears of places that are no entries), by the number of edits: so what an edit costs beyond the reading of its line. Told are
+(clears of places that are no entries), by the number of edits: so what an edit costs beyond the reading of its line. Times are
+those of the wall clock, or with `--clock processor` seconds of the processor, where the machine is busy. Told are
 microseconds of the least, the median and the worst block, and the time of one `btf rank` of the file. The ranks that both
 programs write are compared line by line. A block of less than a millisecond in all is within the noise of starting a program:
 take as many edits that it is longer.
@@ -19,6 +22,7 @@ take as many edits that it is longer.
 import argparse
 import os
 import random
+import resource
 import statistics
 import subprocess
 import sys
@@ -47,8 +51,9 @@ def places_of(shape, columns, source):
 
 def edits_of(kind, rows, columns, places, count, source):
     lines = []
-    if kind == "random":
-        here, entries = set(places), list(places)
+    if kind in ("random", "others"):
+        here = set(places)
+        entries = [place for place in places if kind == "random" or place[0] != place[1]]
         for _ in range(count):
             if source.random() < 0.5:
                 place = source.randint(1, rows), source.randint(1, columns)
@@ -84,12 +89,14 @@ def none_of(rows, columns, places, count, source):
     return lines
 
 
-def once(command, paths):
-    """The output over the files one after another, and the wall seconds."""
+def once(command, paths, clock):
+    """The output over the files one after another, and the seconds by the clock."""
     text = b"".join(open(path, "rb").read() for path in paths)
-    begin = time.perf_counter()
+    begin, used = time.perf_counter(), resource.getrusage(resource.RUSAGE_CHILDREN)
     done = subprocess.run(command, input=text, capture_output=True, check=True)
-    return done.stdout, time.perf_counter() - begin
+    wall, now = time.perf_counter() - begin, resource.getrusage(resource.RUSAGE_CHILDREN)
+    processor = now.ru_utime + now.ru_stime - used.ru_utime - used.ru_stime
+    return done.stdout, wall if clock == "wall" else processor
 
 
 def write(path, lines):
@@ -103,9 +110,10 @@ def main():
     parser.add_argument("--btf", required=True)
     parser.add_argument("--columns", default="1000,100000,1000000")
     parser.add_argument("--shapes", default="square,wide,deficient")
-    parser.add_argument("--kinds", default="random,one place,pairs")
+    parser.add_argument("--kinds", default="random,others,one place,pairs")
     parser.add_argument("--edits", type=int, default=2000)
     parser.add_argument("--blocks", type=int, default=5)
+    parser.add_argument("--clock", choices=["wall", "processor"], default="wall")
     parser.add_argument("--seed", type=int, default=1)
     parser.add_argument("--work", default="bench-work")
     options = parser.parse_args()
@@ -122,7 +130,7 @@ def main():
             rows, cols, places = places_of(shape, columns, source)
             head = ["%%MatrixMarket matrix coordinate pattern general", "%d %d %d" % (rows, cols, len(places))]
             file = write(os.path.join(options.work, "session.mtx"), head + ["%d %d" % place for place in sorted(places)])
-            rank = min(once([options.btf, "rank"], [file])[1] for _ in range(3))
+            rank = min(once([options.btf, "rank"], [file], options.clock)[1] for _ in range(3))
             for kind in options.kinds.split(","):
                 micros = {name: [] for name in programs}
                 for _ in range(options.blocks):
@@ -131,8 +139,8 @@ def main():
                     edits = write(os.path.join(options.work, "edits.txt"), lines)
                     texts = []
                     for name, command in programs.items():
-                        base = min(once(command, [file, none])[1] for _ in range(2))
-                        runs = [once(command, [file, edits]) for _ in range(2)]
+                        base = min(once(command, [file, none], options.clock)[1] for _ in range(2))
+                        runs = [once(command, [file, edits], options.clock) for _ in range(2)]
                         texts.append(runs[0][0])
                         micros[name].append((min(run[1] for run in runs) - base) / len(lines) * 1e6)
                     if texts[0] != texts[1]:

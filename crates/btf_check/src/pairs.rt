@@ -35,7 +35,6 @@ pub(crate) fn matching_of(
         }
         matching.pair(row, col);
     }
-    // It tells the proof that the pairs rise by column.
-    let _size = matching.size();
+    matching.is_matching();
     Ok(Some(matching))
 }

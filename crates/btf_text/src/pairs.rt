@@ -29,8 +29,7 @@ fn put_mate<K: Sink>(out: &mut K, buf: &mut TextBuf, matching: &Matching, col: C
     ensures { AppendsLines (seen K.taken K.faults out.old out.new) buf.old buf.new
         (map pair_line (pairs_at col matching.now.pairs)) }
 {
-    // `size` tells the proof that a column has one pair.
-    let _pairs = matching.size();
+    matching.is_matching();
     let Some(row) = matching.row_of(col) else {
         return;
     };

@@ -64,8 +64,7 @@ pub(crate) fn analyse<R: Threads + Sync, S: Source, O: Sink, G: Gate>(
     let found = matching_for(rt, alloc, &pattern, options.choice, gate)?;
     let parts = coarse(rt, alloc, &pattern, &found)?;
     let matching = least_if_asked(alloc, &pattern, found, &parts, least)?;
-    // `size` tells the proof that the pairs rise.
-    let _pairs = matching.size();
+    matching.is_matching();
     let decomposition = decompose_in(alloc, &pattern, &matching, parts)?;
     let components = components_for(alloc, version, &pattern, &decomposition.parts)?;
     let mut buf = TextBuf::new(alloc)?;

@@ -53,7 +53,7 @@ impl Model for Session {
 impl Session {
     /// A session that begins with this matrix. The matching must be a maximum one of its entries.
     ///
-    /// Answers `OutOfMemory` where 42 bytes a column and 4 an entry can't be had. Work: one copy of
+    /// Answers `OutOfMemory` where 46 bytes a column and 4 an entry can't be had. Work: one copy of
     /// the columns' lists, and one search for the cover.
     pub fn new(alloc: Global, pattern: &Pattern, matching: Matching) -> Result<Session, OutOfMemory>
         requires { IsMaximumOf pattern.now matching }
@@ -146,9 +146,10 @@ impl Session {
     /// each column that some maximum matching of the new matrix misses and one for each of their
     /// entries; these columns are marked from then on.
     /// Answers `OutOfMemory` where there is no memory for the entry; the session is then as it was.
-    /// A search takes none. Work: the search, and where there is one, a look at each column for its
-    /// mate; beside it a search by halves in the column and one move of each of its rows, in the
-    /// mean over many edits.
+    /// A search takes none. Work: the search, and where there is one, a look for its mate at each
+    /// column that was unmatched at the search before, at the first one at each column; beside it a
+    /// search by halves in the column and one move of each of its rows, in the mean over many
+    /// edits.
     pub fn set<L: Ledger>(
         &mut self,
         row: Row,
@@ -248,7 +249,8 @@ impl Session {
         }
         self.matching.unpair(row, col);
         self.matching.is_matching();
-        self.cover.augment(&self.columns, &mut self.matching, steps);
+        self.cover
+            .augment(&self.columns, &mut self.matching, col, steps);
         Ok(self.rank())
     }
 }
@@ -314,5 +316,5 @@ fn match_entry<L: Ledger>(
         matching.is_matching();
         return;
     }
-    cover.augment(columns, matching, steps);
+    cover.augment(columns, matching, col, steps);
 }

@@ -4,6 +4,7 @@
 mod answer;
 mod cover;
 mod engine;
+mod roots;
 mod search;
 mod steps;
 mod witness;

@@ -149,39 +149,40 @@ pub fn lower<I: Id>(degrees: &mut [Unmatched], ids: &[I], neighbour: u32, ones: 
     }
 }
 
-/// Leaves out a row or column that is matched now: it has no degree, and those of `ids`, its kind
-/// beside its mate, lose the mate. `others` tells whether others of these may have a degree.
-pub fn leave_out<I: Id>(
+/// Leaves out a row or column that is matched now, the first of the pair: it has no degree, and
+/// those of `ids`, its kind beside its mate, lose the mate. `others` tells whether others of these
+/// may have a degree.
+pub fn leave_out<I: Id, J: Id>(
     degrees: &mut [Unmatched],
-    matched: I,
+    pair: (I, J),
     ids: &[I],
-    mate: u32,
     others: bool,
     ones: &mut IntSet,
 )
     requires rising { IsRising (map I.number ids.now) }
     requires in_range { (x : ℕ) → Among x (map I.number ids.now) → x < length degrees.old }
-    requires beside { Among (I.number matched) (map I.number ids.now) }
-    requires alone { others ≡ false → (x : ℕ) → x ≢ I.number matched
+    requires beside { Among (I.number pair.0) (map I.number ids.now) }
+    requires alone { others ≡ false → (x : ℕ) → x ≢ I.number pair.0
         → Among x (map I.number ids.now) → slice_index (counts degrees.old) x ≡ 0 }
     requires bound { ones.old.bound ≡ length degrees.old }
-    requires ones { HoldsOnesBut (I.number matched) (counts degrees.old) ones.old.members }
-    ensures matched { slice_index (counts degrees.new) (I.number matched) ≡ 0 }
-    ensures lowered { (x : ℕ) → x ≢ I.number matched → Among x (map I.number ids.now)
+    requires ones { HoldsOnesBut (I.number pair.0) (counts degrees.old) ones.old.members }
+    ensures matched { slice_index (counts degrees.new) (I.number pair.0) ≡ 0 }
+    ensures lowered { (x : ℕ) → x ≢ I.number pair.0 → Among x (map I.number ids.now)
         → slice_index (counts degrees.new) x ≡ slice_index (counts degrees.old) x - 1 }
     ensures kept { (x : ℕ) → ¬ Among x (map I.number ids.now)
         → slice_index (counts degrees.new) x ≡ slice_index (counts degrees.old) x }
     ensures sums { (x : ℕ) → slice_index (counts degrees.new) x ≢ 0
         → Among x (map I.number ids.now)
         → slice_index (sums degrees.new) x
-        ≡ wrapping_sub (slice_index (sums degrees.old) x) mate }
+        ≡ wrapping_sub (slice_index (sums degrees.old) x) (J.number pair.1) }
     ensures kept_sums { (x : ℕ) → ¬ Among x (map I.number ids.now)
         → slice_index (sums degrees.new) x ≡ slice_index (sums degrees.old) x }
     ensures ones { HoldsOnes (counts degrees.new) ones.new.members }
     ensures bound { ones.new.bound ≡ length degrees.old }
 {
+    let (matched, mate) = pair;
     degrees[matched.number() as usize] = Unmatched { count: 0, sum: 0 };
     if others {
-        lower(degrees, ids, mate, ones);
+        lower(degrees, ids, mate.number(), ones);
     }
 }

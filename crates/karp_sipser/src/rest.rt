@@ -139,17 +139,15 @@ impl Rest {
         let more_cols = rows[row.0 as usize].count > 1;
         leave_out(
             rows,
-            row,
+            (row, col),
             pattern.rows_of(col),
-            col.0,
             more_rows,
             &mut self.rows_of_one,
         );
         leave_out(
             cols,
-            col,
+            (col, row),
             pattern.cols_of(row),
-            row.0,
             more_cols,
             &mut self.cols_of_one,
         );

@@ -24,4 +24,4 @@ loop-pair-preserved c =
     pairing_more c.args.pattern.now c.args.pairs.now c.loop-pair.pair-index c.pair-item.result c.loop-pair.matching c.pair.new.self c.pair-item.result.0 c.pair-item.result.1 c.loop-pair-test.true (sym c.pair-item.is) (c.has.ensures.0 c.if-not-has.false) free c.pair.ensures.added c.pair.ensures.sizes c.loop-pair.invariant
 
 pub returns-clause-pairs : goal.returns-clause-pairs
-returns-clause-pairs c = (pairing_end c.args.pattern.now c.args.pairs.now c.loop-pair.pair-index c.loop-pair.matching (omega (arith, c.loop-pair.auto.pair-index-end, c.loop-pair-test.false)) c.requires.rising c.size-size.ensures.cols_rise c.loop-pair.invariant).0
+returns-clause-pairs c = (pairing_end c.args.pattern.now c.args.pairs.now c.loop-pair.pair-index c.loop-pair.matching (omega (arith, c.loop-pair.auto.pair-index-end, c.loop-pair-test.false)) c.requires.rising c.is_matching.ensures.cols_rise c.loop-pair.invariant).0

@@ -9,4 +9,4 @@ pub returns-in_default : goal.returns-in_default
 returns-in_default g c = lines_as (sym (ap (map pair_line) (none_at _ _ c.in_default.ensures.none))) (lines_none _ _ _)
 
 pub returns : goal.returns
-returns g c = lines_as (ap (map pair_line) (one_at _ _ _ c.size-pairs.ensures.cols_rise c.in-Some.ensures.found)) c.put_pair.ensures
+returns g c = lines_as (ap (map pair_line) (one_at _ _ _ c.is_matching.ensures.cols_rise c.in-Some.ensures.found)) c.put_pair.ensures

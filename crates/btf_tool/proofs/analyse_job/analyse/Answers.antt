@@ -15,7 +15,7 @@ pub returns-in_err-hand_on-clause-says : goal.returns-in_err-hand_on-clause-says
 returns-in_err-hand_on-clause-says g c =
     let report = c.args.options.report in
     let of_version = subst (λ (o : Option Components). AreOfVersion c.in_ok-pattern.pattern report.version (components_in o)) (sym c.as_ref.ensures.value) c.in_ok-components.ensures in
-    let answers = analysis_answers _ _ _ report.version _ report.order report.pairs report.least _ c.in_ok-decomposition.ensures c.in_ok-matching.ensures.least c.size-pairs.ensures.cols_rise of_version c.lists_pairs-listed.ensures in
+    let answers = analysis_answers _ _ _ report.version _ report.order report.pairs report.least _ c.in_ok-decomposition.ensures c.in_ok-matching.ensures.least c.is_matching.ensures.cols_rise of_version c.lists_pairs-listed.ensures in
     let job = Analyse c.args.options.choice report c.args.options.drop_zeros in
     let input = seen g.S.Source.left g.S.Source.faults c.args.input.now c.read_file.new.input in
     let out = seen g.O.Sink.taken g.O.Sink.faults c.args.out.now c.hand_on.new.out in
@@ -28,7 +28,7 @@ pub returns-clause-says : goal.returns-clause-says
 returns-clause-says g c =
     let report = c.args.options.report in
     let of_version = subst (λ (o : Option Components). AreOfVersion c.in_ok-pattern.pattern report.version (components_in o)) (sym c.as_ref.ensures.value) c.in_ok-components.ensures in
-    let answers = analysis_answers _ _ _ report.version _ report.order report.pairs report.least _ c.in_ok-decomposition.ensures c.in_ok-matching.ensures.least c.size-pairs.ensures.cols_rise of_version c.lists_pairs-listed.ensures in
+    let answers = analysis_answers _ _ _ report.version _ report.order report.pairs report.least _ c.in_ok-decomposition.ensures c.in_ok-matching.ensures.least c.is_matching.ensures.cols_rise of_version c.lists_pairs-listed.ensures in
     let job = Analyse c.args.options.choice report c.args.options.drop_zeros in
     let input = seen g.S.Source.left g.S.Source.faults c.args.input.now c.read_file.new.input in
     let out = seen g.O.Sink.taken g.O.Sink.faults c.args.out.now c.hand_on.new.out in

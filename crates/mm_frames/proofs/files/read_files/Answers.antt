@@ -1,4 +1,4 @@
-use Rattle.std.proofs.Common.{◌≡◌, ◌≤◌, ℕ, [], ◌∷◌, ◌++◌, length, Ok, refl, ap, ◌∙◌, arith}
+use Rattle.std.proofs.Common.{◌≡◌, ◌≤◌, ℕ, [], ◌∷◌, length, Ok, refl, ap, ◌∙◌, arith}
 use Rattle.std.specs.Global.{Vec}
 use Rattle.std.specs.Vec.{vec_len}
 use Rattle.std.proofs.lemmas.List.{length-map, map-append}
@@ -35,55 +35,48 @@ returns-in_err-read_header-clause-answer g c =
     let i = c.reading.invariant in
     let q = err_from_is_err_and c.from_residual.result c.from_residual.ensures.1 in
     rw (q.1, q.2)
-    (header_answered (front c.args.input.now) (front c.reading.input) (front c.read_header.new.input) (g.S.Source.left c.args.source.now) (g.S.Source.left c.reading.source) (g.S.Source.left c.read_header.new.source)
-    (g.S.Source.faults c.args.source.now) (g.S.Source.faults c.reading.source) (g.S.Source.faults c.read_header.new.source) i.steady (files_of c.reading.files.items) i.files c.len-before.result (count c.reading.files c.len-before.result c.len-before.ensures)
+    (header_answered _ _ _ _ _ _ _ _ _ i.steady _ i.files _ (count c.reading.files _ c.len-before.ensures)
     c.in_err-read_header.field-0.0 c.in_err-read_header.ensures.answer)
 
 pub returns-in_err-read_header-clause-gave : goal.returns-in_err-read_header-clause-gave
 returns-in_err-read_header-clause-gave g c =
     let i = c.reading.invariant in
     let u = c.in_err-read_header.ensures.answer in
-    let k = header_used (front c.args.input.now) (front c.reading.input) (front c.read_header.new.input) (g.S.Source.left c.args.source.now) (g.S.Source.left c.reading.source) (g.S.Source.left c.read_header.new.source)
-    (g.S.Source.faults c.args.source.now) (g.S.Source.faults c.reading.source) (g.S.Source.faults c.read_header.new.source) i.steady (files_of c.reading.files.items) i.files c.len-before.result (count c.reading.files c.len-before.result c.len-before.ensures) u.used u.so_far in
+    let k = header_used _ _ _ _ _ _ _ _ (g.S.Source.faults c.read_header.new.source) i.steady _ i.files _ (count c.reading.files _ c.len-before.ensures) u.used u.so_far in
     (k.gave, k.given)
 
 pub returns-in_err-read_header-clause-most : goal.returns-in_err-read_header-clause-most
 returns-in_err-read_header-clause-most g c =
     let i = c.reading.invariant in
     let u = c.in_err-read_header.ensures.answer in
-    let k = header_used (front c.args.input.now) (front c.reading.input) (front c.read_header.new.input) (g.S.Source.left c.args.source.now) (g.S.Source.left c.reading.source) (g.S.Source.left c.read_header.new.source)
-    (g.S.Source.faults c.args.source.now) (g.S.Source.faults c.reading.source) (g.S.Source.faults c.read_header.new.source) i.steady (files_of c.reading.files.items) i.files c.len-before.result (count c.reading.files c.len-before.result c.len-before.ensures) u.used u.so_far in
-    most_known (front c.args.input.now) (front c.read_header.new.input) (g.S.Source.left c.args.source.now) (g.S.Source.left c.read_header.new.source) (i.files.used ++ u.used) k (g.S.Source.faults c.args.source.now) (g.S.Source.faults c.read_header.new.source) c.in_err-read_header.ensures.most
+    let k = header_used _ _ _ _ _ _ _ _ (g.S.Source.faults c.read_header.new.source) i.steady _ i.files _ (count c.reading.files _ c.len-before.ensures) u.used u.so_far in
+    most_known _ _ _ _ _ k (g.S.Source.faults c.args.source.now) (g.S.Source.faults c.read_header.new.source) c.in_err-read_header.ensures.most
 
 pub returns-in-None-clause-answer : goal.returns-in-None-clause-answer
 returns-in-None-clause-answer g c =
     let i = c.reading.invariant in
     let u = rw c.in-None.is at c.in_ok-read_header.ensures.answer in
-    end_answered (front c.args.input.now) (front c.reading.input) (front c.read_header.new.input) (g.S.Source.left c.args.source.now) (g.S.Source.left c.reading.source) (g.S.Source.left c.read_header.new.source)
-    (g.S.Source.faults c.args.source.now) (g.S.Source.faults c.reading.source) (g.S.Source.faults c.read_header.new.source) i.steady (files_of c.reading.files.items) i.files c.len-before.result (count c.reading.files c.len-before.result c.len-before.ensures) u
+    end_answered _ _ _ _ _ _ _ _ _ i.steady _ i.files _ (count c.reading.files _ c.len-before.ensures) u
 
 pub returns-then-header-clause-answer : goal.returns-then-header-clause-answer
 returns-then-header-clause-answer g c =
     let i = c.reading.invariant in
     let u = rw c.in-Some.is at c.in_ok-read_header.ensures.answer in
-    last_answered (front c.args.input.now) (front c.reading.input) (front c.read_header.new.input) (g.S.Source.left c.args.source.now) (g.S.Source.left c.reading.source) (g.S.Source.left c.read_header.new.source)
-    (g.S.Source.faults c.args.source.now) (g.S.Source.faults c.reading.source) (g.S.Source.faults c.read_header.new.source) i.steady (files_of c.reading.files.items) i.files c.len-before.result (count c.reading.files c.len-before.result c.len-before.ensures) c.in-Some.header u c.if-header.true c.end_with.result c.end_with.ensures.answer
+    last_answered _ _ _ _ _ _ _ _ _ i.steady _ i.files _ (count c.reading.files _ c.len-before.ensures) c.in-Some.header u c.if-header.true c.end_with.result c.end_with.ensures.answer
 
 pub returns-then-header-clause-gave : goal.returns-then-header-clause-gave
 returns-then-header-clause-gave g c =
     let i = c.reading.invariant in
     let u = c.in_ok-read_header.ensures.answer in
-    let k = header_used (front c.args.input.now) (front c.reading.input) (front c.read_header.new.input) (g.S.Source.left c.args.source.now) (g.S.Source.left c.reading.source) (g.S.Source.left c.read_header.new.source)
-    (g.S.Source.faults c.args.source.now) (g.S.Source.faults c.reading.source) (g.S.Source.faults c.read_header.new.source) i.steady (files_of c.reading.files.items) i.files c.len-before.result (count c.reading.files c.len-before.result c.len-before.ensures) u.used u.so_far in
+    let k = header_used _ _ _ _ _ _ _ _ (g.S.Source.faults c.read_header.new.source) i.steady _ i.files _ (count c.reading.files _ c.len-before.ensures) u.used u.so_far in
     (k.gave, k.given)
 
 pub returns-then-header-clause-most : goal.returns-then-header-clause-most
 returns-then-header-clause-most g c =
     let i = c.reading.invariant in
     let u = c.in_ok-read_header.ensures.answer in
-    let k = header_used (front c.args.input.now) (front c.reading.input) (front c.read_header.new.input) (g.S.Source.left c.args.source.now) (g.S.Source.left c.reading.source) (g.S.Source.left c.read_header.new.source)
-    (g.S.Source.faults c.args.source.now) (g.S.Source.faults c.reading.source) (g.S.Source.faults c.read_header.new.source) i.steady (files_of c.reading.files.items) i.files c.len-before.result (count c.reading.files c.len-before.result c.len-before.ensures) u.used u.so_far in
-    most_known (front c.args.input.now) (front c.read_header.new.input) (g.S.Source.left c.args.source.now) (g.S.Source.left c.read_header.new.source) (i.files.used ++ u.used) k (g.S.Source.faults c.args.source.now) (g.S.Source.faults c.read_header.new.source) c.in_ok-read_header.ensures.most
+    let k = header_used _ _ _ _ _ _ _ _ (g.S.Source.faults c.read_header.new.source) i.steady _ i.files _ (count c.reading.files _ c.len-before.ensures) u.used u.so_far in
+    most_known _ _ _ _ _ k (g.S.Source.faults c.args.source.now) (g.S.Source.faults c.read_header.new.source) c.in_ok-read_header.ensures.most
 
 pub returns-in_err-file-clause-answer : goal.returns-in_err-file-clause-answer
 returns-in_err-file-clause-answer g c =
@@ -91,18 +84,16 @@ returns-in_err-file-clause-answer g c =
     let u = rw c.in-Some.is at c.in_ok-read_header.ensures.answer in
     let q = err_from_is_err_and c.from_residual-in_err-file.result c.from_residual-in_err-file.ensures.1 in
     rw (q.1, q.2)
-    (file_answered (front c.args.input.now) (front c.reading.input) (front c.read_header.new.input) (g.S.Source.left c.args.source.now) (g.S.Source.left c.reading.source) (g.S.Source.left c.read_header.new.source)
-    (g.S.Source.faults c.args.source.now) (g.S.Source.faults c.reading.source) (g.S.Source.faults c.read_header.new.source) i.steady (files_of c.reading.files.items) i.files c.len-before.result (count c.reading.files c.len-before.result c.len-before.ensures) c.in-Some.header u c.if-header.false
-    c.in_ok-read_header.ensures.cause.steady (front c.read_file.new.input) (g.S.Source.left c.read_file.new.source) (g.S.Source.faults c.read_file.new.source) c.in_err-file.field-0.0 (c.in_err-file.ensures.answer u.such.line u.such.good))
+    (file_answered _ _ _ _ _ _ _ _ _ i.steady _ i.files _ (count c.reading.files _ c.len-before.ensures) c.in-Some.header u c.if-header.false
+    c.in_ok-read_header.ensures.cause.steady _ _ _ c.in_err-file.field-0.0 (c.in_err-file.ensures.answer u.such.line u.such.good))
 
 pub returns-in_err-file-clause-gave : goal.returns-in_err-file-clause-gave
 returns-in_err-file-clause-gave g c =
     let i = c.reading.invariant in
     let u = rw c.in-Some.is at c.in_ok-read_header.ensures.answer in
     let v = c.in_err-file.ensures.answer u.such.line u.such.good in
-    let k = file_used (front c.args.input.now) (front c.reading.input) (front c.read_header.new.input) (g.S.Source.left c.args.source.now) (g.S.Source.left c.reading.source) (g.S.Source.left c.read_header.new.source)
-    (g.S.Source.faults c.args.source.now) (g.S.Source.faults c.reading.source) (g.S.Source.faults c.read_header.new.source) i.steady (files_of c.reading.files.items) i.files c.len-before.result (count c.reading.files c.len-before.result c.len-before.ensures) c.in-Some.header u c.if-header.false
-    c.in_ok-read_header.ensures.cause.steady (front c.read_file.new.input) (g.S.Source.left c.read_file.new.source) (g.S.Source.faults c.read_file.new.source) v.used v.so_far in
+    let k = file_used _ _ _ _ _ _ _ _ _ i.steady _ i.files _ (count c.reading.files _ c.len-before.ensures) c.in-Some.header u c.if-header.false
+    c.in_ok-read_header.ensures.cause.steady _ _ (g.S.Source.faults c.read_file.new.source) v.used v.so_far in
     (k.gave, k.given)
 
 pub returns-in_err-file-clause-most : goal.returns-in_err-file-clause-most
@@ -110,19 +101,17 @@ returns-in_err-file-clause-most g c =
     let i = c.reading.invariant in
     let u = rw c.in-Some.is at c.in_ok-read_header.ensures.answer in
     let v = c.in_err-file.ensures.answer u.such.line u.such.good in
-    let k = file_used (front c.args.input.now) (front c.reading.input) (front c.read_header.new.input) (g.S.Source.left c.args.source.now) (g.S.Source.left c.reading.source) (g.S.Source.left c.read_header.new.source)
-    (g.S.Source.faults c.args.source.now) (g.S.Source.faults c.reading.source) (g.S.Source.faults c.read_header.new.source) i.steady (files_of c.reading.files.items) i.files c.len-before.result (count c.reading.files c.len-before.result c.len-before.ensures) c.in-Some.header u c.if-header.false
-    c.in_ok-read_header.ensures.cause.steady (front c.read_file.new.input) (g.S.Source.left c.read_file.new.source) (g.S.Source.faults c.read_file.new.source) v.used v.so_far in
-    most_known (front c.args.input.now) (front c.read_file.new.input) (g.S.Source.left c.args.source.now) (g.S.Source.left c.read_file.new.source) (i.files.used ++ (u.such.line ++ 10 ∷ v.used)) k (g.S.Source.faults c.args.source.now) (g.S.Source.faults c.read_file.new.source) c.in_err-file.ensures.most
+    let k = file_used _ _ _ _ _ _ _ _ _ i.steady _ i.files _ (count c.reading.files _ c.len-before.ensures) c.in-Some.header u c.if-header.false
+    c.in_ok-read_header.ensures.cause.steady _ _ (g.S.Source.faults c.read_file.new.source) v.used v.so_far in
+    most_known _ _ _ _ _ k (g.S.Source.faults c.args.source.now) (g.S.Source.faults c.read_file.new.source) c.in_err-file.ensures.most
 
 pub returns-in-Err-clause-gave : goal.returns-in-Err-clause-gave
 returns-in-Err-clause-gave g c =
     let i = c.reading.invariant in
     let u = rw c.in-Some.is at c.in_ok-read_header.ensures.answer in
     let v = c.in_ok-file.ensures.answer u.such.line u.such.good in
-    let k = file_used (front c.args.input.now) (front c.reading.input) (front c.read_header.new.input) (g.S.Source.left c.args.source.now) (g.S.Source.left c.reading.source) (g.S.Source.left c.read_header.new.source)
-    (g.S.Source.faults c.args.source.now) (g.S.Source.faults c.reading.source) (g.S.Source.faults c.read_header.new.source) i.steady (files_of c.reading.files.items) i.files c.len-before.result (count c.reading.files c.len-before.result c.len-before.ensures) c.in-Some.header u c.if-header.false
-    c.in_ok-read_header.ensures.cause.steady (front c.read_file.new.input) (g.S.Source.left c.read_file.new.source) (g.S.Source.faults c.read_file.new.source) v.used v.so_far in
+    let k = file_used _ _ _ _ _ _ _ _ _ i.steady _ i.files _ (count c.reading.files _ c.len-before.ensures) c.in-Some.header u c.if-header.false
+    c.in_ok-read_header.ensures.cause.steady _ _ (g.S.Source.faults c.read_file.new.source) v.used v.so_far in
     (k.gave, k.given)
 
 pub returns-in-Err-clause-most : goal.returns-in-Err-clause-most
@@ -130,26 +119,23 @@ returns-in-Err-clause-most g c =
     let i = c.reading.invariant in
     let u = rw c.in-Some.is at c.in_ok-read_header.ensures.answer in
     let v = c.in_ok-file.ensures.answer u.such.line u.such.good in
-    let k = file_used (front c.args.input.now) (front c.reading.input) (front c.read_header.new.input) (g.S.Source.left c.args.source.now) (g.S.Source.left c.reading.source) (g.S.Source.left c.read_header.new.source)
-    (g.S.Source.faults c.args.source.now) (g.S.Source.faults c.reading.source) (g.S.Source.faults c.read_header.new.source) i.steady (files_of c.reading.files.items) i.files c.len-before.result (count c.reading.files c.len-before.result c.len-before.ensures) c.in-Some.header u c.if-header.false
-    c.in_ok-read_header.ensures.cause.steady (front c.read_file.new.input) (g.S.Source.left c.read_file.new.source) (g.S.Source.faults c.read_file.new.source) v.used v.so_far in
-    most_known (front c.args.input.now) (front c.read_file.new.input) (g.S.Source.left c.args.source.now) (g.S.Source.left c.read_file.new.source) (i.files.used ++ (u.such.line ++ 10 ∷ v.used)) k (g.S.Source.faults c.args.source.now) (g.S.Source.faults c.read_file.new.source) c.in_ok-file.ensures.most
+    let k = file_used _ _ _ _ _ _ _ _ _ i.steady _ i.files _ (count c.reading.files _ c.len-before.ensures) c.in-Some.header u c.if-header.false
+    c.in_ok-read_header.ensures.cause.steady _ _ (g.S.Source.faults c.read_file.new.source) v.used v.so_far in
+    most_known _ _ _ _ _ k (g.S.Source.faults c.args.source.now) (g.S.Source.faults c.read_file.new.source) c.in_ok-file.ensures.most
 
 pub reading-smaller : goal.reading-smaller
 reading-smaller g c =
     let i = c.reading.invariant in
     let u = rw c.in-Some.is at c.in_ok-read_header.ensures.answer in
-    less_room (front c.args.input.now) (front c.reading.input) (front c.read_header.new.input) (g.S.Source.left c.args.source.now) (g.S.Source.left c.reading.source) (g.S.Source.left c.read_header.new.source)
-    (g.S.Source.faults c.args.source.now) (g.S.Source.faults c.reading.source) (g.S.Source.faults c.read_header.new.source) i.steady (files_of c.reading.files.items) i.files c.len-before.result (count c.reading.files c.len-before.result c.len-before.ensures) c.in-Some.header u c.if-header.false
-    c.in_ok-read_header.ensures.cause.steady (front c.read_file.new.input) (g.S.Source.left c.read_file.new.source) (g.S.Source.faults c.read_file.new.source) c.in_ok-file.file (c.in_ok-file.ensures.answer u.such.line u.such.good)
+    less_room _ _ _ _ _ _ _ _ _ i.steady _ i.files _ (count c.reading.files _ c.len-before.ensures) c.in-Some.header u c.if-header.false
+    c.in_ok-read_header.ensures.cause.steady _ _ _ c.in_ok-file.file (c.in_ok-file.ensures.answer u.such.line u.such.good)
 
 pub reading-preserved : goal.reading-preserved
 reading-preserved g c =
     let i = c.reading.invariant in
     let u = rw c.in-Some.is at c.in_ok-read_header.ensures.answer in
-    let m = one_file_more (front c.args.input.now) (front c.reading.input) (front c.read_header.new.input) (g.S.Source.left c.args.source.now) (g.S.Source.left c.reading.source) (g.S.Source.left c.read_header.new.source)
-    (g.S.Source.faults c.args.source.now) (g.S.Source.faults c.reading.source) (g.S.Source.faults c.read_header.new.source) i.steady (files_of c.reading.files.items) i.files c.len-before.result (count c.reading.files c.len-before.result c.len-before.ensures) c.in-Some.header u c.if-header.false
-    c.in_ok-read_header.ensures.cause.steady (front c.read_file.new.input) (g.S.Source.left c.read_file.new.source) (g.S.Source.faults c.read_file.new.source) c.in_ok-file.file (c.in_ok-file.ensures.answer u.such.line u.such.good) in
+    let m = one_file_more _ _ _ _ _ _ _ _ _ i.steady _ i.files _ (count c.reading.files _ c.len-before.ensures) c.in-Some.header u c.if-header.false
+    c.in_ok-read_header.ensures.cause.steady _ _ _ c.in_ok-file.file (c.in_ok-file.ensures.answer u.such.line u.such.good) in
     let e = c.in_default.ensures.items in
     let a = map-append (λ (file : Vec ℕ). file.items) c.reading.files.items (c.in_ok-file.file ∷ []) in
     record {

@@ -33,19 +33,17 @@ returns-clause-rest c =
     let lr : AreLowered (map (λ (x : ℕ). x) c.rows_of.result.now) c.args.row (counts s.row_degrees.items) (counts c.leave_out.new.degrees) =
     subst (λ (z : List Unmatched). AreLowered (map (λ (x : ℕ). x) c.rows_of.result.now) c.args.row (counts z) (counts c.leave_out.new.degrees)) c.as_mut_slice-rows.ensures.value
     (record { matched = c.leave_out.ensures.matched; lowered = c.leave_out.ensures.lowered; kept = c.leave_out.ensures.kept }) in
-    let reduced_r : AreReduced (map (λ (x : ℕ). x) c.rows_of.result.now) c.col-2.inside.0 s.row_degrees.items c.leave_out.new.degrees =
-    subst (λ (z : List Unmatched). AreReduced (map (λ (x : ℕ). x) c.rows_of.result.now) c.col-2.inside.0 z c.leave_out.new.degrees) c.as_mut_slice-rows.ensures.value
+    let sr : AreReduced (map (λ (x : ℕ). x) c.rows_of.result.now) c.args.col s.row_degrees.items c.leave_out.new.degrees =
+    subst (λ (z : List Unmatched). AreReduced (map (λ (x : ℕ). x) c.rows_of.result.now) c.args.col z c.leave_out.new.degrees) c.as_mut_slice-rows.ensures.value
     (record { reduced = c.leave_out.ensures.sums; kept = c.leave_out.ensures.kept_sums }) in
-    let sr : AreReduced (map (λ (x : ℕ). x) c.rows_of.result.now) c.args.col s.row_degrees.items c.leave_out.new.degrees = subst (λ (m : ℕ). AreReduced (map (λ (x : ℕ). x) c.rows_of.result.now) m s.row_degrees.items c.leave_out.new.degrees) c.col-2.view_is reduced_r in
     let same_c : length c.leave_out-2.new.degrees ≡ length s.col_degrees.items = omega arith in
     let long_c : length (counts c.leave_out-2.new.degrees) ≡ length (counts s.col_degrees.items) = counts_long c.leave_out-2.new.degrees ∙ same_c ∙ sym (counts_long s.col_degrees.items) in
     let lc : AreLowered (map (λ (x : ℕ). x) c.cols_of.result.now) c.args.col (counts s.col_degrees.items) (counts c.leave_out-2.new.degrees) =
     subst (λ (z : List Unmatched). AreLowered (map (λ (x : ℕ). x) c.cols_of.result.now) c.args.col (counts z) (counts c.leave_out-2.new.degrees)) c.as_mut_slice-cols.ensures.value
     (record { matched = c.leave_out-2.ensures.matched; lowered = c.leave_out-2.ensures.lowered; kept = c.leave_out-2.ensures.kept }) in
-    let reduced_c : AreReduced (map (λ (x : ℕ). x) c.cols_of.result.now) c.row-2.inside.0 s.col_degrees.items c.leave_out-2.new.degrees =
-    subst (λ (z : List Unmatched). AreReduced (map (λ (x : ℕ). x) c.cols_of.result.now) c.row-2.inside.0 z c.leave_out-2.new.degrees) c.as_mut_slice-cols.ensures.value
+    let sc : AreReduced (map (λ (x : ℕ). x) c.cols_of.result.now) c.args.row s.col_degrees.items c.leave_out-2.new.degrees =
+    subst (λ (z : List Unmatched). AreReduced (map (λ (x : ℕ). x) c.cols_of.result.now) c.args.row z c.leave_out-2.new.degrees) c.as_mut_slice-cols.ensures.value
     (record { reduced = c.leave_out-2.ensures.sums; kept = c.leave_out-2.ensures.kept_sums }) in
-    let sc : AreReduced (map (λ (x : ℕ). x) c.cols_of.result.now) c.args.row s.col_degrees.items c.leave_out-2.new.degrees = subst (λ (m : ℕ). AreReduced (map (λ (x : ℕ). x) c.cols_of.result.now) m s.col_degrees.items c.leave_out-2.new.degrees) c.row-2.view_is reduced_c in
     record {
       same_rows = c.pair.ensures.sizes.0 ∙ c.requires.rest.same_rows;
       same_cols = c.pair.ensures.sizes.1 ∙ c.requires.rest.same_cols;
