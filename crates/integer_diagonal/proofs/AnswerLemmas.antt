@@ -14,6 +14,7 @@ use Rattle.integer_diagonal.proofs.Cheap.{cheap_entry}
 use Rattle.integer_diagonal.specs.declared.assignment.Assignment.{Assignment}
 use Rattle.integer_diagonal.specs.declared.search.Search.{Search}
 use Rattle.integer_diagonal.specs.Labels.{IsClear, labels_of, tree_of}
+use Rattle.integer_diagonal.specs.Mated.{AreMated}
 use Rattle.integer_diagonal.specs.Duals.{IsAssigned, IsAssignment, IsFeasible, Priced, cheap, dual}
 use Rattle.integer_diagonal.specs.Prices.{AreFair, price}
 use Rattle.sp_pattern.specs.Weights.{Weighing}
@@ -50,13 +51,6 @@ module _ (x : Priced) (u v : List ℤ) where
     where
       both : (r c : ℕ) → IsEntry x.weighing.matrix r c → (price u r ≡ pos (slice_index x.prices r) -ℤ pos x.top) × (price v c ≡ pos (x.top + x.top) -ℤ pos (dual x c))
       both r c e = (row_price eu r (let in_rows = e.0 in let long = f.prices_are in omega (arith, in_rows, long)), col_price ev c (let in_cols = entry_col x.weighing.matrix r c e in let long = f.duals_are in omega (arith, in_cols, long)))
-
--- the columns below n have mates, and the search is ready for the next one
-pub record AreMated {W : Type 0} (w : Weighing) (rows : ℕ) (a : Assignment W) (s : Search W) (n : ℕ) : Type 0 where
-  pub assignment : IsAssignment w a
-  pub clear : IsClear rows (tree_of s) (labels_of s)
-  pub listed : s.reached.items ≡ []
-  pub done : (c : ℕ) → c < n → Among c (cols_of a.matching.pairs)
 
 pub mated_same : {W : Type 0} (w : Weighing) (rows : ℕ) (a : Assignment W) (s : Search W) (n : ℕ) → AreMated w rows a s n → Among n (cols_of a.matching.pairs) → AreMated w rows a s (n + 1)
 mated_same w rows a s n m on = record { assignment = m.assignment; clear = m.clear; listed = m.listed; done = below_more (λ c. Among c (cols_of a.matching.pairs)) n m.done on }

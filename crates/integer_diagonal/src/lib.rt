@@ -8,10 +8,14 @@
 mod amount;
 mod answer;
 mod assignment;
+mod distances;
+mod fairness;
 mod frontier;
 mod laws;
 mod path;
+mod phases;
 mod search;
+mod searches;
 mod start;
 mod tight;
 mod width;
