@@ -5,12 +5,13 @@
 
 The crates of each DIR, by default those of this checkout, get a program by `bench/scratch.py`, which tells what it
 wants, in a folder of the work folder: by default bench-diagonals in the system's folder for temporary files. It makes
-the matrix in memory, so no reader stands in the time: a band of eleven diagonals, a circuit of blocks of many sizes, or
-twelve random entries a column beside the diagonal, all with random names; in a line with `late` the last two columns
-see one row alone, so that there is no diagonal. The programs run in turns, and must agree in the sums, the ranks and
-how many columns some maximum matching misses. A field has the least milliseconds of `heaviest`, and the first column
-those of a maximum matching of the pattern from an empty one, which `heaviest` needs at least where there is no diagonal.
-Before that it compares the programs on small matrices at random.
+the matrix in memory, so no reader stands in the time: a band of eleven diagonals, a circuit of blocks of many sizes,
+twelve random entries a column beside the diagonal, groups of 100 that lead on to one another (staircase), two diagonals
+closed to a ring (chain), or four random entries above a diagonal (triangle), all with random names; in a line with
+`late` or `early` the last or the first two columns see one row alone, so that there is no diagonal. The programs run in
+turns, and must agree in the sums, the ranks and how many columns some maximum matching misses. A field has the least
+milliseconds of `heaviest`, and the first column those of a maximum matching of the pattern from an empty one, which
+`heaviest` needs at least where there is no diagonal. Before that it compares the programs on small matrices at random.
 """
 import argparse
 import os
@@ -22,13 +23,16 @@ import scratch
 
 CRATES = os.path.join(os.path.dirname(os.path.dirname(os.path.abspath(__file__))), "crates")
 USES = ["sp_ids", "sp_pattern", "bip_graph", "pothen_fan", "integer_diagonal"]
-BAND, CIRCUIT, UNIFORM, SMALL = range(4)
+BAND, CIRCUIT, UNIFORM, SMALL, STAIRCASE, CHAIN, TRIANGLE = range(7)
 
-# name, shape, columns, greatest value, late
+# name, shape, columns, greatest value, and 1 where it is late, 2 where it is early
 LINES = [
     ("band, values to 100, late", BAND, 100000, 100, 1),
     ("circuit, values to 1000, late", CIRCUIT, 100000, 1000, 1),
     ("uniform, values to 10^6, late", UNIFORM, 40000, 10**6, 1),
+    ("band, values to 100, early", BAND, 100000, 100, 2),
+    ("circuit, values to 1000, early", CIRCUIT, 100000, 1000, 2),
+    ("uniform, values to 10^6, early", UNIFORM, 40000, 10**6, 2),
     ("band, all equal", BAND, 100000, 1, 0),
     ("circuit, all equal", CIRCUIT, 100000, 1, 0),
     ("uniform, all equal", UNIFORM, 40000, 1, 0),
@@ -39,6 +43,9 @@ LINES = [
     ("uniform, values to 10^6", UNIFORM, 40000, 10**6, 0),
     ("circuit, values to 10^12", CIRCUIT, 100000, 10**12, 0),
     ("uniform, values to 10^12", UNIFORM, 40000, 10**12, 0),
+    ("staircase, values to 1000", STAIRCASE, 30000, 1000, 0),
+    ("chain, values to 1000", CHAIN, 100000, 1000, 0),
+    ("triangle, values to 1000", TRIANGLE, 100000, 1000, 0),
 ]
 
 
@@ -72,7 +79,7 @@ def main():
                                       [SMALL, 4, 5, 0, 1]))
     for size in range(2, 14):
         for values in (1, 2, 5, 1000):
-            for late in (0, 1):
+            for late in (0, 1, 2):
                 same(programs, [SMALL, size, values, late, 200])
     print("| Matrix | matching | " + " | ".join(given.crates.split(",")) + " |")
     print("|" + "---|" * (2 + len(programs)))

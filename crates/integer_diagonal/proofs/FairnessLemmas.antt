@@ -1,5 +1,5 @@
 -- New prices that are looked at on every entry.
-use Rattle.std.proofs.Common.{◌≡◌, ◌∙◌, ℕ, slice_index, ◌+◌, ◌-◌, ◌<◌, ◌≤◌, List, length, map, get_or, sym, ap, subst, below_more, arith}
+use Rattle.std.proofs.Common.{◌≡◌, ◌∙◌, ℕ, slice_index, ◌+◌, ◌<◌, ◌≤◌, List, length, map, get_or, sym, ap, subst, below_more, arith}
 use Rattle.std.proofs.Math.Decide.{dec_lt}
 use Rattle.std.proofs.lemmas.List.{get_or-map, get_or_past, get_or_read, length-map}
 use Rattle.bip_defs.specs.Lists.{Among, AreDistinct, Lists}
@@ -10,9 +10,8 @@ use Rattle.bip_graph.specs.Matching.{IsMatchingOf, Pairing}
 use Rattle.integer_diagonal.proofs.AnswerLemmas.{matching_of}
 use Rattle.integer_diagonal.proofs.Cheap.{entry_cheap}
 use Rattle.integer_diagonal.proofs.ScanLemmas.{row_entry}
-use Rattle.integer_diagonal.specs.Amounts.{HasRoom}
 use Rattle.integer_diagonal.specs.Candidates.{IsCandidate, IsFairColumn, IsFairEntry}
-use Rattle.integer_diagonal.specs.Duals.{IsAssigned, Priced, cost, dual, paid}
+use Rattle.integer_diagonal.specs.Duals.{IsAssigned, Priced, dual, paid}
 use Rattle.sp_pattern.specs.Weights.{Weighing, weight_at}
 
 -- the entry at a place of a column, and its weight

@@ -5,7 +5,7 @@ use Rattle.integer_diagonal.specs.declared.distances.Distances.{Distances}
 
 -- each row has a place for its distance, and the radius is no more than this
 pub record AreWithin {W : Type 0} (rows most : ℕ) (l : Distances W) : Type 0 where
-  pub long : length l.of_rows.items ≡ rows
+  pub long : length l.of_far.items ≡ rows
   pub radius : l.radius ≤ most
 
 -- nor is a row that waits farther

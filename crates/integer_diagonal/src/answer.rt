@@ -42,11 +42,12 @@ use std::alloc::Global;
 /// Work: the phases of a maximum matching of the entries that cost as much as the first prices ask,
 /// which is all there is to do where all weights are equal; if it leaves columns unmatched, those
 /// of a maximum matching of the whole pattern, after which a matrix with no diagonal is answered.
-/// Else phases, each of which goes from all unmatched columns at once, raises prices by the
-/// distances and matches what costs as much as these ask, as long as each matches a column more;
-/// and one search for each column that is left. A phase looks at each entry three times at most,
-/// and a search once, and both keep what they reach in a heap (Kuhn 1955; Munkres 1957; Duff and
-/// Koster 2001).
+/// Else one search for each column that is left, as long as these are short; then phases, each of
+/// which goes from all unmatched columns at once, or from all unmatched rows, raises prices by the
+/// distances and matches what costs as much as these ask, as long as each matches a column more and
+/// sums have room; and one search for each column that is left then. A search looks at each entry
+/// once at most, a phase three times, from the rows with a search in its column, and both keep what
+/// they reach in a heap (Kuhn 1955; Munkres 1957; Gabow and Tarjan 1989; Duff and Koster 2001).
 pub fn heaviest(
     alloc: Global,
     pattern: &Pattern,

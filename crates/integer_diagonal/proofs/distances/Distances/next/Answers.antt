@@ -5,8 +5,8 @@ pub index-requires : goal.index-requires
 index-requires g c =
     let i = c.loop-nearest.invariant in
     let lt = c.requires (c.in-Some.nearest.0, c.in-Some.nearest.1) (i.holds _ ((c.in-Some.ensures.taken _).1 (inl refl))) in
-    let same = ap (λ (z : Vec ℕ Global). length z.items) i.of_rows in
-    omega (arith, lt, same, c.loop-nearest.self.of_rows.ok.0)
+    let same = ap (λ (z : Vec ℕ Global). length z.items) i.of_far in
+    omega (arith, lt, same, c.loop-nearest.self.of_far.ok.0)
 
 pub returns-then-eq-clause-taken : goal.returns-then-eq-clause-taken
 returns-then-eq-clause-taken g c = c.loop-nearest.invariant.holds _ ((c.in-Some.ensures.taken _).1 (inl refl))
@@ -17,4 +17,4 @@ returns-then-eq-clause-rest g c e h = c.loop-nearest.invariant.holds e ((c.in-So
 pub loop-nearest-preserved : goal.loop-nearest-preserved
 loop-nearest-preserved g c =
     let i = c.loop-nearest.invariant in
-    record { of_rows = i.of_rows; radius = i.radius; holds = λ e h. i.holds e ((c.in-Some.ensures.taken e).1 (inr h)) }
+    record { of_far = i.of_far; radius = i.radius; holds = λ e h. i.holds e ((c.in-Some.ensures.taken e).1 (inr h)) }

@@ -4,7 +4,7 @@ use Rattle.integer_diagonal.proofs.distances.Distances.next.Given as goal
 
 abbrev pub invariant-loop-nearest : goal.invariant-loop-nearest
 invariant-loop-nearest g l = record {
-  of_rows : l.self.of_rows ≡ l.fn.self.of_rows;
+  of_far : l.self.of_far ≡ l.fn.self.of_far;
   radius : l.self.radius ≡ l.fn.self.radius;
   holds : (e : ℕ × ℕ) → Among e l.self.frontier → Among e l.fn.self.frontier;
 }

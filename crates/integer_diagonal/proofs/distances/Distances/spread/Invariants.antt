@@ -1,5 +1,5 @@
 use Rattle.integer_diagonal.specs.Distances.{AreNear}
 use Rattle.integer_diagonal.proofs.distances.Distances.spread.Given as goal
 
-abbrev pub invariant-loop-col : goal.invariant-loop-col
-invariant-loop-col g l = AreNear l.pattern.rows l.assignment.top l.distances
+abbrev pub invariant-loop-near : goal.invariant-loop-near
+invariant-loop-near g l = AreNear l.pattern.rows l.assignment.top l.distances
