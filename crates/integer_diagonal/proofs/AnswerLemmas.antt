@@ -1,11 +1,12 @@
 -- Full matchings and their prices, as they are answered.
-use Rattle.std.proofs.Common.{◌≡◌, ◌∙◌, ℕ, ℤ, pos, ◌-ℤ◌, slice_index, ◌+◌, ◌<◌, List, [], length, map, ap, arith, below_more}
+use Rattle.std.proofs.Common.{◌≡◌, ◌∙◌, ℕ, ℤ, pos, ◌-ℤ◌, slice_index, ◌+◌, ◌<◌, ◌≤◌, List, [], length, map, ap, subst, arith, below_more}
 use Rattle.std.proofs.lemmas.Int.{ints}
 use Rattle.std.proofs.lemmas.List.{get_or-map, length-map}
 use Rattle.bip_defs.specs.Bottleneck.{IsFull}
 use Rattle.bip_defs.specs.Lists.{Among}
 use Rattle.bip_defs.specs.Matching.{Covers, IsMatching, cols_of}
 use Rattle.bip_defs.specs.Matrix.{IsEntry, Matrix, Place, cols, upto}
+use Rattle.bip_defs.proofs.Full.{has_all_cols}
 use Rattle.bip_defs.proofs.FullMatchings.{long_full}
 use Rattle.bip_defs.proofs.Sets.{entry_col, few_distinct, rising_distinct, upto_length, upto_lists, upto_rising}
 use Rattle.bip_graph.specs.Matching.{IsMatchingOf, Pairing}
@@ -28,6 +29,10 @@ cheap_matching x m k = record {
 
 pub matching_of : (x : Priced) (m : Pairing) → IsAssigned x m → IsMatchingOf x.weighing.matrix m
 matching_of x m a = record { rows = a.rows_are; cols = a.cols_are; matching = cheap_matching x m.pairs a.matching }
+
+-- an assignment with as many pairs as there are columns has them all
+pub all_assigned : (x : Priced) (m : Pairing) (a : Matrix) → IsAssigned x m → x.weighing.matrix ≡ a → cols a ≤ length m.pairs → (c : ℕ) → c < cols a → Among c (cols_of m.pairs)
+all_assigned x m a k same many = has_all_cols a m.pairs (subst (λ z. IsMatching z m.pairs) same (cheap_matching x m.pairs k.matching)) many
 
 -- a matching of a square matrix that has all its columns
 pub mated_full : (a : Matrix) (m : List Place) → a.rows ≡ cols a → IsMatching a m → ((c : ℕ) → c < cols a → Among c (cols_of m)) → IsFull a m

@@ -40,6 +40,9 @@ pub fn match_all<W: Width>(
     ensures all { OnOk result ((c : ℕ) → c < cols pattern.now
         → Among c (cols_of assignment.new.matching.pairs)) }
 {
+    if assignment.matching.size() == pattern.cols() {
+        return Ok(());
+    }
     let mut search = Search::new(alloc, pattern.rows())?;
     let mut path: Vec<(Row, Col)> = Vec::with_capacity(alloc, pattern.cols() as usize)?;
     for col in 0..pattern.cols() {
