@@ -2,9 +2,11 @@
 //
 //   generate FAMILY COLUMNS SEED [VALUES] > file.mtx
 //
-// With VALUES the file is an integer file with values from 1 to VALUES, else a pattern file; er12i, circuiti and bandi
-// are integer files also without it, and have a diagonal without a hole. Entries stand by column, then by row, each once.
-// Rows and columns have random names where the family has a structure that names would give away.
+// With VALUES the file is an integer file with values from 1 to VALUES, else a pattern file; er12i, circuiti, bandi, hiloi,
+// chaini and trii are integer files also without it, and have a diagonal without a hole. Behind their names can stand -ones
+// (all values are 1), -twos (1 and 2), -large (to 10^12), or -late or -early: the last or the first two columns have entries
+// in the first row alone, so that there is no diagonal. Entries stand by column, then by row, each once. Rows and columns
+// have random names where the family has a structure that names would give away.
 #include <algorithm>
 #include <cstdint>
 #include <cstdio>
@@ -202,6 +204,24 @@ static Matrix closed_band(u64 n) {
   return a;
 }
 
+// Two diagonals that are closed to a ring: two perfect matchings, and each path is as long as the matrix.
+static Matrix closed_chain(u64 n) {
+  Matrix a{n, n, true};
+  for (u64 j = 0; j < n; j++)
+    for (u64 k = 0; k < 2; k++) a.add((j + k) % n, j);
+  return a;
+}
+
+// Four random places above a diagonal: one perfect matching.
+static Matrix triangle(u64 n, Random &random) {
+  Matrix a{n, n, true};
+  for (u64 j = 0; j < n; j++) {
+    a.add(j, j);
+    for (int k = 0; k < 4; k++) a.add(random.below(j + 1), j);
+  }
+  return a;
+}
+
 // The matrix that `btf load` makes from a size and a seed.
 static Matrix load(u64 n, u64 seed) {
   using Wide = unsigned __int128;
@@ -246,6 +266,16 @@ static void arrange(Matrix &a, Random &random) {
   a.places.erase(std::unique(a.places.begin(), a.places.end()), a.places.end());
 }
 
+// The last or the first two columns have entries in the first row alone.
+static void narrow(Matrix &a, bool last) {
+  u64 from = last && a.cols > 2 ? a.cols - 2 : 0;
+  auto narrowed = [from](u64 place) { return place >> 32 == from || place >> 32 == from + 1; };
+  a.places.erase(std::remove_if(a.places.begin(), a.places.end(), narrowed), a.places.end());
+  a.add(0, from);
+  a.add(0, from + 1);
+  std::sort(a.places.begin(), a.places.end());
+}
+
 static void write(const Matrix &a, u64 values, Random &random) {
   std::printf("%%%%MatrixMarket matrix coordinate %s general\n", values ? "integer" : "pattern");
   std::printf("%llu %llu %zu\n", (unsigned long long)a.rows, (unsigned long long)a.cols, a.places.size());
@@ -257,9 +287,12 @@ static void write(const Matrix &a, u64 values, Random &random) {
 }
 
 // The greatest value of the families of integer files.
-static u64 values_of(const std::string &family) {
+static u64 values_of(const std::string &family, const std::string &variant) {
+  if (variant == "ones") return 1;
+  if (variant == "twos") return 2;
+  if (variant == "large") return 1000000000000;
   if (family == "er12i") return 1000000;
-  if (family == "circuiti") return 1000;
+  if (family == "circuiti" || family == "hiloi" || family == "chaini" || family == "trii") return 1000;
   if (family == "bandi") return 100;
   return 0;
 }
@@ -269,9 +302,13 @@ int main(int argc, char **argv) {
     std::fprintf(stderr, "usage: generate FAMILY COLUMNS SEED [VALUES]\n");
     return 2;
   }
-  std::string family = argv[1];
+  std::string family = argv[1], variant;
+  if (size_t dash = family.find('-'); dash != std::string::npos) {
+    variant = family.substr(dash + 1);
+    family.resize(dash);
+  }
   u64 n = std::strtoull(argv[2], nullptr, 10), seed = std::strtoull(argv[3], nullptr, 10);
-  u64 values = argc > 4 ? std::strtoull(argv[4], nullptr, 10) : values_of(family);
+  u64 values = argc > 4 ? std::strtoull(argv[4], nullptr, 10) : values_of(family, variant);
   Random random{seed};
   Matrix a;
   if (family == "er27") a = uniform(n, 27, random);
@@ -281,7 +318,7 @@ int main(int argc, char **argv) {
   else if (family == "rmat") a = recursive(n, random);
   else if (family == "grid2d") a = grid(n);
   else if (family == "circuit" || family == "circuiti") a = circuit(n, random);
-  else if (family == "hilo") a = staircase(n);
+  else if (family == "hilo" || family == "hiloi") a = staircase(n);
   else if (family == "fewg") a = ring(n, random);
   else if (family == "ksbad") a = deceptive(n, random);
   else if (family == "hexa") a = hexagons(n, random);
@@ -291,11 +328,14 @@ int main(int argc, char **argv) {
   else if (family == "load30") a = load(std::max<u64>(n / 30, 1) * 30, seed);
   else if (family == "wide") a = rectangular(std::max<u64>(n * 4 / 5, 1), n, 4, random);
   else if (family == "tall") a = rectangular(std::max<u64>(n * 5 / 4, 1), n, 5, random);
+  else if (family == "chaini") a = closed_chain(n);
+  else if (family == "trii") a = triangle(n, random);
   else if (family == "band" || family == "bandi") a = band(n);
   else {
     std::fprintf(stderr, "generate: no such family\n");
     return 2;
   }
   arrange(a, random);
+  if (variant == "late" || variant == "early") narrow(a, variant == "late");
   write(a, values, random);
 }

@@ -7,13 +7,15 @@ interleaved, and prints a table.
                  [--families er27,grid2d] [--repeats 3] [--peers cxsparse,suitesparse] [--limit SECONDS]
                  [--clock processor] [--other NAME=COMMAND]
 
-Families, sizes and peers are those of the job where none are named. A peer whose package is missing drops out; --other
-adds a program of your own, in whose COMMAND the word JOB stands for the job. Files, programs and outputs go to DIR (by
-default bench-work in the system's folder for temporary files). Times are those of whole processes, from a file in the
-page cache to a text in a file: the median of the repeats, by the wall clock, or by processor seconds where the machine
-is busy. Every program writes the text of `btf rank`, or one with the numbers of `btf analyse`, or a diagonal with the
-sum of `btf diagonal` or the least weight of `btf bottleneck`; a difference is told and makes the exit status 1. Ratios
-of one run compare programs, and stand there against the fastest packaged peer; single times compare nothing.
+Families, sizes and peers are those of the job where none are named; others are hiloi, chaini and trii, and variants of
+the integer families, as er12i-twos or bandi-late (bench/generate.cpp tells what they are). A peer whose package is
+missing drops out; --other adds a program of your own, in whose COMMAND the word JOB stands for the job. Files, programs
+and outputs go to DIR (by default bench-work in the system's folder for temporary files). Times are those of whole
+processes, from a file in the page cache to a text in a file: the median of the repeats, by the wall clock, or by
+processor seconds where the machine is busy. Every program writes the text of `btf rank`, or one with the numbers of
+`btf analyse`, or a diagonal with the sum of `btf diagonal` or the least weight of `btf bottleneck`; a difference is told
+and makes the exit status 1. Ratios of one run compare programs, and stand there against the fastest packaged peer;
+single times compare nothing.
 """
 import argparse
 import os
@@ -46,15 +48,18 @@ COLUMNS = {
     "er12i": 1 / 13,
     "circuiti": 0.29,
     "bandi": 1 / 11,
+    "hiloi": 1 / 9.8,
+    "chaini": 1 / 2,
+    "trii": 1 / 5,
 }
 PATTERNS = "er27,er10,rmat,grid2d,circuit,hilo,fewg,load,ksbad,hexa,lattice,ring,load30,wide,tall"
 
-# job: its families, how many entries, and its peers
+# job: its families, how many entries, its peers, and the statuses of an answer: 1 where there is no diagonal
 JOBS = {
-    "rank": (PATTERNS, "100000,1000000", "cxsparse,suitesparse,igraph,scipy"),
-    "analyse": (PATTERNS, "100000,1000000", "cxsparse,suitesparse,scipy"),
-    "diagonal": ("er12i,circuiti,bandi", "20000,200000,2000000", "mumps,scipy"),
-    "bottleneck": ("er12i,circuiti,bandi", "20000,200000,2000000", "mumps2,mumps3"),
+    "rank": (PATTERNS, "100000,1000000", "cxsparse,suitesparse,igraph,scipy", (0,)),
+    "analyse": (PATTERNS, "100000,1000000", "cxsparse,suitesparse,scipy", (0,)),
+    "diagonal": ("er12i,circuiti,bandi", "20000,200000,2000000", "mumps,scipy", (0, 1)),
+    "bottleneck": ("er12i,circuiti,bandi", "20000,200000,2000000", "mumps2,mumps3", (0, 1)),
 }
 
 # program: what it is linked with
@@ -76,7 +81,7 @@ def build(work, name):
 
 def matrix(work, family, entries):
     """The file of a family with about so many entries."""
-    columns = str(max(1, int(entries * COLUMNS[family])))
+    columns = str(max(1, int(entries * COLUMNS[family.split("-")[0]])))
     path = os.path.join(work, f"{family}-{columns}.mtx")
     if not os.path.exists(path):
         with open(path + ".part", "wb") as file:
@@ -143,7 +148,7 @@ def runs(options, tools, path):
             if name in late:
                 continue
             out = os.path.join(options.work, name + ".out")
-            done = once(command, path, out, options.limit)
+            done = once(command, path, out, options.limit, JOBS[options.job][3])
             if done is None:
                 late.add(name)
                 continue

@@ -1,11 +1,12 @@
 -- Full matchings and their prices, as they are answered.
-use Rattle.std.proofs.Common.{◌≡◌, ◌∙◌, ℕ, ℤ, pos, ◌-ℤ◌, slice_index, ◌+◌, ◌<◌, List, [], length, map, ap, arith, below_more}
+use Rattle.std.proofs.Common.{◌≡◌, ◌∙◌, ℕ, ℤ, pos, ◌-ℤ◌, slice_index, ◌+◌, ◌<◌, ◌≤◌, List, [], length, map, ap, subst, arith, below_more}
 use Rattle.std.proofs.lemmas.Int.{ints}
 use Rattle.std.proofs.lemmas.List.{get_or-map, length-map}
 use Rattle.bip_defs.specs.Bottleneck.{IsFull}
 use Rattle.bip_defs.specs.Lists.{Among}
 use Rattle.bip_defs.specs.Matching.{Covers, IsMatching, cols_of}
 use Rattle.bip_defs.specs.Matrix.{IsEntry, Matrix, Place, cols, upto}
+use Rattle.bip_defs.proofs.Full.{has_all_cols}
 use Rattle.bip_defs.proofs.FullMatchings.{long_full}
 use Rattle.bip_defs.proofs.Sets.{entry_col, few_distinct, rising_distinct, upto_length, upto_lists, upto_rising}
 use Rattle.bip_graph.specs.Matching.{IsMatchingOf, Pairing}
@@ -14,6 +15,7 @@ use Rattle.integer_diagonal.proofs.Cheap.{cheap_entry}
 use Rattle.integer_diagonal.specs.declared.assignment.Assignment.{Assignment}
 use Rattle.integer_diagonal.specs.declared.search.Search.{Search}
 use Rattle.integer_diagonal.specs.Labels.{IsClear, labels_of, tree_of}
+use Rattle.integer_diagonal.specs.Mated.{AreMated}
 use Rattle.integer_diagonal.specs.Duals.{IsAssigned, IsAssignment, IsFeasible, Priced, cheap, dual}
 use Rattle.integer_diagonal.specs.Prices.{AreFair, price}
 use Rattle.sp_pattern.specs.Weights.{Weighing}
@@ -27,6 +29,10 @@ cheap_matching x m k = record {
 
 pub matching_of : (x : Priced) (m : Pairing) → IsAssigned x m → IsMatchingOf x.weighing.matrix m
 matching_of x m a = record { rows = a.rows_are; cols = a.cols_are; matching = cheap_matching x m.pairs a.matching }
+
+-- an assignment with as many pairs as there are columns has them all
+pub all_assigned : (x : Priced) (m : Pairing) (a : Matrix) → IsAssigned x m → x.weighing.matrix ≡ a → cols a ≤ length m.pairs → (c : ℕ) → c < cols a → Among c (cols_of m.pairs)
+all_assigned x m a k same many = has_all_cols a m.pairs (subst (λ z. IsMatching z m.pairs) same (cheap_matching x m.pairs k.matching)) many
 
 -- a matching of a square matrix that has all its columns
 pub mated_full : (a : Matrix) (m : List Place) → a.rows ≡ cols a → IsMatching a m → ((c : ℕ) → c < cols a → Among c (cols_of m)) → IsFull a m
@@ -50,13 +56,6 @@ module _ (x : Priced) (u v : List ℤ) where
     where
       both : (r c : ℕ) → IsEntry x.weighing.matrix r c → (price u r ≡ pos (slice_index x.prices r) -ℤ pos x.top) × (price v c ≡ pos (x.top + x.top) -ℤ pos (dual x c))
       both r c e = (row_price eu r (let in_rows = e.0 in let long = f.prices_are in omega (arith, in_rows, long)), col_price ev c (let in_cols = entry_col x.weighing.matrix r c e in let long = f.duals_are in omega (arith, in_cols, long)))
-
--- the columns below n have mates, and the search is ready for the next one
-pub record AreMated {W : Type 0} (w : Weighing) (rows : ℕ) (a : Assignment W) (s : Search W) (n : ℕ) : Type 0 where
-  pub assignment : IsAssignment w a
-  pub clear : IsClear rows (tree_of s) (labels_of s)
-  pub listed : s.reached.items ≡ []
-  pub done : (c : ℕ) → c < n → Among c (cols_of a.matching.pairs)
 
 pub mated_same : {W : Type 0} (w : Weighing) (rows : ℕ) (a : Assignment W) (s : Search W) (n : ℕ) → AreMated w rows a s n → Among n (cols_of a.matching.pairs) → AreMated w rows a s (n + 1)
 mated_same w rows a s n m on = record { assignment = m.assignment; clear = m.clear; listed = m.listed; done = below_more (λ c. Among c (cols_of a.matching.pairs)) n m.done on }

@@ -4,11 +4,13 @@ pub mod Augmented
 pub mod Bounds
 pub mod Cheap
 pub mod Duality
+pub mod FairnessLemmas
 pub mod GrownTrees
 pub mod HallSets
 pub mod HeapLemmas
 pub mod Levels
 pub mod PathLemmas
+pub mod PhaseLemmas
 pub mod RaisedDuals
 pub mod RaisedPrices
 pub mod Repeated

@@ -1,8 +1,11 @@
 pub mod Amounts
+pub mod Candidates
+pub mod Distances
 pub mod Duals
 pub mod FirstPrices
 pub mod Heaviest
 pub mod Labels
+pub mod Mated
 pub mod Nearness
 pub mod Prices
 pub mod SearchTree

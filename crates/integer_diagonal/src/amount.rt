@@ -1,6 +1,6 @@
 //! Costs, prices and distances.
 
-ghost use Rattle.std.specs.Prelude.{◌≡◌, ℕ, ◌+◌, ◌-◌, ◌<◌, ◌≤◌, ◌==◌, ⊤, pos};
+ghost use Rattle.std.specs.Prelude.{◌≡◌, ℕ, ◌+◌, ◌-◌, ◌<◌, ◌≤◌, ◌==◌, ⊤, pos, IfSome};
 ghost use Rattle.std.specs.Ordering.{as_partial_cmp, nat_cmp};
 ghost use Rattle.std.specs.Cmp.{partial_order_from_own_ties};
 ghost use Rattle.std.specs.Cmp.Rules.{comparing};
@@ -56,6 +56,13 @@ impl<W: Width> Amount<W> {
         ensures { result ≡ pos self }
     {
         self.0.signed()
+    }
+
+    /// The cost that this is, if it is not too great for one.
+    pub fn as_cost(self) -> Option<u64>
+        ensures { IfSome result (λ cost. cost ≡ self) }
+    {
+        self.0.as_cost()
     }
 }
 

@@ -14,8 +14,8 @@ ghost use Rattle.sp_pattern.specs.Weights.{Weighing};
 
 use crate::amount::Amount;
 use crate::assignment::Assignment;
-use crate::path::extend;
-use crate::search::Search;
+use crate::phases::match_by_phases;
+use crate::searches::{match_all, match_early};
 use crate::start::{greatest_of_all, start};
 use crate::tight::match_tight;
 use crate::width::Width;
@@ -33,17 +33,21 @@ use std::alloc::Global;
 /// The weights must be those of the pattern. `Rectangular` exactly where the matrix has not as many
 /// rows as columns; `Singular` exactly where it has, and its rank is less, with the columns that
 /// some maximum matching misses. Answers `OutOfMemory` where there is no memory for a pattern of
-/// the entries that cost as much as the first prices ask, for what `pothen_fan::complete` takes,
-/// for a copy of the matching, or for the tables and the heap of a search. The tables take 65 bytes
-/// a row or column where the greatest weight times 3 n + 4, for n columns, is less than 2^64 - 1:
-/// then all sums of a search are kept in numbers of 64 bits. Else they are kept in numbers of 128
-/// bits, and the tables take 97 bytes a row or column.
+/// the entries that cost as much as the prices ask, for what `pothen_fan::complete` takes, for a
+/// copy of the matching, for the prices of a phase, or for the tables and the heap of a search. The
+/// tables take 65 bytes a row or column where the greatest weight times 3 n + 4, for n columns, is
+/// less than 2^64 - 1: then all sums of a search are kept in numbers of 64 bits. Else they are kept
+/// in numbers of 128 bits, and the tables take 97 bytes a row or column.
 ///
 /// Work: the phases of a maximum matching of the entries that cost as much as the first prices ask,
 /// which is all there is to do where all weights are equal; if it leaves columns unmatched, those
 /// of a maximum matching of the whole pattern, after which a matrix with no diagonal is answered.
-/// Else one search for each column that is left, each of which looks at each entry once at most and
-/// keeps what it reaches in a heap (Kuhn 1955; Munkres 1957; Duff and Koster 2001).
+/// Else one search for each column that is left, as long as these are short; then phases, each of
+/// which goes from all unmatched columns at once, or from all unmatched rows, raises prices by the
+/// distances and matches what costs as much as these ask, as long as each matches a column more and
+/// sums have room; and one search for each column that is left then. A search looks at each entry
+/// once at most, a phase three times, from the rows with a search in its column, and both keep what
+/// they reach in a heap (Kuhn 1955; Munkres 1957; Gabow and Tarjan 1989; Duff and Koster 2001).
 pub fn heaviest(
     alloc: Global,
     pattern: &Pattern,
@@ -56,20 +60,11 @@ pub fn heaviest(
         return Ok(Heaviest::Rectangular);
     }
     let top = greatest_of_all(pattern, weights);
-    if fits_64_bits(pattern.cols(), top) {
+    if u64::has_room(pattern.cols(), top) {
         heaviest_of_square::<u64>(alloc, pattern, weights, top)
     } else {
         heaviest_of_square::<u128>(alloc, pattern, weights, top)
     }
-}
-
-// Whether numbers of 64 bits have room for all sums, where a matrix has so many columns, and no
-// entry weighs more than `top`.
-fn fits_64_bits(columns: u32, top: u64) -> bool
-    ensures { IsTrue result ↔ HasRoom columns top (2 ^ 64 - 1) }
-{
-    let top = top as u128;
-    3 * (columns as u128 * top) + 4 * top < u64::MAX as u128
 }
 
 // The answer for a square matrix in which no entry weighs more than `top`, by numbers of one width.
@@ -87,49 +82,18 @@ fn heaviest_of_square<W: Width>(
     ensures { IfOk result (IsHeaviest weights.now) }
 {
     let assignment = start::<W>(alloc, pattern, weights, top)?;
-    let mut assignment = match_tight(alloc, pattern, weights, assignment)?;
+    let assignment = match_tight(alloc, pattern, weights, assignment)?;
     if assignment.matching.size() == pattern.cols() {
         return diagonal(alloc, pattern, weights, assignment);
     }
     if let Some(singular) = singular(alloc, pattern, &assignment.matching)? {
         return Ok(singular);
     }
+    let mut assignment = assignment;
+    match_early(alloc, pattern, weights, &mut assignment)?;
+    let mut assignment = match_by_phases(alloc, pattern, weights, assignment)?;
     match_all(alloc, pattern, weights, &mut assignment)?;
     diagonal(alloc, pattern, weights, assignment)
-}
-
-// Gives each column a mate, one after another. There must be a full matching.
-//
-// What the searches keep is given back at the end.
-fn match_all<W: Width>(
-    alloc: Global,
-    pattern: &Pattern,
-    weights: &Weights,
-    assignment: &mut Assignment<W>,
-) -> Result<(), OutOfMemory>
-    requires of { weights.now.matrix ≡ pattern.now }
-    requires assignment { IsAssignment weights.now assignment.old }
-    requires square { pattern.now.rows ≡ cols pattern.now }
-    requires few { cols pattern.now < 2 ^ 32 }
-    requires room { HasRoom (cols pattern.now) assignment.old.top W.limit }
-    requires full { (m : List Place) × IsFull pattern.now m }
-    ensures assignment { OnOk result (IsAssignment weights.now assignment.new) }
-    ensures top { OnOk result (assignment.new.top ≡ assignment.old.top) }
-    ensures all { OnOk result ((c : ℕ) → c < cols pattern.now
-        → Among c (cols_of assignment.new.matching.pairs)) }
-{
-    let mut search = Search::new(alloc, pattern.rows())?;
-    let mut path: Vec<(Row, Col)> = Vec::with_capacity(alloc, pattern.cols() as usize)?;
-    for col in 0..pattern.cols() {
-        let root = Col(col);
-        if assignment.matching.row_of(root).is_none() {
-            let found = extend(pattern, weights, assignment, &mut search, &mut path, root)?;
-            if !found {
-                unreachable!()
-            }
-        }
-    }
-    Ok(())
 }
 
 // The answer where the matrix has no diagonal. The matching, which is made longer in a copy, says

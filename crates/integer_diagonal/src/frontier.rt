@@ -51,6 +51,7 @@ impl<W: Width> Frontier<W> {
     }
 
     /// Adds a row at a distance. It may stand there several times.
+    #[inline(always)]
     pub fn push(&mut self, distance: Amount<W>, row: u32) -> Result<(), AllocError>
         ensures { OnOk result
             ((e : ℕ × ℕ) → Among e self.new ↔ ((e ≡ (distance, row)) ⊎ Among e self.old)) }

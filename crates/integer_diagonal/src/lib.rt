@@ -2,16 +2,23 @@
 //!
 //! Shortest augmenting paths over reduced costs, with prices that stay feasible throughout (Kuhn
 //! 1955; Munkres 1957), by searches in order of distance that end at the nearest unmatched row
-//! (Duff and Koster 2001, for sparse matrices).
+//! (Duff and Koster 2001, for sparse matrices). Where these get long, phases go from all unmatched
+//! columns or rows at once and match all that they can (Gabow and Tarjan 1989), and past the first
+//! unmatched one: whether prices are still feasible is looked at on every entry.
 #![tactic(auto)]
 
 mod amount;
 mod answer;
 mod assignment;
+mod distances;
+mod fairness;
 mod frontier;
 mod laws;
 mod path;
+mod phases;
 mod search;
+mod searches;
+mod side;
 mod start;
 mod tight;
 mod width;

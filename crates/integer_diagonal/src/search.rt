@@ -19,7 +19,8 @@ use sp_pattern::{Pattern, Weights};
 use std::alloc::{AllocError, Global};
 
 /// What a search keeps. The queue has the columns that it has come to, each with the place of the
-/// one that it was led from, and their distances.
+/// one that it was led from, and their distances. Beside it stand how many searches there were
+/// before, and how many columns they came to.
 #[derive(Drop)]
 pub struct Search<W: Width> {
     pub distances: Vec<Amount<W>>,
@@ -29,6 +30,8 @@ pub struct Search<W: Width> {
     pub queue: Vec<(u32, u32)>,
     pub depths: Vec<Amount<W>>,
     pub frontier: Frontier<W>,
+    pub searches: u64,
+    pub visits: u64,
 }
 
 /// The nearest unmatched row so far, with its distance and the place of the column that it was
@@ -58,6 +61,8 @@ impl<W: Width> Search<W> {
             queue: Vec::with_capacity(alloc, rows)?,
             depths: Vec::with_capacity(alloc, rows)?,
             frontier: Frontier::new(alloc),
+            searches: 0,
+            visits: 0,
         })
     }
 
@@ -75,6 +80,8 @@ impl<W: Width> Search<W> {
             self.distances[row] = Amount::infinity();
             self.settled[row] = false;
         }
+        self.searches = self.searches.saturating_add(1);
+        self.visits = self.visits.saturating_add(self.queue.len() as u64);
         self.reached.clear();
         self.queue.clear();
         self.depths.clear();

@@ -1,9 +1,9 @@
 //! Numbers of 64 or of 128 bits, which a search adds up in.
 
-ghost use Rattle.std.specs.Prelude.{◌≡◌, ℕ, ◌+◌, ◌-◌, ◌^◌, ◌<◌, ◌≤◌, pos};
+ghost use Rattle.std.specs.Prelude.{◌≡◌, ◌↔◌, ℕ, ◌+◌, ◌-◌, ◌^◌, ◌<◌, ◌≤◌, pos, IfSome, IsTrue};
 ghost use Rattle.std.specs.Ordering.{nat_cmp};
 ghost use Rattle.std.proofs.Common.{refl, rules};
-ghost use Rattle.integer_diagonal.specs.Amounts.{amount_of_64, infinity, number_of_64, number_of_amount};
+ghost use Rattle.integer_diagonal.specs.Amounts.{HasRoom, amount_of_64, infinity, number_of_64, number_of_amount};
 
 use std::cmp::Ordering;
 
@@ -51,6 +51,15 @@ pub trait Width: Copy {
         requires { amount self < limit }
         ensures { result ≡ pos (amount self) };
 
+    /// The cost that this stands for, if it is not too great for one.
+    fn as_cost(self) -> Option<u64>
+        ensures { IfSome result (λ cost. cost ≡ amount self) };
+
+    /// Whether all sums are less than the limit where a matrix has so many columns, and no entry
+    /// weighs more than `top`.
+    fn has_room(columns: u32, top: u64) -> bool
+        ensures { IsTrue result ↔ HasRoom columns top limit };
+
     /// Each sum is less than what stands for no distance.
     ghost in_range: { (0 < limit) × (limit ≤ 2 ^ 100) };
 }
@@ -88,6 +97,15 @@ impl Width for u64 {
         self as i128
     }
 
+    fn as_cost(self) -> Option<u64> {
+        if self == u64::MAX { None } else { Some(self) }
+    }
+
+    fn has_room(columns: u32, top: u64) -> bool {
+        let top = top as u128;
+        3 * (columns as u128 * top) + 4 * top < u64::MAX as u128
+    }
+
     ghost in_range = { Prim.search rules };
 }
 
@@ -122,6 +140,19 @@ impl Width for u128 {
 
     fn signed(self) -> i128 {
         self as i128
+    }
+
+    fn as_cost(self) -> Option<u64> {
+        if self > u64::MAX as u128 {
+            None
+        } else {
+            Some(self as u64)
+        }
+    }
+
+    fn has_room(columns: u32, top: u64) -> bool {
+        let top = top as u128;
+        3 * (columns as u128 * top) + 4 * top < 1267650600228229401496703205376
     }
 
     ghost in_range = { Prim.search rules };

@@ -5,10 +5,10 @@ use Rattle.integer_diagonal.specs.Amounts.{HasRoom}
 use Rattle.integer_diagonal.proofs.answer.heaviest.Goals as goal
 
 pub heaviest_of_square-requires-clause-room : goal.heaviest_of_square-requires-clause-room
-heaviest_of_square-requires-clause-room c = subst (λ n. HasRoom n c.greatest_of_all-top.result (2 ^ 64 - 1)) c.cols-2.ensures (c.fits_64_bits.ensures.0 c.if-fits_64_bits.true)
+heaviest_of_square-requires-clause-room c = subst (λ n. HasRoom n c.greatest_of_all-top.result (2 ^ 64 - 1)) c.cols-2.ensures (c.has_room.ensures.0 c.if-has_room.true)
 
-pub heaviest_of_square-requires-else-fits_64_bits-clause-room : goal.heaviest_of_square-requires-else-fits_64_bits-clause-room
-heaviest_of_square-requires-else-fits_64_bits-clause-room c =
+pub heaviest_of_square-requires-else-has_room-clause-room : goal.heaviest_of_square-requires-else-has_room-clause-room
+heaviest_of_square-requires-else-has_room-clause-room c =
     let few : cols c.args.pattern.now < 2 ^ 32 = search rules in
     let small : c.greatest_of_all-top.result < 2 ^ 64 = search rules in
     let product = mul-le (cols c.args.pattern.now) c.greatest_of_all-top.result (2 ^ 32) (2 ^ 64) (omega (arith, few)) (omega (arith, small)) in

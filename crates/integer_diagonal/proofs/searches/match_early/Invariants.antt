@@ -1,7 +1,7 @@
 use Rattle.std.proofs.Common.{◌≡◌, ◌≤◌, vec_capacity}
 use Rattle.bip_defs.specs.Matrix.{cols}
-use Rattle.integer_diagonal.proofs.AnswerLemmas.{AreMated}
-use Rattle.integer_diagonal.proofs.answer.match_all.Given as goal
+use Rattle.integer_diagonal.specs.Mated.{AreMated}
+use Rattle.integer_diagonal.proofs.searches.match_early.Given as goal
 
 abbrev pub invariant-loop-col : goal.invariant-loop-col
 invariant-loop-col g l = record {

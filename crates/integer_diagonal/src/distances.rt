@@ -1,0 +1,284 @@
+//! Distances from all unmatched columns at once, or from all unmatched rows.
+
+ghost use Rattle.std.specs.Prelude.{◌≡◌, ℕ, ◌+◌, ◌<◌, ◌≤◌, length, IfOk, IfSome, OnOk};
+ghost use Rattle.bip_defs.specs.Lists.{Among};
+ghost use Rattle.bip_defs.specs.Matrix.{cols};
+ghost use Rattle.integer_diagonal.specs.Amounts.{HasRoom};
+ghost use Rattle.integer_diagonal.specs.Duals.{IsAssignment};
+ghost use Rattle.integer_diagonal.specs.Distances.{AreNear, AreWithin};
+
+use crate::amount::Amount;
+use crate::assignment::Assignment;
+use crate::frontier::Frontier;
+use crate::side::Side;
+use crate::width::Width;
+use bip_graph::Matching;
+use sp_ids::{Col, Id, OutOfMemory, Row};
+use sp_pattern::{Pattern, Weights};
+use std::alloc::{AllocError, Global};
+
+/// How far the vertices of one side are from the nearest unmatched one of the other by reduced costs,
+/// those that are no farther than `radius`. The distance of each other one is more, or not known.
+///
+/// The side that is searched from is called near, the other far.
+#[derive(Drop)]
+pub struct Distances<W: Width> {
+    pub side: Side,
+    pub of_far: Vec<Amount<W>>,
+    pub radius: Amount<W>,
+    pub frontier: Frontier<W>,
+}
+
+impl<W: Width> Distances<W> {
+    /// Goes from all unmatched vertices of a side at once to those of the other that are nearest by
+    /// reduced cost, and on from each matched one by its mate, until four in five of so many
+    /// unmatched ones are reached, or there are no more within the greatest cost (Dijkstra 1959).
+    ///
+    /// Answers `OutOfMemory` where the distances, or the heap, can't be had. Work: at most one look
+    /// at each entry, and from the rows a search in its column for each.
+    pub fn spread(
+        alloc: Global,
+        pattern: &Pattern,
+        weights: &Weights,
+        assignment: &Assignment<W>,
+        side: Side,
+        unmatched: u32,
+    ) -> Result<Distances<W>, OutOfMemory>
+        requires of { weights.now.matrix ≡ pattern.now }
+        requires square { pattern.now.rows ≡ cols pattern.now }
+        requires assignment { IsAssignment weights.now assignment.now }
+        requires room { HasRoom (cols pattern.now) assignment.now.top W.limit }
+        ensures { IfOk result (λ l. AreWithin pattern.now.rows assignment.now.top l) }
+    {
+        let of_far = vec![in alloc; Amount::infinity(); pattern.rows() as usize]?;
+        let mut distances = Distances {
+            side,
+            of_far,
+            radius: Amount::zero(),
+            frontier: Frontier::new(alloc),
+        };
+        for near in 0..pattern.rows() {
+            if side.mate(&assignment.matching, near).is_none() {
+                distances.scan(pattern, weights, assignment, near, Amount::zero())?;
+            }
+        }
+        distances.settle(
+            pattern,
+            weights,
+            assignment,
+            unmatched.saturating_sub(unmatched / 5),
+        )?;
+        Ok(distances)
+    }
+
+    /// By how much the price of a row rises: by how much nearer than the radius it is, or by its
+    /// distance, where that is from the rows.
+    pub fn rise_of_row(&self, matching: &Matching, row: u32) -> Amount<W>
+        requires row { row < matching.now.rows }
+        requires square { matching.now.rows ≡ matching.now.cols }
+        requires far { length self.now.of_far.items ≡ matching.now.rows }
+        requires fits { self.now.radius < W.limit }
+        ensures { result ≤ self.now.radius }
+    {
+        match self.side {
+            Side::Columns => self.radius - self.label(row),
+            Side::Rows => self.label_of_near(matching, row),
+        }
+    }
+
+    /// By how much the dual variable of a column rises: by how much nearer than the radius it is,
+    /// or by its distance, where that is from the rows.
+    pub fn rise_of_col(&self, matching: &Matching, col: u32) -> Amount<W>
+        requires col { col < matching.now.cols }
+        requires square { matching.now.rows ≡ matching.now.cols }
+        requires far { length self.now.of_far.items ≡ matching.now.rows }
+        requires fits { self.now.radius < W.limit }
+        ensures { result ≤ self.now.radius }
+    {
+        match self.side {
+            Side::Columns => self.radius - self.label_of_near(matching, col),
+            Side::Rows => self.label(col),
+        }
+    }
+
+    // The distance of a far vertex, or the radius where that is less.
+    fn label(&self, far: u32) -> Amount<W>
+        requires far { far < length self.now.of_far.items }
+        ensures { result ≤ self.now.radius }
+    {
+        let distance = self.of_far[far as usize];
+        if distance < self.radius {
+            return distance;
+        }
+        self.radius
+    }
+
+    // That of the mate of a near vertex, or nothing where it has none.
+    fn label_of_near(&self, matching: &Matching, near: u32) -> Amount<W>
+        requires near { near < matching.now.rows }
+        requires square { matching.now.rows ≡ matching.now.cols }
+        requires far { length self.now.of_far.items ≡ matching.now.rows }
+        ensures { result ≤ self.now.radius }
+    {
+        match self.side.mate(matching, near) {
+            Some(far) => self.label(far),
+            None => Amount::zero(),
+        }
+    }
+
+    // Takes out the nearest far vertices, one after another, until so many unmatched ones are among
+    // them.
+    fn settle(
+        &mut self,
+        pattern: &Pattern,
+        weights: &Weights,
+        assignment: &Assignment<W>,
+        wanted: u32,
+    ) -> Result<(), AllocError>
+        requires of { weights.now.matrix ≡ pattern.now }
+        requires square { pattern.now.rows ≡ cols pattern.now }
+        requires assignment { IsAssignment weights.now assignment.now }
+        requires room { HasRoom (cols pattern.now) assignment.now.top W.limit }
+        requires near { AreNear pattern.now.rows assignment.now.top self.old }
+        ensures { OnOk result (AreWithin pattern.now.rows assignment.now.top self.new) }
+    {
+        let mut wanted = wanted;
+        for _turn in 0..pattern.rows() {
+            if wanted == 0 {
+                return Ok(());
+            }
+            match self.next() {
+                Some(nearest) => {
+                    let (distance, far) = nearest;
+                    self.radius = distance;
+                    match self.side.other().mate(&assignment.matching, far) {
+                        Some(near) => self.scan(pattern, weights, assignment, near, distance)?,
+                        None => wanted -= 1,
+                    }
+                }
+                None => return Ok(()),
+            }
+        }
+        Ok(())
+    }
+
+    // Takes out the nearest far vertex that has not been taken out.
+    fn next(&mut self) -> Option<(Amount<W>, u32)>
+        requires { (e : ℕ × ℕ) → Among e self.old.frontier → e.1 < length self.old.of_far.items }
+        ensures taken { IfSome result (λ e. Among e self.old.frontier) }
+        ensures rest { IfSome result
+            (λ _. (e : ℕ × ℕ) → Among e self.new.frontier → Among e self.old.frontier) }
+        ensures of_far { self.new.of_far ≡ self.old.of_far }
+        ensures radius { self.new.radius ≡ self.old.radius }
+    {
+        while let Some(nearest) = self.frontier.pop() {
+            let (distance, far) = nearest;
+            if distance == self.of_far[far as usize] {
+                return Some((distance, far));
+            }
+        }
+        None
+    }
+
+    // Looks at the entries of a near vertex at this distance.
+    fn scan(
+        &mut self,
+        pattern: &Pattern,
+        weights: &Weights,
+        assignment: &Assignment<W>,
+        near: u32,
+        depth: Amount<W>,
+    ) -> Result<(), AllocError>
+        requires of { weights.now.matrix ≡ pattern.now }
+        requires square { pattern.now.rows ≡ cols pattern.now }
+        requires assignment { IsAssignment weights.now assignment.now }
+        requires room { HasRoom (cols pattern.now) assignment.now.top W.limit }
+        requires vertex { near < pattern.now.rows }
+        requires depth { depth ≤ assignment.now.top }
+        requires near { AreNear pattern.now.rows assignment.now.top self.old }
+        ensures { OnOk result (AreNear pattern.now.rows assignment.now.top self.new) }
+    {
+        match self.side {
+            Side::Columns => self.scan_col(pattern, weights, assignment, Col(near), depth),
+            Side::Rows => self.scan_row(pattern, weights, assignment, Row(near), depth),
+        }
+    }
+
+    // Looks at the entries of a column at this distance.
+    fn scan_col(
+        &mut self,
+        pattern: &Pattern,
+        weights: &Weights,
+        assignment: &Assignment<W>,
+        col: Col,
+        depth: Amount<W>,
+    ) -> Result<(), AllocError>
+        requires of { weights.now.matrix ≡ pattern.now }
+        requires assignment { IsAssignment weights.now assignment.now }
+        requires room { HasRoom (cols pattern.now) assignment.now.top W.limit }
+        requires col { col < cols pattern.now }
+        requires depth { depth ≤ assignment.now.top }
+        requires near { AreNear pattern.now.rows assignment.now.top self.old }
+        ensures { OnOk result (AreNear pattern.now.rows assignment.now.top self.new) }
+    {
+        let farthest = Amount::of(assignment.top);
+        let dual = assignment.duals[col.0 as usize];
+        let rows = pattern.rows_of(col);
+        let weights = weights.weights_of(col);
+        for k in 0..rows.len() {
+            let row = rows[k].number();
+            let price = assignment.prices[row as usize];
+            let cost = Amount::of(assignment.top - weights[k]);
+            let distance = depth + (price + cost - dual);
+            self.look(row, distance, farthest)?;
+        }
+        Ok(())
+    }
+
+    // Looks at the entries of a row at this distance.
+    fn scan_row(
+        &mut self,
+        pattern: &Pattern,
+        weights: &Weights,
+        assignment: &Assignment<W>,
+        row: Row,
+        depth: Amount<W>,
+    ) -> Result<(), AllocError>
+        requires of { weights.now.matrix ≡ pattern.now }
+        requires assignment { IsAssignment weights.now assignment.now }
+        requires room { HasRoom (cols pattern.now) assignment.now.top W.limit }
+        requires row { row < pattern.now.rows }
+        requires depth { depth ≤ assignment.now.top }
+        requires near { AreNear (cols pattern.now) assignment.now.top self.old }
+        ensures { OnOk result (AreNear (cols pattern.now) assignment.now.top self.new) }
+    {
+        let farthest = Amount::of(assignment.top);
+        let price = assignment.prices[row.0 as usize];
+        let cols = pattern.cols_of(row);
+        for k in 0..cols.len() {
+            let col = cols[k];
+            let dual = assignment.duals[col.0 as usize];
+            let cost = Amount::of(assignment.top - weights.weight(row, col));
+            let distance = depth + (price + cost - dual);
+            self.look(col.0, distance, farthest)?;
+        }
+        Ok(())
+    }
+
+    // Notes the distance of a far vertex, if it is nearer than was known, and not farther than this.
+    fn look(&mut self, far: u32, distance: Amount<W>, farthest: Amount<W>) -> Result<(), AllocError>
+        requires { far < length self.old.of_far.items }
+        ensures { OnOk result (AreNear (length self.old.of_far.items) farthest self.old
+            → AreNear (length self.old.of_far.items) farthest self.new) }
+    {
+        if farthest < distance {
+            return Ok(());
+        }
+        if distance >= self.of_far[far as usize] {
+            return Ok(());
+        }
+        self.of_far[far as usize] = distance;
+        self.frontier.push(distance, far)?;
+        Ok(())
+    }
+}

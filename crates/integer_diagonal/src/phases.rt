@@ -1,0 +1,131 @@
+//! Phases, each of which searches from all unmatched columns at once.
+
+ghost use Rattle.std.specs.Prelude.{◌≡◌, ℕ, ◌+◌, ◌<◌, ◌≤◌, length, slice_index, IfOk};
+ghost use Rattle.bip_defs.specs.Matrix.{cols};
+ghost use Rattle.integer_diagonal.specs.Amounts.{HasRoom};
+ghost use Rattle.integer_diagonal.specs.Duals.{IsAssignment};
+
+use crate::amount::Amount;
+use crate::assignment::Assignment;
+use crate::distances::Distances;
+use crate::fairness::at_prices;
+use crate::side::Side;
+use crate::tight::match_tight;
+use crate::width::Width;
+use sp_ids::OutOfMemory;
+use sp_pattern::{Pattern, Weights};
+use std::alloc::Global;
+
+// Where no more columns than these are unmatched, a search for each of them is less work.
+const FEW: u32 = 4;
+
+/// Gives mates to most of the columns that have none, a part of them in each phase: distances from
+/// all of them at once, or from all unmatched rows in every second phase, by which prices rise, and
+/// then as many pairs as can be had of the entries that cost as much as these ask.
+///
+/// The last columns and the last rows are far from all others: taken in turn, each side draws the
+/// other's end near. It ends where few columns are left, or a phase gave none a mate. Beside what it
+/// answers it takes what `match_tight` takes, new prices, and a distance and a place in a heap for
+/// each row, or answers `OutOfMemory`. Work of a phase: three looks at each entry, one of which is a
+/// search in its column where the phase is from the rows, and the phases of a maximum matching of
+/// those that cost as much as the prices ask.
+pub fn match_by_phases<W: Width>(
+    alloc: Global,
+    pattern: &Pattern,
+    weights: &Weights,
+    assignment: Assignment<W>,
+) -> Result<Assignment<W>, OutOfMemory>
+    requires of { weights.now.matrix ≡ pattern.now }
+    requires square { pattern.now.rows ≡ cols pattern.now }
+    requires assignment { IsAssignment weights.now assignment }
+    requires room { HasRoom (cols pattern.now) assignment.top W.limit }
+    ensures assignment { IfOk result (IsAssignment weights.now) }
+    ensures room { IfOk result (λ a. HasRoom (cols pattern.now) a.top W.limit) }
+{
+    let mut assignment = assignment;
+    let mut side = Side::Columns;
+    for _turn in 0..pattern.cols() {
+        let size = assignment.matching.size();
+        if size >= pattern.cols() {
+            return Ok(assignment);
+        }
+        let unmatched = pattern.cols() - size;
+        if unmatched <= FEW {
+            return Ok(assignment);
+        }
+        assignment = phase(alloc, pattern, weights, assignment, side, unmatched)?;
+        if assignment.matching.size() <= size {
+            return Ok(assignment);
+        }
+        side = side.other();
+    }
+    Ok(assignment)
+}
+
+// Prices that are higher by the distances from all unmatched vertices of a side, and as many pairs
+// as can be had of the entries that cost as much as these ask.
+fn phase<W: Width>(
+    alloc: Global,
+    pattern: &Pattern,
+    weights: &Weights,
+    assignment: Assignment<W>,
+    side: Side,
+    unmatched: u32,
+) -> Result<Assignment<W>, OutOfMemory>
+    requires of { weights.now.matrix ≡ pattern.now }
+    requires square { pattern.now.rows ≡ cols pattern.now }
+    requires assignment { IsAssignment weights.now assignment }
+    requires room { HasRoom (cols pattern.now) assignment.top W.limit }
+    ensures assignment { IfOk result (IsAssignment weights.now) }
+    ensures room { IfOk result (λ a. HasRoom (cols pattern.now) a.top W.limit) }
+{
+    let distances = Distances::spread(alloc, pattern, weights, &assignment, side, unmatched)?;
+    let prices = higher_prices(alloc, &assignment, &distances)?;
+    let duals = higher_duals(alloc, &assignment, &distances)?;
+    let assignment = at_prices(alloc, pattern, weights, assignment, prices, duals)?;
+    match_tight(alloc, pattern, weights, assignment)
+}
+
+// Each price, and what it rises by.
+fn higher_prices<W: Width>(
+    alloc: Global,
+    assignment: &Assignment<W>,
+    distances: &Distances<W>,
+) -> Result<Vec<Amount<W>>, OutOfMemory>
+    requires prices { length assignment.now.prices.items ≡ assignment.now.matching.rows }
+    requires square { assignment.now.matching.rows ≡ assignment.now.matching.cols }
+    requires far { length distances.now.of_far.items ≡ assignment.now.matching.rows }
+    requires radius { distances.now.radius < W.limit }
+    requires fits { (r : ℕ) → slice_index assignment.now.prices.items r + distances.now.radius
+        < W.limit }
+    ensures { IfOk result (λ higher. length higher.items ≡ assignment.now.matching.rows) }
+{
+    let mut higher = Vec::with_capacity(alloc, assignment.prices.len())?;
+    for row in 0..assignment.matching.rows() {
+        let rise = distances.rise_of_row(&assignment.matching, row);
+        higher.push(assignment.prices[row as usize] + rise)?;
+    }
+    Ok(higher)
+}
+
+// Each dual variable, and what it rises by.
+fn higher_duals<W: Width>(
+    alloc: Global,
+    assignment: &Assignment<W>,
+    distances: &Distances<W>,
+) -> Result<Vec<Amount<W>>, OutOfMemory>
+    requires duals { length assignment.now.duals.items ≡ assignment.now.matching.cols }
+    requires square { assignment.now.matching.rows ≡ assignment.now.matching.cols }
+    requires far { length distances.now.of_far.items ≡ assignment.now.matching.rows }
+    requires radius { distances.now.radius < W.limit }
+    requires fits { (c : ℕ) → slice_index assignment.now.duals.items c + distances.now.radius
+        < W.limit }
+    ensures { IfOk result (λ higher. length higher.items ≡ assignment.now.matching.cols) }
+{
+    let mut higher = Vec::with_capacity(alloc, assignment.duals.len())?;
+    for col in 0..assignment.matching.cols() {
+        let rise = distances.rise_of_col(&assignment.matching, col);
+        higher.push(assignment.duals[col as usize] + rise)?;
+    }
+    Ok(higher)
+}

@@ -1,0 +1,126 @@
+//! Searches for the columns that have no mates, one after another.
+
+ghost use Rattle.std.specs.Prelude.{◌≡◌, ℕ, ◌+◌, ◌<◌, ◌≤◌, ◌^◌, vec_capacity, List, OnOk};
+ghost use Rattle.bip_defs.specs.Bottleneck.{IsFull};
+ghost use Rattle.bip_defs.specs.Lists.{Among};
+ghost use Rattle.bip_defs.specs.Matching.{cols_of};
+ghost use Rattle.bip_defs.specs.Matrix.{Place, cols};
+ghost use Rattle.integer_diagonal.specs.Amounts.{HasRoom};
+ghost use Rattle.integer_diagonal.specs.Duals.{IsAssignment};
+ghost use Rattle.integer_diagonal.specs.Mated.{AreMated};
+
+use crate::assignment::Assignment;
+use crate::path::extend;
+use crate::search::Search;
+use crate::width::Width;
+use sp_ids::{Col, OutOfMemory, Row};
+use sp_pattern::{Pattern, Weights};
+use std::alloc::{AllocError, Global};
+
+// Searches that come to no more columns than these each are less work than phases.
+const SHORT: u64 = 32;
+
+/// Gives each column a mate, one after another. There must be a full matching.
+///
+/// What the searches keep is given back at the end.
+pub fn match_all<W: Width>(
+    alloc: Global,
+    pattern: &Pattern,
+    weights: &Weights,
+    assignment: &mut Assignment<W>,
+) -> Result<(), OutOfMemory>
+    requires of { weights.now.matrix ≡ pattern.now }
+    requires assignment { IsAssignment weights.now assignment.old }
+    requires square { pattern.now.rows ≡ cols pattern.now }
+    requires few { cols pattern.now < 2 ^ 32 }
+    requires room { HasRoom (cols pattern.now) assignment.old.top W.limit }
+    requires full { (m : List Place) × IsFull pattern.now m }
+    ensures assignment { OnOk result (IsAssignment weights.now assignment.new) }
+    ensures top { OnOk result (assignment.new.top ≡ assignment.old.top) }
+    ensures all { OnOk result ((c : ℕ) → c < cols pattern.now
+        → Among c (cols_of assignment.new.matching.pairs)) }
+{
+    if assignment.matching.size() == pattern.cols() {
+        return Ok(());
+    }
+    let mut search = Search::new(alloc, pattern.rows())?;
+    let mut path: Vec<(Row, Col)> = Vec::with_capacity(alloc, pattern.cols() as usize)?;
+    for col in 0..pattern.cols() {
+        match_one(
+            pattern,
+            weights,
+            assignment,
+            &mut search,
+            &mut path,
+            Col(col),
+        )?;
+    }
+    Ok(())
+}
+
+/// Gives columns mates, one after another, until the searches get long: until they have come to
+/// more columns than the matrix has, and to more than a few each. There must be a full matching.
+pub fn match_early<W: Width>(
+    alloc: Global,
+    pattern: &Pattern,
+    weights: &Weights,
+    assignment: &mut Assignment<W>,
+) -> Result<(), OutOfMemory>
+    requires of { weights.now.matrix ≡ pattern.now }
+    requires assignment { IsAssignment weights.now assignment.old }
+    requires square { pattern.now.rows ≡ cols pattern.now }
+    requires few { cols pattern.now < 2 ^ 32 }
+    requires room { HasRoom (cols pattern.now) assignment.old.top W.limit }
+    requires full { (m : List Place) × IsFull pattern.now m }
+    ensures assignment { OnOk result (IsAssignment weights.now assignment.new) }
+    ensures top { OnOk result (assignment.new.top ≡ assignment.old.top) }
+{
+    let mut search = Search::new(alloc, pattern.rows())?;
+    let mut path: Vec<(Row, Col)> = Vec::with_capacity(alloc, pattern.cols() as usize)?;
+    for col in 0..pattern.cols() {
+        let few = SHORT.saturating_mul(search.searches);
+        if search.visits > few.saturating_add(pattern.cols() as u64) {
+            return Ok(());
+        }
+        match_one(
+            pattern,
+            weights,
+            assignment,
+            &mut search,
+            &mut path,
+            Col(col),
+        )?;
+    }
+    Ok(())
+}
+
+// Gives a column a mate, if it has none, where those before it have theirs.
+fn match_one<W: Width>(
+    pattern: &Pattern,
+    weights: &Weights,
+    assignment: &mut Assignment<W>,
+    search: &mut Search<W>,
+    path: &mut Vec<(Row, Col)>,
+    col: Col,
+) -> Result<(), AllocError>
+    requires of { weights.now.matrix ≡ pattern.now }
+    requires square { pattern.now.rows ≡ cols pattern.now }
+    requires few { cols pattern.now < 2 ^ 32 }
+    requires fits { HasRoom (cols pattern.now) assignment.old.top W.limit }
+    requires full { (m : List Place) × IsFull pattern.now m }
+    requires col { col < cols pattern.now }
+    requires room { cols pattern.now ≤ vec_capacity path.old }
+    requires mated { AreMated weights.now pattern.now.rows assignment.old search.old col }
+    ensures room { OnOk result (cols pattern.now ≤ vec_capacity path.new) }
+    ensures mated { OnOk result
+        (AreMated weights.now pattern.now.rows assignment.new search.new (col + 1)) }
+    ensures top { OnOk result (assignment.new.top ≡ assignment.old.top) }
+{
+    if assignment.matching.row_of(col).is_none() {
+        let found = extend(pattern, weights, assignment, search, path, col)?;
+        if !found {
+            unreachable!()
+        }
+    }
+    Ok(())
+}
