@@ -5,6 +5,7 @@ ghost use Rattle.bip_defs.specs.Lists.{Among};
 ghost use Rattle.bip_defs.specs.Matching.{IsMatching, cols_of, rows_of};
 ghost use Rattle.bip_defs.specs.Matrix.{IsEntry, Matrix, Place};
 ghost use Rattle.bip_defs.specs.Queues.{at};
+ghost use Rattle.bip_graph.specs.Matching.{IsPairing};
 ghost use Rattle.least_match.specs.Exchanges.{AgreeBeside, Hangs, Swaps};
 ghost use Rattle.least_match.specs.Trees.{IsLedTo, LeadsBack};
 
@@ -30,9 +31,9 @@ pub fn mate(matching: &Matching, col: Col) -> Row
     requires { Among col (cols_of matching.now.pairs) }
     ensures row { Among (result, col) matching.now.pairs }
     ensures in_range { (result < matching.now.rows) × (col < matching.now.cols) }
+    ensures pairing { IsPairing matching.now }
 {
-    let _rows = matching.rows();
-    let _cols = matching.cols();
+    matching.is_matching();
     match matching.row_of(col) {
         Some(row) => row,
         None => unreachable!(),
@@ -49,9 +50,11 @@ pub fn part(matching: &mut Matching, col: Col) -> Row
     ensures size { length matching.old.pairs ≡ suc (length matching.new.pairs) }
     ensures sizes { (matching.new.rows ≡ matching.old.rows)
         × (matching.new.cols ≡ matching.old.cols) }
+    ensures pairings { IsPairing matching.old × IsPairing matching.new }
 {
     let row = mate(matching, col);
     matching.unpair(row, col);
+    matching.is_matching();
     row
 }
 
@@ -66,10 +69,11 @@ pub fn swap(matching: &mut Matching, row: Row, col: Col) -> Row
     ensures size { length matching.new.pairs ≡ length matching.old.pairs }
     ensures sizes { (matching.new.rows ≡ matching.old.rows)
         × (matching.new.cols ≡ matching.old.cols) }
+    ensures pairings { IsPairing matching.old × IsPairing matching.new }
 {
-    let _size = matching.size();
     let own = part(matching, col);
     matching.pair(row, col);
+    matching.is_matching();
     own
 }
 
@@ -83,10 +87,11 @@ pub fn pass(matching: &mut Matching, from: Col, to: Col) -> Row
     ensures size { length matching.new.pairs ≡ length matching.old.pairs }
     ensures sizes { (matching.new.rows ≡ matching.old.rows)
         × (matching.new.cols ≡ matching.old.cols) }
+    ensures pairings { IsPairing matching.old × IsPairing matching.new }
 {
-    let _size = matching.size();
     let row = part(matching, from);
     matching.pair(row, to);
+    matching.is_matching();
     row
 }
 
@@ -109,19 +114,15 @@ pub fn vacate(matching: &mut Matching, tree: &Tree, place: u32) -> Row
     ensures matching { (a : Matrix) → IsMatching a matching.old.pairs
         → LeadsBack a matching.old.pairs tree.now.queue → IsMatching a matching.new.pairs }
 {
-    let _before = matching.size();
-    let _cols = matching.cols();
     let (first, _) = tree.at(place);
     let free = part(matching, first);
     let mut at = place;
     while at > 0 {
-        let _size = matching.size();
         let (col, parent) = tree.at(at);
         let (next, _) = tree.at(parent);
         pass(matching, next, col);
         at = parent;
     }
-    let _after = matching.size();
     free
 }
 
@@ -147,14 +148,11 @@ pub fn shift(matching: &mut Matching, tree: &Tree, place: u32, free: Row) -> Row
     let mut row = free;
     let mut at = place;
     while at > 0 {
-        let _size = matching.size();
         let (col, parent) = tree.at(at);
         row = swap(matching, row, col);
         at = parent;
     }
-    let _before = matching.size();
     let (first, _) = tree.at(0);
     let own = swap(matching, row, first);
-    let _after = matching.size();
     own
 }

@@ -4,7 +4,7 @@ ghost use Rattle.std.specs.Bool.{OnTrue, OnFalse};
 ghost use Rattle.std.specs.Prelude.{◌≡◌, ◌+◌, ◌<◌, ◌≤◌, List, IfOk};
 ghost use Rattle.bip_defs.specs.LeastMatching.{mate_or};
 ghost use Rattle.bip_defs.specs.Lists.{Among};
-ghost use Rattle.bip_defs.specs.Matching.{cols_of};
+ghost use Rattle.bip_defs.specs.Matching.{IsMaximum, cols_of};
 ghost use Rattle.bip_defs.specs.Matrix.{IsEntry, Place, cols};
 ghost use Rattle.bip_graph.specs.Matching.{IsMaximumOf};
 ghost use Rattle.least_match.specs.Extensions.{Excludes, Extends, HasAt};
@@ -32,19 +32,17 @@ pub struct Exchanges<'p> {
 }
 
 impl<'p> Exchanges<'p> {
-    /// For a matrix with a maximum matching, and with the parts of its columns. The matching is
-    /// there for what is said of the classes.
+    /// For a matrix with these parts of its columns. It is ready beside each maximum matching.
     ///
     /// Answers `OutOfMemory` where the arrays can't be had.
     pub fn new(
         alloc: Global,
         pattern: &'p Pattern,
-        _matching: &Matching,
         parts: Vec<Part>,
     ) -> Result<Exchanges<'p>, OutOfMemory>
-        requires maximum { IsMaximumOf pattern.now _matching.now }
-        requires parts { AreParted pattern.now parts.items }
-        ensures ready { IfOk result (IsReady pattern.entry.now _matching.now.pairs 0) }
+        requires { AreParted pattern.now parts.items }
+        ensures ready { IfOk result (λ x. (m : List Place) → IsMaximum pattern.entry.now m
+            → IsReady pattern.entry.now m 0 x) }
     {
         let classes = Classes::new(alloc, parts.as_slice())?;
         let forward = Tree::new(alloc, pattern.cols())?;
@@ -74,7 +72,6 @@ impl<'p> Exchanges<'p> {
         match matching.col_of(row) {
             None => {
                 swap(matching, row, col);
-                let _after = matching.size();
                 true
             }
             Some(other) => {
@@ -87,7 +84,6 @@ impl<'p> Exchanges<'p> {
                 match matching.row_of(col) {
                     None => {
                         pass(matching, other, col);
-                        let _after = matching.size();
                         true
                     }
                     Some(_) => self.exchange(matching, row, col, other),
@@ -130,7 +126,7 @@ impl<'p> Exchanges<'p> {
             Outcome::Path(meeting) => {
                 tail.exchange_path(matching, &self.forward, &self.backward, meeting);
                 matching.pair(row, col);
-                let _after = matching.size();
+                matching.is_matching();
                 true
             }
             Outcome::ForwardEnds => {

@@ -87,7 +87,7 @@ fn settled(
     ensures maximum { IfOk result (IsMaximumOf pattern.now) }
 {
     let mut matching = matching;
-    let mut exchanges = Exchanges::new(alloc, pattern, &matching, parts)?;
+    let mut exchanges = Exchanges::new(alloc, pattern, parts)?;
     for col in 0..pattern.cols() {
         exchanges.settle(&mut matching, Col(col));
     }

@@ -277,21 +277,22 @@ impl ClassTail<'_> {
         ensures ends { EndsAs self.now.pattern.now matching.now.pairs self.now.classes.now
             self.now.col part forward.new.queue backward.new.queue result }
     {
-        let _cols = self.pattern.cols();
+        self.pattern.is_pattern();
         let mut ahead: u32 = 0;
         let mut back: u32 = 0;
         let mut looked_ahead: u64 = 0;
         let mut looked_back: u64 = 0;
         loop {
             let forward_first = looked_ahead <= looked_back;
-            match next_turn(
-                part,
-                ahead,
-                forward.len(),
-                back,
-                backward.len(),
-                forward_first,
-            ) {
+            let ahead_scan = Scan {
+                done: ahead,
+                len: forward.len(),
+            };
+            let back_scan = Scan {
+                done: back,
+                len: backward.len(),
+            };
+            match next_turn(part, ahead_scan, back_scan, forward_first) {
                 Turn::EndForward => return Outcome::ForwardEnds,
                 Turn::EndBackward => return Outcome::BackwardEnds,
                 Turn::GrowForward => {
@@ -341,28 +342,28 @@ fn enter(col: Col, parent: u32, tree: &mut Tree, other: &Tree) -> Option<u32>
     None
 }
 
+// How many columns of a tree were looked at, and how many it has.
+#[derive(Clone, Copy)]
+struct Scan {
+    done: u32,
+    len: u32,
+}
+
 // Which tree grows next, by how many of its columns were looked at, and how many it has; where both
 // have columns left, the forward tree if it is first.
 //
 // A forward tree that is complete shows that there is no path, where no maximum matching misses a
 // column of its class; a backward one, where none misses a row of it. One of the two holds in each
 // part.
-fn next_turn(
-    part: Part,
-    ahead: u32,
-    forward: u32,
-    back: u32,
-    backward: u32,
-    forward_first: bool,
-) -> Turn
-    requires within { (ahead ≤ forward) × (back ≤ backward) }
-    ensures { IsTurn part ahead forward back backward result }
+fn next_turn(part: Part, forward: Scan, backward: Scan, forward_first: bool) -> Turn
+    requires within { (forward.done ≤ forward.len) × (backward.done ≤ backward.len) }
+    ensures { IsTurn part forward.done forward.len backward.done backward.len result }
 {
     match part {
         Part::Horizontal => {
-            if back == backward {
+            if backward.done == backward.len {
                 Turn::EndBackward
-            } else if ahead == forward {
+            } else if forward.done == forward.len {
                 Turn::GrowBackward
             } else if forward_first {
                 Turn::GrowForward
@@ -371,9 +372,9 @@ fn next_turn(
             }
         }
         Part::Vertical => {
-            if ahead == forward {
+            if forward.done == forward.len {
                 Turn::EndForward
-            } else if back == backward {
+            } else if backward.done == backward.len {
                 Turn::GrowForward
             } else if forward_first {
                 Turn::GrowForward
@@ -382,9 +383,9 @@ fn next_turn(
             }
         }
         Part::Square => {
-            if ahead == forward {
+            if forward.done == forward.len {
                 Turn::EndForward
-            } else if back == backward {
+            } else if backward.done == backward.len {
                 Turn::EndBackward
             } else if forward_first {
                 Turn::GrowForward

@@ -78,7 +78,7 @@ impl Tree {
         ensures { self.new ≡ record self.old { queue = self.old.queue ++ (col, parent) ∷ [] } }
     {
         self.places[col.0 as usize] = self.queue.len() as u32;
-        put(&mut self.queue, (col.0, parent));
+        self.queue.push_reserved((col.0, parent));
     }
 
     /// Forgets all columns. Work: one write a column that was reached.
@@ -89,13 +89,4 @@ impl Tree {
             self.places[col as usize] = NONE;
         }
     }
-}
-
-// Appends within the room that was taken.
-fn put(list: &mut Vec<(u32, u32)>, item: (u32, u32))
-    requires { vec_len list.old < vec_capacity list.old }
-    ensures items { list.new.items ≡ list.old.items ++ item ∷ [] }
-    ensures capacity { vec_capacity list.old ≤ vec_capacity list.new }
-{
-    let _room = list.push(item).is_ok();
 }

@@ -34,7 +34,6 @@ impl ClassTail<'_> {
         ensures frees { (r : ℕ) → Among (r, (at forward.now.queue 0).0) matching.old.pairs
             → Frees self.now.pattern.now matching.old.pairs self.now.col r matching.new.pairs }
     {
-        let _before = matching.size();
         match meeting {
             Meeting::Trees { from, to } => {
                 let row = vacate(matching, backward, to);
@@ -42,7 +41,6 @@ impl ClassTail<'_> {
             }
             Meeting::FreeRow { from, row } => {
                 part(matching, self.col);
-                let _size = matching.size();
                 shift(matching, forward, from, row);
             }
             Meeting::FreeCol { col, to } => {
@@ -50,7 +48,6 @@ impl ClassTail<'_> {
                 matching.pair(row, col);
                 let (first, _) = forward.at(0);
                 part(matching, first);
-                let _after = matching.size();
             }
         }
     }

@@ -3,9 +3,11 @@ mod ExchangeLemmas
 mod FailedSearches
 mod FlipLemmas
 mod GrownTrees
+mod LayerLemmas
 mod MarkLemmas
 mod PathLemmas
 mod Queues
+mod ShortestLemmas
 mod StartLemmas
 mod Steps
 mod SweepLemmas

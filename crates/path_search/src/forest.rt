@@ -100,7 +100,7 @@ impl SearchForest {
         self.queue.push_reserved(next);
     }
 
-    fn reached(&self) -> usize
+    pub(crate) fn reached(&self) -> usize
         ensures { result ≡ length self.now.queue }
     {
         self.queue.len()
@@ -112,13 +112,13 @@ impl SearchForest {
         self.queue.as_slice()
     }
 
-    fn marks(&self) -> &[bool]
+    pub(crate) fn marks(&self) -> &[bool]
         ensures { result.now ≡ self.now.marks }
     {
         self.marks.as_slice()
     }
 
-    fn at(&self, place: u32) -> Reached
+    pub(crate) fn at(&self, place: u32) -> Reached
         requires { place < length self.now.queue }
         ensures { result ≡ reached_at self.now.queue place }
     {
@@ -143,7 +143,7 @@ impl SearchForest {
     }
 
     // Starts a tree from each unmatched column.
-    fn start<F: Opposite, S: Side<F>>(&mut self, side: &S, matching: &Matching)
+    pub(crate) fn start<F: Opposite, S: Side<F>>(&mut self, side: &S, matching: &Matching)
         requires rows { length self.old.marks ≡ (S.matrix side.now).rows }
         requires cols { self.old.cols ≡ cols (S.matrix side.now) }
         requires matching_cols { (F.seen matching.now).cols ≡ cols (S.matrix side.now) }
@@ -166,7 +166,7 @@ impl SearchForest {
 
     // Marks a row in which the column at a place has an entry, and reaches the row's mate. Whether
     // it has none.
-    fn visit<F: Opposite, S: Side<F>>(
+    pub(crate) fn visit<F: Opposite, S: Side<F>>(
         &mut self,
         side: &S,
         matching: &Matching,
@@ -259,7 +259,7 @@ impl SearchForest {
 
     // Exchanges the path that a tree has found to an unmatched row in which the column at a place
     // has an entry.
-    fn exchange<F: Opposite, S: Side<F>>(
+    pub(crate) fn exchange<F: Opposite, S: Side<F>>(
         &mut self,
         side: &S,
         matching: &mut Matching,

@@ -7,9 +7,12 @@
 mod batches;
 mod columns;
 mod forest;
+mod layers;
 mod reached;
 mod search;
+mod shortest;
 mod step;
 
 pub use forest::SearchForest;
+pub use layers::Layers;
 pub use search::Search;

@@ -5,12 +5,17 @@ ghost use Rattle.bip_defs.specs.Matching.{Covers, IsMaximum};
 ghost use Rattle.bip_graph.specs.Matching.{IsMatchingOf, IsMaximumOf};
 ghost use Rattle.pothen_fan.specs.Ready.{AreReady};
 
+use crate::shortest::complete_by_shortest;
 use crate::sweep::{roots, sweep};
 use bip_graph::{Matching, Opposite};
 use path_search::{Search, SearchForest};
 use sp_ids::{Col, OutOfMemory};
 use sp_pattern::Side;
 use std::alloc::Global;
+
+// How many phases there are of both kinds. The matrices of the tables of docs/BENCHMARKS.md take 74
+// at most.
+const MIXED_PHASES: u32 = 128;
 
 /// What phases keep from one to the next.
 #[derive(Drop)]
@@ -98,7 +103,8 @@ impl Phases {
     }
 }
 
-/// Phases from one side, until the matching is maximum.
+/// A maximum matching, by phases from one side: so many of both kinds at most, and then as many of
+/// shortest augmenting paths as it takes.
 pub fn complete_from<F: Opposite, S: Side<F>>(
     alloc: Global,
     side: &S,
@@ -110,9 +116,11 @@ pub fn complete_from<F: Opposite, S: Side<F>>(
 {
     let mut phases = Phases::new(alloc, side, &matching)?;
     let mut grown = matching;
-    let mut grows = true;
-    while grows {
-        grows = phases.run(side, &mut grown);
+    for _phase in 0..MIXED_PHASES {
+        if !phases.run(side, &mut grown) {
+            return Ok(grown);
+        }
     }
-    Ok(grown)
+    drop(phases);
+    complete_by_shortest(alloc, side, grown)
 }

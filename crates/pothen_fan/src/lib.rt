@@ -21,10 +21,16 @@
 //! Depth-first phases are few where most of them find many paths, breadth-first phases where few
 //! columns are left whose paths are long. So after a phase that has matched less than half of the
 //! unmatched columns that have entries, rounded down, the next is of the other kind.
+//!
+//! Nothing bounds the number of such phases but the rank. So after 128 of them, which few matrices
+//! come to, all further ones exchange shortest augmenting paths without a vertex in common, until
+//! none is left beside them (Hopcroft and Karp 1973): they are at most twice the square root of the
+//! rank, and two more. They are not begun with, since on many matrices they find few paths each.
 #![tactic(auto)]
 
 mod kinds;
 mod longer;
+mod shortest;
 mod sweep;
 
 ghost use Rattle.std.specs.Prelude.{◌≡◌, ◌⊎◌, ◌↔◌, ◌+◌, ◌<◌, length, IfOk, OnErr};
@@ -68,9 +74,12 @@ pub fn phase(alloc: Global, pattern: &Pattern, matching: &mut Matching) -> Resul
 /// Phases search from the side on which fewer unmatched rows or columns have entries, and from the
 /// columns where they are as many. The matching must be of the pattern's entries and sizes. Answers
 /// `OutOfMemory` where there is no memory for 16 bytes a vertex of the side that is searched from,
-/// 4 more where it is unmatched and has entries, and 26 a vertex of the other side; the matching is
+/// 4 more where it is unmatched and has entries, and 26 a vertex of the other side, or, for phases
+/// of shortest paths, 24 a vertex of the side that is searched from and 9 of the other, with what
+/// two growing lists of vertices take; the matching is
 /// dropped then. Work: one look at each row and column, and at most two passes over the entries for
-/// each phase, of which all but the last make the matching larger.
+/// each phase. All but the last make the matching larger. They are at most 128 of both kinds, and
+/// then at most 2 sqrt(rank) + 2 of shortest paths, the last of which makes a pass more.
 pub fn complete(
     alloc: Global,
     pattern: &Pattern,

@@ -9,8 +9,8 @@ use Rattle.least_match.proofs.settled.Goals as goal
 
 pub loop-col-init : goal.loop-col-init
 loop-col-init c = record {
-  pattern = c.in_ok-exchanges.ensures.ready.pattern;
-  ready = c.in_ok-exchanges.ensures.ready;
+  pattern = (c.in_ok-exchanges.ensures.ready c.args.matching.pairs c.requires.maximum.maximum).pattern;
+  ready = c.in_ok-exchanges.ensures.ready c.args.matching.pairs c.requires.maximum.maximum;
   maximum = c.requires.maximum;
   least = least_start c.args.pattern.now c.args.matching.pairs c.requires.maximum.maximum;
 }

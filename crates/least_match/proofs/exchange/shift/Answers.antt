@@ -24,7 +24,7 @@ loop-at-preserved c =
     let up = sym (ap (λ (x : ℕ × ℕ). x.1) c.at-col.ensures) in
     let has = subst (λ (x : ℕ × ℕ). Among (c.swap-row.result, x.0) c.loop-at.matching.pairs) c.at-col.ensures c.swap-row.ensures.row in
     let swaps = subst (λ (x : ℕ × ℕ). Swaps (c.loop-at.row, x.0) c.swap-row.result c.loop-at.matching.pairs c.swap-row.new.matching.pairs) c.at-col.ensures c.swap-row.ensures.pairs in
-    let given = free_gives _ _ _ _ _ _ _ _ _ c.size-size.ensures.rows_differ (rising_distinct _ c.size-size.ensures.cols_rise) c.requires.tree i.free has swaps c.swap-row.ensures.size in
+    let given = free_gives _ _ _ _ _ _ _ _ _ c.swap-row.ensures.pairings.0.rows_differ (rising_distinct _ c.swap-row.ensures.pairings.0.cols_rise) c.requires.tree i.free has swaps c.swap-row.ensures.size in
     record {
       free = free_step _ _ _ _ _ _ _ _ c.requires.tree given i.free.within c.loop-at-test.true up;
       in_range = omega (arith, c.swap-row.ensures.in_range, c.swap-row.ensures.sizes.0);
@@ -38,14 +38,14 @@ at_first c = let le = c.loop-at-test.false in omega (arith, le)
 pub swap-own-requires-clause-col : goal.swap-own-requires-clause-col
 swap-own-requires-clause-col c = subst (λ (x : ℕ × ℕ). Among x.0 (cols_of c.loop-at.matching.pairs)) (ap (at c.args.tree.now.queue) (at_first c) ∙ sym c.at-first.ensures) (free_matched _ _ _ _ _ _ _ c.requires.tree c.loop-at.invariant.free)
 
-given : (c : goal.After-size-after) → HasGiven c.args.matching.now.pairs c.swap-own.new.matching.pairs c.args.tree.now.queue c.args.place c.args.free 0 c.swap-own.result
+given : (c : goal.After-swap-own) → HasGiven c.args.matching.now.pairs c.swap-own.new.matching.pairs c.args.tree.now.queue c.args.place c.args.free 0 c.swap-own.result
 given c =
     let le = c.loop-at-test.false in
     let first : c.loop-at.at ≡ 0 = omega (arith, le) in
     let has = subst (λ (x : ℕ × ℕ). Among (c.swap-own.result, x.0) c.loop-at.matching.pairs) c.at-first.ensures c.swap-own.ensures.row in
     let swaps = subst (λ (x : ℕ × ℕ). Swaps (c.loop-at.row, x.0) c.swap-own.result c.loop-at.matching.pairs c.swap-own.new.matching.pairs) c.at-first.ensures c.swap-own.ensures.pairs in
     let free = subst (λ i. HasFree c.args.matching.now.pairs c.loop-at.matching.pairs c.args.tree.now.queue c.args.place c.args.free i c.loop-at.row) first c.loop-at.invariant.free in
-    free_gives _ _ _ _ _ _ _ _ _ c.size-before.ensures.rows_differ (rising_distinct _ c.size-before.ensures.cols_rise) c.requires.tree free has swaps c.swap-own.ensures.size
+    free_gives _ _ _ _ _ _ _ _ _ c.swap-own.ensures.pairings.0.rows_differ (rising_distinct _ c.swap-own.ensures.pairings.0.cols_rise) c.requires.tree free has swaps c.swap-own.ensures.size
 
 pub returns-clause-row : goal.returns-clause-row
 returns-clause-row c = (given c).own
@@ -60,4 +60,4 @@ pub returns-clause-size : goal.returns-clause-size
 returns-clause-size c = (given c).size
 
 pub returns-clause-matching : goal.returns-clause-matching
-returns-clause-matching c = given_matching _ _ _ _ _ _ _ c.size-after.ensures.rows_differ (rising_distinct _ c.size-after.ensures.cols_rise) (given c)
+returns-clause-matching c = given_matching _ _ _ _ _ _ _ c.swap-own.ensures.pairings.1.rows_differ (rising_distinct _ c.swap-own.ensures.pairings.1.cols_rise) (given c)

@@ -6,7 +6,7 @@ pub pair-requires-clause-row_free : goal.pair-requires-clause-row_free
 pair-requires-clause-row_free c = parted_free _ _ _ _ c.part-own.ensures.pairs c.requires.row
 
 pub pair-requires-clause-col_free : goal.pair-requires-clause-col_free
-pair-requires-clause-col_free c = parted_col _ _ _ _ (rising_distinct _ c.size-size.ensures.cols_rise) c.part-own.ensures.pairs c.part-own.ensures.row
+pair-requires-clause-col_free c = parted_col _ _ _ _ (rising_distinct _ c.part-own.ensures.pairings.0.cols_rise) c.part-own.ensures.pairs c.part-own.ensures.row
 
 pub returns-clause-pairs : goal.returns-clause-pairs
 returns-clause-pairs c = parts_then_gives _ _ _ _ _ _ (parted_free _ _ _ _ c.part-own.ensures.pairs c.requires.row) c.part-own.ensures.pairs c.pair.ensures.pairs

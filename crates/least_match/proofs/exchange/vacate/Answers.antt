@@ -13,7 +13,8 @@ part-free-requires c = subst (λ (x : ℕ × ℕ). Among x.0 (cols_of c.args.mat
 
 pub loop-at-init : goal.loop-at-init
 loop-at-init c = record {
-  hole = hole_start _ _ _ _ _ c.size-before.ensures.rows_differ (rising_distinct _ c.size-before.ensures.cols_rise) c.requires.tree c.requires.place (subst (λ (x : ℕ × ℕ). Among (c.part-free.result, x.0) c.args.matching.now.pairs) c.at-first.ensures c.part-free.ensures.row) c.part-free.ensures.pairs c.part-free.ensures.size;
+  hole = hole_start _ _ _ _ _ c.part-free.ensures.pairings.0.rows_differ (rising_distinct _ c.part-free.ensures.pairings.0.cols_rise) c.requires.tree c.requires.place (subst (λ (x : ℕ × ℕ). Among (c.part-free.result, x.0) c.args.matching.now.pairs) c.at-first.ensures c.part-free.ensures.row) c.part-free.ensures.pairs c.part-free.ensures.size;
+  pairing = c.part-free.ensures.pairings.1;
   rows = c.part-free.ensures.sizes.0;
   cols = c.part-free.ensures.sizes.1;
 }
@@ -30,7 +31,7 @@ pub pass-requires-clause-in_range : goal.pass-requires-clause-in_range
 pass-requires-clause-in_range c =
     let on = c.requires.tree.matched _ (head_at c.args.tree.now.queue c.loop-at.at c.loop-at.invariant.hole.within) in
     let (r, p) = col_pair (at c.args.tree.now.queue c.loop-at.at).0 c.args.matching.now.pairs on in
-    let lt = c.cols-cols.ensures.within r (at c.args.tree.now.queue c.loop-at.at).0 p in
+    let lt = c.part-free.ensures.pairings.0.cols_within r (at c.args.tree.now.queue c.loop-at.at).0 p in
     let same = c.loop-at.invariant.cols in
     subst (λ (x : ℕ × ℕ). x.0 < c.loop-at.matching.cols) (sym c.at-col.ensures) (omega (arith, lt, same))
 
@@ -41,10 +42,11 @@ loop-at-preserved c =
     let has = subst (λ (x : ℕ × ℕ). Among (c.pass.result, x.0) c.loop-at.matching.pairs) c.at-next.ensures c.pass.ensures.row in
     let swaps = subst (λ (x : ℕ × ℕ). Swaps (c.pass.result, x.0) c.pass.result c.loop-at.matching.pairs c.pass.new.matching.pairs) c.at-col.ensures c.pass.ensures.pairs in
     record {
-      hole = hole_step _ _ _ _ _ _ _ _ c.size-size.ensures.rows_differ (rising_distinct _ c.size-size.ensures.cols_rise) c.requires.tree i.hole c.loop-at-test.true up has swaps c.pass.ensures.size;
+      hole = hole_step _ _ _ _ _ _ _ _ c.pass.ensures.pairings.0.rows_differ (rising_distinct _ c.pass.ensures.pairings.0.cols_rise) c.requires.tree i.hole c.loop-at-test.true up has swaps c.pass.ensures.size;
+      pairing = c.pass.ensures.pairings.1;
       rows = c.pass.ensures.sizes.0 ∙ i.rows;
       cols = c.pass.ensures.sizes.1 ∙ i.cols;
     }
 
 pub returns-clause-matching : goal.returns-clause-matching
-returns-clause-matching c = hole_matching _ _ _ _ _ c.size-after.ensures.rows_differ (rising_distinct _ c.size-after.ensures.cols_rise) c.loop-at.invariant.hole
+returns-clause-matching c = hole_matching _ _ _ _ _ c.loop-at.invariant.pairing.rows_differ (rising_distinct _ c.loop-at.invariant.pairing.cols_rise) c.loop-at.invariant.hole

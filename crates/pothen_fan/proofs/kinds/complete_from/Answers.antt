@@ -1,18 +1,12 @@
+use Rattle.std.proofs.lemmas.Result.{IfOk-weaker}
 use Rattle.bip_defs.proofs.Covers.{covers_more}
-use Rattle.pothen_fan.proofs.Phases.{last_phase, phases_fall}
 use Rattle.pothen_fan.proofs.kinds.complete_from.Goals as goal
 
-pub loop-grows-smaller : goal.loop-grows-smaller
-loop-grows-smaller g c =
-    let e = c.run-grows.ensures in
-    rw c.loop-grows-test.true (phases_fall _ _ _ _ e.grown e.maximum e.ready.matching.matching)
+pub loop-phase-preserved : goal.loop-phase-preserved
+loop-phase-preserved g c = record {
+  ready = c.run.ensures.ready;
+  covered = covers_more c.loop-phase.invariant.covered c.run.ensures.covered;
+}
 
-pub loop-grows-preserved : goal.loop-grows-preserved
-loop-grows-preserved g c =
-    let e = c.run-grows.ensures in
-    let k = c.loop-grows.invariant in
-    record {
-      ready = e.ready;
-      last = last_phase _ _ _ _ e.grown e.maximum;
-      covered = covers_more k.covered e.covered;
-    }
+pub returns-clause-covered : goal.returns-clause-covered
+returns-clause-covered g c = IfOk-weaker c.complete_by_shortest.result _ _ (λ m k. covers_more c.loop-phase.invariant.covered k) c.complete_by_shortest.ensures.covered

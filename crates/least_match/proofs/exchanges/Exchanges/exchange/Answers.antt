@@ -143,7 +143,7 @@ returns-in-Path-clause-maximum c =
     let start = trees_start c.args.self.now.pattern.now c.args.matching.now.pairs c.as_slice.result.now c.args.col c.args.other c.push.new.self.queue c.push-2.new.self.queue first last c.requires.behind below_other class (col_among c.args.row c.args.other c.args.matching.now.pairs c.requires.mate) c.requires.matched in
     let end = c.search.ensures.trees c.args.other start in
     let frees = c.exchange_path.ensures.frees c.args.row (subst (λ x. Among {X = Place} (c.args.row, x) c.args.matching.now.pairs) (sym end.forward_tree.root) c.requires.mate) in
-    let has = frees_then_gives c.args.self.now.pattern.now c.args.matching.now.pairs c.exchange_path.new.matching.pairs c.pair.new.self.pairs c.args.col c.args.row c.requires.maximum.maximum frees c.requires.entry c.size-after.ensures.rows_differ (rising_distinct _ c.size-after.ensures.cols_rise) c.pair.ensures.pairs c.pair.ensures.size in
+    let has = frees_then_gives c.args.self.now.pattern.now c.args.matching.now.pairs c.exchange_path.new.matching.pairs c.pair.new.self.pairs c.args.col c.args.row c.requires.maximum.maximum frees c.requires.entry c.is_matching.ensures.rows_differ (rising_distinct _ c.is_matching.ensures.cols_rise) c.pair.ensures.pairs c.pair.ensures.size in
     has_maximum c.args.self.now.pattern.now c.args.matching.now c.pair.new.self c.args.col c.args.row c.requires.maximum (c.pair.ensures.sizes.0 ∙ c.exchange_path.ensures.sizes.0) (c.pair.ensures.sizes.1 ∙ c.exchange_path.ensures.sizes.1) has
 
 pub returns-in-Path-clause-found : goal.returns-in-Path-clause-found
@@ -158,7 +158,7 @@ returns-in-Path-clause-found c =
     let start = trees_start c.args.self.now.pattern.now c.args.matching.now.pairs c.as_slice.result.now c.args.col c.args.other c.push.new.self.queue c.push-2.new.self.queue first last c.requires.behind below_other class (col_among c.args.row c.args.other c.args.matching.now.pairs c.requires.mate) c.requires.matched in
     let end = c.search.ensures.trees c.args.other start in
     let frees = c.exchange_path.ensures.frees c.args.row (subst (λ x. Among {X = Place} (c.args.row, x) c.args.matching.now.pairs) (sym end.forward_tree.root) c.requires.mate) in
-    let has = frees_then_gives c.args.self.now.pattern.now c.args.matching.now.pairs c.exchange_path.new.matching.pairs c.pair.new.self.pairs c.args.col c.args.row c.requires.maximum.maximum frees c.requires.entry c.size-after.ensures.rows_differ (rising_distinct _ c.size-after.ensures.cols_rise) c.pair.ensures.pairs c.pair.ensures.size in
+    let has = frees_then_gives c.args.self.now.pattern.now c.args.matching.now.pairs c.exchange_path.new.matching.pairs c.pair.new.self.pairs c.args.col c.args.row c.requires.maximum.maximum frees c.requires.entry c.is_matching.ensures.rows_differ (rising_distinct _ c.is_matching.ensures.cols_rise) c.pair.ensures.pairs c.pair.ensures.size in
     has
 
 pub returns-in-Path-clause-ready : goal.returns-in-Path-clause-ready

@@ -10,10 +10,10 @@ pub swap-requires-clause-col : goal.swap-requires-clause-col
 swap-requires-clause-col c = no_free_entry c.args.self.now.pattern.now c.args.matching.now.pairs c.args.row c.args.col c.requires.maximum.maximum c.requires.entry c.in-None.ensures.none
 
 pub returns-in-None-clause-found : goal.returns-in-None-clause-found
-returns-in-None-clause-found c = swapped c.args.self.now.pattern.now c.args.matching.now.pairs c.swap.new.matching.pairs c.args.col c.args.row c.swap.result c.args.col c.requires.maximum.maximum c.requires.entry c.size-after.ensures.rows_differ (rising_distinct _ c.size-after.ensures.cols_rise) c.swap.ensures.pairs c.swap.ensures.size c.swap.ensures.row (omega arith)
+returns-in-None-clause-found c = swapped c.args.self.now.pattern.now c.args.matching.now.pairs c.swap.new.matching.pairs c.args.col c.args.row c.swap.result c.args.col c.requires.maximum.maximum c.requires.entry c.swap.ensures.pairings.1.rows_differ (rising_distinct _ c.swap.ensures.pairings.1.cols_rise) c.swap.ensures.pairs c.swap.ensures.size c.swap.ensures.row (omega arith)
 
 pub returns-in-None-clause-maximum : goal.returns-in-None-clause-maximum
-returns-in-None-clause-maximum c = has_maximum c.args.self.now.pattern.now c.args.matching.now c.swap.new.matching c.args.col c.args.row c.requires.maximum c.swap.ensures.sizes.0 c.swap.ensures.sizes.1 (swapped c.args.self.now.pattern.now c.args.matching.now.pairs c.swap.new.matching.pairs c.args.col c.args.row c.swap.result c.args.col c.requires.maximum.maximum c.requires.entry c.size-after.ensures.rows_differ (rising_distinct _ c.size-after.ensures.cols_rise) c.swap.ensures.pairs c.swap.ensures.size c.swap.ensures.row (omega arith))
+returns-in-None-clause-maximum c = has_maximum c.args.self.now.pattern.now c.args.matching.now c.swap.new.matching c.args.col c.args.row c.requires.maximum c.swap.ensures.sizes.0 c.swap.ensures.sizes.1 (swapped c.args.self.now.pattern.now c.args.matching.now.pairs c.swap.new.matching.pairs c.args.col c.args.row c.swap.result c.args.col c.requires.maximum.maximum c.requires.entry c.swap.ensures.pairings.1.rows_differ (rising_distinct _ c.swap.ensures.pairings.1.cols_rise) c.swap.ensures.pairs c.swap.ensures.size c.swap.ensures.row (omega arith))
 
 pub returns-then-other-col-clause-none : goal.returns-then-other-col-clause-none
 returns-then-other-col-clause-none c =
@@ -35,7 +35,7 @@ returns-in-None-row_of-clause-found c =
     let at : c.col.inside.0 ≡ c.args.col = c.col.view_is in
     let own = one_row c.args.matching.now.pairs c.requires.maximum.maximum.matching.cols_differ c.pass.result c.args.row c.in-Some.other c.pass.ensures.row c.in-Some.ensures.found in
     let swaps = subst (λ r. Swaps (r, c.args.col) c.pass.result c.args.matching.now.pairs c.pass.new.matching.pairs) own c.pass.ensures.pairs in
-    let has = swapped c.args.self.now.pattern.now c.args.matching.now.pairs c.pass.new.matching.pairs c.args.col c.args.row c.pass.result c.in-Some.other c.requires.maximum.maximum c.requires.entry c.size-after-in-None-row_of.ensures.rows_differ (rising_distinct _ c.size-after-in-None-row_of.ensures.cols_rise) swaps c.pass.ensures.size c.pass.ensures.row (omega (arith, le, is, at)) in
+    let has = swapped c.args.self.now.pattern.now c.args.matching.now.pairs c.pass.new.matching.pairs c.args.col c.args.row c.pass.result c.in-Some.other c.requires.maximum.maximum c.requires.entry c.pass.ensures.pairings.1.rows_differ (rising_distinct _ c.pass.ensures.pairings.1.cols_rise) swaps c.pass.ensures.size c.pass.ensures.row (omega (arith, le, is, at)) in
     has
 
 pub returns-in-None-row_of-clause-maximum : goal.returns-in-None-row_of-clause-maximum
@@ -45,5 +45,5 @@ returns-in-None-row_of-clause-maximum c =
     let at : c.col.inside.0 ≡ c.args.col = c.col.view_is in
     let own = one_row c.args.matching.now.pairs c.requires.maximum.maximum.matching.cols_differ c.pass.result c.args.row c.in-Some.other c.pass.ensures.row c.in-Some.ensures.found in
     let swaps = subst (λ r. Swaps (r, c.args.col) c.pass.result c.args.matching.now.pairs c.pass.new.matching.pairs) own c.pass.ensures.pairs in
-    let has = swapped c.args.self.now.pattern.now c.args.matching.now.pairs c.pass.new.matching.pairs c.args.col c.args.row c.pass.result c.in-Some.other c.requires.maximum.maximum c.requires.entry c.size-after-in-None-row_of.ensures.rows_differ (rising_distinct _ c.size-after-in-None-row_of.ensures.cols_rise) swaps c.pass.ensures.size c.pass.ensures.row (omega (arith, le, is, at)) in
+    let has = swapped c.args.self.now.pattern.now c.args.matching.now.pairs c.pass.new.matching.pairs c.args.col c.args.row c.pass.result c.in-Some.other c.requires.maximum.maximum c.requires.entry c.pass.ensures.pairings.1.rows_differ (rising_distinct _ c.pass.ensures.pairings.1.cols_rise) swaps c.pass.ensures.size c.pass.ensures.row (omega (arith, le, is, at)) in
     has_maximum c.args.self.now.pattern.now c.args.matching.now c.pass.new.matching c.args.col c.args.row c.requires.maximum c.pass.ensures.sizes.0 c.pass.ensures.sizes.1 has

@@ -7,10 +7,10 @@ use Rattle.least_match.proofs.exchanges.Exchanges.new.Goals as goal
 
 pub returns : goal.returns
 returns c = record {
-  ready = record {
+  ready = λ m maximum. record {
     pattern = refl;
-    parts = c.requires.parts;
-    classes = subst (AreClasses c.args.pattern.now c.args._matching.now.pairs 0 c.in_ok-classes.classes.numbers.items) (sym c.in_ok-classes.ensures.count) (first_classes _ _ c.args.parts.items _ c.requires.maximum.maximum c.requires.parts (subst (λ (z : List Part). HaveParts z (length z) c.in_ok-classes.classes.numbers.items) c.as_slice.ensures.value c.in_ok-classes.ensures.parts));
+    parts = c.requires;
+    classes = subst (AreClasses c.args.pattern.now m 0 c.in_ok-classes.classes.numbers.items) (sym c.in_ok-classes.ensures.count) (first_classes _ _ c.args.parts.items _ maximum c.requires (subst (λ (z : List Part). HaveParts z (length z) c.in_ok-classes.classes.numbers.items) c.as_slice.ensures.value c.in_ok-classes.ensures.parts));
     forward_cols = ap (λ (z : Reached). z.cols) c.in_ok-forward.ensures ∙ c.cols.ensures;
     backward_cols = ap (λ (z : Reached). z.cols) c.in_ok-backward.ensures ∙ c.cols-2.ensures;
   };

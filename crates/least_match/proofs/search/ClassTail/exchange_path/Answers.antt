@@ -30,7 +30,7 @@ pub shift-requires-in-FreeRow-clause-tree : goal.shift-requires-in-FreeRow-claus
 shift-requires-in-FreeRow-clause-tree c =
     let k = c.requires.matching.matching in
     let t = c.requires.trees.1 in
-    forward_hangs _ _ _ _ _ _ _ k t _ (parted_vacates _ _ _ _ _ _ _ k t _ _ c.size-size.ensures.rows_differ (rising_distinct _ c.size-size.ensures.cols_rise) c.part.ensures.row c.part.ensures.pairs c.part.ensures.size)
+    forward_hangs _ _ _ _ _ _ _ k t _ (parted_vacates _ _ _ _ _ _ _ k t _ _ c.part.ensures.pairings.1.rows_differ (rising_distinct _ c.part.ensures.pairings.1.cols_rise) c.part.ensures.row c.part.ensures.pairs c.part.ensures.size)
 
 pub shift-requires-in-FreeRow-clause-free : goal.shift-requires-in-FreeRow-clause-free
 shift-requires-in-FreeRow-clause-free c =
@@ -67,7 +67,7 @@ pub returns-in-FreeRow-clause-frees : goal.returns-in-FreeRow-clause-frees
 returns-in-FreeRow-clause-frees c = λ r p.
     let k = c.requires.matching.matching in
     let t = c.requires.trees.1 in
-    let v = parted_vacates _ _ _ _ _ _ _ k t _ _ c.size-size.ensures.rows_differ (rising_distinct _ c.size-size.ensures.cols_rise) c.part.ensures.row c.part.ensures.pairs c.part.ensures.size in
+    let v = parted_vacates _ _ _ _ _ _ _ k t _ _ c.part.ensures.pairings.1.rows_differ (rising_distinct _ c.part.ensures.pairings.1.cols_rise) c.part.ensures.row c.part.ensures.pairs c.part.ensures.size in
     let meets = subst (Meets c.args.self.now.pattern.now c.args.matching.now.pairs c.args.self.now.col c.args.forward.now.queue c.args.backward.now.queue) c.in-FreeRow.is c.requires.meets in
     let o = c.shift-in-FreeRow.ensures in
     shifted_frees _ _ _ _ _ _ _ k t _ v _ _ r (o.matching _ v.matching (forward_led _ _ _ _ _ _ _ k t _ v) meets.1) o.size o.beside o.row o.row_free p
@@ -80,4 +80,4 @@ returns-in-FreeCol-clause-frees c = λ r p.
     let v = vacate_vacates _ _ _ _ _ _ _ k t _ (e.matching _ k t.backward_leads) e.size e.col_free e.beside in
     let meets = subst (Meets c.args.self.now.pattern.now c.args.matching.now.pairs c.args.self.now.col c.args.forward.now.queue c.args.backward.now.queue) c.in-FreeCol.is c.requires.meets in
     let own = subst (λ (x : ℕ × ℕ). Among (c.part-in-FreeCol.result, x.0) c.pair.new.self.pairs) c.at-first.ensures c.part-in-FreeCol.ensures.row in
-    taken_frees _ _ _ _ _ _ _ k t _ v _ _ _ _ _ r c.size-after.ensures.rows_differ (rising_distinct _ c.size-after.ensures.cols_rise) meets.1 meets.3 e.row_free (meets.4 _ e.row) c.pair.ensures.pairs c.pair.ensures.size own c.part-in-FreeCol.ensures.pairs c.part-in-FreeCol.ensures.size p
+    taken_frees _ _ _ _ _ _ _ k t _ v _ _ _ _ _ r c.part-in-FreeCol.ensures.pairings.1.rows_differ (rising_distinct _ c.part-in-FreeCol.ensures.pairings.1.cols_rise) meets.1 meets.3 e.row_free (meets.4 _ e.row) c.pair.ensures.pairs c.pair.ensures.size own c.part-in-FreeCol.ensures.pairs c.part-in-FreeCol.ensures.size p

@@ -1,0 +1,29 @@
+use Rattle.std.proofs.Common.{arith}
+use Rattle.bip_defs.proofs.Covers.{covers_more}
+use Rattle.path_search.proofs.GrownTrees.{extended_length}
+use Rattle.path_search.proofs.ShortestLemmas.{grown_on}
+use Rattle.path_search.proofs.SweepLemmas.{forest_short}
+use Rattle.path_search.proofs.forest.SearchForest.shortest.Goals as goal
+
+pub overflow_cast-root : goal.overflow_cast-root
+overflow_cast-root g c =
+    let k = c.loop-root.invariant in
+    let short = forest_short _ _ _ k.forest in
+    let few = c.sizes_fit.ensures.cols in
+    let roots = k.roots in
+    omega (arith, short, few, roots, c.loop-root-test.true)
+
+pub loop-root-preserved : goal.loop-root-preserved
+loop-root-preserved g c =
+    let k = c.loop-root.invariant in
+    let e = c.extend.ensures in
+    let roots = k.roots in
+    let longer = extended_length _ _ e.extends in
+    record {
+      forest = e.forest;
+      roots = omega (arith, roots, longer);
+      layers = e.layers;
+      matching = e.matching;
+      covered = covers_more k.covered e.covered;
+      grown = grown_on _ _ _ k.grown e.grown;
+    }

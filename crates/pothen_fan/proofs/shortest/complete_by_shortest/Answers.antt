@@ -1,0 +1,18 @@
+use Rattle.bip_defs.proofs.Covers.{covers_more}
+use Rattle.pothen_fan.proofs.Phases.{last_phase, phases_fall}
+use Rattle.pothen_fan.proofs.shortest.complete_by_shortest.Goals as goal
+
+pub loop-grows-smaller : goal.loop-grows-smaller
+loop-grows-smaller g c =
+    let e = c.in_ok-grows.ensures in
+    rw c.loop-grows-test.true (phases_fall _ _ _ _ e.grown e.maximum e.ready.matching.matching)
+
+pub loop-grows-preserved : goal.loop-grows-preserved
+loop-grows-preserved g c =
+    let e = c.in_ok-grows.ensures in
+    let k = c.loop-grows.invariant in
+    record {
+      ready = e.ready;
+      last = last_phase _ _ _ _ e.grown e.maximum;
+      covered = covers_more k.covered e.covered;
+    }
