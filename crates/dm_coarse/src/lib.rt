@@ -3,6 +3,7 @@
 #![tactic(auto)]
 
 mod connected_components;
+mod found;
 mod numbering;
 mod searches;
 mod split;
@@ -19,7 +20,7 @@ ghost use Rattle.dm_coarse.specs.Searches.{AreMarksIfMaximum};
 use crate::searches::Matched;
 use crate::split::{split_cols, split_rows};
 use bip_graph::{Matching, Parts};
-pub use connected_components::{components, components_at_once};
+pub use connected_components::components;
 use sp_ids::OutOfMemory;
 use sp_pattern::Pattern;
 use std::alloc::Global;
