@@ -23,4 +23,4 @@ loop-at-preserved g c =
     let all : c.loop-at.rows.waiting.len ≡ length c.loop-at.rows.waiting.items = search rules in
     rw (written c.take.new.waiting c.loop-at.rows.waiting.items c.loop-at.rows.waiting.len all taken.long)
     (takes_step (λ i r. IsEntry a r (slice_index_or c.args.columns.now i 0)) c.args.place c.loop-at.at _ c.loop-at.rows.waiting.items _ _ c.loop-at.rows.queue.items _ c.loop-at.auto.at c.loop-at.invariant
-    (takes_same (λ x. Among x (map g.F.Id.number c.rows_of-list.result.now)) _ _ _ _ _ (λ x on. c.rows_of-list.ensures.rows.sound x on) (λ x e. c.rows_of-list.ensures.rows.complete x e) taken))
+    (takes_same (λ x. Among x (map g.F.Id.number c.rows_of-list.result.now)) (λ r. IsEntry a r (slice_index_or c.args.columns.now c.loop-at.at 0)) c.loop-at.rows.waiting.items c.loop-at.rows.queue.items c.take.new.waiting c.take.new.queue.items (λ x on. c.rows_of-list.ensures.rows.sound x on) (λ x e. c.rows_of-list.ensures.rows.complete x e) taken))
