@@ -41,7 +41,6 @@ pub fn count(
         ≡ sum_by (edges_of (row_list pattern.now) numbers.now row_numbers.now count j)
         (upto pattern.now.rows)) }
 {
-    pattern.is_pattern();
     let mut in_degrees = vec![in alloc; 0; count as usize]?;
     for row in 0..pattern.rows() {
         let own = row_numbers[row as usize];

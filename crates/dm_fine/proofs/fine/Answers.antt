@@ -1,4 +1,4 @@
-use Rattle.std.proofs.Common.{arith, rules}
+use Rattle.std.proofs.Common.{arith}
 use Rattle.bip_defs.proofs.Sets.{entry_col}
 use Rattle.dm_fine.proofs.BlockLemmas.{gathered, ordered_blocks}
 use Rattle.dm_fine.proofs.fine.Goals as goal

@@ -1,4 +1,4 @@
-use Rattle.std.proofs.Common.{rules, ◌+◌, ◌∙◌, length, arith}
+use Rattle.std.proofs.Common.{rules, ◌+◌, ◌∙◌, arith}
 use Rattle.bip_defs.specs.Matrix.{row_list}
 use Rattle.bip_defs.proofs.Sets.{entry_col, written_over}
 use Rattle.dm_fine.specs.InDegrees.{edges_of}

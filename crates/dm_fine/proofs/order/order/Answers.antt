@@ -1,6 +1,5 @@
-use Rattle.std.proofs.Common.{rules, ◌∙◌, length, ap, subst, arith}
+use Rattle.std.proofs.Common.{◌∙◌, length, ap, subst, arith}
 use Rattle.std.proofs.lemmas.List.{length_push, map-id}
-use Rattle.bip_defs.proofs.Sets.{written_over}
 use Rattle.dm_fine.specs.InDegrees.{AreReady}
 use Rattle.dm_fine.proofs.Gathered.{gathered_taken}
 use Rattle.dm_fine.proofs.OrderLemmas.{all_gone, ordering_counted, ordering_few, ordering_next}
