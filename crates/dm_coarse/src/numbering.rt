@@ -73,10 +73,12 @@ fn open<F: Id, N: Id, S: Side<F>>(
     ensures none { IfOk result (λ s. s.numbers.count ≡ 0) }
 {
     let (rows, cols) = (side.rows() as usize, side.cols() as usize);
+    // Each row of the part is the mate of one of these columns.
+    let room = columns.len().min(rows);
     Ok(Search {
         rows: Found {
             waiting: vec![in alloc; true; rows]?,
-            queue: Vec::new(alloc),
+            queue: Vec::with_capacity(alloc, room)?,
         },
         cols: Found {
             waiting: marks(alloc, cols, columns)?,
