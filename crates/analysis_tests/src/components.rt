@@ -3,7 +3,7 @@
 
 use crate::small::{are, pattern_of};
 use bip_graph::{Blocks, Components};
-use dm_coarse::{coarse, components, components_at_once};
+use dm_coarse::{coarse, components};
 use hall_witness::plain;
 use sp_ids::OutOfMemory;
 use std::process::Abort;
@@ -11,19 +11,17 @@ use std::test::Fail;
 use std::thread::Threads;
 
 /// The components of the matrix with entries at these places, from the matching of the plain
-/// engine: of one part after the other, and of both at once.
+/// engine.
 fn components_of<R: Abort + AllocGlobal + Threads + Sync>(
     rt: &R,
     rows: u32,
     cols: u32,
     places: &[(u32, u32)],
-) -> Result<(Components, Components), OutOfMemory> {
+) -> Result<Components, OutOfMemory> {
     let pattern = pattern_of(rt, rows, cols, places)?;
     let (matching, _columns) = plain(rt.alloc(), &pattern)?;
     let parts = coarse(rt, rt.alloc(), &pattern, &matching)?;
-    let in_turn = components(rt.alloc(), &pattern, &parts)?;
-    let at_once = components_at_once(rt, rt.alloc(), &pattern, &parts)?;
-    Ok((in_turn, at_once))
+    components(rt.alloc(), &pattern, &parts)
 }
 
 /// Compares components with lists of rows and columns that count from 1.
@@ -104,8 +102,7 @@ fn have_components<R: Abort>(rt: &R, example: &Example, found: &Components) {
 fn components_of_small_matrices(rt: HostRuntime) -> Result<(), Fail> {
     for example in &EXAMPLES {
         let found = components_of(&rt, example.rows, example.cols, example.places)?;
-        have_components(&rt, example, &found.0);
-        have_components(&rt, example, &found.1);
+        have_components(&rt, example, &found);
     }
     Ok(())
 }

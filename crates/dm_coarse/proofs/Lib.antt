@@ -1,3 +1,4 @@
+pub mod FoundLemmas
 pub mod GatheredLemmas
 pub mod NumberingLemmas
 pub mod SplitLemmas

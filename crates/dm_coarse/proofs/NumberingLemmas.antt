@@ -1,306 +1,394 @@
 -- What each step of the search for components keeps, and what it knows at its end.
-use Rattle.std.proofs.Common.{◌≡◌, ◌≢◌, ◌⊎◌, ◌∙◌, ℕ, zero, suc, ◌+◌, ◌<◌, ◌≤◌, Bool, true, false, List, [], ◌∷◌, ◌++◌, ◌^◌, length, append_assoc, get_or, set, replicate, refl, sym, ap, subst, inl, inr, ⊎_elim, arith, length-append, length-set, get_or-set_same, get_or-set_other, true≢false}
+use Rattle.std.proofs.Common.{◌≡◌, ◌≢◌, ◌⊎◌, ◌∙◌, ℕ, zero, suc, ◌+◌, ◌-◌, ◌<◌, ◌≤◌, Bool, true, false, List, [], ◌∷◌, ◌++◌, ◌^◌, length, append_assoc, append-nil, get_or, set, replicate, refl, sym, ap, subst, inl, inr, ⊎_elim, arith, length-append, length-set, get_or-set_same, get_or-set_other, le_antisymm}
 use Rattle.std.proofs.Math.Decide.{dec_lt}
-use Rattle.std.proofs.lemmas.List.{get_or-replicate, get_or_append_left, get_or_past, get_or_push, length-replicate}
+use Rattle.std.proofs.lemmas.List.{get_or-replicate, get_or_append_left, get_or-append_right, get_or_push, length-replicate}
 use Rattle.bip_defs.specs.Blocks.{ColAt, RowAt, Vertex}
 use Rattle.bip_defs.specs.ConnectedComponents.{IsHorizontalVertex, Joined, alone, to_row, to_col}
 use Rattle.bip_defs.specs.Lists.{Among, IsMarked, IsRising, Lists}
 use Rattle.bip_defs.specs.Matrix.{IsEntry, IsTransposeOf, Matrix, cols}
 use Rattle.bip_defs.specs.Parts.{IsHorizontalCol}
+use Rattle.bip_defs.proofs.Counts.{distinct_append}
 use Rattle.bip_defs.proofs.Full.{few_below}
-use Rattle.bip_defs.proofs.Sets.{among_at, among_last, among_left, among_right, below_each_sound, distinct_last, number_among, number_same, place_among, rising_distinct, rising_last}
+use Rattle.bip_defs.proofs.Sets.{among_at, among_either, among_left, among_right, below_each_sound, number_among, number_same, place_among, rising_distinct, rising_last}
 use Rattle.bip_graph.specs.Matching.{none}
-use Rattle.dm_coarse.specs.Numbering.{AreNumbers, AreSearched, Extends, IsAsLong, IsOfRoot, IsScanning, IsSearch}
+use Rattle.dm_coarse.specs.Found.{Meets, Takes}
+use Rattle.dm_coarse.specs.Numbering.{AreGiven, AreNumbers, AreSearched, FindsComponent, IsClosed, IsOfRoot}
+use Rattle.dm_coarse.specs.declared.found.Found.{Found}
+use Rattle.dm_coarse.specs.declared.numbering.Search.{Search}
+use Rattle.dm_coarse.proofs.FoundLemmas.{is_marked, takes_one}
 
--- Marks.
+-- A list that has grown.
 
-pub unmarked : (w : List Bool) (d c : ℕ) → IsMarked (set w d false) c → (c ≢ d) × IsMarked w c
-unmarked w d c h = by (number_same c d) (dec_lt d (length w))
-  where
-    by : (c ≡ d) ⊎ (c ≢ d) → Dec (d < length w) → (c ≢ d) × IsMarked w c
-    by (inr ne) lt = (ne, sym (get_or-set_other w d c false false ne) ∙ h)
-    by (inl e) (yes lt) = absurd (true≢false (sym h ∙ ap (λ x. get_or (set w d false) x false) e ∙ get_or-set_same w d false false lt))
-    by (inl e) (no nlt) = absurd (true≢false (sym h ∙ get_or_past (set w d false) c false (let l = length-set w d false in omega (arith, l, e))))
+-- what stands behind the old list
+in_more : (q more q2 : List ℕ) (i : ℕ) → q2 ≡ q ++ more → length q ≤ i → i < length q2 → Among (get_or q2 i 0) more
+in_more q more q2 i is le lt =
+    let long : length q2 ≡ length q + length more = ap length is ∙ length-append q more in
+    let same : get_or q2 i 0 ≡ get_or more (i - length q) 0 = ap (λ z. get_or z i 0) is ∙ get_or-append_right q more (length q) i 0 refl le in
+    rw same (among_at more (i - length q) 0 (omega (arith, lt, le, long)))
 
-pub still_marked : (w : List Bool) (d c : ℕ) → c ≢ d → IsMarked w c → IsMarked (set w d false) c
-still_marked w d c ne h = get_or-set_other w d c false false ne ∙ h
+-- where it stands
+more_in : (q more q2 : List ℕ) (x : ℕ) → q2 ≡ q ++ more → Among x more → (i : ℕ) × (length q ≤ i) × (i < length q2) × (get_or q2 i 0 ≡ x)
+more_in q more q2 x is on =
+    let (k, lt, e) = place_among x 0 more on in
+    let long : length q2 ≡ length q + length more = ap length is ∙ length-append q more in
+    (length q + k, omega arith, omega (arith, lt, long), ap (λ z. get_or z (length q + k) 0) is ∙ get_or-append_right q more (length q) (length q + k) 0 refl (omega arith) ∙ ap (λ i. get_or more i 0) (omega arith) ∙ e)
+
+old_at : (q more q2 : List ℕ) (i : ℕ) → q2 ≡ q ++ more → i < length q → get_or q2 i 0 ≡ get_or q i 0
+old_at q more q2 i is lt = ap (λ z. get_or z i 0) is ∙ get_or_append_left q more 0 i lt
+
+either : (q more q2 : List ℕ) (x : ℕ) → q2 ≡ q ++ more → Among x q2 → Among x q ⊎ Among x more
+either q more q2 x is on = among_either x q more (subst (λ z. Among x z) is on)
+
+old_in : (q more q2 : List ℕ) (x : ℕ) → q2 ≡ q ++ more → Among x q → Among x q2
+old_in q more q2 x is on = subst (λ z. Among x z) (sym is) (among_left x q more on)
+
+new_in : (q more q2 : List ℕ) (x : ℕ) → q2 ≡ q ++ more → Among x more → Among x q2
+new_in q more q2 x is on = subst (λ z. Among x z) (sym is) (among_right x q more on)
+
+longer : (q more q2 : List ℕ) → q2 ≡ q ++ more → length q ≤ length q2
+longer q more q2 is = let long : length q2 ≡ length q + length more = ap length is ∙ length-append q more in omega (arith, long)
 
 -- a row of the part
 row_of_part : (a : Matrix) (r c : ℕ) → IsHorizontalCol a c → IsEntry a r c → IsHorizontalVertex a (RowAt r)
 row_of_part a r c h e = (c, h, e)
 
--- The start.
+-- The queue has no more columns than the matrix.
+pub queue_few : (a : Matrix) (place : ℕ) (rows found : Found) → IsClosed a place rows found → length found.queue.items ≤ cols a
+queue_few a place rows found x = few_below (cols a) found.queue.items x.distinct (λ c on. (x.col_in c on).0)
 
-pub opened : (a : Matrix) (w : List Bool) (rs cs q : List ℕ) → length w ≡ cols a → rs ≡ replicate a.rows none → cs ≡ replicate (cols a) none → q ≡ [] → ((c : ℕ) → IsMarked w c → IsHorizontalCol a c) → ((c : ℕ) → IsHorizontalCol a c → IsMarked w c) → AreSearched a 0 0 w rs cs q
-opened a w rs cs q long rows_are cols_are empty sound complete = rw (rows_are, cols_are, empty) (record {
-  roots = [];
-  count_is = refl;
-  search = record {
-    long_waiting = long;
-    long_rows = length-replicate a.rows none;
-    long_cols = length-replicate (cols a) none;
-    waits = λ c h. (sound c h, λ k. k);
-    queued = λ c h nm. absurd (nm (complete c h));
-    col = λ c h. absurd h;
-    unqueued = λ c lt n. get_or-replicate (cols a) c none 0 lt;
-    row = λ r lt ne. absurd (ne (get_or-replicate a.rows r none 0 lt));
-    closed = λ r c ne h e. absurd (ne (get_or-replicate a.rows r none 0 e.0));
-    rising = tt;
-    distinct = tt;
-    root = λ k lt. absurd (omega (arith, lt));
-    after = λ k c lt. absurd (omega (arith, lt));
-    within = omega arith;
-    scanned = λ i r lt. absurd (omega (arith, lt));
-    current = λ i le lt. absurd (omega (arith, lt));
+-- One turn of the search.
+
+-- more columns
+closed_cols : (a : Matrix) (place : ℕ) (P : ℕ → Type 0) (rows old new : Found) → IsClosed a place rows old → Takes P old.waiting.items old.queue.items new.waiting.items new.queue.items → IsClosed a place rows new
+closed_cols a place P rows old new x t = record {
+  long_rows = x.long_rows;
+  long_cols = t.long ∙ x.long_cols;
+  row_waits = x.row_waits;
+  row_found = x.row_found;
+  row_in = x.row_in;
+  col_waits = λ c m. let k = t.waits c m in let h = x.col_waits c k.0 in (h.0, λ on. ⊎_elim h.1 k.1 (either old.queue.items t.more new.queue.items c t.grown on));
+  col_found = λ c h nm. col_found c h nm (is_marked old.waiting.items c);
+  col_in = λ c on. ⊎_elim (λ (k : Among c old.queue.items). x.col_in c k) (λ (k : Among c t.more). (x.col_waits c (t.waited c k).0).0) (either old.queue.items t.more new.queue.items c t.grown on);
+  distinct = rw t.grown (distinct_append old.queue.items t.more x.distinct t.distinct (λ c on k. (x.col_waits c (t.waited c k).0).1 on));
+  within = let le = longer old.queue.items t.more new.queue.items t.grown in let k = x.within in omega (arith, le, k);
+  of_cols = λ i r lt e. x.of_cols i r lt (let k = x.within in rw (old_at old.queue.items t.more new.queue.items i t.grown (omega (arith, lt, k))) at e);
+  of_rows = λ r c on h e. old_in old.queue.items t.more new.queue.items c t.grown (x.of_rows r c on h e);
+}
+  where
+    col_found : (c : ℕ) → IsHorizontalCol a c → ¬ IsMarked new.waiting.items c → IsMarked old.waiting.items c ⊎ (¬ IsMarked old.waiting.items c) → Among c new.queue.items
+    col_found c h nm (inl m) = new_in old.queue.items t.more new.queue.items c t.grown (t.queued c m nm)
+    col_found c h nm (inr n) = old_in old.queue.items t.more new.queue.items c t.grown (x.col_found c h n)
+
+-- more rows, all of whose columns are found; and all rows of the columns up to a later place
+closed_rows : (a : Matrix) (place later : ℕ) (P : ℕ → Type 0) (old new found : Found) → IsClosed a place old found → (t : Takes P old.waiting.items old.queue.items new.waiting.items new.queue.items) → later ≤ length found.queue.items → ((i r : ℕ) → i < later → IsEntry a r (get_or found.queue.items i 0) → ¬ IsMarked new.waiting.items r) → ((r c : ℕ) → Among r t.more → IsHorizontalCol a c → IsEntry a r c → Among c found.queue.items) → (P_in : (r : ℕ) → P r → r < a.rows) → IsClosed a later new found
+closed_rows a place later P old new found x t within of_cols of_rows P_in = record {
+  long_rows = t.long ∙ x.long_rows;
+  long_cols = x.long_cols;
+  row_waits = λ r m on. let k = t.waits r m in ⊎_elim (x.row_waits r k.0) k.1 (either old.queue.items t.more new.queue.items r t.grown on);
+  row_found = λ r lt nm. row_found r lt nm (is_marked old.waiting.items r);
+  row_in = λ r on. ⊎_elim (λ (k : Among r old.queue.items). x.row_in r k) (λ (k : Among r t.more). P_in r (t.waited r k).1) (either old.queue.items t.more new.queue.items r t.grown on);
+  col_waits = x.col_waits;
+  col_found = x.col_found;
+  col_in = x.col_in;
+  distinct = x.distinct;
+  within = within;
+  of_cols = λ i r lt e. row_found r e.0 (of_cols i r lt e) (is_marked old.waiting.items r);
+  of_rows = λ r c on h e. ⊎_elim (λ (k : Among r old.queue.items). x.of_rows r c k h e) (λ (k : Among r t.more). of_rows r c k h e) (either old.queue.items t.more new.queue.items r t.grown on);
+}
+  where
+    row_found : (r : ℕ) → r < a.rows → ¬ IsMarked new.waiting.items r → IsMarked old.waiting.items r ⊎ (¬ IsMarked old.waiting.items r) → Among r new.queue.items
+    row_found r lt nm (inl m) = new_in old.queue.items t.more new.queue.items r t.grown (t.queued r m nm)
+    row_found r lt nm (inr n) = old_in old.queue.items t.more new.queue.items r t.grown (x.row_found r lt n)
+
+-- what the search from a column knows at its next rows and columns
+pub record IsExploring (a : Matrix) (root next_row next_col : ℕ) (rows found rows2 found2 : Found) : Type 0 where
+  pub closed : IsClosed a next_col rows2 found2
+  pub component : FindsComponent a root rows found rows2 found2
+  pub row_end : next_row ≡ length rows2.queue.items
+  pub start : length found.queue.items ≤ next_col
+
+pub explored_root : (a : Matrix) (root : ℕ) (rows found found2 : Found) → IsClosed a (length found.queue.items) rows found → IsMarked found.waiting.items root → found2.waiting.items ≡ set found.waiting.items root false → found2.queue.items ≡ found.queue.items ++ root ∷ [] → IsExploring a root (length rows.queue.items) (length found.queue.items) rows found rows found2
+explored_root a root rows found found2 x m waiting queue = record {
+  closed = closed_cols a (length found.queue.items) (λ c. c ≡ root) rows found found2 x t;
+  component = record {
+    more_rows = [];
+    more_cols = root ∷ [];
+    rows_are = sym (append-nil rows.queue.items);
+    cols_are = queue;
+    root_in = inl refl;
+    row = λ r on. absurd on;
+    col = λ c on. ⊎_elim (λ (e : c ≡ root). rw e (m, alone)) (λ k. absurd k) on;
+    row_waits = λ r k. k;
+    col_waits = λ c k. ((t.waits c k).0, λ e. t.gone c e k);
   };
-})
+  row_end = refl;
+  start = omega arith;
+}
+  where
+    t : Takes (λ c. c ≡ root) found.waiting.items found.queue.items found2.waiting.items found2.queue.items
+    t = rw (waiting, queue) (takes_one (λ c. c ≡ root) found.waiting.items found.queue.items root (λ c e. e) refl m)
 
--- One column more.
+module _ (a b : Matrix) (turn : IsTransposeOf a b) (root next_row next_col : ℕ) (rows found rows2 found2 rows3 found3 : Found) (x : IsExploring a root next_row next_col rows found rows2 found2) (t : Takes (Meets a found2.queue.items next_col (length found2.queue.items)) rows2.waiting.items rows2.queue.items rows3.waiting.items rows3.queue.items) (u : Takes (Meets b rows3.queue.items next_row (length rows3.queue.items)) found2.waiting.items found2.queue.items found3.waiting.items found3.queue.items) where
+  abbrev f : FindsComponent a root rows found rows2 found2
+  f = x.component
 
--- the roots stay, and one more is at most the column d
-pub record AreRootsWith (a : Matrix) (roots roots2 : List ℕ) (w : List Bool) (cs q : List ℕ) (place number d : ℕ) : Type 0 where
-  pub same : (k : ℕ) → k < length roots → get_or roots2 k 0 ≡ get_or roots k 0
-  pub more : length roots ≤ length roots2
-  pub rising : IsRising roots2
-  pub fresh : (k : ℕ) → k < length roots2 → (k < length roots) ⊎ ((get_or roots2 k 0 ≡ d) × (k ≡ number))
-  pub after : (k c : ℕ) → k < length roots2 → c ≢ d → IsMarked w c → get_or roots2 k 0 < c
-  pub last : number + 1 ≡ length roots2
-  pub of_root : IsOfRoot a roots2 number (ColAt d)
-  pub least : get_or roots2 number 0 ≤ d
-  pub current : (i : ℕ) → place ≤ i → i < length q → get_or cs (get_or q i 0) 0 + 1 ≡ length roots2
+  more_closed : IsClosed a next_col rows2 found3
+  more_closed = closed_cols a next_col (Meets b rows3.queue.items next_row (length rows3.queue.items)) rows2 found2 found3 x.closed u
 
-module _ (a : Matrix) (roots roots2 : List ℕ) (place : ℕ) (w : List Bool) (rs cs q : List ℕ) (d number : ℕ) (s : IsSearch a roots place w rs cs q) (h : IsMarked w d) (t : AreRootsWith a roots roots2 w cs q place number d) where
-  d_new : ¬ Among d q
-  d_new = (s.waits d h).1
-
-  d_in : d < length cs
-  d_in = let lt = (s.waits d h).0.0 in let l = s.long_cols in omega (arith, lt, l)
-
-  other : (c : ℕ) → Among c q → c ≢ d
-  other c on e = d_new (subst (λ x. Among x q) e on)
-
-  same_number : (c : ℕ) → c ≢ d → get_or (set cs d number) c 0 ≡ get_or cs c 0
-  same_number c ne = get_or-set_other cs d c number 0 ne
-
-  d_number : get_or (set cs d number) d 0 ≡ number
-  d_number = get_or-set_same cs d number 0 d_in
-
-  root_same : (k : ℕ) (v : Vertex) → IsOfRoot a roots k v → IsOfRoot a roots2 k v
-  root_same k v o = (let m = t.more in omega (arith, o.0, m), subst (λ x. Joined a (IsHorizontalVertex a) (ColAt x) v) (sym (t.same k o.0)) o.1)
-
-  col : (c : ℕ) → Among c (q ++ d ∷ []) → IsHorizontalCol a c × IsOfRoot a roots2 (get_or (set cs d number) c 0) (ColAt c) × (get_or roots2 (get_or (set cs d number) c 0) 0 ≤ c)
-  col c on = by (among_last c d q on)
+  of_cols : (i r : ℕ) → i < length found2.queue.items → IsEntry a r (get_or found3.queue.items i 0) → ¬ IsMarked rows3.waiting.items r
+  of_cols i r lt e = by (dec_lt i next_col) (rw (old_at found2.queue.items u.more found3.queue.items i u.grown lt) at e)
     where
-      by : Among c q ⊎ (c ≡ d) → IsHorizontalCol a c × IsOfRoot a roots2 (get_or (set cs d number) c 0) (ColAt c) × (get_or roots2 (get_or (set cs d number) c 0) 0 ≤ c)
-      by (inl old) = let k = s.col c old in rw (same_number c (other c old)) (k.0, root_same (get_or cs c 0) (ColAt c) k.1, rw (t.same (get_or cs c 0) k.1.0) k.2)
-      by (inr e) = rw (e, d_number) ((s.waits d h).0, t.of_root, t.least)
+      by : Dec (i < next_col) → IsEntry a r (get_or found2.queue.items i 0) → ¬ IsMarked rows3.waiting.items r
+      by (yes before) g m = x.closed.row_waits r (t.waits r m).0 (x.closed.of_cols i r before g)
+      by (no later) g m = t.gone r (i, omega (arith, later), lt, g) m
 
-  root : (k : ℕ) → k < length roots2 → Among (get_or roots2 k 0) (q ++ d ∷ []) × (get_or (set cs d number) (get_or roots2 k 0) 0 ≡ k)
-  root k lt = by (t.fresh k lt)
-    where
-      by : (k < length roots) ⊎ ((get_or roots2 k 0 ≡ d) × (k ≡ number)) → Among (get_or roots2 k 0) (q ++ d ∷ []) × (get_or (set cs d number) (get_or roots2 k 0) 0 ≡ k)
-      by (inl old) = let r = s.root k old in rw (t.same k old) (among_left (get_or roots k 0) q (d ∷ []) r.0, same_number (get_or roots k 0) (other (get_or roots k 0) r.0) ∙ r.1)
-      by (inr (e, n)) = rw (e, d_number) (among_right d q (d ∷ []) (inl refl), sym n)
+  of_rows : (r c : ℕ) → Among r t.more → IsHorizontalCol a c → IsEntry a r c → Among c found3.queue.items
+  of_rows r c on h e =
+      let (i, le, lt, is) = more_in rows2.queue.items t.more rows3.queue.items r t.grown on in
+      let g : IsEntry b c (get_or rows3.queue.items i 0) = rw is (turn.over r c e) in
+      more_closed.col_found c h (u.gone c (i, (let s = x.row_end in omega (arith, le, s)), lt, g))
 
-  current : (i : ℕ) → place ≤ i → i < length (q ++ d ∷ []) → get_or (set cs d number) (get_or (q ++ d ∷ []) i 0) 0 + 1 ≡ length roots2
-  current i le lt = by (number_same i (length q))
-    where
-      by : (i ≡ length q) ⊎ (i ≢ length q) → get_or (set cs d number) (get_or (q ++ d ∷ []) i 0) 0 + 1 ≡ length roots2
-      by (inl e) = rw (e, get_or_push, d_number) t.last
-      by (inr ne) = let old : i < length q = omega (arith, lt, ne, length-append q (d ∷ [])) in
-          rw (get_or_append_left q (d ∷ []) 0 i old, same_number (get_or q i 0) (other (get_or q i 0) (among_at q i 0 old))) (t.current i le old)
+  joined_row : (r : ℕ) → Among r t.more → IsMarked rows.waiting.items r × Joined a (IsHorizontalVertex a) (ColAt root) (RowAt r)
+  joined_row r on =
+      let k = t.waited r on in
+      let (i, le, lt, e) = k.1 in
+      let from = x.start in
+      let c = in_more found.queue.items f.more_cols found2.queue.items i f.cols_are (omega (arith, from, le)) lt in
+      let h = x.closed.col_in (get_or found2.queue.items i 0) (among_at found2.queue.items i 0 lt) in
+      (f.row_waits r k.0, to_row (f.col (get_or found2.queue.items i 0) c).1 e (row_of_part a r (get_or found2.queue.items i 0) h e) h)
 
-  queued : (c : ℕ) → IsHorizontalCol a c → ¬ IsMarked (set w d false) c → Among c (q ++ d ∷ [])
-  queued c k nm = by (number_same c d)
-    where
-      by : (c ≡ d) ⊎ (c ≢ d) → Among c (q ++ d ∷ [])
-      by (inl e) = among_right c q (d ∷ []) (inl e)
-      by (inr ne) = among_left c q (d ∷ []) (s.queued c k (λ m. nm (still_marked w d c ne m)))
+  joined_col : (c : ℕ) → Among c u.more → IsMarked found.waiting.items c × Joined a (IsHorizontalVertex a) (ColAt root) (ColAt c)
+  joined_col c on =
+      let k = u.waited c on in
+      let (i, le, lt, g) = k.1 in
+      let h = (x.closed.col_waits c k.0).0 in
+      let r = in_more rows2.queue.items t.more rows3.queue.items i t.grown (let s = x.row_end in omega (arith, le, s)) lt in
+      let e : IsEntry a (get_or rows3.queue.items i 0) c = turn.back (get_or rows3.queue.items i 0) c g in
+      ((f.col_waits c k.0).0, to_col (joined_row (get_or rows3.queue.items i 0) r).1 e (row_of_part a (get_or rows3.queue.items i 0) c h e) h)
 
-  pub search_more : IsSearch a roots2 place (set w d false) rs (set cs d number) (q ++ d ∷ [])
-  search_more = record {
-    long_waiting = length-set w d false ∙ s.long_waiting;
-    long_rows = s.long_rows;
-    long_cols = length-set cs d number ∙ s.long_cols;
-    waits = λ c m. let u = unmarked w d c m in let k = s.waits c u.1 in (k.0, λ on. ⊎_elim k.1 u.0 (among_last c d q on));
-    queued = queued;
-    col = col;
-    unqueued = λ c lt n. same_number c (λ e. n (among_right c q (d ∷ []) (inl e))) ∙ s.unqueued c lt (λ on. n (among_left c q (d ∷ []) on));
-    row = λ r lt ne. root_same (get_or rs r 0) (RowAt r) (s.row r lt ne);
-    closed = λ r c ne k e. let z = s.closed r c ne k e in (among_left c q (d ∷ []) z.0, same_number c (other c z.0) ∙ z.1);
-    rising = t.rising;
-    distinct = distinct_last q d s.distinct d_new;
-    root = root;
-    after = λ k c lt m. let u = unmarked w d c m in t.after k c lt u.0 u.1;
-    within = omega (arith, s.within, length-append q (d ∷ []));
-    scanned = λ i r lt e. s.scanned i r lt (rw (get_or_append_left q (d ∷ []) 0 i (let le = s.within in omega (arith, lt, le))) at e);
-    current = current;
+  pub explored_more : IsExploring a root (length rows3.queue.items) (length found2.queue.items) rows found rows3 found3
+  explored_more = record {
+    closed = closed_rows a next_col (length found2.queue.items) (Meets a found2.queue.items next_col (length found2.queue.items)) rows2 rows3 found3 more_closed t (longer found2.queue.items u.more found3.queue.items u.grown) of_cols of_rows (λ r h. h.3.0);
+    component = record {
+      more_rows = f.more_rows ++ t.more;
+      more_cols = f.more_cols ++ u.more;
+      rows_are = t.grown ∙ ap (λ z. z ++ t.more) f.rows_are ∙ append_assoc rows.queue.items f.more_rows t.more;
+      cols_are = u.grown ∙ ap (λ z. z ++ u.more) f.cols_are ∙ append_assoc found.queue.items f.more_cols u.more;
+      root_in = among_left root f.more_cols u.more f.root_in;
+      row = λ r on. ⊎_elim (λ (k : Among r f.more_rows). f.row r k) (λ (k : Among r t.more). joined_row r k) (among_either r f.more_rows t.more on);
+      col = λ c on. ⊎_elim (λ (k : Among c f.more_cols). f.col c k) (λ (k : Among c u.more). joined_col c k) (among_either c f.more_cols u.more on);
+      row_waits = λ r m. f.row_waits r (t.waits r m).0;
+      col_waits = λ c m. f.col_waits c (u.waits c m).0;
+    };
+    row_end = refl;
+    start = let le = x.start in let within = x.closed.within in omega (arith, le, within);
   }
 
--- a column of the last root
-pub search_joined : (a : Matrix) (number place : ℕ) (w : List Bool) (rs cs q : List ℕ) (d : ℕ) (s : AreSearched a (number + 1) place w rs cs q) → IsMarked w d → IsOfRoot a s.roots number (ColAt d) → AreSearched a (number + 1) place (set w d false) rs (set cs d number) (q ++ d ∷ [])
-search_joined a number place w rs cs q d s h of_root = record {
-  roots = s.roots;
-  count_is = s.count_is;
-  search = search_more a s.roots s.roots place w rs cs q d number s.search h (record {
-    same = λ k lt. refl;
-    more = omega arith;
-    rising = s.search.rising;
-    fresh = λ k lt. inl lt;
-    after = λ k c lt ne m. s.search.after k c lt m;
-    last = sym s.count_is;
-    of_root = of_root;
-    least = (let lt = s.search.after number d of_root.0 h in omega (arith, lt));
-    current = s.search.current;
-  });
-}
+-- the rows of the next queue are rows of the matrix
+pub next_rows : (a : Matrix) (root next_row next_col : ℕ) (rows found rows2 found2 rows3 : Found) → IsExploring a root next_row next_col rows found rows2 found2 → Takes (Meets a found2.queue.items next_col (length found2.queue.items)) rows2.waiting.items rows2.queue.items rows3.waiting.items rows3.queue.items → (r : ℕ) → Among r rows3.queue.items → r < a.rows
+next_rows a root next_row next_col rows found rows2 found2 rows3 x t r on = ⊎_elim (λ (k : Among r rows2.queue.items). x.closed.row_in r k) (λ (k : Among r t.more). (t.waited r k).1.3.0) (either rows2.queue.items t.more rows3.queue.items r t.grown on)
 
--- the least column that waits is a root
-pub search_begun : (a : Matrix) (count : ℕ) (w : List Bool) (rs cs q : List ℕ) (d : ℕ) → AreSearched a count (length q) w rs cs q → IsMarked w d → ((c : ℕ) → IsMarked w c → d ≤ c) → AreSearched a (count + 1) (length q) (set w d false) rs (set cs d count) (q ++ d ∷ [])
-search_begun a count w rs cs q d s h least = record {
-  roots = s.roots ++ d ∷ [];
-  count_is = length-append s.roots (d ∷ []) ∙ ap (λ n. n + 1) s.count_is;
-  search = search_more a s.roots (s.roots ++ d ∷ []) (length q) w rs cs q d count s.search h (record {
-    same = λ k lt. get_or_append_left s.roots (d ∷ []) 0 k lt;
-    more = omega (arith, long);
-    rising = rising_last s.roots d s.search.rising (λ x on. let (k, lt, e) = place_among x 0 s.roots on in rw (← e) (s.search.after k d lt h));
-    fresh = λ k lt. fresh k lt (number_same k (length s.roots));
-    after = λ k c lt ne m. after k c lt ne m (number_same k (length s.roots));
-    last = let e = s.count_is in omega (arith, long, e);
-    of_root = (let e = s.count_is in omega (arith, long, e), rw last alone);
-    least = (rw last (omega arith));
-    current = λ i le lt. absurd (omega (arith, le, lt));
-  });
+pub explored_end : (a : Matrix) (root next_row next_col : ℕ) (rows found rows2 found2 : Found) → IsExploring a root next_row next_col rows found rows2 found2 → length found2.queue.items ≤ next_col → IsClosed a (length found2.queue.items) rows2 found2
+explored_end a root next_row next_col rows found rows2 found2 x all = subst (λ n. IsClosed a n rows2 found2) (let le = x.closed.within in le_antisymm le all) x.closed
+
+-- Numbers that are given.
+
+pub given_none : (list : List ℕ) (from number : ℕ) (old : List ℕ) → AreGiven list from from number old old
+given_none list from number old = record { given = λ i le lt. absurd (omega (arith, le, lt)); others = λ x n. refl }
+
+pub given_more : (list : List ℕ) (from at number x : ℕ) (old new : List ℕ) → AreGiven list from at number old new → from ≤ at → x ≡ get_or list at 0 → x < length new → AreGiven list from (at + 1) number old (set new x number)
+given_more list from at number x old new g le is lt = record {
+  given = λ i low high. given i low high (number_same (get_or list i 0) x);
+  others = λ y n. get_or-set_other new x y number 0 (λ e. n at le (omega arith) (sym is ∙ sym e)) ∙ g.others y (λ i low high. n i low (omega (arith, high)));
 }
   where
-    long : length (s.roots ++ d ∷ []) ≡ length s.roots + 1
-    long = length-append s.roots (d ∷ [])
+    given : (i : ℕ) → from ≤ i → i < at + 1 → (get_or list i 0 ≡ x) ⊎ (get_or list i 0 ≢ x) → get_or (set new x number) (get_or list i 0) 0 ≡ number
+    given i low high (inl e) = ap (λ z. get_or (set new x number) z 0) e ∙ get_or-set_same new x number 0 lt
+    given i low high (inr ne) = get_or-set_other new x (get_or list i 0) number 0 ne ∙ g.given i low (omega (arith, high, (λ (e : i ≡ at). ne (ap (λ z. get_or list z 0) e ∙ sym is))))
 
-    last : get_or (s.roots ++ d ∷ []) count 0 ≡ d
-    last = get_or_push s.roots d 0 count s.count_is
+pub given_end : (list : List ℕ) (from at to number : ℕ) (old new : List ℕ) → AreGiven list from at number old new → at ≡ to → AreGiven list from to number old new
+given_end list from at to number old new g all = subst (λ z. AreGiven list from z number old new) all g
 
-    fresh : (k : ℕ) → k < length (s.roots ++ d ∷ []) → (k ≡ length s.roots) ⊎ (k ≢ length s.roots) → (k < length s.roots) ⊎ ((get_or (s.roots ++ d ∷ []) k 0 ≡ d) × (k ≡ count))
-    fresh k lt (inl e) = inr (rw (e, s.count_is) last, e ∙ s.count_is)
-    fresh k lt (inr ne) = inl (omega (arith, lt, ne, long))
+given_new : (q more q2 : List ℕ) (number : ℕ) (old new : List ℕ) (x : ℕ) → q2 ≡ q ++ more → AreGiven q2 (length q) (length q2) number old new → Among x more → get_or new x 0 ≡ number
+given_new q more q2 number old new x is g on = let (i, le, lt, e) = more_in q more q2 x is on in rw e at (g.given i le lt)
 
-    after : (k c : ℕ) → k < length (s.roots ++ d ∷ []) → c ≢ d → IsMarked w c → (k ≡ length s.roots) ⊎ (k ≢ length s.roots) → get_or (s.roots ++ d ∷ []) k 0 < c
-    after k c lt ne m (inl e) = rw (e, s.count_is, last) (let le = least c m in omega (arith, le, ne))
-    after k c lt ne m (inr old) = let before : k < length s.roots = omega (arith, lt, old, long) in rw (get_or_append_left s.roots (d ∷ []) 0 k before) (s.search.after k c before m)
+given_old : (q more q2 : List ℕ) (number : ℕ) (old new : List ℕ) (x : ℕ) → q2 ≡ q ++ more → AreGiven q2 (length q) (length q2) number old new → ¬ Among x more → get_or new x 0 ≡ get_or old x 0
+given_old q more q2 number old new x is g off = g.others x (λ i le lt e. off (subst (λ z. Among z more) e (in_more q more q2 i is le lt)))
 
--- One row more.
+pub grown_rows : (a : Matrix) (root : ℕ) (rows found rows2 found2 : Found) → FindsComponent a root rows found rows2 found2 → length rows.queue.items ≤ length rows2.queue.items
+grown_rows a root rows found rows2 found2 f = longer rows.queue.items f.more_rows rows2.queue.items f.rows_are
 
-pub row_numbered : (a : Matrix) (number place row : ℕ) (w : List Bool) (rs cs q : List ℕ) → IsScanning a number place row w rs cs q → number < none → get_or rs row 0 ≡ none → ((c : ℕ) → IsEntry a row c → ¬ IsMarked w c) → AreSearched a (number + 1) place w (set rs row number) cs q
-row_numbered a number place row w rs cs q x small fresh gone = record {
-  roots = x.search.roots;
-  count_is = x.search.count_is;
-  search = record {
-    long_waiting = s.long_waiting;
-    long_rows = length-set rs row number ∙ s.long_rows;
-    long_cols = s.long_cols;
-    waits = s.waits;
-    queued = s.queued;
-    col = s.col;
-    unqueued = s.unqueued;
-    row = λ r lt ne. row_of r lt ne (number_same r row);
-    closed = λ r c ne h e. closed r c ne h e (number_same r row);
-    rising = s.rising;
-    distinct = s.distinct;
-    root = s.root;
-    after = s.after;
-    within = s.within;
-    scanned = λ i r lt e. scanned i r lt e (number_same r row);
-    current = s.current;
+pub grown_cols : (a : Matrix) (root : ℕ) (rows found rows2 found2 : Found) → FindsComponent a root rows found rows2 found2 → length found.queue.items ≤ length found2.queue.items
+grown_cols a root rows found rows2 found2 f = longer found.queue.items f.more_cols found2.queue.items f.cols_are
+
+none_in : (q : List ℕ) (x : ℕ) → q ≡ [] → ¬ Among x q
+none_in q x empty on = subst (λ z. Among x z) empty on
+
+-- One component more.
+
+module _ (a : Matrix) (root : ℕ) (s s2 : Search) (x : AreSearched a s) (marked : IsMarked s.cols.waiting.items root) (least : (c : ℕ) → IsMarked s.cols.waiting.items c → root ≤ c) (closed : IsClosed a (length s2.cols.queue.items) s2.rows s2.cols) (f : FindsComponent a root s.rows s.cols s2.rows s2.cols) (g_row : AreGiven s2.rows.queue.items (length s.rows.queue.items) (length s2.rows.queue.items) s.numbers.count s.numbers.rows.items s2.numbers.rows.items) (g_col : AreGiven s2.cols.queue.items (length s.cols.queue.items) (length s2.cols.queue.items) s.numbers.count s.numbers.cols.items s2.numbers.cols.items) (long_rows : length s2.numbers.rows.items ≡ length s.numbers.rows.items) (long_cols : length s2.numbers.cols.items ≡ length s.numbers.cols.items) (count_is : s2.numbers.count ≡ s.numbers.count + 1) where
+  abbrev roots2 : List ℕ
+  roots2 = x.roots ++ root ∷ []
+
+  abbrev count : ℕ
+  count = s.numbers.count
+
+  abbrev row_number : ℕ → ℕ
+  row_number r = get_or s2.numbers.rows.items r 0
+
+  abbrev col_number : ℕ → ℕ
+  col_number c = get_or s2.numbers.cols.items c 0
+
+  long : length roots2 ≡ count + 1
+  long = length-append x.roots (root ∷ []) ∙ ap (λ n. n + 1) x.count_is
+
+  last : get_or roots2 count 0 ≡ root
+  last = get_or_push x.roots root 0 s.numbers.count x.count_is
+
+  same_root : (k : ℕ) → k < length x.roots → get_or roots2 k 0 ≡ get_or x.roots k 0
+  same_root k lt = get_or_append_left x.roots (root ∷ []) 0 k lt
+
+  of_root : (k : ℕ) (v : Vertex) → IsOfRoot a x.roots k v → IsOfRoot a roots2 k v
+  of_root k v o = ((let lt = o.0 in let e = x.count_is in omega (arith, lt, e, long)), subst (λ z. Joined a (IsHorizontalVertex a) (ColAt z) v) (sym (same_root k o.0)) o.1)
+
+  of_last : (v : Vertex) → Joined a (IsHorizontalVertex a) (ColAt root) v → IsOfRoot a roots2 count v
+  of_last v j = (omega (arith, long), subst (λ z. Joined a (IsHorizontalVertex a) (ColAt z) v) (sym last) j)
+
+  fresh_row : (r : ℕ) → Among r f.more_rows → ¬ Among r s.rows.queue.items
+  fresh_row r on = x.closed.row_waits r (f.row r on).0
+
+  fresh_col : (c : ℕ) → Among c f.more_cols → ¬ Among c s.cols.queue.items
+  fresh_col c on = (x.closed.col_waits c (f.col c on).0).1
+
+  new_row : (r : ℕ) → Among r f.more_rows → row_number r ≡ count
+  new_row r on = given_new s.rows.queue.items f.more_rows s2.rows.queue.items count s.numbers.rows.items s2.numbers.rows.items r f.rows_are g_row on
+
+  old_row : (r : ℕ) → ¬ Among r f.more_rows → row_number r ≡ get_or s.numbers.rows.items r 0
+  old_row r off = given_old s.rows.queue.items f.more_rows s2.rows.queue.items count s.numbers.rows.items s2.numbers.rows.items r f.rows_are g_row off
+
+  new_col : (c : ℕ) → Among c f.more_cols → col_number c ≡ count
+  new_col c on = given_new s.cols.queue.items f.more_cols s2.cols.queue.items count s.numbers.cols.items s2.numbers.cols.items c f.cols_are g_col on
+
+  old_col : (c : ℕ) → ¬ Among c f.more_cols → col_number c ≡ get_or s.numbers.cols.items c 0
+  old_col c off = given_old s.cols.queue.items f.more_cols s2.cols.queue.items count s.numbers.cols.items s2.numbers.cols.items c f.cols_are g_col off
+
+  row : (r : ℕ) → Among r s2.rows.queue.items → IsOfRoot a roots2 (row_number r) (RowAt r)
+  row r on = by (either s.rows.queue.items f.more_rows s2.rows.queue.items r f.rows_are on)
+    where
+      by : Among r s.rows.queue.items ⊎ Among r f.more_rows → IsOfRoot a roots2 (row_number r) (RowAt r)
+      by (inl k) = subst (λ z. IsOfRoot a roots2 z (RowAt r)) (sym (old_row r (λ m. fresh_row r m k))) (of_root (get_or s.numbers.rows.items r 0) (RowAt r) (x.row r k))
+      by (inr m) = subst (λ z. IsOfRoot a roots2 z (RowAt r)) (sym (new_row r m)) (of_last (RowAt r) (f.row r m).1)
+
+  col : (c : ℕ) → Among c s2.cols.queue.items → IsOfRoot a roots2 (col_number c) (ColAt c) × (get_or roots2 (col_number c) 0 ≤ c)
+  col c on = by (either s.cols.queue.items f.more_cols s2.cols.queue.items c f.cols_are on)
+    where
+      by : Among c s.cols.queue.items ⊎ Among c f.more_cols → IsOfRoot a roots2 (col_number c) (ColAt c) × (get_or roots2 (col_number c) 0 ≤ c)
+      by (inl k) = let o = x.col c k in
+          subst (λ z. IsOfRoot a roots2 z (ColAt c) × (get_or roots2 z 0 ≤ c)) (sym (old_col c (λ m. fresh_col c m k)))
+          (of_root (get_or s.numbers.cols.items c 0) (ColAt c) o.0, (let e = same_root (get_or s.numbers.cols.items c 0) o.0.0 in let le = o.1 in omega (arith, e, le)))
+      by (inr m) =
+          subst (λ z. IsOfRoot a roots2 z (ColAt c) × (get_or roots2 z 0 ≤ c)) (sym (new_col c m))
+          (of_last (ColAt c) (f.col c m).1, (let le = least c (f.col c m).0 in omega (arith, last, le)))
+
+  same : (r c : ℕ) → Among r s2.rows.queue.items → IsHorizontalCol a c → IsEntry a r c → row_number r ≡ col_number c
+  same r c on h e = by (either s.rows.queue.items f.more_rows s2.rows.queue.items r f.rows_are on)
+    where
+      by : Among r s.rows.queue.items ⊎ Among r f.more_rows → row_number r ≡ col_number c
+      by (inl k) = let there = x.closed.of_rows r c k h e in
+          old_row r (λ m. fresh_row r m k) ∙ x.same r c k h e ∙ sym (old_col c (λ m. fresh_col c m there))
+      by (inr m) = ⊎_elim
+          (λ (k : Among c s.cols.queue.items). let (i, lt, is) = place_among c 0 s.cols.queue.items k in absurd (fresh_row r m (x.closed.of_cols i r lt (rw is e))))
+          (λ (k : Among c f.more_cols). new_row r m ∙ sym (new_col c k))
+          (either s.cols.queue.items f.more_cols s2.cols.queue.items c f.cols_are (closed.of_rows r c on h e))
+
+  root_of : (k : ℕ) → k < length roots2 → Among (get_or roots2 k 0) s2.cols.queue.items × (col_number (get_or roots2 k 0) ≡ k)
+  root_of k lt = by (number_same k count)
+    where
+      by : (k ≡ count) ⊎ (k ≢ count) → Among (get_or roots2 k 0) s2.cols.queue.items × (col_number (get_or roots2 k 0) ≡ k)
+      by (inl e) = rw (e, last) (new_in s.cols.queue.items f.more_cols s2.cols.queue.items root f.cols_are f.root_in, new_col root f.root_in)
+      by (inr ne) = let old : k < length x.roots = (let e = x.count_is in omega (arith, lt, ne, e, long)) in
+          let o = x.root k old in
+          rw (same_root k old) (old_in s.cols.queue.items f.more_cols s2.cols.queue.items (get_or x.roots k 0) f.cols_are o.0, old_col (get_or x.roots k 0) (λ m. fresh_col (get_or x.roots k 0) m o.0) ∙ o.1)
+
+  after : (k c : ℕ) → k < length roots2 → IsMarked s2.cols.waiting.items c → get_or roots2 k 0 < c
+  after k c lt m = by (number_same k count)
+    where
+      by : (k ≡ count) ⊎ (k ≢ count) → get_or roots2 k 0 < c
+      by (inl e) = rw (e, last) (let w = f.col_waits c m in let le = least c w.0 in let ne = w.1 in omega (arith, le, ne))
+      by (inr ne) = let old : k < length x.roots = (let e = x.count_is in omega (arith, lt, ne, e, long)) in rw (same_root k old) (x.after k c old (f.col_waits c m).0)
+
+  pub searched_more : AreSearched a s2
+  searched_more = record {
+    closed = closed;
+    roots = roots2;
+    count_is = long ∙ sym count_is;
+    rising = rising_last x.roots root x.rising (λ y on. let (k, lt, e) = place_among y 0 x.roots on in rw (← e) (x.after k root lt marked));
+    root = root_of;
+    after = after;
+    long_rows = long_rows ∙ x.long_rows;
+    long_cols = long_cols ∙ x.long_cols;
+    row = row;
+    no_row = λ r lt off. old_row r (λ m. off (new_in s.rows.queue.items f.more_rows s2.rows.queue.items r f.rows_are m)) ∙ x.no_row r lt (λ k. off (old_in s.rows.queue.items f.more_rows s2.rows.queue.items r f.rows_are k));
+    col = col;
+    no_col = λ c lt off. old_col c (λ m. off (new_in s.cols.queue.items f.more_cols s2.cols.queue.items c f.cols_are m)) ∙ x.no_col c lt (λ k. off (old_in s.cols.queue.items f.more_cols s2.cols.queue.items c f.cols_are k));
+    same = same;
+  }
+
+-- The start.
+
+pub opened : (a : Matrix) (s : Search) → s.rows.waiting.items ≡ replicate a.rows true → s.rows.queue.items ≡ [] → s.cols.queue.items ≡ [] → length s.cols.waiting.items ≡ cols a → ((c : ℕ) → IsMarked s.cols.waiting.items c → IsHorizontalCol a c) → ((c : ℕ) → IsHorizontalCol a c → IsMarked s.cols.waiting.items c) → s.numbers.count ≡ 0 → s.numbers.rows.items ≡ replicate a.rows none → s.numbers.cols.items ≡ replicate (cols a) none → AreSearched a s
+opened a s waiting no_rows no_cols long sound complete zero_is rows_are cols_are = record {
+  closed = record {
+    long_rows = ap length waiting ∙ length-replicate a.rows true;
+    long_cols = long;
+    row_waits = λ r m on. none_in s.rows.queue.items r no_rows on;
+    row_found = λ r lt nm. absurd (nm (ap (λ z. get_or z r false) waiting ∙ get_or-replicate a.rows r true false lt));
+    row_in = λ r on. absurd (none_in s.rows.queue.items r no_rows on);
+    col_waits = λ c m. (sound c m, λ on. none_in s.cols.queue.items c no_cols on);
+    col_found = λ c h nm. absurd (nm (complete c h));
+    col_in = λ c on. absurd (none_in s.cols.queue.items c no_cols on);
+    distinct = rw no_cols tt;
+    within = omega arith;
+    of_cols = λ i r lt. absurd (omega (arith, lt, ap length no_cols));
+    of_rows = λ r c on. absurd (none_in s.rows.queue.items r no_rows on);
   };
+  roots = [];
+  count_is = sym zero_is;
+  rising = tt;
+  root = λ k lt. absurd (omega (arith, lt));
+  after = λ k c lt. absurd (omega (arith, lt));
+  long_rows = ap length rows_are ∙ length-replicate a.rows none;
+  long_cols = ap length cols_are ∙ length-replicate (cols a) none;
+  row = λ r on. absurd (none_in s.rows.queue.items r no_rows on);
+  no_row = λ r lt off. ap (λ z. get_or z r 0) rows_are ∙ get_or-replicate a.rows r none 0 lt;
+  col = λ c on. absurd (none_in s.cols.queue.items c no_cols on);
+  no_col = λ c lt off. ap (λ z. get_or z c 0) cols_are ∙ get_or-replicate (cols a) c none 0 lt;
+  same = λ r c on. absurd (none_in s.rows.queue.items r no_rows on);
 }
-  where
-    roots : List ℕ
-    roots = x.search.roots
-
-    s : IsSearch a roots place w rs cs q
-    s = x.search.search
-
-    here : get_or (set rs row number) row 0 ≡ number
-    here = get_or-set_same rs row number 0 (let lt = x.entry.0 in let l = s.long_rows in omega (arith, lt, l))
-
-    row_of : (r : ℕ) → r < a.rows → get_or (set rs row number) r 0 ≢ none → (r ≡ row) ⊎ (r ≢ row) → IsOfRoot a roots (get_or (set rs row number) r 0) (RowAt r)
-    row_of r lt ne (inl e) = let k = s.col x.col x.queued in
-        let o : IsOfRoot a roots number (ColAt x.col) = subst (λ y. IsOfRoot a roots y (ColAt x.col)) x.number_is k.1 in
-        rw (e, here) (o.0, to_row o.1 x.entry (row_of_part a row x.col k.0 x.entry) k.0)
-    row_of r lt ne (inr other) = let same = get_or-set_other rs row r number 0 other in rw same (s.row r lt (λ e. ne (same ∙ e)))
-
-    col_number : (c : ℕ) → IsHorizontalCol a c → IsEntry a row c → Among c q × (get_or cs c 0 ≡ number)
-    col_number c h e = let on = s.queued c h (gone c e) in let (i, lt, is) = place_among c 0 q on in (on, by i lt is (dec_lt i place))
-      where
-        by : (i : ℕ) → i < length q → get_or q i 0 ≡ c → Dec (i < place) → get_or cs c 0 ≡ number
-        by i lt is (yes before) = absurd (s.scanned i row before (rw is e) fresh)
-        by i lt is (no not_before) = let k = s.current i (omega (arith, not_before)) lt in let n = x.search.count_is in
-            let m : get_or cs c 0 + 1 ≡ length roots = rw (← is) k in omega (arith, m, n)
-
-    closed : (r c : ℕ) → get_or (set rs row number) r 0 ≢ none → IsHorizontalCol a c → IsEntry a r c → (r ≡ row) ⊎ (r ≢ row) → Among c q × (get_or cs c 0 ≡ get_or (set rs row number) r 0)
-    closed r c ne h e (inl same) = let k = col_number c h (rw (← same) e) in (k.0, k.1 ∙ sym (ap (λ y. get_or (set rs row number) y 0) same ∙ here))
-    closed r c ne h e (inr other) = let same = get_or-set_other rs row r number 0 other in let k = s.closed r c (λ f. ne (same ∙ f)) h e in (k.0, k.1 ∙ sym same)
-
-    scanned : (i r : ℕ) → i < place → IsEntry a r (get_or q i 0) → (r ≡ row) ⊎ (r ≢ row) → get_or (set rs row number) r 0 ≢ none
-    scanned i r lt e (inl same) f = omega (arith, small, here, sym (ap (λ y. get_or (set rs row number) y 0) same) ∙ f)
-    scanned i r lt e (inr other) f = s.scanned i r lt e (sym (get_or-set_other rs row r number 0 other) ∙ f)
-
--- One column scanned.
-
-pub search_on : (a : Matrix) (count place : ℕ) (w : List Bool) (rs cs q : List ℕ) → AreSearched a count place w rs cs q → place < length q → ((r : ℕ) → IsEntry a r (get_or q place 0) → get_or rs r 0 ≢ none) → AreSearched a count (place + 1) w rs cs q
-search_on a count place w rs cs q x lt numbered = let s = x.search in record {
-  roots = x.roots;
-  count_is = x.count_is;
-  search = record {
-    long_waiting = s.long_waiting;
-    long_rows = s.long_rows;
-    long_cols = s.long_cols;
-    waits = s.waits;
-    queued = s.queued;
-    col = s.col;
-    unqueued = s.unqueued;
-    row = s.row;
-    closed = s.closed;
-    rising = s.rising;
-    distinct = s.distinct;
-    root = s.root;
-    after = s.after;
-    within = omega (arith, lt);
-    scanned = λ i r before e. by i r before e (number_same i place);
-    current = λ i le more. s.current i (omega (arith, le)) more;
-  };
-}
-  where
-    by : (i r : ℕ) → i < place + 1 → IsEntry a r (get_or q i 0) → (i ≡ place) ⊎ (i ≢ place) → get_or rs r 0 ≢ none
-    by i r before e (inl same) = numbered r (rw (← same) e)
-    by i r before e (inr other) = x.search.scanned i r (omega (arith, before, other)) e
 
 -- The end.
 
-pub all_numbered : (a : Matrix) (count : ℕ) (w : List Bool) (rs cs q : List ℕ) → AreSearched a count (length q) w rs cs q → ((c : ℕ) → ¬ IsMarked w c) → count ≤ none → AreNumbers a count rs cs
-all_numbered a count w rs cs q x gone few = record {
+all_numbered : (a : Matrix) (s : Search) → AreSearched a s → ((c : ℕ) → ¬ IsMarked s.cols.waiting.items c) → s.numbers.count ≤ none → AreNumbers a s.numbers.count s.numbers.rows.items s.numbers.cols.items
+all_numbered a s x gone few = record {
   roots = x.roots;
   count_is = x.count_is;
-  rising = s.rising;
-  root = λ k lt. let r = s.root k (rw x.count_is lt) in ((s.col (get_or x.roots k 0) r.0).0, r.1);
-  long_rows = s.long_rows;
-  long_cols = s.long_cols;
-  row = λ r lt n. s.row r lt (λ e. omega (arith, n, e, few));
-  col = λ c lt n. let k = s.col c (queued c lt n (number_among c q)) in (k.1, k.2);
-  numbered = λ c h. let k = s.col c (s.queued c h (gone c)) in let lt = k.1.0 in let e = x.count_is in omega (arith, lt, e);
-  same = same;
+  rising = x.rising;
+  root = λ k lt. let r = x.root k (rw x.count_is lt) in (x.closed.col_in (get_or x.roots k 0) r.0, r.1);
+  long_rows = x.long_rows;
+  long_cols = x.long_cols;
+  row = λ r lt n. row r lt n (number_among r s.rows.queue.items);
+  col = λ c lt n. col c lt n (number_among c s.cols.queue.items);
+  numbered = λ c h. let k = x.col c (x.closed.col_found c h (gone c)) in let lt = k.0.0 in let e = x.count_is in omega (arith, lt, e);
+  same = λ r c h e. let (i, lt, is) = place_among c 0 s.cols.queue.items (x.closed.col_found c h (gone c)) in x.same r c (x.closed.of_cols i r lt (rw is e)) h e;
 }
   where
-    s : IsSearch a x.roots (length q) w rs cs q
-    s = x.search
+    row : (r : ℕ) → r < a.rows → get_or s.numbers.rows.items r 0 < s.numbers.count → Among r s.rows.queue.items ⊎ (¬ Among r s.rows.queue.items) → IsOfRoot a x.roots (get_or s.numbers.rows.items r 0) (RowAt r)
+    row r lt n (inl on) = x.row r on
+    row r lt n (inr off) = absurd (let e = x.no_row r lt off in omega (arith, n, e, few))
 
-    queued : (c : ℕ) → c < cols a → get_or cs c 0 < count → Among c q ⊎ (¬ Among c q) → Among c q
-    queued c lt n (inl on) = on
-    queued c lt n (inr off) = absurd (let e = s.unqueued c lt off in omega (arith, n, e, few))
-
-    same : (r c : ℕ) → IsHorizontalCol a c → IsEntry a r c → get_or rs r 0 ≡ get_or cs c 0
-    same r c h e = let (i, lt, is) = place_among c 0 q (s.queued c h (gone c)) in sym (s.closed r c (s.scanned i r lt (rw is e)) h e).1
-
--- ---- in loops
+    col : (c : ℕ) → c < cols a → get_or s.numbers.cols.items c 0 < s.numbers.count → Among c s.cols.queue.items ⊎ (¬ Among c s.cols.queue.items) → IsOfRoot a x.roots (get_or s.numbers.cols.items c 0) (ColAt c) × (get_or x.roots (get_or s.numbers.cols.items c 0) 0 ≤ c)
+    col c lt n (inl on) = x.col c on
+    col c lt n (inr off) = absurd (let e = x.no_col c lt off in omega (arith, n, e, few))
 
 -- the marks that the first of the columns have made
 pub record AreMarks (n : ℕ) (list : List ℕ) (at : ℕ) (marks : List Bool) : Type 0 where
@@ -332,130 +420,6 @@ marks_more n list at d marks x lt is small = record {
 pub marks_all : (n : ℕ) (list : List ℕ) (at : ℕ) (marks : List Bool) (c : ℕ) → AreMarks n list at marks → length list ≤ at → Among c list → IsMarked marks c
 marks_all n list at marks c x all on = let (i, lt, is) = place_among c 0 list on in rw is at (x.complete i (omega (arith, lt, all)) lt)
 
--- Queues that grow.
-
-pub extends_more : (w w2 w3 : List Bool) (q q2 q3 : List ℕ) → Extends w q w2 q2 → Extends w2 q2 w3 q3 → Extends w q w3 q3
-extends_more w w2 w3 q q2 q3 x y = record {
-  more = x.more ++ y.more;
-  grown = y.grown ∙ ap (λ z. z ++ y.more) x.grown ∙ append_assoc q x.more y.more;
-  waits = λ c h. x.waits c (y.waits c h);
-}
-
-pub extends_one : (w : List Bool) (q : List ℕ) (d : ℕ) → Extends w q (set w d false) (q ++ d ∷ [])
-extends_one w q d = record { more = d ∷ []; grown = refl; waits = λ c h. (unmarked w d c h).1 }
-
-pub extended_at : (w w2 : List Bool) (q q2 : List ℕ) (i : ℕ) → Extends w q w2 q2 → i < length q → get_or q2 i 0 ≡ get_or q i 0
-extended_at w w2 q q2 i x lt = ap (λ z. get_or z i 0) x.grown ∙ get_or_append_left q x.more 0 i lt
-
-pub extended_long : (w w2 : List Bool) (q q2 : List ℕ) → Extends w q w2 q2 → length q ≤ length q2
-extended_long w w2 q q2 x = omega (arith, ap length x.grown, length-append q x.more)
-
--- A row that is scanned.
-
-pub record IsRowScan (b : Matrix) (row number at : ℕ) (list : List ℕ) (w : List Bool) (rs cs q : List ℕ) (w2 : List Bool) (rs2 cs2 q2 : List ℕ) : Type 0 where
-  pub long : IsAsLong b.rows w2 cs2
-  pub scanning : (a : Matrix) (place : ℕ) → IsTransposeOf a b → IsScanning a number place row w rs cs q → IsScanning a number place row w2 rs2 cs2 q2
-  pub rows : rs2 ≡ rs
-  pub gone : (i : ℕ) → i < at → ¬ IsMarked w2 (get_or list i 0)
-  pub extends : Extends w q w2 q2
-
--- a column that does not wait
-pub row_scan_skip : (b : Matrix) (row number at : ℕ) (list : List ℕ) (w : List Bool) (rs cs q : List ℕ) (w2 : List Bool) (rs2 cs2 q2 : List ℕ) (d : ℕ) → IsRowScan b row number at list w rs cs q w2 rs2 cs2 q2 → d ≡ get_or list at 0 → ¬ IsMarked w2 d → IsRowScan b row number (at + 1) list w rs cs q w2 rs2 cs2 q2
-row_scan_skip b row number at list w rs cs q w2 rs2 cs2 q2 d x is nm = record { long = x.long; scanning = x.scanning; rows = x.rows; gone = λ i lt. gone i lt (number_same i at); extends = x.extends }
-  where
-    gone : (i : ℕ) → i < at + 1 → (i ≡ at) ⊎ (i ≢ at) → ¬ IsMarked w2 (get_or list i 0)
-    gone i lt (inl e) m = nm (rw (is, ← e) m)
-    gone i lt (inr ne) m = x.gone i (omega (arith, lt, ne)) m
-
--- a column that waits is entered
-pub row_scan_enter : (b : Matrix) (row number at : ℕ) (list : List ℕ) (w : List Bool) (rs cs q : List ℕ) (w2 : List Bool) (rs2 cs2 q2 : List ℕ) (d : ℕ) → IsRowScan b row number at list w rs cs q w2 rs2 cs2 q2 → d ≡ get_or list at 0 → IsMarked w2 d → IsEntry b d row → IsRowScan b row number (at + 1) list w rs cs q (set w2 d false) rs2 (set cs2 d number) (q2 ++ d ∷ [])
-row_scan_enter b row number at list w rs cs q w2 rs2 cs2 q2 d x is m entry = record {
-  long = record { marks = length-set w2 d false ∙ x.long.marks; numbers = length-set cs2 d number ∙ x.long.numbers };
-  scanning = λ a place t y. scan a t (x.scanning a place t y);
-  rows = x.rows;
-  gone = λ i lt. gone i lt (number_same i at);
-  extends = extends_more w w2 (set w2 d false) q q2 (q2 ++ d ∷ []) x.extends (extends_one w2 q2 d);
-}
-  where
-    gone : (i : ℕ) → i < at + 1 → (i ≡ at) ⊎ (i ≢ at) → ¬ IsMarked (set w2 d false) (get_or list i 0)
-    gone i lt (inl e) h = (unmarked w2 d (get_or list i 0) h).0 (rw (e, is) refl)
-    gone i lt (inr ne) h = x.gone i (omega (arith, lt, ne)) (unmarked w2 d (get_or list i 0) h).1
-
-    scan : {place : ℕ} (a : Matrix) → IsTransposeOf a b → IsScanning a number place row w2 rs2 cs2 q2 → IsScanning a number place row (set w2 d false) rs2 (set cs2 d number) (q2 ++ d ∷ [])
-    scan {place = place} a t y = let s = y.search.search in
-        let own = s.col y.col y.queued in
-        let joined : IsOfRoot a y.search.roots number (ColAt y.col) = subst (λ z. IsOfRoot a y.search.roots z (ColAt y.col)) y.number_is own.1 in
-        let here : IsEntry a row d = t.back row d entry in
-        let waits = s.waits d m in
-        let other : y.col ≢ d = λ e. waits.1 (rw (← e) y.queued) in
-        record {
-          search = search_joined a number place w2 rs2 cs2 q2 d y.search m (joined.0, to_col (to_row joined.1 y.entry (row_of_part a row y.col own.0 y.entry) own.0) here (row_of_part a row y.col own.0 y.entry) waits.0);
-          col = y.col;
-          queued = among_left y.col q2 (d ∷ []) y.queued;
-          number_is = get_or-set_other cs2 d y.col number 0 other ∙ y.number_is;
-          entry = y.entry;
-        }
-
-pub row_scan_gone : (b : Matrix) (row number at : ℕ) (list : List ℕ) (w : List Bool) (rs cs q : List ℕ) (w2 : List Bool) (rs2 cs2 q2 : List ℕ) → IsRowScan b row number at list w rs cs q w2 rs2 cs2 q2 → length list ≤ at → Lists (λ c. IsEntry b c row) list → (c : ℕ) → IsEntry b c row → ¬ IsMarked w2 c
-row_scan_gone b row number at list w rs cs q w2 rs2 cs2 q2 x all lists c e m = let (i, lt, is) = place_among c 0 list (lists.complete c e) in x.gone i (omega (arith, lt, all)) (rw is m)
-
--- A column that is scanned.
-
-pub record IsColScan (a : Matrix) (number place at : ℕ) (list : List ℕ) (w : List Bool) (q : List ℕ) (w2 : List Bool) (rs2 cs2 q2 : List ℕ) : Type 0 where
-  pub search : AreSearched a (number + 1) place w2 rs2 cs2 q2
-  pub extends : Extends w q w2 q2
-  pub numbered : (i : ℕ) → i < at → get_or rs2 (get_or list i 0) 0 ≢ none
-
-pub col_scan_skip : (a : Matrix) (number place at : ℕ) (list : List ℕ) (w : List Bool) (q : List ℕ) (w2 : List Bool) (rs2 cs2 q2 : List ℕ) (r : ℕ) → IsColScan a number place at list w q w2 rs2 cs2 q2 → r ≡ get_or list at 0 → get_or rs2 r 0 ≢ none → IsColScan a number place (at + 1) list w q w2 rs2 cs2 q2
-col_scan_skip a number place at list w q w2 rs2 cs2 q2 r x is ne = record { search = x.search; extends = x.extends; numbered = λ i lt. by i lt (number_same i at) }
-  where
-    by : (i : ℕ) → i < at + 1 → (i ≡ at) ⊎ (i ≢ at) → get_or rs2 (get_or list i 0) 0 ≢ none
-    by i lt (inl e) f = ne (rw (is, ← e) f)
-    by i lt (inr other) f = x.numbered i (omega (arith, lt, other)) f
-
--- the row that a scan of the column comes to
-pub scanning_at : (a : Matrix) (number place at : ℕ) (list : List ℕ) (w : List Bool) (q : List ℕ) (w2 : List Bool) (rs2 cs2 q2 : List ℕ) (r d : ℕ) → IsColScan a number place at list w q w2 rs2 cs2 q2 → place < length q → d ≡ get_or q place 0 → IsEntry a r d → IsScanning a number place r w2 rs2 cs2 q2
-scanning_at a number place at list w q w2 rs2 cs2 q2 r d x lt is entry =
-    let long = extended_long w w2 q q2 x.extends in
-    let same : get_or q2 place 0 ≡ d = extended_at w w2 q q2 place x.extends lt ∙ sym is in
-    let current = x.search.search.current place (omega arith) (omega (arith, lt, long)) in
-    record {
-      search = x.search;
-      col = d;
-      queued = rw same at (among_at q2 place 0 (omega (arith, lt, long)));
-      number_is = (let e : get_or cs2 d 0 + 1 ≡ length x.search.roots = rw same at current in let n = x.search.count_is in omega (arith, e, n));
-      entry = entry;
-    }
-
-pub col_scan_more : (a : Matrix) (number place at : ℕ) (list : List ℕ) (w : List Bool) (q : List ℕ) (w2 : List Bool) (rs2 cs2 q2 : List ℕ) (w3 : List Bool) (rs3 cs3 q3 : List ℕ) (r : ℕ) → IsColScan a number place at list w q w2 rs2 cs2 q2 → r ≡ get_or list at 0 → get_or rs2 r 0 ≡ none → number < none → IsScanning a number place r w3 rs3 cs3 q3 → rs3 ≡ rs2 → ((c : ℕ) → IsEntry a r c → ¬ IsMarked w3 c) → Extends w2 q2 w3 q3 → IsColScan a number place (at + 1) list w q w3 (set rs3 r number) cs3 q3
-col_scan_more a number place at list w q w2 rs2 cs2 q2 w3 rs3 cs3 q3 r x is fresh small s rows gone ext = record {
-  search = row_numbered a number place r w3 rs3 cs3 q3 s small (ap (λ z. get_or z r 0) rows ∙ fresh) gone;
-  extends = extends_more w w2 w3 q q2 q3 x.extends ext;
-  numbered = λ i lt. by i lt (number_same (get_or list i 0) r);
-}
-  where
-    here : get_or (set rs3 r number) r 0 ≡ number
-    here = get_or-set_same rs3 r number 0 (let lt = s.entry.0 in let l = s.search.search.long_rows in omega (arith, lt, l))
-
-    by : (i : ℕ) → i < at + 1 → (get_or list i 0 ≡ r) ⊎ (get_or list i 0 ≢ r) → get_or (set rs3 r number) (get_or list i 0) 0 ≢ none
-    by i lt (inl e) f = omega (arith, small, here, sym (ap (λ y. get_or (set rs3 r number) y 0) e) ∙ f)
-    by i lt (inr ne) f = x.numbered i (omega (arith, lt, not_at)) (sym (ap (λ z. get_or z (get_or list i 0) 0) rows) ∙ sym (get_or-set_other rs3 r (get_or list i 0) number 0 ne) ∙ f)
-      where
-        not_at : i ≢ at
-        not_at e = ne (rw e (sym is))
-
-pub col_scan_end : (a : Matrix) (number place at : ℕ) (list : List ℕ) (w : List Bool) (q : List ℕ) (w2 : List Bool) (rs2 cs2 q2 : List ℕ) (d : ℕ) → IsColScan a number place at list w q w2 rs2 cs2 q2 → length list ≤ at → place < length q → d ≡ get_or q place 0 → Lists (λ r. IsEntry a r d) list → AreSearched a (number + 1) (place + 1) w2 rs2 cs2 q2
-col_scan_end a number place at list w q w2 rs2 cs2 q2 d x all lt is lists =
-    let long = extended_long w w2 q q2 x.extends in
-    search_on a (number + 1) place w2 rs2 cs2 q2 x.search (omega (arith, lt, long)) (λ r e. numbered r (rw (extended_at w w2 q q2 place x.extends lt, ← is) at e))
-  where
-    numbered : (r : ℕ) → IsEntry a r d → get_or rs2 r 0 ≢ none
-    numbered r e f = let (i, less, same) = place_among r 0 list (lists.complete r e) in x.numbered i (omega (arith, less, all)) (rw same f)
-
--- The queue has no more columns than the matrix.
-pub queue_few : (a : Matrix) (count place : ℕ) (w : List Bool) (rs cs q : List ℕ) → AreSearched a count place w rs cs q → length q ≤ cols a
-queue_few a count place w rs cs q x = few_below (cols a) q x.search.distinct (λ c on. (x.search.col c on).0.0)
-
 -- the later of two places has the greater number
 pub rising_at : (xs : List ℕ) (i j : ℕ) → IsRising xs → i < j → j < length xs → get_or xs i 0 < get_or xs j 0
 rising_at [] i j rising lt within = absurd (omega (arith, within))
@@ -464,24 +428,24 @@ rising_at (x ∷ xs) zero (suc j) rising lt within = below_each_sound x (get_or 
 rising_at (x ∷ xs) (suc i) zero rising lt within = absurd (omega (arith, lt))
 rising_at (x ∷ xs) (suc i) (suc j) rising lt within = rising_at xs i j rising.1 (omega (arith, lt)) (omega (arith, within))
 
--- The columns before the place have a number.
+-- The columns before the place do not wait.
 
-pub record IsNumbering (a : Matrix) (count at : ℕ) (list : List ℕ) (w : List Bool) (rs cs q : List ℕ) : Type 0 where
-  pub search : AreSearched a count (length q) w rs cs q
-  pub few : count ≤ at
-  pub gone : (i : ℕ) → i < at → ¬ IsMarked w (get_or list i 0)
+pub record IsNumbering (a : Matrix) (at : ℕ) (list : List ℕ) (s : Search) : Type 0 where
+  pub search : AreSearched a s
+  pub few : s.numbers.count ≤ at
+  pub gone : (i : ℕ) → i < at → ¬ IsMarked s.cols.waiting.items (get_or list i 0)
 
-pub numbering_skip : (a : Matrix) (count at : ℕ) (list : List ℕ) (w : List Bool) (rs cs q : List ℕ) (d : ℕ) → IsNumbering a count at list w rs cs q → d ≡ get_or list at 0 → ¬ IsMarked w d → IsNumbering a count (at + 1) list w rs cs q
-numbering_skip a count at list w rs cs q d x is nm = record { search = x.search; few = omega (arith, x.few); gone = λ i lt. gone i lt (number_same i at) }
+pub numbering_skip : (a : Matrix) (at : ℕ) (list : List ℕ) (s : Search) (d : ℕ) → IsNumbering a at list s → d ≡ get_or list at 0 → ¬ IsMarked s.cols.waiting.items d → IsNumbering a (at + 1) list s
+numbering_skip a at list s d x is nm = record { search = x.search; few = omega (arith, x.few); gone = λ i lt. gone i lt (number_same i at) }
   where
-    gone : (i : ℕ) → i < at + 1 → (i ≡ at) ⊎ (i ≢ at) → ¬ IsMarked w (get_or list i 0)
+    gone : (i : ℕ) → i < at + 1 → (i ≡ at) ⊎ (i ≢ at) → ¬ IsMarked s.cols.waiting.items (get_or list i 0)
     gone i lt (inl e) m = nm (rw (is, ← e) m)
     gone i lt (inr ne) m = x.gone i (omega (arith, lt, ne)) m
 
 -- the column at the place is the least that waits
-pub least_waiting : (a : Matrix) (count at : ℕ) (list : List ℕ) (w : List Bool) (rs cs q : List ℕ) (d : ℕ) → IsNumbering a count at list w rs cs q → d ≡ get_or list at 0 → Lists (IsHorizontalCol a) list → (c : ℕ) → IsMarked w c → d ≤ c
-least_waiting a count at list w rs cs q d x is lists c m =
-    let (i, lt, same) = place_among c 0 list (lists.complete c (x.search.search.waits c m).0) in
+pub least_waiting : (a : Matrix) (at : ℕ) (list : List ℕ) (s : Search) (d : ℕ) → IsNumbering a at list s → d ≡ get_or list at 0 → Lists (IsHorizontalCol a) list → (c : ℕ) → IsMarked s.cols.waiting.items c → d ≤ c
+least_waiting a at list s d x is lists c m =
+    let (i, lt, same) = place_among c 0 list (lists.complete c (x.search.closed.col_waits c m).0) in
     by i lt same (dec_lt i at) (number_same i at)
   where
     by : (i : ℕ) → i < length list → get_or list i 0 ≡ c → Dec (i < at) → (i ≡ at) ⊎ (i ≢ at) → d ≤ c
@@ -489,21 +453,21 @@ least_waiting a count at list w rs cs q d x is lists c m =
     by i lt same (no later) (inl e) = (let f : get_or list at 0 ≡ c = rw e at same in omega (arith, is, f))
     by i lt same (no later) (inr ne) = let up = rising_at list at i lists.rising (omega (arith, later, ne)) lt in omega (arith, up, is, same)
 
-pub numbering_more : (a : Matrix) (count at : ℕ) (list : List ℕ) (w : List Bool) (rs cs q : List ℕ) (w2 : List Bool) (rs2 cs2 q2 : List ℕ) (d : ℕ) → IsNumbering a count at list w rs cs q → d ≡ get_or list at 0 → AreSearched a (count + 1) (length q2) w2 rs2 cs2 q2 → ((c : ℕ) → IsMarked w2 c → IsMarked (set w d false) c) → IsNumbering a (count + 1) (at + 1) list w2 rs2 cs2 q2
-numbering_more a count at list w rs cs q w2 rs2 cs2 q2 d x is s stays = record { search = s; few = omega (arith, x.few); gone = λ i lt. gone i lt (number_same i at) }
+pub numbering_more : (a : Matrix) (at : ℕ) (list : List ℕ) (s s2 : Search) (d : ℕ) → IsNumbering a at list s → d ≡ get_or list at 0 → AreSearched a s2 → s2.numbers.count ≡ s.numbers.count + 1 → ((c : ℕ) → IsMarked s2.cols.waiting.items c → IsMarked s.cols.waiting.items c × (c ≢ d)) → IsNumbering a (at + 1) list s2
+numbering_more a at list s s2 d x is search count_is waits = record { search = search; few = omega (arith, x.few, count_is); gone = λ i lt. gone i lt (number_same i at) }
   where
-    gone : (i : ℕ) → i < at + 1 → (i ≡ at) ⊎ (i ≢ at) → ¬ IsMarked w2 (get_or list i 0)
-    gone i lt (inl e) m = (unmarked w d (get_or list i 0) (stays (get_or list i 0) m)).0 (rw (e, is) refl)
-    gone i lt (inr ne) m = x.gone i (omega (arith, lt, ne)) (unmarked w d (get_or list i 0) (stays (get_or list i 0) m)).1
+    gone : (i : ℕ) → i < at + 1 → (i ≡ at) ⊎ (i ≢ at) → ¬ IsMarked s2.cols.waiting.items (get_or list i 0)
+    gone i lt (inl e) m = (waits (get_or list i 0) m).1 (ap (λ z. get_or list z 0) e ∙ sym is)
+    gone i lt (inr ne) m = x.gone i (omega (arith, lt, ne)) (waits (get_or list i 0) m).0
 
 -- the next number stands for no component
-pub numbering_small : (a : Matrix) (count at : ℕ) (list : List ℕ) (w : List Bool) (rs cs q : List ℕ) → IsNumbering a count at list w rs cs q → Lists (IsHorizontalCol a) list → at < length list → cols a < 2 ^ 32 → count < none
-numbering_small a count at list w rs cs q x lists lt small =
+pub numbering_small : (a : Matrix) (at : ℕ) (list : List ℕ) (s : Search) → IsNumbering a at list s → Lists (IsHorizontalCol a) list → at < length list → cols a < 2 ^ 32 → s.numbers.count < none
+numbering_small a at list s x lists lt small =
     let few = few_below (cols a) list (rising_distinct list lists.rising) (λ c on. (lists.sound c on).0) in
     let le = x.few in
     omega (arith, few, le, lt, small)
 
-pub numbering_end : (a : Matrix) (count at : ℕ) (list : List ℕ) (w : List Bool) (rs cs q : List ℕ) → IsNumbering a count at list w rs cs q → Lists (IsHorizontalCol a) list → at ≡ length list → cols a < 2 ^ 32 → AreNumbers a count rs cs
-numbering_end a count at list w rs cs q x lists all small =
-    all_numbered a count w rs cs q x.search (λ c m. let (i, lt, same) = place_among c 0 list (lists.complete c (x.search.search.waits c m).0) in x.gone i (omega (arith, lt, all)) (rw same m))
+pub numbering_end : (a : Matrix) (at : ℕ) (list : List ℕ) (s : Search) → IsNumbering a at list s → Lists (IsHorizontalCol a) list → at ≡ length list → cols a < 2 ^ 32 → AreNumbers a s.numbers.count s.numbers.rows.items s.numbers.cols.items
+numbering_end a at list s x lists all small =
+    all_numbered a s x.search (λ c m. let (i, lt, same) = place_among c 0 list (lists.complete c (x.search.closed.col_waits c m).0) in x.gone i (omega (arith, lt, all)) (rw same m))
     (let few = few_below (cols a) list (rising_distinct list lists.rising) (λ c on. (lists.sound c on).0) in let le = x.few in omega (arith, few, le, all, small))

@@ -13,6 +13,7 @@ use Rattle.bip_defs.proofs.Square.{horizontal_mate, rows_apart}
 use Rattle.bip_defs.proofs.Transposed.{horizontal_turned, square_col_turned, square_row_turned, transpose_back, transpose_cols, transpose_is, turned_horizontal, turned_marks, turned_matching, turned_maximum, turned_twice, turned_vertical, turned_vertical_col, vertical_col_turned, vertical_turned}
 use Rattle.bip_graph.specs.Matching.{IsMatchingOf, IsMaximumOf, Pairing, transposed}
 use Rattle.dm_coarse.specs.Searches.{AreMarksIfMaximum}
+use Rattle.dm_coarse.specs.Split.{AreColsByPart, AreKnown, AreRowsByPart}
 
 -- The numbers below a bound that have P, as the bound grows.
 
@@ -107,38 +108,49 @@ more_vertical f a n x hs ss vs hs2 ss2 vs2 e p s i j k =
     (subst (λ z. IsSplit a (n + 1) (map f hs) z (map f vs2)) (sym (ap (map f) j))
     (subst (λ z. IsSplit a (n + 1) (map f hs) (map f ss) z) (sym (ap (map f) k ∙ number_last f vs x n e)) (split_vertical a n (map f hs) (map f ss) (map f vs) (subst (IsVerticalRow a) e p) s)))
 
-pub split_end : (a : Matrix) (n : ℕ) (hs ss vs : List ℕ) → a.rows ≤ n → IsSplit a n hs ss vs → Lists (IsHorizontalRow a) hs × Lists (IsSquareRow a) ss × Lists (IsVerticalRow a) vs
-split_end a n hs ss vs le s = (
-  all_below (IsHorizontalRow a) n hs (λ x h. let lt = horizontal_below a x h in omega arith) s.horizontal,
-  all_below (IsSquareRow a) n ss (λ x h. let lt = h.0 in omega arith) s.square,
-  all_below (IsVerticalRow a) n vs (λ x h. let lt = h.0 in omega arith) s.vertical,
-)
+pub split_end : (a : Matrix) (n : ℕ) (hs ss vs : List ℕ) → a.rows ≤ n → IsSplit a n hs ss vs → AreRowsByPart a hs ss vs
+split_end a n hs ss vs le s = record {
+  horizontal = all_below (IsHorizontalRow a) n hs (λ x h. let lt = horizontal_below a x h in omega arith) s.horizontal;
+  square = all_below (IsSquareRow a) n ss (λ x h. let lt = h.0 in omega arith) s.square;
+  vertical = all_below (IsVerticalRow a) n vs (λ x h. let lt = h.0 in omega arith) s.vertical;
+}
 
 -- The transpose.
 
-pub marks_turned : (a : Matrix) (marks : List Bool) → Marks a.rows (IsVerticalRow a) marks → Marks (cols (transpose a)) (IsHorizontalCol (transpose a)) marks
+marks_turned : (a : Matrix) (marks : List Bool) → Marks a.rows (IsVerticalRow a) marks → Marks (cols (transpose a)) (IsHorizontalCol (transpose a)) marks
 marks_turned a marks k = record {
   long = k.long ∙ sym (transpose_cols a);
   exact = λ i lt. (λ h. vertical_turned a (transpose a) i (transpose_is a) ((k.exact i (rw transpose_cols at lt)).0 h), λ v. (k.exact i (rw transpose_cols at lt)).1 (turned_vertical a (transpose a) i (transpose_is a) v));
 }
 
-pub col_marks_turned : (a : Matrix) (marks : List Bool) → Marks (cols a) (IsHorizontalCol a) marks → Marks (cols a) (IsVerticalRow (transpose a)) marks
+col_marks_turned : (a : Matrix) (marks : List Bool) → Marks (cols a) (IsHorizontalCol a) marks → Marks (cols a) (IsVerticalRow (transpose a)) marks
 col_marks_turned a marks k = record {
   long = k.long;
   exact = λ i lt. (λ h. horizontal_turned a (transpose a) i (transpose_is a) ((k.exact i lt).0 h), λ v. (k.exact i lt).1 (turned_horizontal a (transpose a) i (transpose_is a) v));
 }
 
-pub horizontal_cols_lists : (a : Matrix) (xs : List ℕ) → Lists (IsVerticalRow (transpose a)) xs → Lists (IsHorizontalCol a) xs
+pub known_turned : (a : Matrix) (hcs vrs : List Bool) → AreKnown a hcs vrs → AreKnown (transpose a) vrs hcs
+known_turned a hcs vrs k = record { horizontal = marks_turned a vrs k.vertical; vertical = col_marks_turned a hcs k.horizontal }
+
+horizontal_cols_lists : (a : Matrix) (xs : List ℕ) → Lists (IsVerticalRow (transpose a)) xs → Lists (IsHorizontalCol a) xs
 horizontal_cols_lists a xs l = lists_same (IsVerticalRow (transpose a)) (IsHorizontalCol a) xs (λ c k. turned_horizontal a (transpose a) c (transpose_is a) k) (λ c k. horizontal_turned a (transpose a) c (transpose_is a) k) l
 
-pub square_cols_lists : (a : Matrix) (xs : List ℕ) → Lists (IsSquareRow (transpose a)) xs → Lists (IsSquareCol a) xs
+square_cols_lists : (a : Matrix) (xs : List ℕ) → Lists (IsSquareRow (transpose a)) xs → Lists (IsSquareCol a) xs
 square_cols_lists a xs l = lists_same (IsSquareRow (transpose a)) (IsSquareCol a) xs (λ c k. square_row_turned (transpose a) a c (transpose_back a (transpose a) (transpose_is a)) k) (λ c k. square_col_turned a (transpose a) c (transpose_is a) k) l
 
-pub vertical_cols_lists : (a : Matrix) (xs : List ℕ) → Lists (IsHorizontalRow (transpose a)) xs → Lists (IsVerticalCol a) xs
+vertical_cols_lists : (a : Matrix) (xs : List ℕ) → Lists (IsHorizontalRow (transpose a)) xs → Lists (IsVerticalCol a) xs
 vertical_cols_lists a xs l = lists_same (IsHorizontalRow (transpose a)) (IsVerticalCol a) xs (λ c k. turned_vertical_col a (transpose a) c (transpose_is a) k) (λ c k. vertical_col_turned a (transpose a) c (transpose_is a) k) l
 
-pub plain_lists : (P : ℕ → Type 0) (xs : List ℕ) → Lists P (map (λ (x : ℕ). x) xs) → Lists P xs
+plain_lists : (P : ℕ → Type 0) (xs : List ℕ) → Lists P (map (λ (x : ℕ). x) xs) → Lists P xs
 plain_lists P xs l = subst (Lists P) (map-id xs) l
+
+-- the rows of each part of the transpose are the columns of the part opposite
+pub cols_by_part : (a : Matrix) (hs ss vs : List ℕ) → AreRowsByPart (transpose a) (map (λ (x : ℕ). x) hs) (map (λ (x : ℕ). x) ss) (map (λ (x : ℕ). x) vs) → AreColsByPart a vs ss hs
+cols_by_part a hs ss vs s = record {
+  horizontal = horizontal_cols_lists a vs (plain_lists (IsVerticalRow (transpose a)) vs s.vertical);
+  square = square_cols_lists a ss (plain_lists (IsSquareRow (transpose a)) ss s.square);
+  vertical = vertical_cols_lists a hs (plain_lists (IsHorizontalRow (transpose a)) hs s.horizontal);
+}
 
 -- What nothing refutes.
 

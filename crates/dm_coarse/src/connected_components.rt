@@ -16,7 +16,6 @@ use id_groups::{Groups, gather};
 use sp_ids::{Col, Id, OutOfMemory, Row};
 use sp_pattern::{FromRows, Pattern, Side};
 use std::alloc::Global;
-use std::thread::{Threads, join};
 
 /// The connected components of the horizontal and of the vertical part, from the parts: all of
 /// them, the horizontal ones by their least columns and the vertical ones by their least rows.
@@ -25,10 +24,10 @@ use std::thread::{Threads, join};
 /// horizontal part, and from the rows of the vertical part over the transpose, which is not made. A
 /// part that is empty costs nothing.
 ///
-/// Answers `OutOfMemory` where 4 bytes a row and 9 a column can't be had for the search of a part
-/// (for the vertical part 9 a row and 4 a column), then 4 a row and a column and 8 a component to
-/// gather them, and as much for their lists. Work: each entry of a row and of a column of a part is
-/// looked at once, and each row and column of the matrix a fixed number of times.
+/// Answers `OutOfMemory` where 5 bytes a row and a column and 4 for each row and column of the part
+/// can't be had for the search of a part, then 4 a row and a column and 8 a component to gather
+/// them, and as much for their lists. Work: each entry of a row and of a column of a part is looked
+/// at once, and each row and column of the matrix a fixed number of times.
 pub fn components(
     alloc: Global,
     pattern: &Pattern,
@@ -42,31 +41,6 @@ pub fn components(
     Ok(Components {
         horizontal,
         vertical,
-    })
-}
-
-/// [`components`], those of both parts at once: where no thread can be made, one after the other.
-///
-/// Answers `OutOfMemory` where the memory of both searches can't be had. Where one part is empty it
-/// makes no thread.
-pub fn components_at_once<R: Threads + Sync>(
-    rt: &R,
-    alloc: Global,
-    pattern: &Pattern,
-    parts: &Parts,
-) -> Result<Components, OutOfMemory>
-    requires { ArePartsOf pattern.now (parts_of parts.now) }
-    ensures { IfOk result (λ c. AreConnectedComponents pattern.now (components_of c)) }
-{
-    if parts.hc.is_empty() || parts.vr.is_empty() {
-        return components(alloc, pattern, parts);
-    }
-    let of_columns = move || horizontal_components(alloc, pattern, parts);
-    let of_rows = move || vertical_components(alloc, pattern, parts);
-    let (horizontal, vertical) = join(rt, of_columns, of_rows);
-    Ok(Components {
-        horizontal: horizontal?,
-        vertical: vertical?,
     })
 }
 

@@ -3,23 +3,24 @@
 #![tactic(auto)]
 
 mod connected_components;
+mod found;
 mod numbering;
 mod searches;
 mod split;
 
 ghost use Rattle.std.specs.Prelude.{IfNone, IfOk, IfSome};
-ghost use Rattle.bip_defs.specs.Marks.{Marks};
 ghost use Rattle.bip_defs.specs.Matching.{IsMaximum};
 ghost use Rattle.bip_defs.specs.Matrix.{cols};
 ghost use Rattle.bip_defs.specs.Parts.{ArePartsOf, IsHorizontalCol, IsVerticalRow};
 ghost use Rattle.bip_graph.specs.Decompositions.{parts_of};
 ghost use Rattle.bip_graph.specs.Matching.{IsMatchingOf, IsMaximumOf};
 ghost use Rattle.dm_coarse.specs.Searches.{AreMarksIfMaximum};
+ghost use Rattle.dm_coarse.specs.Split.{AreKnown};
 
 use crate::searches::Matched;
 use crate::split::{split_cols, split_rows};
 use bip_graph::{Matching, Parts};
-pub use connected_components::{components, components_at_once};
+pub use connected_components::components;
 use sp_ids::OutOfMemory;
 use sp_pattern::Pattern;
 use std::alloc::Global;
@@ -131,8 +132,7 @@ fn parts_by(
     vertical: &[bool],
 ) -> Result<Parts, OutOfMemory>
     requires maximum { IsMaximumOf pattern.now matching.now }
-    requires horizontal { Marks (cols pattern.now) (IsHorizontalCol pattern.now) horizontal.now }
-    requires vertical { Marks pattern.now.rows (IsVerticalRow pattern.now) vertical.now }
+    requires known { AreKnown pattern.now horizontal.now vertical.now }
     ensures { IfOk result (λ p. ArePartsOf pattern.now (parts_of p)) }
 {
     let of_rows = split_rows(alloc, pattern, matching, horizontal, vertical)?;

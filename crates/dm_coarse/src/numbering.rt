@@ -1,14 +1,15 @@
 //! A search that numbers the connected components of the horizontal part of the matrix that a side
 //! sees.
 
-ghost use Rattle.std.specs.Prelude.{◌≡◌, ◌+◌, ◌<◌, ◌^◌, ◌++◌, ◌∷◌, [], ℕ, false, length, map, slice_set, IfOk, OnOk};
+ghost use Rattle.std.specs.Prelude.{◌≡◌, ◌≢◌, ◌+◌, ◌<◌, ◌≤◌, ◌^◌, ℕ, false, length, map, slice_index, replicate, IfOk, OnOk};
 ghost use Rattle.bip_defs.specs.Lists.{Among, IsMarked, Lists};
-ghost use Rattle.bip_defs.specs.Matrix.{IsEntry, IsTransposeOf, Matrix, cols};
+ghost use Rattle.bip_defs.specs.Matrix.{IsTransposeOf, Matrix, cols};
 ghost use Rattle.bip_defs.specs.Parts.{IsHorizontalCol};
 ghost use Rattle.bip_graph.specs.Matching.{none};
-ghost use Rattle.dm_coarse.specs.Numbering.{AreNumbers, AreSearched, Extends, IsAsLong, IsScanning};
+ghost use Rattle.dm_coarse.specs.Numbering.{AreGiven, AreNumbers, AreSearched, FindsComponent, IsClosed};
 
-use sp_ids::{Col, Id, OutOfMemory};
+use crate::found::{Found, expand};
+use sp_ids::{Id, OutOfMemory};
 use sp_pattern::Side;
 use std::alloc::{AllocError, Global};
 
@@ -24,22 +25,22 @@ pub struct Numbers {
     pub cols: Vec<u32>,
 }
 
-// What a search has found: the columns of the part that wait for a number, the numbers of rows and
-// columns, and the columns that have one, in the order in which they got it.
+/// What a search has found, and the numbers of that.
 #[derive(Drop)]
-struct Search {
-    waiting: Vec<bool>,
-    rows: Vec<u32>,
-    cols: Vec<u32>,
-    queue: Vec<u32>,
+pub struct Search {
+    pub rows: Found,
+    pub cols: Found,
+    pub numbers: Numbers,
 }
 
 /// Numbers the components of the horizontal part from 0 on, by their least columns.
 ///
 /// Breadth first from the least column that waits, over its rows to their columns, and again from
-/// the next one. `across` sees the transpose; the columns are those of the horizontal part, rising.
-/// It takes 4 bytes a row, 5 a column and 4 a column of the part, of which 4 a row and 4 a column
-/// are kept. Work: each entry of a row and of a column of the part is looked at once.
+/// the next one: each time all rows of the columns last found, and then all columns of these rows.
+/// Marks of one byte tell what waits, and a component is numbered once it is whole. `across` sees
+/// the transpose; the columns are those of the horizontal part, rising. It takes 5 bytes a row and a
+/// column, of which 4 are kept, and 4 for each row and column of the part. Work: each entry of a row
+/// and of a column of the part is looked at once.
 pub fn number_components<F: Id, N: Id, S: Side<F>, T: Side<N>>(
     alloc: Global,
     side: &S,
@@ -52,38 +53,42 @@ pub fn number_components<F: Id, N: Id, S: Side<F>, T: Side<N>>(
     ensures { IfOk result (λ n. AreNumbers (S.matrix side.now) n.count n.rows.items n.cols.items) }
 {
     let mut search = open(alloc, side, columns)?;
-    let mut count = 0;
     for at in 0..columns.len() {
         let col = columns[at].number();
-        if search.waiting[col as usize] {
-            let place = search.queue.len();
-            enter(&mut search, col, count)?;
-            explore(side, across, place, count, &mut search)?;
-            count += 1;
+        if search.cols.waiting[col as usize] {
+            number_component(side, across, col, &mut search)?;
         }
     }
-    let Search { rows, cols, .. } = search;
-    Ok(Numbers { count, rows, cols })
+    Ok(search.numbers)
 }
 
-// All columns of the part wait.
+// All rows, and all columns of the part, wait.
 fn open<F: Id, N: Id, S: Side<F>>(
     alloc: Global,
     side: &S,
     columns: &[N],
 ) -> Result<Search, AllocError>
     requires columns { Lists (IsHorizontalCol (S.matrix side.now)) (map N.number columns.now) }
-    ensures { IfOk result
-        (λ s. AreSearched (S.matrix side.now) 0 0 s.waiting.items s.rows.items s.cols.items
-        s.queue.items) }
+    ensures search { IfOk result (AreSearched (S.matrix side.now)) }
+    ensures none { IfOk result (λ s. s.numbers.count ≡ 0) }
 {
     let (rows, cols) = (side.rows() as usize, side.cols() as usize);
-    let waiting = marks(alloc, cols, columns)?;
+    // Each row of the part is the mate of one of these columns.
+    let room = columns.len().min(rows);
     Ok(Search {
-        waiting,
-        rows: vec![in alloc; NONE; rows]?,
-        cols: vec![in alloc; NONE; cols]?,
-        queue: Vec::with_capacity(alloc, columns.len())?,
+        rows: Found {
+            waiting: vec![in alloc; true; rows]?,
+            queue: Vec::with_capacity(alloc, room)?,
+        },
+        cols: Found {
+            waiting: marks(alloc, cols, columns)?,
+            queue: Vec::with_capacity(alloc, columns.len())?,
+        },
+        numbers: Numbers {
+            count: 0,
+            rows: vec![in alloc; NONE; rows]?,
+            cols: vec![in alloc; NONE; cols]?,
+        },
     })
 }
 
@@ -103,110 +108,68 @@ fn marks<N: Id>(alloc: Global, cols: usize, columns: &[N]) -> Result<Vec<bool>, 
     Ok(marks)
 }
 
-// Gives a column the number, and queues it.
-fn enter(search: &mut Search, col: u32, number: u32) -> Result<(), AllocError>
-    requires { (col < length search.old.waiting.items) × (col < length search.old.cols.items) }
-    ensures waiting { OnOk result
-        (search.new.waiting.items ≡ slice_set search.old.waiting.items col false) }
-    ensures rows { OnOk result (search.new.rows.items ≡ search.old.rows.items) }
-    ensures cols { OnOk result
-        (search.new.cols.items ≡ slice_set search.old.cols.items col number) }
-    ensures queue { OnOk result (search.new.queue.items ≡ search.old.queue.items ++ col ∷ []) }
+// Gives the next number to the component of a column, the least that waits.
+fn number_component<F: Id, N: Id, S: Side<F>, T: Side<N>>(
+    side: &S,
+    across: &T,
+    root: u32,
+    search: &mut Search,
+) -> Result<(), AllocError>
+    requires across { IsTransposeOf (S.matrix side.now) (T.matrix across.now) }
+    requires search { AreSearched (S.matrix side.now) search.old }
+    requires root { IsMarked search.old.cols.waiting.items root }
+    requires least { (c : ℕ) → IsMarked search.old.cols.waiting.items c → root ≤ c }
+    requires few { search.old.numbers.count < none }
+    ensures search { OnOk result (AreSearched (S.matrix side.now) search.new) }
+    ensures count { OnOk result (search.new.numbers.count ≡ search.old.numbers.count + 1) }
+    ensures waits { OnOk result ((c : ℕ) → IsMarked search.new.cols.waiting.items c
+        → IsMarked search.old.cols.waiting.items c × (c ≢ root)) }
 {
-    search.waiting[col as usize] = false;
-    search.cols[col as usize] = number;
-    search.queue.push(col)?;
+    let (first_row, first_col) = (search.rows.queue.len(), search.cols.queue.len());
+    explore(side, across, root, &mut search.rows, &mut search.cols)?;
+    let numbers = &mut search.numbers;
+    let (rows, cols) = (search.rows.queue.as_slice(), search.cols.queue.as_slice());
+    give(rows, first_row, numbers.count, numbers.rows.as_mut_slice());
+    give(cols, first_col, numbers.count, numbers.cols.as_mut_slice());
+    numbers.count += 1;
     Ok(())
 }
 
-// Gives the number to all that entries join with the queued columns from the place on.
+// Finds a column that waits, and all that entries join with it.
 fn explore<F: Id, N: Id, S: Side<F>, T: Side<N>>(
     side: &S,
     across: &T,
-    place: usize,
-    number: u32,
-    search: &mut Search,
+    root: u32,
+    rows: &mut Found,
+    cols: &mut Found,
 ) -> Result<(), AllocError>
     requires across { IsTransposeOf (S.matrix side.now) (T.matrix across.now) }
-    requires search { AreSearched (S.matrix side.now) (number + 1) place search.old.waiting.items
-        search.old.rows.items search.old.cols.items search.old.queue.items }
-    requires number { number < none }
-    ensures search { OnOk result
-        (AreSearched (S.matrix side.now) (number + 1) (length search.new.queue.items)
-        search.new.waiting.items search.new.rows.items search.new.cols.items
-        search.new.queue.items) }
-    ensures stays { OnOk result ((c : ℕ) → IsMarked search.new.waiting.items c → IsMarked
-        search.old.waiting.items c) }
+    requires closed { IsClosed (S.matrix side.now) (length cols.old.queue.items) rows.old cols.old }
+    requires root { IsMarked cols.old.waiting.items root }
+    ensures closed { OnOk result
+        (IsClosed (S.matrix side.now) (length cols.new.queue.items) rows.new cols.new) }
+    ensures component { OnOk result
+        (FindsComponent (S.matrix side.now) root rows.old cols.old rows.new cols.new) }
 {
-    let mut at = place;
-    while at < search.queue.len() {
-        scan(side, across, at, number, search)?;
-        at += 1;
+    let (mut next_row, mut next_col) = (rows.queue.len(), cols.queue.len());
+    cols.waiting[root as usize] = false;
+    cols.queue.push(root)?;
+    while next_col < cols.queue.len() {
+        expand(side, cols.queue.as_slice(), next_col, rows)?;
+        next_col = cols.queue.len();
+        expand(across, rows.queue.as_slice(), next_row, cols)?;
+        next_row = rows.queue.len();
     }
     Ok(())
 }
 
-// Gives the number to the rows of a queued column that have none, and to their columns that wait.
-fn scan<F: Id, N: Id, S: Side<F>, T: Side<N>>(
-    side: &S,
-    across: &T,
-    place: usize,
-    number: u32,
-    search: &mut Search,
-) -> Result<(), AllocError>
-    requires across { IsTransposeOf (S.matrix side.now) (T.matrix across.now) }
-    requires search { AreSearched (S.matrix side.now) (number + 1) place search.old.waiting.items
-        search.old.rows.items search.old.cols.items search.old.queue.items }
-    requires place { place < length search.old.queue.items }
-    requires number { number < none }
-    ensures search { OnOk result
-        (AreSearched (S.matrix side.now) (number + 1) (place + 1) search.new.waiting.items
-        search.new.rows.items search.new.cols.items search.new.queue.items) }
-    ensures extends { OnOk result
-        (Extends search.old.waiting.items search.old.queue.items search.new.waiting.items
-        search.new.queue.items) }
+// Gives the number to those at the places of a queue from one on.
+fn give(queue: &[u32], from: usize, number: u32, numbers: &mut [u32])
+    requires from { from ≤ length queue.now }
+    requires queue { (x : ℕ) → Among x queue.now → x < length numbers.old }
+    ensures { AreGiven queue.now from (length queue.now) number numbers.old numbers.new }
 {
-    let col = search.queue[place];
-    let rows = side.rows_of(Col(col));
-    for at in 0..rows.len() {
-        let row = rows[at].number();
-        if search.rows[row as usize] == NONE {
-            scan_row(across, row, number, search)?;
-            search.rows[row as usize] = number;
-        }
+    for at in from..queue.len() {
+        numbers[queue[at] as usize] = number;
     }
-    Ok(())
-}
-
-// Gives the number to the columns of a row that wait.
-fn scan_row<N: Id, T: Side<N>>(
-    across: &T,
-    row: u32,
-    number: u32,
-    search: &mut Search,
-) -> Result<(), AllocError>
-    requires row { row < cols (T.matrix across.now) }
-    requires long { IsAsLong (Matrix.rows (T.matrix across.now)) search.old.waiting.items
-        search.old.cols.items }
-    ensures scanning { OnOk result
-        ((a : Matrix) (place : ℕ) → IsTransposeOf a (T.matrix across.now)
-        → IsScanning a number place row search.old.waiting.items search.old.rows.items
-        search.old.cols.items search.old.queue.items
-        → IsScanning a number place row search.new.waiting.items search.new.rows.items
-        search.new.cols.items search.new.queue.items) }
-    ensures rows { OnOk result (search.new.rows.items ≡ search.old.rows.items) }
-    ensures none { OnOk result
-        ((c : ℕ) → IsEntry (T.matrix across.now) c row → ¬ IsMarked search.new.waiting.items c) }
-    ensures extends { OnOk result
-        (Extends search.old.waiting.items search.old.queue.items search.new.waiting.items
-        search.new.queue.items) }
-{
-    let cols = across.rows_of(Col(row));
-    for at in 0..cols.len() {
-        let col = cols[at].number();
-        if search.waiting[col as usize] {
-            enter(search, col, number)?;
-        }
-    }
-    Ok(())
 }

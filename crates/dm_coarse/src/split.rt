@@ -1,12 +1,9 @@
 //! The rows and the columns of a matrix, split into its three parts.
 
 ghost use Rattle.std.specs.Prelude.{◌<◌, ◌^◌, map, IfOk};
-ghost use Rattle.bip_defs.specs.Lists.{Lists};
-ghost use Rattle.bip_defs.specs.Marks.{Marks};
-ghost use Rattle.bip_defs.specs.Matrix.{Matrix, cols};
-ghost use Rattle.bip_defs.specs.Parts.{IsHorizontalCol, IsHorizontalRow, IsSquareCol, IsSquareRow, IsVerticalCol, IsVerticalRow};
+ghost use Rattle.bip_defs.specs.Matrix.{Matrix};
 ghost use Rattle.bip_graph.specs.Matching.{IsMaximumOf};
-ghost use Rattle.dm_coarse.specs.Split.{IsInPart};
+ghost use Rattle.dm_coarse.specs.Split.{AreColsByPart, AreKnown, AreRowsByPart, IsInPart};
 
 use bip_graph::{Matching, Opposite};
 use sp_ids::{Col, OutOfMemory, Row};
@@ -38,12 +35,9 @@ pub fn split_rows(
     vertical: &[bool],
 ) -> Result<ByPart<Row>, OutOfMemory>
     requires maximum { IsMaximumOf pattern.now matching.now }
-    requires horizontal { Marks (cols pattern.now) (IsHorizontalCol pattern.now) horizontal.now }
-    requires vertical { Marks pattern.now.rows (IsVerticalRow pattern.now) vertical.now }
-    ensures horizontal { IfOk result
-        (λ s. Lists (IsHorizontalRow pattern.now) s.horizontal.items) }
-    ensures square { IfOk result (λ s. Lists (IsSquareRow pattern.now) s.square.items) }
-    ensures vertical { IfOk result (λ s. Lists (IsVerticalRow pattern.now) s.vertical.items) }
+    requires known { AreKnown pattern.now horizontal.now vertical.now }
+    ensures { IfOk result (λ s. AreRowsByPart pattern.now s.horizontal.items s.square.items
+        s.vertical.items) }
 {
     pattern.is_pattern();
     split(alloc, pattern, matching, horizontal, vertical)
@@ -58,12 +52,9 @@ pub fn split_cols(
     vertical: &[bool],
 ) -> Result<ByPart<Col>, OutOfMemory>
     requires maximum { IsMaximumOf pattern.now matching.now }
-    requires horizontal { Marks (cols pattern.now) (IsHorizontalCol pattern.now) horizontal.now }
-    requires vertical { Marks pattern.now.rows (IsVerticalRow pattern.now) vertical.now }
-    ensures horizontal { IfOk result
-        (λ s. Lists (IsHorizontalCol pattern.now) s.horizontal.items) }
-    ensures square { IfOk result (λ s. Lists (IsSquareCol pattern.now) s.square.items) }
-    ensures vertical { IfOk result (λ s. Lists (IsVerticalCol pattern.now) s.vertical.items) }
+    requires known { AreKnown pattern.now horizontal.now vertical.now }
+    ensures { IfOk result (λ s. AreColsByPart pattern.now s.horizontal.items s.square.items
+        s.vertical.items) }
 {
     pattern.is_pattern();
     let side = FromRows { pattern };
@@ -88,16 +79,10 @@ fn split<F: Opposite, S: Side<F>>(
 ) -> Result<ByPart<F>, OutOfMemory>
     requires maximum { IsMaximumOf (S.matrix side.now) (F.seen matching.now) }
     requires few { Matrix.rows (S.matrix side.now) < 2 ^ 32 }
-    requires horizontal { Marks (cols (S.matrix side.now))
-        (IsHorizontalCol (S.matrix side.now)) horizontal.now }
-    requires vertical { Marks (Matrix.rows (S.matrix side.now))
-        (IsVerticalRow (S.matrix side.now)) vertical.now }
-    ensures horizontal { IfOk result
-        (λ s. Lists (IsHorizontalRow (S.matrix side.now)) (map F.number s.horizontal.items)) }
-    ensures square { IfOk result
-        (λ s. Lists (IsSquareRow (S.matrix side.now)) (map F.number s.square.items)) }
-    ensures vertical { IfOk result
-        (λ s. Lists (IsVerticalRow (S.matrix side.now)) (map F.number s.vertical.items)) }
+    requires known { AreKnown (S.matrix side.now) horizontal.now vertical.now }
+    ensures { IfOk result
+        (λ s. AreRowsByPart (S.matrix side.now) (map F.number s.horizontal.items)
+        (map F.number s.square.items) (map F.number s.vertical.items)) }
 {
     let mut horizontal_rows = Vec::new(alloc);
     let mut square_rows = Vec::new(alloc);
@@ -127,10 +112,7 @@ fn part_of<F: Opposite, S: Side<F>>(
 ) -> Part
     requires row { F.number row < Matrix.rows (S.matrix side.now) }
     requires maximum { IsMaximumOf (S.matrix side.now) (F.seen matching.now) }
-    requires horizontal { Marks (cols (S.matrix side.now))
-        (IsHorizontalCol (S.matrix side.now)) horizontal.now }
-    requires vertical { Marks (Matrix.rows (S.matrix side.now))
-        (IsVerticalRow (S.matrix side.now)) vertical.now }
+    requires known { AreKnown (S.matrix side.now) horizontal.now vertical.now }
     ensures { IsInPart (S.matrix side.now) (F.number row) result }
 {
     let row = row.number();

@@ -1,16 +1,17 @@
 -- Groups that share nothing: their numbers taken together, and how many entries the rows of all components have.
 use Rattle.std.proofs.Common.{◌≡◌, ◌⊎◌, ◌∙◌, ℕ, ◌<◌, ◌≤◌, Bool, true, false, cond, List, [], ◌∷◌, filter, length, nat_eq, get_or, sum_by, refl, sym, ap, subst, inl, inr, arith, zero-le}
 use Rattle.std.specs.List.{flat_map, list_any}
+use Rattle.std.proofs.Math.Decide.{dec_lt}
 use Rattle.std.proofs.lemmas.Bool.Decides.{nat_tests}
 use Rattle.std.proofs.lemmas.List.Sums.{sum_by-append, sum_by-cons}
 use Rattle.bip_defs.specs.Lists.{Among, AreDistinct}
 use Rattle.bip_defs.specs.Matrix.{Matrix, cols, column, entry_count, row_list, upto}
-use Rattle.bip_defs.proofs.Sets.{among_either, among_test, few_distinct, filter_distinct, filter_sound, rising_distinct, upto_lists}
+use Rattle.bip_defs.proofs.Sets.{among_either, among_left, among_right, among_test, test_is, test_is_not, few_distinct, filter_distinct, filter_sound, rising_distinct, upto_lists}
 use Rattle.bip_defs.proofs.Counts.{distinct_append}
 use Rattle.dm_fine.specs.Groups.{AreApart}
 use Rattle.id_groups.specs.Groups.{AreGroups, group}
-use Rattle.dm_fine.specs.InDegrees.{row_edges, edges_at, edges_into}
-use Rattle.dm_fine.proofs.Sums.{sum_covered, sum_le, sum_places, sum_swapped, sum_same}
+use Rattle.dm_fine.specs.InDegrees.{row_edges, edges_at, edges_into, edges_of}
+use Rattle.dm_fine.proofs.Sums.{sum_covered, sum_le, sum_places, sum_swapped, sum_same, sum_same_among}
 
 pub groups_apart : (numbers : List ℕ) (count : ℕ) (groups : List (List ℕ)) → AreGroups numbers count groups → AreApart (length numbers) count groups
 groups_apart numbers count groups g = record {
@@ -85,14 +86,54 @@ row_few : (numbers : List ℕ) (own j : ℕ) (cs : List ℕ) → row_edges numbe
 row_few numbers own j [] = zero-le
 row_few numbers own j (c ∷ cs) = let rest = row_few numbers own j cs in let one = sum_by-cons (λ d. edges_at own j (get_or numbers d 0)) c cs in let here = edges_one own j (get_or numbers c 0) in omega (arith, rest, one, here)
 
+-- Edges by rows.
+
+pub edges_here : (line : ℕ → List ℕ) (numbers row_numbers : List ℕ) (count j r : ℕ) → get_or row_numbers r 0 < count → edges_of line numbers row_numbers count j r ≡ row_edges numbers (get_or row_numbers r 0) j (line r)
+edges_here line numbers row_numbers count j r lt = ap (λ b. cond b (row_edges numbers (get_or row_numbers r 0) j (line r)) 0) (test_is (get_or row_numbers r 0) count lt)
+
+pub edges_none : (line : ℕ → List ℕ) (numbers row_numbers : List ℕ) (count j r : ℕ) → count ≤ get_or row_numbers r 0 → edges_of line numbers row_numbers count j r ≡ 0
+edges_none line numbers row_numbers count j r le = ap (λ b. cond b (row_edges numbers (get_or row_numbers r 0) j (line r)) 0) (test_is_not (get_or row_numbers r 0) count le)
+
+edges_of_few : (line : ℕ → List ℕ) (numbers row_numbers : List ℕ) (count j r : ℕ) → edges_of line numbers row_numbers count j r ≤ length (line r)
+edges_of_few line numbers row_numbers count j r = by (dec_lt (get_or row_numbers r 0) count)
+  where
+    by : Dec (get_or row_numbers r 0 < count) → edges_of line numbers row_numbers count j r ≤ length (line r)
+    by (yes lt) = let is = edges_here line numbers row_numbers count j r lt in let few = row_few numbers (get_or row_numbers r 0) j (line r) in omega (arith, is, few)
+    by (no nlt) = let is = edges_none line numbers row_numbers count j r (omega (arith, nlt)) in omega (arith, is)
+
 -- no more edges than entries
-pub edges_few : (a : Matrix) (numbers : List ℕ) (count : ℕ) (groups : List (List ℕ)) (j : ℕ) → AreApart a.rows count groups → sum_by (edges_into (row_list a) numbers groups j) (upto count) ≤ entry_count a
-edges_few a numbers count groups j apart =
-    let each = sum_le (edges_into (row_list a) numbers groups j) (λ k. sum_by (λ r. length (row_list a r)) (group groups k)) (upto count)
-    (λ k h. sum_le (λ r. row_edges numbers k j (row_list a r)) (λ r. length (row_list a r)) (group groups k) (λ r m. row_few numbers k j (row_list a r))) in
-    let flat_sum = sum_joined (λ r. length (row_list a r)) groups (upto count) in
-    let within = sum_covered (λ r. length (row_list a r)) (joined groups (upto count)) (upto a.rows)
-    (joined_distinct a.rows count groups (upto count) apart (rising_distinct (upto count) (upto_lists count).rising) (λ k h. (upto_lists count).sound k h))
-    (λ r h. inl ((upto_lists a.rows).complete r (joined_below a.rows count groups (upto count) apart (λ k m. (upto_lists count).sound k m) r h))) in
+pub edges_few : (a : Matrix) (numbers row_numbers : List ℕ) (count j : ℕ) → sum_by (edges_of (row_list a) numbers row_numbers count j) (upto a.rows) ≤ entry_count a
+edges_few a numbers row_numbers count j =
+    let each = sum_le (edges_of (row_list a) numbers row_numbers count j) (λ r. length (row_list a r)) (upto a.rows) (λ r h. edges_of_few (row_list a) numbers row_numbers count j r) in
     let all = rows_count a in
-    omega (arith, each, flat_sum, within, all)
+    omega (arith, each, all)
+
+among_joined : (groups : List (List ℕ)) (ks : List ℕ) (k i : ℕ) → Among k ks → Among i (group groups k) → Among i (joined groups ks)
+among_joined groups [] k i on at = elim on [ ]
+among_joined groups (l ∷ ks) k i (inl e) at = among_left i (group groups l) (joined groups ks) (subst (λ z. Among i (group groups z)) e at)
+among_joined groups (l ∷ ks) k i (inr on) at = among_right i (group groups l) (joined groups ks) (among_joined groups ks k i on at)
+
+-- the edges of all rows are those of all components' rows
+pub edges_by_row : (a : Matrix) (numbers row_numbers : List ℕ) (count : ℕ) (groups : List (List ℕ)) (j : ℕ) → length row_numbers ≡ a.rows → AreGroups row_numbers count groups → sum_by (edges_of (row_list a) numbers row_numbers count j) (upto a.rows) ≡ sum_by (edges_into (row_list a) numbers groups j) (upto count)
+edges_by_row a numbers row_numbers count groups j long g =
+    let f : ℕ → ℕ = edges_of (row_list a) numbers row_numbers count j in
+    let apart = groups_apart row_numbers count groups g in
+    let each : sum_by (λ k. sum_by f (group groups k)) (upto count) ≡ sum_by (edges_into (row_list a) numbers groups j) (upto count) =
+    sum_same_among (λ k. sum_by f (group groups k)) (edges_into (row_list a) numbers groups j) (upto count)
+    (λ k on. sum_same_among f (λ r. row_edges numbers k j (row_list a r)) (group groups k) (λ r h. in_group k r ((upto_lists count).sound k on) h)) in
+    let flat_sum = sum_joined f groups (upto count) in
+    let below = sum_covered f (joined groups (upto count)) (upto a.rows)
+    (joined_distinct (length row_numbers) count groups (upto count) apart (rising_distinct (upto count) (upto_lists count).rising) (λ k h. (upto_lists count).sound k h))
+    (λ r h. inl ((upto_lists a.rows).complete r (let lt = joined_below (length row_numbers) count groups (upto count) apart (λ k m. (upto_lists count).sound k m) r h in omega (arith, lt, long)))) in
+    let above = sum_covered f (upto a.rows) (joined groups (upto count)) (rising_distinct (upto a.rows) (upto_lists a.rows).rising)
+    (λ r h. among r ((upto_lists a.rows).sound r h) (dec_lt (get_or row_numbers r 0) count)) in
+    omega (arith, each, flat_sum, below, above)
+  where
+    in_group : (k r : ℕ) → k < count → Among r (group groups k) → edges_of (row_list a) numbers row_numbers count j r ≡ row_edges numbers k j (row_list a r)
+    in_group k r lt h =
+        let is = ((g.lists k lt).sound r h).1 in
+        edges_here (row_list a) numbers row_numbers count j r (omega (arith, is, lt)) ∙ ap (λ z. row_edges numbers z j (row_list a r)) is
+
+    among : (r : ℕ) → r < a.rows → Dec (get_or row_numbers r 0 < count) → Among r (joined groups (upto count)) ⊎ (edges_of (row_list a) numbers row_numbers count j r ≡ 0)
+    among r within (yes lt) = inl (among_joined groups (upto count) (get_or row_numbers r 0) r ((upto_lists count).complete (get_or row_numbers r 0) lt) ((g.lists (get_or row_numbers r 0) lt).complete r (omega (arith, within, long), refl)))
+    among r within (no nlt) = inr (edges_none (row_list a) numbers row_numbers count j r (omega (arith, nlt)))

@@ -1,5 +1,5 @@
 -- Sums over lists that stand for sets.
-use Rattle.std.proofs.Common.{◌≡◌, ◌≢◌, ◌⊎◌, ◌∙◌, ℕ, zero, suc, ◌+◌, ◌≤◌, List, [], ◌∷◌, length, take, get_or, sum_by, refl, sym, ap, subst, inl, inr, ⊎_elim, arith, zero-le}
+use Rattle.std.proofs.Common.{◌≡◌, ◌≢◌, ◌⊎◌, ◌∙◌, ℕ, zero, suc, ◌+◌, ◌≤◌, List, [], ◌∷◌, length, take, get_or, sum_by, refl, sym, ap, subst, inl, inr, ⊎_elim, arith, zero-le, le_antisymm}
 use Rattle.std.proofs.lemmas.List.{take_all}
 use Rattle.std.proofs.lemmas.List.Sums.{sum_by-cons, sum_by_more, sum_by_push}
 use Rattle.bip_defs.specs.Lists.{Among, AreDistinct}
@@ -50,6 +50,9 @@ sum_covered {X = X} f (y ∷ ys) xs d h = by (λ zs g. sum_covered f ys zs d.1 g
         let le = rest xs (λ z m. h z (inr m)) in
         let one = sum_by-cons f y ys in
         omega (arith, le, one, e)
+
+pub sum_same_among : {X : Type 0} (f g : X → ℕ) (xs : List X) → ((x : X) → Among x xs → f x ≡ g x) → sum_by f xs ≡ sum_by g xs
+sum_same_among f g xs same = le_antisymm (sum_le f g xs (λ x on. let e = same x on in omega (arith, e))) (sum_le g f xs (λ x on. let e = same x on in omega (arith, e)))
 
 -- The numbers below n.
 

@@ -1,7 +1,7 @@
 -- The edges of the graph of components, one for each entry that a column of one has in a row of another, and in-degrees.
-use Rattle.std.specs.Prelude.{◌≡◌, ◌≢◌, ◌⊎◌, ℕ, ◌^◌, ◌<◌, ◌≤◌, List, length, nat_eq, if◌then◌else◌, slice_index, sum_by}
+use Rattle.std.specs.Prelude.{◌≡◌, ◌≢◌, ◌⊎◌, ℕ, ◌^◌, ◌<◌, ◌≤◌, List, length, nat_eq, nat_lt, if◌then◌else◌, slice_index, sum_by}
 use Rattle.bip_defs.specs.Lists.{Among}
-use Rattle.bip_defs.specs.Matrix.{Matrix, cols, entry_count, row_list}
+use Rattle.bip_defs.specs.Matrix.{Matrix, cols, entry_count, row_list, upto}
 use Rattle.dm_fine.specs.Groups.{AreApart}
 use Rattle.id_groups.specs.Groups.{AreGroups, group}
 
@@ -20,6 +20,16 @@ edges_in line numbers own j rows = sum_by (λ r. row_edges numbers own j (line r
 -- the same in the rows of component k
 abbrev pub edges_into : (ℕ → List ℕ) → List ℕ → List (List ℕ) → ℕ → ℕ → ℕ
 edges_into line numbers rows j k = edges_in line numbers k j (group rows k)
+
+-- the edges into j of row r, where its component is the one that the numbers of rows tell, if it is below the count
+abbrev pub edges_of : (ℕ → List ℕ) → List ℕ → List ℕ → ℕ → ℕ → ℕ → ℕ
+edges_of line numbers row_numbers count j r = if nat_lt (slice_index row_numbers r) count
+    then row_edges numbers (slice_index row_numbers r) j (line r) else 0
+
+-- how many edges lead into each component
+abbrev pub AreInDegrees : Matrix → List ℕ → ℕ → List (List ℕ) → List ℕ → Type 0
+AreInDegrees a numbers count rows in_degrees = (j : ℕ) → j < count → slice_index in_degrees j
+    ≡ sum_by (edges_into (row_list a) numbers rows j) (upto count)
 
 -- the least column of component j
 abbrev pub least_of : List (List ℕ) → ℕ → ℕ

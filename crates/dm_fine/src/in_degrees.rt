@@ -4,10 +4,8 @@ ghost use Rattle.std.specs.Prelude.{◌≡◌, ◌+◌, ◌<◌, ◌≤◌, ◌^
 ghost use Rattle.bip_defs.specs.Lists.{Among};
 ghost use Rattle.bip_defs.specs.Matrix.{cols, entry_count, row_list, upto};
 ghost use Rattle.dm_fine.specs.Component.{IsOfMatrix, edges_from};
-ghost use Rattle.dm_fine.specs.Groups.{AreApart};
-ghost use Rattle.dm_fine.specs.InDegrees.{MoreSources, edges_at, edges_into, row_edges};
+ghost use Rattle.dm_fine.specs.InDegrees.{MoreSources, edges_at, edges_of, row_edges};
 
-use id_groups::Groups;
 use int_set::IntSet;
 use sp_ids::{Col, OutOfMemory, Row};
 use sp_pattern::Pattern;
@@ -22,56 +20,39 @@ pub struct Component<'p> {
     pub rows: &'p [Row],
 }
 
-/// How many entries the columns of each component have in rows of others.
+/// How many entries the columns of each component have in rows of others, where the number of each
+/// row is that of its mate.
+///
+/// It takes 4 bytes a component. Work: one look at each row, in turn, and at each entry of those that
+/// have a number below the count.
 pub fn count(
     alloc: Global,
     pattern: &Pattern,
     numbers: &[u32],
-    rows: &Groups<Row>,
+    row_numbers: &[u32],
+    count: u32,
 ) -> Result<Vec<u32>, OutOfMemory>
     requires numbers { length numbers.now ≡ cols pattern.now }
-    requires rows { AreApart pattern.now.rows (length rows.now) rows.now }
+    requires rows { length row_numbers.now ≡ pattern.now.rows }
     requires few { entry_count pattern.now < 2 ^ 32 }
-    ensures length { IfOk result (λ v. length v.items ≡ length rows.now) }
+    ensures length { IfOk result (λ v. length v.items ≡ count) }
     ensures in_degrees { IfOk result
-        (λ v. (j : ℕ) → j < length rows.now
-        → slice_index v.items j
-        ≡ sum_by (edges_into (row_list pattern.now) numbers.now rows.now j)
-        (upto (length rows.now))) }
+        (λ v. (j : ℕ) → j < count → slice_index v.items j
+        ≡ sum_by (edges_of (row_list pattern.now) numbers.now row_numbers.now count j)
+        (upto pattern.now.rows)) }
 {
-    let count = rows.count();
     let mut in_degrees = vec![in alloc; 0; count as usize]?;
-    for own in 0..count {
-        let component = Component {
-            pattern,
-            numbers,
-            own,
-            rows: rows.of(own),
-        };
-        component.count_entries(in_degrees.as_mut_slice());
+    for row in 0..pattern.rows() {
+        let own = row_numbers[row as usize];
+        if own < count {
+            let cols = pattern.cols_of(Row(row));
+            count_row(numbers, own, cols, in_degrees.as_mut_slice());
+        }
     }
     Ok(in_degrees)
 }
 
 impl Component<'_> {
-    // Counts its entries in columns of each other component.
-    fn count_entries(&self, in_degrees: &mut [u32])
-        requires of_matrix { IsOfMatrix self.now }
-        requires few { (j : ℕ) → j < length in_degrees.old
-            → slice_index in_degrees.old j + edges_from self.now j < 2 ^ 32 }
-        ensures { (j : ℕ) → j < length in_degrees.old
-            → slice_index in_degrees.new j ≡ slice_index in_degrees.old j + edges_from self.now j }
-    {
-        for row in self.rows {
-            count_row(
-                self.numbers,
-                self.own,
-                self.pattern.cols_of(*row),
-                in_degrees,
-            );
-        }
-    }
-
     /// Takes its entries in columns of each other component off, and puts in those that have come
     /// to in-degree 0.
     pub fn remove_entries(&self, in_degrees: &mut [u32], ready: &mut IntSet)

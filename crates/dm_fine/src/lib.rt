@@ -12,8 +12,8 @@ ghost use Rattle.bip_defs.specs.Parts.{ArePartsOf};
 ghost use Rattle.bip_graph.specs.Matching.{IsMaximumOf};
 ghost use Rattle.bip_graph.specs.Decompositions.{parts_of};
 
-use crate::mates::mates;
-use crate::order::order;
+use crate::mates::in_degrees_and_rows;
+use crate::order::{Gathered, order};
 use crate::renumbering::by_least_column;
 use bip_graph::{Blocks, Matching, Parts};
 use id_groups::gather;
@@ -48,10 +48,16 @@ pub fn fine(
     let components = by_least_column(alloc, pattern, matching, parts)?;
     let count = components.count;
     let numbers = components.numbers.as_slice();
-    let rows = mates(alloc, matching, numbers, count)?;
+    let (mut in_degrees, rows) = in_degrees_and_rows(alloc, pattern, matching, numbers, count)?;
     let cols = gather(alloc, numbers, count)?;
     let (square_rows, square_cols) = (parts.sr.len(), parts.sc.len());
     let mut blocks = Blocks::with_room(alloc, count as usize, square_rows, square_cols)?;
-    order(alloc, pattern, numbers, &rows, &cols, &mut blocks)?;
+    let gathered = Gathered {
+        pattern,
+        numbers,
+        rows: &rows,
+        cols: &cols,
+    };
+    order(alloc, &gathered, in_degrees.as_mut_slice(), &mut blocks)?;
     Ok(blocks)
 }

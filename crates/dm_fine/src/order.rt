@@ -2,9 +2,9 @@
 
 ghost use Rattle.std.specs.Prelude.{◌≡◌, ◌<◌, ◌^◌, [], length, IfOk, OnOk};
 ghost use Rattle.dm_fine.specs.BlockOrder.{AreOrderedBlocks};
-ghost use Rattle.dm_fine.specs.InDegrees.{AreReady, IsGathered};
+ghost use Rattle.dm_fine.specs.InDegrees.{AreInDegrees, AreReady, IsGathered};
 
-use crate::in_degrees::{self, Component};
+use crate::in_degrees::Component;
 use bip_graph::Blocks;
 use id_groups::Groups;
 use int_set::IntSet;
@@ -12,38 +12,50 @@ use sp_ids::{Col, OutOfMemory, Row};
 use sp_pattern::Pattern;
 use std::alloc::Global;
 
+/// The components of a pattern's columns: the number of each column, and the rows and the columns of
+/// each number.
+#[derive(Clone, Copy)]
+pub struct Gathered<'p> {
+    pub pattern: &'p Pattern,
+    pub numbers: &'p [u32],
+    pub rows: &'p Groups<Row>,
+    pub cols: &'p Groups<Col>,
+}
+
 /// Appends the components as blocks in order: each time, of those that have no entry in rows of
 /// another that is still to come, the one with the least column.
 ///
 /// A topological sort that takes the least source (Kahn 1962), with a set of the components that
-/// are sources: they are numbered by their least columns. It takes 4 bytes a component, and a bit
-/// and a little more. Work: two looks at each entry of the components' rows, one insertion in the
-/// set and one removal a component, and one copy of each row and column.
+/// are sources: they are numbered by their least columns. It takes a bit a component and a little
+/// more. Work: one look at each entry of the components' rows, one insertion in the set and one
+/// removal a component, and one copy of each row and column.
 pub fn order(
     alloc: Global,
-    pattern: &Pattern,
-    numbers: &[u32],
-    rows: &Groups<Row>,
-    cols: &Groups<Col>,
+    components: &Gathered,
+    in_degrees: &mut [u32],
     blocks: &mut Blocks,
 ) -> Result<(), OutOfMemory>
-    requires gathered { IsGathered pattern.now numbers.now (length cols.now) rows.now cols.now }
+    requires gathered { IsGathered components.now.pattern.now components.now.numbers.now
+        (length components.now.cols.now) components.now.rows.now components.now.cols.now }
+    requires length { length in_degrees.old ≡ length components.now.cols.now }
+    requires in_degrees { AreInDegrees components.now.pattern.now components.now.numbers.now
+        (length components.now.cols.now) components.now.rows.now in_degrees.old }
     requires none { blocks.old ≡ [] }
-    ensures { OnOk result
-        (AreOrderedBlocks pattern.now numbers.now rows.now cols.now blocks.new) }
+    ensures { OnOk result (AreOrderedBlocks components.now.pattern.now
+        components.now.numbers.now components.now.rows.now components.now.cols.now
+        blocks.new) }
 {
-    let mut in_degrees = in_degrees::count(alloc, pattern, numbers, rows)?;
-    let mut ready = sources(alloc, in_degrees.as_slice())?;
+    let mut ready = sources(alloc, in_degrees)?;
     while let Some(own) = ready.take_least() {
-        let own_rows = rows.of(own);
-        blocks.push(own_rows, cols.of(own))?;
+        let rows = components.rows.of(own);
+        blocks.push(rows, components.cols.of(own))?;
         let component = Component {
-            pattern,
-            numbers,
+            pattern: components.pattern,
+            numbers: components.numbers,
             own,
-            rows: own_rows,
+            rows,
         };
-        component.remove_entries(in_degrees.as_mut_slice(), &mut ready);
+        component.remove_entries(in_degrees, &mut ready);
     }
     Ok(())
 }

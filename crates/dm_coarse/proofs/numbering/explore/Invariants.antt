@@ -1,12 +1,10 @@
-use Rattle.std.proofs.Common.{◌+◌, ◌-◌, ℕ}
-use Rattle.bip_defs.specs.Lists.{IsMarked}
+use Rattle.std.proofs.Common.{◌-◌}
 use Rattle.bip_defs.specs.Matrix.{cols}
-use Rattle.dm_coarse.specs.Numbering.{AreSearched}
+use Rattle.dm_coarse.proofs.NumberingLemmas.{IsExploring}
 use Rattle.dm_coarse.proofs.numbering.explore.Given as goal
 
-abbrev pub invariant-loop-at : goal.invariant-loop-at
-invariant-loop-at g l = AreSearched (g.S.Side.matrix l.side) (l.number + 1) l.at l.search.waiting.items l.search.rows.items l.search.cols.items l.search.queue.items
-    × ((c : ℕ) → IsMarked l.search.waiting.items c → IsMarked l.initial.search.waiting.items c)
+abbrev pub invariant-loop-next_col : goal.invariant-loop-next_col
+invariant-loop-next_col g l = IsExploring (g.S.Side.matrix l.side) l.root l.next_row l.next_col l.fn.rows l.fn.cols l.rows l.cols
 
-abbrev pub decreases-loop-at : goal.decreases-loop-at
-decreases-loop-at g l = cols (g.S.Side.matrix l.side) - l.at
+abbrev pub decreases-loop-next_col : goal.decreases-loop-next_col
+decreases-loop-next_col g l = cols (g.S.Side.matrix l.side) - l.next_col

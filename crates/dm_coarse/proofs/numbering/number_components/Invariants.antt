@@ -3,4 +3,4 @@ use Rattle.dm_coarse.proofs.NumberingLemmas.{IsNumbering}
 use Rattle.dm_coarse.proofs.numbering.number_components.Given as goal
 
 abbrev pub invariant-loop-at : goal.invariant-loop-at
-invariant-loop-at g l = IsNumbering (g.S.Side.matrix l.side) l.count l.at (map g.N.Id.number l.columns) l.search.waiting.items l.search.rows.items l.search.cols.items l.search.queue.items
+invariant-loop-at g l = IsNumbering (g.S.Side.matrix l.side) l.at (map g.N.Id.number l.columns) l.search

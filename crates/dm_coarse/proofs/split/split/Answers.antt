@@ -12,11 +12,5 @@ loop-at-preserved g c =
       | in-Vertical+in_ok-push-in-Vertical w ↦ more_vertical g.F.Id.number _ _ _ _ _ _ _ _ _ c.of-row.ensures w.in-Vertical.ensures c.loop-at.invariant (items_same w.horizontal_rows-is) (items_same w.square_rows-is) (items_same w.vertical_rows-is ∙ w.in_ok-push-in-Vertical.ensures.items)
     ]
 
-pub returns-clause-horizontal : goal.returns-clause-horizontal
-returns-clause-horizontal g c = (split_end _ _ _ _ _ (omega (arith, c.requires.vertical.long)) c.loop-at.invariant).0
-
-pub returns-clause-square : goal.returns-clause-square
-returns-clause-square g c = (split_end _ _ _ _ _ (omega (arith, c.requires.vertical.long)) c.loop-at.invariant).1
-
-pub returns-clause-vertical : goal.returns-clause-vertical
-returns-clause-vertical g c = (split_end _ _ _ _ _ (omega (arith, c.requires.vertical.long)) c.loop-at.invariant).2
+pub returns : goal.returns
+returns g c = split_end _ _ _ _ _ (omega (arith, c.requires.known.vertical.long)) c.loop-at.invariant

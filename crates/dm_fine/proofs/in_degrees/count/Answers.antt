@@ -1,51 +1,55 @@
-use Rattle.std.proofs.Common.{rules, ◌+◌, ◌∙◌, length, arith}
-use Rattle.std.proofs.lemmas.List.{map-id}
+use Rattle.std.proofs.Common.{rules, ◌+◌, ◌∙◌, arith}
 use Rattle.bip_defs.specs.Matrix.{row_list}
-use Rattle.bip_defs.proofs.Sets.{written_over}
-use Rattle.dm_fine.specs.InDegrees.{edges_into}
-use Rattle.dm_fine.proofs.GroupParts.{edges_few}
+use Rattle.bip_defs.proofs.Sets.{entry_col, written_over}
+use Rattle.dm_fine.specs.InDegrees.{edges_of}
+use Rattle.dm_fine.proofs.GroupParts.{edges_few, edges_here, edges_none}
 use Rattle.dm_fine.proofs.Sums.{sum_upto_le, sum_upto_next}
 use Rattle.dm_fine.proofs.in_degrees.count.Goals as goal
+use Rattle.dm_fine.proofs.in_degrees.count.Goals.{then-own-count, else-own-count}
 
-pub count_entries-requires-clause-of_matrix : goal.count_entries-requires-clause-of_matrix
-count_entries-requires-clause-of_matrix c =
-    let rows = rw map-id at c.of.ensures in
-    let lt = c.loop-own-test.true in
-    let count = c.count-count.ensures in
-    record {
-      numbered = c.requires.numbers;
-      rows = rw rows (λ r h. c.requires.rows.below c.loop-own.own r (omega (arith, lt, count)) h);
-    }
+pub count_row-requires-clause-cols : goal.count_row-requires-clause-cols
+count_row-requires-clause-cols c = λ d h. let lt = entry_col c.args.pattern.now c.loop-row.row d (c.cols_of-cols.ensures.cols.sound d h) in let same = c.requires.numbers in omega (arith, lt, same)
 
-pub count_entries-requires-clause-few : goal.count_entries-requires-clause-few
-count_entries-requires-clause-few c =
-    let rows = rw map-id at c.of.ensures in
-    rw (c.as_mut_slice.ensures.value, rows)
+pub count_row-requires-clause-few : goal.count_row-requires-clause-few
+count_row-requires-clause-few c =
+    rw (c.as_mut_slice.ensures.value, c.cols_of-cols.ensures.row_list)
     (λ j lt.
-    let long = c.loop-own.invariant.long in
-    let within = c.loop-own-test.true in
-    let count = c.count-count.ensures in
-    let f = edges_into (row_list c.args.pattern.now) c.args.numbers.now c.args.rows.now j in
-    let so = c.loop-own.invariant.in_degrees j (omega (arith, long, lt)) in
-    let next = sum_upto_next f c.loop-own.own in
-    let le = sum_upto_le f (c.loop-own.own + 1) (length c.args.rows.now) (omega (arith, within, count)) in
-    let few = edges_few c.args.pattern.now c.args.numbers.now (length c.args.rows.now) c.args.rows.now j c.requires.rows in
-    let all = c.requires.few in
-    omega (arith, so, next, le, few, all))
+    let line = row_list c.args.pattern.now in
+    let all = c.loop-row.invariant.long in
+    let f = edges_of line c.args.numbers.now c.args.row_numbers.now c.args.count j in
+    let so = c.loop-row.invariant.in_degrees j (omega (arith, all, lt)) in
+    let here = edges_here line c.args.numbers.now c.args.row_numbers.now c.args.count j c.loop-row.row c.if-own-count.true in
+    let next = sum_upto_next f c.loop-row.row in
+    let le = sum_upto_le f (c.loop-row.row + 1) c.args.pattern.now.rows (omega (arith, c.loop-row-test.true, c.rows-row-end.ensures)) in
+    let few = edges_few c.args.pattern.now c.args.numbers.now c.args.row_numbers.now c.args.count j in
+    omega (arith, so, here, next, le, few, c.requires.few))
 
-pub loop-own-preserved : goal.loop-own-preserved
-loop-own-preserved c =
-    let rows = rw map-id at c.of.ensures in
-    let value = c.as_mut_slice.ensures.value in
-    let long = rw value at c.count_entries.auto.in_degrees in
-    let more = rw (value, rows) at c.count_entries.ensures in
-    let all = c.loop-own.invariant.long in
-    rw (written_over c.count_entries.new.in_degrees c.loop-own.in_degrees.items c.loop-own.in_degrees.len long (search rules))
-    (record {
-      long = long ∙ all;
-      in_degrees = λ j lt.
-          let so = c.loop-own.invariant.in_degrees j lt in
-          let here = more j (omega (arith, all, lt)) in
-          let next = sum_upto_next (edges_into (row_list c.args.pattern.now) c.args.numbers.now c.args.rows.now j) c.loop-own.own in
-          omega (arith, so, here, next);
-    })
+pub loop-row-preserved : goal.loop-row-preserved
+loop-row-preserved c =
+    let line = row_list c.args.pattern.now in
+    let all = c.loop-row.invariant.long in
+    elim c.if-own-count.branch [
+      | then-own-count w ↦
+          let value = w.as_mut_slice.ensures.value in
+          let long = rw value at w.count_row.auto.in_degrees in
+          let more = rw (value, w.cols_of-cols.ensures.row_list) at w.count_row.ensures in
+          rw (w.in_degrees-is, written_over w.count_row.new.in_degrees c.loop-row.in_degrees.items c.loop-row.in_degrees.len long (search rules))
+          (record {
+            long = long ∙ all;
+            in_degrees = λ j lt.
+                let so = c.loop-row.invariant.in_degrees j lt in
+                let more_here = more j (omega (arith, all, lt)) in
+                let here = edges_here line c.args.numbers.now c.args.row_numbers.now c.args.count j c.loop-row.row w.if-own-count.true in
+                let next = sum_upto_next (edges_of line c.args.numbers.now c.args.row_numbers.now c.args.count j) c.loop-row.row in
+                omega (arith, so, more_here, here, next);
+          })
+      | else-own-count w ↦
+          rw w.in_degrees-is (record {
+            long = all;
+            in_degrees = λ j lt.
+                let so = c.loop-row.invariant.in_degrees j lt in
+                let here = edges_none line c.args.numbers.now c.args.row_numbers.now c.args.count j c.loop-row.row w.if-own-count.false in
+                let next = sum_upto_next (edges_of line c.args.numbers.now c.args.row_numbers.now c.args.count j) c.loop-row.row in
+                omega (arith, so, here, next);
+          })
+    ]

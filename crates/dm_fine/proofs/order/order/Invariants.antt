@@ -7,10 +7,10 @@ use Rattle.dm_fine.proofs.order.order.Given as goal
 
 abbrev pub invariant-loop-own : goal.invariant-loop-own
 invariant-loop-own l = record {
-  ordering : IsOrdering (length l.cols) (edges_into (row_list l.pattern) l.numbers l.rows) (block_of l.rows l.cols) l.in_degrees.items l.ready.members l.blocks;
-  long : length l.in_degrees.items ≡ length l.cols;
-  bound : l.ready.bound ≡ length l.cols;
+  ordering : IsOrdering (length l.components.cols.now) (edges_into (row_list l.components.pattern.now) l.components.numbers.now l.components.rows.now) (block_of l.components.rows.now l.components.cols.now) l.in_degrees l.ready.members l.blocks;
+  long : length l.in_degrees ≡ length l.components.cols.now;
+  bound : l.ready.bound ≡ length l.components.cols.now;
 }
 
 abbrev pub decreases-loop-own : goal.decreases-loop-own
-decreases-loop-own l = length l.cols - length l.blocks
+decreases-loop-own l = length l.components.cols.now - length l.blocks
