@@ -15,4 +15,5 @@ pub mod Sides
 pub mod SplitLemmas
 pub mod SumLemmas
 pub mod TransposeLemmas
+pub mod ValuedLemmas
 pub mod Weighed

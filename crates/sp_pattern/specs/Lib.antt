@@ -5,5 +5,7 @@ pub mod Mirror
 pub mod Pairs
 pub mod Restricted
 pub mod Stored
+pub mod ValuedColumns
+pub mod ValuesErrors
 pub mod WeightErrors
 pub mod Weights

@@ -18,6 +18,7 @@ mod sort;
 mod split;
 mod sums;
 mod transpose;
+mod valued_columns;
 mod weights;
 
 pub use columns::{ColumnsError, Narrow, NumberList, Wide, check_columns};
@@ -27,4 +28,5 @@ pub use load::load_matrix;
 pub use pattern::Pattern;
 pub use pieces::part;
 pub use side::{FromRows, Neighbours, Side};
+pub use valued_columns::ValuesError;
 pub use weights::{WeightError, Weights};

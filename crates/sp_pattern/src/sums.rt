@@ -31,14 +31,16 @@ pub fn sums_of(
     Ok(sums)
 }
 
-fn added(sum: i128, value: i64) -> i128
+/// A sum with one value more.
+pub fn added(sum: i128, value: i64) -> i128
     requires { FitsSigned w128 (sum +ℤ value) }
     ensures { result ≡ sum +ℤ value }
 {
     sum + value as i128
 }
 
-fn zeros(alloc: Global, count: u32) -> Result<Vec<i128>, OutOfMemory>
+/// As many zeros.
+pub fn zeros(alloc: Global, count: u32) -> Result<Vec<i128>, OutOfMemory>
     ensures { IfOk result (λ s. s.items ≡ replicate count (pos 0)) }
 {
     Ok(vec![in alloc; 0; count as usize]?)

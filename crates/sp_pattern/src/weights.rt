@@ -4,7 +4,8 @@ ghost use Rattle.std.specs.Prelude.{◌≡◌, ◌<◌, ℕ, pos, IfOk, IfErr, I
 ghost use Rattle.std.specs.Int.RustNames.{unsigned_abs};
 ghost use Rattle.bip_defs.specs.Matrix.{IsEntry, cols, column, entry_count};
 ghost use Rattle.sp_ids.specs.declared.triples.Field.TheVariants.{Integer};
-ghost use Rattle.sp_pattern.specs.Weights.{AreWeightsOf, AreWithin, weight_at, weight_limit, weights_in};
+ghost use Rattle.sp_ids.specs.Entries.{Entries};
+ghost use Rattle.sp_pattern.specs.Weights.{AreSums, AreWeightsOf, AreWithin, weight_at, weight_limit, weights_in};
 
 use crate::Pattern;
 use crate::sums::sums_of;
@@ -95,15 +96,30 @@ impl<'p> Weights<'p> {
         ensures weights { IfOk result (AreWeightsOf triples.now pattern.now) }
         ensures refused { IfErr result (IsWeightError triples.now pattern.now) }
     {
-        pattern.is_pattern();
         let Ok(sums) = sums_of(alloc, pattern, triples) else {
             return Err(WeightError::OutOfMemory);
         };
-        if let Some(at) = first_large(sums.as_slice()) {
+        Weights::of_sums(alloc, pattern, sums.as_slice())
+    }
+
+    // The weights of a pattern's entries, by the sums of their values.
+    pub(crate) fn of_sums(
+        alloc: Global,
+        pattern: &'p Pattern,
+        sums: &[i128],
+    ) -> Result<Weights<'p>, WeightError>
+        requires { length sums.now ≡ entry_count pattern.now }
+        ensures weights { IfOk result (λ w. (t : Entries) → AreSums t.items pattern.now sums.now
+            → AreWeightsOf t pattern.now w) }
+        ensures refused { IfErr result (λ e. (t : Entries) → AreSums t.items pattern.now sums.now
+            → IsWeightError t pattern.now e) }
+    {
+        pattern.is_pattern();
+        if let Some(at) = first_large(sums) {
             let (row, col) = pattern.place_at(at);
             return Err(WeightError::SumLimit { row, col });
         }
-        let Ok(weights) = magnitudes(alloc, sums.as_slice()) else {
+        let Ok(weights) = magnitudes(alloc, sums) else {
             return Err(WeightError::OutOfMemory);
         };
         Ok(Weights { pattern, weights })

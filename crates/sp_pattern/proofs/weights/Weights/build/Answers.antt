@@ -1,13 +1,11 @@
-use Rattle.std.proofs.Common.{◌∙◌, ap, map}
-use Rattle.std.specs.Int.RustNames.{unsigned_abs}
-use Rattle.sp_pattern.proofs.SumLemmas.{first_past, weights_made}
+use Rattle.std.proofs.lemmas.Result.{IfOk-weaker, IfErr-weaker}
 use Rattle.sp_pattern.proofs.weights.Weights.build.Goals as goal
 
-pub returns-in-Some-clause-refused : goal.returns-in-Some-clause-refused
-returns-in-Some-clause-refused c =
-    first_past c.args.triples.now c.args.pattern.now c.in-Ok.sums.items c.in-Some.at c.place_at-row.result.0 c.place_at-row.result.1 (λ d. (c.is_pattern.ensures.columns d).rising) c.in-Ok.ensures
-    (rw c.as_slice.ensures.value at c.in-Some.ensures.found.1) (rw c.as_slice.ensures.value at c.in-Some.ensures.first) c.place_at-row.ensures.entry c.place_at-row.ensures.place
+pub of_sums-requires : goal.of_sums-requires
+of_sums-requires c = rw c.as_slice.ensures.value c.in-Ok.ensures.long
 
 pub returns-clause-weights : goal.returns-clause-weights
-returns-clause-weights c =
-    weights_made c.args.triples.now c.args.pattern.now c.in-Ok.sums.items c.in-Ok-magnitudes.weights.items c.in-Ok.ensures (rw c.as_slice.ensures.value at c.in_default-first_large.ensures.none) (c.in-Ok-magnitudes.ensures ∙ ap (map unsigned_abs) c.as_slice-2.ensures.value)
+returns-clause-weights c = IfOk-weaker c.of_sums.result _ _ (λ w h. h c.args.triples.now (rw c.as_slice.ensures.value c.in-Ok.ensures)) c.of_sums.ensures.weights
+
+pub returns-clause-refused : goal.returns-clause-refused
+returns-clause-refused c = IfErr-weaker c.of_sums.result _ _ (λ e h. h c.args.triples.now (rw c.as_slice.ensures.value c.in-Ok.ensures)) c.of_sums.ensures.refused
