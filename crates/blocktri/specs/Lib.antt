@@ -1,3 +1,5 @@
 pub mod Answers
+pub mod BlockOrders
 pub mod Causes
+pub mod OuterComponents
 pub mod Written

@@ -31,6 +31,27 @@ pub fn maximum_matching<N: NumberList>(
     searched(alloc, &pattern)
 }
 
+/// The pattern, and a maximum matching.
+pub fn matched<N: NumberList>(
+    alloc: Global,
+    rows: u32,
+    starts: N,
+    ids: N,
+) -> Result<(Pattern, Matching), OutOfMemory>
+    requires { AreColumns rows (N.numbers starts) (N.numbers ids) }
+    ensures pattern { IfOk result
+        (λ p. p.0 ≡ matrix_of rows (N.numbers starts) (N.numbers ids)) }
+    ensures maximum { IfOk result
+        (λ p. IsMaximumOf (matrix_of rows (N.numbers starts) (N.numbers ids)) p.1) }
+{
+    let pattern = Pattern::of_checked_columns(alloc, rows, starts, ids)?;
+    let matching = match first_look(alloc, rows, starts, ids)? {
+        Some(matching) => matching,
+        None => searched(alloc, &pattern)?,
+    };
+    Ok((pattern, matching))
+}
+
 /// A maximum matching by a search.
 pub fn searched(alloc: Global, pattern: &Pattern) -> Result<Matching, OutOfMemory>
     ensures { IfOk result (IsMaximumOf pattern.now) }

@@ -34,7 +34,7 @@ loop-col-preserved g c =
     let len = c.len.ensures in
     let a = matrix_of c.args.rows (g.N.NumberList.numbers c.args.starts) (g.N.NumberList.numbers c.args.ids) in
     elim c.match-first_unmatched.branch [
-      in-Some w ↦
+      | in-Some w ↦
           let given = rw (c.at-from.ensures, c.at-to.ensures) at w.in-Some.ensures.given in
           let entry : IsEntry a w.in-Some.row c.loop-col.col = (c.columns_give_their_places.ensures.entries c.args.rows (g.N.NumberList.numbers c.args.starts) (g.N.NumberList.numbers c.args.ids) w.in-Some.row c.loop-col.col c.requires).1 (omega (arith, lt, len), given) in
           rw (w.matching-is, w.missed-is) (record {
@@ -44,7 +44,7 @@ loop-col-preserved g c =
             before = columns_more c.loop-col.matching.pairs w.pair.new.self.pairs w.in-Some.row c.loop-col.col w.pair.ensures.added inv.before;
             missed = inv.missed;
           })
-    | in-None+else-missed-spare w ↦
+      | in-None+else-missed-spare w ↦
           rw (w.matching-is, w.missed-is) (record {
             rows = inv.rows;
             cols = inv.cols;
