@@ -37,6 +37,8 @@ extern "C" {
  * nothing was written but, where it says so, *fault. */
 enum blocktri_status {
   BLOCKTRI_OK = 0,
+  /* the matrix is not square, or its structural rank is less than its size */
+  BLOCKTRI_SINGULAR = 1,
   BLOCKTRI_OUT_OF_MEMORY = 7,
   /* starts[*fault] is the first start that is not right; of no starts at all, *fault is 0 */
   BLOCKTRI_BAD_START = 20,
@@ -48,13 +50,14 @@ enum blocktri_status {
   BLOCKTRI_TOO_MANY_ROWS = 23
 };
 
-/* Stands for no row. */
+/* Stands for no row, and for no component. */
 #define BLOCKTRI_NONE UINT32_C(4294967295)
 
 /* A sentence for a status. */
 static inline const char *blocktri_text(int32_t status) {
   switch (status) {
     case BLOCKTRI_OK: return "there is an answer";
+    case BLOCKTRI_SINGULAR: return "the matrix is not square, or structurally singular";
     case BLOCKTRI_OUT_OF_MEMORY: return "there is not enough memory";
     case BLOCKTRI_BAD_START: return "a start of a column is not right";
     case BLOCKTRI_BAD_ROW: return "an id is not the number of a row";
@@ -114,6 +117,45 @@ int32_t blocktri_decomposition_64(uint64_t rows, const uint64_t *starts, size_t 
                                   size_t ids_length, uint32_t *row_order, size_t row_order_length, uint32_t *column_order,
                                   size_t column_order_length, uint32_t *block_starts, size_t block_starts_length,
                                   struct blocktri_sizes *sizes, uint64_t *fault);
+
+/* How many connected components the two outer parts have. */
+struct blocktri_component_counts {
+  uint32_t horizontal;
+  uint32_t vertical;
+};
+
+/* The connected components of the horizontal and of the vertical part. Two rows or columns of a part are in one component if a
+ * chain of entries, each in a row and a column of that part, leads from one to the other.
+ *
+ * row_component must have a place for each row, column_component one for each column. A row or column of the horizontal part
+ * gets the number of its component: they count from 0, in the order of their least columns. One of the vertical part gets
+ * counts->horizontal plus the number of its component, which stand in the order of their least rows. One of the square part gets
+ * BLOCKTRI_NONE. More than 4,294,967,295 components in all are answered by BLOCKTRI_OUT_OF_MEMORY. */
+int32_t blocktri_components(uint32_t rows, const uint32_t *starts, size_t starts_length, const uint32_t *ids, size_t ids_length,
+                            uint32_t *row_component, size_t row_component_length, uint32_t *column_component,
+                            size_t column_component_length, struct blocktri_component_counts *counts, uint64_t *fault);
+int32_t blocktri_components_64(uint64_t rows, const uint64_t *starts, size_t starts_length, const uint64_t *ids,
+                               size_t ids_length, uint32_t *row_component, size_t row_component_length,
+                               uint32_t *column_component, size_t column_component_length,
+                               struct blocktri_component_counts *counts, uint64_t *fault);
+
+/* What a sparse LU factorisation by blocks wants of a square matrix of full structural rank, as KLU of SuiteSparse's btf_order:
+ * orders of its rows and columns in which it is block upper triangular and has an entry at each place of the diagonal.
+ *
+ * row_order and column_order must have a place for each row and each column, and block_starts starts_length places.
+ * (row_order[k], column_order[k]) is an entry for each k. column_order is that of blocktri_decomposition, and block b has the rows
+ * and the columns that it has there: those from block_starts[b] up to but not block_starts[b + 1] of both orders. *blocks gets the
+ * number of blocks; block_starts[*blocks] is the number of rows, and what stands behind it stays as it was.
+ *
+ * The status is BLOCKTRI_SINGULAR exactly where the matrix is not square or its rank is less than its size. Which of several
+ * entries of a block stand on the diagonal may be any; all else is one for each matrix. */
+int32_t blocktri_block_order(uint32_t rows, const uint32_t *starts, size_t starts_length, const uint32_t *ids, size_t ids_length,
+                             uint32_t *row_order, size_t row_order_length, uint32_t *column_order, size_t column_order_length,
+                             uint32_t *block_starts, size_t block_starts_length, uint32_t *blocks, uint64_t *fault);
+int32_t blocktri_block_order_64(uint64_t rows, const uint64_t *starts, size_t starts_length, const uint64_t *ids,
+                                size_t ids_length, uint32_t *row_order, size_t row_order_length, uint32_t *column_order,
+                                size_t column_order_length, uint32_t *block_starts, size_t block_starts_length,
+                                uint32_t *blocks, uint64_t *fault);
 
 #ifdef __cplusplus
 }

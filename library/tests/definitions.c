@@ -100,6 +100,70 @@ static void compare_form(const struct answer *got) {
   CHECK(!memcmp(got->column_order, column_order, columns * sizeof *column_order));
 }
 
+/* the rows of the component of a column or a row of a part, and in of_columns its columns */
+static uint32_t joined(uint32_t joined_rows, uint32_t *of_columns, uint32_t part_rows, uint32_t part_columns) {
+  for (bool is_more = true; is_more;) {
+    is_more = false;
+    for (uint32_t r = 0; r < rows; r++)
+      for (uint32_t c = 0; c < columns; c++) {
+        bool within = part_rows >> r & 1 && part_columns >> c & 1 && entry[r][c];
+        bool has_row = joined_rows >> r & 1, has_column = *of_columns >> c & 1;
+        if (!within || has_row == has_column) continue;
+        joined_rows |= 1u << r;
+        *of_columns |= 1u << c;
+        is_more = true;
+      }
+  }
+  return joined_rows;
+}
+
+static void mark(uint32_t *numbers, uint32_t set, uint32_t number) {
+  for (uint32_t i = 0; i < SIDE; i++)
+    if (set >> i & 1) numbers[i] = number;
+}
+
+static void compare_components(const struct answer *got) {
+  uint32_t rank = rank_without(0, 0), missed_columns = 0, missed_rows = 0, row_component[SIDE], column_component[SIDE];
+  for (uint32_t c = 0; c < columns; c++) missed_columns |= (uint32_t)(rank_without(0, 1u << c) == rank) << c;
+  for (uint32_t r = 0; r < rows; r++) missed_rows |= (uint32_t)(rank_without(1u << r, 0) == rank) << r;
+  uint32_t horizontal_rows = neighbours(missed_columns), vertical_columns = columns_meeting(missed_rows), count = 0;
+  for (uint32_t i = 0; i < SIDE; i++) row_component[i] = column_component[i] = BLOCKTRI_NONE;
+  for (uint32_t c = 0; c < columns; c++)
+    if (missed_columns >> c & 1 && column_component[c] == BLOCKTRI_NONE) {
+      uint32_t of_columns = 1u << c, of_rows = joined(0, &of_columns, horizontal_rows, missed_columns);
+      mark(row_component, of_rows, count), mark(column_component, of_columns, count), count++;
+    }
+  CHECK(got->counts.horizontal == count);
+  for (uint32_t r = 0; r < rows; r++)
+    if (missed_rows >> r & 1 && row_component[r] == BLOCKTRI_NONE) {
+      uint32_t of_columns = 0, of_rows = joined(1u << r, &of_columns, missed_rows, vertical_columns);
+      mark(row_component, of_rows, count), mark(column_component, of_columns, count), count++;
+    }
+  CHECK(got->counts.vertical == count - got->counts.horizontal);
+  CHECK(!memcmp(got->row_component, row_component, rows * sizeof *row_component));
+  CHECK(!memcmp(got->column_component, column_component, columns * sizeof *column_component));
+}
+
+/* of a matrix of full rank the blocks of its form, with an entry at each place of the diagonal */
+static void compare_order(const struct answer *got) {
+  if (rows != columns || rank_without(0, 0) != rows) {
+    CHECK(got->order_status == BLOCKTRI_SINGULAR);
+    return;
+  }
+  CHECK(got->order_status == BLOCKTRI_OK && got->blocks == got->sizes.blocks);
+  CHECK(!memcmp(got->diagonal_columns, got->column_order, columns * sizeof *got->column_order));
+  CHECK(!memcmp(got->diagonal_starts, got->block_starts, sizeof got->block_starts));
+  for (uint32_t b = 0; b < got->blocks; b++) {
+    uint32_t of_order = 0, of_form = 0;
+    for (uint32_t k = got->block_starts[b]; k < got->block_starts[b + 1]; k++) {
+      CHECK(got->diagonal_rows[k] < rows && entry[got->diagonal_rows[k]][got->diagonal_columns[k]]);
+      of_order |= 1u << got->diagonal_rows[k];
+      of_form |= 1u << got->row_order[k];
+    }
+    CHECK(of_order == of_form);
+  }
+}
+
 /* each column has the least row, or else none, with which a maximum matching is still to be had */
 static void compare_least(const struct answer *got) {
   uint32_t rank = rank_without(0, 0), taken = 0, done = 0, size = 0;
@@ -159,7 +223,10 @@ int main(void) {
     struct answer least = ask(&a, true), any = ask(&a, false);
     CHECK(least.rank_status == BLOCKTRI_OK && least.matching_status == BLOCKTRI_OK && least.form_status == BLOCKTRI_OK);
     CHECK(any.matching_status == BLOCKTRI_OK && least.rank == rank_without(0, 0));
+    CHECK(least.components_status == BLOCKTRI_OK);
     compare_form(&least);
+    compare_components(&least);
+    compare_order(&least);
     compare_least(&least);
     compare_any(&any);
   }

@@ -8,7 +8,8 @@ static const struct matrix right = {
 static void refused(struct matrix *a, int32_t status, uint64_t fault) {
   struct answer got = ask(a, false), kept = untouched();
   CHECK(got.rank_status == status && got.matching_status == status && got.form_status == status);
-  kept.rank_status = kept.matching_status = kept.form_status = status;
+  CHECK(got.components_status == status && got.order_status == status);
+  kept.rank_status = kept.matching_status = kept.form_status = kept.components_status = kept.order_status = status;
   if (status == BLOCKTRI_BAD_START || status == BLOCKTRI_BAD_ROW) kept.fault = fault;
   CHECK(!memcmp(&got, &kept, sizeof got));
 }
@@ -51,6 +52,12 @@ static void no_starts(void) {
   CHECK(blocktri_matching(0, none, 0, none, 0, false, none, 0, &got.size, &got.fault) == BLOCKTRI_BAD_START);
   int32_t form = blocktri_decomposition(0, none, 0, none, 0, none, 0, none, 0, none, 0, &got.sizes, &got.fault);
   CHECK(form == BLOCKTRI_BAD_START && got.fault == 0 && got.sizes.rank == UNTOUCHED && got.size == UNTOUCHED);
+  got = untouched();
+  CHECK(blocktri_components(0, none, 0, none, 0, none, 0, none, 0, &got.counts, &got.fault) == BLOCKTRI_BAD_START);
+  CHECK(got.fault == 0 && got.counts.horizontal == UNTOUCHED);
+  got = untouched();
+  int32_t order = blocktri_block_order(0, none, 0, none, 0, none, 0, none, 0, none, 0, &got.blocks, &got.fault);
+  CHECK(order == BLOCKTRI_BAD_START && got.fault == 0 && got.blocks == UNTOUCHED);
 }
 
 static void ids_that_are_no_rows(void) {
@@ -81,6 +88,11 @@ static void too_many_rows(void) {
   CHECK(blocktri_rank_64(rows, a.wide_starts, 5, a.wide_ids, 7, &got.rank, &got.fault) == BLOCKTRI_TOO_MANY_ROWS);
   CHECK(blocktri_matching_64(rows, a.wide_starts, 5, a.wide_ids, 7, false, got.row_of_column, 4, &got.size, &got.fault) ==
         BLOCKTRI_TOO_MANY_ROWS);
+  /* a list of so many places is not to be had, and a shorter one is told before */
+  CHECK(blocktri_components_64(rows, a.wide_starts, 5, a.wide_ids, 7, got.row_component, 4, got.column_component, 4,
+                               &got.counts, &got.fault) == BLOCKTRI_BAD_LENGTH);
+  CHECK(blocktri_block_order_64(rows, a.wide_starts, 5, a.wide_ids, 7, got.row_order, 4, got.column_order, 4,
+                                got.block_starts, 5, &got.blocks, &got.fault) == BLOCKTRI_BAD_LENGTH);
   CHECK(!memcmp(&got, &kept, sizeof got));
 }
 
@@ -96,10 +108,21 @@ static void lists_of_the_wrong_length(void) {
                                    &got.sizes, &got.fault) == BLOCKTRI_BAD_LENGTH);
       CHECK(blocktri_decomposition(4, a.starts, 5, a.ids, 7, got.row_order, 4, got.column_order, n, got.block_starts, 5,
                                    &got.sizes, &got.fault) == BLOCKTRI_BAD_LENGTH);
+      CHECK(blocktri_components(4, a.starts, 5, a.ids, 7, got.row_component, n, got.column_component, 4, &got.counts,
+                                &got.fault) == BLOCKTRI_BAD_LENGTH);
+      CHECK(blocktri_components(4, a.starts, 5, a.ids, 7, got.row_component, 4, got.column_component, n, &got.counts,
+                                &got.fault) == BLOCKTRI_BAD_LENGTH);
+      CHECK(blocktri_block_order(4, a.starts, 5, a.ids, 7, got.row_order, n, got.column_order, 4, got.block_starts, 5,
+                                 &got.blocks, &got.fault) == BLOCKTRI_BAD_LENGTH);
+      CHECK(blocktri_block_order(4, a.starts, 5, a.ids, 7, got.row_order, 4, got.column_order, n, got.block_starts, 5,
+                                 &got.blocks, &got.fault) == BLOCKTRI_BAD_LENGTH);
     }
-    if (n != 5)
+    if (n != 5) {
+      CHECK(blocktri_block_order(4, a.starts, 5, a.ids, 7, got.row_order, 4, got.column_order, 4, got.block_starts, n,
+                                 &got.blocks, &got.fault) == BLOCKTRI_BAD_LENGTH);
       CHECK(blocktri_decomposition(4, a.starts, 5, a.ids, 7, got.row_order, 4, got.column_order, 4, got.block_starts, n,
                                    &got.sizes, &got.fault) == BLOCKTRI_BAD_LENGTH);
+    }
   }
   CHECK(!memcmp(&got, &kept, sizeof got));
 }

@@ -15,12 +15,21 @@ void *__wrap_realloc(void *old, size_t size) { return ++calls == failing_at ? NU
 static struct matrix a = {
     .rows = 4, .columns = 4, .count = 7, .starts = {0, 1, 2, 4, 7}, .ids = {0, 0, 1, 0, 3, 1, 2}};
 
+/* a cycle in which the first look leaves the last column unmatched, so that a search has to match it */
+static const uint32_t cycle_starts[] = {0, 2, 3, 5}, cycle_ids[] = {0, 1, 2, 0, 2};
+
 static int32_t call(int which, struct answer *got) {
   switch (which) {
     case 0: return blocktri_rank(4, a.starts, 5, a.ids, 7, &got->rank, &got->fault);
     case 1:
     case 2:
       return blocktri_matching(4, a.starts, 5, a.ids, 7, which == 2, got->row_of_column, 4, &got->size, &got->fault);
+    case 3:
+      return blocktri_components(4, a.starts, 5, a.ids, 7, got->row_component, 4, got->column_component, 4, &got->counts,
+                                 &got->fault);
+    case 4:
+      return blocktri_block_order(3, cycle_starts, 4, cycle_ids, 5, got->diagonal_rows, 3, got->diagonal_columns, 3,
+                                  got->diagonal_starts, 4, &got->blocks, &got->fault);
     default:
       return blocktri_decomposition(4, a.starts, 5, a.ids, 7, got->row_order, 4, got->column_order, 4, got->block_starts, 5,
                                     &got->sizes, &got->fault);
@@ -28,7 +37,7 @@ static int32_t call(int which, struct answer *got) {
 }
 
 int main(void) {
-  for (int which = 0; which < 4; which++) {
+  for (int which = 0; which < 6; which++) {
     long refusals = 0;
     for (failing_at = 1;; failing_at++) {
       struct answer got = untouched(), kept = untouched();

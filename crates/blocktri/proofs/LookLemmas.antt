@@ -1,13 +1,13 @@
 -- What the first look finds.
-use Rattle.std.proofs.Common.{◌≡◌, ◌⊎◌, ◌↔◌, ℕ, zero, suc, ◌+◌, ◌-◌, ◌<◌, ◌≤◌, ◌∙◌, List, length, take, drop, get_or, ap, arith, sym, subst, inl, inr, ⊎_elim}
+use Rattle.std.proofs.Common.{◌≡◌, ◌⊎◌, ◌↔◌, ℕ, zero, suc, ◌+◌, ◌-◌, ◌<◌, ◌≤◌, ◌∙◌, List, length, drop, get_or, ap, arith, sym, subst, ⊎_elim}
 use Rattle.std.proofs.lemmas.List.{get_or-drop, get_or-take, length-drop, length-map, length-take}
 use Rattle.std.specs.List.{slice_range}
-use Rattle.bip_defs.specs.Lists.{Among, AreDistinct}
+use Rattle.bip_defs.specs.Lists.{Among}
 use Rattle.bip_defs.specs.Matching.{IsMatching, IsMaximum, cols_of, rows_of}
 use Rattle.bip_defs.specs.Matrix.{AreEntries, IsEntry, Matrix, Place, cols, upto}
 use Rattle.bip_defs.proofs.Full.{few_below, full_maximum}
 use Rattle.bip_defs.proofs.Sets.{among_at, col_among, col_pair, rising_distinct, row_pair, upto_length}
-use Rattle.bip_graph.specs.Matching.{IsMaximumOf, IsPairing, Pairing}
+use Rattle.bip_graph.specs.Matching.{IsMatchingOf, IsMaximumOf, IsPairing, Pairing}
 use Rattle.sp_pattern.specs.Columns.{matrix_of, rows_given}
 use Rattle.sp_pattern.specs.Stored.{AreStarts}
 
@@ -19,25 +19,30 @@ read_part xs from to k le lt within =
     subst (λ z. Among z (slice_range xs from to)) (get_or-take (to - from) (drop from xs) (k - from) 0 (omega (arith, le, lt)) ∙ get_or-drop from xs (k - from) 0 ∙ ap (λ i. get_or xs i 0) back)
     (among_at (slice_range xs from to) (k - from) 0 (omega (arith, long, le, lt)))
 
--- a matching with as many pairs as rows is maximum
-full_rows_maximum : (a : Matrix) (m : List Place) → IsMatching a m → length m ≡ a.rows → IsMaximum a m
-full_rows_maximum a m k full = record { matching = k; longest = λ o l. omega (arith, full, few o l) }
-  where
-    few : (o : List Place) → IsMatching a o → length o ≤ a.rows
-    few o l =
-        let most = few_below a.rows (rows_of o) l.rows_differ (λ r h. let (c, p) = row_pair r o h in (l.entries r c p).0) in
-        let same = length-map o (λ (p : Place). p.0) in
-        omega (arith, most, same)
+-- no matching has more pairs than there are rows
+pub few_rows : (a : Matrix) (m : List Place) → IsMatching a m → length m ≤ a.rows
+few_rows a m k =
+    let most = few_below a.rows (rows_of m) k.rows_differ (λ r h. let (c, p) = row_pair r m h in (k.entries r c p).0) in
+    let same = length-map m (λ (p : Place). p.0) in
+    omega (arith, most, same)
 
--- pairs of entries that match all columns or all rows
-pub look_maximum : (a : Matrix) (m : Pairing) → m.rows ≡ a.rows → m.cols ≡ cols a → AreEntries a m.pairs → IsPairing m → (length m.pairs ≡ cols a) ⊎ (length m.pairs ≡ a.rows) → IsMaximumOf a m
-look_maximum a m rows columns entries pairing full = record {
-  matching = record { rows = rows; cols = columns; matching = matching };
-  maximum = ⊎_elim (full_maximum a m.pairs matching) (full_rows_maximum a m.pairs matching) full;
+-- one with as many is maximum
+full_rows_maximum : (a : Matrix) (m : List Place) → IsMatching a m → length m ≡ a.rows → IsMaximum a m
+full_rows_maximum a m k full = record { matching = k; longest = λ o l. let few = few_rows a o l in omega (arith, full, few) }
+
+-- pairs of entries
+pub look_matching : (a : Matrix) (m : Pairing) → m.rows ≡ a.rows → m.cols ≡ cols a → AreEntries a m.pairs → IsPairing m → IsMatchingOf a m
+look_matching a m rows columns entries pairing = record {
+  rows = rows;
+  cols = columns;
+  matching = record { entries = entries; rows_differ = pairing.rows_differ; cols_differ = rising_distinct (cols_of m.pairs) pairing.cols_rise };
 }
-  where
-    matching : IsMatching a m.pairs
-    matching = record { entries = entries; rows_differ = pairing.rows_differ; cols_differ = rising_distinct (cols_of m.pairs) pairing.cols_rise }
+
+-- that match all columns or all rows
+pub look_maximum : (a : Matrix) (m : Pairing) → m.rows ≡ a.rows → m.cols ≡ cols a → AreEntries a m.pairs → IsPairing m → (length m.pairs ≡ cols a) ⊎ (length m.pairs ≡ a.rows) → IsMaximumOf a m
+look_maximum a m rows columns entries pairing full =
+    let is = look_matching a m rows columns entries pairing in
+    record { matching = is; maximum = ⊎_elim (full_maximum a m.pairs is.matching) (full_rows_maximum a m.pairs is.matching) full }
 
 -- one pair more, of an entry in the next column
 pub entries_more : (a : Matrix) (old new : List Place) (row col : ℕ) → ((p : Place) → Among p new ↔ ((p ≡ (row, col)) ⊎ Among p old)) → IsEntry a row col → AreEntries a old → AreEntries a new

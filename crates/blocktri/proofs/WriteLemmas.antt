@@ -1,11 +1,11 @@
 -- Lists that are written for the caller.
-use Rattle.std.proofs.Common.{◌≡◌, ◌≢◌, ◌⊎◌, ◌↔◌, ◌∙◌, ℕ, zero, suc, ◌+◌, ◌-◌, ◌<◌, ◌≤◌, ◌^◌, List, [], ◌∷◌, ◌++◌, length, map, set, take, get_or, refl, sym, ap, arith, subst, inl, inr, ⊎_elim, length-append, length-set, get_or-set_same, get_or-set_other}
+use Rattle.std.proofs.Common.{◌≡◌, ◌≢◌, ◌⊎◌, ◌↔◌, ◌∙◌, ℕ, zero, suc, ◌+◌, ◌-◌, ◌<◌, ◌≤◌, ◌^◌, List, [], ◌∷◌, ◌++◌, length, set, take, get_or, refl, sym, ap, arith, subst, inl, inr, length-append, length-set, get_or-set_same, get_or-set_other}
 use Rattle.std.proofs.Math.Decide.{dec_lt}
 use Rattle.std.proofs.Math.Seq.{ext_get_or}
 use Rattle.std.proofs.lemmas.List.{get_or_append_left, get_or-append-add, get_or-take, length-take-le, take_more}
 use Rattle.bip_defs.specs.Blocks.{Block, IsBlock, all_cols, all_rows, block_at, no_block}
 use Rattle.bip_defs.specs.Decomposition.{Decomposition, IsDecompositionOf}
-use Rattle.bip_defs.specs.Lists.{Among, AreDistinct}
+use Rattle.bip_defs.specs.Lists.{Among}
 use Rattle.bip_defs.specs.Matching.{cols_of}
 use Rattle.bip_defs.specs.Matrix.{Matrix, Place, cols, upto}
 use Rattle.bip_defs.specs.Once.{ListsOnce}
@@ -35,14 +35,18 @@ put_more at k v xs old new lt room is put = record {
   where
     few : length (take k xs) ≡ k
     few = length-take-le k xs (omega (arith, lt))
+
     more : length (take (k + 1) xs) ≡ k + 1
     more = length-take-le (k + 1) xs (omega (arith, lt))
+
     at_place : (i : ℕ) → (i ≡ k) ⊎ (i ≢ k) → i < length (take (k + 1) xs) → get_or (set new (at + k) v) (at + i) 0 ≡ get_or (take (k + 1) xs) i 0
     at_place i (inl same) h = let e = put.long in rw same (get_or-set_same new (at + k) v 0 (omega (arith, e, lt, room)) ∙ is ∙ sym (get_or-take (k + 1) xs k 0 (omega arith)))
     at_place i (inr ne) h = get_or-set_other new (at + k) (at + i) v 0 (λ e. ne (omega (arith, e))) ∙ put.here i (omega (arith, few, more, h, ne)) ∙ get_or-take k xs i 0 (omega (arith, more, h, ne)) ∙ sym (get_or-take (k + 1) xs i 0 (omega (arith, more, h)))
+
     beside : (i : ℕ) → (i < at) ⊎ (at + length (take (k + 1) xs) ≤ i) → i ≢ at + k
     beside i (inl before) e = omega (arith, before, e)
     beside i (inr behind) e = omega (arith, more, behind, e)
+
     outside : (i : ℕ) → (i < at) ⊎ (at + length (take (k + 1) xs) ≤ i) → (i < at) ⊎ (at + length (take k xs) ≤ i)
     outside i (inl before) = inl before
     outside i (inr behind) = inr (omega (arith, few, more, behind))
@@ -53,6 +57,7 @@ three_put a b c zero_out one two three long p q r = ext_get_or 0 three (a ++ b +
   where
     both : length (a ++ b) ≡ length a + length b
     both = length-append a b
+
     by : (i : ℕ) → Dec (i < length a) → Dec (i < length a + length b) → i < length three → get_or three i 0 ≡ get_or (a ++ b ++ c) i 0
     by i (yes first) d lt =
         r.others i (inl (omega (arith, first))) ∙ q.others i (inl first) ∙ ap (λ j. get_or one j 0) (let z : i ≡ 0 + i = omega arith in z) ∙ p.here i first
@@ -104,7 +109,7 @@ few_blocks a d is =
     let (m, max, size) = is.rank in
     let perfect = square_pairs_perfect a m d.parts.square_rows max is.parts.square_rows in
     let most = pigeonhole (λ (b : Block) (c : ℕ). IsBlock a b × Among c b.cols) (λ b e c x y. blocks_share_col a b e c x.0 y.0 x.1 y.1) d.blocks (upto (cols a)) is.blocks.distinct
-        (λ b on. let block = is.blocks.sound b on in let (c, h) = block_has_col a _ b perfect block in (c, (upto_lists (cols a)).complete c (chain_square a block.1.square (block.1.cols.sound c h)).0, (block, h))) in
+    (λ b on. let block = is.blocks.sound b on in let (c, h) = block_has_col a _ b perfect block in (c, (upto_lists (cols a)).complete c (chain_square a block.1.square (block.1.cols.sound c h)).0, (block, h))) in
     let long = upto_length 0 (cols a) in
     omega (arith, most, long)
 
@@ -159,6 +164,7 @@ starts_all bs old new start n at all is room are = record {
   where
     same : n ≡ at
     same = omega (arith, all, is)
+
     at_place : (i : ℕ) → (i ≡ at) ⊎ (i ≢ at) → i ≤ length bs → get_or (set new at start) i 0 ≡ rows_before bs i
     at_place i (inl e) h = let long = are.long in rw e (get_or-set_same new at start 0 (omega (arith, long, is, room)) ∙ are.start_is ∙ ap (λ k. rows_before bs k) same)
     at_place i (inr ne) h = get_or-set_other new at i start 0 ne ∙ are.starts i (omega (arith, all, is, h, ne))
@@ -178,15 +184,17 @@ rows_more m xs col v inside new old r c lt = by (number_same c col)
 
 -- the last column has its row, and so each has
 pub rows_all : (m : Pairing) (xs : List ℕ) (n : ℕ) → IsPairing m → n ≡ m.cols → length xs ≡ m.cols → AreRowsBelow n m.pairs xs → AreRowsOf m.pairs xs
-rows_all m xs n pairing all long are r c =
-    (λ (h : Among (r, c) m.pairs). let within = pairing.cols_within r c h in let told = (are r c (omega (arith, within, all))).0 h in (omega (arith, within, long), told.0, told.1),
-    λ (told : (c < length xs) × (get_or xs c 0 ≡ r) × (r ≢ none)). let within = told.0 in (are r c (omega (arith, within, long, all))).1 (told.1, told.2))
+rows_all m xs n pairing all long are r c = (
+  λ (h : Among (r, c) m.pairs). let within = pairing.cols_within r c h in let told = (are r c (omega (arith, within, all))).0 h in (omega (arith, within, long), told.0, told.1),
+  λ (told : (c < length xs) × (get_or xs c 0 ≡ r) × (r ≢ none)). let within = told.0 in (are r c (omega (arith, within, long, all))).1 (told.1, told.2),
+)
 
 -- what tells the row of a matched column
 pub some_row : (m : Pairing) (row col : ℕ) → m.rows < 2 ^ 32 → IsPairing m → Among (row, col) m.pairs → (r : ℕ) → Among (r, col) m.pairs ↔ ((row ≡ r) × (r ≢ none))
-some_row m row col few pairing on r =
-    (λ (h : Among (r, col) m.pairs). let within = pairing.rows_within r col h in (one_row m.pairs (rising_distinct (cols_of m.pairs) pairing.cols_rise) row r col on h, λ e. omega (arith, within, few, e)),
-    λ (told : (row ≡ r) × (r ≢ none)). subst (λ (s : ℕ). Among (s, col) m.pairs) told.0 on)
+some_row m row col few pairing on r = (
+  λ (h : Among (r, col) m.pairs). let within = pairing.rows_within r col h in (one_row m.pairs (rising_distinct (cols_of m.pairs) pairing.cols_rise) row r col on h, λ e. omega (arith, within, few, e)),
+  λ (told : (row ≡ r) × (r ≢ none)). subst (λ (s : ℕ). Among (s, col) m.pairs) told.0 on,
+)
 
 -- and what tells that a column has none
 pub no_row : (m : Pairing) (col : ℕ) → ¬ Among col (cols_of m.pairs) → (r : ℕ) → Among (r, col) m.pairs ↔ ((none ≡ r) × (r ≢ none))

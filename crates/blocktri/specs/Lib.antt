@@ -1,3 +1,6 @@
 pub mod Answers
+pub mod BlockOrders
 pub mod Causes
+pub mod Looks
+pub mod OuterComponents
 pub mod Written

@@ -3,14 +3,15 @@
 ghost use Rattle.std.specs.Prelude.{◌≡◌, ◌+◌, ◌<◌, ◌^◌, IfErr, IfOk, OnErr, length};
 ghost use Rattle.bip_defs.specs.Matrix.{Matrix};
 ghost use Rattle.bip_graph.specs.Decompositions.{Decomposes, decomposition_of};
+ghost use Rattle.bip_graph.specs.Matching.{IsMaximumOf};
 ghost use Rattle.blocktri.specs.Answers.{HasMatrix, HaveLengths, IsWritten, Tells};
 ghost use Rattle.blocktri.specs.Causes.{IsRefusal};
 ghost use Rattle.sp_pattern.specs.Columns.{AreColumns, matrix_of};
 
-use crate::maximum::{first_look, searched};
+use crate::maximum::matched;
 use crate::refusals::Refusal;
 use crate::write::{write_order, write_starts};
-use bip_graph::{Decomposition, orders_are_block_upper_triangular};
+use bip_graph::{Decomposition, Matching, orders_are_block_upper_triangular};
 use dm_coarse::coarse_in_turn;
 use dm_fine::fine;
 use sp_ids::OutOfMemory;
@@ -92,13 +93,21 @@ fn decompose<N: NumberList>(
     requires { AreColumns rows (N.numbers starts) (N.numbers ids) }
     ensures { IfOk result (Decomposes (matrix_of rows (N.numbers starts) (N.numbers ids))) }
 {
-    let pattern = Pattern::of_checked_columns(alloc, rows, starts, ids)?;
-    let matching = match first_look(alloc, rows, starts, ids)? {
-        Some(matching) => matching,
-        None => searched(alloc, &pattern)?,
-    };
-    let parts = coarse_in_turn(alloc, &pattern, &matching)?;
-    let blocks = fine(alloc, &pattern, &matching, &parts)?;
+    let (pattern, matching) = matched(alloc, rows, starts, ids)?;
+    decomposed(alloc, &pattern, &matching)
+}
+
+/// The decomposition, from a maximum matching.
+pub fn decomposed(
+    alloc: Global,
+    pattern: &Pattern,
+    matching: &Matching,
+) -> Result<Decomposition, OutOfMemory>
+    requires { IsMaximumOf pattern.now matching.now }
+    ensures { IfOk result (Decomposes pattern.now) }
+{
+    let parts = coarse_in_turn(alloc, pattern, matching)?;
+    let blocks = fine(alloc, pattern, matching, &parts)?;
     Ok(Decomposition {
         m: pattern.rows(),
         n: pattern.cols(),

@@ -4,17 +4,23 @@
 //! trusted.
 //!
 //! No call starts a thread. What the calls answer of a matrix is what the program `btf` answers of
-//! a file with the same places.
+//! a file with the same places: [`answers_are_those_of_a_file`].
 #![tactic(auto)]
 
 mod block_form;
+mod diagonal_order;
+mod laws;
 mod maximum;
+mod outer_components;
 mod refusals;
 mod row_of_column;
 mod structural_rank;
 mod write;
 
 pub use block_form::{Sizes, decomposition};
+pub use diagonal_order::block_order;
+pub use laws::answers_are_those_of_a_file;
+pub use outer_components::{ComponentCounts, components};
 pub use refusals::Refusal;
 pub use row_of_column::matching;
 pub use sp_pattern::{ColumnsError, Narrow, NumberList, Wide};

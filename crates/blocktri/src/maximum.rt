@@ -5,6 +5,7 @@ ghost use Rattle.std.specs.List.{slice_range};
 ghost use Rattle.bip_defs.specs.Lists.{Among};
 ghost use Rattle.bip_defs.specs.Matching.{rows_of};
 ghost use Rattle.bip_graph.specs.Matching.{IsMaximumOf};
+ghost use Rattle.blocktri.specs.Looks.{IsLook};
 ghost use Rattle.sp_pattern.specs.Columns.{AreColumns, matrix_of};
 
 use bip_graph::Matching;
@@ -13,6 +14,17 @@ use pothen_fan::complete;
 use sp_ids::{Col, OutOfMemory, Row};
 use sp_pattern::{NumberList, Pattern, columns_give_their_places};
 use std::alloc::Global;
+
+/// What a look at the columns finds.
+#[derive(Drop)]
+pub enum Look {
+    /// A maximum matching.
+    Maximum(Matching),
+    /// A matching from which the search for augmenting paths may begin.
+    Begun(Matching),
+    /// So few pairs that a search begins better anew.
+    Few,
+}
 
 /// A maximum matching. Where the first look finds one, no pattern is made.
 pub fn maximum_matching<N: NumberList>(
@@ -24,36 +36,60 @@ pub fn maximum_matching<N: NumberList>(
     requires { AreColumns rows (N.numbers starts) (N.numbers ids) }
     ensures { IfOk result (IsMaximumOf (matrix_of rows (N.numbers starts) (N.numbers ids))) }
 {
-    if let Some(matching) = first_look(alloc, rows, starts, ids)? {
-        return Ok(matching);
+    match first_look(alloc, rows, starts, ids)? {
+        Look::Maximum(matching) => Ok(matching),
+        look => {
+            let pattern = Pattern::of_checked_columns(alloc, rows, starts, ids)?;
+            searched(alloc, &pattern, look)
+        }
     }
-    let pattern = Pattern::of_checked_columns(alloc, rows, starts, ids)?;
-    searched(alloc, &pattern)
 }
 
-/// A maximum matching by a search.
-pub fn searched(alloc: Global, pattern: &Pattern) -> Result<Matching, OutOfMemory>
-    ensures { IfOk result (IsMaximumOf pattern.now) }
-{
-    complete(alloc, pattern, start(alloc, pattern)?)
-}
-
-/// The matching in which each column has the first of its rows that no column before it has, where
-/// it matches all columns, or as many as there are rows. It stops at the first column that shows
-/// that it does not.
-pub fn first_look<N: NumberList>(
+/// The pattern, and a maximum matching.
+pub fn matched<N: NumberList>(
     alloc: Global,
     rows: u32,
     starts: N,
     ids: N,
-) -> Result<Option<Matching>, OutOfMemory>
+) -> Result<(Pattern, Matching), OutOfMemory>
     requires { AreColumns rows (N.numbers starts) (N.numbers ids) }
-    ensures { IfOk result (λ found.
-        IfSome found (IsMaximumOf (matrix_of rows (N.numbers starts) (N.numbers ids)))) }
+    ensures pattern { IfOk result
+        (λ p. p.0 ≡ matrix_of rows (N.numbers starts) (N.numbers ids)) }
+    ensures maximum { IfOk result
+        (λ p. IsMaximumOf (matrix_of rows (N.numbers starts) (N.numbers ids)) p.1) }
+{
+    let pattern = Pattern::of_checked_columns(alloc, rows, starts, ids)?;
+    let look = first_look(alloc, rows, starts, ids)?;
+    let matching = searched(alloc, &pattern, look)?;
+    Ok((pattern, matching))
+}
+
+// A maximum matching, from what a look at the columns found.
+fn searched(alloc: Global, pattern: &Pattern, look: Look) -> Result<Matching, OutOfMemory>
+    requires { IsLook pattern.now look }
+    ensures { IfOk result (IsMaximumOf pattern.now) }
+{
+    match look {
+        Look::Maximum(matching) => Ok(matching),
+        Look::Begun(matching) => complete(alloc, pattern, matching),
+        Look::Few => complete(alloc, pattern, start(alloc, pattern)?),
+    }
+}
+
+// The matching in which each column has the first of its rows that no column before it has. It
+// stops at the first column that leaves more unmatched than it may.
+fn first_look<N: NumberList>(
+    alloc: Global,
+    rows: u32,
+    starts: N,
+    ids: N,
+) -> Result<Look, OutOfMemory>
+    requires { AreColumns rows (N.numbers starts) (N.numbers ids) }
+    ensures { IfOk result (IsLook (matrix_of rows (N.numbers starts) (N.numbers ids))) }
 {
     columns_give_their_places();
     let cols = (starts.len() - 1) as u32;
-    let spare = cols.saturating_sub(rows);
+    let most = most_missed(rows, cols);
     let mut matching = Matching::empty(alloc, rows, cols)?;
     let mut missed = 0;
     for col in 0..cols {
@@ -62,8 +98,8 @@ pub fn first_look<N: NumberList>(
         match first_unmatched(&matching, ids, from, to) {
             Some(row) => matching.pair(row, Col(col)),
             None => {
-                if missed == spare {
-                    return Ok(None);
+                if missed == most {
+                    return Ok(Look::Few);
                 }
                 missed += 1;
             }
@@ -71,12 +107,23 @@ pub fn first_look<N: NumberList>(
     }
     matching.is_matching();
     if matching.size() == cols {
-        return Ok(Some(matching));
+        return Ok(Look::Maximum(matching));
     }
     if matching.size() == rows {
-        return Ok(Some(matching));
+        return Ok(Look::Maximum(matching));
     }
-    Ok(None)
+    Ok(Look::Begun(matching))
+}
+
+// How many columns a look may leave unmatched. Where there are about as many rows as columns, no
+// more than there must be, since then the start of Karp and Sipser leaves far fewer. Else all: of
+// the longer side so many are unmatched that paths are short.
+fn most_missed(rows: u32, cols: u32) -> u32 {
+    if rows.abs_diff(cols) <= rows.min(cols) / 8 {
+        cols.saturating_sub(rows)
+    } else {
+        cols
+    }
 }
 
 // The first unmatched row of a column.

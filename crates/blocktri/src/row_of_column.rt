@@ -8,12 +8,12 @@ ghost use Rattle.blocktri.specs.Answers.{AreRowsOf, HasLength, HasMatrix, TellsM
 ghost use Rattle.blocktri.specs.Causes.{IsRefusal};
 ghost use Rattle.sp_pattern.specs.Columns.{AreColumns, matrix_of};
 
-use crate::maximum::{maximum_matching, searched};
+use crate::maximum::{matched, maximum_matching};
 use crate::refusals::Refusal;
 use bip_graph::Matching;
 use least_match::least;
 use sp_ids::{Col, OutOfMemory};
-use sp_pattern::{ColumnsError, NumberList, Pattern, check_columns};
+use sp_pattern::{ColumnsError, NumberList, check_columns};
 use std::alloc::Global;
 
 // Stands for no row: no row has this number.
@@ -69,8 +69,8 @@ fn wanted<N: NumberList>(
         (matrix_of rows (N.numbers starts) (N.numbers ids)) is_least m.pairs) }
 {
     if is_least {
-        let pattern = Pattern::of_checked_columns(alloc, rows, starts, ids)?;
-        least(alloc, &pattern, searched(alloc, &pattern)?)
+        let (pattern, matching) = matched(alloc, rows, starts, ids)?;
+        least(alloc, &pattern, matching)
     } else {
         maximum_matching(alloc, rows, starts, ids)
     }

@@ -31,11 +31,18 @@ pub extern "C" fn blocktri_decomposition(
         × (sizes.new ≡ sizes.old) }
     ensures refused { result ≢ pos 0
         → Refuses (IsRefusal (HaveLengths rows starts.now row_order.old column_order.old
-            block_starts.old) rows starts.now ids.now) result fault.old fault.new }
+        block_starts.old) rows starts.now ids.now) result fault.old fault.new }
 {
     let (starts, ids) = (Narrow { list: starts }, Narrow { list: ids });
-    match blocktri::decomposition(alloc, rows as u64, starts, ids, row_order, column_order, block_starts)
-    {
+    match blocktri::decomposition(
+        alloc,
+        rows as u64,
+        starts,
+        ids,
+        row_order,
+        column_order,
+        block_starts,
+    ) {
         Ok(found) => {
             *sizes = found;
             OK
@@ -66,11 +73,18 @@ pub extern "C" fn blocktri_decomposition_64(
         × (sizes.new ≡ sizes.old) }
     ensures refused { result ≢ pos 0
         → Refuses (IsRefusal (HaveLengths rows starts.now row_order.old column_order.old
-            block_starts.old) rows starts.now ids.now) result fault.old fault.new }
+        block_starts.old) rows starts.now ids.now) result fault.old fault.new }
 {
     let (starts, ids) = (Wide { list: starts }, Wide { list: ids });
-    match blocktri::decomposition(alloc, rows, starts, ids, row_order, column_order, block_starts)
-    {
+    match blocktri::decomposition(
+        alloc,
+        rows,
+        starts,
+        ids,
+        row_order,
+        column_order,
+        block_starts,
+    ) {
         Ok(found) => {
             *sizes = found;
             OK

@@ -29,7 +29,7 @@ pub extern "C" fn blocktri_matching(
         → (row_of_column.new ≡ row_of_column.old) × (size.new ≡ size.old) }
     ensures refused { result ≢ pos 0
         → Refuses (IsRefusal (HasLength starts.now row_of_column.old) rows starts.now ids.now)
-            result fault.old fault.new }
+        result fault.old fault.new }
 {
     let (starts, ids) = (Narrow { list: starts }, Narrow { list: ids });
     match blocktri::matching(alloc, rows as u64, starts, ids, is_least, row_of_column) {
@@ -61,7 +61,7 @@ pub extern "C" fn blocktri_matching_64(
         → (row_of_column.new ≡ row_of_column.old) × (size.new ≡ size.old) }
     ensures refused { result ≢ pos 0
         → Refuses (IsRefusal (HasLength starts.now row_of_column.old) rows starts.now ids.now)
-            result fault.old fault.new }
+        result fault.old fault.new }
 {
     let (starts, ids) = (Wide { list: starts }, Wide { list: ids });
     match blocktri::matching(alloc, rows, starts, ids, is_least, row_of_column) {

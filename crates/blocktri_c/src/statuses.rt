@@ -8,11 +8,15 @@ use blocktri::{ColumnsError, Refusal};
 /// Every call's status where it has an answer.
 pub const OK: i32 = 0;
 
+/// The status where the matrix is not square, or its rank is less than its size.
+pub const SINGULAR: i32 = 1;
+
 /// The status where there is no answer, with the place of the fault.
 pub fn status(refusal: Refusal, fault: &mut u64) -> i32
     ensures status { result ≡ status_of refusal }
     ensures fault { fault.new ≡ fault_of refusal fault.old }
     ensures refused { result ≢ pos 0 }
+    ensures no_answer { result ≢ pos 1 }
 {
     match refusal {
         Refusal::Columns(ColumnsError::OutOfMemory) => 7,

@@ -1,4 +1,4 @@
-use Rattle.std.proofs.Common.{◌≡◌, ◌+◌, ◌≤◌, ap, arith, length, List, ℕ}
+use Rattle.std.proofs.Common.{◌≡◌, ◌+◌, ap, arith, length, List, ℕ}
 use Rattle.bip_defs.specs.Blocks.{all_cols, all_rows}
 use Rattle.bip_defs.specs.Matrix.{cols}
 use Rattle.bip_graph.specs.Decompositions.{decomposition_of}

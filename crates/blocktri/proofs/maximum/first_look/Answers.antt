@@ -1,9 +1,9 @@
 use Rattle.std.proofs.Common.{◌∙◌, ◌+◌, arith, inl, inr, sym}
 use Rattle.bip_defs.specs.Matrix.{IsEntry}
 use Rattle.sp_pattern.specs.Columns.{matrix_of}
-use Rattle.blocktri.proofs.LookLemmas.{columns_more, entries_more, look_maximum, matrix_cols, start_inside}
+use Rattle.blocktri.proofs.LookLemmas.{columns_more, entries_more, look_matching, look_maximum, matrix_cols, start_inside}
 use Rattle.blocktri.proofs.maximum.first_look.Goals as goal
-use Rattle.blocktri.proofs.maximum.first_look.Goals.{in-Some, in-None+else-missed-spare}
+use Rattle.blocktri.proofs.maximum.first_look.Goals.{in-Some, in-None+else-missed-most}
 
 pub first_unmatched-requires-clause-to : goal.first_unmatched-requires-clause-to
 first_unmatched-requires-clause-to g c =
@@ -34,7 +34,7 @@ loop-col-preserved g c =
     let len = c.len.ensures in
     let a = matrix_of c.args.rows (g.N.NumberList.numbers c.args.starts) (g.N.NumberList.numbers c.args.ids) in
     elim c.match-first_unmatched.branch [
-      in-Some w ↦
+      | in-Some w ↦
           let given = rw (c.at-from.ensures, c.at-to.ensures) at w.in-Some.ensures.given in
           let entry : IsEntry a w.in-Some.row c.loop-col.col = (c.columns_give_their_places.ensures.entries c.args.rows (g.N.NumberList.numbers c.args.starts) (g.N.NumberList.numbers c.args.ids) w.in-Some.row c.loop-col.col c.requires).1 (omega (arith, lt, len), given) in
           rw (w.matching-is, w.missed-is) (record {
@@ -44,13 +44,13 @@ loop-col-preserved g c =
             before = columns_more c.loop-col.matching.pairs w.pair.new.self.pairs w.in-Some.row c.loop-col.col w.pair.ensures.added inv.before;
             missed = inv.missed;
           })
-    | in-None+else-missed-spare w ↦
+      | in-None+else-missed-most w ↦
           rw (w.matching-is, w.missed-is) (record {
             rows = inv.rows;
             cols = inv.cols;
             entries = inv.entries;
             before = λ d on. let under = inv.before d on in omega (arith, under);
-            missed = let le = inv.missed in let ne = w.if-missed-spare.false in omega (arith, le, ne);
+            missed = let le = inv.missed in let ne = w.if-missed-most.false in omega (arith, le, ne);
           })
     ]
 
@@ -71,3 +71,9 @@ returns-then-size-rows g c =
     let size = c.size-2.ensures.size in
     let test = c.if-size-rows.true in
     look_maximum a c.loop-col.matching c.loop-col.invariant.rows (c.loop-col.invariant.cols ∙ sym wide) c.loop-col.invariant.entries c.is_matching.ensures (inr (omega (arith, wide, len, size, test)))
+
+pub returns : goal.returns
+returns g c =
+    let a = matrix_of c.args.rows (g.N.NumberList.numbers c.args.starts) (g.N.NumberList.numbers c.args.ids) in
+    let wide = matrix_cols c.args.rows (g.N.NumberList.numbers c.args.starts) (g.N.NumberList.numbers c.args.ids) in
+    look_matching a c.loop-col.matching c.loop-col.invariant.rows (c.loop-col.invariant.cols ∙ sym wide) c.loop-col.invariant.entries c.is_matching.ensures

@@ -11,5 +11,5 @@ invariant-loop-col g l = record {
   cols : l.matching.cols ≡ length (g.N.NumberList.numbers l.starts) - 1;
   entries : AreEntries (matrix_of l.rows (g.N.NumberList.numbers l.starts) (g.N.NumberList.numbers l.ids)) l.matching.pairs;
   before : (c : ℕ) → Among c (cols_of l.matching.pairs) → c < l.col;
-  missed : l.missed ≤ l.spare;
+  missed : l.missed ≤ l.most;
 }

@@ -1,0 +1,321 @@
+// The calls of libblocktri beside those of what Debian packages, in one process, on the same compressed columns:
+//
+//   library rank REPEATS LIMIT < file.mtx            blocktri_rank, blocktri_matching; cs_maxtrans, btf_maxtrans, igraph, and the
+//                                                    algorithm of Hopcroft and Karp in C++
+//   library decomposition REPEATS LIMIT < file.mtx   blocktri_decomposition, on square matrices blocktri_block_order; cs_dmperm,
+//                                                    on square matrices btf_order
+//
+// Each call runs first in a child of its own, which tells how much memory it takes at most beyond what is there before, and
+// whether it ends within LIMIT seconds; those that do not are left out. Then all run in turns, REPEATS times. It writes a line for
+// each call: its name, the least nanoseconds by the clock and of the processor, the bytes, and the numbers that it found. The
+// reader, and for igraph the making of its graph, are outside of all that.
+#include <algorithm>
+#include <cstdio>
+#include <cstdlib>
+#include <functional>
+#include <string>
+#include <vector>
+
+#include <sys/wait.h>
+#include <time.h>
+#include <unistd.h>
+
+#include <igraph/igraph.h>
+#include <suitesparse/btf.h>
+#include <suitesparse/cs.h>
+
+#include "../library/blocktri.h"
+#include "columns.hpp"
+
+using Numbers = std::vector<size_t>;  // what is compared
+
+struct Call {
+  std::string name;
+  std::function<Numbers()> run;
+  double wall = 1e300, processor = 1e300;
+  long bytes = 0;
+  bool ends = false;
+  Numbers found = {};
+};
+
+static double seconds(clockid_t clock) {
+  timespec now;
+  clock_gettime(clock, &now);
+  return static_cast<double>(now.tv_sec) + 1e-9 * static_cast<double>(now.tv_nsec);
+}
+
+static long resident_bytes() {
+  FILE *file = std::fopen("/proc/self/statm", "r");
+  long all = 0, resident = 0;
+  if (!file || std::fscanf(file, "%ld %ld", &all, &resident) != 2) stop("no /proc/self/statm");
+  std::fclose(file);
+  return resident * sysconf(_SC_PAGESIZE);
+}
+
+// In a child: whether the call ends in time, and the most memory that it takes beyond what was there.
+static void try_out(Call &call, unsigned limit) {
+  int ends[2];
+  if (pipe(ends)) stop("no pipe");
+  std::fflush(nullptr);
+  pid_t child = fork();
+  if (child < 0) stop("no child");
+  if (child == 0) {
+    alarm(limit);
+    long before = resident_bytes();
+    call.run();
+    rusage usage;
+    getrusage(RUSAGE_SELF, &usage);
+    long more = std::max(0L, usage.ru_maxrss * 1024 - before);
+    _exit(write(ends[1], &more, sizeof more) == sizeof more ? 0 : 1);
+  }
+  close(ends[1]);
+  call.ends = read(ends[0], &call.bytes, sizeof call.bytes) == sizeof call.bytes;
+  close(ends[0]);
+  waitpid(child, nullptr, 0);
+}
+
+static void measure(Call &call) {
+  double wall = seconds(CLOCK_MONOTONIC), processor = seconds(CLOCK_PROCESS_CPUTIME_ID);
+  call.found = call.run();
+  call.processor = std::min(call.processor, seconds(CLOCK_PROCESS_CPUTIME_ID) - processor);
+  call.wall = std::min(call.wall, seconds(CLOCK_MONOTONIC) - wall);
+}
+
+// The matrix as each library wants it.
+struct Arrays {
+  Columns columns;
+  std::vector<uint32_t> starts, ids;
+  cs_di cxsparse{};
+  igraph_t graph;
+  igraph_vector_bool_t sides;
+
+  explicit Arrays(Columns read) : columns(std::move(read)), starts(columns.start.begin(), columns.start.end()) {
+    ids.assign(columns.row.begin(), columns.row.end());
+    cxsparse.nzmax = static_cast<int>(columns.row.size());
+    cxsparse.m = columns.rows;
+    cxsparse.n = columns.cols;
+    cxsparse.p = columns.start.data();
+    cxsparse.i = columns.row.data();
+    cxsparse.nz = -1;
+  }
+
+  void make_graph() {
+    igraph_vector_int_t ends;
+    igraph_vector_int_init(&ends, static_cast<igraph_integer_t>(2 * columns.row.size()));
+    igraph_integer_t at = 0, vertices = static_cast<igraph_integer_t>(columns.rows) + columns.cols;
+    for (int c = 0; c < columns.cols; c++)
+      for (int k = columns.start[c]; k < columns.start[c + 1]; k++) {
+        VECTOR(ends)[at++] = columns.row[k];
+        VECTOR(ends)[at++] = static_cast<igraph_integer_t>(columns.rows) + c;
+      }
+    igraph_create(&graph, &ends, vertices, 0);
+    igraph_vector_int_destroy(&ends);
+    igraph_vector_bool_init(&sides, vertices);
+    for (int c = 0; c < columns.cols; c++) VECTOR(sides)[columns.rows + c] = 1;
+  }
+};
+
+static void right(int32_t status) {
+  if (status != BLOCKTRI_OK) stop(blocktri_text(status));
+}
+
+static Numbers rank_by_blocktri(const Arrays &a) {
+  uint32_t rank;
+  uint64_t fault;
+  right(blocktri_rank(a.columns.rows, a.starts.data(), a.starts.size(), a.ids.data(), a.ids.size(), &rank, &fault));
+  return {rank};
+}
+
+static Numbers matching_by_blocktri(const Arrays &a) {
+  uint32_t size;
+  uint64_t fault;
+  std::vector<uint32_t> row_of_column(a.columns.cols + 1);
+  right(blocktri_matching(a.columns.rows, a.starts.data(), a.starts.size(), a.ids.data(), a.ids.size(), false,
+                          row_of_column.data(), a.columns.cols, &size, &fault));
+  return {size};
+}
+
+static Numbers rank_by_cxsparse(const Arrays &a) {
+  int *both = cs_di_maxtrans(&a.cxsparse, 0);
+  if (!both) stop("cs_maxtrans failed");
+  size_t rank = 0;
+  for (int r = 0; r < a.columns.rows; r++) rank += both[r] >= 0;
+  cs_di_free(both);
+  return {rank};
+}
+
+static Numbers rank_by_suitesparse(Arrays &a) {
+  std::vector<int> match(a.columns.rows + 1), work(5 * static_cast<size_t>(a.columns.cols) + 1);
+  double steps = 0;
+  return {static_cast<size_t>(btf_maxtrans(a.columns.rows, a.columns.cols, a.columns.start.data(), a.columns.row.data(), 0, &steps,
+                                           match.data(), work.data()))};
+}
+
+static Numbers rank_by_igraph(const Arrays &a) {
+  igraph_integer_t size;
+  if (igraph_maximum_bipartite_matching(&a.graph, &a.sides, &size, nullptr, nullptr, nullptr, 0)) stop("igraph failed");
+  return {static_cast<size_t>(size)};
+}
+
+// Hopcroft and Karp (1973): levels from all unmatched columns, then disjoint shortest paths; first each column takes the first
+// unmatched row.
+class HopcroftKarp {
+  const Columns &a;
+  std::vector<int> row_of, col_of, level, next, path, queue;
+
+  bool levels() {
+    bool found = false;
+    queue.clear();
+    for (int c = 0; c < a.cols; c++) {
+      level[c] = row_of[c] < 0 ? 0 : -1;
+      if (row_of[c] < 0) queue.push_back(c);
+    }
+    for (size_t head = 0; head < queue.size(); head++) {
+      int c = queue[head];
+      for (int k = a.start[c]; k < a.start[c + 1]; k++) {
+        int d = col_of[a.row[k]];
+        if (d < 0) found = true;
+        else if (level[d] < 0) level[d] = level[c] + 1, queue.push_back(d);
+      }
+    }
+    return found;
+  }
+
+  bool augment(int root) {
+    path.assign(1, root);
+    while (!path.empty()) {
+      int c = path.back();
+      if (next[c] == a.start[c + 1]) {
+        level[c] = -1;
+        path.pop_back();
+        if (!path.empty()) next[path.back()]++;
+        continue;
+      }
+      int d = col_of[a.row[next[c]]];
+      if (d >= 0 && level[d] == level[c] + 1) path.push_back(d);
+      else if (d >= 0) next[c]++;
+      else break;
+    }
+    for (int c : path) {
+      int r = a.row[next[c]];
+      row_of[c] = r;
+      col_of[r] = c;
+      level[c] = -1;
+    }
+    return !path.empty();
+  }
+
+ public:
+  explicit HopcroftKarp(const Columns &columns)
+      : a(columns), row_of(a.cols, -1), col_of(a.rows, -1), level(a.cols), next(a.cols) {}
+
+  size_t rank() {
+    size_t size = 0;
+    for (int c = 0; c < a.cols; c++)
+      for (int k = a.start[c]; k < a.start[c + 1] && row_of[c] < 0; k++)
+        if (col_of[a.row[k]] < 0) row_of[c] = a.row[k], col_of[a.row[k]] = c, size++;
+    while (levels()) {
+      std::copy(a.start.begin(), a.start.end() - 1, next.begin());
+      for (int c = 0; c < a.cols; c++)
+        if (row_of[c] < 0) size += augment(c);
+    }
+    return size;
+  }
+};
+
+// The rank, the rows and columns of the horizontal part, the size and the blocks of the square part, and the rows and columns of
+// the vertical part.
+static Numbers decomposition_by_blocktri(const Arrays &a) {
+  std::vector<uint32_t> row_order(a.columns.rows + 1), column_order(a.columns.cols + 1), block_starts(a.starts.size());
+  blocktri_sizes s;
+  uint64_t fault;
+  right(blocktri_decomposition(a.columns.rows, a.starts.data(), a.starts.size(), a.ids.data(), a.ids.size(), row_order.data(),
+                               a.columns.rows, column_order.data(), a.columns.cols, block_starts.data(), block_starts.size(), &s,
+                               &fault));
+  return {s.rank, s.horizontal_rows, s.horizontal_columns, s.square, s.blocks, s.vertical_rows, s.vertical_columns};
+}
+
+static Numbers decomposition_by_cxsparse(const Arrays &a) {
+  cs_did *d = cs_di_dmperm(&a.cxsparse, 0);
+  if (!d) stop("cs_dmperm failed");
+  const int *rr = d->rr, *cc = d->cc;
+  int first = cc[2] > 0 ? 1 : 0, last = d->nb - (rr[2] < a.columns.rows ? 1 : 0);
+  size_t square = rr[2] - rr[1], horizontal_rows = rr[1], vertical_columns = cc[4] - cc[3];
+  Numbers found = {horizontal_rows + square + vertical_columns,
+                   horizontal_rows,
+                   static_cast<size_t>(cc[2]),
+                   square,
+                   static_cast<size_t>(last - first),
+                   static_cast<size_t>(a.columns.rows - rr[2]),
+                   vertical_columns};
+  cs_di_dfree(d);
+  return found;
+}
+
+// Of a square matrix 1 and the number of blocks where its rank is full, else 0.
+static Numbers order_by_blocktri(const Arrays &a) {
+  std::vector<uint32_t> row_order(a.columns.rows + 1), column_order(a.columns.cols + 1), block_starts(a.starts.size());
+  uint32_t blocks;
+  uint64_t fault;
+  int32_t status = blocktri_block_order(a.columns.rows, a.starts.data(), a.starts.size(), a.ids.data(), a.ids.size(),
+                                        row_order.data(), a.columns.rows, column_order.data(), a.columns.cols,
+                                        block_starts.data(), block_starts.size(), &blocks, &fault);
+  if (status == BLOCKTRI_SINGULAR) return {0};
+  right(status);
+  return {1, blocks};
+}
+
+static Numbers order_by_suitesparse(Arrays &a) {
+  int n = a.columns.cols, rank = 0;
+  std::vector<int> p(n + 1), q(n + 1), r(n + 2), work(5 * static_cast<size_t>(n) + 1);
+  double steps = 0;
+  int blocks = btf_order(n, a.columns.start.data(), a.columns.row.data(), 0, &steps, p.data(), q.data(), r.data(), &rank,
+                         work.data());
+  return rank == n ? Numbers{1, static_cast<size_t>(blocks)} : Numbers{0};
+}
+
+static std::vector<Call> calls_of(const std::string &job, Arrays &a) {
+  std::vector<Call> calls;
+  auto add = [&calls](const char *name, std::function<Numbers()> run) { calls.push_back({name, std::move(run)}); };
+  if (job == "rank") {
+    a.make_graph();
+    add("blocktri_rank", [&a] { return rank_by_blocktri(a); });
+    add("blocktri_matching", [&a] { return matching_by_blocktri(a); });
+    add("cs_maxtrans", [&a] { return rank_by_cxsparse(a); });
+    add("btf_maxtrans", [&a] { return rank_by_suitesparse(a); });
+    add("igraph", [&a] { return rank_by_igraph(a); });
+    add("hopcroft_karp", [&a] { return Numbers{HopcroftKarp(a.columns).rank()}; });
+  } else if (job == "decomposition") {
+    add("blocktri_decomposition", [&a] { return decomposition_by_blocktri(a); });
+    add("cs_dmperm", [&a] { return decomposition_by_cxsparse(a); });
+    if (a.columns.rows == a.columns.cols) {
+      add("blocktri_block_order", [&a] { return order_by_blocktri(a); });
+      add("btf_order", [&a] { return order_by_suitesparse(a); });
+    }
+  } else {
+    stop("usage: library rank|decomposition REPEATS LIMIT < file.mtx");
+  }
+  return calls;
+}
+
+int main(int argc, char **argv) {
+  if (argc != 4) stop("usage: library rank|decomposition REPEATS LIMIT < file.mtx");
+  int repeats = std::atoi(argv[2]);
+  unsigned limit = static_cast<unsigned>(std::atoi(argv[3]));
+  Bytes bytes;
+  Arrays a(compress(read_places(bytes, false)));
+  std::vector<Call> calls = calls_of(argv[1], a);
+  for (Call &call : calls) try_out(call, limit);
+  for (int turn = 0; turn < repeats; turn++)
+    for (Call &call : calls)
+      if (call.ends) measure(call);
+  for (const Call &call : calls) {
+    if (!call.ends) {
+      std::printf("%s -\n", call.name.c_str());
+      continue;
+    }
+    std::printf("%s %.0f %.0f %ld", call.name.c_str(), 1e9 * call.wall, 1e9 * call.processor, call.bytes);
+    for (size_t number : call.found) std::printf(" %zu", number);
+    std::printf("\n");
+  }
+}

@@ -1,0 +1,135 @@
+#!/usr/bin/env python3
+"""Calls libblocktri and what Debian packages on the same compressed columns in one process, in turns, and prints a table.
+
+    apt-get install g++ libsuitesparse-dev libigraph-dev
+    make -C library
+    bench/library.py [--job rank|decomposition] [--library library/build/libblocktri.a] [--work DIR] [--entries 100000]
+                     [--families er10,grid2d] [--repeats 5] [--limit SECONDS] [--clock processor] [--memory]
+
+No reader is in the times. They are nanoseconds an entry, the least of the repeats, by the wall clock or of the processor; "-"
+did not end within the limit. Behind them stands how long libblocktri takes of the fastest package's time, and for each size
+and family whether that is within the aim: at most half of the package's time where that is more than 20 ns an entry; else no
+more than it, or than 5 ns an entry more (of a decomposition 10). With --memory a second table has the peak memory of each call,
+in bytes an entry. What the calls find is compared: the ranks, of a decomposition the sizes of its parts and the number of
+blocks; a difference is told and makes the exit status 1.
+"""
+import argparse
+import os
+import subprocess
+import sys
+import tempfile
+
+from run import build, matrix
+from processes import entries_of
+
+HERE = os.path.dirname(os.path.abspath(__file__))
+FAMILIES = "er27,er10,rmat,grid2d,circuit,hilo,fewg,ksbad,hexa,lattice,wide,tall"
+MARGIN = {"rank": 5, "decomposition": 10}
+
+# job: pairs of one of our calls and the packages' calls that it stands beside; of which the found numbers are to be the same
+BESIDE = {
+    "rank": [("blocktri_rank", "cs_maxtrans,btf_maxtrans,igraph,hopcroft_karp"),
+             ("blocktri_matching", "cs_maxtrans,btf_maxtrans,igraph,hopcroft_karp")],
+    "decomposition": [("blocktri_decomposition", "cs_dmperm"), ("blocktri_block_order", "btf_order")],
+}
+
+
+def build_library(options):
+    """The program in C++, compiled where it is older than its source or the library. Whether it compiled."""
+    program, source = os.path.join(options.work, "library"), os.path.join(HERE, "library.cpp")
+    newest = max(os.path.getmtime(path) for path in (source, options.library, os.path.join(HERE, "columns.hpp")))
+    if os.path.exists(program) and os.path.getmtime(program) > newest:
+        return True
+    command = ["g++", "-O3", "-std=c++17", "-o", program, source, options.library, "-lcxsparse", "-lbtf", "-ligraph"]
+    return subprocess.run(command).returncode == 0
+
+
+def measured(options, path):
+    """What the program tells of each call: wall and processor nanoseconds, bytes, and what was found; none of one too slow."""
+    command = [os.path.join(options.work, "library"), options.job, str(options.repeats), str(options.limit)]
+    with open(path, "rb") as file:
+        text = subprocess.run(command, stdin=file, stdout=subprocess.PIPE, check=True).stdout.decode()
+    calls = {}
+    for line in text.splitlines():
+        name, *numbers = line.split()
+        calls[name] = None if numbers == ["-"] else [int(number) for number in numbers]
+    return calls
+
+
+def differing(options, calls):
+    """The packages that find another rank, another size or another number of blocks."""
+    found = []
+    for ours, packages in BESIDE[options.job]:
+        for package in packages.split(","):
+            mine, other = calls.get(ours), calls.get(package)
+            if mine and other and mine[3:] != other[3:]:
+                found.append(package)
+    return found
+
+
+def within(job, ours, best):
+    """Whether nanoseconds an entry are within the aim."""
+    if best > 20:
+        return ours <= best / 2
+    return ours <= max(best, best + MARGIN[job])
+
+
+def cells(options, calls, entries):
+    clock = 0 if options.clock == "wall" else 1
+    per_entry = {name: numbers[clock] / entries for name, numbers in calls.items() if numbers}
+    times = [f"{per_entry[name]:.1f}" if name in per_entry else "-" for name in names(options)]
+    for ours, packages in BESIDE[options.job]:
+        others = [per_entry[package] for package in packages.split(",") if package in per_entry]
+        if ours in per_entry and others:
+            best = min(others)
+            times.append(f"{per_entry[ours] / best:.2f}{'' if within(options.job, per_entry[ours], best) else ' !'}")
+        else:
+            times.append("-")
+    return times
+
+
+def names(options):
+    """All calls of the job, ours first."""
+    ours = [name for name, _ in BESIDE[options.job]]
+    others = [package for _, packages in BESIDE[options.job] for package in packages.split(",")]
+    return ours + list(dict.fromkeys(others))
+
+
+def main():
+    parser = argparse.ArgumentParser(description=__doc__, formatter_class=argparse.RawDescriptionHelpFormatter)
+    parser.add_argument("--job", choices=list(BESIDE), default="rank")
+    parser.add_argument("--library", default=os.path.join(HERE, "..", "library", "build", "libblocktri.a"))
+    parser.add_argument("--work", default=os.path.join(tempfile.gettempdir(), "bench-work"))
+    parser.add_argument("--entries", default="100000,1000000")
+    parser.add_argument("--families", default=FAMILIES)
+    parser.add_argument("--repeats", type=int, default=5)
+    parser.add_argument("--limit", type=int, default=10)
+    parser.add_argument("--clock", choices=["wall", "processor"], default="wall")
+    parser.add_argument("--memory", action="store_true")
+    options = parser.parse_args()
+    os.makedirs(options.work, exist_ok=True)
+    if not build(options.work, "generate") or not build_library(options):
+        sys.exit("library.py: the programs do not compile")
+    columns = names(options)
+    ratios = [ours + " of the best" for ours, _ in BESIDE[options.job]]
+    print("| family | entries | " + " | ".join(columns + ratios) + " |")
+    print("|---|---|" + "---|" * (len(columns) + len(ratios)))
+    differs, memory = False, []
+    for family in options.families.split(","):
+        for size in options.entries.split(","):
+            path = matrix(options.work, family, int(size))
+            entries, calls = entries_of(path), measured(options, path)
+            print(f"| {family} | {entries} | " + " | ".join(cells(options, calls, entries)) + " |", flush=True)
+            bytes_of = [f"{calls[name][2] / entries:.0f}" if calls.get(name) else "-" for name in columns]
+            memory.append(f"| {family} | {entries} | " + " | ".join(bytes_of) + " |")
+            for package in differing(options, calls):
+                print(f"library.py: {package} differs on {path}", file=sys.stderr)
+                differs = True
+    if options.memory:
+        print("\n| family | entries | " + " | ".join(columns) + " |\n|---|---|" + "---|" * len(columns))
+        print("\n".join(memory))
+    sys.exit(1 if differs else 0)
+
+
+if __name__ == "__main__":
+    main()

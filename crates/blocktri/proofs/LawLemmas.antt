@@ -1,0 +1,144 @@
+-- The answers are determined by the matrix.
+use Rattle.std.proofs.Common.{◌≡◌, ◌≢◌, ◌⊎◌, ◌↔◌, ◌∙◌, ℕ, ◌<◌, true, List, length, get_or, refl, sym, ap, arith, subst, inl, inr, le_antisymm}
+use Rattle.std.proofs.Math.Decide.{dec_lt}
+use Rattle.std.proofs.Math.Seq.{ext_get_or}
+use Rattle.bip_defs.specs.Blocks.{Block, ColAt, RowAt, Vertex, all_cols, all_rows, block_at, least_col, no_block}
+use Rattle.bip_defs.specs.ConnectedComponents.{AreConnectedComponents, AreOrderedComponents, Components, IsComponentWith, IsHorizontalVertex, IsVerticalVertex, Joined, alone, least_row}
+use Rattle.bip_defs.specs.Decomposition.{Decomposition, IsDecompositionOf}
+use Rattle.bip_defs.specs.Lists.{Among}
+use Rattle.bip_defs.specs.Matching.{IsRank}
+use Rattle.bip_defs.specs.Matrix.{HasPlaces, Matrix, Place, cols}
+use Rattle.bip_defs.specs.Parts.{IsSquareCol, IsSquareRow}
+use Rattle.bip_defs.proofs.Connected.{joined_inside, same_components}
+use Rattle.bip_defs.proofs.Counts.{horizontal_row_in_range, vertical_col_in_range}
+use Rattle.bip_defs.proofs.LeastMatching.{one_set}
+use Rattle.bip_defs.proofs.Sets.{among_left, among_right, listed, number_among, number_same, place_among}
+use Rattle.bip_defs.proofs.Together.{among_flat, flat_among}
+use Rattle.bip_defs.proofs.Uniqueness.{same_matrix}
+use Rattle.bip_graph.specs.Answers.{orders_of}
+use Rattle.bip_graph.specs.Matching.{none}
+use Rattle.blocktri.specs.Answers.{AreBlockStarts, AreRowsOf, AreSizesOf, Tells, TellsMatching}
+use Rattle.blocktri.specs.OuterComponents.{TellsComponents, all_components}
+use Rattle.blocktri.specs.declared.block_form.Sizes.{Sizes}
+use Rattle.blocktri.specs.declared.outer_components.ComponentCounts.{ComponentCounts}
+
+-- The matrix.
+
+pub same_places : (m n : ℕ) (places others : List Place) (a b : Matrix) → ((p : Place) → Among p places ↔ Among p others) → HasPlaces m n places a → HasPlaces m n others b → a ≡ b
+same_places m n places others a b same h k = same_matrix m n others a b (record {
+  rows_are = h.rows_are;
+  cols_are = h.cols_are;
+  entries = λ r c. (λ e. (same (r, c)).0 ((h.entries r c).0 e), λ on. (h.entries r c).1 ((same (r, c)).1 on));
+  columns = h.columns;
+}) k
+
+-- The rank.
+
+pub one_rank : (a : Matrix) (j k : ℕ) → IsRank a j → IsRank a k → j ≡ k
+one_rank a j k x y =
+    let (m, max, size) = x in
+    let (o, most, size2) = y in
+    let up = max.longest o most.matching in
+    let down = most.longest m max.matching in
+    omega (arith, size, size2, up, down)
+
+-- The decomposition.
+
+same_sizes : (d : Decomposition) (s t : Sizes) → AreSizesOf d s → AreSizesOf d t → s ≡ t
+same_sizes d s t x y = λ i. record {
+  rank = (x.rank ∙ sym y.rank) i;
+  horizontal_rows = (x.horizontal_rows ∙ sym y.horizontal_rows) i;
+  horizontal_columns = (x.horizontal_columns ∙ sym y.horizontal_columns) i;
+  square = (x.square ∙ sym y.square) i;
+  vertical_rows = (x.vertical_rows ∙ sym y.vertical_rows) i;
+  vertical_columns = (x.vertical_columns ∙ sym y.vertical_columns) i;
+  blocks = (x.blocks ∙ sym y.blocks) i;
+}
+
+same_starts : (bs : List Block) (old xs ys : List ℕ) → AreBlockStarts bs old xs → AreBlockStarts bs old ys → xs ≡ ys
+same_starts bs old xs ys x y = ext_get_or 0 xs ys (x.long ∙ sym y.long) (λ i lt. by i (dec_lt (length bs) i))
+  where
+    by : (i : ℕ) → Dec (length bs < i) → get_or xs i 0 ≡ get_or ys i 0
+    by i (yes behind) = x.others i behind ∙ sym (y.others i behind)
+    by i (no within) = x.starts i (omega (arith, within)) ∙ sym (y.starts i (omega (arith, within)))
+
+pub same_told : (a : Matrix) (s t : Sizes) (rows columns starts rows2 columns2 starts2 old : List ℕ) → ((d e : Decomposition) → IsDecompositionOf a d → IsDecompositionOf a e → d ≡ e) → Tells a s rows columns old starts → Tells a t rows2 columns2 old starts2 → (s ≡ t) × (rows ≡ rows2) × (columns ≡ columns2) × (starts ≡ starts2)
+same_told a s t rows columns starts rows2 columns2 starts2 old one x y = (
+  same_sizes y.decomposition s t (subst (λ d. AreSizesOf d s) same x.written.sizes) y.written.sizes,
+  x.written.rows ∙ ap (λ d. (orders_of d).0) same ∙ sym y.written.rows,
+  x.written.columns ∙ ap (λ d. (orders_of d).1) same ∙ sym y.written.columns,
+  same_starts y.decomposition.blocks old starts starts2 (subst (λ (d : Decomposition). AreBlockStarts d.blocks old starts) same x.written.starts) y.written.starts,
+)
+  where
+    same : x.decomposition ≡ y.decomposition
+    same = one x.decomposition y.decomposition x.is_decomposition y.is_decomposition
+
+-- The least matching.
+
+-- lists that tell the rows of the same pairs
+same_rows : (m o : List Place) (xs ys : List ℕ) → ((p : Place) → Among p m ↔ Among p o) → length xs ≡ length ys → AreRowsOf m xs → AreRowsOf o ys → xs ≡ ys
+same_rows m o xs ys same long x y = ext_get_or 0 xs ys long (λ c lt. by c lt (number_same (get_or xs c 0) none) (number_same (get_or ys c 0) none))
+  where
+    by : (c : ℕ) → c < length xs → (get_or xs c 0 ≡ none) ⊎ (get_or xs c 0 ≢ none) → (get_or ys c 0 ≡ none) ⊎ (get_or ys c 0 ≢ none) → get_or xs c 0 ≡ get_or ys c 0
+    by c lt (inr has) d = sym ((y (get_or xs c 0) c).0 ((same (get_or xs c 0, c)).0 ((x (get_or xs c 0) c).1 (lt, refl, has)))).1
+    by c lt (inl missed) (inl e) = missed ∙ sym e
+    by c lt (inl missed) (inr has) = ((x (get_or ys c 0) c).0 ((same (get_or ys c 0, c)).1 ((y (get_or ys c 0) c).1 (omega (arith, long, lt), refl, has)))).1
+
+pub same_least : (a : Matrix) (j k : ℕ) (xs ys : List ℕ) → TellsMatching a true j xs → TellsMatching a true k ys → (j ≡ k) × (xs ≡ ys)
+same_least a j k xs ys x y = (
+  x.size_is ∙ le_antisymm (y.are_pairs.maximum.longest x.pairs x.are_pairs.maximum.matching) (x.are_pairs.maximum.longest y.pairs y.are_pairs.maximum.matching) ∙ sym y.size_is,
+  same_rows x.pairs y.pairs xs ys (λ p. one_set a x.pairs y.pairs p x.are_pairs y.are_pairs) (x.long ∙ sym y.long) x.rows y.rows,
+)
+
+-- The components.
+
+-- a row or a column of a part can't fail to have a component in the list
+has_component : (a : Matrix) (P : Vertex → Type 0) (least : Block → ℕ) (bs : List Block) (v : Vertex) → AreOrderedComponents a P least bs → ((r : ℕ) → P (RowAt r) → r < a.rows) → ((c : ℕ) → P (ColAt c) → c < cols a) → P v → ¬ ¬ ((b : Block) × Among b bs × IsComponentWith a P v b)
+has_component a P least bs v are rows_below cols_below inside no_component = listed (λ r. Joined a P v (RowAt r)) a.rows (λ r k. rows_below r (joined_inside a P inside k)) (λ rows.
+    listed (λ c. Joined a P v (ColAt c)) (cols a) (λ c k. cols_below c (joined_inside a P inside k)) (λ columns.
+    let component : IsComponentWith a P v (record { rows = rows.0; cols = columns.0 }) = record { inside = inside; rows = rows.1; cols = columns.1 } in
+    no_component (record { rows = rows.0; cols = columns.0 }, are.complete _ (v, component), component)))
+
+-- a row that no component has is square, and so is a column
+lone_row : (a : Matrix) (c : Components) (r : ℕ) → AreConnectedComponents a c → r < a.rows → ¬ Among r (all_rows (all_components c)) → IsSquareRow a r
+lone_row a c r are lt out = (
+  lt,
+  λ h. has_component a (IsHorizontalVertex a) least_col c.horizontal (RowAt r) are.horizontal (horizontal_row_in_range a) (λ d k. k.0) h (λ x. out (among_flat (λ (b : Block). b.rows) (all_components c) x.0 r (among_left x.0 c.horizontal c.vertical x.1) (x.2.rows.complete r alone))),
+  λ v. has_component a (IsVerticalVertex a) least_row c.vertical (RowAt r) are.vertical (λ s k. k.0) (vertical_col_in_range a) v (λ x. out (among_flat (λ (b : Block). b.rows) (all_components c) x.0 r (among_right x.0 c.horizontal c.vertical x.1) (x.2.rows.complete r alone))),
+)
+
+lone_col : (a : Matrix) (c : Components) (d : ℕ) → AreConnectedComponents a c → d < cols a → ¬ Among d (all_cols (all_components c)) → IsSquareCol a d
+lone_col a c d are lt out = (
+  lt,
+  λ h. has_component a (IsHorizontalVertex a) least_col c.horizontal (ColAt d) are.horizontal (horizontal_row_in_range a) (λ e k. k.0) h (λ x. out (among_flat (λ (b : Block). b.cols) (all_components c) x.0 d (among_left x.0 c.horizontal c.vertical x.1) (x.2.cols.complete d alone))),
+  λ v. has_component a (IsVerticalVertex a) least_row c.vertical (ColAt d) are.vertical (λ s k. k.0) (vertical_col_in_range a) v (λ x. out (among_flat (λ (b : Block). b.cols) (all_components c) x.0 d (among_right x.0 c.horizontal c.vertical x.1) (x.2.cols.complete d alone))),
+)
+
+-- numbers at the places that the same blocks have
+same_numbers : (f : Block → List ℕ) (bs : List Block) (flat xs ys : List ℕ) (Square : ℕ → Type 0) (n : ℕ) → length xs ≡ n → length ys ≡ n → ((x : ℕ) → Among x flat → (b : Block) × Among b bs × Among x (f b)) → ((x : ℕ) → x < n → ¬ Among x flat → Square x)
+    → ((i x : ℕ) → i < length bs → Among x (f (block_at bs i)) → get_or xs x 0 ≡ i) → ((i x : ℕ) → i < length bs → Among x (f (block_at bs i)) → get_or ys x 0 ≡ i)
+    → ((x : ℕ) → Square x → get_or xs x 0 ≡ none) → ((x : ℕ) → Square x → get_or ys x 0 ≡ none) → xs ≡ ys
+same_numbers f bs flat xs ys Square n long long2 has lone here here2 square square2 = ext_get_or 0 xs ys (long ∙ sym long2) (λ x lt. by x lt (number_among x flat))
+  where
+    by : (x : ℕ) → x < length xs → Among x flat ⊎ (¬ Among x flat) → get_or xs x 0 ≡ get_or ys x 0
+    by x lt (inl on) =
+        let (b, h, k) = has x on in
+        let (i, below, is) = place_among b no_block bs h in
+        let at : Among x (f (block_at bs i)) = subst (λ (e : Block). Among x (f e)) (sym is) k in
+        here i x below at ∙ sym (here2 i x below at)
+    by x lt (inr out) = let s = lone x (omega (arith, lt, long)) out in square x s ∙ sym (square2 x s)
+
+same_counts : (j k : ComponentCounts) → j.horizontal ≡ k.horizontal → j.vertical ≡ k.vertical → j ≡ k
+same_counts j k e f = λ i. record { horizontal = e i; vertical = f i }
+
+pub same_components_told : (a : Matrix) (j k : ComponentCounts) (rows columns rows2 columns2 : List ℕ) → TellsComponents a j rows columns → TellsComponents a k rows2 columns2 → (j ≡ k) × (rows ≡ rows2) × (columns ≡ columns2)
+same_components_told a j k rows columns rows2 columns2 x y = (
+  same_counts j k (x.horizontal ∙ ap (λ (c : Components). length c.horizontal) same ∙ sym y.horizontal) (x.vertical ∙ ap (λ (c : Components). length c.vertical) same ∙ sym y.vertical),
+  same_numbers (λ (b : Block). b.rows) (all_components y.components) (all_rows (all_components y.components)) rows rows2 (IsSquareRow a) a.rows x.long_rows y.long_rows (λ r h. flat_among (λ (b : Block). b.rows) (all_components y.components) r h) (λ r lt out. lone_row a y.components r y.are_components lt out)
+      (λ i r lt h. x.rows i r (subst (λ (c : Components). i < length (all_components c)) (sym same) lt) (subst (λ (c : Components). Among r (block_at (all_components c) i).rows) (sym same) h)) y.rows x.square_rows y.square_rows,
+  same_numbers (λ (b : Block). b.cols) (all_components y.components) (all_cols (all_components y.components)) columns columns2 (IsSquareCol a) (cols a) x.long_columns y.long_columns (λ d h. flat_among (λ (b : Block). b.cols) (all_components y.components) d h) (λ d lt out. lone_col a y.components d y.are_components lt out)
+      (λ i d lt h. x.columns i d (subst (λ (c : Components). i < length (all_components c)) (sym same) lt) (subst (λ (c : Components). Among d (block_at (all_components c) i).cols) (sym same) h)) y.columns x.square_columns y.square_columns,
+)
+  where
+    same : x.components ≡ y.components
+    same = same_components a x.components y.components x.are_components y.are_components

@@ -1,0 +1,21 @@
+use Rattle.std.proofs.Common.{◌∙◌, arith}
+use Rattle.blocktri.proofs.LookLemmas.{matrix_cols}
+use Rattle.blocktri.proofs.diagonal_order.block_order.Goals as goal
+
+pub write-blocks-requires-clause-columns : goal.write-blocks-requires-clause-columns
+write-blocks-requires-clause-columns g c =
+    let is = rw c.in-Ok-Some.field-0-is at c.in-Ok-Some.ensures.found in
+    let n = is.decomposes.cols_are ∙ matrix_cols _ (g.N.NumberList.numbers c.args.starts) (g.N.NumberList.numbers c.args.ids) in
+    let test = c.if-column_order-saturating_sub.false in
+    let sub = c.saturating_sub.ensures in
+    let len = c.len.ensures in
+    omega (arith, n, test, sub, len)
+
+pub write-blocks-requires-clause-starts : goal.write-blocks-requires-clause-starts
+write-blocks-requires-clause-starts g c =
+    let is = rw c.in-Ok-Some.field-0-is at c.in-Ok-Some.ensures.found in
+    let n = is.decomposes.cols_are ∙ matrix_cols _ (g.N.NumberList.numbers c.args.starts) (g.N.NumberList.numbers c.args.ids) in
+    let test = c.if-block_starts-len.false in
+    let len = c.len-else-column_order-saturating_sub.ensures in
+    let one = c.in_default.ensures.columns.starts_are.one in
+    omega (arith, n, test, len, one)

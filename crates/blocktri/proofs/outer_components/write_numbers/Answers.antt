@@ -1,0 +1,34 @@
+use Rattle.std.proofs.Common.{◌∙◌, ℕ, ◌+◌, List, arith, length, refl, subst}
+use Rattle.std.proofs.lemmas.List.{map-id}
+use Rattle.bip_defs.specs.Lists.{Among}
+use Rattle.blocktri.specs.OuterComponents.{IsWrittenAt, cols_of_block, rows_of_block}
+use Rattle.blocktri.proofs.ComponentLemmas.{numbered_more}
+use Rattle.blocktri.proofs.outer_components.write_numbers.Goals as goal
+
+pub write_number-requires : goal.write_number-requires
+write_number-requires c = λ x h.
+    let lt = c.loop-block-test.true in
+    let end = c.len-block-end.ensures in
+    let below = c.requires.rows.below c.loop-block.block x (omega (arith, lt, end)) (subst (λ (xs : List ℕ). Among x xs) (map-id c.rows.result.now ∙ c.rows.ensures) h) in
+    let long = c.loop-block.invariant.rows.long in
+    omega (arith, below, long)
+
+pub write_number-requires-in-loop-block : goal.write_number-requires-in-loop-block
+write_number-requires-in-loop-block c = λ x h.
+    let lt = c.loop-block-test.true in
+    let end = c.len-block-end.ensures in
+    let below = c.requires.columns.below c.loop-block.block x (omega (arith, lt, end)) (subst (λ (xs : List ℕ). Among x xs) (map-id c.cols.result.now ∙ c.cols.ensures) h) in
+    let long = c.loop-block.invariant.columns.long in
+    omega (arith, below, long)
+
+pub loop-block-preserved : goal.loop-block-preserved
+loop-block-preserved c =
+    let lt = c.loop-block-test.true in
+    let end = c.len-block-end.ensures in
+    let number = c.args.first + c.loop-block.block in
+    record {
+      rows = numbered_more rows_of_block c.args.first c.loop-block.block (length c.args.rows.now) number c.args.blocks.now c.args.rows.now c.loop-block.rows c.write_number.new.out (omega (arith, lt, end)) c.requires.rows refl c.loop-block.invariant.rows
+          (subst (λ (xs : List ℕ). IsWrittenAt xs number c.loop-block.rows c.write_number.new.out) (map-id c.rows.result.now ∙ c.rows.ensures) c.write_number.ensures);
+      columns = numbered_more cols_of_block c.args.first c.loop-block.block (length c.args.columns.now) number c.args.blocks.now c.args.columns.now c.loop-block.columns c.write_number-in-loop-block.new.out (omega (arith, lt, end)) c.requires.columns refl c.loop-block.invariant.columns
+          (subst (λ (xs : List ℕ). IsWrittenAt xs number c.loop-block.columns c.write_number-in-loop-block.new.out) (map-id c.cols.result.now ∙ c.cols.ensures) c.write_number-in-loop-block.ensures);
+    }

@@ -1,0 +1,47 @@
+-- What is told of a square matrix of full rank.
+use Rattle.std.specs.Prelude.{◌≡◌, ℕ, ◌+◌, ◌<◌, ◌≤◌, List, length, slice_index}
+use Rattle.bip_defs.specs.Blocks.{block_at}
+use Rattle.bip_defs.specs.Bottleneck.{IsFull}
+use Rattle.bip_defs.specs.Decomposition.{Decomposition, IsDecompositionOf}
+use Rattle.bip_defs.specs.Lists.{Among}
+use Rattle.bip_defs.specs.Matrix.{IsEntry, Matrix, Place, cols}
+use Rattle.bip_defs.specs.Once.{ListsOnce}
+use Rattle.bip_graph.specs.Answers.{orders_of}
+use Rattle.bip_graph.specs.Decompositions.{Decomposes}
+use Rattle.bip_graph.specs.Matching.{IsMaximumOf, Pairing}
+use Rattle.bip_graph.specs.Orders.{rows_before}
+use Rattle.bip_graph.specs.declared.answers.Decomposition as answers
+use Rattle.blocktri.specs.Answers.{AreBlockStarts}
+
+-- no matching of the matrix covers all its rows and columns
+abbrev pub HasNoPerfectMatching : Matrix → Type 0
+HasNoPerfectMatching a = (m : List Place) → ¬ IsFull a m
+
+-- orders of the rows and columns of a square matrix with entries all along the diagonal: the
+-- columns as its decomposition has them, and in the places of each block the rows of that block
+pub record TellsBlockOrder (a : Matrix) (count : ℕ) (row_order column_order old_starts
+    block_starts : List ℕ) : Type 0 where
+  pub square : a.rows ≡ cols a
+  pub decomposition : Decomposition
+  pub is_decomposition : IsDecompositionOf a decomposition
+  pub columns : column_order ≡ (orders_of decomposition).1
+  pub rows : ListsOnce (λ r. r < a.rows) row_order
+  pub diagonal : (k : ℕ) → k < cols a
+      → IsEntry a (slice_index row_order k) (slice_index column_order k)
+  pub rows_of_blocks : (b k : ℕ) → b < count → rows_before decomposition.blocks b ≤ k
+      → k < rows_before decomposition.blocks (b + 1)
+      → Among (slice_index row_order k) (block_at decomposition.blocks b).rows
+  pub starts : AreBlockStarts decomposition.blocks old_starts block_starts
+  pub count_is : count ≡ length decomposition.blocks
+
+-- a perfect matching of a square matrix, and its decomposition
+pub record IsPerfectOf (a : Matrix) (d : answers.Decomposition) (m : Pairing) : Type 0 where
+  pub decomposes : Decomposes a d
+  pub maximum : IsMaximumOf a m
+  pub square : a.rows ≡ cols a
+  pub full : length m.pairs ≡ a.rows
+
+-- each place of the rows has the mate of what stands there in the columns
+abbrev pub AreMatesOf : List Place → List ℕ → List ℕ → Type 0
+AreMatesOf pairs columns rows = (k : ℕ) → k < length columns
+    → Among (slice_index rows k, slice_index columns k) pairs

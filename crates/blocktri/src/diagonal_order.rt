@@ -1,0 +1,151 @@
+//! Orders of a square matrix with entries all along the diagonal.
+
+ghost use Rattle.std.specs.Prelude.{◌≡◌, ℕ, ◌+◌, ◌<◌, ◌^◌, IfErr, IfNone, IfOk, IfSome, OnErr, length};
+ghost use Rattle.bip_defs.specs.Lists.{Among};
+ghost use Rattle.bip_defs.specs.Matching.{cols_of};
+ghost use Rattle.bip_defs.specs.Matrix.{Matrix};
+ghost use Rattle.blocktri.specs.Answers.{HasMatrix, HaveLengths};
+ghost use Rattle.blocktri.specs.BlockOrders.{AreMatesOf, HasNoPerfectMatching, IsPerfectOf, TellsBlockOrder};
+ghost use Rattle.blocktri.specs.Causes.{IsRefusal};
+ghost use Rattle.sp_pattern.specs.Columns.{AreColumns, matrix_of};
+
+use crate::block_form::decomposed;
+use crate::maximum::matched;
+use crate::refusals::Refusal;
+use crate::write::{write_order, write_starts};
+use bip_graph::{Decomposition, Matching, orders_are_block_upper_triangular};
+use sp_ids::{Col, OutOfMemory, Row};
+use sp_pattern::{ColumnsError, NumberList, check_columns};
+use std::alloc::Global;
+
+/// What KLU asks of a square matrix of full structural rank (Davis and Palamadai Natarajan 2010):
+/// orders of its rows and columns in which it is block upper triangular and has an entry at each
+/// place of the diagonal. Gives the number of blocks; none where the matrix is not square or its
+/// rank is less than its size, and then nothing was written.
+///
+/// The columns stand as in [`crate::decomposition`], and at each place the row that a perfect
+/// matching pairs with the column there, so that each block has the rows that it has there.
+/// `block_starts` gets where each block begins, and behind the blocks the number of rows; the rest
+/// of it stays as it is. The lengths are those of `decomposition`, and are looked at first. After an
+/// `Err` nothing was written.
+///
+/// Answers `OutOfMemory` as `decomposition` does. Work: as `decomposition`, and one read for each
+/// column.
+pub fn block_order<N: NumberList>(
+    alloc: Global,
+    rows: u64,
+    starts: N,
+    ids: N,
+    row_order: &mut [u32],
+    column_order: &mut [u32],
+    block_starts: &mut [u32],
+) -> Result<Option<u32>, Refusal>
+    ensures found { IfOk result (λ o. IfSome o (λ k.
+        HasMatrix rows (N.numbers starts) (N.numbers ids)
+        (λ a. TellsBlockOrder a k row_order.new column_order.new block_starts.old
+        block_starts.new))) }
+    ensures singular { IfOk result (λ o. IfNone o
+        (HasMatrix rows (N.numbers starts) (N.numbers ids) HasNoPerfectMatching)) }
+    ensures untouched { IfOk result (λ o. IfNone o ((row_order.new ≡ row_order.old)
+        × (column_order.new ≡ column_order.old) × (block_starts.new ≡ block_starts.old))) }
+    ensures fit { IfOk result (λ o. HaveLengths rows (N.numbers starts) row_order.old
+        column_order.old block_starts.old) }
+    ensures refused { IfErr result (IsRefusal (HaveLengths rows (N.numbers starts) row_order.old
+        column_order.old block_starts.old) rows (N.numbers starts) (N.numbers ids)) }
+    ensures kept { OnErr result ((row_order.new ≡ row_order.old)
+        × (column_order.new ≡ column_order.old) × (block_starts.new ≡ block_starts.old)) }
+{
+    if row_order.len() as u64 != rows
+        || column_order.len() != starts.len().saturating_sub(1)
+        || block_starts.len() != starts.len()
+    {
+        return Err(Refusal::Lengths);
+    }
+    if let Err(error) = check_columns(rows, starts, ids) {
+        return Err(Refusal::Columns(error));
+    }
+    match perfect(alloc, rows as u32, starts, ids) {
+        Err(_) => Err(Refusal::Columns(ColumnsError::OutOfMemory)),
+        Ok(None) => Ok(None),
+        Ok(Some((found, matching))) => {
+            let blocks = write(&found, &matching, row_order, column_order, block_starts);
+            Ok(Some(blocks))
+        }
+    }
+}
+
+// The decomposition of a square matrix of full rank, and a perfect matching.
+fn perfect<N: NumberList>(
+    alloc: Global,
+    rows: u32,
+    starts: N,
+    ids: N,
+) -> Result<Option<(Decomposition, Matching)>, OutOfMemory>
+    requires { AreColumns rows (N.numbers starts) (N.numbers ids) }
+    ensures found { IfOk result (λ o. IfSome o
+        (λ p. IsPerfectOf (matrix_of rows (N.numbers starts) (N.numbers ids)) p.0 p.1)) }
+    ensures singular { IfOk result (λ o. IfNone o
+        (HasNoPerfectMatching (matrix_of rows (N.numbers starts) (N.numbers ids)))) }
+{
+    let (pattern, matching) = matched(alloc, rows, starts, ids)?;
+    if matching.cols() != rows || matching.size() != rows {
+        return Ok(None);
+    }
+    let found = decomposed(alloc, &pattern, &matching)?;
+    Ok(Some((found, matching)))
+}
+
+// Writes the orders and the block starts, and tells how many blocks there are.
+fn write(
+    found: &Decomposition,
+    matching: &Matching,
+    row_order: &mut [u32],
+    column_order: &mut [u32],
+    block_starts: &mut [u32],
+) -> u32
+    requires some { (a : Matrix) × IsPerfectOf a found.now matching.now }
+    requires rows { length row_order.old ≡ found.now.m }
+    requires columns { length column_order.old ≡ found.now.n }
+    requires starts { length block_starts.old ≡ found.now.n + 1 }
+    requires few_rows { found.now.m < 2 ^ 32 }
+    requires few_columns { found.now.n < 2 ^ 32 }
+    ensures { (a : Matrix) → IsPerfectOf a found.now matching.now
+        → TellsBlockOrder a result row_order.new column_order.new block_starts.old
+        block_starts.new }
+{
+    orders_are_block_upper_triangular();
+    let (parts, blocks) = (&found.parts, &found.blocks);
+    write_order(
+        column_order,
+        parts.hc.as_slice(),
+        blocks.all_cols(),
+        parts.vc.as_slice(),
+    );
+    write_mates(row_order, column_order, matching);
+    write_starts(block_starts, blocks);
+    blocks.len() as u32
+}
+
+// Writes the mate of each column that is listed.
+fn write_mates(row_order: &mut [u32], columns: &[u32], matching: &Matching)
+    requires matched { (c : ℕ) → Among c columns.now → Among c (cols_of matching.now.pairs) }
+    requires long { length row_order.old ≡ length columns.now }
+    ensures long { length row_order.new ≡ length row_order.old }
+    ensures mates { AreMatesOf matching.now.pairs columns.now row_order.new }
+{
+    for k in 0..columns.len() {
+        row_order[k] = mate(matching, Col(columns[k])).0;
+    }
+}
+
+// The mate of a matched column.
+fn mate(matching: &Matching, col: Col) -> Row
+    requires { Among col (cols_of matching.now.pairs) }
+    ensures { Among (result, col) matching.now.pairs }
+{
+    matching.is_matching();
+    match matching.row_of(col) {
+        Some(row) => row,
+        None => unreachable!(),
+    }
+}
