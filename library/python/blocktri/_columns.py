@@ -10,6 +10,9 @@ import numpy.typing
 
 from ._library import NONE
 
+# what the library takes as it stands, by the bytes of a number
+_KINDS = {4: (numpy.dtype(numpy.int32), numpy.dtype(numpy.uint32)), 8: (numpy.dtype(numpy.int64), numpy.dtype(numpy.uint64))}
+
 
 @dataclass(frozen=True)
 class Columns:
@@ -68,9 +71,9 @@ def _integers(array: Any, name: str) -> numpy.typing.NDArray[numpy.integer[Any]]
 
 def _of_one_width(*arrays: numpy.typing.NDArray[numpy.integer[Any]]) -> list[numpy.typing.NDArray[numpy.integer[Any]]]:
     """The arrays with numbers of 32 bits, or of 64 where one of them needs it; each as it stands where it has them."""
-    width = max(4, *(array.itemsize for array in arrays))
-    signed, unsigned = numpy.dtype(f"i{width}"), numpy.dtype(f"u{width}")
-    return [numpy.require(array, unsigned if array.dtype == unsigned else signed, ("C", "A")) for array in arrays]
+    kinds = _KINDS[max(4, *(array.itemsize for array in arrays))]
+    return [array if array.dtype in kinds and array.flags.c_contiguous and array.flags.aligned
+            else numpy.require(array, kinds[0], ("C", "A")) for array in arrays]
 
 
 def signed(lines: numpy.typing.NDArray[numpy.uint32], size: int) -> numpy.typing.NDArray[numpy.signedinteger[Any]]:

@@ -98,7 +98,7 @@ def inverse(
     mates: numpy.typing.NDArray[numpy.signedinteger[Any]], size: int
 ) -> numpy.typing.NDArray[numpy.signedinteger[Any]]:
     """The same pairs from the other side, which has so many lines."""
-    other = numpy.full(size, -1, numpy.int32 if mates.size < 2**31 else numpy.int64)
-    paired = numpy.flatnonzero(mates >= 0)
-    other[mates[paired]] = paired
-    return other
+    width = numpy.int32 if mates.size < 2**31 else numpy.int64
+    other = numpy.full(size + 1, -1, width)
+    other[mates] = numpy.arange(mates.size, dtype=width)  # a mate -1 is the last place, which is one too many
+    return other[:-1]
