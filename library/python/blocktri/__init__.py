@@ -10,9 +10,9 @@ from 0.
 `blocktri.csgraph` has drop-ins for ``scipy.sparse.csgraph``.
 """
 
-from ._decomposition import Blocks, Decomposition, Part, dmperm
+from ._decomposition import Blocks, Decomposition, Part, Parts, dmperm
 from ._matching import maximum_matching, structural_rank
 
-__all__ = ["Blocks", "Decomposition", "Part", "dmperm", "maximum_matching", "structural_rank"]
+__all__ = ["Blocks", "Decomposition", "Part", "Parts", "dmperm", "maximum_matching", "structural_rank"]
 
 __version__ = "0.1.0"

@@ -12,7 +12,7 @@ import numpy.typing
 
 from . import _picture, _words
 from ._columns import Columns, compressed, signed
-from ._library import Sizes, call
+from ._library import ComponentCounts, Sizes, call
 from ._matching import inverse, matched
 
 if TYPE_CHECKING:
@@ -28,14 +28,14 @@ class Part(NamedTuple):
     columns: Lines
 
 
-class Blocks(Sequence[Part]):
-    """The fine blocks in their order, each as a `Part` that is made when it is asked for."""
+class Parts(Sequence[Part]):
+    """Parts that stand behind one another, each as a `Part` that is made when it is asked for."""
 
-    def __init__(self, square: Part, starts: Lines) -> None:
-        self._square, self._starts = square, starts
+    def __init__(self, whole: Part, row_starts: Lines, column_starts: Lines) -> None:
+        self._whole, self._row_starts, self._column_starts = whole, row_starts, column_starts
 
     def __len__(self) -> int:
-        return len(self._starts) - 1
+        return len(self._row_starts) - 1
 
     @overload
     def __getitem__(self, index: int) -> Part: ...
@@ -47,12 +47,21 @@ class Blocks(Sequence[Part]):
         if isinstance(index, slice):
             return [self[at] for at in range(*index.indices(len(self)))]
         at = range(len(self))[index]
-        places = slice(self._starts[at], self._starts[at + 1])
-        return Part(self._square.rows[places], self._square.columns[places])
+        return Part(
+            self._whole.rows[self._row_starts[at] : self._row_starts[at + 1]],
+            self._whole.columns[self._column_starts[at] : self._column_starts[at + 1]],
+        )
+
+
+class Blocks(Parts):
+    """The fine blocks in their order, each as a `Part` that is made when it is asked for."""
+
+    def __init__(self, square: Part, starts: Lines) -> None:
+        super().__init__(square, starts, starts)
 
     def sizes(self) -> Lines:
         """How many rows, and so columns, each block has."""
-        return numpy.diff(self._starts)
+        return numpy.diff(self._row_starts)
 
 
 @dataclass(frozen=True, eq=False, repr=False)
@@ -73,6 +82,10 @@ class Decomposition:
         of the square part stand block by block.
     blocks : Blocks
         The fine blocks of the square part, a sequence of `Part`. Rows and columns of a block rise.
+    horizontal_components, vertical_components : Parts
+        The connected components of the outer parts, sequences of `Part`: pieces that have no entry in common, each short of
+        equations or of unknowns by itself. Those of the horizontal part stand by their least columns, those of the vertical
+        part by their least rows.
     row_order, column_order : ndarray of integers
         The rows and the columns part by part and block by block: in these orders the matrix is block upper triangular.
     p, q : ndarray of integers
@@ -99,6 +112,8 @@ class Decomposition:
     square: Part
     vertical: Part
     blocks: Blocks
+    horizontal_components: Parts
+    vertical_components: Parts
     row_order: Lines
     column_order: Lines
     p: Lines
@@ -150,7 +165,7 @@ class Decomposition:
         row_names, column_names : sequence, optional
             A name for each equation and for each unknown; their numbers, from 0 on, where they are left out.
         at_most : int
-            How many equations or unknowns of a piece are named.
+            How many pieces are told of, and how many equations and unknowns of each are named.
 
         Returns
         -------
@@ -199,6 +214,8 @@ def dmperm(matrix: Any) -> Decomposition:
     Part(rows=array([0], dtype=int32), columns=array([0, 1], dtype=int32))
     >>> form.blocks[0]
     Part(rows=array([1], dtype=int32), columns=array([2], dtype=int32))
+    >>> [component.rows.tolist() for component in form.vertical_components]
+    [[2, 3]]
     >>> p, q, r, s, cc, rr = form
     >>> r, s
     (array([0, 1, 2, 4]), array([0, 2, 3, 4]))
@@ -211,15 +228,18 @@ def dmperm(matrix: Any) -> Decomposition:
     shape = (len(row_order), len(column_order))
     top, left = sizes.horizontal_rows, sizes.horizontal_columns
     bottom, right = top + sizes.square, left + sizes.square
+    horizontal = Part(row_order[:top], column_order[:left])
     square = Part(row_order[top:bottom], column_order[left:right])
+    vertical = Part(row_order[bottom:], column_order[right:])
     coarse = _coarse(sizes, shape)
     return Decomposition(
         shape,
         sizes.rank,
-        Part(row_order[:top], column_order[:left]),
+        horizontal,
         square,
-        Part(row_order[bottom:], column_order[right:]),
+        vertical,
         Blocks(square, starts),
+        *_components(columns, horizontal, vertical),
         row_order,
         column_order,
         *_paired(coarse, row_order, column_order, rows_of_columns),
@@ -245,6 +265,29 @@ def _form(columns: Columns) -> tuple[Sizes, Lines, Lines, Lines]:
     row_starts = numpy.concatenate(([0], starts + sizes.horizontal_rows, [len(rows)]))
     other_starts = numpy.concatenate(([0], starts + sizes.horizontal_columns, [len(others)]))
     return exchanged, _backwards(others, other_starts), _backwards(rows, row_starts), sizes.square - starts[::-1]
+
+
+def _components(columns: Columns, horizontal: Part, vertical: Part) -> tuple[Parts, Parts]:
+    """The connected components of both outer parts; nothing is looked for where neither is there."""
+    counts = ComponentCounts()
+    numbers = numpy.empty(columns.rows, numpy.uint32), numpy.empty(columns.count, numpy.uint32)
+    if len(horizontal.columns) + len(vertical.rows) > 0:
+        call("components", columns, *numbers, ctypes.byref(counts))
+    # the numbers of the vertical components begin behind those of the horizontal ones, which the transpose has exchanged
+    of_horizontal, of_vertical = (0, counts.horizontal), (counts.horizontal, counts.vertical)
+    if columns.is_transposed:
+        numbers, of_horizontal, of_vertical = numbers[::-1], of_vertical, of_horizontal
+    return _grouped(horizontal, numbers, *of_horizontal), _grouped(vertical, numbers, *of_vertical)
+
+
+def _grouped(part: Part, numbers: tuple[Lines, Lines], first: int, count: int) -> Parts:
+    """The components of a part, of which there are so many, by the number that each row and each column has."""
+    orders, starts = [], []
+    for lines, of_lines in zip(part, numbers):
+        of_part = of_lines[lines] - first
+        orders.append(lines[numpy.argsort(of_part, kind="stable")])
+        starts.append(numpy.concatenate(([0], numpy.cumsum(numpy.bincount(of_part, minlength=count)))))
+    return Parts(Part(*orders), *starts)
 
 
 def _backwards(order: Lines, starts: Lines) -> Lines:

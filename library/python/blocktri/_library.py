@@ -28,6 +28,7 @@ _CALLS = {
     "rank": (ctypes.c_void_p,),
     "matching": (ctypes.c_bool, *_LIST, ctypes.c_void_p),
     "decomposition": (*_LIST, *_LIST, *_LIST, ctypes.c_void_p),
+    "components": (*_LIST, *_LIST, ctypes.c_void_p),
 }
 
 _NO_ELEMENTS = ctypes.c_uint64()
@@ -50,6 +51,12 @@ class Sizes(ctypes.Structure):
         ("vertical_columns", ctypes.c_uint32),
         ("blocks", ctypes.c_uint32),
     ]
+
+
+class ComponentCounts(ctypes.Structure):
+    """``struct blocktri_component_counts``."""
+
+    _fields_ = [("horizontal", ctypes.c_uint32), ("vertical", ctypes.c_uint32)]
 
 
 def _load() -> ctypes.CDLL:

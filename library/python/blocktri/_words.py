@@ -29,11 +29,16 @@ def explain(
         return f"Not singular by its structure: {counts} can all be paired.\n" + _sound(form)
     kind = "Structurally singular" if rows == columns else "Not square"
     lines = [f"{kind}: of {counts} at most {form.rank} can be paired."]
-    for title, part, blame in (("Too few equations", form.horizontal, _too_few), ("Too many equations", form.vertical, _too_many)):
-        if len(part.rows) + len(part.columns) > 0:
-            lines += [f"{title}.", f"  {blame(part)}"]
-            lines += _members("unknown", part.columns, column_names, at_most)
-            lines += _members("equation", part.rows, row_names, at_most)
+    blamed = (("few", form.horizontal_components, _too_few), ("many", form.vertical_components, _too_many))
+    for word, pieces, blame in blamed:
+        if len(pieces) > 0:
+            lines.append(f"Too {word} equations: {counted(len(pieces), 'piece')}.")
+        for piece in pieces[:at_most]:
+            lines.append(f"  {blame(piece)}")
+            lines += _members("unknown", piece.columns, column_names, at_most)
+            lines += _members("equation", piece.rows, row_names, at_most)
+        if len(pieces) > at_most:
+            lines.append(f"  And {counted(len(pieces) - at_most, 'piece')} more.")
     return "\n".join([*lines, _sound(form)])
 
 

@@ -51,6 +51,19 @@ def assert_blocks(form, entries):
     assert form.blocks.sizes().tolist() == [len(block.rows) for block in form.blocks]
 
 
+def assert_components(form, entries):
+    """The components are those that SciPy finds of the outer parts, as graphs of rows and columns, in their order."""
+    for part, components, first in ((form.horizontal, form.horizontal_components, 1), (form.vertical, form.vertical_components, 0)):
+        rows, columns = map(len, part)
+        graph = numpy.zeros((rows + columns, rows + columns), bool)
+        graph[:rows, rows:] = entries[numpy.ix_(*part)]
+        count, labels = csgraph.connected_components(sparse.csr_matrix(graph), directed=False)
+        expected = {(tuple(part.rows[labels[:rows] == at]), tuple(part.columns[labels[rows:] == at])) for at in range(count)}
+        found = [(tuple(component.rows), tuple(component.columns)) for component in components]
+        assert set(found) == expected and len(found) == count
+        assert [component[first][0] for component in found] == sorted(component[first][0] for component in found)
+
+
 def assert_matlabs(form, entries):
     """What MATLAB's page says of p, q, r, s, cc and rr."""
     p, q, r, s, cc, rr = form
@@ -81,6 +94,7 @@ def assert_form(form, entries):
     assert form.shape == entries.shape
     assert_parts(form, entries)
     assert_blocks(form, entries)
+    assert_components(form, entries)
     assert_matlabs(form, entries)
 
 
