@@ -10,9 +10,24 @@ from 0.
 `blocktri.csgraph` has drop-ins for ``scipy.sparse.csgraph``.
 """
 
+from ._block_order import BlockOrder, block_order
 from ._decomposition import Blocks, Decomposition, Part, Parts, dmperm
 from ._matching import maximum_matching, structural_rank
+from ._singular import StructurallySingular
 
-__all__ = ["Blocks", "Decomposition", "Part", "Parts", "dmperm", "maximum_matching", "structural_rank"]
+StructurallySingular.__module__ = __name__
+
+__all__ = [
+    "BlockOrder",
+    "Blocks",
+    "Decomposition",
+    "Part",
+    "Parts",
+    "StructurallySingular",
+    "block_order",
+    "dmperm",
+    "maximum_matching",
+    "structural_rank",
+]
 
 __version__ = "0.1.0"

@@ -29,14 +29,20 @@ _CALLS = {
     "matching": (ctypes.c_bool, *_LIST, ctypes.c_void_p),
     "decomposition": (*_LIST, *_LIST, *_LIST, ctypes.c_void_p),
     "components": (*_LIST, *_LIST, ctypes.c_void_p),
+    "block_order": (*_LIST, *_LIST, *_LIST, ctypes.c_void_p),
 }
 
 _NO_ELEMENTS = ctypes.c_uint64()
 
 _OK = 0
+_SINGULAR = 1
 _OUT_OF_MEMORY = 7
 _BAD_START = 20
 _BAD_ROW = 21
+
+
+class NoPerfectMatching(Exception):
+    """The matrix is not square, or its rank is less than its size."""
 
 
 class Sizes(ctypes.Structure):
@@ -108,6 +114,8 @@ def call(name: str, columns: Columns, *arguments: object) -> None:
 
 
 def _error(status: int, columns: Columns, fault: int) -> Exception:
+    if status == _SINGULAR:
+        return NoPerfectMatching()
     if status == _OUT_OF_MEMORY:
         return MemoryError("there is not enough memory to analyse the matrix")
     if status == _BAD_START:

@@ -18,6 +18,16 @@ def counted(count: int, noun: str) -> str:
     return f"{count} {noun}" if count == 1 else f"{count} {noun}s"
 
 
+def listed(noun: str, numbers: Sequence[int], at_most: int) -> str:
+    """The first so many numbers behind their noun.
+
+    >>> listed("row", [3], 2), listed("row", [3, 5, 7, 9], 2)
+    ('row 3', 'rows 3, 5 and 2 more')
+    """
+    first, more = ", ".join(map(str, numbers[:at_most])), len(numbers) - at_most
+    return f"{noun if len(numbers) == 1 else noun + 's'} {first}" + (f" and {more} more" if more > 0 else "")
+
+
 def explain(
     form: Decomposition, row_names: Sequence[object] | None, column_names: Sequence[object] | None, at_most: int
 ) -> str:
