@@ -16,7 +16,7 @@ import scipy.sparse.linalg
 
 def solve(matrix, form, right_side):
     """Solves with a matrix whose square part is all of it, from the last block to the first."""
-    ordered = matrix[form.p][:, form.q].tocsc()
+    ordered = matrix[form.p][:, form.q]
     rest, solution = right_side[form.p].astype(float), numpy.zeros(len(form.q))
     for begin, end in reversed(list(zip(form.r[:-1], form.r[1:]))):
         block = ordered[begin:end, begin:end]
@@ -30,8 +30,8 @@ def picture(matrix):
 
 
 path, *files = sys.argv[1:]
-matrix = scipy.io.mmread(path).tocsr()
-form = blocktri.dmperm(matrix.tocsc())
+matrix = scipy.io.mmread(path).tocsc()
+form = blocktri.dmperm(matrix)
 print(picture(matrix))
 print("rows", *(form.row_order + 1), "columns", *(form.column_order + 1), "blocks", *form.blocks.sizes())
 print(picture(matrix[form.row_order][:, form.column_order]))
