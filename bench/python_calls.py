@@ -69,7 +69,8 @@ def least(options, call, path, form):
     """The least milliseconds of both, those of a call that did not end as none, and whether the answers are the same."""
     command = [sys.executable, os.path.abspath(__file__), "--measure", call, path, form, "--repeats", str(options.repeats)]
     limits = (options.limit, options.limit)
-    done = subprocess.run(command, stdout=subprocess.PIPE, text=True, preexec_fn=lambda: resource.setrlimit(resource.RLIMIT_CPU, limits))
+    done = subprocess.run(command, stdout=subprocess.PIPE, text=True,
+                          preexec_fn=lambda: resource.setrlimit(resource.RLIMIT_CPU, limits))
     lines = [line.split() for line in done.stdout.splitlines()]
     times = [min((float(ms) for who, ms, _ in lines if who == name), default=None) for name in ("blocktri", "scipy")]
     return times, len({number for _, _, number in lines}) == 1
@@ -84,7 +85,8 @@ def fields(times):
 def table(options, call):
     """Prints the table of a call, and answers whether all answers were the same."""
     same, ratios = True, []
-    print(f"\n`{call}`\n\n| Family | Entries | " + " | ".join(f"{form.upper()}: blocktri | SciPy | ratio" for form in options.formats) + " |")
+    print(f"\n`{call}`\n")
+    print("| Family | Entries |" + "".join(f" {form.upper()}: blocktri | SciPy | ratio |" for form in options.formats))
     print("|---|---|" + "---|" * 3 * len(options.formats))
     for family in options.families:
         for entries in options.entries:
@@ -96,7 +98,8 @@ def table(options, call):
                 same = same and agree
             print(f"| {family} | {run.entries_of(path)} | " + " | ".join(texts) + " |", flush=True)
     if ratios:
-        print(f"\nOf {len(ratios)} ratios the geometric mean is {statistics.geometric_mean(ratios):.2f}, the greatest {max(ratios):.2f}.")
+        mean = statistics.geometric_mean(ratios)
+        print(f"\nOf {len(ratios)} ratios the geometric mean is {mean:.2f}, the greatest {max(ratios):.2f}.")
     return same
 
 
