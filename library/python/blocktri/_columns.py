@@ -11,7 +11,10 @@ import numpy.typing
 from ._library import NONE
 
 # what the library takes as it stands, by the bytes of a number
-_KINDS = {4: (numpy.dtype(numpy.int32), numpy.dtype(numpy.uint32)), 8: (numpy.dtype(numpy.int64), numpy.dtype(numpy.uint64))}
+_KINDS: dict[int, tuple[numpy.dtype[Any], numpy.dtype[Any]]] = {
+    4: (numpy.dtype(numpy.int32), numpy.dtype(numpy.uint32)),
+    8: (numpy.dtype(numpy.int64), numpy.dtype(numpy.uint64)),
+}
 
 
 @dataclass(frozen=True)
@@ -62,8 +65,8 @@ def _with_arrays(matrix: Any, formats: tuple[str, ...]) -> Any:
     return matrix.tocsc() if sparse.issparse(matrix) else sparse.csc_matrix(matrix)
 
 
-def _integers(array: Any, name: str) -> numpy.typing.NDArray[numpy.integer[Any]]:
-    array = numpy.asarray(array)
+def _integers(values: Any, name: str) -> numpy.typing.NDArray[numpy.integer[Any]]:
+    array: numpy.typing.NDArray[Any] = numpy.asarray(values)
     if array.dtype.kind not in "iu":
         raise TypeError(f"{name} must have integers, not {array.dtype}")
     return array

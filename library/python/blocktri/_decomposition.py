@@ -18,7 +18,7 @@ from ._matching import inverse, matched
 if TYPE_CHECKING:
     from matplotlib.axes import Axes
 
-Lines = numpy.typing.NDArray[numpy.signedinteger[Any]]
+Lines = numpy.typing.NDArray[numpy.integer[Any]]
 
 
 class Part(NamedTuple):
@@ -282,11 +282,12 @@ def _components(columns: Columns, horizontal: Part, vertical: Part) -> tuple[Par
 
 def _grouped(part: Part, numbers: tuple[Lines, Lines], first: int, count: int) -> Parts:
     """The components of a part, of which there are so many, by the number that each row and each column has."""
-    orders, starts = [], []
+    orders: list[Lines] = []
+    starts: list[Lines] = []
     for lines, of_lines in zip(part, numbers):
         of_part = of_lines[lines] - first
         orders.append(lines[numpy.argsort(of_part, kind="stable")])
-        starts.append(numpy.concatenate(([0], numpy.cumsum(numpy.bincount(of_part, minlength=count)))))
+        starts.append(numpy.append(0, numpy.cumsum(numpy.bincount(of_part, minlength=count))))
     return Parts(Part(*orders), *starts)
 
 
@@ -294,7 +295,8 @@ def backwards(order: Lines, starts: Lines) -> Lines:
     """The pieces of a list, which begin there, from the last to the first, each as it is."""
     sizes = numpy.diff(starts)[::-1]
     shifts = numpy.repeat(starts[:-1][::-1] - (numpy.cumsum(sizes) - sizes), sizes)
-    return order[shifts + numpy.arange(len(order))]
+    turned: Lines = order[shifts + numpy.arange(len(order))]
+    return turned
 
 
 def _coarse(sizes: Sizes, shape: tuple[int, int]) -> tuple[Lines, Lines]:

@@ -11,7 +11,7 @@ from __future__ import annotations
 
 import ctypes
 import os
-from typing import TYPE_CHECKING
+from typing import TYPE_CHECKING, Any
 
 import numpy
 
@@ -77,7 +77,7 @@ def _load() -> ctypes.CDLL:
         ) from error
 
 
-def _functions(library: ctypes.CDLL) -> dict[tuple[str, int], ctypes._FuncPointer]:
+def _functions(library: ctypes.CDLL) -> dict[tuple[str, int], Any]:
     """Each call for indices of 4 and of 8 bytes."""
     found = {}
     for name, arguments in _CALLS.items():

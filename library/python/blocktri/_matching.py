@@ -95,7 +95,7 @@ def matched(columns: Columns, least: bool = False) -> numpy.typing.NDArray[numpy
 
 
 def inverse(
-    mates: numpy.typing.NDArray[numpy.signedinteger[Any]], size: int
+    mates: numpy.typing.NDArray[numpy.integer[Any]], size: int
 ) -> numpy.typing.NDArray[numpy.signedinteger[Any]]:
     """The same pairs from the other side, which has so many lines."""
     width = numpy.int32 if mates.size < 2**31 else numpy.int64

@@ -67,4 +67,4 @@ def _cell(ax: Axes, shape: tuple[int, int]) -> float:
     """The width of a row in points, of which there are 72 in an inch, but no less than can be seen."""
     box = ax.get_window_extent()
     side = min(box.height / max(shape[0], 1), box.width / max(shape[1], 1))
-    return max(0.8 * side * 72 / ax.figure.dpi, 0.3)
+    return float(max(0.8 * side * 72 / ax.figure.dpi, 0.3))

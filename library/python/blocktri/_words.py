@@ -6,7 +6,7 @@ from collections.abc import Iterator, Sequence
 from typing import TYPE_CHECKING
 
 if TYPE_CHECKING:
-    from ._decomposition import Decomposition, Part
+    from ._decomposition import Decomposition, Lines, Part
 
 
 def counted(count: int, noun: str) -> str:
@@ -18,7 +18,7 @@ def counted(count: int, noun: str) -> str:
     return f"{count} {noun}" if count == 1 else f"{count} {noun}s"
 
 
-def listed(noun: str, numbers: Sequence[int], at_most: int) -> str:
+def listed(noun: str, numbers: Sequence[int] | Lines, at_most: int) -> str:
     """The first so many numbers behind their noun.
 
     >>> listed("row", [3], 2), listed("row", [3, 5, 7, 9], 2)
@@ -84,7 +84,7 @@ def _are(count: int) -> str:
     return "is" if count == 1 else "are"
 
 
-def _members(noun: str, numbers: Sequence[int], names: Sequence[object], at_most: int) -> Iterator[str]:
+def _members(noun: str, numbers: Sequence[int] | Lines, names: Sequence[object], at_most: int) -> Iterator[str]:
     if len(numbers) > 0:
         named = [str(names[number]) for number in numbers[:at_most]]
         more = len(numbers) - len(named)
