@@ -70,7 +70,10 @@ def test_arrays_with_gaps_and_off_their_bounds_are_converted():
     shifted = numpy.frombuffer(b"x" + matrix.indices.tobytes(), numpy.int32, offset=1)
     assert not gapped.flags.c_contiguous and not shifted.flags.aligned
     for starts, ids in ((matrix.indptr, gapped), (backwards, gapped), (matrix.indptr, shifted)):
-        assert blocktri.structural_rank(handmade(starts, ids, matrix.shape)) == size
+        made = handmade(starts, ids, matrix.shape)
+        handed = compressed(made)
+        assert all(array.flags.c_contiguous and array.flags.aligned for array in (handed.starts, handed.ids))
+        assert blocktri.structural_rank(made) == size
 
 
 def test_what_stands_behind_the_last_start_is_no_entry():
