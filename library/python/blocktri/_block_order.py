@@ -8,7 +8,7 @@ from typing import Any, NamedTuple
 import numpy
 
 from ._columns import compressed, signed
-from ._decomposition import Lines, backwards
+from ._decomposition import Lines
 from ._singular import call_square
 
 
@@ -68,4 +68,5 @@ def block_order(matrix: Any) -> BlockOrder:
     rows, others = (signed(order, size) for order in orders[:2])
     if not columns.is_transposed:
         return BlockOrder(rows, others, starts)
-    return BlockOrder(backwards(others, starts), backwards(rows, starts), size - starts[::-1])
+    # the transpose of an upper triangular form is a lower one, which is upper triangular backwards
+    return BlockOrder(others[::-1].copy(), rows[::-1].copy(), size - starts[::-1])

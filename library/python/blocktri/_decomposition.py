@@ -264,7 +264,7 @@ def _form(columns: Columns) -> tuple[Sizes, Lines, Lines, Lines]:
                       sizes.horizontal_columns, sizes.horizontal_rows, sizes.blocks)
     row_starts = numpy.concatenate(([0], starts + sizes.horizontal_rows, [len(rows)]))
     other_starts = numpy.concatenate(([0], starts + sizes.horizontal_columns, [len(others)]))
-    return exchanged, backwards(others, other_starts), backwards(rows, row_starts), sizes.square - starts[::-1]
+    return exchanged, _backwards(others, other_starts), _backwards(rows, row_starts), sizes.square - starts[::-1]
 
 
 def _components(columns: Columns, horizontal: Part, vertical: Part) -> tuple[Parts, Parts]:
@@ -291,7 +291,7 @@ def _grouped(part: Part, numbers: tuple[Lines, Lines], first: int, count: int) -
     return Parts(Part(*orders), *starts)
 
 
-def backwards(order: Lines, starts: Lines) -> Lines:
+def _backwards(order: Lines, starts: Lines) -> Lines:
     """The pieces of a list, which begin there, from the last to the first, each as it is."""
     sizes = numpy.diff(starts)[::-1]
     shifts = numpy.repeat(starts[:-1][::-1] - (numpy.cumsum(sizes) - sizes), sizes)
