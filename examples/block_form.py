@@ -1,60 +1,43 @@
-"""Brings a matrix to block upper triangular form with btf, and solves with it block by block.
+"""Brings a matrix to block upper triangular form with the package blocktri, and solves with it block by block.
 
-    python3 examples/block_form.py crates/btf/out/btf examples/process.mtx
+    make -C library python
+    PYTHONPATH=library/python python3 examples/block_form.py examples/process.mtx [picture.png]
 
-SciPy reads the file, permutes the matrix and factorises the diagonal blocks.
+SciPy reads the file and factorises the diagonal blocks; a picture of the form is drawn where a file is named for it.
 """
 
-import subprocess
 import sys
 
+import blocktri
 import numpy
 import scipy.io
 import scipy.sparse.linalg
 
 
-def analyse(btf, path):
-    """The orders of the rows and columns, counted from 0, and the sizes of the fine blocks."""
-    with open(path, "rb") as matrix:
-        run = subprocess.run([btf, "analyse", "--order"], stdin=matrix, capture_output=True, text=True)
-    if run.returncode != 0:
-        sys.exit(run.stderr.strip())
-    orders, sizes = {}, []
-    for line in run.stdout.splitlines():
-        word, *numbers = line.split()
-        if word in ("row_order", "column_order"):
-            orders[word] = numpy.array(numbers, dtype=int) - 1
-        elif word == "block":
-            sizes.append(int(numbers[1]))
-    return orders["row_order"], orders["column_order"], sizes
-
-
-def solve(matrix, rows, columns, sizes, right_side):
+def solve(matrix, form, right_side):
     """Solves with a matrix whose square part is all of it, from the last block to the first."""
-    form = matrix[rows][:, columns].tocsr()
-    rest, solution = right_side[rows].astype(float), numpy.zeros(len(rows))
-    end = len(rows)
-    for size in reversed(sizes):
-        begin = end - size
-        block = form[begin:end, begin:end].tocsc()
-        solution[begin:end] = scipy.sparse.linalg.splu(block).solve(rest[begin:end])
-        rest[:begin] -= form[:begin, begin:end] @ solution[begin:end]
-        end = begin
-    unpermuted = numpy.empty(len(rows))
-    unpermuted[columns] = solution
-    return unpermuted
+    ordered = matrix[form.p][:, form.q]
+    rest, solution = right_side[form.p].astype(float), numpy.zeros(len(form.q))
+    for begin, end in reversed(list(zip(form.r[:-1], form.r[1:]))):
+        block = ordered[begin:end, begin:end]
+        solution[form.q[begin:end]] = scipy.sparse.linalg.splu(block).solve(rest[begin:end])
+        rest[:begin] -= ordered[:begin, begin:end] @ solution[form.q[begin:end]]
+    return solution
 
 
 def picture(matrix):
     return "\n".join("".join(".x"[int(entry)] for entry in row) for row in (matrix != 0).toarray())
 
 
-btf, path = sys.argv[1:]
-matrix = scipy.io.mmread(path).tocsr()
-rows, columns, sizes = analyse(btf, path)
+path, *files = sys.argv[1:]
+matrix = scipy.io.mmread(path).tocsc()
+form = blocktri.dmperm(matrix)
 print(picture(matrix))
-print("rows", *(rows + 1), "columns", *(columns + 1), "blocks", *sizes)
-print(picture(matrix[rows][:, columns]))
-if sum(sizes) == len(rows) == len(columns):
-    right_side = matrix @ numpy.arange(1, len(columns) + 1)
-    print("solution", *solve(matrix, rows, columns, sizes, right_side).round(6))
+print("rows", *(form.row_order + 1), "columns", *(form.column_order + 1), "blocks", *form.blocks.sizes())
+print(picture(matrix[form.row_order][:, form.column_order]))
+print(form.explain())
+if form.rank == len(form.p) == len(form.q):
+    right_side = matrix @ numpy.arange(1, len(form.q) + 1)
+    print("solution", *solve(matrix, form, right_side).round(6))
+for file in files:
+    form.spy().figure.savefig(file)

@@ -1,0 +1,88 @@
+"""Matrices as the compressed columns that the library takes."""
+
+from __future__ import annotations
+
+from dataclasses import dataclass
+from typing import Any
+
+import numpy
+import numpy.typing
+
+from ._library import NONE
+
+# what the library takes as it stands, by the bytes of a number
+_KINDS: dict[int, tuple[numpy.dtype[Any], numpy.dtype[Any]]] = {
+    4: (numpy.dtype(numpy.int32), numpy.dtype(numpy.uint32)),
+    8: (numpy.dtype(numpy.int64), numpy.dtype(numpy.uint64)),
+}
+
+
+@dataclass(frozen=True)
+class Columns:
+    """The places of a matrix by columns, or, where it is transposed, those of its transpose."""
+
+    rows: int
+    starts: numpy.typing.NDArray[numpy.integer[Any]]
+    ids: numpy.typing.NDArray[numpy.integer[Any]]
+    is_transposed: bool
+
+    @property
+    def count(self) -> int:
+        """The number of columns."""
+        return self.starts.size - 1
+
+
+def compressed(matrix: Any, keeps_rows: bool = False) -> Columns:
+    """The columns of a matrix; those of its transpose where it is kept by rows, unless rows are to stay rows.
+
+    The arrays of a matrix in CSC or CSR are taken as they stand where their indices have 32 or 64 bits.
+    """
+    matrix = _with_arrays(matrix, ("csc",) if keeps_rows else ("csc", "csr"))
+    if len(matrix.shape) != 2:
+        raise ValueError(f"a matrix has two dimensions, not the shape {matrix.shape}")
+    is_transposed = matrix.format == "csr"
+    rows, columns = reversed(matrix.shape) if is_transposed else matrix.shape
+    if rows > NONE:
+        raise ValueError(f"the matrix has {rows} {'columns' if is_transposed else 'rows'}, which is more than {NONE}")
+    starts, ids = _of_one_width(_integers(matrix.indptr, "indptr"), _integers(matrix.indices, "indices"))
+    if starts.shape != (columns + 1,):
+        raise ValueError(f"indptr has the shape {starts.shape}, but for the shape {matrix.shape} it must be ({columns + 1},)")
+    if ids.ndim != 1:
+        raise ValueError(f"indices has {ids.ndim} dimensions, but must have one")
+    if 0 <= starts[-1] < ids.size:  # what stands behind the last start is no entry
+        ids = ids[: int(starts[-1])]
+    return Columns(int(rows), starts, ids, is_transposed)
+
+
+def _with_arrays(matrix: Any, formats: tuple[str, ...]) -> Any:
+    """The matrix itself where it has one of these formats, else what SciPy makes of it."""
+    if getattr(matrix, "format", None) in formats:
+        return matrix
+    try:
+        from scipy import sparse
+    except ImportError:
+        raise TypeError(f"without SciPy a matrix must be in one of the formats {', '.join(formats)}") from None
+    return matrix.tocsc() if sparse.issparse(matrix) else sparse.csc_matrix(matrix)
+
+
+def _integers(values: Any, name: str) -> numpy.typing.NDArray[numpy.integer[Any]]:
+    array: numpy.typing.NDArray[Any] = numpy.asarray(values)
+    if array.dtype.kind not in "iu":
+        raise TypeError(f"{name} must have integers, not {array.dtype}")
+    return array
+
+
+def _of_one_width(*arrays: numpy.typing.NDArray[numpy.integer[Any]]) -> list[numpy.typing.NDArray[numpy.integer[Any]]]:
+    """The arrays with numbers of 32 bits, or of 64 where one of them needs it; each as it stands where it has them."""
+    kinds = _KINDS[max(4, *(array.itemsize for array in arrays))]
+    return [array if array.dtype in kinds and array.flags.c_contiguous and array.flags.aligned
+            else numpy.require(array, kinds[0], ("C", "A")) for array in arrays]
+
+
+def signed(lines: numpy.typing.NDArray[numpy.uint32], size: int) -> numpy.typing.NDArray[numpy.signedinteger[Any]]:
+    """Numbers of rows or columns, of which there are so many, as SciPy has them: -1 stands for none."""
+    if size < 2**31:
+        return lines.view(numpy.int32)
+    wide = lines.astype(numpy.int64)
+    wide[lines == NONE] = -1
+    return wide

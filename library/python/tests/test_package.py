@@ -1,0 +1,81 @@
+"""How the package is installed, finds its library, and does without SciPy."""
+
+import os
+import subprocess
+import sys
+import textwrap
+import zipfile
+
+import pytest
+
+HERE = os.path.dirname(os.path.abspath(__file__))
+PACKAGE = os.path.dirname(HERE)
+sys.path.insert(0, PACKAGE)
+import backend  # noqa: E402
+from blocktri import _library  # noqa: E402
+
+FILE = _library._load()._name
+
+
+def run(program, path=PACKAGE, **environment):
+    """What a new interpreter prints, and the last line of what it says is wrong."""
+    known = {"PYTHONPATH": path, "PATH": os.environ["PATH"]} | environment
+    done = subprocess.run([sys.executable, "-c", textwrap.dedent(program)], env=known, cwd=os.sep, capture_output=True, text=True)
+    return done.stdout, done.stderr.strip().rpartition("\n")[2]
+
+
+@pytest.mark.skipif(not os.path.exists(FILE), reason="the library lies where only the loader finds it")
+def test_a_wheel_has_all_that_is_wanted(tmp_path):
+    before = {name: os.path.join(backend.PACKAGE, name) for name in os.listdir(backend.PACKAGE)}
+    with zipfile.ZipFile(tmp_path / backend.build_wheel(tmp_path)) as wheel:
+        names = wheel.namelist()
+        wheel.extractall(tmp_path / "there")
+    assert {f"blocktri/{name}" for name in before if name.endswith(".py")} | {"blocktri/py.typed"} <= set(names)
+    assert run("import blocktri; print(blocktri.structural_rank([[1, 1], [0, 0]]))", str(tmp_path / "there"),
+               BLOCKTRI_LIBRARY="" if "blocktri/libblocktri.so" in names else FILE) == ("1\n", "")
+
+
+def test_pip_installs_a_checkout_without_a_network(tmp_path):
+    command = [sys.executable, "-m", "pip", "install", "--quiet", "--no-index", "--no-deps", "--target", str(tmp_path), PACKAGE]
+    if subprocess.run([sys.executable, "-m", "pip", "--version"], capture_output=True).returncode != 0:
+        pytest.skip("there is no pip")
+    done = subprocess.run(command, capture_output=True, text=True)
+    assert done.returncode == 0, done.stderr
+    program = "import blocktri; print(blocktri.__file__, blocktri.structural_rank([[1]]))"
+    printed = run(program, str(tmp_path), BLOCKTRI_LIBRARY=FILE)
+    assert printed == (f"{tmp_path}/blocktri/__init__.py 1\n", "")
+
+
+def test_a_source_archive_makes_the_same_wheel(tmp_path):
+    import tarfile
+    with tarfile.open(tmp_path / backend.build_sdist(tmp_path)) as archive:
+        names = {name.partition("/")[2] for name in archive.getnames()}
+    assert {"PKG-INFO", "pyproject.toml", "backend.py", "blocktri/__init__.py", "blocktri/py.typed"} <= names
+
+
+def test_a_library_that_is_not_there_or_not_right(tmp_path):
+    _, error = run("import blocktri", BLOCKTRI_LIBRARY=str(tmp_path / "none.so"))
+    assert error.startswith("ImportError: the shared library of blocktri can't be loaded: ") and "none.so" in error
+    _, error = run("import blocktri", BLOCKTRI_LIBRARY="libc.so.6")
+    assert error.startswith("ImportError: the shared library is older than this package: ") and "blocktri_rank" in error
+
+
+def test_without_scipy():
+    printed, error = run("""
+        import sys, types
+        sys.modules["scipy"] = None
+        import blocktri
+        for form in "csc", "csr":
+            matrix = types.SimpleNamespace(format=form, shape=(2, 2), indptr=[0, 1, 2], indices=[1, 0])
+            print(blocktri.structural_rank(matrix), blocktri.maximum_matching(matrix), len(blocktri.dmperm(matrix).blocks))
+        try:
+            blocktri.structural_rank([[1]])
+        except TypeError as error:
+            print(error)
+    """, BLOCKTRI_LIBRARY=FILE)
+    assert error == ""
+    assert printed.splitlines() == ["2 [1 0] 2"] * 2 + ["without SciPy a matrix must be in one of the formats csc, csr"]
+
+
+def test_matplotlib_is_loaded_for_pictures_alone():
+    assert run("import sys, blocktri; print('matplotlib' in sys.modules)", BLOCKTRI_LIBRARY=FILE) == ("False\n", "")
