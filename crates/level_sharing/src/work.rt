@@ -109,8 +109,9 @@ fn work_from<R: Threads + Sync, G: Gate, T: Send, E: Send + Drop, W: Work<T, E>>
     if threads < 2 || workers.len() < 2 {
         return work_in_turn(gate, work, first, workers);
     }
-    let high_threads = threads / 2;
-    let low_threads = threads - high_threads;
+    // Where there are as many threads as workers, so there are in both halves.
+    let low_threads = threads / 2;
+    let high_threads = threads - low_threads;
     let half = workers.len() / 2;
     let (prefix, suffix) = workers.split_at_mut(half);
     let next = first + half as u32;
