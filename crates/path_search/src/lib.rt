@@ -1,5 +1,5 @@
-//! Searches for augmenting paths: depth-first from one column, and breadth-first from all unmatched
-//! columns.
+//! Searches for augmenting paths: depth-first from one column, breadth-first from all unmatched
+//! columns, and for shortest ones alone, from all unmatched columns by layers.
 //!
 //! They see a pattern from its columns, or from its rows as its transpose.
 #![tactic(auto)]

@@ -75,11 +75,11 @@ pub fn phase(alloc: Global, pattern: &Pattern, matching: &mut Matching) -> Resul
 /// columns where they are as many. The matching must be of the pattern's entries and sizes. Answers
 /// `OutOfMemory` where there is no memory for 16 bytes a vertex of the side that is searched from,
 /// 4 more where it is unmatched and has entries, and 26 a vertex of the other side, or, for phases
-/// of shortest paths, 24 a vertex of the side that is searched from and 9 of the other, with what
-/// two growing lists of vertices take; the matching is
-/// dropped then. Work: one look at each row and column, and at most two passes over the entries for
-/// each phase. All but the last make the matching larger. They are at most 128 of both kinds, and
-/// then at most 2 sqrt(rank) + 2 of shortest paths, the last of which makes a pass more.
+/// of shortest paths, 20 a vertex of the side that is searched from and 9 of the other, with what
+/// two growing lists of vertices take; the matching is dropped then. Work: one look at each row
+/// and column, and at most two passes over the entries for each phase. All but the last make the
+/// matching larger. They are at most 128 of both kinds, and then at most 2 sqrt(rank) + 2 of
+/// shortest paths, the last of which makes a pass more.
 pub fn complete(
     alloc: Global,
     pattern: &Pattern,
