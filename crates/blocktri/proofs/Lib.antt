@@ -1,2 +1,4 @@
+pub mod DiagonalLemmas
 pub mod LookLemmas
+pub mod SetLemmas
 pub mod WriteLemmas

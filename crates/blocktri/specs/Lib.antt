@@ -1,3 +1,5 @@
 pub mod Answers
 pub mod Causes
+pub mod DiagonalCauses
+pub mod Diagonals
 pub mod Written

@@ -8,13 +8,20 @@
 #![tactic(auto)]
 
 mod block_form;
+mod bottleneck_matching;
+mod diagonal_refusals;
+mod heaviest_diagonal;
 mod maximum;
+mod narrow_prices;
 mod refusals;
 mod row_of_column;
 mod structural_rank;
 mod write;
 
 pub use block_form::{Sizes, decomposition};
+pub use bottleneck_matching::{LeastWeight, bottleneck};
+pub use diagonal_refusals::DiagonalRefusal;
+pub use heaviest_diagonal::{Sum, heaviest};
 pub use refusals::Refusal;
 pub use row_of_column::matching;
 pub use sp_pattern::{ColumnsError, Narrow, NumberList, Wide};
