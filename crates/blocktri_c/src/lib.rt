@@ -3,10 +3,13 @@
 //! run at once.
 //!
 //! Every call gives a status. At 0 there is an answer, and `fault` is as it was; at any other there
-//! is none, and nothing was written but `fault`: at 20 and 21 it gets the place of the fault.
+//! is none, and nothing was written but `fault`: at 4, 20 and 21 it gets the place of the fault.
 #![tactic(auto)]
 
 mod block_form;
+mod bottleneck_matching;
+mod diagonal_statuses;
+mod heaviest_diagonal;
 mod matching;
 mod rank;
 mod statuses;
