@@ -1,5 +1,7 @@
 pub mod ComponentLemmas
 pub mod DiagonalLemmas
+pub mod DiagonalOrderLemmas
 pub mod LawLemmas
 pub mod LookLemmas
+pub mod SetLemmas
 pub mod WriteLemmas

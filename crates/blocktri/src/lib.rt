@@ -8,9 +8,13 @@
 #![tactic(auto)]
 
 mod block_form;
+mod bottleneck_matching;
 mod diagonal_order;
+mod diagonal_refusals;
+mod heaviest_diagonal;
 mod laws;
 mod maximum;
+mod narrow_prices;
 mod outer_components;
 mod refusals;
 mod row_of_column;
@@ -18,7 +22,10 @@ mod structural_rank;
 mod write;
 
 pub use block_form::{Sizes, decomposition};
+pub use bottleneck_matching::{LeastWeight, bottleneck};
 pub use diagonal_order::block_order;
+pub use diagonal_refusals::DiagonalRefusal;
+pub use heaviest_diagonal::{Sum, heaviest};
 pub use laws::answers_are_those_of_a_file;
 pub use outer_components::{ComponentCounts, components};
 pub use refusals::Refusal;

@@ -1,7 +1,8 @@
 //! Maximum matchings, written into the caller's list.
 
 ghost use Rattle.std.specs.Prelude.{◌≡◌, ◌≢◌, ◌↔◌, ℕ, ◌<◌, ◌^◌, IfErr, IfOk, OnErr, length};
-ghost use Rattle.bip_defs.specs.Lists.{Among};
+ghost use Rattle.bip_defs.specs.Lists.{Among, AreDistinct};
+ghost use Rattle.bip_defs.specs.Matching.{cols_of};
 ghost use Rattle.bip_graph.specs.Answers.{IsMaximumOrLeast};
 ghost use Rattle.bip_graph.specs.Matching.{IsMaximumOf, none};
 ghost use Rattle.blocktri.specs.Answers.{AreRowsOf, HasLength, HasMatrix, TellsMatching};
@@ -12,7 +13,7 @@ use crate::maximum::{matched, maximum_matching};
 use crate::refusals::Refusal;
 use bip_graph::Matching;
 use least_match::least;
-use sp_ids::{Col, OutOfMemory};
+use sp_ids::{Col, OutOfMemory, Row};
 use sp_pattern::{ColumnsError, NumberList, check_columns};
 use std::alloc::Global;
 
@@ -99,5 +100,22 @@ fn row_or_none(matching: &Matching, col: Col) -> u32
     match matching.row_of(col) {
         Some(row) => row.0,
         None => NONE,
+    }
+}
+
+/// Writes the row of each column of a perfect matching.
+pub fn write_pairs(pairs: &[(Row, Col)], row_of_column: &mut [u32])
+    requires columns { (r c : ℕ) → Among (r, c) pairs.now → c < length row_of_column.old }
+    requires rows { (r c : ℕ) → Among (r, c) pairs.now → r ≢ none }
+    requires all { (c : ℕ) → c < length row_of_column.old → Among c (cols_of pairs.now) }
+    requires differ { AreDistinct (cols_of pairs.now) }
+    ensures long { length row_of_column.new ≡ length row_of_column.old }
+    ensures rows { AreRowsOf pairs.now row_of_column.new }
+{
+    for k in 0..pairs.len() {
+        let pair = pairs[k];
+        let row = pair.0;
+        let col = pair.1;
+        row_of_column[col.0 as usize] = row.0;
     }
 }

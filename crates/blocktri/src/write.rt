@@ -19,8 +19,8 @@ pub fn write_order<I: Id>(out: &mut [u32], first: &[I], middle: &[I], last: &[I]
     write_at(out, first.len() + middle.len(), last);
 }
 
-// Writes the numbers of a list from a place on.
-fn write_at<I: Id>(out: &mut [u32], at: usize, ids: &[I])
+/// Writes the numbers of a list from a place on.
+pub fn write_at<I: Id>(out: &mut [u32], at: usize, ids: &[I])
     requires { at + length ids.now ≤ length out.old }
     ensures { IsPut at (map I.number ids.now) out.old out.new }
 {

@@ -1,1 +1,2 @@
+pub mod DiagonalStatuses
 pub mod Statuses

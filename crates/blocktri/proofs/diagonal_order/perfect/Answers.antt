@@ -1,6 +1,6 @@
 use Rattle.std.proofs.Common.{◌≡◌, arith, refl}
 use Rattle.sp_pattern.specs.Columns.{matrix_of}
-use Rattle.blocktri.proofs.DiagonalLemmas.{no_perfect}
+use Rattle.blocktri.proofs.DiagonalOrderLemmas.{no_perfect}
 use Rattle.blocktri.proofs.diagonal_order.perfect.Goals as goal
 use Rattle.blocktri.proofs.diagonal_order.perfect.Goals.{then-cols-rows-via-then-cols-rows, then-cols-rows-via-else-cols-rows+then-size-rows}
 

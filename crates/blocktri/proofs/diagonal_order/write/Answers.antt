@@ -5,7 +5,7 @@ use Rattle.bip_defs.specs.Matrix.{cols}
 use Rattle.bip_defs.proofs.Full.{has_all_cols}
 use Rattle.bip_graph.specs.Answers.{orders_of}
 use Rattle.bip_graph.specs.Decompositions.{decomposition_of}
-use Rattle.blocktri.proofs.DiagonalLemmas.{order_told, three_same}
+use Rattle.blocktri.proofs.DiagonalOrderLemmas.{order_told, three_same}
 use Rattle.blocktri.proofs.WriteLemmas.{cols_long, few_blocks, once_long, rows_long}
 use Rattle.blocktri.proofs.diagonal_order.write.Goals as goal
 

@@ -1,0 +1,138 @@
+//! The heaviest diagonal of a matrix with values.
+
+ghost use Rattle.std.specs.Prelude.{◌≡◌, ◌≤ℤ◌, pos, IfErr, IfOk, OnErr, length};
+ghost use Rattle.blocktri.specs.Diagonals.{HasLargePrices, HasWeights, HaveHeaviestLengths, IsNarrowDiagonal, TellsHeaviest, number_of};
+ghost use Rattle.blocktri.specs.DiagonalCauses.{IsDiagonalRefusal};
+ghost use Rattle.sp_pattern.specs.Columns.{AreColumns};
+
+use crate::diagonal_refusals::{DiagonalRefusal, NO_MEMORY, of_values};
+use crate::narrow_prices::{are_narrow, write_prices};
+use crate::refusals::Refusal;
+use crate::row_of_column::write_pairs;
+use bip_graph::Heaviest;
+use sp_ids::{Col, Row};
+use sp_pattern::{NumberList, Pattern, Weights, check_columns};
+use std::alloc::Global;
+
+// 2^64
+const TWO_TO_64: u128 = 18446744073709551616;
+
+/// The sum of a diagonal's weights: `low` and 2^64 times `high`.
+#[repr(C)]
+#[derive(Clone, Copy, Debug, PartialEq, Eq)]
+pub struct Sum {
+    pub low: u64,
+    pub high: u64,
+}
+
+// A heaviest diagonal with fair prices that fit 64 bits.
+#[derive(Drop)]
+struct Diagonal {
+    pairs: Vec<(Row, Col)>,
+    row_prices: Vec<i128>,
+    column_prices: Vec<i128>,
+    sum: i128,
+}
+
+/// The heaviest diagonal of a square matrix with values: for each column its row in a perfect
+/// matching whose weights have a greatest sum, prices of the rows and the columns that show it, and
+/// the sum. The weight of a place is the magnitude of the sum of its values; each entry weighs at
+/// most the prices of its row and its column together, and each pair of the diagonal as much.
+///
+/// `values` must have a number for each id, `row_of_column` and `column_prices` a place for each
+/// column, `row_prices` one for each row; these lengths are looked at first. `SumLimit` exactly
+/// where the sum of some place's values passes the limit; `Singular` exactly where the matrix has no
+/// perfect matching; `PriceLimit` exactly where one of the prices that were found does not fit 64
+/// bits. Answers `OutOfMemory` as `sp_pattern::Pattern::of_columns`,
+/// `sp_pattern::Weights::of_columns` and `integer_diagonal::heaviest` do. Work: as these three.
+pub fn heaviest<N: NumberList>(
+    alloc: Global,
+    rows: u64,
+    starts: N,
+    ids: N,
+    values: &[i64],
+    row_of_column: &mut [u32],
+    row_prices: &mut [i64],
+    column_prices: &mut [i64],
+) -> Result<Sum, DiagonalRefusal>
+    ensures found { IfOk result (λ s. HasWeights rows (N.numbers starts) (N.numbers ids) values.now
+        (λ w. TellsHeaviest w s row_of_column.new row_prices.new column_prices.new)) }
+    ensures fit { IfOk result (λ s. HaveHeaviestLengths rows (N.numbers starts) (N.numbers ids)
+        values.now row_of_column.old row_prices.old column_prices.old) }
+    ensures refused { IfErr result (IsDiagonalRefusal (HaveHeaviestLengths rows (N.numbers starts)
+        (N.numbers ids) values.now row_of_column.old row_prices.old column_prices.old)
+        HasLargePrices rows (N.numbers starts) (N.numbers ids) values.now) }
+    ensures kept { OnErr result ((row_of_column.new ≡ row_of_column.old)
+        × (row_prices.new ≡ row_prices.old) × (column_prices.new ≡ column_prices.old)) }
+{
+    if values.len() != ids.len()
+        || row_of_column.len() != starts.len().saturating_sub(1)
+        || row_prices.len() as u64 != rows
+        || column_prices.len() != starts.len().saturating_sub(1)
+    {
+        return Err(DiagonalRefusal::Lists(Refusal::Lengths));
+    }
+    if let Err(error) = check_columns(rows, starts, ids) {
+        return Err(DiagonalRefusal::Lists(Refusal::Columns(error)));
+    }
+    let found = narrow_diagonal(alloc, rows as u32, starts, ids, values)?;
+    write_pairs(found.pairs.as_slice(), row_of_column);
+    write_prices(found.row_prices.as_slice(), row_prices);
+    write_prices(found.column_prices.as_slice(), column_prices);
+    Ok(words(found.sum))
+}
+
+// A heaviest diagonal with fair prices that fit 64 bits.
+fn narrow_diagonal<N: NumberList>(
+    alloc: Global,
+    rows: u32,
+    starts: N,
+    ids: N,
+    values: &[i64],
+) -> Result<Diagonal, DiagonalRefusal>
+    requires columns { AreColumns rows (N.numbers starts) (N.numbers ids) }
+    requires values { length values.now ≡ length (N.numbers ids) }
+    ensures found { IfOk result (λ d. HasWeights rows (N.numbers starts) (N.numbers ids) values.now
+        (λ w. IsNarrowDiagonal w d.pairs.items d.row_prices.items d.column_prices.items d.sum)) }
+    ensures refused { IfErr result (IsDiagonalRefusal (Unit {0}) HasLargePrices rows
+        (N.numbers starts) (N.numbers ids) values.now) }
+{
+    let Ok(pattern) = Pattern::of_checked_columns(alloc, rows, starts, ids) else {
+        return Err(NO_MEMORY);
+    };
+    let weights = match Weights::of_columns(alloc, &pattern, starts, ids, values) {
+        Ok(weights) => weights,
+        Err(error) => return Err(of_values(error)),
+    };
+    match integer_diagonal::heaviest(alloc, &pattern, &weights) {
+        Ok(Heaviest::Diagonal { pairs, u, v, sum }) => {
+            if !are_narrow(u.as_slice()) {
+                return Err(DiagonalRefusal::PriceLimit);
+            }
+            if !are_narrow(v.as_slice()) {
+                return Err(DiagonalRefusal::PriceLimit);
+            }
+            Ok(Diagonal {
+                pairs,
+                row_prices: u,
+                column_prices: v,
+                sum,
+            })
+        }
+        Ok(Heaviest::Rectangular) => Err(DiagonalRefusal::Singular),
+        Ok(Heaviest::Singular { .. }) => Err(DiagonalRefusal::Singular),
+        Err(_) => Err(NO_MEMORY),
+    }
+}
+
+// The words of a sum, which is not negative.
+fn words(sum: i128) -> Sum
+    requires { pos 0 ≤ℤ sum }
+    ensures { pos (number_of result) ≡ sum }
+{
+    let sum = sum as u128;
+    Sum {
+        low: (sum % TWO_TO_64) as u64,
+        high: (sum / TWO_TO_64) as u64,
+    }
+}

@@ -1,0 +1,101 @@
+//! The heaviest diagonal.
+
+ghost use Rattle.std.specs.Prelude.{◌≡◌, ◌≢◌, pos};
+ghost use Rattle.blocktri.specs.DiagonalCauses.{IsDiagonalRefusal};
+ghost use Rattle.blocktri.specs.Diagonals.{HasLargePrices, HasWeights, HaveHeaviestLengths, TellsHeaviest};
+ghost use Rattle.blocktri_c.specs.DiagonalStatuses.{RefusesDiagonal};
+
+use crate::diagonal_statuses::diagonal_status;
+use crate::statuses::OK;
+use blocktri::{Narrow, Sum, Wide};
+use std::alloc::Global;
+
+/// `blocktri::heaviest` of numbers of 32 bits. What `row_of_column`, `row_prices` and
+/// `column_prices` get stands there; the sum is written to `sum`.
+#[unsafe(no_mangle)]
+pub extern "C" fn blocktri_heaviest(
+    alloc: Global,
+    rows: u32,
+    starts: &[u32],
+    ids: &[u32],
+    values: &[i64],
+    row_of_column: &mut [u32],
+    row_prices: &mut [i64],
+    column_prices: &mut [i64],
+    sum: &mut Sum,
+    fault: &mut u64,
+) -> i32
+    ensures found { result ≡ pos 0 → HasWeights rows starts.now ids.now values.now
+        (λ w. TellsHeaviest w sum.new row_of_column.new row_prices.new column_prices.new) }
+    ensures no_fault { result ≡ pos 0 → fault.new ≡ fault.old }
+    ensures kept { result ≢ pos 0 → (row_of_column.new ≡ row_of_column.old)
+        × (row_prices.new ≡ row_prices.old) × (column_prices.new ≡ column_prices.old)
+        × (sum.new ≡ sum.old) }
+    ensures refused { result ≢ pos 0
+        → RefusesDiagonal (IsDiagonalRefusal (HaveHeaviestLengths rows starts.now ids.now
+        values.now row_of_column.old row_prices.old column_prices.old) HasLargePrices
+        rows starts.now ids.now values.now) result fault.old fault.new }
+{
+    let (starts, ids) = (Narrow { list: starts }, Narrow { list: ids });
+    match blocktri::heaviest(
+        alloc,
+        rows as u64,
+        starts,
+        ids,
+        values,
+        row_of_column,
+        row_prices,
+        column_prices,
+    ) {
+        Ok(found) => {
+            *sum = found;
+            OK
+        }
+        Err(refusal) => diagonal_status(refusal, fault),
+    }
+}
+
+/// `blocktri::heaviest` of numbers of 64 bits. What `row_of_column`, `row_prices` and
+/// `column_prices` get stands there; the sum is written to `sum`.
+#[unsafe(no_mangle)]
+pub extern "C" fn blocktri_heaviest_64(
+    alloc: Global,
+    rows: u64,
+    starts: &[u64],
+    ids: &[u64],
+    values: &[i64],
+    row_of_column: &mut [u32],
+    row_prices: &mut [i64],
+    column_prices: &mut [i64],
+    sum: &mut Sum,
+    fault: &mut u64,
+) -> i32
+    ensures found { result ≡ pos 0 → HasWeights rows starts.now ids.now values.now
+        (λ w. TellsHeaviest w sum.new row_of_column.new row_prices.new column_prices.new) }
+    ensures no_fault { result ≡ pos 0 → fault.new ≡ fault.old }
+    ensures kept { result ≢ pos 0 → (row_of_column.new ≡ row_of_column.old)
+        × (row_prices.new ≡ row_prices.old) × (column_prices.new ≡ column_prices.old)
+        × (sum.new ≡ sum.old) }
+    ensures refused { result ≢ pos 0
+        → RefusesDiagonal (IsDiagonalRefusal (HaveHeaviestLengths rows starts.now ids.now
+        values.now row_of_column.old row_prices.old column_prices.old) HasLargePrices
+        rows starts.now ids.now values.now) result fault.old fault.new }
+{
+    let (starts, ids) = (Wide { list: starts }, Wide { list: ids });
+    match blocktri::heaviest(
+        alloc,
+        rows,
+        starts,
+        ids,
+        values,
+        row_of_column,
+        row_prices,
+        column_prices,
+    ) {
+        Ok(found) => {
+            *sum = found;
+            OK
+        }
+        Err(refusal) => diagonal_status(refusal, fault),
+    }
+}
