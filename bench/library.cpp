@@ -16,6 +16,7 @@
 #include <string>
 #include <vector>
 
+#include <malloc.h>
 #include <sys/wait.h>
 #include <time.h>
 #include <unistd.h>
@@ -57,6 +58,7 @@ static void try_out(Call &call, unsigned limit) {
   int ends[2];
   if (pipe(ends)) stop("no pipe");
   std::fflush(nullptr);
+  malloc_trim(0);
   pid_t child = fork();
   if (child < 0) stop("no child");
   if (child == 0) {

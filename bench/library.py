@@ -35,11 +35,8 @@ BESIDE = {
 
 
 def build_library(options):
-    """The program in C++, compiled where it is older than its source or the library. Whether it compiled."""
+    """The program in C++, over the library that is named. Whether it compiled."""
     program, source = os.path.join(options.work, "library"), os.path.join(HERE, "library.cpp")
-    newest = max(os.path.getmtime(path) for path in (source, options.library, os.path.join(HERE, "columns.hpp")))
-    if os.path.exists(program) and os.path.getmtime(program) > newest:
-        return True
     command = ["g++", "-O3", "-std=c++17", "-o", program, source, options.library, "-lcxsparse", "-lbtf", "-ligraph"]
     return subprocess.run(command).returncode == 0
 
