@@ -8,7 +8,8 @@
  *   starts  where the row numbers of each column begin in ids: columns + 1 numbers, of which the first is 0, none is less than
  *           the one before it, and the last is ids_length. Column j has ids[starts[j]], .., ids[starts[j + 1] - 1];
  *   ids     row numbers, counted from 0, in any order within a column. A place that is given several times is one entry.
- * Numbers of values play no part. There may be at most 4,294,967,295 rows, 4,294,967,295 columns and 4,294,967,295 ids.
+ * Values play a part in blocktri_heaviest and blocktri_bottleneck alone. There may be at most 4,294,967,295 rows, as many columns,
+ * and as many ids.
  * Indices have 32 bits, or 64 bits in the calls whose names end in _64. A signed index may be passed as it stands: a negative
  * one is a number that no row or start has, and so it is refused.
  *
@@ -39,15 +40,20 @@ enum blocktri_status {
   BLOCKTRI_OK = 0,
   /* the matrix is not square, or its structural rank is less than its size */
   BLOCKTRI_SINGULAR = 1,
+  /* the sum of a place's values passes 9,223,372,036,854,775,807 in magnitude; of all such places this is the one of least
+   * column, and in it of least row, and ids[*fault] is its first id */
+  BLOCKTRI_SUM_LIMIT = 4,
   BLOCKTRI_OUT_OF_MEMORY = 7,
   /* starts[*fault] is the first start that is not right; of no starts at all, *fault is 0 */
   BLOCKTRI_BAD_START = 20,
   /* the starts are right, and ids[*fault] is the first id that is not less than rows */
   BLOCKTRI_BAD_ROW = 21,
-  /* a list to be written has not the length that the call asks for; this is looked at before anything else */
+  /* a list has not the length that the call asks for; this is looked at before anything else */
   BLOCKTRI_BAD_LENGTH = 22,
   /* there are more than 4,294,967,295 rows; this is looked at before the starts */
-  BLOCKTRI_TOO_MANY_ROWS = 23
+  BLOCKTRI_TOO_MANY_ROWS = 23,
+  /* a price of the heaviest diagonal that was found does not fit 64 bits */
+  BLOCKTRI_PRICE_LIMIT = 24
 };
 
 /* Stands for no row, and for no component. */
@@ -58,11 +64,13 @@ static inline const char *blocktri_text(int32_t status) {
   switch (status) {
     case BLOCKTRI_OK: return "there is an answer";
     case BLOCKTRI_SINGULAR: return "the matrix is not square, or structurally singular";
+    case BLOCKTRI_SUM_LIMIT: return "the sum of a place's values is too large";
     case BLOCKTRI_OUT_OF_MEMORY: return "there is not enough memory";
     case BLOCKTRI_BAD_START: return "a start of a column is not right";
     case BLOCKTRI_BAD_ROW: return "an id is not the number of a row";
-    case BLOCKTRI_BAD_LENGTH: return "a list to be written has the wrong length";
+    case BLOCKTRI_BAD_LENGTH: return "a list has the wrong length";
     case BLOCKTRI_TOO_MANY_ROWS: return "there are too many rows";
+    case BLOCKTRI_PRICE_LIMIT: return "a price does not fit 64 bits";
     default: return "this is no status of blocktri";
   }
 }
@@ -156,6 +164,44 @@ int32_t blocktri_block_order_64(uint64_t rows, const uint64_t *starts, size_t st
                                 size_t ids_length, uint32_t *row_order, size_t row_order_length, uint32_t *column_order,
                                 size_t column_order_length, uint32_t *block_starts, size_t block_starts_length,
                                 uint32_t *blocks, uint64_t *fault);
+/* VALUES. The two calls below are passed a value for each id. A place's weight is the magnitude of the sum of its values. They are
+ * about perfect matchings, which pair each row with a column by entries: BLOCKTRI_SINGULAR where there is none. */
+
+/* A sum of weights: low and 2^64 times high. */
+struct blocktri_sum {
+  uint64_t low;
+  uint64_t high;
+};
+
+/* The heaviest diagonal: a perfect matching whose weights have a greatest sum, with prices that show it. Each entry (i, j) weighs
+ * at most row_prices[i] + column_prices[j], and each pair of the matching as much; so no perfect matching weighs more. (As 128-bit
+ * numbers: the sum of two prices may pass 64 bits.)
+ *
+ * row_of_column[j] gets the row of column j, and *sum the sum of the weights. values_length must be ids_length, row_of_column and
+ * column_prices must have a place for each column, and row_prices one for each row. */
+int32_t blocktri_heaviest(uint32_t rows, const uint32_t *starts, size_t starts_length, const uint32_t *ids, size_t ids_length,
+                          const int64_t *values, size_t values_length, uint32_t *row_of_column, size_t row_of_column_length,
+                          int64_t *row_prices, size_t row_prices_length, int64_t *column_prices, size_t column_prices_length,
+                          struct blocktri_sum *sum, uint64_t *fault);
+int32_t blocktri_heaviest_64(uint64_t rows, const uint64_t *starts, size_t starts_length, const uint64_t *ids,
+                             size_t ids_length, const int64_t *values, size_t values_length, uint32_t *row_of_column,
+                             size_t row_of_column_length, int64_t *row_prices, size_t row_prices_length, int64_t *column_prices,
+                             size_t column_prices_length, struct blocktri_sum *sum, uint64_t *fault);
+
+/* The bottleneck: a perfect matching whose least weight is greatest, with columns that show it.
+ *
+ * row_of_column[j] gets the row of column j, and *least the least weight, which is 0 of no pairs. The first *columns_count places
+ * of columns get the columns that show it, rising: they are more than the rows in which they have entries above *least. So every
+ * perfect matching has a pair of at most that weight. What stands behind them in columns stays as it was. values_length must be
+ * ids_length, and row_of_column and columns must have a place for each column. */
+int32_t blocktri_bottleneck(uint32_t rows, const uint32_t *starts, size_t starts_length, const uint32_t *ids, size_t ids_length,
+                            const int64_t *values, size_t values_length, uint32_t *row_of_column, size_t row_of_column_length,
+                            uint64_t *least, uint32_t *columns, size_t columns_length, uint32_t *columns_count,
+                            uint64_t *fault);
+int32_t blocktri_bottleneck_64(uint64_t rows, const uint64_t *starts, size_t starts_length, const uint64_t *ids,
+                               size_t ids_length, const int64_t *values, size_t values_length, uint32_t *row_of_column,
+                               size_t row_of_column_length, uint64_t *least, uint32_t *columns, size_t columns_length,
+                               uint32_t *columns_count, uint64_t *fault);
 
 #ifdef __cplusplus
 }
