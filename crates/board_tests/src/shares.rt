@@ -1,6 +1,6 @@
 //! Workers that do their work at once, and their shares of a list.
 
-use level_sharing::{Work, share, share_work, work_at_once};
+use level_sharing::{Work, processors, share, share_work, work_at_once};
 use sp_ports::MeetGate;
 use std::convert::Infallible;
 use std::test::Fail;
@@ -59,13 +59,15 @@ fn little_work_starts_no_thread(rt: HostRuntime) -> Result<(), Fail> {
     Ok(())
 }
 
+// Where there is one processor alone, so is the thread, and worker 1 waits in vain.
 #[test]
 fn much_work_is_done_at_once(rt: HostRuntime) -> Result<(), Fail> {
     let gate = BarrierGate::without_threads(rt.alloc(), 2, 10_000_000)?;
     let mut sums = [10, 20];
     let Ok(()) = share_work(&rt, &gate, &AddNumber, 2_000, &mut sums);
     assert_eq!(rt; sums, [10, 21]);
-    assert!(rt; gate.have_arrived(2, 1) && !gate.ran_out());
+    assert!(rt; gate.have_arrived(2, 1));
+    assert_eq!(rt; gate.ran_out(), processors(&rt) == 1);
     Ok(())
 }
 
