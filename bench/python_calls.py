@@ -2,13 +2,14 @@
 """Times the calls of the Python package blocktri beside SciPy's for the same answer, and prints a table for each.
 
     make -C library python
-    PYTHONPATH=library/python /usr/bin/python3 bench/python_calls.py [--calls rank,matching,dmperm] [--families er27,grid2d]
-        [--entries 100000,1000000] [--formats csr,csc] [--repeats 5] [--limit SECONDS] [--work DIR]
+    PYTHONPATH=library/python /usr/bin/python3 bench/python_calls.py [--calls rank,matching,dmperm,full_matching]
+        [--families er27,grid2d] [--entries 100000,1000000] [--formats csr,csc] [--repeats 5] [--limit SECONDS] [--work DIR]
 
-The files are those of bench/run.py, made in the same folder. Each line is one process, in which both calls are made in turns on
-the same matrix; a field is the least of the repeats in milliseconds by the wall clock, with what the package does to arrays and
-lists in it. A process that takes more than the limit of processor seconds is stopped; SciPy's field is then `-`. SciPy has no
-call for what dmperm gives. Ranks and the sizes of matchings are compared; a difference makes the exit status 1.
+The files are those of bench/run.py, made in the same folder, by default those of its jobs rank and, for full matchings,
+diagonal. Each line is one process, in which both calls are made in turns on the same matrix; a field is the least of the
+repeats in milliseconds by the wall clock, with what the package does to arrays and lists in it. A process that takes more
+than the limit of processor seconds is stopped; SciPy's field is then `-`. SciPy has no call for what dmperm gives. Ranks, the
+sizes of matchings and sums of weights are compared; a difference makes the exit status 1.
 """
 import argparse
 import os
@@ -29,15 +30,20 @@ import blocktri
 import blocktri.csgraph
 
 
-def size_of(mates):
+def size_of(matrix, mates):
     return numpy.count_nonzero(mates >= 0)
 
 
-# call: the package's, SciPy's, and what of their answers must be the same
+def sum_of(matrix, matching):
+    return int(matrix[matching].sum())
+
+
+# call: the package's, SciPy's, and what of the matrix and their answers must be the same
 CALLS = {
-    "rank": (blocktri.csgraph.structural_rank, csgraph.structural_rank, int),
+    "rank": (blocktri.csgraph.structural_rank, csgraph.structural_rank, lambda matrix, rank: int(rank)),
     "matching": (blocktri.csgraph.maximum_bipartite_matching, csgraph.maximum_bipartite_matching, size_of),
-    "dmperm": (blocktri.dmperm, None, lambda form: form.rank),
+    "dmperm": (blocktri.dmperm, None, lambda matrix, form: form.rank),
+    "full_matching": (blocktri.csgraph.min_weight_full_bipartite_matching, csgraph.min_weight_full_bipartite_matching, sum_of),
 }
 
 
@@ -45,9 +51,11 @@ def loaded(path, form):
     """The matrix of a file, which is kept in NumPy's format beside it."""
     if not os.path.exists(path + ".npz"):
         with open(path, "rb") as file:
-            shape, numbers = matrix_market.read(file, 2)
-        rows, columns = numbers.astype(numpy.int32).T
-        kept = sparse.csc_matrix((numpy.ones(len(rows), numpy.int8), (rows, columns)), shape=shape)
+            has_values = b"integer" in file.readline()
+            shape, numbers = matrix_market.read(file, 3 if has_values else 2)
+        rows, columns = numbers[:, :2].astype(numpy.int32).T
+        values = numbers[:, 2] if has_values else numpy.ones(len(rows), numpy.int8)
+        kept = sparse.csc_matrix((values, (rows, columns)), shape=shape)
         sparse.save_npz(path + ".part.npz", kept, compressed=False)
         os.rename(path + ".part.npz", path + ".npz")
     return sparse.load_npz(path + ".npz").asformat(form)
@@ -62,7 +70,7 @@ def measure(call, path, form, repeats):
             if function:
                 begin = time.perf_counter()
                 answer = function(matrix)
-                print(name, 1000 * (time.perf_counter() - begin), number(answer), flush=True)
+                print(name, 1000 * (time.perf_counter() - begin), number(matrix, answer), flush=True)
 
 
 def least(options, call, path, form):
@@ -88,8 +96,9 @@ def table(options, call):
     print(f"\n`{call}`\n")
     print("| Family | Entries |" + "".join(f" {form.upper()}: blocktri | SciPy | ratio |" for form in options.formats))
     print("|---|---|" + "---|" * 3 * len(options.formats))
-    for family in options.families:
-        for entries in options.entries:
+    families, sizes = run.JOBS["diagonal" if call == "full_matching" else "rank"][:2]
+    for family in options.families or families.split(","):
+        for entries in options.entries or map(int, sizes.split(",")):
             path, texts = run.matrix(options.work, family, entries), []
             for form in options.formats:
                 times, agree = least(options, call, path, form)
@@ -110,8 +119,8 @@ def listed(kind):
 def main():
     parser = argparse.ArgumentParser(description=__doc__, formatter_class=argparse.RawDescriptionHelpFormatter)
     parser.add_argument("--calls", type=listed(str), default=list(CALLS))
-    parser.add_argument("--families", type=listed(str), default=run.PATTERNS.split(","))
-    parser.add_argument("--entries", type=listed(int), default=[100000, 1000000])
+    parser.add_argument("--families", type=listed(str))
+    parser.add_argument("--entries", type=listed(int))
     parser.add_argument("--formats", type=listed(str), default=["csr", "csc"])
     parser.add_argument("--repeats", type=int, default=5)
     parser.add_argument("--limit", type=int, default=60)

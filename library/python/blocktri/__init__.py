@@ -12,6 +12,7 @@ from 0.
 
 from ._block_order import BlockOrder, block_order
 from ._decomposition import Blocks, Decomposition, Part, Parts, dmperm
+from ._diagonals import BottleneckDiagonal, HeaviestDiagonal, bottleneck_diagonal, heaviest_diagonal
 from ._matching import maximum_matching, structural_rank
 from ._singular import StructurallySingular
 
@@ -20,12 +21,16 @@ StructurallySingular.__module__ = __name__
 __all__ = [
     "BlockOrder",
     "Blocks",
+    "BottleneckDiagonal",
     "Decomposition",
+    "HeaviestDiagonal",
     "Part",
     "Parts",
     "StructurallySingular",
     "block_order",
+    "bottleneck_diagonal",
     "dmperm",
+    "heaviest_diagonal",
     "maximum_matching",
     "structural_rank",
 ]

@@ -9,7 +9,8 @@ import numpy
 
 from ._columns import compressed, signed
 from ._decomposition import Lines
-from ._singular import call_square
+from ._library import call
+from ._singular import needing_diagonal
 
 
 class BlockOrder(NamedTuple):
@@ -63,7 +64,8 @@ def block_order(matrix: Any) -> BlockOrder:
     columns = compressed(matrix)
     size, blocks = columns.count, ctypes.c_uint32()
     orders = [numpy.empty(lines, numpy.uint32) for lines in (columns.rows, size, size + 1)]
-    call_square("block_order", matrix, columns, *orders, ctypes.byref(blocks))
+    with needing_diagonal(matrix, columns):
+        call("block_order", columns, *orders, ctypes.byref(blocks))
     starts = orders[2][: blocks.value + 1].astype(numpy.intp)
     rows, others = (signed(order, size) for order in orders[:2])
     if not columns.is_transposed:

@@ -54,6 +54,29 @@ def compressed(matrix: Any, keeps_rows: bool = False) -> Columns:
     return Columns(int(rows), starts, ids, is_transposed)
 
 
+def weighted(matrix: Any, keeps_rows: bool = False) -> tuple[Columns, numpy.typing.NDArray[numpy.int64]]:
+    """The columns of a matrix, as `compressed` has them, and a value for each of their places."""
+    matrix = _with_arrays(matrix, ("csc",) if keeps_rows else ("csc", "csr"))
+    columns, values = compressed(matrix), numpy.asarray(matrix.data)
+    if values.ndim != 1 or values.size < columns.ids.size:
+        raise ValueError(f"data has the shape {values.shape}, but there are {columns.ids.size} indices")
+    return columns, whole(values[: columns.ids.size])
+
+
+def whole(values: numpy.typing.NDArray[Any]) -> numpy.typing.NDArray[numpy.int64]:
+    """The values as integers of 64 bits, where they are such; they may stand as floating-point numbers."""
+    if values.dtype.kind in "bi":
+        return numpy.require(values, numpy.int64, ("C", "A"))
+    if values.dtype.kind not in "uf":
+        raise TypeError(f"values must be integers, not {values.dtype}")
+    with numpy.errstate(invalid="ignore"):
+        integers = values.astype(numpy.int64)
+    wrong = numpy.flatnonzero((integers != values) | (integers < 0) & (values > 0))
+    if wrong.size > 0:
+        raise TypeError(f"values must be integers of 64 bits, not {values[wrong[0]]}")
+    return integers
+
+
 def _with_arrays(matrix: Any, formats: tuple[str, ...]) -> Any:
     """The matrix itself where it has one of these formats, else what SciPy makes of it."""
     if getattr(matrix, "format", None) in formats:

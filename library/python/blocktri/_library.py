@@ -30,15 +30,19 @@ _CALLS = {
     "decomposition": (*_LIST, *_LIST, *_LIST, ctypes.c_void_p),
     "components": (*_LIST, *_LIST, ctypes.c_void_p),
     "block_order": (*_LIST, *_LIST, *_LIST, ctypes.c_void_p),
+    "heaviest": (*_LIST, *_LIST, *_LIST, *_LIST, ctypes.c_void_p),
+    "bottleneck": (*_LIST, *_LIST, ctypes.c_void_p, *_LIST, ctypes.c_void_p),
 }
 
 _NO_ELEMENTS = ctypes.c_uint64()
 
 _OK = 0
 _SINGULAR = 1
+_SUM_LIMIT = 4
 _OUT_OF_MEMORY = 7
 _BAD_START = 20
 _BAD_ROW = 21
+_PRICE_LIMIT = 24
 
 
 class NoPerfectMatching(Exception):
@@ -63,6 +67,12 @@ class ComponentCounts(ctypes.Structure):
     """``struct blocktri_component_counts``."""
 
     _fields_ = [("horizontal", ctypes.c_uint32), ("vertical", ctypes.c_uint32)]
+
+
+class Sum(ctypes.Structure):
+    """``struct blocktri_sum``."""
+
+    _fields_ = [("low", ctypes.c_uint64), ("high", ctypes.c_uint64)]
 
 
 def _load() -> ctypes.CDLL:
@@ -127,4 +137,10 @@ def _error(status: int, columns: Columns, fault: int) -> Exception:
     if status == _BAD_ROW:
         lines = "columns" if columns.is_transposed else "rows"
         return ValueError(f"indices[{fault}] is {columns.ids[fault]}, but the matrix has {columns.rows} {lines}")
+    if status == _SUM_LIMIT:
+        place = int(columns.ids[fault]), int(numpy.searchsorted(columns.starts, fault, "right")) - 1
+        row, column = place[::-1] if columns.is_transposed else place
+        return ValueError(f"the values in row {row}, column {column} add up to more than {2**63 - 1} in magnitude")
+    if status == _PRICE_LIMIT:
+        return ValueError("the values are too large: a price needs more than 64 bits")
     return RuntimeError(f"libblocktri answered with the status {status}")

@@ -2,11 +2,13 @@
 
 from __future__ import annotations
 
+import contextlib
+from collections.abc import Iterator
 from typing import Any
 
 from ._columns import Columns
 from ._decomposition import Lines, dmperm
-from ._library import NoPerfectMatching, call
+from ._library import NoPerfectMatching
 from ._words import listed
 
 
@@ -34,12 +36,13 @@ class StructurallySingular(ValueError):
         return f"the matrix is structurally singular: its rank is {self.rank} of {self.size}, since {columns} {have} {where}"
 
 
-def call_square(name: str, matrix: Any, columns: Columns, *arguments: object) -> None:
-    """Calls the library about a square matrix with a perfect matching, whose columns or rows are given too."""
+@contextlib.contextmanager
+def needing_diagonal(matrix: Any, columns: Columns) -> Iterator[None]:
+    """Around a call of the library that needs a perfect matching of a matrix, whose columns or rows are given too."""
     if columns.rows != columns.count:
-        raise ValueError(f"the matrix must be square, not of the shape {tuple(matrix.shape)}")
+        raise ValueError(f"the matrix must be square, but has {columns.rows} and {columns.count} lines")
     try:
-        call(name, columns, *arguments)
+        yield
     except NoPerfectMatching:
         form = dmperm(matrix)
         raise StructurallySingular(columns.rows, form.rank, *form.horizontal) from None
