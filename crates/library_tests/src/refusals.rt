@@ -1,0 +1,215 @@
+//! Lists that the calls on patterns refuse. Nothing is written then.
+
+use crate::small::{is_unwritten, unwritten};
+use blocktri::{
+    ColumnsError, Narrow, NumberList, Refusal, Wide, block_order, components, decomposition,
+    matching, rank,
+};
+use std::process::Abort;
+use std::test::Fail;
+
+// Each call refuses these lists for this reason.
+fn are_refused<R: Abort + AllocGlobal, N: NumberList>(
+    rt: &R,
+    rows: u32,
+    starts: N,
+    ids: N,
+    error: ColumnsError,
+) -> Result<(), Fail> {
+    assert_eq!(rt; rank(rt.alloc(), rows as u64, starts, ids), Err(error));
+    matchings_are_refused(rt, rows as u64, starts, ids, error)?;
+    orders_are_refused(rt, rows, starts, ids, error)?;
+    components_are_refused(rt, rows, starts, ids, error)
+}
+
+fn matchings_are_refused<R: Abort + AllocGlobal, N: NumberList>(
+    rt: &R,
+    rows: u64,
+    starts: N,
+    ids: N,
+    error: ColumnsError,
+) -> Result<(), Fail> {
+    let refusal = Err(Refusal::Columns(error));
+    let mut mates = unwritten(rt.alloc(), starts.len().saturating_sub(1))?;
+    let any = matching(rt.alloc(), rows, starts, ids, false, mates.as_mut_slice());
+    assert_eq!(rt; any, refusal);
+    let least = matching(rt.alloc(), rows, starts, ids, true, mates.as_mut_slice());
+    assert_eq!(rt; least, refusal);
+    is_unwritten(rt, mates.as_slice());
+    Ok(())
+}
+
+fn orders_are_refused<R: Abort + AllocGlobal, N: NumberList>(
+    rt: &R,
+    rows: u32,
+    starts: N,
+    ids: N,
+    error: ColumnsError,
+) -> Result<(), Fail> {
+    let refusal = Refusal::Columns(error);
+    let mut row_order = unwritten(rt.alloc(), rows as usize)?;
+    let mut column_order = unwritten(rt.alloc(), starts.len().saturating_sub(1))?;
+    let mut block_starts = unwritten(rt.alloc(), starts.len())?;
+    let form = decomposition(
+        rt.alloc(),
+        rows as u64,
+        starts,
+        ids,
+        row_order.as_mut_slice(),
+        column_order.as_mut_slice(),
+        block_starts.as_mut_slice(),
+    );
+    assert_eq!(rt; form, Err(refusal));
+    let order = block_order(
+        rt.alloc(),
+        rows as u64,
+        starts,
+        ids,
+        row_order.as_mut_slice(),
+        column_order.as_mut_slice(),
+        block_starts.as_mut_slice(),
+    );
+    assert_eq!(rt; order, Err(refusal));
+    is_unwritten(rt, row_order.as_slice());
+    is_unwritten(rt, column_order.as_slice());
+    is_unwritten(rt, block_starts.as_slice());
+    Ok(())
+}
+
+fn components_are_refused<R: Abort + AllocGlobal, N: NumberList>(
+    rt: &R,
+    rows: u32,
+    starts: N,
+    ids: N,
+    error: ColumnsError,
+) -> Result<(), Fail> {
+    let mut of_rows = unwritten(rt.alloc(), rows as usize)?;
+    let mut of_columns = unwritten(rt.alloc(), starts.len().saturating_sub(1))?;
+    let found = components(
+        rt.alloc(),
+        rows as u64,
+        starts,
+        ids,
+        of_rows.as_mut_slice(),
+        of_columns.as_mut_slice(),
+    );
+    assert_eq!(rt; found, Err(Refusal::Columns(error)));
+    is_unwritten(rt, of_rows.as_slice());
+    is_unwritten(rt, of_columns.as_slice());
+    Ok(())
+}
+
+fn narrow_are_refused<R: Abort + AllocGlobal>(
+    rt: &R,
+    rows: u32,
+    starts: &[u32],
+    ids: &[u32],
+    error: ColumnsError,
+) -> Result<(), Fail> {
+    are_refused(
+        rt,
+        rows,
+        Narrow { list: starts },
+        Narrow { list: ids },
+        error,
+    )
+}
+
+// There is none, the first is not 0, the third is less than the second, and the last is less than
+// the number of ids, or more.
+#[test]
+fn start_that_is_not_right(rt: HostRuntime) -> Result<(), Fail> {
+    narrow_are_refused(&rt, 2, &[], &[], ColumnsError::BadStart(0))?;
+    narrow_are_refused(&rt, 2, &[1, 1], &[0], ColumnsError::BadStart(0))?;
+    narrow_are_refused(&rt, 2, &[0, 2, 1], &[0], ColumnsError::BadStart(2))?;
+    narrow_are_refused(&rt, 2, &[0, 1], &[0, 1], ColumnsError::BadStart(1))?;
+    narrow_are_refused(&rt, 2, &[0, 1], &[], ColumnsError::BadStart(1))
+}
+
+// 5 and 7 are no rows of 3, and 2^32 is no row of one. Of no rows there is none.
+#[test]
+fn id_that_is_no_row(rt: HostRuntime) -> Result<(), Fail> {
+    let error = ColumnsError::BadRow(1);
+    narrow_are_refused(&rt, 3, &[0, 1, 3], &[2, 5, 7], error)?;
+    narrow_are_refused(&rt, 0, &[0, 1], &[0], ColumnsError::BadRow(0))?;
+    let (starts, ids) = ([0, 2], [0, 4294967296]);
+    are_refused(&rt, 1, Wide { list: &starts }, Wide { list: &ids }, error)
+}
+
+// The calls that write a number for each row look at the length of that list first.
+#[test]
+fn too_many_rows(rt: HostRuntime) -> Result<(), Fail> {
+    let (rows, error) = (4294967296, ColumnsError::TooManyRows);
+    let (starts, ids) = (Narrow { list: &[0, 1] }, Narrow { list: &[0] });
+    assert_eq!(rt; rank(rt.alloc(), rows, starts, ids), Err(error));
+    matchings_are_refused(&rt, rows, starts, ids, error)
+}
+
+// What is answered of one column with both of two rows, with lists of these lengths to be written.
+fn are_not_long<R: Abort + AllocGlobal>(
+    rt: &R,
+    rows: usize,
+    columns: usize,
+    starts: usize,
+) -> Result<(), Fail> {
+    let list = Narrow { list: &[0, 2] };
+    let ids = Narrow { list: &[0, 1] };
+    let mut row_order = unwritten(rt.alloc(), rows)?;
+    let mut column_order = unwritten(rt.alloc(), columns)?;
+    let mut block_starts = unwritten(rt.alloc(), starts)?;
+    let form = decomposition(
+        rt.alloc(),
+        2,
+        list,
+        ids,
+        row_order.as_mut_slice(),
+        column_order.as_mut_slice(),
+        block_starts.as_mut_slice(),
+    );
+    assert_eq!(rt; form, Err(Refusal::Lengths));
+    let order = block_order(
+        rt.alloc(),
+        2,
+        list,
+        ids,
+        row_order.as_mut_slice(),
+        column_order.as_mut_slice(),
+        block_starts.as_mut_slice(),
+    );
+    assert_eq!(rt; order, Err(Refusal::Lengths));
+    is_unwritten(rt, row_order.as_slice());
+    is_unwritten(rt, column_order.as_slice());
+    is_unwritten(rt, block_starts.as_slice());
+    Ok(())
+}
+
+// There are two rows and one column, and so two starts.
+#[test]
+fn lengths_of_orders(rt: HostRuntime) -> Result<(), Fail> {
+    are_not_long(&rt, 1, 1, 2)?;
+    are_not_long(&rt, 2, 2, 2)?;
+    are_not_long(&rt, 2, 1, 1)
+}
+
+#[test]
+fn lengths_of_components(rt: HostRuntime) {
+    let (starts, ids) = (Narrow { list: &[0, 2] }, Narrow { list: &[0, 1] });
+    let (mut short, mut long, mut longer) = ([7; 1], [7; 2], [7; 3]);
+    let few_rows = components(rt.alloc(), 2, starts, ids, &mut longer, &mut short);
+    assert_eq!(rt; few_rows, Err(Refusal::Lengths));
+    let many_columns = components(rt.alloc(), 2, starts, ids, &mut longer[..2], &mut long);
+    assert_eq!(rt; many_columns, Err(Refusal::Lengths));
+    assert_eq!(rt; (short, long, longer), ([7; 1], [7; 2], [7; 3]));
+}
+
+// The length is looked at before the lists, which have no start.
+#[test]
+fn length_of_a_matching(rt: HostRuntime) {
+    let (none, ids) = (Narrow { list: &[] }, Narrow { list: &[0, 1] });
+    let mut mates = [7; 1];
+    let any = matching(rt.alloc(), 2, none, ids, false, &mut mates);
+    assert_eq!(rt; any, Err(Refusal::Lengths));
+    let least = matching(rt.alloc(), 2, none, ids, true, &mut mates);
+    assert_eq!(rt; least, Err(Refusal::Lengths));
+    assert_eq!(rt; mates, [7]);
+}
