@@ -52,7 +52,7 @@ enum blocktri_status {
   BLOCKTRI_BAD_LENGTH = 22,
   /* there are more than 4,294,967,295 rows; this is looked at before the starts */
   BLOCKTRI_TOO_MANY_ROWS = 23,
-  /* a price of the heaviest diagonal that was found does not fit 64 bits */
+  /* no prices that show the heaviest diagonal all fit 64 bits */
   BLOCKTRI_PRICE_LIMIT = 24
 };
 
@@ -70,7 +70,7 @@ static inline const char *blocktri_text(int32_t status) {
     case BLOCKTRI_BAD_ROW: return "an id is not the number of a row";
     case BLOCKTRI_BAD_LENGTH: return "a list has the wrong length";
     case BLOCKTRI_TOO_MANY_ROWS: return "there are too many rows";
-    case BLOCKTRI_PRICE_LIMIT: return "a price does not fit 64 bits";
+    case BLOCKTRI_PRICE_LIMIT: return "no prices that show the diagonal fit 64 bits";
     default: return "this is no status of blocktri";
   }
 }

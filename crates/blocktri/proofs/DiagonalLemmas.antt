@@ -1,5 +1,5 @@
 -- What the diagonals' answers and refusals rest on.
-use Rattle.std.proofs.Common.{◌≡◌, ◌≢◌, ◌⊎◌, ◌↔◌, ◌∙◌, ℕ, ℤ, pos, ◌+◌, ◌-◌, ◌*◌, ◌^◌, ◌<◌, ◌≤◌, List, length, get_or, take, refl, sym, ap, arith, subst, inr, take_all, filter, map, nat_lt, [], ◌∷◌}
+use Rattle.std.proofs.Common.{◌≡◌, ◌≢◌, ◌∙◌, ℕ, ℤ, ◌-◌, ◌<◌, ◌≤◌, List, length, get_or, take, refl, sym, ap, arith, subst, inr, take_all, filter, map, nat_lt, [], ◌∷◌}
 use Rattle.std.proofs.lemmas.List.{length-map}
 use Rattle.bip_defs.specs.Bottleneck.{IsBest, IsFull, IsSingular, above}
 use Rattle.bip_defs.specs.Lists.{Among}

@@ -3,5 +3,6 @@ pub mod DiagonalLemmas
 pub mod DiagonalOrderLemmas
 pub mod LawLemmas
 pub mod LookLemmas
+pub mod PriceLemmas
 pub mod SetLemmas
 pub mod WriteLemmas

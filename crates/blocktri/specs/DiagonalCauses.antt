@@ -13,7 +13,7 @@ use Rattle.sp_pattern.specs.ValuedColumns.{IsFirstIdPast}
 use Rattle.sp_pattern.specs.Weights.{Weighing}
 
 -- by the order in which they are looked for, where `Fit` is that all lengths are right, and `Large`
--- when prices do not fit
+-- when no fair prices fit
 abbrev pub IsDiagonalRefusal : Type 0 → (Weighing → Type 0) → ℕ → List ℕ → List ℕ → List ℤ
     → DiagonalRefusal → Type 0
 IsDiagonalRefusal Fit Large rows starts ids values (Lists refusal) =

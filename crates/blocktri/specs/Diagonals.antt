@@ -9,6 +9,7 @@ use Rattle.blocktri.specs.Written.{IsPut}
 use Rattle.blocktri.specs.declared.bottleneck_matching.LeastWeight.{LeastWeight}
 use Rattle.blocktri.specs.declared.heaviest_diagonal.Sum.{Sum}
 use Rattle.integer_diagonal.specs.Heaviest.{IsHeaviestDiagonal}
+use Rattle.integer_diagonal.specs.Prices.{AreFair}
 use Rattle.sp_pattern.specs.Columns.{AreColumns, matrix_of}
 use Rattle.sp_pattern.specs.ValuedColumns.{entries_given}
 use Rattle.sp_pattern.specs.Weights.{AreWeightsOf, Weighing, weight_at}
@@ -49,14 +50,14 @@ pub record IsNarrowDiagonal (w : Weighing) (m : List Place) (u v : List ℤ)
   pub row_prices : AreNarrow u
   pub column_prices : AreNarrow v
 
--- a heaviest diagonal with fair prices, one of which does not fit
-pub record HasLargePrices (w : Weighing) : Type 0 where
+-- a heaviest diagonal, none of whose fair prices all fit 64 bits
+pub record HasNoNarrowPrices (w : Weighing) : Type 0 where
   pub pairs : List Place
   pub row_prices : List ℤ
   pub column_prices : List ℤ
   pub sum : ℤ
   pub heaviest : IsHeaviestDiagonal w pairs row_prices column_prices sum
-  pub large : ¬ (AreNarrow row_prices × AreNarrow column_prices)
+  pub none : (u v : List ℤ) → AreFair w pairs u v → AreNarrow u → AreNarrow v → ⊥
 
 -- the list has the row of each column's pair in a perfect matching whose least weight is greatest,
 -- and the other begins with the columns that show it; what stands farther on stays

@@ -5,4 +5,5 @@ pub mod DiagonalCauses
 pub mod Diagonals
 pub mod Looks
 pub mod OuterComponents
+pub mod RowPrices
 pub mod Written

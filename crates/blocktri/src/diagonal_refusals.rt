@@ -19,7 +19,7 @@ pub enum DiagonalRefusal {
     SumLimit(usize),
     /// There is no perfect matching: the matrix is not square, or its rank is less than its size.
     Singular,
-    /// One of the prices that were found does not fit 64 bits.
+    /// There are no fair prices of the heaviest diagonal that all fit 64 bits.
     PriceLimit,
 }
 

@@ -1,12 +1,12 @@
 //! The heaviest diagonal of a matrix with values.
 
 ghost use Rattle.std.specs.Prelude.{◌≡◌, ◌≤ℤ◌, pos, IfErr, IfOk, OnErr, length};
-ghost use Rattle.blocktri.specs.Diagonals.{HasLargePrices, HasWeights, HaveHeaviestLengths, IsNarrowDiagonal, TellsHeaviest, number_of};
+ghost use Rattle.blocktri.specs.Diagonals.{HasNoNarrowPrices, HasWeights, HaveHeaviestLengths, IsNarrowDiagonal, TellsHeaviest, number_of};
 ghost use Rattle.blocktri.specs.DiagonalCauses.{IsDiagonalRefusal};
 ghost use Rattle.sp_pattern.specs.Columns.{AreColumns};
 
 use crate::diagonal_refusals::{DiagonalRefusal, NO_MEMORY, of_values};
-use crate::narrow_prices::{are_narrow, write_prices};
+use crate::narrow_prices::{narrow, write_prices};
 use crate::refusals::Refusal;
 use crate::row_of_column::write_pairs;
 use bip_graph::Heaviest;
@@ -42,9 +42,10 @@ struct Diagonal {
 /// `values` must have a number for each id, `row_of_column` and `column_prices` a place for each
 /// column, `row_prices` one for each row; these lengths are looked at first. `SumLimit` exactly
 /// where the sum of some place's values passes the limit; `Singular` exactly where the matrix has no
-/// perfect matching; `PriceLimit` exactly where one of the prices that were found does not fit 64
-/// bits. Answers `OutOfMemory` as `sp_pattern::Pattern::of_columns`,
-/// `sp_pattern::Weights::of_columns` and `integer_diagonal::heaviest` do. Work: as these three.
+/// perfect matching; `PriceLimit` exactly where no prices that show it all fit 64 bits. Answers
+/// `OutOfMemory` as `sp_pattern::Pattern::of_columns`, `sp_pattern::Weights::of_columns` and
+/// `integer_diagonal::heaviest` do. Work: as these three; where the prices that were found do not
+/// fit, looks besides at all entries, as many times at most as there are rows.
 pub fn heaviest<N: NumberList>(
     alloc: Global,
     rows: u64,
@@ -61,7 +62,7 @@ pub fn heaviest<N: NumberList>(
         values.now row_of_column.old row_prices.old column_prices.old) }
     ensures refused { IfErr result (IsDiagonalRefusal (HaveHeaviestLengths rows (N.numbers starts)
         (N.numbers ids) values.now row_of_column.old row_prices.old column_prices.old)
-        HasLargePrices rows (N.numbers starts) (N.numbers ids) values.now) }
+        HasNoNarrowPrices rows (N.numbers starts) (N.numbers ids) values.now) }
     ensures kept { OnErr result ((row_of_column.new ≡ row_of_column.old)
         × (row_prices.new ≡ row_prices.old) × (column_prices.new ≡ column_prices.old)) }
 {
@@ -94,7 +95,7 @@ fn narrow_diagonal<N: NumberList>(
     requires values { length values.now ≡ length (N.numbers ids) }
     ensures found { IfOk result (λ d. HasWeights rows (N.numbers starts) (N.numbers ids) values.now
         (λ w. IsNarrowDiagonal w d.pairs.items d.row_prices.items d.column_prices.items d.sum)) }
-    ensures refused { IfErr result (IsDiagonalRefusal (Unit {0}) HasLargePrices rows
+    ensures refused { IfErr result (IsDiagonalRefusal (Unit {0}) HasNoNarrowPrices rows
         (N.numbers starts) (N.numbers ids) values.now) }
 {
     let Ok(pattern) = Pattern::of_checked_columns(alloc, rows, starts, ids) else {
@@ -106,10 +107,8 @@ fn narrow_diagonal<N: NumberList>(
     };
     match integer_diagonal::heaviest(alloc, &pattern, &weights) {
         Ok(Heaviest::Diagonal { pairs, u, v, sum }) => {
-            if !are_narrow(u.as_slice()) {
-                return Err(DiagonalRefusal::PriceLimit);
-            }
-            if !are_narrow(v.as_slice()) {
+            let (mut u, mut v) = (u, v);
+            if !narrow(&pattern, &weights, pairs.as_slice(), &mut u, &mut v) {
                 return Err(DiagonalRefusal::PriceLimit);
             }
             Ok(Diagonal {

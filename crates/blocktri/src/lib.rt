@@ -18,6 +18,7 @@ mod narrow_prices;
 mod outer_components;
 mod refusals;
 mod row_of_column;
+mod row_prices;
 mod structural_rank;
 mod write;
 

@@ -2,7 +2,7 @@
 
 ghost use Rattle.std.specs.Prelude.{◌≡◌, ◌≢◌, pos};
 ghost use Rattle.blocktri.specs.DiagonalCauses.{IsDiagonalRefusal};
-ghost use Rattle.blocktri.specs.Diagonals.{HasLargePrices, HasWeights, HaveHeaviestLengths, TellsHeaviest};
+ghost use Rattle.blocktri.specs.Diagonals.{HasNoNarrowPrices, HasWeights, HaveHeaviestLengths, TellsHeaviest};
 ghost use Rattle.blocktri_c.specs.DiagonalStatuses.{RefusesDiagonal};
 
 use crate::diagonal_statuses::diagonal_status;
@@ -33,7 +33,7 @@ pub extern "C" fn blocktri_heaviest(
         × (sum.new ≡ sum.old) }
     ensures refused { result ≢ pos 0
         → RefusesDiagonal (IsDiagonalRefusal (HaveHeaviestLengths rows starts.now ids.now
-        values.now row_of_column.old row_prices.old column_prices.old) HasLargePrices
+        values.now row_of_column.old row_prices.old column_prices.old) HasNoNarrowPrices
         rows starts.now ids.now values.now) result fault.old fault.new }
 {
     let (starts, ids) = (Narrow { list: starts }, Narrow { list: ids });
@@ -78,7 +78,7 @@ pub extern "C" fn blocktri_heaviest_64(
         × (sum.new ≡ sum.old) }
     ensures refused { result ≢ pos 0
         → RefusesDiagonal (IsDiagonalRefusal (HaveHeaviestLengths rows starts.now ids.now
-        values.now row_of_column.old row_prices.old column_prices.old) HasLargePrices
+        values.now row_of_column.old row_prices.old column_prices.old) HasNoNarrowPrices
         rows starts.now ids.now values.now) result fault.old fault.new }
 {
     let (starts, ids) = (Wide { list: starts }, Wide { list: ids });

@@ -1,4 +1,4 @@
-use Rattle.std.proofs.Common.{◌≡◌, ◌∙◌, ap, arith, length}
+use Rattle.std.proofs.Common.{◌∙◌, ap, arith, length}
 use Rattle.bip_defs.specs.Bottleneck.{IsBest}
 use Rattle.bip_defs.specs.Matrix.{cols}
 use Rattle.blocktri.specs.Diagonals.{HasWeights}

@@ -1,0 +1,12 @@
+use Rattle.std.proofs.Common.{◌≡◌, ◌-ℤ◌, length, pos, take}
+use Rattle.bip_defs.specs.Lists.{Among}
+use Rattle.bip_defs.specs.Matrix.{Place}
+use Rattle.integer_diagonal.specs.Prices.{price}
+use Rattle.sp_pattern.specs.Weights.{weight_at, weight_limit}
+use Rattle.blocktri.proofs.row_prices.first_prices.Given as goal
+
+abbrev pub invariant-loop-k : goal.invariant-loop-k
+invariant-loop-k l = record {
+  long : length l.u.items ≡ length l.fn.u.items;
+  set : (q : Place) → Among q (take l.k l.pairs) → price l.u.items q.0 ≡ (pos (weight_at l.weights q.0 q.1) -ℤ pos weight_limit);
+}
