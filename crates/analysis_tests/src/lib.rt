@@ -11,8 +11,6 @@ mod bottlenecks;
 #[cfg(test)]
 mod components;
 #[cfg(test)]
-mod compressed_columns;
-#[cfg(test)]
 mod diagonal_texts;
 #[cfg(test)]
 mod diagonals;
