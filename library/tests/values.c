@@ -186,6 +186,11 @@ static void is_refused(const struct weighted *a, int32_t heavy, int32_t wide, ui
 }
 
 static void refusals(void) {
+  struct weighted b = chain(3);
+  struct found least = heaviest(&b);
+  CHECK(least.status == BLOCKTRI_OK);
+  CHECK(least.row_prices[0] == -INT64_MAX && least.row_prices[1] == 0 && least.row_prices[2] == INT64_MAX);
+  CHECK(least.column_prices[0] == INT64_MAX && least.column_prices[1] == 0 && least.column_prices[2] == -INT64_MAX);
   struct weighted a = chain(4);
   is_refused(&a, BLOCKTRI_PRICE_LIMIT, BLOCKTRI_OK, 0);
   a.values[3] = INT64_MIN; /* row 2 of column 1 */
