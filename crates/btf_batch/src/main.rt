@@ -1,18 +1,18 @@
 //! `btf_batch`: the structural analysis of many sparse matrices, by many workers at once.
 #![tactic(auto)]
 
-ghost use Rattle.std.specs.Prelude.{◌≡◌, drop, map, string_bytes, IfErr, IfOk};
+ghost use Rattle.std.specs.Prelude.{◌≡◌, map, string_bytes, IfErr, IfOk};
 ghost use Rattle.std.specs.IoError.{error_kind};
 ghost use Rattle.std.specs.Process.{exit_status};
 ghost use Rattle.btf_batch.specs.Ends.{EndsWith, EndsWithoutWords, want_of_words};
 ghost use Rattle.sp_ports.specs.Device.{seen};
 
 use batch_core::{Refusal, refuse, run_batch};
-use process_ports::{StderrSink, StdinSource, StdoutSink};
+use process_ports::{StderrSink, StdinSource, StdoutSink, words};
 use sp_ports::{NoGate, Sink, Source};
+use std::io;
 use std::process::ExitCode;
 use std::thread::Threads;
-use std::{env, io};
 
 fn main(rt: HostRuntime) -> ExitCode {
     let mut input = StdinSource::new(rt.stdin());
@@ -51,26 +51,6 @@ fn exit_code_of<R: Threads + AllocGlobal + Sync, S: Source, O: Sink, E: Sink>(
     }
 }
 
-/// The words after the program's name.
-fn words(rt: &HostRuntime) -> io::Result<Vec<String>> {
-    let mut words = Vec::new(rt.alloc());
-    for word in env::args(rt)? {
-        words.push(word)?;
-    }
-    Ok(behind_name(words))
-}
-
-/// The words behind the first of them, which is the program's name.
-fn behind_name(words: Vec<String>) -> Vec<String>
-    ensures { result.items ≡ drop 1 words.items }
-{
-    let mut words = words;
-    if !words.is_empty() {
-        drop(words.remove(0));
-    }
-    words
-}
-
 /// Why there are no words: memory ran out, or one of them is not UTF-8, which the program does not
 /// take.
 fn want_of_words(error: &io::Error) -> Refusal
@@ -84,27 +64,12 @@ fn want_of_words(error: &io::Error) -> Refusal
 
 #[cfg(test)]
 mod tests {
-    use super::{behind_name, want_of_words};
+    use super::want_of_words;
     use batch_core::Refusal;
     use process_ports::{StderrSink, StdinSource, StdoutSink};
     use sp_ports::{Sink, Source};
     use std::io::{Error, ErrorKind};
     use std::test::Fail;
-
-    #[test]
-    fn the_name_is_no_word(rt: HostRuntime) -> Result<(), Fail> {
-        let alloc = rt.alloc();
-        let mut all = Vec::new(alloc);
-        for word in ["btf_batch", "--workers", "2"] {
-            all.push(String::from_str(alloc, word)?)?;
-        }
-        let words = behind_name(all);
-        assert_eq!(rt; words.len(), 2);
-        assert_eq!(rt; words[0].as_str(), "--workers");
-        assert_eq!(rt; words[1].as_str(), "2");
-        assert_eq!(rt; behind_name(Vec::new(alloc)).len(), 0);
-        Ok(())
-    }
 
     #[test]
     fn want_of_memory_is_told_apart(rt: HostRuntime) {

@@ -52,7 +52,7 @@ pub fn number_components<F: Id, N: Id, S: Side<F>, T: Side<N>>(
     requires few { cols (S.matrix side.now) < 2 ^ 32 }
     ensures { IfOk result (λ n. AreNumbers (S.matrix side.now) n.count n.rows.items n.cols.items) }
 {
-    let mut search = open(alloc, side, columns)?;
+    let mut search = all_waiting(alloc, side, columns)?;
     for at in 0..columns.len() {
         let col = columns[at].number();
         if search.cols.waiting[col as usize] {
@@ -63,7 +63,7 @@ pub fn number_components<F: Id, N: Id, S: Side<F>, T: Side<N>>(
 }
 
 // All rows, and all columns of the part, wait.
-fn open<F: Id, N: Id, S: Side<F>>(
+fn all_waiting<F: Id, N: Id, S: Side<F>>(
     alloc: Global,
     side: &S,
     columns: &[N],

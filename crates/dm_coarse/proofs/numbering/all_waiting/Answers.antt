@@ -1,7 +1,7 @@
 use Rattle.std.proofs.Common.{◌≡◌, ◌∙◌, ap, arith, replicate, rules, true, refl, []}
 use Rattle.bip_graph.specs.Matching.{none}
 use Rattle.dm_coarse.proofs.NumberingLemmas.{opened}
-use Rattle.dm_coarse.proofs.numbering.open.Goals as goal
+use Rattle.dm_coarse.proofs.numbering.all_waiting.Goals as goal
 
 pub marks-requires : goal.marks-requires
 marks-requires g c = λ k on. let lt = (c.requires.columns.sound k on).0 in omega (arith, lt, c.cols.ensures)
