@@ -4,7 +4,7 @@ use Rattle.std.proofs.lemmas.List.{get_or_read}
 use Rattle.bip_defs.specs.Lists.{Among, AreDistinct, IsRising}
 use Rattle.bip_defs.specs.Matching.{cols_of, rows_of}
 use Rattle.bip_defs.specs.Paths.{Reassigns}
-use Rattle.bip_defs.proofs.Sets.{row_pair}
+use Rattle.bip_defs.proofs.Sets.{col_pair, row_pair}
 use Rattle.bip_graph.specs.Matching.{AreMates, IsPairing, Pairing, none, pairs_of}
 use Rattle.bip_graph.proofs.Arrays.{cols_rising, missed, read, stored, unread}
 use Rattle.bip_graph.proofs.MateArrays.{back, row_missed, row_stored, row_unread, rows_differ}
@@ -24,6 +24,14 @@ col_without xs ys v i c x seen e lt r n = subst (λ (w : Pairing). c < w.cols �
 
 pub col_with : (xs ys : List ℕ) (v : Pairing) (i c x : ℕ) → shown xs ys ≡ v → i ≡ c → c < v.cols → x ≡ get_or xs i x → x ≢ none → Among (x, c) v.pairs
 col_with xs ys v i c x seen e lt r n = subst (λ (w : Pairing). c < w.cols → Among (x, c) w.pairs) seen (λ within. stored xs x c within (read_at xs i c x e within r) n) lt
+
+pub matched_within : (xs ys : List ℕ) {v : Pairing} {i c : ℕ} → shown xs ys ≡ v → i ≡ c → Among c (cols_of v.pairs) → i < length xs
+matched_within xs ys {i = i} {c = c} seen e = subst (λ (w : Pairing). Among c (cols_of w.pairs) → i < length xs) seen
+    (λ h. let (r, p) = col_pair c (pairs_of xs) h in subst (λ j. j < length xs) (sym e) (read xs r c p).0)
+
+pub matched_with : (xs ys : List ℕ) {v : Pairing} {i c x : ℕ} → shown xs ys ≡ v → i ≡ c → x ≡ get_or xs i x → Among c (cols_of v.pairs) → Among (x, c) v.pairs
+matched_with xs ys {i = i} {c = c} {x = x} seen e g = subst (λ (w : Pairing). Among c (cols_of w.pairs) → Among (x, c) w.pairs) seen
+    (λ h. let (r, p) = col_pair c (pairs_of xs) h in let is = read xs r c p in subst (λ y. Among (y, c) (pairs_of xs)) (sym is.1 ∙ read_at xs i c x e is.0 g) p)
 
 -- The mate of a row.
 

@@ -161,6 +161,15 @@ impl Matching {
         if col == NONE { None } else { Some(Col(col)) }
     }
 
+    /// The mate of a matched column.
+    pub fn mate(&self, col: Col) -> Row
+        requires { Among col (cols_of self.now.pairs) }
+        ensures row { Among (result, col) self.now.pairs }
+        ensures pairing { IsPairing self.now }
+    {
+        Row(self.row_of_col[col.0 as usize])
+    }
+
     /// Makes a pair of an unmatched row and an unmatched column, and keeps all pairs.
     pub fn pair(&mut self, row: Row, col: Col)
         requires row_in_range { row < self.old.rows }
@@ -172,6 +181,7 @@ impl Matching {
             ↔ ((p ≡ (row, col)) ⊎ Among p self.old.pairs) }
         ensures size { length self.new.pairs ≡ suc (length self.old.pairs) }
         ensures sizes { (self.new.rows ≡ self.old.rows) × (self.new.cols ≡ self.old.cols) }
+        ensures pairing { IsPairing self.new }
     {
         self.row_of_col[col.0 as usize] = row.0;
         self.col_of_row[row.0 as usize] = col.0;
@@ -185,6 +195,7 @@ impl Matching {
             ↔ (Among p self.old.pairs × (p.0 ≢ row)) }
         ensures size { length self.old.pairs ≡ suc (length self.new.pairs) }
         ensures sizes { (self.new.rows ≡ self.old.rows) × (self.new.cols ≡ self.old.cols) }
+        ensures pairing { IsPairing self.new }
     {
         let (at_row, at_col) = (row.0 as usize, col.0 as usize);
         self.row_of_col[at_col] = NONE;
@@ -238,7 +249,6 @@ impl Matching {
         }
         let step = path[last];
         self.pair(step.0, step.1);
-        self.is_matching();
     }
 }
 

@@ -46,8 +46,8 @@ returns-clause-sizes c = (c.pair.ensures.sizes.0 ∙ c.loop-i.invariant.rows, c.
 pub returns-clause-entries : goal.returns-clause-entries
 returns-clause-entries c = λ a m on_path. record {
   entries = exchange_entries a c.args.path.now c.args.self.now.pairs c.pair.new.self.pairs (returns-clause-pairs c) on_path m.entries;
-  rows_differ = c.is_matching-2.ensures.rows_differ;
-  cols_differ = rising_distinct _ c.is_matching-2.ensures.cols_rise;
+  rows_differ = c.pair.ensures.pairing.rows_differ;
+  cols_differ = rising_distinct _ c.pair.ensures.pairing.cols_rise;
 }
 
 pub returns-clause-covered : goal.returns-clause-covered

@@ -1,7 +1,7 @@
-use Rattle.std.proofs.Common.{ap, length, suc, ◌∙◌, arith}
+use Rattle.std.proofs.Common.{ap, length, refl, suc, ◌∙◌, arith}
 use Rattle.bip_graph.specs.Matching.{Pairing}
 use Rattle.bip_graph.proofs.RowGiven.{gives_adds, paired, paired_mates, paired_size, room}
-use Rattle.bip_graph.proofs.MatchingViews.{free_from, seen_gives}
+use Rattle.bip_graph.proofs.MatchingViews.{free_from, seen_gives, seen_pairing}
 use Rattle.bip_graph.proofs.matching.Matching.pair.Goals as goal
 
 pub overflow_add-self : goal.overflow_add-self
@@ -26,3 +26,8 @@ pub returns-clause-size : goal.returns-clause-size
 returns-clause-size c =
     let free = free_from c.self.invariant c.self.view_is c.row.view_is c.col.view_is c.requires.row_in_range c.requires.col_in_range c.requires.row_free c.requires.col_free in
     paired_size free ∙ ap (λ (w : Pairing). suc (length w.pairs)) c.self.view_is
+
+pub returns-clause-pairing : goal.returns-clause-pairing
+returns-clause-pairing c =
+    let free = free_from c.self.invariant c.self.view_is c.row.view_is c.col.view_is c.requires.row_in_range c.requires.col_in_range c.requires.row_free c.requires.col_free in
+    seen_pairing (paired_mates free) refl
