@@ -1,6 +1,6 @@
 //! Reading the files of a batch.
 
-ghost use Rattle.std.specs.Prelude.{◌≡◌, ◌≤◌, ◌<◌, ◌+◌, ◌++◌, ℕ, List, Some, length, IfErr, IfOk, IsTrue, MatchResult};
+ghost use Rattle.std.specs.Prelude.{◌≡◌, ◌≤◌, ◌<◌, ◌+◌, ◌++◌, ℕ, List, Some, length, IfErr, IfOk, IsTrue, MatchResult, OnOk};
 ghost use Rattle.std.specs.List.{All};
 ghost use Rattle.sp_ids.specs.Limits.{max_batch_files, max_batch_file_bytes};
 ghost use Rattle.sp_ports.specs.Bytes.{GivesPrefix, IsAtEnd};
@@ -139,6 +139,9 @@ pub fn read_files<S: Source>(
     ensures at_end { IsTrue input.new.at_end → IsAtEnd (S.left source.new) }
     ensures unasked { IsTrue input.old.at_end → source.new ≡ source.old }
     ensures stays { IsTrue input.old.at_end → IsTrue input.new.at_end }
+
+    // All files were read where a read has given none, whatever the source tells of its bytes.
+    ensures ended { OnOk result (IsTrue input.new.at_end) }
 
     ensures good { StaysGood input.new.good result }
     ensures limit { input.new.limit ≡ input.old.limit }

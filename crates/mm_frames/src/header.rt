@@ -1,6 +1,6 @@
 //! The header of a file in a batch: the line that tells how many bytes the file has.
 
-ghost use Rattle.std.specs.Prelude.{◌≡◌, ◌≤◌, ◌<◌, ◌+◌, ℕ, List, IfErr, IfOk, IfSome, IsTrue, length, if◌then◌else◌, true};
+ghost use Rattle.std.specs.Prelude.{◌≡◌, ◌≤◌, ◌<◌, ◌+◌, ℕ, List, IfErr, IfOk, IfNone, IfSome, IsTrue, length, if◌then◌else◌, true};
 ghost use Rattle.sp_ids.specs.Limits.{max_batch_files, max_batch_file_bytes};
 ghost use Rattle.sp_ports.specs.Bytes.{IsAtEnd};
 ghost use Rattle.sp_ports.specs.Device.{seen};
@@ -89,6 +89,7 @@ fn take_header(before: usize, line: &LineSoFar, last: bool) -> Result<FrameHeade
     ensures kind { IfErr result HasFrameKind }
     ensures few { IfOk result (λ header. before < max_batch_files) }
     ensures small { IfOk result (λ header. header.bytes ≤ max_batch_file_bytes) }
+    ensures last { IfOk result (λ header. header.last ≡ last) }
 {
     match judge_header(before, line) {
         Err(kind) => Err(refusal(before, kind)),
@@ -118,6 +119,9 @@ pub fn read_header<S: Source>(
     ensures at_end { IsTrue input.new.at_end → IsAtEnd (S.left source.new) }
     ensures unasked { IsTrue input.old.at_end → source.new ≡ source.old }
     ensures stays { IsTrue input.old.at_end → IsTrue input.new.at_end }
+    ensures none { IfOk result (λ header. IfNone header (IsTrue input.new.at_end)) }
+    ensures last { IfOk result (λ header. IfSome header (λ h. h.last ≡ true
+        → IsTrue input.new.at_end)) }
     ensures good { StaysGood input.new.good result }
     ensures limit { input.new.limit ≡ input.old.limit }
 {

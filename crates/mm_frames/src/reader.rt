@@ -1,6 +1,6 @@
 //! Reading edit lines.
 
-ghost use Rattle.std.specs.Prelude.{◌≡◌, ◌<◌, ◌+◌, ◌^◌, ◌++◌, ℕ, List, Some, length, true, false, IfErr, IfOk, IsTrue, MatchResult};
+ghost use Rattle.std.specs.Prelude.{◌≡◌, ◌<◌, ◌+◌, ◌^◌, ◌++◌, ℕ, List, Some, length, true, false, IfErr, IfOk, IsTrue, MatchResult, OnOk};
 ghost use Rattle.std.specs.List.{All};
 ghost use Rattle.sp_ports.specs.Bytes.{GivesPrefix, IsAtEnd};
 ghost use Rattle.sp_ports.specs.Device.{seen};
@@ -127,6 +127,9 @@ pub fn read_edits<S: Source>(
     ensures at_end { IsTrue input.new.at_end → IsAtEnd (S.left source.new) }
     ensures unasked { IsTrue input.old.at_end → source.new ≡ source.old }
     ensures stays { IsTrue input.old.at_end → IsTrue input.new.at_end }
+
+    // All lines were read where a read has given none, whatever the source tells of its bytes.
+    ensures ended { OnOk result (IsTrue input.new.at_end) }
 
     ensures good { KeepsGood input.new.good result }
     ensures limit { input.new.limit ≡ input.old.limit }
