@@ -183,9 +183,9 @@ classes_more a m m2 j classes count k x = record {
 pub fixed_excluded : (a : Matrix) (m : List Place) (j r d : ℕ) → Among (r, d) m → d < j → Excludes a m j r
 fixed_excluded a m j r d p lt n x h = let e = one_col n x.maximum.matching.rows_differ r d j ((x.agrees r d lt).0 p) h in omega arith
 
--- the row of a column of another class
-pub class_excluded : (a : Matrix) (m : List Place) (j r d : ℕ) (classes : List ℕ) (count : ℕ) → AreClasses a m j classes count → IsMaximum a m → j < cols a → Among (r, d) m → class_of classes d ≢ class_of classes j → Excludes a m j r
-class_excluded a m j r d classes count k max lt p ne n x h = tail_mate a m j classes count n m r j d k x (extends_itself a m j max) (record { from = omega arith; within = lt; class = refl }) h p (inr ne)
+-- the row of a column before j or of another class
+pub other_excluded : (a : Matrix) (m : List Place) (j r d : ℕ) (classes : List ℕ) (count : ℕ) → AreClasses a m j classes count → IsMaximum a m → j < cols a → Among (r, d) m → IsOther classes j d → Excludes a m j r
+other_excluded a m j r d classes count k max lt p other n x h = tail_mate a m j classes count n m r j d k x (extends_itself a m j max) (record { from = omega arith; within = lt; class = refl }) h p other
 
 -- the row of a column of a tight set to which j does not belong, or the other way round
 pub tight_excluded : (a : Matrix) (m : List Place) (j r d : ℕ) (xs : List ℕ) → IsTight a m j xs → Among (r, d) m → Among d xs → ¬ Among j xs → Excludes a m j r

@@ -1,30 +1,33 @@
 -- What a search that ends without a path shows, and what is kept.
-use Rattle.std.proofs.Common.{◌≡◌, ◌∙◌, ℕ, ◌+◌, ◌<◌, List, [], ◌∷◌, length, get_or, refl, sym, subst, ⊎_elim, arith}
+use Rattle.std.proofs.Common.{◌≡◌, ◌⊎◌, ◌∙◌, ℕ, ◌+◌, ◌<◌, List, [], ◌∷◌, length, get_or, refl, sym, subst, inl, inr, ⊎_elim, arith}
 use Rattle.std.proofs.lemmas.List.{get_or_read}
 use Rattle.bip_defs.specs.Lists.{Among}
 use Rattle.bip_defs.specs.Matching.{IsMaximum, cols_of}
 use Rattle.bip_defs.specs.Matrix.{Matrix, Place, cols}
 use Rattle.bip_defs.specs.Parts.{IsHorizontalCol, IsVerticalCol}
-use Rattle.bip_defs.specs.Queues.{Queue, heads}
+use Rattle.bip_defs.specs.Queues.{Queue, at, heads}
 use Rattle.bip_defs.proofs.Queues.{head_at}
 use Rattle.bip_defs.proofs.Square.{cols_apart}
 use Rattle.bip_graph.specs.Matching.{IsMaximumOf, Pairing}
 use Rattle.least_match.specs.Classes.{AreClasses, IsInTail, IsSplit, class_of}
+use Rattle.least_match.specs.Exchanges.{Frees}
 use Rattle.least_match.specs.Extensions.{Excludes, Extends, HasAt}
 use Rattle.least_match.specs.Outcomes.{AreParted, AreScanned, AreScannedBack, BackwardDecides, ForwardDecides, IsIn}
 use Rattle.least_match.specs.Ready.{IsReady}
 use Rattle.least_match.specs.Trees.{AreSearchTrees, IsTree}
+use Rattle.least_match.specs.declared.classes.Classes.{Classes}
 use Rattle.least_match.specs.declared.exchanges.Exchanges.{Exchanges}
 use Rattle.least_match.specs.declared.parts.Part.{Part}
 use Rattle.least_match.specs.declared.parts.Part.TheVariants.{Horizontal, Square, Vertical}
 use Rattle.least_match.proofs.ClassLemmas.{IsTight, backward_cols, backward_rows, classes_more, forward_cols, forward_rows, split_classes, tight_excluded, tight_excluded_back}
 
-forward_inner : (a : Matrix) (j : ℕ) (p : Part) → IsIn a j p → ForwardDecides p → ¬ IsHorizontalCol a j
+-- a tree that decides in the column's part
+pub forward_inner : (a : Matrix) (j : ℕ) (p : Part) → IsIn a j p → ForwardDecides p → ¬ IsHorizontalCol a j
 forward_inner a j Horizontal h decides = absurd decides
 forward_inner a j Square h decides = h.0
 forward_inner a j Vertical h decides = λ z. cols_apart a j z h
 
-backward_inner : (a : Matrix) (j : ℕ) (p : Part) → IsIn a j p → BackwardDecides p → ¬ IsVerticalCol a j
+pub backward_inner : (a : Matrix) (j : ℕ) (p : Part) → IsIn a j p → BackwardDecides p → ¬ IsVerticalCol a j
 backward_inner a j Horizontal h decides = cols_apart a j h
 backward_inner a j Square h decides = h.1
 backward_inner a j Vertical h decides = absurd decides
@@ -33,37 +36,39 @@ backward_inner a j Vertical h decides = absurd decides
 pub part_at : (a : Matrix) (parts : List Part) (j : ℕ) (p : Part) → AreParted a parts → j < cols a → p ≡ get_or parts j p → IsIn a j p
 part_at a parts j p k lt e = subst (IsIn a j) (sym (get_or_read parts j p (omega (arith, k.long)) e Square)) (k.each j lt)
 
-module _ (a : Matrix) (m : List Place) (j d r : ℕ) (classes : List ℕ) (count : ℕ) (f b : Queue) (p : Part) (k : AreClasses a m j classes count) (max : IsMaximum a m) (lt : j < cols a) (is : IsIn a j p) (t : AreSearchTrees a m classes j d f b) (mate : Among (r, d) m) where
+module _ (a : Matrix) (m : List Place) (j d r : ℕ) (classes : List ℕ) (count : ℕ) (f b : Queue) (k : AreClasses a m j classes count) (max : IsMaximum a m) (lt : j < cols a) (t : AreSearchTrees a m classes j d f b) (mate : Among (r, d) m) where
   j_on : Among j (heads b)
   j_on = subst (λ x. Among x (heads b)) t.backward_tree.root (head_at b 0 t.backward_tree.some)
 
   d_on : Among d (heads f)
   d_on = subst (λ x. Among x (heads f)) t.forward_tree.root (head_at f 0 t.forward_tree.some)
 
-  forward_tight : ForwardDecides p → AreScanned a m classes j f (length f) → IsTight a m j (heads f)
-  forward_tight decides scanned = record {
-    rows = forward_rows a m j classes count d f k max lt t.forward_tree scanned (forward_inner a j p is decides);
-    cols = forward_cols a m j classes count d f k max lt t.forward_tree scanned (forward_inner a j p is decides);
-  }
+  module _ (inner : ¬ IsHorizontalCol a j) (scanned : AreScanned a m classes j f (length f)) where
+    forward_tight : IsTight a m j (heads f)
+    forward_tight = record {
+      rows = forward_rows a m j classes count d f k max lt t.forward_tree scanned inner;
+      cols = forward_cols a m j classes count d f k max lt t.forward_tree scanned inner;
+    }
 
-  backward_tight : BackwardDecides p → AreScannedBack a m classes j b (length b) → IsTight a m j (heads b)
-  backward_tight decides scanned = record {
-    rows = backward_rows a m j classes count j b k max lt t.backward_tree scanned (backward_inner a j p is decides);
-    cols = backward_cols a m j classes count j b k max lt t.backward_tree scanned (backward_inner a j p is decides);
-  }
+    -- the row is excluded, and the tree is a class
+    pub forward_excludes : Excludes a m j r
+    forward_excludes = tight_excluded a m j r d (heads f) forward_tight mate d_on (λ h. t.apart j h j_on)
 
-  -- the row is excluded, and the tree is a class
-  pub forward_excludes : ForwardDecides p → AreScanned a m classes j f (length f) → Excludes a m j r
-  forward_excludes decides scanned = tight_excluded a m j r d (heads f) (forward_tight decides scanned) mate d_on (λ h. t.apart j h j_on)
+    pub forward_splits : (new : List ℕ) → IsSplit classes count (heads f) new → AreClasses a m j new (count + 1)
+    forward_splits new split = split_classes a m j classes new count (heads f) k split t.forward_tree.tail forward_tight
 
-  pub backward_excludes : BackwardDecides p → AreScannedBack a m classes j b (length b) → Excludes a m j r
-  backward_excludes decides scanned = tight_excluded_back a m j r d (heads b) max.matching (backward_tight decides scanned) mate (t.apart d d_on) j_on
+  module _ (inner : ¬ IsVerticalCol a j) (scanned : AreScannedBack a m classes j b (length b)) where
+    backward_tight : IsTight a m j (heads b)
+    backward_tight = record {
+      rows = backward_rows a m j classes count j b k max lt t.backward_tree scanned inner;
+      cols = backward_cols a m j classes count j b k max lt t.backward_tree scanned inner;
+    }
 
-  pub forward_splits : (new : List ℕ) → ForwardDecides p → AreScanned a m classes j f (length f) → IsSplit classes count (heads f) new → AreClasses a m j new (count + 1)
-  forward_splits new decides scanned split = split_classes a m j classes new count (heads f) k split t.forward_tree.tail (forward_tight decides scanned)
+    pub backward_excludes : Excludes a m j r
+    backward_excludes = tight_excluded_back a m j r d (heads b) max.matching backward_tight mate (t.apart d d_on) j_on
 
-  pub backward_splits : (new : List ℕ) → BackwardDecides p → AreScannedBack a m classes j b (length b) → IsSplit classes count (heads b) new → AreClasses a m j new (count + 1)
-  backward_splits new decides scanned split = split_classes a m j classes new count (heads b) k split t.backward_tree.tail (backward_tight decides scanned)
+    pub backward_splits : (new : List ℕ) → IsSplit classes count (heads b) new → AreClasses a m j new (count + 1)
+    backward_splits new split = split_classes a m j classes new count (heads b) k split t.backward_tree.tail backward_tight
 
 -- The trees of a search that begins.
 
@@ -77,14 +82,23 @@ one_tree a m classes j c p in_tail matched = record {
   behind = λ i some lt. absurd (omega (arith, some, lt));
 }
 
-pub trees_start : (a : Matrix) (m : List Place) (classes : List ℕ) (j d : ℕ) (f b : Queue) → f ≡ (d, 0) ∷ [] → b ≡ (j, 0) ∷ [] → j < d → d < cols a → class_of classes d ≡ class_of classes j → Among d (cols_of m) → Among j (cols_of m) → AreSearchTrees a m classes j d f b
-trees_start a m classes j d f b e g lt within class matched own = subst (λ (x : Queue). AreSearchTrees a m classes j d x b) (sym e) (subst (λ (y : Queue). AreSearchTrees a m classes j d ((d, 0) ∷ []) y) (sym g) (record {
-  forward_tree = one_tree a m classes j d 0 (record { from = omega arith; within = within; class = class }) matched;
+pub trees_start : (a : Matrix) (m : List Place) (classes : List ℕ) (j d : ℕ) (f b : Queue) → f ≡ (d, 0) ∷ [] → b ≡ (j, 0) ∷ [] → IsInTail a classes j d → j < d → Among d (cols_of m) → Among j (cols_of m) → AreSearchTrees a m classes j d f b
+trees_start a m classes j d f b e g in_tail lt matched own = subst (λ (x : Queue). AreSearchTrees a m classes j d x b) (sym e) (subst (λ (y : Queue). AreSearchTrees a m classes j d ((d, 0) ∷ []) y) (sym g) (record {
+  forward_tree = one_tree a m classes j d 0 in_tail matched;
   forward_led = λ i some l. absurd (omega (arith, some, l));
-  backward_tree = one_tree a m classes j j 0 (record { from = omega arith; within = omega arith; class = refl }) own;
+  backward_tree = one_tree a m classes j j 0 (record { from = omega arith; within = let within = in_tail.within in omega arith; class = refl }) own;
   backward_leads = λ i some l. absurd (omega (arith, some, l));
   apart = λ c h k. ⊎_elim (λ (z : c ≡ d). ⊎_elim (λ (y : c ≡ j). absurd (omega arith)) (λ (y : ⊥). y) k) (λ (z : ⊥). z) h;
 }))
+
+-- the row of the forward tree's first column is free
+pub root_frees : {a : Matrix} {m n : List Place} {classes : List ℕ} {j d r : ℕ} {f b : Queue} → AreSearchTrees a m classes j d f b → ((s : ℕ) → Among (s, (at f 0).0) m → Frees a m j s n) → Among (r, d) m → Frees a m j r n
+root_frees {m = m} {r = r} t frees mate = frees r (subst (λ x. Among {X = Place} (r, x) m) (sym t.forward_tree.root) mate)
+
+-- classes of which one was split off, or none where no number was left
+pub split_or_not : {a : Matrix} {m : List Place} {j : ℕ} {old new : Classes} {xs : List ℕ} → AreClasses a m j old.numbers.items old.count → (IsSplit old.numbers.items old.count xs new.numbers.items → AreClasses a m j new.numbers.items (old.count + 1)) → (new ≡ old) ⊎ (IsSplit old.numbers.items old.count xs new.numbers.items × (new.count ≡ old.count + 1)) → AreClasses a m j new.numbers.items new.count
+split_or_not {a = a} {m = m} {j = j} k split (inl e) = subst (λ (z : Classes). AreClasses a m j z.numbers.items z.count) (sym e) k
+split_or_not {a = a} {m = m} {j = j} {new = new} k split (inr s) = subst (AreClasses a m j new.numbers.items) (sym s.1) (split s.0)
 
 -- A maximum matching as contracts see it.
 

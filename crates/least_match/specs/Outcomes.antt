@@ -55,10 +55,10 @@ AreScanned a m classes j q n = (i : ℕ) → i < n → IsScanned a m classes j q
 abbrev pub AreScannedBack : Matrix → List Place → List ℕ → ℕ → Queue → ℕ → Type 0
 AreScannedBack a m classes j q n = (i : ℕ) → i < n → IsScannedBack a m classes j q (at q i).0
 
--- a path, or a tree that is complete
-abbrev pub EndsAs : Matrix → List Place → List ℕ → ℕ → Part → Queue → Queue → Outcome → Type 0
-EndsAs a m classes j part forward backward (Path meeting) = Meets a m j forward backward meeting
-EndsAs a m classes j part forward backward ForwardEnds = ForwardDecides part
+-- a path, or a tree that is complete, where no maximum matching misses a column of the class or none misses a row of it
+abbrev pub EndsAs : Matrix → List Place → List ℕ → ℕ → Queue → Queue → Outcome → Type 0
+EndsAs a m classes j forward backward (Path meeting) = Meets a m j forward backward meeting
+EndsAs a m classes j forward backward ForwardEnds = (¬ IsHorizontalCol a j)
     × AreScanned a m classes j forward (length forward)
-EndsAs a m classes j part forward backward BackwardEnds = BackwardDecides part
+EndsAs a m classes j forward backward BackwardEnds = (¬ IsVerticalCol a j)
     × AreScannedBack a m classes j backward (length backward)

@@ -26,20 +26,6 @@ pub enum Meeting {
     FreeCol { col: Col, to: u32 },
 }
 
-/// The row of a matched column.
-pub fn mate(matching: &Matching, col: Col) -> Row
-    requires { Among col (cols_of matching.now.pairs) }
-    ensures row { Among (result, col) matching.now.pairs }
-    ensures in_range { (result < matching.now.rows) × (col < matching.now.cols) }
-    ensures pairing { IsPairing matching.now }
-{
-    matching.is_matching();
-    match matching.row_of(col) {
-        Some(row) => row,
-        None => unreachable!(),
-    }
-}
-
 /// Parts a matched column from its row, which it gives.
 pub fn part(matching: &mut Matching, col: Col) -> Row
     requires { Among col (cols_of matching.old.pairs) }
@@ -52,9 +38,8 @@ pub fn part(matching: &mut Matching, col: Col) -> Row
         × (matching.new.cols ≡ matching.old.cols) }
     ensures pairings { IsPairing matching.old × IsPairing matching.new }
 {
-    let row = mate(matching, col);
+    let row = matching.mate(col);
     matching.unpair(row, col);
-    matching.is_matching();
     row
 }
 
@@ -73,7 +58,6 @@ pub fn swap(matching: &mut Matching, row: Row, col: Col) -> Row
 {
     let own = part(matching, col);
     matching.pair(row, col);
-    matching.is_matching();
     own
 }
 
@@ -91,7 +75,6 @@ pub fn pass(matching: &mut Matching, from: Col, to: Col) -> Row
 {
     let row = part(matching, from);
     matching.pair(row, to);
-    matching.is_matching();
     row
 }
 

@@ -108,25 +108,19 @@ impl<'p> Exchanges<'p> {
         ensures none { OnFalse result ((matching.new ≡ matching.old)
             × Excludes self.old.pattern.now matching.old.pairs col row) }
     {
-        let numbers = self.classes.numbers.as_slice();
-        if numbers[other.0 as usize] != numbers[col.0 as usize] {
-            return false;
-        }
-        self.forward.clear();
-        self.forward.push(other, 0);
-        self.backward.clear();
-        self.backward.push(col, 0);
-        let part = self.parts[col.0 as usize];
         let tail = ClassTail {
             pattern: self.pattern,
             classes: self.classes.numbers.as_slice(),
             col,
         };
-        match tail.search(matching, part, &mut self.forward, &mut self.backward) {
+        if !tail.has(other) {
+            return false;
+        }
+        let part = self.parts[col.0 as usize];
+        match tail.search(matching, part, other, &mut self.forward, &mut self.backward) {
             Outcome::Path(meeting) => {
                 tail.exchange_path(matching, &self.forward, &self.backward, meeting);
                 matching.pair(row, col);
-                matching.is_matching();
                 true
             }
             Outcome::ForwardEnds => {

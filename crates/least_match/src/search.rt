@@ -1,19 +1,19 @@
 //! Searches for exchanges, from both ends at once.
 
 ghost use Rattle.std.specs.Bool.{OnTrue, OnFalse};
-ghost use Rattle.std.specs.Prelude.{◌≡◌, ℕ, ◌<◌, ◌≤◌, length, IfSome, IfNone};
+ghost use Rattle.std.specs.Prelude.{◌≡◌, ℕ, ◌<◌, ◌≤◌, List, length, IfSome, IfNone};
 ghost use Rattle.bip_defs.specs.Lists.{Among};
 ghost use Rattle.bip_defs.specs.Matching.{cols_of};
-ghost use Rattle.bip_defs.specs.Matrix.{IsEntry, cols};
+ghost use Rattle.bip_defs.specs.Matrix.{IsEntry, Place, cols};
 ghost use Rattle.bip_defs.specs.Queues.{at, heads};
 ghost use Rattle.bip_graph.specs.Matching.{IsMatchingOf};
 ghost use Rattle.hall_witness.specs.Search.{IsPrefix};
 ghost use Rattle.least_match.specs.Classes.{IsOther, IsInTail};
 ghost use Rattle.least_match.specs.Exchanges.{Meets};
-ghost use Rattle.least_match.specs.Outcomes.{EndsAs, IsTurn};
+ghost use Rattle.least_match.specs.Outcomes.{EndsAs, IsIn, IsTurn};
 ghost use Rattle.least_match.specs.Trees.{AreSearchTrees, Enters, IsScanned, IsScannedBack, LeadsTo, Looks};
 
-use crate::exchange::{Meeting, mate};
+use crate::exchange::Meeting;
 use crate::parts::Part;
 use crate::tree::Tree;
 use bip_graph::Matching;
@@ -52,13 +52,32 @@ pub struct ClassTail<'p> {
 }
 
 impl ClassTail<'_> {
-    fn has(&self, col: Col) -> bool
+    /// Whether it has a column.
+    pub fn has(&self, col: Col) -> bool
         requires col { col < cols self.now.pattern.now }
         ensures yes { OnTrue result
             (IsInTail self.now.pattern.now self.now.classes.now self.now.col col) }
         ensures no { OnFalse result (IsOther self.now.classes.now self.now.col col) }
     {
         self.col.0 <= col.0 && self.classes[col.0 as usize] == self.classes[self.col.0 as usize]
+    }
+
+    // Begins the forward tree with a column behind its own, and the backward tree with its own.
+    fn begin(&self, first: Col, forward: &mut Tree, backward: &mut Tree)
+        requires first { IsInTail self.now.pattern.now self.now.classes.now self.now.col first }
+        requires behind { self.now.col < first }
+        requires cols { (forward.old.cols ≡ cols self.now.pattern.now)
+            × (backward.old.cols ≡ cols self.now.pattern.now) }
+        ensures cols { (forward.new.cols ≡ cols self.now.pattern.now)
+            × (backward.new.cols ≡ cols self.now.pattern.now) }
+        ensures trees { (m : List Place) → Among first (cols_of m) → Among self.now.col (cols_of m)
+            → AreSearchTrees self.now.pattern.now m self.now.classes.now self.now.col first
+            forward.new.queue backward.new.queue }
+    {
+        forward.clear();
+        forward.push(first, 0);
+        backward.clear();
+        backward.push(self.col, 0);
     }
 
     // Looks at a row in which the column at a place of the forward tree has an entry: adds its
@@ -217,7 +236,7 @@ impl ClassTail<'_> {
             self.now.col backward.new.queue (at backward.new.queue place).0) }
     {
         let (col, _) = backward.at(place);
-        let row = mate(matching, col);
+        let row = matching.mate(col);
         let found = self.pattern.cols_of(row);
         for next in found {
             match self.look_back(matching, *next, place, forward, backward) {
@@ -245,12 +264,12 @@ impl ClassTail<'_> {
         requires col { Among (at backward.now.queue place).0 (cols_of matching.now.pairs) }
     {
         let (col, _) = backward.at(place);
-        let row = mate(matching, col);
+        let row = matching.mate(col);
         self.pattern.cols_of(row).len() as u64
     }
 
-    /// Searches from the first column of the forward tree, and towards the one of the backward
-    /// tree, until a path is found or it is certain that there is none.
+    /// Searches from a column behind its own, and towards its own, by a tree from either end, until
+    /// a path is found or it is certain that there is none.
     ///
     /// The tree of which fewer entries were looked at grows next, so that a search which fails
     /// costs about as much as the set with fewer entries of the two that it parts, and the entries
@@ -259,25 +278,26 @@ impl ClassTail<'_> {
         &self,
         matching: &Matching,
         part: Part,
+        first: Col,
         forward: &mut Tree,
         backward: &mut Tree,
     ) -> Outcome
         requires matching { IsMatchingOf self.now.pattern.now matching.now }
         requires own { Among self.now.col (cols_of matching.now.pairs) }
+        requires part { IsIn self.now.pattern.now self.now.col part }
+        requires first { IsInTail self.now.pattern.now self.now.classes.now self.now.col first }
+        requires behind { self.now.col < first }
+        requires matched { Among first (cols_of matching.now.pairs) }
         requires cols { (forward.old.cols ≡ cols self.now.pattern.now)
             × (backward.old.cols ≡ cols self.now.pattern.now) }
-        requires trees { (d : ℕ) × AreSearchTrees self.now.pattern.now matching.now.pairs
-            self.now.classes.now self.now.col d forward.old.queue backward.old.queue }
-        ensures cols { (forward.new.cols ≡ forward.old.cols)
-            × (backward.new.cols ≡ backward.old.cols) }
-        ensures trees { (d : ℕ) → AreSearchTrees self.now.pattern.now matching.now.pairs
-            self.now.classes.now self.now.col d forward.old.queue backward.old.queue
-            → AreSearchTrees self.now.pattern.now matching.now.pairs
-            self.now.classes.now self.now.col d forward.new.queue backward.new.queue }
+        ensures cols { (forward.new.cols ≡ cols self.now.pattern.now)
+            × (backward.new.cols ≡ cols self.now.pattern.now) }
+        ensures trees { AreSearchTrees self.now.pattern.now matching.now.pairs
+            self.now.classes.now self.now.col first forward.new.queue backward.new.queue }
         ensures ends { EndsAs self.now.pattern.now matching.now.pairs self.now.classes.now
-            self.now.col part forward.new.queue backward.new.queue result }
+            self.now.col forward.new.queue backward.new.queue result }
     {
-        self.pattern.is_pattern();
+        self.begin(first, forward, backward);
         let mut ahead: u32 = 0;
         let mut back: u32 = 0;
         let mut looked_ahead: u64 = 0;

@@ -20,6 +20,13 @@ pub const COLUMNS: usize = 64;
 /// For how many candidates there is room at once.
 pub const ROOM: usize = 512;
 
+/// The lists of the columns from a place of the queue on.
+#[derive(Drop)]
+pub struct Batch<'l, 's, F: Id> {
+    pub lists: &'l [&'s [F]],
+    pub place: u32,
+}
+
 /// A row that may be visited next, from the column at a place of the queue.
 #[derive(Clone, Copy)]
 pub struct Candidate {
@@ -101,18 +108,18 @@ fn append<F: Id>(rows: &[F], place: u32, candidates: &mut [Candidate], len: usiz
 /// Gathers the rows of the lists from one on, as far as there is room for whole lists. The list
 /// where it ends, and how many candidates there are.
 pub fn gather<F: Id>(
-    lists: &[&[F]],
+    batch: &Batch<'_, '_, F>,
     from: usize,
-    place: u32,
     candidates: &mut [Candidate],
 ) -> (usize, usize)
-    requires from { from ≤ length lists.now }
-    requires places { place + length lists.now < 2 ^ 32 }
-    ensures end { (from ≤ result.0) × (result.0 ≤ length lists.now) }
+    requires from { from ≤ length batch.now.lists.now }
+    requires places { batch.now.place + length batch.now.lists.now < 2 ^ 32 }
+    ensures end { (from ≤ result.0) × (result.0 ≤ length batch.now.lists.now) }
     ensures room { result.1 ≤ length candidates.new }
-    ensures gathered { Gathers (numbers_in F.number lists.now) place from result.0
-        (take result.1 candidates.new) }
+    ensures gathered { Gathers (numbers_in F.number batch.now.lists.now) batch.now.place
+        from result.0 (take result.1 candidates.new) }
 {
+    let lists = batch.lists;
     let mut end = from;
     let mut len = 0;
     while end < lists.len() {
@@ -120,7 +127,7 @@ pub fn gather<F: Id>(
         if candidates.len() - len < rows.len() {
             return (end, len);
         }
-        append(rows, place + end as u32, candidates, len);
+        append(rows, batch.place + end as u32, candidates, len);
         len += rows.len();
         end += 1;
     }

@@ -10,7 +10,7 @@ ghost use Rattle.bip_graph.specs.Matching.{IsMatchingOf};
 ghost use Rattle.path_search.specs.Batches.{Follows, HaveRows, numbers_in};
 ghost use Rattle.path_search.specs.Forests.{Extends, HaveNoPath, IsForest, IsLeafOf, LeadOn, Progresses, Spreads, Traces, Visits, reached_at};
 
-use crate::batches::{Candidate, ROOM, gather, keep_unmarked, look_up, no_lists};
+use crate::batches::{Batch, Candidate, ROOM, gather, keep_unmarked, look_up, no_lists};
 use crate::columns::{sizes_fit, unmark_all};
 use crate::reached::{Reached, RootedQueue};
 use bip_graph::{Matching, Opposite, trace_back};
@@ -370,29 +370,29 @@ impl SearchForest {
         &mut self,
         side: &S,
         matching: &mut Matching,
-        lists: &[&[F]],
-        place: u32,
+        batch: &Batch<'_, '_, F>,
         at: usize,
         candidates: &mut [Candidate],
     ) -> usize
         requires matching { IsMatchingOf (S.matrix side.now) (F.seen matching.old) }
         requires forest { IsForest (S.matrix side.now) (F.seen matching.old).pairs self.old }
-        requires at { at < length lists.now }
-        requires within { place + length lists.now ≤ length self.old.queue }
+        requires at { at < length batch.now.lists.now }
+        requires within { batch.now.place + length batch.now.lists.now ≤ length self.old.queue }
         requires lists { HaveRows (S.matrix side.now) (F.seen matching.old).pairs self.old.queue
-            place (length lists.now) (numbers_in F.number lists.now) }
-        ensures end { (at < result) × (result ≤ length lists.now) }
+            batch.now.place (length batch.now.lists.now) (numbers_in F.number batch.now.lists.now) }
+        ensures end { (at < result) × (result ≤ length batch.now.lists.now) }
         ensures forest { IsForest (S.matrix side.now) (F.seen matching.new).pairs self.new }
         ensures extends { Extends self.old self.new }
         ensures matching { IsMatchingOf (S.matrix side.now) (F.seen matching.new) }
         ensures covered { Covers (F.seen matching.old).pairs (F.seen matching.new).pairs }
         ensures progresses { Progresses (S.matrix side.now) (F.seen matching.old)
-            (F.seen matching.new) self.old self.new (place + at) (place + result) }
+            (F.seen matching.new) self.old self.new
+            (batch.now.place + at) (batch.now.place + result) }
     {
         sizes_fit::<F, S>(side);
-        let (end, len) = gather(lists, at, place, candidates);
+        let (end, len) = gather(batch, at, candidates);
         if end == at {
-            self.grow(side, matching, place + at as u32);
+            self.grow(side, matching, batch.place + at as u32);
             return at + 1;
         }
         let kept = keep_unmarked(candidates, len, self.marks());
@@ -423,10 +423,13 @@ impl SearchForest {
     {
         sizes_fit::<F, S>(side);
         let count = look_up(side, matching, self.queue(), place as usize, lists);
-        let batch = &lists[..count];
+        let batch = Batch {
+            lists: &lists[..count],
+            place,
+        };
         let mut at = 0;
         while at < count {
-            at = self.look_through(side, matching, batch, place, at, candidates);
+            at = self.look_through(side, matching, &batch, at, candidates);
         }
         place + count as u32
     }

@@ -13,7 +13,7 @@ loop-end-init g c = record {
 pub loop-end-preserved : goal.loop-end-preserved
 loop-end-preserved g c =
     let k = c.loop-end.invariant in
-    let rows = numbers_at g.F.Id.number c.args.lists.now c.loop-end.end c.index-lists-end.result c.loop-end-test.true c.index-lists-end.is in
+    let rows = numbers_at g.F.Id.number c.args.batch.now.lists.now c.loop-end.end c.index-lists-end.result c.loop-end-test.true c.index-lists-end.is in
     record {
       after = (let before = k.after in omega arith);
       within = omega arith;

@@ -7,7 +7,7 @@ invariant-loop-end g l = record {
   after : l.from ≤ l.end;
   within : l.end ≤ length l.lists;
   room : l.len ≤ length l.candidates;
-  gathered : Gathers (numbers_in g.F.Id.number l.lists) l.place l.from l.end (take l.len l.candidates);
+  gathered : Gathers (numbers_in g.F.Id.number l.lists) l.batch.place l.from l.end (take l.len l.candidates);
 }
 
 abbrev pub decreases-loop-end : goal.decreases-loop-end

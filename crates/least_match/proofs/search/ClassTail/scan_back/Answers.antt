@@ -15,6 +15,9 @@ use Rattle.least_match.proofs.search.ClassTail.scan_back.Goals as goal
 pub mate-row-requires : goal.mate-row-requires
 mate-row-requires c = subst (λ (x : ℕ × ℕ). Among x.0 (cols_of c.args.matching.now.pairs)) (sym c.at-col.ensures) (c.requires.trees.1.backward_tree.matched _ (head_at c.args.backward.now.queue c.args.place c.requires.place))
 
+pub cols_of-found-requires : goal.cols_of-found-requires
+cols_of-found-requires c = (c.requires.matching.matching.entries _ _ c.mate-row.ensures.row).0
+
 pub look_back-requires-clause-place : goal.look_back-requires-clause-place
 look_back-requires-clause-place c = let le = grown_length _ _ c.loop-next.invariant.grows in omega (arith, le, c.requires.place)
 

@@ -5,24 +5,25 @@ use Rattle.bip_defs.specs.Queues.{at}
 use Rattle.bip_defs.proofs.Queues.{head_at}
 use Rattle.least_match.specs.Outcomes.{AreScanned, AreScannedBack}
 use Rattle.least_match.specs.Trees.{IsScanned, IsScannedBack}
+use Rattle.least_match.proofs.EndLemmas.{backward_inner, forward_inner}
 use Rattle.least_match.proofs.SearchLemmas.{grown_length, scanned_grown, scanned_grown_back, tree_few}
 use Rattle.least_match.proofs.search.ClassTail.search.Goals as goal
 
 pub returns-in-EndForward-clause-ends : goal.returns-in-EndForward-clause-ends
-returns-in-EndForward-clause-ends c = (c.in-EndForward.ensures.1, subst (AreScanned c.args.self.now.pattern.now c.args.matching.now.pairs c.args.self.now.classes.now c.args.self.now.col c.loop-forward.forward.queue) (c.in-EndForward.ensures.0 ∙ c.len.ensures.count) c.loop-forward.invariant.scanned)
+returns-in-EndForward-clause-ends c = (forward_inner _ _ _ c.requires.part c.in-EndForward.ensures.1, subst (AreScanned c.args.self.now.pattern.now c.args.matching.now.pairs c.args.self.now.classes.now c.args.self.now.col c.loop-forward.forward.queue) (c.in-EndForward.ensures.0 ∙ c.len.ensures.count) c.loop-forward.invariant.scanned)
 
 pub returns-in-EndBackward-clause-ends : goal.returns-in-EndBackward-clause-ends
-returns-in-EndBackward-clause-ends c = (c.in-EndBackward.ensures.1, subst (AreScannedBack c.args.self.now.pattern.now c.args.matching.now.pairs c.args.self.now.classes.now c.args.self.now.col c.loop-forward.backward.queue) (c.in-EndBackward.ensures.0 ∙ c.len-in-loop-forward.ensures.count) c.loop-forward.invariant.scanned_back)
+returns-in-EndBackward-clause-ends c = (backward_inner _ _ _ c.requires.part c.in-EndBackward.ensures.1, subst (AreScannedBack c.args.self.now.pattern.now c.args.matching.now.pairs c.args.self.now.classes.now c.args.self.now.col c.loop-forward.backward.queue) (c.in-EndBackward.ensures.0 ∙ c.len-in-loop-forward.ensures.count) c.loop-forward.invariant.scanned_back)
 
 pub scan_forward-requires-clause-trees : goal.scan_forward-requires-clause-trees
-scan_forward-requires-clause-trees c = (c.requires.trees.0, c.loop-forward.invariant.trees c.requires.trees.0 c.requires.trees.1)
+scan_forward-requires-clause-trees c = (_, c.loop-forward.invariant.trees)
 
 pub returns-in-Some-clause-trees : goal.returns-in-Some-clause-trees
-returns-in-Some-clause-trees c = λ d t. c.in-Some.ensures.trees d (c.loop-forward.invariant.trees d t)
+returns-in-Some-clause-trees c = c.in-Some.ensures.trees _ c.loop-forward.invariant.trees
 
 pub loop-forward-smaller-in-GrowForward : goal.loop-forward-smaller-in-GrowForward
 loop-forward-smaller-in-GrowForward c =
-    let few = tree_few _ _ _ _ _ _ (c.loop-forward.invariant.trees c.requires.trees.0 c.requires.trees.1).forward_tree in
+    let few = tree_few _ _ _ _ _ _ c.loop-forward.invariant.trees.forward_tree in
     let lt = c.in-GrowForward.ensures in
     let below : c.loop-forward.ahead < cols c.args.self.now.pattern.now = omega (arith, few, lt, c.len.ensures.count) in
     omega (arith, below)
@@ -36,7 +37,7 @@ loop-forward-preserved-in-GrowForward c =
     let more = grown_length _ _ grows in
     record {
       cols = (c.in-None.ensures.cols ∙ i.cols.0, i.cols.1);
-      trees = λ d t. c.in-None.ensures.trees d (i.trees d t);
+      trees = c.in-None.ensures.trees _ i.trees;
       ahead = omega (arith, within, more);
       back = i.back;
       scanned = below_more (λ k. IsScanned c.args.self.now.pattern.now c.args.matching.now.pairs c.args.self.now.classes.now c.args.self.now.col c.scan_forward.new.forward.queue (at c.scan_forward.new.forward.queue k).0) c.loop-forward.ahead (scanned_grown _ _ _ _ _ _ _ grows i.ahead i.scanned) c.in-None.ensures.scanned;
@@ -44,14 +45,14 @@ loop-forward-preserved-in-GrowForward c =
     }
 
 pub scan_back-requires-clause-trees : goal.scan_back-requires-clause-trees
-scan_back-requires-clause-trees c = (c.requires.trees.0, c.loop-forward.invariant.trees c.requires.trees.0 c.requires.trees.1)
+scan_back-requires-clause-trees c = (_, c.loop-forward.invariant.trees)
 
 pub returns-in-Some-scan_back-clause-trees : goal.returns-in-Some-scan_back-clause-trees
-returns-in-Some-scan_back-clause-trees c = λ d t. c.in-Some-scan_back.ensures.trees d (c.loop-forward.invariant.trees d t)
+returns-in-Some-scan_back-clause-trees c = c.in-Some-scan_back.ensures.trees _ c.loop-forward.invariant.trees
 
 pub loop-forward-smaller : goal.loop-forward-smaller
 loop-forward-smaller c =
-    let few = tree_few _ _ _ _ _ _ (c.loop-forward.invariant.trees c.requires.trees.0 c.requires.trees.1).backward_tree in
+    let few = tree_few _ _ _ _ _ _ c.loop-forward.invariant.trees.backward_tree in
     let lt = c.in-GrowBackward.ensures in
     let below : c.loop-forward.back < cols c.args.self.now.pattern.now = omega (arith, few, lt, c.len-in-loop-forward.ensures.count) in
     omega (arith, below)
@@ -65,7 +66,7 @@ loop-forward-preserved c =
     let more = grown_length _ _ grows in
     record {
       cols = (i.cols.0, c.in-None-scan_back.ensures.cols ∙ i.cols.1);
-      trees = λ d t. c.in-None-scan_back.ensures.trees d (i.trees d t);
+      trees = c.in-None-scan_back.ensures.trees _ i.trees;
       ahead = i.ahead;
       back = omega (arith, within, more);
       scanned = i.scanned;
@@ -78,7 +79,7 @@ entries_ahead-requires-clause-col c =
     let lt = c.in-GrowForward.ensures in
     let more = grown_length _ _ c.in-None.ensures.grows in
     let within : c.loop-forward.ahead < length c.scan_forward.new.forward.queue = omega (arith, lt, more, c.len.ensures.count) in
-    let trees = c.in-None.ensures.trees c.requires.trees.0 (i.trees c.requires.trees.0 c.requires.trees.1) in
+    let trees = c.in-None.ensures.trees _ i.trees in
     (trees.forward_tree.tail _ (head_at c.scan_forward.new.forward.queue c.loop-forward.ahead within)).within
 
 pub entries_back-requires-clause-col : goal.entries_back-requires-clause-col
@@ -87,5 +88,5 @@ entries_back-requires-clause-col c =
     let lt = c.in-GrowBackward.ensures in
     let more = grown_length _ _ c.in-None-scan_back.ensures.grows in
     let within : c.loop-forward.back < length c.scan_back.new.backward.queue = omega (arith, lt, more, c.len-in-loop-forward.ensures.count) in
-    let trees = c.in-None-scan_back.ensures.trees c.requires.trees.0 (i.trees c.requires.trees.0 c.requires.trees.1) in
+    let trees = c.in-None-scan_back.ensures.trees _ i.trees in
     trees.backward_tree.matched _ (head_at c.scan_back.new.backward.queue c.loop-forward.back within)

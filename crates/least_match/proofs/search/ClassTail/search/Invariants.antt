@@ -6,8 +6,8 @@ use Rattle.least_match.proofs.search.ClassTail.search.Given as goal
 
 abbrev pub invariant-loop-forward : goal.invariant-loop-forward
 invariant-loop-forward l = record {
-  cols : (l.forward.cols ≡ l.fn.forward.cols) × (l.backward.cols ≡ l.fn.backward.cols);
-  trees : (d : ℕ) → AreSearchTrees l.self.pattern.now l.matching.pairs l.self.classes.now l.self.col d l.fn.forward.queue l.fn.backward.queue → AreSearchTrees l.self.pattern.now l.matching.pairs l.self.classes.now l.self.col d l.forward.queue l.backward.queue;
+  cols : (l.forward.cols ≡ cols l.self.pattern.now) × (l.backward.cols ≡ cols l.self.pattern.now);
+  trees : AreSearchTrees l.self.pattern.now l.matching.pairs l.self.classes.now l.self.col l.fn.first l.forward.queue l.backward.queue;
   ahead : l.ahead ≤ length l.forward.queue;
   back : l.back ≤ length l.backward.queue;
   scanned : AreScanned l.self.pattern.now l.matching.pairs l.self.classes.now l.self.col l.forward.queue l.ahead;

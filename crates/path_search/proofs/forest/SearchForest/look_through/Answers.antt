@@ -9,8 +9,8 @@ gather-end-requires-clause-places g c = let short = forest_short _ _ _ c.require
 pub overflow_cast-at : goal.overflow_cast-at
 overflow_cast-at g c = let short = forest_short _ _ _ c.requires.forest in let few = c.sizes_fit.ensures.cols in let within = c.requires.within in omega arith
 
-pub overflow_add-place : goal.overflow_add-place
-overflow_add-place g c = let short = forest_short _ _ _ c.requires.forest in let few = c.sizes_fit.ensures.cols in let within = c.requires.within in omega arith
+pub overflow_add-batch : goal.overflow_add-batch
+overflow_add-batch g c = let short = forest_short _ _ _ c.requires.forest in let few = c.sizes_fit.ensures.cols in let within = c.requires.within in omega arith
 
 pub keep_unmarked-kept-requires-clause-in_range : goal.keep_unmarked-kept-requires-clause-in_range
 keep_unmarked-kept-requires-clause-in_range g c = λ x h. rw (c.marks.ensures, c.requires.forest.rows_are) (gathered_entries _ _ _ _ _ _ _ _ _ c.requires.lists c.gather-end.ensures.end.1 c.requires.within c.gather-end.ensures.gathered x h).1.0
