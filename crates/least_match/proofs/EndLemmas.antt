@@ -9,7 +9,7 @@ use Rattle.bip_defs.specs.Queues.{Queue, at, heads}
 use Rattle.bip_defs.proofs.Queues.{head_at}
 use Rattle.bip_defs.proofs.Square.{cols_apart}
 use Rattle.bip_graph.specs.Matching.{IsMaximumOf, Pairing}
-use Rattle.least_match.specs.Classes.{AreClasses, IsInTail, IsSplit, class_of}
+use Rattle.least_match.specs.Classes.{AreClasses, IsInTail, IsSplit}
 use Rattle.least_match.specs.Exchanges.{Frees}
 use Rattle.least_match.specs.Extensions.{Excludes, Extends, HasAt}
 use Rattle.least_match.specs.Outcomes.{AreParted, AreScanned, AreScannedBack, BackwardDecides, ForwardDecides, IsIn}

@@ -1,4 +1,4 @@
-use Rattle.std.proofs.Common.{◌≡◌, ◌≤◌, ◌-◌, ◌+◌, ℕ, length}
+use Rattle.std.proofs.Common.{◌≡◌, ◌≤◌, ◌-◌, ◌+◌, length}
 use Rattle.bip_defs.specs.Matrix.{cols}
 use Rattle.least_match.specs.Outcomes.{AreScanned, AreScannedBack}
 use Rattle.least_match.specs.Trees.{AreSearchTrees}
