@@ -17,7 +17,7 @@ pub record EndsWith (r : Run) (number : ℕ) : Type 0 where
   pub status : Status
   pub says : Says r status
   pub complete : Completes r status
-  -- no device is asked again after a call of it that failed
+  -- at most one call of each device fails
   pub input_once : FailsOnceAtMost r.input
   pub out_once : FailsOnceAtMost r.out
   pub err_once : FailsOnceAtMost r.err

@@ -58,7 +58,7 @@ pub fn run<R: Threads + Sync, S: Source, O: Sink, E: Sink, G: Gate>(
       err = seen E.taken E.faults err.old err.new;
     }) result }
 
-    // No device is asked again after a call of it that failed.
+    // At most one call of each device fails.
     ensures input_once { FailsOnceAtMost (seen S.left S.faults input.old input.new) }
     ensures out_once { FailsOnceAtMost (seen O.taken O.faults out.old out.new) }
     ensures err_once { FailsOnceAtMost (seen E.taken E.faults err.old err.new) }
