@@ -4,6 +4,7 @@
 mod answer;
 mod cover;
 mod engine;
+mod laws;
 mod roots;
 mod search;
 mod steps;
@@ -12,6 +13,7 @@ mod witness;
 pub use answer::Reach;
 pub use cover::Cover;
 pub use engine::plain;
+pub use laws::{cover_shows_maximum, cover_stands};
 pub use search::{reached, reached_if_maximum};
 pub use steps::Steps;
 pub use witness::{hall_set, reach, reach_in};
