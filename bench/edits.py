@@ -3,7 +3,7 @@
 
     apt-get install g++
     bench/edits.py --btf crates/btf/out/btf [--columns 1000,100000] [--edits 2000] [--blocks 5] [--clock processor]
-                   [--seed 1] [--work DIR]
+                   [--limit SECONDS] [--seed 1] [--work DIR]
 
 Of each number of columns there are three matrices with three entries a column or nearly so: `square`, lower triangular with
 its diagonal, so of full rank with one perfect matching; `wide`, the same with a quarter more columns behind it, of full row
@@ -22,11 +22,11 @@ take as many edits that it is longer.
 import argparse
 import os
 import random
-import resource
 import statistics
 import subprocess
 import sys
-import time
+
+from processes import once
 
 HERE = os.path.dirname(os.path.abspath(__file__))
 
@@ -89,14 +89,19 @@ def none_of(rows, columns, places, count, source):
     return lines
 
 
-def once(command, paths, clock):
+def session(command, paths, options):
     """The output over the files one after another, and the seconds by the clock."""
-    text = b"".join(open(path, "rb").read() for path in paths)
-    begin, used = time.perf_counter(), resource.getrusage(resource.RUSAGE_CHILDREN)
-    done = subprocess.run(command, input=text, capture_output=True, check=True)
-    wall, now = time.perf_counter() - begin, resource.getrusage(resource.RUSAGE_CHILDREN)
-    processor = now.ru_utime + now.ru_stime - used.ru_utime - used.ru_stime
-    return done.stdout, wall if clock == "wall" else processor
+    both, out = (os.path.join(options.work, name) for name in ("both.txt", "out.txt"))
+    with open(both, "wb") as text:
+        for path in paths:
+            with open(path, "rb") as part:
+                text.write(part.read())
+    done = once(command, both, out, options.limit)
+    if done is None:
+        sys.exit(f"edits.py: {command[0]} did not end well")
+    wall, processor, _ = done
+    with open(out, "rb") as text:
+        return text.read(), wall if options.clock == "wall" else processor
 
 
 def write(path, lines):
@@ -114,6 +119,7 @@ def main():
     parser.add_argument("--edits", type=int, default=2000)
     parser.add_argument("--blocks", type=int, default=5)
     parser.add_argument("--clock", choices=["wall", "processor"], default="wall")
+    parser.add_argument("--limit", type=int, default=600, help="processor seconds of one run")
     parser.add_argument("--seed", type=int, default=1)
     parser.add_argument("--work", default="bench-work")
     options = parser.parse_args()
@@ -130,7 +136,7 @@ def main():
             rows, cols, places = places_of(shape, columns, source)
             head = ["%%MatrixMarket matrix coordinate pattern general", "%d %d %d" % (rows, cols, len(places))]
             file = write(os.path.join(options.work, "session.mtx"), head + ["%d %d" % place for place in sorted(places)])
-            rank = min(once([options.btf, "rank"], [file], options.clock)[1] for _ in range(3))
+            rank = min(session([options.btf, "rank"], [file], options)[1] for _ in range(3))
             for kind in options.kinds.split(","):
                 micros = {name: [] for name in programs}
                 for _ in range(options.blocks):
@@ -139,8 +145,8 @@ def main():
                     edits = write(os.path.join(options.work, "edits.txt"), lines)
                     texts = []
                     for name, command in programs.items():
-                        base = min(once(command, [file, none], options.clock)[1] for _ in range(2))
-                        runs = [once(command, [file, edits], options.clock) for _ in range(2)]
+                        base = min(session(command, [file, none], options)[1] for _ in range(2))
+                        runs = [session(command, [file, edits], options) for _ in range(2)]
                         texts.append(runs[0][0])
                         micros[name].append((min(run[1] for run in runs) - base) / len(lines) * 1e6)
                     if texts[0] != texts[1]:
