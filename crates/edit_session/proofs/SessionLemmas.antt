@@ -10,7 +10,6 @@ use Rattle.bip_defs.proofs.Full.{few_below}
 use Rattle.bip_defs.proofs.Sets.{col_among, col_pair, entry_col, one_row, place_same, rising_distinct, row_pair}
 use Rattle.bip_graph.specs.Matching.{IsMatchingOf, IsMaximumOf, Pairing}
 use Rattle.hall_witness.specs.Covers.{HasMarkedMate, IsCover, IsCovered}
-use Rattle.hall_witness.proofs.CoverLemmas.{cover_cols, cover_length, cover_maximum, cover_rows, inside, outside, tight}
 use Rattle.sp_pattern.specs.Stored.{IsPattern}
 use Rattle.edit_session.specs.Sessions.{IsFull, IsKept, IsNearMaximum, MatchedMatrix}
 
@@ -57,6 +56,16 @@ paired_matching a m n p k e added rows rising = record {
 
 -- The cover.
 
+-- the laws on covers that a function has called
+abbrev pub CoversShowMaximum : Type 0
+CoversShowMaximum = (a : Matrix) (m : List Place) (marks : List Bool) → IsMatching a m → IsCover a m marks → IsMaximum a m
+
+abbrev pub CoversStandAsLong : Type 0
+CoversStandAsLong = (a : Matrix) (m n : List Place) (marks : List Bool) → IsCover a m marks → IsMatching a n → length n ≡ length m → IsCover a n marks
+
+abbrev pub CoversStandLonger : Type 0
+CoversStandLonger = (a : Matrix) (p : Place) (m n : List Place) (marks : List Bool) → IsCover (without_place a p) m marks → IsMatching a n → length n ≡ suc (length m) → IsCover a n marks
+
 abbrev pub matched : Matrix → Pairing → List Bool → MatchedMatrix
 matched a m marks = record { matrix = a; matching = m; marks = marks }
 
@@ -93,20 +102,6 @@ covers_paired b p m n marks k added = record {
     kept : (r : ℕ) → HasMarkedMate m marks r → HasMarkedMate n marks r
     kept r (d, pair, h) = (d, (added (r, d)).1 (inr pair), h)
 
--- there is one pair more
-covers_longer : (b : Matrix) (p : Place) (m n : List Place) (marks : List Bool) → IsCover (without_place b p) m marks → IsMatching b n → length n ≡ suc (length m) → IsCover b n marks
-covers_longer b p m n marks k l e = tight b marks (p.0 ∷ rows_of (inside marks m)) (cols_of (outside marks m)) n (k.long ∙ width b p) l few rows (λ c lt off. cover_cols (without_place b p) m marks c k (let w = width b p in omega (arith, w, lt)) off)
-  where
-    few : suc (length (rows_of (inside marks m))) + length (cols_of (outside marks m)) ≤ length n
-    few = let sum = cover_length marks m in omega (arith, sum, e)
-
-    rows : (r c : ℕ) → IsMarked marks c → IsEntry b r c → Among r (p.0 ∷ rows_of (inside marks m))
-    rows r c on h = ⊎_elim (λ (s : (r, c) ≡ p). inl (ap (λ (q : Place). q.0) s)) (λ old. inr (cover_rows (without_place b p) m marks r c k on old)) (but_one b p r c h)
-
--- there are other pairs, as many
-covers_as_long : (b : Matrix) (m n : List Place) (marks : List Bool) → IsCover b m marks → IsMatching b n → length n ≡ length m → IsCover b n marks
-covers_as_long b m n marks k l e = tight b marks (rows_of (inside marks m)) (cols_of (outside marks m)) n k.long l (let sum = cover_length marks m in omega (arith, sum, e)) (λ r c on h. cover_rows b m marks r c k on h) (λ c lt off. cover_cols b m marks c k lt off)
-
 covers_left : (a : Matrix) (p : Place) (m : List Place) (marks : List Bool) → IsCover a m marks → IsCover (without_place a p) m marks
 covers_left a p m marks k = record {
   long = k.long ∙ sym (width a p);
@@ -122,12 +117,15 @@ left_long a p marks long = long ∙ sym (width a p)
 pub full_kept : (b : Matrix) (m : Pairing) (marks : List Bool) → IsMatchingOf b m → length marks ≡ cols b → IsFull b m.pairs → IsKept b m marks
 full_kept b m marks l long full = record { maximum = full_maximum b m l full; long = long; cover = inl full }
 
-pub covered_kept : (b : Matrix) (m : Pairing) (marks : List Bool) → IsMatchingOf b m → IsCover b m.pairs marks → IsKept b m marks
-covered_kept b m marks l k = record { maximum = record { matching = l; maximum = cover_maximum b m.pairs marks l.matching k }; long = k.long; cover = inr k }
+pub covered_kept : (b : Matrix) (m : Pairing) (marks : List Bool) → IsMaximumOf b m → IsCover b m.pairs marks → IsKept b m marks
+covered_kept b m marks l k = record { maximum = l; long = k.long; cover = inr k }
 
-pub had_kept : (b : Matrix) (p : Place) (m : Pairing) (marks : List Bool) → IsMatchingOf b m → length marks ≡ cols b → IsFull b m.pairs ⊎ IsCover (without_place b p) m.pairs marks → IsCovered m.pairs marks p → IsKept b m marks
-had_kept b p m marks l long (inl full) had = full_kept b m marks l long full
-had_kept b p m marks l long (inr k) had = covered_kept b m marks l (covers_again b p m.pairs marks k had)
+shown_kept : (b : Matrix) (m : Pairing) (marks : List Bool) → CoversShowMaximum → IsMatchingOf b m → IsCover b m.pairs marks → IsKept b m marks
+shown_kept b m marks law l k = covered_kept b m marks (record { matching = l; maximum = law b m.pairs marks l.matching k }) k
+
+pub had_kept : (b : Matrix) (p : Place) (m : Pairing) (marks : List Bool) → CoversShowMaximum → IsMatchingOf b m → length marks ≡ cols b → IsFull b m.pairs ⊎ IsCover (without_place b p) m.pairs marks → IsCovered m.pairs marks p → IsKept b m marks
+had_kept b p m marks law l long (inl full) had = full_kept b m marks l long full
+had_kept b p m marks law l long (inr k) had = shown_kept b m marks law l (covers_again b p m.pairs marks k had)
 
 -- An entry that is set.
 
@@ -157,12 +155,12 @@ paired_kept b p m n marks k near e long part cover added sizes rows rising size 
   cover = ⊎_elim (λ full. absurd (part full)) (λ h. inr (covers_paired b p m.pairs n.pairs marks h added)) cover;
 }
 
-pub searched_kept : (b : Matrix) (p : Place) (m n : Pairing) (marks marks2 : List Bool) → IsNearMaximum b m.pairs → length marks ≡ cols b → ¬ IsFull b m.pairs → IsFull b m.pairs ⊎ IsCover (without_place b p) m.pairs marks → IsMatchingOf b n → ((length n.pairs ≡ suc (length m.pairs)) × (marks2 ≡ marks)) ⊎ ((n ≡ m) × IsCover b n.pairs marks2) → IsKept b n marks2
-searched_kept b p m n marks marks2 near long part cover l (inr (same, new)) = covered_kept b n marks2 l new
-searched_kept b p m n marks marks2 near long part cover l (inl (e, same)) = record {
+pub searched_kept : (b : Matrix) (p : Place) (m n : Pairing) (marks marks2 : List Bool) → CoversShowMaximum → CoversStandLonger → IsNearMaximum b m.pairs → length marks ≡ cols b → ¬ IsFull b m.pairs → IsFull b m.pairs ⊎ IsCover (without_place b p) m.pairs marks → IsMatchingOf b n → ((length n.pairs ≡ suc (length m.pairs)) × (marks2 ≡ marks)) ⊎ ((n ≡ m) × IsCover b n.pairs marks2) → IsKept b n marks2
+searched_kept b p m n marks marks2 shows stands near long part cover l (inr (same, new)) = shown_kept b n marks2 shows l new
+searched_kept b p m n marks marks2 shows stands near long part cover l (inl (e, same)) = record {
   maximum = longer_maximum b m n near l e;
   long = ap length same ∙ long;
-  cover = ⊎_elim (λ full. absurd (part full)) (λ h. inr (subst (IsCover b n.pairs) (sym same) (covers_longer b p m.pairs n.pairs marks h l.matching e))) cover;
+  cover = ⊎_elim (λ full. absurd (part full)) (λ h. inr (subst (IsCover b n.pairs) (sym same) (stands b p m.pairs n.pairs marks h l.matching e))) cover;
 }
 
 -- An entry that is cleared.
@@ -201,12 +199,12 @@ left_kept a p m marks k nh = record {
   cover = ⊎_elim (λ full. inl (clear_full a p m.pairs m.pairs refl full)) (λ c. inr (covers_left a p m.pairs marks c)) k.cover;
 }
 
-pub parted_kept : (a : Matrix) (p : Place) (m parted n : Pairing) (marks marks2 : List Bool) → IsKept a m marks → length m.pairs ≡ suc (length parted.pairs) → IsMatchingOf (without_place a p) n → ((length n.pairs ≡ suc (length parted.pairs)) × (marks2 ≡ marks)) ⊎ ((n ≡ parted) × IsCover (without_place a p) n.pairs marks2) → IsKept (without_place a p) n marks2
-parted_kept a p m parted n marks marks2 k e l (inr (same, new)) = covered_kept (without_place a p) n marks2 l new
-parted_kept a p m parted n marks marks2 k e l (inl (f, same)) = record {
+pub parted_kept : (a : Matrix) (p : Place) (m parted n : Pairing) (marks marks2 : List Bool) → CoversShowMaximum → CoversStandAsLong → IsKept a m marks → length m.pairs ≡ suc (length parted.pairs) → IsMatchingOf (without_place a p) n → ((length n.pairs ≡ suc (length parted.pairs)) × (marks2 ≡ marks)) ⊎ ((n ≡ parted) × IsCover (without_place a p) n.pairs marks2) → IsKept (without_place a p) n marks2
+parted_kept a p m parted n marks marks2 shows stands k e l (inr (same, new)) = shown_kept (without_place a p) n marks2 shows l new
+parted_kept a p m parted n marks marks2 shows stands k e l (inl (f, same)) = record {
   maximum = longer_maximum (without_place a p) parted n (parted_near a p m.pairs parted.pairs k.maximum.maximum e) l f;
   long = ap length same ∙ k.long ∙ sym (width a p);
-  cover = ⊎_elim (λ full. inl (clear_full a p m.pairs n.pairs (f ∙ sym e) full)) (λ c. inr (subst (IsCover (without_place a p) n.pairs) (sym same) (covers_as_long (without_place a p) m.pairs n.pairs marks (covers_left a p m.pairs marks c) l.matching (f ∙ sym e)))) k.cover;
+  cover = ⊎_elim (λ full. inl (clear_full a p m.pairs n.pairs (f ∙ sym e) full)) (λ c. inr (subst (IsCover (without_place a p) n.pairs) (sym same) (stands (without_place a p) m.pairs n.pairs marks (covers_left a p m.pairs marks c) l.matching (f ∙ sym e)))) k.cover;
 }
 
 pub cleared_steps : (a b : Matrix) (m : Pairing) (marks : List Bool) (p : Place) (now : MatchedMatrix) (before after : ℕ) → matched a m marks ≡ now → b ≡ without_place a p → IsPattern a → IsEntry a p.0 p.1 → after ≤ before + (cols b + entry_count b) → after ≤ before + (cols now.matrix + entry_count now.matrix)

@@ -16,7 +16,7 @@ use crate::patterns::pattern_of;
 use bip_graph::{Components, Decomposition, Matching};
 use dm_coarse::{coarse, components};
 use dm_fine::fine;
-use hall_witness::{Cover, Steps};
+use hall_witness::{Cover, Steps, cover_shows_maximum, cover_stands};
 use sp_ids::{Col, OutOfMemory, Row};
 use sp_pattern::{Neighbours, Pattern};
 use std::alloc::Global;
@@ -240,6 +240,8 @@ impl Session {
             → (rest : List Place) × IsParted (row, col) self.old.matching.pairs rest
             × IsSearched self.new.matrix rest self.new.matching.pairs steps.old steps.new) }
     {
+        cover_shows_maximum();
+        cover_stands();
         self.matching.is_matching();
         self.columns.is_pattern();
         let were_mates = are_mates(&self.matching, row, col);
@@ -305,6 +307,8 @@ fn match_entry<L: Ledger>(
         → IsSearched columns.now.matrix matching.old.pairs matching.new.pairs
         steps.old steps.new }
 {
+    cover_shows_maximum();
+    cover_stands();
     if is_full(columns, matching) {
         return;
     }

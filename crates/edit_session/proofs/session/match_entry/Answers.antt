@@ -16,7 +16,7 @@ pub returns-then-is_full-clause-kept : goal.returns-then-is_full-clause-kept
 returns-then-is_full-clause-kept g c = full_kept c.args.columns.now.matrix c.args.matching.now c.args.cover.now c.requires.matching c.requires.long (c.is_full.ensures.0 c.if-is_full.true)
 
 pub returns-then-has-clause-kept : goal.returns-then-has-clause-kept
-returns-then-has-clause-kept g c = had_kept c.args.columns.now.matrix (c.args.row, c.args.col) c.args.matching.now c.args.cover.now c.requires.matching c.requires.long c.requires.cover (c.has.ensures.0 c.if-has.true)
+returns-then-has-clause-kept g c = had_kept c.args.columns.now.matrix (c.args.row, c.args.col) c.args.matching.now c.args.cover.now c.cover_shows_maximum.ensures c.requires.matching c.requires.long c.requires.cover (c.has.ensures.0 c.if-has.true)
 
 pub returns-then-is_none-2-clause-kept : goal.returns-then-is_none-2-clause-kept
 returns-then-is_none-2-clause-kept g c = paired_kept c.args.columns.now.matrix (c.args.row, c.args.col) c.args.matching.now c.pair.new.self c.args.cover.now c.requires.matching c.requires.near c.requires.entry c.requires.long
@@ -29,7 +29,7 @@ returns-then-is_none-2-clause-kept g c = paired_kept c.args.columns.now.matrix (
     c.pair.ensures.size
 
 pub returns-clause-kept : goal.returns-clause-kept
-returns-clause-kept g c = searched_kept c.args.columns.now.matrix (c.args.row, c.args.col) c.args.matching.now c.augment.new.matching c.args.cover.now c.augment.new.self c.requires.near c.requires.long
+returns-clause-kept g c = searched_kept c.args.columns.now.matrix (c.args.row, c.args.col) c.args.matching.now c.augment.new.matching c.args.cover.now c.augment.new.self c.cover_shows_maximum.ensures c.cover_stands.ensures.longer c.requires.near c.requires.long
     (λ full. true≢false (sym (c.is_full.ensures.1 full) ∙ c.if-is_full.false))
     c.requires.cover
     c.augment.ensures.matching

@@ -23,7 +23,7 @@ invariant_of-self-2 g c =
     let n = c.augment.new.matching in
     let marks = c.augment.new.self in
     subst (λ (b : Matrix). IsMatchingOf b n → ((length n.pairs ≡ suc (length c.unpair.new.self.pairs)) × (marks ≡ c.self.inside.cover)) ⊎ ((n ≡ c.unpair.new.self) × IsCover b n.pairs marks) → IsKept b n marks) (sym c.take.ensures.matrix)
-    (parted_kept c.self.inside.columns.matrix (c.args.row, c.args.col) c.self.inside.matching c.unpair.new.self n c.self.inside.cover marks c.self.invariant c.unpair.ensures.size)
+    (parted_kept c.self.inside.columns.matrix (c.args.row, c.args.col) c.self.inside.matching c.unpair.new.self n c.self.inside.cover marks c.cover_shows_maximum.ensures c.cover_stands.ensures.as_long c.self.invariant c.unpair.ensures.size)
     c.augment.ensures.matching
     c.augment.ensures.cover
 

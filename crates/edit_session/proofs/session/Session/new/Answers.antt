@@ -5,4 +5,4 @@ use Rattle.edit_session.proofs.SessionLemmas.{covered_kept}
 use Rattle.edit_session.proofs.session.Session.new.Goals as goal
 
 pub invariant_of-result : goal.invariant_of-result
-invariant_of-result c = subst (λ (a : Matrix). IsKept a c.args.matching c.in_ok-cover.cover) (sym c.in_ok-columns.ensures) (covered_kept c.args.pattern.now c.args.matching c.in_ok-cover.cover c.requires.matching c.in_ok-cover.ensures)
+invariant_of-result c = subst (λ (a : Matrix). IsKept a c.args.matching c.in_ok-cover.cover) (sym c.in_ok-columns.ensures) (covered_kept c.args.pattern.now c.args.matching c.in_ok-cover.cover c.requires c.in_ok-cover.ensures)
