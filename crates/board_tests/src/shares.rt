@@ -6,6 +6,9 @@ use std::convert::Infallible;
 use std::test::Fail;
 use test_gates::BarrierGate;
 
+// So many looks are enough for a thread to start, where it is to be seen that none does.
+const FEW_TURNS: u32 = 1_000;
+
 // Each worker adds its number to what it keeps.
 struct AddNumber;
 
@@ -51,7 +54,7 @@ fn three_workers_work_at_once(rt: HostRuntime) -> Result<(), Fail> {
 // Worker 1 comes first, and waits in vain for worker 0, whose part is done after its own.
 #[test]
 fn little_work_starts_no_thread(rt: HostRuntime) -> Result<(), Fail> {
-    let gate = BarrierGate::without_threads(rt.alloc(), 2, 100_000)?;
+    let gate = BarrierGate::without_threads(rt.alloc(), 2, FEW_TURNS)?;
     let mut sums = [10, 20];
     let Ok(()) = share_work(&rt, &gate, &AddNumber, 1_999, &mut sums);
     assert_eq!(rt; sums, [10, 21]);
@@ -62,12 +65,28 @@ fn little_work_starts_no_thread(rt: HostRuntime) -> Result<(), Fail> {
 // Where there is one processor alone, so is the thread, and worker 1 waits in vain.
 #[test]
 fn much_work_is_done_at_once(rt: HostRuntime) -> Result<(), Fail> {
-    let gate = BarrierGate::without_threads(rt.alloc(), 2, 10_000_000)?;
+    let alone = processors(&rt) == 1;
+    let turns = if alone { FEW_TURNS } else { 10_000_000 };
+    let gate = BarrierGate::without_threads(rt.alloc(), 2, turns)?;
     let mut sums = [10, 20];
     let Ok(()) = share_work(&rt, &gate, &AddNumber, 2_000, &mut sums);
     assert_eq!(rt; sums, [10, 21]);
     assert!(rt; gate.have_arrived(2, 1));
-    assert_eq!(rt; gate.ran_out(), processors(&rt) == 1);
+    assert_eq!(rt; gate.ran_out(), alone);
+    Ok(())
+}
+
+// Of one worker more than there are processors two share a thread, so the one of them that comes
+// first waits in vain for the other. Nine workers show that of eight processors at most.
+#[test]
+fn no_more_threads_than_processors(rt: HostRuntime) -> Result<(), Fail> {
+    let parties = processors(&rt).min(8) as u32 + 1;
+    let gate = BarrierGate::without_threads(rt.alloc(), parties, FEW_TURNS)?;
+    let mut sums = [10, 10, 10, 10, 10, 10, 10, 10, 10];
+    let Ok(()) = work_at_once(&rt, &gate, &AddNumber, &mut sums);
+    assert_eq!(rt; sums, [10, 11, 12, 13, 14, 15, 16, 17, 18]);
+    assert!(rt; gate.have_arrived(9, 1));
+    assert_eq!(rt; gate.ran_out(), processors(&rt) < 9);
     Ok(())
 }
 
