@@ -18,10 +18,6 @@ among_index [] i lt = absurd (omega arith)
 among_index (x ∷ xs) zero lt = inl refl
 among_index (x ∷ xs) (suc i) lt = inr (among_index xs i (omega arith))
 
-pub among_some : (x : ℕ) (xs : List ℕ) → Among x xs → 0 < length xs
-among_some x [] h = elim h [ ]
-among_some x (y ∷ ys) h = omega arith
-
 -- the prefix with one element more
 pub front_next : (x i : ℕ) (xs : List ℕ) → i < length xs → Among x (take (i + 1) xs) → Among x (take i xs) ⊎ (x ≡ slice_index xs i)
 front_next x i xs lt h = among_last x (slice_index xs i) (take i xs) (rw (← take_more xs i 0 lt) h)

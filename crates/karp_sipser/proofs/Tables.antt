@@ -1,9 +1,9 @@
 -- The degrees and the sums beside them, as they are read and written.
-use Rattle.std.proofs.Common.{◌≡◌, ◌∙◌, ℕ, ◌+◌, ◌-◌, ◌<◌, ◌≤◌, List, [], ◌∷◌, ◌++◌, length, map, take, take_all, slice_index, slice_index_or, slice_set, refl, ap, sym, subst, arith}
+use Rattle.std.proofs.Common.{◌≡◌, ◌∙◌, ℕ, ◌+◌, ◌-◌, ◌<◌, List, [], ◌∷◌, ◌++◌, length, take, slice_index, slice_index_or, slice_set, ap, sym, subst}
 use Rattle.std.proofs.Math.ListN.{get_or-map}
 use Rattle.std.proofs.lemmas.List.{length-map, map-append, map-set}
 use Rattle.bip_defs.specs.Lists.{Among, IsRising}
-use Rattle.karp_sipser.specs.Counts.{HoldsOnes, IsPut, counts, sums, wrapping_sub}
+use Rattle.karp_sipser.specs.Counts.{HoldsOnes, counts, sums, wrapping_sub}
 use Rattle.karp_sipser.specs.declared.degrees.Unmatched.{Unmatched}
 use Rattle.karp_sipser.proofs.Counts.{each_next}
 use Rattle.karp_sipser.proofs.Prefixes.{IsChanged, changed_next, ones_next}
@@ -65,28 +65,3 @@ lowering_next old new u neighbour members more xs i x up lt at inside l grows tw
       ones = subst (λ (ns : List ℕ). HoldsOnes ns more) (sym (count_put new x u))
           (ones_next (counts new) members more x u.count inside_new l.ones grows (λ e. two (count_at new x ∙ e)) fewer);
     }
-
--- the whole list is passed
-pub lowering_ends : {X : Type 0} (f : X → ℕ) (ids : List X) (old new : List Unmatched) (neighbour : ℕ) (members : List ℕ) (k : ℕ) → length ids ≤ k → IsLowering old new neighbour members (take k (map f ids)) → IsLowering old new neighbour members (map f ids)
-lowering_ends f ids old new neighbour members k past l = subst (λ (xs : List ℕ). IsLowering old new neighbour members xs) (take_all k (map f ids) (omega (arith, length-map ids f, past))) l
-
--- nothing is lowered yet
-none_taken : (x : ℕ) (xs : List ℕ) → ¬ Among x (take 0 xs)
-none_taken x [] = λ h. h
-none_taken x (y ∷ ys) = λ h. h
-
-pub lowering_begins : (old : List Unmatched) (neighbour : ℕ) (members xs : List ℕ) → HoldsOnes (counts old) members → IsLowering old old neighbour members (take 0 xs)
-lowering_begins old neighbour members xs ones = record {
-  lowered = record { long = refl; changed = λ x h. absurd (none_taken x xs h); kept = λ x h. refl };
-  reduced = record { long = refl; changed = λ x h. absurd (none_taken x xs h); kept = λ x h. refl };
-  ones = ones;
-}
-
--- the same step, by what was put
-pub lowering_put : (old new next : List Unmatched) (neighbour : ℕ) (members more xs : List ℕ) (i x : ℕ) → IsRising xs → i < length xs → slice_index xs i ≡ x → x < length old
-    → IsLowering old new neighbour members (take i xs) → ((y : ℕ) → Among y members → Among y more) → (slice_index (counts new) x ≡ 2 → Among x more)
-    → IsPut new x (slice_index (counts new) x - 1) (wrapping_sub (slice_index (sums new) x) neighbour) next
-    → IsLowering old next neighbour more (take (i + 1) xs)
-lowering_put old new next neighbour members more xs i x up lt at inside l grows two p =
-    subst (λ (z : List Unmatched). IsLowering old z neighbour more (take (i + 1) xs)) (sym p.there)
-    (lowering_next old new p.put neighbour members more xs i x up lt at inside l grows (λ e. two (sym (count_at new x) ∙ e)) (p.count_is ∙ ap (λ n. n - 1) (sym (count_at new x))) (p.sum_is ∙ ap (λ s. wrapping_sub s neighbour) (sym (sum_at new x))))

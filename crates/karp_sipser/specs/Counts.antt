@@ -1,5 +1,5 @@
 -- Degrees: how many unmatched neighbours each unmatched row and column has, and their sum.
-use Rattle.std.specs.Prelude.{◌≡◌, ◌≢◌, ℕ, ◌+◌, ◌-◌, ◌%◌, ◌^◌, ◌<◌, List, length, map, slice_index, slice_set, sum_by}
+use Rattle.std.specs.Prelude.{◌≡◌, ◌≢◌, ℕ, ◌+◌, ◌-◌, ◌%◌, ◌^◌, ◌<◌, List, length, map, slice_index, sum_by}
 use Rattle.bip_defs.specs.Lists.{Among, Lists}
 use Rattle.bip_defs.specs.Matrix.{cols, Matrix, Place}
 use Rattle.bip_defs.specs.Start.{IsFree}
@@ -16,13 +16,6 @@ sums degrees = map (λ (u : Unmatched). u.sum) degrees
 -- what is left of a sum without a number, modulo 2^32
 abbrev pub wrapping_sub : ℕ → ℕ → ℕ
 wrapping_sub sum x = (sum + (2 ^ 32 - x)) % 2 ^ 32
-
--- at one place stands this degree with this sum, and elsewhere what stood there
-pub record IsPut (old : List Unmatched) (at count sum : ℕ) (new : List Unmatched) : Type 0 where
-  pub put : Unmatched
-  pub there : new ≡ slice_set old at put
-  pub count_is : put.count ≡ count
-  pub sum_is : put.sum ≡ sum
 
 -- so many numbers have P
 pub record IsCount (P : ℕ → Type 0) (count : ℕ) : Type 0 where

@@ -3,15 +3,11 @@
 
 ghost use Rattle.std.specs.Prelude.{◌≡◌, ◌≢◌, ◌-◌, ◌<◌, ◌≤◌, ◌^◌, ◌%◌, ℕ, false, length, map, slice_index, sum_by, IfOk, IfSome, IfNone};
 ghost use Rattle.bip_defs.specs.Lists.{Among, IsRising};
-ghost use Rattle.bip_defs.specs.Matrix.{cols, column};
 ghost use Rattle.bip_defs.specs.Start.{IsLeast};
-ghost use Rattle.karp_sipser.specs.Ahead.{IsAhead};
-ghost use Rattle.karp_sipser.specs.Counts.{HoldsOnes, HoldsOnesBut, IsPut, counts, sums, wrapping_sub};
+ghost use Rattle.karp_sipser.specs.Counts.{HoldsOnes, HoldsOnesBut, counts, sums, wrapping_sub};
 
-use crate::ahead::{Ahead, list_of, look};
 use int_set::IntSet;
-use sp_ids::{Col, Id, OutOfMemory};
-use sp_pattern::Side;
+use sp_ids::{Id, OutOfMemory};
 use std::alloc::Global;
 
 /// The unmatched neighbours of a row or column: how many they are, and the sum of their numbers
@@ -124,25 +120,6 @@ pub fn first_with_degree<I: Id>(degrees: &[Unmatched], ids: &[I]) -> I
     unreachable!()
 }
 
-// Takes a neighbour that is matched now off the degree of this row or column, unless it has none,
-// and puts it into the set if its degree comes to one.
-#[inline(always)]
-fn lower_one(degrees: &mut [Unmatched], at: u32, neighbour: u32, ones: &mut IntSet)
-    requires in_range { at < length degrees.old }
-    requires bound { ones.old.bound ≡ length degrees.old }
-    ensures lowered { IsPut degrees.old at (slice_index (counts degrees.old) at - 1)
-        (wrapping_sub (slice_index (sums degrees.old) at) neighbour) degrees.new }
-    ensures grows { (x : ℕ) → Among x ones.old.members → Among x ones.new.members }
-    ensures one { slice_index (counts degrees.old) at ≡ 2 → Among at ones.new.members }
-    ensures bound { ones.new.bound ≡ ones.old.bound }
-{
-    let unmatched = &mut degrees[at as usize];
-    *unmatched = unmatched.without(neighbour);
-    if unmatched.count == 1 {
-        ones.insert(at);
-    }
-}
-
 /// Takes a neighbour that is matched now off the degrees of these rows or columns, but for those
 /// that have none, and puts those that come to one into the set.
 pub fn lower<I: Id>(degrees: &mut [Unmatched], ids: &[I], neighbour: u32, ones: &mut IntSet)
@@ -172,127 +149,40 @@ pub fn lower<I: Id>(degrees: &mut [Unmatched], ids: &[I], neighbour: u32, ones: 
     }
 }
 
-/// The same as `lower`, of rows or columns whose first has been read.
-pub fn lower_read<I: Id>(
+/// Leaves out a row or column that is matched now, the first of the pair: it has no degree, and
+/// those of `ids`, its kind beside its mate, lose the mate. `others` tells whether others of these
+/// may have a degree.
+pub fn leave_out<I: Id, J: Id>(
     degrees: &mut [Unmatched],
-    first: I,
+    pair: (I, J),
     ids: &[I],
-    neighbour: u32,
+    others: bool,
     ones: &mut IntSet,
 )
-    requires some { 0 < length ids.now }
-    requires first { I.number first ≡ slice_index (map I.number ids.now) 0 }
     requires rising { IsRising (map I.number ids.now) }
     requires in_range { (x : ℕ) → Among x (map I.number ids.now) → x < length degrees.old }
+    requires beside { Among (I.number pair.0) (map I.number ids.now) }
+    requires alone { others ≡ false → (x : ℕ) → x ≢ I.number pair.0
+        → Among x (map I.number ids.now) → slice_index (counts degrees.old) x ≡ 0 }
     requires bound { ones.old.bound ≡ length degrees.old }
-    requires ones { HoldsOnes (counts degrees.old) ones.old.members }
-    ensures lowered { (x : ℕ) → Among x (map I.number ids.now)
+    requires ones { HoldsOnesBut (I.number pair.0) (counts degrees.old) ones.old.members }
+    ensures matched { slice_index (counts degrees.new) (I.number pair.0) ≡ 0 }
+    ensures lowered { (x : ℕ) → x ≢ I.number pair.0 → Among x (map I.number ids.now)
         → slice_index (counts degrees.new) x ≡ slice_index (counts degrees.old) x - 1 }
     ensures kept { (x : ℕ) → ¬ Among x (map I.number ids.now)
         → slice_index (counts degrees.new) x ≡ slice_index (counts degrees.old) x }
-    ensures sums { (x : ℕ) → Among x (map I.number ids.now)
+    ensures sums { (x : ℕ) → slice_index (counts degrees.new) x ≢ 0
+        → Among x (map I.number ids.now)
         → slice_index (sums degrees.new) x
-        ≡ wrapping_sub (slice_index (sums degrees.old) x) neighbour }
+        ≡ wrapping_sub (slice_index (sums degrees.old) x) (J.number pair.1) }
     ensures kept_sums { (x : ℕ) → ¬ Among x (map I.number ids.now)
         → slice_index (sums degrees.new) x ≡ slice_index (sums degrees.old) x }
     ensures ones { HoldsOnes (counts degrees.new) ones.new.members }
     ensures bound { ones.new.bound ≡ length degrees.old }
 {
-    lower_one(degrees, first.number(), neighbour, ones);
-    for place in 1..ids.len() {
-        let at = ids[place].number();
-        lower_one(degrees, at, neighbour, ones);
-    }
-}
-
-/// The same as `lower`, of the list of a mate that is matched now. Where the turn is one that could
-/// be `expected`, its list may have been read ahead, and the one for the next turn is read before
-/// any degree is lowered.
-pub fn lower_beside<'p, I: Id, J: Id, S: Side<I>>(
-    degrees: &mut [Unmatched],
-    mate: J,
-    side: &'p S,
-    expected: bool,
-    ones: &mut IntSet,
-    ahead: &mut Ahead<'p, I>,
-)
-    requires mate { J.number mate < cols (S.matrix side.now) }
-    requires some { 0 < length (column (S.matrix side.now) (J.number mate)) }
-    requires rising { IsRising (column (S.matrix side.now) (J.number mate)) }
-    requires in_range { (x : ℕ) → Among x (column (S.matrix side.now) (J.number mate))
-        → x < length degrees.old }
-    requires bound { ones.old.bound ≡ length degrees.old }
-    requires ones { HoldsOnes (counts degrees.old) ones.old.members }
-    requires ahead { IsAhead (S.matrix side.now) ahead.old.mate (I.number ahead.old.first)
-        (map I.number ahead.old.ids.now) }
-    ensures lowered { (x : ℕ) → Among x (column (S.matrix side.now) (J.number mate))
-        → slice_index (counts degrees.new) x ≡ slice_index (counts degrees.old) x - 1 }
-    ensures kept { (x : ℕ) → ¬ Among x (column (S.matrix side.now) (J.number mate))
-        → slice_index (counts degrees.new) x ≡ slice_index (counts degrees.old) x }
-    ensures sums { (x : ℕ) → Among x (column (S.matrix side.now) (J.number mate))
-        → slice_index (sums degrees.new) x
-        ≡ wrapping_sub (slice_index (sums degrees.old) x) (J.number mate) }
-    ensures kept_sums { (x : ℕ) → ¬ Among x (column (S.matrix side.now) (J.number mate))
-        → slice_index (sums degrees.new) x ≡ slice_index (sums degrees.old) x }
-    ensures ones { HoldsOnes (counts degrees.new) ones.new.members }
-    ensures bound { ones.new.bound ≡ length degrees.old }
-    ensures ahead { IsAhead (S.matrix side.now) ahead.new.mate (I.number ahead.new.first)
-        (map I.number ahead.new.ids.now) }
-{
-    let number = mate.number();
-    if expected {
-        let list = list_of(side, &*ahead, number);
-        *ahead = look(side, degrees, ones);
-        lower_read(degrees, list.first, list.ids, number, ones);
-    } else {
-        lower(degrees, side.rows_of(Col(number)), number, ones);
-    }
-}
-
-/// Leaves out a row or column that is matched now, the first of the pair: it has no degree, and
-/// those of its kind beside its mate lose the mate. `others` tells whether others of these may have
-/// a degree, and `expected` whether their list may have been read `ahead`.
-pub fn leave_out<'p, I: Id, J: Id, S: Side<I>>(
-    degrees: &mut [Unmatched],
-    pair: (I, J),
-    side: &'p S,
-    others: bool,
-    expected: bool,
-    ones: &mut IntSet,
-    ahead: &mut Ahead<'p, I>,
-)
-    requires mate { J.number pair.1 < cols (S.matrix side.now) }
-    requires rising { IsRising (column (S.matrix side.now) (J.number pair.1)) }
-    requires in_range { (x : ℕ) → Among x (column (S.matrix side.now) (J.number pair.1))
-        → x < length degrees.old }
-    requires beside { Among (I.number pair.0) (column (S.matrix side.now) (J.number pair.1)) }
-    requires alone { others ≡ false → (x : ℕ) → x ≢ I.number pair.0
-        → Among x (column (S.matrix side.now) (J.number pair.1))
-        → slice_index (counts degrees.old) x ≡ 0 }
-    requires bound { ones.old.bound ≡ length degrees.old }
-    requires ones { HoldsOnesBut (I.number pair.0) (counts degrees.old) ones.old.members }
-    requires ahead { IsAhead (S.matrix side.now) ahead.old.mate (I.number ahead.old.first)
-        (map I.number ahead.old.ids.now) }
-    ensures matched { slice_index (counts degrees.new) (I.number pair.0) ≡ 0 }
-    ensures lowered { (x : ℕ) → x ≢ I.number pair.0
-        → Among x (column (S.matrix side.now) (J.number pair.1))
-        → slice_index (counts degrees.new) x ≡ slice_index (counts degrees.old) x - 1 }
-    ensures kept { (x : ℕ) → ¬ Among x (column (S.matrix side.now) (J.number pair.1))
-        → slice_index (counts degrees.new) x ≡ slice_index (counts degrees.old) x }
-    ensures sums { (x : ℕ) → slice_index (counts degrees.new) x ≢ 0
-        → Among x (column (S.matrix side.now) (J.number pair.1))
-        → slice_index (sums degrees.new) x
-        ≡ wrapping_sub (slice_index (sums degrees.old) x) (J.number pair.1) }
-    ensures kept_sums { (x : ℕ) → ¬ Among x (column (S.matrix side.now) (J.number pair.1))
-        → slice_index (sums degrees.new) x ≡ slice_index (sums degrees.old) x }
-    ensures ones { HoldsOnes (counts degrees.new) ones.new.members }
-    ensures bound { ones.new.bound ≡ length degrees.old }
-    ensures ahead { IsAhead (S.matrix side.now) ahead.new.mate (I.number ahead.new.first)
-        (map I.number ahead.new.ids.now) }
-{
     let (matched, mate) = pair;
     degrees[matched.number() as usize] = Unmatched { count: 0, sum: 0 };
     if others {
-        lower_beside(degrees, mate, side, expected, ones, ahead);
+        lower(degrees, ids, mate.number(), ones);
     }
 }

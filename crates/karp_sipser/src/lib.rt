@@ -2,7 +2,6 @@
 //! neighbour first.
 #![tactic(auto)]
 
-mod ahead;
 mod degrees;
 mod laws;
 mod rest;
@@ -15,7 +14,7 @@ pub use crate::laws::only_neighbours_lose_nothing;
 use crate::rest::Rest;
 use bip_graph::Matching;
 use sp_ids::OutOfMemory;
-use sp_pattern::{FromRows, Pattern};
+use sp_pattern::Pattern;
 use std::alloc::Global;
 
 /// A maximal matching to start a search from (Karp and Sipser 1981).
@@ -27,24 +26,21 @@ use std::alloc::Global;
 /// ([`only_neighbours_lose_nothing`]), so the start is often maximum or nearly so.
 ///
 /// Beside each degree it keeps the sum of the numbers of the unmatched neighbours. Where there is
-/// one neighbour the sum is its number, and no entry is looked at to find it. The list that the next
-/// column or row with one neighbour is likely to ask for is read before the degrees of this turn
-/// are lowered, so that the memory answers both at once; it is used where the next turn asks for it.
+/// one neighbour the sum is its number, and no entry is looked at to find it.
 ///
 /// Answers `OutOfMemory` where its tables can't be had: 12 bytes a row and 12 a column for the
 /// matching, the degrees and the sums, and an eighth of a byte each for the waiting ones. Work:
 /// each entry is looked at five times at most, twice where sums are added up, twice where degrees
 /// are lowered and once where a column with more neighbours is taken, and each row and column goes
-/// in and out of a set once at most. Each turn looks at the first entry of one list more.
+/// in and out of a set once at most.
 pub fn start(alloc: Global, pattern: &Pattern) -> Result<Matching, OutOfMemory>
     ensures start { IfOk result (λ m. IsStart pattern.now m.pairs) }
     ensures matching { IfOk result (IsMatchingOf pattern.now) }
     ensures maximal { IfOk result (λ m. (r c : ℕ) → ¬ IsFree pattern.now m.pairs r c) }
 {
-    let sides = FromRows { pattern };
-    let mut rest = Rest::new(alloc, &sides)?;
+    let mut rest = Rest::new(alloc, pattern)?;
     while let Some((row, col)) = rest.choose(pattern) {
-        rest.take(&sides, row, col);
+        rest.take(pattern, row, col);
     }
     let matching = rest.matching;
     matching.is_matching();

@@ -1,8 +1,8 @@
-use Rattle.std.proofs.Common.{drop, take, ◌++◌, ◌≡◌, ◌∙◌, ℕ, ◌<◌, List, length, nat_lt, false, ap, sym, subst, arith}
+use Rattle.std.proofs.Common.{drop, take, ◌++◌, ◌≡◌, ◌∙◌, ℕ, List, map, length, nat_lt, false, ap, sym, subst, arith}
+use Rattle.std.proofs.lemmas.List.{map-id}
 use Rattle.bip_defs.proofs.Sets.{written_over, entry_col}
-use Rattle.bip_defs.proofs.Transposed.{row_list_lists, transpose_cols, transpose_column}
 use Rattle.bip_defs.specs.Lists.{Lists}
-use Rattle.bip_defs.specs.Matrix.{IsEntry, Matrix, column, transpose}
+use Rattle.bip_defs.specs.Matrix.{IsEntry}
 use Rattle.karp_sipser.specs.Counts.{counts}
 use Rattle.karp_sipser.specs.declared.degrees.Unmatched.{Unmatched}
 use Rattle.karp_sipser.proofs.Choices.{alone_col, alone_row}
@@ -10,43 +10,39 @@ use Rattle.karp_sipser.proofs.Free.{AreLowered, AreReduced, degrees_after, still
 use Rattle.karp_sipser.proofs.Tables.{count_at, counts_long}
 use Rattle.karp_sipser.proofs.rest.Rest.take.Goals as goal
 
--- a column of the transpose lists the columns of a row
-row_lists : (a : Matrix) (r : ℕ) → r < a.rows → Lists (λ b. IsEntry a r b) (column (transpose a) r)
-row_lists a r lt = subst (Lists (λ b. IsEntry a r b)) (sym (transpose_column a r lt)) (row_list_lists a r lt)
-
 pub leave_out-requires-clause-in_range : goal.leave_out-requires-clause-in_range
 leave_out-requires-clause-in_range c =
-    let rows : Lists (λ r. IsEntry c.args.sides.now.pattern.now r c.args.col) (column c.args.sides.now.pattern.now c.args.col) = c.is_pattern.ensures.columns c.args.col in
+    let rows : Lists (λ r. IsEntry c.args.pattern.now r c.args.col) (map (λ (x : ℕ). x) c.rows_of.result.now) = rw map-id c.rows_of.ensures.rows in
     λ x h. omega (arith, (rows.sound x h).0, c.requires.rest.degrees.long_rows, counts_long c.args.self.now.row_degrees.items, ap length c.as_mut_slice-rows.ensures.value)
 
 pub leave_out-requires-2-clause-in_range : goal.leave_out-requires-2-clause-in_range
 leave_out-requires-2-clause-in_range c =
-    let columns : Lists (λ b. IsEntry c.args.sides.now.pattern.now c.args.row b) (column (transpose c.args.sides.now.pattern.now) c.args.row) = row_lists c.args.sides.now.pattern.now c.args.row c.requires.free.0.0 in
-    λ x h. omega (arith, entry_col c.args.sides.now.pattern.now c.args.row x (columns.sound x h), c.requires.rest.degrees.long_cols, counts_long c.args.self.now.col_degrees.items, ap length c.as_mut_slice-cols.ensures.value)
+    let columns : Lists (λ b. IsEntry c.args.pattern.now c.args.row b) (map (λ (x : ℕ). x) c.cols_of.result.now) = rw map-id c.cols_of.ensures.cols in
+    λ x h. omega (arith, entry_col c.args.pattern.now c.args.row x (columns.sound x h), c.requires.rest.degrees.long_cols, counts_long c.args.self.now.col_degrees.items, ap length c.as_mut_slice-cols.ensures.value)
 
 pub returns-clause-rest : goal.returns-clause-rest
 returns-clause-rest c =
-    let a = c.args.sides.now.pattern.now in
+    let a = c.args.pattern.now in
     let s = c.args.self.now in
     let back_c : take s.col_degrees.len (c.leave_out-2.new.degrees ++ drop (length c.leave_out-2.new.degrees) s.col_degrees.items) ≡ c.leave_out-2.new.degrees = written_over c.leave_out-2.new.degrees s.col_degrees.items s.col_degrees.len (omega arith) (omega arith) in
     let back_r : take s.row_degrees.len (c.leave_out.new.degrees ++ drop (length c.leave_out.new.degrees) s.row_degrees.items) ≡ c.leave_out.new.degrees = written_over c.leave_out.new.degrees s.row_degrees.items s.row_degrees.len (omega arith) (omega arith) in
-    let rows : Lists (λ r. IsEntry a r c.args.col) (column c.args.sides.now.pattern.now c.args.col) = c.is_pattern.ensures.columns c.args.col in
-    let columns : Lists (λ b. IsEntry a c.args.row b) (column (transpose c.args.sides.now.pattern.now) c.args.row) = row_lists c.args.sides.now.pattern.now c.args.row c.requires.free.0.0 in
+    let rows : Lists (λ r. IsEntry a r c.args.col) (map (λ (x : ℕ). x) c.rows_of.result.now) = rw map-id c.rows_of.ensures.rows in
+    let columns : Lists (λ b. IsEntry a c.args.row b) (map (λ (x : ℕ). x) c.cols_of.result.now) = rw map-id c.cols_of.ensures.cols in
     let same_r : length c.leave_out.new.degrees ≡ length s.row_degrees.items = omega arith in
     let long_r : length (counts c.leave_out.new.degrees) ≡ length (counts s.row_degrees.items) = counts_long c.leave_out.new.degrees ∙ same_r ∙ sym (counts_long s.row_degrees.items) in
-    let lr : AreLowered (column c.args.sides.now.pattern.now c.args.col) c.args.row (counts s.row_degrees.items) (counts c.leave_out.new.degrees) =
-    subst (λ (z : List Unmatched). AreLowered (column c.args.sides.now.pattern.now c.args.col) c.args.row (counts z) (counts c.leave_out.new.degrees)) c.as_mut_slice-rows.ensures.value
+    let lr : AreLowered (map (λ (x : ℕ). x) c.rows_of.result.now) c.args.row (counts s.row_degrees.items) (counts c.leave_out.new.degrees) =
+    subst (λ (z : List Unmatched). AreLowered (map (λ (x : ℕ). x) c.rows_of.result.now) c.args.row (counts z) (counts c.leave_out.new.degrees)) c.as_mut_slice-rows.ensures.value
     (record { matched = c.leave_out.ensures.matched; lowered = c.leave_out.ensures.lowered; kept = c.leave_out.ensures.kept }) in
-    let sr : AreReduced (column c.args.sides.now.pattern.now c.args.col) c.args.col s.row_degrees.items c.leave_out.new.degrees =
-    subst (λ (z : List Unmatched). AreReduced (column c.args.sides.now.pattern.now c.args.col) c.args.col z c.leave_out.new.degrees) c.as_mut_slice-rows.ensures.value
+    let sr : AreReduced (map (λ (x : ℕ). x) c.rows_of.result.now) c.args.col s.row_degrees.items c.leave_out.new.degrees =
+    subst (λ (z : List Unmatched). AreReduced (map (λ (x : ℕ). x) c.rows_of.result.now) c.args.col z c.leave_out.new.degrees) c.as_mut_slice-rows.ensures.value
     (record { reduced = c.leave_out.ensures.sums; kept = c.leave_out.ensures.kept_sums }) in
     let same_c : length c.leave_out-2.new.degrees ≡ length s.col_degrees.items = omega arith in
     let long_c : length (counts c.leave_out-2.new.degrees) ≡ length (counts s.col_degrees.items) = counts_long c.leave_out-2.new.degrees ∙ same_c ∙ sym (counts_long s.col_degrees.items) in
-    let lc : AreLowered (column (transpose c.args.sides.now.pattern.now) c.args.row) c.args.col (counts s.col_degrees.items) (counts c.leave_out-2.new.degrees) =
-    subst (λ (z : List Unmatched). AreLowered (column (transpose c.args.sides.now.pattern.now) c.args.row) c.args.col (counts z) (counts c.leave_out-2.new.degrees)) c.as_mut_slice-cols.ensures.value
+    let lc : AreLowered (map (λ (x : ℕ). x) c.cols_of.result.now) c.args.col (counts s.col_degrees.items) (counts c.leave_out-2.new.degrees) =
+    subst (λ (z : List Unmatched). AreLowered (map (λ (x : ℕ). x) c.cols_of.result.now) c.args.col (counts z) (counts c.leave_out-2.new.degrees)) c.as_mut_slice-cols.ensures.value
     (record { matched = c.leave_out-2.ensures.matched; lowered = c.leave_out-2.ensures.lowered; kept = c.leave_out-2.ensures.kept }) in
-    let sc : AreReduced (column (transpose c.args.sides.now.pattern.now) c.args.row) c.args.row s.col_degrees.items c.leave_out-2.new.degrees =
-    subst (λ (z : List Unmatched). AreReduced (column (transpose c.args.sides.now.pattern.now) c.args.row) c.args.row z c.leave_out-2.new.degrees) c.as_mut_slice-cols.ensures.value
+    let sc : AreReduced (map (λ (x : ℕ). x) c.cols_of.result.now) c.args.row s.col_degrees.items c.leave_out-2.new.degrees =
+    subst (λ (z : List Unmatched). AreReduced (map (λ (x : ℕ). x) c.cols_of.result.now) c.args.row z c.leave_out-2.new.degrees) c.as_mut_slice-cols.ensures.value
     (record { reduced = c.leave_out-2.ensures.sums; kept = c.leave_out-2.ensures.kept_sums }) in
     record {
       same_rows = c.pair.ensures.sizes.0 ∙ c.requires.rest.same_rows;
@@ -55,8 +51,6 @@ returns-clause-rest c =
       sums = rw (back_c, back_r) (sums_after a (c.args.row, c.args.col) s.matching.pairs c.pair.new.self.pairs _ _ s.col_degrees.items s.row_degrees.items c.leave_out-2.new.degrees c.leave_out.new.degrees (omega (arith, c.requires.free.0.0, c.is_pattern.ensures.few_rows)) (omega (arith, entry_col a c.args.row c.args.col c.requires.free.0, c.is_pattern.ensures.few_cols)) c.requires.rest.degrees c.requires.rest.sums c.pair.ensures.added c.requires.free rows columns lc lr sc sr);
       cols_bound = c.leave_out-2.ensures.bound ∙ ap length c.as_mut_slice-cols.ensures.value ∙ sym (counts_long s.col_degrees.items) ∙ c.requires.rest.degrees.long_cols;
       rows_bound = c.leave_out.ensures.bound ∙ ap length c.as_mut_slice-rows.ensures.value ∙ sym (counts_long s.row_degrees.items) ∙ c.requires.rest.degrees.long_rows;
-      cols_ahead = c.leave_out-2.ensures.ahead;
-      rows_ahead = c.leave_out.ensures.ahead;
       passed = c.requires.rest.passed;
       below = λ x lt. rw back_c (still_none _ c.args.col x _ _ lc (c.requires.rest.below x lt));
     }
@@ -70,25 +64,10 @@ returns-clause-ones c =
 
 pub leave_out-requires-clause-alone : goal.leave_out-requires-clause-alone
 leave_out-requires-clause-alone c =
-    let rows : Lists (λ r. IsEntry c.args.sides.now.pattern.now r c.args.col) (column c.args.sides.now.pattern.now c.args.col) = c.is_pattern.ensures.columns c.args.col in
-    λ test. alone_col c.args.sides.now.pattern.now c.args.self.now.matching.pairs _ _ _ _ _ c.args.row c.args.col _ c.requires.rest.degrees c.requires.free (ap counts c.as_mut_slice-cols.ensures.value) (ap counts c.as_mut_slice-rows.ensures.value) c.col.view_is (subst (λ n. nat_lt 1 n ≡ false) (count_at c.as_mut_slice-cols.result.now c.col.inside.0) test) rows
+    let rows : Lists (λ r. IsEntry c.args.pattern.now r c.args.col) (map (λ (x : ℕ). x) c.rows_of.result.now) = rw map-id c.rows_of.ensures.rows in
+    λ test. alone_col c.args.pattern.now c.args.self.now.matching.pairs _ _ _ _ _ c.args.row c.args.col _ c.requires.rest.degrees c.requires.free (ap counts c.as_mut_slice-cols.ensures.value) (ap counts c.as_mut_slice-rows.ensures.value) c.col.view_is (subst (λ n. nat_lt 1 n ≡ false) (count_at c.as_mut_slice-cols.result.now c.col.inside.0) test) rows
 
 pub leave_out-requires-2-clause-alone : goal.leave_out-requires-2-clause-alone
 leave_out-requires-2-clause-alone c =
-    let columns : Lists (λ b. IsEntry c.args.sides.now.pattern.now c.args.row b) (column (transpose c.args.sides.now.pattern.now) c.args.row) = row_lists c.args.sides.now.pattern.now c.args.row c.requires.free.0.0 in
-    λ test. alone_row c.args.sides.now.pattern.now c.args.self.now.matching.pairs _ _ _ _ _ c.args.row c.args.col _ c.requires.rest.degrees c.requires.free (ap counts c.as_mut_slice-cols.ensures.value) (ap counts c.as_mut_slice-rows.ensures.value) c.row.view_is (subst (λ n. nat_lt 1 n ≡ false) (count_at c.as_mut_slice-rows.result.now c.row.inside.0) test) columns
-
-pub leave_out-requires-clause-ahead : goal.leave_out-requires-clause-ahead
-leave_out-requires-clause-ahead c = c.requires.rest.rows_ahead
-
-pub leave_out-requires-2-clause-ahead : goal.leave_out-requires-2-clause-ahead
-leave_out-requires-2-clause-ahead c = c.requires.rest.cols_ahead
-
-pub leave_out-requires-2-clause-mate : goal.leave_out-requires-2-clause-mate
-leave_out-requires-2-clause-mate c = omega (arith, c.requires.free.0.0, transpose_cols c.args.sides.now.pattern.now)
-
-pub leave_out-requires-2-clause-rising : goal.leave_out-requires-2-clause-rising
-leave_out-requires-2-clause-rising c = (row_lists c.args.sides.now.pattern.now c.args.row c.requires.free.0.0).rising
-
-pub leave_out-requires-2-clause-beside : goal.leave_out-requires-2-clause-beside
-leave_out-requires-2-clause-beside c = (row_lists c.args.sides.now.pattern.now c.args.row c.requires.free.0.0).complete c.args.col c.requires.free.0
+    let columns : Lists (λ b. IsEntry c.args.pattern.now c.args.row b) (map (λ (x : ℕ). x) c.cols_of.result.now) = rw map-id c.cols_of.ensures.cols in
+    λ test. alone_row c.args.pattern.now c.args.self.now.matching.pairs _ _ _ _ _ c.args.row c.args.col _ c.requires.rest.degrees c.requires.free (ap counts c.as_mut_slice-cols.ensures.value) (ap counts c.as_mut_slice-rows.ensures.value) c.row.view_is (subst (λ n. nat_lt 1 n ≡ false) (count_at c.as_mut_slice-rows.result.now c.row.inside.0) test) columns
