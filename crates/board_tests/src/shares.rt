@@ -80,13 +80,15 @@ fn much_work_is_done_at_once(rt: HostRuntime) -> Result<(), Fail> {
 // first waits in vain for the other. Nine workers show that of eight processors at most.
 #[test]
 fn no_more_threads_than_processors(rt: HostRuntime) -> Result<(), Fail> {
+    let fewer = processors(&rt) < 9;
     let parties = processors(&rt).min(8) as u32 + 1;
-    let gate = BarrierGate::without_threads(rt.alloc(), parties, FEW_TURNS)?;
+    let turns = if fewer { FEW_TURNS } else { 10_000_000 };
+    let gate = BarrierGate::without_threads(rt.alloc(), parties, turns)?;
     let mut sums = [10, 10, 10, 10, 10, 10, 10, 10, 10];
     let Ok(()) = work_at_once(&rt, &gate, &AddNumber, &mut sums);
     assert_eq!(rt; sums, [10, 11, 12, 13, 14, 15, 16, 17, 18]);
     assert!(rt; gate.have_arrived(9, 1));
-    assert_eq!(rt; gate.ran_out(), processors(&rt) < 9);
+    assert_eq!(rt; gate.ran_out(), fewer);
     Ok(())
 }
 
