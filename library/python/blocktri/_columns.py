@@ -31,10 +31,6 @@ class Columns:
         """The number of columns."""
         return self.starts.size - 1
 
-    def copy(self) -> Columns:
-        """The same places, in arrays of their own."""
-        return Columns(self.rows, self.starts.copy(), self.ids.copy(), self.is_transposed)
-
 
 def compressed(matrix: Any, keeps_rows: bool = False) -> Columns:
     """The columns of a matrix; those of its transpose where it is kept by rows, unless rows are to stay rows.

@@ -3,7 +3,6 @@
 from __future__ import annotations
 
 import ctypes
-import functools
 from collections.abc import Iterator, Sequence
 from dataclasses import dataclass, field
 from typing import TYPE_CHECKING, Any, NamedTuple, overload
@@ -86,8 +85,7 @@ class Decomposition:
     horizontal_components, vertical_components : Parts
         The connected components of the outer parts, sequences of `Part`: pieces that have no entry in common, each short of
         equations or of unknowns by itself. Those of the horizontal part stand by their least columns, those of the vertical
-        part by their least rows. They are looked for when one of them is asked for first, in a copy of the columns that is
-        kept where there is an outer part.
+        part by their least rows.
     row_order, column_order : ndarray of integers
         The rows and the columns part by part and block by block: in these orders the matrix is block upper triangular.
     p, q : ndarray of integers
@@ -114,6 +112,8 @@ class Decomposition:
     square: Part
     vertical: Part
     blocks: Blocks
+    horizontal_components: Parts
+    vertical_components: Parts
     row_order: Lines
     column_order: Lines
     p: Lines
@@ -123,21 +123,6 @@ class Decomposition:
     cc: Lines
     rr: Lines
     _matrix: Any = field(repr=False)
-    _columns: Columns | None = field(repr=False)
-
-    @functools.cached_property
-    def _outer_components(self) -> tuple[Parts, Parts]:
-        return _components(self._columns, self.horizontal, self.vertical)
-
-    @property
-    def horizontal_components(self) -> Parts:
-        """The connected components of the horizontal part."""
-        return self._outer_components[0]
-
-    @property
-    def vertical_components(self) -> Parts:
-        """The connected components of the vertical part."""
-        return self._outer_components[1]
 
     def __iter__(self) -> Iterator[Lines]:
         return iter((self.p, self.q, self.r, self.s, self.cc, self.rr))
@@ -254,13 +239,13 @@ def dmperm(matrix: Any) -> Decomposition:
         square,
         vertical,
         Blocks(square, starts),
+        *_components(columns, horizontal, vertical),
         row_order,
         column_order,
         *_paired(coarse, row_order, column_order, rows_of_columns),
         *_starts_of_all(coarse, starts),
         *coarse,
         matrix,
-        columns.copy() if sizes.square < max(shape) else None,
     )
 
 
@@ -282,14 +267,12 @@ def _form(columns: Columns) -> tuple[Sizes, Lines, Lines, Lines]:
     return exchanged, _backwards(others, other_starts), _backwards(rows, row_starts), sizes.square - starts[::-1]
 
 
-def _components(columns: Columns | None, horizontal: Part, vertical: Part) -> tuple[Parts, Parts]:
-    """The connected components of both outer parts; without columns neither part is there."""
-    if columns is None:
-        no_numbers = horizontal.rows, horizontal.columns
-        return _grouped(horizontal, no_numbers, 0, 0), _grouped(vertical, no_numbers, 0, 0)
+def _components(columns: Columns, horizontal: Part, vertical: Part) -> tuple[Parts, Parts]:
+    """The connected components of both outer parts; nothing is looked for where neither is there."""
     counts = ComponentCounts()
     numbers = numpy.empty(columns.rows, numpy.uint32), numpy.empty(columns.count, numpy.uint32)
-    call("components", columns, *numbers, ctypes.byref(counts))
+    if len(horizontal.columns) + len(vertical.rows) > 0:
+        call("components", columns, *numbers, ctypes.byref(counts))
     # the numbers of the vertical components begin behind those of the horizontal ones, which the transpose has exchanged
     of_horizontal, of_vertical = (0, counts.horizontal), (counts.horizontal, counts.vertical)
     if columns.is_transposed:
