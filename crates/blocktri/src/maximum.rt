@@ -135,7 +135,8 @@ fn first_unmatched<N: NumberList>(
 ) -> Option<Row>
     requires few { matching.now.rows < 2 ^ 32 }
     requires to { to ≤ length (N.numbers ids) }
-    requires rows { (k : ℕ) → from ≤ k → k < to → slice_index (N.numbers ids) k < matching.now.rows }
+    requires rows { (k : ℕ) → from ≤ k → k < to
+        → slice_index (N.numbers ids) k < matching.now.rows }
     ensures given { IfSome result (λ r. Among r (slice_range (N.numbers ids) from to)) }
     ensures in_range { IfSome result (λ r. r < matching.now.rows) }
     ensures unmatched { IfSome result (λ r. ¬ Among r (rows_of matching.now.pairs)) }

@@ -22,7 +22,8 @@ pub fn narrow(
 ) -> bool
     requires of { weights.now.matrix ≡ pattern.now }
     requires full { IsFull pattern.now pairs.now }
-    requires small { (r c : ℕ) → IsEntry pattern.now r c → weight_at weights.now r c ≤ weight_limit }
+    requires small { (r c : ℕ) → IsEntry pattern.now r c
+        → weight_at weights.now r c ≤ weight_limit }
     requires fair { AreFair weights.now pairs.now u.old.items v.old.items }
     ensures fair { IsTrue result → AreFair weights.now pairs.now u.new.items v.new.items }
     ensures narrow { IsTrue result → AreNarrow u.new.items × AreNarrow v.new.items }

@@ -126,7 +126,8 @@ fn write_numbers(rows: &mut [u32], columns: &mut [u32], blocks: &Blocks, first: 
     requires rows { AreApart rows_of_block blocks.now (length rows.old) }
     requires columns { AreApart cols_of_block blocks.now (length columns.old) }
     requires few { first + length blocks.now < 2 ^ 32 }
-    ensures rows { AreNumbered rows_of_block first blocks.now (length blocks.now) rows.old rows.new }
+    ensures rows { AreNumbered rows_of_block first blocks.now (length blocks.now)
+        rows.old rows.new }
     ensures columns { AreNumbered cols_of_block first blocks.now (length blocks.now) columns.old
         columns.new }
 {

@@ -28,7 +28,8 @@ pub fn least_row_prices(
 ) -> bool
     requires of { weights.now.matrix ≡ pattern.now }
     requires full { IsFull pattern.now pairs.now }
-    requires small { (r c : ℕ) → IsEntry pattern.now r c → weight_at weights.now r c ≤ weight_limit }
+    requires small { (r c : ℕ) → IsEntry pattern.now r c
+        → weight_at weights.now r c ≤ weight_limit }
     requires long { length u.old.items ≡ pattern.now.rows }
     ensures low { IsTrue result → AreLow weights.now pairs.now u.new.items }
     ensures enough { IsTrue result
@@ -75,7 +76,8 @@ fn raise_all(
 ) -> Option<bool>
     requires of { weights.now.matrix ≡ pattern.now }
     requires full { IsFull pattern.now pairs.now }
-    requires small { (r c : ℕ) → IsEntry pattern.now r c → weight_at weights.now r c ≤ weight_limit }
+    requires small { (r c : ℕ) → IsEntry pattern.now r c
+        → weight_at weights.now r c ≤ weight_limit }
     requires low { AreLow weights.now pairs.now u.old.items }
     ensures low { IfSome result (λ raised. AreLow weights.now pairs.now u.new.items) }
     ensures nearer { IfSome result (λ raised.

@@ -16,8 +16,8 @@ use std::alloc::Global;
 /// taken, their number is the rank, and it takes 4 bytes a row and 4 a column. Else it takes what
 /// the pattern takes, and what the search takes beside it (Karp and Sipser 1981; Pothen and Fan
 /// 1990). Where rows and columns differ by more than an eighth, the search begins at what the first
-/// look matched. Answers `OutOfMemory` where there is no memory for that. Work: two looks at each number at
-/// most, where the first look decides; else what `sp_pattern::Pattern::of_columns`,
+/// look matched. Answers `OutOfMemory` where there is no memory for that. Work: two looks at each
+/// number at most, where the first look decides; else what `sp_pattern::Pattern::of_columns`,
 /// `karp_sipser::start` and `pothen_fan::complete` say of theirs.
 pub fn rank<N: NumberList>(alloc: Global, rows: u64, starts: N, ids: N) -> Result<u32, ColumnsError>
     ensures rank { IfOk result

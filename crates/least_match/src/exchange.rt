@@ -26,8 +26,8 @@ pub enum Meeting {
     FreeCol { col: Col, to: u32 },
 }
 
-/// Parts a matched column from its row, which it gives.
-pub fn part(matching: &mut Matching, col: Col) -> Row
+/// Leaves a matched column and its row without mates; gives the row.
+pub fn unpair_col(matching: &mut Matching, col: Col) -> Row
     requires { Among col (cols_of matching.old.pairs) }
     ensures row { Among (result, col) matching.old.pairs }
     ensures in_range { (result < matching.old.rows) × (col < matching.old.cols) }
@@ -56,7 +56,7 @@ pub fn swap(matching: &mut Matching, row: Row, col: Col) -> Row
         × (matching.new.cols ≡ matching.old.cols) }
     ensures pairings { IsPairing matching.old × IsPairing matching.new }
 {
-    let own = part(matching, col);
+    let own = unpair_col(matching, col);
     matching.pair(row, col);
     own
 }
@@ -73,7 +73,7 @@ pub fn pass(matching: &mut Matching, from: Col, to: Col) -> Row
         × (matching.new.cols ≡ matching.old.cols) }
     ensures pairings { IsPairing matching.old × IsPairing matching.new }
 {
-    let row = part(matching, from);
+    let row = unpair_col(matching, from);
     matching.pair(row, to);
     row
 }
@@ -98,7 +98,7 @@ pub fn vacate(matching: &mut Matching, tree: &Tree, place: u32) -> Row
         → LeadsBack a matching.old.pairs tree.now.queue → IsMatching a matching.new.pairs }
 {
     let (first, _) = tree.at(place);
-    let free = part(matching, first);
+    let free = unpair_col(matching, first);
     let mut at = place;
     while at > 0 {
         let (col, parent) = tree.at(at);

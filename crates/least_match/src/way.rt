@@ -7,7 +7,7 @@ ghost use Rattle.bip_graph.specs.Matching.{IsMatchingOf};
 ghost use Rattle.least_match.specs.Exchanges.{Frees, Meets};
 ghost use Rattle.least_match.specs.Trees.{AreSearchTrees};
 
-use crate::exchange::{Meeting, part, shift, vacate};
+use crate::exchange::{Meeting, shift, unpair_col, vacate};
 use crate::search::ClassTail;
 use crate::tree::Tree;
 use bip_graph::Matching;
@@ -40,14 +40,14 @@ impl ClassTail<'_> {
                 shift(matching, forward, from, row);
             }
             Meeting::FreeRow { from, row } => {
-                part(matching, self.col);
+                unpair_col(matching, self.col);
                 shift(matching, forward, from, row);
             }
             Meeting::FreeCol { col, to } => {
                 let row = vacate(matching, backward, to);
                 matching.pair(row, col);
                 let (first, _) = forward.at(0);
-                part(matching, first);
+                unpair_col(matching, first);
             }
         }
     }

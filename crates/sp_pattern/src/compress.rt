@@ -8,7 +8,7 @@ use sp_ids::{Id, OutOfMemory};
 use std::alloc::Global;
 
 /// Writes `end` as the start of each outer number up to this one that has none yet.
-pub fn open(starts: &mut Vec<u32>, outer: u32, end: u32) -> Result<(), OutOfMemory>
+pub fn fill_starts(starts: &mut Vec<u32>, outer: u32, end: u32) -> Result<(), OutOfMemory>
     requires { length starts.old.items ≤ outer + 1 }
     ensures opened { OnOk result (length starts.new.items ≡ outer + 1) }
     ensures compressed { OnOk result ((ds : List Pair) (flat : List ℕ) → length flat ≡ end
@@ -40,12 +40,12 @@ pub fn compress<P: Pairs, I: Id>(
     let mut last = None;
     for k in 0..len {
         let pair = pairs.at(k);
-        open(&mut starts, pair.0, flat.len() as u32)?;
+        fill_starts(&mut starts, pair.0, flat.len() as u32)?;
         if last != Some(pair) {
             flat.push(I::of(pair.1))?;
             last = Some(pair);
         }
     }
-    open(&mut starts, outer, flat.len() as u32)?;
+    fill_starts(&mut starts, outer, flat.len() as u32)?;
     Ok((starts, flat))
 }

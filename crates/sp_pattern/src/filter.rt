@@ -7,7 +7,7 @@ ghost use Rattle.bip_defs.specs.Matrix.{IsEntry, Matrix, cols, column};
 ghost use Rattle.sp_pattern.specs.Restricted.{AreKept, passing_rows};
 
 use crate::Pattern;
-use crate::compress::open;
+use crate::compress::fill_starts;
 use sp_ids::{Col, OutOfMemory, Row};
 use std::alloc::Global;
 
@@ -60,10 +60,10 @@ impl Pattern {
         let mut starts = Vec::with_capacity(alloc, cols as usize + 1)?;
         let mut rows = Vec::with_capacity(alloc, self.entries() as usize)?;
         for col in 0..cols {
-            open(&mut starts, col, rows.len() as u32)?;
+            fill_starts(&mut starts, col, rows.len() as u32)?;
             keep.push_kept(Col(col), self.rows_of(Col(col)), &mut rows)?;
         }
-        open(&mut starts, cols, rows.len() as u32)?;
+        fill_starts(&mut starts, cols, rows.len() as u32)?;
         Ok((starts, rows))
     }
 }

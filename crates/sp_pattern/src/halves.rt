@@ -4,7 +4,7 @@ ghost use Rattle.std.specs.Prelude.{◌≡◌, ◌<◌, ◌^◌, ℕ, length, ma
 ghost use Rattle.sp_pattern.specs.Mirror.{AreSymmetric, lower, lowered};
 ghost use Rattle.sp_pattern.specs.Pairs.{AreInside, IsOrderOf};
 
-use crate::compress::open;
+use crate::compress::fill_starts;
 use crate::mirror::behind_mirror;
 use crate::pairs::{is_at_most, lower_by_col};
 use sp_ids::{Col, Id, OutOfMemory, Row};
@@ -72,13 +72,13 @@ pub fn compress_half<H: Half, I: Id>(
         let Some(next) = behind_mirror(places, k) else {
             return Ok(None);
         };
-        open(&mut starts, pair.0, flat.len() as u32)?;
+        fill_starts(&mut starts, pair.0, flat.len() as u32)?;
         if k == 0 || pair != last {
             flat.push(I::of(pair.1))?;
             last = pair;
         }
         k = next;
     }
-    open(&mut starts, n, flat.len() as u32)?;
+    fill_starts(&mut starts, n, flat.len() as u32)?;
     Ok(Some((starts, flat)))
 }

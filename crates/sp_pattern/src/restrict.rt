@@ -8,7 +8,7 @@ ghost use Rattle.sp_ids.specs.declared.triples.Field.TheVariants.{Integer};
 ghost use Rattle.sp_pattern.specs.Restricted.{AreKept, Decides, taken, taken_rows};
 ghost use Rattle.sp_pattern.specs.Weights.{nonzero_places, weight_at};
 
-use crate::compress::open;
+use crate::compress::fill_starts;
 use crate::sums::sums_of;
 use crate::{Pattern, Weights};
 use sp_ids::{Col, OutOfMemory, Row, Triples};
@@ -136,11 +136,11 @@ impl Pattern {
         let mut starts = Vec::with_capacity(alloc, cols as usize + 1)?;
         let mut rows = Vec::with_capacity(alloc, self.entries() as usize)?;
         for col in 0..cols {
-            open(&mut starts, col, rows.len() as u32)?;
+            fill_starts(&mut starts, col, rows.len() as u32)?;
             let (from, _to) = self.span(Col(col));
             push_taken(&mut rows, self.rows_of(Col(col)), from, choice)?;
         }
-        open(&mut starts, cols, rows.len() as u32)?;
+        fill_starts(&mut starts, cols, rows.len() as u32)?;
         Ok((starts, rows))
     }
 }

@@ -24,7 +24,7 @@ seen bytes faults old new = record {
 abbrev pub IsSteady : Device → Type 0
 IsSteady d = d.failed_after ≡ d.failed_before
 
--- Its count of failures has not fallen, and is one more at most: nothing was asked of it after a call that failed.
+-- Its count of failures has not fallen, and is one more at most.
 pub record FailsOnceAtMost (d : Device) : Type 0 where
   pub later : d.failed_before ≤ d.failed_after
   pub once : d.failed_after ≤ d.failed_before + 1

@@ -8,15 +8,15 @@ use Rattle.least_match.specs.Exchanges.{Swaps}
 use Rattle.least_match.proofs.ExchangeLemmas.{hole_matched, hole_matching, hole_start, hole_step}
 use Rattle.least_match.proofs.exchange.vacate.Goals as goal
 
-pub part-free-requires : goal.part-free-requires
-part-free-requires c = subst (λ (x : ℕ × ℕ). Among x.0 (cols_of c.args.matching.now.pairs)) (sym c.at-first.ensures) (c.requires.tree.matched _ (head_at c.args.tree.now.queue c.args.place c.requires.place))
+pub unpair_col-free-requires : goal.unpair_col-free-requires
+unpair_col-free-requires c = subst (λ (x : ℕ × ℕ). Among x.0 (cols_of c.args.matching.now.pairs)) (sym c.at-first.ensures) (c.requires.tree.matched _ (head_at c.args.tree.now.queue c.args.place c.requires.place))
 
 pub loop-at-init : goal.loop-at-init
 loop-at-init c = record {
-  hole = hole_start _ _ _ _ _ c.part-free.ensures.pairings.0.rows_differ (rising_distinct _ c.part-free.ensures.pairings.0.cols_rise) c.requires.tree c.requires.place (subst (λ (x : ℕ × ℕ). Among (c.part-free.result, x.0) c.args.matching.now.pairs) c.at-first.ensures c.part-free.ensures.row) c.part-free.ensures.pairs c.part-free.ensures.size;
-  pairing = c.part-free.ensures.pairings.1;
-  rows = c.part-free.ensures.sizes.0;
-  cols = c.part-free.ensures.sizes.1;
+  hole = hole_start _ _ _ _ _ c.unpair_col-free.ensures.pairings.0.rows_differ (rising_distinct _ c.unpair_col-free.ensures.pairings.0.cols_rise) c.requires.tree c.requires.place (subst (λ (x : ℕ × ℕ). Among (c.unpair_col-free.result, x.0) c.args.matching.now.pairs) c.at-first.ensures c.unpair_col-free.ensures.row) c.unpair_col-free.ensures.pairs c.unpair_col-free.ensures.size;
+  pairing = c.unpair_col-free.ensures.pairings.1;
+  rows = c.unpair_col-free.ensures.sizes.0;
+  cols = c.unpair_col-free.ensures.sizes.1;
 }
 
 pub pass-requires-clause-from : goal.pass-requires-clause-from
@@ -31,7 +31,7 @@ pub pass-requires-clause-in_range : goal.pass-requires-clause-in_range
 pass-requires-clause-in_range c =
     let on = c.requires.tree.matched _ (head_at c.args.tree.now.queue c.loop-at.at c.loop-at.invariant.hole.within) in
     let (r, p) = col_pair (at c.args.tree.now.queue c.loop-at.at).0 c.args.matching.now.pairs on in
-    let lt = c.part-free.ensures.pairings.0.cols_within r (at c.args.tree.now.queue c.loop-at.at).0 p in
+    let lt = c.unpair_col-free.ensures.pairings.0.cols_within r (at c.args.tree.now.queue c.loop-at.at).0 p in
     let same = c.loop-at.invariant.cols in
     subst (λ (x : ℕ × ℕ). x.0 < c.loop-at.matching.cols) (sym c.at-col.ensures) (omega (arith, lt, same))
 

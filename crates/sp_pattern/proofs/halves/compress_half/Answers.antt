@@ -36,9 +36,9 @@ loop-k-preserved-in_ok-push g c =
     record {
       within = behind.1;
       symmetric = symmetric_more ps k c.in-Some.next more c.in-Some.ensures c.loop-k.invariant.symmetric;
-      halved = halved_behind c.args.n g.H.Half.pair ps k c.in-Some.next c.pair_of-pair.result c.open.new.starts.items (map g.I.Id.number c.push.new.self.items)
-          (halved_more c.args.n pairs k c.loop-k.last c.loop-k.starts.items c.open.new.starts.items flat (map g.I.Id.number c.push.new.self.items) c.pair_of-pair.result c.loop-k.invariant.halved lt is most new c.in_ok-open.ensures.opened
-          (inside_at c.args.n c.args.n pairs k c.pair_of-pair.result c.requires.inside lt is) (λ ds f. c.in_ok-open.ensures.compressed ds flat long f)
+      halved = halved_behind c.args.n g.H.Half.pair ps k c.in-Some.next c.pair_of-pair.result c.fill_starts.new.starts.items (map g.I.Id.number c.push.new.self.items)
+          (halved_more c.args.n pairs k c.loop-k.last c.loop-k.starts.items c.fill_starts.new.starts.items flat (map g.I.Id.number c.push.new.self.items) c.pair_of-pair.result c.loop-k.invariant.halved lt is most new c.in_ok-fill_starts.ensures.opened
+          (inside_at c.args.n c.args.n pairs k c.pair_of-pair.result c.requires.inside lt is) (λ ds f. c.in_ok-fill_starts.ensures.compressed ds flat long f)
           (rw (c.in_ok-push.ensures.items, map-append, c.of.ensures) refl))
           more is c.in-Some.ensures;
     }
@@ -57,15 +57,15 @@ loop-k-preserved g c =
     let is : c.pair_of-pair.result ≡ pair_at pairs k = c.pair_of-pair.ensures ∙ half_read g.H.Half.pair ps k _ _ _ _ more refl refl in
     let again : c.loop-k.last ≡ c.pair_of-pair.result = pair_again c.pair_of-pair.result c.loop-k.last c.ne.result c.ne.ensures c.if-ne.false in
     let first = ap (λ (z : Pair). z.0) again in
-    let opened = c.in_ok-open.ensures.opened in
+    let opened = c.in_ok-fill_starts.ensures.opened in
     let inside = inside_at c.args.n c.args.n pairs k c.pair_of-pair.result c.requires.inside lt is in
     let none = c.if-k-eq0.false in
     record {
       within = behind.1;
       symmetric = symmetric_more ps k c.in-Some.next more c.in-Some.ensures c.loop-k.invariant.symmetric;
-      halved = halved_behind c.args.n g.H.Half.pair ps k c.in-Some.next c.loop-k.last c.open.new.starts.items flat
-          (halved_again c.args.n pairs k c.loop-k.last c.loop-k.starts.items c.open.new.starts.items flat c.loop-k.invariant.halved lt (again ∙ is) (omega (arith, none))
-          (omega (arith, opened, first)) (omega (arith, opened, inside)) (λ ds f. c.in_ok-open.ensures.compressed ds flat long f))
+      halved = halved_behind c.args.n g.H.Half.pair ps k c.in-Some.next c.loop-k.last c.fill_starts.new.starts.items flat
+          (halved_again c.args.n pairs k c.loop-k.last c.loop-k.starts.items c.fill_starts.new.starts.items flat c.loop-k.invariant.halved lt (again ∙ is) (omega (arith, none))
+          (omega (arith, opened, first)) (omega (arith, opened, inside)) (λ ds f. c.in_ok-fill_starts.ensures.compressed ds flat long f))
           more (again ∙ is) c.in-Some.ensures;
     }
 
@@ -80,4 +80,4 @@ returns-clause-order g c =
     let all = length-halves g.H.Half.pair ps in
     let long : length flat ≡ c.len-2.result = length_numbers g.I.Id.number c.loop-k.flat.items ∙ (let n = c.len-2.ensures in let ok = c.loop-k.flat.ok in omega (arith, n, ok)) in
     let done : c.loop-k.k ≡ length pairs = let t = c.loop-k-test.false in let w = c.loop-k.invariant.within in omega (arith, t, w, all) in
-    halved_end c.args.n c.args.n pairs c.loop-k.k c.loop-k.last c.loop-k.starts.items c.open-2.new.starts.items flat c.loop-k.invariant.halved c.in_ok-open-2.ensures.opened done c.requires.inside (λ ds f. c.in_ok-open-2.ensures.compressed ds flat long f)
+    halved_end c.args.n c.args.n pairs c.loop-k.k c.loop-k.last c.loop-k.starts.items c.fill_starts-2.new.starts.items flat c.loop-k.invariant.halved c.in_ok-fill_starts-2.ensures.opened done c.requires.inside (λ ds f. c.in_ok-fill_starts-2.ensures.compressed ds flat long f)

@@ -21,8 +21,8 @@ shift-requires-clause-tree c =
     let e = c.vacate-row.ensures in
     forward_hangs _ _ _ _ _ _ _ k t _ (vacate_vacates _ _ _ _ _ _ _ k t _ (e.matching _ k t.backward_leads) e.size e.col_free e.beside)
 
-pub part-requires : goal.part-requires
-part-requires c =
+pub unpair_col-requires : goal.unpair_col-requires
+unpair_col-requires c =
     let t = c.requires.trees.1 in
     t.backward_tree.matched _ (j_on _ _ _ _ _ _ _ c.requires.matching.matching t)
 
@@ -30,12 +30,12 @@ pub shift-requires-in-FreeRow-clause-tree : goal.shift-requires-in-FreeRow-claus
 shift-requires-in-FreeRow-clause-tree c =
     let k = c.requires.matching.matching in
     let t = c.requires.trees.1 in
-    forward_hangs _ _ _ _ _ _ _ k t _ (parted_vacates _ _ _ _ _ _ _ k t _ _ c.part.ensures.pairings.1.rows_differ (rising_distinct _ c.part.ensures.pairings.1.cols_rise) c.part.ensures.row c.part.ensures.pairs c.part.ensures.size)
+    forward_hangs _ _ _ _ _ _ _ k t _ (parted_vacates _ _ _ _ _ _ _ k t _ _ c.unpair_col.ensures.pairings.1.rows_differ (rising_distinct _ c.unpair_col.ensures.pairings.1.cols_rise) c.unpair_col.ensures.row c.unpair_col.ensures.pairs c.unpair_col.ensures.size)
 
 pub shift-requires-in-FreeRow-clause-free : goal.shift-requires-in-FreeRow-clause-free
 shift-requires-in-FreeRow-clause-free c =
     let meets = subst (Meets c.args.self.now.pattern.now c.args.matching.now.pairs c.args.self.now.col c.args.forward.now.queue c.args.backward.now.queue) c.in-FreeRow.is c.requires.meets in
-    parted_free _ _ _ _ c.part.ensures.pairs meets.2
+    parted_free _ _ _ _ c.unpair_col.ensures.pairs meets.2
 
 pub pair-requires-clause-col_free : goal.pair-requires-clause-col_free
 pair-requires-clause-col_free c =
@@ -45,8 +45,8 @@ pair-requires-clause-col_free c =
     let meets = subst (Meets c.args.self.now.pattern.now c.args.matching.now.pairs c.args.self.now.col c.args.forward.now.queue c.args.backward.now.queue) c.in-FreeCol.is c.requires.meets in
     col_fresh _ _ _ _ _ _ _ k t _ (vacate_vacates _ _ _ _ _ _ _ k t _ (e.matching _ k t.backward_leads) e.size e.col_free e.beside) _ meets.3
 
-pub part-requires-in-FreeCol : goal.part-requires-in-FreeCol
-part-requires-in-FreeCol c =
+pub unpair_col-requires-in-FreeCol : goal.unpair_col-requires-in-FreeCol
+unpair_col-requires-in-FreeCol c =
     let k = c.requires.matching.matching in
     let t = c.requires.trees.1 in
     let e = c.vacate-row-in-FreeCol.ensures in
@@ -67,7 +67,7 @@ pub returns-in-FreeRow-clause-frees : goal.returns-in-FreeRow-clause-frees
 returns-in-FreeRow-clause-frees c = λ r p.
     let k = c.requires.matching.matching in
     let t = c.requires.trees.1 in
-    let v = parted_vacates _ _ _ _ _ _ _ k t _ _ c.part.ensures.pairings.1.rows_differ (rising_distinct _ c.part.ensures.pairings.1.cols_rise) c.part.ensures.row c.part.ensures.pairs c.part.ensures.size in
+    let v = parted_vacates _ _ _ _ _ _ _ k t _ _ c.unpair_col.ensures.pairings.1.rows_differ (rising_distinct _ c.unpair_col.ensures.pairings.1.cols_rise) c.unpair_col.ensures.row c.unpair_col.ensures.pairs c.unpair_col.ensures.size in
     let meets = subst (Meets c.args.self.now.pattern.now c.args.matching.now.pairs c.args.self.now.col c.args.forward.now.queue c.args.backward.now.queue) c.in-FreeRow.is c.requires.meets in
     let o = c.shift-in-FreeRow.ensures in
     shifted_frees _ _ _ _ _ _ _ k t _ v _ _ r (o.matching _ v.matching (forward_led _ _ _ _ _ _ _ k t _ v) meets.1) o.size o.beside o.row o.row_free p
@@ -79,5 +79,5 @@ returns-in-FreeCol-clause-frees c = λ r p.
     let e = c.vacate-row-in-FreeCol.ensures in
     let v = vacate_vacates _ _ _ _ _ _ _ k t _ (e.matching _ k t.backward_leads) e.size e.col_free e.beside in
     let meets = subst (Meets c.args.self.now.pattern.now c.args.matching.now.pairs c.args.self.now.col c.args.forward.now.queue c.args.backward.now.queue) c.in-FreeCol.is c.requires.meets in
-    let own = subst (λ (x : ℕ × ℕ). Among (c.part-in-FreeCol.result, x.0) c.pair.new.self.pairs) c.at-first.ensures c.part-in-FreeCol.ensures.row in
-    taken_frees _ _ _ _ _ _ _ k t _ v _ _ _ _ _ r c.part-in-FreeCol.ensures.pairings.1.rows_differ (rising_distinct _ c.part-in-FreeCol.ensures.pairings.1.cols_rise) meets.1 meets.3 e.row_free (meets.4 _ e.row) c.pair.ensures.pairs c.pair.ensures.size own c.part-in-FreeCol.ensures.pairs c.part-in-FreeCol.ensures.size p
+    let own = subst (λ (x : ℕ × ℕ). Among (c.unpair_col-in-FreeCol.result, x.0) c.pair.new.self.pairs) c.at-first.ensures c.unpair_col-in-FreeCol.ensures.row in
+    taken_frees _ _ _ _ _ _ _ k t _ v _ _ _ _ _ r c.unpair_col-in-FreeCol.ensures.pairings.1.rows_differ (rising_distinct _ c.unpair_col-in-FreeCol.ensures.pairings.1.cols_rise) meets.1 meets.3 e.row_free (meets.4 _ e.row) c.pair.ensures.pairs c.pair.ensures.size own c.unpair_col-in-FreeCol.ensures.pairs c.unpair_col-in-FreeCol.ensures.size p

@@ -1,6 +1,6 @@
 use Rattle.std.proofs.Common.{◌≡◌, ◌+◌, ◌-◌, ◌≤◌, ℕ, List, length}
 use Rattle.sp_pattern.specs.Pairs.{IsCompressed, Pair}
-use Rattle.sp_pattern.proofs.compress.open.Given as goal
+use Rattle.sp_pattern.proofs.compress.fill_starts.Given as goal
 
 abbrev pub invariant-loop-starts : goal.invariant-loop-starts
 invariant-loop-starts l = record {

@@ -1,6 +1,6 @@
 use Rattle.std.proofs.Common.{length-append, arith}
 use Rattle.sp_pattern.proofs.Orders.{compressed_open}
-use Rattle.sp_pattern.proofs.compress.open.Goals as goal
+use Rattle.sp_pattern.proofs.compress.fill_starts.Goals as goal
 
 pub loop-starts-preserved : goal.loop-starts-preserved
 loop-starts-preserved c =
