@@ -7,20 +7,22 @@ use Rattle.bip_defs.specs.Blocks.{AreBlocksOf, AreInOrder, Block, IsBlock, Meets
 use Rattle.bip_defs.specs.Components.{IsComponent}
 use Rattle.bip_defs.specs.Lists.{Among, AreDistinct, IsRising, Lists, StandsAt}
 use Rattle.bip_defs.specs.Matching.{IsMatching}
-use Rattle.bip_defs.specs.Matrix.{IsEntry, Matrix, Place, cols, column, entry_count, row_list, upto}
+use Rattle.bip_defs.specs.Matrix.{IsEntry, Matrix, Place, cols, column, row_list, upto}
 use Rattle.bip_defs.specs.Parts.{IsSquareCol}
 use Rattle.bip_defs.proofs.Fine.{block_is_component, component_is_block}
 use Rattle.bip_defs.proofs.Sets.{among_left, among_right, among_map, among_map_back, among_at, among_test, below_each_sound, col_among, entry_col, filter_complete, filter_sound, lists_same, lists_unique, number_same, one_col, row_among, upto_lists}
 use Rattle.bip_graph.specs.Matching.{none}
 use Rattle.square_components.specs.Numbers.{AreNumbered, look}
 use Rattle.dm_fine.specs.Renumbering.{AreNumberedByLeast, AreRenumbered}
-use Rattle.dm_fine.specs.BlockOrder.{AreOrdered, AreOrderedBlocks, Follow}
-use Rattle.dm_fine.specs.Groups.{AreApart, AreRowGroups}
+use Rattle.dm_fine.specs.Condensation.{IsCondensation}
+use Rattle.dm_fine.specs.declared.condensation.Condensation.{Condensation}
+use Rattle.dm_fine.proofs.BlockOrder.{AreOrdered, Follow}
+use Rattle.dm_fine.specs.Groups.{AreRowGroups}
 use Rattle.id_groups.specs.Groups.{AreGroups, block_of, group}
-use Rattle.dm_fine.specs.InDegrees.{IsGathered, least_of, row_edges, edges_at, edges_into}
-use Rattle.dm_fine.proofs.Gathered.{least_stands}
+use Rattle.dm_fine.specs.Edges.{row_edges, edges_at, edges_into}
+use Rattle.dm_fine.proofs.Gathered.{IsGathered, least_of, least_stands}
 use Rattle.dm_fine.proofs.OrderLemmas.{follow_distinct, follow_fresh, follow_range}
-use Rattle.dm_fine.proofs.GroupParts.{groups_apart}
+use Rattle.dm_fine.proofs.GroupParts.{AreApart, groups_apart}
 use Rattle.dm_fine.proofs.Sums.{sum_from, sum_some}
 use Rattle.dm_fine.proofs.InDegrees.{edges_hit, edges_miss, edges_own_j}
 
@@ -77,13 +79,13 @@ by_least a m old new count n small s r = record {
     square_of : (c : ℕ) → c < length old → get_or old c 0 < count → IsSquareCol a c
     square_of c lt below = col_stable a c (let long = s.long in omega (arith, lt, long)) (λ off. let e : get_or old c 0 ≡ none = get_or_default old c 0 none lt ∙ s.outside c off in let few = s.few in absurd (omega (arith, e, few, below, small)))
 
-number_square : (a : Matrix) (m : List Place) (numbers : List ℕ) (n c : ℕ) → cols a < 2 ^ 32 → AreNumberedByLeast a m numbers n → c < cols a → look numbers c < n → IsSquareCol a c
+number_square : (a : Matrix) (m : List Place) (numbers : List ℕ) (n c : ℕ) → n < 2 ^ 32 → AreNumberedByLeast a m numbers n → c < cols a → look numbers c < n → IsSquareCol a c
 number_square a m numbers n c small s lt below = col_stable a c lt (λ off. let e = s.outside c off in let few = s.few in absurd (omega (arith, e, few, below, small)))
 
 looked : (a : Matrix) (m : List Place) (numbers : List ℕ) (n c : ℕ) → AreNumberedByLeast a m numbers n → c < cols a → get_or numbers c 0 ≡ look numbers c
 looked a m numbers n c s lt = let long = s.long in get_or_default numbers c 0 none (omega (arith, long, lt))
 
-cols_component : (a : Matrix) (m : List Place) (numbers : List ℕ) (n : ℕ) (cs : List (List ℕ)) (k : ℕ) → cols a < 2 ^ 32 → AreNumberedByLeast a m numbers n → AreGroups numbers n cs → k < n → Lists (λ x. IsSquareCol a x × (look numbers x ≡ k)) (group cs k)
+cols_component : (a : Matrix) (m : List Place) (numbers : List ℕ) (n : ℕ) (cs : List (List ℕ)) (k : ℕ) → n < 2 ^ 32 → AreNumberedByLeast a m numbers n → AreGroups numbers n cs → k < n → Lists (λ x. IsSquareCol a x × (look numbers x ≡ k)) (group cs k)
 cols_component a m numbers n cs k small s g lt = lists_same (StandsAt numbers k) (λ x. IsSquareCol a x × (look numbers x ≡ k)) (group cs k)
     (λ x h.
     let long = s.long in
@@ -93,7 +95,7 @@ cols_component a m numbers n cs k small s g lt = lists_same (StandsAt numbers k)
     (λ x h. let long = s.long in let within = h.0.0 in (omega (arith, long, within), looked a m numbers n x s within ∙ h.1))
     (g.lists k lt)
 
-rows_component : (a : Matrix) (m : List Place) (numbers : List ℕ) (n : ℕ) (rs : List (List ℕ)) (k : ℕ) → cols a < 2 ^ 32 → IsMatching a m → (s : AreNumberedByLeast a m numbers n) → AreRowGroups m numbers a.rows n rs → k < n → Lists (λ x. (c : ℕ) × Among (x, c) s.square × (look numbers c ≡ k)) (group rs k)
+rows_component : (a : Matrix) (m : List Place) (numbers : List ℕ) (n : ℕ) (rs : List (List ℕ)) (k : ℕ) → n < 2 ^ 32 → IsMatching a m → (s : AreNumberedByLeast a m numbers n) → AreRowGroups m numbers a.rows n rs → k < n → Lists (λ x. (c : ℕ) × Among (x, c) s.square × (look numbers c ≡ k)) (group rs k)
 rows_component a m numbers n rs k small matching s g lt = lists_same (StandsAt g.of_rows k) (λ x. (c : ℕ) × Among (x, c) s.square × (look numbers c ≡ k)) (group rs k) over back (g.groups.lists k lt)
   where
     over : (x : ℕ) → StandsAt g.of_rows k x → (c : ℕ) × Among (x, c) s.square × (look numbers c ≡ k)
@@ -132,8 +134,8 @@ from_row a r c lt h = (lt, (among_test r (column a c)).0 (filter_sound (λ d. li
 entry_edges : (a : Matrix) (numbers : List ℕ) (rs : List (List ℕ)) (j k x c : ℕ) → j ≢ k → Among x (group rs k) → get_or numbers c 0 ≡ j → IsEntry a x c → edges_into (row_list a) numbers rs j k ≢ 0
 entry_edges a numbers rs j k x c ne h is e nil =
     let hit = edges_hit k j (get_or numbers c 0) is (λ f. ne (sym is ∙ f)) in
-    let inner = sum_some (λ d. edges_at k j (get_or numbers d 0)) (row_list a x) c (in_row a x c e) in
-    let outer = sum_some (λ y. row_edges numbers k j (row_list a y)) (group rs k) x h in
+    let inner = sum_some (λ d. edges_at k (get_or numbers d 0) j) (row_list a x) c (in_row a x c e) in
+    let outer = sum_some (λ y. row_edges numbers k (row_list a y) j) (group rs k) x h in
     absurd (omega (arith, hit, inner, outer, nil))
 
 -- an edge is such an entry
@@ -147,8 +149,8 @@ record IsEdge (a : Matrix) (numbers : List ℕ) (rs : List (List ℕ)) (j k : �
 
 edges_entry : (a : Matrix) (numbers : List ℕ) (rs : List (List ℕ)) (j k : ℕ) → ((x : ℕ) → Among x (group rs k) → x < a.rows) → edges_into (row_list a) numbers rs j k ≢ 0 → IsEdge a numbers rs j k
 edges_entry a numbers rs j k within ne =
-    let (x, on, some) = sum_from (λ y. row_edges numbers k j (row_list a y)) (group rs k) ne in
-    let (c, at, one) = sum_from (λ d. edges_at k j (get_or numbers d 0)) (row_list a x) some in
+    let (x, on, some) = sum_from (λ y. row_edges numbers k (row_list a y) j) (group rs k) ne in
+    let (c, at, one) = sum_from (λ d. edges_at k (get_or numbers d 0) j) (row_list a x) some in
     record {
       row = x;
       col = c;
@@ -164,14 +166,12 @@ head_least x [] rising h = elim h [ ]
 head_least x (y ∷ xs) rising (inl e) = omega (arith, e)
 head_least x (y ∷ xs) rising (inr h) = let lt = below_each_sound y x xs rising.0 h in omega (arith, lt)
 
-pub gathered : (a : Matrix) (m : List Place) (numbers : List ℕ) (n : ℕ) (rs cs : List (List ℕ)) → cols a < 2 ^ 32 → entry_count a < 2 ^ 32 → IsMatching a m → AreNumberedByLeast a m numbers n → AreRowGroups m numbers a.rows n rs → AreGroups numbers n cs → IsGathered a numbers n rs cs
-gathered a m numbers n rs cs small few matching s g h = record {
+gathered_with : (a : Matrix) (m : List Place) (numbers : List ℕ) (n : ℕ) (rs cs : List (List ℕ)) → n < 2 ^ 32 → IsMatching a m → AreNumberedByLeast a m numbers n → AreRowGroups m numbers a.rows n rs → AreGroups numbers n cs → IsGathered a numbers n rs cs
+gathered_with a m numbers n rs cs small matching s g h = record {
   numbered = s.long;
-  few = few;
   by_row = subst (λ x. AreApart x n rs) g.mates.long (groups_apart g.of_rows n rs g.groups);
   by_col = h;
   some = some;
-  few_components = let le = s.few in omega (arith, le, small);
   rises = λ j k le kt. ⊎_elim (λ (e : j ≡ k). rw e (omega arith)) (λ ne. let (square, is) = least k kt in
       let (d, lt, on, at) = s.earlier (least_of cs k) j square (omega (arith, le, ne, is)) in
       let first = head_least d (group cs j) (cols_component a m numbers n cs j small s h (omega (arith, le, kt))).rising ((cols_component a m numbers n cs j small s h (omega (arith, le, kt))).complete d (on, at)) in
@@ -201,9 +201,12 @@ gathered a m numbers n rs cs small few matching s g h = record {
     least : (k : ℕ) → k < n → IsSquareCol a (least_of cs k) × (look numbers (least_of cs k) ≡ k)
     least k lt = (cols_component a m numbers n cs k small s h lt).sound (least_of cs k) (among_at (group cs k) 0 0 (some k lt))
 
+pub gathered : (g : Condensation) → IsCondensation g → IsGathered g.pattern.now g.numbers.items (length g.cols) g.rows g.cols
+gathered g made = gathered_with g.pattern.now made.pairs g.numbers.items (length g.cols) g.rows g.cols made.few made.matching made.numbered made.by_row made.by_col
+
 -- Blocks.
 
-component : (a : Matrix) (m : List Place) (numbers : List ℕ) (n : ℕ) (rs cs : List (List ℕ)) (k : ℕ) → cols a < 2 ^ 32 → IsMatching a m → (s : AreNumberedByLeast a m numbers n) → AreRowGroups m numbers a.rows n rs → AreGroups numbers n cs → k < n → IsComponent a s.square (look numbers) k (block_of rs cs k)
+component : (a : Matrix) (m : List Place) (numbers : List ℕ) (n : ℕ) (rs cs : List (List ℕ)) (k : ℕ) → n < 2 ^ 32 → IsMatching a m → (s : AreNumberedByLeast a m numbers n) → AreRowGroups m numbers a.rows n rs → AreGroups numbers n cs → k < n → IsComponent a s.square (look numbers) k (block_of rs cs k)
 component a m numbers n rs cs k small matching s g h lt = record {
   rows = rows_component a m numbers n rs k small matching s g lt;
   cols = cols_component a m numbers n cs k small s h lt;
@@ -284,7 +287,7 @@ follow_order a n w f before (k ∷ ks) seen rises follow all = (free, first, fol
 
 -- The whole.
 
-are_blocks : (a : Matrix) (m : List Place) (numbers : List ℕ) (n : ℕ) (rs cs : List (List ℕ)) (ks : List ℕ) → cols a < 2 ^ 32 → IsMatching a m → AreNumberedByLeast a m numbers n → AreRowGroups m numbers a.rows n rs → IsGathered a numbers n rs cs → AreOrdered n (edges_into (row_list a) numbers rs) ks → AreBlocksOf a (map (block_of rs cs) ks)
+are_blocks : (a : Matrix) (m : List Place) (numbers : List ℕ) (n : ℕ) (rs cs : List (List ℕ)) (ks : List ℕ) → n < 2 ^ 32 → IsMatching a m → AreNumberedByLeast a m numbers n → AreRowGroups m numbers a.rows n rs → IsGathered a numbers n rs cs → AreOrdered n (edges_into (row_list a) numbers rs) ks → AreBlocksOf a (map (block_of rs cs) ks)
 are_blocks a m numbers n rs cs ks small matching s g all ordered = record {
   sound = λ b on.
       let (k, there, e) = among_map_back f b ks on in
@@ -327,7 +330,5 @@ are_blocks a m numbers n rs cs ks small matching s g all ordered = record {
           (q.other, q.row, q.col, q.on, (h.lists j jt).complete q.col (omega (arith, within, long), q.is), q.entry);
     }
 
-pub ordered_blocks : (a : Matrix) (m : List Place) (numbers : List ℕ) (n : ℕ) (rs cs : List (List ℕ)) (bs : List Block) → cols a < 2 ^ 32 → IsMatching a m → AreNumberedByLeast a m numbers n → AreRowGroups m numbers a.rows n rs → IsGathered a numbers n rs cs → AreOrderedBlocks a numbers rs cs bs → AreBlocksOf a bs
-ordered_blocks a m numbers n rs cs bs small matching s g all o =
-    subst (AreBlocksOf a) (sym o.blocks) (are_blocks a m numbers n rs cs o.order small matching s g all
-    (subst (λ x. AreOrdered x (edges_into (row_list a) numbers rs) o.order) all.by_col.long o.ordered))
+pub ordered_blocks : (g : Condensation) (ks : List ℕ) → IsCondensation g → AreOrdered (length g.cols) (edges_into (row_list g.pattern.now) g.numbers.items g.rows) ks → AreBlocksOf g.pattern.now (map (block_of g.rows g.cols) ks)
+ordered_blocks g ks made ordered = are_blocks g.pattern.now made.pairs g.numbers.items (length g.cols) g.rows g.cols ks made.few made.matching made.numbered made.by_row (gathered g made) ordered

@@ -4,14 +4,21 @@ use Rattle.std.specs.List.{flat_map, list_any}
 use Rattle.std.proofs.Math.Decide.{dec_lt}
 use Rattle.std.proofs.lemmas.Bool.Decides.{nat_tests}
 use Rattle.std.proofs.lemmas.List.Sums.{sum_by-append, sum_by-cons}
-use Rattle.bip_defs.specs.Lists.{Among, AreDistinct}
+use Rattle.bip_defs.specs.Lists.{Among, AreDistinct, IsRising}
 use Rattle.bip_defs.specs.Matrix.{Matrix, cols, column, entry_count, row_list, upto}
 use Rattle.bip_defs.proofs.Sets.{among_either, among_left, among_right, among_test, test_is, test_is_not, few_distinct, filter_distinct, filter_sound, rising_distinct, upto_lists}
 use Rattle.bip_defs.proofs.Counts.{distinct_append}
-use Rattle.dm_fine.specs.Groups.{AreApart}
 use Rattle.id_groups.specs.Groups.{AreGroups, group}
-use Rattle.dm_fine.specs.InDegrees.{row_edges, edges_at, edges_into, edges_of}
+use Rattle.dm_fine.specs.Edges.{row_edges, edges_at, edges_into, edges_of}
 use Rattle.dm_fine.proofs.Sums.{sum_covered, sum_le, sum_places, sum_swapped, sum_same, sum_same_among}
+
+-- groups of rising numbers below n that share none
+pub record AreApart (n count : ℕ) (groups : List (List ℕ)) : Type 0 where
+  pub long : length groups ≡ count
+  pub rising : (k : ℕ) → k < count → IsRising (group groups k)
+  pub below : (k i : ℕ) → k < count → Among i (group groups k) → i < n
+  pub apart : (k l i : ℕ) → k < count → l < count → Among i (group groups k)
+      → Among i (group groups l) → k ≡ l
 
 pub groups_apart : (numbers : List ℕ) (count : ℕ) (groups : List (List ℕ)) → AreGroups numbers count groups → AreApart (length numbers) count groups
 groups_apart numbers count groups g = record {
@@ -79,20 +86,20 @@ rows_count a =
 
 -- Edges.
 
-edges_one : (own j x : ℕ) → edges_at own j x ≤ 1
+edges_one : (own j x : ℕ) → edges_at own x j ≤ 1
 edges_one own j x = grind (arith, nat_tests)
 
-row_few : (numbers : List ℕ) (own j : ℕ) (cs : List ℕ) → row_edges numbers own j cs ≤ length cs
+row_few : (numbers : List ℕ) (own j : ℕ) (cs : List ℕ) → row_edges numbers own cs j ≤ length cs
 row_few numbers own j [] = zero-le
-row_few numbers own j (c ∷ cs) = let rest = row_few numbers own j cs in let one = sum_by-cons (λ d. edges_at own j (get_or numbers d 0)) c cs in let here = edges_one own j (get_or numbers c 0) in omega (arith, rest, one, here)
+row_few numbers own j (c ∷ cs) = let rest = row_few numbers own j cs in let one = sum_by-cons (λ d. edges_at own (get_or numbers d 0) j) c cs in let here = edges_one own j (get_or numbers c 0) in omega (arith, rest, one, here)
 
 -- Edges by rows.
 
-pub edges_here : (line : ℕ → List ℕ) (numbers row_numbers : List ℕ) (count j r : ℕ) → get_or row_numbers r 0 < count → edges_of line numbers row_numbers count j r ≡ row_edges numbers (get_or row_numbers r 0) j (line r)
-edges_here line numbers row_numbers count j r lt = ap (λ b. cond b (row_edges numbers (get_or row_numbers r 0) j (line r)) 0) (test_is (get_or row_numbers r 0) count lt)
+pub edges_here : (line : ℕ → List ℕ) (numbers row_numbers : List ℕ) (count j r : ℕ) → get_or row_numbers r 0 < count → edges_of line numbers row_numbers count j r ≡ row_edges numbers (get_or row_numbers r 0) (line r) j
+edges_here line numbers row_numbers count j r lt = ap (λ b. cond b (row_edges numbers (get_or row_numbers r 0) (line r) j) 0) (test_is (get_or row_numbers r 0) count lt)
 
 pub edges_none : (line : ℕ → List ℕ) (numbers row_numbers : List ℕ) (count j r : ℕ) → count ≤ get_or row_numbers r 0 → edges_of line numbers row_numbers count j r ≡ 0
-edges_none line numbers row_numbers count j r le = ap (λ b. cond b (row_edges numbers (get_or row_numbers r 0) j (line r)) 0) (test_is_not (get_or row_numbers r 0) count le)
+edges_none line numbers row_numbers count j r le = ap (λ b. cond b (row_edges numbers (get_or row_numbers r 0) (line r) j) 0) (test_is_not (get_or row_numbers r 0) count le)
 
 edges_of_few : (line : ℕ → List ℕ) (numbers row_numbers : List ℕ) (count j r : ℕ) → edges_of line numbers row_numbers count j r ≤ length (line r)
 edges_of_few line numbers row_numbers count j r = by (dec_lt (get_or row_numbers r 0) count)
@@ -120,7 +127,7 @@ edges_by_row a numbers row_numbers count groups j long g =
     let apart = groups_apart row_numbers count groups g in
     let each : sum_by (λ k. sum_by f (group groups k)) (upto count) ≡ sum_by (edges_into (row_list a) numbers groups j) (upto count) =
     sum_same_among (λ k. sum_by f (group groups k)) (edges_into (row_list a) numbers groups j) (upto count)
-    (λ k on. sum_same_among f (λ r. row_edges numbers k j (row_list a r)) (group groups k) (λ r h. in_group k r ((upto_lists count).sound k on) h)) in
+    (λ k on. sum_same_among f (λ r. row_edges numbers k (row_list a r) j) (group groups k) (λ r h. in_group k r ((upto_lists count).sound k on) h)) in
     let flat_sum = sum_joined f groups (upto count) in
     let below = sum_covered f (joined groups (upto count)) (upto a.rows)
     (joined_distinct (length row_numbers) count groups (upto count) apart (rising_distinct (upto count) (upto_lists count).rising) (λ k h. (upto_lists count).sound k h))
@@ -129,10 +136,10 @@ edges_by_row a numbers row_numbers count groups j long g =
     (λ r h. among r ((upto_lists a.rows).sound r h) (dec_lt (get_or row_numbers r 0) count)) in
     omega (arith, each, flat_sum, below, above)
   where
-    in_group : (k r : ℕ) → k < count → Among r (group groups k) → edges_of (row_list a) numbers row_numbers count j r ≡ row_edges numbers k j (row_list a r)
+    in_group : (k r : ℕ) → k < count → Among r (group groups k) → edges_of (row_list a) numbers row_numbers count j r ≡ row_edges numbers k (row_list a r) j
     in_group k r lt h =
         let is = ((g.lists k lt).sound r h).1 in
-        edges_here (row_list a) numbers row_numbers count j r (omega (arith, is, lt)) ∙ ap (λ z. row_edges numbers z j (row_list a r)) is
+        edges_here (row_list a) numbers row_numbers count j r (omega (arith, is, lt)) ∙ ap (λ z. row_edges numbers z (row_list a r) j) is
 
     among : (r : ℕ) → r < a.rows → Dec (get_or row_numbers r 0 < count) → Among r (joined groups (upto count)) ⊎ (edges_of (row_list a) numbers row_numbers count j r ≡ 0)
     among r within (yes lt) = inl (among_joined groups (upto count) (get_or row_numbers r 0) r ((upto_lists count).complete (get_or row_numbers r 0) lt) ((g.lists (get_or row_numbers r 0) lt).complete r (omega (arith, within, long), refl)))

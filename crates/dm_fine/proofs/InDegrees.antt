@@ -1,20 +1,22 @@
 -- In-degrees, as entries are counted and taken off.
-use Rattle.std.proofs.Common.{◌≡◌, ◌≢◌, ◌⊎◌, ◌∙◌, ℕ, ◌+◌, ◌<◌, ◌≤◌, List, length, get_or, set, take, sum_by, sym, ap, subst, inl, inr, ⊎_elim, arith, get_or-set_same, get_or-set_other}
+use Rattle.std.proofs.Common.{◌≡◌, ◌≢◌, ◌⊎◌, ◌∙◌, ℕ, ◌+◌, ◌<◌, List, length, get_or, set, sym, ap, subst, inl, inr, ⊎_elim, arith, get_or-set_same, get_or-set_other}
 use Rattle.std.proofs.lemmas.Bool.Decides.{nat_tests}
-use Rattle.std.proofs.lemmas.List.Sums.{sum_by_more, sum_by_more_le}
-use Rattle.bip_defs.specs.Lists.{Among}
-use Rattle.bip_defs.proofs.Sets.{among_at, number_same}
-use Rattle.dm_fine.specs.InDegrees.{MoreSources, edges_at}
+use Rattle.std.proofs.lemmas.List.{get_or_read}
+use Rattle.bip_defs.specs.Lists.{Among, Lists}
+use Rattle.bip_defs.specs.Matrix.{IsEntry, Matrix, cols}
+use Rattle.bip_defs.proofs.Sets.{among_at, entry_col, number_same}
+use Rattle.dm_fine.specs.Edges.{edges_at}
+use Rattle.dm_fine.specs.Sources.{MoreSources}
 
 -- One entry.
 
-pub edges_hit : (own j x : ℕ) → x ≡ j → x ≢ own → edges_at own j x ≡ 1
+pub edges_hit : (own j x : ℕ) → x ≡ j → x ≢ own → edges_at own x j ≡ 1
 edges_hit own j x e ne = grind (arith, nat_tests)
 
-pub edges_miss : (own j x : ℕ) → x ≢ j → edges_at own j x ≡ 0
+pub edges_miss : (own j x : ℕ) → x ≢ j → edges_at own x j ≡ 0
 edges_miss own j x ne = grind (arith, nat_tests)
 
-pub edges_own_j : (own j x : ℕ) → j ≡ own → edges_at own j x ≡ 0
+pub edges_own_j : (own j x : ℕ) → j ≡ own → edges_at own x j ≡ 0
 edges_own_j own j x e = grind (arith, nat_tests)
 
 -- Components that have come to in-degree 0.
@@ -44,19 +46,14 @@ more_last n x v in_degrees ready ready2 long lt some nil over back = record {
   falls = λ j jt. ⊎_elim (λ (same : j ≡ x). let now = get_or-set_same in_degrees x v 0 (omega (arith, long, lt)) in let at : get_or (set in_degrees x v) j 0 ≡ get_or (set in_degrees x v) x 0 = ap (λ i. get_or (set in_degrees x v) i 0) same in let was : get_or in_degrees j 0 ≡ get_or in_degrees x 0 = ap (λ i. get_or in_degrees i 0) same in omega (arith, now, at, was, some)) (λ off. let same = get_or-set_other in_degrees x j v 0 off in omega (arith, same)) (number_same j x);
 }
 
--- Loops that count, from a to b.
-
 pub item_among : (xs : List ℕ) (i d x : ℕ) → i < length xs → x ≡ get_or xs i d → Among x xs
 item_among xs i d x lt e = subst (λ y. Among y xs) (sym e) (among_at xs i d lt)
 
-pub count_fits : (f : ℕ → ℕ) (xs : List ℕ) (i d x a b limit : ℕ) → i < length xs → x ≡ get_or xs i d → b ≡ a + sum_by f (take i xs) → a + sum_by f xs < limit → b + f x < limit
-count_fits f xs i d x a b limit lt e so few = let le = sum_by_more_le f xs i d lt in let same : f x ≡ f (get_or xs i d) = ap f e in omega (arith, so, few, le, same)
+-- Numbers, as they are read.
 
-pub count_more : (f : ℕ → ℕ) (xs : List ℕ) (i d x a b b2 : ℕ) → i < length xs → x ≡ get_or xs i d → b ≡ a + sum_by f (take i xs) → b2 ≡ b + f x → b2 ≡ a + sum_by f (take (i + 1) xs)
-count_more f xs i d x a b b2 lt e so more = let is = sum_by_more f xs i d lt in let same : f x ≡ f (get_or xs i d) = ap f e in omega (arith, so, more, is, same)
+-- a column that stands in the list of a row has a number
+pub col_numbered : (a : Matrix) (numbers cs : List ℕ) (r i d c : ℕ) → length numbers ≡ cols a → Lists (IsEntry a r) cs → i < length cs → c ≡ get_or cs i d → c < length numbers
+col_numbered a numbers cs r i d c long lists lt is = let inside = entry_col a r c (lists.sound c (item_among cs i d c lt is)) in omega (arith, long, inside)
 
-pub take_fits : (f : ℕ → ℕ) (xs : List ℕ) (i d x a b : ℕ) → i < length xs → x ≡ get_or xs i d → a ≡ b + sum_by f (take i xs) → sum_by f xs ≤ a → f x ≤ b
-take_fits f xs i d x a b lt e so some = let le = sum_by_more_le f xs i d lt in let same : f x ≡ f (get_or xs i d) = ap f e in omega (arith, so, some, le, same)
-
-pub take_more_off : (f : ℕ → ℕ) (xs : List ℕ) (i d x a b b2 : ℕ) → i < length xs → x ≡ get_or xs i d → a ≡ b + sum_by f (take i xs) → b ≡ b2 + f x → a ≡ b2 + sum_by f (take (i + 1) xs)
-take_more_off f xs i d x a b b2 lt e so less = let is = sum_by_more f xs i d lt in let same : f x ≡ f (get_or xs i d) = ap f e in omega (arith, so, less, is, same)
+pub col_number : (a : Matrix) (numbers cs : List ℕ) (r i d c x : ℕ) → length numbers ≡ cols a → Lists (IsEntry a r) cs → i < length cs → c ≡ get_or cs i d → x ≡ get_or numbers c x → x ≡ get_or numbers c 0
+col_number a numbers cs r i d c x long lists lt is read = get_or_read numbers c x (col_numbered a numbers cs r i d c long lists lt is) read 0

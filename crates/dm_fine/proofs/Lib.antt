@@ -1,8 +1,11 @@
 pub mod BlockLemmas
+pub mod BlockOrder
+pub mod Condensed
 pub mod Gathered
 pub mod GroupParts
 pub mod InDegrees
 pub mod MateLemmas
 pub mod OrderLemmas
 pub mod RenumberingLemmas
+pub mod SourceLemmas
 pub mod Sums

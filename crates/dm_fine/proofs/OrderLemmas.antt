@@ -6,8 +6,9 @@ use Rattle.bip_defs.specs.Blocks.{Block}
 use Rattle.bip_defs.specs.Lists.{Among, AreDistinct, IsRising}
 use Rattle.bip_defs.specs.Matrix.{upto}
 use Rattle.bip_defs.proofs.Sets.{among_last, among_left, among_right, below_each_sound, few_distinct, number_among, number_same, rising_distinct, upto_length, upto_lists}
-use Rattle.dm_fine.specs.BlockOrder.{Follow, IsNext}
-use Rattle.dm_fine.specs.InDegrees.{AreReady, MoreSources}
+use Rattle.dm_fine.proofs.BlockOrder.{Follow, IsNext}
+use Rattle.dm_fine.specs.Sources.{AreAllSources, AreReady, Loses, MoreSources, Takes}
+use Rattle.dm_fine.specs.declared.sources.Sources.{Sources}
 use Rattle.dm_fine.proofs.Sums.{sum_covered}
 
 -- Followers.
@@ -189,3 +190,28 @@ ordering_next n w block in_degrees members ready in_degrees2 ready2 bs bs2 k o t
 pub ordering_counted : (n : ℕ) (w : ℕ → ℕ → ℕ) (block : ℕ → Block) (in_degrees members ready : List ℕ) (bs : List Block) (j k : ℕ) → (o : IsOrdering n w block in_degrees members bs) → IsTaken n w o.gone in_degrees ready k → j < n → w j k ≤ get_or in_degrees j 0
 ordering_counted n w block in_degrees members ready bs j k o taken lt =
     still_counted n w o.gone in_degrees j k o.left (follow_distinct n w [] o.gone o.follow) (λ i h. follow_range n w [] o.gone i o.follow h) lt taken.next.in_range taken.next.fresh
+
+-- Sources.
+
+-- nothing is gone at first
+pub ordering_begins : (n : ℕ) (w : ℕ → ℕ → ℕ) (block : ℕ → Block) (in_degrees : List ℕ) (s : Sources) (bs : List Block) → length in_degrees ≡ n → ((j : ℕ) → j < n → get_or in_degrees j 0 ≡ sum_by (w j) (upto n)) → AreAllSources in_degrees s → bs ≡ [] → IsOrdering n w block s.in_degrees.items s.ready.members bs
+ordering_begins n w block in_degrees s bs long counted all none = record {
+  gone = [];
+  follow = tt;
+  left = λ j lt. let so = counted j lt in let same : get_or s.in_degrees.items j 0 ≡ get_or in_degrees j 0 = ap (λ xs. get_or xs j 0) all.same in omega (arith, so, same);
+  set = subst (λ xs. AreReady n [] xs s.ready.members) (sym all.same) (subst (λ m. AreReady m [] in_degrees s.ready.members) long all.ready);
+  blocks = none;
+}
+
+-- the least source is the next component
+pub ordering_taken : (n : ℕ) (w : ℕ → ℕ → ℕ) (block : ℕ → Block) (s t : Sources) (bs : List Block) (k : ℕ) → (o : IsOrdering n w block s.in_degrees.items s.ready.members bs) → Takes k s t → IsTaken n w o.gone s.in_degrees.items t.ready.members k
+ordering_taken n w block s t bs k o takes = taken_next n w o.gone s.in_degrees.items s.ready.members t.ready.members k o.left o.follow o.set takes.rising takes.ready
+
+-- its edges are taken off
+pub ordering_after : (n : ℕ) (w : ℕ → ℕ → ℕ) (block : ℕ → Block) (s t u : Sources) (bs bs2 : List Block) (k : ℕ) → (o : IsOrdering n w block s.in_degrees.items s.ready.members bs) → IsTaken n w o.gone s.in_degrees.items t.ready.members k → bs2 ≡ bs ++ block k ∷ [] → length s.in_degrees.items ≡ n → t.in_degrees.items ≡ s.in_degrees.items → Loses (λ j. w j k) t u → IsOrdering n w block u.in_degrees.items u.ready.members bs2
+ordering_after n w block s t u bs bs2 k o taken more_blocks long same loses =
+    let wide : length t.in_degrees.items ≡ n = ap length same ∙ long in
+    ordering_next n w block s.in_degrees.items s.ready.members t.ready.members u.in_degrees.items u.ready.members bs bs2 k o taken more_blocks
+    (λ j lt. let fell = loses.each j (omega (arith, wide, lt)) in let here : get_or t.in_degrees.items j 0 ≡ get_or s.in_degrees.items j 0 = ap (λ xs. get_or xs j 0) same in omega (arith, fell, here))
+    (subst (λ xs. MoreSources n xs t.ready.members u.in_degrees.items u.ready.members) same
+    (subst (λ m. MoreSources m t.in_degrees.items t.ready.members u.in_degrees.items u.ready.members) wide loses.more))

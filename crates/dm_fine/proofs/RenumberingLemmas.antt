@@ -3,7 +3,7 @@ use Rattle.std.proofs.Common.{◌≡◌, ◌≢◌, ◌⊎◌, ◌∙◌, ℕ, �
 use Rattle.std.proofs.lemmas.List.{length-set}
 use Rattle.bip_defs.proofs.Sets.{number_same}
 use Rattle.bip_graph.specs.Matching.{none}
-use Rattle.dm_fine.specs.Renumbering.{AreRenumbered}
+use Rattle.dm_fine.specs.Renumbering.{AreRenumbered, Gives, known, first}
 
 -- the first k places have new numbers
 pub record AreGiven (old : List ℕ) (count k : ℕ) (new anew : List ℕ) (next : ℕ) : Type 0 where
@@ -106,20 +106,15 @@ given_next old count k new anew next s inside small below unset = record {
     fresh : (j : ℕ) → j < count → j ≢ get_or old k 0 → get_or anew j 0 ≢ next
     fresh j lt ne e = let (c, h, is) = s.had j lt (λ z. absurd (omega (arith, e, z, little))) in let less = s.seen c h (subst (λ i. i < count) (sym is) lt) in let same : get_or anew (get_or old c 0) 0 ≡ get_or anew j 0 = ap (λ i. get_or anew i 0) is in absurd (omega (arith, less, same, e))
 
--- what tells the new number of a place: the one that it has, or the next one
-pub given_step : (old : List ℕ) (count k : ℕ) (new anew : List ℕ) (next result : ℕ) (anew2 : List ℕ) (next2 : ℕ) → AreGiven old count k new anew next → k < length old → length old < 2 ^ 32 → get_or new k 0 < count
-    → (get_or anew (get_or new k 0) 0 ≢ none → (result ≡ get_or anew (get_or new k 0) 0) × (anew2 ≡ anew) × (next2 ≡ next))
-    → (get_or anew (get_or new k 0) 0 ≡ none → (result ≡ next) × (anew2 ≡ set anew (get_or new k 0) next) × (next2 ≡ next + 1))
-    → AreGiven old count (k + 1) (set new k result) anew2 next2
-given_step old count k new anew next result anew2 next2 s inside small below known first = ⊎_elim
-    (λ unset. let (r, t, n) = first unset in
-    rw (r, t, n, same) (given_next old count k new anew next s inside (omega (arith, inside, small)) (subst (λ i. i < count) same below) (subst (λ i. get_or anew i 0 ≡ none) same unset)))
-    (λ some. let (r, t, n) = known some in
-    rw (r, t, n, same) (given_known old count k new anew next s inside (subst (λ i. i < count) same below) (subst (λ i. get_or anew i 0 ≢ none) same some)))
-    (number_same (get_or anew (get_or new k 0) 0) none)
-  where
-    same : get_or new k 0 ≡ get_or old k 0
-    same = s.rest k (omega arith)
+-- a place gets its new number: the one that it has, or the next one
+pub given_step : (old : List ℕ) (count k : ℕ) (new anew : List ℕ) (next number : ℕ) (anew2 : List ℕ) (next2 : ℕ) → AreGiven old count k new anew next → k < length old → length old < 2 ^ 32 → get_or new k 0 < count
+    → Gives (get_or new k 0) anew next number anew2 next2 → AreGiven old count (k + 1) (set new k number) anew2 next2
+given_step old count k new anew next number anew2 next2 s inside small below (known some r t n) =
+    let same = s.rest k (omega arith) in
+    rw (r, t, n, same) (given_known old count k new anew next s inside (subst (λ i. i < count) same below) (subst (λ i. get_or anew i 0 ≢ none) same some))
+given_step old count k new anew next number anew2 next2 s inside small below (first unset r t n) =
+    let same = s.rest k (omega arith) in
+    rw (r, t, n, same) (given_next old count k new anew next s inside (omega (arith, inside, small)) (subst (λ i. i < count) same below) (subst (λ i. get_or anew i 0 ≡ none) same unset))
 
 -- all places have new numbers
 pub given_all : (old : List ℕ) (count k : ℕ) (new anew : List ℕ) (next : ℕ) → AreGiven old count k new anew next → k ≡ length old → length old < 2 ^ 32 → AreRenumbered old count new next

@@ -1,5 +1,6 @@
-pub mod BlockOrder
-pub mod Component
+pub mod Condensation
+pub mod Edges
 pub mod Groups
-pub mod InDegrees
+pub mod Numbers
 pub mod Renumbering
+pub mod Sources

@@ -1,5 +1,5 @@
 -- Numbers that are given anew, so that components have them by their least columns.
-use Rattle.std.specs.Prelude.{◌≡◌, ◌↔◌, ℕ, ◌<◌, ◌≤◌, List, length, slice_index}
+use Rattle.std.specs.Prelude.{◌≡◌, ◌≢◌, ◌↔◌, ℕ, ◌+◌, ◌<◌, ◌≤◌, List, length, slice_index, slice_set}
 use Rattle.bip_defs.specs.Blocks.{IsPerfect}
 use Rattle.bip_defs.specs.Components.{AreComponents}
 use Rattle.bip_defs.specs.Lists.{Among}
@@ -23,6 +23,13 @@ pub record AreRenumbered (old : List ℕ) (count : ℕ) (new : List ℕ) (n : �
   pub earlier : (c x : ℕ) → c < length old → slice_index old c < count → x < slice_index new c
       → (d : ℕ) × (d < c) × (slice_index old d < count) × (slice_index new d ≡ x)
   pub few : n ≤ length old
+
+-- an old number gets a new one: the one that it has, or the next
+pub data Gives (old : ℕ) (anew : List ℕ) (next new : ℕ) (anew2 : List ℕ) (next2 : ℕ) : Type 0 where
+  known : slice_index anew old ≢ none → new ≡ slice_index anew old → anew2 ≡ anew → next2 ≡ next
+      → Gives old anew next new anew2 next2
+  first : slice_index anew old ≡ none → new ≡ next → anew2 ≡ slice_set anew old next
+      → next2 ≡ next + 1 → Gives old anew next new anew2 next2
 
 -- The square part's pairs among those of a maximum matching, and for each column the number of its strong component, of so
 -- many, by their least columns. `finished` numbers them in the order in which a search finished them.

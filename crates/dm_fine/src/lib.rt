@@ -1,10 +1,11 @@
 //! The fine blocks of a matrix's square part, in their order.
 #![tactic(auto)]
 
+mod condensation;
 mod in_degrees;
-mod mates;
 mod order;
 mod renumbering;
+mod sources;
 
 ghost use Rattle.std.specs.Prelude.{IfOk};
 ghost use Rattle.bip_defs.specs.Blocks.{AreBlocksOf};
@@ -12,11 +13,9 @@ ghost use Rattle.bip_defs.specs.Parts.{ArePartsOf};
 ghost use Rattle.bip_graph.specs.Matching.{IsMaximumOf};
 ghost use Rattle.bip_graph.specs.Decompositions.{parts_of};
 
-use crate::mates::in_degrees_and_rows;
-use crate::order::{Gathered, order};
+use crate::condensation::Condensation;
 use crate::renumbering::by_least_column;
 use bip_graph::{Blocks, Matching, Parts};
-use id_groups::gather;
 use sp_ids::OutOfMemory;
 use sp_pattern::Pattern;
 use std::alloc::Global;
@@ -46,18 +45,9 @@ pub fn fine(
 {
     pattern.is_pattern();
     let components = by_least_column(alloc, pattern, matching, parts)?;
-    let count = components.count;
-    let numbers = components.numbers.as_slice();
-    let (mut in_degrees, rows) = in_degrees_and_rows(alloc, pattern, matching, numbers, count)?;
-    let cols = gather(alloc, numbers, count)?;
+    let (condensation, in_degrees) = Condensation::of(alloc, pattern, matching, components)?;
     let (square_rows, square_cols) = (parts.sr.len(), parts.sc.len());
-    let mut blocks = Blocks::with_room(alloc, count as usize, square_rows, square_cols)?;
-    let gathered = Gathered {
-        pattern,
-        numbers,
-        rows: &rows,
-        cols: &cols,
-    };
-    order(alloc, &gathered, in_degrees.as_mut_slice(), &mut blocks)?;
+    let mut blocks = Blocks::with_room(alloc, in_degrees.len(), square_rows, square_cols)?;
+    condensation.order(alloc, in_degrees, &mut blocks)?;
     Ok(blocks)
 }

@@ -1,10 +1,11 @@
 //! The components numbered by their least columns.
 
-ghost use Rattle.std.specs.Prelude.{◌≡◌, ◌≢◌, ◌+◌, ◌<◌, ◌^◌, length, slice_index, slice_set, IfOk};
+ghost use Rattle.std.specs.Prelude.{◌<◌, ◌^◌, length, IfOk};
 ghost use Rattle.bip_defs.specs.Parts.{ArePartsOf};
 ghost use Rattle.bip_graph.specs.Decompositions.{parts_of};
 ghost use Rattle.bip_graph.specs.Matching.{IsMaximumOf, none};
-ghost use Rattle.dm_fine.specs.Renumbering.{AreNumberedByLeast, AreRenumbered};
+ghost use Rattle.dm_fine.specs.Renumbering.{AreNumberedByLeast, AreRenumbered, Gives};
+ghost use Rattle.sp_pattern.specs.Stored.{IsPattern};
 
 use bip_graph::{Matching, Parts};
 use sp_ids::OutOfMemory;
@@ -25,12 +26,12 @@ pub fn by_least_column(
     matching: &Matching,
     parts: &Parts,
 ) -> Result<Components, OutOfMemory>
+    requires pattern { IsPattern pattern.now }
     requires maximum { IsMaximumOf pattern.now matching.now }
     requires parts { ArePartsOf pattern.now (parts_of parts.now) }
     ensures { IfOk result
         (λ s. AreNumberedByLeast pattern.now matching.now.pairs s.numbers.items s.count) }
 {
-    pattern.is_pattern();
     let mut components = strong_components(alloc, pattern, matching, parts)?;
     let numbers = components.numbers.as_mut_slice();
     components.count = by_first_place(alloc, numbers, components.count)?;
@@ -59,12 +60,7 @@ fn by_first_place(alloc: Global, numbers: &mut [u32], count: u32) -> Result<u32,
 fn given(number: u32, anew: &mut [u32], next: &mut u32) -> u32
     requires number { number < length anew.old }
     requires next { next.old < none }
-    ensures known { slice_index anew.old number ≢ none
-        → (result ≡ slice_index anew.old number) × (anew.new ≡ anew.old)
-        × (next.new ≡ next.old) }
-    ensures first { slice_index anew.old number ≡ none
-        → (result ≡ next.old) × (anew.new ≡ slice_set anew.old number next.old)
-        × (next.new ≡ next.old + 1) }
+    ensures { Gives number anew.old next.old result anew.new next.new }
 {
     let known = anew[number as usize];
     if known != NONE {

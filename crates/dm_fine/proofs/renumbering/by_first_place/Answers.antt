@@ -10,10 +10,9 @@ loop-at-preserved c =
       | then-number-count w ↦
           let value = w.as_mut_slice.ensures.value in
           let long = rw value at w.given.auto.anew in
-          let known = rw value at w.given.ensures.known in
-          let first = rw value at w.given.ensures.first in
+          let given = rw value at w.given.ensures in
           rw (w.numbers-is, w.anew-is, w.next-is, written_over w.given.new.anew c.loop-at.anew.items c.loop-at.anew.len long (search rules))
-          (given_step _ _ _ _ _ _ _ _ _ c.loop-at.invariant c.loop-at-test.true c.requires.few w.if-number-count.true known first)
+          (given_step _ _ _ _ _ _ _ _ _ c.loop-at.invariant c.loop-at-test.true c.requires.few w.if-number-count.true given)
       | else-number-count w ↦
           let same = c.loop-at.invariant.rest c.loop-at.at (omega arith) in
           let off = w.if-number-count.false in

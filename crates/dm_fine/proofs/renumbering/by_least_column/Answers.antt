@@ -9,4 +9,4 @@ returns c =
     let long = rw value at c.by_first_place.auto.numbers in
     let anew = rw value at c.in_ok-components-2.ensures in
     rw (written_over c.by_first_place.new.numbers c.in_ok-components.components.numbers.items c.in_ok-components.components.numbers.len long (search rules))
-    (by_least _ _ _ _ _ _ c.is_pattern.ensures.few_cols c.in_ok-components.ensures anew)
+    (by_least _ _ _ _ _ _ c.requires.pattern.few_cols c.in_ok-components.ensures anew)
