@@ -1,6 +1,6 @@
 pub mod BlockLemmas
 pub mod BlockOrder
-pub mod Condensed
+pub mod CondensationLemmas
 pub mod Gathered
 pub mod GroupParts
 pub mod InDegrees

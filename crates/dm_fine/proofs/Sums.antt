@@ -1,7 +1,7 @@
 -- Sums over lists that stand for sets.
-use Rattle.std.proofs.Common.{◌≡◌, ◌≢◌, ◌⊎◌, ◌∙◌, ℕ, zero, suc, ◌+◌, ◌≤◌, List, [], ◌∷◌, length, take, get_or, sum_by, refl, sym, ap, subst, inl, inr, ⊎_elim, arith, zero-le, le_antisymm}
+use Rattle.std.proofs.Common.{◌≡◌, ◌≢◌, ◌⊎◌, ◌∙◌, ℕ, zero, suc, ◌+◌, ◌<◌, ◌≤◌, List, [], ◌∷◌, length, take, get_or, sum_by, refl, sym, ap, subst, inl, inr, ⊎_elim, arith, zero-le, le_antisymm}
 use Rattle.std.proofs.lemmas.List.{take_all}
-use Rattle.std.proofs.lemmas.List.Sums.{sum_by-cons, sum_by_more, sum_by_push}
+use Rattle.std.proofs.lemmas.List.Sums.{sum_by-cons, sum_by_more, sum_by_more_le, sum_by_push}
 use Rattle.bip_defs.specs.Lists.{Among, AreDistinct}
 use Rattle.bip_defs.specs.Matrix.{upto}
 use Rattle.bip_defs.proofs.Sets.{Drops, drops_kept, here, later, number_same, rising_distinct, taken, upto_lists, upto_more}
@@ -76,6 +76,13 @@ sum_places_front f xs d (suc n) le =
 
 pub sum_places : {X : Type 0} (f : X → ℕ) (xs : List X) (d : X) → sum_by (λ i. f (get_or xs i d)) (upto (length xs)) ≡ sum_by f xs
 sum_places f xs d = sum_places_front f xs d (length xs) (omega arith) ∙ ap (sum_by f) (take_all (length xs) xs (omega arith))
+
+-- item by item
+pub sum_next : {X : Type 0} (f : X → ℕ) (xs : List X) (i : ℕ) (d x : X) → i < length xs → x ≡ get_or xs i d → sum_by f (take (i + 1) xs) ≡ sum_by f (take i xs) + f x
+sum_next f xs i d x lt is = sum_by_more f xs i d lt ∙ ap (λ y. sum_by f (take i xs) + f y) (sym is)
+
+pub sum_fits : {X : Type 0} (f : X → ℕ) (xs : List X) (i : ℕ) (d x : X) → i < length xs → x ≡ get_or xs i d → sum_by f (take i xs) + f x ≤ sum_by f xs
+sum_fits f xs i d x lt is = let le = sum_by_more_le f xs i d lt in let same : f x ≡ f (get_or xs i d) = ap f is in omega (arith, le, same)
 
 -- Sums of sums.
 

@@ -17,8 +17,9 @@ impl Condensation<'_> {
     /// another that is still to come, the one with the least column.
     ///
     /// A topological sort that takes the least source (Kahn 1962): components are numbered by their
-    /// least columns. Work: one look at each entry of the components' rows, one insertion in the set
-    /// of sources and one removal a component, and one copy of each row and column.
+    /// least columns. It takes a bit a component and a little more, for the set of sources. Work:
+    /// one look at each entry of the components' rows, one insertion in the set and one removal a
+    /// component, and one copy of each row and column.
     pub fn order(
         &self,
         alloc: Global,

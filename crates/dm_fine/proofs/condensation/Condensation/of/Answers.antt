@@ -1,6 +1,6 @@
 use Rattle.std.proofs.Common.{◌∙◌, arith}
 use Rattle.bip_defs.proofs.Sets.{entry_col}
-use Rattle.dm_fine.proofs.Condensed.{condensed, counted}
+use Rattle.dm_fine.proofs.CondensationLemmas.{condensed, counted}
 use Rattle.dm_fine.proofs.condensation.Condensation.of.Goals as goal
 
 pub numbers_of_mates-requires : goal.numbers_of_mates-requires

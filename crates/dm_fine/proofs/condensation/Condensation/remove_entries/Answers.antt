@@ -1,11 +1,10 @@
-use Rattle.std.proofs.Common.{◌≡◌, ◌∙◌, ◌+◌, arith, ap, take, take_all}
+use Rattle.std.proofs.Common.{arith, ap}
 use Rattle.std.proofs.lemmas.List.{map-id}
 use Rattle.bip_defs.specs.Matrix.{row_list}
-use Rattle.dm_fine.specs.Condensation.{edges_from, edges_from_row}
 use Rattle.dm_fine.specs.Edges.{edges_in, row_edges}
 use Rattle.dm_fine.proofs.BlockLemmas.{gathered}
 use Rattle.dm_fine.proofs.InDegrees.{item_among}
-use Rattle.dm_fine.proofs.SourceLemmas.{has_left, loses_more, loses_same, sum_fits, sum_next}
+use Rattle.dm_fine.proofs.SourceLemmas.{has_next, loses_all, loses_next}
 use Rattle.dm_fine.proofs.condensation.Condensation.remove_entries.Goals as goal
 
 pub of-rows-requires : goal.of-rows-requires
@@ -21,25 +20,20 @@ pub remove_row-requires-clause-counted : goal.remove_row-requires-clause-counted
 remove_row-requires-clause-counted c =
     let g = c.args.self.now in
     let rows = rw map-id at c.of-rows.ensures in
-    has_left (edges_in (row_list g.pattern.now) g.numbers.items c.args.own (take c.loop-row.row-index c.of-rows.result.now)) (edges_from_row g c.args.own c.row-item.result) (edges_from g c.args.own) c.args.sources.now c.loop-row.sources
-    (λ j.
-    let fits = sum_fits (λ r. row_edges g.numbers.items c.args.own (row_list g.pattern.now r) j) c.of-rows.result.now c.loop-row.row-index c.row-item.result c.row-item.result c.loop-row-test.true c.row-item.is in
-    let same : edges_in (row_list g.pattern.now) g.numbers.items c.args.own c.of-rows.result.now j ≡ edges_from g c.args.own j = ap (λ xs. edges_in (row_list g.pattern.now) g.numbers.items c.args.own xs j) rows in
-    omega (arith, fits, same))
+    has_next (λ r. row_edges g.numbers.items c.args.own (row_list g.pattern.now r)) c.of-rows.result.now c.loop-row.row-index c.row-item.result c.row-item.result _ c.args.sources.now c.loop-row.sources c.loop-row-test.true c.row-item.is
+    (λ j. ap (λ xs. edges_in (row_list g.pattern.now) g.numbers.items c.args.own xs j) rows)
     c.requires.counted
     c.loop-row.invariant
 
 pub loop-row-preserved : goal.loop-row-preserved
 loop-row-preserved c =
     let g = c.args.self.now in
-    loses_more (edges_in (row_list g.pattern.now) g.numbers.items c.args.own (take c.loop-row.row-index c.of-rows.result.now)) (edges_from_row g c.args.own c.row-item.result) (edges_in (row_list g.pattern.now) g.numbers.items c.args.own (take (c.loop-row.row-index + 1) c.of-rows.result.now)) c.args.sources.now c.loop-row.sources c.remove_row.new.sources
-    (λ j. sum_next (λ r. row_edges g.numbers.items c.args.own (row_list g.pattern.now r) j) c.of-rows.result.now c.loop-row.row-index c.row-item.result c.row-item.result c.loop-row-test.true c.row-item.is)
-    c.loop-row.invariant
-    c.remove_row.ensures
+    loses_next (λ r. row_edges g.numbers.items c.args.own (row_list g.pattern.now r)) c.of-rows.result.now c.loop-row.row-index c.row-item.result c.row-item.result c.args.sources.now c.loop-row.sources c.remove_row.new.sources c.loop-row-test.true c.row-item.is c.loop-row.invariant c.remove_row.ensures
 
 pub returns : goal.returns
 returns c =
     let g = c.args.self.now in
     let rows = rw map-id at c.of-rows.ensures in
-    let all = take_all c.loop-row.row-index c.of-rows.result.now (let past = c.loop-row-test.false in omega (arith, past)) in
-    loses_same _ _ c.args.sources.now c.loop-row.sources (λ j. ap (λ xs. edges_in (row_list g.pattern.now) g.numbers.items c.args.own xs j) (all ∙ rows)) c.loop-row.invariant
+    loses_all (λ r. row_edges g.numbers.items c.args.own (row_list g.pattern.now r)) c.of-rows.result.now c.loop-row.row-index _ c.args.sources.now c.loop-row.sources (let past = c.loop-row-test.false in omega (arith, past))
+    (λ j. ap (λ xs. edges_in (row_list g.pattern.now) g.numbers.items c.args.own xs j) rows)
+    c.loop-row.invariant

@@ -1,7 +1,7 @@
 use Rattle.std.proofs.Common.{rules, ◌≡◌, ◌-◌, ◌<◌, length, refl, arith, vec_len}
 use Rattle.std.proofs.lemmas.List.{get_or_read}
-use Rattle.dm_fine.proofs.InDegrees.{edges_hit, more_last}
-use Rattle.dm_fine.proofs.SourceLemmas.{loses_one}
+use Rattle.dm_fine.proofs.InDegrees.{edges_hit}
+use Rattle.dm_fine.proofs.SourceLemmas.{loses_one, more_last}
 use Rattle.dm_fine.proofs.sources.Sources.remove_one.Goals as goal
 
 pub returns-then-left-eq0 : goal.returns-then-left-eq0
