@@ -9,14 +9,14 @@ ghost use Rattle.sp_ids.specs.Limits.{max_workers};
 
 use claim_words::{ClaimBoard, ClaimSeat, Worker, new_seats_are_all};
 use forest_core::Forest;
-use level_sharing::{new_workers_agree, processors};
+use level_sharing::{are_worth_threads, new_workers_agree};
 use sp_ids::{Col, OutOfMemory, Row};
 use std::alloc::Global;
 use std::thread::{Threads, join};
 
 /// A board whose words hold the claims and the leaves of a forest, and so many workers, each with a
-/// seat. Where there are two workers and two processors at least, its lists are filled by two threads
-/// at once.
+/// seat. Where there are two workers at least and its words are worth threads, its lists are filled
+/// by two threads at once.
 ///
 /// Answers `OutOfMemory` where 24 bytes a row and column can't be had; 8 of them stay, until the
 /// board is closed. Work: one look at each row and column.
@@ -57,7 +57,9 @@ fn lists<R: Threads + Sync>(
     ensures roots { IfOk result.1 (λ l. length l.items ≡ cols forest.now.matrix) }
     ensures leaves { IfOk result.1 (λ l. IsTableOf forest.now.leaves l.items) }
 {
-    if workers < 2 || processors(rt) < 2 {
+    let pattern = forest.pattern();
+    let words = pattern.rows() as usize + pattern.cols() as usize;
+    if workers < 2 || !are_worth_threads(rt, words) {
         return (forest.row_holders(alloc), forest.root_leaves(alloc));
     }
     let of_rows = move || -> Result<Vec<Option<Col>>, OutOfMemory>

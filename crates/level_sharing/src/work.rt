@@ -26,12 +26,18 @@ pub trait Work<T, E>: Sync {
         ensures ok { OnOk result (completes self.now number worker.old worker.new) };
 }
 
-// Fewer items to share are done sooner by one thread than others are started for them.
-const WORTH_THREADS: usize = 2_000;
+// Fewer items to share are done by one thread in some milliseconds, which is what the start of
+// others costs on a busy machine.
+const WORTH_THREADS: usize = 100_000;
 
-/// Each worker does its part of work on so many items: at once with the others where there are at
-/// least 2,000 items, or where the gate needs threads, and else one after the other, the highest
-/// number first.
+/// Whether work on so many items is worth more threads than one: at least 100,000 are, where the
+/// program may use two processors.
+pub fn are_worth_threads<R: Threads>(rt: &R, items: usize) -> bool {
+    items >= WORTH_THREADS && processors(rt) > 1
+}
+
+/// Each worker does its part of work on so many items: at once with the others where these are worth
+/// threads, or where the gate needs threads, and else one after the other, the highest number first.
 ///
 /// What holds afterwards is the same either way. Each worker calls `gate.arrive` with its number
 /// once, before its part. Answers the fault of the first worker that ended early; all the others
@@ -48,10 +54,10 @@ pub fn share_work<R: Threads + Sync, G: Gate, T: Send, E: Send + Drop, W: Work<T
     ensures always { EachPairFrom (W.leaves work.now) 0 workers.old workers.new }
     ensures ok { OnOk result (EachPairFrom (W.completes work.now) 0 workers.old workers.new) }
 {
-    if items < WORTH_THREADS && !gate.needs_threads() {
-        work_in_turn(gate, work, 0, workers)
-    } else {
+    if gate.needs_threads() || are_worth_threads(rt, items) {
         work_at_once(rt, gate, work, workers)
+    } else {
+        work_in_turn(gate, work, 0, workers)
     }
 }
 
