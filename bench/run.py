@@ -23,6 +23,7 @@ import statistics
 import subprocess
 import sys
 import tempfile
+import typing
 
 from processes import entries_of, once
 
@@ -54,12 +55,22 @@ COLUMNS = {
 }
 PATTERNS = "er27,er10,rmat,grid2d,circuit,hilo,fewg,load,ksbad,hexa,lattice,ring,load30,wide,tall"
 
-# job: its families, how many entries, its peers, and the statuses of an answer: 1 where there is no diagonal
+
+class Job(typing.NamedTuple):
+    """The families, sizes and peers of a job where none are named, and the statuses of its answers."""
+
+    families: str
+    entries: str
+    peers: str
+    answers: tuple
+
+
+# status 1: there is no diagonal
 JOBS = {
-    "rank": (PATTERNS, "100000,1000000", "cxsparse,suitesparse,igraph,scipy", (0,)),
-    "analyse": (PATTERNS, "100000,1000000", "cxsparse,suitesparse,scipy", (0,)),
-    "diagonal": ("er12i,circuiti,bandi", "20000,200000,2000000", "mumps,scipy", (0, 1)),
-    "bottleneck": ("er12i,circuiti,bandi", "20000,200000,2000000", "mumps2,mumps3", (0, 1)),
+    "rank": Job(PATTERNS, "100000,1000000", "cxsparse,suitesparse,igraph,scipy", (0,)),
+    "analyse": Job(PATTERNS, "100000,1000000", "cxsparse,suitesparse,scipy", (0,)),
+    "diagonal": Job("er12i,circuiti,bandi", "20000,200000,2000000", "mumps,scipy", (0, 1)),
+    "bottleneck": Job("er12i,circuiti,bandi", "20000,200000,2000000", "mumps2,mumps3", (0, 1)),
 }
 
 # program: what it is linked with
@@ -112,7 +123,7 @@ def peer_command(work, job, peer):
 
 def programs(options):
     found = {"btf": [options.btf, options.job]}
-    known = JOBS[options.job][2].split(",")
+    known = JOBS[options.job].peers.split(",")
     for peer in options.peers.split(","):
         command = peer_command(options.work, options.job, peer) if peer in known else None
         if command:
@@ -148,7 +159,7 @@ def runs(options, tools, path):
             if name in late:
                 continue
             out = os.path.join(options.work, name + ".out")
-            done = once(command, path, out, options.limit, JOBS[options.job][3])
+            done = once(command, path, out, options.limit, JOBS[options.job].answers)
             if done is None:
                 late.add(name)
                 continue
@@ -167,7 +178,7 @@ def line(options, tools, path, family):
     for name in differing:
         print(f"run.py: {name} and btf differ on {path}", file=sys.stderr)
     median = {name: statistics.median(ts) for name, ts in times.items() if ts}
-    packaged = [t for name, t in median.items() if name in JOBS[options.job][2].split(",")]
+    packaged = [t for name, t in median.items() if name in JOBS[options.job].peers.split(",")]
     ratio = f"{median['btf'] / min(packaged):.2f}" if packaged and "btf" in median else "-"
     cells = [f"{median[name] * 1e9 / entries:.0f}" if name in median else "-" for name in tools]
     peak = f"{peaks['btf'] / entries:.0f}" if "btf" in peaks else "-"
@@ -187,10 +198,10 @@ def main():
     parser.add_argument("--repeats", type=int, default=3)
     parser.add_argument("--limit", type=int, default=30)
     options = parser.parse_args()
-    families, entries, peers = JOBS[options.job]
-    options.families = options.families or families
-    options.entries = options.entries or entries
-    options.peers = options.peers or peers
+    job = JOBS[options.job]
+    options.families = options.families or job.families
+    options.entries = options.entries or job.entries
+    options.peers = options.peers or job.peers
     os.makedirs(options.work, exist_ok=True)
     if not build(options.work, "generate"):
         sys.exit("run.py: the generator does not compile")
