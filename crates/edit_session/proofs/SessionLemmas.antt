@@ -1,5 +1,7 @@
 -- What an edit leaves of a maximum matching and of the cover beside it.
-use Rattle.std.proofs.Common.{◌≡◌, ◌≢◌, ◌⊎◌, ◌↔◌, ◌∙◌, ℕ, suc, ◌+◌, ◌<◌, ◌≤◌, Bool, true, false, true≢false, List, ◌∷◌, length, nat_eq, refl, sym, ap, subst, inl, inr, ⊎_elim, arith, eq-eqb, eqb-true, IsTrue}
+use Rattle.std.proofs.Common.{◌≡◌, ◌≢◌, ◌⊎◌, ◌↔◌, ◌∙◌, ℕ, suc, ◌+◌, ◌<◌, ◌≤◌, Bool, true, false, true≢false, List, Option, Some, None, ◌∷◌, length, nat_eq, refl, sym, ap, subst, inl, inr, ⊎_elim, arith, eq-eqb, eqb-true, IsTrue}
+use Rattle.std.specs.Option.{is_some}
+use Rattle.std.specs.Prelude.{IfNone, IfSome}
 use Rattle.std.proofs.lemmas.List.{length-map, length-set}
 use Rattle.bip_defs.specs.EditedMatrix.{with_place, without_place}
 use Rattle.bip_defs.specs.Lists.{Among, AreDistinct, IsMarked, IsRising}
@@ -7,11 +9,11 @@ use Rattle.bip_defs.specs.Matching.{IsMatching, IsMaximum, cols_of, rows_of}
 use Rattle.bip_defs.specs.Matrix.{IsEntry, Matrix, Place, cols, column, entry_count}
 use Rattle.bip_defs.proofs.EditLemmas.{had_before, kept_is_maximum, kept_with, one_more, with_again, with_place_over, without_count, without_none, without_place_back, without_place_over}
 use Rattle.bip_defs.proofs.Full.{few_below}
-use Rattle.bip_defs.proofs.Sets.{col_among, col_pair, entry_col, one_row, place_same, rising_distinct, row_pair}
+use Rattle.bip_defs.proofs.Sets.{col_among, col_pair, entry_col, one_col, one_row, place_same, rising_distinct, row_pair}
 use Rattle.bip_graph.specs.Matching.{IsMatchingOf, IsMaximumOf, Pairing}
-use Rattle.hall_witness.specs.Covers.{HasMarkedMate, IsCover, IsCovered}
+use Rattle.hall_witness.specs.Covers.{HasMarkedMate, IsCover, IsCoverBut, IsCovered}
 use Rattle.sp_pattern.specs.Stored.{IsPattern}
-use Rattle.edit_session.specs.Sessions.{IsFull, IsKept, IsNearMaximum, MatchedMatrix}
+use Rattle.edit_session.specs.Sessions.{IsFull, IsKept, IsNearMaximum, IsParted, MatchedMatrix}
 
 -- Pairs.
 
@@ -20,6 +22,15 @@ are_mates m s r c rising h = (λ t. subst (λ x. Among (x, c) m) (eqb-true s r t
 
 pub no_mates : (m : List Place) (r c : ℕ) → ¬ Among c (cols_of m) → IsTrue false ↔ Among (r, c) m
 no_mates m r c out = (λ (t : false ≡ true). absurd (true≢false (sym t)), λ h. absurd (out (col_among r c m h)))
+
+-- what a look for a mate found
+pub some_found : {X : Type 0} (P : X → Type 0) (o : Option X) → is_some o ≡ true → IfSome o P → (x : X) × P x
+some_found P None e h = absurd (true≢false (sym e))
+some_found P (Some x) e h = (x, h)
+
+pub none_found : {X : Type 0} (P : Type 0) (o : Option X) → is_some o ≡ false → IfNone o P → P
+none_found P None e h = h
+none_found P (Some x) e h = absurd (true≢false e)
 
 -- A matching that is one pair short at most.
 
@@ -111,6 +122,26 @@ covers_left a p m marks k = record {
 
 pub left_long : (a : Matrix) (p : Place) (marks : List Bool) → length marks ≡ cols a → length marks ≡ cols (without_place a p)
 left_long a p marks long = long ∙ sym (width a p)
+
+-- but for the column of the entry that is set
+pub set_but : (b : Matrix) (p : Place) (m : List Place) (marks : List Bool) → IsCover (without_place b p) m marks → IsCoverBut p.1 b m marks
+set_but b p m marks k = record {
+  long = k.long ∙ width b p;
+  closed = λ r c ne on e. ⊎_elim (λ (s : (r, c) ≡ p). absurd (ne (ap (λ (q : Place). q.1) s))) (λ old. k.closed r c on old) (but_one b p r c e);
+  unmatched = λ c lt ne free. k.unmatched c (let w = width b p in omega (arith, w, lt)) free;
+}
+
+-- but for the column of the pair that is cleared, where that is not marked
+pub cleared_but : (a : Matrix) (p : Place) (m rest : List Place) (marks : List Bool) → IsMatching a m → Among p m → ¬ IsMarked marks p.1 → IsParted p m rest → IsCover a m marks → IsCoverBut p.1 (without_place a p) rest marks
+cleared_but a p m rest marks l pair off parted k = record {
+  long = k.long ∙ sym (width a p);
+  closed = λ r c ne on e. let (d, mate, h) = k.closed r c on (without_place_over a p r c e).0 in (d, (parted (r, d)).1 (mate, λ (s : r ≡ p.0). off (subst (IsMarked marks) (one_col m l.rows_differ p.0 d p.1 (subst (λ x. Among {X = Place} (x, d) m) s mate) pair) h)), h);
+  unmatched = λ c lt ne free. k.unmatched c (let w = width a p in omega (arith, w, lt)) (λ h. let (r, mate) = col_pair c m h in free (col_among r c rest ((parted (r, c)).1 (mate, λ (s : r ≡ p.0). ne (one_col m l.rows_differ p.0 c p.1 (subst (λ x. Among {X = Place} (x, c) m) s mate) pair)))));
+}
+
+-- its column has no mate then
+pub cleared_free : (a : Matrix) (p : Place) (m rest : List Place) → IsMatching a m → Among p m → IsParted p m rest → ¬ Among p.1 (cols_of rest)
+cleared_free a p m rest l pair parted h = let (r, mate) = col_pair p.1 rest h in let (old, ne) = (parted (r, p.1)).0 mate in ne (one_row m l.cols_differ r p.0 p.1 old pair)
 
 -- What a session keeps.
 

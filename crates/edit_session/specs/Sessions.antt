@@ -24,6 +24,10 @@ IsNearMaximum a m = (n : List Place) → IsMatching a n → length n ≤ suc (le
 abbrev pub IsParted : Place → List Place → List Place → Type 0
 IsParted p m n = (q : Place) → Among q n ↔ (Among q m × (q.0 ≢ p.0))
 
+-- n has the pairs of m, and p
+abbrev pub IsPaired : Place → List Place → List Place → Type 0
+IsPaired p m n = (q : Place) → Among q n ↔ ((q ≡ p) ⊎ Among q m)
+
 -- the matching is maximum, and the marks are those of a vertex cover beside it; they need not be where each row is
 -- matched, or each column, for then no entry more gives a longer matching
 pub record IsKept (a : Matrix) (m : Pairing) (marks : List Bool) : Type 0 where

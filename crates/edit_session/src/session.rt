@@ -1,15 +1,15 @@
 //! A matrix under edits, and a maximum matching of it.
 
-ghost use Rattle.std.specs.Prelude.{◌≡◌, ◌↔◌, ◌⊎◌, ◌+◌, ◌<◌, ◌≤◌, List, length, IfOk, IsTrue, OnErr, OnOk};
+ghost use Rattle.std.specs.Prelude.{◌≡◌, ◌↔◌, ◌⊎◌, ◌+◌, ◌<◌, ◌≤◌, List, length, IfOk, IsTrue, OnErr, OnOk, is_ok};
 ghost use Rattle.bip_defs.specs.ConnectedComponents.{AreConnectedComponents};
 ghost use Rattle.bip_defs.specs.EditedMatrix.{with_place, without_place};
-ghost use Rattle.bip_defs.specs.Lists.{Among};
+ghost use Rattle.bip_defs.specs.Lists.{Among, IsMarked};
 ghost use Rattle.bip_defs.specs.Matching.{IsRank, cols_of, rows_of};
 ghost use Rattle.bip_defs.specs.Matrix.{IsEntry, Place, cols, entry_count};
 ghost use Rattle.bip_graph.specs.Decompositions.{Decomposes, components_of};
 ghost use Rattle.bip_graph.specs.Matching.{IsMatchingOf, IsMaximumOf};
-ghost use Rattle.edit_session.specs.Sessions.{IsFull, IsKept, IsNearMaximum, IsParted, MatchedMatrix};
-ghost use Rattle.hall_witness.specs.Covers.{IsCover, IsCovered, IsSearched};
+ghost use Rattle.edit_session.specs.Sessions.{IsFull, IsKept, IsNearMaximum, IsPaired, IsParted, MatchedMatrix};
+ghost use Rattle.hall_witness.specs.Covers.{IsCover, IsCovered, IsSearched, IsSearchedFrom};
 
 use crate::columns::Columns;
 use crate::patterns::pattern_of;
@@ -28,9 +28,9 @@ use std::thread::Threads;
 /// matching of it, which each edit keeps maximum.
 ///
 /// An edit changes the rank by one at most, so one search for an augmenting path decides (Berge
-/// 1957), and most edits need none: the session keeps the marks of the vertex cover that the last
-/// search without a path has shown (König 1931). While the matrix has the cover, no entry more in
-/// it raises the rank.
+/// 1957), and most edits need none: the session keeps the marks of the vertex cover that the
+/// searches without a path have shown (König 1931). While the matrix has the cover, no entry more
+/// in it raises the rank, and a search from one column passes over marked ones.
 #[derive(Drop)]
 pub struct Session {
     alloc: Global,
@@ -141,15 +141,19 @@ impl Session {
     /// A step is a column that a search takes up or an entry that it looks at. There is no search
     /// where the entry was there; where the rank is already the number of rows or of columns; where
     /// the kept cover has the entry: its column is not marked, or its row has a mate that is; or
-    /// where its row and its column have no mate and become a pair. Else there is one: it makes at
-    /// least as many steps as the path that it finds has pairs, and where it finds none, one for
-    /// each column that some maximum matching of the new matrix misses and one for each of their
-    /// entries; these columns are marked from then on.
+    /// where its row and its column have no mate and become a pair. Else there is one, which makes
+    /// at least as many steps as the path that it finds has pairs. Where the column has no mate it
+    /// begins there alone, and passes over marked columns: where it finds no path, it makes one step
+    /// for that column and for each column that it marks, and one for each of their entries. Where
+    /// the column has a mate it begins at all unmatched columns: where it finds no path, it makes
+    /// one step for each column that some maximum matching of the new matrix misses and one for each
+    /// of their entries; these columns are marked from then on, and no others.
+    ///
     /// Answers `OutOfMemory` where there is no memory for the entry; the session is then as it was.
-    /// A search takes none. Work: the search, and where there is one, a look for its mate at each
-    /// column that was unmatched at the search before, at the first one at each column; beside it a
-    /// search by halves in the column and one move of each of its rows, in the mean over many
-    /// edits.
+    /// A search takes none. Work: the search; where it begins at all unmatched columns, a look for
+    /// its mate at each column that was unmatched at the last such search, at the first one at each
+    /// column; beside it a search by halves in the column and one move of each of its rows, in the
+    /// mean over many edits.
     pub fn set<L: Ledger>(
         &mut self,
         row: Row,
@@ -171,10 +175,23 @@ impl Session {
         ensures searched { OnOk result (¬ IsEntry self.old.matrix row col
             → ¬ IsFull self.old.matrix self.old.matching.pairs
             → ¬ IsCovered self.old.matching.pairs self.old.marks (row, col)
-            → Among row (rows_of self.old.matching.pairs)
-            ⊎ Among col (cols_of self.old.matching.pairs)
+            → Among col (cols_of self.old.matching.pairs)
             → IsSearched self.new.matrix self.old.matching.pairs self.new.matching.pairs
             steps.old steps.new) }
+        ensures searched_from { OnOk result (¬ IsEntry self.old.matrix row col
+            → ¬ IsFull self.old.matrix self.old.matching.pairs
+            → ¬ IsCovered self.old.matching.pairs self.old.marks (row, col)
+            → ¬ Among col (cols_of self.old.matching.pairs)
+            → Among row (rows_of self.old.matching.pairs)
+            → IsSearchedFrom col self.new.matrix self.old.matching.pairs self.old.marks
+            self.new.matching.pairs self.new.marks steps.old steps.new) }
+        ensures paired { OnOk result (¬ IsEntry self.old.matrix row col
+            → ¬ IsFull self.old.matrix self.old.matching.pairs
+            → ¬ IsCovered self.old.matching.pairs self.old.marks (row, col)
+            → ¬ Among col (cols_of self.old.matching.pairs)
+            → ¬ Among row (rows_of self.old.matching.pairs)
+            → IsPaired (row, col) self.old.matching.pairs self.new.matching.pairs
+            × (steps.new ≡ steps.old)) }
     {
         self.columns.is_pattern();
         if self.columns.has(row, col) {
@@ -197,14 +214,16 @@ impl Session {
     /// Clears an entry, and gives the rank of the matrix then. Where there is none nothing changes.
     ///
     /// Steps are counted as in [`Session::set`]. There is no search where the entry was no pair of
-    /// the matching, and one from the other pairs where it was. Takes no memory, so it is never
-    /// refused. Work: as there.
+    /// the matching, and one from the other pairs where it was: from its column alone where that was
+    /// not marked, from all unmatched columns where it was, or where the rank was the number of rows
+    /// or of columns. Takes no memory, so it is never refused. Work: as there.
     pub fn clear<L: Ledger>(
         &mut self,
         row: Row,
         col: Col,
         steps: &mut Steps<L>,
     ) -> Result<u32, OutOfMemory>
+        ensures ok { IsTrue (is_ok result) }
         ensures matrix { OnOk result (self.new.matrix ≡ without_place self.old.matrix (row, col)) }
         ensures rank { IfOk result (IsRank self.new.matrix) }
         ensures unchanged { OnErr result (self.new ≡ self.old) }
@@ -212,8 +231,14 @@ impl Session {
             ≤ steps.old + (cols self.old.matrix + entry_count self.old.matrix) }
         ensures no_step { ¬ Among (row, col) self.old.matching.pairs → steps.new ≡ steps.old }
         ensures searched { OnOk result (Among (row, col) self.old.matching.pairs
+            → IsFull self.old.matrix self.old.matching.pairs ⊎ IsMarked self.old.marks col
             → (rest : List Place) × IsParted (row, col) self.old.matching.pairs rest
             × IsSearched self.new.matrix rest self.new.matching.pairs steps.old steps.new) }
+        ensures searched_from { OnOk result (Among (row, col) self.old.matching.pairs
+            → ¬ IsFull self.old.matrix self.old.matching.pairs → ¬ IsMarked self.old.marks col
+            → (rest : List Place) × IsParted (row, col) self.old.matching.pairs rest
+            × IsSearchedFrom col self.new.matrix rest self.old.marks
+            self.new.matching.pairs self.new.marks steps.old steps.new) }
     {
         if self.columns.has(row, col) {
             return self.clear_entry(row, col, steps);
@@ -230,6 +255,7 @@ impl Session {
         steps: &mut Steps<L>,
     ) -> Result<u32, OutOfMemory>
         requires entry { IsEntry self.old.matrix row col }
+        ensures ok { IsTrue (is_ok result) }
         ensures matrix { OnOk result (self.new.matrix ≡ without_place self.old.matrix (row, col)) }
         ensures rank { IfOk result (IsRank self.new.matrix) }
         ensures unchanged { OnErr result (self.new ≡ self.old) }
@@ -237,22 +263,34 @@ impl Session {
             ≤ steps.old + (cols self.old.matrix + entry_count self.old.matrix) }
         ensures no_step { ¬ Among (row, col) self.old.matching.pairs → steps.new ≡ steps.old }
         ensures searched { OnOk result (Among (row, col) self.old.matching.pairs
+            → IsFull self.old.matrix self.old.matching.pairs ⊎ IsMarked self.old.marks col
             → (rest : List Place) × IsParted (row, col) self.old.matching.pairs rest
             × IsSearched self.new.matrix rest self.new.matching.pairs steps.old steps.new) }
+        ensures searched_from { OnOk result (Among (row, col) self.old.matching.pairs
+            → ¬ IsFull self.old.matrix self.old.matching.pairs → ¬ IsMarked self.old.marks col
+            → (rest : List Place) × IsParted (row, col) self.old.matching.pairs rest
+            × IsSearchedFrom col self.new.matrix rest self.old.marks
+            self.new.matching.pairs self.new.marks steps.old steps.new) }
     {
         cover_shows_maximum();
         cover_stands();
         self.matching.is_matching();
         self.columns.is_pattern();
         let were_mates = are_mates(&self.matching, row, col);
+        let was_full = is_full(&self.columns, &self.matching);
         self.columns.take(row, col);
         if !were_mates {
             return Ok(self.rank());
         }
         self.matching.unpair(row, col);
         self.matching.is_matching();
+        let columns = &self.columns;
+        if was_full || self.cover.is_marked(col) {
+            self.cover.augment(columns, &mut self.matching, col, steps);
+            return Ok(self.rank());
+        }
         self.cover
-            .augment(&self.columns, &mut self.matching, col, steps);
+            .augment_from(columns, &mut self.matching, col, steps);
         Ok(self.rank())
     }
 }
@@ -280,7 +318,7 @@ fn is_full(columns: &Columns, matching: &Matching) -> bool
 
 // Makes a matching maximum where one more entry is new: it is, where each row or each column is
 // matched, or where the cover of the others has the entry; the entry's row and column become a pair
-// where both have no mate; else a search decides.
+// where both have no mate; else a search decides, from the column alone where that has no mate.
 fn match_entry<L: Ledger>(
     columns: &Columns,
     matching: &mut Matching,
@@ -302,10 +340,18 @@ fn match_entry<L: Ledger>(
         ⊎ IsCovered matching.old.pairs cover.old (row, col) → steps.new ≡ steps.old }
     ensures searched { ¬ IsFull columns.now.matrix matching.old.pairs
         → ¬ IsCovered matching.old.pairs cover.old (row, col)
-        → Among row (rows_of matching.old.pairs)
-        ⊎ Among col (cols_of matching.old.pairs)
+        → Among col (cols_of matching.old.pairs)
         → IsSearched columns.now.matrix matching.old.pairs matching.new.pairs
         steps.old steps.new }
+    ensures searched_from { ¬ IsFull columns.now.matrix matching.old.pairs
+        → ¬ IsCovered matching.old.pairs cover.old (row, col)
+        → ¬ Among col (cols_of matching.old.pairs) → Among row (rows_of matching.old.pairs)
+        → IsSearchedFrom col columns.now.matrix matching.old.pairs cover.old
+        matching.new.pairs cover.new steps.old steps.new }
+    ensures paired { ¬ IsFull columns.now.matrix matching.old.pairs
+        → ¬ IsCovered matching.old.pairs cover.old (row, col)
+        → ¬ Among col (cols_of matching.old.pairs) → ¬ Among row (rows_of matching.old.pairs)
+        → IsPaired (row, col) matching.old.pairs matching.new.pairs × (steps.new ≡ steps.old) }
 {
     cover_shows_maximum();
     cover_stands();
@@ -315,10 +361,14 @@ fn match_entry<L: Ledger>(
     if cover.has(matching, row, col) {
         return;
     }
-    if matching.row_of(col).is_none() && matching.col_of(row).is_none() {
-        matching.pair(row, col);
-        matching.is_matching();
+    if matching.row_of(col).is_some() {
+        cover.augment(columns, matching, col, steps);
         return;
     }
-    cover.augment(columns, matching, col, steps);
+    if matching.col_of(row).is_some() {
+        cover.augment_from(columns, matching, col, steps);
+        return;
+    }
+    matching.pair(row, col);
+    matching.is_matching();
 }

@@ -1,3 +1,4 @@
+pub mod CoverGrowth
 pub mod CoverLemmas
 pub mod MarkLemmas
 pub mod PathLemmas

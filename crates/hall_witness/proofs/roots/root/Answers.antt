@@ -11,7 +11,7 @@ pub returns-in-None-clause-roots : goal.returns-in-None-clause-roots
 returns-in-None-clause-roots g c = root_entered _ _ _ _ _ _ _ c.requires.roots c.requires.col c.in-None.ensures.none c.enter.ensures.entered
 
 pub returns-in-None-clause-queued : goal.returns-in-None-clause-queued
-returns-in-None-clause-queued g c out = enters_among _ _ _ _ _ _ c.requires.roots.search.marked c.enter.ensures.entered
+returns-in-None-clause-queued g c out = enters_among _ _ _ _ _ _ c.requires.roots.marked c.enter.ensures.entered
 
 pub returns-in-Some-clause-queued : goal.returns-in-Some-clause-queued
 returns-in-Some-clause-queued g c out = absurd (out (col_among _ _ _ c.in-Some.ensures.found))

@@ -10,3 +10,6 @@ returns-clause-matrix g c = clear_none c.self.inside.columns.matrix c.self.insid
 
 pub returns-clause-searched : goal.returns-clause-searched
 returns-clause-searched g c h = absurd (true≢false (sym (c.has.ensures.1 (c.self.invariant.maximum.matching.matching.entries c.args.row c.args.col (subst (λ (w : MatchedMatrix). Among {X = Place} (c.args.row, c.args.col) w.matching.pairs) (sym c.self.view_is) h))) ∙ c.if-has.false))
+
+pub returns-clause-searched_from : goal.returns-clause-searched_from
+returns-clause-searched_from g c h = absurd (true≢false (sym (c.has.ensures.1 (c.self.invariant.maximum.matching.matching.entries c.args.row c.args.col (subst (λ (w : MatchedMatrix). Among {X = Place} (c.args.row, c.args.col) w.matching.pairs) (sym c.self.view_is) h))) ∙ c.if-has.false))
