@@ -1,5 +1,5 @@
 -- Full matchings and their prices, as they are answered.
-use Rattle.std.proofs.Common.{◌≡◌, ◌∙◌, ℕ, ℤ, pos, ◌-ℤ◌, slice_index, ◌+◌, ◌<◌, ◌≤◌, List, [], length, map, ap, subst, arith, below_more}
+use Rattle.std.proofs.Common.{◌≡◌, ◌∙◌, ℕ, ℤ, pos, ◌-ℤ◌, slice_index, ◌+◌, ◌<◌, ◌≤◌, List, length, map, ap, subst, arith, below_more}
 use Rattle.std.proofs.lemmas.Int.{ints}
 use Rattle.std.proofs.lemmas.List.{get_or-map, length-map}
 use Rattle.bip_defs.specs.Bottleneck.{IsFull}
@@ -13,9 +13,8 @@ use Rattle.bip_graph.specs.Matching.{IsMatchingOf, Pairing}
 use Rattle.integer_diagonal.proofs.Bounds.{pair_cheap}
 use Rattle.integer_diagonal.proofs.Cheap.{cheap_entry}
 use Rattle.integer_diagonal.specs.declared.assignment.Assignment.{Assignment}
-use Rattle.integer_diagonal.specs.declared.search.Search.{Search}
-use Rattle.integer_diagonal.specs.Labels.{IsClear, labels_of, tree_of}
-use Rattle.integer_diagonal.specs.Mated.{AreMated}
+use Rattle.integer_diagonal.specs.declared.path.PathSearch.{PathSearch}
+use Rattle.integer_diagonal.specs.Mated.{AreMated, IsReady}
 use Rattle.integer_diagonal.specs.Duals.{IsAssigned, IsAssignment, IsFeasible, Priced, cheap, dual}
 use Rattle.integer_diagonal.specs.Prices.{AreFair, price}
 use Rattle.sp_pattern.specs.Weights.{Weighing}
@@ -57,8 +56,8 @@ module _ (x : Priced) (u v : List ℤ) where
       both : (r c : ℕ) → IsEntry x.weighing.matrix r c → (price u r ≡ pos (slice_index x.prices r) -ℤ pos x.top) × (price v c ≡ pos (x.top + x.top) -ℤ pos (dual x c))
       both r c e = (row_price eu r (let in_rows = e.0 in let long = f.prices_are in omega (arith, in_rows, long)), col_price ev c (let in_cols = entry_col x.weighing.matrix r c e in let long = f.duals_are in omega (arith, in_cols, long)))
 
-pub mated_same : {W : Type 0} (w : Weighing) (rows : ℕ) (a : Assignment W) (s : Search W) (n : ℕ) → AreMated w rows a s n → Among n (cols_of a.matching.pairs) → AreMated w rows a s (n + 1)
-mated_same w rows a s n m on = record { assignment = m.assignment; clear = m.clear; listed = m.listed; done = below_more (λ c. Among c (cols_of a.matching.pairs)) n m.done on }
+pub mated_same : {W : Type 0} (w : Weighing) (m : Matrix) (a : Assignment W) (p : PathSearch W) (n : ℕ) → AreMated w m a p n → Among n (cols_of a.matching.pairs) → AreMated w m a p (n + 1)
+mated_same w m a p n k on = record { assignment = k.assignment; ready = k.ready; done = below_more (λ c. Among c (cols_of a.matching.pairs)) n k.done on }
 
-pub mated_next : {W : Type 0} (w : Weighing) (rows : ℕ) (a b : Assignment W) (s t : Search W) (n : ℕ) → AreMated w rows a s n → IsAssignment w b → Covers a.matching.pairs b.matching.pairs → Among n (cols_of b.matching.pairs) × IsClear rows (tree_of t) (labels_of t) × (t.reached.items ≡ []) → AreMated w rows b t (n + 1)
-mated_next w rows a b s t n m assignment covered found = record { assignment = assignment; clear = found.1; listed = found.2; done = below_more (λ c. Among c (cols_of b.matching.pairs)) n (λ c lt. covered.cols c (m.done c lt)) found.0 }
+pub mated_next : {W : Type 0} (w : Weighing) (m : Matrix) (a b : Assignment W) (p q : PathSearch W) (n : ℕ) → AreMated w m a p n → IsAssignment w b → Covers a.matching.pairs b.matching.pairs → Among n (cols_of b.matching.pairs) × IsReady m q → AreMated w m b q (n + 1)
+mated_next w m a b p q n k assignment covered found = record { assignment = assignment; ready = found.1; done = below_more (λ c. Among c (cols_of b.matching.pairs)) n (λ c lt. covered.cols c (k.done c lt)) found.0 }

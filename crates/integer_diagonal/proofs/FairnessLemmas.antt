@@ -1,7 +1,7 @@
 -- New prices that are looked at on every entry.
-use Rattle.std.proofs.Common.{◌≡◌, ◌∙◌, ℕ, slice_index, ◌+◌, ◌<◌, ◌≤◌, List, length, map, get_or, sym, ap, subst, below_more, arith}
+use Rattle.std.proofs.Common.{◌≡◌, ◌∙◌, ℕ, slice_index, ◌+◌, ◌<◌, ◌≤◌, List, [], ◌∷◌, ◌++◌, length, map, take, get_or, sym, ap, subst, below_more, arith}
 use Rattle.std.proofs.Math.Decide.{dec_lt}
-use Rattle.std.proofs.lemmas.List.{get_or-map, get_or_past, get_or_read, length-map}
+use Rattle.std.proofs.lemmas.List.{get_or-map, get_or_past, get_or_read, length-map, map_more}
 use Rattle.bip_defs.specs.Lists.{Among, AreDistinct, Lists}
 use Rattle.bip_defs.specs.Matching.{cols_of}
 use Rattle.bip_defs.specs.Matrix.{IsEntry, Matrix, Place, cols, column}
@@ -34,6 +34,10 @@ all_at_most xs most low k = by (dec_lt k (length xs))
 -- the same of numbers that are higher
 pub all_risen : (xs ys : List ℕ) (rise most : ℕ) → ys ≡ map (λ a. a + rise) xs → ((k : ℕ) → slice_index xs k + rise ≤ most) → (k : ℕ) → slice_index ys k ≤ most
 all_risen xs ys rise most is low = all_at_most ys most (λ k lt. (let long = ap (λ (z : List ℕ). length z) is ∙ length-map xs (λ a. a + rise) in let here = ap (λ (z : List ℕ). slice_index z k) is ∙ get_or-map (λ a. a + rise) xs k 0 0 (omega (arith, lt, long)) in let bound = low k in omega (arith, here, bound)))
+
+-- a list that is written from another, by one place more
+pub mapped_push : (f : ℕ → ℕ) (xs ys new : List ℕ) (i x y : ℕ) → i < length xs → x ≡ get_or xs i x → ys ≡ map f (take i xs) → y ≡ f x → new ≡ ys ++ y ∷ [] → new ≡ map f (take (i + 1) xs)
+mapped_push f xs ys new i x y lt is old value pushed = pushed ∙ ap (λ z. z ++ y ∷ []) old ∙ ap (λ z. map f (take i xs) ++ z ∷ []) (value ∙ ap f is) ∙ sym (map_more f xs i x lt)
 
 -- a candidate whose columns are fair is an assignment
 pub fair_assigned : (x : Priced) (m : Pairing) → IsCandidate x m → ((c : ℕ) → c < cols x.weighing.matrix → IsFairColumn x m.pairs c) → IsAssigned x m

@@ -11,7 +11,7 @@ use Rattle.integer_diagonal.proofs.Bounds.{places_add, within_all}
 use Rattle.integer_diagonal.proofs.Cheap.{cheap_entry}
 use Rattle.integer_diagonal.proofs.SearchInvariant.{listed_same, listed_settled}
 use Rattle.integer_diagonal.specs.declared.search.Nearest.{Nearest}
-use Rattle.integer_diagonal.specs.Labels.{AreBeyond, AreKnown, AreListed, IsBest, IsKept, IsKnown, Labels, Takes, distance_of}
+use Rattle.integer_diagonal.specs.Labels.{AreBeyond, AreKnown, AreListed, IsBest, IsKept, IsKnown, IsLabelled, IsSearch, Labels, Takes, distance_of}
 use Rattle.integer_diagonal.specs.Duals.{IsBounded, Priced, cheap, cost, dual, paid}
 use Rattle.integer_diagonal.specs.SearchTree.{IsGrown, IsLedTo, IsSearched, IsStuck, IsTaken, Reaches, Tree, depth, stop}
 use Rattle.integer_diagonal.specs.Amounts.{HasRoom, infinity}
@@ -173,28 +173,28 @@ known_more x t l limit c p d r long known i s lt entry =
 
 -- The end.
 
-pub searched : {W : Type 0} (x : Priced) (m : List Place) (t : Tree) (l : Labels) (n : Nearest W) (level : ℕ) → IsKept x m t l level → IsBest x m t n level → AreKnown x t l n.distance (length t.queue) → AreBeyond l n.distance → IsSearched x m t n.distance
-searched x m t l n level kept best known beyond = record {
-  depths = λ i lt. (let low = kept.depths i lt in let above = best.above in omega (arith, low, above));
-  closed = λ i r lt entry. closed i r (known i r lt entry);
+pub searched : {W : Type 0} (x : Priced) (m : List Place) (t : Tree) (l : Labels) (n : Nearest W) (root level : ℕ) (rows : List ℕ) → IsSearch x m root t l n rows level (length t.queue) → AreBeyond l n.distance → IsSearched x m t n.distance
+searched x m t l n root level rows k beyond = record {
+  depths = λ i lt. (let low = k.kept.depths i lt in let above = k.best.above in omega (arith, low, above));
+  closed = λ i r lt entry. closed i r (k.known i r lt entry);
 }
   where
     taken : (i r : ℕ) → IsMarked l.settled r → distance_of l r + dual x (stop t i) ≤ depth t i + paid x r (stop t i) → IsTaken x m t i r
-    taken i r mark le = let (j, above, within, pair, e) = kept.settled r mark in (j, above, within, pair, omega (arith, le, e))
+    taken i r mark le = let (j, above, within, pair, e) = k.kept.settled r mark in (j, above, within, pair, omega (arith, le, e))
 
     closed : (i r : ℕ) → IsKnown x t l n.distance i r → IsTaken x m t i r ⊎ (n.distance + dual x (stop t i) ≤ depth t i + paid x r (stop t i))
     closed i r (inr le) = inr le
-    closed i r (inl (near, le)) = ⊎_elim (λ mark. inl (taken i r mark le)) (λ h. ⊎_elim (λ mark. inl (taken i r mark le)) (λ low. inr (omega (arith, low, le))) (beyond (distance_of l r, r) h)) (kept.waiting r near)
+    closed i r (inl (near, le)) = ⊎_elim (λ mark. inl (taken i r mark le)) (λ h. ⊎_elim (λ mark. inl (taken i r mark le)) (λ low. inr (omega (arith, low, le))) (beyond (distance_of l r, r) h)) (k.kept.waiting r near)
 
 -- no distance is as large as the one that stands for none
-pub search_stuck : {W : Type 0} (x : Priced) (m : List Place) (root : ℕ) (t : Tree) (l : Labels) (n : Nearest W) (level limit : ℕ) → HasRoom (cols x.weighing.matrix) x.top limit → limit ≤ 2 ^ 100 → IsMatching (cheap x) m → IsBounded x m → IsGrown x m root t → IsKept x m t l level → IsBest x m t n level → AreKnown x t l n.distance (length t.queue) → AreBeyond l n.distance → n.distance ≡ infinity → IsStuck x m t
-search_stuck x m root t l n level limit room small match bounded g kept best known beyond none i r lt entry = by ((searched x m t l n level kept best known beyond).closed i r lt entry)
+pub search_stuck : {W : Type 0} (x : Priced) (m : List Place) (root : ℕ) (t : Tree) (l : Labels) (n : Nearest W) (level limit : ℕ) (rows : List ℕ) → HasRoom (cols x.weighing.matrix) x.top limit → limit ≤ 2 ^ 100 → IsMatching (cheap x) m → IsBounded x m → IsSearch x m root t l n rows level (length t.queue) → AreBeyond l n.distance → n.distance ≡ infinity → IsStuck x m t
+search_stuck x m root t l n level limit rows room small match bounded k beyond none i r lt entry = by ((searched x m t l n root level rows k beyond).closed i r lt entry)
   where
     by : IsTaken x m t i r ⊎ (n.distance + dual x (stop t i) ≤ depth t i + paid x r (stop t i)) → (j : ℕ) × (0 < j) × (j < length t.queue) × Among (r, stop t j) m
     by (inl (j, above, within, pair, le)) = (j, above, within, pair)
     by (inr le) =
-        let near = (within_all x m root t match g i lt).near in
-        let part = places_add x m root t i g lt in
+        let near = (within_all x m root t match k.grown i lt).near in
+        let part = places_add x m root t i k.grown lt in
         let low = bounded.prices r in
         let one : cost x.top x.weighing r (stop t i) ≤ x.top = omega arith in
         absurd (omega (arith, le, near, part, low, one, none, room, small))
@@ -216,17 +216,27 @@ taken_reaches x m t l k level d r limit kept takes =
     let same = (taken_distance x m t l k level d r limit kept takes).0 in
     subst (λ (z : Labels). Reaches x t r (slice_index z.parents r) d) (sym takes.is) (subst (Reaches x t r (slice_index l.parents r)) same (kept.reached r near))
 
-pub record IsStep {W : Type 0} (x : Priced) (m : List Place) (root : ℕ) (t2 : Tree) (k2 : Labels) (n : Nearest W) (rows : List ℕ) (d long : ℕ) : Type 0 where
-  pub grown : IsGrown x m root t2
-  pub kept : IsKept x m t2 k2 d
-  pub best : IsBest x m t2 n d
-  pub known : AreKnown x t2 k2 n.distance long
-  pub listed : AreListed k2 rows
-  pub last : depth t2 long ≡ d
+pub taken_labelled : (x : Priced) (m : List Place) (t : Tree) (l k : Labels) (level d r limit : ℕ) → IsKept x m t l level → Takes l k d r limit → (r < x.weighing.matrix.rows) × IsLabelled m k r
+taken_labelled x m t l k level d r limit kept takes =
+    let near = (kept.waits d r takes.was).2 in
+    let inside = near_in l r near in
+    let rows = kept.distances_are in (
+      omega (arith, inside, rows),
+      subst (λ (z : Labels). IsLabelled m z r) (sym takes.is) (record {
+        parent = let same = kept.parents_are in omega (arith, inside, rows, same);
+        mark = let same = kept.settled_are in omega (arith, inside, rows, same);
+        matched = kept.matched r near;
+      }),
+    )
+
+pub record IsStep {W : Type 0} (x : Priced) (m : List Place) (root : ℕ) (t2 : Tree) (k2 : Labels) (n : Nearest W) (rows : List ℕ) (long : ℕ) : Type 0 where
+  pub search : IsSearch x m root t2 k2 n rows (depth t2 long) long
   pub longer : length t2.queue ≡ long + 1
 
-pub stepped : {W : Type 0} (x : Priced) (m : List Place) (root : ℕ) (t t1 t2 : Tree) (l k k2 : Labels) (n : Nearest W) (rows rows2 : List ℕ) (level d r c long : ℕ) → IsMatching (cheap x) m → IsGrown x m root t → IsKept x m t l level → IsBest x m t n level → AreKnown x t l n.distance (length t.queue) → AreListed l rows → Takes l k d r n.distance → t1 ≡ t → Among (r, c) m → t2 ≡ more t1 c (slice_index k.parents r) d → k2 ≡ settle k r → rows2 ≡ rows → long ≡ length t1.queue → IsStep x m root t2 k2 n rows2 d long
-stepped x m root t t1 t2 l k k2 n rows rows2 level d r c long match g kept best known listed takes same pair tree labels rows_are long_is =
+pub stepped : {W : Type 0} (x : Priced) (m : List Place) (root : ℕ) (t t1 t2 : Tree) (l k k2 : Labels) (n : Nearest W) (rows rows2 : List ℕ) (level d r c long : ℕ) → IsMatching (cheap x) m → IsSearch x m root t l n rows level (length t.queue) → Takes l k d r n.distance → t1 ≡ t → Among (r, c) m → t2 ≡ more t1 c (slice_index k.parents r) d → k2 ≡ settle k r → rows2 ≡ rows → long ≡ length t1.queue → IsStep x m root t2 k2 n rows2 long
+stepped x m root t t1 t2 l k k2 n rows rows2 level d r c long match i takes same pair tree labels rows_are long_is =
+    let g = i.grown in
+    let kept = i.kept in
     let near = (kept.waits d r takes.was).2 in
     let reaches = taken_reaches x m t l k level d r n.distance kept takes in
     let inside = near_in l r near in
@@ -236,15 +246,17 @@ stepped x m root t t1 t2 l k k2 n rows rows2 level d r c long match g kept best 
     let whole : t2 ≡ more t c p d = tree ∙ ap (λ (z : Tree). more z c p d) same in
     let count : long ≡ length t.queue = long_is ∙ ap (λ (z : Tree). length z.queue) same in
     let kept2 = kept_more x m root t l k level d r c p n.distance match kept g takes col.0 pair in
-    let known2 = known_more x t k n.distance c p d r g.long (subst (λ (z : Labels). AreKnown x t z n.distance (length t.queue)) (sym takes.is) known) in
-    let listed2 = listed_settled l rows r listed near in
+    let known2 = known_more x t k n.distance c p d r g.long (subst (λ (z : Labels). AreKnown x t z n.distance (length t.queue)) (sym takes.is) i.known) in
+    let listed2 = listed_settled l rows r i.listed near in
     let alike : AreListed (settle k r) rows = subst (λ (z : Labels). AreListed (settle z r) rows) (sym takes.is) (listed_same (settle l r) (settle (record l { waiting = takes.heap }) r) rows refl refl listed2) in
+    let last : depth t2 long ≡ d = ap (λ (z : Tree). depth z long) whole ∙ ap (depth (more t c p d)) count ∙ last_depth t c p d g.long in
     record {
-      grown = subst (IsGrown x m root) (sym whole) grown;
-      kept = subst (λ (z : Tree). IsKept x m z k2 d) (sym whole) (subst (λ (z : Labels). IsKept x m (more t c p d) z d) (sym labels) kept2);
-      best = subst (λ (z : Tree). IsBest x m z n d) (sym whole) (best_more x m t n level c p d g.long best takes.below);
-      known = subst (λ (z : Tree). AreKnown x z k2 n.distance long) (sym whole) (subst (λ (z : Labels). AreKnown x (more t c p d) z n.distance long) (sym labels) (subst (λ z. AreKnown x (more t c p d) (settle k r) n.distance z) (sym count) known2));
-      listed = subst (λ (z : Labels). AreListed z rows2) (sym labels) (subst (AreListed (settle k r)) (sym rows_are) alike);
-      last = ap (λ (z : Tree). depth z long) whole ∙ ap (depth (more t c p d)) count ∙ last_depth t c p d g.long;
+      search = subst (λ z. IsSearch x m root t2 k2 n rows2 z long) (sym last) (record {
+        grown = subst (IsGrown x m root) (sym whole) grown;
+        kept = subst (λ (z : Tree). IsKept x m z k2 d) (sym whole) (subst (λ (z : Labels). IsKept x m (more t c p d) z d) (sym labels) kept2);
+        best = subst (λ (z : Tree). IsBest x m z n d) (sym whole) (best_more x m t n level c p d g.long i.best takes.below);
+        known = subst (λ (z : Tree). AreKnown x z k2 n.distance long) (sym whole) (subst (λ (z : Labels). AreKnown x (more t c p d) z n.distance long) (sym labels) (subst (λ z. AreKnown x (more t c p d) (settle k r) n.distance z) (sym count) known2));
+        listed = subst (λ (z : Labels). AreListed z rows2) (sym labels) (subst (AreListed (settle k r)) (sym rows_are) alike);
+      });
       longer = (let one = ap (λ (z : Tree). length z.queue) whole in let two = more_long t c p d in omega (arith, one, two, count));
     }

@@ -47,8 +47,8 @@ pub record IsFound (x : Priced) (m : List Place) (root : ℕ) (t : Tree) (row pl
   pub nearest : IsNearest x m t row place distance
   pub searched : IsSearched x m t distance
 
-pub found_near : (x : Priced) (m : List Place) (root : ℕ) (s t : Tree) (row place distance : ℕ) → t.queue ≡ s.queue → t.depths ≡ s.depths → IsGrown x m root s → (distance < infinity → IsNearest x m s row place distance × IsSearched x m s distance) → distance < infinity → IsFound x m root t row place distance
-found_near x m root s t row place distance e f grown near lt = subst (λ q. IsFound x m root (record { queue = q; depths = t.depths }) row place distance) (sym e) (subst (λ d. IsFound x m root (record { queue = s.queue; depths = d }) row place distance) (sym f) (record { grown = grown; nearest = (near lt).0; searched = (near lt).1 }))
+pub found_near : (x : Priced) (m : List Place) (root : ℕ) (s : Tree) (q : Queue) (ds : List ℕ) (row place distance : ℕ) → q ≡ s.queue → ds ≡ s.depths → IsGrown x m root s → (distance < infinity → IsNearest x m s row place distance × IsSearched x m s distance) → distance < infinity → IsFound x m root (record { queue = q; depths = ds }) row place distance
+found_near x m root s q ds row place distance e f grown near lt = subst (λ q. IsFound x m root (record { queue = q; depths = ds }) row place distance) (sym e) (subst (λ d. IsFound x m root (record { queue = s.queue; depths = d }) row place distance) (sym f) (record { grown = grown; nearest = (near lt).0; searched = (near lt).1 }))
 
 -- raised prices and dual variables fit
 module _ (x : Priced) (m : List Place) (root : ℕ) (t : Tree) (row place distance limit : ℕ) where

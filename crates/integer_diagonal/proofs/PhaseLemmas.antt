@@ -6,22 +6,31 @@ use Rattle.bip_defs.specs.Matrix.{IsEntry, Matrix, cols}
 use Rattle.bip_defs.proofs.Sets.{among_at}
 use Rattle.bip_graph.specs.Matching.{Pairing}
 use Rattle.integer_diagonal.proofs.Augmented.{dual_small}
-use Rattle.integer_diagonal.specs.Amounts.{HasRoom}
+use Rattle.integer_diagonal.specs.Amounts.{HasDistance, HasRoom}
 use Rattle.integer_diagonal.specs.declared.assignment.Assignment.{Assignment}
 use Rattle.integer_diagonal.specs.declared.distances.Distances.{Distances}
 use Rattle.integer_diagonal.specs.Distances.{AreNear}
-use Rattle.integer_diagonal.specs.Duals.{IsAssigned, Priced, dual}
+use Rattle.integer_diagonal.specs.Duals.{IsAssigned, Priced, cost, dual}
+use Rattle.sp_pattern.specs.Weights.{weight_at}
 
 module _ (x : Priced) (m : Pairing) (a : Matrix) (limit : ℕ) where
   room_here : x.weighing.matrix ≡ a → HasRoom (cols a) x.top limit → HasRoom (cols x.weighing.matrix) x.top limit
   room_here same room = subst (λ (z : Matrix). HasRoom (cols z) x.top limit) (sym same) room
 
-  -- what is paid for an entry, and as much beyond a distance
-  pub look_fits : (r weight depth : ℕ) → IsAssigned x m → x.weighing.matrix ≡ a → HasRoom (cols a) x.top limit → depth ≤ x.top → (slice_index x.prices r + (x.top - weight) < limit) × (depth + (slice_index x.prices r + (x.top - weight)) < limit)
-  look_fits r weight depth k same room near =
+  -- an entry leads to a distance
+  pub entry_distance : (r c price weight out depth : ℕ) → IsAssigned x m → x.weighing.matrix ≡ a → HasRoom (cols a) x.top limit → depth ≤ x.top → IsEntry x.weighing.matrix r c → price ≡ slice_index x.prices r → weight ≡ weight_at x.weighing r c → out ≡ dual x c → HasDistance limit x.top price weight out depth
+  entry_distance r c price weight out depth k same room near entry price_is weight_is dual_is =
       let low = k.bounded.prices r in
       let here = room_here same room in
-      (omega (arith, low, here), omega (arith, low, here, near))
+      let small = k.feasible.small r c entry in
+      let covers = k.feasible.covers r c entry in
+      let one : x.top - weight ≤ x.top = omega arith in
+      record {
+        small = omega (arith, weight_is, small);
+        covers = (let paid_is : price + (x.top - weight) ≡ price + cost x.top x.weighing r c = ap (λ z. price + (x.top - z)) weight_is in omega (arith, paid_is, price_is, covers, dual_is));
+        priced = omega (arith, low, price_is, one, here);
+        fits = omega (arith, low, price_is, one, here, near);
+      }
 
   -- higher prices
   pub price_rises : (rise : ℕ) → IsAssigned x m → x.weighing.matrix ≡ a → HasRoom (cols a) x.top limit → rise ≤ x.top → (r : ℕ) → slice_index x.prices r + rise < limit

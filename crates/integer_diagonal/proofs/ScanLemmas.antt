@@ -7,8 +7,8 @@ use Rattle.bip_defs.specs.Matrix.{IsEntry, Matrix, Place, cols, column}
 use Rattle.bip_defs.proofs.Sets.{among_at, number_same, place_among}
 use Rattle.integer_diagonal.proofs.Bounds.{places_add, within_all}
 use Rattle.integer_diagonal.specs.Labels.{AreKnown, IsKnown, Labels}
-use Rattle.integer_diagonal.specs.Duals.{IsBounded, IsFeasible, Priced, cheap, dual, paid}
-use Rattle.integer_diagonal.specs.Amounts.{HasRoom}
+use Rattle.integer_diagonal.specs.Duals.{IsBounded, IsFeasible, Priced, cheap, cost, dual, paid}
+use Rattle.integer_diagonal.specs.Amounts.{HasDistance, HasRoom}
 use Rattle.integer_diagonal.specs.SearchTree.{IsGrown, Reaches, Tree, depth, stop}
 use Rattle.sp_pattern.specs.Weights.{weight_at}
 use Rattle.bip_defs.proofs.Queues.{head_at}
@@ -30,56 +30,52 @@ pub record IsScan (x : Priced) (t : Tree) (place row price weight out dep : ℕ)
   pub out_is : out ≡ dual x (stop t place)
   pub dep_is : dep ≡ depth t place
 
-pub make_scan : (x : Priced) (m : List Place) (root : ℕ) (t : Tree) (place k : ℕ) (rows weights : List ℕ) (q : ℕ × ℕ) (dep out price r row : ℕ) → IsFeasible x → IsGrown x m root t → place < length t.queue → q ≡ get_or t.queue place q → dep ≡ get_or t.depths place dep → out ≡ get_or x.duals q.0 out → rows ≡ column x.weighing.matrix q.0 → k < length rows → r ≡ get_or rows k r → row ≡ r → IsEntry x.weighing.matrix row q.0 → price ≡ get_or x.prices row price → ((j : ℕ) → j < length weights → slice_index weights j ≡ weight_at x.weighing (slice_index (column x.weighing.matrix q.0) j) q.0) → length weights ≡ length (column x.weighing.matrix q.0) → IsScan x t place row price (slice_index weights k) out dep
-make_scan x m root t place k rows weights q dep out price r row f g lt qe de oe rows_are within re same entry pe each long =
+pub make_scan : (x : Priced) (m : List Place) (root : ℕ) (t : Tree) (place k : ℕ) (rows weights : List ℕ) (q : ℕ × ℕ) (dep out price r row : ℕ) → IsFeasible x → IsGrown x m root t → place < length t.queue → q ≡ get_or t.queue place q → dep ≡ get_or t.depths place dep → out ≡ get_or x.duals q.0 out → price ≡ get_or x.prices row price → rows ≡ column x.weighing.matrix q.0 → k < length rows → r ≡ get_or rows k r → row ≡ r → IsEntry x.weighing.matrix row q.0 → ((j : ℕ) → j < length weights → slice_index weights j ≡ weight_at x.weighing (slice_index (column x.weighing.matrix q.0) j) q.0) → length weights ≡ length (column x.weighing.matrix q.0) → IsScan x t place row price (slice_index weights k) out dep
+make_scan x m root t place k rows weights q dep out price r row f g lt qe de oe pe rows_are within re same entry each long =
     let col = place_col x m root t place q g lt qe in
     let read = same ∙ get_or_read rows k r within re 0 ∙ ap (λ (z : List ℕ). get_or z k 0) rows_are in
     let inside : k < length weights = (let l = ap (λ (z : List ℕ). length z) rows_are in omega (arith, within, l, long)) in
     record {
       entry = subst (IsEntry x.weighing.matrix row) col.0 entry;
-      price_is = get_or_read x.prices row price (let l = f.prices_are in let in_rows = entry.0 in omega (arith, l, in_rows)) pe 0;
+      price_is = get_or_read x.prices row price (let l = f.prices_are in let r = entry.0 in omega (arith, l, r)) pe 0;
       weight_is = each k inside ∙ ap (λ z. weight_at x.weighing z q.0) (sym read) ∙ ap (weight_at x.weighing row) col.0;
       out_is = get_or_read x.duals q.0 out (let l = f.duals_are in let c = col.1 in omega (arith, l, c)) oe 0 ∙ ap (dual x) col.0;
       dep_is = get_or_read t.depths place dep (let l = g.long in omega (arith, l, lt)) de 0;
     }
 
-module _ (x : Priced) (t : Tree) (place row price weight out dep : ℕ) where
-  scan_paid : IsScan x t place row price weight out dep → price + (x.top - weight) ≡ paid x row (stop t place)
-  scan_paid s = ap (λ z. z + (x.top - weight)) s.price_is ∙ ap (λ z. slice_index x.prices row + (x.top - z)) s.weight_is
+module _ (x : Priced) (t : Tree) (place row price weight out dep : ℕ) (f : IsFeasible x) (lt : place < length t.queue) (s : IsScan x t place row price weight out dep) where
+  scan_paid : price + (x.top - weight) ≡ paid x row (stop t place)
+  scan_paid = ap (λ z. price + (x.top - z)) s.weight_is ∙ ap (λ z. z + cost x.top x.weighing row (stop t place)) s.price_is
 
-  pub scan_small : IsFeasible x → IsScan x t place row price weight out dep → weight ≤ x.top
-  scan_small f s = let weight_is = s.weight_is in let small = f.small row (stop t place) s.entry in omega (arith, weight_is, small)
-
-  pub scan_covers : IsFeasible x → IsScan x t place row price weight out dep → out ≤ price + (x.top - weight)
-  scan_covers f s =
-      let paid_is = scan_paid s in
+  scan_covers : out ≤ price + (x.top - weight)
+  scan_covers =
+      let paid_is = scan_paid in
       let covers = f.covers row (stop t place) s.entry in
       let out_is = s.out_is in
       omega (arith, paid_is, covers, out_is)
 
-  pub scan_fits_price : (m : List Place) (limit : ℕ) → HasRoom (cols x.weighing.matrix) x.top limit → IsBounded x m → price ≡ slice_index x.prices row → price + (x.top - weight) < limit
-  scan_fits_price m limit room b e =
+  pub scan_distance : (m : List Place) (root limit : ℕ) → HasRoom (cols x.weighing.matrix) x.top limit → IsMatching (cheap x) m → IsBounded x m → IsGrown x m root t → HasDistance limit x.top price weight out dep
+  scan_distance m root limit room k b g =
+      let covers = scan_covers in
       let low = b.prices row in
-      let one : x.top - weight ≤ x.top = omega arith in
-      omega (arith, low, one, e, room)
-
-  pub scan_fits : (m : List Place) (root limit : ℕ) → HasRoom (cols x.weighing.matrix) x.top limit → IsFeasible x → IsMatching (cheap x) m → IsBounded x m → IsGrown x m root t → place < length t.queue → IsScan x t place row price weight out dep → dep + (price + (x.top - weight) - out) < limit
-  scan_fits m root limit room f k b g lt s =
-      let covers = scan_covers f s in
-      let low = b.prices row in
+      let price_is = s.price_is in
       let one : x.top - weight ≤ x.top = omega arith in
       let near = (within_all x m root t k g place lt).near in
-      let price_is = s.price_is in
       let out_is = s.out_is in
       let dep_is = s.dep_is in
       let part = places_add x m root t place g lt in
-      omega (arith, low, one, near, price_is, out_is, dep_is, covers, part, room)
+      record {
+        small = let weight_is = s.weight_is in let small = f.small row (stop t place) s.entry in omega (arith, weight_is, small);
+        covers = covers;
+        priced = omega (arith, low, price_is, one, room);
+        fits = omega (arith, low, price_is, one, near, out_is, dep_is, covers, part, room);
+      }
 
-  pub scan_reaches : IsFeasible x → place < length t.queue → IsScan x t place row price weight out dep → Reaches x t row place (dep + (price + (x.top - weight) - out))
-  scan_reaches f lt s = record {
+  pub scan_reaches : Reaches x t row place (dep + (price + (x.top - weight) - out))
+  scan_reaches = record {
     within = lt;
     entry = s.entry;
-    long = (let covers = scan_covers f s in let paid_is = scan_paid s in let out_is = s.out_is in let dep_is = s.dep_is in omega (arith, covers, paid_is, out_is, dep_is));
+    long = (let covers = scan_covers in let paid_is = scan_paid in let out_is = s.out_is in let dep_is = s.dep_is in omega (arith, covers, paid_is, out_is, dep_is));
   }
 
 -- all entries of one column more

@@ -1,5 +1,5 @@
 -- Amounts, in numbers of 64 or of 128 bits.
-use Rattle.std.specs.Prelude.{◌≡◌, ℕ, ◌+◌, ◌-◌, ◌*◌, ◌<◌, nat_lt, if◌then◌else◌}
+use Rattle.std.specs.Prelude.{◌≡◌, ℕ, ◌+◌, ◌-◌, ◌*◌, ◌<◌, ◌≤◌, nat_lt, if◌then◌else◌}
 use Rattle.std.proofs.Common.{arith}
 use Rattle.std.proofs.lemmas.Bool.Decides.{nat_tests}
 
@@ -24,3 +24,11 @@ number_of_amount n = grind (arith, nat_tests)
 -- where a matrix has so many columns, and no entry weighs more than `top`, the sums of a search are less than the limit
 abbrev pub HasRoom : ℕ → ℕ → ℕ → Type 0
 HasRoom columns top limit = 3 * (columns * top) + 4 * top < limit
+
+-- an entry of this weight, in a row at this price and a column with this dual variable, leads to a distance from this depth: no
+-- sum is too great, and no difference is below nothing
+pub record HasDistance (limit top price weight dual depth : ℕ) : Type 0 where
+  pub small : weight ≤ top
+  pub covers : dual ≤ price + (top - weight)
+  pub priced : price + (top - weight) < limit
+  pub fits : depth + (price + (top - weight) - dual) < limit

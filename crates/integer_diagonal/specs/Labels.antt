@@ -6,7 +6,7 @@ use Rattle.bip_defs.specs.Matrix.{IsEntry, Place}
 use Rattle.integer_diagonal.specs.declared.search.Nearest.{Nearest}
 use Rattle.integer_diagonal.specs.declared.search.Search.{Search}
 use Rattle.integer_diagonal.specs.Duals.{Priced, dual, paid}
-use Rattle.integer_diagonal.specs.SearchTree.{IsNearest, Reaches, Tree, depth, stop}
+use Rattle.integer_diagonal.specs.SearchTree.{IsGrown, IsNearest, Reaches, Tree, depth, stop}
 use Rattle.integer_diagonal.specs.Amounts.{infinity}
 
 pub record Labels : Type 0 where
@@ -121,3 +121,18 @@ pub record IsClear (rows : ℕ) (t : Tree) (l : Labels) : Type 0 where
 pub record AreListed (l : Labels) (rows : List ℕ) : Type 0 where
   pub in_range : (r : ℕ) → Among r rows → r < length l.distances
   pub complete : (r : ℕ) → ¬ Among r rows → (distance_of l r ≡ infinity) × (¬ IsMarked l.settled r)
+
+-- a search, at a level, that has looked at the entries of the first k columns
+pub record IsSearch {W : Type 0} (x : Priced) (m : List Place) (root : ℕ) (t : Tree) (l : Labels)
+    (n : Nearest W) (rows : List ℕ) (level k : ℕ) : Type 0 where
+  pub grown : IsGrown x m root t
+  pub kept : IsKept x m t l level
+  pub best : IsBest x m t n level
+  pub known : AreKnown x t l n.distance k
+  pub listed : AreListed l rows
+
+-- a matched row, in range of the labels
+pub record IsLabelled (m : List Place) (l : Labels) (r : ℕ) : Type 0 where
+  pub parent : r < length l.parents
+  pub mark : r < length l.settled
+  pub matched : Among r (rows_of m)

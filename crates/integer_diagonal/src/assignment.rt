@@ -1,5 +1,8 @@
 //! A matching with its prices.
 
+ghost use Rattle.std.specs.Prelude.{◌≡◌, ◌+◌, ◌-◌, ◌<◌};
+ghost use Rattle.integer_diagonal.specs.Amounts.{HasDistance, infinity};
+
 use crate::amount::Amount;
 use crate::width::Width;
 use bip_graph::Matching;
@@ -13,4 +16,23 @@ pub struct Assignment<W: Width> {
     pub prices: Vec<Amount<W>>,
     pub duals: Vec<Amount<W>>,
     pub matching: Matching,
+}
+
+impl<W: Width> Assignment<W> {
+    /// The distance that an entry of this weight leads to from this depth: farther by its reduced
+    /// cost, which is its row's price and what it costs, less its column's dual variable.
+    pub fn distance(
+        &self,
+        price: Amount<W>,
+        weight: u64,
+        dual: Amount<W>,
+        depth: Amount<W>,
+    ) -> Amount<W>
+        requires { HasDistance W.limit self.now.top price weight dual depth }
+        ensures sum { result ≡ depth + (price + (self.now.top - weight) - dual) }
+        ensures near { result < infinity }
+    {
+        let cost = Amount::of(self.top - weight);
+        depth + (price + cost - dual)
+    }
 }

@@ -71,33 +71,23 @@ impl<W: Width> Distances<W> {
         Ok(distances)
     }
 
-    /// By how much the price of a row rises: by how much nearer than the radius it is, or by its
-    /// distance, where that is from the rows.
-    pub fn rise_of_row(&self, matching: &Matching, row: u32) -> Amount<W>
-        requires row { row < matching.now.rows }
+    /// By how much the price of a row rises, or the dual variable of a column: by how much nearer
+    /// than the radius it is, or by its distance, where that is from the rows.
+    pub fn rise(&self, matching: &Matching, of: Side, vertex: u32) -> Amount<W>
+        requires vertex { vertex < matching.now.rows }
         requires square { matching.now.rows ≡ matching.now.cols }
         requires far { length self.now.of_far.items ≡ matching.now.rows }
         requires fits { self.now.radius < W.limit }
         ensures { result ≤ self.now.radius }
     {
+        let label = if of == self.side {
+            self.label_of_near(matching, vertex)
+        } else {
+            self.label(vertex)
+        };
         match self.side {
-            Side::Columns => self.radius - self.label(row),
-            Side::Rows => self.label_of_near(matching, row),
-        }
-    }
-
-    /// By how much the dual variable of a column rises: by how much nearer than the radius it is,
-    /// or by its distance, where that is from the rows.
-    pub fn rise_of_col(&self, matching: &Matching, col: u32) -> Amount<W>
-        requires col { col < matching.now.cols }
-        requires square { matching.now.rows ≡ matching.now.cols }
-        requires far { length self.now.of_far.items ≡ matching.now.rows }
-        requires fits { self.now.radius < W.limit }
-        ensures { result ≤ self.now.radius }
-    {
-        match self.side {
-            Side::Columns => self.radius - self.label_of_near(matching, col),
-            Side::Rows => self.label(col),
+            Side::Columns => self.radius - label,
+            Side::Rows => label,
         }
     }
 
@@ -228,8 +218,7 @@ impl<W: Width> Distances<W> {
         for k in 0..rows.len() {
             let row = rows[k].number();
             let price = assignment.prices[row as usize];
-            let cost = Amount::of(assignment.top - weights[k]);
-            let distance = depth + (price + cost - dual);
+            let distance = assignment.distance(price, weights[k], dual, depth);
             self.look(row, distance, farthest)?;
         }
         Ok(())
@@ -258,8 +247,7 @@ impl<W: Width> Distances<W> {
         for k in 0..cols.len() {
             let col = cols[k];
             let dual = assignment.duals[col.0 as usize];
-            let cost = Amount::of(assignment.top - weights.weight(row, col));
-            let distance = depth + (price + cost - dual);
+            let distance = assignment.distance(price, weights.weight(row, col), dual, depth);
             self.look(col.0, distance, farthest)?;
         }
         Ok(())

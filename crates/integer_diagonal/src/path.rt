@@ -1,11 +1,11 @@
 //! From a search to the next matching.
 
-ghost use Rattle.std.specs.Prelude.{◌≡◌, ℕ, ◌+◌, ◌^◌, ◌<◌, ◌≤◌, [], vec_capacity, true, false, List, length, set, slice_index, IfOk, OnOk};
+ghost use Rattle.std.specs.Prelude.{◌≡◌, ℕ, ◌+◌, ◌^◌, ◌<◌, ◌≤◌, true, false, List, length, set, slice_index, IfOk, OnOk};
 ghost use Rattle.bip_defs.specs.Lists.{Among, AreDistinct};
 ghost use Rattle.bip_defs.specs.Matching.{Covers, cols_of, rows_of};
 ghost use Rattle.bip_defs.specs.Matrix.{Place, cols};
 ghost use Rattle.bip_defs.specs.Queues.{at, heads};
-ghost use Rattle.integer_diagonal.specs.Labels.{IsClear, labels_of, tree_of};
+ghost use Rattle.integer_diagonal.specs.Mated.{IsReady};
 ghost use Rattle.integer_diagonal.specs.Amounts.{HasRoom};
 ghost use Rattle.integer_diagonal.specs.Duals.{IsAssignment, priced_from};
 ghost use Rattle.bip_defs.specs.Bottleneck.{IsFull};
@@ -17,65 +17,79 @@ use crate::assignment::Assignment;
 use crate::search::Search;
 use crate::width::Width;
 use bip_graph::Queue;
-use sp_ids::{Col, Row};
+use sp_ids::{Col, OutOfMemory, Row};
 use sp_pattern::{Pattern, Weights};
-use std::alloc::AllocError;
+use std::alloc::{AllocError, Global};
 
-/// Gives the column a mate, at prices that are feasible again, so that no row and no column loses
-/// its mate without a new one. Whether there was a path to an unmatched row: where there was none,
-/// the matrix has no full matching.
-///
-/// The path is written over what the list had, which has room for it. Answers `AllocError` where
-/// what the search keeps can't be had. Work: one search, and one step for each column that it came
-/// to.
-pub fn extend<W: Width>(
-    pattern: &Pattern,
-    weights: &Weights,
-    assignment: &mut Assignment<W>,
-    search: &mut Search<W>,
-    path: &mut Vec<(Row, Col)>,
-    root: Col,
-) -> Result<bool, AllocError>
-    requires of { weights.now.matrix ≡ pattern.now }
-    requires assignment { IsAssignment weights.now assignment.old }
-    requires root { root < cols pattern.now }
-    requires free { ¬ Among root (cols_of assignment.old.matching.pairs) }
-    requires few { cols pattern.now < 2 ^ 32 }
-    requires fits { HasRoom (cols pattern.now) assignment.old.top W.limit }
-    requires clear { IsClear pattern.now.rows (tree_of search.old) (labels_of search.old) }
-    requires listed { search.old.reached.items ≡ [] }
-    requires room { cols pattern.now ≤ vec_capacity path.old }
-    ensures room { cols pattern.now ≤ vec_capacity path.new }
-    ensures assignment { OnOk result (IsAssignment weights.now assignment.new) }
-    ensures top { OnOk result (assignment.new.top ≡ assignment.old.top) }
-    ensures covered { OnOk result
-        (Covers assignment.old.matching.pairs assignment.new.matching.pairs) }
-    ensures found { IfOk result
-        (λ b. (b ≡ true → Among root (cols_of assignment.new.matching.pairs)
-        × IsClear pattern.now.rows (tree_of search.new) (labels_of search.new)
-        × (search.new.reached.items ≡ []))) }
-    ensures stuck { IfOk result
-        (λ b. b ≡ false → (other : List Place) → ¬ IsFull pattern.now other) }
-{
-    let nearest = search.find(pattern, weights, assignment, root)?;
-    if nearest.distance == Amount::infinity() {
-        return Ok(false);
+/// A search, and the augmenting path to the row that it found.
+#[derive(Drop)]
+pub struct PathSearch<W: Width> {
+    pub search: Search<W>,
+    pub path: Vec<(Row, Col)>,
+}
+
+impl<W: Width> PathSearch<W> {
+    /// For the columns of this pattern, or `OutOfMemory` where what it keeps can't be had.
+    pub fn new(alloc: Global, pattern: &Pattern) -> Result<PathSearch<W>, OutOfMemory>
+        ensures { IfOk result (IsReady pattern.now) }
+    {
+        Ok(PathSearch {
+            search: Search::new(alloc, pattern.rows())?,
+            path: Vec::with_capacity(alloc, pattern.cols() as usize)?,
+        })
     }
-    let queue = search.queue.as_slice();
-    raise(
-        assignment,
-        queue,
-        search.depths.as_slice(),
-        nearest.distance,
-    );
-    let tree = Queue {
-        matching: &assignment.matching,
-        columns: queue,
-    };
-    tree.path_to(Row(nearest.row), nearest.place, path);
-    assignment.matching.flip(path.as_slice());
-    search.clear();
-    Ok(true)
+
+    /// Gives the column a mate, at prices that are feasible again, so that no row and no column
+    /// loses its mate without a new one. Whether there was a path to an unmatched row: where there
+    /// was none, the matrix has no full matching.
+    ///
+    /// The path is written over what the list had, which has room for it. Answers `AllocError` where
+    /// what the search keeps can't be had. Work: one search, and one step for each column that it
+    /// came to.
+    pub fn extend(
+        &mut self,
+        pattern: &Pattern,
+        weights: &Weights,
+        assignment: &mut Assignment<W>,
+        root: Col,
+    ) -> Result<bool, AllocError>
+        requires of { weights.now.matrix ≡ pattern.now }
+        requires assignment { IsAssignment weights.now assignment.old }
+        requires root { root < cols pattern.now }
+        requires free { ¬ Among root (cols_of assignment.old.matching.pairs) }
+        requires few { cols pattern.now < 2 ^ 32 }
+        requires fits { HasRoom (cols pattern.now) assignment.old.top W.limit }
+        requires ready { IsReady pattern.now self.old }
+        ensures assignment { OnOk result (IsAssignment weights.now assignment.new) }
+        ensures top { OnOk result (assignment.new.top ≡ assignment.old.top) }
+        ensures covered { OnOk result
+            (Covers assignment.old.matching.pairs assignment.new.matching.pairs) }
+        ensures found { IfOk result
+            (λ b. b ≡ true → Among root (cols_of assignment.new.matching.pairs)
+            × IsReady pattern.now self.new) }
+        ensures stuck { IfOk result
+            (λ b. b ≡ false → (other : List Place) → ¬ IsFull pattern.now other) }
+    {
+        let nearest = self.search.find(pattern, weights, assignment, root)?;
+        if !nearest.exists() {
+            return Ok(false);
+        }
+        let queue = self.search.queue.as_slice();
+        raise(
+            assignment,
+            queue,
+            self.search.depths.as_slice(),
+            nearest.distance,
+        );
+        let tree = Queue {
+            matching: &assignment.matching,
+            columns: queue,
+        };
+        tree.path_to(Row(nearest.row), nearest.place, &mut self.path);
+        assignment.matching.flip(self.path.as_slice());
+        self.search.clear();
+        Ok(true)
+    }
 }
 
 // Raises the dual variable of each column that the search has come to, and the price of its mate,

@@ -12,6 +12,7 @@ use crate::fairness::at_prices;
 use crate::side::Side;
 use crate::tight::match_tight;
 use crate::width::Width;
+use bip_graph::Matching;
 use sp_ids::OutOfMemory;
 use sp_pattern::{Pattern, Weights};
 use std::alloc::Global;
@@ -80,52 +81,44 @@ fn phase<W: Width>(
     ensures room { IfOk result (λ a. HasRoom (cols pattern.now) a.top W.limit) }
 {
     let distances = Distances::spread(alloc, pattern, weights, &assignment, side, unmatched)?;
-    let prices = higher_prices(alloc, &assignment, &distances)?;
-    let duals = higher_duals(alloc, &assignment, &distances)?;
+    let matching = &assignment.matching;
+    let prices = higher(
+        alloc,
+        assignment.prices.as_slice(),
+        Side::Rows,
+        matching,
+        &distances,
+    )?;
+    let duals = higher(
+        alloc,
+        assignment.duals.as_slice(),
+        Side::Columns,
+        matching,
+        &distances,
+    )?;
     let assignment = at_prices(alloc, pattern, weights, assignment, prices, duals)?;
     match_tight(alloc, pattern, weights, assignment)
 }
 
-// Each price, and what it rises by.
-fn higher_prices<W: Width>(
+// Each price of a row, or dual variable of a column, and what it rises by.
+fn higher<W: Width>(
     alloc: Global,
-    assignment: &Assignment<W>,
+    amounts: &[Amount<W>],
+    of: Side,
+    matching: &Matching,
     distances: &Distances<W>,
 ) -> Result<Vec<Amount<W>>, OutOfMemory>
-    requires prices { length assignment.now.prices.items ≡ assignment.now.matching.rows }
-    requires square { assignment.now.matching.rows ≡ assignment.now.matching.cols }
-    requires far { length distances.now.of_far.items ≡ assignment.now.matching.rows }
+    requires amounts { length amounts.now ≡ matching.now.rows }
+    requires square { matching.now.rows ≡ matching.now.cols }
+    requires far { length distances.now.of_far.items ≡ matching.now.rows }
     requires radius { distances.now.radius < W.limit }
-    requires fits { (r : ℕ) → slice_index assignment.now.prices.items r + distances.now.radius
-        < W.limit }
-    ensures { IfOk result (λ higher. length higher.items ≡ assignment.now.matching.rows) }
+    requires fits { (k : ℕ) → slice_index amounts.now k + distances.now.radius < W.limit }
+    ensures { IfOk result (λ higher. length higher.items ≡ matching.now.rows) }
 {
-    let mut higher = Vec::with_capacity(alloc, assignment.prices.len())?;
-    for row in 0..assignment.matching.rows() {
-        let rise = distances.rise_of_row(&assignment.matching, row);
-        higher.push(assignment.prices[row as usize] + rise)?;
-    }
-    Ok(higher)
-}
-
-// Each dual variable, and what it rises by.
-fn higher_duals<W: Width>(
-    alloc: Global,
-    assignment: &Assignment<W>,
-    distances: &Distances<W>,
-) -> Result<Vec<Amount<W>>, OutOfMemory>
-    requires duals { length assignment.now.duals.items ≡ assignment.now.matching.cols }
-    requires square { assignment.now.matching.rows ≡ assignment.now.matching.cols }
-    requires far { length distances.now.of_far.items ≡ assignment.now.matching.rows }
-    requires radius { distances.now.radius < W.limit }
-    requires fits { (c : ℕ) → slice_index assignment.now.duals.items c + distances.now.radius
-        < W.limit }
-    ensures { IfOk result (λ higher. length higher.items ≡ assignment.now.matching.cols) }
-{
-    let mut higher = Vec::with_capacity(alloc, assignment.duals.len())?;
-    for col in 0..assignment.matching.cols() {
-        let rise = distances.rise_of_col(&assignment.matching, col);
-        higher.push(assignment.duals[col as usize] + rise)?;
+    let mut higher = Vec::with_capacity(alloc, amounts.len())?;
+    for vertex in 0..matching.rows() {
+        let rise = distances.rise(matching, of, vertex);
+        higher.push(amounts[vertex as usize] + rise)?;
     }
     Ok(higher)
 }

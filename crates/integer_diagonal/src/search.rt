@@ -1,10 +1,11 @@
 //! The search for a nearest unmatched row.
 
+ghost use Rattle.std.specs.Bool.{OnFalse, OnTrue};
 ghost use Rattle.std.specs.Prelude.{◌≡◌, ℕ, ◌+◌, ◌<◌, ◌≤◌, ◌^◌, ◌∷◌, ◌++◌, [], true, length, set, slice_index, IfOk, IfSome, IfNone, OnOk};
 ghost use Rattle.bip_defs.specs.Lists.{Among};
 ghost use Rattle.bip_defs.specs.Matching.{cols_of, rows_of};
 ghost use Rattle.bip_defs.specs.Matrix.{cols};
-ghost use Rattle.integer_diagonal.specs.Labels.{AreBeyond, AreKnown, AreListed, IsBest, IsClear, IsKept, Looks, Puts, Takes, labels_of, tree_of};
+ghost use Rattle.integer_diagonal.specs.Labels.{AreBeyond, AreListed, IsClear, IsLabelled, IsSearch, Looks, Puts, Takes, labels_of, tree_of};
 ghost use Rattle.integer_diagonal.specs.Duals.{IsAssignment, priced};
 ghost use Rattle.integer_diagonal.specs.SearchTree.{IsGrown, IsNearest, IsSearched, IsStuck, depth};
 ghost use Rattle.integer_diagonal.specs.Amounts.{HasRoom, infinity};
@@ -41,6 +42,17 @@ pub struct Nearest<W: Width> {
     pub row: u32,
     pub distance: Amount<W>,
     pub place: u32,
+}
+
+impl<W: Width> Nearest<W> {
+    /// Whether there is one.
+    pub fn exists(&self) -> bool
+        requires { self.now.distance ≤ infinity }
+        ensures yes { OnTrue result (self.now.distance < infinity) }
+        ensures no { OnFalse result (self.now.distance ≡ infinity) }
+    {
+        self.distance < Amount::infinity()
+    }
 }
 
 impl<W: Width> Search<W> {
@@ -171,9 +183,7 @@ impl<W: Width> Search<W> {
         distance: Amount<W>,
     ) -> Result<u32, AllocError>
         requires row { row < matching.now.rows }
-        requires marked { row < length self.old.settled.items }
-        requires parents { row < length self.old.parents.items }
-        requires matched { Among row (rows_of matching.now.pairs) }
+        requires labelled { IsLabelled matching.now.pairs (labels_of self.old) row }
         requires few { length self.old.queue.items < 2 ^ 32 }
         ensures place { IfOk result (λ place. place ≡ length self.old.queue.items) }
         ensures tree { OnOk result
@@ -228,27 +238,18 @@ impl<W: Width> Search<W> {
         requires assignment { IsAssignment weights.now assignment.now }
         requires room { HasRoom (cols pattern.now) assignment.now.top W.limit }
         requires place { place < length self.old.queue.items }
-        requires root { (root : ℕ)
-            × IsGrown (priced weights.now assignment.now) assignment.now.matching.pairs root
-            (tree_of self.old) }
-        requires kept { IsKept (priced weights.now assignment.now) assignment.now.matching.pairs
-            (tree_of self.old) (labels_of self.old) (depth (tree_of self.old) place) }
-        requires best { IsBest (priced weights.now assignment.now) assignment.now.matching.pairs
-            (tree_of self.old) nearest.old (depth (tree_of self.old) place) }
-        requires known { AreKnown (priced weights.now assignment.now) (tree_of self.old)
-            (labels_of self.old) nearest.old.distance place }
-        requires listed { AreListed (labels_of self.old) self.old.reached.items }
+        requires search { (root : ℕ)
+            × IsSearch (priced weights.now assignment.now) assignment.now.matching.pairs root
+            (tree_of self.old) (labels_of self.old) nearest.old self.old.reached.items
+            (depth (tree_of self.old) place) place }
         ensures tree { tree_of self.new ≡ tree_of self.old }
-        ensures kept { OnOk result
-            (IsKept (priced weights.now assignment.now) assignment.now.matching.pairs
-            (tree_of self.new) (labels_of self.new) (depth (tree_of self.new) place)) }
-        ensures best { OnOk result
-            (IsBest (priced weights.now assignment.now) assignment.now.matching.pairs
-            (tree_of self.new) nearest.new (depth (tree_of self.new) place)) }
-        ensures known { OnOk result
-            (AreKnown (priced weights.now assignment.now) (tree_of self.new)
-            (labels_of self.new) nearest.new.distance (place + 1)) }
-        ensures listed { OnOk result (AreListed (labels_of self.new) self.new.reached.items) }
+        ensures search { OnOk result ((root : ℕ)
+            → IsSearch (priced weights.now assignment.now) assignment.now.matching.pairs root
+            (tree_of self.old) (labels_of self.old) nearest.old self.old.reached.items
+            (depth (tree_of self.old) place) place
+            → IsSearch (priced weights.now assignment.now) assignment.now.matching.pairs root
+            (tree_of self.new) (labels_of self.new) nearest.new self.new.reached.items
+            (depth (tree_of self.new) place) (place + 1)) }
     {
         let col = Col(self.queue[place as usize].0);
         let depth = self.depths[place as usize];
@@ -258,8 +259,7 @@ impl<W: Width> Search<W> {
         for k in 0..rows.len() {
             let row = rows[k].number();
             let price = assignment.prices[row as usize];
-            let cost = Amount::of(assignment.top - weights[k]);
-            let distance = depth + (price + cost - dual);
+            let distance = assignment.distance(price, weights[k], dual, depth);
             self.look(&assignment.matching, row, distance, place, nearest)?;
         }
         Ok(())

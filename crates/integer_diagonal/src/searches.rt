@@ -1,6 +1,6 @@
 //! Searches for the columns that have no mates, one after another.
 
-ghost use Rattle.std.specs.Prelude.{◌≡◌, ℕ, ◌+◌, ◌<◌, ◌≤◌, ◌^◌, vec_capacity, List, OnOk};
+ghost use Rattle.std.specs.Prelude.{◌≡◌, ℕ, ◌+◌, ◌<◌, ◌^◌, List, OnOk};
 ghost use Rattle.bip_defs.specs.Bottleneck.{IsFull};
 ghost use Rattle.bip_defs.specs.Lists.{Among};
 ghost use Rattle.bip_defs.specs.Matching.{cols_of};
@@ -10,10 +10,9 @@ ghost use Rattle.integer_diagonal.specs.Duals.{IsAssignment};
 ghost use Rattle.integer_diagonal.specs.Mated.{AreMated};
 
 use crate::assignment::Assignment;
-use crate::path::extend;
-use crate::search::Search;
+use crate::path::PathSearch;
 use crate::width::Width;
-use sp_ids::{Col, OutOfMemory, Row};
+use sp_ids::{Col, OutOfMemory};
 use sp_pattern::{Pattern, Weights};
 use std::alloc::{AllocError, Global};
 
@@ -43,17 +42,9 @@ pub fn match_all<W: Width>(
     if assignment.matching.size() == pattern.cols() {
         return Ok(());
     }
-    let mut search = Search::new(alloc, pattern.rows())?;
-    let mut path: Vec<(Row, Col)> = Vec::with_capacity(alloc, pattern.cols() as usize)?;
+    let mut paths = PathSearch::new(alloc, pattern)?;
     for col in 0..pattern.cols() {
-        match_one(
-            pattern,
-            weights,
-            assignment,
-            &mut search,
-            &mut path,
-            Col(col),
-        )?;
+        match_one(pattern, weights, assignment, &mut paths, Col(col))?;
     }
     Ok(())
 }
@@ -75,21 +66,13 @@ pub fn match_early<W: Width>(
     ensures assignment { OnOk result (IsAssignment weights.now assignment.new) }
     ensures top { OnOk result (assignment.new.top ≡ assignment.old.top) }
 {
-    let mut search = Search::new(alloc, pattern.rows())?;
-    let mut path: Vec<(Row, Col)> = Vec::with_capacity(alloc, pattern.cols() as usize)?;
+    let mut paths = PathSearch::new(alloc, pattern)?;
     for col in 0..pattern.cols() {
-        let few = SHORT.saturating_mul(search.searches);
-        if search.visits > few.saturating_add(pattern.cols() as u64) {
+        let few = SHORT.saturating_mul(paths.search.searches);
+        if paths.search.visits > few.saturating_add(pattern.cols() as u64) {
             return Ok(());
         }
-        match_one(
-            pattern,
-            weights,
-            assignment,
-            &mut search,
-            &mut path,
-            Col(col),
-        )?;
+        match_one(pattern, weights, assignment, &mut paths, Col(col))?;
     }
     Ok(())
 }
@@ -99,8 +82,7 @@ fn match_one<W: Width>(
     pattern: &Pattern,
     weights: &Weights,
     assignment: &mut Assignment<W>,
-    search: &mut Search<W>,
-    path: &mut Vec<(Row, Col)>,
+    paths: &mut PathSearch<W>,
     col: Col,
 ) -> Result<(), AllocError>
     requires of { weights.now.matrix ≡ pattern.now }
@@ -109,15 +91,13 @@ fn match_one<W: Width>(
     requires fits { HasRoom (cols pattern.now) assignment.old.top W.limit }
     requires full { (m : List Place) × IsFull pattern.now m }
     requires col { col < cols pattern.now }
-    requires room { cols pattern.now ≤ vec_capacity path.old }
-    requires mated { AreMated weights.now pattern.now.rows assignment.old search.old col }
-    ensures room { OnOk result (cols pattern.now ≤ vec_capacity path.new) }
+    requires mated { AreMated weights.now pattern.now assignment.old paths.old col }
     ensures mated { OnOk result
-        (AreMated weights.now pattern.now.rows assignment.new search.new (col + 1)) }
+        (AreMated weights.now pattern.now assignment.new paths.new (col + 1)) }
     ensures top { OnOk result (assignment.new.top ≡ assignment.old.top) }
 {
     if assignment.matching.row_of(col).is_none() {
-        let found = extend(pattern, weights, assignment, search, path, col)?;
+        let found = paths.extend(pattern, weights, assignment, col)?;
         if !found {
             unreachable!()
         }

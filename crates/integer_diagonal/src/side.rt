@@ -1,12 +1,12 @@
 //! The two sides that a phase can search from.
 
-ghost use Rattle.std.specs.Prelude.{◌≡◌, ◌<◌, IfSome};
+ghost use Rattle.std.specs.Prelude.{◌≡◌, ◌≢◌, ◌<◌, IfSome};
 
 use bip_graph::Matching;
 use sp_ids::{Col, Row};
 
 /// The columns or the rows of a square matrix.
-#[derive(Clone, Copy)]
+#[derive(Clone, Copy, PartialEq, Eq)]
 pub enum Side {
     Columns,
     Rows,
@@ -14,7 +14,9 @@ pub enum Side {
 
 impl Side {
     /// The other side.
-    pub fn other(self) -> Side {
+    pub fn other(self) -> Side
+        ensures { result ≢ self }
+    {
         match self {
             Side::Columns => Side::Rows,
             Side::Rows => Side::Columns,

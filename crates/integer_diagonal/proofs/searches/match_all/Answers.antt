@@ -9,4 +9,4 @@ returns-then-size-cols-clause-all g c =
     all_assigned (priced c.args.weights.now a) a.matching c.args.pattern.now c.requires.assignment c.requires.of (omega (arith, c.size.ensures.size, c.cols.ensures, c.if-size-cols.true))
 
 pub loop-col-preserved : goal.loop-col-preserved
-loop-col-preserved g c = record { mated = c.in_ok-match_one.ensures.mated; top = c.in_ok-match_one.ensures.top ∙ c.loop-col.invariant.top; room = c.in_ok-match_one.ensures.room }
+loop-col-preserved g c = record { mated = c.in_ok-match_one.ensures.mated; top = c.in_ok-match_one.ensures.top ∙ c.loop-col.invariant.top }

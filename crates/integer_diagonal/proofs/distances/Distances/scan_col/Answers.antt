@@ -2,7 +2,7 @@ use Rattle.std.proofs.Common.{◌<◌, slice_index, sym, ap, subst, arith}
 use Rattle.std.proofs.lemmas.List.{get_or_read}
 use Rattle.bip_defs.specs.Matrix.{Matrix, cols}
 use Rattle.integer_diagonal.proofs.FairnessLemmas.{entry_at}
-use Rattle.integer_diagonal.proofs.PhaseLemmas.{look_fits}
+use Rattle.integer_diagonal.proofs.PhaseLemmas.{entry_distance}
 use Rattle.integer_diagonal.proofs.StartLemmas.{read_at}
 use Rattle.integer_diagonal.specs.Distances.{AreNear}
 use Rattle.integer_diagonal.specs.Duals.{priced}
@@ -27,50 +27,16 @@ index-price-requires g c =
     let look = entry_at x c.args.pattern.now c.args.col c.loop-k.k c.rows_of-rows.result.now c.weights_of-weights.result.now _ c.number-row.result c.requires.of c.rows_of-rows.ensures.rows c.rows_of-rows.ensures.column c.weights_of-weights.ensures.length c.weights_of-weights.ensures.each c.loop-k-test.true c.index-rows-k.is c.number-row.ensures in
     omega (arith, look.0.0, k.feasible.prices_are, c.args.assignment.now.prices.ok.0)
 
-pub overflow_sub-assignment : goal.overflow_sub-assignment
-overflow_sub-assignment g c =
+pub distance-distance-requires : goal.distance-distance-requires
+distance-distance-requires g c =
     let x = priced c.args.weights.now c.args.assignment.now in
     let k = c.requires.assignment in
     let row = c.number-row.result in
-    let look = entry_at x c.args.pattern.now c.args.col c.loop-k.k c.rows_of-rows.result.now c.weights_of-weights.result.now _ c.number-row.result c.requires.of c.rows_of-rows.ensures.rows c.rows_of-rows.ensures.column c.weights_of-weights.ensures.length c.weights_of-weights.ensures.each c.loop-k-test.true c.index-rows-k.is c.number-row.ensures in
-    let small = k.feasible.small row c.args.col look.0 in
-    omega (arith, look.1, small)
-
-pub of-cost-requires : goal.of-cost-requires
-of-cost-requires g c = let room = c.requires.room in omega (arith, room)
-
-pub add-requires : goal.add-requires
-add-requires g c =
-    let x = priced c.args.weights.now c.args.assignment.now in
-    let k = c.requires.assignment in
-    let row = c.number-row.result in
-    let look = entry_at x c.args.pattern.now c.args.col c.loop-k.k c.rows_of-rows.result.now c.weights_of-weights.result.now _ c.number-row.result c.requires.of c.rows_of-rows.ensures.rows c.rows_of-rows.ensures.column c.weights_of-weights.ensures.length c.weights_of-weights.ensures.each c.loop-k-test.true c.index-rows-k.is c.number-row.ensures in
+    let look = entry_at x c.args.pattern.now c.args.col c.loop-k.k c.rows_of-rows.result.now c.weights_of-weights.result.now _ row c.requires.of c.rows_of-rows.ensures.rows c.rows_of-rows.ensures.column c.weights_of-weights.ensures.length c.weights_of-weights.ensures.each c.loop-k-test.true c.index-rows-k.is c.number-row.ensures in
     let price = get_or_read x.prices row c.index-price.result.now (omega (arith, look.0.0, k.feasible.prices_are)) c.index-price.ensures 0 in
-    let fits = look_fits x c.args.assignment.now.matching c.args.pattern.now g.W.Width.limit row (slice_index c.weights_of-weights.result.now c.loop-k.k) c.args.depth k c.requires.of c.requires.room c.requires.depth in
-    omega (arith, fits.0, price, c.of-cost.ensures)
-
-pub sub-requires : goal.sub-requires
-sub-requires g c =
-    let x = priced c.args.weights.now c.args.assignment.now in
-    let k = c.requires.assignment in
-    let row = c.number-row.result in
-    let look = entry_at x c.args.pattern.now c.args.col c.loop-k.k c.rows_of-rows.result.now c.weights_of-weights.result.now _ c.number-row.result c.requires.of c.rows_of-rows.ensures.rows c.rows_of-rows.ensures.column c.weights_of-weights.ensures.length c.weights_of-weights.ensures.each c.loop-k-test.true c.index-rows-k.is c.number-row.ensures in
-    let price = get_or_read x.prices row c.index-price.result.now (omega (arith, look.0.0, k.feasible.prices_are)) c.index-price.ensures 0 in
-    let fits = look_fits x c.args.assignment.now.matching c.args.pattern.now g.W.Width.limit row (slice_index c.weights_of-weights.result.now c.loop-k.k) c.args.depth k c.requires.of c.requires.room c.requires.depth in
     let same = ap cols c.requires.of in
     let dual_is = read_at x.duals c.args.col c.col.inside.0 c.index-dual.result.now c.col.view_is (omega (arith, same, c.requires.col, k.feasible.duals_are)) c.index-dual.ensures in
-    let covers = k.feasible.covers row c.args.col look.0 in
-    (omega (arith, covers, dual_is, price, look.1, c.add.ensures, c.of-cost.ensures), omega (arith, fits.0, price, c.add.ensures, c.of-cost.ensures))
-
-pub add-distance-requires : goal.add-distance-requires
-add-distance-requires g c =
-    let x = priced c.args.weights.now c.args.assignment.now in
-    let k = c.requires.assignment in
-    let row = c.number-row.result in
-    let look = entry_at x c.args.pattern.now c.args.col c.loop-k.k c.rows_of-rows.result.now c.weights_of-weights.result.now _ c.number-row.result c.requires.of c.rows_of-rows.ensures.rows c.rows_of-rows.ensures.column c.weights_of-weights.ensures.length c.weights_of-weights.ensures.each c.loop-k-test.true c.index-rows-k.is c.number-row.ensures in
-    let price = get_or_read x.prices row c.index-price.result.now (omega (arith, look.0.0, k.feasible.prices_are)) c.index-price.ensures 0 in
-    let fits = look_fits x c.args.assignment.now.matching c.args.pattern.now g.W.Width.limit row (slice_index c.weights_of-weights.result.now c.loop-k.k) c.args.depth k c.requires.of c.requires.room c.requires.depth in
-    omega (arith, fits.1, price, c.sub.ensures, c.add.ensures, c.of-cost.ensures)
+    entry_distance x _ _ _ _ _ _ _ _ _ k c.requires.of c.requires.room c.requires.depth look.0 price look.1 dual_is
 
 pub look-requires : goal.look-requires
 look-requires g c =

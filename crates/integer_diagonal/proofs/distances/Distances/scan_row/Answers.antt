@@ -1,7 +1,7 @@
 use Rattle.std.proofs.Common.{sym, ap, subst, arith}
 use Rattle.bip_defs.specs.Matrix.{Matrix, cols}
 use Rattle.bip_defs.proofs.Sets.{entry_col}
-use Rattle.integer_diagonal.proofs.PhaseLemmas.{col_entry, look_fits}
+use Rattle.integer_diagonal.proofs.PhaseLemmas.{col_entry, entry_distance}
 use Rattle.integer_diagonal.proofs.StartLemmas.{read_at}
 use Rattle.integer_diagonal.specs.Distances.{AreNear}
 use Rattle.integer_diagonal.specs.Duals.{priced}
@@ -17,43 +17,17 @@ index-dual-requires g c =
 pub weight-requires : goal.weight-requires
 weight-requires g c = col_entry c.args.pattern.now c.args.weights.now.matrix c.args.row c.cols_of-cols.result.now c.loop-k.k c.index-cols-k.result c.requires.of c.cols_of-cols.ensures.cols c.loop-k-test.true c.index-cols-k.is
 
-pub overflow_sub-assignment : goal.overflow_sub-assignment
-overflow_sub-assignment g c =
-    let small = c.requires.assignment.feasible.small c.args.row c.index-cols-k.result (col_entry c.args.pattern.now c.args.weights.now.matrix c.args.row c.cols_of-cols.result.now c.loop-k.k c.index-cols-k.result c.requires.of c.cols_of-cols.ensures.cols c.loop-k-test.true c.index-cols-k.is) in
-    omega (arith, small, c.weight.ensures)
-
-pub add-requires : goal.add-requires
-add-requires g c =
+pub distance-distance-requires : goal.distance-distance-requires
+distance-distance-requires g c =
     let x = priced c.args.weights.now c.args.assignment.now in
-    let k = c.requires.assignment in
-    let rows = ap (λ (z : Matrix). z.rows) c.requires.of in
-    let price = read_at x.prices c.args.row c.row.inside.0 c.index-price.result.now c.row.view_is (omega (arith, rows, c.requires.row, k.feasible.prices_are)) c.index-price.ensures in
-    let fits = look_fits x c.args.assignment.now.matching c.args.pattern.now g.W.Width.limit c.args.row c.weight.result c.args.depth k c.requires.of c.requires.room c.requires.depth in
-    omega (arith, fits.0, price, c.of-cost.ensures)
-
-pub sub-requires : goal.sub-requires
-sub-requires g c =
-    let x = priced c.args.weights.now c.args.assignment.now in
-    let a = c.args.weights.now.matrix in
     let k = c.requires.assignment in
     let col = c.index-cols-k.result in
     let rows = ap (λ (z : Matrix). z.rows) c.requires.of in
-    let entry = col_entry c.args.pattern.now a c.args.row c.cols_of-cols.result.now c.loop-k.k col c.requires.of c.cols_of-cols.ensures.cols c.loop-k-test.true c.index-cols-k.is in
-    let lt = entry_col a c.args.row col entry in
+    let entry = col_entry c.args.pattern.now c.args.weights.now.matrix c.args.row c.cols_of-cols.result.now c.loop-k.k col c.requires.of c.cols_of-cols.ensures.cols c.loop-k-test.true c.index-cols-k.is in
+    let lt = entry_col c.args.weights.now.matrix c.args.row col entry in
     let price = read_at x.prices c.args.row c.row.inside.0 c.index-price.result.now c.row.view_is (omega (arith, rows, c.requires.row, k.feasible.prices_are)) c.index-price.ensures in
     let dual_is = read_at x.duals col c.col.inside.0 c.index-dual.result.now c.col.view_is (omega (arith, lt, k.feasible.duals_are)) c.index-dual.ensures in
-    let fits = look_fits x c.args.assignment.now.matching c.args.pattern.now g.W.Width.limit c.args.row c.weight.result c.args.depth k c.requires.of c.requires.room c.requires.depth in
-    let covers = k.feasible.covers c.args.row col entry in
-    (omega (arith, covers, dual_is, price, c.weight.ensures, c.add.ensures, c.of-cost.ensures), omega (arith, fits.0, price, c.add.ensures, c.of-cost.ensures))
-
-pub add-distance-requires : goal.add-distance-requires
-add-distance-requires g c =
-    let x = priced c.args.weights.now c.args.assignment.now in
-    let k = c.requires.assignment in
-    let rows = ap (λ (z : Matrix). z.rows) c.requires.of in
-    let price = read_at x.prices c.args.row c.row.inside.0 c.index-price.result.now c.row.view_is (omega (arith, rows, c.requires.row, k.feasible.prices_are)) c.index-price.ensures in
-    let fits = look_fits x c.args.assignment.now.matching c.args.pattern.now g.W.Width.limit c.args.row c.weight.result c.args.depth k c.requires.of c.requires.room c.requires.depth in
-    omega (arith, fits.1, price, c.sub.ensures, c.add.ensures, c.of-cost.ensures)
+    entry_distance x _ _ _ _ _ _ _ _ _ k c.requires.of c.requires.room c.requires.depth entry price c.weight.ensures dual_is
 
 pub look-requires : goal.look-requires
 look-requires g c =
