@@ -12,7 +12,7 @@ ghost use Rattle.level_sharing.specs.Shares.{IsOwn, Share, of_rows};
 
 use arrayvec::ArrayVec;
 use claim_words::{ClaimBoard, Worker};
-use forest_core::{Forest, columns_have_one_root};
+use forest_core::Forest;
 use level_sharing::{
     Candidate, Work, claim_row, finds_leaf, share, shares_cover_a_list, steps_are_progress,
     steps_are_remembered, workers_stay_through,
@@ -228,8 +228,6 @@ impl<'a, 'p> Search<'a, 'p> {
             → KnowsWon self.now.forest.now worker.new col) }
     {
         steps_are_progress();
-        columns_have_one_root();
-        self.forest.is_sound();
         let root = self.forest.root_of(col)?;
         if finds_leaf(self.board, worker, root) {
             return None;

@@ -4,10 +4,12 @@ ghost use Rattle.std.specs.Prelude.{◌≡◌, ◌<◌, length, IfErr, IfOk};
 ghost use Rattle.bip_defs.specs.WordValues.{held};
 ghost use Rattle.claim_words.specs.Seat.{AreAllSeats, HoldsAllSeats, first_seat, gathered};
 ghost use Rattle.claim_words.specs.Settles.{SettlesAll};
+ghost use Rattle.claim_words.specs.WorkerState.{AreAllWorkers, seats_of};
 
 use crate::board::{ClaimBoard, identified, value};
 use crate::seat::ClaimSeat;
-use sp_ids::{Col, Id, Row};
+use crate::worker::{Worker, seats_of_all};
+use sp_ids::{Col, Id, OutOfMemory, Row};
 use std::alloc::Global;
 use std::marker::Model;
 
@@ -77,6 +79,19 @@ impl ClaimBoard {
             words: table.close_with(first.seat),
             rows,
         })
+    }
+
+    /// Closes the board with the seats of all its workers, and says what `close` says. Answers
+    /// `OutOfMemory` where the list of these seats can't be had; board and workers are dropped then.
+    pub fn close_with(self, alloc: Global, workers: Vec<Worker>) -> Result<Closed, OutOfMemory>
+        requires { AreAllWorkers self workers.items }
+        ensures { IfOk result (λ words. SettlesAll self words (seats_of workers.items)) }
+    {
+        let seats = seats_of_all(alloc, workers)?;
+        match self.close(seats) {
+            Ok(closed) => Ok(closed),
+            Err(_back) => Err(OutOfMemory),
+        }
     }
 
     // The seat 0, once it has taken in all others.

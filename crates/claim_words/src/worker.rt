@@ -5,7 +5,7 @@ ghost use Rattle.claim_words.specs.Answers.{col_before, leaf_before};
 ghost use Rattle.claim_words.specs.Board.{Board};
 ghost use Rattle.claim_words.specs.Listed.{root_word, row_word};
 ghost use Rattle.claim_words.specs.Seat.{KnowsRoot, KnowsRow};
-ghost use Rattle.claim_words.specs.WorkerState.{AreAllWorkers, seated, settled, work_after_claim, work_after_look, work_after_win};
+ghost use Rattle.claim_words.specs.WorkerState.{AreAllWorkers, seated, seats_of, settled, work_after_claim, work_after_look, work_after_win};
 ghost use Rattle.sp_ids.specs.Limits.{max_workers};
 
 use crate::answers::{Claimed, Won};
@@ -168,6 +168,20 @@ impl Worker {
         let Some(seat) = seat else { unreachable!() };
         seat
     }
+}
+
+/// The seats of these workers, in their order.
+pub(crate) fn seats_of_all(
+    alloc: Global,
+    workers: Vec<Worker>,
+) -> Result<Vec<ClaimSeat>, OutOfMemory>
+    ensures { IfOk result (λ seats. seats.items ≡ seats_of workers.items) }
+{
+    let mut seats = Vec::with_capacity(alloc, workers.len())?;
+    for worker in workers {
+        seats.push(worker.into_seat())?;
+    }
+    Ok(seats)
 }
 
 /// Workers that have all seats of a board are few: 64 at most.

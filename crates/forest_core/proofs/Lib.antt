@@ -15,3 +15,4 @@ pub mod SettledForests
 pub mod Soundness
 pub mod StoredForests
 pub mod TableLemmas
+pub mod Trees

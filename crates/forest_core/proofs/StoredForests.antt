@@ -46,6 +46,10 @@ pub if_rooted : (s : State) (t : List (Option ℕ)) (r : ℕ) (o : Option ℕ) �
 if_rooted s t r None are e = tt
 if_rooted s t r (Some x) are e = (are r x).0 (sym e)
 
+pub if_rooted_once : (s : State) (t : List (Option ℕ)) (r : ℕ) (o : Option ℕ) → IsSound s → AreRowTrees s t → o ≡ beside t r → IfSome o (λ x. (y : ℕ) → IsRootOfRow s.base s.claims y r → y ≡ x)
+if_rooted_once s t r None k are e = tt
+if_rooted_once s t r (Some x) k are e = λ y up. one_root_of_row s k y x r up ((are r x).0 (sym e))
+
 -- what stands beside a number in a table lies within the table
 pub beside_within : (t : List (Option ℕ)) (k v : ℕ) → beside t k ≡ Some v → k < length t
 beside_within t k v e = ⊎_elim (λ (le : length t ≤ k). absurd (none-some _ (sym (get_or_past t k None le) ∙ e))) (λ lt. lt) (below k (length t))

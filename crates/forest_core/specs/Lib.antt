@@ -2,6 +2,7 @@ pub mod Adopted
 pub mod Current
 pub mod Events
 pub mod Exchanged
+pub mod Growing
 pub mod Inside
 pub mod Kept
 pub mod Made
@@ -10,3 +11,4 @@ pub mod RowClaims
 pub mod Sound
 pub mod Stored
 pub mod Tables
+pub mod Trees

@@ -10,6 +10,7 @@ ghost use Rattle.forest_core.specs.Events.{AreFlipped, AreKept, Becomes, Grows, 
 ghost use Rattle.forest_core.specs.Exchanged.{AreExchanged, all_flipped, flip_events, unflipped};
 ghost use Rattle.forest_core.specs.Sound.{IsSound};
 ghost use Rattle.forest_core.specs.Stored.{IsRootOfClaim};
+ghost use Rattle.forest_core.specs.Trees.{HasTrees};
 ghost use Rattle.bip_defs.specs.Forest.{InForest, IsRootOfRow, IsUsedUp, RootOf, new_forest, roots_of};
 ghost use Rattle.sp_ids.specs.declared.events.Event.TheVariants.{Claim, Win, Flip, Graft, Rebuild, Done};
 
@@ -108,9 +109,11 @@ impl<'p> Forest<'p> {
         &self.base
     }
 
-    /// The claims that stand, in the order in which they were made.
+    /// The claims that stand, in the order in which they were made: of distinct rows, by columns that
+    /// are in the forest.
     pub fn claims(&self) -> &[(Row, Col)]
-        ensures { result.now ≡ self.now.claims }
+        ensures claims { result.now ≡ self.now.claims }
+        ensures trees { HasTrees self.now }
     {
         self.claims.as_slice()
     }
@@ -119,6 +122,7 @@ impl<'p> Forest<'p> {
     pub fn claim_roots(&self) -> &[Col]
         ensures long { length result.now ≡ length self.now.claims }
         ensures roots { (i : ℕ) → i < length self.now.claims → IsRootOfClaim self.now result.now i }
+        ensures trees { HasTrees self.now }
     {
         self.claim_roots.as_slice()
     }
@@ -168,6 +172,7 @@ impl<'p> Forest<'p> {
     pub fn root_of(&self, col: Col) -> Option<Col>
         requires { col < cols self.now.matrix }
         ensures found { IfSome result (λ root. RootOf self.now.base self.now.claims root col) }
+        ensures in_range { IfSome result (λ root. root < cols self.now.matrix) }
         ensures in_forest { IfSome result (λ _. InForest self.now col) }
         ensures none { IfNone result (¬ InForest self.now col) }
     {
@@ -178,10 +183,12 @@ impl<'p> Forest<'p> {
         }
     }
 
-    /// The root of a row's tree, where the row is claimed.
+    /// The root of a row's tree, where the row is claimed. It has no other.
     pub fn root_of_row(&self, row: Row) -> Option<Col>
         requires { row < self.now.matrix.rows }
         ensures found { IfSome result (λ root. IsRootOfRow self.now.base self.now.claims root row) }
+        ensures only { IfSome result (λ root. (x : ℕ) → IsRootOfRow self.now.base self.now.claims x row
+            → x ≡ root) }
         ensures none { IfNone result (¬ Among row (rows_of self.now.claims)) }
     {
         self.claimed.root(row)

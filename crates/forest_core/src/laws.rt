@@ -9,6 +9,7 @@ ghost use Rattle.forest_core.specs.Current.{IsCurrent, OnPath};
 ghost use Rattle.forest_core.specs.Events.{AreClaimsAndWins, Becomes, Grows, IsLegal, LeadsTo, Runs, flips};
 ghost use Rattle.forest_core.specs.Paths.{IsPath};
 ghost use Rattle.forest_core.specs.Sound.{IsSound};
+ghost use Rattle.forest_core.specs.Trees.{HasTrees};
 ghost use Rattle.bip_defs.specs.Forest.{InForest, IsRested, IsRootOfRow, IsSettled, RootOf, State, grown_by, new_forest};
 ghost use Rattle.sp_ids.specs.Events.{claim_events, claims_then_wins, win_events};
 ghost use Rattle.sp_ids.specs.declared.events.Event.{Event};
@@ -63,16 +64,13 @@ pub fn claims_and_wins_grow()
     ensures win { (s t : State) (x r : ℕ) → IsLegal s (Win x r) → Becomes s (Win x r) t
         → Grows s t }
     ensures runs { (s t : State) (es : List Event) → AreClaimsAndWins es → Runs s es t → Grows s t }
+    ensures pairs { (s t : State) (claims wins : List (ℕ × ℕ))
+        → Runs s (claims_then_wins claims wins) t → Grows s t }
 {}
 
-/// Claims are of distinct rows, at most as many as there are rows, each at a place of the matrix
-/// and by a column that is in the forest.
-pub fn claims_are_in_the_forest()
-    ensures rows_differ { (s : State) → IsSound s → AreDistinct (rows_of s.claims) }
-    ensures few { (s : State) → IsSound s → length s.claims ≤ s.matrix.rows }
-    ensures in_range { (s : State) (r c : ℕ) → IsSound s → Among (r, c) s.claims
-        → (r < s.matrix.rows) × (c < cols s.matrix) }
-    ensures inside { (s : State) (r c : ℕ) → IsSound s → Among (r, c) s.claims → InForest s c }
+/// A sound forest has trees: each column in it and each claimed row has one root.
+pub fn sound_forests_have_trees()
+    ensures { (s : State) → IsSound s → HasTrees s }
 {}
 
 /// A root with a leaf is in range, as its leaf is, and has a path. Each row of the path is of the
@@ -84,38 +82,6 @@ pub fn leaves_end_paths()
         → (path : List Place) × IsPath s x path }
     ensures tree { (s : State) (x r : ℕ) → IsSound s → OnPath s.base s.claims s.leaves x r
         → IsRootOfRow s.base s.claims x r }
-{}
-
-/// A column in the forest has a root, and one only: a column of the matrix that is unmatched in the
-/// base. No other column has one.
-pub fn columns_have_one_root()
-    ensures some { (s : State) (c : ℕ) → IsSound s → InForest s c
-        → (x : ℕ) × RootOf s.base s.claims x c }
-    ensures one { (s : State) (x y c : ℕ) → IsSound s → RootOf s.base s.claims x c
-        → RootOf s.base s.claims y c → x ≡ y }
-    ensures in_range { (s : State) (x c : ℕ) → IsSound s → RootOf s.base s.claims x c
-        → c < cols s.matrix → x < cols s.matrix }
-    ensures unmatched { (s : State) (x c : ℕ) → RootOf s.base s.claims x c
-        → ¬ Among x (cols_of s.base) }
-    ensures inside { (s : State) (x c : ℕ) → RootOf s.base s.claims x c → c < cols s.matrix
-        → InForest s c }
-{}
-
-/// A claimed row has a root, and one only, which is in range: that of the column that claimed it,
-/// and of its base mate. The base mate of a column in the forest is claimed.
-pub fn rows_have_one_root()
-    ensures some { (s : State) (r : ℕ) → IsSound s → Among r (rows_of s.claims)
-        → (x : ℕ) × IsRootOfRow s.base s.claims x r }
-    ensures one { (s : State) (x y r : ℕ) → IsSound s → IsRootOfRow s.base s.claims x r
-        → IsRootOfRow s.base s.claims y r → x ≡ y }
-    ensures in_range { (s : State) (x r : ℕ) → IsSound s → IsRootOfRow s.base s.claims x r
-        → (x < cols s.matrix) × (r < s.matrix.rows) }
-    ensures claimer { (s : State) (x r c : ℕ) → IsSound s → IsRootOfRow s.base s.claims x r
-        → Among (r, c) s.claims → RootOf s.base s.claims x c }
-    ensures mate { (s : State) (x r c : ℕ) → IsSound s → RootOf s.base s.claims x c
-        → Among (r, c) s.base → IsRootOfRow s.base s.claims x r }
-    ensures claimed { (s : State) (r c : ℕ) → IsSound s → Among (r, c) s.base → InForest s c
-        → Among r (rows_of s.claims) }
 {}
 
 /// A sound forest has one current matching, up to the order of its pairs: it is a matching of

@@ -3,7 +3,9 @@ use Rattle.std.proofs.Common.{◌≡◌, ◌∙◌, ℕ, ◌+◌, ◌<◌, List,
 use Rattle.std.proofs.lemmas.Grind.{drop_more_same, flat_map-append}
 use Rattle.std.proofs.lemmas.List.{drop-set-lt, drop_more, map-append, take-append-drop, take_more, take_more_set}
 use Rattle.bip_defs.specs.Forest.{State, grown_by}
-use Rattle.forest_core.specs.Events.{Becomes, IsLegal, Runs}
+use Rattle.claim_words.specs.WorkerState.{WorkerState, fresh_claims_of, fresh_wins_of}
+use Rattle.forest_core.specs.Events.{Becomes, Grows, IsLegal, Runs}
+use Rattle.level_sharing.specs.Growth.{fresh_events, grown}
 use Rattle.sp_ids.specs.Events.{claim_events, claims_then_wins, win_events}
 use Rattle.sp_ids.specs.declared.events.Event.{Event}
 use Rattle.sp_ids.specs.declared.events.Event.TheVariants.{Claim, Win}
@@ -112,3 +114,7 @@ module _ {X : Type 0} (change : X → X) where
         rest = drop-set-lt (i + 1) now i y (omega arith) ∙ drop_more_same now was i changed.rest;
         long = length-set now i y ∙ changed.long;
       }
+
+-- the workers' fresh lists let the forest grow
+pub level_grows : (s t : State) (ws : List WorkerState) → ((u v : State) (claims wins : List (ℕ × ℕ)) → Runs u (claims_then_wins claims wins) v → Grows u v) → Runs s (fresh_events ws) (grown s ws) → t ≡ grown s ws → Grows s t
+level_grows s t ws grow runs made = subst (Grows s) (sym made) (grow s (grown s ws) (fresh_claims_of ws) (fresh_wins_of ws) runs)

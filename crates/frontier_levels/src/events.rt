@@ -3,32 +3,36 @@
 ghost use Rattle.std.specs.Prelude.{◌≡◌, ◌++◌, map};
 ghost use Rattle.claim_words.specs.Board.{Board};
 ghost use Rattle.claim_words.specs.WorkerState.{fresh_claims_of, fresh_wins_of, settled};
-ghost use Rattle.forest_core.specs.Events.{Runs};
+ghost use Rattle.forest_core.specs.Events.{Grows, Runs};
+ghost use Rattle.forest_core.specs.Growing.{GrowsOn};
 ghost use Rattle.level_sharing.specs.Agreement.{Agree, ListThese, Shows};
 ghost use Rattle.level_sharing.specs.Growth.{fresh_events, grown};
 ghost use Rattle.sp_ids.specs.Events.{claim_events, win_events};
 
 use claim_words::Worker;
-use forest_core::Forest;
+use forest_core::{Forest, claims_and_wins_grow};
 use level_sharing::settled_workers_agree;
 use sp_ids::{Col, Row};
 
 /// Makes the workers' fresh claims on the forest, in the order of workers, and then their fresh
-/// wins, and settles the workers. Where board and workers listed the claims and the leaves that this
-/// leaves, as they do after a level, and after claims and wins of one's own too, they agree with the
-/// forest.
+/// wins, by which it grows, and settles the workers. Where board and workers listed the claims and
+/// the leaves that this leaves, as they do after a level, and after claims and wins of one's own
+/// too, they agree with the forest.
 ///
 /// Takes no memory. Work: constant for each fresh claim and win.
 pub fn absorb(forest: &mut Forest, workers: &mut [Worker])
     requires { Runs forest.old (fresh_events workers.old) (grown forest.old workers.old) }
     ensures forest { forest.new ≡ grown forest.old workers.old }
     ensures workers { workers.new ≡ map settled workers.old }
+    ensures grown { Grows forest.old forest.new }
+    ensures on { GrowsOn forest.old forest.new }
     ensures agree { (b : Board) → Shows b workers.old forest.new.claims forest.new.leaves
         → Agree b workers.new forest.new.claims forest.new.leaves }
     ensures listed { (b : Board) → ListThese b workers.old forest.new.claims forest.new.leaves
         → Agree b workers.new forest.new.claims forest.new.leaves }
 {
     settled_workers_agree();
+    claims_and_wins_grow();
     make_claims(forest, workers);
     make_wins(forest, workers);
     settle(workers);

@@ -8,7 +8,7 @@ ghost use Rattle.tree_augment.specs.ForestBoards.{IsBoardOf};
 ghost use Rattle.tree_augment.specs.Rounds.{HasExchanged};
 
 use flip_words::{FlipBoard, FlipSeat};
-use forest_core::{Forest, claims_are_in_the_forest, leaves_end_paths};
+use forest_core::{Forest, leaves_end_paths, sound_forests_have_trees};
 use sp_ids::{Col, Row};
 
 /// Exchanges the path of a root on the board, from its leaf up, for a seat that took the root's
@@ -22,7 +22,7 @@ pub fn exchange(forest: &Forest, board: &FlipBoard, seat: &mut FlipSeat, root: C
     ensures { HasExchanged forest.now board.now root seat.old seat.new }
 {
     forest.is_sound();
-    claims_are_in_the_forest();
+    sound_forests_have_trees();
     leaves_end_paths();
     let mut row = leaf;
     loop {

@@ -11,6 +11,7 @@ use Rattle.bip_defs.proofs.Full.{few_below}
 use Rattle.bip_defs.proofs.Sets.{among_either, among_last, among_left, among_right, beside, beside_lists, col_among, col_pair, distinct_last, entry_col, few_distinct, number_among, one_col, one_row, row_pair, upto_length, upto_lists}
 use Rattle.bip_defs.proofs.Triangular.{lists_once}
 use Rattle.forest_core.specs.Sound.{IsSound}
+use Rattle.forest_core.specs.Trees.{HasTrees}
 use Rattle.tree_graft.specs.Counts.{IsCountOf, IsFreed, IsKept}
 use Rattle.tree_graft.specs.Search.{IsUnclaimed}
 use Rattle.tree_graft.proofs.SearchLemmas.{row_apart, row_last, rows_had, rows_more}
@@ -60,31 +61,13 @@ count_beside n xs d below = (beside n xs, rest, omega (arith, whole))
         (count_both (λ x. Among x xs) (λ x. (x < n) × (¬ Among x xs)) (λ x. x < n) (length xs) (length (beside n xs)) (λ x h k. k.1 h) below (λ x h. h.0)
         (λ x lt. ⊎_elim (λ (h : Among x xs). inl h) (λ (out : ¬ Among x xs). inr (lt, out)) (number_among x xs)) listed (beside n xs, rest, refl))
 
--- What is known of claims and roots.
+-- Claimed rows.
 
-pub record TreeLaws (s : State) : Type 0 where
-  pub rows_differ : AreDistinct (rows_of s.claims)
-  pub claimed : (r d : ℕ) → Among (r, d) s.claims → (r < s.matrix.rows) × (d < cols s.matrix)
-  pub one_root : (x y c : ℕ) → RootOf s.base s.claims x c → RootOf s.base s.claims y c → x ≡ y
-  pub root_within : (x c : ℕ) → RootOf s.base s.claims x c → c < cols s.matrix → x < cols s.matrix
-  pub mate : (x r c : ℕ) → RootOf s.base s.claims x c → Among (r, c) s.base → IsRootOfRow s.base s.claims x r
+claimed_within : (s : State) → HasTrees s → (r : ℕ) → Among r (rows_of s.claims) → r < s.matrix.rows
+claimed_within s trees r h = let (d, i) = row_pair r s.claims h in (trees.claim_in_range r d i).0
 
-pub tree_laws : (s : State) → IsSound s → ((t : State) → IsSound t → AreDistinct (rows_of t.claims)) → ((t : State) (r d : ℕ) → IsSound t → Among (r, d) t.claims → (r < t.matrix.rows) × (d < cols t.matrix))
-    → ((t : State) (x y c : ℕ) → IsSound t → RootOf t.base t.claims x c → RootOf t.base t.claims y c → x ≡ y) → ((t : State) (x c : ℕ) → IsSound t → RootOf t.base t.claims x c → c < cols t.matrix → x < cols t.matrix)
-    → ((t : State) (x r c : ℕ) → IsSound t → RootOf t.base t.claims x c → Among (r, c) t.base → IsRootOfRow t.base t.claims x r) → TreeLaws s
-tree_laws s k differ claimed one within mate = record {
-  rows_differ = differ s k;
-  claimed = λ r d. claimed s r d k;
-  one_root = λ x y c. one s x y c k;
-  root_within = λ x c. within s x c k;
-  mate = λ x r c. mate s x r c k;
-}
-
-claimed_within : (s : State) → ((r d : ℕ) → Among (r, d) s.claims → (r < s.matrix.rows) × (d < cols s.matrix)) → (r : ℕ) → Among r (rows_of s.claims) → r < s.matrix.rows
-claimed_within s claimed r h = let (d, i) = row_pair r s.claims h in (claimed r d i).0
-
-pub count_unclaimed : (s : State) → AreDistinct (rows_of s.claims) → ((r d : ℕ) → Among (r, d) s.claims → (r < s.matrix.rows) × (d < cols s.matrix)) → IsCountOf (IsUnclaimed s) (s.matrix.rows - length s.claims)
-count_unclaimed s differ claimed = subst (λ n. IsCountOf (IsUnclaimed s) (s.matrix.rows - n)) (length-map s.claims (λ (p : Place). p.0)) (count_beside s.matrix.rows (rows_of s.claims) differ (claimed_within s claimed))
+pub count_unclaimed : (s : State) → HasTrees s → IsCountOf (IsUnclaimed s) (s.matrix.rows - length s.claims)
+count_unclaimed s trees = subst (λ n. IsCountOf (IsUnclaimed s) (s.matrix.rows - n)) (length-map s.claims (λ (p : Place). p.0)) (count_beside s.matrix.rows (rows_of s.claims) trees.rows_differ (claimed_within s trees))
 
 -- Freed rows, claim by claim.
 
@@ -154,14 +137,14 @@ abbrev IsStaying : State → ℕ → Type 0
 IsStaying s r = Among r (rows_of s.claims) × (¬ IsWon s r)
 
 -- the claimed rows that are not freed
-count_staying : (s : State) (freed : ℕ) → TreeLaws s → IsCountOf (IsFreed s) freed → IsCountOf (IsStaying s) (length s.claims - freed)
-count_staying s freed laws (fs, f, l) = by (count_beside s.matrix.rows (beside s.matrix.rows (rows_of s.claims) ++ fs) differ below)
+count_staying : (s : State) (freed : ℕ) → HasTrees s → IsCountOf (IsFreed s) freed → IsCountOf (IsStaying s) (length s.claims - freed)
+count_staying s freed trees (fs, f, l) = by (count_beside s.matrix.rows (beside s.matrix.rows (rows_of s.claims) ++ fs) differ below)
   where
     un : ListsOnce (λ r. (r < s.matrix.rows) × (¬ Among r (rows_of s.claims))) (beside s.matrix.rows (rows_of s.claims))
     un = lists_once (λ r. (r < s.matrix.rows) × (¬ Among r (rows_of s.claims))) (beside s.matrix.rows (rows_of s.claims)) (beside_lists s.matrix.rows (rows_of s.claims))
 
     within : (r : ℕ) → Among r (rows_of s.claims) → r < s.matrix.rows
-    within = claimed_within s laws.claimed
+    within = claimed_within s trees
 
     differ : AreDistinct (beside s.matrix.rows (rows_of s.claims) ++ fs)
     differ = distinct_append (beside s.matrix.rows (rows_of s.claims)) fs un.distinct f.distinct (λ r h i. (un.sound r h).1 (f.sound r i).0)
@@ -183,8 +166,8 @@ count_staying s freed laws (fs, f, l) = by (count_beside s.matrix.rows (beside s
       xs,
       record { distinct = g.distinct; sound = λ r h. to r (g.sound r h); complete = λ r h. g.complete r (back r h) },
       (let long = length-append (beside s.matrix.rows (rows_of s.claims)) fs in
-          let rest = one_count (λ r. (r < s.matrix.rows) × (¬ Among r (rows_of s.claims))) (length (beside s.matrix.rows (rows_of s.claims))) (s.matrix.rows - length (rows_of s.claims)) (beside s.matrix.rows (rows_of s.claims), un, refl) (count_beside s.matrix.rows (rows_of s.claims) laws.rows_differ within) in
-          let few = few_below s.matrix.rows (rows_of s.claims) laws.rows_differ within in
+          let rest = one_count (λ r. (r < s.matrix.rows) × (¬ Among r (rows_of s.claims))) (length (beside s.matrix.rows (rows_of s.claims))) (s.matrix.rows - length (rows_of s.claims)) (beside s.matrix.rows (rows_of s.claims), un, refl) (count_beside s.matrix.rows (rows_of s.claims) trees.rows_differ within) in
+          let few = few_below s.matrix.rows (rows_of s.claims) trees.rows_differ within in
           let many = length-map s.claims (λ (p : Place). p.0) in
           omega (arith, k, long, rest, l, few, many)),
     )
@@ -196,20 +179,20 @@ IsBareRoot s c = (c < cols s.matrix) × (¬ Among c (cols_of s.base ++ roots_of 
 pub ends_differ : (s : State) → IsSound s → AreDistinct (cols_of s.base ++ roots_of s.leaves)
 ends_differ s k = distinct_append (cols_of s.base) (roots_of s.leaves) k.base.cols_differ k.roots_differ (λ x h l. let (r, i) = row_pair x s.leaves l in (k.leaves x r i).root_unmatched h)
 
-pub ends_within : (s : State) → IsSound s → TreeLaws s → (x : ℕ) → Among x (cols_of s.base ++ roots_of s.leaves) → x < cols s.matrix
-ends_within s k laws x h = ⊎_elim
-    (λ m. let (r, i) = col_pair x s.base m in entry_col s.matrix r x (k.base.entries r x i))
-    (λ l. let (r, i) = row_pair x s.leaves l in let (d, g, w) = (k.leaves x r i).in_tree in laws.root_within x d w (laws.claimed r d g).1)
+pub ends_within : (s : State) → HasTrees s → (x : ℕ) → Among x (cols_of s.base ++ roots_of s.leaves) → x < cols s.matrix
+ends_within s trees x h = ⊎_elim
+    (λ m. let (r, i) = col_pair x s.base m in entry_col s.matrix r x (trees.sound.base.entries r x i))
+    (λ l. let (r, i) = row_pair x s.leaves l in let (d, g, w) = (trees.sound.leaves x r i).in_tree in trees.root_in_range x d w (trees.claim_in_range r d g).1)
     (among_either x (cols_of s.base) (roots_of s.leaves) h)
 
 -- the base's columns and the roots with a leaf are at most as many as there are columns
-pub ends_few : (s : State) → IsSound s → TreeLaws s → length s.base + length s.leaves ≤ cols s.matrix
-ends_few s k laws =
-    let few = few_below (cols s.matrix) (cols_of s.base ++ roots_of s.leaves) (ends_differ s k) (ends_within s k laws) in
+pub ends_few : (s : State) → HasTrees s → length s.base + length s.leaves ≤ cols s.matrix
+ends_few s trees =
+    let few = few_below (cols s.matrix) (cols_of s.base ++ roots_of s.leaves) (ends_differ s trees.sound) (ends_within s trees) in
     omega (arith, few, length-append (cols_of s.base) (roots_of s.leaves), length-map s.base (λ (p : Place). p.1), length-map s.leaves (λ (q : ℕ × ℕ). q.0))
 
-count_bare : (s : State) → IsSound s → TreeLaws s → IsCountOf (IsBareRoot s) (cols s.matrix - length s.base - length s.leaves)
-count_bare s k laws = subst (IsCountOf (IsBareRoot s)) same (count_beside (cols s.matrix) (cols_of s.base ++ roots_of s.leaves) (ends_differ s k) (ends_within s k laws))
+count_bare : (s : State) → HasTrees s → IsCountOf (IsBareRoot s) (cols s.matrix - length s.base - length s.leaves)
+count_bare s trees = subst (IsCountOf (IsBareRoot s)) same (count_beside (cols s.matrix) (cols_of s.base ++ roots_of s.leaves) (ends_differ s trees.sound) (ends_within s trees))
   where
     same : cols s.matrix - length (cols_of s.base ++ roots_of s.leaves) ≡ cols s.matrix - length s.base - length s.leaves
     same = omega (arith, length-append (cols_of s.base) (roots_of s.leaves), length-map s.base (λ (p : Place). p.1), length-map s.leaves (λ (q : ℕ × ℕ). q.0))
@@ -238,8 +221,8 @@ count_mates s n k settled (rs, f, l) = by (their_mates s.base k.base.cols_differ
         one_col_of : (r d c : ℕ) → Among (r, d) s.base → Among (r, c) s.base → d ≡ c
         one_col_of r d c = one_col s.base k.base.rows_differ r d c
 
-pub count_kept : (s : State) (freed : ℕ) → IsSound s → IsSettled s → TreeLaws s → IsCountOf (IsFreed s) freed → IsCountOf (IsKept s) ((cols s.matrix - length s.base - length s.leaves) + (length s.claims - freed))
-count_kept s freed k settled laws c = count_both (IsBareRoot s) (IsStayingMate s) (IsKept s) (cols s.matrix - length s.base - length s.leaves) (length s.claims - freed) apart bare mate each (count_bare s k laws) (count_mates s (length s.claims - freed) k settled (count_staying s freed laws c))
+pub count_kept : (s : State) (freed : ℕ) → HasTrees s → IsSettled s → IsCountOf (IsFreed s) freed → IsCountOf (IsKept s) ((cols s.matrix - length s.base - length s.leaves) + (length s.claims - freed))
+count_kept s freed trees settled c = count_both (IsBareRoot s) (IsStayingMate s) (IsKept s) (cols s.matrix - length s.base - length s.leaves) (length s.claims - freed) apart bare mate each (count_bare s trees) (count_mates s (length s.claims - freed) trees.sound settled (count_staying s freed trees c))
   where
     apart : (d : ℕ) → IsBareRoot s d → ¬ IsStayingMate s d
     apart d (lt, out) (r, i, stays) = out (among_left d (cols_of s.base) (roots_of s.leaves) (col_among r d s.base i))
@@ -247,10 +230,10 @@ count_kept s freed k settled laws c = count_both (IsBareRoot s) (IsStayingMate s
     bare : (d : ℕ) → IsBareRoot s d → IsKept s d
     bare d (lt, out) =
         let free : ¬ Among d (cols_of s.base) = λ h. out (among_left d (cols_of s.base) (roots_of s.leaves) h) in
-        ((lt, inl free), λ (x, up, l). out (among_right d (cols_of s.base) (roots_of s.leaves) (subst (λ z. Among z (roots_of s.leaves)) (laws.one_root x d d up (itself free)) l)))
+        ((lt, inl free), λ (x, up, l). out (among_right d (cols_of s.base) (roots_of s.leaves) (subst (λ z. Among z (roots_of s.leaves)) (trees.one_root x d d up (itself free)) l)))
 
     mate : (d : ℕ) → IsStayingMate s d → IsKept s d
-    mate d (r, i, (h, none)) = ((entry_col s.matrix r d (k.base.entries r d i), inr (r, i, h)), λ (x, up, l). none (x, laws.mate x r d up i, l))
+    mate d (r, i, (h, none)) = ((entry_col s.matrix r d (trees.sound.base.entries r d i), inr (r, i, h)), λ (x, up, l). none (x, trees.mate_root x r d up i, l))
 
     each : (d : ℕ) → IsKept s d → IsBareRoot s d ⊎ IsStayingMate s d
     each d ((lt, inl free), none) = inl (lt, λ h. ⊎_elim (λ m. free m) (λ l. none (d, itself free, l)) (among_either d (cols_of s.base) (roots_of s.leaves) h))

@@ -9,6 +9,7 @@ use Rattle.bip_defs.proofs.Full.{few_below}
 use Rattle.bip_defs.proofs.Sets.{among_either, among_last, among_left, among_right, distinct_last, entry_col, number_among, one_col, one_row, rising_distinct}
 use Rattle.bip_defs.specs.Forest.{HasWon, InForest, IsRootOfRow, IsWon, RootOf, State, above, roots_of}
 use Rattle.forest_core.specs.Events.{Grows}
+use Rattle.forest_core.specs.Trees.{HasTrees}
 use Rattle.tree_graft.specs.Search.{AreMatesOf, IsFrontier, IsGoneThrough, IsScanned, levels_left}
 use Rattle.tree_graft.proofs.SearchLemmas.{row_last, rows_had, rows_more}
 
@@ -33,23 +34,16 @@ unmatched_are_frontier s f none few k = record {
 
 -- A level: every column that was in the forest is scanned.
 
--- a column in the forest has a root, and one only
-abbrev pub HaveRoots : State → Type 0
-HaveRoots s = (c : ℕ) → InForest s c → (x : ℕ) × RootOf s.base s.claims x c
-
-abbrev pub HaveOneRoot : State → Type 0
-HaveOneRoot s = (x y c : ℕ) → RootOf s.base s.claims x c → RootOf s.base s.claims y c → x ≡ y
-
 -- a column is scanned where each of its rows is claimed or its root has a leaf
-won_or_used_up : (t : State) → HaveOneRoot t → (x c : ℕ) → RootOf t.base t.claims x c → ((r : ℕ) → IsEntry t.matrix r c → Among r (rows_of t.claims) ⊎ HasWon t c) → IsScanned t c
-won_or_used_up t one x c w rows = ⊎_elim (λ l. inl (x, w, l)) (λ none. inr (λ r e. ⊎_elim (λ h. h) (λ (y, v, l). absurd (none (subst (λ z. Among z (roots_of t.leaves)) (one y x c v w) l))) (rows r e))) (number_among x (roots_of t.leaves))
+won_or_used_up : (t : State) → HasTrees t → (x c : ℕ) → RootOf t.base t.claims x c → ((r : ℕ) → IsEntry t.matrix r c → Among r (rows_of t.claims) ⊎ HasWon t c) → IsScanned t c
+won_or_used_up t trees x c w rows = ⊎_elim (λ l. inl (x, w, l)) (λ none. inr (λ r e. ⊎_elim (λ h. h) (λ (y, v, l). absurd (none (subst (λ z. Among z (roots_of t.leaves)) (trees.one_root y x c v w) l))) (rows r e))) (number_among x (roots_of t.leaves))
 
-pub scanned_after : (s t : State) → HaveRoots t → HaveOneRoot t → Grows s t → (c : ℕ) → InForest s c → IsGoneThrough s t c → IsScanned t c
-scanned_after s t some one g c i (inl before) = scanned_more s t g c before
-scanned_after s t some one g c i (inr (inl now)) = now
-scanned_after s t some one g c i (inr (inr rows)) =
-    let (x, w) = some c (g.inside c i) in
-    won_or_used_up t one x c w (λ r e. rows r (subst (λ (a : Matrix). IsEntry a r c) g.matrix e))
+pub scanned_after : (s t : State) → HasTrees t → Grows s t → (c : ℕ) → InForest s c → IsGoneThrough s t c → IsScanned t c
+scanned_after s t trees g c i (inl before) = scanned_more s t g c before
+scanned_after s t trees g c i (inr (inl now)) = now
+scanned_after s t trees g c i (inr (inr rows)) =
+    let (x, w) = trees.root c (g.inside c i) in
+    won_or_used_up t trees x c w (λ r e. rows r (subst (λ (a : Matrix). IsEntry a r c) g.matrix e))
 
 -- The next frontier.
 
@@ -60,17 +54,17 @@ pub last_claimed : (s t : State) (last : List Place) → t.claims ≡ s.claims +
 last_claimed s t last e r h = subst (Among r) (sym (ap rows_of e ∙ map-append (λ (p : Place). p.0) s.claims last)) (among_right r (rows_of s.claims) (rows_of last) h)
 
 -- a claimed row's root has a leaf, or has none
-pub won_or_not : (s : State) → ((r : ℕ) → Among r (rows_of s.claims) → (x : ℕ) × IsRootOfRow s.base s.claims x r) → ((x y r : ℕ) → IsRootOfRow s.base s.claims x r → IsRootOfRow s.base s.claims y r → x ≡ y) → (r : ℕ) → Among r (rows_of s.claims) → IsWon s r ⊎ (¬ IsWon s r)
-won_or_not s some one r h = let (x, up) = some r h in ⊎_elim
+won_or_not : (s : State) → HasTrees s → (r : ℕ) → Among r (rows_of s.claims) → IsWon s r ⊎ (¬ IsWon s r)
+won_or_not s trees r h = let (x, up) = trees.row_root r h in ⊎_elim
     (λ (l : Among x (roots_of s.leaves)). inl (x, up, l))
-    (λ (none : ¬ Among x (roots_of s.leaves)). inr (λ (y, v, l). none (subst (λ z. Among z (roots_of s.leaves)) (one y x r v up) l)))
+    (λ (none : ¬ Among x (roots_of s.leaves)). inr (λ (y, v, l). none (subst (λ z. Among z (roots_of s.leaves)) (trees.one_row_root y x r v up) l)))
     (number_among x (roots_of s.leaves))
 
-pub next_is_frontier : (s t : State) (last : List Place) (f : List ℕ) → IsMatching t.matrix t.base → ((r : ℕ) → Among r (rows_of t.claims) → IsWon t r ⊎ (¬ IsWon t r)) → Grows s t → t.claims ≡ s.claims ++ last → length t.claims < 2 ^ 32 → ((c : ℕ) → InForest s c → IsScanned t c) → AreMatesOf t last f → IsFrontier t f
-next_is_frontier s t last f k won g e few scanned are = record {
+pub next_is_frontier : (s t : State) (last : List Place) (f : List ℕ) → HasTrees t → Grows s t → t.claims ≡ s.claims ++ last → length t.claims < 2 ^ 32 → ((c : ℕ) → InForest s c → IsScanned t c) → AreMatesOf t last f → IsFrontier t f
+next_is_frontier s t last f trees g e few scanned are = record {
   few = let short = are.few in let long = ap (λ (ps : List Place). length ps) e ∙ length-append s.claims last in omega (arith, few, short, long);
   once = are.mates.distinct;
-  inside = λ c h. let (r, l, m, _) = are.mates.sound c h in (entry_col t.matrix r c (k.entries r c m), inr (r, m, last_claimed s t last e r l));
+  inside = λ c h. let (r, l, m, _) = are.mates.sound c h in (entry_col t.matrix r c (trees.sound.base.entries r c m), inr (r, m, last_claimed s t last e r l));
   others = λ c i. others c i;
 }
   where
@@ -84,7 +78,7 @@ next_is_frontier s t last f k won g e few scanned are = record {
         (λ l. ⊎_elim
         (λ (w : IsWon t r). let (x, (d, i, up), leaf) = w in inr (inl (x, above r m i up, leaf)))
         (λ (none : ¬ IsWon t r). inl (are.mates.complete c (r, l, m, none)))
-        (won r h))
+        (won_or_not t trees r h))
         (claimed_or_last s t last e r h)
 
 -- The last level.

@@ -8,30 +8,13 @@ use Rattle.bip_defs.specs.Matching.{IsMatching, rows_of}
 use Rattle.bip_defs.specs.Matrix.{IsEntry, Matrix, Place, cols}
 use Rattle.bip_defs.proofs.Sets.{among_left, number_among}
 use Rattle.claim_words.specs.WorkerState.{WorkerState, fresh_claims_of, fresh_wins_of}
-use Rattle.forest_core.specs.Events.{AreClaimsAndWins, Grows, Runs}
+use Rattle.forest_core.specs.Events.{Grows}
+use Rattle.forest_core.specs.Trees.{HasTrees}
 use Rattle.level_sharing.specs.Agreement.{Agree}
-use Rattle.level_sharing.specs.Growth.{fresh_events, grown}
-use Rattle.sp_ids.specs.Events.{claims_then_wins, win_events}
-use Rattle.sp_ids.specs.declared.events.Event.{Event}
+use Rattle.level_sharing.specs.Growth.{grown}
 use Rattle.tree_graft.specs.Search.{AreMatesOf, IsAtNextLevel, IsDone, IsGoneThrough, IsReady}
 use Rattle.tree_graft.specs.declared.levels.Search.{Search}
-use Rattle.tree_graft.proofs.FrontierLemmas.{HaveOneRoot, HaveRoots, next_is_frontier, scanned_after}
-
--- the law that claims and wins let a forest grow
-abbrev pub GrowByRuns : Type 0
-GrowByRuns = (s t : State) (es : List Event) → AreClaimsAndWins es → Runs s es t → Grows s t
-
-are_wins : (wins : List (ℕ × ℕ)) → AreClaimsAndWins (win_events wins)
-are_wins [] = tt
-are_wins (p ∷ ps) = are_wins ps
-
-are_claims_and_wins : (claims wins : List (ℕ × ℕ)) → AreClaimsAndWins (claims_then_wins claims wins)
-are_claims_and_wins [] wins = are_wins wins
-are_claims_and_wins (p ∷ ps) wins = are_claims_and_wins ps wins
-
--- fresh lists that are legal events let the forest grow
-pub level_grows : GrowByRuns → (s t : State) (ws : List WorkerState) → Runs s (fresh_events ws) (grown s ws) → t ≡ grown s ws → Grows s t
-level_grows grow s t ws runs e = subst (Grows s) (sym e) (grow s (grown s ws) (fresh_events ws) (are_claims_and_wins (fresh_claims_of ws) (fresh_wins_of ws)) runs)
+use Rattle.tree_graft.proofs.FrontierLemmas.{next_is_frontier, scanned_after}
 
 -- what was claimed since then
 pub last_claims : (xs ys before now : List Place) → before ≡ xs → now ≡ xs ++ ys → take (length now - length before) (drop (length before) now) ≡ ys
@@ -54,18 +37,10 @@ through_rows s ws free unclaimed attached c i = inr (inr (λ r e. ⊎_elim
     (λ n. attached r c (unclaimed r e.0 n) e i)
     (number_among r (rows_of s.claims))))
 
--- what else is known of a forest that a level was made on
-pub record IsKnown (t : State) : Type 0 where
-  pub matching : IsMatching t.matrix t.base
-  pub within : length t.claims ≤ t.matrix.rows
-  pub some : HaveRoots t
-  pub one : HaveOneRoot t
-  pub won : (r : ℕ) → Among r (rows_of t.claims) → IsWon t r ⊎ (¬ IsWon t r)
-
 -- the level after one that is done, and made on the forest
 pub next_level : {m : Search} (ws us : List WorkerState) (s t : State) → IsDone m.board ws s → t ≡ grown s ws → Grows s t → m.workers.items ≡ us → length us ≡ length ws → Agree m.board us t.claims t.leaves
-    → IsKnown t → AreMatesOf t (fresh_claims_of ws) m.frontier.items → IsAtNextLevel s m t
-next_level {m = m} ws us s t done e g over many agree known mates = record {
+    → HasTrees t → AreMatesOf t (fresh_claims_of ws) m.frontier.items → IsAtNextLevel s m t
+next_level {m = m} ws us s t done e g over many agree trees mates = record {
   level = record {
     ready = subst (λ (vs : List WorkerState). IsReady m.board vs t) (sym over) (record {
       sized = record {
@@ -77,14 +52,15 @@ next_level {m = m} ws us s t done e g over many agree known mates = record {
       agree = agree;
       settled = subst IsSettled (sym e) done.settled;
     });
-    frontier = next_is_frontier s t (fresh_claims_of ws) m.frontier.items known.matching known.won g claims few (λ c i. scanned_after s t known.some known.one g c i (subst (λ u. IsGoneThrough s u c) (sym e) (done.through c i))) mates;
+    frontier = next_is_frontier s t (fresh_claims_of ws) m.frontier.items trees g claims few (λ c i. scanned_after s t trees g c i (subst (λ u. IsGoneThrough s u c) (sym e) (done.through c i))) mates;
   };
+  matrix = g.matrix;
   more = let short = mates.few in let long = ap (λ (ps : List Place). length ps) claims ∙ length-append s.claims (fresh_claims_of ws) in omega (arith, short, long);
-  few = known.within;
+  few = trees.few;
 }
   where
     claims : t.claims ≡ s.claims ++ fresh_claims_of ws
     claims = ap (λ (u : State). u.claims) e
 
     few : length t.claims < 2 ^ 32
-    few = let within = known.within in let rows = ap (λ (a : Matrix). a.rows) g.matrix in let small = done.sized.small.0 in omega (arith, within, rows, small)
+    few = let within = trees.few in let rows = ap (λ (a : Matrix). a.rows) g.matrix in let small = done.sized.small.0 in omega (arith, within, rows, small)

@@ -9,7 +9,12 @@ use Rattle.bip_defs.proofs.Full.{matching_few}
 use Rattle.bip_defs.proofs.Reaching.{same_size_maximum}
 use Rattle.sp_ids.specs.declared.events.Event.{Event}
 use Rattle.forest_core.specs.Events.{Grows, LeadsTo, Runs}
+use Rattle.forest_core.specs.Growing.{GrowsOn}
 use Rattle.forest_core.specs.Sound.{IsSound}
+
+-- what goes on growing has grown
+pub grown_from : (s t : State) → ((u : State) → Grows u u) → GrowsOn s t → Grows s t
+grown_from s t here on = on s (here s)
 
 -- the laws that runs keep a forest sound, and its matrix
 abbrev pub StaySound : Type 0

@@ -60,9 +60,10 @@ pub record IsAtLevel (l : Search) (s : State) : Type 0 where
   pub ready : IsReady l.board l.workers.items s
   pub frontier : IsFrontier s l.frontier.items
 
--- from the forest s on a level claimed a row at least for each column of the frontier that it left
+-- from the forest s on, of the same matrix, a level claimed a row at least for each column of the frontier that it left
 pub record IsAtNextLevel (s : State) (l : Search) (t : State) : Type 0 where
   pub level : IsAtLevel l t
+  pub matrix : t.matrix ≡ s.matrix
   pub more : length s.claims + length l.frontier.items ≤ length t.claims
   pub few : length t.claims ≤ t.matrix.rows
 

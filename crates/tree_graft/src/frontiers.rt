@@ -4,9 +4,10 @@ ghost use Rattle.std.specs.Prelude.{ℕ, ◌↔◌, ◌<◌, IsTrue, OnOk};
 ghost use Rattle.bip_defs.specs.Forest.{IsWon};
 ghost use Rattle.bip_defs.specs.Lists.{Among, AreDistinct, Lists};
 ghost use Rattle.bip_defs.specs.Matching.{rows_of};
+ghost use Rattle.forest_core.specs.Trees.{HasTrees};
 ghost use Rattle.tree_graft.specs.Search.{AreMatesOf, IsUnclaimed, IsUnmatched};
 
-use forest_core::{Forest, claims_are_in_the_forest, rows_have_one_root};
+use forest_core::Forest;
 use sp_ids::{Col, OutOfMemory, Row};
 
 /// Puts all columns without a base mate into the list.
@@ -42,13 +43,12 @@ pub fn mates_of(
     claims: &[(Row, Col)],
     columns: &mut Vec<Col>,
 ) -> Result<(), OutOfMemory>
+    requires trees { HasTrees forest.now }
     requires claimed { (r : ℕ) → Among r (rows_of claims.now)
         → Among r (rows_of forest.now.claims) }
     requires differ { AreDistinct (rows_of claims.now) }
     ensures { OnOk result (AreMatesOf forest.now claims.now columns.new.items) }
 {
-    forest.is_sound();
-    claims_are_in_the_forest();
     columns.clear();
     for (row, _) in claims {
         match forest.base_col(*row) {
@@ -68,8 +68,6 @@ fn is_won(forest: &Forest, row: Row) -> bool
     requires { row < forest.now.matrix.rows }
     ensures { IsTrue result ↔ IsWon forest.now row }
 {
-    forest.is_sound();
-    rows_have_one_root();
     match forest.root_of_row(row) {
         Some(root) => forest.has_leaf(root),
         None => false,

@@ -6,8 +6,8 @@ ghost use Rattle.bip_defs.specs.Lists.{Among};
 ghost use Rattle.bip_defs.specs.Matching.{cols_of};
 ghost use Rattle.bip_defs.specs.Matrix.{IsEntry};
 ghost use Rattle.bip_graph.specs.Matching.{IsMatchingOf};
-ghost use Rattle.claim_words.specs.WorkerState.{AreAllWorkers, seats_of};
-ghost use Rattle.forest_core.specs.Events.{Grows, Runs};
+ghost use Rattle.forest_core.specs.Events.{Runs};
+ghost use Rattle.forest_core.specs.Growing.{GrowsOn};
 ghost use Rattle.level_sharing.specs.Growth.{fresh_events, grown};
 ghost use Rattle.sp_ids.specs.Limits.{max_workers};
 ghost use Rattle.tree_graft.specs.Search.{IsAtLevel, IsAtNextLevel, IsDone, IsReady, IsScanned};
@@ -16,11 +16,8 @@ use crate::frontiers::{mates_of, unclaimed_rows, unmatched_columns};
 use crate::switches::goes_down_from;
 use bip_graph::Matching;
 use bottom_up::attach;
-use claim_words::{ClaimBoard, ClaimSeat, Worker, seats_in_order_are_all};
-use forest_core::{
-    Forest, claims_and_wins_grow, claims_are_in_the_forest, columns_have_one_root,
-    rows_have_one_root,
-};
+use claim_words::{ClaimBoard, Worker};
+use forest_core::Forest;
 use frontier_levels::{absorb, open, top_down};
 use sp_ids::{Col, OutOfMemory, Row};
 use sp_pattern::Pattern;
@@ -60,14 +57,15 @@ pub fn grow<R: Threads + Sync, G: Gate>(
 ) -> Result<(), OutOfMemory>
     requires workers { (1 ≤ workers) × (workers ≤ max_workers) }
     requires rested { IsRested forest.old }
-    ensures grown { Grows forest.old forest.new }
+    ensures grown { GrowsOn forest.old forest.new }
     ensures settled { OnOk result (IsSettled forest.new) }
     ensures scanned { OnOk result ((c : ℕ) → InForest forest.new c → IsScanned forest.new c) }
 {
-    claims_and_wins_grow();
     let mut search = Search::open(rt, alloc, forest, workers)?;
     search.run(rt, forest, gate)?;
-    search.close(alloc)
+    let Search { board, workers, .. } = search;
+    board.close_with(alloc, workers)?;
+    Ok(())
 }
 
 /// The search of one phase: the workers and the board of words that they share, and the columns or
@@ -94,7 +92,6 @@ impl Search {
     {
         let frontier = Vec::with_capacity(alloc, forest.pattern().cols() as usize)?;
         let free = Vec::with_capacity(alloc, forest.pattern().rows() as usize)?;
-        forest.is_sound();
         let (board, workers) = open(rt, alloc, forest, workers)?;
         Ok(Search {
             board,
@@ -112,12 +109,11 @@ impl Search {
         gate: &G,
     ) -> Result<(), OutOfMemory>
         requires { IsReady self.old.board self.old.workers.items forest.old }
-        ensures grown { Grows forest.old forest.new }
+        ensures grown { GrowsOn forest.old forest.new }
         ensures ready { OnOk result
             (IsReady self.new.board self.new.workers.items forest.new) }
         ensures scanned { OnOk result ((c : ℕ) → InForest forest.new c → IsScanned forest.new c) }
     {
-        claims_and_wins_grow();
         self.first_frontier(rt, forest, gate)?;
         while !self.frontier.as_slice().is_empty() {
             self.level(rt, forest, gate)?;
@@ -134,10 +130,9 @@ impl Search {
         gate: &G,
     ) -> Result<(), OutOfMemory>
         requires { IsReady self.old.board self.old.workers.items forest.old }
-        ensures grown { Grows forest.old forest.new }
+        ensures grown { GrowsOn forest.old forest.new }
         ensures level { OnOk result (IsAtLevel self.new forest.new) }
     {
-        claims_and_wins_grow();
         if forest.claims().is_empty() {
             unmatched_columns(forest, &mut self.frontier)
         } else {
@@ -153,7 +148,7 @@ impl Search {
         gate: &G,
     ) -> Result<(), OutOfMemory>
         requires { IsAtLevel self.old forest.old }
-        ensures grown { Grows forest.old forest.new }
+        ensures grown { GrowsOn forest.old forest.new }
         ensures next { OnOk result (IsAtNextLevel forest.old self.new forest.new) }
     {
         if goes_down_from(forest, self.frontier.as_slice()) {
@@ -171,7 +166,7 @@ impl Search {
         gate: &G,
     ) -> Result<(), OutOfMemory>
         requires { IsAtLevel self.old forest.old }
-        ensures grown { Grows forest.old forest.new }
+        ensures grown { GrowsOn forest.old forest.new }
         ensures next { OnOk result (IsAtNextLevel forest.old self.new forest.new) }
     {
         let frontier = self.frontier.as_slice();
@@ -188,10 +183,9 @@ impl Search {
         gate: &G,
     ) -> Result<(), OutOfMemory>
         requires { IsReady self.old.board self.old.workers.items forest.old }
-        ensures grown { Grows forest.old forest.new }
+        ensures grown { GrowsOn forest.old forest.new }
         ensures next { OnOk result (IsAtNextLevel forest.old self.new forest.new) }
     {
-        claims_and_wins_grow();
         unclaimed_rows(forest, &mut self.free)?;
         let free = self.free.as_slice();
         let workers = self.workers.as_mut_slice();
@@ -210,40 +204,12 @@ impl Search {
         requires legal { Runs forest.old (fresh_events self.old.workers.items)
             (grown forest.old self.old.workers.items) }
         requires done { OnOk done (IsDone self.old.board self.old.workers.items forest.old) }
-        ensures grown { Grows forest.old forest.new }
+        ensures grown { GrowsOn forest.old forest.new }
         ensures next { OnOk result (IsAtNextLevel forest.old self.new forest.new) }
     {
-        claims_and_wins_grow();
-        claims_are_in_the_forest();
-        columns_have_one_root();
-        rows_have_one_root();
         let before = forest.claims().len();
         absorb(forest, self.workers.as_mut_slice());
-        forest.is_sound();
         done?;
         mates_of(forest, &forest.claims()[before..], &mut self.frontier)
     }
-
-    // Closes the board with the seats of all workers.
-    fn close(self, alloc: Global) -> Result<(), OutOfMemory>
-        requires { AreAllWorkers self.board self.workers.items }
-    {
-        let seats = seats_of_all(alloc, self.workers)?;
-        seats_in_order_are_all();
-        match self.board.close(seats) {
-            Ok(_words) => Ok(()),
-            Err(_back) => Err(OutOfMemory),
-        }
-    }
-}
-
-// The seats of these workers.
-fn seats_of_all(alloc: Global, workers: Vec<Worker>) -> Result<Vec<ClaimSeat>, OutOfMemory>
-    ensures { IfOk result (λ seats. seats.items ≡ seats_of workers.items) }
-{
-    let mut seats = Vec::with_capacity(alloc, workers.len())?;
-    for worker in workers {
-        seats.push(worker.into_seat())?;
-    }
-    Ok(seats)
 }

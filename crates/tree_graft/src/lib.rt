@@ -27,7 +27,8 @@ use crate::switches::{is_large, is_small};
 pub use crate::switches::{goes_top_down, keeps_trees};
 use bip_graph::Matching;
 use forest_core::{
-    Forest, done_is_maximum, events_keep_covered, events_keep_sound, forests_are_rested, runs_join,
+    Forest, claims_and_wins_grow, done_is_maximum, events_keep_covered, events_keep_sound,
+    forests_are_rested, runs_join,
 };
 use pothen_fan::lengthen;
 use sp_ids::OutOfMemory;
@@ -72,7 +73,7 @@ pub fn phase<R: Threads + Sync, G: Gate>(
     ensures maximum { IfOk result (λ k. (k ≡ 0) ↔ IsMaximum forest.old.matrix forest.old.base) }
     ensures done { IfOk result (λ k. k ≡ 0 → IsLegal forest.new Done) }
 {
-    forest.is_sound();
+    claims_and_wins_grow();
     events_keep_sound();
     runs_join();
     done_is_maximum();

@@ -1,10 +1,10 @@
-use Rattle.std.proofs.Common.{List, sym, subst}
+use Rattle.std.proofs.Common.{◌∙◌, List, ap, sym, subst}
 use Rattle.bip_defs.specs.Forest.{State}
 use Rattle.claim_words.specs.WorkerState.{WorkerState, fresh_claims_of, fresh_wins_of}
 use Rattle.forest_core.specs.Events.{Runs}
 use Rattle.level_sharing.specs.Agreement.{Agree}
 use Rattle.sp_ids.specs.Events.{win_events}
-use Rattle.frontier_levels.proofs.EventLemmas.{level_runs, with_leaves}
+use Rattle.frontier_levels.proofs.EventLemmas.{level_grows, level_runs, with_leaves}
 use Rattle.frontier_levels.proofs.events.absorb.Goals as goal
 
 pub make_claims-requires : goal.make_claims-requires
@@ -20,3 +20,14 @@ returns-clause-agree c = λ b shows. subst (λ (ws : List WorkerState). Agree b 
 
 pub returns-clause-listed : goal.returns-clause-listed
 returns-clause-listed c = λ b listed. subst (λ (ws : List WorkerState). Agree b ws c.make_wins.new.forest.claims c.make_wins.new.forest.leaves) (sym c.settle.ensures) (c.settled_workers_agree.ensures.listed b c.args.workers.now _ _ listed)
+
+pub returns-clause-grown : goal.returns-clause-grown
+returns-clause-grown c =
+    let wins = fresh_wins_of c.args.workers.now in
+    level_grows c.args.forest.now c.make_wins.new.forest c.args.workers.now c.claims_and_wins_grow.ensures.pairs c.requires (c.make_wins.ensures ∙ ap (λ (s : State). with_leaves s wins) c.make_claims.ensures)
+
+pub returns-clause-on : goal.returns-clause-on
+returns-clause-on c = λ r k.
+    let wins = fresh_wins_of c.args.workers.now in
+    c.claims_and_wins_grow.ensures.on r c.args.forest.now c.make_wins.new.forest k
+    (level_grows c.args.forest.now c.make_wins.new.forest c.args.workers.now c.claims_and_wins_grow.ensures.pairs c.requires (c.make_wins.ensures ∙ ap (λ (s : State). with_leaves s wins) c.make_claims.ensures))

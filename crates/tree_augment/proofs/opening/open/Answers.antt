@@ -15,7 +15,7 @@ new-requires-clause-row_tree g c =
     let s = c.args.forest.now in
     let k = c.is_sound.ensures in
     subst (λ (p : Pairing × List (Option ℕ)). AreTrees p.0.rows p.0.cols p.1) (λ i. (sym c.base.ensures i, sym c.as_slice.ensures.value i))
-    (row_trees_fit s c.in_ok-row_trees.row_trees.items (λ x r w. (c.rows_have_one_root.ensures.in_range s x r k w).0) row_long row_trees)
+    (row_trees_fit s c.in_ok-row_trees.row_trees.items (λ x r w. ((c.sound_forests_have_trees.ensures s k).row_root_in_range x r w).0) row_long row_trees)
 
 pub new-requires-clause-col_tree : goal.new-requires-clause-col_tree
 new-requires-clause-col_tree g c =
@@ -24,7 +24,7 @@ new-requires-clause-col_tree g c =
     let s = c.args.forest.now in
     let k = c.is_sound.ensures in
     subst (λ (p : Pairing × List (Option ℕ)). AreTrees p.0.cols p.0.cols p.1) (λ i. (sym c.base.ensures i, sym c.as_slice-2.ensures.value i))
-    (col_trees_fit s c.in_ok-col_trees.col_trees.items (λ x d w lt. c.columns_have_one_root.ensures.in_range s x d k w lt) col_long col_trees)
+    (col_trees_fit s c.in_ok-col_trees.col_trees.items (λ x d w lt. (c.sound_forests_have_trees.ensures s k).root_in_range x d w lt) col_long col_trees)
 
 pub returns-clause-board : goal.returns-clause-board
 returns-clause-board g c =

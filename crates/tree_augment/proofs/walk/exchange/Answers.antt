@@ -12,8 +12,8 @@ loop-col-init c =
         seat = c.requires.seat;
         took = c.requires.took;
         unset = c.requires.unset;
-        once = c.claims_are_in_the_forest.ensures.rows_differ s sound;
-        low = λ q d h. c.claims_are_in_the_forest.ensures.in_range s q d sound h;
+        once = (c.sound_forests_have_trees.ensures s sound).rows_differ;
+        low = λ q d h. (c.sound_forests_have_trees.ensures s sound).claim_in_range q d h;
         root = (c.leaves_end_paths.ensures.in_range s c.args.root c.args.leaf sound c.requires.leaf).0;
         tree = λ q w. c.leaves_end_paths.ensures.tree s c.args.root q sound w;
       };

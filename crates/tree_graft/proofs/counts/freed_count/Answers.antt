@@ -20,12 +20,12 @@ loop-root-preserved c =
     elim c.if-has_leaf.branch [
       | then-has_leaf w ↦ rw w.freed-is (record {
         few = let few = c.loop-root.invariant.few in omega (arith, few);
-        count = freed_more s c.loop-root.root-index c.loop-root.freed (c.claims_are_in_the_forest.ensures.rows_differ s c.is_sound.ensures) here (c.root-item.result, rooted, c.has_leaf.ensures.leaf.0 w.if-has_leaf.true) c.loop-root.invariant.count;
+        count = freed_more s c.loop-root.root-index c.loop-root.freed c.claim_roots-root-items.ensures.trees.rows_differ here (c.root-item.result, rooted, c.has_leaf.ensures.leaf.0 w.if-has_leaf.true) c.loop-root.invariant.count;
       })
       | else-has_leaf w ↦ rw w.freed-is (record {
         few = let few = c.loop-root.invariant.few in omega (arith, few);
         count = freed_same s c.loop-root.root-index c.loop-root.freed here
-            (λ (x, up, l). true≢false (sym (c.has_leaf.ensures.leaf.1 (subst (λ z. Among z (roots_of s.leaves)) (c.rows_have_one_root.ensures.one s x c.root-item.result (claim_at s c.loop-root.root-index).0 c.is_sound.ensures up rooted) l)) ∙ w.if-has_leaf.false)) c.loop-root.invariant.count;
+            (λ (x, up, l). true≢false (sym (c.has_leaf.ensures.leaf.1 (subst (λ z. Among z (roots_of s.leaves)) (c.claim_roots-root-items.ensures.trees.one_row_root x c.root-item.result (claim_at s c.loop-root.root-index).0 up rooted) l)) ∙ w.if-has_leaf.false)) c.loop-root.invariant.count;
       })
     ]
 

@@ -7,7 +7,7 @@ use Rattle.tree_graft.proofs.frontiers.is_won.Goals as goal
 pub returns-in-Some : goal.returns-in-Some
 returns-in-Some c = (
   λ t. (c.in-Some.root, c.in-Some.ensures.found, c.has_leaf.ensures.leaf.0 t),
-  λ (x, up, l). c.has_leaf.ensures.leaf.1 (subst (λ z. Among z (roots_of c.args.forest.now.leaves)) (c.rows_have_one_root.ensures.one c.args.forest.now x c.in-Some.root c.args.row c.is_sound.ensures up c.in-Some.ensures.found) l),
+  λ (x, up, l). c.has_leaf.ensures.leaf.1 (subst (λ z. Among z (roots_of c.args.forest.now.leaves)) (c.in-Some.ensures.only x up) l),
 )
 
 pub returns-in-None : goal.returns-in-None

@@ -9,8 +9,8 @@ use Rattle.claim_words.specs.WorkerState.{WorkerState, fresh_claims_of}
 use Rattle.level_sharing.specs.Agreement.{Shows}
 use Rattle.level_sharing.specs.Growth.{grown}
 use Rattle.tree_graft.specs.Search.{AreMatesOf, IsDone}
-use Rattle.tree_graft.proofs.FrontierLemmas.{last_claimed, won_or_not}
-use Rattle.tree_graft.proofs.LevelLemmas.{IsKnown, last_claims, level_grows, next_level}
+use Rattle.tree_graft.proofs.FrontierLemmas.{last_claimed}
+use Rattle.tree_graft.proofs.LevelLemmas.{last_claims, next_level}
 use Rattle.tree_graft.proofs.SearchLemmas.{last_differ}
 use Rattle.tree_graft.proofs.levels.Search.end_level.Goals as goal
 
@@ -19,18 +19,13 @@ mates_of-requires c =
     let s = c.args.forest.now in
     let last = fresh_claims_of c.args.self.now.workers.items in
     let claims = ap (λ (u : State). u.claims) (c.absorb.ensures.forest ∙ ap (grown s) c.as_mut_slice.ensures.value) in
-    let since = last_claims s.claims last c.claims-before.result.now c.claims.result.now c.claims-before.ensures (c.claims.ensures ∙ claims) in
-    let all = c.claims_are_in_the_forest.ensures.rows_differ c.absorb.new.forest c.is_sound.ensures in
+    let since = last_claims s.claims last c.claims-before.result.now c.claims.result.now c.claims-before.ensures.claims (c.claims.ensures.claims ∙ claims) in
+    let all = c.claims.ensures.trees.rows_differ in
     record {
+      trees = c.claims.ensures.trees;
       claimed = λ r h. last_claimed s c.absorb.new.forest last claims r (subst (λ (ps : List Place). Among r (rows_of ps)) since h);
       differ = subst (λ (ps : List Place). AreDistinct (rows_of ps)) (sym since) (last_differ s.claims last (subst (λ (ps : List Place). AreDistinct (rows_of ps)) claims all));
     }
-
-pub returns-in_err-done-clause-grown : goal.returns-in_err-done-clause-grown
-returns-in_err-done-clause-grown c = level_grows c.claims_and_wins_grow.ensures.runs c.args.forest.now c.absorb.new.forest c.args.self.now.workers.items c.requires.legal (c.absorb.ensures.forest ∙ ap (grown c.args.forest.now) c.as_mut_slice.ensures.value)
-
-pub returns-clause-grown : goal.returns-clause-grown
-returns-clause-grown c = level_grows c.claims_and_wins_grow.ensures.runs c.args.forest.now c.absorb.new.forest c.args.self.now.workers.items c.requires.legal (c.absorb.ensures.forest ∙ ap (grown c.args.forest.now) c.as_mut_slice.ensures.value)
 
 pub returns-clause-next : goal.returns-clause-next
 returns-clause-next c =
@@ -42,19 +37,10 @@ returns-clause-next c =
     let last = fresh_claims_of ws in
     let e : t ≡ grown s ws = c.absorb.ensures.forest ∙ ap (grown s) c.as_mut_slice.ensures.value in
     let claims = ap (λ (u : State). u.claims) e in
-    let since = last_claims s.claims last c.claims-before.result.now c.claims.result.now c.claims-before.ensures (c.claims.ensures ∙ claims) in
-    let grows = level_grows c.claims_and_wins_grow.ensures.runs s t ws c.requires.legal e in
-    let sound = c.is_sound.ensures in
+    let since = last_claims s.claims last c.claims-before.result.now c.claims.result.now c.claims-before.ensures.claims (c.claims.ensures.claims ∙ claims) in
     let done : IsDone b ws s = rw c.in_ok-done.was at c.requires.done in
     let shows : Shows b c.as_mut_slice.result.now t.claims t.leaves = subst (λ (vs : List WorkerState). Shows b vs t.claims t.leaves) (sym c.as_mut_slice.ensures.value) (subst (λ (u : State). Shows b ws u.claims u.leaves) (sym e) done.shows) in
     let long : c.args.self.now.workers.len ≡ length ws = search rules in
     let many : length us ≡ length ws = c.absorb.auto.workers ∙ ap length c.as_mut_slice.ensures.value in
     let over = written_over us ws c.args.self.now.workers.len many long in
-    let known : IsKnown t = record {
-      matching = sound.base;
-      within = c.claims_are_in_the_forest.ensures.few t sound;
-      some = λ x i. c.columns_have_one_root.ensures.some t x sound i;
-      one = λ x y z v w. c.columns_have_one_root.ensures.one t x y z sound v w;
-      won = won_or_not t (λ r h. c.rows_have_one_root.ensures.some t r sound h) (λ x y r v w. c.rows_have_one_root.ensures.one t x y r sound v w);
-    } in
-    on_ok_weaker c.mates_of.result (λ mates. next_level ws us s t done e grows over many (c.absorb.ensures.agree b shows) known (subst (λ (ps : List Place). AreMatesOf t ps c.mates_of.new.columns.items) since mates)) c.mates_of.ensures
+    on_ok_weaker c.mates_of.result (λ mates. next_level ws us s t done e c.absorb.ensures.grown over many (c.absorb.ensures.agree b shows) c.claims.ensures.trees (subst (λ (ps : List Place). AreMatesOf t ps c.mates_of.new.columns.items) since mates)) c.mates_of.ensures

@@ -6,7 +6,7 @@ use Rattle.tree_graft.proofs.levels.Search.first_frontier.Goals as goal
 
 pub returns-then-is_empty-clause-level : goal.returns-then-is_empty-clause-level
 returns-then-is_empty-clause-level g c =
-    let none = sym c.claims.ensures ∙ none_listed c.claims.result.now (sym c.is_empty.ensures ∙ c.if-is_empty.true) in
+    let none = sym c.claims.ensures.claims ∙ none_listed c.claims.result.now (sym c.is_empty.ensures ∙ c.if-is_empty.true) in
     on_ok_weaker c.unmatched_columns.result (λ lists. record {
       ready = c.requires;
       frontier = unmatched_are_frontier c.args.forest.now c.unmatched_columns.new.columns.items none c.requires.sized.small.1 lists;

@@ -1,10 +1,10 @@
-use Rattle.forest_core.specs.Events.{Grows}
+use Rattle.forest_core.specs.Growing.{GrowsOn}
 use Rattle.tree_graft.specs.Search.{IsAtLevel, levels_left}
 use Rattle.tree_graft.proofs.levels.Search.run.Given as goal
 
 abbrev pub invariant-loop-self : goal.invariant-loop-self
 invariant-loop-self g l = record {
-  grown : Grows l.fn.forest l.forest;
+  grown : GrowsOn l.fn.forest l.forest;
   level : IsAtLevel l.self l.forest;
 }
 
