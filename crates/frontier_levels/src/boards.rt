@@ -15,8 +15,8 @@ use std::alloc::Global;
 use std::thread::{Threads, join};
 
 /// A board whose words hold the claims and the leaves of a forest, and so many workers, each with a
-/// seat. Where there are two workers at least and its words are worth threads, its lists are filled
-/// by two threads at once.
+/// seat. Where there are two workers at least and rows and columns are worth threads, its lists are
+/// filled by two threads at once.
 ///
 /// Answers `OutOfMemory` where 24 bytes a row and column can't be had; 8 of them stay, until the
 /// board is closed. Work: one look at each row and column.
@@ -58,8 +58,8 @@ fn lists<R: Threads + Sync>(
     ensures leaves { IfOk result.1 (λ l. IsTableOf forest.now.leaves l.items) }
 {
     let pattern = forest.pattern();
-    let words = pattern.rows() as usize + pattern.cols() as usize;
-    if workers < 2 || !are_worth_threads(rt, words) {
+    let vertices = pattern.rows() as usize + pattern.cols() as usize;
+    if workers < 2 || !are_worth_threads(rt, vertices) {
         return (forest.row_holders(alloc), forest.root_leaves(alloc));
     }
     let of_rows = move || -> Result<Vec<Option<Col>>, OutOfMemory>

@@ -10,14 +10,14 @@ ghost use Rattle.tree_augment.specs.ForestBoards.{IsBoardOf};
 
 use flip_words::{FlipBoard, FlipSeat, new_seats_are_all};
 use forest_core::{Forest, sound_forests_have_trees};
-use level_sharing::processors;
+use level_sharing::are_worth_threads;
 use sp_ids::{Col, OutOfMemory};
 use std::alloc::Global;
 use std::thread::{Threads, join};
 
 /// A board with the mates of the forest's base matching and with its trees, on which nothing is
-/// taken or set, and so many seats, from 1 to 64. Where there are two seats and two processors at
-/// least, the lists of trees are filled by two threads at once.
+/// taken or set, and so many seats, from 1 to 64. Where there are two seats at least and rows and
+/// columns are worth threads, the lists of trees are filled by two threads at once.
 ///
 /// Answers `OutOfMemory` where the board can't be had, which keeps 8 bytes for each row and 16 for
 /// each column, or for a moment as much again and 8 bytes for each row and each column. Work: one
@@ -65,7 +65,9 @@ fn trees<R: Threads + Sync>(
     ensures cols { IfOk result.1 (λ l. length l.items ≡ cols forest.now.matrix) }
     ensures col_trees { IfOk result.1 (λ l. AreColTrees forest.now l.items) }
 {
-    if seats < 2 || processors(rt) < 2 {
+    let pattern = forest.pattern();
+    let vertices = pattern.rows() as usize + pattern.cols() as usize;
+    if seats < 2 || !are_worth_threads(rt, vertices) {
         return (forest.row_trees(alloc), forest.col_trees(alloc));
     }
     let of_rows = move || -> Result<Vec<Option<Col>>, OutOfMemory>
