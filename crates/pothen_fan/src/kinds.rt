@@ -103,8 +103,13 @@ impl Phases {
     }
 }
 
-/// A maximum matching, by phases from one side: so many of both kinds at most, and then as many of
-/// shortest augmenting paths as it takes.
+/// A maximum matching, by phases from one side, in which every row and column that was matched
+/// before is matched: what [`complete`](crate::complete) makes of the side that it chooses, over
+/// whatever lends the rows of its columns, or over the rows of a pattern.
+///
+/// The matching must be of the entries and sizes that the side has. Phases of both kinds are 128 at
+/// most, and then come as many of shortest augmenting paths as it takes, at most 2 sqrt(rank) + 2.
+/// Memory, errors and work: as `complete` says of its own, but for the choice of a side.
 pub fn complete_from<F: Opposite, S: Side<F>>(
     alloc: Global,
     side: &S,

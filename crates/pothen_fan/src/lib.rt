@@ -37,14 +37,14 @@ ghost use Rattle.std.specs.Prelude.{◌≡◌, ◌⊎◌, ◌↔◌, ◌+◌, �
 ghost use Rattle.bip_defs.specs.Matching.{Covers, IsMaximum};
 ghost use Rattle.bip_graph.specs.Matching.{IsMatchingOf, IsMaximumOf};
 
-use crate::kinds::complete_from;
 use crate::longer::lengthen_from;
-use crate::sweep::{count_roots, roots, sweep};
+use crate::sweep::count_roots;
 use bip_graph::Matching;
-use path_search::Search;
+pub use kinds::complete_from;
 use sp_ids::OutOfMemory;
 use sp_pattern::{FromRows, Pattern};
 use std::alloc::Global;
+pub use sweep::phase_from;
 
 /// One depth-first phase from the columns. Gives by how much the matching has grown: 0 exactly
 /// where it was maximum, and then it stays as it was.
@@ -62,11 +62,7 @@ pub fn phase(alloc: Global, pattern: &Pattern, matching: &mut Matching) -> Resul
     ensures covered { Covers matching.old.pairs matching.new.pairs }
     ensures refused { OnErr result (matching.new ≡ matching.old) }
 {
-    let mut search = Search::new(alloc, pattern.rows(), pattern.cols())?;
-    let roots = roots(alloc, pattern, matching)?;
-    let before = matching.size();
-    sweep(&mut search, pattern, matching, roots.as_slice(), false);
-    Ok(matching.size() - before)
+    phase_from(alloc, pattern, matching)
 }
 
 /// A maximum matching, in which every row and column that was matched before is matched.

@@ -1,6 +1,6 @@
 //! One depth-first phase.
 
-ghost use Rattle.std.specs.Prelude.{◌≡◌, ◌⊎◌, ℕ, ◌<◌, ◌↔◌, List, length, IfOk, IsTrue};
+ghost use Rattle.std.specs.Prelude.{◌≡◌, ◌⊎◌, ℕ, ◌<◌, ◌↔◌, ◌+◌, List, length, IfOk, IsTrue, OnErr};
 ghost use Rattle.bip_defs.specs.Lists.{Lists};
 ghost use Rattle.bip_defs.specs.Matching.{Covers, IsMaximum};
 ghost use Rattle.bip_defs.specs.Matrix.{cols};
@@ -12,6 +12,37 @@ use path_search::Search;
 use sp_ids::{Col, OutOfMemory};
 use sp_pattern::Side;
 use std::alloc::Global;
+
+/// One depth-first phase from one side: [`phase`](crate::phase) over whatever lends the rows of its
+/// columns, or over the rows of a pattern.
+///
+/// Gives by how much the matching has grown: 0 exactly where it was maximum, and then it stays as it
+/// was. The matching must be of the entries and sizes that the side has, and no row or column loses
+/// its mate without a new one. Answers `OutOfMemory` where there is no memory for 17 bytes a row, 4
+/// a column and 4 an unmatched column that has entries, as the side sees them; the matching is as
+/// before then. Work: at most two passes over the entries, one of look-ahead and one of the
+/// searches.
+pub fn phase_from<F: Opposite, S: Side<F>>(
+    alloc: Global,
+    side: &S,
+    matching: &mut Matching,
+) -> Result<u32, OutOfMemory>
+    requires matching { IsMatchingOf (S.matrix side.now) (F.seen matching.old) }
+    ensures matching { IsMatchingOf (S.matrix side.now) (F.seen matching.new) }
+    ensures growth { IfOk result
+        (λ k. length (F.seen matching.new).pairs ≡ length (F.seen matching.old).pairs + k) }
+    ensures maximum { IfOk result
+        (λ k. (k ≡ 0) ↔ IsMaximum (S.matrix side.now) (F.seen matching.old).pairs) }
+    ensures same { IfOk result (λ k. k ≡ 0 → F.seen matching.new ≡ F.seen matching.old) }
+    ensures covered { Covers (F.seen matching.old).pairs (F.seen matching.new).pairs }
+    ensures refused { OnErr result (F.seen matching.new ≡ F.seen matching.old) }
+{
+    let mut search = Search::new(alloc, side.rows(), side.cols())?;
+    let roots = roots(alloc, side, matching)?;
+    let before = F::size(matching);
+    sweep(&mut search, side, matching, roots.as_slice(), false);
+    Ok(F::size(matching) - before)
+}
 
 // Whether a column is unmatched and has entries.
 fn is_root<F: Opposite, S: Side<F>>(side: &S, matching: &Matching, col: Col) -> bool

@@ -1,4 +1,4 @@
-use Rattle.std.proofs.Common.{◌∙◌, subst, sym}
+use Rattle.std.proofs.Common.{◌∙◌, subst}
 use Rattle.path_search.specs.Layers.{AreLayers}
 use Rattle.pothen_fan.proofs.shortest.ShortestPhases.new.Goals as goal
 
