@@ -229,11 +229,12 @@ class HopcroftKarp {
 // the vertical part.
 static Numbers decomposition_by_blocktri(const Arrays &a) {
   std::vector<uint32_t> row_order(a.columns.rows + 1), column_order(a.columns.cols + 1), block_starts(a.starts.size());
+  std::vector<uint32_t> row_component(a.columns.rows + 1), column_component(a.columns.cols + 1);
   blocktri_sizes s;
   uint64_t fault;
   right(blocktri_decomposition(a.columns.rows, a.starts.data(), a.starts.size(), a.ids.data(), a.ids.size(), row_order.data(),
-                               a.columns.rows, column_order.data(), a.columns.cols, block_starts.data(), block_starts.size(), &s,
-                               &fault));
+                               a.columns.rows, column_order.data(), a.columns.cols, block_starts.data(), block_starts.size(),
+                               row_component.data(), a.columns.rows, column_component.data(), a.columns.cols, &s, &fault));
   return {s.rank, s.horizontal_rows, s.horizontal_columns, s.square, s.blocks, s.vertical_rows, s.vertical_columns};
 }
 

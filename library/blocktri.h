@@ -97,17 +97,19 @@ int32_t blocktri_matching_64(uint64_t rows, const uint64_t *starts, size_t start
 
 /* The sizes of a block triangular form. The square part has as many columns as rows. */
 struct blocktri_sizes {
-  uint32_t rank;               /* the structural rank */
-  uint32_t horizontal_rows;    /* the part with more columns than rows; 0 columns where there is none */
+  uint32_t rank;                  /* the structural rank */
+  uint32_t horizontal_rows;       /* the part with more columns than rows; 0 columns where there is none */
   uint32_t horizontal_columns;
-  uint32_t square;             /* the part that a maximum matching covers */
-  uint32_t vertical_rows;      /* the part with more rows than columns; 0 rows where there is none */
+  uint32_t square;                /* the part that a maximum matching covers */
+  uint32_t vertical_rows;         /* the part with more rows than columns; 0 rows where there is none */
   uint32_t vertical_columns;
-  uint32_t blocks;             /* the fine blocks of the square part */
+  uint32_t blocks;                /* the fine blocks of the square part */
+  uint32_t horizontal_components; /* the connected components of the horizontal part */
+  uint32_t vertical_components;   /* the connected components of the vertical part */
 };
 
 /* The Dulmage-Mendelsohn decomposition, with the fine blocks of its square part, as orders in which the matrix is block upper
- * triangular.
+ * triangular, and with the connected components of its outer parts.
  *
  * row_order must have a place for each row, column_order one for each column, and block_starts starts_length places. Both orders
  * have the horizontal part first, then the blocks, then the vertical part. So row row_order[i] of the matrix is row i of the
@@ -116,36 +118,22 @@ struct blocktri_sizes {
  *     horizontal_columns + block_starts[b] up to but not    horizontal_columns + block_starts[b + 1].
  * block_starts[blocks] is the size of the square part; what stands behind it in block_starts stays as it was.
  *
+ * Two rows or columns of an outer part are in one component if a chain of entries, each in a row and a column of that part, leads
+ * from one to the other. row_component must have a place for each row, column_component one for each column: they get the number
+ * of its component in its part, or BLOCKTRI_NONE in the square part. The components of each part count from 0, those of the
+ * horizontal part in the order of their least columns, those of the vertical part in the order of their least rows.
+ *
  * The answer does not hang on the matching that is found: each matrix has one decomposition. */
 int32_t blocktri_decomposition(uint32_t rows, const uint32_t *starts, size_t starts_length, const uint32_t *ids,
                                size_t ids_length, uint32_t *row_order, size_t row_order_length, uint32_t *column_order,
                                size_t column_order_length, uint32_t *block_starts, size_t block_starts_length,
-                               struct blocktri_sizes *sizes, uint64_t *fault);
+                               uint32_t *row_component, size_t row_component_length, uint32_t *column_component,
+                               size_t column_component_length, struct blocktri_sizes *sizes, uint64_t *fault);
 int32_t blocktri_decomposition_64(uint64_t rows, const uint64_t *starts, size_t starts_length, const uint64_t *ids,
                                   size_t ids_length, uint32_t *row_order, size_t row_order_length, uint32_t *column_order,
                                   size_t column_order_length, uint32_t *block_starts, size_t block_starts_length,
-                                  struct blocktri_sizes *sizes, uint64_t *fault);
-
-/* How many connected components the two outer parts have. */
-struct blocktri_component_counts {
-  uint32_t horizontal;
-  uint32_t vertical;
-};
-
-/* The connected components of the horizontal and of the vertical part. Two rows or columns of a part are in one component if a
- * chain of entries, each in a row and a column of that part, leads from one to the other.
- *
- * row_component must have a place for each row, column_component one for each column. A row or column of the horizontal part
- * gets the number of its component: they count from 0, in the order of their least columns. One of the vertical part gets
- * counts->horizontal plus the number of its component, which stand in the order of their least rows. One of the square part gets
- * BLOCKTRI_NONE. More than 4,294,967,295 components in all are answered by BLOCKTRI_OUT_OF_MEMORY. */
-int32_t blocktri_components(uint32_t rows, const uint32_t *starts, size_t starts_length, const uint32_t *ids, size_t ids_length,
-                            uint32_t *row_component, size_t row_component_length, uint32_t *column_component,
-                            size_t column_component_length, struct blocktri_component_counts *counts, uint64_t *fault);
-int32_t blocktri_components_64(uint64_t rows, const uint64_t *starts, size_t starts_length, const uint64_t *ids,
-                               size_t ids_length, uint32_t *row_component, size_t row_component_length,
-                               uint32_t *column_component, size_t column_component_length,
-                               struct blocktri_component_counts *counts, uint64_t *fault);
+                                  uint32_t *row_component, size_t row_component_length, uint32_t *column_component,
+                                  size_t column_component_length, struct blocktri_sizes *sizes, uint64_t *fault);
 
 /* What a sparse LU factorisation by blocks wants of a square matrix of full structural rank, as KLU of SuiteSparse's btf_order:
  * orders of its rows and columns in which it is block upper triangular and has an entry at each place of the diagonal.
@@ -164,6 +152,7 @@ int32_t blocktri_block_order_64(uint64_t rows, const uint64_t *starts, size_t st
                                 size_t ids_length, uint32_t *row_order, size_t row_order_length, uint32_t *column_order,
                                 size_t column_order_length, uint32_t *block_starts, size_t block_starts_length,
                                 uint32_t *blocks, uint64_t *fault);
+
 /* VALUES. The two calls below are passed a value for each id. A place's weight is the magnitude of the sum of its values. They are
  * about perfect matchings, which pair each row with a column by entries: BLOCKTRI_SINGULAR where there is none. */
 

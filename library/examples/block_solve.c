@@ -33,11 +33,11 @@ static void eliminate(int n, double a[SIZE][SIZE], double *b) {
 }
 
 int main(void) {
-  uint32_t row_order[SIZE], column_order[SIZE], block_starts[SIZE + 1], place[SIZE];
+  uint32_t row_order[SIZE], column_order[SIZE], block_starts[SIZE + 1], row_component[SIZE], column_component[SIZE], place[SIZE];
   struct blocktri_sizes sizes;
   uint64_t fault;
   int32_t status = blocktri_decomposition(SIZE, starts, SIZE + 1, ids, ENTRIES, row_order, SIZE, column_order, SIZE, block_starts,
-                                          SIZE + 1, &sizes, &fault);
+                                          SIZE + 1, row_component, SIZE, column_component, SIZE, &sizes, &fault);
   if (status != BLOCKTRI_OK) return fprintf(stderr, "%s\n", blocktri_text(status)), 1;
   if (sizes.square != SIZE) return fprintf(stderr, "no values make this matrix regular\n"), 1;
   for (uint32_t i = 0; i < SIZE; i++) place[row_order[i]] = i;

@@ -26,11 +26,12 @@ static void tell(const char *what, const char *const *names, const uint32_t *ord
 
 int main(void) {
   const uint32_t starts[COLUMNS + 1] = {0, 4, 6, 7, 8}, ids[] = {0, 1, 2, 3, 0, 1, 0, 0};
-  uint32_t row_order[ROWS], column_order[COLUMNS], block_starts[COLUMNS + 1];
+  uint32_t row_order[ROWS], column_order[COLUMNS], block_starts[COLUMNS + 1], row_component[ROWS], column_component[COLUMNS];
   struct blocktri_sizes sizes;
   uint64_t fault;
   int32_t status = blocktri_decomposition(ROWS, starts, COLUMNS + 1, ids, 8, row_order, ROWS, column_order, COLUMNS,
-                                          block_starts, COLUMNS + 1, &sizes, &fault);
+                                          block_starts, COLUMNS + 1, row_component, ROWS, column_component, COLUMNS, &sizes,
+                                          &fault);
   if (status != BLOCKTRI_OK) return fprintf(stderr, "%s\n", blocktri_text(status)), 1;
   printf("rank %" PRIu32 " of %d\n", sizes.rank, ROWS);
   if (sizes.horizontal_columns > 0) {

@@ -37,18 +37,15 @@ static inline void widen(struct matrix *a) {
 /* all that the calls answer, or leave as it is */
 struct answer {
   uint64_t fault;
-  int32_t rank_status, matching_status, form_status, components_status, order_status;
-  uint32_t no_padding, rank, size, blocks;
+  int32_t rank_status, matching_status, form_status, order_status;
+  uint32_t rank, size, blocks;
   uint32_t row_of_column[MOST], row_order[MOST], column_order[MOST], block_starts[MOST + 1];
   uint32_t row_component[MOST], column_component[MOST];
   uint32_t diagonal_rows[MOST], diagonal_columns[MOST], diagonal_starts[MOST + 1]; /* of blocktri_block_order */
   struct blocktri_sizes sizes;
-  struct blocktri_component_counts counts;
 };
 
-_Static_assert(sizeof(struct answer) == 8 + 4 * (9 + 9 * MOST + 2) + sizeof(struct blocktri_sizes) +
-                                            sizeof(struct blocktri_component_counts),
-               "no padding");
+_Static_assert(sizeof(struct answer) == 8 + 4 * (7 + 9 * MOST + 2) + sizeof(struct blocktri_sizes), "no padding");
 
 static inline struct answer untouched(void) {
   struct answer answer;
@@ -65,10 +62,8 @@ static inline struct answer ask(const struct matrix *a, bool is_least) {
                                              &narrow.size, &narrow.fault);
   narrow.form_status =
       blocktri_decomposition(a->rows, a->starts, n + 1, a->ids, a->count, narrow.row_order, m, narrow.column_order, n,
-                             narrow.block_starts, n + 1, &narrow.sizes, &narrow.fault);
-  narrow.components_status =
-      blocktri_components(a->rows, a->starts, n + 1, a->ids, a->count, narrow.row_component, m, narrow.column_component, n,
-                          &narrow.counts, &narrow.fault);
+                             narrow.block_starts, n + 1, narrow.row_component, m, narrow.column_component, n, &narrow.sizes,
+                             &narrow.fault);
   narrow.order_status =
       blocktri_block_order(a->rows, a->starts, n + 1, a->ids, a->count, narrow.diagonal_rows, m, narrow.diagonal_columns, n,
                            narrow.diagonal_starts, n + 1, &narrow.blocks, &narrow.fault);
@@ -78,10 +73,8 @@ static inline struct answer ask(const struct matrix *a, bool is_least) {
                                               wide.row_of_column, n, &wide.size, &wide.fault);
   wide.form_status =
       blocktri_decomposition_64(a->rows, a->wide_starts, n + 1, a->wide_ids, a->count, wide.row_order, m, wide.column_order,
-                                n, wide.block_starts, n + 1, &wide.sizes, &wide.fault);
-  wide.components_status =
-      blocktri_components_64(a->rows, a->wide_starts, n + 1, a->wide_ids, a->count, wide.row_component, m,
-                             wide.column_component, n, &wide.counts, &wide.fault);
+                                n, wide.block_starts, n + 1, wide.row_component, m, wide.column_component, n, &wide.sizes,
+                                &wide.fault);
   wide.order_status =
       blocktri_block_order_64(a->rows, a->wide_starts, n + 1, a->wide_ids, a->count, wide.diagonal_rows, m,
                               wide.diagonal_columns, n, wide.diagonal_starts, n + 1, &wide.blocks, &wide.fault);

@@ -8,8 +8,8 @@ static const struct matrix right = {
 static void refused(struct matrix *a, int32_t status, uint64_t fault) {
   struct answer got = ask(a, false), kept = untouched();
   CHECK(got.rank_status == status && got.matching_status == status && got.form_status == status);
-  CHECK(got.components_status == status && got.order_status == status);
-  kept.rank_status = kept.matching_status = kept.form_status = kept.components_status = kept.order_status = status;
+  CHECK(got.order_status == status);
+  kept.rank_status = kept.matching_status = kept.form_status = kept.order_status = status;
   if (status == BLOCKTRI_BAD_START || status == BLOCKTRI_BAD_ROW) kept.fault = fault;
   CHECK(!memcmp(&got, &kept, sizeof got));
 }
@@ -50,11 +50,8 @@ static void no_starts(void) {
   CHECK(blocktri_rank(0, none, 0, none, 0, &got.rank, &got.fault) == BLOCKTRI_BAD_START && got.fault == 0);
   got = untouched();
   CHECK(blocktri_matching(0, none, 0, none, 0, false, none, 0, &got.size, &got.fault) == BLOCKTRI_BAD_START);
-  int32_t form = blocktri_decomposition(0, none, 0, none, 0, none, 0, none, 0, none, 0, &got.sizes, &got.fault);
+  int32_t form = blocktri_decomposition(0, none, 0, none, 0, none, 0, none, 0, none, 0, none, 0, none, 0, &got.sizes, &got.fault);
   CHECK(form == BLOCKTRI_BAD_START && got.fault == 0 && got.sizes.rank == UNTOUCHED && got.size == UNTOUCHED);
-  got = untouched();
-  CHECK(blocktri_components(0, none, 0, none, 0, none, 0, none, 0, &got.counts, &got.fault) == BLOCKTRI_BAD_START);
-  CHECK(got.fault == 0 && got.counts.horizontal == UNTOUCHED);
   got = untouched();
   int32_t order = blocktri_block_order(0, none, 0, none, 0, none, 0, none, 0, none, 0, &got.blocks, &got.fault);
   CHECK(order == BLOCKTRI_BAD_START && got.fault == 0 && got.blocks == UNTOUCHED);
@@ -89,11 +86,21 @@ static void too_many_rows(void) {
   CHECK(blocktri_matching_64(rows, a.wide_starts, 5, a.wide_ids, 7, false, got.row_of_column, 4, &got.size, &got.fault) ==
         BLOCKTRI_TOO_MANY_ROWS);
   /* a list of so many places is not to be had, and a shorter one is told before */
-  CHECK(blocktri_components_64(rows, a.wide_starts, 5, a.wide_ids, 7, got.row_component, 4, got.column_component, 4,
-                               &got.counts, &got.fault) == BLOCKTRI_BAD_LENGTH);
+  CHECK(blocktri_decomposition_64(rows, a.wide_starts, 5, a.wide_ids, 7, got.row_order, 4, got.column_order, 4, got.block_starts,
+                                  5, got.row_component, 4, got.column_component, 4, &got.sizes, &got.fault) ==
+        BLOCKTRI_BAD_LENGTH);
   CHECK(blocktri_block_order_64(rows, a.wide_starts, 5, a.wide_ids, 7, got.row_order, 4, got.column_order, 4,
                                 got.block_starts, 5, &got.blocks, &got.fault) == BLOCKTRI_BAD_LENGTH);
   CHECK(!memcmp(&got, &kept, sizeof got));
+}
+
+/* a decomposition with one of its lists of another length */
+static int32_t decomposed(const struct matrix *a, struct answer *got, int which, size_t n) {
+  size_t lengths[] = {4, 4, 5, 4, 4};
+  lengths[which] = n;
+  return blocktri_decomposition(4, a->starts, 5, a->ids, 7, got->row_order, lengths[0], got->column_order, lengths[1],
+                                got->block_starts, lengths[2], got->row_component, lengths[3], got->column_component, lengths[4],
+                                &got->sizes, &got->fault);
 }
 
 static void lists_of_the_wrong_length(void) {
@@ -101,28 +108,19 @@ static void lists_of_the_wrong_length(void) {
   a.starts[0] = 1; /* which is told later than a wrong length */
   struct answer got = untouched(), kept = untouched();
   for (size_t n = 0; n < 8; n++) {
+    for (int which = 0; which < 5; which++)
+      CHECK(decomposed(&a, &got, which, n + (n >= (which == 2 ? 5 : 4))) == BLOCKTRI_BAD_LENGTH);
     if (n != 4) {
       CHECK(blocktri_matching(4, a.starts, 5, a.ids, 7, true, got.row_of_column, n, &got.size, &got.fault) ==
             BLOCKTRI_BAD_LENGTH);
-      CHECK(blocktri_decomposition(4, a.starts, 5, a.ids, 7, got.row_order, n, got.column_order, 4, got.block_starts, 5,
-                                   &got.sizes, &got.fault) == BLOCKTRI_BAD_LENGTH);
-      CHECK(blocktri_decomposition(4, a.starts, 5, a.ids, 7, got.row_order, 4, got.column_order, n, got.block_starts, 5,
-                                   &got.sizes, &got.fault) == BLOCKTRI_BAD_LENGTH);
-      CHECK(blocktri_components(4, a.starts, 5, a.ids, 7, got.row_component, n, got.column_component, 4, &got.counts,
-                                &got.fault) == BLOCKTRI_BAD_LENGTH);
-      CHECK(blocktri_components(4, a.starts, 5, a.ids, 7, got.row_component, 4, got.column_component, n, &got.counts,
-                                &got.fault) == BLOCKTRI_BAD_LENGTH);
       CHECK(blocktri_block_order(4, a.starts, 5, a.ids, 7, got.row_order, n, got.column_order, 4, got.block_starts, 5,
                                  &got.blocks, &got.fault) == BLOCKTRI_BAD_LENGTH);
       CHECK(blocktri_block_order(4, a.starts, 5, a.ids, 7, got.row_order, 4, got.column_order, n, got.block_starts, 5,
                                  &got.blocks, &got.fault) == BLOCKTRI_BAD_LENGTH);
     }
-    if (n != 5) {
+    if (n != 5)
       CHECK(blocktri_block_order(4, a.starts, 5, a.ids, 7, got.row_order, 4, got.column_order, 4, got.block_starts, n,
                                  &got.blocks, &got.fault) == BLOCKTRI_BAD_LENGTH);
-      CHECK(blocktri_decomposition(4, a.starts, 5, a.ids, 7, got.row_order, 4, got.column_order, 4, got.block_starts, n,
-                                   &got.sizes, &got.fault) == BLOCKTRI_BAD_LENGTH);
-    }
   }
   CHECK(!memcmp(&got, &kept, sizeof got));
 }

@@ -25,19 +25,16 @@ static int32_t call(int which, struct answer *got) {
     case 2:
       return blocktri_matching(4, a.starts, 5, a.ids, 7, which == 2, got->row_of_column, 4, &got->size, &got->fault);
     case 3:
-      return blocktri_components(4, a.starts, 5, a.ids, 7, got->row_component, 4, got->column_component, 4, &got->counts,
-                                 &got->fault);
-    case 4:
       return blocktri_block_order(3, cycle_starts, 4, cycle_ids, 5, got->diagonal_rows, 3, got->diagonal_columns, 3,
                                   got->diagonal_starts, 4, &got->blocks, &got->fault);
     default:
       return blocktri_decomposition(4, a.starts, 5, a.ids, 7, got->row_order, 4, got->column_order, 4, got->block_starts, 5,
-                                    &got->sizes, &got->fault);
+                                    got->row_component, 4, got->column_component, 4, &got->sizes, &got->fault);
   }
 }
 
 int main(void) {
-  for (int which = 0; which < 6; which++) {
+  for (int which = 0; which < 5; which++) {
     long refusals = 0;
     for (failing_at = 1;; failing_at++) {
       struct answer got = untouched(), kept = untouched();

@@ -1,24 +1,21 @@
 -- The numbers of connected components.
-use Rattle.std.proofs.Common.{◌≡◌, ◌≢◌, ◌⊎◌, ◌∙◌, ℕ, ◌+◌, ◌-◌, ◌<◌, List, [], ◌∷◌, ◌++◌, length, map, replicate, set, take, get_or, refl, sym, ap, arith, subst, inl, inr, ⊎_elim, length-append, length-set, get_or-set_same, get_or-set_other}
+use Rattle.std.proofs.Common.{◌≡◌, ◌≢◌, ◌⊎◌, ◌∙◌, ℕ, ◌+◌, ◌<◌, ◌≤◌, List, [], ◌∷◌, ◌++◌, length, map, replicate, set, take, get_or, refl, sym, ap, arith, subst, inl, inr, ⊎_elim, length-set, get_or-set_same, get_or-set_other}
 use Rattle.std.proofs.Math.Decide.{dec_lt}
-use Rattle.std.proofs.lemmas.List.{get_or_append_left, get_or-append-add, get_or-map, get_or-replicate, length-map, take_more}
+use Rattle.std.proofs.lemmas.List.{get_or-map, get_or-replicate, length-map, take_more}
 use Rattle.bip_defs.specs.Blocks.{Block, ColAt, RowAt, Vertex, block_at, least_col, no_block}
 use Rattle.bip_defs.specs.ConnectedComponents.{AreConnectedComponents, AreOrderedComponents, Components, IsConnectedComponent, IsHorizontalVertex, IsVerticalVertex, least_row}
 use Rattle.bip_defs.specs.Lists.{Among, IsRising}
 use Rattle.bip_defs.specs.Matrix.{Matrix, cols}
 use Rattle.bip_defs.proofs.Connected.{component_same, joined_back, joined_inside, joined_on}
 use Rattle.bip_defs.proofs.Counts.{horizontal_row_in_range, vertical_col_in_range}
+use Rattle.bip_defs.proofs.Full.{few_below}
 use Rattle.bip_defs.proofs.Queues.{distinct_at}
-use Rattle.bip_defs.proofs.Sets.{among_at, among_last, among_left, among_right, number_same, rising_distinct}
+use Rattle.bip_defs.proofs.Sets.{among_at, among_last, among_left, among_map_back, among_right, number_same, rising_distinct}
 use Rattle.bip_defs.proofs.Square.{cols_apart, rows_apart}
 use Rattle.bip_graph.specs.Matching.{none}
-use Rattle.blocktri.specs.OuterComponents.{AreApart, AreNumbered, IsWrittenAt, TellsComponents, cols_of_block, rows_of_block}
-use Rattle.blocktri.specs.declared.outer_components.ComponentCounts.{ComponentCounts}
+use Rattle.blocktri.specs.OuterComponents.{AreApart, AreComponentNumbers, AreNumbered, IsWrittenAt, cols_of_block, rows_of_block}
 
 -- One number at the places of a list.
-
-pub written_none : (xs old : List ℕ) (v : ℕ) → IsWrittenAt (take 0 xs) v old old
-written_none xs old v = record { long = refl; here = λ x h. absurd h; others = λ x out. refl }
 
 pub written_more : (xs old new : List ℕ) (k v x : ℕ) → k < length xs → x ≡ get_or xs k 0 → x < length old → IsWrittenAt (take k xs) v old new → IsWrittenAt (take (k + 1) xs) v old (set new x v)
 written_more xs old new k v x lt is inside w = rw (take_more xs k 0 lt) (record {
@@ -37,17 +34,14 @@ filled_none n xs filled x lt = rw filled (get_or-replicate n x none 0 lt)
 
 -- The numbers of blocks, of one side.
 
-pub numbered_none : (f : Block → List ℕ) (first : ℕ) (bs : List Block) (old : List ℕ) → AreNumbered f first bs 0 old old
-numbered_none f first bs old = record { long = refl; here = λ i x lt h. absurd (omega (arith, lt)); others = λ x out. refl }
-
-pub numbered_more : (f : Block → List ℕ) (first n size v : ℕ) (bs : List Block) (old mid new : List ℕ) → n < length bs → AreApart f bs size → v ≡ first + n → AreNumbered f first bs n old mid → IsWrittenAt (f (block_at bs n)) v mid new → AreNumbered f first bs (n + 1) old new
-numbered_more f first n size v bs old mid new lt apart is are w = record {
+pub numbered_more : (f : Block → List ℕ) (n size v : ℕ) (bs : List Block) (old mid new : List ℕ) → n < length bs → AreApart f bs size → v ≡ n → AreNumbered f bs n old mid → IsWrittenAt (f (block_at bs n)) v mid new → AreNumbered f bs (n + 1) old new
+numbered_more f n size v bs old mid new lt apart is are w = record {
   long = w.long ∙ are.long;
   here = λ i x below h. at_block i x (number_same i n) below h;
   others = λ x out. w.others x (out n (omega arith)) ∙ are.others x (λ i below. out i (omega (arith, below)));
 }
   where
-    at_block : (i x : ℕ) → (i ≡ n) ⊎ (i ≢ n) → i < n + 1 → Among x (f (block_at bs i)) → get_or new x 0 ≡ first + i
+    at_block : (i x : ℕ) → (i ≡ n) ⊎ (i ≢ n) → i < n + 1 → Among x (f (block_at bs i)) → get_or new x 0 ≡ i
     at_block i x (inl e) below h = let written = w.here x (subst (λ j. Among x (f (block_at bs j))) e h) in omega (arith, written, is, e)
     at_block i x (inr ne) below h = w.others x (λ g. ne (apart.once i n x (omega (arith, below, lt)) lt h g)) ∙ are.here i x (omega (arith, below, ne)) h
 
@@ -112,43 +106,53 @@ vertical_rows_apart a c are = rows_of_components a (IsVerticalVertex a) least_ro
 pub vertical_cols_apart : (a : Matrix) (c : Components) → AreConnectedComponents a c → AreApart cols_of_block c.vertical (cols a)
 vertical_cols_apart a c are = cols_of_components a (IsVerticalVertex a) least_row c.vertical (cols a) are.vertical (vertical_col_in_range a)
 
+-- How many components a part has.
+
+first_below : (xs : List ℕ) (n : ℕ) → 0 < n → ((x : ℕ) → Among x xs → x < n) → get_or xs 0 0 < n
+first_below [] n some below = some
+first_below (x ∷ xs) n some below = below x (inl refl)
+
+few_ordered : (a : Matrix) (P : Vertex → Type 0) (least : Block → ℕ) (bs : List Block) (n : ℕ) → AreOrderedComponents a P least bs → ((b : Block) → IsConnectedComponent a P b → least b < n) → length bs ≤ n
+few_ordered a P least bs n are below =
+    let same = length-map bs least in
+    let few = few_below n (map least bs) (rising_distinct (map least bs) are.rising) (λ x h. let (b, on, e) = among_map_back least x bs h in subst (λ y. y < n) e (below b (are.sound b on))) in
+    omega (arith, same, few)
+
+pub few_horizontal : (a : Matrix) (c : Components) (n : ℕ) → AreConnectedComponents a c → 0 < n → cols a ≤ n → length c.horizontal ≤ n
+few_horizontal a c n are some wide = few_ordered a (IsHorizontalVertex a) least_col c.horizontal n are.horizontal (λ b k. let (v, is) = k in first_below b.cols n some (λ d h. let inside = joined_inside a (IsHorizontalVertex a) is.inside (is.cols.sound d h) in let lt : d < cols a = inside.0 in omega (arith, lt, wide)))
+
+pub few_vertical : (a : Matrix) (c : Components) (n : ℕ) → AreConnectedComponents a c → 0 < n → a.rows ≤ n → length c.vertical ≤ n
+few_vertical a c n are some long = few_ordered a (IsVerticalVertex a) least_row c.vertical n are.vertical (λ b k. let (v, is) = k in first_below b.rows n some (λ r h. let inside = joined_inside a (IsVerticalVertex a) is.inside (is.rows.sound r h) in let lt : r < a.rows = inside.0 in omega (arith, lt, long)))
+
 -- Both parts.
 
--- the numbers of both lists of blocks, written one after the other
-both_numbered : (f : Block → List ℕ) (hs vs : List Block) (start mid new : List ℕ) → AreNumbered f 0 hs (length hs) start mid → AreNumbered f (length hs) vs (length vs) mid new → ((i j x : ℕ) → i < length hs → j < length vs → Among x (f (block_at hs i)) → ¬ Among x (f (block_at vs j))) → (i x : ℕ) → i < length (hs ++ vs) → Among x (f (block_at (hs ++ vs) i)) → get_or new x 0 ≡ i
-both_numbered f hs vs start mid new h v apart i x lt on = by (dec_lt i (length hs))
-  where
-    both : length (hs ++ vs) ≡ length hs + length vs
-    both = length-append hs vs
-
-    by : Dec (i < length hs) → get_or new x 0 ≡ i
-    by (yes first) =
-        let here = subst (λ (b : Block). Among x (f b)) (get_or_append_left hs vs no_block i first) on in
-        let written = h.here i x first here in
-        v.others x (λ j below. apart i j x first below here) ∙ omega (arith, written)
-    by (no late) =
-        let at : length hs + (i - length hs) ≡ i = omega (arith, late) in
-        let same : block_at (hs ++ vs) i ≡ block_at vs (i - length hs) = ap (λ j. block_at (hs ++ vs) j) (sym at) ∙ get_or-append-add hs vs (i - length hs) no_block in
-        let written = v.here (i - length hs) x (omega (arith, late, both, lt)) (subst (λ (b : Block). Among x (f b)) same on) in
-        omega (arith, written, at)
-
 -- what stands in no block keeps what stood there first
-neither_numbered : (f : Block → List ℕ) (hs vs : List Block) (start mid new : List ℕ) (x : ℕ) → AreNumbered f 0 hs (length hs) start mid → AreNumbered f (length hs) vs (length vs) mid new → ((i : ℕ) → i < length hs → ¬ Among x (f (block_at hs i))) → ((i : ℕ) → i < length vs → ¬ Among x (f (block_at vs i))) → get_or new x 0 ≡ get_or start x 0
+neither_numbered : (f : Block → List ℕ) (hs vs : List Block) (start mid new : List ℕ) (x : ℕ) → AreNumbered f hs (length hs) start mid → AreNumbered f vs (length vs) mid new → ((i : ℕ) → i < length hs → ¬ Among x (f (block_at hs i))) → ((i : ℕ) → i < length vs → ¬ Among x (f (block_at vs i))) → get_or new x 0 ≡ get_or start x 0
 neither_numbered f hs vs start mid new x h v out out2 = v.others x out2 ∙ h.others x out
 
-pub components_told : (a : Matrix) (counts : ComponentCounts) (c : Components) (no_rows mid_rows rows no_columns mid_columns columns : List ℕ) → AreConnectedComponents a c → counts.horizontal ≡ length c.horizontal → counts.vertical ≡ length c.vertical
+pub component_numbers : (a : Matrix) (c : Components) (no_rows mid_rows rows no_columns mid_columns columns : List ℕ) → AreConnectedComponents a c
     → length no_rows ≡ a.rows → length no_columns ≡ cols a → ((r : ℕ) → r < a.rows → get_or no_rows r 0 ≡ none) → ((d : ℕ) → d < cols a → get_or no_columns d 0 ≡ none)
-    → AreNumbered rows_of_block 0 c.horizontal (length c.horizontal) no_rows mid_rows → AreNumbered rows_of_block (length c.horizontal) c.vertical (length c.vertical) mid_rows rows
-    → AreNumbered cols_of_block 0 c.horizontal (length c.horizontal) no_columns mid_columns → AreNumbered cols_of_block (length c.horizontal) c.vertical (length c.vertical) mid_columns columns → TellsComponents a counts rows columns
-components_told a counts c no_rows mid_rows rows no_columns mid_columns columns are horizontal vertical long long2 none_row none_col x y z w = record {
-  components = c;
-  are_components = are;
-  horizontal = horizontal;
-  vertical = vertical;
+    → AreNumbered rows_of_block c.horizontal (length c.horizontal) no_rows mid_rows → AreNumbered rows_of_block c.vertical (length c.vertical) mid_rows rows
+    → AreNumbered cols_of_block c.horizontal (length c.horizontal) no_columns mid_columns → AreNumbered cols_of_block c.vertical (length c.vertical) mid_columns columns → AreComponentNumbers a c rows columns
+component_numbers a c no_rows mid_rows rows no_columns mid_columns columns are long long2 none_row none_col x y z w = record {
   long_rows = y.long ∙ x.long ∙ long;
   long_columns = w.long ∙ z.long ∙ long2;
-  rows = both_numbered rows_of_block c.horizontal c.vertical no_rows mid_rows rows x y (λ i j r lt lt2 h k. rows_apart a r (row_inside a (IsHorizontalVertex a) least_col c.horizontal i r are.horizontal lt h) (row_inside a (IsVerticalVertex a) least_row c.vertical j r are.vertical lt2 k));
-  columns = both_numbered cols_of_block c.horizontal c.vertical no_columns mid_columns columns z w (λ i j d lt lt2 h k. cols_apart a d (col_inside a (IsHorizontalVertex a) least_col c.horizontal i d are.horizontal lt h) (col_inside a (IsVerticalVertex a) least_row c.vertical j d are.vertical lt2 k));
-  square_rows = λ r s. neither_numbered rows_of_block c.horizontal c.vertical no_rows mid_rows rows r x y (λ i lt h. s.1 (row_inside a (IsHorizontalVertex a) least_col c.horizontal i r are.horizontal lt h)) (λ i lt h. s.2 (row_inside a (IsVerticalVertex a) least_row c.vertical i r are.vertical lt h)) ∙ none_row r s.0;
-  square_columns = λ d s. neither_numbered cols_of_block c.horizontal c.vertical no_columns mid_columns columns d z w (λ i lt h. s.1 (col_inside a (IsHorizontalVertex a) least_col c.horizontal i d are.horizontal lt h)) (λ i lt h. s.2 (col_inside a (IsVerticalVertex a) least_row c.vertical i d are.vertical lt h)) ∙ none_col d s.0;
+  horizontal_rows = λ i r lt h. y.others r (λ j lt2 k. rows_apart a r (of_horizontal i r lt h) (of_vertical j r lt2 k)) ∙ x.here i r lt h;
+  horizontal_columns = λ i d lt h. w.others d (λ j lt2 k. cols_apart a d (on_horizontal i d lt h) (on_vertical j d lt2 k)) ∙ z.here i d lt h;
+  vertical_rows = y.here;
+  vertical_columns = w.here;
+  square_rows = λ r s. neither_numbered rows_of_block c.horizontal c.vertical no_rows mid_rows rows r x y (λ i lt h. s.1 (of_horizontal i r lt h)) (λ i lt h. s.2 (of_vertical i r lt h)) ∙ none_row r s.0;
+  square_columns = λ d s. neither_numbered cols_of_block c.horizontal c.vertical no_columns mid_columns columns d z w (λ i lt h. s.1 (on_horizontal i d lt h)) (λ i lt h. s.2 (on_vertical i d lt h)) ∙ none_col d s.0;
 }
+  where
+    of_horizontal : (i r : ℕ) → i < length c.horizontal → Among r (block_at c.horizontal i).rows → IsHorizontalVertex a (RowAt r)
+    of_horizontal i r lt h = row_inside a (IsHorizontalVertex a) least_col c.horizontal i r are.horizontal lt h
+
+    of_vertical : (i r : ℕ) → i < length c.vertical → Among r (block_at c.vertical i).rows → IsVerticalVertex a (RowAt r)
+    of_vertical i r lt h = row_inside a (IsVerticalVertex a) least_row c.vertical i r are.vertical lt h
+
+    on_horizontal : (i d : ℕ) → i < length c.horizontal → Among d (block_at c.horizontal i).cols → IsHorizontalVertex a (ColAt d)
+    on_horizontal i d lt h = col_inside a (IsHorizontalVertex a) least_col c.horizontal i d are.horizontal lt h
+
+    on_vertical : (i d : ℕ) → i < length c.vertical → Among d (block_at c.vertical i).cols → IsVerticalVertex a (ColAt d)
+    on_vertical i d lt h = col_inside a (IsVerticalVertex a) least_row c.vertical i d are.vertical lt h

@@ -1,76 +1,51 @@
 -- What the diagonals' answers and refusals rest on.
-use Rattle.std.proofs.Common.{◌≡◌, ◌≢◌, ◌∙◌, ℕ, ℤ, ◌-◌, ◌<◌, ◌≤◌, List, length, get_or, take, refl, sym, ap, arith, subst, inr, take_all, filter, map, nat_lt, [], ◌∷◌}
+use Rattle.std.proofs.Common.{◌≡◌, ◌≢◌, ◌∙◌, ℕ, ℤ, ◌-◌, ◌<◌, ◌≤◌, ◌^◌, List, length, get_or, take, refl, sym, ap, arith, subst, take_all, filter, map, nat_lt, [], ◌∷◌}
 use Rattle.std.proofs.lemmas.List.{length-map}
 use Rattle.bip_defs.specs.Bottleneck.{IsBest, IsFull, IsSingular, above}
 use Rattle.bip_defs.specs.Lists.{Among}
-use Rattle.bip_defs.specs.Matching.{cols_of}
 use Rattle.bip_defs.specs.Matrix.{Matrix, Place, cols, column, upto}
-use Rattle.bip_defs.proofs.Full.{few_below}
+use Rattle.bip_defs.proofs.Full.{few_below, matching_few}
 use Rattle.bip_defs.proofs.Sets.{col_pair, entry_col, rising_distinct, upto_length}
 use Rattle.bip_graph.specs.Matching.{none}
 use Rattle.blocktri.specs.Answers.{AreRowsOf}
-use Rattle.blocktri.specs.DiagonalCauses.{IsDiagonalRefusal, of_error}
-use Rattle.blocktri.specs.Diagonals.{HasNoFull}
+use Rattle.blocktri.specs.PerfectMatchings.{HasNoPerfectMatching}
 use Rattle.blocktri.specs.Written.{IsPut}
-use Rattle.blocktri.specs.declared.diagonal_refusals.DiagonalRefusal.{DiagonalRefusal}
-use Rattle.blocktri.specs.declared.diagonal_refusals.DiagonalRefusal.TheVariants as refusals
-use Rattle.blocktri.specs.declared.refusals.Refusal.TheVariants.{Columns, Lengths}
-use Rattle.blocktri.proofs.LookLemmas.{matrix_cols}
+use Rattle.blocktri.proofs.DiagonalOrderLemmas.{full_cols, full_rows}
+use Rattle.blocktri.proofs.LookLemmas.{few_rows, matrix_cols}
 use Rattle.integer_diagonal.specs.Heaviest.{IsHeaviestDiagonal}
 use Rattle.sp_pattern.specs.Columns.{AreColumns, matrix_of}
-use Rattle.sp_pattern.specs.ValuedColumns.{entries_given}
-use Rattle.sp_pattern.specs.ValuesErrors.{IsValuesError}
-use Rattle.sp_pattern.specs.Weights.{AreWeightsOf, Weighing}
-use Rattle.sp_pattern.specs.declared.valued_columns.ValuesError.{ValuesError}
-use Rattle.sp_pattern.specs.declared.valued_columns.ValuesError.TheVariants as errors
+use Rattle.sp_pattern.specs.Weights.{Weighing}
 
--- Refusals.
+-- Where there is no perfect matching.
 
-pub refusal_fits : (Fit : Type 0) (Large : Weighing → Type 0) (rows : ℕ) (starts ids : List ℕ) (values : List ℤ) (e : DiagonalRefusal) → Fit → IsDiagonalRefusal (Unit {0}) Large rows starts ids values e → IsDiagonalRefusal Fit Large rows starts ids values e
-refusal_fits Fit Large rows starts ids values (refusals.Lists Lengths) fit h = absurd (h tt)
-refusal_fits Fit Large rows starts ids values (refusals.Lists (Columns error)) fit h = (fit, h.1)
-refusal_fits Fit Large rows starts ids values (refusals.SumLimit at) fit h = (fit, h.1, h.2)
-refusal_fits Fit Large rows starts ids values refusals.Singular fit h = (fit, h.1)
-refusal_fits Fit Large rows starts ids values refusals.PriceLimit fit h = (fit, h.1)
+pub rectangular_none : (a : Matrix) → a.rows ≢ cols a → HasNoPerfectMatching a
+rectangular_none a ne m full =
+    let rows = full_rows a m full in
+    let columns = full_cols a m full in
+    let few = few_rows a m full.matching in
+    let few_columns = matching_few a m full.matching in
+    ne (omega (arith, rows, columns, few, few_columns))
 
-pub error_refuses : (Large : Weighing → Type 0) (rows : ℕ) (starts ids : List ℕ) (values : List ℤ) (e : ValuesError) → AreColumns rows starts ids → IsValuesError rows starts ids values e → IsDiagonalRefusal (Unit {0}) Large rows starts ids values (of_error e)
-error_refuses Large rows starts ids values (errors.SumLimit at) a h = (tt, a, h)
-error_refuses Large rows starts ids values errors.OutOfMemory a h = (tt, a)
-
--- The matrix with its weights.
-
-pub matrix_given : (p : Matrix) (rows : ℕ) (starts ids : List ℕ) → p ≡ matrix_of rows starts ids → p ≡ matrix_of p.rows starts ids
-matrix_given p rows starts ids e = e ∙ ap (λ n. matrix_of n starts ids) (sym (ap (λ (b : Matrix). b.rows) e))
-
-pub columns_given : (p : Matrix) (rows : ℕ) (starts ids : List ℕ) → p ≡ matrix_of rows starts ids → AreColumns rows starts ids → AreColumns p.rows starts ids
-columns_given p rows starts ids e a = subst (λ n. AreColumns n starts ids) (sym (ap (λ (b : Matrix). b.rows) e)) a
-
-pub weights_given : (p : Matrix) (rows : ℕ) (starts ids : List ℕ) (values : List ℤ) (w : Weighing) → p ≡ matrix_of rows starts ids → AreWeightsOf (entries_given p.rows starts ids values) p w → AreWeightsOf (entries_given rows starts ids values) (matrix_of rows starts ids) w
-weights_given p rows starts ids values w e h = subst (λ (b : Matrix). AreWeightsOf (entries_given b.rows starts ids values) b w) e h
-
-pub error_given : (p : Matrix) (rows : ℕ) (starts ids : List ℕ) (values : List ℤ) (e : ValuesError) → p ≡ matrix_of rows starts ids → IsValuesError p.rows starts ids values e → IsValuesError rows starts ids values e
-error_given p rows starts ids values e is h = subst (λ (b : Matrix). IsValuesError b.rows starts ids values e) is h
-
-pub singular_none : (a : Matrix) (rank : ℕ) (hall : List ℕ) → IsSingular a rank hall → HasNoFull a
-singular_none a rank hall s = inr (rank, s.is_rank, s.below)
+pub singular_none : (a : Matrix) (rank : ℕ) (hall : List ℕ) → IsSingular a rank hall → HasNoPerfectMatching a
+singular_none a rank hall s m full =
+    let (o, max, size) = s.is_rank in
+    let columns = full_cols a m full in
+    let most = max.longest m full.matching in
+    let below = s.below in
+    omega (arith, columns, most, size, below)
 
 -- A perfect matching that is written.
 
-pub pair_columns : (rows : ℕ) (starts ids : List ℕ) (a : Matrix) (m : List Place) → a ≡ matrix_of rows starts ids → IsFull a m → (r c : ℕ) → Among (r, c) m → c < length starts - 1
-pair_columns rows starts ids a m is full r c h = let lt = entry_col a r c (full.matching.entries r c h) in let n = ap cols is ∙ matrix_cols rows starts ids in omega (arith, lt, n)
-
-pub pair_rows : (rows : ℕ) (starts ids : List ℕ) (a : Matrix) (m : List Place) → AreColumns rows starts ids → a ≡ matrix_of rows starts ids → IsFull a m → (r c : ℕ) → Among (r, c) m → r ≢ none
-pair_rows rows starts ids a m columns is full r c h e = let lt = (full.matching.entries r c h).0 in let same = ap (λ (b : Matrix). b.rows) is in let few = columns.few_rows in omega (arith, lt, same, few, e)
-
-pub pairs_all : (rows : ℕ) (starts ids : List ℕ) (a : Matrix) (m : List Place) → a ≡ matrix_of rows starts ids → IsFull a m → (c : ℕ) → c < length starts - 1 → Among c (cols_of m)
-pairs_all rows starts ids a m is full c lt = full.all_cols c (let n = ap cols is ∙ matrix_cols rows starts ids in omega (arith, lt, n))
+-- the matrix of the columns is as wide as a list with a place for each of them
+pub full_fits : (rows : ℕ) (starts ids : List ℕ) (a : Matrix) (m : List Place) (xs : List ℕ) → AreColumns rows starts ids → a ≡ matrix_of rows starts ids → IsFull a m → length xs ≡ length starts - 1
+    → (b : Matrix) × IsFull b m × (length xs ≡ cols b) × (b.rows < 2 ^ 32)
+full_fits rows starts ids a m xs columns is full long = (a, full, long ∙ sym (ap cols is ∙ matrix_cols rows starts ids), let same = ap (λ (b : Matrix). b.rows) is in let few = columns.few_rows in omega (arith, same, few))
 
 -- all pairs are written
-pub pairs_rows : (m : List Place) (k : ℕ) (old new : List ℕ) → ((r c : ℕ) → Among (r, c) m → c < length old) → ((r c : ℕ) → Among (r, c) m → r ≢ none) → ((c : ℕ) → c < length old → Among c (cols_of m)) → length new ≡ length old
-    → length m ≤ k → ((q : Place) → Among q (take k m) → get_or new q.1 0 ≡ q.0) → AreRowsOf m new
-pairs_rows m k old new columns rows all long end set r c = (
-  λ (h : Among (r, c) m). (let lt = columns r c h in omega (arith, lt, long), written r c h, rows r c h),
-  λ (told : (c < length new) × (get_or new c 0 ≡ r) × (r ≢ none)). let (s, h) = col_pair c m (all c (let lt = told.0 in omega (arith, lt, long))) in subst (λ x. Among {X = Place} (x, c) m) (sym (written s c h) ∙ told.1) h,
+pub pairs_rows : (a : Matrix) (m : List Place) (k : ℕ) (old new : List ℕ) → IsFull a m → length old ≡ cols a → a.rows < 2 ^ 32 → length new ≡ length old → length m ≤ k → ((q : Place) → Among q (take k m) → get_or new q.1 0 ≡ q.0) → AreRowsOf m new
+pairs_rows a m k old new full wide few long end set r c = (
+  λ (h : Among (r, c) m). (let lt = entry_col a r c (full.matching.entries r c h) in omega (arith, lt, wide, long), written r c h, λ (e : r ≡ none). let lt = (full.matching.entries r c h).0 in omega (arith, lt, few, e)),
+  λ (told : (c < length new) × (get_or new c 0 ≡ r) × (r ≢ none)). let (s, h) = col_pair c m (full.all_cols c (let lt = told.0 in omega (arith, lt, wide, long))) in subst (λ x. Among {X = Place} (x, c) m) (sym (written s c h) ∙ told.1) h,
 )
   where
     written : (r c : ℕ) → Among (r, c) m → get_or new c 0 ≡ r

@@ -16,21 +16,22 @@ use Rattle.bip_defs.proofs.Sets.{among_at, few_distinct, number_same, one_col, o
 use Rattle.bip_graph.specs.Answers.{orders_of}
 use Rattle.bip_graph.specs.Orders.{rows_before}
 use Rattle.blocktri.specs.Answers.{AreBlockStarts}
-use Rattle.blocktri.specs.BlockOrders.{AreMatesOf, HasNoPerfectMatching, TellsBlockOrder}
+use Rattle.blocktri.specs.BlockOrders.{AreMatesOf, TellsBlockOrder}
+use Rattle.blocktri.specs.PerfectMatchings.{HasNoPerfectMatching}
 use Rattle.blocktri.proofs.LookLemmas.{few_rows}
 use Rattle.blocktri.proofs.WriteLemmas.{before_more, before_within, once_long}
 
 -- Where there is no perfect matching.
 
 -- a perfect matching has at least as many pairs as there are rows, and as there are columns
-full_rows : (a : Matrix) (m : List Place) → IsFull a m → a.rows ≤ length m
+pub full_rows : (a : Matrix) (m : List Place) → IsFull a m → a.rows ≤ length m
 full_rows a m full =
     let few = few_distinct (upto a.rows) (rows_of m) (rising_distinct (upto a.rows) (upto_rising 0 a.rows)) (λ r h. full.all_rows r ((upto_lists a.rows).sound r h)) in
     let long = upto_length 0 a.rows in
     let same = length-map m (λ (p : Place). p.0) in
     omega (arith, few, long, same)
 
-full_cols : (a : Matrix) (m : List Place) → IsFull a m → cols a ≤ length m
+pub full_cols : (a : Matrix) (m : List Place) → IsFull a m → cols a ≤ length m
 full_cols a m full =
     let few = few_distinct (upto (cols a)) (cols_of m) (rising_distinct (upto (cols a)) (upto_rising 0 (cols a))) (λ c h. full.all_cols c ((upto_lists (cols a)).sound c h)) in
     let long = upto_length 0 (cols a) in
@@ -146,14 +147,14 @@ three_same x y z a b c e f g = rw (map-id x, map-id y, map-id z, e, f, g) refl
 
 -- What is told.
 
-pub order_told : (a : Matrix) (d : Decomposition) (m : List Place) (count : ℕ) (row_order column_order old starts : List ℕ) → IsDecompositionOf a d → IsMaximum a m → a.rows ≡ cols a → length m ≡ a.rows → ListsOnce (λ c. c < cols a) (orders_of d).1 → column_order ≡ (orders_of d).1
+pub order_told : (a : Matrix) (d : Decomposition) (m : List Place) (count : ℕ) (row_order column_order old starts : List ℕ) → IsDecompositionOf a d → IsMaximum a m → a.rows ≡ cols a → length m ≡ a.rows → ListsOnce (λ c. c < cols a) column_order → column_order ≡ (orders_of d).1
     → length row_order ≡ length column_order → AreMatesOf m column_order row_order → AreBlockStarts d.blocks old starts → count ≡ length d.blocks → TellsBlockOrder a count row_order column_order old starts
 order_told a d m count row_order column_order old starts is max square full once columns long mates are count_is = record {
   square = square;
   decomposition = d;
   is_decomposition = is;
   columns = columns;
-  rows = mates_once a m column_order row_order max.matching (subst AreDistinct (sym columns) once.distinct) (omega (arith, wide, square)) long mates;
+  rows = mates_once a m column_order row_order max.matching once.distinct (omega (arith, wide, square)) long mates;
   diagonal = λ k lt. max.matching.entries (get_or row_order k 0) (get_or column_order k 0) (mates k (omega (arith, wide, lt)));
   rows_of_blocks = in_blocks;
   starts = are;
@@ -161,7 +162,7 @@ order_told a d m count row_order column_order old starts is max square full once
 }
   where
     wide : length column_order ≡ cols a
-    wide = ap (λ (xs : List ℕ). length xs) columns ∙ once_long (cols a) (orders_of d).1 once
+    wide = once_long (cols a) column_order once
 
     same : (b : Block) → Among b d.blocks → length b.rows ≡ length b.cols
     same b h = block_square a d b is h

@@ -1,5 +1,6 @@
 -- The answers are determined by the matrix.
 use Rattle.std.proofs.Common.{◌≡◌, ◌≢◌, ◌⊎◌, ◌↔◌, ◌∙◌, ℕ, ◌<◌, true, List, length, get_or, refl, sym, ap, arith, subst, inl, inr, le_antisymm}
+use Rattle.std.specs.List.{flat_map}
 use Rattle.std.proofs.Math.Decide.{dec_lt}
 use Rattle.std.proofs.Math.Seq.{ext_get_or}
 use Rattle.bip_defs.specs.Blocks.{Block, ColAt, RowAt, Vertex, all_cols, all_rows, block_at, least_col, no_block}
@@ -12,15 +13,14 @@ use Rattle.bip_defs.specs.Parts.{IsSquareCol, IsSquareRow}
 use Rattle.bip_defs.proofs.Connected.{joined_inside, same_components}
 use Rattle.bip_defs.proofs.Counts.{horizontal_row_in_range, vertical_col_in_range}
 use Rattle.bip_defs.proofs.LeastMatching.{one_set}
-use Rattle.bip_defs.proofs.Sets.{among_left, among_right, listed, number_among, number_same, place_among}
+use Rattle.bip_defs.proofs.Sets.{listed, number_among, number_same, place_among}
 use Rattle.bip_defs.proofs.Together.{among_flat, flat_among}
 use Rattle.bip_defs.proofs.Uniqueness.{same_matrix}
 use Rattle.bip_graph.specs.Answers.{orders_of}
 use Rattle.bip_graph.specs.Matching.{none}
 use Rattle.blocktri.specs.Answers.{AreBlockStarts, AreRowsOf, AreSizesOf, Tells, TellsMatching}
-use Rattle.blocktri.specs.OuterComponents.{TellsComponents, all_components}
+use Rattle.blocktri.specs.OuterComponents.{AreComponentNumbers, AreNumbersOf, TellsComponents, cols_of_block, rows_of_block}
 use Rattle.blocktri.specs.declared.block_form.Sizes.{Sizes}
-use Rattle.blocktri.specs.declared.outer_components.ComponentCounts.{ComponentCounts}
 
 -- The matrix.
 
@@ -44,8 +44,8 @@ one_rank a j k x y =
 
 -- The decomposition.
 
-same_sizes : (d : Decomposition) (s t : Sizes) → AreSizesOf d s → AreSizesOf d t → s ≡ t
-same_sizes d s t x y = λ i. record {
+same_sizes : (d : Decomposition) (s t : Sizes) → AreSizesOf d s → AreSizesOf d t → s.horizontal_components ≡ t.horizontal_components → s.vertical_components ≡ t.vertical_components → s ≡ t
+same_sizes d s t x y h v = λ i. record {
   rank = (x.rank ∙ sym y.rank) i;
   horizontal_rows = (x.horizontal_rows ∙ sym y.horizontal_rows) i;
   horizontal_columns = (x.horizontal_columns ∙ sym y.horizontal_columns) i;
@@ -53,6 +53,8 @@ same_sizes d s t x y = λ i. record {
   vertical_rows = (x.vertical_rows ∙ sym y.vertical_rows) i;
   vertical_columns = (x.vertical_columns ∙ sym y.vertical_columns) i;
   blocks = (x.blocks ∙ sym y.blocks) i;
+  horizontal_components = h i;
+  vertical_components = v i;
 }
 
 same_starts : (bs : List Block) (old xs ys : List ℕ) → AreBlockStarts bs old xs → AreBlockStarts bs old ys → xs ≡ ys
@@ -62,9 +64,8 @@ same_starts bs old xs ys x y = ext_get_or 0 xs ys (x.long ∙ sym y.long) (λ i 
     by i (yes behind) = x.others i behind ∙ sym (y.others i behind)
     by i (no within) = x.starts i (omega (arith, within)) ∙ sym (y.starts i (omega (arith, within)))
 
-pub same_told : (a : Matrix) (s t : Sizes) (rows columns starts rows2 columns2 starts2 old : List ℕ) → ((d e : Decomposition) → IsDecompositionOf a d → IsDecompositionOf a e → d ≡ e) → Tells a s rows columns old starts → Tells a t rows2 columns2 old starts2 → (s ≡ t) × (rows ≡ rows2) × (columns ≡ columns2) × (starts ≡ starts2)
+pub same_told : (a : Matrix) (s t : Sizes) (rows columns starts rows2 columns2 starts2 old : List ℕ) → ((d e : Decomposition) → IsDecompositionOf a d → IsDecompositionOf a e → d ≡ e) → Tells a s rows columns old starts → Tells a t rows2 columns2 old starts2 → (rows ≡ rows2) × (columns ≡ columns2) × (starts ≡ starts2)
 same_told a s t rows columns starts rows2 columns2 starts2 old one x y = (
-  same_sizes y.decomposition s t (subst (λ d. AreSizesOf d s) same x.written.sizes) y.written.sizes,
   x.written.rows ∙ ap (λ d. (orders_of d).0) same ∙ sym y.written.rows,
   x.written.columns ∙ ap (λ d. (orders_of d).1) same ∙ sym y.written.columns,
   same_starts y.decomposition.blocks old starts starts2 (subst (λ (d : Decomposition). AreBlockStarts d.blocks old starts) same x.written.starts) y.written.starts,
@@ -72,6 +73,16 @@ same_told a s t rows columns starts rows2 columns2 starts2 old one x y = (
   where
     same : x.decomposition ≡ y.decomposition
     same = one x.decomposition y.decomposition x.is_decomposition y.is_decomposition
+
+pub same_sizes_told : (a : Matrix) (s t : Sizes) (rows columns starts rows2 columns2 starts2 r d r2 d2 old : List ℕ) → ((d e : Decomposition) → IsDecompositionOf a d → IsDecompositionOf a e → d ≡ e) → Tells a s rows columns old starts → TellsComponents a s r d → Tells a t rows2 columns2 old starts2 → TellsComponents a t r2 d2 → s ≡ t
+same_sizes_told a s t rows columns starts rows2 columns2 starts2 r d r2 d2 old one x k y l = same_sizes y.decomposition s t (subst (λ e. AreSizesOf e s) same x.written.sizes) y.written.sizes
+    (k.horizontal ∙ ap (λ (c : Components). length c.horizontal) parts ∙ sym l.horizontal) (k.vertical ∙ ap (λ (c : Components). length c.vertical) parts ∙ sym l.vertical)
+  where
+    same : x.decomposition ≡ y.decomposition
+    same = one x.decomposition y.decomposition x.is_decomposition y.is_decomposition
+
+    parts : k.components ≡ l.components
+    parts = same_components a k.components l.components k.are_components l.are_components
 
 -- The least matching.
 
@@ -100,45 +111,45 @@ has_component a P least bs v are rows_below cols_below inside no_component = lis
     no_component (record { rows = rows.0; cols = columns.0 }, are.complete _ (v, component), component)))
 
 -- a row that no component has is square, and so is a column
-lone_row : (a : Matrix) (c : Components) (r : ℕ) → AreConnectedComponents a c → r < a.rows → ¬ Among r (all_rows (all_components c)) → IsSquareRow a r
-lone_row a c r are lt out = (
+lone_row : (a : Matrix) (c : Components) (r : ℕ) → AreConnectedComponents a c → r < a.rows → ¬ Among r (all_rows c.horizontal) → ¬ Among r (all_rows c.vertical) → IsSquareRow a r
+lone_row a c r are lt out out2 = (
   lt,
-  λ h. has_component a (IsHorizontalVertex a) least_col c.horizontal (RowAt r) are.horizontal (horizontal_row_in_range a) (λ d k. k.0) h (λ x. out (among_flat (λ (b : Block). b.rows) (all_components c) x.0 r (among_left x.0 c.horizontal c.vertical x.1) (x.2.rows.complete r alone))),
-  λ v. has_component a (IsVerticalVertex a) least_row c.vertical (RowAt r) are.vertical (λ s k. k.0) (vertical_col_in_range a) v (λ x. out (among_flat (λ (b : Block). b.rows) (all_components c) x.0 r (among_right x.0 c.horizontal c.vertical x.1) (x.2.rows.complete r alone))),
+  λ h. has_component a (IsHorizontalVertex a) least_col c.horizontal (RowAt r) are.horizontal (horizontal_row_in_range a) (λ d k. k.0) h (λ x. out (among_flat (λ (b : Block). b.rows) c.horizontal x.0 r x.1 (x.2.rows.complete r alone))),
+  λ v. has_component a (IsVerticalVertex a) least_row c.vertical (RowAt r) are.vertical (λ s k. k.0) (vertical_col_in_range a) v (λ x. out2 (among_flat (λ (b : Block). b.rows) c.vertical x.0 r x.1 (x.2.rows.complete r alone))),
 )
 
-lone_col : (a : Matrix) (c : Components) (d : ℕ) → AreConnectedComponents a c → d < cols a → ¬ Among d (all_cols (all_components c)) → IsSquareCol a d
-lone_col a c d are lt out = (
+lone_col : (a : Matrix) (c : Components) (d : ℕ) → AreConnectedComponents a c → d < cols a → ¬ Among d (all_cols c.horizontal) → ¬ Among d (all_cols c.vertical) → IsSquareCol a d
+lone_col a c d are lt out out2 = (
   lt,
-  λ h. has_component a (IsHorizontalVertex a) least_col c.horizontal (ColAt d) are.horizontal (horizontal_row_in_range a) (λ e k. k.0) h (λ x. out (among_flat (λ (b : Block). b.cols) (all_components c) x.0 d (among_left x.0 c.horizontal c.vertical x.1) (x.2.cols.complete d alone))),
-  λ v. has_component a (IsVerticalVertex a) least_row c.vertical (ColAt d) are.vertical (λ s k. k.0) (vertical_col_in_range a) v (λ x. out (among_flat (λ (b : Block). b.cols) (all_components c) x.0 d (among_right x.0 c.horizontal c.vertical x.1) (x.2.cols.complete d alone))),
+  λ h. has_component a (IsHorizontalVertex a) least_col c.horizontal (ColAt d) are.horizontal (horizontal_row_in_range a) (λ e k. k.0) h (λ x. out (among_flat (λ (b : Block). b.cols) c.horizontal x.0 d x.1 (x.2.cols.complete d alone))),
+  λ v. has_component a (IsVerticalVertex a) least_row c.vertical (ColAt d) are.vertical (λ s k. k.0) (vertical_col_in_range a) v (λ x. out2 (among_flat (λ (b : Block). b.cols) c.vertical x.0 d x.1 (x.2.cols.complete d alone))),
 )
 
--- numbers at the places that the same blocks have
-same_numbers : (f : Block → List ℕ) (bs : List Block) (flat xs ys : List ℕ) (Square : ℕ → Type 0) (n : ℕ) → length xs ≡ n → length ys ≡ n → ((x : ℕ) → Among x flat → (b : Block) × Among b bs × Among x (f b)) → ((x : ℕ) → x < n → ¬ Among x flat → Square x)
-    → ((i x : ℕ) → i < length bs → Among x (f (block_at bs i)) → get_or xs x 0 ≡ i) → ((i x : ℕ) → i < length bs → Among x (f (block_at bs i)) → get_or ys x 0 ≡ i)
+-- numbers at a place that one of the blocks has
+same_number : (f : Block → List ℕ) (bs : List Block) (xs ys : List ℕ) (x : ℕ) → AreNumbersOf f bs xs → AreNumbersOf f bs ys → (b : Block) → Among b bs → Among x (f b) → get_or xs x 0 ≡ get_or ys x 0
+same_number f bs xs ys x here here2 b on has =
+    let (i, below, is) = place_among b no_block bs on in
+    let at : Among x (f (block_at bs i)) = subst (λ (e : Block). Among x (f e)) (sym is) has in
+    here i x below at ∙ sym (here2 i x below at)
+
+-- numbers at the places that the same blocks of both parts have
+same_numbers : (f : Block → List ℕ) (hs vs : List Block) (xs ys : List ℕ) (Square : ℕ → Type 0) (n : ℕ) → length xs ≡ n → length ys ≡ n → ((x : ℕ) → x < n → ¬ Among x (flat_map f hs) → ¬ Among x (flat_map f vs) → Square x)
+    → AreNumbersOf f hs xs → AreNumbersOf f hs ys → AreNumbersOf f vs xs → AreNumbersOf f vs ys
     → ((x : ℕ) → Square x → get_or xs x 0 ≡ none) → ((x : ℕ) → Square x → get_or ys x 0 ≡ none) → xs ≡ ys
-same_numbers f bs flat xs ys Square n long long2 has lone here here2 square square2 = ext_get_or 0 xs ys (long ∙ sym long2) (λ x lt. by x lt (number_among x flat))
+same_numbers f hs vs xs ys Square n long long2 lone here here2 there there2 square square2 = ext_get_or 0 xs ys (long ∙ sym long2) (λ x lt. by x lt (number_among x (flat_map f hs)) (number_among x (flat_map f vs)))
   where
-    by : (x : ℕ) → x < length xs → Among x flat ⊎ (¬ Among x flat) → get_or xs x 0 ≡ get_or ys x 0
-    by x lt (inl on) =
-        let (b, h, k) = has x on in
-        let (i, below, is) = place_among b no_block bs h in
-        let at : Among x (f (block_at bs i)) = subst (λ (e : Block). Among x (f e)) (sym is) k in
-        here i x below at ∙ sym (here2 i x below at)
-    by x lt (inr out) = let s = lone x (omega (arith, lt, long)) out in square x s ∙ sym (square2 x s)
+    by : (x : ℕ) → x < length xs → Among x (flat_map f hs) ⊎ (¬ Among x (flat_map f hs)) → Among x (flat_map f vs) ⊎ (¬ Among x (flat_map f vs)) → get_or xs x 0 ≡ get_or ys x 0
+    by x lt (inl on) d = let (b, h, k) = flat_among f hs x on in same_number f hs xs ys x here here2 b h k
+    by x lt (inr out) (inl on) = let (b, h, k) = flat_among f vs x on in same_number f vs xs ys x there there2 b h k
+    by x lt (inr out) (inr out2) = let s = lone x (omega (arith, lt, long)) out out2 in square x s ∙ sym (square2 x s)
 
-same_counts : (j k : ComponentCounts) → j.horizontal ≡ k.horizontal → j.vertical ≡ k.vertical → j ≡ k
-same_counts j k e f = λ i. record { horizontal = e i; vertical = f i }
-
-pub same_components_told : (a : Matrix) (j k : ComponentCounts) (rows columns rows2 columns2 : List ℕ) → TellsComponents a j rows columns → TellsComponents a k rows2 columns2 → (j ≡ k) × (rows ≡ rows2) × (columns ≡ columns2)
-same_components_told a j k rows columns rows2 columns2 x y = (
-  same_counts j k (x.horizontal ∙ ap (λ (c : Components). length c.horizontal) same ∙ sym y.horizontal) (x.vertical ∙ ap (λ (c : Components). length c.vertical) same ∙ sym y.vertical),
-  same_numbers (λ (b : Block). b.rows) (all_components y.components) (all_rows (all_components y.components)) rows rows2 (IsSquareRow a) a.rows x.long_rows y.long_rows (λ r h. flat_among (λ (b : Block). b.rows) (all_components y.components) r h) (λ r lt out. lone_row a y.components r y.are_components lt out)
-      (λ i r lt h. x.rows i r (subst (λ (c : Components). i < length (all_components c)) (sym same) lt) (subst (λ (c : Components). Among r (block_at (all_components c) i).rows) (sym same) h)) y.rows x.square_rows y.square_rows,
-  same_numbers (λ (b : Block). b.cols) (all_components y.components) (all_cols (all_components y.components)) columns columns2 (IsSquareCol a) (cols a) x.long_columns y.long_columns (λ d h. flat_among (λ (b : Block). b.cols) (all_components y.components) d h) (λ d lt out. lone_col a y.components d y.are_components lt out)
-      (λ i d lt h. x.columns i d (subst (λ (c : Components). i < length (all_components c)) (sym same) lt) (subst (λ (c : Components). Among d (block_at (all_components c) i).cols) (sym same) h)) y.columns x.square_columns y.square_columns,
+pub same_components_told : (a : Matrix) (s t : Sizes) (rows columns rows2 columns2 : List ℕ) → TellsComponents a s rows columns → TellsComponents a t rows2 columns2 → (rows ≡ rows2) × (columns ≡ columns2)
+same_components_told a s t rows columns rows2 columns2 x y = (
+  same_numbers rows_of_block y.components.horizontal y.components.vertical rows rows2 (IsSquareRow a) a.rows told.long_rows y.numbers.long_rows (λ r lt out out2. lone_row a y.components r y.are_components lt out out2)
+      told.horizontal_rows y.numbers.horizontal_rows told.vertical_rows y.numbers.vertical_rows told.square_rows y.numbers.square_rows,
+  same_numbers cols_of_block y.components.horizontal y.components.vertical columns columns2 (IsSquareCol a) (cols a) told.long_columns y.numbers.long_columns (λ d lt out out2. lone_col a y.components d y.are_components lt out out2)
+      told.horizontal_columns y.numbers.horizontal_columns told.vertical_columns y.numbers.vertical_columns told.square_columns y.numbers.square_columns,
 )
   where
-    same : x.components ≡ y.components
-    same = same_components a x.components y.components x.are_components y.are_components
+    told : AreComponentNumbers a y.components rows columns
+    told = subst (λ c. AreComponentNumbers a c rows columns) (same_components a x.components y.components x.are_components y.are_components) x.numbers

@@ -7,9 +7,9 @@ use Rattle.std.proofs.lemmas.Int.{ints, to_z-of_z, to_z_pos}
 use Rattle.std.proofs.lemmas.List.{get_or_past}
 use Rattle.std.proofs.lemmas.List.Sums.{sum_by-set}
 use Rattle.bip_defs.specs.Bottleneck.{IsFull}
-use Rattle.bip_defs.specs.Lists.{Among}
-use Rattle.bip_defs.specs.Matrix.{IsEntry, Place, cols, column}
-use Rattle.bip_defs.proofs.Sets.{col_pair, entry_col, number_same, place_among, row_pair}
+use Rattle.bip_defs.specs.Lists.{Among, Lists}
+use Rattle.bip_defs.specs.Matrix.{IsEntry, Matrix, Place, cols, column}
+use Rattle.bip_defs.proofs.Sets.{among_at, col_pair, entry_col, number_same, place_among, row_pair}
 use Rattle.blocktri.specs.Diagonals.{AreNarrow}
 use Rattle.blocktri.specs.RowPrices.{AreAtMost, AreColumnPrices, AreEnough, AreLow, AreMet, AreRaised, asked, gap, place_at}
 use Rattle.integer_diagonal.specs.Prices.{AreFair, price}
@@ -37,9 +37,6 @@ wide_between z high low = grind (arith, ints)
 
 between_small : (z : ℤ) → unsigned_abs z ≤ 36893488147419103232 → (z ≤ℤ pos 36893488147419103232) × (pos 0 ≤ℤ (z +ℤ pos 36893488147419103232))
 between_small z few = (grind (arith, ints), grind (arith, ints))
-
-small_between : (z : ℤ) → z ≤ℤ pos 36893488147419103232 → pos 0 ≤ℤ (z +ℤ pos 36893488147419103232) → unsigned_abs z ≤ 36893488147419103232
-small_between z high low = grind (arith, ints)
 
 plain : (n : ℕ) → n < 18446744073709551616 → to_z w128 n ≡ pos n
 plain n lt = to_z_pos w128 n (omega (arith, lt))
@@ -74,9 +71,6 @@ base_fits n a lt high low = subst (FitsSigned w128) (sym (base_same n a lt high 
 pub base_is : (n : ℕ) (a : ℤ) → n < 18446744073709551616 → a ≤ℤ pos weight_limit → pos 0 ≤ℤ (a +ℤ pos weight_limit) → to_z w128 (of_z w128 (to_z w128 (of_z w128 a) -ℤ to_z w128 n)) ≡ (a -ℤ pos n)
 base_is n a lt high low = to_z-of_z w128 (to_z w128 (of_z w128 a) -ℤ to_z w128 n) (base_fits n a lt high low) ∙ base_same n a lt high low
 
-pub base_small : (n : ℕ) (a : ℤ) → n < 18446744073709551616 → a ≤ℤ pos weight_limit → pos 0 ≤ℤ (a +ℤ pos weight_limit) → unsigned_abs (to_z w128 (of_z w128 (to_z w128 (of_z w128 a) -ℤ to_z w128 n))) ≤ 36893488147419103232
-base_small n a lt high low = subst (λ z. unsigned_abs z ≤ 36893488147419103232) (sym (base_is n a lt high low)) (small_between (a -ℤ pos n) (omega (arith, ints, high)) (omega (arith, ints, lt, low)))
-
 -- what an entry asks for
 pub asked_is : (n : ℕ) (b : ℤ) → n < 18446744073709551616 → unsigned_abs b ≤ 36893488147419103232 → to_z w128 (of_z w128 (b +ℤ to_z w128 n)) ≡ (b +ℤ pos n)
 asked_is n b lt few = let (high, low) = between_small b few in wide_same (b +ℤ to_z w128 n) (b +ℤ pos n) (ap (λ z. b +ℤ z) (plain n lt)) (omega (arith, ints, lt, high)) (omega (arith, ints, low))
@@ -100,9 +94,6 @@ gap_less_again false old u row z nearer same inside lt le = let less = gap_less 
 pub gap_kept : (b : Bool) (u new : List ℤ) → (IsTrue b → gap new < gap u) → (¬ IsTrue b → new ≡ u) → gap new ≤ gap u
 gap_kept true u new nearer same = let was = nearer refl in omega (arith, was)
 gap_kept false u new nearer same = let was = ap gap (same (λ e. true≢false (sym e))) in omega (arith, was)
-
-pub raised_none : (rows weights : List ℕ) (base : ℤ) (u : List ℤ) → AreAtMost u → AreRaised rows weights base 0 u u
-raised_none rows weights base u a = record { long = refl; up = λ r. omega (arith, ints); least = λ x above met r lt. above r lt; within = a }
 
 met_less : (rows weights : List ℕ) (base : ℤ) (k : ℕ) (x : List ℤ) → AreMet rows weights base (k + 1) x → AreMet rows weights base k x
 met_less rows weights base k x met i lt = met i (omega (arith, lt))
@@ -151,41 +142,61 @@ fair_asks w m u x y mate c r fair pair entry low =
     let meets = fair.meets mate c pair in
     omega (arith, ints, covers, meets, low)
 
-pub low_met : (w : Weighing) (m : List Place) (u x y : List ℤ) (rows weights : List ℕ) (base : ℤ) (mate c : ℕ) → AreLow w m u → AreFair w m x y → AreNarrow x → AreNarrow y → Among (mate, c) m → mate < w.matrix.rows
-    → ((i : ℕ) → i < length rows → IsEntry w.matrix (get_or rows i 0) c) → ((i : ℕ) → i < length rows → get_or weights i 0 ≡ weight_at w (get_or rows i 0) c) → base ≡ (price u mate -ℤ pos (weight_at w mate c)) → AreMet rows weights base (length rows) x
-low_met w m u x y rows weights base mate c low fair nx ny pair inside entries each is i lt =
-    let asks = fair_asks w m u x y mate c (get_or rows i 0) fair pair (entries i lt) (low.least x y fair nx ny mate inside) in
-    let weight = ap pos (each i lt) in
+-- the entries of a pair's column with their weights, and what the pair asks of their rows beside these
+pub record IsAskedBy (w : Weighing) (u : List ℤ) (p : Place) (rows weights : List ℕ) (base : ℤ) : Type 0 where
+  pub inside : p.0 < w.matrix.rows
+  pub column_is : column w.matrix p.1 ≡ rows
+  pub entries : (i : ℕ) → i < length rows → IsEntry w.matrix (get_or rows i 0) p.1
+  pub each : (i : ℕ) → i < length rows → get_or weights i 0 ≡ weight_at w (get_or rows i 0) p.1
+  pub base_is : base ≡ (price u p.0 -ℤ pos (weight_at w p.0 p.1))
+
+pub asked_by : (w : Weighing) (a : Matrix) (u : List ℤ) (p : Place) (rows weights : List ℕ) (base : ℤ) → w.matrix ≡ a → IsEntry a p.0 p.1 → Lists (λ r. IsEntry a r p.1) rows → rows ≡ column a p.1
+    → length weights ≡ length (column w.matrix p.1) → ((k : ℕ) → k < length weights → get_or weights k 0 ≡ weight_at w (get_or (column w.matrix p.1) k 0) p.1) → base ≡ (price u p.0 -ℤ pos (weight_at w p.0 p.1)) → IsAskedBy w u p rows weights base
+asked_by w a u p rows weights base same entry lists is long each base_is = record {
+  inside = let lt = entry.0 in let e = ap (λ (b : Matrix). b.rows) same in omega (arith, lt, e);
+  column_is = col;
+  entries = λ i lt. subst (λ (b : Matrix). IsEntry b (get_or rows i 0) p.1) (sym same) (lists.sound (get_or rows i 0) (among_at rows i 0 lt));
+  each = λ i lt. each i (let size = ap length col in omega (arith, lt, long, size)) ∙ ap (λ (z : List ℕ). weight_at w (get_or z i 0) p.1) col;
+  base_is = base_is;
+}
+  where
+    col : column w.matrix p.1 ≡ rows
+    col = ap (λ (b : Matrix). column b p.1) same ∙ sym is
+
+low_met : (w : Weighing) (m : List Place) (u x y : List ℤ) (p : Place) (rows weights : List ℕ) (base : ℤ) → AreLow w m u → AreFair w m x y → AreNarrow x → AreNarrow y → Among p m → IsAskedBy w u p rows weights base → AreMet rows weights base (length rows) x
+low_met w m u x y p rows weights base low fair nx ny pair a i lt =
+    let asks = fair_asks w m u x y p.0 p.1 (get_or rows i 0) fair pair (a.entries i lt) (low.least x y fair nx ny p.0 a.inside) in
+    let weight = ap pos (a.each i lt) in
+    let is = a.base_is in
     omega (arith, ints, asks, weight, is)
 
-pub low_more : (w : Weighing) (m : List Place) (u new : List ℤ) (rows weights : List ℕ) (base : ℤ) (mate c : ℕ) → AreLow w m u → AreRaised rows weights base (length rows) u new → Among (mate, c) m → mate < w.matrix.rows
-    → ((i : ℕ) → i < length rows → IsEntry w.matrix (get_or rows i 0) c) → ((i : ℕ) → i < length rows → get_or weights i 0 ≡ weight_at w (get_or rows i 0) c) → base ≡ (price u mate -ℤ pos (weight_at w mate c)) → AreLow w m new
-low_more w m u new rows weights base mate c low raised pair inside entries each is = record {
+pub low_more : (w : Weighing) (m : List Place) (u new : List ℤ) (p : Place) (rows weights : List ℕ) (base : ℤ) → AreLow w m u → AreRaised rows weights base (length rows) u new → Among p m → IsAskedBy w u p rows weights base → AreLow w m new
+low_more w m u new p rows weights base low raised pair a = record {
   long = raised.long ∙ low.long;
   within = raised.within;
   columns = λ r d h. let was = low.columns r d h in let up = raised.up r in omega (arith, ints, was, up);
-  least = λ x y fair nx ny r lt. raised.least x (λ s sl. low.least x y fair nx ny s (let l = low.long in omega (arith, l, sl))) (low_met w m u x y rows weights base mate c low fair nx ny pair inside entries each is) r (let l = low.long in omega (arith, l, lt));
+  least = λ x y fair nx ny r lt. raised.least x (λ s sl. low.least x y fair nx ny s (let l = low.long in omega (arith, l, sl))) (low_met w m u x y p rows weights base low fair nx ny pair a) r (let l = low.long in omega (arith, l, lt));
 }
 
 -- an entry asks for more than fits
-pub none_past : (w : Weighing) (m : List Place) (u x y : List ℤ) (rows weights : List ℕ) (base : ℤ) (mate c i : ℕ) → AreLow w m u → AreFair w m x y → AreNarrow x → AreNarrow y → Among (mate, c) m → mate < w.matrix.rows
-    → ((j : ℕ) → j < length rows → IsEntry w.matrix (get_or rows j 0) c) → ((j : ℕ) → j < length rows → get_or weights j 0 ≡ weight_at w (get_or rows j 0) c) → base ≡ (price u mate -ℤ pos (weight_at w mate c)) → i < length rows → pos weight_limit <ℤ asked weights base i → ⊥
-none_past w m u x y rows weights base mate c i low fair nx ny pair inside entries each is lt past =
-    let met = low_met w m u x y rows weights base mate c low fair nx ny pair inside entries each is i lt in
+pub none_past : (w : Weighing) (m : List Place) (u x y : List ℤ) (p : Place) (rows weights : List ℕ) (base : ℤ) (i : ℕ) → AreLow w m u → AreFair w m x y → AreNarrow x → AreNarrow y → Among p m → IsAskedBy w u p rows weights base
+    → i < length rows → pos weight_limit <ℤ asked weights base i → ⊥
+none_past w m u x y p rows weights base i low fair nx ny pair a lt past =
+    let met = low_met w m u x y p rows weights base low fair nx ny pair a i lt in
     let most = narrow_most x nx (get_or rows i 0) in
     omega (arith, ints, met, most, past)
 
 -- one more column asks for no more
-pub enough_more : (w : Weighing) (m : List Place) (k : ℕ) (p : Place) (u : List ℤ) (rows weights : List ℕ) (base : ℤ) → p ≡ place_at m k → rows ≡ column w.matrix p.1 → ((j : ℕ) → j < length rows → get_or weights j 0 ≡ weight_at w (get_or rows j 0) p.1)
-    → base ≡ (price u p.0 -ℤ pos (weight_at w p.0 p.1)) → AreMet rows weights base (length rows) u → AreEnough w m k u → AreEnough w m (k + 1) u
-enough_more w m k p u rows weights base at is each base_at met was i r lt entry = by (number_same i k)
+pub enough_more : (w : Weighing) (m : List Place) (k : ℕ) (p : Place) (u : List ℤ) (rows weights : List ℕ) (base : ℤ) → p ≡ place_at m k → IsAskedBy w u p rows weights base → AreMet rows weights base (length rows) u → AreEnough w m k u → AreEnough w m (k + 1) u
+enough_more w m k p u rows weights base at a met was i r lt entry = by (number_same i k)
   where
     here : IsEntry w.matrix r p.1 → (price u p.0 +ℤ pos (weight_at w r p.1)) ≤ℤ (price u r +ℤ pos (weight_at w p.0 p.1))
     here e =
-        let (j, jt, same) = place_among r 0 rows (subst (Among r) (sym is) e.1) in
+        let (j, jt, same) = place_among r 0 rows (subst (Among r) a.column_is e.1) in
         let wants = met j jt in
-        let weight = ap pos (each j jt ∙ ap (λ x. weight_at w x p.1) same) in
+        let weight = ap pos (a.each j jt ∙ ap (λ x. weight_at w x p.1) same) in
         let there = ap (λ x. price u x) same in
+        let base_at = a.base_is in
         omega (arith, ints, wants, weight, there, base_at)
 
     by : (i ≡ k) ⊎ (i ≢ k) → (price u (place_at m i).0 +ℤ pos (weight_at w r (place_at m i).1)) ≤ℤ (price u r +ℤ pos (weight_at w (place_at m i).0 (place_at m i).1))

@@ -21,10 +21,6 @@ use Rattle.blocktri.specs.Written.{IsPut}
 
 -- Orders.
 
--- nothing is written yet
-pub put_none : (at : ℕ) (xs old : List ℕ) → IsPut at (take 0 xs) old old
-put_none at xs old = record { long = refl; here = λ i h. let none : length (take 0 xs) ≡ 0 = refl in omega (arith, h, none); others = λ i out. refl }
-
 -- one number more is written
 pub put_more : (at k v : ℕ) (xs old new : List ℕ) → k < length xs → at + length xs ≤ length old → v ≡ get_or xs k 0 → IsPut at (take k xs) old new → IsPut at (take (k + 1) xs) old (set new (at + k) v)
 put_more at k v xs old new lt room is put = record {
@@ -141,33 +137,6 @@ start_fits bs old new start n lt are =
     let more = before_more bs n lt in
     let within = before_within bs (n + 1) in
     omega (arith, here, more, within)
-
-pub starts_more : (bs : List Block) (old new : List ℕ) (start n : ℕ) → n < length bs → length bs < length old → AreStartsBelow bs old new start n → AreStartsBelow bs old (set new n start) (start + length (block_at bs n).rows) (n + 1)
-starts_more bs old new start n lt room are = record {
-  long = length-set new n start ∙ are.long;
-  start_is = let here = are.start_is in let more = before_more bs n lt in omega (arith, here, more);
-  starts = λ i h. at_place i (number_same i n) h;
-  others = λ i h. get_or-set_other new n i start 0 (λ e. omega (arith, h, e)) ∙ are.others i (omega (arith, h));
-}
-  where
-    at_place : (i : ℕ) → (i ≡ n) ⊎ (i ≢ n) → i < n + 1 → get_or (set new n start) i 0 ≡ rows_before bs i
-    at_place i (inl e) h = let long = are.long in rw e (get_or-set_same new n start 0 (omega (arith, long, lt, room)) ∙ are.start_is)
-    at_place i (inr ne) h = get_or-set_other new n i start 0 ne ∙ are.starts i (omega (arith, h, ne))
-
--- behind the last block stands the number of all rows
-pub starts_all : (bs : List Block) (old new : List ℕ) (start n at : ℕ) → n ≡ length bs → at ≡ length bs → length bs < length old → AreStartsBelow bs old new start n → AreBlockStarts bs old (set new at start)
-starts_all bs old new start n at all is room are = record {
-  long = length-set new at start ∙ are.long;
-  starts = λ i h. at_place i (number_same i at) h;
-  others = λ i h. get_or-set_other new at i start 0 (λ e. omega (arith, h, is, e)) ∙ are.others i (omega (arith, h, all));
-}
-  where
-    same : n ≡ at
-    same = omega (arith, all, is)
-
-    at_place : (i : ℕ) → (i ≡ at) ⊎ (i ≢ at) → i ≤ length bs → get_or (set new at start) i 0 ≡ rows_before bs i
-    at_place i (inl e) h = let long = are.long in rw e (get_or-set_same new at start 0 (omega (arith, long, is, room)) ∙ are.start_is ∙ ap (λ k. rows_before bs k) same)
-    at_place i (inr ne) h = get_or-set_other new at i start 0 ne ∙ are.starts i (omega (arith, all, is, h, ne))
 
 -- Rows of columns.
 

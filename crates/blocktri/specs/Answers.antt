@@ -34,7 +34,7 @@ pub record AreBlockStarts (blocks : List Block) (old new : List ℕ) : Type 0 wh
   pub starts : (i : ℕ) → i ≤ length blocks → slice_index new i ≡ rows_before blocks i
   pub others : (i : ℕ) → length blocks < i → slice_index new i ≡ slice_index old i
 
--- the sizes of a decomposition
+-- the sizes of a decomposition, but for its components
 pub record AreSizesOf (d : Decomposition) (s : Sizes) : Type 0 where
   pub rank : s.rank ≡ d.rank
   pub horizontal_rows : s.horizontal_rows ≡ length d.parts.horizontal_rows
@@ -69,3 +69,10 @@ pub record HaveLengths (rows : ℕ) (starts row_order column_order
   pub rows_are : length row_order ≡ rows
   pub columns_are : length column_order ≡ length starts - 1
   pub starts_are : length block_starts ≡ length starts
+
+-- and those of a decomposition for the number of a component of each row and of each column besides
+pub record HaveFormLengths (rows : ℕ) (starts row_order column_order block_starts row_component
+    column_component : List ℕ) : Type 0 where
+  pub orders : HaveLengths rows starts row_order column_order block_starts
+  pub rows_are : length row_component ≡ rows
+  pub columns_are : length column_component ≡ length starts - 1

@@ -1,7 +1,6 @@
 -- What is told of a square matrix of full rank.
 use Rattle.std.specs.Prelude.{◌≡◌, ℕ, ◌+◌, ◌<◌, ◌≤◌, List, length, slice_index}
 use Rattle.bip_defs.specs.Blocks.{block_at}
-use Rattle.bip_defs.specs.Bottleneck.{IsFull}
 use Rattle.bip_defs.specs.Decomposition.{Decomposition, IsDecompositionOf}
 use Rattle.bip_defs.specs.Lists.{Among}
 use Rattle.bip_defs.specs.Matrix.{IsEntry, Matrix, Place, cols}
@@ -12,10 +11,6 @@ use Rattle.bip_graph.specs.Matching.{IsMaximumOf, Pairing}
 use Rattle.bip_graph.specs.Orders.{rows_before}
 use Rattle.bip_graph.specs.declared.answers.Decomposition as answers
 use Rattle.blocktri.specs.Answers.{AreBlockStarts}
-
--- no matching of the matrix covers all its rows and columns
-abbrev pub HasNoPerfectMatching : Matrix → Type 0
-HasNoPerfectMatching a = (m : List Place) → ¬ IsFull a m
 
 -- orders of the rows and columns of a square matrix with entries all along the diagonal: the
 -- columns as its decomposition has them, and in the places of each block the rows of that block

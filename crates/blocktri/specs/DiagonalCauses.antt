@@ -2,7 +2,8 @@
 use Rattle.std.specs.Prelude.{ℕ, ℤ, List}
 use Rattle.blocktri.specs.declared.refusals.Refusal.TheVariants.{Columns}
 use Rattle.blocktri.specs.Causes.{IsRefusal}
-use Rattle.blocktri.specs.Diagonals.{HasNoFull, HasWeights}
+use Rattle.blocktri.specs.Diagonals.{HasWeights}
+use Rattle.blocktri.specs.PerfectMatchings.{HasNoPerfectMatching}
 use Rattle.blocktri.specs.declared.diagonal_refusals.DiagonalRefusal.{DiagonalRefusal}
 use Rattle.blocktri.specs.declared.diagonal_refusals.DiagonalRefusal.TheVariants.{Lists, SumLimit, Singular, PriceLimit}
 use Rattle.sp_pattern.specs.Columns.{AreColumns}
@@ -21,7 +22,7 @@ IsDiagonalRefusal Fit Large rows starts ids values (Lists refusal) =
 IsDiagonalRefusal Fit Large rows starts ids values (SumLimit at) =
     Fit × AreColumns rows starts ids × IsFirstIdPast rows starts ids values at
 IsDiagonalRefusal Fit Large rows starts ids values Singular =
-    Fit × HasWeights rows starts ids values (λ w. HasNoFull w.matrix)
+    Fit × HasWeights rows starts ids values (λ w. HasNoPerfectMatching w.matrix)
 IsDiagonalRefusal Fit Large rows starts ids values PriceLimit =
     Fit × HasWeights rows starts ids values Large
 

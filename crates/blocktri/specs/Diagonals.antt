@@ -1,9 +1,8 @@
 -- What is told of the diagonals of compressed columns with values.
 use Rattle.std.specs.Int.{w64}
-use Rattle.std.specs.Prelude.{◌≡◌, ◌≢◌, ◌⊎◌, ℕ, ℤ, pos, FitsSigned, ◌+◌, ◌*◌, ◌-◌, ◌^◌, ◌<◌, List, length, slice_index_or}
+use Rattle.std.specs.Prelude.{◌≡◌, ℕ, ℤ, pos, FitsSigned, ◌+◌, ◌*◌, ◌-◌, ◌^◌, ◌<◌, List, length, slice_index_or}
 use Rattle.bip_defs.specs.Bottleneck.{IsBest}
-use Rattle.bip_defs.specs.Matching.{IsRank}
-use Rattle.bip_defs.specs.Matrix.{Matrix, Place, cols}
+use Rattle.bip_defs.specs.Matrix.{Place, cols}
 use Rattle.blocktri.specs.Answers.{AreRowsOf}
 use Rattle.blocktri.specs.Written.{IsPut}
 use Rattle.blocktri.specs.declared.bottleneck_matching.LeastWeight.{LeastWeight}
@@ -22,10 +21,6 @@ pub record HasWeights (rows : ℕ) (starts ids : List ℕ) (values : List ℤ)
   pub weights : AreWeightsOf (entries_given rows starts ids values) (matrix_of rows starts ids)
       weighing
   pub holds : P weighing
-
--- no perfect matching: the matrix is not square, or its rank is less
-abbrev pub HasNoFull : Matrix → Type 0
-HasNoFull a = (a.rows ≢ cols a) ⊎ ((k : ℕ) × IsRank a k × (k < cols a))
 
 -- the number of two words
 abbrev pub number_of : Sum → ℕ

@@ -1,46 +1,53 @@
 -- What is told of the connected components of the outer parts.
-use Rattle.std.specs.Prelude.{◌≡◌, ℕ, ◌+◌, ◌-◌, ◌<◌, List, ◌++◌, length, slice_index}
+use Rattle.std.specs.Prelude.{◌≡◌, ℕ, ◌<◌, List, length, slice_index}
 use Rattle.bip_defs.specs.Blocks.{Block, block_at}
 use Rattle.bip_defs.specs.ConnectedComponents.{AreConnectedComponents, Components}
 use Rattle.bip_defs.specs.Lists.{Among}
 use Rattle.bip_defs.specs.Matrix.{Matrix, cols}
 use Rattle.bip_defs.specs.Parts.{IsSquareCol, IsSquareRow}
 use Rattle.bip_graph.specs.Matching.{none}
-use Rattle.blocktri.specs.declared.outer_components.ComponentCounts.{ComponentCounts}
+use Rattle.blocktri.specs.declared.block_form.Sizes.{Sizes}
 
--- the components of the horizontal part, and behind them those of the vertical part
-abbrev pub all_components : Components → List Block
-all_components c = c.horizontal ++ c.vertical
+abbrev pub rows_of_block : Block → List ℕ
+rows_of_block b = b.rows
 
--- each row and each column of an outer part has the number of its component in that order, and one
+abbrev pub cols_of_block : Block → List ℕ
+cols_of_block b = b.cols
+
+-- at the place of each number that `members` gives of a block stands which of the blocks it is
+abbrev pub AreNumbersOf : (Block → List ℕ) → List Block → List ℕ → Type 0
+AreNumbersOf members blocks xs = (i x : ℕ) → i < length blocks
+    → Among x (members (block_at blocks i)) → slice_index xs x ≡ i
+
+-- each row and each column of an outer part has the number of its component in that part, and one
 -- of the square part what stands for none
-pub record TellsComponents (a : Matrix) (counts : ComponentCounts) (row_component
+pub record AreComponentNumbers (a : Matrix) (c : Components) (row_component
     column_component : List ℕ) : Type 0 where
-  pub components : Components
-  pub are_components : AreConnectedComponents a components
-  pub horizontal : counts.horizontal ≡ length components.horizontal
-  pub vertical : counts.vertical ≡ length components.vertical
   pub long_rows : length row_component ≡ a.rows
   pub long_columns : length column_component ≡ cols a
-  pub rows : (i r : ℕ) → i < length (all_components components)
-      → Among r (block_at (all_components components) i).rows → slice_index row_component r ≡ i
-  pub columns : (i c : ℕ) → i < length (all_components components)
-      → Among c (block_at (all_components components) i).cols → slice_index column_component c ≡ i
+  pub horizontal_rows : AreNumbersOf rows_of_block c.horizontal row_component
+  pub horizontal_columns : AreNumbersOf cols_of_block c.horizontal column_component
+  pub vertical_rows : AreNumbersOf rows_of_block c.vertical row_component
+  pub vertical_columns : AreNumbersOf cols_of_block c.vertical column_component
   pub square_rows : (r : ℕ) → IsSquareRow a r → slice_index row_component r ≡ none
   pub square_columns : (c : ℕ) → IsSquareCol a c → slice_index column_component c ≡ none
 
--- the lists to be written have room for a number of each row and of each column
-pub record HavePlaces (rows : ℕ) (starts row_component column_component : List ℕ) : Type 0 where
-  pub rows_are : length row_component ≡ rows
-  pub columns_are : length column_component ≡ length starts - 1
+-- that are the components of both outer parts, and so many of each
+pub record TellsComponents (a : Matrix) (s : Sizes) (row_component
+    column_component : List ℕ) : Type 0 where
+  pub components : Components
+  pub are_components : AreConnectedComponents a components
+  pub horizontal : s.horizontal_components ≡ length components.horizontal
+  pub vertical : s.vertical_components ≡ length components.vertical
+  pub numbers : AreComponentNumbers a components row_component column_component
 
--- the first so many blocks have written their numbers, from `first` on, to the places of the
--- numbers that `members` gives of each; what stands elsewhere stays
-pub record AreNumbered (members : Block → List ℕ) (first : ℕ) (blocks : List Block) (count : ℕ)
+-- the first so many blocks have written their numbers to the places of the numbers that `members`
+-- gives of each; what stands elsewhere stays
+pub record AreNumbered (members : Block → List ℕ) (blocks : List Block) (count : ℕ)
     (old new : List ℕ) : Type 0 where
   pub long : length new ≡ length old
   pub here : (i x : ℕ) → i < count → Among x (members (block_at blocks i))
-      → slice_index new x ≡ first + i
+      → slice_index new x ≡ i
   pub others : (x : ℕ) → ((i : ℕ) → i < count → ¬ Among x (members (block_at blocks i)))
       → slice_index new x ≡ slice_index old x
 
@@ -49,12 +56,6 @@ pub record AreApart (members : Block → List ℕ) (blocks : List Block) (n : �
   pub below : (i x : ℕ) → i < length blocks → Among x (members (block_at blocks i)) → x < n
   pub once : (i j x : ℕ) → i < length blocks → j < length blocks
       → Among x (members (block_at blocks i)) → Among x (members (block_at blocks j)) → i ≡ j
-
-abbrev pub rows_of_block : Block → List ℕ
-rows_of_block b = b.rows
-
-abbrev pub cols_of_block : Block → List ℕ
-cols_of_block b = b.cols
 
 -- a number stands at the places of a list, and what stands elsewhere stays
 pub record IsWrittenAt (places : List ℕ) (number : ℕ) (old new : List ℕ) : Type 0 where

@@ -5,4 +5,5 @@ use Rattle.std.specs.Prelude.{◌≡◌, ◌⊎◌, ℕ, ◌+◌, ◌<◌, ◌�
 pub record IsPut (at : ℕ) (numbers old new : List ℕ) : Type 0 where
   pub long : length new ≡ length old
   pub here : (i : ℕ) → i < length numbers → slice_index new (at + i) ≡ slice_index numbers i
-  pub others : (i : ℕ) → (i < at) ⊎ (at + length numbers ≤ i) → slice_index new i ≡ slice_index old i
+  pub others : (i : ℕ) → (i < at) ⊎ (at + length numbers ≤ i)
+      → slice_index new i ≡ slice_index old i

@@ -1,18 +1,21 @@
 //! The block triangular form.
 
-ghost use Rattle.std.specs.Prelude.{◌≡◌, ◌+◌, ◌<◌, ◌^◌, IfErr, IfOk, OnErr, length};
+ghost use Rattle.std.specs.Prelude.{◌≡◌, ◌<◌, ◌^◌, IfErr, IfOk, OnErr, length};
+ghost use Rattle.bip_defs.specs.ConnectedComponents.{AreConnectedComponents};
 ghost use Rattle.bip_defs.specs.Matrix.{Matrix};
-ghost use Rattle.bip_graph.specs.Decompositions.{Decomposes, decomposition_of};
+ghost use Rattle.bip_graph.specs.Decompositions.{Decomposes, components_of, decomposition_of};
 ghost use Rattle.bip_graph.specs.Matching.{IsMaximumOf};
-ghost use Rattle.blocktri.specs.Answers.{HasMatrix, HaveLengths, IsWritten, Tells};
+ghost use Rattle.blocktri.specs.Answers.{AreSizesOf, HasMatrix, HaveFormLengths, Tells};
 ghost use Rattle.blocktri.specs.Causes.{IsRefusal};
+ghost use Rattle.blocktri.specs.OuterComponents.{TellsComponents};
 ghost use Rattle.sp_pattern.specs.Columns.{AreColumns, matrix_of};
 
 use crate::maximum::matched;
+use crate::orders::{lengths_add_up, write_block_starts, write_column_order, write_row_order};
+use crate::outer_components::write_components;
 use crate::refusals::Refusal;
-use crate::write::{write_order, write_starts};
-use bip_graph::{Decomposition, Matching, orders_are_block_upper_triangular};
-use dm_coarse::coarse_in_turn;
+use bip_graph::{Components, Decomposition, Matching};
+use dm_coarse::{coarse_in_turn, components};
 use dm_fine::fine;
 use sp_ids::OutOfMemory;
 use sp_pattern::{ColumnsError, NumberList, Pattern, check_columns};
@@ -36,20 +39,33 @@ pub struct Sizes {
     pub vertical_columns: u32,
     /// The fine blocks of the square part.
     pub blocks: u32,
+    /// The connected components of the horizontal part.
+    pub horizontal_components: u32,
+    /// The connected components of the vertical part.
+    pub vertical_components: u32,
 }
 
 /// The Dulmage-Mendelsohn decomposition of a matrix with the fine blocks of its square part, as
-/// orders of the rows and the columns in which the matrix is block upper triangular.
+/// orders of the rows and the columns in which the matrix is block upper triangular, and with the
+/// connected components of its outer parts.
 ///
 /// The orders have the horizontal part first, then the blocks of the square part in their order,
 /// then the vertical part. `block_starts` gets where each block begins, counted from the first
 /// square row, and behind the blocks the number of square rows; the rest of it stays as it is.
-/// `row_order` must have a place for each row, `column_order` for each column, `block_starts` for
-/// each column and one more; these lengths are looked at first. After an `Err` nothing was written.
 ///
-/// Answers `OutOfMemory` as [`crate::rank`] does, and where the tables of the parts or the blocks
-/// can't be had. Work: as `rank`, what `dm_coarse::coarse` and `dm_fine::fine` say of theirs, and
-/// one write for each row, column and block.
+/// Rows and columns of an outer part are in one component where a chain of its entries joins them.
+/// `row_component` and `column_component` get for each row and each column the number of its
+/// component, or 4,294,967,295 where it is in the square part. The components of each part are
+/// counted from 0: those of the horizontal part in the order of their least columns, those of the
+/// vertical part in the order of their least rows.
+///
+/// `row_order` and `row_component` must have a place for each row, `column_order` and
+/// `column_component` for each column, `block_starts` for each column and one more; these lengths
+/// are looked at first. After an `Err` nothing was written.
+///
+/// Answers `OutOfMemory` as [`crate::rank`] does, and where the tables of the parts, the blocks or
+/// the components can't be had. Work: as `rank`, what `dm_coarse::coarse_in_turn`, `dm_fine::fine`
+/// and `dm_coarse::components` say of theirs, and three writes for each row and column.
 pub fn decomposition<N: NumberList>(
     alloc: Global,
     rows: u64,
@@ -58,43 +74,64 @@ pub fn decomposition<N: NumberList>(
     row_order: &mut [u32],
     column_order: &mut [u32],
     block_starts: &mut [u32],
+    row_component: &mut [u32],
+    column_component: &mut [u32],
 ) -> Result<Sizes, Refusal>
     ensures found { IfOk result (λ s. HasMatrix rows (N.numbers starts) (N.numbers ids)
         (λ a. Tells a s row_order.new column_order.new block_starts.old block_starts.new)) }
-    ensures fit { IfOk result (λ s. HaveLengths rows (N.numbers starts) row_order.old
-        column_order.old block_starts.old) }
-    ensures refused { IfErr result (IsRefusal (HaveLengths rows (N.numbers starts) row_order.old
-        column_order.old block_starts.old) rows (N.numbers starts) (N.numbers ids)) }
+    ensures components { IfOk result (λ s. HasMatrix rows (N.numbers starts) (N.numbers ids)
+        (λ a. TellsComponents a s row_component.new column_component.new)) }
+    ensures fit { IfOk result (λ s. HaveFormLengths rows (N.numbers starts) row_order.old
+        column_order.old block_starts.old row_component.old column_component.old) }
+    ensures refused { IfErr result (IsRefusal (HaveFormLengths rows (N.numbers starts)
+        row_order.old column_order.old block_starts.old row_component.old column_component.old)
+        rows (N.numbers starts) (N.numbers ids)) }
     ensures kept { OnErr result ((row_order.new ≡ row_order.old)
-        × (column_order.new ≡ column_order.old) × (block_starts.new ≡ block_starts.old)) }
+        × (column_order.new ≡ column_order.old) × (block_starts.new ≡ block_starts.old)
+        × (row_component.new ≡ row_component.old)
+        × (column_component.new ≡ column_component.old)) }
 {
+    let cols = starts.len().saturating_sub(1);
     if row_order.len() as u64 != rows
-        || column_order.len() != starts.len().saturating_sub(1)
+        || column_order.len() != cols
         || block_starts.len() != starts.len()
+        || row_component.len() as u64 != rows
+        || column_component.len() != cols
     {
         return Err(Refusal::Lengths);
     }
     if let Err(error) = check_columns(rows, starts, ids) {
         return Err(Refusal::Columns(error));
     }
-    let Ok(found) = decompose(alloc, rows as u32, starts, ids) else {
+    let Ok((found, outer)) = decompose(alloc, rows as u32, starts, ids) else {
         return Err(Refusal::Columns(ColumnsError::OutOfMemory));
     };
-    Ok(write(&found, row_order, column_order, block_starts))
+    write_row_order(&found, row_order);
+    write_column_order(&found, column_order);
+    write_block_starts(&found, block_starts);
+    write_components(&outer, row_component, column_component);
+    Ok(sizes_of(&found, &outer))
 }
 
-// The decomposition.
+// The decomposition, and the components of the outer parts.
 fn decompose<N: NumberList>(
     alloc: Global,
     rows: u32,
     starts: N,
     ids: N,
-) -> Result<Decomposition, OutOfMemory>
+) -> Result<(Decomposition, Components), OutOfMemory>
     requires { AreColumns rows (N.numbers starts) (N.numbers ids) }
-    ensures { IfOk result (Decomposes (matrix_of rows (N.numbers starts) (N.numbers ids))) }
+    ensures decomposition { IfOk result
+        (λ p. Decomposes (matrix_of rows (N.numbers starts) (N.numbers ids)) p.0) }
+    ensures components { IfOk result (λ p. AreConnectedComponents
+        (matrix_of rows (N.numbers starts) (N.numbers ids)) (components_of p.1)) }
+    ensures few_horizontal { IfOk result (λ p. length p.1.horizontal < 2 ^ 32) }
+    ensures few_vertical { IfOk result (λ p. length p.1.vertical < 2 ^ 32) }
 {
     let (pattern, matching) = matched(alloc, rows, starts, ids)?;
-    decomposed(alloc, &pattern, &matching)
+    let found = decomposed(alloc, &pattern, &matching)?;
+    let outer = components(alloc, &pattern, &found.parts)?;
+    Ok((found, outer))
 }
 
 /// The decomposition, from a maximum matching.
@@ -118,40 +155,27 @@ pub fn decomposed(
     })
 }
 
-// Writes the orders and the block starts of a decomposition, and tells its sizes.
-fn write(
-    found: &Decomposition,
-    row_order: &mut [u32],
-    column_order: &mut [u32],
-    block_starts: &mut [u32],
-) -> Sizes
+// The sizes of a decomposition, and of its components.
+fn sizes_of(found: &Decomposition, outer: &Components) -> Sizes
     requires some { (a : Matrix) × Decomposes a found.now }
-    requires rows { length row_order.old ≡ found.now.m }
-    requires columns { length column_order.old ≡ found.now.n }
-    requires starts { length block_starts.old ≡ found.now.n + 1 }
     requires few_rows { found.now.m < 2 ^ 32 }
     requires few_columns { found.now.n < 2 ^ 32 }
-    ensures { IsWritten (decomposition_of found.now) result row_order.new column_order.new
-        block_starts.old block_starts.new }
+    requires few_horizontal { length outer.now.horizontal < 2 ^ 32 }
+    requires few_vertical { length outer.now.vertical < 2 ^ 32 }
+    ensures form { AreSizesOf (decomposition_of found.now) result }
+    ensures horizontal { result.horizontal_components ≡ length outer.now.horizontal }
+    ensures vertical { result.vertical_components ≡ length outer.now.vertical }
 {
-    orders_are_block_upper_triangular();
-    let (parts, blocks) = (&found.parts, &found.blocks);
-    let horizontal_rows = parts.hr.as_slice();
-    let horizontal_cols = parts.hc.as_slice();
-    let square_rows = blocks.all_rows();
-    let square_cols = blocks.all_cols();
-    let vertical_rows = parts.vr.as_slice();
-    let vertical_cols = parts.vc.as_slice();
-    write_order(row_order, horizontal_rows, square_rows, vertical_rows);
-    write_order(column_order, horizontal_cols, square_cols, vertical_cols);
-    write_starts(block_starts, blocks);
+    lengths_add_up(found);
     Sizes {
         rank: found.rank,
-        horizontal_rows: horizontal_rows.len() as u32,
-        horizontal_columns: horizontal_cols.len() as u32,
-        square: square_rows.len() as u32,
-        vertical_rows: vertical_rows.len() as u32,
-        vertical_columns: vertical_cols.len() as u32,
-        blocks: blocks.len() as u32,
+        horizontal_rows: found.parts.hr.len() as u32,
+        horizontal_columns: found.parts.hc.len() as u32,
+        square: found.blocks.all_rows().len() as u32,
+        vertical_rows: found.parts.vr.len() as u32,
+        vertical_columns: found.parts.vc.len() as u32,
+        blocks: found.blocks.len() as u32,
+        horizontal_components: outer.horizontal.len() as u32,
+        vertical_components: outer.vertical.len() as u32,
     }
 }

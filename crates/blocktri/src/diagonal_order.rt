@@ -5,15 +5,16 @@ ghost use Rattle.bip_defs.specs.Lists.{Among};
 ghost use Rattle.bip_defs.specs.Matching.{cols_of};
 ghost use Rattle.bip_defs.specs.Matrix.{Matrix};
 ghost use Rattle.blocktri.specs.Answers.{HasMatrix, HaveLengths};
-ghost use Rattle.blocktri.specs.BlockOrders.{AreMatesOf, HasNoPerfectMatching, IsPerfectOf, TellsBlockOrder};
+ghost use Rattle.blocktri.specs.BlockOrders.{AreMatesOf, IsPerfectOf, TellsBlockOrder};
 ghost use Rattle.blocktri.specs.Causes.{IsRefusal};
+ghost use Rattle.blocktri.specs.PerfectMatchings.{HasNoPerfectMatching};
 ghost use Rattle.sp_pattern.specs.Columns.{AreColumns, matrix_of};
 
 use crate::block_form::decomposed;
 use crate::maximum::matched;
+use crate::orders::{lengths_add_up, write_block_starts, write_column_order};
 use crate::refusals::Refusal;
-use crate::write::{write_order, write_starts};
-use bip_graph::{Decomposition, Matching, orders_are_block_upper_triangular};
+use bip_graph::{Decomposition, Matching};
 use sp_ids::{Col, OutOfMemory, Row};
 use sp_pattern::{ColumnsError, NumberList, check_columns};
 use std::alloc::Global;
@@ -26,11 +27,13 @@ use std::alloc::Global;
 /// The columns stand as in [`crate::decomposition`], and at each place the row that a perfect
 /// matching pairs with the column there, so that each block has the rows that it has there.
 /// `block_starts` gets where each block begins, and behind the blocks the number of rows; the rest
-/// of it stays as it is. The lengths are those of `decomposition`, and are looked at first. After an
+/// of it stays as it is. `row_order` must have a place for each row, `column_order` for each
+/// column, `block_starts` for each column and one more; these lengths are looked at first. After an
 /// `Err` nothing was written.
 ///
-/// Answers `OutOfMemory` as `decomposition` does. Work: as `decomposition`, and one read for each
-/// column.
+/// Answers `OutOfMemory` as [`crate::rank`] does, and where the tables of the parts or the blocks
+/// can't be had. Work: as `rank`, what `dm_coarse::coarse_in_turn` and `dm_fine::fine` say of
+/// theirs, and one read and two writes for each column.
 pub fn block_order<N: NumberList>(
     alloc: Global,
     rows: u64,
@@ -113,17 +116,11 @@ fn write(
         → TellsBlockOrder a result row_order.new column_order.new block_starts.old
         block_starts.new }
 {
-    orders_are_block_upper_triangular();
-    let (parts, blocks) = (&found.parts, &found.blocks);
-    write_order(
-        column_order,
-        parts.hc.as_slice(),
-        blocks.all_cols(),
-        parts.vc.as_slice(),
-    );
+    lengths_add_up(found);
+    write_column_order(found, column_order);
     write_mates(row_order, column_order, matching);
-    write_starts(block_starts, blocks);
-    blocks.len() as u32
+    write_block_starts(found, block_starts);
+    found.blocks.len() as u32
 }
 
 // Writes the mate of each column that is listed.

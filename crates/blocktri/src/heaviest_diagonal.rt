@@ -3,15 +3,15 @@
 ghost use Rattle.std.specs.Prelude.{◌≡◌, ◌≤ℤ◌, pos, IfErr, IfOk, OnErr, length};
 ghost use Rattle.blocktri.specs.Diagonals.{HasNoNarrowPrices, HasWeights, HaveHeaviestLengths, IsNarrowDiagonal, TellsHeaviest, number_of};
 ghost use Rattle.blocktri.specs.DiagonalCauses.{IsDiagonalRefusal};
-ghost use Rattle.sp_pattern.specs.Columns.{AreColumns};
 
-use crate::diagonal_refusals::{DiagonalRefusal, NO_MEMORY, of_values};
+use crate::diagonal_refusals::{DiagonalRefusal, NO_MEMORY};
 use crate::narrow_prices::{narrow, write_prices};
 use crate::refusals::Refusal;
 use crate::row_of_column::write_pairs;
+use crate::weighted_columns::WeightedColumns;
 use bip_graph::Heaviest;
 use sp_ids::{Col, Row};
-use sp_pattern::{NumberList, Pattern, Weights, check_columns};
+use sp_pattern::NumberList;
 use std::alloc::Global;
 
 // 2^64
@@ -39,44 +39,42 @@ struct Diagonal {
 /// the sum. The weight of a place is the magnitude of the sum of its values; each entry weighs at
 /// most the prices of its row and its column together, and each pair of the diagonal as much.
 ///
-/// `values` must have a number for each id, `row_of_column` and `column_prices` a place for each
-/// column, `row_prices` one for each row; these lengths are looked at first. `SumLimit` exactly
-/// where the sum of some place's values passes the limit; `Singular` exactly where the matrix has no
-/// perfect matching; `PriceLimit` exactly where no prices that show it all fit 64 bits. Answers
-/// `OutOfMemory` as `sp_pattern::Pattern::of_columns`, `sp_pattern::Weights::of_columns` and
+/// There must be a value for each id, and `row_of_column` and `column_prices` must have a place for
+/// each column, `row_prices` one for each row; these lengths are looked at first. `SumLimit`
+/// exactly where the sum of some place's values passes the limit; `Singular` exactly where the
+/// matrix has no perfect matching; `PriceLimit` exactly where no prices that show it all fit 64
+/// bits. Answers `OutOfMemory` as `sp_pattern::Pattern::of_columns`, `sp_pattern::Weights::of_columns` and
 /// `integer_diagonal::heaviest` do. Work: as these three; where the prices that were found do not
 /// fit, looks besides at all entries, as many times at most as there are rows.
 pub fn heaviest<N: NumberList>(
     alloc: Global,
-    rows: u64,
-    starts: N,
-    ids: N,
-    values: &[i64],
+    columns: &WeightedColumns<'_, N>,
     row_of_column: &mut [u32],
     row_prices: &mut [i64],
     column_prices: &mut [i64],
 ) -> Result<Sum, DiagonalRefusal>
-    ensures found { IfOk result (λ s. HasWeights rows (N.numbers starts) (N.numbers ids) values.now
+    ensures found { IfOk result (λ s. HasWeights columns.now.rows (N.numbers columns.now.starts)
+        (N.numbers columns.now.ids) columns.now.values.now
         (λ w. TellsHeaviest w s row_of_column.new row_prices.new column_prices.new)) }
-    ensures fit { IfOk result (λ s. HaveHeaviestLengths rows (N.numbers starts) (N.numbers ids)
-        values.now row_of_column.old row_prices.old column_prices.old) }
-    ensures refused { IfErr result (IsDiagonalRefusal (HaveHeaviestLengths rows (N.numbers starts)
-        (N.numbers ids) values.now row_of_column.old row_prices.old column_prices.old)
-        HasNoNarrowPrices rows (N.numbers starts) (N.numbers ids) values.now) }
+    ensures fit { IfOk result (λ s. HaveHeaviestLengths columns.now.rows
+        (N.numbers columns.now.starts) (N.numbers columns.now.ids) columns.now.values.now
+        row_of_column.old row_prices.old column_prices.old) }
+    ensures refused { IfErr result (IsDiagonalRefusal (HaveHeaviestLengths columns.now.rows
+        (N.numbers columns.now.starts) (N.numbers columns.now.ids) columns.now.values.now
+        row_of_column.old row_prices.old column_prices.old) HasNoNarrowPrices columns.now.rows
+        (N.numbers columns.now.starts) (N.numbers columns.now.ids) columns.now.values.now) }
     ensures kept { OnErr result ((row_of_column.new ≡ row_of_column.old)
         × (row_prices.new ≡ row_prices.old) × (column_prices.new ≡ column_prices.old)) }
 {
-    if values.len() != ids.len()
-        || row_of_column.len() != starts.len().saturating_sub(1)
-        || row_prices.len() as u64 != rows
-        || column_prices.len() != starts.len().saturating_sub(1)
+    let cols = columns.starts.len().saturating_sub(1);
+    if columns.values.len() != columns.ids.len()
+        || row_of_column.len() != cols
+        || row_prices.len() as u64 != columns.rows
+        || column_prices.len() != cols
     {
         return Err(DiagonalRefusal::Lists(Refusal::Lengths));
     }
-    if let Err(error) = check_columns(rows, starts, ids) {
-        return Err(DiagonalRefusal::Lists(Refusal::Columns(error)));
-    }
-    let found = narrow_diagonal(alloc, rows as u32, starts, ids, values)?;
+    let found = narrow_diagonal(alloc, columns)?;
     write_pairs(found.pairs.as_slice(), row_of_column);
     write_prices(found.row_prices.as_slice(), row_prices);
     write_prices(found.column_prices.as_slice(), column_prices);
@@ -86,25 +84,17 @@ pub fn heaviest<N: NumberList>(
 // A heaviest diagonal with fair prices that fit 64 bits.
 fn narrow_diagonal<N: NumberList>(
     alloc: Global,
-    rows: u32,
-    starts: N,
-    ids: N,
-    values: &[i64],
+    columns: &WeightedColumns<'_, N>,
 ) -> Result<Diagonal, DiagonalRefusal>
-    requires columns { AreColumns rows (N.numbers starts) (N.numbers ids) }
-    requires values { length values.now ≡ length (N.numbers ids) }
-    ensures found { IfOk result (λ d. HasWeights rows (N.numbers starts) (N.numbers ids) values.now
+    requires values { length columns.now.values.now ≡ length (N.numbers columns.now.ids) }
+    ensures found { IfOk result (λ d. HasWeights columns.now.rows (N.numbers columns.now.starts)
+        (N.numbers columns.now.ids) columns.now.values.now
         (λ w. IsNarrowDiagonal w d.pairs.items d.row_prices.items d.column_prices.items d.sum)) }
-    ensures refused { IfErr result (IsDiagonalRefusal (Unit {0}) HasNoNarrowPrices rows
-        (N.numbers starts) (N.numbers ids) values.now) }
+    ensures refused { IfErr result (IsDiagonalRefusal (Unit {0}) HasNoNarrowPrices columns.now.rows
+        (N.numbers columns.now.starts) (N.numbers columns.now.ids) columns.now.values.now) }
 {
-    let Ok(pattern) = Pattern::of_checked_columns(alloc, rows, starts, ids) else {
-        return Err(NO_MEMORY);
-    };
-    let weights = match Weights::of_columns(alloc, &pattern, starts, ids, values) {
-        Ok(weights) => weights,
-        Err(error) => return Err(of_values(error)),
-    };
+    let pattern = columns.pattern(alloc)?;
+    let weights = columns.weights(alloc, &pattern)?;
     match integer_diagonal::heaviest(alloc, &pattern, &weights) {
         Ok(Heaviest::Diagonal { pairs, u, v, sum }) => {
             let (mut u, mut v) = (u, v);

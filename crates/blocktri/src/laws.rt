@@ -7,7 +7,6 @@ ghost use Rattle.bip_defs.specs.Matrix.{HasPlaces, Matrix, Place};
 ghost use Rattle.blocktri.specs.Answers.{Tells, TellsMatching};
 ghost use Rattle.blocktri.specs.OuterComponents.{TellsComponents};
 ghost use Rattle.blocktri.specs.declared.block_form.Sizes.{Sizes};
-ghost use Rattle.blocktri.specs.declared.outer_components.ComponentCounts.{ComponentCounts};
 ghost use Rattle.sp_pattern.specs.Columns.{AreColumns, matrix_of, places_of};
 
 use sp_pattern::columns_give_their_places;
@@ -26,10 +25,13 @@ pub fn answers_are_those_of_a_file()
     ensures rank { (a : Matrix) (j k : ℕ) → IsRank a j → IsRank a k → j ≡ k }
     ensures decomposition { (a : Matrix) (s t : Sizes) (rows columns starts rows2 columns2 starts2
         old : List ℕ) → Tells a s rows columns old starts → Tells a t rows2 columns2 old starts2
-        → (s ≡ t) × (rows ≡ rows2) × (columns ≡ columns2) × (starts ≡ starts2) }
-    ensures components { (a : Matrix) (j k : ComponentCounts) (rows columns rows2
-        columns2 : List ℕ) → TellsComponents a j rows columns → TellsComponents a k rows2 columns2
-        → (j ≡ k) × (rows ≡ rows2) × (columns ≡ columns2) }
+        → (rows ≡ rows2) × (columns ≡ columns2) × (starts ≡ starts2) }
+    ensures components { (a : Matrix) (s t : Sizes) (rows columns rows2 columns2 : List ℕ)
+        → TellsComponents a s rows columns → TellsComponents a t rows2 columns2
+        → (rows ≡ rows2) × (columns ≡ columns2) }
+    ensures sizes { (a : Matrix) (s t : Sizes) (xs ys zs xs2 ys2 zs2 xs3 ys3 xs4 ys4 old : List ℕ)
+        → Tells a s xs ys old zs → TellsComponents a s xs3 ys3 → Tells a t xs2 ys2 old zs2
+        → TellsComponents a t xs4 ys4 → s ≡ t }
     ensures least_matching { (a : Matrix) (j k : ℕ) (xs ys : List ℕ) → TellsMatching a true j xs
         → TellsMatching a true k ys → (j ≡ k) × (xs ≡ ys) }
 {

@@ -1,8 +1,9 @@
 //! Maximum matchings, written into the caller's list.
 
 ghost use Rattle.std.specs.Prelude.{◌≡◌, ◌≢◌, ◌↔◌, ℕ, ◌<◌, ◌^◌, IfErr, IfOk, OnErr, length};
-ghost use Rattle.bip_defs.specs.Lists.{Among, AreDistinct};
-ghost use Rattle.bip_defs.specs.Matching.{cols_of};
+ghost use Rattle.bip_defs.specs.Bottleneck.{IsFull};
+ghost use Rattle.bip_defs.specs.Lists.{Among};
+ghost use Rattle.bip_defs.specs.Matrix.{Matrix, cols};
 ghost use Rattle.bip_graph.specs.Answers.{IsMaximumOrLeast};
 ghost use Rattle.bip_graph.specs.Matching.{IsMaximumOf, none};
 ghost use Rattle.blocktri.specs.Answers.{AreRowsOf, HasLength, HasMatrix, TellsMatching};
@@ -24,9 +25,9 @@ const NONE: u32 = u32::MAX;
 /// number of pairs. With `is_least` it is the least maximum matching: as a list over the columns,
 /// with the number of rows for none, no maximum matching comes before it.
 ///
-/// `row_of_column` must have a place for each column. Answers `OutOfMemory` as [`crate::rank`] does,
-/// and for the least matching where `least_match::least` has no memory. Work: as `rank`, and one
-/// write for each column; for the least matching what `least_match::least` says of its.
+/// `row_of_column` must have a place for each column. Answers `OutOfMemory` as [`crate::rank`]
+/// does, and for the least matching where `least_match::least` has no memory. Work: as `rank`, and
+/// one write for each column; for the least matching what `least_match::least` says of its.
 pub fn matching<N: NumberList>(
     alloc: Global,
     rows: u64,
@@ -105,10 +106,8 @@ fn row_or_none(matching: &Matching, col: Col) -> u32
 
 /// Writes the row of each column of a perfect matching.
 pub fn write_pairs(pairs: &[(Row, Col)], row_of_column: &mut [u32])
-    requires columns { (r c : ℕ) → Among (r, c) pairs.now → c < length row_of_column.old }
-    requires rows { (r c : ℕ) → Among (r, c) pairs.now → r ≢ none }
-    requires all { (c : ℕ) → c < length row_of_column.old → Among c (cols_of pairs.now) }
-    requires differ { AreDistinct (cols_of pairs.now) }
+    requires { (a : Matrix) × IsFull a pairs.now × (length row_of_column.old ≡ cols a)
+        × (a.rows < 2 ^ 32) }
     ensures long { length row_of_column.new ≡ length row_of_column.old }
     ensures rows { AreRowsOf pairs.now row_of_column.new }
 {

@@ -5,13 +5,13 @@
 //! the least at which the columns' prices fit and are raised as the entries ask come to the least
 //! ones, as long paths in Bellman's and Ford's search (Bellman 1958).
 
-ghost use Rattle.std.specs.Prelude.{◌≡◌, ◌⊎◌, ◌<◌, ◌≤◌, ◌≤ℤ◌, ◌<ℤ◌, ◌+◌, ◌^◌, ℕ, ℤ, pos, IfNone, IfSome, IsTrue, List, length, slice_index};
+ghost use Rattle.std.specs.Prelude.{◌≡◌, ◌⊎◌, ◌<◌, ◌≤◌, ◌≤ℤ◌, ◌<ℤ◌, ◌+◌, ◌+ℤ◌, ◌-ℤ◌, ◌^◌, ℕ, ℤ, pos, IfNone, IfSome, IsTrue, List, length, slice_index};
 ghost use Rattle.std.specs.Int.RustNames.{unsigned_abs};
 ghost use Rattle.bip_defs.specs.Bottleneck.{IsFull};
 ghost use Rattle.bip_defs.specs.Matrix.{IsEntry};
 ghost use Rattle.blocktri.specs.Diagonals.{AreNarrow};
 ghost use Rattle.blocktri.specs.RowPrices.{AreAtMost, AreColumnPrices, AreEnough, AreLow, AreMet, AreRaised, asked, gap};
-ghost use Rattle.integer_diagonal.specs.Prices.{AreFair};
+ghost use Rattle.integer_diagonal.specs.Prices.{AreFair, price};
 ghost use Rattle.sp_pattern.specs.Weights.{weight_at, weight_limit};
 
 use sp_ids::{Col, Row};
@@ -92,13 +92,26 @@ fn raise_all(
         let pair = pairs[k];
         let mate = pair.0;
         let col = pair.1;
-        let base = u[mate.0 as usize] - weights.weight(mate, col) as i128;
+        let base = base_of(weights, mate, col, u);
         match raise_rows(pattern.rows_of(col), weights.weights_of(col), base, u) {
             None => return None,
             Some(more) => raised = raised || more,
         }
     }
     Some(raised)
+}
+
+// What a pair asks of the prices of its column's rows, beside the weights of their entries.
+fn base_of(weights: &Weights, mate: Row, col: Col, u: &Vec<i128>) -> i128
+    requires entry { IsEntry weights.now.matrix mate col }
+    requires long { length u.now.items ≡ weights.now.matrix.rows }
+    requires high { price u.now.items mate ≤ℤ pos weight_limit }
+    requires low { pos (weight_at weights.now mate col)
+        ≤ℤ (price u.now.items mate +ℤ pos weight_limit) }
+    ensures base { result ≡ (price u.now.items mate -ℤ pos (weight_at weights.now mate col)) }
+    ensures small { unsigned_abs result ≤ 2 ^ 65 }
+{
+    u[mate.0 as usize] - weights.weight(mate, col) as i128
 }
 
 // Raises the prices of a column's rows as its entries ask. Whether some price was raised; none,

@@ -9,7 +9,7 @@ use bip_graph::Blocks;
 use sp_ids::Id;
 
 /// Writes the numbers of three lists, one behind the other.
-pub fn write_order<I: Id>(out: &mut [u32], first: &[I], middle: &[I], last: &[I])
+pub fn write_lists<I: Id>(out: &mut [u32], first: &[I], middle: &[I], last: &[I])
     requires { length out.old ≡ length first.now + length middle.now + length last.now }
     ensures { out.new
         ≡ map I.number first.now ++ map I.number middle.now ++ map I.number last.now }

@@ -7,7 +7,7 @@ ghost use Rattle.blocktri_c.specs.DiagonalStatuses.{RefusesDiagonal};
 
 use crate::diagonal_statuses::diagonal_status;
 use crate::statuses::OK;
-use blocktri::{Narrow, Wide};
+use blocktri::{Narrow, WeightedColumns, Wide};
 use std::alloc::Global;
 
 /// `blocktri::bottleneck` of numbers of 32 bits. What `row_of_column` and `columns` get stands
@@ -28,6 +28,8 @@ pub extern "C" fn blocktri_bottleneck(
     ensures found { result ≡ pos 0 → HasWeights rows starts.now ids.now values.now
         (λ w. TellsBottleneck w (record { weight = least.new; columns = columns_count.new })
         row_of_column.new columns.old columns.new) }
+    ensures fit { result ≡ pos 0 → HaveBottleneckLengths starts.now ids.now values.now
+        row_of_column.old columns.old }
     ensures no_fault { result ≡ pos 0 → fault.new ≡ fault.old }
     ensures kept { result ≢ pos 0 → (row_of_column.new ≡ row_of_column.old)
         × (least.new ≡ least.old) × (columns.new ≡ columns.old)
@@ -37,16 +39,13 @@ pub extern "C" fn blocktri_bottleneck(
         values.now row_of_column.old columns.old) (λ w. ⊥) rows starts.now ids.now
         values.now) result fault.old fault.new }
 {
-    let (starts, ids) = (Narrow { list: starts }, Narrow { list: ids });
-    match blocktri::bottleneck(
-        alloc,
-        rows as u64,
-        starts,
-        ids,
+    let matrix = WeightedColumns {
+        rows: rows as u64,
+        starts: Narrow { list: starts },
+        ids: Narrow { list: ids },
         values,
-        row_of_column,
-        columns,
-    ) {
+    };
+    match blocktri::bottleneck(alloc, &matrix, row_of_column, columns) {
         Ok(found) => {
             *least = found.weight;
             *columns_count = found.columns;
@@ -74,6 +73,8 @@ pub extern "C" fn blocktri_bottleneck_64(
     ensures found { result ≡ pos 0 → HasWeights rows starts.now ids.now values.now
         (λ w. TellsBottleneck w (record { weight = least.new; columns = columns_count.new })
         row_of_column.new columns.old columns.new) }
+    ensures fit { result ≡ pos 0 → HaveBottleneckLengths starts.now ids.now values.now
+        row_of_column.old columns.old }
     ensures no_fault { result ≡ pos 0 → fault.new ≡ fault.old }
     ensures kept { result ≢ pos 0 → (row_of_column.new ≡ row_of_column.old)
         × (least.new ≡ least.old) × (columns.new ≡ columns.old)
@@ -83,8 +84,13 @@ pub extern "C" fn blocktri_bottleneck_64(
         values.now row_of_column.old columns.old) (λ w. ⊥) rows starts.now ids.now
         values.now) result fault.old fault.new }
 {
-    let (starts, ids) = (Wide { list: starts }, Wide { list: ids });
-    match blocktri::bottleneck(alloc, rows, starts, ids, values, row_of_column, columns) {
+    let matrix = WeightedColumns {
+        rows,
+        starts: Wide { list: starts },
+        ids: Wide { list: ids },
+        values,
+    };
+    match blocktri::bottleneck(alloc, &matrix, row_of_column, columns) {
         Ok(found) => {
             *least = found.weight;
             *columns_count = found.columns;

@@ -2,8 +2,9 @@
 
 ghost use Rattle.std.specs.Prelude.{◌≡◌, ◌≢◌, ◌⊎◌, pos};
 ghost use Rattle.blocktri.specs.Answers.{HasMatrix, HaveLengths};
-ghost use Rattle.blocktri.specs.BlockOrders.{HasNoPerfectMatching, TellsBlockOrder};
+ghost use Rattle.blocktri.specs.BlockOrders.{TellsBlockOrder};
 ghost use Rattle.blocktri.specs.Causes.{IsRefusal};
+ghost use Rattle.blocktri.specs.PerfectMatchings.{HasNoPerfectMatching};
 ghost use Rattle.blocktri_c.specs.Statuses.{Refuses};
 
 use crate::statuses::{OK, SINGULAR, status};
@@ -30,6 +31,8 @@ pub extern "C" fn blocktri_block_order(
         block_starts.new) }
     ensures singular { result ≡ pos 1
         → HasMatrix rows starts.now ids.now HasNoPerfectMatching }
+    ensures fit { (result ≡ pos 0) ⊎ (result ≡ pos 1)
+        → HaveLengths rows starts.now row_order.old column_order.old block_starts.old }
     ensures no_fault { (result ≡ pos 0) ⊎ (result ≡ pos 1) → fault.new ≡ fault.old }
     ensures kept { result ≢ pos 0 → (row_order.new ≡ row_order.old)
         × (column_order.new ≡ column_order.old) × (block_starts.new ≡ block_starts.old)
@@ -77,6 +80,8 @@ pub extern "C" fn blocktri_block_order_64(
         block_starts.new) }
     ensures singular { result ≡ pos 1
         → HasMatrix rows starts.now ids.now HasNoPerfectMatching }
+    ensures fit { (result ≡ pos 0) ⊎ (result ≡ pos 1)
+        → HaveLengths rows starts.now row_order.old column_order.old block_starts.old }
     ensures no_fault { (result ≡ pos 0) ⊎ (result ≡ pos 1) → fault.new ≡ fault.old }
     ensures kept { result ≢ pos 0 → (row_order.new ≡ row_order.old)
         × (column_order.new ≡ column_order.old) × (block_starts.new ≡ block_starts.old)

@@ -7,7 +7,7 @@ ghost use Rattle.blocktri_c.specs.DiagonalStatuses.{RefusesDiagonal};
 
 use crate::diagonal_statuses::diagonal_status;
 use crate::statuses::OK;
-use blocktri::{Narrow, Sum, Wide};
+use blocktri::{Narrow, Sum, WeightedColumns, Wide};
 use std::alloc::Global;
 
 /// `blocktri::heaviest` of numbers of 32 bits. What `row_of_column`, `row_prices` and
@@ -27,6 +27,8 @@ pub extern "C" fn blocktri_heaviest(
 ) -> i32
     ensures found { result ≡ pos 0 → HasWeights rows starts.now ids.now values.now
         (λ w. TellsHeaviest w sum.new row_of_column.new row_prices.new column_prices.new) }
+    ensures fit { result ≡ pos 0 → HaveHeaviestLengths rows starts.now ids.now values.now
+        row_of_column.old row_prices.old column_prices.old }
     ensures no_fault { result ≡ pos 0 → fault.new ≡ fault.old }
     ensures kept { result ≢ pos 0 → (row_of_column.new ≡ row_of_column.old)
         × (row_prices.new ≡ row_prices.old) × (column_prices.new ≡ column_prices.old)
@@ -36,17 +38,13 @@ pub extern "C" fn blocktri_heaviest(
         values.now row_of_column.old row_prices.old column_prices.old) HasNoNarrowPrices
         rows starts.now ids.now values.now) result fault.old fault.new }
 {
-    let (starts, ids) = (Narrow { list: starts }, Narrow { list: ids });
-    match blocktri::heaviest(
-        alloc,
-        rows as u64,
-        starts,
-        ids,
+    let matrix = WeightedColumns {
+        rows: rows as u64,
+        starts: Narrow { list: starts },
+        ids: Narrow { list: ids },
         values,
-        row_of_column,
-        row_prices,
-        column_prices,
-    ) {
+    };
+    match blocktri::heaviest(alloc, &matrix, row_of_column, row_prices, column_prices) {
         Ok(found) => {
             *sum = found;
             OK
@@ -72,6 +70,8 @@ pub extern "C" fn blocktri_heaviest_64(
 ) -> i32
     ensures found { result ≡ pos 0 → HasWeights rows starts.now ids.now values.now
         (λ w. TellsHeaviest w sum.new row_of_column.new row_prices.new column_prices.new) }
+    ensures fit { result ≡ pos 0 → HaveHeaviestLengths rows starts.now ids.now values.now
+        row_of_column.old row_prices.old column_prices.old }
     ensures no_fault { result ≡ pos 0 → fault.new ≡ fault.old }
     ensures kept { result ≢ pos 0 → (row_of_column.new ≡ row_of_column.old)
         × (row_prices.new ≡ row_prices.old) × (column_prices.new ≡ column_prices.old)
@@ -81,17 +81,13 @@ pub extern "C" fn blocktri_heaviest_64(
         values.now row_of_column.old row_prices.old column_prices.old) HasNoNarrowPrices
         rows starts.now ids.now values.now) result fault.old fault.new }
 {
-    let (starts, ids) = (Wide { list: starts }, Wide { list: ids });
-    match blocktri::heaviest(
-        alloc,
+    let matrix = WeightedColumns {
         rows,
-        starts,
-        ids,
+        starts: Wide { list: starts },
+        ids: Wide { list: ids },
         values,
-        row_of_column,
-        row_prices,
-        column_prices,
-    ) {
+    };
+    match blocktri::heaviest(alloc, &matrix, row_of_column, row_prices, column_prices) {
         Ok(found) => {
             *sum = found;
             OK

@@ -13,6 +13,5 @@ mod diagonal_order;
 mod diagonal_statuses;
 mod heaviest_diagonal;
 mod matching;
-mod outer_components;
 mod rank;
 mod statuses;

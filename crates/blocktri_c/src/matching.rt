@@ -24,6 +24,7 @@ pub extern "C" fn blocktri_matching(
 ) -> i32
     ensures found { result ≡ pos 0 → HasMatrix rows starts.now ids.now
         (λ a. TellsMatching a is_least size.new row_of_column.new) }
+    ensures fit { result ≡ pos 0 → HasLength starts.now row_of_column.old }
     ensures no_fault { result ≡ pos 0 → fault.new ≡ fault.old }
     ensures kept { result ≢ pos 0
         → (row_of_column.new ≡ row_of_column.old) × (size.new ≡ size.old) }
@@ -56,6 +57,7 @@ pub extern "C" fn blocktri_matching_64(
 ) -> i32
     ensures found { result ≡ pos 0 → HasMatrix rows starts.now ids.now
         (λ a. TellsMatching a is_least size.new row_of_column.new) }
+    ensures fit { result ≡ pos 0 → HasLength starts.now row_of_column.old }
     ensures no_fault { result ≡ pos 0 → fault.new ≡ fault.old }
     ensures kept { result ≢ pos 0
         → (row_of_column.new ≡ row_of_column.old) × (size.new ≡ size.old) }

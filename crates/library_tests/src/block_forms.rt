@@ -3,7 +3,7 @@
 
 use crate::matrices::{MATRICES, Worked};
 use crate::small::{unwritten, widened};
-use blocktri::{Narrow, NumberList, Wide, components, decomposition, matching, rank};
+use blocktri::{Narrow, NumberList, Wide, decomposition, matching, rank};
 use std::process::Abort;
 use std::test::Fail;
 
@@ -17,6 +17,8 @@ fn has_form<R: Abort + AllocGlobal, N: NumberList>(
     let mut row_order = unwritten(rt.alloc(), worked.row_order.len())?;
     let mut column_order = unwritten(rt.alloc(), worked.column_order.len())?;
     let mut block_starts = unwritten(rt.alloc(), worked.block_starts.len())?;
+    let mut of_rows = unwritten(rt.alloc(), worked.row_component.len())?;
+    let mut of_columns = unwritten(rt.alloc(), worked.column_component.len())?;
     let found = decomposition(
         rt.alloc(),
         worked.rows as u64,
@@ -25,32 +27,13 @@ fn has_form<R: Abort + AllocGlobal, N: NumberList>(
         row_order.as_mut_slice(),
         column_order.as_mut_slice(),
         block_starts.as_mut_slice(),
+        of_rows.as_mut_slice(),
+        of_columns.as_mut_slice(),
     );
     assert_eq!(rt; found, Ok(worked.sizes), "{name}");
     assert_eq!(rt; row_order.as_slice(), worked.row_order, "{name}");
     assert_eq!(rt; column_order.as_slice(), worked.column_order, "{name}");
     assert_eq!(rt; block_starts.as_slice(), worked.block_starts, "{name}");
-    Ok(())
-}
-
-fn has_components<R: Abort + AllocGlobal, N: NumberList>(
-    rt: &R,
-    worked: &Worked<'_>,
-    starts: N,
-    ids: N,
-) -> Result<(), Fail> {
-    let name = worked.name;
-    let mut of_rows = unwritten(rt.alloc(), worked.row_component.len())?;
-    let mut of_columns = unwritten(rt.alloc(), worked.column_component.len())?;
-    let found = components(
-        rt.alloc(),
-        worked.rows as u64,
-        starts,
-        ids,
-        of_rows.as_mut_slice(),
-        of_columns.as_mut_slice(),
-    );
-    assert_eq!(rt; found, Ok(worked.counts), "{name}");
     assert_eq!(rt; of_rows.as_slice(), worked.row_component, "{name}");
     assert_eq!(rt; of_columns.as_slice(), worked.column_component, "{name}");
     Ok(())
@@ -83,7 +66,6 @@ fn columns_of_32_bits(rt: HostRuntime) -> Result<(), Fail> {
         };
         let ids = Narrow { list: worked.ids };
         has_form(&rt, worked, starts, ids)?;
-        has_components(&rt, worked, starts, ids)?;
         has_matchings(&rt, worked, starts, ids)?;
     }
     Ok(())
@@ -101,7 +83,6 @@ fn columns_of_64_bits(rt: HostRuntime) -> Result<(), Fail> {
             list: wide_ids.as_slice(),
         };
         has_form(&rt, worked, starts, ids)?;
-        has_components(&rt, worked, starts, ids)?;
         has_matchings(&rt, worked, starts, ids)?;
     }
     Ok(())

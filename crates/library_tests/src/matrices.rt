@@ -2,7 +2,7 @@
 //! has its rows from the last one to the first, and of each matrix with entries one place is given
 //! twice. Rows and columns are counted from 0.
 
-use blocktri::{ComponentCounts, Sizes};
+use blocktri::Sizes;
 
 /// Stands for no row and for no component.
 pub(crate) const NONE: u32 = u32::MAX;
@@ -27,8 +27,9 @@ pub(crate) struct Worked<'a> {
     pub(crate) block_starts: &'a [u32],
     /// For each column its row in the least maximum matching.
     pub(crate) least: &'a [u32],
-    pub(crate) counts: ComponentCounts,
+    /// For each row the number of its component in its part, counted from 0.
     pub(crate) row_component: &'a [u32],
+    /// For each column in the same way.
     pub(crate) column_component: &'a [u32],
 }
 
@@ -49,16 +50,14 @@ const TWO_COLUMNS: Worked<'static> = Worked {
         vertical_rows: 1,
         vertical_columns: 0,
         blocks: 0,
+        horizontal_components: 1,
+        vertical_components: 1,
     },
     row_order: &[0, 1],
     column_order: &[0, 1],
     block_starts: &[0, LEFT, LEFT],
     least: &[0, NONE],
-    counts: ComponentCounts {
-        horizontal: 1,
-        vertical: 1,
-    },
-    row_component: &[0, 1],
+    row_component: &[0, 0],
     column_component: &[0, 0],
 };
 
@@ -77,15 +76,13 @@ const TWO_ROWS: Worked<'static> = Worked {
         vertical_rows: 2,
         vertical_columns: 1,
         blocks: 0,
+        horizontal_components: 0,
+        vertical_components: 1,
     },
     row_order: &[0, 1],
     column_order: &[0],
     block_starts: &[0, LEFT],
     least: &[0],
-    counts: ComponentCounts {
-        horizontal: 0,
-        vertical: 1,
-    },
     row_component: &[0, 0],
     column_component: &[0],
 };
@@ -110,17 +107,15 @@ const THREE_PARTS: Worked<'static> = Worked {
         vertical_rows: 2,
         vertical_columns: 1,
         blocks: 1,
+        horizontal_components: 1,
+        vertical_components: 1,
     },
     row_order: &[0, 1, 2, 3],
     column_order: &[0, 1, 2, 3],
     block_starts: &[0, 1, LEFT, LEFT, LEFT],
     least: &[0, NONE, 1, 2],
-    counts: ComponentCounts {
-        horizontal: 1,
-        vertical: 1,
-    },
-    row_component: &[0, NONE, 1, 1],
-    column_component: &[0, 0, NONE, 1],
+    row_component: &[0, NONE, 0, 0],
+    column_component: &[0, 0, NONE, 0],
 };
 
 /// x . .
@@ -142,15 +137,13 @@ pub(crate) const TRIANGLE: Worked<'static> = Worked {
         vertical_rows: 0,
         vertical_columns: 0,
         blocks: 3,
+        horizontal_components: 0,
+        vertical_components: 0,
     },
     row_order: &[2, 1, 0],
     column_order: &[2, 1, 0],
     block_starts: &[0, 1, 2, 3],
     least: &[0, 1, 2],
-    counts: ComponentCounts {
-        horizontal: 0,
-        vertical: 0,
-    },
     row_component: &[NONE, NONE, NONE],
     column_component: &[NONE, NONE, NONE],
 };
@@ -173,15 +166,13 @@ pub(crate) const CYCLE: Worked<'static> = Worked {
         vertical_rows: 0,
         vertical_columns: 0,
         blocks: 1,
+        horizontal_components: 0,
+        vertical_components: 0,
     },
     row_order: &[0, 1, 2],
     column_order: &[0, 1, 2],
     block_starts: &[0, 3, LEFT, LEFT],
     least: &[0, 1, 2],
-    counts: ComponentCounts {
-        horizontal: 0,
-        vertical: 0,
-    },
     row_component: &[NONE, NONE, NONE],
     column_component: &[NONE, NONE, NONE],
 };
@@ -207,17 +198,15 @@ const COLUMN_ALONE: Worked<'static> = Worked {
         vertical_rows: 2,
         vertical_columns: 1,
         blocks: 1,
+        horizontal_components: 2,
+        vertical_components: 1,
     },
     row_order: &[2, 3, 4, 0, 1],
     column_order: &[3, 4, 5, 1, 2, 0],
     block_starts: &[0, 2, LEFT, LEFT, LEFT, LEFT, LEFT],
     least: &[0, 3, 4, 2, NONE, NONE],
-    counts: ComponentCounts {
-        horizontal: 2,
-        vertical: 1,
-    },
-    row_component: &[2, 2, 0, NONE, NONE],
-    column_component: &[2, NONE, NONE, 0, 1, 0],
+    row_component: &[0, 0, 0, NONE, NONE],
+    column_component: &[0, NONE, NONE, 0, 1, 0],
 };
 
 /// No rows and no columns.
@@ -234,15 +223,13 @@ pub(crate) const EMPTY: Worked<'static> = Worked {
         vertical_rows: 0,
         vertical_columns: 0,
         blocks: 0,
+        horizontal_components: 0,
+        vertical_components: 0,
     },
     row_order: &[],
     column_order: &[],
     block_starts: &[0],
     least: &[],
-    counts: ComponentCounts {
-        horizontal: 0,
-        vertical: 0,
-    },
     row_component: &[],
     column_component: &[],
 };
@@ -261,15 +248,13 @@ const NO_ROWS: Worked<'static> = Worked {
         vertical_rows: 0,
         vertical_columns: 0,
         blocks: 0,
+        horizontal_components: 2,
+        vertical_components: 0,
     },
     row_order: &[],
     column_order: &[0, 1],
     block_starts: &[0, LEFT, LEFT],
     least: &[NONE, NONE],
-    counts: ComponentCounts {
-        horizontal: 2,
-        vertical: 0,
-    },
     row_component: &[],
     column_component: &[0, 1],
 };
@@ -288,15 +273,13 @@ const NO_COLUMNS: Worked<'static> = Worked {
         vertical_rows: 3,
         vertical_columns: 0,
         blocks: 0,
+        horizontal_components: 0,
+        vertical_components: 3,
     },
     row_order: &[0, 1, 2],
     column_order: &[],
     block_starts: &[0],
     least: &[],
-    counts: ComponentCounts {
-        horizontal: 0,
-        vertical: 3,
-    },
     row_component: &[0, 1, 2],
     column_component: &[],
 };

@@ -2,11 +2,80 @@
 
 use crate::small::{is_unwritten, unwritten};
 use blocktri::{
-    ColumnsError, Narrow, NumberList, Refusal, Wide, block_order, components, decomposition,
-    matching, rank,
+    ColumnsError, Narrow, NumberList, Refusal, Wide, block_order, decomposition, matching, rank,
 };
 use std::process::Abort;
 use std::test::Fail;
+
+// How long the lists are that are to be written: an order of the rows and of the columns, the block
+// starts, and the numbers of the rows' and of the columns' components.
+#[derive(Clone, Copy)]
+struct Lengths {
+    rows: usize,
+    columns: usize,
+    starts: usize,
+    components: (usize, usize),
+}
+
+fn form_is_refused<R: Abort + AllocGlobal, N: NumberList>(
+    rt: &R,
+    rows: u32,
+    starts: N,
+    ids: N,
+    lists: Lengths,
+    refusal: Refusal,
+) -> Result<(), Fail> {
+    let mut row_order = unwritten(rt.alloc(), lists.rows)?;
+    let mut column_order = unwritten(rt.alloc(), lists.columns)?;
+    let mut block_starts = unwritten(rt.alloc(), lists.starts)?;
+    let mut of_rows = unwritten(rt.alloc(), lists.components.0)?;
+    let mut of_columns = unwritten(rt.alloc(), lists.components.1)?;
+    let form = decomposition(
+        rt.alloc(),
+        rows as u64,
+        starts,
+        ids,
+        row_order.as_mut_slice(),
+        column_order.as_mut_slice(),
+        block_starts.as_mut_slice(),
+        of_rows.as_mut_slice(),
+        of_columns.as_mut_slice(),
+    );
+    assert_eq!(rt; form, Err(refusal));
+    is_unwritten(rt, row_order.as_slice());
+    is_unwritten(rt, column_order.as_slice());
+    is_unwritten(rt, block_starts.as_slice());
+    is_unwritten(rt, of_rows.as_slice());
+    is_unwritten(rt, of_columns.as_slice());
+    Ok(())
+}
+
+fn order_is_refused<R: Abort + AllocGlobal, N: NumberList>(
+    rt: &R,
+    rows: u32,
+    starts: N,
+    ids: N,
+    lists: Lengths,
+    refusal: Refusal,
+) -> Result<(), Fail> {
+    let mut row_order = unwritten(rt.alloc(), lists.rows)?;
+    let mut column_order = unwritten(rt.alloc(), lists.columns)?;
+    let mut block_starts = unwritten(rt.alloc(), lists.starts)?;
+    let order = block_order(
+        rt.alloc(),
+        rows as u64,
+        starts,
+        ids,
+        row_order.as_mut_slice(),
+        column_order.as_mut_slice(),
+        block_starts.as_mut_slice(),
+    );
+    assert_eq!(rt; order, Err(refusal));
+    is_unwritten(rt, row_order.as_slice());
+    is_unwritten(rt, column_order.as_slice());
+    is_unwritten(rt, block_starts.as_slice());
+    Ok(())
+}
 
 // Each call refuses these lists for this reason.
 fn are_refused<R: Abort + AllocGlobal, N: NumberList>(
@@ -18,8 +87,7 @@ fn are_refused<R: Abort + AllocGlobal, N: NumberList>(
 ) -> Result<(), Fail> {
     assert_eq!(rt; rank(rt.alloc(), rows as u64, starts, ids), Err(error));
     matchings_are_refused(rt, rows as u64, starts, ids, error)?;
-    orders_are_refused(rt, rows, starts, ids, error)?;
-    components_are_refused(rt, rows, starts, ids, error)
+    forms_are_refused(rt, rows, starts, ids, error)
 }
 
 fn matchings_are_refused<R: Abort + AllocGlobal, N: NumberList>(
@@ -39,64 +107,22 @@ fn matchings_are_refused<R: Abort + AllocGlobal, N: NumberList>(
     Ok(())
 }
 
-fn orders_are_refused<R: Abort + AllocGlobal, N: NumberList>(
+fn forms_are_refused<R: Abort + AllocGlobal, N: NumberList>(
     rt: &R,
     rows: u32,
     starts: N,
     ids: N,
     error: ColumnsError,
 ) -> Result<(), Fail> {
-    let refusal = Refusal::Columns(error);
-    let mut row_order = unwritten(rt.alloc(), rows as usize)?;
-    let mut column_order = unwritten(rt.alloc(), starts.len().saturating_sub(1))?;
-    let mut block_starts = unwritten(rt.alloc(), starts.len())?;
-    let form = decomposition(
-        rt.alloc(),
-        rows as u64,
-        starts,
-        ids,
-        row_order.as_mut_slice(),
-        column_order.as_mut_slice(),
-        block_starts.as_mut_slice(),
-    );
-    assert_eq!(rt; form, Err(refusal));
-    let order = block_order(
-        rt.alloc(),
-        rows as u64,
-        starts,
-        ids,
-        row_order.as_mut_slice(),
-        column_order.as_mut_slice(),
-        block_starts.as_mut_slice(),
-    );
-    assert_eq!(rt; order, Err(refusal));
-    is_unwritten(rt, row_order.as_slice());
-    is_unwritten(rt, column_order.as_slice());
-    is_unwritten(rt, block_starts.as_slice());
-    Ok(())
-}
-
-fn components_are_refused<R: Abort + AllocGlobal, N: NumberList>(
-    rt: &R,
-    rows: u32,
-    starts: N,
-    ids: N,
-    error: ColumnsError,
-) -> Result<(), Fail> {
-    let mut of_rows = unwritten(rt.alloc(), rows as usize)?;
-    let mut of_columns = unwritten(rt.alloc(), starts.len().saturating_sub(1))?;
-    let found = components(
-        rt.alloc(),
-        rows as u64,
-        starts,
-        ids,
-        of_rows.as_mut_slice(),
-        of_columns.as_mut_slice(),
-    );
-    assert_eq!(rt; found, Err(Refusal::Columns(error)));
-    is_unwritten(rt, of_rows.as_slice());
-    is_unwritten(rt, of_columns.as_slice());
-    Ok(())
+    let columns = starts.len().saturating_sub(1);
+    let lists = Lengths {
+        rows: rows as usize,
+        columns,
+        starts: starts.len(),
+        components: (rows as usize, columns),
+    };
+    form_is_refused(rt, rows, starts, ids, lists, Refusal::Columns(error))?;
+    order_is_refused(rt, rows, starts, ids, lists, Refusal::Columns(error))
 }
 
 fn narrow_are_refused<R: Abort + AllocGlobal>(
@@ -145,61 +171,30 @@ fn too_many_rows(rt: HostRuntime) -> Result<(), Fail> {
     matchings_are_refused(&rt, rows, starts, ids, error)
 }
 
-// What is answered of one column with both of two rows, with lists of these lengths to be written.
-fn are_not_long<R: Abort + AllocGlobal>(
-    rt: &R,
-    rows: usize,
-    columns: usize,
-    starts: usize,
-) -> Result<(), Fail> {
-    let list = Narrow { list: &[0, 2] };
-    let ids = Narrow { list: &[0, 1] };
-    let mut row_order = unwritten(rt.alloc(), rows)?;
-    let mut column_order = unwritten(rt.alloc(), columns)?;
-    let mut block_starts = unwritten(rt.alloc(), starts)?;
-    let form = decomposition(
-        rt.alloc(),
-        2,
-        list,
-        ids,
-        row_order.as_mut_slice(),
-        column_order.as_mut_slice(),
-        block_starts.as_mut_slice(),
-    );
-    assert_eq!(rt; form, Err(Refusal::Lengths));
-    let order = block_order(
-        rt.alloc(),
-        2,
-        list,
-        ids,
-        row_order.as_mut_slice(),
-        column_order.as_mut_slice(),
-        block_starts.as_mut_slice(),
-    );
-    assert_eq!(rt; order, Err(Refusal::Lengths));
-    is_unwritten(rt, row_order.as_slice());
-    is_unwritten(rt, column_order.as_slice());
-    is_unwritten(rt, block_starts.as_slice());
-    Ok(())
-}
-
 // There are two rows and one column, and so two starts.
 #[test]
-fn lengths_of_orders(rt: HostRuntime) -> Result<(), Fail> {
-    are_not_long(&rt, 1, 1, 2)?;
-    are_not_long(&rt, 2, 2, 2)?;
-    are_not_long(&rt, 2, 1, 1)
-}
-
-#[test]
-fn lengths_of_components(rt: HostRuntime) {
+fn lengths_of_forms(rt: HostRuntime) -> Result<(), Fail> {
     let (starts, ids) = (Narrow { list: &[0, 2] }, Narrow { list: &[0, 1] });
-    let (mut short, mut long, mut longer) = ([7; 1], [7; 2], [7; 3]);
-    let few_rows = components(rt.alloc(), 2, starts, ids, &mut longer, &mut short);
-    assert_eq!(rt; few_rows, Err(Refusal::Lengths));
-    let many_columns = components(rt.alloc(), 2, starts, ids, &mut longer[..2], &mut long);
-    assert_eq!(rt; many_columns, Err(Refusal::Lengths));
-    assert_eq!(rt; (short, long, longer), ([7; 1], [7; 2], [7; 3]));
+    let wrong = [
+        (1, 1, 2, (2, 1)),
+        (2, 2, 2, (2, 1)),
+        (2, 1, 1, (2, 1)),
+        (2, 1, 2, (3, 1)),
+        (2, 1, 2, (2, 2)),
+    ];
+    for (rows, columns, count, components) in wrong {
+        let lists = Lengths {
+            rows,
+            columns,
+            starts: count,
+            components,
+        };
+        form_is_refused(&rt, 2, starts, ids, lists, Refusal::Lengths)?;
+        if components == (2, 1) {
+            order_is_refused(&rt, 2, starts, ids, lists, Refusal::Lengths)?;
+        }
+    }
+    Ok(())
 }
 
 // The length is looked at before the lists, which have no start.

@@ -1,6 +1,6 @@
 //! Diagonals of matrices with values. The expected values are worked out beside each.
 
-use blocktri::{LeastWeight, Narrow, Sum, Wide, bottleneck, heaviest};
+use blocktri::{LeastWeight, Narrow, Sum, WeightedColumns, Wide, bottleneck, heaviest};
 use std::process::Abort;
 
 // The greatest value, which is also the greatest weight.
@@ -28,10 +28,12 @@ fn heaviest_of_two(rt: HostRuntime) {
     let (mut rows, mut u, mut v) = ([7; 2], [7; 2], [7; 2]);
     let sum = heaviest(
         rt.alloc(),
-        2,
-        Narrow { list: &STARTS },
-        Narrow { list: &IDS },
-        &VALUES,
+        &WeightedColumns {
+            rows: 2,
+            starts: Narrow { list: &STARTS },
+            ids: Narrow { list: &IDS },
+            values: &VALUES,
+        },
         &mut rows,
         &mut u,
         &mut v,
@@ -50,10 +52,12 @@ fn heaviest_of_three(rt: HostRuntime) {
     let (mut rows, mut u, mut v) = ([7; 3], [7; 3], [7; 3]);
     let sum = heaviest(
         rt.alloc(),
-        3,
-        Wide { list: &WIDE_STARTS },
-        Wide { list: &WIDE_IDS },
-        &WIDE_VALUES,
+        &WeightedColumns {
+            rows: 3,
+            starts: Wide { list: &WIDE_STARTS },
+            ids: Wide { list: &WIDE_IDS },
+            values: &WIDE_VALUES,
+        },
         &mut rows,
         &mut u,
         &mut v,
@@ -69,12 +73,14 @@ fn sum_of_two_words(rt: HostRuntime) {
     let (mut rows, mut u, mut v) = ([7; 3], [7; 3], [7; 3]);
     let sum = heaviest(
         rt.alloc(),
-        3,
-        Narrow {
-            list: &[0, 1, 2, 3],
+        &WeightedColumns {
+            rows: 3,
+            starts: Narrow {
+                list: &[0, 1, 2, 3],
+            },
+            ids: Narrow { list: &[0, 1, 2] },
+            values: &[MOST, -MOST, MOST],
         },
-        Narrow { list: &[0, 1, 2] },
-        &[MOST, -MOST, MOST],
         &mut rows,
         &mut u,
         &mut v,
@@ -90,12 +96,14 @@ fn sum_that_comes_back(rt: HostRuntime) {
     let (mut rows, mut u, mut v) = ([7; 2], [7; 2], [7; 2]);
     let sum = heaviest(
         rt.alloc(),
-        2,
-        Narrow { list: &[0, 1, 4] },
-        Narrow {
-            list: &[0, 1, 1, 1],
+        &WeightedColumns {
+            rows: 2,
+            starts: Narrow { list: &[0, 1, 4] },
+            ids: Narrow {
+                list: &[0, 1, 1, 1],
+            },
+            values: &[1, MOST, MOST, -MOST],
         },
-        &[1, MOST, MOST, -MOST],
         &mut rows,
         &mut u,
         &mut v,
@@ -112,10 +120,12 @@ fn bottleneck_of_two(rt: HostRuntime) {
     let (mut rows, mut columns) = ([7; 2], [7; 2]);
     let found = bottleneck(
         rt.alloc(),
-        2,
-        Narrow { list: &STARTS },
-        Narrow { list: &IDS },
-        &VALUES,
+        &WeightedColumns {
+            rows: 2,
+            starts: Narrow { list: &STARTS },
+            ids: Narrow { list: &IDS },
+            values: &VALUES,
+        },
         &mut rows,
         &mut columns,
     );
@@ -138,10 +148,12 @@ fn bottleneck_of_three(rt: HostRuntime) {
     let (mut rows, mut columns) = ([7; 3], [7; 3]);
     let found = bottleneck(
         rt.alloc(),
-        3,
-        Wide { list: &WIDE_STARTS },
-        Wide { list: &WIDE_IDS },
-        &WIDE_VALUES,
+        &WeightedColumns {
+            rows: 3,
+            starts: Wide { list: &WIDE_STARTS },
+            ids: Wide { list: &WIDE_IDS },
+            values: &WIDE_VALUES,
+        },
         &mut rows,
         &mut columns,
     );
@@ -161,9 +173,30 @@ fn bottleneck_of_three(rt: HostRuntime) {
 #[test]
 fn no_pair(rt: HostRuntime) {
     let (starts, ids) = (Narrow { list: &[0] }, Narrow { list: &[] });
-    let sum = heaviest(rt.alloc(), 0, starts, ids, &[], &mut [], &mut [], &mut []);
+    let sum = heaviest(
+        rt.alloc(),
+        &WeightedColumns {
+            rows: 0,
+            starts,
+            ids,
+            values: &[],
+        },
+        &mut [],
+        &mut [],
+        &mut [],
+    );
     assert_eq!(rt; sum, Ok(Sum { low: 0, high: 0 }));
-    let found = bottleneck(rt.alloc(), 0, starts, ids, &[], &mut [], &mut []);
+    let found = bottleneck(
+        rt.alloc(),
+        &WeightedColumns {
+            rows: 0,
+            starts,
+            ids,
+            values: &[],
+        },
+        &mut [],
+        &mut [],
+    );
     assert_eq!(rt;
         found,
         Ok(LeastWeight {

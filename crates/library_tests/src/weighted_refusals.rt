@@ -1,6 +1,8 @@
 //! Matrices with values that have no diagonal, and lists that are refused. Nothing is written then.
 
-use blocktri::{ColumnsError, DiagonalRefusal, Narrow, Refusal, bottleneck, heaviest};
+use blocktri::{
+    ColumnsError, DiagonalRefusal, Narrow, Refusal, WeightedColumns, bottleneck, heaviest,
+};
 use std::process::Abort;
 
 const MOST: i64 = i64::MAX;
@@ -20,10 +22,12 @@ fn are_refused<R: Abort + AllocGlobal>(
     let (mut mates, mut u, mut v, mut columns) = ([7; 2], [7; 3], [7; 2], [7; 2]);
     let found = heaviest(
         rt.alloc(),
-        rows as u64,
-        starts,
-        ids,
-        values,
+        &WeightedColumns {
+            rows: rows as u64,
+            starts,
+            ids,
+            values,
+        },
         &mut mates,
         &mut u[..rows],
         &mut v,
@@ -31,10 +35,12 @@ fn are_refused<R: Abort + AllocGlobal>(
     assert_eq!(rt; found, Err(reason));
     let found = bottleneck(
         rt.alloc(),
-        rows as u64,
-        starts,
-        ids,
-        values,
+        &WeightedColumns {
+            rows: rows as u64,
+            starts,
+            ids,
+            values,
+        },
         &mut mates,
         &mut columns,
     );
@@ -84,10 +90,31 @@ fn no_starts(rt: HostRuntime) {
     let (starts, ids) = (Narrow { list: &[] }, Narrow { list: &[] });
     let no_start = DiagonalRefusal::Lists(Refusal::Columns(ColumnsError::BadStart(0)));
     let mut u = [7; 1];
-    let sum = heaviest(rt.alloc(), 1, starts, ids, &[], &mut [], &mut u, &mut []);
+    let sum = heaviest(
+        rt.alloc(),
+        &WeightedColumns {
+            rows: 1,
+            starts,
+            ids,
+            values: &[],
+        },
+        &mut [],
+        &mut u,
+        &mut [],
+    );
     assert_eq!(rt; sum, Err(no_start));
     assert_eq!(rt; u, [7]);
-    let found = bottleneck(rt.alloc(), 1, starts, ids, &[], &mut [], &mut []);
+    let found = bottleneck(
+        rt.alloc(),
+        &WeightedColumns {
+            rows: 1,
+            starts,
+            ids,
+            values: &[],
+        },
+        &mut [],
+        &mut [],
+    );
     assert_eq!(rt; found, Err(no_start));
 }
 
@@ -98,10 +125,12 @@ fn too_many_rows(rt: HostRuntime) {
     let (mut mates, mut columns) = ([7; 1], [7; 1]);
     let found = bottleneck(
         rt.alloc(),
-        4294967296,
-        Narrow { list: &[0, 1] },
-        Narrow { list: &[0] },
-        &[1],
+        &WeightedColumns {
+            rows: 4294967296,
+            starts: Narrow { list: &[0, 1] },
+            ids: Narrow { list: &[0] },
+            values: &[1],
+        },
         &mut mates,
         &mut columns,
     );
@@ -116,10 +145,12 @@ fn heaviest_is_not_long<R: Abort + AllocGlobal>(rt: &R, mates: usize, rows: usiz
     let (mut row_of_column, mut u, mut v) = ([7; 2], [7; 2], [7; 2]);
     let sum = heaviest(
         rt.alloc(),
-        1,
-        Narrow { list: &[0, 1] },
-        Narrow { list: &[0] },
-        &[1],
+        &WeightedColumns {
+            rows: 1,
+            starts: Narrow { list: &[0, 1] },
+            ids: Narrow { list: &[0] },
+            values: &[1],
+        },
         &mut row_of_column[..mates],
         &mut u[..rows],
         &mut v[..columns],
@@ -143,9 +174,29 @@ fn lengths_of_the_bottleneck(rt: HostRuntime) {
     let (starts, ids) = (Narrow { list: &[0, 1] }, Narrow { list: &[0] });
     let wrong = DiagonalRefusal::Lists(Refusal::Lengths);
     let (mut one, mut two) = ([7; 1], [7; 2]);
-    let found = bottleneck(rt.alloc(), 1, starts, ids, &[1], &mut two, &mut one);
+    let found = bottleneck(
+        rt.alloc(),
+        &WeightedColumns {
+            rows: 1,
+            starts,
+            ids,
+            values: &[1],
+        },
+        &mut two,
+        &mut one,
+    );
     assert_eq!(rt; found, Err(wrong));
-    let found = bottleneck(rt.alloc(), 1, starts, ids, &[1], &mut one, &mut two);
+    let found = bottleneck(
+        rt.alloc(),
+        &WeightedColumns {
+            rows: 1,
+            starts,
+            ids,
+            values: &[1],
+        },
+        &mut one,
+        &mut two,
+    );
     assert_eq!(rt; found, Err(wrong));
     assert_eq!(rt; (one, two), ([7; 1], [7; 2]));
 }
@@ -157,14 +208,16 @@ fn price_past_64_bits(rt: HostRuntime) {
     let (mut rows, mut u, mut v) = ([7; 4], [7; 4], [7; 4]);
     let sum = heaviest(
         rt.alloc(),
-        4,
-        Narrow {
-            list: &[0, 2, 4, 6, 7],
+        &WeightedColumns {
+            rows: 4,
+            starts: Narrow {
+                list: &[0, 2, 4, 6, 7],
+            },
+            ids: Narrow {
+                list: &[0, 1, 1, 2, 2, 3, 3],
+            },
+            values: &[0, MOST, 0, MOST, 0, MOST, 0],
         },
-        Narrow {
-            list: &[0, 1, 1, 2, 2, 3, 3],
-        },
-        &[0, MOST, 0, MOST, 0, MOST, 0],
         &mut rows,
         &mut u,
         &mut v,

@@ -12,7 +12,7 @@ import numpy.typing
 
 from . import _picture, _words
 from ._columns import Columns, compressed, signed
-from ._library import ComponentCounts, Sizes, call
+from ._library import Sizes, call
 from ._matching import inverse, matched
 
 if TYPE_CHECKING:
@@ -221,7 +221,7 @@ def dmperm(matrix: Any) -> Decomposition:
     (array([0, 1, 2, 4]), array([0, 2, 3, 4]))
     """
     columns = compressed(matrix)
-    sizes, row_order, column_order, starts = _form(columns)
+    sizes, row_order, column_order, starts, numbers = _form(columns)
     rows_of_columns = matched(columns)
     if columns.is_transposed:
         rows_of_columns = inverse(rows_of_columns, columns.rows)
@@ -239,7 +239,8 @@ def dmperm(matrix: Any) -> Decomposition:
         square,
         vertical,
         Blocks(square, starts),
-        *_components(columns, horizontal, vertical),
+        _grouped(horizontal, numbers, sizes.horizontal_components),
+        _grouped(vertical, numbers, sizes.vertical_components),
         row_order,
         column_order,
         *_paired(coarse, row_order, column_order, rows_of_columns),
@@ -249,43 +250,34 @@ def dmperm(matrix: Any) -> Decomposition:
     )
 
 
-def _form(columns: Columns) -> tuple[Sizes, Lines, Lines, Lines]:
-    """Sizes, orders, and where the fine blocks begin, of the matrix whose columns or rows these are."""
+def _form(columns: Columns) -> tuple[Sizes, Lines, Lines, Lines, tuple[Lines, Lines]]:
+    """Sizes, orders, where the fine blocks begin, and the component of each row and column, of the matrix whose columns or rows
+    these are."""
     sizes = Sizes()
     row_order, column_order = numpy.empty(columns.rows, numpy.uint32), numpy.empty(columns.count, numpy.uint32)
+    row_component, column_component = numpy.empty_like(row_order), numpy.empty_like(column_order)
     block_starts = numpy.empty(columns.count + 1, numpy.uint32)
-    call("decomposition", columns, row_order, column_order, block_starts, ctypes.byref(sizes))
+    call("decomposition", columns, row_order, column_order, block_starts, row_component, column_component, ctypes.byref(sizes))
     starts = block_starts[: sizes.blocks + 1].astype(numpy.intp)
     rows, others = signed(row_order, columns.rows), signed(column_order, columns.count)
     if not columns.is_transposed:
-        return sizes, rows, others, starts
+        return sizes, rows, others, starts, (row_component, column_component)
     # the transpose of an upper triangular form is a lower one: parts and blocks go the other way round, each as it is
     exchanged = Sizes(sizes.rank, sizes.vertical_columns, sizes.vertical_rows, sizes.square,
-                      sizes.horizontal_columns, sizes.horizontal_rows, sizes.blocks)
+                      sizes.horizontal_columns, sizes.horizontal_rows, sizes.blocks,
+                      sizes.vertical_components, sizes.horizontal_components)
     row_starts = numpy.concatenate(([0], starts + sizes.horizontal_rows, [len(rows)]))
     other_starts = numpy.concatenate(([0], starts + sizes.horizontal_columns, [len(others)]))
-    return exchanged, _backwards(others, other_starts), _backwards(rows, row_starts), sizes.square - starts[::-1]
+    orders = _backwards(others, other_starts), _backwards(rows, row_starts)
+    return exchanged, *orders, sizes.square - starts[::-1], (column_component, row_component)
 
 
-def _components(columns: Columns, horizontal: Part, vertical: Part) -> tuple[Parts, Parts]:
-    """The connected components of both outer parts; nothing is looked for where neither is there."""
-    counts = ComponentCounts()
-    numbers = numpy.empty(columns.rows, numpy.uint32), numpy.empty(columns.count, numpy.uint32)
-    if len(horizontal.columns) + len(vertical.rows) > 0:
-        call("components", columns, *numbers, ctypes.byref(counts))
-    # the numbers of the vertical components begin behind those of the horizontal ones, which the transpose has exchanged
-    of_horizontal, of_vertical = (0, counts.horizontal), (counts.horizontal, counts.vertical)
-    if columns.is_transposed:
-        numbers, of_horizontal, of_vertical = numbers[::-1], of_vertical, of_horizontal
-    return _grouped(horizontal, numbers, *of_horizontal), _grouped(vertical, numbers, *of_vertical)
-
-
-def _grouped(part: Part, numbers: tuple[Lines, Lines], first: int, count: int) -> Parts:
+def _grouped(part: Part, numbers: tuple[Lines, Lines], count: int) -> Parts:
     """The components of a part, of which there are so many, by the number that each row and each column has."""
     orders: list[Lines] = []
     starts: list[Lines] = []
     for lines, of_lines in zip(part, numbers):
-        of_part = of_lines[lines] - first
+        of_part = of_lines[lines]
         orders.append(lines[numpy.argsort(of_part, kind="stable")])
         starts.append(numpy.append(0, numpy.cumsum(numpy.bincount(of_part, minlength=count))))
     return Parts(Part(*orders), *starts)

@@ -27,8 +27,7 @@ _LIST = (ctypes.c_void_p, ctypes.c_size_t)
 _CALLS = {
     "rank": (ctypes.c_void_p,),
     "matching": (ctypes.c_bool, *_LIST, ctypes.c_void_p),
-    "decomposition": (*_LIST, *_LIST, *_LIST, ctypes.c_void_p),
-    "components": (*_LIST, *_LIST, ctypes.c_void_p),
+    "decomposition": (*_LIST, *_LIST, *_LIST, *_LIST, *_LIST, ctypes.c_void_p),
     "block_order": (*_LIST, *_LIST, *_LIST, ctypes.c_void_p),
     "heaviest": (*_LIST, *_LIST, *_LIST, *_LIST, ctypes.c_void_p),
     "bottleneck": (*_LIST, *_LIST, ctypes.c_void_p, *_LIST, ctypes.c_void_p),
@@ -60,13 +59,9 @@ class Sizes(ctypes.Structure):
         ("vertical_rows", ctypes.c_uint32),
         ("vertical_columns", ctypes.c_uint32),
         ("blocks", ctypes.c_uint32),
+        ("horizontal_components", ctypes.c_uint32),
+        ("vertical_components", ctypes.c_uint32),
     ]
-
-
-class ComponentCounts(ctypes.Structure):
-    """``struct blocktri_component_counts``."""
-
-    _fields_ = [("horizontal", ctypes.c_uint32), ("vertical", ctypes.c_uint32)]
 
 
 class Sum(ctypes.Structure):

@@ -1,19 +1,53 @@
-use Rattle.std.proofs.Common.{◌∙◌, arith}
+use Rattle.std.proofs.Common.{◌≡◌, ◌∙◌, arith, length}
+use Rattle.bip_defs.specs.Matrix.{cols}
+use Rattle.bip_graph.specs.Decompositions.{components_of}
+use Rattle.sp_pattern.specs.Columns.{matrix_of}
 use Rattle.blocktri.proofs.LookLemmas.{matrix_cols}
 use Rattle.blocktri.proofs.block_form.decomposition.Goals as goal
 
-pub write-requires-clause-columns : goal.write-requires-clause-columns
-write-requires-clause-columns g c =
-    let n = c.in-Ok.ensures.cols_are ∙ matrix_cols _ (g.N.NumberList.numbers c.args.starts) (g.N.NumberList.numbers c.args.ids) in
-    let test = c.if-column_order-saturating_sub.false in
-    let sub = c.saturating_sub.ensures in
+pub write_column_order-requires-clause-room : goal.write_column_order-requires-clause-room
+write_column_order-requires-clause-room g c =
+    let n = c.in-Ok.ensures.decomposition.cols_are ∙ matrix_cols _ (g.N.NumberList.numbers c.args.starts) (g.N.NumberList.numbers c.args.ids) in
+    let test = c.if-column_order-cols.false in
+    let sub = c.saturating_sub-cols.ensures in
     let len = c.len.ensures in
     omega (arith, n, test, sub, len)
 
-pub write-requires-clause-starts : goal.write-requires-clause-starts
-write-requires-clause-starts g c =
-    let n = c.in-Ok.ensures.cols_are ∙ matrix_cols _ (g.N.NumberList.numbers c.args.starts) (g.N.NumberList.numbers c.args.ids) in
+pub write_block_starts-requires-clause-room : goal.write_block_starts-requires-clause-room
+write_block_starts-requires-clause-room g c =
+    let n = c.in-Ok.ensures.decomposition.cols_are ∙ matrix_cols _ (g.N.NumberList.numbers c.args.starts) (g.N.NumberList.numbers c.args.ids) in
     let test = c.if-block_starts-len.false in
-    let len = c.len-else-column_order-saturating_sub.ensures in
+    let len = c.len-else-column_order-cols.ensures in
     let one = c.in_default.ensures.columns.starts_are.one in
     omega (arith, n, test, len, one)
+
+pub write_components-requires-clause-some : goal.write_components-requires-clause-some
+write_components-requires-clause-some g c =
+    let a = matrix_of c.args.rows (g.N.NumberList.numbers c.args.starts) (g.N.NumberList.numbers c.args.ids) in
+    let wide = matrix_cols c.args.rows (g.N.NumberList.numbers c.args.starts) (g.N.NumberList.numbers c.args.ids) in
+    let rows = c.if-row_component-rows.false in
+    let test = c.if-column_component-cols.false in
+    let sub = c.saturating_sub-cols.ensures in
+    let len = c.len.ensures in
+    (a, c.in-Ok.ensures.components, omega (arith, rows), omega (arith, wide, test, sub, len))
+
+pub returns-clause-components : goal.returns-clause-components
+returns-clause-components g c =
+    let a = matrix_of c.args.rows (g.N.NumberList.numbers c.args.starts) (g.N.NumberList.numbers c.args.ids) in
+    let wide = matrix_cols c.args.rows (g.N.NumberList.numbers c.args.starts) (g.N.NumberList.numbers c.args.ids) in
+    let rows = c.if-row_component-rows.false in
+    let test = c.if-column_component-cols.false in
+    let sub = c.saturating_sub-cols.ensures in
+    let len = c.len.ensures in
+    let long : length c.args.row_component.now ≡ c.args.rows = omega (arith, rows) in
+    let across : length c.args.column_component.now ≡ cols a = omega (arith, wide, test, sub, len) in
+    record {
+      columns = c.in_default.ensures.columns;
+      holds = record {
+        components = components_of c.in-Ok.outer;
+        are_components = c.in-Ok.ensures.components;
+        horizontal = c.sizes_of.ensures.horizontal;
+        vertical = c.sizes_of.ensures.vertical;
+        numbers = c.write_components.ensures a c.in-Ok.ensures.components long across;
+      };
+    }

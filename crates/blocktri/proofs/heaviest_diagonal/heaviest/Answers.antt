@@ -2,50 +2,36 @@ use Rattle.std.proofs.Common.{◌∙◌, ap, arith, length, rules, FitsSigned}
 use Rattle.std.specs.Int.{w128}
 use Rattle.std.proofs.lemmas.Int.{to_z-of_z}
 use Rattle.bip_defs.specs.Matrix.{cols}
-use Rattle.blocktri.proofs.DiagonalLemmas.{heaviest_written, pair_columns, pair_rows, pairs_all}
+use Rattle.blocktri.proofs.DiagonalLemmas.{full_fits, heaviest_written}
 use Rattle.blocktri.proofs.LookLemmas.{matrix_cols}
 use Rattle.blocktri.proofs.heaviest_diagonal.heaviest.Goals as goal
 
-pub write_pairs-requires-clause-columns : goal.write_pairs-requires-clause-columns
-write_pairs-requires-clause-columns g c = λ r d h.
+pub write_pairs-requires : goal.write_pairs-requires
+write_pairs-requires g c =
     let found = c.in_ok-found.ensures.found in
-    let lt = pair_columns c.args.rows (g.N.NumberList.numbers c.args.starts) (g.N.NumberList.numbers c.args.ids) found.weighing.matrix c.in_ok-found.found.pairs.items found.weights.matrix_is found.holds.heaviest.full r d (rw c.as_slice.ensures.value at h) in
-    let test = c.if-row_of_column-saturating_sub.false in
-    let sub = c.saturating_sub.ensures in
-    let len = c.len-else-values-len.ensures in
-    omega (arith, lt, test, sub, len)
-
-pub write_pairs-requires-clause-rows : goal.write_pairs-requires-clause-rows
-write_pairs-requires-clause-rows g c = λ r d h.
-    let found = c.in_ok-found.ensures.found in
-    pair_rows c.args.rows (g.N.NumberList.numbers c.args.starts) (g.N.NumberList.numbers c.args.ids) found.weighing.matrix c.in_ok-found.found.pairs.items found.columns found.weights.matrix_is found.holds.heaviest.full r d (rw c.as_slice.ensures.value at h)
-
-pub write_pairs-requires-clause-all : goal.write_pairs-requires-clause-all
-write_pairs-requires-clause-all g c = λ d lt.
-    let found = c.in_ok-found.ensures.found in
-    let test = c.if-row_of_column-saturating_sub.false in
-    let sub = c.saturating_sub.ensures in
-    let len = c.len-else-values-len.ensures in
-    rw c.as_slice.ensures.value (pairs_all c.args.rows (g.N.NumberList.numbers c.args.starts) (g.N.NumberList.numbers c.args.ids) found.weighing.matrix c.in_ok-found.found.pairs.items found.weights.matrix_is found.holds.heaviest.full d (omega (arith, lt, test, sub, len)))
+    let test = c.if-row_of_column-cols.false in
+    let sub = c.saturating_sub-cols.ensures in
+    let len = c.len.ensures in
+    rw c.as_slice.ensures.value (full_fits c.args.columns.now.rows (g.N.NumberList.numbers c.args.columns.now.starts) (g.N.NumberList.numbers c.args.columns.now.ids) found.weighing.matrix c.in_ok-found.found.pairs.items c.args.row_of_column.now found.columns found.weights.matrix_is found.holds.heaviest.full (omega (arith, test, sub, len)))
 
 pub write_prices-requires-2-clause-long : goal.write_prices-requires-2-clause-long
 write_prices-requires-2-clause-long g c =
     let found = c.in_ok-found.ensures.found in
-    let n = ap cols found.weights.matrix_is ∙ matrix_cols c.args.rows (g.N.NumberList.numbers c.args.starts) (g.N.NumberList.numbers c.args.ids) in
+    let n = ap cols found.weights.matrix_is ∙ matrix_cols c.args.columns.now.rows (g.N.NumberList.numbers c.args.columns.now.starts) (g.N.NumberList.numbers c.args.columns.now.ids) in
     let prices = found.holds.heaviest.fair.by_col in
     let long = ap length c.as_slice-3.ensures.value in
-    let test = c.if-column_prices-saturating_sub.false in
-    let sub = c.saturating_sub-else-row_prices-rows.ensures in
-    let len = c.len-else-row_prices-rows.ensures in
+    let test = c.if-column_prices-cols.false in
+    let sub = c.saturating_sub-cols.ensures in
+    let len = c.len.ensures in
     omega (arith, n, prices, long, test, sub, len)
 
 pub returns-clause-found : goal.returns-clause-found
 returns-clause-found g c =
     let found = c.in_ok-found.ensures.found in
-    let n = ap cols found.weights.matrix_is ∙ matrix_cols c.args.rows (g.N.NumberList.numbers c.args.starts) (g.N.NumberList.numbers c.args.ids) in
-    let test = c.if-row_of_column-saturating_sub.false in
-    let sub = c.saturating_sub.ensures in
-    let len = c.len-else-values-len.ensures in
+    let n = ap cols found.weights.matrix_is ∙ matrix_cols c.args.columns.now.rows (g.N.NumberList.numbers c.args.columns.now.starts) (g.N.NumberList.numbers c.args.columns.now.ids) in
+    let test = c.if-row_of_column-cols.false in
+    let sub = c.saturating_sub-cols.ensures in
+    let len = c.len.ensures in
     let same = c.write_pairs.ensures.long in
     let fits : FitsSigned w128 c.in_ok-found.found.sum = search rules in
     record {

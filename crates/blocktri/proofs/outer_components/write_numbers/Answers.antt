@@ -1,4 +1,4 @@
-use Rattle.std.proofs.Common.{◌∙◌, ℕ, ◌+◌, List, arith, length, refl, subst}
+use Rattle.std.proofs.Common.{◌∙◌, ℕ, List, arith, length, refl, subst}
 use Rattle.std.proofs.lemmas.List.{map-id}
 use Rattle.bip_defs.specs.Lists.{Among}
 use Rattle.blocktri.specs.OuterComponents.{IsWrittenAt, cols_of_block, rows_of_block}
@@ -25,10 +25,10 @@ pub loop-block-preserved : goal.loop-block-preserved
 loop-block-preserved c =
     let lt = c.loop-block-test.true in
     let end = c.len-block-end.ensures in
-    let number = c.args.first + c.loop-block.block in
+    let k = c.loop-block.block in
     record {
-      rows = numbered_more rows_of_block c.args.first c.loop-block.block (length c.args.rows.now) number c.args.blocks.now c.args.rows.now c.loop-block.rows c.write_number.new.out (omega (arith, lt, end)) c.requires.rows refl c.loop-block.invariant.rows
-          (subst (λ (xs : List ℕ). IsWrittenAt xs number c.loop-block.rows c.write_number.new.out) (map-id c.rows.result.now ∙ c.rows.ensures) c.write_number.ensures);
-      columns = numbered_more cols_of_block c.args.first c.loop-block.block (length c.args.columns.now) number c.args.blocks.now c.args.columns.now c.loop-block.columns c.write_number-in-loop-block.new.out (omega (arith, lt, end)) c.requires.columns refl c.loop-block.invariant.columns
-          (subst (λ (xs : List ℕ). IsWrittenAt xs number c.loop-block.columns c.write_number-in-loop-block.new.out) (map-id c.cols.result.now ∙ c.cols.ensures) c.write_number-in-loop-block.ensures);
+      rows = numbered_more rows_of_block k (length c.args.rows.now) k c.args.blocks.now c.args.rows.now c.loop-block.rows c.write_number.new.out (omega (arith, lt, end)) c.requires.rows refl c.loop-block.invariant.rows
+          (subst (λ (xs : List ℕ). IsWrittenAt xs k c.loop-block.rows c.write_number.new.out) (map-id c.rows.result.now ∙ c.rows.ensures) c.write_number.ensures);
+      columns = numbered_more cols_of_block k (length c.args.columns.now) k c.args.blocks.now c.args.columns.now c.loop-block.columns c.write_number-in-loop-block.new.out (omega (arith, lt, end)) c.requires.columns refl c.loop-block.invariant.columns
+          (subst (λ (xs : List ℕ). IsWrittenAt xs k c.loop-block.columns c.write_number-in-loop-block.new.out) (map-id c.cols.result.now ∙ c.cols.ensures) c.write_number-in-loop-block.ensures);
     }

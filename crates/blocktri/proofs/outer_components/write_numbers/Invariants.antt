@@ -3,6 +3,6 @@ use Rattle.blocktri.proofs.outer_components.write_numbers.Given as goal
 
 abbrev pub invariant-loop-block : goal.invariant-loop-block
 invariant-loop-block l = record {
-  rows : AreNumbered rows_of_block l.first l.blocks l.block l.fn.rows l.rows;
-  columns : AreNumbered cols_of_block l.first l.blocks l.block l.fn.columns l.columns;
+  rows : AreNumbered rows_of_block l.blocks l.block l.fn.rows l.rows;
+  columns : AreNumbered cols_of_block l.blocks l.block l.fn.columns l.columns;
 }

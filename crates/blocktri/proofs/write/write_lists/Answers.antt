@@ -1,7 +1,7 @@
 use Rattle.std.proofs.Common.{◌+◌, arith, length, map, sym}
 use Rattle.std.proofs.lemmas.List.{length-map}
 use Rattle.blocktri.proofs.WriteLemmas.{orders_put}
-use Rattle.blocktri.proofs.write.write_order.Goals as goal
+use Rattle.blocktri.proofs.write.write_lists.Goals as goal
 
 pub returns : goal.returns
 returns g c =
