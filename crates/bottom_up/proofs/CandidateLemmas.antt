@@ -1,5 +1,5 @@
 -- What a worker has gathered from free rows, and what is covered by it.
-use Rattle.std.proofs.Common.{◌≡◌, ℕ, ◌+◌, List, [], ◌∷◌, ◌++◌, refl, sym, subst, inl, inr, ⊎_elim}
+use Rattle.std.proofs.Common.{◌≡◌, ℕ, List, [], ◌∷◌, ◌++◌, refl, sym, subst, inl, inr, ⊎_elim}
 use Rattle.bip_defs.specs.Forest.{State}
 use Rattle.bip_defs.specs.Lists.{Among}
 use Rattle.bip_defs.proofs.Sets.{among_last, among_left, among_right}
