@@ -23,7 +23,8 @@ fn are_lists<R: Abort>(rt: &R, name: &str, rows: &[Row], cols: &[Col], wanted: &
     assert!(rt; are(cols, wanted.cols.as_slice()), "{name}");
 }
 
-fn has_parts<R: Abort + AllocGlobal>(
+/// These are the parts of a matrix.
+pub(crate) fn has_parts<R: Abort + AllocGlobal>(
     rt: &R,
     worked: &Worked<'_>,
     parts: &Parts,
@@ -51,7 +52,7 @@ fn has_parts<R: Abort + AllocGlobal>(
 }
 
 /// The blocks of a matrix, in their order.
-fn blocks_of<R: AllocGlobal>(rt: &R, worked: &Worked<'_>) -> Result<Vec<Lists>, Fail> {
+pub(crate) fn blocks_of<R: AllocGlobal>(rt: &R, worked: &Worked<'_>) -> Result<Vec<Lists>, Fail> {
     let mut blocks = Vec::new(rt.alloc());
     for text in worked.line("blocks")?.split(',') {
         if !text.is_empty() {
@@ -61,7 +62,8 @@ fn blocks_of<R: AllocGlobal>(rt: &R, worked: &Worked<'_>) -> Result<Vec<Lists>, 
     Ok(blocks)
 }
 
-fn has_blocks<R: Abort>(rt: &R, name: &str, blocks: &Blocks, wanted: &[Lists]) {
+/// These are the blocks, in their order.
+pub(crate) fn has_blocks<R: Abort>(rt: &R, name: &str, blocks: &Blocks, wanted: &[Lists]) {
     assert_eq!(rt; blocks.len(), wanted.len(), "{name}");
     assert_eq!(rt; blocks.is_empty(), wanted.is_empty(), "{name}");
     for (at, lists) in wanted.iter().enumerate() {
