@@ -1,35 +1,34 @@
 //! The connected components of the horizontal and of the vertical part, of matrices that were
 //! worked out by hand.
 
-use crate::small::{are, pattern_of};
 use bip_graph::{Blocks, Components};
 use dm_coarse::{coarse, components};
 use hall_witness::plain;
-use sp_ids::OutOfMemory;
 use std::process::Abort;
 use std::test::Fail;
 use std::thread::Threads;
+use test_matrices::{are, pattern_of};
 
 /// The components of the matrix with entries at these places, from the matching of the plain
 /// engine.
-fn components_of<R: Abort + AllocGlobal + Threads + Sync>(
+fn components_of<R: AllocGlobal + Threads + Sync>(
     rt: &R,
     rows: u32,
     cols: u32,
     places: &[(u32, u32)],
-) -> Result<Components, OutOfMemory> {
+) -> Result<Components, Fail> {
     let pattern = pattern_of(rt, rows, cols, places)?;
     let (matching, _columns) = plain(rt.alloc(), &pattern)?;
     let parts = coarse(rt, rt.alloc(), &pattern, &matching)?;
-    components(rt.alloc(), &pattern, &parts)
+    Ok(components(rt.alloc(), &pattern, &parts)?)
 }
 
 /// Compares components with lists of rows and columns that count from 1.
 fn have_lists<R: Abort>(rt: &R, name: &str, found: &Blocks, wanted: &[(&[u32], &[u32])]) {
     assert_eq!(rt; found.len(), wanted.len(), "{name}");
     for (at, (rows, cols)) in wanted.iter().enumerate() {
-        are(rt, name, found.rows(at), rows);
-        are(rt, name, found.cols(at), cols);
+        assert!(rt; are(found.rows(at), rows), "{name}");
+        assert!(rt; are(found.cols(at), cols), "{name}");
     }
 }
 

@@ -5,7 +5,6 @@ ghost use Rattle.std.specs.Prelude.{◌≡◌, IsTrue};
 ghost use Rattle.bip_defs.specs.Matrix.{AreEntries};
 ghost use Rattle.btf_text.specs.Diagonals.{PairsAreEntries};
 
-use crate::small::integers_of;
 use bip_graph::Heaviest;
 use btf_text::{TextBuf, write_diagonal};
 use sp_ids::{Col, OutOfMemory, Row};
@@ -13,6 +12,7 @@ use sp_pattern::{Pattern, Weights};
 use sp_ports::{Failed, SteadySink};
 use std::alloc::Global;
 use std::test::Fail;
+use test_matrices::integers_of;
 
 /// Whether all pairs are entries.
 fn are_entries(pattern: &Pattern, pairs: &[(Row, Col)]) -> bool
@@ -62,7 +62,7 @@ fn the_longest_prices_and_prices_below_zero(rt: HostRuntime) -> Result<(), Fail>
     // Weights are magnitudes: -7 weighs 7.
     let alloc = rt.alloc();
     let entries = [(1, 1, 9_223_372_036_854_775_807), (2, 2, -7)];
-    let triples = integers_of(&rt, 2, 2, &entries)?;
+    let triples = integers_of(alloc, 2, 2, &entries)?;
     let pattern = Pattern::build(&rt, alloc, &triples)?;
     let weights = Weights::build(alloc, &pattern, &triples)?;
     let answer = Heaviest::Diagonal {
@@ -82,7 +82,7 @@ fn the_longest_prices_and_prices_below_zero(rt: HostRuntime) -> Result<(), Fail>
 fn columns_that_do_not_rise(rt: HostRuntime) -> Result<(), Fail> {
     // Rows 2 and 4 have entries in columns 1 and 3, row 1 in column 2 alone, and row 3 has none.
     let alloc = rt.alloc();
-    let triples = integers_of(&rt, 4, 4, &[(1, 2, 1), (2, 3, 1), (4, 1, 1), (4, 3, 1)])?;
+    let triples = integers_of(alloc, 4, 4, &[(1, 2, 1), (2, 3, 1), (4, 1, 1), (4, 3, 1)])?;
     let pattern = Pattern::build(&rt, alloc, &triples)?;
     let weights = Weights::build(alloc, &pattern, &triples)?;
     let answer = Heaviest::Singular {

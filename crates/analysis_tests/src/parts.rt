@@ -2,68 +2,57 @@
 
 ghost use Rattle.bip_graph.specs.Matching.{IsMatchingOf};
 
-use crate::small::{are, matching_of};
-use crate::worked::{Lists, Worked, lists_in, matrices, pairs_in, pattern_from};
 use bip_graph::{Blocks, Matching, Parts};
 use dm_coarse::{coarse, coarse_if_maximum};
 use dm_fine::fine;
 use hall_witness::plain;
 use karp_sipser::start;
+use sp_ids::{Col, Row};
 use sp_pattern::Pattern;
 use square_components::{Components, strong_components};
 use std::process::Abort;
 use std::test::Fail;
 use std::thread::Threads;
+use test_matrices::{
+    Lists, Worked, are, lists_in, matching_of, pairs_in, pattern_from, worked_matrices,
+};
 
-fn has_parts<R: Abort + AllocGlobal>(
+/// These are the rows and the columns of one part.
+fn are_lists<R: Abort>(rt: &R, name: &str, rows: &[Row], cols: &[Col], wanted: &Lists) {
+    assert!(rt; are(rows, wanted.rows.as_slice()), "{name}");
+    assert!(rt; are(cols, wanted.cols.as_slice()), "{name}");
+}
+
+/// These are the parts of a matrix.
+pub(crate) fn has_parts<R: Abort + AllocGlobal>(
     rt: &R,
     worked: &Worked<'_>,
     parts: &Parts,
 ) -> Result<(), Fail> {
+    let name = worked.name();
     let horizontal = worked.lists(rt.alloc(), "horizontal")?;
-    are(
+    are_lists(
         rt,
-        worked.name(),
+        name,
         parts.hr.as_slice(),
-        horizontal.rows.as_slice(),
-    );
-    are(
-        rt,
-        worked.name(),
         parts.hc.as_slice(),
-        horizontal.cols.as_slice(),
+        &horizontal,
     );
     let square = worked.lists(rt.alloc(), "square")?;
-    are(
-        rt,
-        worked.name(),
-        parts.sr.as_slice(),
-        square.rows.as_slice(),
-    );
-    are(
-        rt,
-        worked.name(),
-        parts.sc.as_slice(),
-        square.cols.as_slice(),
-    );
+    are_lists(rt, name, parts.sr.as_slice(), parts.sc.as_slice(), &square);
     let vertical = worked.lists(rt.alloc(), "vertical")?;
-    are(
+    are_lists(
         rt,
-        worked.name(),
+        name,
         parts.vr.as_slice(),
-        vertical.rows.as_slice(),
-    );
-    are(
-        rt,
-        worked.name(),
         parts.vc.as_slice(),
-        vertical.cols.as_slice(),
+        &vertical,
     );
     Ok(())
 }
 
 /// The blocks of a matrix, in their order.
-fn blocks_of<R: AllocGlobal>(rt: &R, worked: &Worked<'_>) -> Result<Vec<Lists>, Fail> {
+pub(crate) fn blocks_of<R: AllocGlobal>(rt: &R, worked: &Worked<'_>) -> Result<Vec<Lists>, Fail> {
     let mut blocks = Vec::new(rt.alloc());
     for text in worked.line("blocks")?.split(',') {
         if !text.is_empty() {
@@ -73,12 +62,12 @@ fn blocks_of<R: AllocGlobal>(rt: &R, worked: &Worked<'_>) -> Result<Vec<Lists>, 
     Ok(blocks)
 }
 
-fn has_blocks<R: Abort>(rt: &R, name: &str, blocks: &Blocks, wanted: &[Lists]) {
+/// These are the blocks, in their order.
+pub(crate) fn has_blocks<R: Abort>(rt: &R, name: &str, blocks: &Blocks, wanted: &[Lists]) {
     assert_eq!(rt; blocks.len(), wanted.len(), "{name}");
     assert_eq!(rt; blocks.is_empty(), wanted.is_empty(), "{name}");
     for (at, lists) in wanted.iter().enumerate() {
-        are(rt, name, blocks.rows(at), lists.rows.as_slice());
-        are(rt, name, blocks.cols(at), lists.cols.as_slice());
+        are_lists(rt, name, blocks.rows(at), blocks.cols(at), lists);
     }
 }
 
@@ -171,7 +160,7 @@ fn is_decomposed<R: Abort + AllocGlobal + Threads + Sync>(
 
 #[test]
 fn parts_components_and_blocks(rt: HostRuntime) -> Result<(), Fail> {
-    let matrices = matrices(rt.alloc())?;
+    let matrices = worked_matrices(rt.alloc())?;
     assert_eq!(rt; matrices.len(), 37);
     for worked in &matrices {
         is_decomposed(&rt, worked)?;
@@ -205,7 +194,7 @@ fn has_parts_from_each<R: Abort + AllocGlobal + Threads + Sync>(
     worked: &Worked<'_>,
 ) -> Result<(), Fail> {
     let pattern = pattern_from(rt, worked, false)?;
-    let none = matching_of(rt, &pattern, &[])?;
+    let none = matching_of(rt.alloc(), &pattern, &[])?;
     has_parts_if_maximum(rt, worked, &pattern, &none)?;
     let started = start(rt.alloc(), &pattern)?;
     has_parts_if_maximum(rt, worked, &pattern, &started)?;
@@ -213,7 +202,7 @@ fn has_parts_from_each<R: Abort + AllocGlobal + Threads + Sync>(
         if let Some(text) = line.strip_prefix("from:") {
             let (pairs, _sure) = text.split_once('|').ok_or("no bar")?;
             let pairs = pairs_in(rt.alloc(), pairs)?;
-            let matching = matching_of(rt, &pattern, pairs.as_slice())?;
+            let matching = matching_of(rt.alloc(), &pattern, pairs.as_slice())?;
             has_parts_if_maximum(rt, worked, &pattern, &matching)?;
         }
     }
@@ -222,7 +211,7 @@ fn has_parts_from_each<R: Abort + AllocGlobal + Threads + Sync>(
 
 #[test]
 fn parts_from_maximum_matchings_alone(rt: HostRuntime) -> Result<(), Fail> {
-    for worked in &matrices(rt.alloc())? {
+    for worked in &worked_matrices(rt.alloc())? {
         has_parts_from_each(&rt, worked)?;
     }
     Ok(())

@@ -1,11 +1,11 @@
 //! Patterns of small matrices and of one with many entries, the weights of entries, and the matrix
 //! of a number, worked out by hand. Tables count rows and columns from 1.
 
-use crate::small::{integers_of, pattern_of};
 use sp_ids::{Col, Field, Id, OutOfMemory, Row, Triples};
 use sp_pattern::{Pattern, Weights, load_matrix};
 use std::process::Abort;
 use std::test::Fail;
+use test_matrices::{integers_of, pattern_of};
 
 // One matrix: by columns; by rows; each place beside its mirror image, with the lower half by
 // columns, by rows and in no order; in no order at all. In each list one place stands twice.
@@ -120,7 +120,7 @@ fn load_matrix_of_thirty(rt: HostRuntime) -> Result<(), Fail> {
 // The place (2, 1) is given twice.
 #[test]
 fn weights_and_entries_above_one(rt: HostRuntime) -> Result<(), Fail> {
-    let given = integers_of(&rt, 2, 1, &[(2, 1, 1), (1, 1, -7), (2, 1, -9)])?;
+    let given = integers_of(rt.alloc(), 2, 1, &[(2, 1, 1), (1, 1, -7), (2, 1, -9)])?;
     let pattern = Pattern::build(&rt, rt.alloc(), &given)?;
     let weights = Weights::build(rt.alloc(), &pattern, &given)?;
     assert_eq!(rt; pattern.cols(), 1);
@@ -141,7 +141,7 @@ fn places_that_add_up_to_zero(rt: HostRuntime) -> Result<(), Fail> {
         (1, 1, 1),
         (2, 1, -9223372036854775807),
     ];
-    let given = integers_of(&rt, 2, 1, &entries)?;
+    let given = integers_of(rt.alloc(), 2, 1, &entries)?;
     let pattern = Pattern::build_nonzero(&rt, rt.alloc(), &given)?;
     assert_eq!(rt; pattern.cols(), 1);
     assert_eq!(rt; pattern.rows_of(Col(0)), [Row(0)].as_slice());

@@ -1,13 +1,13 @@
 //! A report, a summary and pairs of small matrices, worked out by hand. Whole runs show more
 //! reports in `run_tests`.
 
-use crate::small::{matching_of, pattern_of};
 use bip_graph::{Blocks, Components, Decomposition, Matching, Parts};
 use btf_text::{TextBuf, write_load, write_pairs, write_report};
 use sp_ids::{Col, OutOfMemory, Row};
 use sp_ports::{Failed, MemSink, SteadySink};
 use std::alloc::Global;
 use std::test::Fail;
+use test_matrices::{matching_of, pattern_of};
 
 /// The decomposition of a matrix without horizontal and vertical parts.
 fn square(alloc: Global, rank: u32, entries: u32, blocks: Blocks) -> Decomposition {
@@ -55,8 +55,7 @@ fn three_parts(alloc: Global) -> Result<Decomposition, OutOfMemory> {
 const THREE_PARTS: [(u32, u32); 7] = [(1, 1), (1, 2), (1, 3), (2, 3), (2, 4), (3, 4), (4, 4)];
 
 #[test]
-fn the_summary_and_the_report_of_three_parts(rt: HostRuntime) -> Result<(), Fail> {
-    // Column 1 is matched and column 2 is not.
+fn the_summary_of_three_parts(rt: HostRuntime) -> Result<(), Fail> {
     let alloc = rt.alloc();
     let dec = three_parts(alloc)?;
     let mut buf = TextBuf::new(alloc)?;
@@ -64,9 +63,17 @@ fn the_summary_and_the_report_of_three_parts(rt: HostRuntime) -> Result<(), Fail
     assert_eq!(rt; write_load(&mut out, &mut buf, &dec), Ok(()));
     let text = b"matrix 4 4 7\nrank 3\nhorizontal 1 2\nsquare 1 1\nvertical 2 1\n";
     assert_eq!(rt; out.bytes(), text.as_slice());
+    Ok(())
+}
 
+#[test]
+fn the_report_of_three_parts(rt: HostRuntime) -> Result<(), Fail> {
+    // Column 1 is matched and column 2 is not.
+    let alloc = rt.alloc();
+    let dec = three_parts(alloc)?;
     let pattern = pattern_of(&rt, 4, 4, &THREE_PARTS)?;
-    let matching = matching_of(&rt, &pattern, &[(3, 4), (1, 1), (2, 3)])?;
+    let matching = matching_of(alloc, &pattern, &[(3, 4), (1, 1), (2, 3)])?;
+    let mut buf = TextBuf::new(alloc)?;
     let mut out = SteadySink::new(alloc, 1000, 7)?;
     assert_eq!(rt;
         write_report(&mut out, &mut buf, &dec, None, &matching, true, true),
@@ -124,7 +131,7 @@ fn a_report_that_is_cut_off(rt: HostRuntime) -> Result<(), Fail> {
 fn pairs_alone(rt: HostRuntime) -> Result<(), Fail> {
     let alloc = rt.alloc();
     let pairs = [(1, 3), (11, 1)];
-    let matching = matching_of(&rt, &pattern_of(&rt, 11, 3, &pairs)?, &pairs)?;
+    let matching = matching_of(alloc, &pattern_of(&rt, 11, 3, &pairs)?, &pairs)?;
     let mut buf = TextBuf::new(alloc)?;
     let mut out = SteadySink::new(alloc, 100, 5)?;
     assert_eq!(rt; write_pairs(&mut out, &mut buf, &matching), Ok(()));

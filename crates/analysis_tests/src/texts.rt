@@ -1,31 +1,48 @@
 //! The text of a rank, and the buffer, worked out by hand. Whole runs show the other texts of a
 //! rank in `run_tests`.
 
-use crate::small::pattern_of;
 use btf_text::{TextBuf, write_rank};
 use sp_ids::{Col, Row};
+use sp_pattern::Pattern;
 use sp_ports::{Failed, MemSink, SteadySink};
+use std::process::Abort;
 use std::test::Fail;
+use test_matrices::pattern_of;
 
-#[test]
-fn the_rank_of_a_wide_matrix(rt: HostRuntime) -> Result<(), Fail> {
-    // Columns 1 and 2 share the one entry row: rank 1, and both columns can be missed. The first
-    // call takes 10 bytes and the second fails: a prefix of the text was taken. The same buffer
-    // then writes the whole of it to another sink.
+// The first call takes 10 bytes and the second fails: a prefix of the text was taken.
+fn is_cut_off<R: Abort + AllocGlobal>(
+    rt: &R,
+    buf: &mut TextBuf,
+    pattern: &Pattern,
+) -> Result<(), Fail> {
     let alloc = rt.alloc();
-    let pattern = pattern_of(&rt, 2, 2, &[(1, 1), (1, 2)])?;
-    let mut buf = TextBuf::new(alloc)?;
-    let (rows, cols) = ([Row(0)], [Col(0), Col(1)]);
     let mut failing = MemSink::new(alloc, 100, 10, [1].to_vec(alloc)?)?;
     assert_eq!(rt;
-        write_rank(&mut failing, &mut buf, &pattern, 1, &rows, &cols),
+        write_rank(&mut failing, buf, pattern, 1, &[Row(0)], &[Col(0), Col(1)]),
         Err(Failed)
     );
     assert_eq!(rt; failing.bytes(), b"matrix 2 2".as_slice());
     assert_eq!(rt; failing.failed_calls(), 1);
-    let mut out = SteadySink::new(alloc, 60, 7)?;
+    Ok(())
+}
+
+#[test]
+fn the_rank_of_a_wide_matrix(rt: HostRuntime) -> Result<(), Fail> {
+    // Columns 1 and 2 share the one entry row: rank 1, and both columns can be missed. The buffer of
+    // a text that was cut off then writes the whole of it to another sink.
+    let pattern = pattern_of(&rt, 2, 2, &[(1, 1), (1, 2)])?;
+    let mut buf = TextBuf::new(rt.alloc())?;
+    is_cut_off(&rt, &mut buf, &pattern)?;
+    let mut out = SteadySink::new(rt.alloc(), 60, 7)?;
     assert_eq!(rt;
-        write_rank(&mut out, &mut buf, &pattern, 1, &rows, &cols),
+        write_rank(
+            &mut out,
+            &mut buf,
+            &pattern,
+            1,
+            &[Row(0)],
+            &[Col(0), Col(1)]
+        ),
         Ok(())
     );
     let text = b"matrix 2 2 2\nrank 1\nhorizontal 1 2\nrows 1\ncolumns 1 2\nend\n";

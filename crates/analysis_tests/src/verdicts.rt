@@ -1,12 +1,10 @@
 //! The judge on reports of small matrices, worked out by hand. Changes of a report, and bytes made
 //! to mislead it, are judged by whole runs in `run_tests`.
 
-use crate::small::pattern_of;
 use btf_check::{Verdict, judge};
-use sp_ids::OutOfMemory;
-use std::process::Abort;
 use std::test::Fail;
 use std::thread::Threads;
+use test_matrices::pattern_of;
 
 /// Lines of blocks in the report of the identity, with its verdict.
 #[rattlefmt::skip]
@@ -40,15 +38,12 @@ static BLOCKS: [(&[u8], Verdict); 6] = [
 ];
 
 /// The verdict on the report of the identity with these lines of blocks.
-fn on_identity<R: AllocGlobal + Abort + Threads + Sync>(
-    rt: &R,
-    blocks: &[u8],
-) -> Result<Verdict, OutOfMemory> {
+fn on_identity<R: AllocGlobal + Threads + Sync>(rt: &R, blocks: &[u8]) -> Result<Verdict, Fail> {
     let pattern = pattern_of(rt, 3, 3, &[(1, 1), (2, 2), (3, 3)])?;
     let mut text = Vec::from_slice(rt.alloc(), b"btf 1\nmatrix 3 3 3\nrank 3\nhorizontal 0 0\n")?;
     text.extend_from_slice(blocks)?;
     text.extend_from_slice(b"vertical 0 0\npairs 3\n1 1\n2 2\n3 3\nend\n")?;
-    judge(rt, rt.alloc(), &pattern, text.as_slice())
+    Ok(judge(rt, rt.alloc(), &pattern, text.as_slice())?)
 }
 
 /// The first line of a report of two rows of two columns each, its horizontal and its vertical
@@ -108,12 +103,12 @@ static COMPONENTS: [(&[u8], &[u8], &[u8], Verdict); 9] = [
 
 /// The verdict on the report of two rows of two columns each, in this version, with these lines of
 /// components and with so many vertical ones.
-fn on_two_rows<R: AllocGlobal + Abort + Threads + Sync>(
+fn on_two_rows<R: AllocGlobal + Threads + Sync>(
     rt: &R,
     version: &[u8],
     horizontal: &[u8],
     vertical: &[u8],
-) -> Result<Verdict, OutOfMemory> {
+) -> Result<Verdict, Fail> {
     let pattern = pattern_of(rt, 2, 4, &[(1, 1), (1, 3), (2, 2), (2, 4)])?;
     let mut text = Vec::from_slice(rt.alloc(), version)?;
     text.extend_from_slice(b"matrix 2 4 4\nrank 2\nhorizontal 2 4\nrows 1 2\ncolumns 1 2 3 4\n")?;
@@ -121,7 +116,7 @@ fn on_two_rows<R: AllocGlobal + Abort + Threads + Sync>(
     text.extend_from_slice(b"square 0 0\nvertical 0 0\n")?;
     text.extend_from_slice(vertical)?;
     text.extend_from_slice(b"pairs 2\n1 1\n2 2\nend\n")?;
-    judge(rt, rt.alloc(), &pattern, text.as_slice())
+    Ok(judge(rt, rt.alloc(), &pattern, text.as_slice())?)
 }
 
 #[test]

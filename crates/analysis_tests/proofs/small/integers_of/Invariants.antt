@@ -1,6 +1,0 @@
-use Rattle.std.proofs.Common.{◌≡◌}
-use Rattle.sp_ids.specs.declared.triples.Field.TheVariants.{Integer}
-use Rattle.analysis_tests.proofs.small.integers_of.Given as goal
-
-abbrev pub invariant-loop-row : goal.invariant-loop-row
-invariant-loop-row g l = l.triples.field ≡ Integer

@@ -1,0 +1,249 @@
+//! Sessions of edits beside the matrix made anew after each edit. Whole sessions with their texts
+//! are in `run_tests`.
+
+ghost use Rattle.std.specs.Prelude.{◌≡◌, ◌<◌, ◌≤◌};
+ghost use Rattle.bip_defs.specs.Matrix.{cols, entry_count};
+
+use bip_graph::{Blocks, Parts};
+use dm_coarse::{coarse, components};
+use dm_fine::fine;
+use edit_session::Session;
+use hall_witness::{Steps, plain};
+use sp_ids::{Col, OutOfMemory, Row};
+use std::alloc::Global;
+use std::marker::Brand;
+use std::process::Abort;
+use std::sync::ledger::{Blank, Ledger};
+use std::test::Fail;
+use std::thread::Threads;
+use test_matrices::pattern_of;
+
+/// An edit, whose row and column count from 1.
+#[derive(Clone, Copy, Debug)]
+enum Edit {
+    Set(u32, u32),
+    Clear(u32, u32),
+}
+
+/// A session: the numbers of rows and columns, the places at the start with their rank, and the
+/// edits, each with the rank that it leaves. The ranks were worked out by hand.
+#[derive(Clone, Copy)]
+struct Edits<'a> {
+    rows: u32,
+    cols: u32,
+    places: &'a [(u32, u32)],
+    rank: u32,
+    edits: &'a [(Edit, u32)],
+}
+
+#[rattlefmt::skip]
+const SESSIONS: [Edits<'static>; 5] = [
+    Edits {
+        rows: 2,
+        cols: 2,
+        places: &[(1, 1)],
+        rank: 1,
+        // The third clears a place that is none, and the fourth sets an entry that is there.
+        edits: &[
+            (Edit::Set(2, 2), 2), (Edit::Clear(1, 1), 1), (Edit::Clear(1, 1), 1), (Edit::Set(2, 2), 1),
+            (Edit::Set(1, 2), 1), (Edit::Set(2, 1), 2), (Edit::Clear(2, 2), 2), (Edit::Clear(1, 2), 1),
+        ],
+    },
+    Edits {
+        rows: 3,
+        cols: 3,
+        places: &[],
+        rank: 0,
+        // The seventh sets an entry that is there, and the twelfth clears a place that is none.
+        edits: &[
+            (Edit::Set(1, 1), 1), (Edit::Set(1, 2), 1), (Edit::Set(1, 3), 1), (Edit::Set(2, 1), 2),
+            (Edit::Set(3, 1), 2), (Edit::Set(2, 2), 3), (Edit::Set(2, 2), 3), (Edit::Clear(1, 1), 3),
+            (Edit::Set(3, 3), 3), (Edit::Clear(2, 2), 3), (Edit::Clear(1, 3), 3), (Edit::Clear(1, 3), 3),
+            (Edit::Set(2, 3), 3), (Edit::Clear(3, 3), 3), (Edit::Clear(1, 2), 2),
+        ],
+    },
+    Edits {
+        rows: 3,
+        cols: 4,
+        places: &[(1, 1), (2, 2), (3, 3), (1, 2), (2, 3), (3, 4)],
+        rank: 3,
+        edits: &[
+            (Edit::Clear(1, 1), 3), (Edit::Clear(2, 2), 3), (Edit::Clear(3, 3), 3), (Edit::Set(1, 1), 3),
+            (Edit::Clear(3, 4), 2), (Edit::Set(3, 1), 3), (Edit::Clear(1, 2), 2), (Edit::Clear(2, 3), 1),
+            (Edit::Clear(3, 1), 1), (Edit::Clear(1, 1), 0), (Edit::Set(2, 4), 1),
+        ],
+    },
+    Edits {
+        rows: 4,
+        cols: 2,
+        places: &[(1, 1), (2, 1), (3, 1), (4, 1)],
+        rank: 1,
+        edits: &[
+            (Edit::Set(4, 2), 2), (Edit::Clear(4, 1), 2), (Edit::Set(1, 2), 2), (Edit::Clear(4, 2), 2),
+            (Edit::Clear(1, 1), 2), (Edit::Set(1, 1), 2), (Edit::Clear(2, 1), 2), (Edit::Clear(3, 1), 1),
+            (Edit::Clear(1, 2), 1),
+        ],
+    },
+    Edits {
+        rows: 1,
+        cols: 1,
+        places: &[],
+        rank: 0,
+        edits: &[
+            (Edit::Clear(1, 1), 0), (Edit::Set(1, 1), 1), (Edit::Clear(1, 1), 0), (Edit::Set(1, 1), 1),
+            (Edit::Set(1, 1), 1), (Edit::Clear(1, 1), 0),
+        ],
+    },
+];
+
+/// Fails the test where a place is out of range, or the matrix has grown beyond what these tests
+/// make.
+fn check_place<R: Abort>(rt: &R, session: &Session, row: u32, col: u32)
+    ensures row { (0 < row) × (row ≤ session.now.matrix.rows) }
+    ensures col { (0 < col) × (col ≤ cols session.now.matrix) }
+    ensures few { entry_count session.now.matrix < 100 }
+{
+    assert!(rt; 0 < row && row <= session.rows(), "row {row}");
+    assert!(rt; 0 < col && col <= session.cols(), "column {col}");
+    assert!(rt; session.entries() < 100, "too many entries");
+}
+
+/// Makes an edit, and gives the rank.
+fn make_edit<R: Abort, L: Ledger>(
+    rt: &R,
+    session: &mut Session,
+    edit: Edit,
+    steps: &mut Steps<L>,
+) -> Result<u32, OutOfMemory> {
+    match edit {
+        Edit::Set(row, col) => {
+            check_place(rt, session, row, col);
+            session.set(Row(row - 1), Col(col - 1), steps)
+        }
+        Edit::Clear(row, col) => {
+            check_place(rt, session, row, col);
+            session.clear(Row(row - 1), Col(col - 1), steps)
+        }
+    }
+}
+
+/// Makes an edit, and gives the rank. Where memory is refused once, the session is the one of the
+/// places before it, and then the edit is made all the same.
+fn edit_or_again<R: Abort + AllocGlobal + Threads + Sync, L: Ledger>(
+    rt: &R,
+    session: &mut Session,
+    edit: Edit,
+    places: &[(u32, u32)],
+    steps: &mut Steps<L>,
+) -> Result<u32, Fail> {
+    if let Ok(rank) = make_edit(rt, session, edit, steps) {
+        return Ok(rank);
+    }
+    let (rows, cols) = (session.rows(), session.cols());
+    is_from_scratch(rt, session, rows, cols, places)?;
+    Ok(make_edit(rt, session, edit, steps)?)
+}
+
+/// The places after an edit.
+fn after_edit(
+    alloc: Global,
+    places: &[(u32, u32)],
+    edit: Edit,
+) -> Result<Vec<(u32, u32)>, OutOfMemory> {
+    let (place, sets) = match edit {
+        Edit::Set(row, col) => ((row, col), true),
+        Edit::Clear(row, col) => ((row, col), false),
+    };
+    let mut after = Vec::new(alloc);
+    for other in places {
+        if *other != place {
+            after.push(*other)?;
+        }
+    }
+    if sets {
+        after.push(place)?;
+    }
+    Ok(after)
+}
+
+fn same_parts<R: Abort>(rt: &R, found: &Parts, wanted: &Parts) {
+    assert_eq!(rt; found.hr.as_slice(), wanted.hr.as_slice());
+    assert_eq!(rt; found.hc.as_slice(), wanted.hc.as_slice());
+    assert_eq!(rt; found.sr.as_slice(), wanted.sr.as_slice());
+    assert_eq!(rt; found.sc.as_slice(), wanted.sc.as_slice());
+    assert_eq!(rt; found.vr.as_slice(), wanted.vr.as_slice());
+    assert_eq!(rt; found.vc.as_slice(), wanted.vc.as_slice());
+}
+
+fn same_blocks<R: Abort>(rt: &R, found: &Blocks, wanted: &Blocks) {
+    assert_eq!(rt; found.len(), wanted.len());
+    assert_eq!(rt; found.all_rows(), wanted.all_rows());
+    assert_eq!(rt; found.all_cols(), wanted.all_cols());
+}
+
+/// The session's rank and report are those of the matrix that is made of these places anew.
+fn is_from_scratch<R: Abort + AllocGlobal + Threads + Sync>(
+    rt: &R,
+    session: &Session,
+    rows: u32,
+    cols: u32,
+    places: &[(u32, u32)],
+) -> Result<(), Fail> {
+    let pattern = pattern_of(rt, rows, cols, places)?;
+    let (matching, _missed) = plain(rt.alloc(), &pattern)?;
+    let parts = coarse(rt, rt.alloc(), &pattern, &matching)?;
+    let blocks = fine(rt.alloc(), &pattern, &matching, &parts)?;
+    let outer = components(rt.alloc(), &pattern, &parts)?;
+    let (found, joined) = session.report(rt)?;
+    assert_eq!(rt; session.rank(), matching.size());
+    assert_eq!(rt; (found.m, found.n), (rows, cols));
+    assert_eq!(rt; (found.e, found.rank), (pattern.entries(), matching.size()));
+    same_parts(rt, &found.parts, &parts);
+    same_blocks(rt, &found.blocks, &blocks);
+    same_blocks(rt, &joined.horizontal, &outer.horizontal);
+    same_blocks(rt, &joined.vertical, &outer.vertical);
+    Ok(())
+}
+
+/// A session that begins with these places.
+fn session_of<R: AllocGlobal + Threads + Sync>(
+    rt: &R,
+    rows: u32,
+    cols: u32,
+    places: &[(u32, u32)],
+) -> Result<Session, Fail> {
+    let pattern = pattern_of(rt, rows, cols, places)?;
+    let (matching, _missed) = plain(rt.alloc(), &pattern)?;
+    Ok(Session::new(rt.alloc(), &pattern, matching)?)
+}
+
+/// Makes the edits of a session and compares after each.
+fn replay<R: Abort + AllocGlobal + Threads + Sync, L: Ledger>(
+    rt: &R,
+    edits: &Edits<'_>,
+    blank: Blank,
+) -> Result<(), Fail>
+    requires name { blank.name ≡ L.name }
+    requires parts { blank.parts ≡ L.parts }
+    requires some { 0 < blank.parts }
+{
+    let mut places = Vec::from_slice(rt.alloc(), edits.places)?;
+    let mut session = session_of(rt, edits.rows, edits.cols, places.as_slice())?;
+    let mut steps = Steps::<L>::new(blank);
+    assert_eq!(rt; session.rank(), edits.rank);
+    for (change, rank) in edits.edits {
+        let found = edit_or_again(rt, &mut session, *change, places.as_slice(), &mut steps)?;
+        assert_eq!(rt; (found, session.rank()), (*rank, *rank), "{change:?}");
+        places = after_edit(rt.alloc(), places.as_slice(), *change)?;
+        is_from_scratch(rt, &session, edits.rows, edits.cols, places.as_slice())?;
+    }
+    Ok(())
+}
+
+#[test]
+fn each_edit_leaves_the_matrix_made_anew(rt: HostRuntime) -> Result<(), Fail> {
+    for edits in SESSIONS {
+        replay::<HostRuntime, Brand>(&rt, &edits, Blank::new(1))?;
+    }
+    Ok(())
+}
