@@ -5,5 +5,6 @@ pub mod DiagonalCauses
 pub mod Diagonals
 pub mod Looks
 pub mod OuterComponents
+pub mod RisingColumns
 pub mod RowPrices
 pub mod Written
