@@ -6,5 +6,6 @@ pub mod Diagonals
 pub mod Looks
 pub mod OuterComponents
 pub mod PerfectMatchings
+pub mod RisingColumns
 pub mod RowPrices
 pub mod Written

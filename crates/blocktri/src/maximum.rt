@@ -1,32 +1,21 @@
 //! Maximum matchings of compressed columns.
 
-ghost use Rattle.std.specs.Prelude.{◌≡◌, ◌+◌, ◌<◌, ◌≤◌, ◌^◌, ℕ, IfOk, IfSome, length, slice_index};
-ghost use Rattle.std.specs.List.{slice_range};
-ghost use Rattle.bip_defs.specs.Lists.{Among};
-ghost use Rattle.bip_defs.specs.Matching.{rows_of};
-ghost use Rattle.bip_graph.specs.Matching.{IsMaximumOf};
+ghost use Rattle.std.specs.Prelude.{◌≡◌, IfOk, IfSome};
+ghost use Rattle.bip_graph.specs.Matching.{IsMatchingOf, IsMaximumOf};
 ghost use Rattle.blocktri.specs.Looks.{IsLook};
 ghost use Rattle.sp_pattern.specs.Columns.{AreColumns, matrix_of};
 
-use bip_graph::Matching;
+use crate::first_look::{Look, first_look};
+use crate::rising_columns::{RisingColumns, are_rising};
+use bip_graph::{Matching, Opposite};
 use karp_sipser::start;
-use pothen_fan::complete;
-use sp_ids::{Col, OutOfMemory, Row};
-use sp_pattern::{NumberList, Pattern, columns_give_their_places};
+use pothen_fan::{complete, complete_from, phase_from};
+use sp_ids::OutOfMemory;
+use sp_pattern::{FromRows, NumberList, Pattern, Side};
 use std::alloc::Global;
 
-/// What a look at the columns finds.
-#[derive(Drop)]
-pub enum Look {
-    /// A maximum matching.
-    Maximum(Matching),
-    /// A matching from which the search for augmenting paths may begin.
-    Begun(Matching),
-    /// So few pairs that a search begins better anew.
-    Few,
-}
-
-/// A maximum matching. Where the first look finds one, no pattern is made.
+/// A maximum matching. Where the first look finds one, no column is copied, and where searches from
+/// rising columns go on to the end, no pattern is made.
 pub fn maximum_matching<N: NumberList>(
     alloc: Global,
     rows: u32,
@@ -38,9 +27,22 @@ pub fn maximum_matching<N: NumberList>(
 {
     match first_look(alloc, rows, starts, ids)? {
         Look::Maximum(matching) => Ok(matching),
-        look => {
+        Look::FromColumns(matching, unmatched) => {
+            if are_rising(starts, ids) {
+                let columns = RisingColumns::copy(alloc, rows, starts, ids)?;
+                if let Some(found) = search_on(alloc, &columns, matching, unmatched)? {
+                    return Ok(found);
+                }
+                drop(columns);
+                let pattern = Pattern::of_checked_columns(alloc, rows, starts, ids)?;
+                return search_anew(alloc, &pattern);
+            }
             let pattern = Pattern::of_checked_columns(alloc, rows, starts, ids)?;
-            searched(alloc, &pattern, look)
+            searched(alloc, &pattern, Look::FromColumns(matching, unmatched))
+        }
+        Look::FromRows(matching, unmatched) => {
+            let pattern = Pattern::of_checked_columns(alloc, rows, starts, ids)?;
+            searched(alloc, &pattern, Look::FromRows(matching, unmatched))
         }
     }
 }
@@ -64,88 +66,69 @@ pub fn matched<N: NumberList>(
     Ok((pattern, matching))
 }
 
-// A maximum matching, from what a look at the columns found.
+// A maximum matching, from what a look at the columns found, or from the start of Karp and Sipser
+// where searches from there do not go on.
 fn searched(alloc: Global, pattern: &Pattern, look: Look) -> Result<Matching, OutOfMemory>
     requires { IsLook pattern.now look }
     ensures { IfOk result (IsMaximumOf pattern.now) }
 {
-    match look {
-        Look::Maximum(matching) => Ok(matching),
-        Look::Begun(matching) => complete(alloc, pattern, matching),
-        Look::Few => complete(alloc, pattern, start(alloc, pattern)?),
+    let found = match look {
+        Look::Maximum(matching) => Some(matching),
+        Look::FromColumns(matching, unmatched) => search_on(alloc, pattern, matching, unmatched)?,
+        Look::FromRows(matching, unmatched) => from_rows(alloc, pattern, matching, unmatched)?,
+    };
+    match found {
+        Some(matching) => Ok(matching),
+        None => search_anew(alloc, pattern),
     }
 }
 
-// The matching in which each column has the first of its rows that no column before it has. It
-// stops at the first column that leaves more unmatched than it may.
-fn first_look<N: NumberList>(
+// As `search_on`, from the rows.
+fn from_rows(
     alloc: Global,
-    rows: u32,
-    starts: N,
-    ids: N,
-) -> Result<Look, OutOfMemory>
-    requires { AreColumns rows (N.numbers starts) (N.numbers ids) }
-    ensures { IfOk result (IsLook (matrix_of rows (N.numbers starts) (N.numbers ids))) }
+    pattern: &Pattern,
+    matching: Matching,
+    unmatched: u32,
+) -> Result<Option<Matching>, OutOfMemory>
+    requires { IsMatchingOf pattern.now matching }
+    ensures { IfOk result (λ found. IfSome found (IsMaximumOf pattern.now)) }
 {
-    columns_give_their_places();
-    let cols = (starts.len() - 1) as u32;
-    let most = most_missed(rows, cols);
-    let mut matching = Matching::empty(alloc, rows, cols)?;
-    let mut missed = 0;
-    for col in 0..cols {
-        let from = starts.at(col as usize) as usize;
-        let to = starts.at(col as usize + 1) as usize;
-        match first_unmatched(&matching, ids, from, to) {
-            Some(row) => matching.pair(row, Col(col)),
-            None => {
-                if missed == most {
-                    return Ok(Look::Few);
-                }
-                missed += 1;
-            }
-        }
-    }
-    matching.is_matching();
-    if matching.size() == cols {
-        return Ok(Look::Maximum(matching));
-    }
-    if matching.size() == rows {
-        return Ok(Look::Maximum(matching));
-    }
-    Ok(Look::Begun(matching))
+    search_on(alloc, &FromRows { pattern }, matching, unmatched)
 }
 
-// How many columns a look may leave unmatched. Where there are about as many rows as columns, no
-// more than there must be, since then the start of Karp and Sipser leaves far fewer. Else all: of
-// the longer side so many are unmatched that paths are short.
-fn most_missed(rows: u32, cols: u32) -> u32 {
-    if rows.abs_diff(cols) <= rows.min(cols) / 8 {
-        cols.saturating_sub(rows)
-    } else {
-        cols
+// A maximum matching, by phases from one side that begin at a matching which leaves so many
+// unmatched there. None where the first phase does not make it likely that they end soon.
+fn search_on<F: Opposite, S: Side<F>>(
+    alloc: Global,
+    side: &S,
+    matching: Matching,
+    unmatched: u32,
+) -> Result<Option<Matching>, OutOfMemory>
+    requires { IsMatchingOf (S.matrix side.now) (F.seen matching) }
+    ensures { IfOk result
+        (λ found. IfSome found (λ m. IsMaximumOf (S.matrix side.now) (F.seen m))) }
+{
+    let mut grown = matching;
+    let growth = phase_from(alloc, side, &mut grown)?;
+    if growth == 0 {
+        return Ok(Some(grown));
     }
+    if !pays(growth, unmatched) {
+        return Ok(None);
+    }
+    let maximum = complete_from(alloc, side, grown)?;
+    Ok(Some(maximum))
 }
 
-// The first unmatched row of a column.
-fn first_unmatched<N: NumberList>(
-    matching: &Matching,
-    ids: N,
-    from: usize,
-    to: usize,
-) -> Option<Row>
-    requires few { matching.now.rows < 2 ^ 32 }
-    requires to { to ≤ length (N.numbers ids) }
-    requires rows { (k : ℕ) → from ≤ k → k < to
-        → slice_index (N.numbers ids) k < matching.now.rows }
-    ensures given { IfSome result (λ r. Among r (slice_range (N.numbers ids) from to)) }
-    ensures in_range { IfSome result (λ r. r < matching.now.rows) }
-    ensures unmatched { IfSome result (λ r. ¬ Among r (rows_of matching.now.pairs)) }
+// Whether it pays to go on after a first phase: where it has matched nearly all that were unmatched,
+// or so few that most of them are likely to be unmatched in the end.
+fn pays(growth: u32, unmatched: u32) -> bool {
+    growth >= unmatched - unmatched / 8 || growth <= unmatched / 4
+}
+
+// A maximum matching, from the start of Karp and Sipser.
+fn search_anew(alloc: Global, pattern: &Pattern) -> Result<Matching, OutOfMemory>
+    ensures { IfOk result (IsMaximumOf pattern.now) }
 {
-    for at in from..to {
-        let row = Row(ids.at(at) as u32);
-        if matching.col_of(row).is_none() {
-            return Some(row);
-        }
-    }
-    None
+    complete(alloc, pattern, start(alloc, pattern)?)
 }

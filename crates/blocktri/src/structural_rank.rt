@@ -11,14 +11,19 @@ use std::alloc::Global;
 
 /// The structural rank of a matrix: the size of a maximum matching.
 ///
-/// Lists that are no compressed columns are answered by their first fault. Where each column, or as
-/// many columns as there are rows, finds at the first look a row that no column before it has
-/// taken, their number is the rank, and it takes 4 bytes a row and 4 a column. Else it takes what
-/// the pattern takes, and what the search takes beside it (Karp and Sipser 1981; Pothen and Fan
-/// 1990). Where rows and columns differ by more than an eighth, the search begins at what the first
-/// look matched. Answers `OutOfMemory` where there is no memory for that. Work: two looks at each
-/// number at most, where the first look decides; else what `sp_pattern::Pattern::of_columns`,
-/// `karp_sipser::start` and `pothen_fan::complete` say of theirs.
+/// Lists that are no compressed columns are answered by their first fault. At a first look each
+/// column takes the first of its rows that no column before it has taken. Where each column that
+/// has entries finds one, or each row that has entries is taken, the number of pairs is the rank,
+/// and it takes 4 bytes a row and 4 a column, and 1 a row more to count the rows.
+///
+/// Else a depth-first phase (Pothen and Fan 1990) goes on from there, from the side on which fewer
+/// unmatched ones have entries: from columns whose numbers rise over a copy of 4 bytes a number and
+/// 4 a column, from others and from the rows over the pattern. Where it matches at least seven
+/// eighths of those, or at most a quarter, all further phases go on as well; else they begin anew, over
+/// the pattern and at the start of Karp and Sipser (1981). Answers `OutOfMemory` where there is no
+/// memory for that. Work: beside what `pothen_fan::phase_from` and `pothen_fan::complete_from` say
+/// of theirs, at most five looks at each number over the columns; else what
+/// `sp_pattern::Pattern::of_columns`, `karp_sipser::start` and `pothen_fan::complete` say.
 pub fn rank<N: NumberList>(alloc: Global, rows: u64, starts: N, ids: N) -> Result<u32, ColumnsError>
     ensures rank { IfOk result
         (λ k. HasMatrix rows (N.numbers starts) (N.numbers ids) (λ a. IsRank a k)) }

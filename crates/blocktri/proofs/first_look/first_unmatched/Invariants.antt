@@ -1,5 +1,5 @@
 use Rattle.std.proofs.Common.{◌≤◌}
-use Rattle.blocktri.proofs.maximum.first_unmatched.Given as goal
+use Rattle.blocktri.proofs.first_look.first_unmatched.Given as goal
 
 abbrev pub invariant-loop-at : goal.invariant-loop-at
 invariant-loop-at g l = l.from ≤ l.at
