@@ -120,10 +120,10 @@ fn search_on<F: Opposite, S: Side<F>>(
     Ok(Some(maximum))
 }
 
-// Whether it pays to go on after a first phase: where it has matched nearly all that were unmatched,
-// or so few that most of them are likely to be unmatched in the end.
+// Whether it pays to go on after a first phase: where it has matched most of what was unmatched, or
+// so few that most of them are likely to be unmatched in the end.
 fn pays(growth: u32, unmatched: u32) -> bool {
-    growth >= unmatched - unmatched / 8 || growth <= unmatched / 4
+    growth >= unmatched - unmatched / 4 || growth <= unmatched / 4
 }
 
 // A maximum matching, from the start of Karp and Sipser.

@@ -18,8 +18,8 @@ use std::alloc::Global;
 ///
 /// Else a depth-first phase (Pothen and Fan 1990) goes on from there, from the side on which fewer
 /// unmatched ones have entries: from columns whose numbers rise over a copy of 4 bytes a number and
-/// 4 a column, from others and from the rows over the pattern. Where it matches at least seven
-/// eighths of those, or at most a quarter, all further phases go on as well; else they begin anew, over
+/// 4 a column, from others and from the rows over the pattern. Where it matches at least three
+/// quarters of those, or at most one, all further phases go on as well; else they begin anew, over
 /// the pattern and at the start of Karp and Sipser (1981). Answers `OutOfMemory` where there is no
 /// memory for that. Work: beside what `pothen_fan::phase_from` and `pothen_fan::complete_from` say
 /// of theirs, at most five looks at each number over the columns; else what
