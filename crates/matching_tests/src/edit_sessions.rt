@@ -96,6 +96,24 @@ const SESSIONS: [Edits<'static>; 5] = [
     },
 ];
 
+/// The clears leave the first column so much room that the lists are copied into a new array where
+/// the second one grows; once more it grows without that.
+#[rattlefmt::skip]
+const GROWING: Edits<'static> = Edits {
+    rows: 9,
+    cols: 2,
+    places: &[(1, 1), (2, 1), (3, 1), (4, 1), (5, 1), (6, 1), (7, 1), (8, 1), (9, 1)],
+    rank: 1,
+    edits: &[
+        (Edit::Clear(2, 1), 1), (Edit::Clear(3, 1), 1), (Edit::Clear(4, 1), 1), (Edit::Clear(5, 1), 1),
+        (Edit::Clear(6, 1), 1), (Edit::Clear(7, 1), 1), (Edit::Clear(8, 1), 1), (Edit::Clear(9, 1), 1),
+        (Edit::Set(1, 2), 1), (Edit::Set(9, 2), 2),
+    ],
+};
+
+/// How many sessions grow side by side.
+const SESSIONS_THAT_GROW: usize = 16;
+
 /// Fails the test where a place is out of range, or the matrix has grown beyond what these tests
 /// make.
 fn check_place<R: Abort>(rt: &R, session: &Session, row: u32, col: u32)
@@ -181,7 +199,8 @@ fn same_blocks<R: Abort>(rt: &R, found: &Blocks, wanted: &Blocks) {
     assert_eq!(rt; found.all_cols(), wanted.all_cols());
 }
 
-/// The session's rank and report are those of the matrix that is made of these places anew.
+/// The session's rank, its number of entries and its report are those of the matrix that is made of
+/// these places anew.
 fn is_from_scratch<R: Abort + AllocGlobal + Threads + Sync>(
     rt: &R,
     session: &Session,
@@ -196,6 +215,7 @@ fn is_from_scratch<R: Abort + AllocGlobal + Threads + Sync>(
     let outer = components(rt.alloc(), &pattern, &parts)?;
     let (found, joined) = session.report(rt)?;
     assert_eq!(rt; session.rank(), matching.size());
+    assert_eq!(rt; session.entries(), pattern.entries());
     assert_eq!(rt; (found.m, found.n), (rows, cols));
     assert_eq!(rt; (found.e, found.rank), (pattern.entries(), matching.size()));
     same_parts(rt, &found.parts, &parts);
@@ -240,10 +260,62 @@ fn replay<R: Abort + AllocGlobal + Threads + Sync, L: Ledger>(
     Ok(())
 }
 
+/// Several sessions that begin with these places.
+fn sessions_of<R: AllocGlobal + Threads + Sync>(
+    rt: &R,
+    rows: u32,
+    cols: u32,
+    places: &[(u32, u32)],
+) -> Result<Vec<Session>, Fail> {
+    let pattern = pattern_of(rt, rows, cols, places)?;
+    let (matching, _missed) = plain(rt.alloc(), &pattern)?;
+    let mut sessions = Vec::with_capacity(rt.alloc(), SESSIONS_THAT_GROW)?;
+    for _ in 0..SESSIONS_THAT_GROW {
+        let matching = matching.copy(rt.alloc())?;
+        sessions.push(Session::new(rt.alloc(), &pattern, matching)?)?;
+    }
+    Ok(sessions)
+}
+
+/// Makes each edit in every one of several sessions, and compares them at the end. From session to
+/// session only the edits take memory.
+fn replay_side_by_side<R: Abort + AllocGlobal + Threads + Sync, L: Ledger>(
+    rt: &R,
+    edits: &Edits<'_>,
+    blank: Blank,
+) -> Result<(), Fail>
+    requires name { blank.name ≡ L.name }
+    requires parts { blank.parts ≡ L.parts }
+    requires some { 0 < blank.parts }
+{
+    let mut places = Vec::from_slice(rt.alloc(), edits.places)?;
+    let mut sessions = sessions_of(rt, edits.rows, edits.cols, places.as_slice())?;
+    let mut steps = Steps::<L>::new(blank);
+    for (change, rank) in edits.edits {
+        for session in sessions.as_mut_slice() {
+            let found = edit_or_again(rt, session, *change, places.as_slice(), &mut steps)?;
+            assert_eq!(rt; (found, session.rank()), (*rank, *rank), "{change:?}");
+        }
+        places = after_edit(rt.alloc(), places.as_slice(), *change)?;
+    }
+    for session in &sessions {
+        is_from_scratch(rt, session, edits.rows, edits.cols, places.as_slice())?;
+    }
+    Ok(())
+}
+
 #[test]
 fn each_edit_leaves_the_matrix_made_anew(rt: HostRuntime) -> Result<(), Fail> {
     for edits in SESSIONS {
         replay::<HostRuntime, Brand>(&rt, &edits, Blank::new(1))?;
     }
     Ok(())
+}
+
+// Where one of its allocations is refused this test ends well only if that was in an edit, and the
+// edit left the session as it was: elsewhere it ends for want of memory. By `rt try --test
+// --fail-alloc 200` it is in an edit that copies the lists, by 240 in one that does not.
+#[test]
+fn an_edit_without_memory_changes_nothing(rt: HostRuntime) -> Result<(), Fail> {
+    replay_side_by_side::<HostRuntime, Brand>(&rt, &GROWING, Blank::new(1))
 }
