@@ -1,7 +1,7 @@
 -- How many rows and columns of a forest are of each kind.
 use Rattle.std.proofs.Common.{◌≡◌, ◌⊎◌, ℕ, suc, ◌+◌, ◌-◌, ◌<◌, ◌≤◌, List, [], ◌∷◌, ◌++◌, length, slice_index_or, take, refl, sym, ap, subst, inl, inr, ⊎_elim, arith, length-append}
 use Rattle.std.proofs.lemmas.List.{length-map, take_all, take_more}
-use Rattle.bip_defs.specs.Forest.{IsRootOfRow, IsSettled, IsWon, RootOf, State, above, itself, roots_of}
+use Rattle.bip_defs.specs.Forest.{IsSettled, IsWon, State, above, itself, roots_of}
 use Rattle.bip_defs.specs.Lists.{Among, AreDistinct}
 use Rattle.bip_defs.specs.Matching.{cols_of, rows_of}
 use Rattle.bip_defs.specs.Matrix.{Place, cols, upto}

@@ -7,7 +7,7 @@ use Rattle.bip_defs.specs.Matching.{IsMatching, cols_of, rows_of}
 use Rattle.bip_defs.specs.Matrix.{IsEntry, Matrix, Place, cols}
 use Rattle.bip_defs.proofs.Full.{few_below}
 use Rattle.bip_defs.proofs.Sets.{among_either, among_last, among_left, among_right, distinct_last, entry_col, number_among, one_col, one_row, rising_distinct}
-use Rattle.bip_defs.specs.Forest.{HasWon, InForest, IsRootOfRow, IsWon, RootOf, State, above, roots_of}
+use Rattle.bip_defs.specs.Forest.{HasWon, InForest, IsWon, RootOf, State, above, roots_of}
 use Rattle.forest_core.specs.Events.{Grows}
 use Rattle.forest_core.specs.Trees.{HasTrees}
 use Rattle.tree_graft.specs.Search.{AreMatesOf, IsFrontier, IsGoneThrough, IsScanned, levels_left}

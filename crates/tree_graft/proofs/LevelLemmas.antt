@@ -1,13 +1,13 @@
 -- One level: the forest after it, and the board and the workers.
-use Rattle.std.proofs.Common.{◌≡◌, ◌∙◌, ◌⊎◌, ◌-◌, ◌<◌, ◌≤◌, ◌^◌, ℕ, List, [], ◌∷◌, ◌++◌, length, take, drop, sym, ap, subst, arith, inl, inr, ⊎_elim, length-append, Result, Ok, Err, OnOk}
+use Rattle.std.proofs.Common.{◌≡◌, ◌∙◌, ◌⊎◌, ◌-◌, ◌<◌, ◌^◌, ℕ, List, ◌++◌, length, take, drop, sym, ap, subst, arith, inl, inr, ⊎_elim, length-append, Result, Ok, Err, OnOk}
 use Rattle.std.proofs.Math.Seq.{drop-append_seam, take-length}
 use Rattle.std.proofs.lemmas.List.{map-append}
-use Rattle.bip_defs.specs.Forest.{HasWon, InForest, IsSettled, IsWon, State}
+use Rattle.bip_defs.specs.Forest.{HasWon, InForest, IsSettled, State}
 use Rattle.bip_defs.specs.Lists.{Among}
-use Rattle.bip_defs.specs.Matching.{IsMatching, rows_of}
+use Rattle.bip_defs.specs.Matching.{rows_of}
 use Rattle.bip_defs.specs.Matrix.{IsEntry, Matrix, Place, cols}
 use Rattle.bip_defs.proofs.Sets.{among_left, number_among}
-use Rattle.claim_words.specs.WorkerState.{WorkerState, fresh_claims_of, fresh_wins_of}
+use Rattle.claim_words.specs.WorkerState.{WorkerState, fresh_claims_of}
 use Rattle.forest_core.specs.Events.{Grows}
 use Rattle.forest_core.specs.Trees.{HasTrees}
 use Rattle.level_sharing.specs.Agreement.{Agree}
