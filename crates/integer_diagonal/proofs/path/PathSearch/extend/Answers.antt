@@ -1,12 +1,11 @@
-use Rattle.std.proofs.Common.{◌∙◌, ◌<◌, ap, sym, subst, arith, rules}
+use Rattle.std.proofs.Common.{◌<◌, ap, sym, subst, arith, rules}
 use Rattle.bip_defs.specs.Matrix.{AreEntries, Matrix, cols}
 use Rattle.integer_diagonal.proofs.HallSets.{stuck_not_full}
 use Rattle.integer_diagonal.proofs.PathLemmas.{HasRoot, IsFlipped, extended, found_near, dual_fits, pairs_fewer, price_fits, way, way_entries, way_range, way_root}
 use Rattle.integer_diagonal.specs.Labels.{IsClear, labels_of, tree_of}
 use Rattle.integer_diagonal.specs.Duals.{IsAssigned, cheap, priced_from}
 use Rattle.bip_defs.specs.Bottleneck.{IsFull}
-use Rattle.integer_diagonal.specs.SearchTree.{Tree}
-use Rattle.integer_diagonal.specs.Amounts.{HasRoom, infinity}
+use Rattle.integer_diagonal.specs.Amounts.{HasRoom}
 use Rattle.integer_diagonal.proofs.path.PathSearch.extend.Goals as goal
 use Rattle.bip_defs.specs.Queues.{heads}
 use Rattle.bip_defs.proofs.Queues.{head_at}
