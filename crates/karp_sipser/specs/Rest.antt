@@ -1,10 +1,12 @@
 -- The unmatched rest, as the start keeps it.
-use Rattle.std.specs.Prelude.{◌≡◌, ℕ, ◌<◌, ◌≤◌, slice_index}
-use Rattle.bip_defs.specs.Matrix.{cols, Matrix, Place}
+use Rattle.std.specs.Prelude.{◌≡◌, ℕ, ◌<◌, ◌≤◌, map, slice_index}
+use Rattle.bip_defs.specs.Matrix.{cols, Matrix, Place, transpose}
+use Rattle.karp_sipser.specs.Ahead.{IsAhead}
 use Rattle.karp_sipser.specs.Counts.{AreDegrees, AreSums, HoldsOnes, HoldsOnesBut, counts}
 use Rattle.karp_sipser.specs.declared.rest.Rest.{Rest}
 
--- the degrees and sums are those of the matching, and no column before next_col has a degree
+-- the degrees and sums are those of the matching, what was looked up ahead are lists of the matrix,
+-- and no column before next_col has a degree
 pub record IsUnmatchedRest (a : Matrix) (rest : Rest) : Type 0 where
   pub same_rows : rest.matching.rows ≡ a.rows
   pub same_cols : rest.matching.cols ≡ cols a
@@ -13,6 +15,9 @@ pub record IsUnmatchedRest (a : Matrix) (rest : Rest) : Type 0 where
   pub sums : AreSums a rest.matching.pairs rest.col_degrees.items rest.row_degrees.items
   pub cols_bound : rest.cols_of_one.bound ≡ cols a
   pub rows_bound : rest.rows_of_one.bound ≡ a.rows
+  pub cols_ahead : IsAhead (transpose a) rest.cols_ahead.mate
+      (map (λ (x : ℕ). x) rest.cols_ahead.ids.now)
+  pub rows_ahead : IsAhead a rest.rows_ahead.mate (map (λ (x : ℕ). x) rest.rows_ahead.ids.now)
   pub passed : rest.next_col ≤ cols a
   pub below : (c : ℕ) → c < rest.next_col → slice_index (counts rest.col_degrees.items) c ≡ 0
 

@@ -2,6 +2,7 @@
 //! neighbour first.
 #![tactic(auto)]
 
+mod ahead;
 mod degrees;
 mod laws;
 mod rest;
@@ -14,7 +15,7 @@ pub use crate::laws::only_neighbours_lose_nothing;
 use crate::rest::Rest;
 use bip_graph::Matching;
 use sp_ids::OutOfMemory;
-use sp_pattern::Pattern;
+use sp_pattern::{FromRows, Pattern};
 use std::alloc::Global;
 
 /// A maximal matching to start a search from (Karp and Sipser 1981).
@@ -26,7 +27,9 @@ use std::alloc::Global;
 /// ([`only_neighbours_lose_nothing`]), so the start is often maximum or nearly so.
 ///
 /// Beside each degree it keeps the sum of the numbers of the unmatched neighbours. Where there is
-/// one neighbour the sum is its number, and no entry is looked at to find it.
+/// one neighbour the sum is its number, and no entry is looked at to find it. Where the list of the
+/// next one's neighbour begins is looked up before the degrees of this turn are lowered, so that the
+/// memory answers both at once.
 ///
 /// Answers `OutOfMemory` where its tables can't be had: 12 bytes a row and 12 a column for the
 /// matching, the degrees and the sums, and an eighth of a byte each for the waiting ones. Work:
@@ -38,9 +41,10 @@ pub fn start(alloc: Global, pattern: &Pattern) -> Result<Matching, OutOfMemory>
     ensures matching { IfOk result (IsMatchingOf pattern.now) }
     ensures maximal { IfOk result (λ m. (r c : ℕ) → ¬ IsFree pattern.now m.pairs r c) }
 {
-    let mut rest = Rest::new(alloc, pattern)?;
+    let sides = FromRows { pattern };
+    let mut rest = Rest::new(alloc, &sides)?;
     while let Some((row, col)) = rest.choose(pattern) {
-        rest.take(pattern, row, col);
+        rest.take(&sides, row, col);
     }
     let matching = rest.matching;
     matching.is_matching();

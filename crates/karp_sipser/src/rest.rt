@@ -7,23 +7,28 @@ ghost use Rattle.bip_defs.specs.Start.{IsFree, IsChoice};
 ghost use Rattle.karp_sipser.specs.Counts.{IsCount, IsSum, counts, sums};
 ghost use Rattle.karp_sipser.specs.Rest.{HasOnes, HasOnesBut, IsUnmatchedRest};
 
+use crate::ahead::{Ahead, list_of, look_ahead};
 use crate::degrees::{
     Unmatched, first_with_degree, leave_out, next_with_degree, of_one, take_of_one,
 };
 use bip_graph::Matching;
 use int_set::IntSet;
 use sp_ids::{Col, OutOfMemory, Row};
-use sp_pattern::Pattern;
+use sp_pattern::{FromRows, Pattern};
 use std::alloc::Global;
 
-/// The matching so far, and the degrees of the rows and columns that it leaves.
+/// The matching so far, and the degrees of the rows and columns that it leaves. `cols_ahead` is the
+/// list of columns, that is of a row, that the next column of degree one is likely to ask for, and
+/// `rows_ahead` that of the next row.
 #[derive(Drop)]
-pub struct Rest {
+pub struct Rest<'p> {
     pub matching: Matching,
     pub col_degrees: Vec<Unmatched>,
     pub row_degrees: Vec<Unmatched>,
     pub cols_of_one: IntSet,
     pub rows_of_one: IntSet,
+    pub cols_ahead: Ahead<'p, Col>,
+    pub rows_ahead: Ahead<'p, Row>,
     pub next_col: usize,
 }
 
@@ -65,25 +70,30 @@ fn row_degrees(alloc: Global, pattern: &Pattern) -> Result<Vec<Unmatched>, OutOf
     Ok(degrees)
 }
 
-impl Rest {
+impl<'p> Rest<'p> {
     /// Nothing is matched.
-    pub fn new(alloc: Global, pattern: &Pattern) -> Result<Rest, OutOfMemory>
-        ensures rest { IfOk result (IsUnmatchedRest pattern.now) }
+    pub fn new(alloc: Global, sides: &'p FromRows<'_>) -> Result<Rest<'p>, OutOfMemory>
+        ensures rest { IfOk result (IsUnmatchedRest sides.now.pattern.now) }
         ensures ones { IfOk result HasOnes }
         ensures empty { IfOk result (λ rest. rest.matching.pairs ≡ []) }
     {
+        let pattern = sides.pattern;
         pattern.is_pattern();
         let matching = Matching::empty(alloc, pattern.rows(), pattern.cols())?;
         let col_degrees = col_degrees(alloc, pattern)?;
         let row_degrees = row_degrees(alloc, pattern)?;
         let cols_of_one = of_one(alloc, col_degrees.as_slice())?;
         let rows_of_one = of_one(alloc, row_degrees.as_slice())?;
+        let cols_ahead = look_ahead(sides, col_degrees.as_slice(), &cols_of_one);
+        let rows_ahead = look_ahead(pattern, row_degrees.as_slice(), &rows_of_one);
         Ok(Rest {
             matching,
             col_degrees,
             row_degrees,
             cols_of_one,
             rows_of_one,
+            cols_ahead,
+            rows_ahead,
             next_col: 0,
         })
     }
@@ -119,35 +129,41 @@ impl Rest {
         Some((first_with_degree(row_degrees, pattern.rows_of(col)), col))
     }
 
-    /// Takes a pair.
-    pub fn take(&mut self, pattern: &Pattern, row: Row, col: Col)
-        requires rest { IsUnmatchedRest pattern.now self.old }
+    /// Takes a pair. What the next turn is likely to ask for is looked up before any degree is
+    /// lowered, so that the memory answers both at once.
+    pub fn take(&mut self, sides: &'p FromRows<'_>, row: Row, col: Col)
+        requires rest { IsUnmatchedRest sides.now.pattern.now self.old }
         requires ones { HasOnesBut (row, col) self.old }
-        requires free { IsFree pattern.now self.old.matching.pairs row col }
-        ensures rest { IsUnmatchedRest pattern.now self.new }
+        requires free { IsFree sides.now.pattern.now self.old.matching.pairs row col }
+        ensures rest { IsUnmatchedRest sides.now.pattern.now self.new }
         ensures ones { HasOnes self.new }
         ensures pairs { (p : Place) → Among p self.new.matching.pairs
             ↔ ((p ≡ (row, col)) ⊎ Among p self.old.matching.pairs) }
         ensures size { length self.new.matching.pairs ≡ suc (length self.old.matching.pairs) }
         ensures next { self.new.next_col ≡ self.old.next_col }
     {
+        let pattern = sides.pattern;
         pattern.is_pattern();
         self.matching.pair(row, col);
         let cols = self.col_degrees.as_mut_slice();
         let rows = self.row_degrees.as_mut_slice();
         let more_rows = cols[col.0 as usize].count > 1;
         let more_cols = rows[row.0 as usize].count > 1;
+        let beside_col = list_of(pattern, self.rows_ahead, col.0);
+        let beside_row = list_of(sides, self.cols_ahead, row.0);
+        self.rows_ahead = look_ahead(pattern, rows, &self.rows_of_one);
+        self.cols_ahead = look_ahead(sides, cols, &self.cols_of_one);
         leave_out(
             rows,
             (row, col),
-            pattern.rows_of(col),
+            beside_col,
             more_rows,
             &mut self.rows_of_one,
         );
         leave_out(
             cols,
             (col, row),
-            pattern.cols_of(row),
+            beside_row,
             more_cols,
             &mut self.cols_of_one,
         );

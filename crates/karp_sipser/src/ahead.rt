@@ -1,0 +1,58 @@
+//! Lists that are looked up before their turn.
+
+ghost use Rattle.std.specs.Prelude.{◌≡◌, ◌<◌, length, map};
+ghost use Rattle.bip_defs.specs.Matrix.{cols, column};
+ghost use Rattle.karp_sipser.specs.Ahead.{IsAhead};
+
+use crate::degrees::Unmatched;
+use int_set::IntSet;
+use sp_ids::{Col, Id};
+use sp_pattern::Side;
+
+// No row or column has this number, since there are less than 2^32 of them.
+const NONE: u32 = u32::MAX;
+
+/// The list of a row or column, where there is one of this number.
+#[derive(Clone, Copy)]
+pub struct Ahead<'p, I> {
+    pub mate: u32,
+    pub ids: &'p [I],
+}
+
+/// The list that the next turn is likely to ask for: that of the neighbour of the least member, if
+/// it has one neighbour. Work: a look at the degree and at where the list begins and ends.
+#[inline(always)]
+pub fn look_ahead<'p, I: Id, S: Side<I>>(
+    side: &'p S,
+    degrees: &[Unmatched],
+    ones: &IntSet,
+) -> Ahead<'p, I>
+    requires { ones.now.bound ≡ length degrees.now }
+    ensures { IsAhead (S.matrix side.now) result.mate (map I.number result.ids.now) }
+{
+    let mate = match ones.least() {
+        Some(vertex) => degrees[vertex as usize].sum,
+        None => NONE,
+    };
+    if mate < side.cols() {
+        let ids = side.rows_of(Col(mate));
+        return Ahead { mate, ids };
+    }
+    Ahead {
+        mate: NONE,
+        ids: &[],
+    }
+}
+
+/// The list of this row or column, as it was looked up ahead or else is looked up now.
+#[inline(always)]
+pub fn list_of<'p, I: Id, S: Side<I>>(side: &'p S, ahead: Ahead<'p, I>, mate: u32) -> &'p [I]
+    requires ahead { IsAhead (S.matrix side.now) ahead.mate (map I.number ahead.ids.now) }
+    requires in_range { mate < cols (S.matrix side.now) }
+    ensures { map I.number result.now ≡ column (S.matrix side.now) mate }
+{
+    if ahead.mate == mate {
+        return ahead.ids;
+    }
+    side.rows_of(Col(mate))
+}
