@@ -56,7 +56,7 @@ fn three_workers_work_at_once(rt: HostRuntime) -> Result<(), Fail> {
 fn little_work_starts_no_thread(rt: HostRuntime) -> Result<(), Fail> {
     let gate = BarrierGate::without_threads(rt.alloc(), 2, FEW_TURNS)?;
     let mut sums = [10, 20];
-    let Ok(()) = share_work(&rt, &gate, &AddNumber, 99_999, &mut sums);
+    let Ok(()) = share_work(&rt, &gate, &AddNumber, 499_999, &mut sums);
     assert_eq!(rt; sums, [10, 21]);
     assert!(rt; gate.have_arrived(2, 1) && gate.ran_out());
     Ok(())
@@ -69,7 +69,7 @@ fn much_work_is_done_at_once(rt: HostRuntime) -> Result<(), Fail> {
     let turns = if alone { FEW_TURNS } else { 10_000_000 };
     let gate = BarrierGate::without_threads(rt.alloc(), 2, turns)?;
     let mut sums = [10, 20];
-    let Ok(()) = share_work(&rt, &gate, &AddNumber, 100_000, &mut sums);
+    let Ok(()) = share_work(&rt, &gate, &AddNumber, 500_000, &mut sums);
     assert_eq!(rt; sums, [10, 21]);
     assert!(rt; gate.have_arrived(2, 1));
     assert_eq!(rt; gate.ran_out(), alone);

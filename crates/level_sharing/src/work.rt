@@ -28,9 +28,9 @@ pub trait Work<T, E>: Sync {
 
 // Fewer items to share are done by one thread in some milliseconds, which is what the start of
 // others costs on a busy machine.
-const WORTH_THREADS: usize = 100_000;
+const WORTH_THREADS: usize = 500_000;
 
-/// Whether work on so many items is worth more threads than one: at least 100,000 are, where the
+/// Whether work on so many items is worth more threads than one: at least 500,000 are, where the
 /// program may use two processors.
 pub fn are_worth_threads<R: Threads>(rt: &R, items: usize) -> bool {
     items >= WORTH_THREADS && processors(rt) > 1
