@@ -72,7 +72,8 @@ pub fn known_values_stand()
 /// were when the board was opened.
 pub fn new_seats_are_all()
     ensures all { (b : Board) (seats : ℕ) → 1 ≤ seats → AreAllSeats b (new_seats b seats) }
-    ensures in_any_order { (b : Board) (seats : ℕ) → 1 ≤ seats → HoldsAllSeats b (new_seats b seats) }
+    ensures in_any_order { (b : Board) (seats : ℕ) → 1 ≤ seats
+        → HoldsAllSeats b (new_seats b seats) }
     ensures many { (b : Board) (seats : ℕ) → length (new_seats b seats) ≡ seats }
     ensures words { (b : Board) (seats : ℕ) → SettlesAll b (opened_words b) (new_seats b seats) }
 {}

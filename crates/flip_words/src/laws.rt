@@ -10,7 +10,8 @@ ghost use Rattle.flip_words.specs.Seat.{AreAllSeats, HoldsAllSeats, IsSameSeat, 
 /// The seats with which a board is opened are all its seats, in the order of their numbers.
 pub fn new_seats_are_all()
     ensures all { (b : Board) (count : ℕ) → 1 ≤ count → AreAllSeats b (new_seats b count) }
-    ensures in_any_order { (b : Board) (count : ℕ) → 1 ≤ count → HoldsAllSeats b (new_seats b count) }
+    ensures in_any_order { (b : Board) (count : ℕ) → 1 ≤ count
+        → HoldsAllSeats b (new_seats b count) }
 {}
 
 /// Seats that are all seats of a board in the order of their numbers are all its seats in any

@@ -187,8 +187,8 @@ impl<'p> Forest<'p> {
     pub fn root_of_row(&self, row: Row) -> Option<Col>
         requires { row < self.now.matrix.rows }
         ensures found { IfSome result (λ root. IsRootOfRow self.now.base self.now.claims root row) }
-        ensures only { IfSome result (λ root. (x : ℕ) → IsRootOfRow self.now.base self.now.claims x row
-            → x ≡ root) }
+        ensures only { IfSome result (λ root. (x : ℕ)
+            → IsRootOfRow self.now.base self.now.claims x row → x ≡ root) }
         ensures none { IfNone result (¬ Among row (rows_of self.now.claims)) }
     {
         self.claimed.root(row)

@@ -1,6 +1,6 @@
 //! Workers that do their work at once.
 
-ghost use Rattle.std.specs.Prelude.{◌≡◌, ℕ, ◌+◌, ◌<◌, ◌≤◌, ◌^◌, ◌++◌, length, OnOk};
+ghost use Rattle.std.specs.Prelude.{◌≡◌, ℕ, ◌+◌, ◌<◌, ◌≤◌, ◌^◌, ◌++◌, length, IsTrue, OnOk};
 ghost use Rattle.std.specs.Thread.{IsSync};
 ghost use Rattle.level_sharing.specs.Each.{AreReady, EachFrom, EachPairFrom};
 
@@ -32,7 +32,9 @@ const WORTH_THREADS: usize = 500_000;
 
 /// Whether work on so many items is worth more threads than one: at least 500,000 are, where the
 /// program may use two processors.
-pub fn are_worth_threads<R: Threads>(rt: &R, items: usize) -> bool {
+pub fn are_worth_threads<R: Threads>(rt: &R, items: usize) -> bool
+    ensures many { IsTrue result → 500000 ≤ items }
+{
     items >= WORTH_THREADS && processors(rt) > 1
 }
 

@@ -16,11 +16,11 @@ use std::alloc::Global;
 /// One depth-first phase from one side: [`phase`](crate::phase) over whatever lends the rows of its
 /// columns, or over the rows of a pattern.
 ///
-/// Gives by how much the matching has grown: 0 exactly where it was maximum, and then it stays as it
-/// was. The matching must be of the entries and sizes that the side has, and no row or column loses
-/// its mate without a new one. Answers `OutOfMemory` where there is no memory for 17 bytes a row, 4
-/// a column and 4 an unmatched column that has entries, as the side sees them; the matching is as
-/// before then. Work: at most two passes over the entries, one of look-ahead and one of the
+/// Gives by how much the matching has grown: 0 exactly where it was maximum, and then it stays as
+/// it was. The matching must be of the entries and sizes that the side has, and no row or column
+/// loses its mate without a new one. Answers `OutOfMemory` where there is no memory for 17 bytes a
+/// row, 4 a column and 4 an unmatched column that has entries, as the side sees them; the matching
+/// is as before then. Work: at most two passes over the entries, one of look-ahead and one of the
 /// searches.
 pub fn phase_from<F: Opposite, S: Side<F>>(
     alloc: Global,
