@@ -13,8 +13,8 @@ then peak bytes an entry. With several programs each has its own lines. All must
 and makes the exit status 1. The machine's load at the start of each file stands in the last column. With --busy as many
 other processes as there are processors do nothing but turn all the while: a join then waits for a time slice. Small
 files, named by --columns, want 15 repeats and more, and 60 with --busy, since a run there takes a few milliseconds and
-can wait for as long. With `--families hexa --entries 20000000 --repeats 1 --limit 200` four workers take less time than
-one, and than `pf`; it wants 4 GB and some minutes.
+can wait for as long. `--families hexa --entries 20000000 --repeats 3 --limit 200` is a file that is searched by workers
+alone after the first phases: four take about the time of `pf` there. It wants 4 GB and some minutes.
 """
 import argparse
 import contextlib
