@@ -14,7 +14,7 @@ and makes the exit status 1. The machine's load at the start of each file stands
 other processes as there are processors do nothing but turn all the while: a join then waits for a time slice. Small
 files, named by --columns, want 15 repeats and more, and 60 with --busy, since a run there takes a few milliseconds and
 can wait for as long. `--families hexa --entries 20000000 --repeats 3 --limit 200` is a file that is searched by workers
-alone after the first phases: four take about the time of `pf` there. It wants 4 GB and some minutes.
+alone after the first phases: four take about the time of `pf` there. It takes some minutes.
 """
 import argparse
 import contextlib
