@@ -2,8 +2,8 @@
 """Runs `btf` with the engine `graft`, by several numbers of workers, beside the engine `pf` on the same files,
 interleaved, and prints a table.
 
-    bench/engines.py --btf crates/btf/out/btf [--btf OLD] [--work DIR] [--entries 1000000] [--families circuit,er27]
-                     [--workers 1,2,4] [--repeats 5] [--limit SECONDS] [--busy]
+    bench/engines.py --btf crates/btf/out/btf [--btf OLD] [--work DIR] [--entries 1000000 | --columns 100,300]
+                     [--families circuit,er27] [--workers 1,2,4] [--repeats 5] [--limit SECONDS] [--busy]
 
 It wants g++ for the generator of the files, which are those of `bench/run.py`, and go to DIR (by default bench-work in
 the system's folder for temporary files). Times are those of whole processes of `btf analyse`, from a file in the page
@@ -11,7 +11,10 @@ cache to a text in a file: the least of the repeats, by the wall clock and in pr
 threads). In each field of the table: wall and processor nanoseconds an entry, in brackets the ratio of both to `pf`, and
 then peak bytes an entry. With several programs each has its own lines. All must write the same text; a difference is told
 and makes the exit status 1. The machine's load at the start of each file stands in the last column. With --busy as many
-other processes as there are processors do nothing but turn all the while: a join then waits for a time slice.
+other processes as there are processors do nothing but turn all the while: a join then waits for a time slice. Small
+files, named by --columns, want 15 repeats and more, and 60 with --busy, since a run there takes a few milliseconds and
+can wait for as long. `--families hexa --entries 20000000 --repeats 3 --limit 200` is a file that is searched by workers
+alone after the first phases: four take about the time of `pf` there. It takes some minutes.
 """
 import argparse
 import contextlib
@@ -22,7 +25,7 @@ import sys
 import tempfile
 
 from processes import entries_of, once
-from run import PATTERNS, build, matrix
+from run import PATTERNS, build, matrix, matrix_of_columns
 
 
 def digest(path):
@@ -72,12 +75,18 @@ def cell(done, base, entries):
     return f"{wall * 1e9 / entries:.0f}, {processor * 1e9 / entries:.0f}{ratio}, {peak / entries:.0f}"
 
 
+def files(options, family):
+    """The files of a family, by columns where these are named, else by entries."""
+    if options.columns:
+        return [matrix_of_columns(options.work, family, int(count)) for count in options.columns.split(",")]
+    return [matrix(options.work, family, int(count)) for count in options.entries.split(",")]
+
+
 def table(options):
     """Prints the table. Whether texts differ."""
     heads, differs = None, False
     for family in options.families.split(","):
-        for size in options.entries.split(","):
-            path = matrix(options.work, family, int(size))
+        for path in files(options, family):
             entries = entries_of(path)
             load = os.getloadavg()[0]
             names, least, texts = runs(options, path)
@@ -100,6 +109,7 @@ def main():
     parser.add_argument("--btf", required=True, action="append")
     parser.add_argument("--work", default=os.path.join(tempfile.gettempdir(), "bench-work"))
     parser.add_argument("--entries", default="1000000")
+    parser.add_argument("--columns")
     parser.add_argument("--families", default=PATTERNS)
     parser.add_argument("--workers", default="1,2,4")
     parser.add_argument("--repeats", type=int, default=5)

@@ -92,11 +92,15 @@ def build(work, name):
 
 def matrix(work, family, entries):
     """The file of a family with about so many entries."""
-    columns = str(max(1, int(entries * COLUMNS[family.split("-")[0]])))
+    return matrix_of_columns(work, family, max(1, int(entries * COLUMNS[family.split("-")[0]])))
+
+
+def matrix_of_columns(work, family, columns):
+    """The file of a family with about so many columns."""
     path = os.path.join(work, f"{family}-{columns}.mtx")
     if not os.path.exists(path):
         with open(path + ".part", "wb") as file:
-            subprocess.run([os.path.join(work, "generate"), family, columns, "1"], stdout=file, check=True)
+            subprocess.run([os.path.join(work, "generate"), family, str(columns), "1"], stdout=file, check=True)
         os.rename(path + ".part", path)
     return path
 
