@@ -2,10 +2,17 @@
 // row that an edit touches. It reads what `btf edit` reads, without `report`, and writes the same ranks.
 //
 //     g++ -O3 -std=c++17 -o edits bench/edits.cpp && ./edits < session
+//
+// With words SHAPE ROWS KIND COUNT SEED it makes the matrix and the edits of bench/single_edits.rattle, and writes what that
+// program writes: the nanoseconds of each edit.
 #include <algorithm>
+#include <chrono>
+#include <cstdint>
 #include <cstdio>
+#include <cstdlib>
 #include <cstring>
 #include <string>
+#include <utility>
 #include <vector>
 
 using List = std::vector<int>;
@@ -106,9 +113,132 @@ struct Session {
     unpair(row, col);
     if (!from_col(col)) from_row(row);
   }
+
+  // A maximum matching, by phases of depth-first searches, each of which marks the rows that it has tried.
+  void match_all() {
+    for (int col = 0; col < cols; ++col)
+      for (int row : by_col[col])
+        if (col_of[row] < 0) {
+          pair(row, col);
+          break;
+        }
+    List tried(rows, -1), stack, at(cols, 0);
+    bool more = true;
+    for (int phase = 0; more; ++phase) {
+      more = false;
+      for (int root = 0; root < cols; ++root) {
+        if (row_of[root] >= 0) continue;
+        stack.assign(1, root);
+        at[root] = 0;
+        while (!stack.empty()) {
+          int col = stack.back();
+          if (at[col] == int(by_col[col].size())) {
+            stack.pop_back();
+            continue;
+          }
+          int row = by_col[col][at[col]++];
+          if (tried[row] == phase) continue;
+          tried[row] = phase;
+          if (col_of[row] >= 0) {
+            stack.push_back(col_of[row]);
+            at[col_of[row]] = 0;
+            continue;
+          }
+          for (; !stack.empty(); stack.pop_back()) {
+            int before = row_of[stack.back()];
+            row_of[stack.back()] = row;
+            col_of[row] = stack.back();
+            row = before;
+          }
+          ++size;
+          more = true;
+        }
+      }
+    }
+  }
 };
 
-int main() {
+static uint64_t state;
+static uint64_t next(uint64_t limit) {
+  state = state * 6364136223846793005u + 1442695040888963407u;
+  return (state >> 16) % limit;
+}
+
+// The matrix and the edits of bench/single_edits.rattle.
+static int single(int shape, uint64_t n, int kind, long count) {
+  using Place = std::pair<int, int>;
+  uint64_t wide = shape == 1 ? n + n / 4 : n;
+  Session session(n, wide);
+  for (uint64_t col = 0; col < wide; ++col)
+    for (int k = 0; k < 3; ++k) {
+      int row = shape == 2 || col >= n ? next(n) : k == 0 ? col : col + next(n - col);
+      Session::insert(session.by_col[col], row);
+    }
+  std::vector<Place> entries;
+  for (uint64_t col = 0; col < wide; ++col)
+    for (int row : session.by_col[col]) {
+      session.by_row[row].push_back(col);
+      entries.push_back({row, col});
+    }
+  session.match_all();
+  size_t held = entries.size();
+  std::vector<long> times[5];
+  Place place{0, 0};
+  for (long at = 0; at < count; ++at) {
+    bool sets = true;
+    if (kind == 0) {
+      sets = next(2) == 0;
+      if (sets) {
+        place.first = next(n);
+        place.second = next(wide);
+      } else {
+        size_t which = next(entries.size());
+        place = entries[which];
+        entries[which] = entries.back();
+        entries.pop_back();
+      }
+    } else if (at % 2 == 1) {
+      sets = kind == 2;
+    } else if (kind == 1) {
+      if (at == 0) {
+        place.first = next(n);
+        place.second = next(wide);
+      }
+    } else {
+      int line = next(n);
+      place = {line, line};
+      sets = false;
+    }
+    const List &list = session.by_col[place.second];
+    size_t had = list.size();
+    int before = session.size;
+    auto begin = std::chrono::steady_clock::now();
+    if (sets)
+      session.set(place.first, place.second);
+    else
+      session.clear(place.first, place.second);
+    auto end = std::chrono::steady_clock::now();
+    long time = std::chrono::duration_cast<std::chrono::nanoseconds>(end - begin).count();
+    held += list.size() - had;
+    int told = list.size() == had ? 4 : (sets ? 0 : 2) + (session.size != before);
+    times[told].push_back(time);
+    if (kind == 0 && told < 2) entries.push_back(place);
+  }
+  const char *names[] = {"set", "set_raising", "clear", "clear_lowering", "unchanged"};
+  for (int told = 0; told < 5; ++told) {
+    std::fputs(names[told], stdout);
+    for (long time : times[told]) std::printf(" %ld", time);
+    std::puts("");
+  }
+  std::printf("rank %zu %d\n", held, session.size);
+  return 0;
+}
+
+int main(int words, char **word_at) {
+  if (words == 6) {
+    state = std::strtoull(word_at[5], nullptr, 10);
+    return single(std::atoi(word_at[1]), std::strtoull(word_at[2], nullptr, 10), std::atoi(word_at[3]), std::atol(word_at[4]));
+  }
   char line[256];
   int rows = 0, cols = 0;
   long entries = 0;
@@ -122,15 +252,7 @@ int main() {
     Session::insert(session.by_col[col - 1], row - 1);
     Session::insert(session.by_row[row - 1], col - 1);
   }
-  for (int col = 0; col < cols; ++col)
-    for (int row : session.by_col[col])
-      if (session.col_of[row] < 0) {
-        session.pair(row, col);
-        break;
-      }
-  // A column whose search fails stays without a mate.
-  for (int col = 0; col < cols; ++col)
-    if (session.row_of[col] < 0) session.from_col(col);
+  session.match_all();
   std::string out = "rank " + std::to_string(session.size) + "\n";
   char word[16];
   int row = 0, col = 0;

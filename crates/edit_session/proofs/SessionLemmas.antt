@@ -13,7 +13,7 @@ use Rattle.bip_defs.proofs.Sets.{col_among, col_pair, entry_col, one_col, one_ro
 use Rattle.bip_graph.specs.Matching.{IsMatchingOf, IsMaximumOf, Pairing}
 use Rattle.hall_witness.specs.Covers.{HasMarkedMate, IsCover, IsCoverBut, IsCovered}
 use Rattle.sp_pattern.specs.Stored.{IsPattern}
-use Rattle.edit_session.specs.Sessions.{IsFull, IsKept, IsNearMaximum, IsParted, MatchedMatrix}
+use Rattle.edit_session.specs.Sessions.{IsSaturating, IsKept, IsNearMaximum, IsParted, MatchedMatrix}
 
 -- Pairs.
 
@@ -35,8 +35,8 @@ none_found P (Some x) e h = absurd (true≢false e)
 -- A matching that is one pair short at most.
 
 -- a matching of all rows, or of all columns, is maximum
-full_maximum : (a : Matrix) (m : Pairing) → IsMatchingOf a m → IsFull a m.pairs → IsMaximumOf a m
-full_maximum a m k full = record { matching = k; maximum = record { matching = k.matching; longest = λ o l. by o l full } }
+saturating_maximum : (a : Matrix) (m : Pairing) → IsMatchingOf a m → IsSaturating a m.pairs → IsMaximumOf a m
+saturating_maximum a m k full = record { matching = k; maximum = record { matching = k.matching; longest = λ o l. by o l full } }
   where
     few_rows : (o : List Place) → IsMatching a o → length o ≤ a.rows
     few_rows o l = let few = few_below a.rows (rows_of o) l.rows_differ (λ r h. let (c, on) = row_pair r o h in (l.entries r c on).0) in let long = length-map o (λ (p : Place). p.0) in omega (arith, few, long)
@@ -44,13 +44,13 @@ full_maximum a m k full = record { matching = k; maximum = record { matching = k
     few_cols : (o : List Place) → IsMatching a o → length o ≤ cols a
     few_cols o l = let few = few_below (cols a) (cols_of o) l.cols_differ (λ c h. let (r, on) = col_pair c o h in entry_col a r c (l.entries r c on)) in let long = length-map o (λ (p : Place). p.1) in omega (arith, few, long)
 
-    by : (o : List Place) → IsMatching a o → IsFull a m.pairs → length o ≤ length m.pairs
+    by : (o : List Place) → IsMatching a o → IsSaturating a m.pairs → length o ≤ length m.pairs
     by o l (inl e) = let few = few_rows o l in omega (arith, few, e)
     by o l (inr e) = let few = few_cols o l in omega (arith, few, e)
 
 -- setting an entry leaves the numbers of rows and columns
-pub set_full : (a b : Matrix) (m : List Place) (p : Place) → b ≡ with_place a p → IsFull a m ↔ IsFull b m
-set_full a b m p e = (λ f. subst (λ z. IsFull z m) (sym e) (⊎_elim (λ r. inl r) (λ c. inr (c ∙ sym same)) f), λ f. ⊎_elim (λ r. inl r) (λ c. inr (c ∙ same)) (subst (λ z. IsFull z m) e f))
+pub set_saturating : (a b : Matrix) (m : List Place) (p : Place) → b ≡ with_place a p → IsSaturating a m ↔ IsSaturating b m
+set_saturating a b m p e = (λ f. subst (λ z. IsSaturating z m) (sym e) (⊎_elim (λ r. inl r) (λ c. inr (c ∙ sym same)) f), λ f. ⊎_elim (λ r. inl r) (λ c. inr (c ∙ same)) (subst (λ z. IsSaturating z m) e f))
   where
     same : cols (with_place a p) ≡ cols a
     same = length-set a.columns p.1 _
@@ -145,8 +145,8 @@ cleared_free a p m rest l pair parted h = let (r, mate) = col_pair p.1 rest h in
 
 -- What a session keeps.
 
-pub full_kept : (b : Matrix) (m : Pairing) (marks : List Bool) → IsMatchingOf b m → length marks ≡ cols b → IsFull b m.pairs → IsKept b m marks
-full_kept b m marks l long full = record { maximum = full_maximum b m l full; long = long; cover = inl full }
+pub saturating_kept : (b : Matrix) (m : Pairing) (marks : List Bool) → IsMatchingOf b m → length marks ≡ cols b → IsSaturating b m.pairs → IsKept b m marks
+saturating_kept b m marks l long full = record { maximum = saturating_maximum b m l full; long = long; cover = inl full }
 
 pub covered_kept : (b : Matrix) (m : Pairing) (marks : List Bool) → IsMaximumOf b m → IsCover b m.pairs marks → IsKept b m marks
 covered_kept b m marks l k = record { maximum = l; long = k.long; cover = inr k }
@@ -154,8 +154,8 @@ covered_kept b m marks l k = record { maximum = l; long = k.long; cover = inr k 
 shown_kept : (b : Matrix) (m : Pairing) (marks : List Bool) → CoversShowMaximum → IsMatchingOf b m → IsCover b m.pairs marks → IsKept b m marks
 shown_kept b m marks law l k = covered_kept b m marks (record { matching = l; maximum = law b m.pairs marks l.matching k }) k
 
-pub had_kept : (b : Matrix) (p : Place) (m : Pairing) (marks : List Bool) → CoversShowMaximum → IsMatchingOf b m → length marks ≡ cols b → IsFull b m.pairs ⊎ IsCover (without_place b p) m.pairs marks → IsCovered m.pairs marks p → IsKept b m marks
-had_kept b p m marks law l long (inl full) had = full_kept b m marks l long full
+pub had_kept : (b : Matrix) (p : Place) (m : Pairing) (marks : List Bool) → CoversShowMaximum → IsMatchingOf b m → length marks ≡ cols b → IsSaturating b m.pairs ⊎ IsCover (without_place b p) m.pairs marks → IsCovered m.pairs marks p → IsKept b m marks
+had_kept b p m marks law l long (inl full) had = saturating_kept b m marks l long full
 had_kept b p m marks law l long (inr k) had = shown_kept b m marks law l (covers_again b p m.pairs marks k had)
 
 -- An entry that is set.
@@ -175,18 +175,18 @@ set_near a p m max n k = one_more a (with_place a p) p m.pairs n (with_place_ove
 pub set_long : (a b : Matrix) (p : Place) (marks : List Bool) → b ≡ with_place a p → length marks ≡ cols a → length marks ≡ cols b
 set_long a b p marks e long = subst (λ z. length marks ≡ cols z) (sym e) (long ∙ sym (length-set a.columns p.1 _))
 
-pub set_cover : (a b : Matrix) (p : Place) (m : List Place) (marks : List Bool) → b ≡ with_place a p → without_place (with_place a p) p ≡ a → IsFull a m ⊎ IsCover a m marks → IsFull b m ⊎ IsCover (without_place b p) m marks
-set_cover a b p m marks e back (inl full) = inl ((set_full a b m p e).0 full)
+pub set_cover : (a b : Matrix) (p : Place) (m : List Place) (marks : List Bool) → b ≡ with_place a p → without_place (with_place a p) p ≡ a → IsSaturating a m ⊎ IsCover a m marks → IsSaturating b m ⊎ IsCover (without_place b p) m marks
+set_cover a b p m marks e back (inl full) = inl ((set_saturating a b m p e).0 full)
 set_cover a b p m marks e back (inr k) = inr (subst (λ z. IsCover (without_place z p) m marks) (sym e) (subst (λ z. IsCover z m marks) (sym back) k))
 
-pub paired_kept : (b : Matrix) (p : Place) (m n : Pairing) (marks : List Bool) → IsMatchingOf b m → IsNearMaximum b m.pairs → IsEntry b p.0 p.1 → length marks ≡ cols b → ¬ IsFull b m.pairs → IsFull b m.pairs ⊎ IsCover (without_place b p) m.pairs marks → ((q : Place) → Among q n.pairs ↔ ((q ≡ p) ⊎ Among q m.pairs)) → (n.rows ≡ m.rows) × (n.cols ≡ m.cols) → AreDistinct (rows_of n.pairs) → IsRising (cols_of n.pairs) → length n.pairs ≡ suc (length m.pairs) → IsKept b n marks
+pub paired_kept : (b : Matrix) (p : Place) (m n : Pairing) (marks : List Bool) → IsMatchingOf b m → IsNearMaximum b m.pairs → IsEntry b p.0 p.1 → length marks ≡ cols b → ¬ IsSaturating b m.pairs → IsSaturating b m.pairs ⊎ IsCover (without_place b p) m.pairs marks → ((q : Place) → Among q n.pairs ↔ ((q ≡ p) ⊎ Among q m.pairs)) → (n.rows ≡ m.rows) × (n.cols ≡ m.cols) → AreDistinct (rows_of n.pairs) → IsRising (cols_of n.pairs) → length n.pairs ≡ suc (length m.pairs) → IsKept b n marks
 paired_kept b p m n marks k near e long part cover added sizes rows rising size = record {
   maximum = longer_maximum b m n near (record { rows = sizes.0 ∙ k.rows; cols = sizes.1 ∙ k.cols; matching = paired_matching b m.pairs n.pairs p k.matching e added rows rising }) size;
   long = long;
   cover = ⊎_elim (λ full. absurd (part full)) (λ h. inr (covers_paired b p m.pairs n.pairs marks h added)) cover;
 }
 
-pub searched_kept : (b : Matrix) (p : Place) (m n : Pairing) (marks marks2 : List Bool) → CoversShowMaximum → CoversStandLonger → IsNearMaximum b m.pairs → length marks ≡ cols b → ¬ IsFull b m.pairs → IsFull b m.pairs ⊎ IsCover (without_place b p) m.pairs marks → IsMatchingOf b n → ((length n.pairs ≡ suc (length m.pairs)) × (marks2 ≡ marks)) ⊎ ((n ≡ m) × IsCover b n.pairs marks2) → IsKept b n marks2
+pub searched_kept : (b : Matrix) (p : Place) (m n : Pairing) (marks marks2 : List Bool) → CoversShowMaximum → CoversStandLonger → IsNearMaximum b m.pairs → length marks ≡ cols b → ¬ IsSaturating b m.pairs → IsSaturating b m.pairs ⊎ IsCover (without_place b p) m.pairs marks → IsMatchingOf b n → ((length n.pairs ≡ suc (length m.pairs)) × (marks2 ≡ marks)) ⊎ ((n ≡ m) × IsCover b n.pairs marks2) → IsKept b n marks2
 searched_kept b p m n marks marks2 shows stands near long part cover l (inr (same, new)) = shown_kept b n marks2 shows l new
 searched_kept b p m n marks marks2 shows stands near long part cover l (inl (e, same)) = record {
   maximum = longer_maximum b m n near l e;
@@ -219,7 +219,7 @@ parted_matching a p m n k parted sizes rows rising = record {
 parted_near : (a : Matrix) (p : Place) (m n : List Place) → IsMaximum a m → length m ≡ suc (length n) → IsNearMaximum (without_place a p) n
 parted_near a p m n max e o k = omega (arith, e, max.longest o (had_before a p o k))
 
-clear_full : (a : Matrix) (p : Place) (m n : List Place) → length n ≡ length m → IsFull a m → IsFull (without_place a p) n
+clear_full : (a : Matrix) (p : Place) (m n : List Place) → length n ≡ length m → IsSaturating a m → IsSaturating (without_place a p) n
 clear_full a p m n e (inl r) = inl (e ∙ r)
 clear_full a p m n e (inr c) = inr (e ∙ c ∙ sym (width a p))
 

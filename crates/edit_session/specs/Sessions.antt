@@ -12,9 +12,9 @@ pub record MatchedMatrix : Type 0 where
   pub matching : Pairing
   pub marks : List Bool
 
--- each row is matched, or each column
-abbrev pub IsFull : Matrix → List Place → Type 0
-IsFull a m = (length m ≡ a.rows) ⊎ (length m ≡ cols a)
+-- the matching saturates the rows or the columns: each row is matched, or each column
+abbrev pub IsSaturating : Matrix → List Place → Type 0
+IsSaturating a m = (length m ≡ a.rows) ⊎ (length m ≡ cols a)
 
 -- no matching has more than one pair more
 abbrev pub IsNearMaximum : Matrix → List Place → Type 0
@@ -33,4 +33,4 @@ IsPaired p m n = (q : Place) → Among q n ↔ ((q ≡ p) ⊎ Among q m)
 pub record IsKept (a : Matrix) (m : Pairing) (marks : List Bool) : Type 0 where
   pub maximum : IsMaximumOf a m
   pub long : length marks ≡ cols a
-  pub cover : IsFull a m.pairs ⊎ IsCover a m.pairs marks
+  pub cover : IsSaturating a m.pairs ⊎ IsCover a m.pairs marks

@@ -8,7 +8,7 @@ ghost use Rattle.bip_defs.specs.Matching.{IsRank, cols_of, rows_of};
 ghost use Rattle.bip_defs.specs.Matrix.{IsEntry, Place, cols, entry_count};
 ghost use Rattle.bip_graph.specs.Decompositions.{Decomposes, components_of};
 ghost use Rattle.bip_graph.specs.Matching.{IsMatchingOf, IsMaximumOf};
-ghost use Rattle.edit_session.specs.Sessions.{IsFull, IsKept, IsNearMaximum, IsPaired, IsParted, MatchedMatrix};
+ghost use Rattle.edit_session.specs.Sessions.{IsSaturating, IsKept, IsNearMaximum, IsPaired, IsParted, MatchedMatrix};
 ghost use Rattle.hall_witness.specs.Covers.{IsCover, IsCovered, IsSearched, IsSearchedFrom};
 
 use crate::columns::Columns;
@@ -97,7 +97,7 @@ impl Session {
         ensures rank { IsRank self.now.matrix result }
         ensures pairs { result ≡ length self.now.matching.pairs }
         ensures maximum { IsMaximumOf self.now.matrix self.now.matching }
-        ensures cover { IsFull self.now.matrix self.now.matching.pairs
+        ensures cover { IsSaturating self.now.matrix self.now.matching.pairs
             ⊎ IsCover self.now.matrix self.now.matching.pairs self.now.marks }
     {
         self.matching.size()
@@ -169,24 +169,24 @@ impl Session {
         ensures steps { steps.new ≤ steps.old
             + (cols self.old.matrix + entry_count (with_place self.old.matrix (row, col))) }
         ensures no_step { IsEntry self.old.matrix row col → steps.new ≡ steps.old }
-        ensures no_search { IsFull self.old.matrix self.old.matching.pairs
+        ensures no_search { IsSaturating self.old.matrix self.old.matching.pairs
             ⊎ IsCovered self.old.matching.pairs self.old.marks (row, col)
             → steps.new ≡ steps.old }
         ensures searched { OnOk result (¬ IsEntry self.old.matrix row col
-            → ¬ IsFull self.old.matrix self.old.matching.pairs
+            → ¬ IsSaturating self.old.matrix self.old.matching.pairs
             → ¬ IsCovered self.old.matching.pairs self.old.marks (row, col)
             → Among col (cols_of self.old.matching.pairs)
             → IsSearched self.new.matrix self.old.matching.pairs self.new.matching.pairs
             steps.old steps.new) }
         ensures searched_from { OnOk result (¬ IsEntry self.old.matrix row col
-            → ¬ IsFull self.old.matrix self.old.matching.pairs
+            → ¬ IsSaturating self.old.matrix self.old.matching.pairs
             → ¬ IsCovered self.old.matching.pairs self.old.marks (row, col)
             → ¬ Among col (cols_of self.old.matching.pairs)
             → Among row (rows_of self.old.matching.pairs)
             → IsSearchedFrom col self.new.matrix self.old.matching.pairs self.old.marks
             self.new.matching.pairs self.new.marks steps.old steps.new) }
         ensures paired { OnOk result (¬ IsEntry self.old.matrix row col
-            → ¬ IsFull self.old.matrix self.old.matching.pairs
+            → ¬ IsSaturating self.old.matrix self.old.matching.pairs
             → ¬ IsCovered self.old.matching.pairs self.old.marks (row, col)
             → ¬ Among col (cols_of self.old.matching.pairs)
             → ¬ Among row (rows_of self.old.matching.pairs)
@@ -231,11 +231,11 @@ impl Session {
             ≤ steps.old + (cols self.old.matrix + entry_count self.old.matrix) }
         ensures no_step { ¬ Among (row, col) self.old.matching.pairs → steps.new ≡ steps.old }
         ensures searched { OnOk result (Among (row, col) self.old.matching.pairs
-            → IsFull self.old.matrix self.old.matching.pairs ⊎ IsMarked self.old.marks col
+            → IsSaturating self.old.matrix self.old.matching.pairs ⊎ IsMarked self.old.marks col
             → (rest : List Place) × IsParted (row, col) self.old.matching.pairs rest
             × IsSearched self.new.matrix rest self.new.matching.pairs steps.old steps.new) }
         ensures searched_from { OnOk result (Among (row, col) self.old.matching.pairs
-            → ¬ IsFull self.old.matrix self.old.matching.pairs → ¬ IsMarked self.old.marks col
+            → ¬ IsSaturating self.old.matrix self.old.matching.pairs → ¬ IsMarked self.old.marks col
             → (rest : List Place) × IsParted (row, col) self.old.matching.pairs rest
             × IsSearchedFrom col self.new.matrix rest self.old.marks
             self.new.matching.pairs self.new.marks steps.old steps.new) }
@@ -263,11 +263,11 @@ impl Session {
             ≤ steps.old + (cols self.old.matrix + entry_count self.old.matrix) }
         ensures no_step { ¬ Among (row, col) self.old.matching.pairs → steps.new ≡ steps.old }
         ensures searched { OnOk result (Among (row, col) self.old.matching.pairs
-            → IsFull self.old.matrix self.old.matching.pairs ⊎ IsMarked self.old.marks col
+            → IsSaturating self.old.matrix self.old.matching.pairs ⊎ IsMarked self.old.marks col
             → (rest : List Place) × IsParted (row, col) self.old.matching.pairs rest
             × IsSearched self.new.matrix rest self.new.matching.pairs steps.old steps.new) }
         ensures searched_from { OnOk result (Among (row, col) self.old.matching.pairs
-            → ¬ IsFull self.old.matrix self.old.matching.pairs → ¬ IsMarked self.old.marks col
+            → ¬ IsSaturating self.old.matrix self.old.matching.pairs → ¬ IsMarked self.old.marks col
             → (rest : List Place) × IsParted (row, col) self.old.matching.pairs rest
             × IsSearchedFrom col self.new.matrix rest self.old.marks
             self.new.matching.pairs self.new.marks steps.old steps.new) }
@@ -277,7 +277,7 @@ impl Session {
         self.matching.is_matching();
         self.columns.is_pattern();
         let were_mates = are_mates(&self.matching, row, col);
-        let was_full = is_full(&self.columns, &self.matching);
+        let was_saturating = is_saturating(&self.columns, &self.matching);
         self.columns.take(row, col);
         if !were_mates {
             return Ok(self.rank());
@@ -285,7 +285,7 @@ impl Session {
         self.matching.unpair(row, col);
         self.matching.is_matching();
         let columns = &self.columns;
-        if was_full || self.cover.is_marked(col) {
+        if was_saturating || self.cover.is_marked(col) {
             self.cover.augment(columns, &mut self.matching, col, steps);
             return Ok(self.rank());
         }
@@ -308,9 +308,9 @@ fn are_mates(matching: &Matching, row: Row, col: Col) -> bool
 }
 
 // Whether each row is matched, or each column.
-fn is_full(columns: &Columns, matching: &Matching) -> bool
+fn is_saturating(columns: &Columns, matching: &Matching) -> bool
     requires { IsMatchingOf columns.now.matrix matching.now }
-    ensures { IsTrue result ↔ IsFull columns.now.matrix matching.now.pairs }
+    ensures { IsTrue result ↔ IsSaturating columns.now.matrix matching.now.pairs }
 {
     let size = matching.size();
     size == columns.rows() || size == columns.cols()
@@ -331,31 +331,31 @@ fn match_entry<L: Ledger>(
     requires matching { IsMatchingOf columns.now.matrix matching.old }
     requires near { IsNearMaximum columns.now.matrix matching.old.pairs }
     requires long { length cover.old ≡ cols columns.now.matrix }
-    requires cover { IsFull columns.now.matrix matching.old.pairs
+    requires cover { IsSaturating columns.now.matrix matching.old.pairs
         ⊎ IsCover (without_place columns.now.matrix (row, col)) matching.old.pairs cover.old }
     ensures kept { IsKept columns.now.matrix matching.new cover.new }
     ensures steps { steps.new
         ≤ steps.old + (cols columns.now.matrix + entry_count columns.now.matrix) }
-    ensures no_search { IsFull columns.now.matrix matching.old.pairs
+    ensures no_search { IsSaturating columns.now.matrix matching.old.pairs
         ⊎ IsCovered matching.old.pairs cover.old (row, col) → steps.new ≡ steps.old }
-    ensures searched { ¬ IsFull columns.now.matrix matching.old.pairs
+    ensures searched { ¬ IsSaturating columns.now.matrix matching.old.pairs
         → ¬ IsCovered matching.old.pairs cover.old (row, col)
         → Among col (cols_of matching.old.pairs)
         → IsSearched columns.now.matrix matching.old.pairs matching.new.pairs
         steps.old steps.new }
-    ensures searched_from { ¬ IsFull columns.now.matrix matching.old.pairs
+    ensures searched_from { ¬ IsSaturating columns.now.matrix matching.old.pairs
         → ¬ IsCovered matching.old.pairs cover.old (row, col)
         → ¬ Among col (cols_of matching.old.pairs) → Among row (rows_of matching.old.pairs)
         → IsSearchedFrom col columns.now.matrix matching.old.pairs cover.old
         matching.new.pairs cover.new steps.old steps.new }
-    ensures paired { ¬ IsFull columns.now.matrix matching.old.pairs
+    ensures paired { ¬ IsSaturating columns.now.matrix matching.old.pairs
         → ¬ IsCovered matching.old.pairs cover.old (row, col)
         → ¬ Among col (cols_of matching.old.pairs) → ¬ Among row (rows_of matching.old.pairs)
         → IsPaired (row, col) matching.old.pairs matching.new.pairs × (steps.new ≡ steps.old) }
 {
     cover_shows_maximum();
     cover_stands();
-    if is_full(columns, matching) {
+    if is_saturating(columns, matching) {
         return;
     }
     if cover.has(matching, row, col) {

@@ -6,8 +6,8 @@ use Rattle.bip_defs.specs.Matrix.{IsEntry, Matrix, cols}
 use Rattle.bip_defs.proofs.EditLemmas.{with_place_new, without_goes_back}
 use Rattle.bip_graph.specs.Matching.{IsMatchingOf}
 use Rattle.hall_witness.specs.Covers.{IsCovered, IsSearched, IsSearchedFrom}
-use Rattle.edit_session.specs.Sessions.{IsFull, IsNearMaximum, IsPaired, MatchedMatrix}
-use Rattle.edit_session.proofs.SessionLemmas.{room_left, set_again, set_cover, set_full, set_long, set_matching, set_near}
+use Rattle.edit_session.specs.Sessions.{IsSaturating, IsNearMaximum, IsPaired, MatchedMatrix}
+use Rattle.edit_session.proofs.SessionLemmas.{room_left, set_again, set_cover, set_saturating, set_long, set_matching, set_near}
 use Rattle.edit_session.proofs.session.Session.set.Goals as goal
 
 pub returns-then-has-clause-matrix : goal.returns-then-has-clause-matrix
@@ -55,8 +55,8 @@ pub returns-clause-searched : goal.returns-clause-searched
 returns-clause-searched g c none =
     let a = c.self.inside.columns.matrix in
     let put : c.put.new.self.matrix ≡ with_place a (c.args.row, c.args.col) = c.put.ensures.matrix ∙ ap (λ (b : Matrix). with_place b (c.args.row, c.args.col)) c.in_ok-make_room.ensures.matrix in
-    subst (λ (w : MatchedMatrix). ¬ IsFull w.matrix w.matching.pairs → ¬ IsCovered w.matching.pairs w.marks (c.args.row, c.args.col) → Among c.args.col (cols_of w.matching.pairs)
-    → IsSearched c.put.new.self.matrix w.matching.pairs c.match_entry.new.matching.pairs c.args.steps.now c.match_entry.new.steps) c.self.view_is (λ partial. c.match_entry.ensures.searched (λ full. partial ((set_full a c.put.new.self.matrix c.self.inside.matching.pairs (c.args.row, c.args.col) put).1 full)))
+    subst (λ (w : MatchedMatrix). ¬ IsSaturating w.matrix w.matching.pairs → ¬ IsCovered w.matching.pairs w.marks (c.args.row, c.args.col) → Among c.args.col (cols_of w.matching.pairs)
+    → IsSearched c.put.new.self.matrix w.matching.pairs c.match_entry.new.matching.pairs c.args.steps.now c.match_entry.new.steps) c.self.view_is (λ partial. c.match_entry.ensures.searched (λ full. partial ((set_saturating a c.put.new.self.matrix c.self.inside.matching.pairs (c.args.row, c.args.col) put).1 full)))
 
 pub returns-then-has-clause-searched_from : goal.returns-then-has-clause-searched_from
 returns-then-has-clause-searched_from g c none partial other free mated = absurd (none (subst (λ (w : MatchedMatrix). IsEntry w.matrix c.args.row c.args.col) c.self.view_is (c.has.ensures.0 c.if-has.true)))
@@ -65,8 +65,8 @@ pub returns-clause-searched_from : goal.returns-clause-searched_from
 returns-clause-searched_from g c none =
     let a = c.self.inside.columns.matrix in
     let put : c.put.new.self.matrix ≡ with_place a (c.args.row, c.args.col) = c.put.ensures.matrix ∙ ap (λ (b : Matrix). with_place b (c.args.row, c.args.col)) c.in_ok-make_room.ensures.matrix in
-    subst (λ (w : MatchedMatrix). ¬ IsFull w.matrix w.matching.pairs → ¬ IsCovered w.matching.pairs w.marks (c.args.row, c.args.col) → ¬ Among c.args.col (cols_of w.matching.pairs) → Among c.args.row (rows_of w.matching.pairs)
-    → IsSearchedFrom c.args.col c.put.new.self.matrix w.matching.pairs w.marks c.match_entry.new.matching.pairs c.match_entry.new.cover c.args.steps.now c.match_entry.new.steps) c.self.view_is (λ partial. c.match_entry.ensures.searched_from (λ full. partial ((set_full a c.put.new.self.matrix c.self.inside.matching.pairs (c.args.row, c.args.col) put).1 full)))
+    subst (λ (w : MatchedMatrix). ¬ IsSaturating w.matrix w.matching.pairs → ¬ IsCovered w.matching.pairs w.marks (c.args.row, c.args.col) → ¬ Among c.args.col (cols_of w.matching.pairs) → Among c.args.row (rows_of w.matching.pairs)
+    → IsSearchedFrom c.args.col c.put.new.self.matrix w.matching.pairs w.marks c.match_entry.new.matching.pairs c.match_entry.new.cover c.args.steps.now c.match_entry.new.steps) c.self.view_is (λ partial. c.match_entry.ensures.searched_from (λ full. partial ((set_saturating a c.put.new.self.matrix c.self.inside.matching.pairs (c.args.row, c.args.col) put).1 full)))
 
 pub returns-then-has-clause-paired : goal.returns-then-has-clause-paired
 returns-then-has-clause-paired g c none partial other free out = absurd (none (subst (λ (w : MatchedMatrix). IsEntry w.matrix c.args.row c.args.col) c.self.view_is (c.has.ensures.0 c.if-has.true)))
@@ -75,12 +75,12 @@ pub returns-clause-paired : goal.returns-clause-paired
 returns-clause-paired g c none =
     let a = c.self.inside.columns.matrix in
     let put : c.put.new.self.matrix ≡ with_place a (c.args.row, c.args.col) = c.put.ensures.matrix ∙ ap (λ (b : Matrix). with_place b (c.args.row, c.args.col)) c.in_ok-make_room.ensures.matrix in
-    subst (λ (w : MatchedMatrix). ¬ IsFull w.matrix w.matching.pairs → ¬ IsCovered w.matching.pairs w.marks (c.args.row, c.args.col) → ¬ Among c.args.col (cols_of w.matching.pairs) → ¬ Among c.args.row (rows_of w.matching.pairs)
-    → IsPaired (c.args.row, c.args.col) w.matching.pairs c.match_entry.new.matching.pairs × (c.match_entry.new.steps ≡ c.args.steps.now)) c.self.view_is (λ partial. c.match_entry.ensures.paired (λ full. partial ((set_full a c.put.new.self.matrix c.self.inside.matching.pairs (c.args.row, c.args.col) put).1 full)))
+    subst (λ (w : MatchedMatrix). ¬ IsSaturating w.matrix w.matching.pairs → ¬ IsCovered w.matching.pairs w.marks (c.args.row, c.args.col) → ¬ Among c.args.col (cols_of w.matching.pairs) → ¬ Among c.args.row (rows_of w.matching.pairs)
+    → IsPaired (c.args.row, c.args.col) w.matching.pairs c.match_entry.new.matching.pairs × (c.match_entry.new.steps ≡ c.args.steps.now)) c.self.view_is (λ partial. c.match_entry.ensures.paired (λ full. partial ((set_saturating a c.put.new.self.matrix c.self.inside.matching.pairs (c.args.row, c.args.col) put).1 full)))
 
 pub returns-clause-no_search : goal.returns-clause-no_search
 returns-clause-no_search g c =
     let a = c.self.inside.columns.matrix in
     let put : c.put.new.self.matrix ≡ with_place a (c.args.row, c.args.col) = c.put.ensures.matrix ∙ ap (λ (b : Matrix). with_place b (c.args.row, c.args.col)) c.in_ok-make_room.ensures.matrix in
-    subst (λ (w : MatchedMatrix). IsFull w.matrix w.matching.pairs ⊎ IsCovered w.matching.pairs w.marks (c.args.row, c.args.col) → c.match_entry.new.steps ≡ c.args.steps.now) c.self.view_is
-    (λ h. c.match_entry.ensures.no_search (⊎_elim (λ full. inl ((set_full a c.put.new.self.matrix c.self.inside.matching.pairs (c.args.row, c.args.col) put).0 full)) (λ had. inr had) h))
+    subst (λ (w : MatchedMatrix). IsSaturating w.matrix w.matching.pairs ⊎ IsCovered w.matching.pairs w.marks (c.args.row, c.args.col) → c.match_entry.new.steps ≡ c.args.steps.now) c.self.view_is
+    (λ h. c.match_entry.ensures.no_search (⊎_elim (λ full. inl ((set_saturating a c.put.new.self.matrix c.self.inside.matching.pairs (c.args.row, c.args.col) put).0 full)) (λ had. inr had) h))
