@@ -56,10 +56,11 @@ impl Neighbours for Columns {
 }
 
 impl Columns {
-    /// The columns of a matrix of so many entries, with room for no more.
+    /// The columns of a matrix of so many entries, with room for a sixteenth more, so that the first
+    /// entries that come find it.
     ///
-    /// Answers `OutOfMemory` where 16 bytes a column and 4 an entry can't be had. Work: one copy of
-    /// the lists.
+    /// Answers `OutOfMemory` where 16 bytes a column and 4.25 an entry can't be had. Work: one copy
+    /// of the lists.
     pub fn of<N: Neighbours>(
         alloc: Global,
         neighbours: &N,
@@ -69,7 +70,9 @@ impl Columns {
         requires entries { entry_count (N.matrix neighbours.now) ≡ entries }
         ensures { IfOk result (λ s. s.matrix ≡ N.matrix neighbours.now) }
     {
-        let mut lists = Arena::with_capacity(alloc, neighbours.cols() as usize, entries as usize)?;
+        let entries_to_come = entries as usize / 16;
+        let room = entries as usize + entries_to_come;
+        let mut lists = Arena::with_capacity(alloc, neighbours.cols() as usize, room)?;
         for col in 0..neighbours.cols() {
             lists.push(neighbours.rows_of(Col(col)))?;
         }
