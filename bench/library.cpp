@@ -4,11 +4,13 @@
 //                                                    algorithm of Hopcroft and Karp in C++
 //   library decomposition REPEATS LIMIT < file.mtx   blocktri_decomposition, on square matrices blocktri_block_order; cs_dmperm,
 //                                                    on square matrices btf_order
+//   library heaviest REPEATS LIMIT < file.mtx        blocktri_heaviest; MUMPS' step with the making of its costs; an integer file
 //
 // Each call runs first in a child of its own, which tells how much memory it takes at most beyond what is there before, and
-// whether it ends within LIMIT seconds; those that do not are left out. Then all run in turns, REPEATS times. It writes a line for
-// each call: its name, the least nanoseconds by the clock and of the processor, the bytes, and the numbers that it found. The
-// reader, and for igraph the making of its graph, are outside of all that.
+// whether it ends within LIMIT seconds; those that do not, and those that LEFT_OUT names, are left out. Then all run in turns,
+// REPEATS times, but those that have taken a quarter of LIMIT no more. It writes a line for each call: its name, the least
+// nanoseconds by the clock and of the processor, the bytes, and the numbers that it found. The reader, and for igraph the making
+// of its graph, are outside of all that.
 #include <algorithm>
 #include <cstdio>
 #include <cstdlib>
@@ -27,14 +29,18 @@
 
 #include "../library/blocktri.h"
 #include "columns.hpp"
+#include "mumps_step.hpp"
 
 using Numbers = std::vector<size_t>;  // what is compared
+
+static const char *USAGE = "usage: library rank|decomposition|heaviest REPEATS LIMIT [LEFT_OUT,..] < file.mtx";
 
 struct Call {
   std::string name;
   std::function<Numbers()> run;
   double wall = 1e300, processor = 1e300;
   long bytes = 0;
+  double spent = 0;
   bool ends = false;
   Numbers found = {};
 };
@@ -80,7 +86,9 @@ static void measure(Call &call) {
   double wall = seconds(CLOCK_MONOTONIC), processor = seconds(CLOCK_PROCESS_CPUTIME_ID);
   call.found = call.run();
   call.processor = std::min(call.processor, seconds(CLOCK_PROCESS_CPUTIME_ID) - processor);
-  call.wall = std::min(call.wall, seconds(CLOCK_MONOTONIC) - wall);
+  wall = seconds(CLOCK_MONOTONIC) - wall;
+  call.wall = std::min(call.wall, wall);
+  call.spent += wall;
 }
 
 // The matrix as each library wants it.
@@ -277,6 +285,30 @@ static Numbers order_by_suitesparse(Arrays &a) {
   return rank == n ? Numbers{1, static_cast<size_t>(blocks)} : Numbers{0};
 }
 
+// The sum of a heaviest diagonal.
+static Numbers heaviest_by_blocktri(const Arrays &a) {
+  size_t n = a.columns.cols, count = a.ids.size();
+  std::vector<uint32_t> row_of_column(n + 1);
+  std::vector<int64_t> row_prices(n + 1), column_prices(n + 1);
+  blocktri_sum sum;
+  uint64_t fault;
+  int32_t status = blocktri_heaviest(a.columns.rows, a.starts.data(), a.starts.size(), a.ids.data(), count, a.columns.value.data(),
+                                     count, row_of_column.data(), n, row_prices.data(), n, column_prices.data(), n, &sum, &fault);
+  if (status == BLOCKTRI_SINGULAR) return {0};
+  right(status);
+  return {1, sum.low};
+}
+
+static Numbers heaviest_by_mumps(const Arrays &a) {
+  Task t = task(a.columns, true);
+  Diagonal d = solve(t);
+  if (d.pairs < t.n) return {0};
+  double sum = 0;
+  for (int r = 0; r < t.n; r++) sum -= d.row_price[r];
+  for (int c = 0; c < t.n; c++) sum += t.heaviest[c] - d.col_price[c];
+  return {1, static_cast<size_t>(sum)};
+}
+
 static std::vector<Call> calls_of(const std::string &job, Arrays &a) {
   std::vector<Call> calls;
   auto add = [&calls](const char *name, std::function<Numbers()> run) { calls.push_back({name, std::move(run)}); };
@@ -295,23 +327,28 @@ static std::vector<Call> calls_of(const std::string &job, Arrays &a) {
       add("blocktri_block_order", [&a] { return order_by_blocktri(a); });
       add("btf_order", [&a] { return order_by_suitesparse(a); });
     }
+  } else if (job == "heaviest") {
+    add("blocktri_heaviest", [&a] { return heaviest_by_blocktri(a); });
+    add("mumps", [&a] { return heaviest_by_mumps(a); });
   } else {
-    stop("usage: library rank|decomposition REPEATS LIMIT < file.mtx");
+    stop(USAGE);
   }
   return calls;
 }
 
 int main(int argc, char **argv) {
-  if (argc != 4) stop("usage: library rank|decomposition REPEATS LIMIT < file.mtx");
+  if (argc != 4 && argc != 5) stop(USAGE);
   int repeats = std::atoi(argv[2]);
   unsigned limit = static_cast<unsigned>(std::atoi(argv[3]));
   Bytes bytes;
-  Arrays a(compress(read_places(bytes, false)));
+  Arrays a(compress(read_places(bytes, std::string(argv[1]) == "heaviest")));
   std::vector<Call> calls = calls_of(argv[1], a);
-  for (Call &call : calls) try_out(call, limit);
+  std::string left_out = argc == 5 ? std::string(",") + argv[4] + "," : "";
+  for (Call &call : calls)
+    if (left_out.find("," + call.name + ",") == std::string::npos) try_out(call, limit);
   for (int turn = 0; turn < repeats; turn++)
     for (Call &call : calls)
-      if (call.ends) measure(call);
+      if (call.ends && call.spent < limit / 4.0) measure(call);
   for (const Call &call : calls) {
     if (!call.ends) {
       std::printf("%s -\n", call.name.c_str());

@@ -1,9 +1,9 @@
 #!/usr/bin/env python3
 """Calls libblocktri and what Debian packages on the same compressed columns in one process, in turns, and prints a table.
 
-    apt-get install g++ libsuitesparse-dev libigraph-dev
+    apt-get install g++ libsuitesparse-dev libigraph-dev libmumps-seq-dev
     make -C library
-    bench/library.py [--job rank|decomposition] [--library library/build/libblocktri.a] [--work DIR] [--entries 100000]
+    bench/library.py [--job rank|decomposition|heaviest] [--library library/build/libblocktri.a] [--work DIR] [--entries 100000]
                      [--families er10,grid2d] [--repeats 5] [--limit SECONDS] [--clock processor] [--memory]
 
 No reader is in the times. They are nanoseconds an entry, the least of the repeats, by the wall clock or of the processor; "-"
@@ -24,26 +24,28 @@ from processes import entries_of
 
 HERE = os.path.dirname(os.path.abspath(__file__))
 FAMILIES = "er27,er10,rmat,grid2d,circuit,hilo,fewg,ksbad,hexa,lattice,wide,tall"
-MARGIN = {"rank": 5, "decomposition": 10}
+INTEGERS = "er12i,circuiti,bandi"
+MARGIN = {"rank": 5, "decomposition": 10, "heaviest": 0}
 
 # job: pairs of one of our calls and the packages' calls that it stands beside; of which the found numbers are to be the same
 BESIDE = {
     "rank": [("blocktri_rank", "cs_maxtrans,btf_maxtrans,igraph,hopcroft_karp"),
              ("blocktri_matching", "cs_maxtrans,btf_maxtrans,igraph,hopcroft_karp")],
     "decomposition": [("blocktri_decomposition", "cs_dmperm"), ("blocktri_block_order", "btf_order")],
+    "heaviest": [("blocktri_heaviest", "mumps")],
 }
 
 
 def build_library(options):
     """The program in C++, over the library that is named. Whether it compiled."""
     program, source = os.path.join(options.work, "library"), os.path.join(HERE, "library.cpp")
-    command = ["g++", "-O3", "-std=c++17", "-o", program, source, options.library, "-lcxsparse", "-lbtf", "-ligraph"]
+    command = ["g++", "-O3", "-std=c++17", "-o", program, source, options.library, "-lcxsparse", "-lbtf", "-ligraph", "-ldmumps_seq"]
     return subprocess.run(command).returncode == 0
 
 
 def measured(options, path):
     """What the program tells of each call: wall and processor nanoseconds, bytes, and what was found; none of one too slow."""
-    command = [os.path.join(options.work, "library"), options.job, str(options.repeats), str(options.limit)]
+    command = [os.path.join(options.work, "library"), options.job, str(options.repeats), str(options.limit), options.leave_out]
     with open(path, "rb") as file:
         text = subprocess.run(command, stdin=file, stdout=subprocess.PIPE, check=True).stdout.decode()
     calls = {}
@@ -98,12 +100,14 @@ def main():
     parser.add_argument("--library", default=os.path.join(HERE, "..", "library", "build", "libblocktri.a"))
     parser.add_argument("--work", default=os.path.join(tempfile.gettempdir(), "bench-work"))
     parser.add_argument("--entries", default="100000,1000000")
-    parser.add_argument("--families", default=FAMILIES)
+    parser.add_argument("--families")
     parser.add_argument("--repeats", type=int, default=5)
     parser.add_argument("--limit", type=int, default=10)
     parser.add_argument("--clock", choices=["wall", "processor"], default="wall")
+    parser.add_argument("--leave-out", default="", help="calls that are not to be run, as cs_maxtrans,igraph")
     parser.add_argument("--memory", action="store_true")
     options = parser.parse_args()
+    options.families = options.families or (INTEGERS if options.job == "heaviest" else FAMILIES)
     os.makedirs(options.work, exist_ok=True)
     if not build(options.work, "generate") or not build_library(options):
         sys.exit("library.py: the programs do not compile")

@@ -1,5 +1,6 @@
 pub mod BlockLemmas
 pub mod BlockOrder
+pub mod ColumnEdges
 pub mod CondensationLemmas
 pub mod Gathered
 pub mod GroupParts

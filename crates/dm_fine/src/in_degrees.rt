@@ -1,10 +1,10 @@
 //! In-degrees of components: how many entries their columns have in rows of others (Kahn 1962).
 
-ghost use Rattle.std.specs.Prelude.{◌≡◌, ◌<◌, ◌^◌, length, IfOk};
+ghost use Rattle.std.specs.Prelude.{◌≡◌, ◌<◌, ◌^◌, length, slice_index, IfOk};
 ghost use Rattle.bip_defs.specs.Matrix.{Matrix, cols, entry_count};
-ghost use Rattle.dm_fine.specs.Edges.{Gains, HasRoomFor, edges_at};
+ghost use Rattle.dm_fine.specs.Edges.{Gains, HasRoomFor};
 
-use sp_ids::{OutOfMemory, Row};
+use sp_ids::{Col, OutOfMemory};
 use sp_pattern::Pattern;
 use std::alloc::Global;
 
@@ -22,46 +22,50 @@ pub struct Numbers<'p> {
 }
 
 impl Numbers<'_> {
-    ghost use Rattle.dm_fine.specs.Numbers.{AreEdgeCounts, edges_of_row};
+    ghost use Rattle.dm_fine.specs.Numbers.{AreEdgeCounts, edges_of_column};
 
     /// How many entries the columns of each component have in rows of others.
     ///
-    /// It takes 4 bytes a component. Work: one look at each row, in turn, and at each entry of
+    /// It takes 4 bytes a component. Work: one look at each column, in turn, and at each entry of
     /// those that have a number below the count.
     pub fn in_degrees(&self, alloc: Global) -> Result<Vec<u32>, OutOfMemory>
         ensures { IfOk result (λ v. AreEdgeCounts self.now v.items) }
     {
+        self.pattern.is_pattern();
         let mut in_degrees = vec![in alloc; 0; self.count as usize]?;
-        for row in 0..self.pattern.rows() {
-            self.count_row(Row(row), in_degrees.as_mut_slice());
+        for col in 0..self.pattern.cols() {
+            self.count_column(Col(col), in_degrees.as_mut_slice());
         }
         Ok(in_degrees)
     }
 
-    // Counts the entries in a row, where a component has it.
-    fn count_row(&self, row: Row, in_degrees: &mut [u32])
-        requires row { row < Matrix.rows self.now.pattern.now }
-        requires room { HasRoomFor (edges_of_row self.now row) in_degrees.old }
-        ensures { Gains (edges_of_row self.now row) in_degrees.old in_degrees.new }
+    // Counts the entries in a column, where a component has it.
+    fn count_column(&self, col: Col, in_degrees: &mut [u32])
+        requires col { col < cols self.now.pattern.now }
+        requires room { HasRoomFor (edges_of_column self.now col) in_degrees.old }
+        ensures { Gains (edges_of_column self.now col) in_degrees.old in_degrees.new }
     {
-        let own = self.of_rows[row.0 as usize];
-        if own >= self.count {
+        let own = self.of_cols[col.0 as usize];
+        if own as usize >= in_degrees.len() {
             return;
         }
-        let cols = self.pattern.cols_of(row);
-        for col in cols {
-            count_one(own, self.of_cols[col.0 as usize], in_degrees);
-        }
+        in_degrees[own as usize] += self.entries_in_others(own, col);
     }
-}
 
-// Counts an entry, where it is in a column of another component.
-#[inline(always)]
-fn count_one(own: u32, number: u32, in_degrees: &mut [u32])
-    requires { HasRoomFor (edges_at own number) in_degrees.old }
-    ensures { Gains (edges_at own number) in_degrees.old in_degrees.new }
-{
-    if number != own && (number as usize) < in_degrees.len() {
-        in_degrees[number as usize] += 1;
+    // How many entries a column of a component has in rows of other components.
+    fn entries_in_others(&self, own: u32, col: Col) -> u32
+        requires col { col < cols self.now.pattern.now }
+        requires own { own ≡ slice_index self.now.of_cols.items col }
+        ensures { result ≡ edges_of_column self.now col own }
+    {
+        let mut count = 0;
+        let rows = self.pattern.rows_of(col);
+        for row in rows {
+            let number = self.of_rows[row.0 as usize];
+            if number != own && number < self.count {
+                count += 1;
+            }
+        }
+        count
     }
 }

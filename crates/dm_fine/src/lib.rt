@@ -30,9 +30,9 @@ use std::alloc::Global;
 /// least source.
 ///
 /// Answers `OutOfMemory` where 4 bytes a row and 24 a column can't be had for the components, or
-/// then 8 a row, 12 a column and 20 a block. Work: each entry of a square column is looked at twice
-/// at most and each of a square row twice, and each row, column and block a fixed number of times,
-/// but that a block looks at some words of the set of those that come next.
+/// then 8 a row, 12 a column and 20 a block. Work: each entry of a square column is looked at three
+/// times at most and each of a square row twice, and each row, column and block a fixed number of
+/// times, but that a block looks at some words of the set of those that come next.
 pub fn fine(
     alloc: Global,
     pattern: &Pattern,

@@ -43,6 +43,19 @@ impl Sources {
         self.ready.take_least()
     }
 
+    /// How many components there are.
+    pub fn count(&self) -> u32
+        requires { length self.now.in_degrees.items < 2 ^ 32 }
+        ensures { result ≡ length self.now.in_degrees.items }
+    {
+        self.in_degrees.len() as u32
+    }
+
+    /// Whether this is a component that is no source yet.
+    pub fn is_waiting(&self, number: u32) -> bool {
+        (number as usize) < self.in_degrees.len() && self.in_degrees[number as usize] != 0
+    }
+
     /// Takes an entry in a row of the component `own` off, where its column is of another one.
     #[inline(always)]
     pub fn remove_one(&mut self, own: u32, number: u32)

@@ -38,6 +38,11 @@ remove_entries-requires-clause-counted c = λ j lt.
     let same = c.in-Some.ensures.least.same in
     rw same (ordering_counted _ _ _ _ _ _ _ j _ c.loop-own.invariant.ordering taken (omega (arith, long, ap length same, lt)))
 
+pub read_ahead-read-requires-clause-own : goal.read_ahead-read-requires-clause-own
+read_ahead-read-requires-clause-own c =
+    let taken = ordering_taken _ _ _ _ _ _ _ c.loop-own.invariant.ordering c.in-Some.ensures.least in
+    taken.next.in_range
+
 pub loop-own-smaller : goal.loop-own-smaller
 loop-own-smaller c =
     let taken = ordering_taken _ _ _ _ _ _ _ c.loop-own.invariant.ordering c.in-Some.ensures.least in
