@@ -3,7 +3,7 @@ use Rattle.std.proofs.Common.{◌≡◌, ◌∙◌, ℕ, slice_index, ◌+◌, �
 use Rattle.std.proofs.Math.Decide.{dec_lt}
 use Rattle.std.proofs.lemmas.List.{get_or-map, get_or_past, get_or_read, length-map, map_more}
 use Rattle.bip_defs.specs.Lists.{Among, AreDistinct, Lists}
-use Rattle.bip_defs.specs.Matching.{cols_of}
+use Rattle.bip_defs.specs.Matching.{cols_of, rows_of}
 use Rattle.bip_defs.specs.Matrix.{IsEntry, Matrix, Place, cols, column}
 use Rattle.bip_defs.proofs.Sets.{entry_col, one_row, place_among}
 use Rattle.bip_graph.specs.Matching.{IsMatchingOf, Pairing}
@@ -83,6 +83,17 @@ candidate_of x y m a same higher prices_are duals_are prices duals = record {
   duals_are = duals_are ∙ ap (λ (w : Weighing). cols w.matrix) (sym same);
   prices = prices;
   duals = duals;
+}
+
+-- an assignment without pairs makes a candidate with any other matching
+pub free_candidate : (x : Priced) (m n : Pairing) → IsAssigned x m → m.pairs ≡ [] → IsMatchingOf x.weighing.matrix n → IsCandidate x n
+free_candidate x m n a none k = record {
+  matching = k;
+  small = a.feasible.small;
+  prices_are = a.feasible.prices_are;
+  duals_are = a.feasible.duals_are;
+  prices = λ r. a.bounded.free_rows r (λ h. absurd (subst (λ (z : List Place). Among r (rows_of z)) none h));
+  duals = λ c. a.bounded.free_cols c (λ h. absurd (subst (λ (z : List Place). Among c (cols_of z)) none h));
 }
 
 -- the number that stands for a column's mate

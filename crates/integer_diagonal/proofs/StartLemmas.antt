@@ -1,6 +1,6 @@
 -- The first dual variables, prices and pairs.
-use Rattle.std.proofs.Common.{◌≡◌, ◌≢◌, ◌⊎◌, ◌↔◌, ◌∙◌, ℕ, slice_index, ◌+◌, ◌-◌, ◌<◌, ◌≤◌, List, [], ◌∷◌, ◌++◌, true, false, true≢false, get_or, length, replicate, refl, sym, ap, subst, inl, inr, ⊎_elim, arith, below_more, length-append}
-use Rattle.std.specs.Option.{is_some, IfNone, IfSome}
+use Rattle.std.proofs.Common.{◌≡◌, ◌≢◌, ◌⊎◌, ◌∙◌, ℕ, slice_index, ◌+◌, ◌-◌, ◌<◌, ◌≤◌, List, [], ◌∷◌, ◌++◌, true, true≢false, get_or, length, replicate, refl, sym, ap, subst, inl, inr, ⊎_elim, arith, below_more, length-append}
+use Rattle.std.specs.Option.{is_some, IfSome}
 use Rattle.std.specs.Prelude.{Option, None, Some}
 use Rattle.std.proofs.Math.Decide.{dec_lt}
 use Rattle.std.proofs.Math.Seq.{get_or-append_seam}
@@ -8,11 +8,10 @@ use Rattle.std.proofs.lemmas.List.{get_or_append_left, get_or_past, get_or_read,
 use Rattle.bip_defs.specs.Lists.{Among, AreDistinct, IsRising}
 use Rattle.bip_defs.specs.Matching.{cols_of, rows_of}
 use Rattle.bip_defs.specs.Matrix.{AreEntries, IsEntry, Matrix, Place, cols, column}
-use Rattle.bip_defs.proofs.Sets.{among_at, col_among, col_pair, entry_col, number_same, place_among, rising_distinct}
+use Rattle.bip_defs.proofs.Sets.{among_at, entry_col, number_same, place_among, rising_distinct}
 use Rattle.bip_graph.specs.Matching.{Pairing}
-use Rattle.integer_diagonal.proofs.Cheap.{entry_cheap}
 use Rattle.integer_diagonal.proofs.Repeated.{repeated}
-use Rattle.integer_diagonal.specs.Duals.{AreAtMost, IsAssigned, Priced, cheap, cost, dual, paid}
+use Rattle.integer_diagonal.specs.Duals.{AreAtMost, IsAssigned, Priced, cheap, cost}
 use Rattle.integer_diagonal.specs.FirstPrices.{AreFirstDuals, AreFirstPrices, IsTight}
 use Rattle.sp_pattern.specs.Weights.{Weighing, weight_at}
 
@@ -188,17 +187,6 @@ module _ (x : Priced) where
     below = λ c h. absurd (subst (λ (z : List Place). Among c (cols_of z)) empty h);
   }
 
-  pub first_same : (n : ℕ) (m : Pairing) → AreFirst x n m → AreFirst x (n + 1) m
-  first_same n m f = record { rows_are = f.rows_are; cols_are = f.cols_are; entries = f.entries; below = λ c h. (let low = f.below c h in omega (arith, low)) }
-
-  pub first_pair : (row n : ℕ) (m g : Pairing) → AreFirst x n m → IsEntry x.weighing.matrix row n → paid x row n ≡ dual x n → ((p : Place) → Among p g.pairs ↔ ((p ≡ (row, n)) ⊎ Among p m.pairs)) → (g.rows ≡ m.rows) × (g.cols ≡ m.cols) → AreFirst x (n + 1) g
-  first_pair row n m g f e met added sizes = record {
-    rows_are = sizes.0 ∙ f.rows_are;
-    cols_are = sizes.1 ∙ f.cols_are;
-    entries = λ r c h. ⊎_elim (λ (same : (r, c) ≡ (row, n)). subst (λ (p : Place). IsEntry (cheap x) p.0 p.1) (sym same) (entry_cheap x row n e met)) (λ k. f.entries r c k) ((added (r, c)).0 h);
-    below = λ c h. (let (r, k) = col_pair c g.pairs h in ⊎_elim (λ (same : (r, c) ≡ (row, n)). let one = ap (λ (p : Place). p.1) same in omega (arith, one)) (λ k. let low = f.below c (col_among r c m.pairs k) in omega (arith, low)) ((added (r, c)).0 k));
-  }
-
   pub start_assigned : (n : ℕ) (m : Pairing) → ((r c : ℕ) → IsEntry x.weighing.matrix r c → weight_at x.weighing r c ≤ x.top) → AreFirst x n m → AreFirstDuals x.weighing x.top (cols x.weighing.matrix) x.duals → AreFirstPrices x.weighing x.top (cols x.weighing.matrix) x.duals x.prices → AreDistinct (rows_of m.pairs) → IsRising (cols_of m.pairs) → IsAssigned x m
   start_assigned n m small f duals prices rows_differ rising = record {
     rows_are = f.rows_are;
@@ -242,17 +230,7 @@ cost_here w top a col k r rows weights same rows_are long each lt is =
 pub read_at : (xs : List ℕ) (n index read : ℕ) → index ≡ n → n < length xs → read ≡ get_or xs index read → read ≡ slice_index xs n
 read_at xs n index read is lt e = get_or_read xs index read (omega (arith, is, lt)) e 0 ∙ ap (λ k. slice_index xs k) is
 
--- all places of the column have been looked at
-pub all_matched : (x : Priced) (a : Matrix) (col n : ℕ) (rows taken : List ℕ) → rows ≡ column a col → length rows ≤ n → ((j : ℕ) → j < n → paid x (slice_index rows j) col ≡ dual x col → Among (slice_index rows j) taken) → (r : ℕ) → IsEntry a r col → paid x r col ≡ dual x col → Among r taken
-all_matched x a col n rows taken rows_are long looked r e is =
-    let (j, within, at) = place_among r 0 rows (subst (λ (z : List ℕ). Among r z) (sym rows_are) e.1) in
-    subst (λ z. Among z taken) at (looked j (omega (arith, within, long)) (ap (λ z. paid x z col) at ∙ is))
-
 -- what a test of an answer's case says
-pub none_holds : (o : Option ℕ) (N : Type 0) → is_some o ≡ false → IfNone o N → N
-none_holds None N e h = h
-none_holds (Some x) N e h = absurd (true≢false e)
-
 pub some_holds : (o : Option ℕ) (P : ℕ → Type 0) → is_some o ≡ true → IfSome o P → (x : ℕ) × P x
 some_holds None P e h = absurd (true≢false (sym e))
 some_holds (Some x) P e h = (x, h)

@@ -1,4 +1,5 @@
 pub mod Amounts
+pub mod Blocks
 pub mod Candidates
 pub mod Distances
 pub mod Duals

@@ -1,10 +1,11 @@
 //! The three cases.
 
-ghost use Rattle.std.specs.Prelude.{◌≡◌, ◌↔◌, ℕ, pos, ◌+◌, ◌-◌, ◌-ℤ◌, ◌^◌, ◌<◌, List, length, map, slice_index, IfNone, IfOk, IfSome, IsTrue, OnOk};
+ghost use Rattle.std.specs.Prelude.{◌≡◌, ◌≢◌, ℕ, pos, ◌+◌, ◌-◌, ◌-ℤ◌, ◌^◌, ◌<◌, [], length, map, slice_index, IfOk, IfSome};
 ghost use Rattle.bip_defs.specs.Lists.{Among};
 ghost use Rattle.bip_defs.specs.Matching.{cols_of};
-ghost use Rattle.bip_defs.specs.Matrix.{AreEntries, Place, cols};
-ghost use Rattle.bip_graph.specs.Matching.{IsMatchingOf};
+ghost use Rattle.bip_defs.specs.Matrix.{AreEntries, cols};
+ghost use Rattle.bip_graph.specs.Matching.{IsMatchingOf, IsMaximumOf};
+ghost use Rattle.integer_diagonal.specs.Blocks.{AreBlocksOf};
 ghost use Rattle.integer_diagonal.specs.Heaviest.{IsHeaviest};
 ghost use Rattle.integer_diagonal.specs.Amounts.{HasRoom};
 ghost use Rattle.integer_diagonal.specs.Duals.{AreAtMost, IsAssignment};
@@ -14,6 +15,8 @@ ghost use Rattle.sp_pattern.specs.Weights.{Weighing};
 
 use crate::amount::Amount;
 use crate::assignment::Assignment;
+use crate::blocks::{Blocks, highest_price, set_apart};
+use crate::fairness::is_fair;
 use crate::phases::match_by_phases;
 use crate::searches::{match_all, match_early};
 use crate::start::{greatest_of_all, start};
@@ -32,22 +35,25 @@ use std::alloc::Global;
 ///
 /// The weights must be those of the pattern. `Rectangular` exactly where the matrix has not as many
 /// rows as columns; `Singular` exactly where it has, and its rank is less, with the columns that
-/// some maximum matching misses. Answers `OutOfMemory` where there is no memory for a pattern of
-/// the entries that cost as much as the prices ask, for what `pothen_fan::complete` takes, for a
-/// copy of the matching, for the prices of a phase, or for the tables and the heap of a search. The
-/// tables take 65 bytes a row or column where the greatest weight times 3 n + 4, for n columns, is
-/// less than 2^64 - 1: then all sums of a search are kept in numbers of 64 bits. Else they are kept
-/// in numbers of 128 bits, and the tables take 97 bytes a row or column.
+/// some maximum matching misses. Answers `OutOfMemory` where there is no memory for what
+/// `karp_sipser::start` and `pothen_fan::complete` take, for the blocks, for a pattern of the
+/// entries that cost as much as the prices ask, for the prices of a phase, or for the tables and
+/// the heap of a search. The tables take 65 bytes a row or column where the greatest price to begin
+/// with, times 3 n + 4 for n columns, is less than 2^64 - 1: then all sums of a search are kept in
+/// numbers of 64 bits. Else they are kept in numbers of 128 bits, and the tables take 97 bytes a row
+/// or column. That price is the greatest weight, or, where a row or a column has one entry alone,
+/// that weight times twice the blocks and one.
 ///
-/// Work: the phases of a maximum matching of the entries that cost as much as the first prices ask,
-/// which is all there is to do where all weights are equal; if it leaves columns unmatched, those
-/// of a maximum matching of the whole pattern, after which a matrix with no diagonal is answered.
-/// Else one search for each column that is left, as long as these are short; then phases, each of
-/// which goes from all unmatched columns at once, or from all unmatched rows, raises prices by the
-/// distances and matches what costs as much as these ask, as long as each matches a column more and
-/// sums have room; and one search for each column that is left then. A search looks at each entry
-/// once at most, a phase three times, from the rows with a search in its column, and both keep what
-/// they reach in a heap (Kuhn 1955; Munkres 1957; Gabow and Tarjan 1989; Duff and Koster 2001).
+/// Work: a maximum matching of the whole pattern, after which a matrix with no diagonal is
+/// answered; its blocks, where a row or a column has one entry alone; and, unless that matching
+/// costs as much as the first prices ask, as it does where all weights are equal, the phases of a
+/// maximum matching of the entries that do. Then one search for each column that is left, as long
+/// as these are short; then phases, each of which goes from all unmatched columns at once, or from
+/// all unmatched rows, raises prices by the distances and matches what costs as much as these ask,
+/// as long as each matches a column more and sums have room; and one search for each column that is
+/// left then. A search looks at each entry once at most, a phase three times, from the rows with a
+/// search in its column, and both keep what they reach in a heap (Kuhn 1955; Munkres 1957; Gabow
+/// and Tarjan 1989; Duff and Koster 2001).
 pub fn heaviest(
     alloc: Global,
     pattern: &Pattern,
@@ -59,35 +65,74 @@ pub fn heaviest(
     if pattern.rows() != pattern.cols() {
         return Ok(Heaviest::Rectangular);
     }
+    let maximum = complete(alloc, pattern, karp_sipser::start(alloc, pattern)?)?;
+    if maximum.size() != pattern.cols() {
+        return singular(alloc, pattern, &maximum);
+    }
+    heaviest_of_full(alloc, pattern, weights, maximum)
+}
+
+// The answer where the matrix has no diagonal.
+fn singular(alloc: Global, pattern: &Pattern, maximum: &Matching) -> Result<Heaviest, OutOfMemory>
+    requires maximum { IsMaximumOf pattern.now maximum.now }
+    requires square { pattern.now.rows ≡ cols pattern.now }
+    requires short { length maximum.now.pairs ≢ cols pattern.now }
+    ensures { IfOk result (λ h. (w : Weighing) → w.matrix ≡ pattern.now → IsHeaviest w h) }
+{
+    let hall = hall_set(alloc, pattern, maximum)?;
+    Ok(Heaviest::Singular {
+        rank: maximum.size(),
+        hall,
+    })
+}
+
+// The answer where there is a full matching, by numbers of the width that has room for the sums.
+fn heaviest_of_full(
+    alloc: Global,
+    pattern: &Pattern,
+    weights: &Weights,
+    full: Matching,
+) -> Result<Heaviest, OutOfMemory>
+    requires of { weights.now.matrix ≡ pattern.now }
+    requires square { pattern.now.rows ≡ cols pattern.now }
+    requires maximum { IsMaximumOf pattern.now full }
+    requires full { IsFull pattern.now full.pairs }
+    ensures { IfOk result (IsHeaviest weights.now) }
+{
     let top = greatest_of_all(pattern, weights);
-    if u64::has_room(pattern.cols(), top) {
-        heaviest_of_square::<u64>(alloc, pattern, weights, top)
+    let blocks = Blocks::find(alloc, pattern, &full)?;
+    let most = highest_price(&blocks, top);
+    if u64::has_room(pattern.cols(), most) {
+        heaviest_by_width::<u64>(alloc, pattern, weights, top, full, &blocks)
     } else {
-        heaviest_of_square::<u128>(alloc, pattern, weights, top)
+        heaviest_by_width::<u128>(alloc, pattern, weights, top, full, &blocks)
     }
 }
 
-// The answer for a square matrix in which no entry weighs more than `top`, by numbers of one width.
-fn heaviest_of_square<W: Width>(
+// The same where no entry weighs more than `top`, by numbers of one width.
+fn heaviest_by_width<W: Width>(
     alloc: Global,
     pattern: &Pattern,
     weights: &Weights,
     top: u64,
+    full: Matching,
+    blocks: &Option<Blocks>,
 ) -> Result<Heaviest, OutOfMemory>
     requires of { weights.now.matrix ≡ pattern.now }
     requires square { pattern.now.rows ≡ cols pattern.now }
     requires few { cols pattern.now < 2 ^ 32 }
     requires small { AreAtMost weights.now top }
     requires room { HasRoom (cols pattern.now) top W.limit }
+    requires matching { IsMatchingOf pattern.now full }
+    requires full { IsFull pattern.now full.pairs }
+    requires blocks { IfSome blocks.now (AreBlocksOf pattern.now) }
     ensures { IfOk result (IsHeaviest weights.now) }
 {
     let assignment = start::<W>(alloc, pattern, weights, top)?;
-    let assignment = match_tight(alloc, pattern, weights, assignment)?;
+    let assignment = set_apart(alloc, pattern, weights, assignment, blocks)?;
+    let assignment = first_pairs(alloc, pattern, weights, assignment, full)?;
     if assignment.matching.size() == pattern.cols() {
         return diagonal(alloc, pattern, weights, assignment);
-    }
-    if let Some(singular) = singular(alloc, pattern, &assignment.matching)? {
-        return Ok(singular);
     }
     let mut assignment = assignment;
     match_early(alloc, pattern, weights, &mut assignment)?;
@@ -96,29 +141,39 @@ fn heaviest_of_square<W: Width>(
     diagonal(alloc, pattern, weights, assignment)
 }
 
-// The answer where the matrix has no diagonal. The matching, which is made longer in a copy, says
-// where to begin.
-fn singular(
+// Pairs to begin with: those of a full matching, where they cost as much as the prices ask, or else
+// as many as can be had of the entries that do.
+fn first_pairs<W: Width>(
     alloc: Global,
     pattern: &Pattern,
-    matching: &Matching,
-) -> Result<Option<Heaviest>, OutOfMemory>
-    requires matching { IsMatchingOf pattern.now matching.now }
-    requires square { pattern.now.rows ≡ cols pattern.now }
-    ensures some { IfOk result (λ answer. IfSome answer
-        (λ h. (w : Weighing) → w.matrix ≡ pattern.now → IsHeaviest w h)) }
-    ensures none { IfOk result (λ answer. IfNone answer
-        ((m : List Place) × IsFull pattern.now m)) }
+    weights: &Weights,
+    assignment: Assignment<W>,
+    full: Matching,
+) -> Result<Assignment<W>, OutOfMemory>
+    requires of { weights.now.matrix ≡ pattern.now }
+    requires assignment { IsAssignment weights.now assignment }
+    requires empty { assignment.matching.pairs ≡ [] }
+    requires room { HasRoom (cols pattern.now) assignment.top W.limit }
+    requires matching { IsMatchingOf pattern.now full }
+    ensures assignment { IfOk result (IsAssignment weights.now) }
+    ensures room { IfOk result (λ a. HasRoom (cols pattern.now) a.top W.limit) }
 {
-    let maximum = complete(alloc, pattern, matching.copy(alloc)?)?;
-    if maximum.size() == pattern.cols() {
-        return Ok(None);
+    let candidate = Assignment {
+        top: assignment.top,
+        prices: assignment.prices,
+        duals: assignment.duals,
+        matching: full,
+    };
+    if is_fair(pattern, weights, &candidate) {
+        return Ok(candidate);
     }
-    let hall = hall_set(alloc, pattern, &maximum)?;
-    Ok(Some(Heaviest::Singular {
-        rank: maximum.size(),
-        hall,
-    }))
+    let assignment = Assignment {
+        top: candidate.top,
+        prices: candidate.prices,
+        duals: candidate.duals,
+        matching: assignment.matching,
+    };
+    match_tight(alloc, pattern, weights, assignment)
 }
 
 // The answer where all columns have mates.

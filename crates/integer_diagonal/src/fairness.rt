@@ -121,8 +121,9 @@ fn risen<W: Width>(
     Ok(higher)
 }
 
-// Whether no entry costs less than its column's dual variable, and each pair costs as much.
-fn is_fair<W: Width>(pattern: &Pattern, weights: &Weights, candidate: &Assignment<W>) -> bool
+/// Whether no entry costs less than its column's dual variable, and each pair costs as much. Work:
+/// at most one look at each entry; it ends at the first column where that is not so.
+pub fn is_fair<W: Width>(pattern: &Pattern, weights: &Weights, candidate: &Assignment<W>) -> bool
     requires of { weights.now.matrix ≡ pattern.now }
     requires room { candidate.now.top + candidate.now.top < W.limit }
     requires candidate { IsCandidate (priced weights.now candidate.now) candidate.now.matching }

@@ -1,8 +1,7 @@
-//! The prices and the matching to begin with.
+//! The prices to begin with.
 
-ghost use Rattle.std.specs.Prelude.{◌≡◌, ◌⊎◌, ℕ, ◌+◌, ◌<◌, ◌≤◌, length, slice_index, IfNone, IfOk, IfSome};
+ghost use Rattle.std.specs.Prelude.{◌≡◌, ◌⊎◌, ℕ, ◌+◌, ◌<◌, ◌≤◌, [], length, slice_index, IfOk};
 ghost use Rattle.bip_defs.specs.Lists.{Among};
-ghost use Rattle.bip_defs.specs.Matching.{rows_of};
 ghost use Rattle.bip_defs.specs.Matrix.{IsEntry, cols};
 ghost use Rattle.integer_diagonal.specs.Duals.{AreAtMost, IsAssignment, cost};
 ghost use Rattle.integer_diagonal.specs.Amounts.{HasRoom};
@@ -17,9 +16,9 @@ use sp_pattern::{Pattern, Weights};
 use std::alloc::Global;
 
 /// Each column at its greatest weight, then each row at the greatest of what its entries weigh
-/// beyond their columns, and pairs of entries that weigh as much as both.
+/// beyond their columns, and no pairs yet.
 ///
-/// No entry weighs more than `top`. Work: three looks at each entry.
+/// No entry weighs more than `top`. Work: two looks at each entry.
 pub fn start<W: Width>(
     alloc: Global,
     pattern: &Pattern,
@@ -31,16 +30,11 @@ pub fn start<W: Width>(
     requires room { HasRoom (cols pattern.now) top W.limit }
     ensures assignment { IfOk result (IsAssignment weights.now) }
     ensures top { IfOk result (λ a. a.top ≡ top) }
+    ensures empty { IfOk result (λ a. a.matching.pairs ≡ []) }
 {
     let duals = first_duals(alloc, pattern, weights, top)?;
     let prices = first_prices(alloc, pattern, weights, top, duals.as_slice())?;
-    let mut matching = Matching::empty(alloc, pattern.rows(), pattern.cols())?;
-    for col in 0..pattern.cols() {
-        let (prices, duals) = (prices.as_slice(), duals.as_slice());
-        if let Some(row) = cheap_row(pattern, weights, top, prices, duals, &matching, Col(col)) {
-            matching.pair(row, Col(col));
-        }
-    }
+    let matching = Matching::empty(alloc, pattern.rows(), pattern.cols())?;
     matching.is_matching();
     Ok(Assignment {
         top,
@@ -169,43 +163,4 @@ fn raise_row<W: Width>(prices: &mut [Amount<W>], row: Row, least: Amount<W>)
     if prices[row.0 as usize] < least {
         prices[row.0 as usize] = least;
     }
-}
-
-// An unmatched row in which the column has an entry that costs as much as its dual variable.
-fn cheap_row<W: Width>(
-    pattern: &Pattern,
-    weights: &Weights,
-    top: u64,
-    prices: &[Amount<W>],
-    duals: &[Amount<W>],
-    matching: &Matching,
-    col: Col,
-) -> Option<Row>
-    requires of { weights.now.matrix ≡ pattern.now }
-    requires small { AreAtMost weights.now top }
-    requires fits { top + top < W.limit }
-    requires rows { matching.now.rows ≡ pattern.now.rows }
-    requires col { col < cols pattern.now }
-    requires prices { AreFirstPrices weights.now top (cols pattern.now) duals.now prices.now }
-    requires duals { length duals.now ≡ cols pattern.now }
-    ensures found { IfSome result
-        (λ row. IsEntry pattern.now row col
-        × (slice_index prices.now row + cost top weights.now row col ≡ slice_index duals.now col)
-        × (¬ Among row (rows_of matching.now.pairs))) }
-    ensures none { IfNone result
-        ((r : ℕ) → IsEntry pattern.now r col
-        → slice_index prices.now r + cost top weights.now r col ≡ slice_index duals.now col
-        → Among r (rows_of matching.now.pairs)) }
-{
-    let rows = pattern.rows_of(col);
-    let weights = weights.weights_of(col);
-    let dual = duals[col.0 as usize];
-    for k in 0..rows.len() {
-        let row = rows[k];
-        let paid = prices[row.0 as usize] + Amount::of(top - weights[k]);
-        if paid == dual && matching.col_of(row).is_none() {
-            return Some(row);
-        }
-    }
-    None
 }
