@@ -76,7 +76,7 @@ def main():
     for at, crates in enumerate(given.crates.split(",")):
         work = os.path.join(given.work, str(at))
         programs.append(scratch.build(work, os.path.abspath(crates), "diagonals", USES, scratch.text("diagonals"),
-                                      [SMALL, 4, 5, 0, 1]))
+                                      [str(word) for word in (SMALL, 4, 5, 0, 1)]))
     for size in range(2, 14):
         for values in (1, 2, 5, 1000):
             for late in (0, 1, 2):
