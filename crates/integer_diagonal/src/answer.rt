@@ -41,8 +41,9 @@ use std::alloc::Global;
 /// the heap of a search. The tables take 65 bytes a row or column where the greatest price to begin
 /// with, times 3 n + 4 for n columns, is less than 2^64 - 1: then all sums of a search are kept in
 /// numbers of 64 bits. Else they are kept in numbers of 128 bits, and the tables take 97 bytes a row
-/// or column. That price is the greatest weight, or, where a row or a column has one entry alone,
-/// that weight times twice the blocks and one.
+/// or column. That price is the greatest weight; or, where a row or a column has one entry alone and
+/// not all weights are equal, that weight times one more than twice the blocks, if that is at most
+/// 2^62.
 ///
 /// Work: a maximum matching of the whole pattern, after which a matrix with no diagonal is
 /// answered; its blocks, where a row or a column has one entry alone; and, unless that matching
@@ -100,7 +101,7 @@ fn heaviest_of_full(
     ensures { IfOk result (IsHeaviest weights.now) }
 {
     let top = greatest_of_all(pattern, weights);
-    let blocks = Blocks::find(alloc, pattern, &full)?;
+    let blocks = Blocks::find(alloc, pattern, weights, &full, top)?;
     let most = highest_price(&blocks, top);
     if u64::has_room(pattern.cols(), most) {
         heaviest_by_width::<u64>(alloc, pattern, weights, top, full, &blocks)

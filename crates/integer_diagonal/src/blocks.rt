@@ -28,32 +28,53 @@ pub struct Blocks {
     pub count: u32,
 }
 
+// The most that a price may be to begin with where blocks stand apart: those that are told fit 64
+// bits with their signs then, as they do for weights that are not near the greatest of all.
+const HIGHEST_PRICE: u64 = 1 << 62;
+
 impl Blocks {
-    /// The blocks, by the pairs of a full matching. They are looked for where a row or a column has
-    /// one entry alone, which is a block then: without one, few matrices have several.
+    /// The blocks, by the pairs of a full matching, where prices are to set them apart. They are
+    /// looked for where a row or a column has one entry alone, which is a block then (without one,
+    /// few matrices have several), and where not all entries weigh `top`, the greatest weight; and
+    /// they are left where prices that set them apart might pass 2^62.
     ///
     /// Answers `OutOfMemory` where what `dm_coarse::coarse_in_turn` and
     /// `square_components::strong_components` take, or 4 bytes a row, can't be had. Work: as these
-    /// two.
+    /// two, and one look at each row, column and weight.
     pub fn find(
         alloc: Global,
         pattern: &Pattern,
+        weights: &Weights,
         matching: &Matching,
+        top: u64,
     ) -> Result<Option<Blocks>, OutOfMemory>
-        requires { IsMaximumOf pattern.now matching.now }
+        requires of { weights.now.matrix ≡ pattern.now }
+        requires matching { IsMaximumOf pattern.now matching.now }
         ensures { IfOk result (λ o. IfSome o (AreBlocksOf pattern.now)) }
     {
-        if !has_single(pattern) {
+        if !has_single(pattern) || are_equal(pattern, weights, top) {
             return Ok(None);
         }
         let parts = coarse_in_turn(alloc, pattern, matching)?;
         let components = strong_components(alloc, pattern, matching, &parts)?;
         let of_row = numbers_of_rows(alloc, matching, components.numbers.as_slice())?;
-        Ok(Some(Blocks {
+        let blocks = Blocks {
             of_row,
             of_col: components.numbers,
             count: components.count,
-        }))
+        };
+        if blocks.highest_price(top) > HIGHEST_PRICE {
+            return Ok(None);
+        }
+        Ok(Some(blocks))
+    }
+
+    // What no price is more than to begin with, where no entry weighs more than `top`.
+    fn highest_price(&self, top: u64) -> u64
+        ensures { top ≤ result }
+    {
+        let apart = top.saturating_mul(2).saturating_mul(self.count as u64);
+        top.saturating_add(apart)
     }
 
     // By how much the prices of a column's block are raised: by twice the greatest weight more than
@@ -165,10 +186,7 @@ pub fn highest_price(blocks: &Option<Blocks>, top: u64) -> u64
     ensures { top ≤ result }
 {
     match blocks {
-        Some(blocks) => {
-            let apart = top.saturating_mul(2).saturating_mul(blocks.count as u64);
-            top.saturating_add(apart)
-        }
+        Some(blocks) => blocks.highest_price(top),
         None => top,
     }
 }
@@ -262,4 +280,18 @@ fn has_single(pattern: &Pattern) -> bool {
         }
     }
     false
+}
+
+// Whether all entries weigh so much. Any full matching is a heaviest one then.
+fn are_equal(pattern: &Pattern, weights: &Weights, weight: u64) -> bool
+    requires of { weights.now.matrix ≡ pattern.now }
+{
+    for col in 0..pattern.cols() {
+        for other in weights.weights_of(Col(col)) {
+            if *other != weight {
+                return false;
+            }
+        }
+    }
+    true
 }
