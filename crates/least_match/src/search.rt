@@ -278,14 +278,8 @@ impl ClassTail<'_> {
         let mut looked_back: u64 = 0;
         loop {
             let forward_first = looked_ahead <= looked_back;
-            let ahead_scan = Scan {
-                done: ahead,
-                len: forward.len(),
-            };
-            let back_scan = Scan {
-                done: back,
-                len: backward.len(),
-            };
+            let ahead_scan = scan_of(forward, ahead);
+            let back_scan = scan_of(backward, back);
             match next_turn(part, ahead_scan, back_scan, forward_first) {
                 Turn::EndForward => return Outcome::ForwardEnds,
                 Turn::EndBackward => return Outcome::BackwardEnds,
@@ -345,6 +339,17 @@ fn enter(col: Col, parent: u32, tree: &mut Tree, other: &Tree) -> Option<u32>
 struct Scan {
     done: u32,
     len: u32,
+}
+
+// The scan of a tree of which so many columns were looked at.
+fn scan_of(tree: &Tree, done: u32) -> Scan
+    ensures done { result.done ≡ done }
+    ensures len { result.len ≡ length tree.now.queue }
+{
+    Scan {
+        done,
+        len: tree.len(),
+    }
 }
 
 // Which tree grows next, by how many of its columns were looked at, and how many it has; where both

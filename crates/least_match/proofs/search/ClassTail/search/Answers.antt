@@ -11,15 +11,15 @@ use Rattle.least_match.proofs.SearchLemmas.{grown_length, scanned_grown, scanned
 use Rattle.least_match.proofs.search.ClassTail.search.Goals as goal
 
 pub returns-in-EndForward-clause-ends : goal.returns-in-EndForward-clause-ends
-returns-in-EndForward-clause-ends c = (forward_inner _ _ _ c.requires.part c.in-EndForward.ensures.1, subst (AreScanned c.args.self.now.pattern.now c.args.matching.now.pairs c.args.self.now.classes.now c.args.self.now.col c.loop-forward.forward.queue) (c.in-EndForward.ensures.0 ∙ c.len.ensures.count) c.loop-forward.invariant.scanned)
+returns-in-EndForward-clause-ends c = (forward_inner _ _ _ c.requires.part c.in-EndForward.ensures.1, subst (AreScanned c.args.self.now.pattern.now c.args.matching.now.pairs c.args.self.now.classes.now c.args.self.now.col c.loop-forward.forward.queue) (sym c.scan_of-ahead_scan.ensures.done ∙ c.in-EndForward.ensures.0 ∙ c.scan_of-ahead_scan.ensures.len) c.loop-forward.invariant.scanned)
 
 pub returns-in-EndBackward-clause-ends : goal.returns-in-EndBackward-clause-ends
-returns-in-EndBackward-clause-ends c = (backward_inner _ _ _ c.requires.part c.in-EndBackward.ensures.1, subst (AreScannedBack c.args.self.now.pattern.now c.args.matching.now.pairs c.args.self.now.classes.now c.args.self.now.col c.loop-forward.backward.queue) (c.in-EndBackward.ensures.0 ∙ c.len-in-loop-forward.ensures.count) c.loop-forward.invariant.scanned_back)
+returns-in-EndBackward-clause-ends c = (backward_inner _ _ _ c.requires.part c.in-EndBackward.ensures.1, subst (AreScannedBack c.args.self.now.pattern.now c.args.matching.now.pairs c.args.self.now.classes.now c.args.self.now.col c.loop-forward.backward.queue) (sym c.scan_of-back_scan.ensures.done ∙ c.in-EndBackward.ensures.0 ∙ c.scan_of-back_scan.ensures.len) c.loop-forward.invariant.scanned_back)
 
 pub rows_at-rows-requires-clause-col : goal.rows_at-rows-requires-clause-col
 rows_at-rows-requires-clause-col c =
     let lt = c.in-GrowForward.ensures in
-    let within : c.loop-forward.ahead < length c.loop-forward.forward.queue = omega (arith, lt, c.len.ensures.count) in
+    let within : c.loop-forward.ahead < length c.loop-forward.forward.queue = omega (arith, lt, c.scan_of-ahead_scan.ensures.done, c.scan_of-ahead_scan.ensures.len) in
     subst (λ (x : ℕ × ℕ). x.0 < cols c.args.self.now.pattern.now) (sym c.at-col.ensures) (c.loop-forward.invariant.trees.forward_tree.tail _ (head_at c.loop-forward.forward.queue c.loop-forward.ahead within)).within
 
 pub rows_ahead-rows_ahead-requires-in-GrowForward-clause-in_range : goal.rows_ahead-rows_ahead-requires-in-GrowForward-clause-in_range
@@ -35,14 +35,14 @@ pub loop-forward-smaller-in-GrowForward : goal.loop-forward-smaller-in-GrowForwa
 loop-forward-smaller-in-GrowForward c =
     let few = tree_few _ _ _ _ _ _ c.loop-forward.invariant.trees.forward_tree in
     let lt = c.in-GrowForward.ensures in
-    let below : c.loop-forward.ahead < cols c.args.self.now.pattern.now = omega (arith, few, lt, c.len.ensures.count) in
+    let below : c.loop-forward.ahead < cols c.args.self.now.pattern.now = omega (arith, few, lt, c.scan_of-ahead_scan.ensures.done, c.scan_of-ahead_scan.ensures.len) in
     omega (arith, below)
 
 pub loop-forward-preserved-in-GrowForward : goal.loop-forward-preserved-in-GrowForward
 loop-forward-preserved-in-GrowForward c =
     let i = c.loop-forward.invariant in
     let lt = c.in-GrowForward.ensures in
-    let within : c.loop-forward.ahead < length c.loop-forward.forward.queue = omega (arith, lt, c.len.ensures.count) in
+    let within : c.loop-forward.ahead < length c.loop-forward.forward.queue = omega (arith, lt, c.scan_of-ahead_scan.ensures.done, c.scan_of-ahead_scan.ensures.len) in
     let grows = c.in-None.ensures.grows in
     let more = grown_length _ _ grows in
     record {
@@ -69,14 +69,14 @@ pub loop-forward-smaller : goal.loop-forward-smaller
 loop-forward-smaller c =
     let few = tree_few _ _ _ _ _ _ c.loop-forward.invariant.trees.backward_tree in
     let lt = c.in-GrowBackward.ensures in
-    let below : c.loop-forward.back < cols c.args.self.now.pattern.now = omega (arith, few, lt, c.len-in-loop-forward.ensures.count) in
+    let below : c.loop-forward.back < cols c.args.self.now.pattern.now = omega (arith, few, lt, c.scan_of-back_scan.ensures.done, c.scan_of-back_scan.ensures.len) in
     omega (arith, below)
 
 pub loop-forward-preserved : goal.loop-forward-preserved
 loop-forward-preserved c =
     let i = c.loop-forward.invariant in
     let lt = c.in-GrowBackward.ensures in
-    let within : c.loop-forward.back < length c.loop-forward.backward.queue = omega (arith, lt, c.len-in-loop-forward.ensures.count) in
+    let within : c.loop-forward.back < length c.loop-forward.backward.queue = omega (arith, lt, c.scan_of-back_scan.ensures.done, c.scan_of-back_scan.ensures.len) in
     let grows = c.in-None-scan_back.ensures.grows in
     let more = grown_length _ _ grows in
     record {
