@@ -1,6 +1,7 @@
 //! The least maximum matching, whatever maximum matching it is made from.
 #![tactic(auto)]
 
+mod ahead;
 mod classes;
 mod exchange;
 mod exchanges;

@@ -2,7 +2,7 @@
 
 ghost use Rattle.std.specs.Bool.{OnTrue, OnFalse};
 ghost use Rattle.std.specs.Prelude.{◌≡◌, ℕ, ◌<◌, ◌≤◌, List, length, IfSome, IfNone};
-ghost use Rattle.bip_defs.specs.Lists.{Among};
+ghost use Rattle.bip_defs.specs.Lists.{Among, Lists};
 ghost use Rattle.bip_defs.specs.Matching.{cols_of};
 ghost use Rattle.bip_defs.specs.Matrix.{IsEntry, Place, cols};
 ghost use Rattle.bip_defs.specs.Queues.{at, heads};
@@ -13,6 +13,7 @@ ghost use Rattle.least_match.specs.Exchanges.{Meets};
 ghost use Rattle.least_match.specs.Outcomes.{EndsAs, IsIn, IsTurn};
 ghost use Rattle.least_match.specs.Trees.{AreSearchTrees, Enters, IsScanned, IsScannedBack, LeadsTo, Looks};
 
+use crate::ahead::{cols_at, rows_at};
 use crate::exchange::Meeting;
 use crate::parts::Part;
 use crate::tree::Tree;
@@ -146,25 +147,18 @@ impl ClassTail<'_> {
             (Looks self.now.pattern.now matching.now.pairs self.now.classes.now self.now.col
             next place backward.old.queue backward.new.queue forward.now.queue) }
     {
+        if !self.has(next) {
+            return None;
+        }
         match matching.row_of(next) {
-            None => {
-                if next.0 <= self.col.0 {
-                    return None;
-                }
-                Some(Meeting::FreeCol {
-                    col: next,
-                    to: place,
-                })
-            }
-            Some(_) => {
-                if !self.has(next) {
-                    return None;
-                }
-                match enter(next, place, backward, forward) {
-                    Some(from) => Some(Meeting::Trees { from, to: place }),
-                    None => None,
-                }
-            }
+            None => Some(Meeting::FreeCol {
+                col: next,
+                to: place,
+            }),
+            Some(_) => match enter(next, place, backward, forward) {
+                Some(from) => Some(Meeting::Trees { from, to: place }),
+                None => None,
+            },
         }
     }
 
@@ -173,6 +167,7 @@ impl ClassTail<'_> {
         &self,
         matching: &Matching,
         place: u32,
+        rows: &[Row],
         forward: &mut Tree,
         backward: &Tree,
     ) -> Option<Meeting>
@@ -180,8 +175,8 @@ impl ClassTail<'_> {
         requires cols { (forward.old.cols ≡ cols self.now.pattern.now)
             × (backward.now.cols ≡ cols self.now.pattern.now) }
         requires place { place < length forward.old.queue }
-        requires trees { (d : ℕ) × AreSearchTrees self.now.pattern.now matching.now.pairs
-            self.now.classes.now self.now.col d forward.old.queue backward.now.queue }
+        requires rows { Lists
+            (λ r. IsEntry self.now.pattern.now r (at forward.old.queue place).0) rows.now }
         ensures cols { forward.new.cols ≡ forward.old.cols }
         ensures grows { IsPrefix forward.old.queue forward.new.queue }
         ensures trees { (d : ℕ) → AreSearchTrees self.now.pattern.now matching.now.pairs
@@ -195,8 +190,6 @@ impl ClassTail<'_> {
             (IsScanned self.now.pattern.now matching.now.pairs self.now.classes.now self.now.col
             forward.new.queue (at forward.new.queue place).0) }
     {
-        let (col, _) = forward.at(place);
-        let rows = self.pattern.rows_of(col);
         for row in rows {
             match self.look_forward(matching, *row, place, forward, backward) {
                 Some(meeting) => return Some(meeting),
@@ -212,6 +205,8 @@ impl ClassTail<'_> {
         &self,
         matching: &Matching,
         place: u32,
+        row: Row,
+        found: &[Col],
         forward: &Tree,
         backward: &mut Tree,
     ) -> Option<Meeting>
@@ -220,8 +215,8 @@ impl ClassTail<'_> {
         requires cols { (forward.now.cols ≡ cols self.now.pattern.now)
             × (backward.old.cols ≡ cols self.now.pattern.now) }
         requires place { place < length backward.old.queue }
-        requires trees { (d : ℕ) × AreSearchTrees self.now.pattern.now matching.now.pairs
-            self.now.classes.now self.now.col d forward.now.queue backward.old.queue }
+        requires mate { Among (row, (at backward.old.queue place).0) matching.now.pairs }
+        requires found { Lists (λ c. IsEntry self.now.pattern.now row c) found.now }
         ensures cols { backward.new.cols ≡ backward.old.cols }
         ensures grows { IsPrefix backward.old.queue backward.new.queue }
         ensures trees { (d : ℕ) → AreSearchTrees self.now.pattern.now matching.now.pairs
@@ -235,9 +230,6 @@ impl ClassTail<'_> {
             (IsScannedBack self.now.pattern.now matching.now.pairs self.now.classes.now
             self.now.col backward.new.queue (at backward.new.queue place).0) }
     {
-        let (col, _) = backward.at(place);
-        let row = matching.mate(col);
-        let found = self.pattern.cols_of(row);
         for next in found {
             match self.look_back(matching, *next, place, forward, backward) {
                 Some(meeting) => return Some(meeting),
@@ -247,33 +239,13 @@ impl ClassTail<'_> {
         None
     }
 
-    // How many entries the column at a place of the forward tree has. It weighs what a search
-    // looked at, so nothing is said of it.
-    fn entries_ahead(&self, forward: &Tree, place: u32) -> u64
-        requires place { place < length forward.now.queue }
-        requires col { (at forward.now.queue place).0 < cols self.now.pattern.now }
-    {
-        let (col, _) = forward.at(place);
-        self.pattern.rows_of(col).len() as u64
-    }
-
-    // How many entries the row of the column at a place of the backward tree has.
-    fn entries_back(&self, matching: &Matching, backward: &Tree, place: u32) -> u64
-        requires matching { IsMatchingOf self.now.pattern.now matching.now }
-        requires place { place < length backward.now.queue }
-        requires col { Among (at backward.now.queue place).0 (cols_of matching.now.pairs) }
-    {
-        let (col, _) = backward.at(place);
-        let row = matching.mate(col);
-        self.pattern.cols_of(row).len() as u64
-    }
-
     /// Searches from a column behind its own, and towards its own, by a tree from either end, until
     /// a path is found or it is certain that there is none.
     ///
     /// The tree of which fewer entries were looked at grows next, so that a search which fails
     /// costs about as much as the set with fewer entries of the two that it parts, and the entries
-    /// of one column or one row more.
+    /// of one column or one row more. Of each tree the list that it looks at next is looked up
+    /// before the one at hand is gone through.
     pub fn search(
         &self,
         matching: &Matching,
@@ -298,40 +270,40 @@ impl ClassTail<'_> {
             self.now.col forward.new.queue backward.new.queue result }
     {
         self.begin(first, forward, backward);
+        let mut rows_ahead = self.rows_ahead(forward, 0);
+        let mut cols_ahead = self.cols_ahead(matching, backward, 0);
         let mut ahead: u32 = 0;
         let mut back: u32 = 0;
         let mut looked_ahead: u64 = 0;
         let mut looked_back: u64 = 0;
         loop {
             let forward_first = looked_ahead <= looked_back;
-            let ahead_scan = Scan {
-                done: ahead,
-                len: forward.len(),
-            };
-            let back_scan = Scan {
-                done: back,
-                len: backward.len(),
-            };
+            let ahead_scan = scan_of(forward, ahead);
+            let back_scan = scan_of(backward, back);
             match next_turn(part, ahead_scan, back_scan, forward_first) {
                 Turn::EndForward => return Outcome::ForwardEnds,
                 Turn::EndBackward => return Outcome::BackwardEnds,
                 Turn::GrowForward => {
-                    match self.scan_forward(matching, ahead, forward, backward) {
+                    let (col, _) = forward.at(ahead);
+                    let rows = rows_at(self.pattern, rows_ahead, col);
+                    rows_ahead = self.rows_ahead(forward, ahead);
+                    match self.scan_forward(matching, ahead, rows, forward, backward) {
                         Some(meeting) => return Outcome::Path(meeting),
                         None => {}
                     }
-                    looked_ahead = looked_ahead.saturating_add(self.entries_ahead(forward, ahead));
+                    looked_ahead = looked_ahead.saturating_add(rows.len() as u64);
                     ahead += 1;
                     continue;
                 }
                 Turn::GrowBackward => {
-                    match self.scan_back(matching, back, forward, backward) {
+                    let row = self.row_at(matching, backward, back);
+                    let cols = cols_at(self.pattern, cols_ahead, row);
+                    cols_ahead = self.cols_ahead(matching, backward, back);
+                    match self.scan_back(matching, back, row, cols, forward, backward) {
                         Some(meeting) => return Outcome::Path(meeting),
                         None => {}
                     }
-                    looked_back = looked_back.saturating_add(self.entries_back(
-                        matching, backward, back,
-                    ));
+                    looked_back = looked_back.saturating_add(cols.len() as u64);
                     back += 1;
                     continue;
                 }
@@ -367,6 +339,17 @@ fn enter(col: Col, parent: u32, tree: &mut Tree, other: &Tree) -> Option<u32>
 struct Scan {
     done: u32,
     len: u32,
+}
+
+// The scan of a tree of which so many columns were looked at.
+fn scan_of(tree: &Tree, done: u32) -> Scan
+    ensures done { result.done ≡ done }
+    ensures len { result.len ≡ length tree.now.queue }
+{
+    Scan {
+        done,
+        len: tree.len(),
+    }
 }
 
 // Which tree grows next, by how many of its columns were looked at, and how many it has; where both

@@ -1,23 +1,19 @@
-use Rattle.std.proofs.Common.{◌⊎◌, ◌∙◌, ◌<◌, ℕ, ap, arith, length, subst, sym}
+use Rattle.std.proofs.Common.{◌⊎◌, ◌∙◌, ◌<◌, ℕ, ap, arith, length, refl, subst, sym}
 use Rattle.std.proofs.lemmas.List.{get_or_read}
 use Rattle.bip_defs.specs.Lists.{Among, Lists}
-use Rattle.bip_defs.specs.Matrix.{IsEntry, cols}
+use Rattle.bip_defs.specs.Matrix.{IsEntry}
 use Rattle.bip_defs.specs.Queues.{at, heads}
-use Rattle.bip_defs.proofs.Queues.{head_at}
 use Rattle.least_match.specs.Classes.{IsOther}
 use Rattle.least_match.specs.Tree.{Reached}
 use Rattle.least_match.specs.Trees.{AreSearchTrees}
 use Rattle.least_match.proofs.SearchLemmas.{col_stays, row_entry, each_more, grown_at, grown_length, grows_more, leads_by, looks_forward, looks_prefix, looks_seen, seen_grown, seen_scanned}
 use Rattle.least_match.proofs.search.ClassTail.scan_forward.Goals as goal
 
-pub rows_of-rows-requires : goal.rows_of-rows-requires
-rows_of-rows-requires c = subst (λ (x : ℕ × ℕ). x.0 < cols c.args.self.now.pattern.now) (sym c.at-col.ensures) (c.requires.trees.1.forward_tree.tail _ (head_at c.args.forward.now.queue c.args.place c.requires.place)).within
-
 pub look_forward-requires-clause-place : goal.look_forward-requires-clause-place
 look_forward-requires-clause-place c = let le = grown_length _ _ c.loop-row.invariant.grows in omega (arith, le, c.requires.place)
 
 pub look_forward-requires-clause-entry : goal.look_forward-requires-clause-entry
-look_forward-requires-clause-entry c = row_entry _ c.rows_of-rows.result.now c.loop-row.row-index c.row-item.result _ _ c.rows_of-rows.ensures.rows c.row-item.is c.loop-row-test.true (col_stays _ _ c.args.place _ c.loop-row.invariant.grows c.requires.place c.at-col.ensures)
+look_forward-requires-clause-entry c = row_entry _ c.args.rows.now c.loop-row.row-index c.row-item.result _ _ c.requires.rows c.row-item.is c.loop-row-test.true (col_stays _ _ c.args.place _ c.loop-row.invariant.grows c.requires.place refl)
 
 pub returns-in-Some-clause-trees : goal.returns-in-Some-clause-trees
 returns-in-Some-clause-trees c = λ d t. subst (λ (z : Reached). AreSearchTrees c.args.self.now.pattern.now c.args.matching.now.pairs c.args.self.now.classes.now c.args.self.now.col d z.queue c.args.backward.now.queue) (sym c.in-Some.ensures.same) (c.loop-row.invariant.trees d t)
@@ -32,11 +28,11 @@ loop-row-preserved c =
     record {
       cols = c.in-None.ensures.cols ∙ i.cols;
       grows = grows_more _ _ _ i.grows grows;
-      trees = λ d t. looks_forward _ _ _ _ d _ _ _ _ _ (i.trees d t) s.2 place (leads_by _ _ _ _ _ c.requires.matching.matching s.1 (row_entry _ c.rows_of-rows.result.now c.loop-row.row-index c.row-item.result _ _ c.rows_of-rows.ensures.rows c.row-item.is c.loop-row-test.true (col_stays _ _ c.args.place _ c.loop-row.invariant.grows c.requires.place c.at-col.ensures)));
-      seen = each_more (λ r. (d : ℕ) × Among (r, d) c.args.matching.now.pairs × (IsOther c.args.self.now.classes.now c.args.self.now.col d ⊎ Among d (heads c.look_forward.new.forward.queue))) c.rows_of-rows.result.now c.loop-row.row-index c.row-item.result (seen_grown _ _ _ _ _ _ i.seen grows) c.loop-row-test.true (sym (get_or_read c.rows_of-rows.result.now c.loop-row.row-index c.row-item.result c.loop-row-test.true c.row-item.is 0)) (s.0, s.1, looks_seen _ _ _ _ _ _ _ _ _ s.2);
+      trees = λ d t. looks_forward _ _ _ _ d _ _ _ _ _ (i.trees d t) s.2 place (leads_by _ _ _ _ _ c.requires.matching.matching s.1 (row_entry _ c.args.rows.now c.loop-row.row-index c.row-item.result _ _ c.requires.rows c.row-item.is c.loop-row-test.true (col_stays _ _ c.args.place _ c.loop-row.invariant.grows c.requires.place refl)));
+      seen = each_more (λ r. (d : ℕ) × Among (r, d) c.args.matching.now.pairs × (IsOther c.args.self.now.classes.now c.args.self.now.col d ⊎ Among d (heads c.look_forward.new.forward.queue))) c.args.rows.now c.loop-row.row-index c.row-item.result (seen_grown _ _ _ _ _ _ i.seen grows) c.loop-row-test.true (sym (get_or_read c.args.rows.now c.loop-row.row-index c.row-item.result c.loop-row-test.true c.row-item.is 0)) (s.0, s.1, looks_seen _ _ _ _ _ _ _ _ _ s.2);
     }
 
 pub returns-clause-scanned : goal.returns-clause-scanned
 returns-clause-scanned c =
-    let here = ap (λ (x : ℕ × ℕ). x.0) (c.at-col.ensures ∙ sym (grown_at _ _ c.args.place c.loop-row.invariant.grows c.requires.place)) in
-    seen_scanned c.args.self.now.pattern.now _ _ _ (at c.loop-row.forward.queue c.args.place).0 c.loop-row.row-index _ c.rows_of-rows.result.now c.loop-row.invariant.seen c.loop-row-test.false (subst (λ x. Lists (λ r. IsEntry c.args.self.now.pattern.now r x) c.rows_of-rows.result.now) here c.rows_of-rows.ensures.rows)
+    let here = ap (λ (x : ℕ × ℕ). x.0) (sym (grown_at _ _ c.args.place c.loop-row.invariant.grows c.requires.place)) in
+    seen_scanned c.args.self.now.pattern.now _ _ _ (at c.loop-row.forward.queue c.args.place).0 c.loop-row.row-index _ c.args.rows.now c.loop-row.invariant.seen c.loop-row-test.false (subst (λ x. Lists (λ r. IsEntry c.args.self.now.pattern.now r x) c.args.rows.now) here c.requires.rows)
