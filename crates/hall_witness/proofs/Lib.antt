@@ -1,8 +1,12 @@
+pub mod BackLemmas
+pub mod BackPaths
 pub mod CoverGrowth
 pub mod CoverLemmas
+pub mod CoverShrink
 pub mod MarkLemmas
 pub mod PathLemmas
 pub mod Phases
+pub mod RowMarks
 pub mod ScanLemmas
 pub mod SearchLemmas
 pub mod StepLemmas

@@ -1,4 +1,5 @@
 pub mod Answers
+pub mod Back
 pub mod Covers
 pub mod Search
 pub mod SearchSteps

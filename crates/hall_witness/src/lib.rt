@@ -2,6 +2,7 @@
 #![tactic(auto)]
 
 mod answer;
+mod back;
 mod cover;
 mod engine;
 mod laws;
