@@ -2,18 +2,21 @@
 use Rattle.std.proofs.Common.{◌≡◌, ◌≢◌, ◌⊎◌, ◌↔◌, ◌∙◌, ℕ, suc, ◌+◌, ◌<◌, ◌≤◌, Bool, true, false, true≢false, List, Option, Some, None, ◌∷◌, length, nat_eq, refl, sym, ap, subst, inl, inr, ⊎_elim, arith, eq-eqb, eqb-true, IsTrue}
 use Rattle.std.specs.Option.{is_some}
 use Rattle.std.specs.Prelude.{IfNone, IfSome}
-use Rattle.std.proofs.lemmas.List.{length-map, length-set}
+use Rattle.std.proofs.lemmas.List.{length-set}
 use Rattle.bip_defs.specs.EditedMatrix.{with_place, without_place}
-use Rattle.bip_defs.specs.Lists.{Among, AreDistinct, IsMarked, IsRising}
+use Rattle.bip_defs.specs.Lists.{Among, AreDistinct, IsMarked, IsRising, Lists}
 use Rattle.bip_defs.specs.Matching.{IsMatching, IsMaximum, cols_of, rows_of}
-use Rattle.bip_defs.specs.Matrix.{IsEntry, Matrix, Place, cols, column, entry_count}
-use Rattle.bip_defs.proofs.EditLemmas.{had_before, kept_is_maximum, kept_with, one_more, with_again, with_place_over, without_count, without_none, without_place_back, without_place_over}
-use Rattle.bip_defs.proofs.Full.{few_below}
-use Rattle.bip_defs.proofs.Sets.{col_among, col_pair, entry_col, one_col, one_row, place_same, rising_distinct, row_pair}
+use Rattle.bip_defs.specs.Matrix.{IsEntry, Matrix, Place, cols, column, entry_count, transpose}
+use Rattle.bip_defs.proofs.EditLemmas.{kept_is_maximum, kept_with, with_again, without_count, without_lists, without_none, without_place_back, without_place_over}
+use Rattle.bip_defs.proofs.Full.{few_below, matching_few}
+use Rattle.bip_defs.proofs.Sets.{col_among, col_pair, number_among, number_same, one_col, one_row, place_same, rising_distinct, row_pair}
+use Rattle.bip_defs.proofs.Transposed.{transpose_is}
 use Rattle.bip_graph.specs.Matching.{IsMatchingOf, IsMaximumOf, Pairing}
+use Rattle.hall_witness.specs.Back.{IsCoverButRow}
 use Rattle.hall_witness.specs.Covers.{HasMarkedMate, IsCover, IsCoverBut, IsCovered}
 use Rattle.sp_pattern.specs.Stored.{IsPattern}
-use Rattle.edit_session.specs.Sessions.{IsSaturating, IsKept, IsNearMaximum, IsParted, MatchedMatrix}
+use Rattle.edit_session.specs.Sessions.{IsSaturating, IsKept, IsParted, MatchedMatrix}
+use Rattle.edit_session.proofs.TransposeLemmas.{transpose_count, with_transpose, without_transpose}
 
 -- Pairs.
 
@@ -32,21 +35,7 @@ pub none_found : {X : Type 0} (P : Type 0) (o : Option X) → is_some o ≡ fals
 none_found P None e h = h
 none_found P (Some x) e h = absurd (true≢false e)
 
--- A matching that is one pair short at most.
-
--- a matching of all rows, or of all columns, is maximum
-saturating_maximum : (a : Matrix) (m : Pairing) → IsMatchingOf a m → IsSaturating a m.pairs → IsMaximumOf a m
-saturating_maximum a m k full = record { matching = k; maximum = record { matching = k.matching; longest = λ o l. by o l full } }
-  where
-    few_rows : (o : List Place) → IsMatching a o → length o ≤ a.rows
-    few_rows o l = let few = few_below a.rows (rows_of o) l.rows_differ (λ r h. let (c, on) = row_pair r o h in (l.entries r c on).0) in let long = length-map o (λ (p : Place). p.0) in omega (arith, few, long)
-
-    few_cols : (o : List Place) → IsMatching a o → length o ≤ cols a
-    few_cols o l = let few = few_below (cols a) (cols_of o) l.cols_differ (λ c h. let (r, on) = col_pair c o h in entry_col a r c (l.entries r c on)) in let long = length-map o (λ (p : Place). p.1) in omega (arith, few, long)
-
-    by : (o : List Place) → IsMatching a o → IsSaturating a m.pairs → length o ≤ length m.pairs
-    by o l (inl e) = let few = few_rows o l in omega (arith, few, e)
-    by o l (inr e) = let few = few_cols o l in omega (arith, few, e)
+-- What an edit leaves of a matching.
 
 -- setting an entry leaves the numbers of rows and columns
 pub set_saturating : (a b : Matrix) (m : List Place) (p : Place) → b ≡ with_place a p → IsSaturating a m ↔ IsSaturating b m
@@ -55,8 +44,9 @@ set_saturating a b m p e = (λ f. subst (λ z. IsSaturating z m) (sym e) (⊎_el
     same : cols (with_place a p) ≡ cols a
     same = length-set a.columns p.1 _
 
-longer_maximum : (a : Matrix) (m n : Pairing) → IsNearMaximum a m.pairs → IsMatchingOf a n → length n.pairs ≡ suc (length m.pairs) → IsMaximumOf a n
-longer_maximum a m n near l e = record { matching = l; maximum = record { matching = l.matching; longest = λ o h. let few = near o h in omega (arith, few, e) } }
+-- where not each column is matched, there are more columns than pairs
+pub more_columns : (a : Matrix) (m : List Place) → IsMatching a m → length m ≢ cols a → length m < cols a
+more_columns a m k ne = let few = matching_few a m k in omega (arith, few, ne)
 
 paired_matching : (a : Matrix) (m n : List Place) (p : Place) → IsMatching a m → IsEntry a p.0 p.1 → ((q : Place) → Among q n ↔ ((q ≡ p) ⊎ Among q m)) → AreDistinct (rows_of n) → IsRising (cols_of n) → IsMatching a n
 paired_matching a m n p k e added rows rising = record {
@@ -131,6 +121,14 @@ set_but b p m marks k = record {
   unmatched = λ c lt ne free. k.unmatched c (let w = width b p in omega (arith, w, lt)) free;
 }
 
+-- but for its row
+pub set_but_row : (b : Matrix) (p : Place) (m : List Place) (marks : List Bool) → IsCover (without_place b p) m marks → IsCoverButRow p.0 b m marks
+set_but_row b p m marks k = record {
+  long = k.long ∙ width b p;
+  closed = λ r c ne on e. ⊎_elim (λ (s : (r, c) ≡ p). absurd (ne (ap (λ (q : Place). q.0) s))) (λ old. k.closed r c on old) (but_one b p r c e);
+  unmatched = λ c lt free. k.unmatched c (let w = width b p in omega (arith, w, lt)) free;
+}
+
 -- but for the column of the pair that is cleared, where that is not marked
 pub cleared_but : (a : Matrix) (p : Place) (m rest : List Place) (marks : List Bool) → IsMatching a m → Among p m → ¬ IsMarked marks p.1 → IsParted p m rest → IsCover a m marks → IsCoverBut p.1 (without_place a p) rest marks
 cleared_but a p m rest marks l pair off parted k = record {
@@ -139,24 +137,35 @@ cleared_but a p m rest marks l pair off parted k = record {
   unmatched = λ c lt ne free. k.unmatched c (let w = width a p in omega (arith, w, lt)) (λ h. let (r, mate) = col_pair c m h in free (col_among r c rest ((parted (r, c)).1 (mate, λ (s : r ≡ p.0). ne (one_col m l.rows_differ p.0 c p.1 (subst (λ x. Among {X = Place} (x, c) m) s mate) pair)))));
 }
 
+-- but for its row, where the column is marked
+pub cleared_but_row : (a : Matrix) (p : Place) (m rest : List Place) (marks : List Bool) → IsMatching a m → Among p m → IsMarked marks p.1 → IsParted p m rest → IsCover a m marks → IsCoverButRow p.0 (without_place a p) rest marks
+cleared_but_row a p m rest marks l pair on parted k = record {
+  long = k.long ∙ sym (width a p);
+  closed = λ r c ne h e. let (d, mate, g) = k.closed r c h (without_place_over a p r c e).0 in (d, (parted (r, d)).1 (mate, ne), g);
+  unmatched = λ c lt free. ⊎_elim (λ h. old c free h) (λ out. k.unmatched c (let w = width a p in omega (arith, w, lt)) out) (number_among c (cols_of m));
+}
+  where
+    -- its mate was in the row
+    old : (c : ℕ) → ¬ Among c (cols_of rest) → Among c (cols_of m) → IsMarked marks c
+    old c free h = let (r, mate) = col_pair c m h in ⊎_elim
+        (λ (e : r ≡ p.0). subst (IsMarked marks) (one_col m l.rows_differ p.0 p.1 c pair (subst (λ x. Among {X = Place} (x, c) m) e mate)) on)
+        (λ ne. absurd (free (col_among r c rest ((parted (r, c)).1 (mate, ne)))))
+        (number_same r p.0)
+
 -- its column has no mate then
 pub cleared_free : (a : Matrix) (p : Place) (m rest : List Place) → IsMatching a m → Among p m → IsParted p m rest → ¬ Among p.1 (cols_of rest)
 cleared_free a p m rest l pair parted h = let (r, mate) = col_pair p.1 rest h in let (old, ne) = (parted (r, p.1)).0 mate in ne (one_row m l.cols_differ r p.0 p.1 old pair)
 
+pub cleared_row_free : (p : Place) (m rest : List Place) → IsParted p m rest → ¬ Among p.0 (rows_of rest)
+cleared_row_free p m rest parted h = let (c, mate) = row_pair p.0 rest h in ((parted (p.0, c)).0 mate).1 refl
+
 -- What a session keeps.
 
-pub saturating_kept : (b : Matrix) (m : Pairing) (marks : List Bool) → IsMatchingOf b m → length marks ≡ cols b → IsSaturating b m.pairs → IsKept b m marks
-saturating_kept b m marks l long full = record { maximum = saturating_maximum b m l full; long = long; cover = inl full }
+shown_kept : (a b : Matrix) (m : Pairing) (marks : List Bool) → CoversShowMaximum → IsMatchingOf a m → b ≡ transpose a → IsCover a m.pairs marks → IsKept a b m marks
+shown_kept a b m marks law l t k = record { maximum = record { matching = l; maximum = law a m.pairs marks l.matching k }; cover = k; rows = t }
 
-pub covered_kept : (b : Matrix) (m : Pairing) (marks : List Bool) → IsMaximumOf b m → IsCover b m.pairs marks → IsKept b m marks
-covered_kept b m marks l k = record { maximum = l; long = k.long; cover = inr k }
-
-shown_kept : (b : Matrix) (m : Pairing) (marks : List Bool) → CoversShowMaximum → IsMatchingOf b m → IsCover b m.pairs marks → IsKept b m marks
-shown_kept b m marks law l k = covered_kept b m marks (record { matching = l; maximum = law b m.pairs marks l.matching k }) k
-
-pub had_kept : (b : Matrix) (p : Place) (m : Pairing) (marks : List Bool) → CoversShowMaximum → IsMatchingOf b m → length marks ≡ cols b → IsSaturating b m.pairs ⊎ IsCover (without_place b p) m.pairs marks → IsCovered m.pairs marks p → IsKept b m marks
-had_kept b p m marks law l long (inl full) had = saturating_kept b m marks l long full
-had_kept b p m marks law l long (inr k) had = shown_kept b m marks law l (covers_again b p m.pairs marks k had)
+pub had_kept : (a b : Matrix) (p : Place) (m : Pairing) (marks : List Bool) → CoversShowMaximum → IsMatchingOf a m → b ≡ transpose a → IsCover (without_place a p) m.pairs marks → IsCovered m.pairs marks p → IsKept a b m marks
+had_kept a b p m marks law l t k had = shown_kept a b m marks law l t (covers_again a p m.pairs marks k had)
 
 -- An entry that is set.
 
@@ -166,33 +175,25 @@ set_again a m marks p now view k e = subst (λ (w : MatchedMatrix). w.matrix ≡
 pub room_left : (a : Matrix) (r c : ℕ) → IsPattern a → r < a.rows → ¬ IsEntry a r c → length (column a c) < a.rows
 room_left a r c k row ne = few_below a.rows (r ∷ column a c) (λ h. ne (row, h), rising_distinct (column a c) (k.columns c).rising) (λ x h. ⊎_elim (λ (e : x ≡ r). rw e row) (λ g. ((k.columns c).sound x g).0) h)
 
+pub turned_room_left : (a b : Matrix) (r c : ℕ) → b ≡ transpose a → IsPattern b → c < cols a → ¬ IsEntry a r c → length (column b r) < b.rows
+turned_room_left a b r c t k col ne = room_left b c r k (let e = ap (λ (z : Matrix). z.rows) t in omega (arith, e, col)) (λ e. ne ((transpose_is a).back r c (subst (λ z. IsEntry z c r) t e)))
+
 pub set_matching : (a : Matrix) (p : Place) (m : Pairing) → IsMatchingOf a m → IsMatchingOf (with_place a p) m
 set_matching a p m k = record { rows = k.rows; cols = rw length-set k.cols; matching = kept_with a p m.pairs k.matching }
 
-pub set_near : (a : Matrix) (p : Place) (m : Pairing) → IsMaximum a m.pairs → IsNearMaximum (with_place a p) m.pairs
-set_near a p m max n k = one_more a (with_place a p) p m.pairs n (with_place_over a p) max k
+pub set_cover : (a b : Matrix) (p : Place) (m : List Place) (marks : List Bool) → b ≡ with_place a p → without_place (with_place a p) p ≡ a → IsCover a m marks → IsCover (without_place b p) m marks
+set_cover a b p m marks e back k = subst (λ z. IsCover (without_place z p) m marks) (sym e) (subst (λ z. IsCover z m marks) (sym back) k)
 
-pub set_long : (a b : Matrix) (p : Place) (marks : List Bool) → b ≡ with_place a p → length marks ≡ cols a → length marks ≡ cols b
-set_long a b p marks e long = subst (λ z. length marks ≡ cols z) (sym e) (long ∙ sym (length-set a.columns p.1 _))
+pub set_rows : (a a2 b b2 : Matrix) (p : Place) → a2 ≡ with_place a p → b ≡ transpose a → b2 ≡ with_place b (p.1, p.0) → p.0 < a.rows → p.1 < cols a → b2 ≡ transpose a2
+set_rows a a2 b b2 p e t f row col = f ∙ ap (λ z. with_place z (p.1, p.0)) t ∙ with_transpose a p row col ∙ ap transpose (sym e)
 
-pub set_cover : (a b : Matrix) (p : Place) (m : List Place) (marks : List Bool) → b ≡ with_place a p → without_place (with_place a p) p ≡ a → IsSaturating a m ⊎ IsCover a m marks → IsSaturating b m ⊎ IsCover (without_place b p) m marks
-set_cover a b p m marks e back (inl full) = inl ((set_saturating a b m p e).0 full)
-set_cover a b p m marks e back (inr k) = inr (subst (λ z. IsCover (without_place z p) m marks) (sym e) (subst (λ z. IsCover z m marks) (sym back) k))
+pub paired_kept : (a b : Matrix) (p : Place) (m n : Pairing) (marks : List Bool) → CoversShowMaximum → IsMatchingOf a m → IsEntry a p.0 p.1 → b ≡ transpose a → IsCover (without_place a p) m.pairs marks → ((q : Place) → Among q n.pairs ↔ ((q ≡ p) ⊎ Among q m.pairs)) → (n.rows ≡ m.rows) × (n.cols ≡ m.cols) → AreDistinct (rows_of n.pairs) → IsRising (cols_of n.pairs) → IsKept a b n marks
+paired_kept a b p m n marks law k e t cover added sizes rows rising = shown_kept a b n marks law (record { rows = sizes.0 ∙ k.rows; cols = sizes.1 ∙ k.cols; matching = paired_matching a m.pairs n.pairs p k.matching e added rows rising }) t (covers_paired a p m.pairs n.pairs marks cover added)
 
-pub paired_kept : (b : Matrix) (p : Place) (m n : Pairing) (marks : List Bool) → IsMatchingOf b m → IsNearMaximum b m.pairs → IsEntry b p.0 p.1 → length marks ≡ cols b → ¬ IsSaturating b m.pairs → IsSaturating b m.pairs ⊎ IsCover (without_place b p) m.pairs marks → ((q : Place) → Among q n.pairs ↔ ((q ≡ p) ⊎ Among q m.pairs)) → (n.rows ≡ m.rows) × (n.cols ≡ m.cols) → AreDistinct (rows_of n.pairs) → IsRising (cols_of n.pairs) → length n.pairs ≡ suc (length m.pairs) → IsKept b n marks
-paired_kept b p m n marks k near e long part cover added sizes rows rising size = record {
-  maximum = longer_maximum b m n near (record { rows = sizes.0 ∙ k.rows; cols = sizes.1 ∙ k.cols; matching = paired_matching b m.pairs n.pairs p k.matching e added rows rising }) size;
-  long = long;
-  cover = ⊎_elim (λ full. absurd (part full)) (λ h. inr (covers_paired b p m.pairs n.pairs marks h added)) cover;
-}
-
-pub searched_kept : (b : Matrix) (p : Place) (m n : Pairing) (marks marks2 : List Bool) → CoversShowMaximum → CoversStandLonger → IsNearMaximum b m.pairs → length marks ≡ cols b → ¬ IsSaturating b m.pairs → IsSaturating b m.pairs ⊎ IsCover (without_place b p) m.pairs marks → IsMatchingOf b n → ((length n.pairs ≡ suc (length m.pairs)) × (marks2 ≡ marks)) ⊎ ((n ≡ m) × IsCover b n.pairs marks2) → IsKept b n marks2
-searched_kept b p m n marks marks2 shows stands near long part cover l (inr (same, new)) = shown_kept b n marks2 shows l new
-searched_kept b p m n marks marks2 shows stands near long part cover l (inl (e, same)) = record {
-  maximum = longer_maximum b m n near l e;
-  long = ap length same ∙ long;
-  cover = ⊎_elim (λ full. absurd (part full)) (λ h. inr (subst (IsCover b n.pairs) (sym same) (stands b p m.pairs n.pairs marks h l.matching e))) cover;
-}
+-- what a search makes of a cover but for one line, where that of the matrix without the entry stands for one pair more
+pub searched_kept : (a b : Matrix) (p : Place) (m n : Pairing) (marks marks2 : List Bool) → CoversShowMaximum → CoversStandLonger → b ≡ transpose a → IsCover (without_place a p) m.pairs marks → IsMatchingOf a n → ((length n.pairs ≡ suc (length m.pairs)) × (marks2 ≡ marks)) ⊎ ((n ≡ m) × IsCover a n.pairs marks2) → IsKept a b n marks2
+searched_kept a b p m n marks marks2 law stands t k l (inr (same, new)) = shown_kept a b n marks2 law l t new
+searched_kept a b p m n marks marks2 law stands t k l (inl (e, same)) = shown_kept a b n marks2 law l t (subst (IsCover a n.pairs) (sym same) (stands a p m.pairs n.pairs marks k l.matching e))
 
 -- An entry that is cleared.
 
@@ -216,27 +217,31 @@ parted_matching a p m n k parted sizes rows rising = record {
   };
 }
 
-parted_near : (a : Matrix) (p : Place) (m n : List Place) → IsMaximum a m → length m ≡ suc (length n) → IsNearMaximum (without_place a p) n
-parted_near a p m n max e o k = omega (arith, e, max.longest o (had_before a p o k))
+pub cleared_rows : (a a2 b b2 : Matrix) (p : Place) → a2 ≡ without_place a p → b ≡ transpose a → b2 ≡ without_place b (p.1, p.0) → b2 ≡ transpose a2
+cleared_rows a a2 b b2 p e t f = f ∙ ap (λ z. without_place z (p.1, p.0)) t ∙ without_transpose a p ∙ ap transpose (sym e)
 
-clear_full : (a : Matrix) (p : Place) (m n : List Place) → length n ≡ length m → IsSaturating a m → IsSaturating (without_place a p) n
-clear_full a p m n e (inl r) = inl (e ∙ r)
-clear_full a p m n e (inr c) = inr (e ∙ c ∙ sym (width a p))
+pub cleared_count : (a a2 b2 : Matrix) (p : Place) → a2 ≡ without_place a p → IsPattern a → b2 ≡ transpose a2 → entry_count b2 ≡ entry_count a2
+cleared_count a a2 b2 p e k t = ap entry_count t ∙ transpose_count a2 (subst (λ (z : Matrix). (c : ℕ) → Lists (λ r. IsEntry z r c) (column z c)) (sym e) (λ c. without_lists a p c k.columns))
 
-pub left_kept : (a : Matrix) (p : Place) (m : Pairing) (marks : List Bool) → IsKept a m marks → ¬ Among p m.pairs → IsKept (without_place a p) m marks
-left_kept a p m marks k nh = record {
-  maximum = kept_maximum a p m k.maximum nh;
-  long = k.long ∙ sym (width a p);
-  cover = ⊎_elim (λ full. inl (clear_full a p m.pairs m.pairs refl full)) (λ c. inr (covers_left a p m.pairs marks c)) k.cover;
+pub left_kept : (a b a2 b2 : Matrix) (p : Place) (m : Pairing) (marks : List Bool) → IsKept a b m marks → a2 ≡ without_place a p → b2 ≡ without_place b (p.1, p.0) → ¬ Among p m.pairs → IsKept a2 b2 m marks
+left_kept a b a2 b2 p m marks k e f nh = record {
+  maximum = subst (λ z. IsMaximumOf z m) (sym e) (kept_maximum a p m k.maximum nh);
+  cover = subst (λ z. IsCover z m.pairs marks) (sym e) (covers_left a p m.pairs marks k.cover);
+  rows = cleared_rows a a2 b b2 p e k.rows f;
 }
 
-pub parted_kept : (a : Matrix) (p : Place) (m parted n : Pairing) (marks marks2 : List Bool) → CoversShowMaximum → CoversStandAsLong → IsKept a m marks → length m.pairs ≡ suc (length parted.pairs) → IsMatchingOf (without_place a p) n → ((length n.pairs ≡ suc (length parted.pairs)) × (marks2 ≡ marks)) ⊎ ((n ≡ parted) × IsCover (without_place a p) n.pairs marks2) → IsKept (without_place a p) n marks2
-parted_kept a p m parted n marks marks2 shows stands k e l (inr (same, new)) = shown_kept (without_place a p) n marks2 shows l new
-parted_kept a p m parted n marks marks2 shows stands k e l (inl (f, same)) = record {
-  maximum = longer_maximum (without_place a p) parted n (parted_near a p m.pairs parted.pairs k.maximum.maximum e) l f;
-  long = ap length same ∙ k.long ∙ sym (width a p);
-  cover = ⊎_elim (λ full. inl (clear_full a p m.pairs n.pairs (f ∙ sym e) full)) (λ c. inr (subst (IsCover (without_place a p) n.pairs) (sym same) (stands (without_place a p) m.pairs n.pairs marks (covers_left a p m.pairs marks c) l.matching (f ∙ sym e)))) k.cover;
-}
+pub parted_kept : (a b a2 b2 : Matrix) (p : Place) (m parted n : Pairing) (marks marks2 : List Bool) → CoversShowMaximum → CoversStandAsLong → IsKept a b m marks → a2 ≡ without_place a p → b2 ≡ without_place b (p.1, p.0) → length m.pairs ≡ suc (length parted.pairs) → IsMatchingOf a2 n → ((length n.pairs ≡ suc (length parted.pairs)) × (marks2 ≡ marks)) ⊎ ((n ≡ parted) × IsCover a2 n.pairs marks2) → IsKept a2 b2 n marks2
+parted_kept a b a2 b2 p m parted n marks marks2 law stands k e f g l found = shown_kept a2 b2 n marks2 law l (cleared_rows a a2 b b2 p e k.rows f) (by found)
+  where
+    left : IsCover a2 m.pairs marks
+    left = subst (λ z. IsCover z m.pairs marks) (sym e) (covers_left a p m.pairs marks k.cover)
+
+    by : ((length n.pairs ≡ suc (length parted.pairs)) × (marks2 ≡ marks)) ⊎ ((n ≡ parted) × IsCover a2 n.pairs marks2) → IsCover a2 n.pairs marks2
+    by (inl (h, same)) = subst (IsCover a2 n.pairs) (sym same) (stands a2 m.pairs n.pairs marks left l.matching (h ∙ sym g))
+    by (inr (same, new)) = new
+
+pub parted_unmatched : (a : Matrix) (p : Place) (m rest : List Place) → IsMatching a m → length m ≡ suc (length rest) → length rest < cols (without_place a p)
+parted_unmatched a p m rest k e = let few = matching_few a m k in let w = width a p in omega (arith, few, w, e)
 
 pub cleared_steps : (a b : Matrix) (m : Pairing) (marks : List Bool) (p : Place) (now : MatchedMatrix) (before after : ℕ) → matched a m marks ≡ now → b ≡ without_place a p → IsPattern a → IsEntry a p.0 p.1 → after ≤ before + (cols b + entry_count b) → after ≤ before + (cols now.matrix + entry_count now.matrix)
 cleared_steps a b m marks p now before after view e k entry le = subst (λ (w : MatchedMatrix). after ≤ before + (cols w.matrix + entry_count w.matrix)) view

@@ -1,15 +1,15 @@
 //! The columns of a matrix that changes place by place.
 
-ghost use Rattle.std.specs.Prelude.{◌≡◌, ◌↔◌, ◌+◌, ◌<◌, ◌^◌, length, IfErr, IfOk, IsTrue, OnOk, is_ok};
+ghost use Rattle.std.specs.Prelude.{◌≡◌, ◌↔◌, ◌+◌, ◌<◌, ◌^◌, [], length, IfErr, IfOk, IsTrue, OnOk, is_ok};
 ghost use Rattle.bip_defs.specs.EditedMatrix.{with_place, without_place};
 ghost use Rattle.bip_defs.specs.Lists.{StandsAt};
-ghost use Rattle.bip_defs.specs.Matrix.{IsEntry, cols, column, entry_count};
+ghost use Rattle.bip_defs.specs.Matrix.{IsEntry, cols, column, entry_count, transpose};
 ghost use Rattle.edit_session.specs.Columns.{HasRoom, IsGap, RoomyMatrix};
 ghost use Rattle.sp_pattern.specs.Stored.{IsPattern};
 
 use crate::arena::Arena;
 use sp_ids::{Col, OutOfMemory, Row};
-use sp_pattern::Neighbours;
+use sp_pattern::{Neighbours, Pattern};
 use std::alloc::Global;
 use std::marker::Model;
 
@@ -70,14 +70,34 @@ impl Columns {
         requires entries { entry_count (N.matrix neighbours.now) ≡ entries }
         ensures { IfOk result (λ s. s.matrix ≡ N.matrix neighbours.now) }
     {
-        let entries_to_come = entries as usize / 16;
-        let room = entries as usize + entries_to_come;
-        let mut lists = Arena::with_capacity(alloc, neighbours.cols() as usize, room)?;
+        let mut lists = no_lists(alloc, neighbours.cols(), entries)?;
         for col in 0..neighbours.cols() {
             lists.push(neighbours.rows_of(Col(col)))?;
         }
         Ok(Columns {
             rows: neighbours.rows(),
+            entries,
+            lists,
+        })
+    }
+
+    /// The columns of the transpose of a pattern: its rows, with room as in [`Columns::of`].
+    ///
+    /// Answers `OutOfMemory` where 16 bytes a row, 4.25 an entry and a list of the longest row can't
+    /// be had. Work: one copy of the lists.
+    pub fn of_rows(alloc: Global, pattern: &Pattern) -> Result<Columns, OutOfMemory>
+        ensures { IfOk result (λ s. s.matrix ≡ transpose pattern.now) }
+    {
+        pattern.is_pattern();
+        let entries = pattern.entries();
+        let mut lists = no_lists(alloc, pattern.rows(), entries)?;
+        let mut list = Vec::new(alloc);
+        for row in 0..pattern.rows() {
+            copy_numbers(pattern.cols_of(Row(row)), &mut list)?;
+            lists.push(list.as_slice())?;
+        }
+        Ok(Columns {
+            rows: pattern.cols(),
             entries,
             lists,
         })
@@ -187,6 +207,25 @@ impl Columns {
     {
         self.rows_of(col).binary_search(&row)
     }
+}
+
+// No lists, with memory for so many of so many entries in all, and for a sixteenth more.
+fn no_lists(alloc: Global, lists: u32, entries: u32) -> Result<Arena, OutOfMemory>
+    ensures { IfOk result (λ a. a ≡ record { lists = []; room = [] }) }
+{
+    let entries_to_come = entries as usize / 16;
+    Arena::with_capacity(alloc, lists as usize, entries as usize + entries_to_come)
+}
+
+// Gives a list the numbers of these columns, as rows, in place of its own.
+fn copy_numbers(cols: &[Col], list: &mut Vec<Row>) -> Result<(), OutOfMemory>
+    ensures { OnOk result (list.new.items ≡ cols.now) }
+{
+    list.clear();
+    for col in cols {
+        list.push(Row(col.0))?;
+    }
+    Ok(())
 }
 
 // Room for twice as many rows and one, but for no more than there are.

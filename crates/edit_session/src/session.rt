@@ -5,10 +5,11 @@ ghost use Rattle.bip_defs.specs.ConnectedComponents.{AreConnectedComponents};
 ghost use Rattle.bip_defs.specs.EditedMatrix.{with_place, without_place};
 ghost use Rattle.bip_defs.specs.Lists.{Among, IsMarked};
 ghost use Rattle.bip_defs.specs.Matching.{IsRank, cols_of, rows_of};
-ghost use Rattle.bip_defs.specs.Matrix.{IsEntry, Place, cols, entry_count};
+ghost use Rattle.bip_defs.specs.Matrix.{IsEntry, Place, cols, entry_count, transpose};
 ghost use Rattle.bip_graph.specs.Decompositions.{Decomposes, components_of};
 ghost use Rattle.bip_graph.specs.Matching.{IsMatchingOf, IsMaximumOf};
-ghost use Rattle.edit_session.specs.Sessions.{IsSaturating, IsKept, IsNearMaximum, IsPaired, IsParted, MatchedMatrix};
+ghost use Rattle.edit_session.specs.Sessions.{IsSaturating, IsKept, IsPaired, IsParted, MatchedMatrix};
+ghost use Rattle.hall_witness.specs.Back.{IsSearchedTo};
 ghost use Rattle.hall_witness.specs.Covers.{IsCover, IsCovered, IsSearched, IsSearchedFrom};
 
 use crate::columns::Columns;
@@ -30,11 +31,14 @@ use std::thread::Threads;
 /// An edit changes the rank by one at most, so one search for an augmenting path decides (Berge
 /// 1957), and most edits need none: the session keeps the marks of the vertex cover that the
 /// searches without a path have shown (König 1931). While the matrix has the cover, no entry more
-/// in it raises the rank, and a search from one column passes over marked ones.
+/// in it raises the rank, a search from one column passes over marked ones, and one back from a row
+/// over the others. For those the matrix is kept by rows as well.
 #[derive(Drop)]
 pub struct Session {
     alloc: Global,
     columns: Columns,
+    // those of the transpose
+    rows: Columns,
     matching: Matching,
     cover: Cover,
 }
@@ -47,14 +51,14 @@ impl Model for Session {
     ghost view = { λ s.
         record { matrix = s.columns.matrix; matching = s.matching; marks = s.cover } };
 
-    ghost invariant = { λ s. IsKept s.columns.matrix s.matching s.cover };
+    ghost invariant = { λ s. IsKept s.columns.matrix s.rows.matrix s.matching s.cover };
 }
 
 impl Session {
     /// A session that begins with this matrix. The matching must be a maximum one of its entries.
     ///
-    /// Answers `OutOfMemory` where 46 bytes a column and 4 an entry can't be had. Work: one copy of
-    /// the columns' lists, and one search for the cover.
+    /// Answers `OutOfMemory` where 38 bytes a column, 16 a row and 8.5 an entry can't be had. Work:
+    /// one copy of the columns' lists and of the rows', and one search for the cover.
     pub fn new(alloc: Global, pattern: &Pattern, matching: Matching) -> Result<Session, OutOfMemory>
         requires { IsMaximumOf pattern.now matching }
         ensures matrix { IfOk result (λ s. s.matrix ≡ pattern.now) }
@@ -62,10 +66,12 @@ impl Session {
     {
         pattern.is_pattern();
         let columns = Columns::of(alloc, pattern, pattern.entries())?;
+        let rows = Columns::of_rows(alloc, pattern)?;
         let cover = Cover::of(alloc, pattern, &matching)?;
         Ok(Session {
             alloc,
             columns,
+            rows,
             matching,
             cover,
         })
@@ -97,8 +103,7 @@ impl Session {
         ensures rank { IsRank self.now.matrix result }
         ensures pairs { result ≡ length self.now.matching.pairs }
         ensures maximum { IsMaximumOf self.now.matrix self.now.matching }
-        ensures cover { IsSaturating self.now.matrix self.now.matching.pairs
-            ⊎ IsCover self.now.matrix self.now.matching.pairs self.now.marks }
+        ensures cover { IsCover self.now.matrix self.now.matching.pairs self.now.marks }
     {
         self.matching.size()
     }
@@ -138,21 +143,28 @@ impl Session {
     /// changes. Its row and column must be in the matrix, which must have less than 4,294,967,295
     /// entries.
     ///
-    /// A step is a column that a search takes up or an entry that it looks at. There is no search
-    /// where the entry was there; where the rank is already the number of rows or of columns; where
-    /// the kept cover has the entry: its column is not marked, or its row has a mate that is; or
-    /// where its row and its column have no mate and become a pair. Else there is one, which makes
-    /// at least as many steps as the path that it finds has pairs. Where the column has no mate it
-    /// begins there alone, and passes over marked columns: where it finds no path, it makes one step
-    /// for that column and for each column that it marks, and one for each of their entries. Where
-    /// the column has a mate it begins at all unmatched columns: where it finds no path, it makes
-    /// one step for each column that some maximum matching of the new matrix misses and one for each
-    /// of their entries; these columns are marked from then on, and no others.
+    /// A step is a column or a row that a search takes up, or an entry that it looks at. There is no
+    /// search where the entry was there; where the rank is already the number of rows or of columns;
+    /// where the kept cover has the entry: its column is not marked, or its row has a mate that is;
+    /// or where its row and its column have no mate and become a pair. Else there is one, which
+    /// makes at least as many steps as the path that it finds has pairs. Where it finds none:
+    ///
+    /// - Where the column has no mate it began there alone, and passed over marked columns. It makes
+    ///   one step for that column and for each column that it marks, and one for each of their
+    ///   entries.
+    /// - Where the row has no mate it began there alone, went from columns' mates to their rows, and
+    ///   passed over columns that are not marked. It makes one step for that row and for the mate of
+    ///   each column whose mark it takes back, and one for each of their entries.
+    /// - Where both have mates it began at all unmatched columns. It makes one step for each column
+    ///   that some maximum matching of the new matrix misses and one for each of their entries; these
+    ///   columns are marked from then on, and no others.
     ///
     /// Answers `OutOfMemory` where there is no memory for the entry; the session is then as it was.
     /// A search takes none. Work: the search; where it begins at all unmatched columns, a look for
     /// its mate at each column that was unmatched at the last such search, at the first one at each
-    /// column; beside it a search by halves in the column and one move of each of its rows, in the
+    /// column; where the rank is the number of rows or of columns and the cover lacks the entry,
+    /// which comes once until a clear lowers the rank again, a mark at each column; beside it a
+    /// search by halves in the column and in the row and one move of each of their entries, in the
     /// mean over many edits.
     pub fn set<L: Ledger>(
         &mut self,
@@ -176,8 +188,17 @@ impl Session {
             → ¬ IsSaturating self.old.matrix self.old.matching.pairs
             → ¬ IsCovered self.old.matching.pairs self.old.marks (row, col)
             → Among col (cols_of self.old.matching.pairs)
+            → Among row (rows_of self.old.matching.pairs)
             → IsSearched self.new.matrix self.old.matching.pairs self.new.matching.pairs
             steps.old steps.new) }
+        ensures searched_to { OnOk result (¬ IsEntry self.old.matrix row col
+            → ¬ IsSaturating self.old.matrix self.old.matching.pairs
+            → ¬ IsCovered self.old.matching.pairs self.old.marks (row, col)
+            → Among col (cols_of self.old.matching.pairs)
+            → ¬ Among row (rows_of self.old.matching.pairs)
+            → IsSearchedTo row self.new.matrix (transpose self.new.matrix)
+            self.old.matching.pairs self.old.marks
+            self.new.matching.pairs self.new.marks steps.old steps.new) }
         ensures searched_from { OnOk result (¬ IsEntry self.old.matrix row col
             → ¬ IsSaturating self.old.matrix self.old.matching.pairs
             → ¬ IsCovered self.old.matching.pairs self.old.marks (row, col)
@@ -194,14 +215,17 @@ impl Session {
             × (steps.new ≡ steps.old)) }
     {
         self.columns.is_pattern();
+        self.rows.is_pattern();
         if self.columns.has(row, col) {
             return Ok(self.rank());
         }
         self.columns.make_room(self.alloc, col)?;
+        self.rows.make_room(self.alloc, Col(row.0))?;
         self.columns.put(row, col);
-        let columns = &self.columns;
+        self.rows.put(Row(col.0), Col(row.0));
         match_entry(
-            columns,
+            &self.columns,
+            &self.rows,
             &mut self.matching,
             &mut self.cover,
             row,
@@ -215,8 +239,8 @@ impl Session {
     ///
     /// Steps are counted as in [`Session::set`]. There is no search where the entry was no pair of
     /// the matching, and one from the other pairs where it was: from its column alone where that was
-    /// not marked, from all unmatched columns where it was, or where the rank was the number of rows
-    /// or of columns. Takes no memory, so it is never refused. Work: as there.
+    /// not marked, from its row alone where it was. Takes no memory, so it is never refused. Work:
+    /// the search, and in the lists as there.
     pub fn clear<L: Ledger>(
         &mut self,
         row: Row,
@@ -230,12 +254,13 @@ impl Session {
         ensures steps { steps.new
             ≤ steps.old + (cols self.old.matrix + entry_count self.old.matrix) }
         ensures no_step { ¬ Among (row, col) self.old.matching.pairs → steps.new ≡ steps.old }
-        ensures searched { OnOk result (Among (row, col) self.old.matching.pairs
-            → IsSaturating self.old.matrix self.old.matching.pairs ⊎ IsMarked self.old.marks col
+        ensures searched_to { OnOk result (Among (row, col) self.old.matching.pairs
+            → IsMarked self.old.marks col
             → (rest : List Place) × IsParted (row, col) self.old.matching.pairs rest
-            × IsSearched self.new.matrix rest self.new.matching.pairs steps.old steps.new) }
+            × IsSearchedTo row self.new.matrix (transpose self.new.matrix) rest self.old.marks
+            self.new.matching.pairs self.new.marks steps.old steps.new) }
         ensures searched_from { OnOk result (Among (row, col) self.old.matching.pairs
-            → ¬ IsSaturating self.old.matrix self.old.matching.pairs → ¬ IsMarked self.old.marks col
+            → ¬ IsMarked self.old.marks col
             → (rest : List Place) × IsParted (row, col) self.old.matching.pairs rest
             × IsSearchedFrom col self.new.matrix rest self.old.marks
             self.new.matching.pairs self.new.marks steps.old steps.new) }
@@ -262,12 +287,13 @@ impl Session {
         ensures steps { steps.new
             ≤ steps.old + (cols self.old.matrix + entry_count self.old.matrix) }
         ensures no_step { ¬ Among (row, col) self.old.matching.pairs → steps.new ≡ steps.old }
-        ensures searched { OnOk result (Among (row, col) self.old.matching.pairs
-            → IsSaturating self.old.matrix self.old.matching.pairs ⊎ IsMarked self.old.marks col
+        ensures searched_to { OnOk result (Among (row, col) self.old.matching.pairs
+            → IsMarked self.old.marks col
             → (rest : List Place) × IsParted (row, col) self.old.matching.pairs rest
-            × IsSearched self.new.matrix rest self.new.matching.pairs steps.old steps.new) }
+            × IsSearchedTo row self.new.matrix (transpose self.new.matrix) rest self.old.marks
+            self.new.matching.pairs self.new.marks steps.old steps.new) }
         ensures searched_from { OnOk result (Among (row, col) self.old.matching.pairs
-            → ¬ IsSaturating self.old.matrix self.old.matching.pairs → ¬ IsMarked self.old.marks col
+            → ¬ IsMarked self.old.marks col
             → (rest : List Place) × IsParted (row, col) self.old.matching.pairs rest
             × IsSearchedFrom col self.new.matrix rest self.old.marks
             self.new.matching.pairs self.new.marks steps.old steps.new) }
@@ -277,20 +303,21 @@ impl Session {
         self.matching.is_matching();
         self.columns.is_pattern();
         let were_mates = are_mates(&self.matching, row, col);
-        let was_saturating = is_saturating(&self.columns, &self.matching);
         self.columns.take(row, col);
+        self.rows.take(Row(col.0), Col(row.0));
         if !were_mates {
             return Ok(self.rank());
         }
         self.matching.unpair(row, col);
         self.matching.is_matching();
         let columns = &self.columns;
-        if was_saturating || self.cover.is_marked(col) {
-            self.cover.augment(columns, &mut self.matching, col, steps);
+        let matching = &mut self.matching;
+        if !self.cover.is_marked(col) {
+            self.cover.augment_from(columns, matching, col, steps);
             return Ok(self.rank());
         }
         self.cover
-            .augment_from(columns, &mut self.matching, col, steps);
+            .augment_to(columns, &self.rows, matching, row, steps);
         Ok(self.rank())
     }
 }
@@ -307,20 +334,13 @@ fn are_mates(matching: &Matching, row: Row, col: Col) -> bool
     }
 }
 
-// Whether each row is matched, or each column.
-fn is_saturating(columns: &Columns, matching: &Matching) -> bool
-    requires { IsMatchingOf columns.now.matrix matching.now }
-    ensures { IsTrue result ↔ IsSaturating columns.now.matrix matching.now.pairs }
-{
-    let size = matching.size();
-    size == columns.rows() || size == columns.cols()
-}
-
-// Makes a matching maximum where one more entry is new: it is, where each row or each column is
-// matched, or where the cover of the others has the entry; the entry's row and column become a pair
-// where both have no mate; else a search decides, from the column alone where that has no mate.
+// Makes a matching maximum where one more entry is new: it is, where the cover of the others has the
+// entry, or where each row or each column is matched, and then all columns are marked, or none; the
+// entry's row and column become a pair where both have no mate; else a search decides, from the one
+// of them that has none, or from all unmatched columns where both have one.
 fn match_entry<L: Ledger>(
     columns: &Columns,
+    rows: &Columns,
     matching: &mut Matching,
     cover: &mut Cover,
     row: Row,
@@ -329,20 +349,24 @@ fn match_entry<L: Ledger>(
 )
     requires entry { IsEntry columns.now.matrix row col }
     requires matching { IsMatchingOf columns.now.matrix matching.old }
-    requires near { IsNearMaximum columns.now.matrix matching.old.pairs }
-    requires long { length cover.old ≡ cols columns.now.matrix }
-    requires cover { IsSaturating columns.now.matrix matching.old.pairs
-        ⊎ IsCover (without_place columns.now.matrix (row, col)) matching.old.pairs cover.old }
-    ensures kept { IsKept columns.now.matrix matching.new cover.new }
+    requires rows { rows.now.matrix ≡ transpose columns.now.matrix }
+    requires cover { IsCover (without_place columns.now.matrix (row, col))
+        matching.old.pairs cover.old }
+    ensures kept { IsKept columns.now.matrix rows.now.matrix matching.new cover.new }
     ensures steps { steps.new
         ≤ steps.old + (cols columns.now.matrix + entry_count columns.now.matrix) }
     ensures no_search { IsSaturating columns.now.matrix matching.old.pairs
         ⊎ IsCovered matching.old.pairs cover.old (row, col) → steps.new ≡ steps.old }
     ensures searched { ¬ IsSaturating columns.now.matrix matching.old.pairs
         → ¬ IsCovered matching.old.pairs cover.old (row, col)
-        → Among col (cols_of matching.old.pairs)
+        → Among col (cols_of matching.old.pairs) → Among row (rows_of matching.old.pairs)
         → IsSearched columns.now.matrix matching.old.pairs matching.new.pairs
         steps.old steps.new }
+    ensures searched_to { ¬ IsSaturating columns.now.matrix matching.old.pairs
+        → ¬ IsCovered matching.old.pairs cover.old (row, col)
+        → Among col (cols_of matching.old.pairs) → ¬ Among row (rows_of matching.old.pairs)
+        → IsSearchedTo row columns.now.matrix (transpose columns.now.matrix)
+        matching.old.pairs cover.old matching.new.pairs cover.new steps.old steps.new }
     ensures searched_from { ¬ IsSaturating columns.now.matrix matching.old.pairs
         → ¬ IsCovered matching.old.pairs cover.old (row, col)
         → ¬ Among col (cols_of matching.old.pairs) → Among row (rows_of matching.old.pairs)
@@ -355,17 +379,28 @@ fn match_entry<L: Ledger>(
 {
     cover_shows_maximum();
     cover_stands();
-    if is_saturating(columns, matching) {
-        return;
-    }
+    columns.is_pattern();
     if cover.has(matching, row, col) {
         return;
     }
-    if matching.row_of(col).is_some() {
-        cover.augment(columns, matching, col, steps);
+    if matching.size() == columns.rows() {
+        cover.mark_all(columns, matching);
         return;
     }
-    if matching.col_of(row).is_some() {
+    if matching.size() == columns.cols() {
+        cover.mark_none(columns, matching);
+        return;
+    }
+    let row_is_free = matching.col_of(row).is_none();
+    if matching.row_of(col).is_some() {
+        if row_is_free {
+            cover.augment_to(columns, rows, matching, row, steps);
+        } else {
+            cover.augment(columns, matching, col, steps);
+        }
+        return;
+    }
+    if !row_is_free {
         cover.augment_from(columns, matching, col, steps);
         return;
     }

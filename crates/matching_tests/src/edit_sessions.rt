@@ -37,7 +37,7 @@ struct Edits<'a> {
 }
 
 #[rattlefmt::skip]
-const SESSIONS: [Edits<'static>; 5] = [
+const SESSIONS: [Edits<'static>; 9] = [
     Edits {
         rows: 2,
         cols: 2,
@@ -82,6 +82,62 @@ const SESSIONS: [Edits<'static>; 5] = [
             (Edit::Set(4, 2), 2), (Edit::Clear(4, 1), 2), (Edit::Set(1, 2), 2), (Edit::Clear(4, 2), 2),
             (Edit::Clear(1, 1), 2), (Edit::Set(1, 1), 2), (Edit::Clear(2, 1), 2), (Edit::Clear(3, 1), 1),
             (Edit::Clear(1, 2), 1),
+        ],
+    },
+    Edits {
+        rows: 3,
+        cols: 5,
+        places: &[(1, 1), (1, 2), (2, 2), (2, 3), (3, 3), (3, 4)],
+        rank: 3,
+        // Each row matched, pairs cleared in columns that an unmatched one leads to, and sets of rows without a mate.
+        edits: &[
+            (Edit::Clear(1, 1), 3), (Edit::Clear(3, 4), 2), (Edit::Clear(3, 3), 2), (Edit::Set(3, 2), 2),
+            (Edit::Set(1, 5), 3), (Edit::Clear(2, 3), 2), (Edit::Set(2, 4), 3), (Edit::Clear(1, 5), 2),
+            (Edit::Clear(1, 2), 2), (Edit::Clear(2, 2), 2), (Edit::Set(1, 3), 3), (Edit::Clear(3, 2), 2),
+        ],
+    },
+    Edits {
+        rows: 4,
+        cols: 4,
+        places: &[(1, 1), (1, 2), (2, 1), (3, 1), (4, 3), (4, 4)],
+        rank: 3,
+        edits: &[
+            (Edit::Set(2, 2), 3), (Edit::Set(3, 2), 3), (Edit::Set(3, 3), 4), (Edit::Clear(3, 3), 3),
+            (Edit::Clear(4, 3), 3), (Edit::Set(3, 4), 3), (Edit::Set(1, 3), 4), (Edit::Clear(1, 3), 3),
+            (Edit::Set(4, 3), 4), (Edit::Clear(4, 4), 4), (Edit::Clear(3, 4), 3), (Edit::Clear(4, 3), 2),
+            (Edit::Set(2, 4), 3), (Edit::Clear(1, 1), 3), (Edit::Clear(1, 2), 2),
+        ],
+    },
+    Edits {
+        rows: 3,
+        cols: 4,
+        places: &[],
+        rank: 0,
+        // All columns are marked at the start. 1 becomes a pair; 2 and 4 are in a row whose mate is marked; in 3 row 1
+        // finds column 2 (2 steps). In 5 row 2 finds column 1 over column 2 and its mate row 1 (4 steps, a path of two
+        // pairs). In 6 row 3 finds none (4 steps: rows 3 and 2, and their one entry each), so column 2 has no mark from
+        // then on. In 7 column 3 finds row 3 over column 2 (6 steps). In 8 and 9 a row leads to column 2 alone, which is
+        // passed over (2 steps each).
+        edits: &[
+            (Edit::Set(1, 1), 1), (Edit::Set(1, 2), 1), (Edit::Clear(1, 1), 1), (Edit::Set(1, 1), 1),
+            (Edit::Set(2, 2), 2), (Edit::Set(3, 2), 2), (Edit::Set(2, 3), 3), (Edit::Clear(2, 3), 2),
+            (Edit::Clear(1, 1), 1),
+        ],
+    },
+    Edits {
+        rows: 2,
+        cols: 3,
+        places: &[],
+        rank: 0,
+        // 1 becomes a pair. In 2 row 2 finds none over column 1 (4 steps), which has no mark from then on; in 3 column 2
+        // finds row 2 over column 1 (5 steps). In 4 the place is not in the cover, but each row has a mate: no search, and
+        // all columns are marked. In 5 row 2 finds column 3 (2 steps), in 6 nothing (1 step). In 7 row 2 finds column 1
+        // over column 2 and row 1 (4 steps), in 8 row 1 finds none over column 2 (4 steps). 9 becomes a pair, and 10 is
+        // as 4.
+        edits: &[
+            (Edit::Set(1, 1), 1), (Edit::Set(2, 1), 1), (Edit::Set(1, 2), 2), (Edit::Set(2, 3), 2),
+            (Edit::Clear(2, 1), 2), (Edit::Clear(2, 3), 1), (Edit::Set(2, 2), 2), (Edit::Clear(1, 1), 1),
+            (Edit::Set(1, 1), 2), (Edit::Set(2, 1), 2),
         ],
     },
     Edits {

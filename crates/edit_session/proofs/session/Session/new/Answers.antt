@@ -1,8 +1,8 @@
 use Rattle.std.proofs.Common.{subst, sym}
 use Rattle.bip_defs.specs.Matrix.{Matrix}
 use Rattle.edit_session.specs.Sessions.{IsKept}
-use Rattle.edit_session.proofs.SessionLemmas.{covered_kept}
 use Rattle.edit_session.proofs.session.Session.new.Goals as goal
 
 pub invariant_of-result : goal.invariant_of-result
-invariant_of-result c = subst (λ (a : Matrix). IsKept a c.args.matching c.in_ok-cover.cover) (sym c.in_ok-columns.ensures) (covered_kept c.args.pattern.now c.args.matching c.in_ok-cover.cover c.requires c.in_ok-cover.ensures)
+invariant_of-result c = subst (λ (a : Matrix). IsKept a c.in_ok-rows.rows.matrix c.args.matching c.in_ok-cover.cover) (sym c.in_ok-columns.ensures)
+    (record { maximum = c.requires; cover = c.in_ok-cover.ensures; rows = c.in_ok-rows.ensures })

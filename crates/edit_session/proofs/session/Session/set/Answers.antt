@@ -2,12 +2,14 @@ use Rattle.std.proofs.Common.{◌≡◌, ◌⊎◌, ◌<◌, ◌∙◌, ap, inl,
 use Rattle.bip_defs.specs.EditedMatrix.{with_place}
 use Rattle.bip_defs.specs.Lists.{Among}
 use Rattle.bip_defs.specs.Matching.{cols_of, rows_of}
-use Rattle.bip_defs.specs.Matrix.{IsEntry, Matrix, cols}
+use Rattle.bip_defs.specs.Matrix.{IsEntry, Matrix, cols, entry_count, transpose}
 use Rattle.bip_defs.proofs.EditLemmas.{with_place_new, without_goes_back}
 use Rattle.bip_graph.specs.Matching.{IsMatchingOf}
+use Rattle.hall_witness.specs.Back.{IsSearchedTo}
 use Rattle.hall_witness.specs.Covers.{IsCovered, IsSearched, IsSearchedFrom}
-use Rattle.edit_session.specs.Sessions.{IsSaturating, IsNearMaximum, IsPaired, MatchedMatrix}
-use Rattle.edit_session.proofs.SessionLemmas.{room_left, set_again, set_cover, set_saturating, set_long, set_matching, set_near}
+use Rattle.edit_session.specs.Sessions.{IsSaturating, IsPaired, MatchedMatrix}
+use Rattle.edit_session.proofs.SessionLemmas.{room_left, set_again, set_cover, set_matching, set_rows, set_saturating, turned_room_left}
+use Rattle.edit_session.proofs.TransposeLemmas.{turned_few, turned_within}
 use Rattle.edit_session.proofs.session.Session.set.Goals as goal
 
 pub returns-then-has-clause-matrix : goal.returns-then-has-clause-matrix
@@ -30,15 +32,32 @@ match_entry-requires-clause-matching g c =
     let put : c.put.new.self.matrix ≡ with_place c.self.inside.columns.matrix (c.args.row, c.args.col) = c.put.ensures.matrix ∙ ap (λ (a : Matrix). with_place a (c.args.row, c.args.col)) c.in_ok-make_room.ensures.matrix in
     subst (λ (a : Matrix). IsMatchingOf a c.self.inside.matching) (sym put) (set_matching c.self.inside.columns.matrix (c.args.row, c.args.col) c.self.inside.matching c.self.invariant.maximum.matching)
 
-pub match_entry-requires-clause-near : goal.match_entry-requires-clause-near
-match_entry-requires-clause-near g c =
-    let put : c.put.new.self.matrix ≡ with_place c.self.inside.columns.matrix (c.args.row, c.args.col) = c.put.ensures.matrix ∙ ap (λ (a : Matrix). with_place a (c.args.row, c.args.col)) c.in_ok-make_room.ensures.matrix in
-    subst (λ (a : Matrix). IsNearMaximum a c.self.inside.matching.pairs) (sym put) (set_near c.self.inside.columns.matrix (c.args.row, c.args.col) c.self.inside.matching c.self.invariant.maximum.maximum)
+pub make_room-requires-2-clause-col : goal.make_room-requires-2-clause-col
+make_room-requires-2-clause-col g c = rw c.row.view_is (turned_within c.self.inside.columns.matrix c.self.inside.rows.matrix c.args.row c.self.invariant.rows
+    (subst (λ (w : MatchedMatrix). c.args.row < w.matrix.rows) (sym c.self.view_is) c.requires.row))
 
-pub match_entry-requires-clause-long : goal.match_entry-requires-clause-long
-match_entry-requires-clause-long g c =
-    let put : c.put.new.self.matrix ≡ with_place c.self.inside.columns.matrix (c.args.row, c.args.col) = c.put.ensures.matrix ∙ ap (λ (a : Matrix). with_place a (c.args.row, c.args.col)) c.in_ok-make_room.ensures.matrix in
-    set_long c.self.inside.columns.matrix c.put.new.self.matrix (c.args.row, c.args.col) c.self.inside.cover put c.self.invariant.long
+pub make_room-requires-2-clause-few : goal.make_room-requires-2-clause-few
+make_room-requires-2-clause-few g c = rw c.row.view_is (turned_room_left c.self.inside.columns.matrix c.self.inside.rows.matrix c.args.row c.args.col c.self.invariant.rows c.is_pattern-2.ensures
+    (subst (λ (w : MatchedMatrix). c.args.col < cols w.matrix) (sym c.self.view_is) c.requires.col)
+    (λ e. true≢false (sym (c.has.ensures.1 e) ∙ c.if-has.false)))
+
+pub put-requires-2-clause-col : goal.put-requires-2-clause-col
+put-requires-2-clause-col g c = rw c.row-2.view_is (turned_within c.self.inside.columns.matrix c.make_room-2.new.self.matrix c.args.row (c.in_ok-make_room-2.ensures.matrix ∙ c.self.invariant.rows)
+    (subst (λ (w : MatchedMatrix). c.args.row < w.matrix.rows) (sym c.self.view_is) c.requires.row))
+
+pub put-requires-2-clause-few : goal.put-requires-2-clause-few
+put-requires-2-clause-few g c = turned_few c.self.inside.columns.matrix c.make_room-2.new.self.matrix (c.in_ok-make_room-2.ensures.matrix ∙ c.self.invariant.rows) c.is_pattern.ensures
+    (subst (λ (w : MatchedMatrix). entry_count w.matrix < 4294967295) (sym c.self.view_is) c.requires.few)
+
+pub match_entry-requires-clause-rows : goal.match_entry-requires-clause-rows
+match_entry-requires-clause-rows g c =
+    let a = c.self.inside.columns.matrix in
+    let put : c.put.new.self.matrix ≡ with_place a (c.args.row, c.args.col) = c.put.ensures.matrix ∙ ap (λ (z : Matrix). with_place z (c.args.row, c.args.col)) c.in_ok-make_room.ensures.matrix in
+    let turned : c.put-2.new.self.matrix ≡ with_place c.make_room-2.new.self.matrix (c.args.col, c.args.row) = rw c.row-2.view_is at (rw c.col.view_is at c.put-2.ensures.matrix) in
+    set_rows a c.put.new.self.matrix c.self.inside.rows.matrix c.put-2.new.self.matrix (c.args.row, c.args.col) put c.self.invariant.rows
+    (turned ∙ ap (λ (z : Matrix). with_place z (c.args.col, c.args.row)) c.in_ok-make_room-2.ensures.matrix)
+    (subst (λ (w : MatchedMatrix). c.args.row < w.matrix.rows) (sym c.self.view_is) c.requires.row)
+    (subst (λ (w : MatchedMatrix). c.args.col < cols w.matrix) (sym c.self.view_is) c.requires.col)
 
 pub match_entry-requires-clause-cover : goal.match_entry-requires-clause-cover
 match_entry-requires-clause-cover g c =
@@ -49,14 +68,24 @@ match_entry-requires-clause-cover g c =
     c.self.invariant.cover
 
 pub returns-then-has-clause-searched : goal.returns-then-has-clause-searched
-returns-then-has-clause-searched g c none partial other mated = absurd (none (subst (λ (w : MatchedMatrix). IsEntry w.matrix c.args.row c.args.col) c.self.view_is (c.has.ensures.0 c.if-has.true)))
+returns-then-has-clause-searched g c none partial other mated matched = absurd (none (subst (λ (w : MatchedMatrix). IsEntry w.matrix c.args.row c.args.col) c.self.view_is (c.has.ensures.0 c.if-has.true)))
 
 pub returns-clause-searched : goal.returns-clause-searched
 returns-clause-searched g c none =
     let a = c.self.inside.columns.matrix in
     let put : c.put.new.self.matrix ≡ with_place a (c.args.row, c.args.col) = c.put.ensures.matrix ∙ ap (λ (b : Matrix). with_place b (c.args.row, c.args.col)) c.in_ok-make_room.ensures.matrix in
-    subst (λ (w : MatchedMatrix). ¬ IsSaturating w.matrix w.matching.pairs → ¬ IsCovered w.matching.pairs w.marks (c.args.row, c.args.col) → Among c.args.col (cols_of w.matching.pairs)
+    subst (λ (w : MatchedMatrix). ¬ IsSaturating w.matrix w.matching.pairs → ¬ IsCovered w.matching.pairs w.marks (c.args.row, c.args.col) → Among c.args.col (cols_of w.matching.pairs) → Among c.args.row (rows_of w.matching.pairs)
     → IsSearched c.put.new.self.matrix w.matching.pairs c.match_entry.new.matching.pairs c.args.steps.now c.match_entry.new.steps) c.self.view_is (λ partial. c.match_entry.ensures.searched (λ full. partial ((set_saturating a c.put.new.self.matrix c.self.inside.matching.pairs (c.args.row, c.args.col) put).1 full)))
+
+pub returns-then-has-clause-searched_to : goal.returns-then-has-clause-searched_to
+returns-then-has-clause-searched_to g c none partial other mated out = absurd (none (subst (λ (w : MatchedMatrix). IsEntry w.matrix c.args.row c.args.col) c.self.view_is (c.has.ensures.0 c.if-has.true)))
+
+pub returns-clause-searched_to : goal.returns-clause-searched_to
+returns-clause-searched_to g c none =
+    let a = c.self.inside.columns.matrix in
+    let put : c.put.new.self.matrix ≡ with_place a (c.args.row, c.args.col) = c.put.ensures.matrix ∙ ap (λ (b : Matrix). with_place b (c.args.row, c.args.col)) c.in_ok-make_room.ensures.matrix in
+    subst (λ (w : MatchedMatrix). ¬ IsSaturating w.matrix w.matching.pairs → ¬ IsCovered w.matching.pairs w.marks (c.args.row, c.args.col) → Among c.args.col (cols_of w.matching.pairs) → ¬ Among c.args.row (rows_of w.matching.pairs)
+    → IsSearchedTo c.args.row c.put.new.self.matrix (transpose c.put.new.self.matrix) w.matching.pairs w.marks c.match_entry.new.matching.pairs c.match_entry.new.cover c.args.steps.now c.match_entry.new.steps) c.self.view_is (λ partial. c.match_entry.ensures.searched_to (λ full. partial ((set_saturating a c.put.new.self.matrix c.self.inside.matching.pairs (c.args.row, c.args.col) put).1 full)))
 
 pub returns-then-has-clause-searched_from : goal.returns-then-has-clause-searched_from
 returns-then-has-clause-searched_from g c none partial other free mated = absurd (none (subst (λ (w : MatchedMatrix). IsEntry w.matrix c.args.row c.args.col) c.self.view_is (c.has.ensures.0 c.if-has.true)))
