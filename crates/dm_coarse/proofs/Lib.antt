@@ -1,4 +1,4 @@
-pub mod FoundLemmas
+pub mod ForestLemmas
 pub mod GatheredLemmas
 pub mod NumberingLemmas
 pub mod SplitLemmas

@@ -1,4 +1,4 @@
-pub mod Found
+pub mod Forest
 pub mod Gathered
 pub mod Numbering
 pub mod Searches

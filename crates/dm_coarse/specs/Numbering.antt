@@ -1,13 +1,12 @@
--- The numbers of the connected components of a horizontal part, and what a search that gives them knows.
-use Rattle.std.specs.Prelude.{◌≡◌, ◌≢◌, ℕ, ◌<◌, ◌≤◌, List, ◌++◌, length, slice_index}
+-- The numbers of the connected components of a horizontal part, and the trees that lead to them.
+use Rattle.std.specs.Prelude.{◌≡◌, ◌≢◌, ℕ, ◌<◌, ◌≤◌, List, length, slice_index}
 use Rattle.bip_defs.specs.Blocks.{ColAt, RowAt, Vertex}
 use Rattle.bip_defs.specs.ConnectedComponents.{IsHorizontalVertex, Joined}
-use Rattle.bip_defs.specs.Lists.{Among, AreDistinct, IsMarked, IsRising}
+use Rattle.bip_defs.specs.Lists.{Among, IsRising}
 use Rattle.bip_defs.specs.Matrix.{IsEntry, Matrix, cols}
 use Rattle.bip_defs.specs.Parts.{IsHorizontalCol}
 use Rattle.bip_graph.specs.Matching.{none}
-use Rattle.dm_coarse.specs.declared.found.Found.{Found}
-use Rattle.dm_coarse.specs.declared.numbering.Search.{Search}
+use Rattle.dm_coarse.specs.Forest.{AreAnchors, AreAnchorsJoined, AreJoinedCols, AreParentsJoined, IsAlong, IsAnchored, IsForest, IsNode, IsSameForest}
 
 -- chains join the vertex with the column from which component k was found
 abbrev pub IsOfRoot : Matrix → List ℕ → ℕ → Vertex → Type 0
@@ -31,67 +30,53 @@ pub record AreNumbers (a : Matrix) (count : ℕ) (rs cs : List ℕ) : Type 0 whe
   pub same : (r c : ℕ) → IsHorizontalCol a c → IsEntry a r c
       → slice_index rs r ≡ slice_index cs c
 
--- what waits is not found, and all rows of the columns at the places before one are found, and all columns of all rows
-pub record IsClosed (a : Matrix) (place : ℕ) (rows cols_found : Found) : Type 0 where
-  pub long_rows : length rows.waiting.items ≡ a.rows
-  pub long_cols : length cols_found.waiting.items ≡ cols a
-  pub row_waits : (r : ℕ) → IsMarked rows.waiting.items r → ¬ Among r rows.queue.items
-  pub row_found : (r : ℕ) → r < a.rows → ¬ IsMarked rows.waiting.items r
-      → Among r rows.queue.items
-  pub row_in : (r : ℕ) → Among r rows.queue.items → r < a.rows
-  pub col_waits : (c : ℕ) → IsMarked cols_found.waiting.items c
-      → IsHorizontalCol a c × (¬ Among c cols_found.queue.items)
-  pub col_found : (c : ℕ) → IsHorizontalCol a c → ¬ IsMarked cols_found.waiting.items c
-      → Among c cols_found.queue.items
-  pub col_in : (c : ℕ) → Among c cols_found.queue.items → IsHorizontalCol a c
-  pub distinct : AreDistinct cols_found.queue.items
-  pub within : place ≤ length cols_found.queue.items
-  pub of_cols : (i r : ℕ) → i < place → IsEntry a r (slice_index cols_found.queue.items i)
-      → Among r rows.queue.items
-  pub of_rows : (r c : ℕ) → Among r rows.queue.items → IsHorizontalCol a c → IsEntry a r c
-      → Among c cols_found.queue.items
+-- each column of the list is its own parent, and no other column has one
+pub record HasOwnTrees (n : ℕ) (list parents : List ℕ) : Type 0 where
+  pub long : length parents ≡ n
+  pub own : (c : ℕ) → Among c list → slice_index parents c ≡ c
+  pub other : (c : ℕ) → c < n → slice_index parents c ≢ none → Among c list
 
--- the waiting column and others that waited are found, all of them joined with it by chains
-pub record FindsComponent (a : Matrix) (root : ℕ) (rows cols rows2 cols2 : Found) : Type 0 where
-  pub more_rows : List ℕ
-  pub more_cols : List ℕ
-  pub rows_are : rows2.queue.items ≡ rows.queue.items ++ more_rows
-  pub cols_are : cols2.queue.items ≡ cols.queue.items ++ more_cols
-  pub root_in : Among root more_cols
-  pub row : (r : ℕ) → Among r more_rows → IsMarked rows.waiting.items r
-      × Joined a (IsHorizontalVertex a) (ColAt root) (RowAt r)
-  pub col : (c : ℕ) → Among c more_cols → IsMarked cols.waiting.items c
-      × Joined a (IsHorizontalVertex a) (ColAt root) (ColAt c)
-  pub row_waits : (r : ℕ) → IsMarked rows2.waiting.items r → IsMarked rows.waiting.items r
-  pub col_waits : (c : ℕ) → IsMarked cols2.waiting.items c
-      → IsMarked cols.waiting.items c × (c ≢ root)
+-- the horizontal columns have parents, and chains of the part join all that shares a tree
+pub record AreTrees (a : Matrix) (parents anchors : List ℕ) : Type 0 where
+  pub forest : IsForest parents
+  pub in_forest : AreAnchors parents anchors
+  pub long_rows : length anchors ≡ a.rows
+  pub long_cols : length parents ≡ cols a
+  pub node : (c : ℕ) → IsHorizontalCol a c → IsNode parents c
+  pub horizontal : (c : ℕ) → IsNode parents c → IsHorizontalCol a c
+  pub parents_joined : AreParentsJoined a parents
+  pub anchors_joined : AreAnchorsJoined a anchors
 
--- those at the places of the list from one up to another have the number, and the others have the old one
-pub record AreGiven (list : List ℕ) (from to number : ℕ) (old new : List ℕ) : Type 0 where
-  pub given : (i : ℕ) → from ≤ i → i < to → slice_index new (slice_index list i) ≡ number
-  pub others : (x : ℕ) → ((i : ℕ) → from ≤ i → i < to → slice_index list i ≢ x)
-      → slice_index new x ≡ slice_index old x
+-- whoever shared a tree still does, rows too
+pub record Keeps (parents anchors parents2 anchors2 : List ℕ) : Type 0 where
+  pub forest : IsSameForest parents parents2
+  pub anchored : (r c : ℕ) → IsAnchored parents anchors r c → IsAnchored parents2 anchors2 r c
 
--- what was found has a number, by the root of its component, and nothing else has one
-pub record AreSearched (a : Matrix) (s : Search) : Type 0 where
-  pub closed : IsClosed a (length s.cols.queue.items) s.rows s.cols
+-- what shares a tree is joined by chains of the part, and entries join what shares a tree alone
+pub record AreComponents (a : Matrix) (parents anchors : List ℕ) : Type 0 where
+  pub trees : AreTrees a parents anchors
+  pub entry : (r c : ℕ) → IsHorizontalCol a c → IsEntry a r c → IsAnchored parents anchors r c
+
+-- each column of the forest has the number of its root, the least column of its tree, and the roots' numbers rise
+pub record AreColNumbers (parents : List ℕ) (count : ℕ) (numbers : List ℕ) : Type 0 where
   pub roots : List ℕ
-  pub count_is : length roots ≡ s.numbers.count
+  pub count_is : length roots ≡ count
+  pub few : count ≤ none
   pub rising : IsRising roots
-  pub root : (k : ℕ) → k < length roots → Among (slice_index roots k) s.cols.queue.items
-      × (slice_index s.numbers.cols.items (slice_index roots k) ≡ k)
-  pub after : (k c : ℕ) → k < length roots → IsMarked s.cols.waiting.items c
-      → slice_index roots k < c
-  pub long_rows : length s.numbers.rows.items ≡ a.rows
-  pub long_cols : length s.numbers.cols.items ≡ cols a
-  pub row : (r : ℕ) → Among r s.rows.queue.items
-      → IsOfRoot a roots (slice_index s.numbers.rows.items r) (RowAt r)
-  pub no_row : (r : ℕ) → r < a.rows → ¬ Among r s.rows.queue.items
-      → slice_index s.numbers.rows.items r ≡ none
-  pub col : (c : ℕ) → Among c s.cols.queue.items
-      → IsOfRoot a roots (slice_index s.numbers.cols.items c) (ColAt c)
-      × (slice_index roots (slice_index s.numbers.cols.items c) ≤ c)
-  pub no_col : (c : ℕ) → c < cols a → ¬ Among c s.cols.queue.items
-      → slice_index s.numbers.cols.items c ≡ none
-  pub same : (r c : ℕ) → Among r s.rows.queue.items → IsHorizontalCol a c → IsEntry a r c
-      → slice_index s.numbers.rows.items r ≡ slice_index s.numbers.cols.items c
+  pub root : (k : ℕ) → k < count
+      → IsNode parents (slice_index roots k) × (slice_index numbers (slice_index roots k) ≡ k)
+  pub long : length numbers ≡ length parents
+  pub along : IsAlong (slice_index numbers) parents
+  pub number : (c : ℕ) → IsNode parents c → slice_index numbers c < count
+  pub least : (c : ℕ) → IsNode parents c → slice_index roots (slice_index numbers c) ≤ c
+  pub joined : (a : Matrix) → AreParentsJoined a parents → (c : ℕ) → IsNode parents c
+      → AreJoinedCols a (slice_index roots (slice_index numbers c)) c
+  pub other : (c : ℕ) → c < length parents → slice_index numbers c < count → IsNode parents c
+
+-- each row has the number of its anchor, and none where it has none
+pub record AreNumbersOfRows (numbers anchors rows : List ℕ) : Type 0 where
+  pub long : length rows ≡ length anchors
+  pub row : (r : ℕ) → r < length anchors → slice_index anchors r ≢ none
+      → slice_index rows r ≡ slice_index numbers (slice_index anchors r)
+  pub none_stays : (r : ℕ) → r < length anchors → slice_index anchors r ≡ none
+      → slice_index rows r ≡ none

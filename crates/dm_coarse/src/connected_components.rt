@@ -4,7 +4,7 @@ ghost use Rattle.std.specs.Prelude.{◌≡◌, ◌+◌, ◌<◌, ◌^◌, length
 ghost use Rattle.bip_defs.specs.ConnectedComponents.{AreConnectedComponents, AreOrderedComponents, IsHorizontalVertex, IsVerticalVertex, least_row};
 ghost use Rattle.bip_defs.specs.Blocks.{least_col};
 ghost use Rattle.bip_defs.specs.Lists.{Lists};
-ghost use Rattle.bip_defs.specs.Matrix.{IsTransposeOf, Matrix, cols, upto};
+ghost use Rattle.bip_defs.specs.Matrix.{Matrix, cols, upto};
 ghost use Rattle.bip_defs.specs.Parts.{ArePartsOf, IsHorizontalCol, IsVerticalRow};
 ghost use Rattle.bip_graph.specs.Decompositions.{components_of, parts_of};
 ghost use Rattle.dm_coarse.specs.Gathered.{AreGathered};
@@ -20,14 +20,15 @@ use std::alloc::Global;
 /// The connected components of the horizontal and of the vertical part, from the parts: all of
 /// them, the horizontal ones by their least columns and the vertical ones by their least rows.
 ///
-/// Two searches, breadth first over the entries of a part in both orders: from the columns of the
-/// horizontal part, and from the rows of the vertical part over the transpose, which is not made. A
-/// part that is empty costs nothing.
+/// Two forests of disjoint sets (Galler and Fisher 1964): of the columns of the horizontal part, by
+/// its rows, and of the rows of the vertical part, by its columns. A part that is empty costs
+/// nothing.
 ///
-/// Answers `OutOfMemory` where 5 bytes a row and a column and 4 for each row and column of the part
-/// can't be had for the search of a part, then 4 a row and a column and 8 a component to gather
-/// them, and as much for their lists. Work: each entry of a row and of a column of a part is looked
-/// at once, and each row and column of the matrix a fixed number of times.
+/// Answers `OutOfMemory` where 4 bytes a row and a column can't be had for a part, then 4 a row and
+/// a column and 8 a component to gather them, and as much for their lists. Work: each entry of a
+/// column of the horizontal and of a row of the vertical part is looked at once, with a walk to a
+/// root, which takes a logarithmic number of steps at most on the average of all walks (Tarjan and
+/// van Leeuwen 1984); each row and column of the matrix a fixed number of times.
 pub fn components(
     alloc: Global,
     pattern: &Pattern,
@@ -59,8 +60,7 @@ fn horizontal_components(
         return Ok(Blocks::new(alloc));
     }
     pattern.is_pattern();
-    let from_rows = FromRows { pattern };
-    let found = search_part::<Row, Col, Pattern, FromRows>(alloc, pattern, &from_rows, cols)?;
+    let found = join_part::<Row, Col, Pattern>(alloc, pattern, cols)?;
     let (rows, cols) = found;
     listed(alloc, &rows, &cols, parts.hr.len(), parts.hc.len())
 }
@@ -81,26 +81,24 @@ fn vertical_components(
     }
     pattern.is_pattern();
     let from_rows = FromRows { pattern };
-    let found = search_part::<Col, Row, FromRows, Pattern>(alloc, &from_rows, pattern, rows)?;
+    let found = join_part::<Col, Row, FromRows>(alloc, &from_rows, rows)?;
     let (cols, rows) = found;
     listed(alloc, &rows, &cols, parts.vr.len(), parts.vc.len())
 }
 
 // The rows and the columns of each component of the horizontal part of the matrix that a side sees,
-// which has these columns; `across` sees its transpose.
-fn search_part<F: Id, N: Id, S: Side<F>, T: Side<N>>(
+// which has these columns.
+fn join_part<F: Id, N: Id, S: Side<F>>(
     alloc: Global,
     side: &S,
-    across: &T,
     columns: &[N],
 ) -> Result<(Groups<F>, Groups<N>), OutOfMemory>
-    requires across { IsTransposeOf (S.matrix side.now) (T.matrix across.now) }
     requires columns { Lists (IsHorizontalCol (S.matrix side.now)) (map N.number columns.now) }
     requires few_rows { Matrix.rows (S.matrix side.now) < 2 ^ 32 }
     requires few_cols { cols (S.matrix side.now) < 2 ^ 32 }
     ensures { IfOk result (λ g. AreGathered (S.matrix side.now) (length g.1) g.0 g.1) }
 {
-    let numbers = number_components(alloc, side, across, columns)?;
+    let numbers = number_components(alloc, side, columns)?;
     let rows = gather(alloc, numbers.rows.as_slice(), numbers.count)?;
     let cols = gather(alloc, numbers.cols.as_slice(), numbers.count)?;
     Ok((rows, cols))

@@ -3,7 +3,7 @@
 #![tactic(auto)]
 
 mod connected_components;
-mod found;
+mod forest;
 mod numbering;
 mod searches;
 mod split;

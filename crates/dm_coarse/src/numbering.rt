@@ -1,20 +1,17 @@
-//! A search that numbers the connected components of the horizontal part of the matrix that a side
-//! sees.
+//! The numbers of the connected components of the horizontal part of the matrix that a side sees.
 
-ghost use Rattle.std.specs.Prelude.{◌≡◌, ◌≢◌, ◌+◌, ◌<◌, ◌≤◌, ◌^◌, ℕ, false, length, map, slice_index, replicate, IfOk, OnOk};
-ghost use Rattle.bip_defs.specs.Lists.{Among, IsMarked, Lists};
-ghost use Rattle.bip_defs.specs.Matrix.{IsTransposeOf, Matrix, cols};
+ghost use Rattle.std.specs.Prelude.{◌≡◌, ◌≢◌, ◌⊎◌, ◌<◌, ◌≤◌, ◌^◌, ℕ, length, map, slice_index, IfOk};
+ghost use Rattle.bip_defs.specs.Lists.{Among, Lists};
+ghost use Rattle.bip_defs.specs.Matrix.{IsEntry, Matrix, cols};
 ghost use Rattle.bip_defs.specs.Parts.{IsHorizontalCol};
 ghost use Rattle.bip_graph.specs.Matching.{none};
-ghost use Rattle.dm_coarse.specs.Numbering.{AreGiven, AreNumbers, AreSearched, FindsComponent, IsClosed};
+ghost use Rattle.dm_coarse.specs.Forest.{IsAnchored, IsForest, IsNode};
+ghost use Rattle.dm_coarse.specs.Numbering.{AreColNumbers, AreComponents, AreNumbers, AreNumbersOfRows, AreTrees, HasOwnTrees, Keeps};
 
-use crate::found::{Found, expand};
-use sp_ids::{Id, OutOfMemory};
+use crate::forest::{NONE, anchor, root_of};
+use sp_ids::{Col, Id, OutOfMemory};
 use sp_pattern::Side;
 use std::alloc::{AllocError, Global};
-
-// No component has this number.
-const NONE: u32 = u32::MAX;
 
 /// The number of the component of each row and each column; no number below the count, where it is
 /// of another part.
@@ -25,151 +22,127 @@ pub struct Numbers {
     pub cols: Vec<u32>,
 }
 
-/// What a search has found, and the numbers of that.
-#[derive(Drop)]
-pub struct Search {
-    pub rows: Found,
-    pub cols: Found,
-    pub numbers: Numbers,
-}
-
 /// Numbers the components of the horizontal part from 0 on, by their least columns.
 ///
-/// Breadth first from the least column that waits, over its rows to their columns, and again from
-/// the next one: each time all rows of the columns last found, and then all columns of these rows.
-/// Marks of one byte tell what waits, and a component is numbered once it is whole. `across` sees
-/// the transpose; the columns are those of the horizontal part, rising. It takes 5 bytes a row and a
-/// column, of which 4 are kept, and 4 for each row and column of the part. Work: each entry of a row
-/// and of a column of the part is looked at once.
-pub fn number_components<F: Id, N: Id, S: Side<F>, T: Side<N>>(
+/// A forest of disjoint sets (Galler and Fisher 1964): each column of the part is a tree of its own
+/// at first, and each row makes one tree of those of its columns. A root is the least column of its
+/// tree, and each walk to one halves the path (Tarjan and van Leeuwen 1984). The lists of the
+/// columns are read in order, and the lists of the rows not at all. Then each tree has a number, its
+/// columns theirs in place of their parents, and its rows theirs in place of their anchors.
+///
+/// It takes 4 bytes a row and 4 a column, which are kept. Work: one look at each entry of a column
+/// of the part, with a walk to a root, which takes a logarithmic number of steps at most on the
+/// average of all walks; and a fixed number of looks at each row and each column.
+pub fn number_components<F: Id, N: Id, S: Side<F>>(
     alloc: Global,
     side: &S,
-    across: &T,
     columns: &[N],
 ) -> Result<Numbers, OutOfMemory>
-    requires across { IsTransposeOf (S.matrix side.now) (T.matrix across.now) }
     requires columns { Lists (IsHorizontalCol (S.matrix side.now)) (map N.number columns.now) }
     requires few { cols (S.matrix side.now) < 2 ^ 32 }
     ensures { IfOk result (λ n. AreNumbers (S.matrix side.now) n.count n.rows.items n.cols.items) }
 {
-    let mut search = all_waiting(alloc, side, columns)?;
+    let mut rows = vec![in alloc; NONE; side.rows() as usize]?;
+    let mut cols = own_trees(alloc, side.cols() as usize, columns)?;
+    let count = number_all(side, columns, rows.as_mut_slice(), cols.as_mut_slice());
+    Ok(Numbers { count, rows, cols })
+}
+
+// Each of these columns is its own parent, and no other has one.
+fn own_trees<N: Id>(alloc: Global, cols: usize, columns: &[N]) -> Result<Vec<u32>, AllocError>
+    requires { (c : ℕ) → Among c (map N.number columns.now) → c < cols }
+    ensures { IfOk result (λ v. HasOwnTrees cols (map N.number columns.now) v.items) }
+{
+    let mut parents = vec![in alloc; NONE; cols]?;
     for at in 0..columns.len() {
         let col = columns[at].number();
-        if search.cols.waiting[col as usize] {
-            number_component(side, across, col, &mut search)?;
-        }
+        parents[col as usize] = col;
     }
-    Ok(search.numbers)
+    Ok(parents)
 }
 
-// All rows, and all columns of the part, wait.
-fn all_waiting<F: Id, N: Id, S: Side<F>>(
-    alloc: Global,
+// Numbers the components in place of the parents and of the anchors, and tells how many they are.
+fn number_all<F: Id, N: Id, S: Side<F>>(
     side: &S,
     columns: &[N],
-) -> Result<Search, AllocError>
+    anchors: &mut [u32],
+    parents: &mut [u32],
+) -> u32
     requires columns { Lists (IsHorizontalCol (S.matrix side.now)) (map N.number columns.now) }
-    ensures search { IfOk result (AreSearched (S.matrix side.now)) }
-    ensures none { IfOk result (λ s. s.numbers.count ≡ 0) }
+    requires few { cols (S.matrix side.now) < 2 ^ 32 }
+    requires trees { AreTrees (S.matrix side.now) parents.old anchors.old }
+    ensures { AreNumbers (S.matrix side.now) result anchors.new parents.new }
 {
-    let (rows, cols) = (side.rows() as usize, side.cols() as usize);
-    // Each row of the part is the mate of one of these columns.
-    let room = columns.len().min(rows);
-    Ok(Search {
-        rows: Found {
-            waiting: vec![in alloc; true; rows]?,
-            queue: Vec::with_capacity(alloc, room)?,
-        },
-        cols: Found {
-            waiting: marks(alloc, cols, columns)?,
-            queue: Vec::with_capacity(alloc, columns.len())?,
-        },
-        numbers: Numbers {
-            count: 0,
-            rows: vec![in alloc; NONE; rows]?,
-            cols: vec![in alloc; NONE; cols]?,
-        },
-    })
+    join_all(side, columns, anchors, parents);
+    let count = number_cols(columns, parents);
+    number_rows(parents, anchors);
+    count
 }
 
-// Marks these columns.
-fn marks<N: Id>(alloc: Global, cols: usize, columns: &[N]) -> Result<Vec<bool>, AllocError>
-    requires { (c : ℕ) → Among c (map N.number columns.now) → c < cols }
-    ensures long { IfOk result (λ v. length v.items ≡ cols) }
-    ensures sound { IfOk result
-        (λ v. (c : ℕ) → IsMarked v.items c → Among c (map N.number columns.now)) }
-    ensures complete { IfOk result
-        (λ v. (c : ℕ) → Among c (map N.number columns.now) → IsMarked v.items c) }
+// Makes one tree of the columns of each component, and anchors its rows there.
+fn join_all<F: Id, N: Id, S: Side<F>>(
+    side: &S,
+    columns: &[N],
+    anchors: &mut [u32],
+    parents: &mut [u32],
+)
+    requires columns { Lists (IsHorizontalCol (S.matrix side.now)) (map N.number columns.now) }
+    requires trees { AreTrees (S.matrix side.now) parents.old anchors.old }
+    ensures { AreComponents (S.matrix side.now) parents.new anchors.new }
 {
-    let mut marks = vec![in alloc; false; cols]?;
     for at in 0..columns.len() {
-        marks[columns[at].number() as usize] = true;
+        join(side, columns[at].number(), anchors, parents);
     }
-    Ok(marks)
 }
 
-// Gives the next number to the component of a column, the least that waits.
-fn number_component<F: Id, N: Id, S: Side<F>, T: Side<N>>(
-    side: &S,
-    across: &T,
-    root: u32,
-    search: &mut Search,
-) -> Result<(), AllocError>
-    requires across { IsTransposeOf (S.matrix side.now) (T.matrix across.now) }
-    requires search { AreSearched (S.matrix side.now) search.old }
-    requires root { IsMarked search.old.cols.waiting.items root }
-    requires least { (c : ℕ) → IsMarked search.old.cols.waiting.items c → root ≤ c }
-    requires few { search.old.numbers.count < none }
-    ensures search { OnOk result (AreSearched (S.matrix side.now) search.new) }
-    ensures count { OnOk result (search.new.numbers.count ≡ search.old.numbers.count + 1) }
-    ensures waits { OnOk result ((c : ℕ) → IsMarked search.new.cols.waiting.items c
-        → IsMarked search.old.cols.waiting.items c × (c ≢ root)) }
+// Makes one tree of those of a column and of its rows.
+fn join<F: Id, S: Side<F>>(side: &S, col: u32, anchors: &mut [u32], parents: &mut [u32])
+    requires trees { AreTrees (S.matrix side.now) parents.old anchors.old }
+    requires col { IsHorizontalCol (S.matrix side.now) col }
+    ensures trees { AreTrees (S.matrix side.now) parents.new anchors.new }
+    ensures keeps { Keeps parents.old anchors.old parents.new anchors.new }
+    ensures rows { (r : ℕ) → IsEntry (S.matrix side.now) r col
+        → IsAnchored parents.new anchors.new r col }
 {
-    let (first_row, first_col) = (search.rows.queue.len(), search.cols.queue.len());
-    explore(side, across, root, &mut search.rows, &mut search.cols)?;
-    let numbers = &mut search.numbers;
-    let (rows, cols) = (search.rows.queue.as_slice(), search.cols.queue.as_slice());
-    give(rows, first_row, numbers.count, numbers.rows.as_mut_slice());
-    give(cols, first_col, numbers.count, numbers.cols.as_mut_slice());
-    numbers.count += 1;
-    Ok(())
-}
-
-// Finds a column that waits, and all that entries join with it.
-fn explore<F: Id, N: Id, S: Side<F>, T: Side<N>>(
-    side: &S,
-    across: &T,
-    root: u32,
-    rows: &mut Found,
-    cols: &mut Found,
-) -> Result<(), AllocError>
-    requires across { IsTransposeOf (S.matrix side.now) (T.matrix across.now) }
-    requires closed { IsClosed (S.matrix side.now) (length cols.old.queue.items) rows.old cols.old }
-    requires root { IsMarked cols.old.waiting.items root }
-    ensures closed { OnOk result
-        (IsClosed (S.matrix side.now) (length cols.new.queue.items) rows.new cols.new) }
-    ensures component { OnOk result
-        (FindsComponent (S.matrix side.now) root rows.old cols.old rows.new cols.new) }
-{
-    let (mut next_row, mut next_col) = (rows.queue.len(), cols.queue.len());
-    cols.waiting[root as usize] = false;
-    cols.queue.push(root)?;
-    while next_col < cols.queue.len() {
-        expand(side, cols.queue.as_slice(), next_col, rows)?;
-        next_col = cols.queue.len();
-        expand(across, rows.queue.as_slice(), next_row, cols)?;
-        next_row = rows.queue.len();
+    let mut root = root_of(col, parents);
+    let rows = side.rows_of(Col(col));
+    for at in 0..rows.len() {
+        root = anchor(rows[at].number(), root, anchors, parents);
     }
-    Ok(())
 }
 
-// Gives the number to those at the places of a queue from one on.
-fn give(queue: &[u32], from: usize, number: u32, numbers: &mut [u32])
-    requires from { from ≤ length queue.now }
-    requires queue { (x : ℕ) → Among x queue.now → x < length numbers.old }
-    ensures { AreGiven queue.now from (length queue.now) number numbers.old numbers.new }
+// Gives each tree the next number, in the order of the roots, and each column that of its tree, in
+// place of its parent.
+fn number_cols<N: Id>(columns: &[N], parents: &mut [u32]) -> u32
+    requires forest { IsForest parents.old }
+    requires columns { Lists (IsNode parents.old) (map N.number columns.now) }
+    requires few { length parents.old < 2 ^ 32 }
+    ensures { AreColNumbers parents.old result parents.new }
 {
-    for at in from..queue.len() {
-        numbers[queue[at] as usize] = number;
+    let mut count = 0;
+    for at in 0..columns.len() {
+        let col = columns[at].number();
+        let parent = parents[col as usize];
+        if parent == col {
+            parents[col as usize] = count;
+            count += 1;
+        } else {
+            parents[col as usize] = parents[parent as usize];
+        }
+    }
+    count
+}
+
+// Gives each row the number of its anchor, in its place.
+fn number_rows(numbers: &[u32], anchors: &mut [u32])
+    requires { (r : ℕ) → r < length anchors.old → slice_index anchors.old r ≢ none
+        → slice_index anchors.old r < length numbers.now }
+    ensures { AreNumbersOfRows numbers.now anchors.old anchors.new }
+{
+    for row in 0..anchors.len() {
+        let anchor = anchors[row];
+        if anchor != NONE {
+            anchors[row] = numbers[anchor as usize];
+        }
     }
 }

@@ -2,12 +2,8 @@ use Rattle.std.proofs.Common.{rules, ◌≡◌, length, sym, subst}
 use Rattle.std.proofs.lemmas.Result.{IfOk-weaker}
 use Rattle.bip_defs.specs.Blocks.{least_col}
 use Rattle.bip_defs.specs.ConnectedComponents.{AreOrderedComponents, IsHorizontalVertex}
-use Rattle.bip_defs.proofs.Transposed.{transpose_is}
 use Rattle.dm_coarse.proofs.GatheredLemmas.{are_components, no_horizontal}
 use Rattle.dm_coarse.proofs.connected_components.horizontal_components.Goals as goal
-
-pub search_part-requires-clause-across : goal.search_part-requires-clause-across
-search_part-requires-clause-across c = transpose_is c.args.pattern.now
 
 pub returns : goal.returns
 returns c =

@@ -7,23 +7,20 @@ use Rattle.bip_defs.specs.Matrix.{transpose, upto}
 use Rattle.bip_defs.specs.Parts.{IsHorizontalCol, IsVerticalRow}
 use Rattle.bip_defs.proofs.Connected.{vertical_components}
 use Rattle.bip_defs.proofs.Sets.{lists_same}
-use Rattle.bip_defs.proofs.Transposed.{transpose_back, transpose_cols, transpose_is, turned_vertical, vertical_turned}
+use Rattle.bip_defs.proofs.Transposed.{transpose_cols, transpose_is, turned_vertical, vertical_turned}
 use Rattle.id_groups.specs.Groups.{block_of}
 use Rattle.dm_coarse.proofs.GatheredLemmas.{are_components, no_vertical, turned_listed}
 use Rattle.dm_coarse.proofs.connected_components.vertical_components.Goals as goal
 
-pub search_part-requires-clause-across : goal.search_part-requires-clause-across
-search_part-requires-clause-across c = transpose_back c.args.pattern.now _ (transpose_is c.args.pattern.now)
-
-pub search_part-requires-clause-columns : goal.search_part-requires-clause-columns
-search_part-requires-clause-columns c =
+pub join_part-requires-clause-columns : goal.join_part-requires-clause-columns
+join_part-requires-clause-columns c =
     let a = c.args.pattern.now in
     let t = transpose_is a in
     let rows = c.args.parts.now.vr.items in
     rw c.as_slice-rows.ensures.value (subst (Lists (IsHorizontalCol (transpose a))) (sym (map-id rows)) (lists_same (IsVerticalRow a) (IsHorizontalCol (transpose a)) rows (λ r v. vertical_turned a (transpose a) r t v) (λ r h. turned_vertical a (transpose a) r t h) c.requires.vertical_rows))
 
-pub search_part-requires-clause-few_cols : goal.search_part-requires-clause-few_cols
-search_part-requires-clause-few_cols c = let e = transpose_cols c.args.pattern.now in let lt = c.is_pattern.ensures.few_rows in omega (arith, e, lt)
+pub join_part-requires-clause-few_cols : goal.join_part-requires-clause-few_cols
+join_part-requires-clause-few_cols c = let e = transpose_cols c.args.pattern.now in let lt = c.is_pattern.ensures.few_rows in omega (arith, e, lt)
 
 pub returns : goal.returns
 returns c =
