@@ -14,6 +14,7 @@ pub mod PhaseLemmas
 pub mod RaisedDuals
 pub mod RaisedPrices
 pub mod Repeated
+pub mod RowWeightLemmas
 pub mod ScanLemmas
 pub mod SearchInvariant
 pub mod StartLemmas

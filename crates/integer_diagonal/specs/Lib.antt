@@ -9,4 +9,5 @@ pub mod Labels
 pub mod Mated
 pub mod Nearness
 pub mod Prices
+pub mod RowWeights
 pub mod SearchTree

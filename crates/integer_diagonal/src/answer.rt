@@ -37,13 +37,13 @@ use std::alloc::Global;
 /// rows as columns; `Singular` exactly where it has, and its rank is less, with the columns that
 /// some maximum matching misses. Answers `OutOfMemory` where there is no memory for what
 /// `karp_sipser::start` and `pothen_fan::complete` take, for the blocks, for a pattern of the
-/// entries that cost as much as the prices ask, for the prices of a phase, or for the tables and
-/// the heap of a search. The tables take 65 bytes a row or column where the greatest price to begin
-/// with, times 3 n + 4 for n columns, is less than 2^64 - 1: then all sums of a search are kept in
-/// numbers of 64 bits. Else they are kept in numbers of 128 bits, and the tables take 97 bytes a row
-/// or column. That price is the greatest weight; or, where a row or a column has one entry alone and
-/// not all weights are equal, that weight times one more than twice the blocks, if that is at most
-/// 2^62.
+/// entries that cost as much as the prices ask, for the prices of a phase and the weights row by
+/// row, which are 8 bytes an entry and 8 a row, or for the tables and the heap of a search. The
+/// tables take 65 bytes a row or column where the greatest price to begin with, times 3 n + 4 for n
+/// columns, is less than 2^64 - 1: then all sums of a search are kept in numbers of 64 bits. Else
+/// they are kept in numbers of 128 bits, and the tables take 97 bytes a row or column. That price is
+/// the greatest weight; or, where a row or a column has one entry alone and not all weights are
+/// equal, that weight times one more than twice the blocks, if that is at most 2^62.
 ///
 /// Work: a maximum matching of the whole pattern, after which a matrix with no diagonal is
 /// answered; its blocks, where a row or a column has one entry alone; and, unless that matching
@@ -52,9 +52,9 @@ use std::alloc::Global;
 /// as these are short; then phases, each of which goes from all unmatched columns at once, or from
 /// all unmatched rows, raises prices by the distances and matches what costs as much as these ask,
 /// as long as each matches a column more and sums have room; and one search for each column that is
-/// left then. A search looks at each entry once at most, a phase three times, from the rows with a
-/// search in its column, and both keep what they reach in a heap (Kuhn 1955; Munkres 1957; Gabow
-/// and Tarjan 1989; Duff and Koster 2001).
+/// left then. A search looks at each entry once at most, a phase three times, and both keep what
+/// they reach in a heap; before the first phase one look at each entry puts down the weights row by
+/// row (Kuhn 1955; Munkres 1957; Gabow and Tarjan 1989; Duff and Koster 2001).
 pub fn heaviest(
     alloc: Global,
     pattern: &Pattern,

@@ -28,8 +28,8 @@ pub struct Blocks {
     pub count: u32,
 }
 
-// The most that a price may be to begin with where blocks stand apart: those that are told fit 64
-// bits with their signs then, as they do for weights that are not near the greatest of all.
+// The most that a price may be to begin with where blocks stand apart. So those that are told begin
+// below 2^62 in magnitude; how far they go from there is left open.
 const HIGHEST_PRICE: u64 = 1 << 62;
 
 impl Blocks {

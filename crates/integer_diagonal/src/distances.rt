@@ -11,10 +11,10 @@ use crate::amount::Amount;
 use crate::assignment::Assignment;
 use crate::frontier::Frontier;
 use crate::side::Side;
+use crate::weighted_pattern::WeightedPattern;
 use crate::width::Width;
 use bip_graph::Matching;
 use sp_ids::{Col, Id, OutOfMemory, Row};
-use sp_pattern::{Pattern, Weights};
 use std::alloc::{AllocError, Global};
 
 /// How far the vertices of one side are from the nearest unmatched one of the other by reduced costs,
@@ -35,39 +35,32 @@ impl<W: Width> Distances<W> {
     /// unmatched ones are reached, or there are no more within the greatest cost (Dijkstra 1959).
     ///
     /// Answers `OutOfMemory` where the distances, or the heap, can't be had. Work: at most one look
-    /// at each entry, and from the rows a search in its column for each.
+    /// at each entry.
     pub fn spread(
         alloc: Global,
-        pattern: &Pattern,
-        weights: &Weights,
+        graph: &WeightedPattern,
         assignment: &Assignment<W>,
         side: Side,
         unmatched: u32,
     ) -> Result<Distances<W>, OutOfMemory>
-        requires of { weights.now.matrix ≡ pattern.now }
-        requires square { pattern.now.rows ≡ cols pattern.now }
-        requires assignment { IsAssignment weights.now assignment.now }
-        requires room { HasRoom (cols pattern.now) assignment.now.top W.limit }
-        ensures { IfOk result (λ l. AreWithin pattern.now.rows assignment.now.top l) }
+        requires square { graph.now.pattern.now.rows ≡ cols graph.now.pattern.now }
+        requires assignment { IsAssignment graph.now.weights.now assignment.now }
+        requires room { HasRoom (cols graph.now.pattern.now) assignment.now.top W.limit }
+        ensures { IfOk result (λ l. AreWithin graph.now.pattern.now.rows assignment.now.top l) }
     {
-        let of_far = vec![in alloc; Amount::infinity(); pattern.rows() as usize]?;
+        let of_far = vec![in alloc; Amount::infinity(); graph.pattern.rows() as usize]?;
         let mut distances = Distances {
             side,
             of_far,
             radius: Amount::zero(),
             frontier: Frontier::new(alloc),
         };
-        for near in 0..pattern.rows() {
+        for near in 0..graph.pattern.rows() {
             if side.mate(&assignment.matching, near).is_none() {
-                distances.scan(pattern, weights, assignment, near, Amount::zero())?;
+                distances.scan(graph, assignment, near, Amount::zero())?;
             }
         }
-        distances.settle(
-            pattern,
-            weights,
-            assignment,
-            unmatched.saturating_sub(unmatched / 5),
-        )?;
+        distances.settle(graph, assignment, unmatched.saturating_sub(unmatched / 5))?;
         Ok(distances)
     }
 
@@ -120,20 +113,18 @@ impl<W: Width> Distances<W> {
     // them.
     fn settle(
         &mut self,
-        pattern: &Pattern,
-        weights: &Weights,
+        graph: &WeightedPattern,
         assignment: &Assignment<W>,
         wanted: u32,
     ) -> Result<(), AllocError>
-        requires of { weights.now.matrix ≡ pattern.now }
-        requires square { pattern.now.rows ≡ cols pattern.now }
-        requires assignment { IsAssignment weights.now assignment.now }
-        requires room { HasRoom (cols pattern.now) assignment.now.top W.limit }
-        requires near { AreNear pattern.now.rows assignment.now.top self.old }
-        ensures { OnOk result (AreWithin pattern.now.rows assignment.now.top self.new) }
+        requires square { graph.now.pattern.now.rows ≡ cols graph.now.pattern.now }
+        requires assignment { IsAssignment graph.now.weights.now assignment.now }
+        requires room { HasRoom (cols graph.now.pattern.now) assignment.now.top W.limit }
+        requires near { AreNear graph.now.pattern.now.rows assignment.now.top self.old }
+        ensures { OnOk result (AreWithin graph.now.pattern.now.rows assignment.now.top self.new) }
     {
         let mut wanted = wanted;
-        for _turn in 0..pattern.rows() {
+        for _turn in 0..graph.pattern.rows() {
             if wanted == 0 {
                 return Ok(());
             }
@@ -142,7 +133,7 @@ impl<W: Width> Distances<W> {
                     let (distance, far) = nearest;
                     self.radius = distance;
                     match self.side.other().mate(&assignment.matching, far) {
-                        Some(near) => self.scan(pattern, weights, assignment, near, distance)?,
+                        Some(near) => self.scan(graph, assignment, near, distance)?,
                         None => wanted -= 1,
                     }
                 }
@@ -173,48 +164,44 @@ impl<W: Width> Distances<W> {
     // Looks at the entries of a near vertex at this distance.
     fn scan(
         &mut self,
-        pattern: &Pattern,
-        weights: &Weights,
+        graph: &WeightedPattern,
         assignment: &Assignment<W>,
         near: u32,
         depth: Amount<W>,
     ) -> Result<(), AllocError>
-        requires of { weights.now.matrix ≡ pattern.now }
-        requires square { pattern.now.rows ≡ cols pattern.now }
-        requires assignment { IsAssignment weights.now assignment.now }
-        requires room { HasRoom (cols pattern.now) assignment.now.top W.limit }
-        requires vertex { near < pattern.now.rows }
+        requires square { graph.now.pattern.now.rows ≡ cols graph.now.pattern.now }
+        requires assignment { IsAssignment graph.now.weights.now assignment.now }
+        requires room { HasRoom (cols graph.now.pattern.now) assignment.now.top W.limit }
+        requires vertex { near < graph.now.pattern.now.rows }
         requires depth { depth ≤ assignment.now.top }
-        requires near { AreNear pattern.now.rows assignment.now.top self.old }
-        ensures { OnOk result (AreNear pattern.now.rows assignment.now.top self.new) }
+        requires near { AreNear graph.now.pattern.now.rows assignment.now.top self.old }
+        ensures { OnOk result (AreNear graph.now.pattern.now.rows assignment.now.top self.new) }
     {
         match self.side {
-            Side::Columns => self.scan_col(pattern, weights, assignment, Col(near), depth),
-            Side::Rows => self.scan_row(pattern, weights, assignment, Row(near), depth),
+            Side::Columns => self.scan_col(graph, assignment, Col(near), depth),
+            Side::Rows => self.scan_row(graph, assignment, Row(near), depth),
         }
     }
 
     // Looks at the entries of a column at this distance.
     fn scan_col(
         &mut self,
-        pattern: &Pattern,
-        weights: &Weights,
+        graph: &WeightedPattern,
         assignment: &Assignment<W>,
         col: Col,
         depth: Amount<W>,
     ) -> Result<(), AllocError>
-        requires of { weights.now.matrix ≡ pattern.now }
-        requires assignment { IsAssignment weights.now assignment.now }
-        requires room { HasRoom (cols pattern.now) assignment.now.top W.limit }
-        requires col { col < cols pattern.now }
+        requires assignment { IsAssignment graph.now.weights.now assignment.now }
+        requires room { HasRoom (cols graph.now.pattern.now) assignment.now.top W.limit }
+        requires col { col < cols graph.now.pattern.now }
         requires depth { depth ≤ assignment.now.top }
-        requires near { AreNear pattern.now.rows assignment.now.top self.old }
-        ensures { OnOk result (AreNear pattern.now.rows assignment.now.top self.new) }
+        requires near { AreNear graph.now.pattern.now.rows assignment.now.top self.old }
+        ensures { OnOk result (AreNear graph.now.pattern.now.rows assignment.now.top self.new) }
     {
         let farthest = Amount::of(assignment.top);
         let dual = assignment.duals[col.0 as usize];
-        let rows = pattern.rows_of(col);
-        let weights = weights.weights_of(col);
+        let rows = graph.pattern.rows_of(col);
+        let weights = graph.weights.weights_of(col);
         for k in 0..rows.len() {
             let row = rows[k].number();
             let price = assignment.prices[row as usize];
@@ -227,27 +214,26 @@ impl<W: Width> Distances<W> {
     // Looks at the entries of a row at this distance.
     fn scan_row(
         &mut self,
-        pattern: &Pattern,
-        weights: &Weights,
+        graph: &WeightedPattern,
         assignment: &Assignment<W>,
         row: Row,
         depth: Amount<W>,
     ) -> Result<(), AllocError>
-        requires of { weights.now.matrix ≡ pattern.now }
-        requires assignment { IsAssignment weights.now assignment.now }
-        requires room { HasRoom (cols pattern.now) assignment.now.top W.limit }
-        requires row { row < pattern.now.rows }
+        requires assignment { IsAssignment graph.now.weights.now assignment.now }
+        requires room { HasRoom (cols graph.now.pattern.now) assignment.now.top W.limit }
+        requires row { row < graph.now.pattern.now.rows }
         requires depth { depth ≤ assignment.now.top }
-        requires near { AreNear (cols pattern.now) assignment.now.top self.old }
-        ensures { OnOk result (AreNear (cols pattern.now) assignment.now.top self.new) }
+        requires near { AreNear (cols graph.now.pattern.now) assignment.now.top self.old }
+        ensures { OnOk result (AreNear (cols graph.now.pattern.now) assignment.now.top self.new) }
     {
         let farthest = Amount::of(assignment.top);
         let price = assignment.prices[row.0 as usize];
-        let cols = pattern.cols_of(row);
+        let cols = graph.pattern.cols_of(row);
+        let weights = graph.weights_of_row(row);
         for k in 0..cols.len() {
             let col = cols[k];
             let dual = assignment.duals[col.0 as usize];
-            let distance = assignment.distance(price, weights.weight(row, col), dual, depth);
+            let distance = assignment.distance(price, weights[k], dual, depth);
             self.look(col.0, distance, farthest)?;
         }
         Ok(())

@@ -26,6 +26,7 @@ mod searches;
 mod side;
 mod start;
 mod tight;
+mod weighted_pattern;
 mod width;
 
 pub use answer::heaviest;

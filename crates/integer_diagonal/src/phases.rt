@@ -11,6 +11,7 @@ use crate::distances::Distances;
 use crate::fairness::at_prices;
 use crate::side::Side;
 use crate::tight::match_tight;
+use crate::weighted_pattern::WeightedPattern;
 use crate::width::Width;
 use bip_graph::Matching;
 use sp_ids::OutOfMemory;
@@ -25,11 +26,11 @@ const FEW: u32 = 4;
 /// then as many pairs as can be had of the entries that cost as much as these ask.
 ///
 /// The last columns and the last rows are far from all others: taken in turn, each side draws the
-/// other's end near. It ends where few columns are left, or a phase gave none a mate. Beside what it
-/// answers it takes what `match_tight` takes, new prices, and a distance and a place in a heap for
-/// each row, or answers `OutOfMemory`. Work of a phase: three looks at each entry, one of which is a
-/// search in its column where the phase is from the rows, and the phases of a maximum matching of
-/// those that cost as much as the prices ask.
+/// other's end near. It ends where few columns are left, or a phase gave none a mate. Where there is
+/// a phase it takes, beside what it answers, the weights row by row, what `match_tight` takes, new
+/// prices, and a distance and a place in a heap for each row, or answers `OutOfMemory`. Work: one
+/// look at each entry for the weights row by row; in a phase three looks at each entry, and the
+/// phases of a maximum matching of those that cost as much as the prices ask.
 pub fn match_by_phases<W: Width>(
     alloc: Global,
     pattern: &Pattern,
@@ -44,20 +45,19 @@ pub fn match_by_phases<W: Width>(
     ensures room { IfOk result (λ a. HasRoom (cols pattern.now) a.top W.limit) }
 {
     let mut assignment = assignment;
+    let mut unmatched = pattern.cols().saturating_sub(assignment.matching.size());
+    if unmatched <= FEW {
+        return Ok(assignment);
+    }
+    let graph = WeightedPattern::build(alloc, pattern, weights)?;
     let mut side = Side::Columns;
     for _turn in 0..pattern.cols() {
-        let size = assignment.matching.size();
-        if size >= pattern.cols() {
+        assignment = phase(alloc, &graph, assignment, side, unmatched)?;
+        let left = pattern.cols().saturating_sub(assignment.matching.size());
+        if left <= FEW || left >= unmatched {
             return Ok(assignment);
         }
-        let unmatched = pattern.cols() - size;
-        if unmatched <= FEW {
-            return Ok(assignment);
-        }
-        assignment = phase(alloc, pattern, weights, assignment, side, unmatched)?;
-        if assignment.matching.size() <= size {
-            return Ok(assignment);
-        }
+        unmatched = left;
         side = side.other();
     }
     Ok(assignment)
@@ -67,20 +67,18 @@ pub fn match_by_phases<W: Width>(
 // as can be had of the entries that cost as much as these ask.
 fn phase<W: Width>(
     alloc: Global,
-    pattern: &Pattern,
-    weights: &Weights,
+    graph: &WeightedPattern,
     assignment: Assignment<W>,
     side: Side,
     unmatched: u32,
 ) -> Result<Assignment<W>, OutOfMemory>
-    requires of { weights.now.matrix ≡ pattern.now }
-    requires square { pattern.now.rows ≡ cols pattern.now }
-    requires assignment { IsAssignment weights.now assignment }
-    requires room { HasRoom (cols pattern.now) assignment.top W.limit }
-    ensures assignment { IfOk result (IsAssignment weights.now) }
-    ensures room { IfOk result (λ a. HasRoom (cols pattern.now) a.top W.limit) }
+    requires square { graph.now.pattern.now.rows ≡ cols graph.now.pattern.now }
+    requires assignment { IsAssignment graph.now.weights.now assignment }
+    requires room { HasRoom (cols graph.now.pattern.now) assignment.top W.limit }
+    ensures assignment { IfOk result (IsAssignment graph.now.weights.now) }
+    ensures room { IfOk result (λ a. HasRoom (cols graph.now.pattern.now) a.top W.limit) }
 {
-    let distances = Distances::spread(alloc, pattern, weights, &assignment, side, unmatched)?;
+    let distances = Distances::spread(alloc, graph, &assignment, side, unmatched)?;
     let matching = &assignment.matching;
     let prices = higher(
         alloc,
@@ -96,8 +94,15 @@ fn phase<W: Width>(
         matching,
         &distances,
     )?;
-    let assignment = at_prices(alloc, pattern, weights, assignment, prices, duals)?;
-    match_tight(alloc, pattern, weights, assignment)
+    let assignment = at_prices(
+        alloc,
+        graph.pattern,
+        graph.weights,
+        assignment,
+        prices,
+        duals,
+    )?;
+    match_tight(alloc, graph.pattern, graph.weights, assignment)
 }
 
 // Each price of a row, or dual variable of a column, and what it rises by.

@@ -17,7 +17,7 @@ use sp_pattern::{Pattern, Weights};
 use std::alloc::{AllocError, Global};
 
 // Searches that come to no more columns than these each are less work than phases.
-const SHORT: u64 = 96;
+const SHORT: u64 = 20;
 
 /// Gives each column a mate, one after another. There must be a full matching.
 ///

@@ -5,6 +5,6 @@ use Rattle.integer_diagonal.proofs.phases.match_by_phases.Given as goal
 
 abbrev pub invariant-loop-turn : goal.invariant-loop-turn
 invariant-loop-turn g l = record {
-  assignment : IsAssignment l.weights l.assignment;
-  room : HasRoom (cols l.pattern) l.assignment.top g.W.Width.limit;
+  assignment : IsAssignment l.graph.weights.now l.assignment;
+  room : HasRoom (cols l.graph.pattern.now) l.assignment.top g.W.Width.limit;
 }

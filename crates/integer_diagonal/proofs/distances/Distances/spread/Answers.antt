@@ -18,11 +18,11 @@ loop-near-init g c = record {
 
 pub mate-requires-clause-vertex : goal.mate-requires-clause-vertex
 mate-requires-clause-vertex g c =
-    let rows = ap (λ (z : Matrix). z.rows) c.requires.of in
+    let rows = ap (λ (z : Matrix). z.rows) c.args.graph.now.of in
     omega (arith, rows, c.loop-near-test.true, c.rows-near-end.ensures, c.requires.assignment.rows_are)
 
 pub mate-requires-clause-square : goal.mate-requires-clause-square
-mate-requires-clause-square g c = square_pairing (priced c.args.weights.now c.args.assignment.now) c.args.assignment.now.matching c.args.pattern.now c.requires.assignment c.requires.of c.requires.square
+mate-requires-clause-square g c = square_pairing (priced c.args.graph.now.weights.now c.args.assignment.now) c.args.assignment.now.matching c.args.graph.now.pattern.now c.requires.assignment c.args.graph.now.of c.requires.square
 
 pub loop-near-preserved : goal.loop-near-preserved
 loop-near-preserved g c =
