@@ -41,8 +41,8 @@ use std::alloc::Global;
 /// row, which are 8 bytes an entry and 8 a row, or for the tables and the heap of a search. The
 /// tables take 65 bytes a row or column where the greatest price to begin with, times 3 n + 4 for n
 /// columns, is less than 2^64 - 1: then all sums of a search are kept in numbers of 64 bits. Else
-/// they are kept in numbers of 128 bits, and the tables take 97 bytes a row or column. That price is
-/// the greatest weight; or, where a row or a column has one entry alone and not all weights are
+/// they are kept in numbers of 128 bits, and the tables take 97 bytes a row or column. That price
+/// is the greatest weight; or, where a row or a column has one entry alone and not all weights are
 /// equal, that weight times one more than twice the blocks, if that is at most 2^62.
 ///
 /// Work: a maximum matching of the whole pattern, after which a matrix with no diagonal is

@@ -26,10 +26,10 @@ const FEW: u32 = 4;
 /// then as many pairs as can be had of the entries that cost as much as these ask.
 ///
 /// The last columns and the last rows are far from all others: taken in turn, each side draws the
-/// other's end near. It ends where few columns are left, or a phase gave none a mate. Where there is
-/// a phase it takes, beside what it answers, the weights row by row, what `match_tight` takes, new
-/// prices, and a distance and a place in a heap for each row, or answers `OutOfMemory`. Work: one
-/// look at each entry for the weights row by row; in a phase three looks at each entry, and the
+/// other's end near. It ends where few columns are left, or a phase gave none a mate. Where there
+/// is a phase it takes, beside what it answers, the weights row by row, what `match_tight` takes,
+/// new prices, and a distance and a place in a heap for each row, or answers `OutOfMemory`. Work:
+/// one look at each entry for the weights row by row; in a phase three looks at each entry, and the
 /// phases of a maximum matching of those that cost as much as the prices ask.
 pub fn match_by_phases<W: Width>(
     alloc: Global,

@@ -1,7 +1,7 @@
 //! A pattern with its weights by columns and by rows.
 
-ghost use Rattle.std.specs.Prelude.{◌≡◌, ℕ, ◌<◌, ◌++◌, length, slice_index, IfOk, OnOk};
-ghost use Rattle.bip_defs.specs.Matrix.{IsEntry, cols, row_list};
+ghost use Rattle.std.specs.Prelude.{◌≡◌, ◌<◌, ◌++◌, length, IfOk, OnOk};
+ghost use Rattle.bip_defs.specs.Matrix.{IsEntry, cols};
 ghost use Rattle.integer_diagonal.specs.RowWeights.{AreRowWeights, weights_in_row};
 ghost use Rattle.sp_pattern.specs.Weights.{weight_at};
 
@@ -19,7 +19,8 @@ pub struct WeightedPattern<'a, 'p> {
     row_starts: Vec<usize>,
     row_weights: Vec<u64>,
     ghost of: { weights.now.matrix ≡ pattern.now },
-    ghost by_rows: { AreRowWeights weights.now pattern.now.rows row_starts.items row_weights.items },
+    ghost by_rows: { AreRowWeights weights.now pattern.now.rows row_starts.items
+        row_weights.items },
 }
 
 impl<'a, 'p> WeightedPattern<'a, 'p> {
