@@ -32,7 +32,7 @@ use std::thread::Threads;
 /// 1957), and most edits need none: the session keeps the marks of the vertex cover that the
 /// searches without a path have shown (König 1931). While the matrix has the cover, no entry more
 /// in it raises the rank, a search from one column passes over marked ones, and one back from a row
-/// over the others. For those the matrix is kept by rows as well.
+/// over the others. For that it keeps the matrix by rows as well.
 #[derive(Drop)]
 pub struct Session {
     alloc: Global,
@@ -152,9 +152,10 @@ impl Session {
     /// - Where the column has no mate it began there alone, and passed over marked columns. It makes
     ///   one step for that column and for each column that it marks, and one for each of their
     ///   entries.
-    /// - Where the row has no mate it began there alone, went from columns' mates to their rows, and
-    ///   passed over columns that are not marked. It makes one step for that row and for the mate of
-    ///   each column whose mark it takes back, and one for each of their entries.
+    /// - Where the row has no mate it began there alone, went from rows to the columns of their
+    ///   entries and on to the mates of these, and passed over columns that are not marked. It makes
+    ///   one step for that row and for the mate of each column whose mark it takes back, and one for
+    ///   each of their entries.
     /// - Where both have mates it began at all unmatched columns. It makes one step for each column
     ///   that some maximum matching of the new matrix misses and one for each of their entries; these
     ///   columns are marked from then on, and no others.
