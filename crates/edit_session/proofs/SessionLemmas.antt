@@ -14,8 +14,9 @@ use Rattle.bip_defs.proofs.Transposed.{transpose_is}
 use Rattle.bip_graph.specs.Matching.{IsMatchingOf, IsMaximumOf, Pairing}
 use Rattle.hall_witness.specs.Back.{IsCoverButRow}
 use Rattle.hall_witness.specs.Covers.{HasMarkedMate, IsCover, IsCoverBut, IsCovered}
+use Rattle.hall_witness.specs.Over.{IsParted}
 use Rattle.sp_pattern.specs.Stored.{IsPattern}
-use Rattle.edit_session.specs.Sessions.{IsSaturating, IsKept, IsParted, MatchedMatrix}
+use Rattle.edit_session.specs.Sessions.{IsSaturating, IsKept, MatchedMatrix}
 use Rattle.edit_session.proofs.TransposeLemmas.{transpose_count, with_transpose, without_transpose}
 
 -- Pairs.
@@ -194,6 +195,11 @@ paired_kept a b p m n marks law k e t cover added sizes rows rising = shown_kept
 pub searched_kept : (a b : Matrix) (p : Place) (m n : Pairing) (marks marks2 : List Bool) → CoversShowMaximum → CoversStandLonger → b ≡ transpose a → IsCover (without_place a p) m.pairs marks → IsMatchingOf a n → ((length n.pairs ≡ suc (length m.pairs)) × (marks2 ≡ marks)) ⊎ ((n ≡ m) × IsCover a n.pairs marks2) → IsKept a b n marks2
 searched_kept a b p m n marks marks2 law stands t k l (inr (same, new)) = shown_kept a b n marks2 law l t new
 searched_kept a b p m n marks marks2 law stands t k l (inl (e, same)) = shown_kept a b n marks2 law l t (subst (IsCover a n.pairs) (sym same) (stands a p m.pairs n.pairs marks k l.matching e))
+
+-- the same of the searches over an entry of two matched lines
+pub over_kept : (a b : Matrix) (p : Place) (m n : Pairing) (marks marks2 : List Bool) → CoversShowMaximum → CoversStandLonger → b ≡ transpose a → IsCover (without_place a p) m.pairs marks → IsMatchingOf a n → ((length n.pairs ≡ suc (length m.pairs)) × (marks2 ≡ marks)) ⊎ IsCover a n.pairs marks2 → IsKept a b n marks2
+over_kept a b p m n marks marks2 law stands t k l (inr new) = shown_kept a b n marks2 law l t new
+over_kept a b p m n marks marks2 law stands t k l (inl (e, same)) = shown_kept a b n marks2 law l t (subst (IsCover a n.pairs) (sym same) (stands a p m.pairs n.pairs marks k l.matching e))
 
 -- An entry that is cleared.
 

@@ -1,5 +1,5 @@
 -- What contracts see of a session.
-use Rattle.std.specs.Prelude.{◌≡◌, ◌≢◌, ◌⊎◌, ◌↔◌, Bool, List, length}
+use Rattle.std.specs.Prelude.{◌≡◌, ◌⊎◌, ◌↔◌, Bool, List, length}
 use Rattle.bip_defs.specs.Lists.{Among}
 use Rattle.bip_defs.specs.Matrix.{Matrix, Place, cols, transpose}
 use Rattle.bip_graph.specs.Matching.{IsMaximumOf, Pairing}
@@ -14,10 +14,6 @@ pub record MatchedMatrix : Type 0 where
 -- the matching saturates the rows or the columns: each row is matched, or each column
 abbrev pub IsSaturating : Matrix → List Place → Type 0
 IsSaturating a m = (length m ≡ a.rows) ⊎ (length m ≡ cols a)
-
--- n has the pairs of m but that of p's row
-abbrev pub IsParted : Place → List Place → List Place → Type 0
-IsParted p m n = (q : Place) → Among q n ↔ (Among q m × (q.0 ≢ p.0))
 
 -- n has the pairs of m, and p
 abbrev pub IsPaired : Place → List Place → List Place → Type 0

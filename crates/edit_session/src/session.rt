@@ -1,6 +1,6 @@
 //! A matrix under edits, and a maximum matching of it.
 
-ghost use Rattle.std.specs.Prelude.{◌≡◌, ◌↔◌, ◌⊎◌, ◌+◌, ◌<◌, ◌≤◌, List, length, IfOk, IsTrue, OnErr, OnOk, is_ok};
+ghost use Rattle.std.specs.Prelude.{◌≡◌, ◌↔◌, ◌⊎◌, ◌+◌, ◌<◌, ◌≤◌, ℕ, List, length, IfOk, IsTrue, OnErr, OnOk, is_ok};
 ghost use Rattle.bip_defs.specs.ConnectedComponents.{AreConnectedComponents};
 ghost use Rattle.bip_defs.specs.EditedMatrix.{with_place, without_place};
 ghost use Rattle.bip_defs.specs.Lists.{Among, IsMarked};
@@ -8,9 +8,10 @@ ghost use Rattle.bip_defs.specs.Matching.{IsRank, cols_of, rows_of};
 ghost use Rattle.bip_defs.specs.Matrix.{IsEntry, Place, cols, entry_count, transpose};
 ghost use Rattle.bip_graph.specs.Decompositions.{Decomposes, components_of};
 ghost use Rattle.bip_graph.specs.Matching.{IsMatchingOf, IsMaximumOf};
-ghost use Rattle.edit_session.specs.Sessions.{IsSaturating, IsKept, IsPaired, IsParted, MatchedMatrix};
+ghost use Rattle.edit_session.specs.Sessions.{IsSaturating, IsKept, IsPaired, MatchedMatrix};
 ghost use Rattle.hall_witness.specs.Back.{IsSearchedTo};
-ghost use Rattle.hall_witness.specs.Covers.{IsCover, IsCovered, IsSearched, IsSearchedFrom};
+ghost use Rattle.hall_witness.specs.Covers.{IsCover, IsCovered, IsSearchedFrom};
+ghost use Rattle.hall_witness.specs.Over.{IsParted, IsSearchedOver};
 
 use crate::columns::Columns;
 use crate::patterns::pattern_of;
@@ -32,7 +33,7 @@ use std::thread::Threads;
 /// 1957), and most edits need none: the session keeps the marks of the vertex cover that the
 /// searches without a path have shown (König 1931). While the matrix has the cover, no entry more
 /// in it raises the rank, a search from one column passes over marked ones, and one back from a row
-/// over the others. For that it keeps the matrix by rows as well.
+/// over the others. For those the matrix is kept by rows as well.
 #[derive(Drop)]
 pub struct Session {
     alloc: Global,
@@ -146,18 +147,20 @@ impl Session {
     /// A step is a column or a row that a search takes up, or an entry that it looks at. There is no
     /// search where the entry was there; where the rank is already the number of rows or of columns;
     /// where the kept cover has the entry: its column is not marked, or its row has a mate that is;
-    /// or where its row and its column have no mate and become a pair. Else there is one, which
-    /// makes at least as many steps as the path that it finds has pairs. Where it finds none:
+    /// or where its row and its column have no mate and become a pair. Else there is one, or two,
+    /// which make at least as many steps as the paths that they find have pairs. Where one finds
+    /// none:
     ///
     /// - Where the column has no mate it began there alone, and passed over marked columns. It makes
     ///   one step for that column and for each column that it marks, and one for each of their
     ///   entries.
-    /// - Where the row has no mate it began there alone, went from rows to the columns of their
-    ///   entries and on to the mates of these, and passed over columns that are not marked. It makes
-    ///   one step for that row and for the mate of each column whose mark it takes back, and one for
-    ///   each of their entries.
-    /// - Where both have mates it began at all unmatched columns. It makes one step for each column
-    ///   that some maximum matching of the new matrix misses and one for each of their entries; these
+    /// - Where the row has no mate it began there alone, went from columns' mates to their rows, and
+    ///   passed over columns that are not marked. It makes one step for that row and for the mate of
+    ///   each column whose mark it takes back, and one for each of their entries.
+    /// - Where both have mates it began at the row's mate alone, which counts as one that it marks,
+    ///   and made the same steps as where the column has none. Where it found an unmatched row,
+    ///   another one began at all unmatched columns. That one makes one step for each column that
+    ///   some maximum matching of the new matrix misses and one for each of their entries; these
     ///   columns are marked from then on, and no others.
     ///
     /// Answers `OutOfMemory` where there is no memory for the entry; the session is then as it was.
@@ -190,8 +193,9 @@ impl Session {
             → ¬ IsCovered self.old.matching.pairs self.old.marks (row, col)
             → Among col (cols_of self.old.matching.pairs)
             → Among row (rows_of self.old.matching.pairs)
-            → IsSearched self.new.matrix self.old.matching.pairs self.new.matching.pairs
-            steps.old steps.new) }
+            → (mate : ℕ) × Among (row, mate) self.old.matching.pairs
+            × IsSearchedOver (row, mate) self.new.matrix self.old.matching.pairs self.old.marks
+            self.new.matching.pairs self.new.marks steps.old steps.new) }
         ensures searched_to { OnOk result (¬ IsEntry self.old.matrix row col
             → ¬ IsSaturating self.old.matrix self.old.matching.pairs
             → ¬ IsCovered self.old.matching.pairs self.old.marks (row, col)
@@ -338,7 +342,8 @@ fn are_mates(matching: &Matching, row: Row, col: Col) -> bool
 // Makes a matching maximum where one more entry is new: it is, where the cover of the others has the
 // entry, or where each row or each column is matched, and then all columns are marked, or none; the
 // entry's row and column become a pair where both have no mate; else a search decides, from the one
-// of them that has none, or from all unmatched columns where both have one.
+// of them that has none, or from the row's mate where both have one, and then from all unmatched
+// columns where it comes to an unmatched row.
 fn match_entry<L: Ledger>(
     columns: &Columns,
     rows: &Columns,
@@ -361,8 +366,9 @@ fn match_entry<L: Ledger>(
     ensures searched { ¬ IsSaturating columns.now.matrix matching.old.pairs
         → ¬ IsCovered matching.old.pairs cover.old (row, col)
         → Among col (cols_of matching.old.pairs) → Among row (rows_of matching.old.pairs)
-        → IsSearched columns.now.matrix matching.old.pairs matching.new.pairs
-        steps.old steps.new }
+        → (mate : ℕ) × Among (row, mate) matching.old.pairs
+        × IsSearchedOver (row, mate) columns.now.matrix matching.old.pairs cover.old
+        matching.new.pairs cover.new steps.old steps.new }
     ensures searched_to { ¬ IsSaturating columns.now.matrix matching.old.pairs
         → ¬ IsCovered matching.old.pairs cover.old (row, col)
         → Among col (cols_of matching.old.pairs) → ¬ Among row (rows_of matching.old.pairs)
@@ -397,7 +403,7 @@ fn match_entry<L: Ledger>(
         if row_is_free {
             cover.augment_to(columns, rows, matching, row, steps);
         } else {
-            cover.augment(columns, matching, col, steps);
+            cover.augment_over(columns, matching, row, col, steps);
         }
         return;
     }

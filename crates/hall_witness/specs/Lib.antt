@@ -1,5 +1,6 @@
 pub mod Answers
 pub mod Back
 pub mod Covers
+pub mod Over
 pub mod Search
 pub mod SearchSteps

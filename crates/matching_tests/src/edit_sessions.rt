@@ -37,7 +37,7 @@ struct Edits<'a> {
 }
 
 #[rattlefmt::skip]
-const SESSIONS: [Edits<'static>; 9] = [
+const SESSIONS: [Edits<'static>; 10] = [
     Edits {
         rows: 2,
         cols: 2,
@@ -148,6 +148,20 @@ const SESSIONS: [Edits<'static>; 9] = [
         edits: &[
             (Edit::Clear(1, 1), 0), (Edit::Set(1, 1), 1), (Edit::Clear(1, 1), 0), (Edit::Set(1, 1), 1),
             (Edit::Set(1, 1), 1), (Edit::Clear(1, 1), 0),
+        ],
+    },
+    Edits {
+        rows: 3,
+        cols: 3,
+        places: &[],
+        rank: 0,
+        // The sixth and the last are in a row and a column that have mates, and the cover lacks them.
+        // At the sixth the row's mate 3 leads to no other row: two steps, of it and its entry. At the
+        // last it leads to row 3, in three steps, and column 2 to row 2 over column 1, in five.
+        edits: &[
+            (Edit::Set(1, 1), 1), (Edit::Set(1, 2), 1), (Edit::Set(2, 3), 2), (Edit::Set(3, 3), 2),
+            (Edit::Clear(3, 3), 2), (Edit::Set(2, 1), 2), (Edit::Clear(2, 1), 2), (Edit::Set(3, 3), 2),
+            (Edit::Set(2, 1), 3),
         ],
     },
 ];

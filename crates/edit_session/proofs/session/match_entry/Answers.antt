@@ -1,10 +1,10 @@
-use Rattle.std.proofs.Common.{◌∙◌, ap, subst, sym}
+use Rattle.std.proofs.Common.{◌∙◌, ap, inr, subst, sym, true≢false}
 use Rattle.bip_defs.specs.Lists.{Among}
 use Rattle.bip_defs.specs.Matrix.{IsTransposeOf, Matrix, Place, entry_count}
 use Rattle.bip_defs.proofs.Sets.{col_among, row_among}
 use Rattle.bip_defs.proofs.Transposed.{transpose_is}
 use Rattle.hall_witness.specs.Back.{IsSearchedTo}
-use Rattle.edit_session.proofs.SessionLemmas.{had_kept, more_columns, paired_kept, searched_kept, set_but, set_but_row, some_found}
+use Rattle.edit_session.proofs.SessionLemmas.{had_kept, more_columns, over_kept, paired_kept, searched_kept, set_but, set_but_row, some_found}
 use Rattle.edit_session.proofs.TransposeLemmas.{transpose_count}
 use Rattle.edit_session.proofs.session.match_entry.Goals as goal
 
@@ -33,7 +33,7 @@ pub returns-then-row_is_free-clause-paired : goal.returns-then-row_is_free-claus
 returns-then-row_is_free-clause-paired g c partial other free = let (s, pair) = some_found (λ r. Among {X = Place} (r, c.args.col) c.args.matching.now.pairs) c.row_of.result (sym c.is_some.ensures ∙ c.if-is_some.true) c.row_of.ensures.found in absurd (free (col_among s c.args.col c.args.matching.now.pairs pair))
 
 pub returns-else-row_is_free-clause-kept : goal.returns-else-row_is_free-clause-kept
-returns-else-row_is_free-clause-kept g c = searched_kept c.args.columns.now.matrix c.args.rows.now.matrix (c.args.row, c.args.col) c.args.matching.now c.augment.new.matching c.args.cover.now c.augment.new.self c.cover_shows_maximum.ensures c.cover_stands.ensures.longer c.requires.rows c.requires.cover c.augment.ensures.matching c.augment.ensures.cover
+returns-else-row_is_free-clause-kept g c = over_kept c.args.columns.now.matrix c.args.rows.now.matrix (c.args.row, c.args.col) c.args.matching.now c.augment_over.new.matching c.args.cover.now c.augment_over.new.self c.cover_shows_maximum.ensures c.cover_stands.ensures.longer c.requires.rows c.requires.cover c.augment_over.ensures.matching c.augment_over.ensures.cover
 
 pub returns-else-row_is_free-clause-searched_to : goal.returns-else-row_is_free-clause-searched_to
 returns-else-row_is_free-clause-searched_to g c partial other mated out = let (d, pair) = some_found (λ x. Among {X = Place} (c.args.row, x) c.args.matching.now.pairs) c.col_of.result c.if-row_is_free.ensures c.col_of.ensures.found in absurd (out (row_among c.args.row d c.args.matching.now.pairs pair))
@@ -55,3 +55,9 @@ returns-then-not-row_is_free-clause-paired g c partial other free out = let (d, 
 
 pub returns-clause-kept : goal.returns-clause-kept
 returns-clause-kept g c = paired_kept c.args.columns.now.matrix c.args.rows.now.matrix (c.args.row, c.args.col) c.args.matching.now c.pair.new.self c.args.cover.now c.cover_shows_maximum.ensures c.requires.matching c.requires.entry c.requires.rows c.requires.cover c.pair.ensures.added c.pair.ensures.sizes c.is_matching.ensures.rows_differ c.is_matching.ensures.cols_rise
+
+pub augment_over-requires-clause-matched : goal.augment_over-requires-clause-matched
+augment_over-requires-clause-matched g c = let (d, pair) = some_found (λ x. Among {X = Place} (c.args.row, x) c.args.matching.now.pairs) c.col_of.result c.if-row_is_free.ensures c.col_of.ensures.found in row_among c.args.row d c.args.matching.now.pairs pair
+
+pub augment_over-requires-clause-uncovered : goal.augment_over-requires-clause-uncovered
+augment_over-requires-clause-uncovered g c h = true≢false (sym (c.has.ensures.1 (inr h)) ∙ c.if-has.false)

@@ -6,7 +6,8 @@ use Rattle.bip_defs.proofs.Transposed.{transpose_is}
 use Rattle.bip_graph.specs.Matching.{IsMatchingOf}
 use Rattle.hall_witness.specs.Back.{IsCoverButRow, IsSearchedTo}
 use Rattle.hall_witness.specs.Covers.{IsCoverBut, IsSearchedFrom}
-use Rattle.edit_session.specs.Sessions.{IsParted, MatchedMatrix}
+use Rattle.hall_witness.specs.Over.{IsParted}
+use Rattle.edit_session.specs.Sessions.{MatchedMatrix}
 use Rattle.edit_session.proofs.SessionLemmas.{cleared_but, cleared_but_row, cleared_count, cleared_free, cleared_row_free, cleared_rows, cleared_steps, left_kept, parted_kept, parted_matching, parted_unmatched}
 use Rattle.edit_session.proofs.TransposeLemmas.{turned_within}
 use Rattle.edit_session.proofs.session.Session.clear_entry.Goals as goal

@@ -1,12 +1,13 @@
-use Rattle.std.proofs.Common.{◌≡◌, ◌⊎◌, ◌<◌, ◌∙◌, ap, inl, inr, subst, sym, true≢false, ⊎_elim}
+use Rattle.std.proofs.Common.{◌≡◌, ◌⊎◌, ◌<◌, ◌∙◌, ℕ, ap, inl, inr, subst, sym, true≢false, ⊎_elim}
 use Rattle.bip_defs.specs.EditedMatrix.{with_place}
 use Rattle.bip_defs.specs.Lists.{Among}
 use Rattle.bip_defs.specs.Matching.{cols_of, rows_of}
-use Rattle.bip_defs.specs.Matrix.{IsEntry, Matrix, cols, entry_count, transpose}
+use Rattle.bip_defs.specs.Matrix.{IsEntry, Matrix, Place, cols, entry_count, transpose}
 use Rattle.bip_defs.proofs.EditLemmas.{with_place_new, without_goes_back}
 use Rattle.bip_graph.specs.Matching.{IsMatchingOf}
 use Rattle.hall_witness.specs.Back.{IsSearchedTo}
-use Rattle.hall_witness.specs.Covers.{IsCovered, IsSearched, IsSearchedFrom}
+use Rattle.hall_witness.specs.Covers.{IsCovered, IsSearchedFrom}
+use Rattle.hall_witness.specs.Over.{IsSearchedOver}
 use Rattle.edit_session.specs.Sessions.{IsSaturating, IsPaired, MatchedMatrix}
 use Rattle.edit_session.proofs.SessionLemmas.{room_left, set_again, set_cover, set_matching, set_rows, set_saturating, turned_room_left}
 use Rattle.edit_session.proofs.TransposeLemmas.{turned_few, turned_within}
@@ -75,7 +76,7 @@ returns-clause-searched g c none =
     let a = c.self.inside.columns.matrix in
     let put : c.put.new.self.matrix ≡ with_place a (c.args.row, c.args.col) = c.put.ensures.matrix ∙ ap (λ (b : Matrix). with_place b (c.args.row, c.args.col)) c.in_ok-make_room.ensures.matrix in
     subst (λ (w : MatchedMatrix). ¬ IsSaturating w.matrix w.matching.pairs → ¬ IsCovered w.matching.pairs w.marks (c.args.row, c.args.col) → Among c.args.col (cols_of w.matching.pairs) → Among c.args.row (rows_of w.matching.pairs)
-    → IsSearched c.put.new.self.matrix w.matching.pairs c.match_entry.new.matching.pairs c.args.steps.now c.match_entry.new.steps) c.self.view_is (λ partial. c.match_entry.ensures.searched (λ full. partial ((set_saturating a c.put.new.self.matrix c.self.inside.matching.pairs (c.args.row, c.args.col) put).1 full)))
+    → (mate : ℕ) × Among {X = Place} (c.args.row, mate) w.matching.pairs × IsSearchedOver (c.args.row, mate) c.put.new.self.matrix w.matching.pairs w.marks c.match_entry.new.matching.pairs c.match_entry.new.cover c.args.steps.now c.match_entry.new.steps) c.self.view_is (λ partial. c.match_entry.ensures.searched (λ full. partial ((set_saturating a c.put.new.self.matrix c.self.inside.matching.pairs (c.args.row, c.args.col) put).1 full)))
 
 pub returns-then-has-clause-searched_to : goal.returns-then-has-clause-searched_to
 returns-then-has-clause-searched_to g c none partial other mated out = absurd (none (subst (λ (w : MatchedMatrix). IsEntry w.matrix c.args.row c.args.col) c.self.view_is (c.has.ensures.0 c.if-has.true)))
