@@ -1,10 +1,9 @@
 -- Which status has to come, from what each status says.
-use Rattle.std.proofs.Common.{◌≡◌, ◌+◌, ◌-◌, ◌≤◌, ◌<◌, ◌⊎◌, ◌++◌, ◌∙◌, ℕ, Bool, true, false, List, length, take, inl, inr, refl, sym, ap, subst, arith, length-take, Option, Some, None, if◌then◌else◌}
-use Rattle.std.proofs.Math.Seq.{take-append-add}
+use Rattle.std.proofs.Common.{◌≡◌, ◌+◌, ◌-◌, ◌≤◌, ◌<◌, ◌⊎◌, ◌++◌, ◌∙◌, ℕ, Bool, true, false, List, length, take, inl, inr, refl, sym, ap, subst, arith, length-take, Option, Some, None}
 use Rattle.sp_ids.specs.declared.outcomes.Status.{Status}
 use Rattle.sp_ids.specs.declared.outcomes.Status.TheVariants as statuses
 use Rattle.sp_ports.specs.Device.{Device, FailsOnceAtMost, HasReadFault, HasWriteFault, SourceRose}
-use Rattle.mm_defs.proofs.AnswerLemmas.{given_all, given_prefix, length_got}
+use Rattle.mm_defs.proofs.AnswerLemmas.{given_all, given_prefix, length_got, given_within}
 use Rattle.mm_defs.specs.Calls.{Call, ended, given, got, offered}
 use Rattle.mm_defs.specs.Faults.{is_limit}
 use Rattle.mm_defs.specs.declared.kinds.Kind.{Kind}
@@ -33,17 +32,6 @@ pub record Laws : Type 0 where
 
 clash : (first : Option BatchFault) (fault : BatchFault) → first ≡ None → first ≡ Some fault → ⊥
 clash first fault none some = cc
-
--- what was given is a prefix of what the limit lets the call use
-given_within : (call : Call) → (more : List ℕ) × (take call.room (offered call) ≡ given call ++ more)
-given_within call =
-    let r = given_prefix call in
-    let few : length (given call) ≤ call.room = rw (length-take call.room (got call)) (omega arith) in
-    let more : ℕ = call.room - length (given call) in
-    let room : length (given call) + more ≡ call.room = omega (arith, few) in (
-      take more r.0,
-      ap (λ (bytes : List ℕ). take call.room bytes) (sym r.1) ∙ ap (λ (n : ℕ). take n (given call ++ r.0)) (sym room) ∙ take-append-add (given call) r.0 more,
-    )
 
 module _ (laws : Laws) where
   stays_none : (ended : Bool) (bytes more : List ℕ) → first_bad_frame ended (bytes ++ more) ≡ None → first_bad_frame false bytes ≡ None

@@ -19,6 +19,9 @@ passing a passes c = filter (λ r. passes r c) (column a c)
 pub restricted_cols : (a : Matrix) (passes : ℕ → ℕ → Bool) → cols (restricted a passes) ≡ cols a
 restricted_cols a passes = length-map (upto (cols a)) (passing a passes) ∙ upto_length 0 (cols a)
 
+pub above_cols : (a : Matrix) (weight : ℕ → ℕ → ℕ) (least : ℕ) → cols (above a weight least) ≡ cols a
+above_cols a weight least = restricted_cols a (λ r c. nat_lt least (weight r c))
+
 pub restricted_column : (a : Matrix) (passes : ℕ → ℕ → Bool) (c : ℕ) → c < cols a → column (restricted a passes) c ≡ passing a passes c
 restricted_column a passes c lt = get_or-map (passing a passes) (upto (cols a)) c 0 [] (rw upto_length lt) ∙ ap (passing a passes) (upto_at 0 (cols a) c 0 lt ∙ omega arith)
 

@@ -273,7 +273,7 @@ one_more a b p m n over max k = by (is_among place_same p n)
         let same = moved b a n k (λ r c g e. ⊎_elim (λ (f : (r, c) ≡ p). absurd (nh (subst (λ q. Among q n) f g))) (λ l. l) (over r c e)) in
         omega (arith, max.longest n same)
 
-without_or_there : (a : Matrix) (p : Place) (r c : ℕ) → IsEntry a r c → ((r, c) ≡ p) ⊎ IsEntry (without_place a p) r c
+pub without_or_there : (a : Matrix) (p : Place) (r c : ℕ) → IsEntry a r c → ((r, c) ≡ p) ⊎ IsEntry (without_place a p) r c
 without_or_there a p r c e = ⊎_elim (λ (f : (r, c) ≡ p). inl f) (λ ne. inr (without_place_back a p r c e ne)) (place_same (r, c) p)
 
 pub longer_is_maximum : (a : Matrix) (p : Place) (m n : List Place) → IsMaximum a m → IsMatching (with_place a p) n → length n ≡ suc (length m) → IsMaximum (with_place a p) n

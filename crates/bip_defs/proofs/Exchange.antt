@@ -178,3 +178,20 @@ augmenting_not_maximum a m path e aug max = let (n, k, s) = longer a path m max.
 
 pub augmenting_path : (a : Matrix) (m path : List Place) → AreEntries a path → IsAugmenting m path → IsAugmentingPath a m path
 augmenting_path a m path e aug = record { not_maximum = augmenting_not_maximum a m path e aug; augmenting = aug; entries = e }
+
+-- The columns of a path.
+
+-- a column after the first is the mate of a row before the last
+pub later_col : (m : List Place) (p : Place) (path : List Place) (c : ℕ) → Alternates m (p ∷ path) → Among c (cols_of path) → (r : ℕ) × Among r (rows_of (p ∷ path)) × Among (r, c) m
+later_col m p [] c alt h = elim h [ ]
+later_col m p (q ∷ path) c alt (inl e) = (p.0, inl refl, subst (λ x. Among {X = Place} (p.0, x) m) (sym e) alt.0)
+later_col m p (q ∷ path) c alt (inr h) = let (r, on, pair) = later_col m q path c alt.1 h in (r, inr on, pair)
+
+later_differ : (m : List Place) (p : Place) (path : List Place) → AreDistinct (cols_of m) → Alternates m (p ∷ path) → AreDistinct (rows_of (p ∷ path)) → AreDistinct (cols_of path)
+later_differ m p [] one alt differ = tt
+later_differ m p (q ∷ path) one alt differ = (λ h. let (r, on, pair) = later_col m q path q.1 alt.1 h in differ.0 (subst (λ x. Among x (rows_of (q ∷ path))) (one_row m one r p.0 q.1 pair alt.0) on), later_differ m q path one alt.1 differ.1)
+
+-- no column stands twice on an augmenting path
+pub path_cols_differ : (m path : List Place) → AreDistinct (cols_of m) → IsAugmenting m path → AreDistinct (cols_of path)
+path_cols_differ m [] one aug = tt
+path_cols_differ m (p ∷ path) one aug = (λ h. let (r, on, pair) = later_col m p path p.1 aug.alternates h in aug.begins (col_among r p.1 m pair), later_differ m p path one aug.alternates aug.rows_differ)

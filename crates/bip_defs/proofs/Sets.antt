@@ -436,3 +436,23 @@ neighbours_lists a w = lists_same (λ r. (r < a.rows) × (touches a w r ≡ true
 
     back : (r : ℕ) → (c : ℕ) × Among c w × IsEntry a r c → (r < a.rows) × (touches a w r ≡ true)
     back r h = (h.2.0, any_complete (λ c. list_any (nat_eq r) (column a c)) h.0 w h.1 ((among_test r (column a h.0)).1 h.2.1))
+
+-- the numbers of a rising list in order
+pub rising_order : (xs : List ℕ) → IsRising xs → (i j : ℕ) → i ≤ j → j < length xs → get_or xs i 0 ≤ get_or xs j 0
+rising_order [] a i j le lt = absurd (omega arith)
+rising_order (x ∷ xs) a zero zero le lt = omega arith
+rising_order (x ∷ xs) a zero (suc j) le lt = let b = below_each_sound x (get_or xs j 0) xs a.0 (among_at xs j 0 (omega arith)) in omega (arith, b)
+rising_order (x ∷ xs) a (suc i) zero le lt = absurd (omega arith)
+rising_order (x ∷ xs) a (suc i) (suc j) le lt = rising_order xs a.1 i j (omega arith) (omega arith)
+
+-- two tests that tell the same
+pub same_test : (b c : Bool) → (b ≡ true → c ≡ true) → (c ≡ true → b ≡ true) → b ≡ c
+same_test true c to from = sym (to refl)
+same_test false true to from = from refl
+same_test false false to from = refl
+
+-- a mark is of a number below the length
+pub marked_below : (marks : List Bool) (x : ℕ) → IsMarked marks x → x < length marks
+marked_below [] x h = absurd (true≢false (sym h))
+marked_below (b ∷ marks) zero h = omega arith
+marked_below (b ∷ marks) (suc x) h = let lt = marked_below marks x h in omega arith

@@ -1,6 +1,7 @@
 -- The blocks together have each row and each column of the square part once.
-use Rattle.std.proofs.Common.{◌≡◌, ℕ, List, [], ◌∷◌, refl, sym, subst, inl, inr, ⊎_elim}
+use Rattle.std.proofs.Common.{◌≡◌, ℕ, List, [], ◌∷◌, refl, sym, subst, inl, inr, ⊎_elim, ◌+◌, ◌∙◌, ◌++◌, length, ap, append-nil, length-append}
 use Rattle.std.specs.List.{flat_map}
+use Rattle.std.proofs.lemmas.Grind.{flat_map-append}
 use Rattle.bip_defs.specs.Blocks.{AreBlocksOf, Block, Chain, ColAt, IsBlock, IsClassOf, IsSquareVertex, RowAt, Vertex, itself, all_cols, all_rows}
 use Rattle.bip_defs.specs.Lists.{Among, AreDistinct}
 use Rattle.bip_defs.specs.Matrix.{Matrix, cols}
@@ -59,3 +60,7 @@ square_cols_once a bs blocks = record {
   sound = λ c h. let (b, k, g) = flat_among (λ (b : Block). b.cols) bs c h in block_col_square a b c (blocks.sound b k) g;
   complete = λ c s. ⊎_elim (λ h. h) (λ (ne : ¬ Among c (all_cols bs)). absurd (in_block a (ColAt c) bs blocks s (λ x. ne (among_flat (λ (b : Block). b.cols) bs x.0 c x.1 (x.2.cols.complete c itself))))) (number_among c (all_cols bs));
 }
+
+-- a list of blocks with one block more
+pub more_rows : (blocks : List Block) (b : Block) → length (all_rows (blocks ++ b ∷ [])) ≡ length (all_rows blocks) + length b.rows
+more_rows blocks b = ap length (flat_map-append (λ (b : Block). b.rows) blocks (b ∷ [])) ∙ length-append (all_rows blocks) (b.rows ++ []) ∙ ap (λ (xs : List ℕ). length (all_rows blocks) + length xs) (append-nil b.rows)

@@ -8,22 +8,9 @@ use Rattle.bip_defs.specs.Paths.{Alternates, BeginsUnmatched, Exchanges, IsAugme
 use Rattle.bip_defs.proofs.Sets.{among_last, among_left, among_right, col_among, one_row, row_pair}
 use Rattle.bip_defs.proofs.Transposed.{transpose_back, transpose_is, turned_among, turned_back, turned_cols, turned_matching, turned_rows, turned_twice}
 use Rattle.bip_defs.proofs.Sets.{distinct_last}
+use Rattle.bip_defs.proofs.Exchange.{path_cols_differ, later_col}
 
 -- Columns of a path.
-
--- a column after the first is the mate of a row before the last
-later_col : (m : List Place) (p : Place) (path : List Place) (c : ℕ) → Alternates m (p ∷ path) → Among c (cols_of path) → (r : ℕ) × Among r (rows_of (p ∷ path)) × Among (r, c) m
-later_col m p [] c alt h = elim h [ ]
-later_col m p (q ∷ path) c alt (inl e) = (p.0, inl refl, subst (λ x. Among {X = Place} (p.0, x) m) (sym e) alt.0)
-later_col m p (q ∷ path) c alt (inr h) = let (r, on, pair) = later_col m q path c alt.1 h in (r, inr on, pair)
-
-later_differ : (m : List Place) (p : Place) (path : List Place) → AreDistinct (cols_of m) → Alternates m (p ∷ path) → AreDistinct (rows_of (p ∷ path)) → AreDistinct (cols_of path)
-later_differ m p [] one alt differ = tt
-later_differ m p (q ∷ path) one alt differ = (λ h. let (r, on, pair) = later_col m q path q.1 alt.1 h in differ.0 (subst (λ x. Among x (rows_of (q ∷ path))) (one_row m one r p.0 q.1 pair alt.0) on), later_differ m q path one alt.1 differ.1)
-
-path_cols_differ : (m path : List Place) → AreDistinct (cols_of m) → IsAugmenting m path → AreDistinct (cols_of path)
-path_cols_differ m [] one aug = tt
-path_cols_differ m (p ∷ path) one aug = (λ h. let (r, on, pair) = later_col m p path p.1 aug.alternates h in aug.begins (col_among r p.1 m pair), later_differ m p path one aug.alternates aug.rows_differ)
 
 -- the mate of a column on the path is on the path
 prior_row : (m path : List Place) (r c : ℕ) → AreDistinct (cols_of m) → IsAugmenting m path → Among c (cols_of path) → Among (r, c) m → Among r (rows_of path)

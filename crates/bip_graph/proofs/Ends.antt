@@ -1,9 +1,10 @@
 -- The ends of the stretches of a flat list.
-use Rattle.std.proofs.Common.{◌≡◌, ◌∙◌, ◌-◌, ℕ, zero, suc, ◌+◌, ◌<◌, ◌≤◌, List, [], ◌∷◌, ◌++◌, length, get_or, take, drop, refl, sym, ap, arith, length-drop}
-use Rattle.std.proofs.lemmas.List.{drop-append-le, drop_all, take-append-le, take_all, drop_at, take-append-drop}
+use Rattle.std.proofs.Common.{◌≡◌, ◌∙◌, ◌-◌, ℕ, zero, suc, ◌+◌, ◌<◌, ◌≤◌, List, [], ◌∷◌, ◌++◌, length, get_or, take, drop, refl, sym, ap, arith}
+use Rattle.std.proofs.lemmas.List.{drop_all, take_all, drop_at, take-append-drop}
 use Rattle.std.specs.List.{slice_range}
 use Rattle.bip_defs.specs.Blocks.{all_cols, all_rows, block_at}
 use Rattle.bip_graph.specs.Blocks.{AreEnds, blocks_from, start_at}
+use Rattle.bip_defs.proofs.Slices.{range_before}
 
 pub start_before : (i : ℕ) (ends : List ℕ) (at : ℕ) → suc at < length ends → start_at i ends (suc at) ≡ get_or ends at 0
 start_before i [] at lt = absurd (omega arith)
@@ -27,10 +28,6 @@ ends_more i (e ∷ ends) long more h = (h.0, ends_more e ends long more h.1)
 
 -- The stretches themselves.
 
--- a range of a prefix is one of the whole
-range_prefix : (xs ys : List ℕ) (i j : ℕ) → i ≤ j → j ≤ length xs → slice_range (xs ++ ys) i j ≡ slice_range xs i j
-range_prefix xs ys i j le within = ap (take (j - i)) (drop-append-le i xs ys (omega arith)) ∙ take-append-le (j - i) (drop i xs) ys (omega (arith, length-drop i xs))
-
 -- what is appended is the last stretch
 range_back : (xs ys : List ℕ) (i : ℕ) → i ≡ length xs → slice_range (xs ++ ys) i (length xs + length ys) ≡ ys
 range_back xs ys i e = ap (take (length xs + length ys - i)) (drop_at xs ys i (sym e)) ∙ take_all (length xs + length ys - i) ys (omega arith)
@@ -40,7 +37,7 @@ pub blocks_more : (i j : ℕ) (row_ends col_ends rows cols more_rows more_cols :
 blocks_more i j [] [] rows cols more_rows more_cols r c same = λ k. record { rows = range_back rows more_rows i r k; cols = range_back cols more_cols j c k } ∷ []
 blocks_more i j [] (f ∷ col_ends) rows cols more_rows more_cols r c same = absurd (omega arith)
 blocks_more i j (e ∷ row_ends) [] rows cols more_rows more_cols r c same = absurd (omega arith)
-blocks_more i j (e ∷ row_ends) (f ∷ col_ends) rows cols more_rows more_cols r c same = λ k. record { rows = range_prefix rows more_rows i e r.0 (ends_before e row_ends (length rows) r.1) k; cols = range_prefix cols more_cols j f c.0 (ends_before f col_ends (length cols) c.1) k } ∷ blocks_more e f row_ends col_ends rows cols more_rows more_cols r.1 c.1 (omega arith) k
+blocks_more i j (e ∷ row_ends) (f ∷ col_ends) rows cols more_rows more_cols r c same = λ k. record { rows = range_before rows more_rows i e r.0 (ends_before e row_ends (length rows) r.1) k; cols = range_before cols more_cols j f c.0 (ends_before f col_ends (length cols) c.1) k } ∷ blocks_more e f row_ends col_ends rows cols more_rows more_cols r.1 c.1 (omega arith) k
 
 pub block_count : (i j : ℕ) (row_ends col_ends rows cols : List ℕ) → length row_ends ≡ length col_ends → length (blocks_from i j row_ends col_ends rows cols) ≡ length row_ends
 block_count i j [] col_ends rows cols same = refl

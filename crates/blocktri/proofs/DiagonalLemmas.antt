@@ -1,16 +1,16 @@
 -- What the diagonals' answers and refusals rest on.
-use Rattle.std.proofs.Common.{◌≡◌, ◌≢◌, ◌∙◌, ℕ, ℤ, ◌-◌, ◌<◌, ◌≤◌, ◌^◌, List, length, get_or, take, refl, sym, ap, arith, subst, take_all, filter, map, nat_lt, [], ◌∷◌}
-use Rattle.std.proofs.lemmas.List.{length-map}
-use Rattle.bip_defs.specs.Bottleneck.{IsBest, IsFull, IsSingular, above}
+use Rattle.std.proofs.Common.{◌≡◌, ◌≢◌, ◌∙◌, ℕ, ℤ, ◌-◌, ◌<◌, ◌≤◌, ◌^◌, List, length, get_or, take, refl, sym, ap, arith, subst, take_all, map, [], ◌∷◌}
+use Rattle.bip_defs.specs.Bottleneck.{IsBest, IsFull, IsSingular}
 use Rattle.bip_defs.specs.Lists.{Among}
-use Rattle.bip_defs.specs.Matrix.{Matrix, Place, cols, column, upto}
+use Rattle.bip_defs.specs.Matrix.{Matrix, Place, cols}
 use Rattle.bip_defs.proofs.Full.{few_below, matching_few}
-use Rattle.bip_defs.proofs.Sets.{col_pair, entry_col, rising_distinct, upto_length}
+use Rattle.bip_defs.proofs.Sets.{col_pair, entry_col, rising_distinct}
+use Rattle.bip_defs.proofs.BottleneckLemmas.{full_length, above_cols}
 use Rattle.bip_graph.specs.Matching.{none}
 use Rattle.blocktri.specs.Answers.{AreRowsOf}
 use Rattle.blocktri.specs.PerfectMatchings.{HasNoPerfectMatching}
 use Rattle.blocktri.specs.Written.{IsPut}
-use Rattle.blocktri.proofs.DiagonalOrderLemmas.{full_cols, full_rows}
+use Rattle.blocktri.proofs.DiagonalOrderLemmas.{full_rows}
 use Rattle.blocktri.proofs.LookLemmas.{few_rows, matrix_cols}
 use Rattle.integer_diagonal.specs.Heaviest.{IsHeaviestDiagonal}
 use Rattle.sp_pattern.specs.Columns.{AreColumns, matrix_of}
@@ -21,7 +21,7 @@ use Rattle.sp_pattern.specs.Weights.{Weighing}
 pub rectangular_none : (a : Matrix) → a.rows ≢ cols a → HasNoPerfectMatching a
 rectangular_none a ne m full =
     let rows = full_rows a m full in
-    let columns = full_cols a m full in
+    let columns = full_length a m full in
     let few = few_rows a m full.matching in
     let few_columns = matching_few a m full.matching in
     ne (omega (arith, rows, columns, few, few_columns))
@@ -29,7 +29,7 @@ rectangular_none a ne m full =
 pub singular_none : (a : Matrix) (rank : ℕ) (hall : List ℕ) → IsSingular a rank hall → HasNoPerfectMatching a
 singular_none a rank hall s m full =
     let (o, max, size) = s.is_rank in
-    let columns = full_cols a m full in
+    let columns = full_length a m full in
     let most = max.longest m full.matching in
     let below = s.below in
     omega (arith, columns, most, size, below)
@@ -52,9 +52,6 @@ pairs_rows a m k old new full wide few long end set r c = (
     written r c h = set (r, c) (subst (Among {X = Place} (r, c)) (sym (take_all k m end)) h)
 
 -- The columns that show a bottleneck.
-
-above_cols : (a : Matrix) (weight : ℕ → ℕ → ℕ) (least : ℕ) → cols (above a weight least) ≡ cols a
-above_cols a weight least = length-map (upto (cols a)) (λ c. filter (λ r. nat_lt least (weight r c)) (column a c)) ∙ upto_length 0 (cols a)
 
 pub hall_few : (a : Matrix) (weight : ℕ → ℕ → ℕ) (m : List Place) (least : ℕ) (hall : List ℕ) → IsBest a weight m least hall → length hall ≤ cols a
 hall_few a weight m least hall best = few_below (cols a) hall (rising_distinct hall best.horizontal.rising) (λ c h. let lt = (best.horizontal.sound c h).0 in omega (arith, lt, above_cols a weight least))

@@ -5,7 +5,7 @@ use Rattle.bip_defs.specs.Blocks.{Block, all_cols, all_rows, block_at, no_block}
 use Rattle.bip_defs.specs.Bottleneck.{IsFull}
 use Rattle.bip_defs.specs.Decomposition.{Decomposition, IsDecompositionOf}
 use Rattle.bip_defs.specs.Lists.{Among, AreDistinct}
-use Rattle.bip_defs.specs.Matching.{IsMatching, IsMaximum, cols_of, rows_of}
+use Rattle.bip_defs.specs.Matching.{IsMatching, IsMaximum, rows_of}
 use Rattle.bip_defs.specs.Matrix.{Matrix, Place, cols, upto}
 use Rattle.bip_defs.specs.Once.{ListsOnce}
 use Rattle.bip_defs.specs.Parts.{IsHorizontalCol, IsVerticalCol}
@@ -13,6 +13,7 @@ use Rattle.bip_defs.proofs.Full.{all_below, has_all_cols, has_all_rows, matching
 use Rattle.bip_defs.proofs.Paired.{block_square, maximum_pairs}
 use Rattle.bip_defs.proofs.Queues.{distinct_at}
 use Rattle.bip_defs.proofs.Sets.{among_at, few_distinct, number_same, one_col, one_row, place_among, rising_distinct, upto_length, upto_lists, upto_rising}
+use Rattle.bip_defs.proofs.BottleneckLemmas.{full_length}
 use Rattle.bip_graph.specs.Answers.{orders_of}
 use Rattle.bip_graph.specs.Orders.{rows_before}
 use Rattle.blocktri.specs.Answers.{AreBlockStarts}
@@ -31,18 +32,11 @@ full_rows a m full =
     let same = length-map m (λ (p : Place). p.0) in
     omega (arith, few, long, same)
 
-pub full_cols : (a : Matrix) (m : List Place) → IsFull a m → cols a ≤ length m
-full_cols a m full =
-    let few = few_distinct (upto (cols a)) (cols_of m) (rising_distinct (upto (cols a)) (upto_rising 0 (cols a))) (λ c h. full.all_cols c ((upto_lists (cols a)).sound c h)) in
-    let long = upto_length 0 (cols a) in
-    let same = length-map m (λ (p : Place). p.1) in
-    omega (arith, few, long, same)
-
 -- where a maximum matching is not as long as there are rows, or these are not as many as the columns
 pub no_perfect : (a : Matrix) (m : List Place) → IsMaximum a m → (a.rows ≡ cols a → length m ≡ a.rows → ⊥) → HasNoPerfectMatching a
 no_perfect a m max short o full =
     let rows = full_rows a o full in
-    let columns = full_cols a o full in
+    let columns = full_length a o full in
     let most = max.longest o full.matching in
     let few = few_rows a m max.matching in
     let few_columns = matching_few a o full.matching in

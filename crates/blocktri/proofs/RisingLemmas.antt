@@ -1,23 +1,13 @@
 -- Columns whose row numbers rise.
-use Rattle.std.proofs.Common.{◌≡◌, ◌↔◌, ◌∙◌, ℕ, ◌+◌, ◌-◌, ◌<◌, ◌≤◌, List, [], ◌∷◌, ◌++◌, length, take, drop, get_or, ap, arith, sym, subst, ⊎_elim}
-use Rattle.std.proofs.lemmas.List.{get_or-drop, length-drop, take_more}
+use Rattle.std.proofs.Common.{◌≡◌, ◌↔◌, ℕ, ◌+◌, ◌-◌, ◌<◌, ◌≤◌, List, length, get_or, arith, sym, subst, ⊎_elim}
 use Rattle.std.specs.List.{slice_range}
 use Rattle.bip_defs.specs.Lists.{Among, IsRising, Lists}
 use Rattle.bip_defs.specs.Matrix.{HasPlaces, IsEntry, column}
 use Rattle.bip_defs.proofs.Sets.{among_last, lists_unique, number_same, rising_last}
-use Rattle.bip_defs.proofs.Slices.{slice_none}
+use Rattle.bip_defs.proofs.Slices.{slice_none, range_more}
 use Rattle.sp_pattern.specs.Columns.{matrix_of, places_of}
 use Rattle.sp_pattern.specs.Stored.{piece}
 use Rattle.blocktri.specs.RisingColumns.{AreRisingColumns}
-
--- a part with one number more
-part_grows : (xs : List ℕ) (from k : ℕ) → from ≤ k → k < length xs → slice_range xs from (k + 1) ≡ slice_range xs from k ++ get_or xs k 0 ∷ []
-part_grows xs from k le lt =
-    let long = length-drop from xs in
-    let more : k + 1 - from ≡ k - from + 1 = omega (arith, le) in
-    let back : from + (k - from) ≡ k = omega (arith, le) in
-    ap (λ n. take n (drop from xs)) more ∙ take_more (drop from xs) (k - from) 0 (omega (arith, le, lt, long))
-    ∙ ap (λ x. slice_range xs from k ++ x ∷ []) (get_or-drop from xs (k - from) 0 ∙ ap (λ i. get_or xs i 0) back)
 
 -- a rising part, all of which is below a number
 pub record IsRisingTo (xs : List ℕ) (from k next : ℕ) : Type 0 where
@@ -35,7 +25,7 @@ rising_none xs from =
 
 pub rising_more : (xs : List ℕ) (from k next id : ℕ) → k < length xs → id ≡ get_or xs k 0 → next ≤ id → IsRisingTo xs from k next → IsRisingTo xs from (k + 1) (id + 1)
 rising_more xs from k next id lt is le r =
-    let grown = part_grows xs from k r.ordered lt in record {
+    let grown = range_more xs from k r.ordered lt in record {
       ordered = let f = r.ordered in omega (arith, f);
       rising = subst IsRising (sym grown) (rising_last (slice_range xs from k) (get_or xs k 0) r.rising (λ x h. let b = r.below x h in omega (arith, b, le, is)));
       below = λ x h. ⊎_elim (λ (g : Among x (slice_range xs from k)). let b = r.below x g in omega (arith, b, le)) (λ (e : x ≡ get_or xs k 0). omega (arith, e, is)) (among_last x (get_or xs k 0) (slice_range xs from k) (subst (Among x) grown h));

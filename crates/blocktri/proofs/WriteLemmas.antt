@@ -1,5 +1,5 @@
 -- Lists that are written for the caller.
-use Rattle.std.proofs.Common.{◌≡◌, ◌≢◌, ◌⊎◌, ◌↔◌, ◌∙◌, ℕ, zero, suc, ◌+◌, ◌-◌, ◌<◌, ◌≤◌, ◌^◌, List, [], ◌∷◌, ◌++◌, length, set, take, get_or, refl, sym, ap, arith, subst, inl, inr, length-append, length-set, get_or-set_same, get_or-set_other}
+use Rattle.std.proofs.Common.{◌≡◌, ◌≢◌, ◌⊎◌, ◌↔◌, ◌∙◌, ℕ, zero, suc, ◌+◌, ◌-◌, ◌<◌, ◌≤◌, ◌^◌, List, [], ◌∷◌, ◌++◌, length, set, take, get_or, sym, ap, arith, subst, inl, inr, length-append, length-set, get_or-set_same, get_or-set_other}
 use Rattle.std.proofs.Math.Decide.{dec_lt}
 use Rattle.std.proofs.Math.Seq.{ext_get_or}
 use Rattle.std.proofs.lemmas.List.{get_or_append_left, get_or-append-add, get_or-take, length-take-le, take_more}
@@ -13,10 +13,11 @@ use Rattle.bip_defs.proofs.Full.{few_below}
 use Rattle.bip_defs.proofs.Sets.{col_among, few_distinct, number_same, one_row, pigeonhole, rising_distinct, upto_length, upto_lists, upto_rising}
 use Rattle.bip_defs.proofs.Square.{square_pairs_perfect}
 use Rattle.bip_defs.proofs.Uniqueness.{block_has_col, blocks_share_col, chain_square}
+use Rattle.bip_defs.proofs.Together.{more_rows}
 use Rattle.bip_graph.specs.Answers.{orders_of}
 use Rattle.bip_graph.specs.Matching.{IsPairing, Pairing, none}
 use Rattle.bip_graph.specs.Orders.{rows_before}
-use Rattle.blocktri.specs.Answers.{AreBlockStarts, AreRowsOf}
+use Rattle.blocktri.specs.Answers.{AreRowsOf}
 use Rattle.blocktri.specs.Written.{IsPut}
 
 -- Orders.
@@ -111,12 +112,8 @@ few_blocks a d is =
 
 -- Block starts.
 
-all_push : (bs : List Block) (b : Block) → length (all_rows (bs ++ b ∷ [])) ≡ length (all_rows bs) + length b.rows
-all_push [] b = rw length-append (omega arith)
-all_push (d ∷ bs) b = let rest = all_push bs b in rw (length-append, length-append) (omega (arith, rest))
-
 pub before_more : (bs : List Block) (i : ℕ) → i < length bs → rows_before bs (i + 1) ≡ rows_before bs i + length (block_at bs i).rows
-before_more bs i lt = ap (λ ds. length (all_rows ds)) (take_more bs i no_block lt) ∙ all_push (take i bs) (block_at bs i)
+before_more bs i lt = ap (λ ds. length (all_rows ds)) (take_more bs i no_block lt) ∙ more_rows (take i bs) (block_at bs i)
 
 pub before_within : (bs : List Block) (i : ℕ) → rows_before bs i ≤ length (all_rows bs)
 before_within bs zero = omega arith

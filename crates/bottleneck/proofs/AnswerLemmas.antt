@@ -7,7 +7,8 @@ use Rattle.bip_defs.specs.Matrix.{Matrix, Place, cols, neighbours}
 use Rattle.bip_defs.specs.Parts.{IsHorizontalCol}
 use Rattle.bip_defs.specs.Witness.{IsWitness}
 use Rattle.bip_defs.proofs.Full.{matching_few}
-use Rattle.bottleneck.proofs.HeavierLemmas.{above_cols, heavier_pairs}
+use Rattle.bip_defs.proofs.BottleneckLemmas.{above_cols}
+use Rattle.bottleneck.proofs.HeavierLemmas.{heavier_pairs}
 use Rattle.bottleneck.proofs.PairLemmas.{least_greater}
 
 -- the witness of a maximum matching that is not perfect

@@ -1,15 +1,12 @@
 -- Matchings of the entries above a weight.
-use Rattle.std.proofs.Common.{◌≡◌, ◌⊎◌, ◌∙◌, ℕ, ◌+◌, ◌<◌, List, sym, ap, subst, ⊎_elim, arith, nat_lt}
+use Rattle.std.proofs.Common.{◌≡◌, ◌⊎◌, ◌∙◌, ℕ, ◌+◌, ◌<◌, List, sym, ap, subst, ⊎_elim, arith}
 use Rattle.bip_defs.specs.Bottleneck.{above}
 use Rattle.bip_defs.specs.Lists.{Among, AreDistinct}
 use Rattle.bip_defs.specs.Matching.{IsMatching, cols_of, rows_of}
 use Rattle.bip_defs.specs.Matrix.{IsEntry, Matrix, Place, cols}
-use Rattle.bip_defs.proofs.BottleneckLemmas.{above_over, restricted_cols}
+use Rattle.bip_defs.proofs.BottleneckLemmas.{above_over, above_cols}
 use Rattle.bip_defs.proofs.Sets.{col_pair, one_col, row_pair}
 use Rattle.bip_graph.specs.Matching.{IsMatchingOf, Pairing}
-
-pub above_cols : (a : Matrix) (weight : ℕ → ℕ → ℕ) (least : ℕ) → cols (above a weight least) ≡ cols a
-above_cols a weight least = restricted_cols a (λ r c. nat_lt least (weight r c))
 
 -- a matching above a weight is one of the matrix
 pub lowered : (a b : Matrix) (weight : ℕ → ℕ → ℕ) (least : ℕ) (m : Pairing) → b ≡ above a weight least → IsMatchingOf b m → IsMatchingOf a m

@@ -1,15 +1,10 @@
 -- Two lists compared by marks: each number of the one is marked, and each number of the other takes its mark away.
-use Rattle.std.proofs.Common.{◌≡◌, ◌≢◌, ◌∙◌, ℕ, zero, suc, ◌+◌, ◌<◌, ◌≤◌, Bool, true, false, List, [], ◌∷◌, ◌++◌, length, get_or, set, take, take_all, length-set, sym, ap, subst, inl, ⊎_elim, arith, true≢false}
+use Rattle.std.proofs.Common.{◌≡◌, ◌≢◌, ◌∙◌, ℕ, ◌+◌, ◌<◌, ◌≤◌, Bool, true, false, List, [], ◌∷◌, ◌++◌, length, get_or, set, take, take_all, length-set, sym, ap, subst, inl, ⊎_elim, arith, true≢false}
 use Rattle.std.proofs.lemmas.List.{get_or-set_other, get_or-set_same, take_more}
 use Rattle.bip_defs.specs.Lists.{Among, AreDistinct}
-use Rattle.bip_defs.proofs.Sets.{among_at, among_last, among_left, among_right, drops_kept, drops_length, few_distinct, number_among, number_same, taken, apart_from_front, distinct_last}
+use Rattle.bip_defs.proofs.Sets.{among_at, among_last, among_left, among_right, drops_kept, drops_length, few_distinct, number_among, number_same, taken, apart_from_front, distinct_last, marked_below}
 use Rattle.bip_defs.specs.Lists.{IsMarked}
 use Rattle.btf_check.specs.ReportParts.{AreOnce}
-
-marked_within : (marks : List Bool) (x : ℕ) → IsMarked marks x → x < length marks
-marked_within [] x h = absurd (true≢false (sym h))
-marked_within (b ∷ marks) zero h = omega arith
-marked_within (b ∷ marks) (suc x) h = let lt = marked_within marks x h in omega arith
 
 -- the first k numbers are marked
 pub record IsMarking (once : List ℕ) (k n : ℕ) (marks : List Bool) : Type 0 where
@@ -57,7 +52,7 @@ striking_more once list k n x marks lt e on is = record {
     more = take_more list k 0 lt ∙ ap (λ z. take k list ++ z ∷ []) e
 
     off : (y : ℕ) → y ≡ x → ¬ IsMarked (set marks x false) y
-    off y same h = true≢false (sym h ∙ ap (λ z. get_or (set marks x false) z false) same ∙ get_or-set_same marks x false false (marked_within marks x on))
+    off y same h = true≢false (sym h ∙ ap (λ z. get_or (set marks x false) z false) same ∙ get_or-set_same marks x false false (marked_below marks x on))
 
 -- a number without a mark shows that the list is another
 pub striking_stop : (once list : List ℕ) (k n x : ℕ) (marks : List Bool) → k < length list → get_or list k 0 ≡ x → ¬ IsMarked marks x → IsStriking once list k n marks → ¬ AreOnce once list

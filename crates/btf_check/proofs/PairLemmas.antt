@@ -1,12 +1,11 @@
 -- Pairs made into a matching, one after another.
-use Rattle.std.proofs.Common.{◌≡◌, ◌∙◌, ◌⊎◌, ◌↔◌, ℕ, zero, suc, ◌+◌, ◌<◌, ◌≤◌, true, List, [], ◌∷◌, ◌++◌, Option, Some, None, length, map, get_or, take, take_all, refl, sym, ap, ap₂, subst, inl, inr, ⊎_elim, arith, true≢false}
-use Rattle.std.specs.Option.{is_some}
-use Rattle.std.specs.Prelude.{IfSome}
+use Rattle.std.proofs.Common.{◌≡◌, ◌∙◌, ◌⊎◌, ◌↔◌, ℕ, zero, suc, ◌+◌, ◌<◌, ◌≤◌, List, [], ◌∷◌, ◌++◌, length, map, get_or, take, take_all, sym, ap, subst, inl, inr, ⊎_elim, arith}
 use Rattle.std.proofs.lemmas.List.{map-append, take_more}
-use Rattle.bip_defs.specs.Lists.{Among, AreDistinct, IsBelowEach, IsRising}
+use Rattle.bip_defs.specs.Lists.{Among, AreDistinct, IsRising}
 use Rattle.bip_defs.specs.Matching.{IsMatching, cols_of, rows_of}
 use Rattle.bip_defs.specs.Matrix.{IsEntry, Matrix, Place, cols}
-use Rattle.bip_defs.proofs.Sets.{among_at, among_last, among_left, among_map, among_right, below_each_sound, col_among, col_pair, rising_distinct, row_among, row_pair, distinct_last}
+use Rattle.bip_defs.proofs.Sets.{among_at, among_last, among_left, among_map, among_right, col_among, col_pair, rising_distinct, row_among, row_pair, distinct_last}
+use Rattle.bip_defs.proofs.LeastMatching.{rising_pairs}
 use Rattle.bip_graph.specs.Matching.{Pairing}
 use Rattle.btf_check.specs.Reasons.{ArePaired}
 
@@ -16,30 +15,6 @@ fresh f [] k d distinct lt h = absurd (omega arith)
 fresh f (p ∷ ps) zero d distinct lt h = elim h [ ]
 fresh f (p ∷ ps) (suc k) d distinct lt (inl e) = distinct.0 (subst (λ x. Among x (map f ps)) e (among_map f (get_or ps k d) ps (among_at ps k d (omega arith))))
 fresh f (p ∷ ps) (suc k) d distinct lt (inr h) = fresh f ps k d distinct.1 (omega arith) h
-
--- pairs that rise by column are determined by which they are
-pub same_pairs : (m n : List Place) → IsRising (cols_of m) → IsRising (cols_of n) → ((p : Place) → Among p m → Among p n) → ((p : Place) → Among p n → Among p m) → m ≡ n
-same_pairs [] [] a b over back = refl
-same_pairs [] (q ∷ n) a b over back = absurd (back q (inl refl))
-same_pairs (p ∷ m) [] a b over back = absurd (over p (inl refl))
-same_pairs (p ∷ m) (q ∷ n) a b over back = ap₂ (λ u v. u ∷ v) heads (same_pairs m n a.1 b.1 rest_over rest_back)
-  where
-    later : (x : Place) (y : Place) (l : List Place) → IsBelowEach x.1 (cols_of l) → Among y l → x.1 < y.1
-    later x y l below h = below_each_sound x.1 y.1 (cols_of l) below (among_map (λ (z : Place). z.1) y l h)
-
-    heads : p ≡ q
-    heads = by (over p (inl refl)) (back q (inl refl))
-      where
-        by : Among p (q ∷ n) → Among q (p ∷ m) → p ≡ q
-        by (inl e) k = e
-        by (inr h) (inl e) = sym e
-        by (inr h) (inr k) = absurd (omega (arith, later q p n b.0 h, later p q m a.0 k))
-
-    rest_over : (z : Place) → Among z m → Among z n
-    rest_over z h = ⊎_elim (λ (e : z ≡ q). absurd (omega (arith, later p z m a.0 h, ap (λ (w : Place). w.1) (e ∙ sym heads)))) (λ k. k) (over z (inr h))
-
-    rest_back : (z : Place) → Among z n → Among z m
-    rest_back z h = ⊎_elim (λ (e : z ≡ p). absurd (omega (arith, later q z n b.0 h, ap (λ (w : Place). w.1) (e ∙ heads)))) (λ k. k) (back z (inr h))
 
 -- the first k pairs are those of the matching
 pub record IsPairingUp (a : Matrix) (ps : List Place) (k : ℕ) (m : Pairing) : Type 0 where
@@ -78,15 +53,10 @@ pub row_taken : (a : Matrix) (ps : List Place) (k : ℕ) (d : Place) (m : Pairin
 row_taken a ps k d m r c s lt e h is all = fresh (λ (p : Place). p.0) ps k d all.rows_differ lt (subst (λ z. Among z (rows_of (take k ps))) (sym (ap (λ (p : Place). p.0) e)) (row_among r s (take k ps) (is.over (r, s) h)))
 
 pub pairing_end : (a : Matrix) (ps : List Place) (k : ℕ) (m : Pairing) → length ps ≤ k → IsRising (cols_of ps) → IsRising (cols_of m.pairs) → IsPairingUp a ps k m → (m.pairs ≡ ps) × ArePaired a ps
-pairing_end a ps k m le rising rises is = (same_pairs m.pairs ps rises rising (λ p h. subst (Among p) whole (is.over p h)) (λ p h. is.back p (subst (Among p) (sym whole) h)), subst (ArePaired a) whole is.paired)
+pairing_end a ps k m le rising rises is = (rising_pairs m.pairs ps rises rising (λ p h. subst (Among p) whole (is.over p h)) (λ p h. is.back p (subst (Among p) (sym whole) h)), subst (ArePaired a) whole is.paired)
   where
     whole : take k ps ≡ ps
     whole = take_all k ps le
 
 pub paired_matching : (a : Matrix) (m ps : List Place) → m ≡ ps → IsRising (cols_of ps) → ArePaired a ps → IsMatching a m
 paired_matching a m ps e rising paired = subst (IsMatching a) (sym e) (record { entries = paired.entries; rows_differ = paired.rows_differ; cols_differ = rising_distinct (cols_of ps) rising })
-
--- what a look for a mate found
-pub some_found : {X : Type 0} (P : X → Type 0) (o : Option X) → is_some o ≡ true → IfSome o P → (x : X) × P x
-some_found P None e h = absurd (true≢false (sym e))
-some_found P (Some x) e h = (x, h)

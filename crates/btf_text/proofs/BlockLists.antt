@@ -13,6 +13,7 @@ use Rattle.btf_text.proofs.Prefixes.{no_prefix, regroup, stops_so, with_prefix}
 use Rattle.btf_text.proofs.ListLines.{two_again, two_takes}
 use Rattle.btf_text.proofs.Listed.{block_again, block_takes, line_first}
 use Rattle.btf_text.proofs.Spelled.{bind_some, some_is, where_some}
+use Rattle.bip_defs.proofs.Together.{more_rows}
 
 -- ---- in a loop
 
@@ -39,9 +40,6 @@ next blocks count at room bytes b inside block =
     let k : count - at ≡ suc (count - (at + 1)) = omega (arith, inside) in
     rw (k, block) (regroup blocks (of_lists b.0) (blocks_at (count - (at + 1)) (suc (at + 1)) (room - length b.0.0) b.1)
     ∙ ap (λ (n : ℕ). with_prefix (blocks ++ of_lists b.0 ∷ []) (blocks_at (count - (at + 1)) n (room - length b.0.0) b.1)) (omega arith))
-
-more_rows : (blocks : List Block) (b : Block) → length (all_rows (blocks ++ b ∷ [])) ≡ length (all_rows blocks) + length b.rows
-more_rows blocks b = ap length (flat_map-append (λ (b : Block). b.rows) blocks (b ∷ [])) ∙ length-append (all_rows blocks) (b.rows ++ []) ∙ ap (λ (xs : List ℕ). length (all_rows blocks) + length xs) (append-nil b.rows)
 
 more_cols : (blocks : List Block) (b : Block) → length (all_cols (blocks ++ b ∷ [])) ≡ length (all_cols blocks) + length b.cols
 more_cols blocks b = ap length (flat_map-append (λ (b : Block). b.cols) blocks (b ∷ [])) ∙ length-append (all_cols blocks) (b.cols ++ []) ∙ ap (λ (xs : List ℕ). length (all_cols blocks) + length xs) (append-nil b.cols)

@@ -8,13 +8,15 @@ use Rattle.bip_defs.specs.ConnectedComponents.{AreOrderedComponents, Components,
 use Rattle.bip_defs.specs.Decomposition.{Decomposition, IsDecompositionOf}
 use Rattle.bip_defs.specs.Lists.{Among, AreDistinct, IsRising, Lists}
 use Rattle.bip_defs.specs.Matching.{IsMatching, cols_of, rows_of}
-use Rattle.bip_defs.specs.Matrix.{Matrix, Place, cols, upto}
+use Rattle.bip_defs.specs.Matrix.{Matrix, Place, cols}
 use Rattle.bip_defs.specs.Parts.{IsHorizontalCol, IsHorizontalRow, IsVerticalCol, IsVerticalRow}
 use Rattle.bip_defs.proofs.Connected.{joined_inside}
 use Rattle.bip_defs.proofs.Counts.{distinct_append, horizontal_row_in_range, vertical_col_in_range}
-use Rattle.bip_defs.proofs.Sets.{among_either, among_map_back, col_pair, entry_col, few_distinct, one_col, one_row, pigeonhole, rising_distinct, row_pair, upto_length, upto_lists}
+use Rattle.bip_defs.proofs.Sets.{among_either, among_map_back, col_pair, entry_col, one_col, one_row, pigeonhole, rising_distinct, row_pair}
 use Rattle.bip_defs.proofs.Square.{square_pairs_perfect}
-use Rattle.bip_defs.proofs.Uniqueness.{block_has_col, chain_back, chain_join, chain_square, class_same, least_among}
+use Rattle.bip_defs.proofs.Uniqueness.{block_has_col, chain_square, least_among}
+use Rattle.bip_defs.proofs.Full.{few_below}
+use Rattle.bip_defs.proofs.Together.{blocks_share_row}
 use Rattle.bip_graph.specs.Answers.{AreOfVersion, orders_of, report_of, where_asked}
 use Rattle.bip_graph.specs.Texts.{square_size}
 use Rattle.btf_text.specs.Readable.{AreBlocksLike, AreComponentsLike, AreNumberedLike, AreOrdersLike, FitsText, IsBlockLike, IsComponentLike, IsId, IsList, IsReadable}
@@ -29,9 +31,6 @@ all_ids n (x ∷ xs) small within = (omega (arith, small, within x (inl refl)), 
 all_append : (xs ys : List ℕ) → AllByRecursion IsId xs → AllByRecursion IsId ys → AllByRecursion IsId (xs ++ ys)
 all_append [] ys a b = b
 all_append (x ∷ xs) ys a b = (a.0, all_append xs ys a.1 b)
-
-few_below : (n : ℕ) (xs : List ℕ) → AreDistinct xs → ((x : ℕ) → Among x xs → x < n) → length xs ≤ n
-few_below n xs apart within = omega (arith, few_distinct xs (upto n) apart (λ x on. (upto_lists n).complete x (within x on)), upto_length 0 n)
 
 list_fits : (P : ℕ → Type 0) (n : ℕ) (xs : List ℕ) → n < 2 ^ 32 → Lists P xs → ((x : ℕ) → P x → x < n) → IsList xs
 list_fits P n xs small l within = record {
@@ -79,14 +78,11 @@ col_in_block : (c : ℕ) (bs : List Block) → Among c (all_cols bs) → (b : Bl
 col_in_block c [] on = elim on [ ]
 col_in_block c (b ∷ bs) on = ⊎_elim (λ here. (b, inl refl, here)) (λ later. let (d, d_on, c_on) = col_in_block c bs later in (d, inr d_on, c_on)) (among_either c b.cols (all_cols bs) on)
 
-share_row : (a : Matrix) (b d : Block) (r : ℕ) → IsBlock a b → IsBlock a d → Among r b.rows → Among r d.rows → b ≡ d
-share_row a b d r x y h k = class_same a x.0 y.0 b d x.1 y.1 (chain_join a (x.1.rows.sound r h) (chain_back a (y.1.rows.sound r k)))
-
 rows_distinct : (a : Matrix) (bs : List Block) → ((b : Block) → Among b bs → IsBlock a b) → AreDistinct bs → AreDistinct (all_rows bs)
 rows_distinct a [] are apart = tt
 rows_distinct a (b ∷ bs) are apart =
     distinct_append b.rows (all_rows bs) (rising_distinct b.rows (are b (inl refl)).1.rows.rising) (rows_distinct a bs (λ d on. are d (inr on)) apart.1)
-    (λ r here later. let (d, d_on, r_on) = in_block r bs later in apart.0 (subst (λ (e : Block). Among e bs) (sym (share_row a b d r (are b (inl refl)) (are d (inr d_on)) here r_on)) d_on))
+    (λ r here later. let (d, d_on, r_on) = in_block r bs later in apart.0 (subst (λ (e : Block). Among e bs) (sym (blocks_share_row a b d r (are b (inl refl)) (are d (inr d_on)) here r_on)) d_on))
 
 few_blocks : (bs : List Block) → AllByRecursion IsBlockLike bs → length bs ≤ square_size bs
 few_blocks [] like = omega arith

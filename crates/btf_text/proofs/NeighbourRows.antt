@@ -1,5 +1,5 @@
 -- The rows with an entry in one of some columns, row by row.
-use Rattle.std.proofs.Common.{◌≤◌, ◌&&◌, nat_lt, true≢false, ◌≡◌, ◌↔◌, ◌<◌, ◌+◌, ℕ, zero, suc, Bool, true, false, cond, IsTrue, List, [], ◌∷◌, ◌++◌, filter, nat_eq, decimal, append_assoc, append-nil, refl, sym, ap, ◌∙◌, subst, arith, eqb-true, eq-eqb}
+use Rattle.std.proofs.Common.{◌≤◌, ◌&&◌, nat_lt, true≢false, ◌≡◌, ◌↔◌, ◌<◌, ◌+◌, ℕ, suc, Bool, true, false, cond, IsTrue, List, [], ◌∷◌, ◌++◌, filter, nat_eq, decimal, append_assoc, append-nil, refl, sym, ap, ◌∙◌, subst, arith, eqb-true, eq-eqb}
 use Rattle.std.specs.List.{list_any}
 use Rattle.std.proofs.lemmas.Bool.Decides.{nat_tests}
 use Rattle.std.proofs.lemmas.List.{map-append}
@@ -7,16 +7,10 @@ use Rattle.std.proofs.lemmas.List.Elements.{filter-append}
 use Rattle.std.proofs.lemmas.Grind.{flat_map-append}
 use Rattle.bip_defs.specs.Bottleneck.{above}
 use Rattle.bip_defs.specs.Lists.{Among, Lists}
-use Rattle.bip_defs.specs.Matrix.{IsEntry, Matrix, column, touches, upto, upto_from}
+use Rattle.bip_defs.specs.Matrix.{IsEntry, Matrix, column, touches, upto}
 use Rattle.bip_defs.proofs.BottleneckLemmas.{restricted_back, restricted_over}
-use Rattle.bip_defs.proofs.Sets.{among_test, any_complete, any_sound}
+use Rattle.bip_defs.proofs.Sets.{among_test, any_complete, any_sound, up_more, same_test}
 use Rattle.bip_graph.specs.Texts.{counted, spaced}
-
--- two tests that tell the same
-same_test : (b c : Bool) → (b ≡ true → c ≡ true) → (c ≡ true → b ≡ true) → b ≡ c
-same_test true c to from = sym (to refl)
-same_test false true to from = from refl
-same_test false false to from = refl
 
 -- a test of a row's columns holds of one of them exactly where the row has an entry in one of the columns w, if it tells those
 touches_where : (b : Matrix) (w cols : List ℕ) (r : ℕ) (on : ℕ → Bool)
@@ -93,15 +87,8 @@ contained c w = (
   λ on. any_complete (λ y. nat_eq y c) c w on (eq-eqb c c refl),
 )
 
-upto_more : (k n : ℕ) → upto_from k (n + 1) ≡ upto_from k n ++ (k + n) ∷ []
-upto_more k zero = ap (λ (x : ℕ). x ∷ []) (omega arith)
-upto_more k (suc n) =
-    let more : suc n + 1 ≡ suc (n + 1) = omega arith in
-    let last : suc k + n ≡ k + suc n = omega arith in
-    ap (upto_from k) more ∙ ap (λ (xs : List ℕ). k ∷ xs) (upto_more (suc k) n ∙ ap (λ (x : ℕ). upto_from (suc k) n ++ x ∷ []) last)
-
 upto_next : (n : ℕ) → upto (n + 1) ≡ upto n ++ n ∷ []
-upto_next n = let e : 0 + n ≡ n = omega arith in upto_more 0 n ∙ ap (λ (x : ℕ). upto n ++ x ∷ []) e
+upto_next n = let e : 0 + n ≡ n = omega arith in up_more 0 n ∙ ap (λ (x : ℕ). upto n ++ x ∷ []) e
 
 -- the list goes on with the next row, if it is one of them
 pub rows_go_on : (test : ℕ → Bool) (word : List ℕ) (r : ℕ)

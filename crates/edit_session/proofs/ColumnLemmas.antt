@@ -12,16 +12,8 @@ use Rattle.bip_defs.specs.EditedMatrix.{with_number, with_place, without_number,
 use Rattle.bip_defs.specs.Lists.{Among, IsRising, Lists, StandsAt}
 use Rattle.bip_defs.specs.Matrix.{IsEntry, Matrix, Place, cols, column, entry_count}
 use Rattle.bip_defs.proofs.EditLemmas.{changed_here, with_again, with_count, with_lists, without_absent, without_count, without_lists, without_none}
-use Rattle.bip_defs.proofs.Sets.{among_at, below_each_sound, place_among, test_is, test_is_not}
+use Rattle.bip_defs.proofs.Sets.{among_at, below_each_sound, place_among, test_is, test_is_not, rising_order}
 use Rattle.edit_session.specs.Columns.{IsCounted, IsGap, RoomyMatrix}
-
--- the numbers of a rising list in order
-pub rising_order : (xs : List ℕ) → IsRising xs → (i j : ℕ) → i ≤ j → j < length xs → get_or xs i 0 ≤ get_or xs j 0
-rising_order [] a i j le lt = absurd (omega arith)
-rising_order (x ∷ xs) a zero zero le lt = omega arith
-rising_order (x ∷ xs) a zero (suc j) le lt = let b = below_each_sound x (get_or xs j 0) xs a.0 (among_at xs j 0 (omega arith)) in omega (arith, b)
-rising_order (x ∷ xs) a (suc i) zero le lt = absurd (omega arith)
-rising_order (x ∷ xs) a (suc i) (suc j) le lt = rising_order xs a.1 i j (omega arith) (omega arith)
 
 with_first : (x y : ℕ) (ys : List ℕ) → x < y → with_number x (y ∷ ys) ≡ x ∷ y ∷ ys
 with_first x y ys lt = rw (test_is x y lt) refl

@@ -1,15 +1,15 @@
 -- What an edit leaves of a maximum matching and of the cover beside it.
 use Rattle.std.proofs.Common.{◌≡◌, ◌≢◌, ◌⊎◌, ◌↔◌, ◌∙◌, ℕ, suc, ◌+◌, ◌<◌, ◌≤◌, Bool, true, false, true≢false, List, Option, Some, None, ◌∷◌, length, nat_eq, refl, sym, ap, subst, inl, inr, ⊎_elim, arith, eq-eqb, eqb-true, IsTrue}
 use Rattle.std.specs.Option.{is_some}
-use Rattle.std.specs.Prelude.{IfNone, IfSome}
+use Rattle.std.specs.Prelude.{IfNone}
 use Rattle.std.proofs.lemmas.List.{length-set}
 use Rattle.bip_defs.specs.EditedMatrix.{with_place, without_place}
 use Rattle.bip_defs.specs.Lists.{Among, AreDistinct, IsMarked, IsRising, Lists}
 use Rattle.bip_defs.specs.Matching.{IsMatching, IsMaximum, cols_of, rows_of}
 use Rattle.bip_defs.specs.Matrix.{IsEntry, Matrix, Place, cols, column, entry_count, transpose}
-use Rattle.bip_defs.proofs.EditLemmas.{kept_is_maximum, kept_with, with_again, without_count, without_lists, without_none, without_place_back, without_place_over}
+use Rattle.bip_defs.proofs.EditLemmas.{kept_is_maximum, kept_with, with_again, without_count, without_lists, without_none, without_place_back, without_place_over, without_or_there}
 use Rattle.bip_defs.proofs.Full.{few_below, matching_few}
-use Rattle.bip_defs.proofs.Sets.{col_among, col_pair, number_among, number_same, one_col, one_row, place_same, rising_distinct, row_pair}
+use Rattle.bip_defs.proofs.Sets.{col_among, col_pair, number_among, number_same, one_col, one_row, rising_distinct, row_pair}
 use Rattle.bip_defs.proofs.Transposed.{transpose_is}
 use Rattle.bip_graph.specs.Matching.{IsMatchingOf, IsMaximumOf, Pairing}
 use Rattle.hall_witness.specs.Back.{IsCoverButRow}
@@ -26,11 +26,6 @@ are_mates m s r c rising h = (λ t. subst (λ x. Among (x, c) m) (eqb-true s r t
 
 pub no_mates : (m : List Place) (r c : ℕ) → ¬ Among c (cols_of m) → IsTrue false ↔ Among (r, c) m
 no_mates m r c out = (λ (t : false ≡ true). absurd (true≢false (sym t)), λ h. absurd (out (col_among r c m h)))
-
--- what a look for a mate found
-pub some_found : {X : Type 0} (P : X → Type 0) (o : Option X) → is_some o ≡ true → IfSome o P → (x : X) × P x
-some_found P None e h = absurd (true≢false (sym e))
-some_found P (Some x) e h = (x, h)
 
 pub none_found : {X : Type 0} (P : Type 0) (o : Option X) → is_some o ≡ false → IfNone o P → P
 none_found P None e h = h
@@ -74,15 +69,11 @@ matched a m marks = record { matrix = a; matching = m; marks = marks }
 width : (b : Matrix) (p : Place) → cols (without_place b p) ≡ cols b
 width b p = length-set b.columns p.1 _
 
--- an entry is the one set, or one of the others
-but_one : (b : Matrix) (p : Place) (r c : ℕ) → IsEntry b r c → ((r, c) ≡ p) ⊎ IsEntry (without_place b p) r c
-but_one b p r c e = ⊎_elim (λ (s : (r, c) ≡ p). inl s) (λ ne. inr (without_place_back b p r c e ne)) (place_same (r, c) p)
-
 -- the cover of the others has the entry
 covers_again : (b : Matrix) (p : Place) (m : List Place) (marks : List Bool) → IsCover (without_place b p) m marks → IsCovered m marks p → IsCover b m marks
 covers_again b p m marks k had = record {
   long = k.long ∙ width b p;
-  closed = λ r c on e. ⊎_elim (λ (s : (r, c) ≡ p). by r c s on had) (λ old. k.closed r c on old) (but_one b p r c e);
+  closed = λ r c on e. ⊎_elim (λ (s : (r, c) ≡ p). by r c s on had) (λ old. k.closed r c on old) (without_or_there b p r c e);
   unmatched = λ c lt free. k.unmatched c (let w = width b p in omega (arith, w, lt)) free;
 }
   where
@@ -94,7 +85,7 @@ covers_again b p m marks k had = record {
 covers_paired : (b : Matrix) (p : Place) (m n : List Place) (marks : List Bool) → IsCover (without_place b p) m marks → ((q : Place) → Among q n ↔ ((q ≡ p) ⊎ Among q m)) → IsCover b n marks
 covers_paired b p m n marks k added = record {
   long = k.long ∙ width b p;
-  closed = λ r c on e. ⊎_elim (λ (s : (r, c) ≡ p). new r c s on) (λ old. kept r (k.closed r c on old)) (but_one b p r c e);
+  closed = λ r c on e. ⊎_elim (λ (s : (r, c) ≡ p). new r c s on) (λ old. kept r (k.closed r c on old)) (without_or_there b p r c e);
   unmatched = λ c lt out. k.unmatched c (let w = width b p in omega (arith, w, lt)) (λ h. let (r, pair) = col_pair c m h in out (col_among r c n ((added (r, c)).1 (inr pair))));
 }
   where
@@ -118,16 +109,8 @@ left_long a p marks long = long ∙ sym (width a p)
 pub set_but : (b : Matrix) (p : Place) (m : List Place) (marks : List Bool) → IsCover (without_place b p) m marks → IsCoverBut p.1 b m marks
 set_but b p m marks k = record {
   long = k.long ∙ width b p;
-  closed = λ r c ne on e. ⊎_elim (λ (s : (r, c) ≡ p). absurd (ne (ap (λ (q : Place). q.1) s))) (λ old. k.closed r c on old) (but_one b p r c e);
+  closed = λ r c ne on e. ⊎_elim (λ (s : (r, c) ≡ p). absurd (ne (ap (λ (q : Place). q.1) s))) (λ old. k.closed r c on old) (without_or_there b p r c e);
   unmatched = λ c lt ne free. k.unmatched c (let w = width b p in omega (arith, w, lt)) free;
-}
-
--- but for its row
-pub set_but_row : (b : Matrix) (p : Place) (m : List Place) (marks : List Bool) → IsCover (without_place b p) m marks → IsCoverButRow p.0 b m marks
-set_but_row b p m marks k = record {
-  long = k.long ∙ width b p;
-  closed = λ r c ne on e. ⊎_elim (λ (s : (r, c) ≡ p). absurd (ne (ap (λ (q : Place). q.0) s))) (λ old. k.closed r c on old) (but_one b p r c e);
-  unmatched = λ c lt free. k.unmatched c (let w = width b p in omega (arith, w, lt)) free;
 }
 
 -- but for the column of the pair that is cleared, where that is not marked

@@ -1,17 +1,14 @@
 -- Weights row by row.
-use Rattle.std.proofs.Common.{◌≡◌, ◌⊎◌, ◌∙◌, ℕ, zero, suc, ◌+◌, ◌-◌, ◌<◌, ◌≤◌, List, [], ◌∷◌, ◌++◌, length, get_or, take, drop, map, refl, sym, ap, ap₂, inl, inr, ⊎_elim, arith, length-append, length-drop}
+use Rattle.std.proofs.Common.{◌≡◌, ◌⊎◌, ◌∙◌, ℕ, zero, suc, ◌+◌, ◌-◌, ◌<◌, List, [], ◌∷◌, ◌++◌, length, get_or, take, map, refl, sym, ap, ap₂, inl, inr, ⊎_elim, arith, length-append}
 use Rattle.std.proofs.Math.Seq.{get_or-append_seam}
-use Rattle.std.proofs.lemmas.List.{drop-append-le, drop_at, get_or-map, get_or_append_left, get_or_read, length-map, take-append-le, take_all}
+use Rattle.std.proofs.lemmas.List.{drop_at, get_or-map, get_or_append_left, get_or_read, length-map, take_all}
 use Rattle.std.specs.List.{slice_range}
 use Rattle.std.specs.Prelude.{slice_index}
 use Rattle.bip_defs.specs.Matrix.{Matrix, row_list}
 use Rattle.sp_pattern.specs.Stored.{piece}
 use Rattle.sp_pattern.specs.Weights.{Weighing, weight_at}
 use Rattle.integer_diagonal.specs.RowWeights.{AreRowWeights, weights_in_row}
-
--- what is appended changes no range before it
-range_before : (xs ys : List ℕ) (i j : ℕ) → i ≤ j → j ≤ length xs → slice_range (xs ++ ys) i j ≡ slice_range xs i j
-range_before xs ys i j le within = ap (take (j - i)) (drop-append-le i xs ys (omega arith)) ∙ take-append-le (j - i) (drop i xs) ys (omega (arith, length-drop i xs))
+use Rattle.bip_defs.proofs.Slices.{range_before}
 
 -- and is the range behind what was there
 range_behind : (xs ys : List ℕ) (i j : ℕ) → i ≡ length xs → j ≡ length xs + length ys → slice_range (xs ++ ys) i j ≡ ys

@@ -53,7 +53,7 @@ take-append (suc n) [] ys = let e : suc n - length {A = ℕ} [] ≡ suc n = omeg
 take-append (suc n) (x ∷ xs) ys = let e : suc n - length (x ∷ xs) ≡ n - length xs = omega arith in rw e (ap (λ (t : List ℕ). x ∷ t) (take-append n xs ys))
 
 -- what was given is a prefix of what the limit lets the call use
-given_within : (call : Call) → (more : List ℕ) × (take call.room (offered call) ≡ given call ++ more)
+pub given_within : (call : Call) → (more : List ℕ) × (take call.room (offered call) ≡ given call ++ more)
 given_within call =
     let n : ℕ = length call.before - length call.after in
     let d : got call ++ drop n call.before ≡ offered call = append_assoc call.ahead (take n call.before) (drop n call.before) ∙ ap (λ (t : List ℕ). call.ahead ++ t) (take-append-drop n call.before) in

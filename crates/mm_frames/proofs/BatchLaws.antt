@@ -8,11 +8,12 @@ use Rattle.mm_defs.specs.declared.kinds.Kind.TheVariants.{ShortFile}
 use Rattle.mm_defs.specs.Faults.{first_kind}
 use Rattle.mm_defs.specs.Calls.{Call, Intake, ended, given, offered}
 use Rattle.mm_defs.proofs.AnswerLemmas.{given_all, given_prefix, length_got}
+use Rattle.mm_defs.proofs.Rules.{first_none, first_some}
 use Rattle.mm_reader.specs.Inputs.{OnCall}
 use Rattle.mm_frames.specs.declared.batch.BatchError.{BatchError}
 use Rattle.mm_frames.specs.declared.batch.BatchError.TheVariants as errors
 use Rattle.mm_frames.specs.Batches.{AreFrames, BatchFault, HasFrame, IsBatch, IsFrameAnswerTo, ReadsBatch, RefusesBatch, TellsFrame, bad_frame_among, bad_frame_from, behind_frame, behind_header, fault_or, file_bytes, files_of, first_bad_file, first_bad_frame, frame_kind, has_lf, header_rules, header_words}
-use Rattle.mm_frames.proofs.FrameLaws.{behind_frame-more, few_before, file-is, frame_has_no_kind, frame_is, has_lf-more, header_words-more, kind_first, kind_later, length-behind_frame, none_more, rest-is, some_bytes}
+use Rattle.mm_frames.proofs.FrameLaws.{behind_frame-more, few_before, file-is, frame_has_no_kind, frame_is, has_lf-more, header_words-more, length-behind_frame, none_more, rest-is, some_bytes}
 use Rattle.mm_frames.proofs.UsedLaws.{on_call}
 
 -- ---- frame by frame
@@ -104,8 +105,8 @@ kind_stays ended before bytes more kind h = by (has_lf bytes) refl
     either false = refl
 
     header_kind : (o : Option Kind) → first_kind (header_rules before (header_words bytes)) ≡ o → first_kind (header_rules before (header_words bytes) ++ (ShortFile, false) ∷ []) ≡ Some kind → o ≡ Some kind
-    header_kind None e k = let l = kind_later (header_rules before (header_words bytes)) ((ShortFile, false) ∷ []) e in absurd cc
-    header_kind (Some x) e k = let l = kind_first (header_rules before (header_words bytes)) ((ShortFile, false) ∷ []) x e in sym l ∙ k
+    header_kind None e k = let l = first_none (header_rules before (header_words bytes)) ((ShortFile, false) ∷ []) e in absurd cc
+    header_kind (Some x) e k = let l = first_some (header_rules before (header_words bytes)) ((ShortFile, false) ∷ []) x e in sym l ∙ k
 
     by : (x : Bool) → has_lf bytes ≡ x → frame_kind ended before (bytes ++ more) ≡ Some kind
     by false e = let n = rw e at h in absurd cc
@@ -116,7 +117,7 @@ kind_stays ended before bytes more kind h = by (has_lf bytes) refl
         let w = header_words-more bytes more e in
         let g2 : first_kind (header_rules before (header_words (bytes ++ more))) ≡ Some kind = rw w g in
         rw (l, either ended)
-        (kind_first (header_rules before (header_words (bytes ++ more))) ((ShortFile, ended && nat_lt (length (behind_header (bytes ++ more))) (file_bytes (header_words (bytes ++ more)))) ∷ []) kind g2)
+        (first_some (header_rules before (header_words (bytes ++ more))) ((ShortFile, ended && nat_lt (length (behind_header (bytes ++ more))) (file_bytes (header_words (bytes ++ more)))) ∷ []) kind g2)
 
 stays : (most : ℕ) (ended : Bool) (before : ℕ) (bytes more : List ℕ) (fault : BatchFault) → bad_frame_among most false before bytes ≡ Some fault → bad_frame_from ended before (bytes ++ more) ≡ Some fault
 stays most ended before [] more fault h = absurd cc

@@ -9,9 +9,10 @@ use Rattle.mm_defs.specs.declared.kinds.Kind.{Kind}
 use Rattle.mm_defs.specs.declared.kinds.Kind.TheVariants.{ShortFile}
 use Rattle.mm_defs.specs.Words.{Word, is_lf, word, words}
 use Rattle.mm_defs.specs.Numbers.{is_number}
-use Rattle.mm_defs.specs.Faults.{Rule, first_kind}
+use Rattle.mm_defs.specs.Faults.{first_kind}
 use Rattle.mm_defs.specs.File.{behind}
 use Rattle.mm_defs.proofs.AnswerLemmas.{and_left, and_right}
+use Rattle.mm_defs.proofs.Rules.{first_none, first_some}
 use Rattle.mm_frames.specs.Batches.{BeginsWith, HasFrame, behind_frame, behind_header, file_bytes, first_line, frame_kind, has_lf, header_rules, header_words, is_header}
 use Rattle.mm_frames.specs.Frames.{IsGoodHeader}
 
@@ -115,22 +116,6 @@ header_words-are ws h =
 
 -- ---- kinds, in order
 
-pub kind_first : (xs ys : List Rule) (k : Kind) → first_kind xs ≡ Some k → first_kind (xs ++ ys) ≡ Some k
-kind_first [] ys k h = absurd cc
-kind_first (x ∷ xs) ys k h = by x.1 refl (kind_first xs ys k)
-  where
-    by : (b : Bool) → x.1 ≡ b → (first_kind xs ≡ Some k → first_kind (xs ++ ys) ≡ Some k) → first_kind (x ∷ xs ++ ys) ≡ Some k
-    by true e ih = rw e (rw e at h)
-    by false e ih = rw e (ih (rw e at h))
-
-pub kind_later : (xs ys : List Rule) → first_kind xs ≡ None → first_kind (xs ++ ys) ≡ first_kind ys
-kind_later [] ys h = refl
-kind_later (x ∷ xs) ys h = by x.1 refl (kind_later xs ys)
-  where
-    by : (b : Bool) → x.1 ≡ b → (first_kind xs ≡ None → first_kind (xs ++ ys) ≡ first_kind ys) → first_kind (x ∷ xs ++ ys) ≡ first_kind ys
-    by true e ih = let n = rw e at h in absurd cc
-    by false e ih = rw e (ih (rw e at h))
-
 pub header_good : (before : ℕ) (ws : List Word) → is_header ws ≡ true → before < max_batch_files → file_bytes ws ≤ max_batch_file_bytes → first_kind (header_rules before ws) ≡ None
 header_good before ws h few small =
     let a = lt-leb max_batch_files before few in
@@ -167,7 +152,7 @@ frame_good ended before bytes good long = by (ended || has_lf bytes) refl
     by false e = rw e refl
     by true e =
         let s = short ended long in
-        rw e (kind_later (header_rules before (header_words bytes)) ((ShortFile, ended && nat_lt (length (behind_header bytes)) (file_bytes (header_words bytes))) ∷ []) good ∙ rw s refl)
+        rw e (first_none (header_rules before (header_words bytes)) ((ShortFile, ended && nat_lt (length (behind_header bytes)) (file_bytes (header_words bytes))) ∷ []) good ∙ rw s refl)
 
 no_words : (w : Word) → words [] ≡ codes "file" ∷ w ∷ [] → ⊥
 unfolding words
@@ -223,7 +208,7 @@ module _ (before : ℕ) (bytes : List ℕ) (none : frame_kind true before bytes 
     where
       by : (o : Option Kind) → first_kind (header_rules before (header_words bytes)) ≡ o → first_kind (header_rules before (header_words bytes)) ≡ None
       by None e = e
-      by (Some k) e = let n = kind_first (header_rules before (header_words bytes)) ((ShortFile, nat_lt (length (behind_header bytes)) (file_bytes (header_words bytes))) ∷ []) k e in absurd cc
+      by (Some k) e = let n = first_some (header_rules before (header_words bytes)) ((ShortFile, nat_lt (length (behind_header bytes)) (file_bytes (header_words bytes))) ∷ []) k e in absurd cc
 
   long_enough : file_bytes (header_words bytes) ≤ length (behind_header bytes)
   long_enough = by (nat_lt (length (behind_header bytes)) (file_bytes (header_words bytes))) refl
@@ -231,7 +216,7 @@ module _ (before : ℕ) (bytes : List ℕ) (none : frame_kind true before bytes 
       by : (x : Bool) → nat_lt (length (behind_header bytes)) (file_bytes (header_words bytes)) ≡ x → file_bytes (header_words bytes) ≤ length (behind_header bytes)
       by false e = ltb-false (length (behind_header bytes)) (file_bytes (header_words bytes)) e
       by true e =
-          let k = kind_later (header_rules before (header_words bytes)) ((ShortFile, nat_lt (length (behind_header bytes)) (file_bytes (header_words bytes))) ∷ []) header_good_here in
+          let k = first_none (header_rules before (header_words bytes)) ((ShortFile, nat_lt (length (behind_header bytes)) (file_bytes (header_words bytes))) ∷ []) header_good_here in
           let n : first_kind ((ShortFile, nat_lt (length (behind_header bytes)) (file_bytes (header_words bytes))) ∷ []) ≡ None = sym k ∙ none in
           let m = rw e at n in
           absurd cc
@@ -311,7 +296,7 @@ module _ (before : ℕ) (bytes more : List ℕ) (none : frame_kind false before 
       by : (o : Option Kind) → first_kind (header_rules before (header_words bytes)) ≡ o → first_kind (header_rules before (header_words bytes)) ≡ None
       by None e = e
       by (Some k) e =
-          let f = kind_first (header_rules before (header_words bytes)) ((ShortFile, false) ∷ []) k e in
+          let f = first_some (header_rules before (header_words bytes)) ((ShortFile, false) ∷ []) k e in
           let lf = has_lf-here in
           let n = rw lf at none in
           absurd cc

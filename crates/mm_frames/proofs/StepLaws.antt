@@ -19,8 +19,9 @@ use Rattle.mm_frames.specs.Batches.{BatchFault, bad_frame_from, behind_frame, be
 use Rattle.mm_frames.specs.Frames.{AnswersFile, AnswersHeader, BeginsLine, HeaderIs, HeaderIsBad, IsGoodHeader, IsSameStop, RefusesUsed, UsesSuch}
 use Rattle.mm_frames.specs.Stages.{HasUsed}
 use Rattle.mm_frames.proofs.BatchLaws.{from_frame, none_from}
-use Rattle.mm_frames.proofs.FrameLaws.{behind-all, behind-lf, first_line-all, first_line-lf, frame_good, has_lf-lf, kind_first, kind_later}
+use Rattle.mm_frames.proofs.FrameLaws.{behind-all, behind-lf, first_line-all, first_line-lf, frame_good, has_lf-lf}
 use Rattle.mm_frames.proofs.UsedLaws.{one_more, over_used, rose_since, stopped_used}
+use Rattle.mm_defs.proofs.Rules.{first_none, first_some}
 
 -- ---- a header
 
@@ -47,7 +48,7 @@ bad_line before line kind h bad =
     let w = first_line-lf line [] h in
     let lf = has_lf-lf line [] in
     let g : first_kind (header_rules before (header_words (line ++ 10 ∷ []))) ≡ Some kind = rw w bad in
-    let k : frame_kind false before (line ++ 10 ∷ []) ≡ Some kind = rw lf (kind_first (header_rules before (header_words (line ++ 10 ∷ []))) ((ShortFile, false) ∷ []) kind g) in
+    let k : frame_kind false before (line ++ 10 ∷ []) ≡ Some kind = rw lf (first_some (header_rules before (header_words (line ++ 10 ∷ []))) ((ShortFile, false) ∷ []) kind g) in
     from_frame false before (line ++ 10 ∷ []) (some_after line []) ∙ rw k refl
 
 pub bad_last : (before : ℕ) (line : List ℕ) (kind : Kind) → line ≢ [] → has_lf line ≡ false → first_kind (header_rules before (words line)) ≡ Some kind
@@ -55,7 +56,7 @@ pub bad_last : (before : ℕ) (line : List ℕ) (kind : Kind) → line ≢ [] �
 bad_last before line kind some h bad =
     let w = first_line-all line h in
     let g : first_kind (header_rules before (header_words line)) ≡ Some kind = rw w bad in
-    let k : frame_kind true before line ≡ Some kind = kind_first (header_rules before (header_words line)) ((ShortFile, nat_lt (length (behind_header line)) (file_bytes (header_words line))) ∷ []) kind g in
+    let k : frame_kind true before line ≡ Some kind = first_some (header_rules before (header_words line)) ((ShortFile, nat_lt (length (behind_header line)) (file_bytes (header_words line))) ∷ []) kind g in
     from_frame true before line some ∙ rw k refl
 
 -- ---- a file
@@ -64,7 +65,7 @@ bad_last before line kind some h bad =
 short_kind : (before : ℕ) (bytes : List ℕ) → first_kind (header_rules before (header_words bytes)) ≡ None → length (behind_header bytes) < file_bytes (header_words bytes) → frame_kind true before bytes ≡ Some ShortFile
 short_kind before bytes good short =
     let s = lt-ltb (length (behind_header bytes)) (file_bytes (header_words bytes)) short in
-    kind_later (header_rules before (header_words bytes)) ((ShortFile, nat_lt (length (behind_header bytes)) (file_bytes (header_words bytes))) ∷ []) good ∙ rw s refl
+    first_none (header_rules before (header_words bytes)) ((ShortFile, nat_lt (length (behind_header bytes)) (file_bytes (header_words bytes))) ∷ []) good ∙ rw s refl
 
 module _ (before : ℕ) (line : List ℕ) (n : ℕ) (h : IsGoodHeader before line n) where
   module _ (used : List ℕ) (short : length used < n) where

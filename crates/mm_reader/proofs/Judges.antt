@@ -1,5 +1,5 @@
 -- From what is kept of a line to the rules on it.
-use Rattle.std.proofs.Common.{◌^◌, ◌<◌, ◌≡◌, ℕ, ℤ, ◌+◌, ◌-◌, Bool, true, false, not, ◌==◌, ◌&&◌, List, [], ◌∷◌, ◌++◌, length, refl, sym, ap, ◌∙◌, arith, eqb-true, Some, None, Result, Ok, Err}
+use Rattle.std.proofs.Common.{◌^◌, ◌<◌, ◌≡◌, ℕ, ℤ, ◌+◌, ◌-◌, true, false, not, ◌==◌, ◌&&◌, List, [], ◌∷◌, ◌++◌, length, refl, sym, ap, ◌∙◌, arith, eqb-true, Some, None, Result, Ok, Err}
 use Rattle.std.specs.List.{list_all}
 use Rattle.sp_ids.specs.Entries.{Triple}
 use Rattle.sp_ids.specs.declared.triples.Field.{Field}
@@ -12,11 +12,12 @@ use Rattle.mm_defs.specs.declared.kinds.Kind.{Kind}
 use Rattle.mm_defs.specs.Words.{Word, word}
 use Rattle.mm_defs.specs.Numbers.{is_number, number}
 use Rattle.mm_defs.specs.Header.{is_array, is_integer_field, value_words, size_words, size}
-use Rattle.mm_defs.specs.Faults.{Rule, first_kind, extent_rules, count_rules, size_limits, size_rules, value_rules, triangle_rules, place_rules, coordinate_rules, array_rules}
+use Rattle.mm_defs.specs.Faults.{first_kind, extent_rules, count_rules, size_limits, size_rules, value_rules, triangle_rules, place_rules, coordinate_rules, array_rules}
 use Rattle.mm_defs.specs.File.{triple, triple_at}
 use Rattle.mm_reader.specs.declared.judge.Entry.{Entry}
 use Rattle.mm_reader.specs.Tokens.{capped}
 use Rattle.mm_reader.specs.Judged.{Judged, JudgedEntry, range_rules, triple_of}
+use Rattle.mm_defs.proofs.Rules.{first_none, first_some}
 
 -- an array file has integers
 pub integers : (format : Format) (field : Field) → (is_array format && not (is_integer_field field)) ≡ false → is_array format ≡ true → field ≡ fields.Integer
@@ -64,22 +65,6 @@ pub entry_judged : (h : Header) (s : Size) (ws : List Word) (r : Result Entry Ki
     → JudgedEntry (place_rules h s (number (word ws 0)) (number (word ws 1)) (word ws 2)) (triple h ws) r → JudgedEntry (coordinate_rules h s ws) (triple h ws) r
 entry_judged h s ws (Ok e) n a b j = (rw (n, a, b) j.0, j.1)
 entry_judged h s ws (Err kind) n a b j = rw (n, a, b) j
-
-none_then : (k : Kind) (b : Bool) (prefix bs : List Rule) → (first_kind prefix ≡ None → first_kind (prefix ++ bs) ≡ first_kind bs) → first_kind ((k, b) ∷ prefix) ≡ None → first_kind ((k, b) ∷ prefix ++ bs) ≡ first_kind bs
-none_then k true prefix bs ih h = absurd cc
-none_then k false prefix bs ih h = ih h
-
-first_none : (prefix bs : List Rule) → first_kind prefix ≡ None → first_kind (prefix ++ bs) ≡ first_kind bs
-first_none [] bs h = refl
-first_none ((k, b) ∷ prefix) bs h = none_then k b prefix bs (first_none prefix bs) h
-
-some_then : (k : Kind) (b : Bool) (prefix bs : List Rule) (x : Kind) → (first_kind prefix ≡ Some x → first_kind (prefix ++ bs) ≡ Some x) → first_kind ((k, b) ∷ prefix) ≡ Some x → first_kind ((k, b) ∷ prefix ++ bs) ≡ Some x
-some_then k true prefix bs x ih h = h
-some_then k false prefix bs x ih h = ih h
-
-first_some : (prefix bs : List Rule) (x : Kind) → first_kind prefix ≡ Some x → first_kind (prefix ++ bs) ≡ Some x
-first_some [] bs x h = absurd cc
-first_some ((k, b) ∷ prefix) bs x h = some_then k b prefix bs x (first_some prefix bs x) h
 
 pub extent_good : (h : Header) (s : Size) (r : Result Size Kind) → first_kind (extent_rules s.rows s.cols) ≡ None → Judged (count_rules h s) s r → Judged (size_limits h s) s r
 extent_good h s (Ok y) e j = (first_none (extent_rules s.rows s.cols) (count_rules h s) e ∙ j.0, j.1)

@@ -1,8 +1,6 @@
 -- HasMarked of rows.
-use Rattle.std.proofs.Common.{◌≡◌, ◌≢◌, ◌∙◌, ℕ, ◌<◌, Bool, true, false, List, [], ◌∷◌, ◌++◌, length, set, slice_index_or, refl, sym, subst, inl, ⊎_elim, arith, true≢false, get_or-set_same, get_or-set_other}
-use Rattle.std.proofs.Math.Decide.{dec_lt}
+use Rattle.std.proofs.Common.{◌≡◌, ◌≢◌, ◌∙◌, ℕ, ◌<◌, Bool, true, false, List, [], ◌∷◌, ◌++◌, length, set, slice_index_or, refl, sym, subst, inl, ⊎_elim, true≢false, get_or-set_same, get_or-set_other}
 use Rattle.std.proofs.Math.ListN.{length-set}
-use Rattle.std.proofs.lemmas.List.{get_or_past}
 use Rattle.bip_defs.proofs.Sets.{among_last, among_left, among_right, number_among, number_same}
 use Rattle.bip_defs.specs.Matrix.{Matrix}
 use Rattle.bip_defs.specs.Lists.{IsMarked}
@@ -16,13 +14,6 @@ Grows old new = (r : ℕ) → IsMarked old r → IsMarked new r
 -- a column whose entries are in marked rows stays so
 pub explored_grows : (a : Matrix) (old new : List Bool) (c : ℕ) → Grows old new → IsExplored a old c → IsExplored a new c
 explored_grows a old new c g s r e = g r (s r e)
-
-pub marked_below : (marks : List Bool) (r : ℕ) → IsMarked marks r → r < length marks
-marked_below marks r h = by (dec_lt r (length marks))
-  where
-    by : Dec (r < length marks) → r < length marks
-    by (yes lt) = lt
-    by (no nlt) = absurd (true≢false (sym h ∙ get_or_past marks r false (omega arith)))
 
 pub marked_now : (marks : List Bool) (r : ℕ) → r < length marks → IsMarked (set marks r true) r
 marked_now marks r lt = rw get_or-set_same refl

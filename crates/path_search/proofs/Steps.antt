@@ -4,13 +4,13 @@ use Rattle.std.proofs.Math.ListN.{length-set}
 use Rattle.bip_defs.specs.Lists.{Among, AreDistinct, IsMarked, Lists}
 use Rattle.bip_defs.specs.Matching.{IsMatching, rows_of}
 use Rattle.bip_defs.specs.Matrix.{IsEntry, Matrix, Place, column}
-use Rattle.bip_defs.proofs.Sets.{among_last, among_left, among_right, distinct_last, entry_col, rising_distinct, row_among}
+use Rattle.bip_defs.proofs.Sets.{among_last, among_left, among_right, distinct_last, entry_col, rising_distinct, row_among, marked_below}
 use Rattle.path_search.specs.Advances.{Continues, Onward, HasFound}
 use Rattle.bip_defs.specs.Marks.{IsExplored}
 use Rattle.path_search.specs.Search.{Exhausts, SearchState}
 use Rattle.path_search.specs.Trails.{IsSearchAt, HasPassed, Trail, read_place}
 use Rattle.bip_defs.proofs.Full.{few_below}
-use Rattle.path_search.proofs.MarkLemmas.{marked_below, marked_grows, marked_now, marks_more, explored_grows}
+use Rattle.path_search.proofs.MarkLemmas.{marked_grows, marked_now, marks_more, explored_grows}
 use Rattle.path_search.proofs.TrailLemmas.{passed_all, passed_more, passed_none, rows_last, passed_grows, trail_alternates, trail_back, trail_begins, trail_empty, trail_entries, trail_grows, trail_matched, trail_on, trail_root}
 
 abbrev pub ended : SearchState → ℕ → ℕ → SearchState

@@ -1,24 +1,16 @@
 -- What holds of a matrix whose columns and rows are listed, rising.
-use Rattle.std.proofs.Common.{◌≡◌, ◌↔◌, ℕ, zero, suc, ◌+◌, ◌<◌, ◌≤◌, true, List, [], ◌∷◌, length, get_or, nat_eq, refl, sym, arith, IsTrue, slice_index_or, subst, Ok, Err, is_ok, IsTrue, true≢false, nat_cmp}
+use Rattle.std.proofs.Common.{◌≡◌, ◌↔◌, ℕ, ◌+◌, ◌<◌, ◌≤◌, true, List, [], length, get_or, refl, sym, arith, IsTrue, slice_index_or, subst, Ok, Err, is_ok, IsTrue, true≢false, nat_cmp}
 use Rattle.std.proofs.lemmas.List.{get_or_past}
-use Rattle.std.specs.List.{list_any}
 use Rattle.std.specs.List.Sorted.{IsBinarySearchResult}
 use Rattle.std.proofs.Math.Decide.{dec_lt}
 use Rattle.std.proofs.lemmas.List.Sorted.{searched}
 use Rattle.std.specs.declared.result.Result.{Result}
-use Rattle.bip_defs.specs.Lists.{Among, IsRising, Lists}
+use Rattle.bip_defs.specs.Lists.{Among, Lists}
 use Rattle.bip_defs.specs.Matrix.{IsEntry, Matrix, column, cols, entry_count, row_list}
 use Rattle.sp_pattern.specs.Stored.{AreOrders, IsPattern, piece, pieces, stored}
 use Rattle.sp_pattern.proofs.Cuts.{get_or-pieces, length-pieces, sum_by-length-pieces}
-use Rattle.bip_defs.proofs.Sets.{among_at, among_test, below_each_sound, entry_col, place_among, filter_lists, lists_same, lists_unique}
-
--- a row's list is the rising one of its entries
-pub row_list_lists : (a : Matrix) (r : ℕ) → r < a.rows → Lists (λ c. IsEntry a r c) (row_list a r)
-row_list_lists a r lt =
-    lists_same (λ c. (c < cols a) × (list_any (nat_eq r) (column a c) ≡ true)) (λ c. IsEntry a r c) (row_list a r)
-    (λ c h. (lt, (among_test r (column a c)).0 h.1))
-    (λ c e. (entry_col a r c e, (among_test r (column a c)).1 e.1))
-    (filter_lists (λ c. list_any (nat_eq r) (column a c)) (cols a))
+use Rattle.bip_defs.proofs.Sets.{among_at, place_among, lists_unique, rising_order}
+use Rattle.bip_defs.proofs.Transposed.{row_list_lists}
 
 pub row_list_unique : (a : Matrix) (r : ℕ) (xs : List ℕ) → r < a.rows → Lists (λ c. IsEntry a r c) xs → xs ≡ row_list a r
 row_list_unique a r xs lt l = lists_unique (λ c. IsEntry a r c) xs (row_list a r) l (row_list_lists a r lt)
@@ -59,19 +51,12 @@ piece_rows cs rs us vs c o lt = o.rows c (col_fits cs rs us c lt)
 
 -- Looking for a row.
 
-pub rising_step : (xs : List ℕ) → IsRising xs → (i j : ℕ) → i ≤ j → j < length xs → get_or xs i 0 ≤ get_or xs j 0
-rising_step [] up i j le lt = grind arith
-rising_step (x ∷ xs) up zero zero le lt = omega arith
-rising_step (x ∷ xs) up zero (suc j) le lt = let below = below_each_sound x (get_or xs j 0) xs up.0 (among_at xs j 0 (omega arith)) in omega arith
-rising_step (x ∷ xs) up (suc i) zero le lt = grind arith
-rising_step (x ∷ xs) up (suc i) (suc j) le lt = rising_step xs up.1 i j (omega arith) (omega arith)
-
 pub found_iff : (P : ℕ → Type 0) (xs : List ℕ) (x : ℕ) (r : Result ℕ ℕ) → Lists P xs → IsBinarySearchResult (λ y. nat_cmp y x) xs r → IsTrue (is_ok r) ↔ P x
 found_iff P xs x (Ok i) l h =
-    let s = searched xs x (Ok i) h (rising_step xs l.rising) in
+    let s = searched xs x (Ok i) h (rising_order xs l.rising) in
     ((λ _. l.sound x (subst (λ y. Among y xs) s.1 (among_at xs i 0 s.0))), λ _. refl)
 found_iff P xs x (Err i) l h =
-    let s = searched xs x (Err i) h (rising_step xs l.rising) in
+    let s = searched xs x (Err i) h (rising_order xs l.rising) in
     ((λ t. absurd (true≢false (sym t))), λ p. absurd (apart s (place_among x 0 xs (l.complete x p))))
   where
     apart : (i ≤ length xs) × ((k : ℕ) → k < i → get_or xs k 0 < x) × ((k : ℕ) → i ≤ k → k < length xs → x < get_or xs k 0) → (k : ℕ) × (k < length xs) × (slice_index_or xs k 0 ≡ x) → ⊥

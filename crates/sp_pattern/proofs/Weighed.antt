@@ -12,11 +12,11 @@ use Rattle.std.specs.declared.result.Result.{Result}
 use Rattle.std.specs.Result.{result_unwrap_or}
 use Rattle.bip_defs.specs.Lists.{Among, IsRising, Lists}
 use Rattle.bip_defs.specs.Matrix.{IsEntry, Matrix, column, cols, entry_count}
-use Rattle.bip_defs.proofs.Sets.{among_at, below_each_sound, entry_col, number_same, place_among}
+use Rattle.bip_defs.proofs.Sets.{among_at, below_each_sound, entry_col, number_same, place_among, rising_order}
 use Rattle.sp_pattern.specs.Stored.{AreOrders, AreStarts, pieces, stored}
 use Rattle.sp_pattern.specs.Weights.{Weighing, place_in, position, start_of, weight_at, weights_in}
 use Rattle.sp_pattern.proofs.Cuts.{get_or-pieces, length-pieces, length-slice_range, start_within}
-use Rattle.sp_pattern.proofs.Shape.{col_fits, found_iff, orders_columns, piece_column, rising_step}
+use Rattle.sp_pattern.proofs.Shape.{col_fits, found_iff, orders_columns, piece_column}
 
 -- The starts are the numbers of entries before each column.
 
@@ -63,10 +63,10 @@ place_in_found x (y ∷ ys) h = by (number_same x y) (λ (k : Among x ys). place
 -- what a binary search answers for a member is its place
 pub found_place : (P : ℕ → Type 0) (xs : List ℕ) (x : ℕ) (r : Result ℕ ℕ) → Lists P xs → P x → IsBinarySearchResult (λ y. nat_cmp y x) xs r → result_unwrap_or r 0 ≡ place_in x xs
 found_place P xs x (Ok i) l p h =
-    let s = searched xs x (Ok i) h (rising_step xs l.rising) in
+    let s = searched xs x (Ok i) h (rising_order xs l.rising) in
     sym (ap (λ z. place_in z xs) (sym s.1) ∙ place_in_at xs i l.rising s.0)
 found_place P xs x (Err i) l p h =
-    let s = searched xs x (Err i) h (rising_step xs l.rising) in
+    let s = searched xs x (Err i) h (rising_order xs l.rising) in
     absurd (apart s (place_among x 0 xs (l.complete x p)))
   where
     apart : (i ≤ length xs) × ((k : ℕ) → k < i → get_or xs k 0 < x) × ((k : ℕ) → i ≤ k → k < length xs → x < get_or xs k 0) → (k : ℕ) × (k < length xs) × (slice_index_or xs k 0 ≡ x) → ⊥
@@ -104,7 +104,7 @@ span_found cs rs us vs a r c from to found k o is lt begins ends h ok =
     let listed : Lists (λ s. IsEntry a s c) (column a c) = rw (← is) (orders_columns cs rs us vs o c) in
     let rows : slice_range rs from to ≡ column a c = rw (begins, ends) (span_column cs rs us vs a c o is lt) in
     let here : IsBinarySearchResult (λ y. nat_cmp y r) (column a c) (Ok k) = subst (λ z. IsBinarySearchResult (λ y. nat_cmp y r) (column a c) z) ok (subst (λ xs. IsBinarySearchResult (λ y. nat_cmp y r) xs found) rows h) in
-    let s = searched (column a c) r (Ok k) here (rising_step (column a c) listed.rising) in
+    let s = searched (column a c) r (Ok k) here (rising_order (column a c) listed.rising) in
     let entry : IsEntry a r c = listed.sound r (subst (λ y. Among y (column a c)) s.1 (among_at (column a c) k 0 s.0)) in
     let at : k ≡ place_in r (column a c) = found_place (λ s. IsEntry a s c) (column a c) r (Ok k) listed entry here in
     (entry, λ i. begins i + at i)
@@ -163,7 +163,7 @@ position_order a r c s d up e f le = by (dec_lt c d) (number_same c d)
             let here = place_in_found r (column a c) e.1 in
             let there = place_in_found s (column a c) (rw (← same) at f.1) in
             let le' : start_of a c + place_in r (column a c) ≤ start_of a c + place_in s (column a c) = rw (← same) at le in
-            let step = rising_step (column a c) up (place_in r (column a c)) (place_in s (column a c)) (omega (arith, le')) there.0 in
+            let step = rising_order (column a c) up (place_in r (column a c)) (place_in s (column a c)) (omega (arith, le')) there.0 in
             let first = here.1 in
             let second = there.1 in
             omega (arith, step, first, second)

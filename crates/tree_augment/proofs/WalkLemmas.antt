@@ -7,7 +7,8 @@ use Rattle.bip_defs.specs.Matching.{cols_of, rows_of}
 use Rattle.bip_defs.specs.Matrix.{Place, cols, upto}
 use Rattle.bip_defs.specs.Paths.{Alternates, BeginsUnmatched}
 use Rattle.bip_defs.specs.WordValues.{held}
-use Rattle.bip_defs.proofs.Sets.{among_either, among_last, among_left, among_right, col_among, col_pair, few_distinct, one_col, one_row, row_among, row_pair, upto_complete, upto_length}
+use Rattle.bip_defs.proofs.Sets.{among_either, among_last, among_left, among_right, col_among, few_distinct, one_col, one_row, row_among, row_pair, upto_complete, upto_length}
+use Rattle.bip_defs.proofs.Exchange.{later_col}
 use Rattle.flip_words.specs.Board.{Board, col_vertex}
 use Rattle.flip_words.specs.Seat.{HasSet, HasSetTo, Seat, Took, after_set, with_listed}
 use Rattle.forest_core.specs.Current.{OnPath, leaf}
@@ -65,19 +66,12 @@ joined_twice : (path more done : List Place) → joined_at (joined_at path more)
 joined_twice [] more done = refl
 joined_twice (p ∷ path) more done = joined_twice path (p ∷ more) done
 
--- the column of a pair behind the first one is the mate of a row before it
-mate_before : (m : List Place) (p : Place) (done : List Place) (q : Place) → Alternates m (p ∷ done) → Among q done → (r : ℕ) × Among r (rows_of (p ∷ done)) × Among (r, q.1) m
-mate_before m p [] q a h = absurd h
-mate_before m p (o ∷ done) q a (inl e) = (p.0, inl refl, subst (λ (z : Place). Among {X = Place} (p.0, z.1) m) (sym e) a.0)
-mate_before m p (o ∷ done) q a (inr h) = let (r, on, mate) = mate_before m o done q a.1 h in (r, inr on, mate)
-
 -- no column comes twice on a path
 col_new : (m rest : List Place) (p : Place) (done : List Place) → AreDistinct (cols_of m) → BeginsUnmatched m (joined_at rest (p ∷ done)) → Alternates m (joined_at rest (p ∷ done)) → AreDistinct (rows_of (joined_at rest (p ∷ done))) → ¬ Among p.1 (cols_of done)
-col_new m [] p done one begins a d h = let (q, g) = col_pair p.1 done h in let (r, on, mate) = mate_before m p done (q, p.1) a g in begins (col_among r p.1 m mate)
+col_new m [] p done one begins a d h = let (r, on, mate) = later_col m p done p.1 a h in begins (col_among r p.1 m mate)
 col_new m (o ∷ rest) p done one begins a d h =
-    let (q, g) = col_pair p.1 done h in
     let whole = joined_alternates m rest o (p ∷ done) a in
-    let (r, on, mate) = mate_before m p done (q, p.1) whole.1 g in
+    let (r, on, mate) = later_col m p done p.1 whole.1 h in
     (joined_differ rest (o ∷ p ∷ done) d).0 (subst (λ z. Among z (rows_of (p ∷ done))) (one_row m one r o.0 p.1 mate whole.0) on)
 
 -- the last row of a path is the one without a mate

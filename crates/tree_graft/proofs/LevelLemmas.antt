@@ -1,5 +1,5 @@
 -- One level: the forest after it, and the board and the workers.
-use Rattle.std.proofs.Common.{◌≡◌, ◌∙◌, ◌⊎◌, ◌-◌, ◌<◌, ◌^◌, ℕ, List, ◌++◌, length, take, drop, sym, ap, subst, arith, inl, inr, ⊎_elim, length-append, Result, Ok, Err, OnOk}
+use Rattle.std.proofs.Common.{◌≡◌, ◌∙◌, ◌⊎◌, ◌-◌, ◌<◌, ◌^◌, ℕ, List, ◌++◌, length, take, drop, sym, ap, subst, arith, inl, inr, ⊎_elim, length-append}
 use Rattle.std.proofs.Math.Seq.{drop-append_seam, take-length}
 use Rattle.std.proofs.lemmas.List.{map-append}
 use Rattle.bip_defs.specs.Forest.{HasWon, InForest, IsSettled, State}
@@ -22,11 +22,6 @@ last_claims xs ys before now e f = rw (e, f) (ap (λ n. take n (drop (length xs)
   where
     count : length (xs ++ ys) - length xs ≡ length ys
     count = omega (arith, length-append xs ys)
-
--- two facts of one success
-pub on_ok_both : {A E P Q R : Type 0} (r : Result A E) → (P → Q → R) → OnOk r P → OnOk r Q → OnOk r R
-on_ok_both (Ok a) f p q = f p q
-on_ok_both (Err e) f p q = tt
 
 -- a level from all unclaimed rows went through each column
 pub through_rows : (s : State) (ws : List WorkerState) (free : List ℕ) → ((r : ℕ) → r < s.matrix.rows → ¬ Among r (rows_of s.claims) → Among r free)

@@ -1,8 +1,8 @@
 use Rattle.std.proofs.Common.{◌∙◌, ap, sym}
 use Rattle.bip_defs.specs.Matrix.{cols}
 use Rattle.sp_pattern.specs.Weights.{weight_at}
-use Rattle.bottleneck.proofs.HeavierLemmas.{above_cols}
 use Rattle.bottleneck.proofs.heavier.heavier_matching.Goals as goal
+use Rattle.bip_defs.proofs.BottleneckLemmas.{above_cols}
 
 pub pairs_left-requires-clause-cols : goal.pairs_left-requires-clause-cols
 pairs_left-requires-clause-cols c = c.requires.matching.cols ∙ sym (ap cols c.in_ok-entries.ensures ∙ above_cols c.args.pattern.now (weight_at c.args.weights.now) c.args.above)

@@ -2,9 +2,10 @@ use Rattle.std.proofs.Common.{◌∙◌, rules, sym, arith, true≢false}
 use Rattle.bip_defs.specs.Lists.{Among}
 use Rattle.bip_defs.specs.Matching.{rows_of}
 use Rattle.bip_defs.specs.Matrix.{Place}
-use Rattle.btf_check.proofs.PairLemmas.{column_free, no_entry, pairing_end, pairing_more, row_taken, some_found}
+use Rattle.btf_check.proofs.PairLemmas.{column_free, no_entry, pairing_end, pairing_more, row_taken}
 use Rattle.btf_check.proofs.pairs.matching_of.Goals as goal
 use Rattle.btf_check.proofs.pairs.matching_of.Goals.{then-not-has-via-then-not-has, then-not-has-via-else-not-has+then-is_some}
+use Rattle.bip_defs.proofs.Results.{some_found}
 
 pub returns-then-not-has-clause-unpaired : goal.returns-then-not-has-clause-unpaired
 returns-then-not-has-clause-unpaired c =

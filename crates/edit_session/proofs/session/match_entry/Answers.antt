@@ -3,8 +3,9 @@ use Rattle.bip_defs.specs.Lists.{Among}
 use Rattle.bip_defs.specs.Matrix.{IsTransposeOf, Matrix, Place, entry_count}
 use Rattle.bip_defs.proofs.Sets.{col_among, row_among}
 use Rattle.bip_defs.proofs.Transposed.{transpose_is}
+use Rattle.bip_defs.proofs.Results.{some_found}
 use Rattle.hall_witness.specs.Back.{IsSearchedTo}
-use Rattle.edit_session.proofs.SessionLemmas.{had_kept, more_columns, over_kept, paired_kept, searched_kept, set_but, set_but_row, some_found}
+use Rattle.edit_session.proofs.SessionLemmas.{had_kept, more_columns, over_kept, paired_kept, searched_kept, set_but}
 use Rattle.edit_session.proofs.TransposeLemmas.{transpose_count}
 use Rattle.edit_session.proofs.session.match_entry.Goals as goal
 
@@ -21,7 +22,7 @@ pub augment_to-requires-clause-unmatched : goal.augment_to-requires-clause-unmat
 augment_to-requires-clause-unmatched g c = more_columns c.args.columns.now.matrix c.args.matching.now.pairs c.requires.matching.matching (λ e. c.if-size-cols.false (c.size-2.ensures.size ∙ e ∙ sym c.cols.ensures))
 
 pub augment_to-requires-clause-cover : goal.augment_to-requires-clause-cover
-augment_to-requires-clause-cover g c = set_but_row c.args.columns.now.matrix (c.args.row, c.args.col) c.args.matching.now.pairs c.args.cover.now c.requires.cover
+augment_to-requires-clause-cover g c = c.cover_stands.ensures.but_row c.args.columns.now.matrix (c.args.row, c.args.col) c.args.matching.now.pairs c.args.cover.now c.requires.cover
 
 pub returns-then-row_is_free-clause-kept : goal.returns-then-row_is_free-clause-kept
 returns-then-row_is_free-clause-kept g c = searched_kept c.args.columns.now.matrix c.args.rows.now.matrix (c.args.row, c.args.col) c.args.matching.now c.augment_to.new.matching c.args.cover.now c.augment_to.new.self c.cover_shows_maximum.ensures c.cover_stands.ensures.longer c.requires.rows c.requires.cover c.augment_to.ensures.matching c.augment_to.ensures.cover

@@ -1,9 +1,9 @@
 use Rattle.std.proofs.Common.{◌<◌, ◌≡◌, ◌∙◌, ℕ, List, Bool, length, ap, rules, sym, subst}
 use Rattle.bip_defs.proofs.Slices.{written}
+use Rattle.bip_defs.proofs.Sets.{marked_below}
 use Rattle.bip_defs.specs.Lists.{Among}
 use Rattle.path_search.specs.Search.{SearchState, Unmarks}
 use Rattle.path_search.proofs.FailedSearches.{marks_restored}
-use Rattle.path_search.proofs.MarkLemmas.{marked_below}
 use Rattle.path_search.proofs.search.Search.forget.Goals as goal
 
 pub unmark-requires : goal.unmark-requires

@@ -1,10 +1,10 @@
 use Rattle.std.proofs.Common.{◌≡◌, ◌∙◌, ◌≤◌, List, ap, inl, inr, length, rules, subst, sym, ⊎_elim}
 use Rattle.bip_defs.specs.Lists.{Among}
 use Rattle.bip_defs.proofs.Sets.{written_over}
+use Rattle.bip_defs.proofs.Results.{ok_both}
 use Rattle.claim_words.specs.WorkerState.{WorkerState}
 use Rattle.sp_ids.specs.Limits.{max_workers}
 use Rattle.tree_graft.specs.Search.{IsDone}
-use Rattle.tree_graft.proofs.LevelLemmas.{on_ok_both}
 use Rattle.tree_graft.proofs.levels.Search.level_down.Goals as goal
 
 pub top_down-done-requires-clause-inside : goal.top_down-done-requires-clause-inside
@@ -17,7 +17,7 @@ end_level-requires-clause-done g c =
     let many : length ws ≡ length c.args.self.now.workers.items = c.top_down-done.auto.workers ∙ ap length c.as_mut_slice-workers.ensures.value in
     let over = written_over ws c.args.self.now.workers.items c.args.self.now.workers.len many long in
     let sized = c.requires.ready.sized in
-    on_ok_both c.top_down-done.result (λ settled through. subst (λ (us : List WorkerState). IsDone c.args.self.now.board us c.args.forest.now) (sym over) (record {
+    ok_both c.top_down-done.result (λ settled through. subst (λ (us : List WorkerState). IsDone c.args.self.now.board us c.args.forest.now) (sym over) (record {
       sized = record { few = let few = sized.few in subst (λ n. n ≤ max_workers) (sym many) few; small = sized.small; rows = sized.rows; roots = sized.roots };
       shows = c.top_down-done.ensures.words;
       settled = settled;

@@ -1,10 +1,11 @@
 use Rattle.std.proofs.Common.{◌≡◌, ◌∙◌, ◌≤◌, List, ap, length, rules, subst, sym}
 use Rattle.bip_defs.specs.Lists.{Among}
 use Rattle.bip_defs.proofs.Sets.{written_over}
+use Rattle.bip_defs.proofs.Results.{ok_both}
 use Rattle.claim_words.specs.WorkerState.{WorkerState}
 use Rattle.sp_ids.specs.Limits.{max_workers}
 use Rattle.tree_graft.specs.Search.{IsDone}
-use Rattle.tree_graft.proofs.LevelLemmas.{on_ok_both, through_rows}
+use Rattle.tree_graft.proofs.LevelLemmas.{through_rows}
 use Rattle.tree_graft.proofs.levels.Search.level_up.Goals as goal
 
 pub attach-done-requires-clause-rows : goal.attach-done-requires-clause-rows
@@ -17,7 +18,7 @@ end_level-requires-clause-done g c =
     let many : length ws ≡ length c.args.self.now.workers.items = c.attach-done.auto.workers ∙ ap length c.as_mut_slice-workers.ensures.value in
     let over = written_over ws c.args.self.now.workers.items c.args.self.now.workers.len many long in
     let sized = c.requires.sized in
-    on_ok_both c.attach-done.result (λ settled rows. subst (λ (us : List WorkerState). IsDone c.args.self.now.board us c.args.forest.now) (sym over) (record {
+    ok_both c.attach-done.result (λ settled rows. subst (λ (us : List WorkerState). IsDone c.args.self.now.board us c.args.forest.now) (sym over) (record {
       sized = record { few = let few = sized.few in subst (λ n. n ≤ max_workers) (sym many) few; small = sized.small; rows = sized.rows; roots = sized.roots };
       shows = c.attach-done.ensures.words;
       settled = settled;
