@@ -8,4 +8,5 @@ pub mod Enough
 pub mod Lines
 pub mod Prefixes
 pub mod Roles
+pub mod Rules
 pub mod SplitLemmas
