@@ -13,8 +13,9 @@ then peak bytes an entry. With several programs each has its own lines. All must
 and makes the exit status 1. The machine's load at the start of each file stands in the last column. With --busy as many
 other processes as there are processors do nothing but turn all the while: a join then waits for a time slice. Small
 files, named by --columns, want 15 repeats and more, and 60 with --busy, since a run there takes a few milliseconds and
-can wait for as long. `--families hexa --entries 20000000 --repeats 3 --limit 200` is a file that is searched by workers
-alone after the first phases: four take about the time of `pf` there. It takes some minutes.
+can wait for as long. `--families parts --entries 17000000 --repeats 3 --limit 200` is a file that is searched by workers
+alone after the first phases, and on which four of them take less time than one and than `pf`: all three parts are in it,
+so that from either side most of what a phase reaches leads to no path. It takes some minutes.
 """
 import argparse
 import contextlib

@@ -242,6 +242,23 @@ static Matrix rectangular(u64 rows, u64 cols, int places, Random &random) {
   return a;
 }
 
+// All three parts of Dulmage and Mendelsohn: a wide one, hexagons and a tall one, each column of the second and the third
+// with an entry in a row of the part before it. Each maximum matching leaves columns of the first and rows of the third
+// unmatched, so that from either side much is reached by columns or rows that no path leads from.
+static Matrix three_parts(u64 n, Random &random) {
+  Matrix wide = rectangular(n * 3 / 10 * 4 / 5 + 1, n * 3 / 10, 4, random), square = hexagons(n * 4 / 10, random);
+  Matrix tall = rectangular(n * 3 / 10 * 5 / 4 + 1, n * 3 / 10, 5, random), a;
+  for (const Matrix *part : {&wide, &square, &tall}) {
+    for (u64 place : part->places) a.add(a.rows + static_cast<u32>(place), a.cols + (place >> 32));
+    if (u64 before = part == &square ? wide.rows : square.rows; part != &wide)
+      for (u64 j = 0; j < part->cols; j++) a.add(a.rows - before + random.below(before), a.cols + j);
+    a.rows += part->rows;
+    a.cols += part->cols;
+  }
+  a.renamed = true;
+  return a;
+}
+
 // A band of eleven diagonals.
 static Matrix band(u64 n) {
   Matrix a{n, n};
@@ -328,6 +345,7 @@ int main(int argc, char **argv) {
   else if (family == "load30") a = load(std::max<u64>(n / 30, 1) * 30, seed);
   else if (family == "wide") a = rectangular(std::max<u64>(n * 4 / 5, 1), n, 4, random);
   else if (family == "tall") a = rectangular(std::max<u64>(n * 5 / 4, 1), n, 5, random);
+  else if (family == "parts") a = three_parts(n, random);
   else if (family == "chaini") a = closed_chain(n);
   else if (family == "trii") a = triangle(n, random);
   else if (family == "band" || family == "bandi") a = band(n);

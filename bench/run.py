@@ -46,6 +46,7 @@ COLUMNS = {
     "load30": 1 / 3,
     "wide": 1 / 4,
     "tall": 1 / 5,
+    "parts": 1 / 5.2,
     "er12i": 1 / 13,
     "circuiti": 0.29,
     "bandi": 1 / 11,
