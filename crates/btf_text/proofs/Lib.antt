@@ -3,6 +3,7 @@ pub mod Bodies
 pub mod BufferLaws
 pub mod ComponentLists
 pub mod Digits
+pub mod Halves
 pub mod IdLists
 pub mod Limits
 pub mod Lines

@@ -9,7 +9,7 @@ use Rattle.bip_defs.specs.Bottleneck.{above}
 use Rattle.bip_defs.specs.Lists.{Among, Lists}
 use Rattle.bip_defs.specs.Matrix.{IsEntry, Matrix, column, touches, upto}
 use Rattle.bip_defs.proofs.BottleneckLemmas.{restricted_back, restricted_over}
-use Rattle.bip_defs.proofs.Sets.{among_test, any_complete, any_sound, up_more, same_test}
+use Rattle.bip_defs.proofs.Sets.{among_test, any_complete, any_sound, same_test, upto_more}
 use Rattle.bip_graph.specs.Texts.{counted, spaced}
 
 -- a test of a row's columns holds of one of them exactly where the row has an entry in one of the columns w, if it tells those
@@ -87,15 +87,12 @@ contained c w = (
   λ on. any_complete (λ y. nat_eq y c) c w on (eq-eqb c c refl),
 )
 
-upto_next : (n : ℕ) → upto (n + 1) ≡ upto n ++ n ∷ []
-upto_next n = let e : 0 + n ≡ n = omega arith in up_more 0 n ∙ ap (λ (x : ℕ). upto n ++ x ∷ []) e
-
 -- the list goes on with the next row, if it is one of them
 pub rows_go_on : (test : ℕ → Bool) (word : List ℕ) (r : ℕ)
     → (word ++ spaced (counted (filter test (upto r)))) ++ spaced (counted (filter test (r ∷ []))) ≡ word ++ spaced (counted (filter test (upto (r + 1))))
 rows_go_on test word r =
     append_assoc word (spaced (counted (filter test (upto r)))) (spaced (counted (filter test (r ∷ []))))
-    ∙ ap (λ (t : List ℕ). word ++ t) (sym (ap (λ (rs : List ℕ). spaced (counted rs)) (ap (filter test) (upto_next r) ∙ filter-append test (upto r) (r ∷ []))
+    ∙ ap (λ (t : List ℕ). word ++ t) (sym (ap (λ (rs : List ℕ). spaced (counted rs)) (ap (filter test) (upto_more r) ∙ filter-append test (upto r) (r ∷ []))
     ∙ ap spaced (map-append suc (filter test (upto r)) (filter test (r ∷ [])))
     ∙ flat_map-append (λ (n : ℕ). 32 ∷ decimal n) (counted (filter test (upto r))) (counted (filter test (r ∷ [])))))
 
