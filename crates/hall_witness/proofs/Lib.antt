@@ -4,6 +4,7 @@ pub mod CoverGrowth
 pub mod CoverLemmas
 pub mod CoverShrink
 pub mod MarkLemmas
+pub mod MarkTableLemmas
 pub mod OverLemmas
 pub mod PathLemmas
 pub mod Phases

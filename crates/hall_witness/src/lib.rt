@@ -6,6 +6,8 @@ mod back;
 mod cover;
 mod engine;
 mod laws;
+mod mark_table;
+mod marks;
 mod roots;
 mod search;
 mod steps;

@@ -5,7 +5,7 @@ use Rattle.hall_witness.proofs.roots.other_roots.Given as goal
 
 abbrev pub invariant-loop-col : goal.invariant-loop-col
 invariant-loop-col g l = record {
-  roots : HasRoots (g.S.Side.matrix l.side) (g.F.Opposite.seen l.matching).pairs l.marks l.queue.items;
+  roots : HasRoots (g.S.Side.matrix l.side) (g.F.Opposite.seen l.matching).pairs (g.M.ColumnMarks.marks l.marks) l.queue.items;
   queued : AreQueued (g.F.Opposite.seen l.matching).pairs l.col l.queue.items;
   room : vec_capacity l.queue ≡ vec_capacity l.initial.queue;
 }
