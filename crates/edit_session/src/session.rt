@@ -58,7 +58,7 @@ impl Model for Session {
 impl Session {
     /// A session that begins with this matrix. The matching must be a maximum one of its entries.
     ///
-    /// Answers `OutOfMemory` where 38 bytes a column, 16 a row and 8.5 an entry can't be had. Work:
+    /// Answers `OutOfMemory` where 44 bytes a column, 16 a row and 8.5 an entry can't be had. Work:
     /// one copy of the columns' lists and of the rows', and one search for the cover.
     pub fn new(alloc: Global, pattern: &Pattern, matching: Matching) -> Result<Session, OutOfMemory>
         requires { IsMaximumOf pattern.now matching }
@@ -165,11 +165,11 @@ impl Session {
     ///
     /// Answers `OutOfMemory` where there is no memory for the entry; the session is then as it was.
     /// A search takes none. Work: the search; where it begins at all unmatched columns, a look for
-    /// its mate at each column that was unmatched at the last such search, at the first one at each
-    /// column; where the rank is the number of rows or of columns and the cover lacks the entry,
-    /// which comes once until a clear lowers the rank again, a mark at each column; beside it a
-    /// search by halves in the column and in the row and one move of each of their entries, in the
-    /// mean over many edits.
+    /// its mate at each column that was unmatched at the last such search, or at first when the
+    /// session began, and at each that a clear has left without one since, or at each column where
+    /// these are more than there are columns; once in some 2,000,000,000 edits a stamp at each
+    /// column; beside it a search by halves in the column and in the row and one move of each of
+    /// their entries, in the mean over many edits.
     pub fn set<L: Ledger>(
         &mut self,
         row: Row,
@@ -315,6 +315,7 @@ impl Session {
         }
         self.matching.unpair(row, col);
         self.matching.is_matching();
+        self.cover.add_root(col);
         let columns = &self.columns;
         let matching = &mut self.matching;
         if !self.cover.is_marked(col) {

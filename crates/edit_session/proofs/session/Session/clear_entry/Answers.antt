@@ -1,13 +1,13 @@
-use Rattle.std.proofs.Common.{◌≡◌, ◌∙◌, ◌<◌, List, length, subst, sym, true≢false}
+use Rattle.std.proofs.Common.{◌≡◌, ◌∙◌, ◌<◌, Bool, List, length, subst, sym, true≢false}
 use Rattle.bip_defs.specs.EditedMatrix.{without_place}
 use Rattle.bip_defs.specs.Lists.{Among, IsMarked}
 use Rattle.bip_defs.specs.Matrix.{IsEntry, IsTransposeOf, Matrix, Place, cols, transpose}
 use Rattle.bip_defs.proofs.Transposed.{transpose_is}
 use Rattle.bip_graph.specs.Matching.{IsMatchingOf}
 use Rattle.hall_witness.specs.Back.{IsCoverButRow, IsSearchedTo}
-use Rattle.hall_witness.specs.Covers.{IsCoverBut, IsSearchedFrom}
+use Rattle.hall_witness.specs.Covers.{IsCover, IsCoverBut, IsSearchedFrom}
 use Rattle.hall_witness.specs.Over.{IsParted}
-use Rattle.edit_session.specs.Sessions.{MatchedMatrix}
+use Rattle.edit_session.specs.Sessions.{IsKept, MatchedMatrix}
 use Rattle.edit_session.proofs.SessionLemmas.{cleared_but, cleared_but_row, cleared_count, cleared_free, cleared_row_free, cleared_rows, cleared_steps, left_kept, parted_kept, parted_matching, parted_unmatched}
 use Rattle.edit_session.proofs.TransposeLemmas.{turned_within}
 use Rattle.edit_session.proofs.session.Session.clear_entry.Goals as goal
@@ -31,13 +31,13 @@ augment_from-requires-clause-matching g c = subst (λ (a : Matrix). IsMatchingOf
     (parted_matching c.self.inside.columns.matrix (c.args.row, c.args.col) c.self.inside.matching c.unpair.new.self c.self.invariant.maximum.matching c.unpair.ensures.pairs c.unpair.ensures.sizes c.is_matching-2.ensures.rows_differ c.is_matching-2.ensures.cols_rise)
 
 pub augment_from-requires-clause-cover : goal.augment_from-requires-clause-cover
-augment_from-requires-clause-cover g c = subst (λ (a : Matrix). IsCoverBut c.args.col a c.unpair.new.self.pairs c.self.inside.cover) (sym c.take.ensures.matrix)
-    (cleared_but c.self.inside.columns.matrix (c.args.row, c.args.col) c.self.inside.matching.pairs c.unpair.new.self.pairs c.self.inside.cover c.self.invariant.maximum.matching.matching (c.are_mates-were_mates.ensures.0 c.if-not-were_mates.false) (λ on. true≢false (sym (c.is_marked.ensures.1 on) ∙ c.if-not-is_marked.true)) c.unpair.ensures.pairs c.self.invariant.cover)
+augment_from-requires-clause-cover g c = subst (λ (a : Matrix). IsCoverBut c.args.col a c.unpair.new.self.pairs c.add_root.new.self) (sym c.take.ensures.matrix)
+    (cleared_but c.self.inside.columns.matrix (c.args.row, c.args.col) c.self.inside.matching.pairs c.unpair.new.self.pairs c.add_root.new.self c.self.invariant.maximum.matching.matching (c.are_mates-were_mates.ensures.0 c.if-not-were_mates.false) (λ on. true≢false (sym (c.is_marked.ensures.1 on) ∙ c.if-not-is_marked.true)) c.unpair.ensures.pairs (subst (IsCover c.self.inside.columns.matrix c.self.inside.matching.pairs) (sym c.add_root.ensures) c.self.invariant.cover))
 
 pub invariant_of-self-then-not-is_marked : goal.invariant_of-self-then-not-is_marked
 invariant_of-self-then-not-is_marked g c =
     let turned : c.take-2.new.self.matrix ≡ without_place c.self.inside.rows.matrix (c.args.col, c.args.row) = rw c.row.view_is at (rw c.col.view_is at c.take-2.ensures.matrix) in
-    parted_kept c.self.inside.columns.matrix c.self.inside.rows.matrix c.take.new.self.matrix c.take-2.new.self.matrix (c.args.row, c.args.col) c.self.inside.matching c.unpair.new.self c.augment_from.new.matching c.self.inside.cover c.augment_from.new.self c.cover_shows_maximum.ensures c.cover_stands.ensures.as_long c.self.invariant c.take.ensures.matrix turned c.unpair.ensures.size c.augment_from.ensures.matching c.augment_from.ensures.cover
+    parted_kept c.self.inside.columns.matrix c.self.inside.rows.matrix c.take.new.self.matrix c.take-2.new.self.matrix (c.args.row, c.args.col) c.self.inside.matching c.unpair.new.self c.augment_from.new.matching c.add_root.new.self c.augment_from.new.self c.cover_shows_maximum.ensures c.cover_stands.ensures.as_long (subst (IsKept c.self.inside.columns.matrix c.self.inside.rows.matrix c.self.inside.matching) (sym c.add_root.ensures) c.self.invariant) c.take.ensures.matrix turned c.unpair.ensures.size c.augment_from.ensures.matching c.augment_from.ensures.cover
 
 pub returns-then-not-is_marked-clause-steps : goal.returns-then-not-is_marked-clause-steps
 returns-then-not-is_marked-clause-steps g c =
@@ -47,12 +47,12 @@ returns-then-not-is_marked-clause-steps g c =
 pub returns-then-not-is_marked-clause-searched_to : goal.returns-then-not-is_marked-clause-searched_to
 returns-then-not-is_marked-clause-searched_to g c = subst (λ (w : MatchedMatrix). Among {X = Place} (c.args.row, c.args.col) w.matching.pairs → IsMarked w.marks c.args.col
     → (rest : List Place) × IsParted (c.args.row, c.args.col) w.matching.pairs rest × IsSearchedTo c.args.row c.take.new.self.matrix (transpose c.take.new.self.matrix) rest w.marks c.augment_from.new.matching.pairs c.augment_from.new.self c.args.steps.now c.augment_from.new.steps) c.self.view_is
-    (λ h on. absurd (true≢false (sym (c.is_marked.ensures.1 on) ∙ c.if-not-is_marked.true)))
+    (λ h on. absurd (true≢false (sym (c.is_marked.ensures.1 (subst (λ (z : List Bool). IsMarked z c.args.col) (sym c.add_root.ensures) on)) ∙ c.if-not-is_marked.true)))
 
 pub returns-then-not-is_marked-clause-searched_from : goal.returns-then-not-is_marked-clause-searched_from
 returns-then-not-is_marked-clause-searched_from g c = subst (λ (w : MatchedMatrix). Among {X = Place} (c.args.row, c.args.col) w.matching.pairs → ¬ IsMarked w.marks c.args.col
     → (rest : List Place) × IsParted (c.args.row, c.args.col) w.matching.pairs rest × IsSearchedFrom c.args.col c.take.new.self.matrix rest w.marks c.augment_from.new.matching.pairs c.augment_from.new.self c.args.steps.now c.augment_from.new.steps) c.self.view_is
-    (λ h off. (c.unpair.new.self.pairs, c.unpair.ensures.pairs, c.augment_from.ensures.searched))
+    (λ h off. (c.unpair.new.self.pairs, c.unpair.ensures.pairs, rw c.add_root.ensures at c.augment_from.ensures.searched))
 
 pub augment_to-requires-clause-free : goal.augment_to-requires-clause-free
 augment_to-requires-clause-free g c = cleared_row_free (c.args.row, c.args.col) c.self.inside.matching.pairs c.unpair.new.self.pairs c.unpair.ensures.pairs
@@ -75,13 +75,13 @@ augment_to-requires-clause-matching g c = subst (λ (a : Matrix). IsMatchingOf a
     (parted_matching c.self.inside.columns.matrix (c.args.row, c.args.col) c.self.inside.matching c.unpair.new.self c.self.invariant.maximum.matching c.unpair.ensures.pairs c.unpair.ensures.sizes c.is_matching-2.ensures.rows_differ c.is_matching-2.ensures.cols_rise)
 
 pub augment_to-requires-clause-cover : goal.augment_to-requires-clause-cover
-augment_to-requires-clause-cover g c = subst (λ (a : Matrix). IsCoverButRow c.args.row a c.unpair.new.self.pairs c.self.inside.cover) (sym c.take.ensures.matrix)
-    (cleared_but_row c.self.inside.columns.matrix (c.args.row, c.args.col) c.self.inside.matching.pairs c.unpair.new.self.pairs c.self.inside.cover c.self.invariant.maximum.matching.matching (c.are_mates-were_mates.ensures.0 c.if-not-were_mates.false) (c.is_marked.ensures.0 c.if-not-is_marked.false) c.unpair.ensures.pairs c.self.invariant.cover)
+augment_to-requires-clause-cover g c = subst (λ (a : Matrix). IsCoverButRow c.args.row a c.unpair.new.self.pairs c.add_root.new.self) (sym c.take.ensures.matrix)
+    (cleared_but_row c.self.inside.columns.matrix (c.args.row, c.args.col) c.self.inside.matching.pairs c.unpair.new.self.pairs c.add_root.new.self c.self.invariant.maximum.matching.matching (c.are_mates-were_mates.ensures.0 c.if-not-were_mates.false) (c.is_marked.ensures.0 c.if-not-is_marked.false) c.unpair.ensures.pairs (subst (IsCover c.self.inside.columns.matrix c.self.inside.matching.pairs) (sym c.add_root.ensures) c.self.invariant.cover))
 
 pub invariant_of-self-2 : goal.invariant_of-self-2
 invariant_of-self-2 g c =
     let turned : c.take-2.new.self.matrix ≡ without_place c.self.inside.rows.matrix (c.args.col, c.args.row) = rw c.row.view_is at (rw c.col.view_is at c.take-2.ensures.matrix) in
-    parted_kept c.self.inside.columns.matrix c.self.inside.rows.matrix c.take.new.self.matrix c.take-2.new.self.matrix (c.args.row, c.args.col) c.self.inside.matching c.unpair.new.self c.augment_to.new.matching c.self.inside.cover c.augment_to.new.self c.cover_shows_maximum.ensures c.cover_stands.ensures.as_long c.self.invariant c.take.ensures.matrix turned c.unpair.ensures.size c.augment_to.ensures.matching c.augment_to.ensures.cover
+    parted_kept c.self.inside.columns.matrix c.self.inside.rows.matrix c.take.new.self.matrix c.take-2.new.self.matrix (c.args.row, c.args.col) c.self.inside.matching c.unpair.new.self c.augment_to.new.matching c.add_root.new.self c.augment_to.new.self c.cover_shows_maximum.ensures c.cover_stands.ensures.as_long (subst (IsKept c.self.inside.columns.matrix c.self.inside.rows.matrix c.self.inside.matching) (sym c.add_root.ensures) c.self.invariant) c.take.ensures.matrix turned c.unpair.ensures.size c.augment_to.ensures.matching c.augment_to.ensures.cover
 
 pub returns-clause-steps : goal.returns-clause-steps
 returns-clause-steps g c =
@@ -93,9 +93,9 @@ returns-clause-searched_to g c =
     let turned : c.take-2.new.self.matrix ≡ without_place c.self.inside.rows.matrix (c.args.col, c.args.row) = rw c.row.view_is at (rw c.col.view_is at c.take-2.ensures.matrix) in
     subst (λ (w : MatchedMatrix). Among {X = Place} (c.args.row, c.args.col) w.matching.pairs → IsMarked w.marks c.args.col
     → (rest : List Place) × IsParted (c.args.row, c.args.col) w.matching.pairs rest × IsSearchedTo c.args.row c.take.new.self.matrix (transpose c.take.new.self.matrix) rest w.marks c.augment_to.new.matching.pairs c.augment_to.new.self c.args.steps.now c.augment_to.new.steps) c.self.view_is
-    (λ h on. (c.unpair.new.self.pairs, c.unpair.ensures.pairs, subst (λ (b : Matrix). IsSearchedTo c.args.row c.take.new.self.matrix b c.unpair.new.self.pairs c.self.inside.cover c.augment_to.new.matching.pairs c.augment_to.new.self c.args.steps.now c.augment_to.new.steps) (cleared_rows c.self.inside.columns.matrix c.take.new.self.matrix c.self.inside.rows.matrix c.take-2.new.self.matrix (c.args.row, c.args.col) c.take.ensures.matrix c.self.invariant.rows turned) c.augment_to.ensures.searched))
+    (λ h on. (c.unpair.new.self.pairs, c.unpair.ensures.pairs, subst (λ (b : Matrix). IsSearchedTo c.args.row c.take.new.self.matrix b c.unpair.new.self.pairs c.self.inside.cover c.augment_to.new.matching.pairs c.augment_to.new.self c.args.steps.now c.augment_to.new.steps) (cleared_rows c.self.inside.columns.matrix c.take.new.self.matrix c.self.inside.rows.matrix c.take-2.new.self.matrix (c.args.row, c.args.col) c.take.ensures.matrix c.self.invariant.rows turned) (rw c.add_root.ensures at c.augment_to.ensures.searched)))
 
 pub returns-clause-searched_from : goal.returns-clause-searched_from
 returns-clause-searched_from g c = subst (λ (w : MatchedMatrix). Among {X = Place} (c.args.row, c.args.col) w.matching.pairs → ¬ IsMarked w.marks c.args.col
     → (rest : List Place) × IsParted (c.args.row, c.args.col) w.matching.pairs rest × IsSearchedFrom c.args.col c.take.new.self.matrix rest w.marks c.augment_to.new.matching.pairs c.augment_to.new.self c.args.steps.now c.augment_to.new.steps) c.self.view_is
-    (λ h off. absurd (off (c.is_marked.ensures.0 c.if-not-is_marked.false)))
+    (λ h off. absurd (off (subst (λ (z : List Bool). IsMarked z c.args.col) c.add_root.ensures (c.is_marked.ensures.0 c.if-not-is_marked.false))))
