@@ -1,15 +1,11 @@
--- What taking a pair leaves free, and the degrees after it.
-use Rattle.std.proofs.Common.{◌≡◌, ◌≢◌, ◌⊎◌, ◌↔◌, ◌∙◌, ℕ, ◌-◌, ◌^◌, ◌<◌, List, length, slice_index, refl, ap, sym, subst, inl, inr, ⊎_elim, arith}
-use Rattle.std.proofs.lemmas.Bool.{cases_eq}
-use Rattle.bip_defs.proofs.Sets.{col_among, col_pair, number_among, row_among, row_pair}
-use Rattle.bip_defs.specs.Lists.{Among, Lists}
-use Rattle.bip_defs.specs.Matching.{cols_of, rows_of}
-use Rattle.bip_defs.specs.Matrix.{IsEntry, Matrix, Place}
-use Rattle.bip_defs.specs.Start.{IsFree}
-use Rattle.karp_sipser.specs.Counts.{AreDegrees, AreSums, counts, IsCount, IsSum, sums, wrapping_sub}
-use Rattle.karp_sipser.specs.declared.degrees.Unmatched.{Unmatched}
-use Rattle.karp_sipser.proofs.Counts.{count_none, count_same, count_without, no_count}
-use Rattle.karp_sipser.proofs.Sums.{sum_same, sum_without}
+-- What taking a pair leaves free, and what is free in the transpose.
+use Rattle.std.proofs.Common.{◌≡◌, ◌≢◌, ◌⊎◌, ◌↔◌, ◌∙◌, ℕ, List, refl, ap, sym, subst, inl, inr, ⊎_elim}
+use Rattle.bip_defs.proofs.Sets.{col_among, col_pair, row_among, row_pair}
+use Rattle.bip_defs.proofs.Transposed.{transpose_is, turned_among, turned_back, turned_cols, turned_rows}
+use Rattle.bip_defs.specs.Lists.{Among}
+use Rattle.bip_defs.specs.Matching.{cols_of, rows_of, transposed_places}
+use Rattle.bip_defs.specs.Matrix.{IsEntry, Matrix, Place, transpose}
+use Rattle.bip_defs.specs.Start.{ColOfOne, IsFree, IsLeast, IsOnly, RowOfOne}
 
 -- new has the pairs of old and this one
 abbrev pub Adds : Place → List Place → List Place → Type 0
@@ -39,101 +35,34 @@ pub free_after : (a : Matrix) (p : Place) (old new : List Place) (r c : ℕ) →
 free_after a p old new r c adds f ner nec =
     (f.0, (λ h. ⊎_elim ner f.1 (rows_only p old new r adds h)), (λ h. ⊎_elim nec f.2 (cols_only p old new c adds h)))
 
--- what was free is free, the pair's column and row apart, and each column of the row has one less
-pub count_after : (F G : ℕ → ℕ → Type 0) (x y : ℕ) (ys old new : List ℕ)
-    → ((u v : ℕ) → G u v → F u v × (u ≢ x) × (v ≢ y)) → ((u v : ℕ) → F u v → u ≢ x → v ≢ y → G u v)
-    → ((v : ℕ) → F x v → Among v ys) → ((v : ℕ) → Among v ys → F x v ⊎ ((u : ℕ) → ¬ F u v))
-    → slice_index new y ≡ 0 → ((v : ℕ) → v ≢ y → Among v ys → slice_index new v ≡ slice_index old v - 1) → ((v : ℕ) → ¬ Among v ys → slice_index new v ≡ slice_index old v)
-    → (v : ℕ) → IsCount (λ u. F u v) (slice_index old v) → IsCount (λ u. G u v) (slice_index new v)
-count_after F G x y ys old new before after entry free matched lowered kept v k = elim (cases_eq v y) [
-  | inl e ↦ subst (IsCount (λ u. G u v)) (sym (ap (slice_index new) e ∙ matched)) (count_none (λ u. G u v) (λ u g. (before u v g).2 e))
-  | inr ne ↦ elim (number_among v ys) [
-    | inl h ↦ subst (IsCount (λ u. G u v)) (sym (lowered v ne h)) (⊎_elim
-        (λ f. count_without (λ u. F u v) (λ u. G u v) (slice_index old v) x k f (λ u g. let b = before u v g in (b.0, b.1)) (λ u g neu. after u v g neu ne))
-        (λ none.
-        let zero = no_count (λ u. F u v) (slice_index old v) k none in
-        subst (IsCount (λ u. G u v)) (let e : 0 ≡ slice_index old v - 1 = omega arith in e) (count_none (λ u. G u v) (λ u g. none u (before u v g).0)))
-        (free v h))
-    | inr off ↦ subst (IsCount (λ u. G u v)) (sym (kept v off)) (count_same (λ u. F u v) (λ u. G u v) (slice_index old v) (λ u f. after u v f (λ e. off (entry v (subst (λ z. F z v) e f))) ne) (λ u g. (before u v g).0) k)
-  ]
-]
+-- The rows of a matrix are the columns of its transpose.
 
--- the degrees on both sides after a pair was taken
-pub record AreLowered (ys : List ℕ) (y : ℕ) (old new : List ℕ) : Type 0 where
-  pub matched : slice_index new y ≡ 0
-  pub lowered : (v : ℕ) → v ≢ y → Among v ys → slice_index new v ≡ slice_index old v - 1
-  pub kept : (v : ℕ) → ¬ Among v ys → slice_index new v ≡ slice_index old v
+pub free_turned : (a : Matrix) (m : List Place) (r c : ℕ) → IsFree a m r c → IsFree (transpose a) (transposed_places m) c r
+free_turned a m r c f = ((transpose_is a).over r c f.0, (λ h. f.2 (subst (λ z. Among c z) (turned_rows m) h)), (λ h. f.1 (subst (λ z. Among r z) (turned_cols m) h)))
 
--- the sums after a pair was taken, where there is a degree: those of the pair's list lose the mate
-pub record AreReduced (ys : List ℕ) (mate : ℕ) (old new : List Unmatched) : Type 0 where
-  pub reduced : (v : ℕ) → slice_index (counts new) v ≢ 0 → Among v ys → slice_index (sums new) v ≡ wrapping_sub (slice_index (sums old) v) mate
-  pub kept : (v : ℕ) → ¬ Among v ys → slice_index (sums new) v ≡ slice_index (sums old) v
+pub turned_free : (a : Matrix) (m : List Place) (r c : ℕ) → IsFree (transpose a) (transposed_places m) c r → IsFree a m r c
+turned_free a m r c f = ((transpose_is a).back r c f.0, (λ h. f.2 (subst (λ z. Among r z) (sym (turned_cols m)) h)), (λ h. f.1 (subst (λ z. Among c z) (sym (turned_rows m)) h)))
 
--- with a degree left, the sum of a column of the row is less by the row, and the other sums are as before
-sum_after : (F G : ℕ → ℕ → Type 0) (x y : ℕ) (ys : List ℕ) (old new : List Unmatched)
-    → x < 2 ^ 32 → ((u v : ℕ) → G u v → F u v × (u ≢ x) × (v ≢ y)) → ((u v : ℕ) → F u v → u ≢ x → v ≢ y → G u v)
-    → ((v : ℕ) → F x v → Among v ys) → ((v : ℕ) → Among v ys → F x v ⊎ ((u : ℕ) → ¬ F u v))
-    → AreLowered ys y (counts old) (counts new) → AreReduced ys x old new
-    → (v : ℕ) → IsCount (λ u. F u v) (slice_index (counts old) v) → (slice_index (counts old) v ≢ 0 → IsSum (λ u. F u v) (slice_index (sums old) v))
-    → slice_index (counts new) v ≢ 0 → IsSum (λ u. G u v) (slice_index (sums new) v)
-sum_after F G x y ys old new small before after entry free l s v k t some =
-    let ne : v ≢ y = λ e. some (ap (slice_index (counts new)) e ∙ l.matched) in
-    elim (number_among v ys) [
-      | inl h ↦
-          let had : slice_index (counts old) v ≢ 0 = λ e. some (l.lowered v ne h ∙ ap (λ n. n - 1) e) in
-          let f : F x v = ⊎_elim (λ f. f) (λ none. absurd (had (no_count (λ u. F u v) (slice_index (counts old) v) k none))) (free v h) in
-          subst (IsSum (λ u. G u v)) (sym (s.reduced v some h))
-          (sum_without (λ u. F u v) (λ u. G u v) (slice_index (sums old) v) x small (t had) f (λ u g. let b = before u v g in (b.0, b.1)) (λ u g neu. after u v g neu ne))
-      | inr off ↦
-          let had : slice_index (counts old) v ≢ 0 = λ e. some (l.kept v off ∙ e) in
-          subst (IsSum (λ u. G u v)) (sym (s.kept v off))
-          (sum_same (λ u. F u v) (λ u. G u v) (slice_index (sums old) v) (λ u f. after u v f (λ e. off (entry v (subst (λ z. F z v) e f))) ne) (λ u g. (before u v g).0) (t had))
-    ]
+pub adds_turned : (r c : ℕ) (old new : List Place) → Adds (r, c) old new → Adds (c, r) (transposed_places old) (transposed_places new)
+adds_turned r c old new adds q = (
+  (λ h. ⊎_elim (λ (e : (q.1, q.0) ≡ (r, c)). inl (ap (λ (p : Place). (p.1, p.0)) e)) (λ k. inr (turned_among q.1 q.0 old k)) ((adds (q.1, q.0)).0 (turned_back q.1 q.0 new h))),
+  (λ h. ⊎_elim (λ (e : q ≡ (c, r)). turned_among q.1 q.0 new ((adds (q.1, q.0)).1 (inl (ap (λ (p : Place). (p.1, p.0)) e)))) (λ k. turned_among q.1 q.0 new ((adds (q.1, q.0)).1 (inr (turned_back q.1 q.0 old k)))) h),
+)
 
-pub degrees_after : (a : Matrix) (p : Place) (old new : List Place) (rs cs col_degrees row_degrees cols' rows' : List ℕ)
-    → AreDegrees a old col_degrees row_degrees → Adds p old new → IsFree a old p.0 p.1
-    → Lists (λ r. IsEntry a r p.1) rs → Lists (λ c. IsEntry a p.0 c) cs
-    → length cols' ≡ length col_degrees → length rows' ≡ length row_degrees → AreLowered cs p.1 col_degrees cols' → AreLowered rs p.0 row_degrees rows'
-    → AreDegrees a new cols' rows'
-degrees_after a p old new rs cs col_degrees row_degrees cols' rows' d adds free in_col in_row long_c long_r lc lr = record {
-  long_cols = long_c ∙ d.long_cols;
-  long_rows = long_r ∙ d.long_rows;
-  col = λ c lt. count_after (λ r c. IsFree a old r c) (λ r c. IsFree a new r c) p.0 p.1 cs col_degrees cols'
-      (λ r c g. free_before a p old new r c adds g) (λ r c f ner nec. free_after a p old new r c adds f ner nec)
-      (λ c f. in_row.complete c f.0)
-      (λ c h. ⊎_elim (λ k. inr (λ r f. f.2 k)) (λ nk. inl (in_row.sound c h, free.1, nk)) (number_among c (cols_of old)))
-      lc.matched lc.lowered lc.kept c (d.col c lt);
-  row = λ r lt. count_after (λ c r. IsFree a old r c) (λ c r. IsFree a new r c) p.1 p.0 rs row_degrees rows'
-      (λ c r g. let b = free_before a p old new r c adds g in (b.0, b.2, b.1)) (λ c r f nec ner. free_after a p old new r c adds f ner nec)
-      (λ r f. in_col.complete r f.0)
-      (λ r h. ⊎_elim (λ k. inr (λ c f. f.1 k)) (λ nk. inl (in_col.sound r h, nk, free.2)) (number_among r (rows_of old)))
-      lr.matched lr.lowered lr.kept r (d.row r lt);
-}
+row_turned : (a : Matrix) (m : List Place) (r : ℕ) → RowOfOne a m r → ColOfOne (transpose a) (transposed_places m) r
+row_turned a m r o = (o.0, (free_turned a m r o.0 o.1.0, λ y f. o.1.1 y (turned_free a m r y f)))
 
-pub sums_after : (a : Matrix) (p : Place) (old new : List Place) (rs cs : List ℕ) (columns rows columns' rows' : List Unmatched)
-    → p.0 < 2 ^ 32 → p.1 < 2 ^ 32 → AreDegrees a old (counts columns) (counts rows) → AreSums a old columns rows → Adds p old new → IsFree a old p.0 p.1
-    → Lists (λ r. IsEntry a r p.1) rs → Lists (λ c. IsEntry a p.0 c) cs
-    → AreLowered cs p.1 (counts columns) (counts columns') → AreLowered rs p.0 (counts rows) (counts rows') → AreReduced cs p.0 columns columns' → AreReduced rs p.1 rows rows'
-    → AreSums a new columns' rows'
-sums_after a p old new rs cs columns rows columns' rows' small_r small_c d s adds free in_col in_row lc lr sc sr = record {
-  col = λ c lt some. sum_after (λ r c. IsFree a old r c) (λ r c. IsFree a new r c) p.0 p.1 cs columns columns' small_r
-      (λ r c g. free_before a p old new r c adds g) (λ r c f ner nec. free_after a p old new r c adds f ner nec)
-      (λ c f. in_row.complete c f.0)
-      (λ c h. ⊎_elim (λ k. inr (λ r f. f.2 k)) (λ nk. inl (in_row.sound c h, free.1, nk)) (number_among c (cols_of old)))
-      lc sc c (d.col c lt) (s.col c lt) some;
-  row = λ r lt some. sum_after (λ c r. IsFree a old r c) (λ c r. IsFree a new r c) p.1 p.0 rs rows rows' small_c
-      (λ c r g. let b = free_before a p old new r c adds g in (b.0, b.2, b.1)) (λ c r f nec ner. free_after a p old new r c adds f ner nec)
-      (λ r f. in_col.complete r f.0)
-      (λ r h. ⊎_elim (λ k. inr (λ c f. f.1 k)) (λ nk. inl (in_col.sound r h, nk, free.2)) (number_among r (rows_of old)))
-      lr sr r (d.row r lt) (s.row r lt) some;
-}
+turned_row : (a : Matrix) (m : List Place) (r : ℕ) → ColOfOne (transpose a) (transposed_places m) r → RowOfOne a m r
+turned_row a m r o = (o.0, (turned_free a m r o.0 o.1.0, λ y f. o.1.1 y (free_turned a m r y f)))
 
--- a column that had no degree has none
-pub still_none : (ys : List ℕ) (y v : ℕ) (old new : List ℕ) → AreLowered ys y old new → slice_index old v ≡ 0 → slice_index new v ≡ 0
-still_none ys y v old new l zero = elim (cases_eq v y) [
-  | inl e ↦ rw e l.matched
-  | inr ne ↦ elim (number_among v ys) [
-    | inl h ↦ let e = l.lowered v ne h in omega arith
-    | inr off ↦ l.kept v off ∙ zero
-  ]
-]
+pub no_row_turned : (a : Matrix) (m : List Place) → ((r : ℕ) → ¬ ColOfOne (transpose a) (transposed_places m) r) → (r : ℕ) → ¬ RowOfOne a m r
+no_row_turned a m none r o = none r (row_turned a m r o)
+
+pub least_row_turned : (a : Matrix) (m : List Place) (r : ℕ) → IsLeast (ColOfOne (transpose a) (transposed_places m)) r → IsLeast (RowOfOne a m) r
+least_row_turned a m r l = (turned_row a m r l.0, λ y o. l.1 y (row_turned a m y o))
+
+pub only_row_turned : (a : Matrix) (m : List Place) (r c : ℕ) → IsOnly (λ s. IsFree a m s c) r → IsOnly (λ s. IsFree (transpose a) (transposed_places m) c s) r
+only_row_turned a m r c o = (free_turned a m r c o.0, λ s f. o.1 s (turned_free a m s c f))
+
+pub only_col_turned : (a : Matrix) (m : List Place) (r c : ℕ) → IsOnly (λ d. IsFree (transpose a) (transposed_places m) d r) c → IsOnly (λ d. IsFree a m r d) c
+only_col_turned a m r c o = (turned_free a m r c o.0, λ d f. o.1 d (free_turned a m r d f))

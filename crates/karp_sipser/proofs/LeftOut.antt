@@ -1,72 +1,129 @@
--- What leaving out a row or column that is matched changes.
-use Rattle.std.proofs.Common.{◌≡◌, ◌≢◌, ◌∙◌, ℕ, ◌-◌, ◌<◌, List, length, slice_index, slice_set, ap, sym, subst, inl, inr, arith}
+-- The sums after a pair was taken.
+use Rattle.std.proofs.Common.{◌≡◌, ◌≢◌, ◌⊎◌, ◌∙◌, ℕ, ◌+◌, ◌<◌, Bool, true, false, List, length, slice_index, slice_set, take, refl, ap, sym, subst, inl, inr, ⊎_elim, arith}
 use Rattle.std.proofs.lemmas.Bool.{cases_eq}
 use Rattle.std.proofs.lemmas.List.{get_or-set_other, get_or-set_same}
-use Rattle.bip_defs.specs.Lists.{Among}
-use Rattle.karp_sipser.specs.Counts.{HoldsOnes, HoldsOnesBut, counts, sums, wrapping_sub}
-use Rattle.karp_sipser.specs.declared.degrees.Unmatched.{Unmatched}
-use Rattle.karp_sipser.proofs.Free.{AreLowered, AreReduced}
-use Rattle.karp_sipser.proofs.Tables.{count_put, counts_long, nothing, sum_put}
+use Rattle.bip_defs.proofs.Sets.{col_among, entry_col, few_distinct, number_among, rising_distinct}
+use Rattle.bip_defs.specs.Lists.{Among, IsRising, Lists}
+use Rattle.bip_defs.specs.Matching.{cols_of}
+use Rattle.bip_defs.specs.Matrix.{cols, column, IsEntry, Matrix, Place}
+use Rattle.bip_defs.specs.Start.{ColOfOne, IsFree, IsOnly}
+use Rattle.karp_sipser.specs.NeighbourSums.{AreSums, HoldsOnes, HoldsOnesBut, IsLeftOut, IsShort, IsSum, LooksLikeOne, wrapping_sub}
+use Rattle.karp_sipser.specs.declared.neighbour_sums.NeighbourSums.{NeighbourSums}
+use Rattle.karp_sipser.proofs.Free.{Adds, cols_kept, free_after, free_before}
+use Rattle.karp_sipser.proofs.Prefixes.{IsChanged, changed_next, front_next}
+use Rattle.karp_sipser.proofs.Sums.{looks_only, one_looks, sum_same, sum_without}
 
--- the degrees without that of the matched one
-abbrev pub without : List Unmatched → ℕ → List Unmatched
-without us x = slice_set us x nothing
+-- what leaving out a matched column and its mate changes, where others tells whether others of these columns may be unmatched
+pub record IsAfter (matched mate : ℕ) (ids : List ℕ) (others : Bool) (s t : NeighbourSums) : Type 0 where
+  pub left_out : others ≡ true → IsLeftOut matched mate ids s t
+  pub alone : others ≡ false → (x : ℕ) → x ≢ matched → slice_index t.words.items x ≡ slice_index s.words.items x
+  pub kept : (x : ℕ) → x ≢ matched → ¬ Among x ids → slice_index t.words.items x ≡ slice_index s.words.items x
+  pub grows : (x : ℕ) → Among x s.of_one.members → Among x t.of_one.members
+  pub bound : t.of_one.bound ≡ s.of_one.bound
+  pub long : length t.words.items ≡ length s.words.items
+  pub unit : t.unit ≡ s.unit
+  pub some_long : t.some_long ≡ s.some_long
 
-count_here : (us : List Unmatched) (x : ℕ) → x < length us → slice_index (counts (without us x)) x ≡ 0
-count_here us x inside = ap (λ (ns : List ℕ). slice_index ns x) (count_put us x nothing) ∙ get_or-set_same (counts us) x 0 0 (subst (λ n. x < n) (sym (counts_long us)) inside)
+either : (b : Bool) → (b ≡ true) ⊎ (b ≡ false)
+either true = inl refl
+either false = inr refl
 
-count_off : (us : List Unmatched) (x y : ℕ) → y ≢ x → slice_index (counts (without us x)) y ≡ slice_index (counts us) y
-count_off us x y ne = ap (λ (ns : List ℕ). slice_index ns y) (count_put us x nothing) ∙ get_or-set_other (counts us) x y 0 0 ne
+-- a column that is unmatched after a pair was taken was so before, and is not the pair's
+unmatched_before : (p : Place) (old new : List Place) (c : ℕ) → Adds p old new → ¬ Among c (cols_of new) → (c ≢ p.1) × (¬ Among c (cols_of old))
+unmatched_before p old new c adds apart = (
+  (λ e. apart (subst (λ z. Among z (cols_of new)) (sym e) (col_among p.0 p.1 new ((adds p).1 (inl refl))))),
+  (λ h. apart (cols_kept p old new c adds h)),
+)
 
-sum_off : (us : List Unmatched) (x y : ℕ) → y ≢ x → slice_index (sums (without us x)) y ≡ slice_index (sums us) y
-sum_off us x y ne = ap (λ (ns : List ℕ). slice_index ns y) (sum_put us x nothing) ∙ get_or-set_other (sums us) x y 0 0 ne
+-- what is known of a pair that is taken: if others is false, its row has no other unmatched column
+pub record IsTaking (a : Matrix) (p : Place) (old new : List Place) (ids : List ℕ) (others : Bool) : Type 0 where
+  pub adds : Adds p old new
+  pub free : IsFree a old p.0 p.1
+  pub in_row : Lists (λ c. IsEntry a p.0 c) ids
+  pub only : others ≡ false → IsOnly (λ c. IsFree a old p.0 c) p.1
 
--- the others of degree one are among the members
-pub ones_without : (us : List Unmatched) (x matched : ℕ) (members : List ℕ) → x ≡ matched → x < length us → HoldsOnesBut matched (counts us) members → HoldsOnes (counts (without us x)) members
-ones_without us x matched members is inside ones y one = elim (cases_eq y x) [
-  | inl e ↦ let zero = ap (slice_index (counts (without us x))) e ∙ count_here us x inside in absurd (omega (arith, zero, one))
-  | inr ne ↦ ones y (λ e. ne (e ∙ sym is)) (sym (count_off us x y ne) ∙ one)
-]
+sum_after : (a : Matrix) (p : Place) (old new : List Place) (ids : List ℕ) (others : Bool) (s t : NeighbourSums) → IsTaking a p old new ids others → IsAfter p.1 p.0 ids others s t
+    → (c : ℕ) → ¬ Among c (cols_of new) → IsSum s.unit (λ r. IsFree a old r c) (slice_index s.words.items c) → IsSum s.unit (λ r. IsFree a new r c) (slice_index t.words.items c)
+sum_after a p old new ids others s t k after c apart sum =
+    let (ne, had) = unmatched_before p old new c k.adds apart in
+    elim (number_among c ids) [
+      | inl h ↦
+          let f : IsFree a old p.0 c = (k.in_row.sound c h, k.free.1, had) in
+          elim (either others) [
+            | inl more ↦ subst (IsSum s.unit (λ r. IsFree a new r c)) (sym ((after.left_out more).lowered c ne h))
+                (sum_without s.unit (λ r. IsFree a old r c) (λ r. IsFree a new r c) (slice_index s.words.items c) p.0 sum f (λ r g. let b = free_before a p old new r c k.adds g in (b.0, b.1)) (λ r g ner. free_after a p old new r c k.adds g ner ne))
+            | inr none ↦ absurd (ne ((k.only none).1 c f))
+          ]
+      | inr off ↦ subst (IsSum s.unit (λ r. IsFree a new r c)) (sym (after.kept c ne off))
+          (sum_same s.unit (λ r. IsFree a old r c) (λ r. IsFree a new r c) (slice_index s.words.items c)
+          (λ r g. free_after a p old new r c k.adds g (λ e. off (k.in_row.complete c (subst (λ z. IsEntry a z c) e g.0))) ne) (λ r g. (free_before a p old new r c k.adds g).0) sum)
+    ]
 
--- where the others lose the mate
-pub left_out : (ids : List ℕ) (x matched mate : ℕ) (old new : List Unmatched) → x ≡ matched → x < length old → Among matched ids
-    → ((v : ℕ) → Among v ids → slice_index (counts new) v ≡ slice_index (counts (without old x)) v - 1)
-    → ((v : ℕ) → ¬ Among v ids → slice_index (counts new) v ≡ slice_index (counts (without old x)) v)
-    → ((v : ℕ) → Among v ids → slice_index (sums new) v ≡ wrapping_sub (slice_index (sums (without old x)) v) mate)
-    → ((v : ℕ) → ¬ Among v ids → slice_index (sums new) v ≡ slice_index (sums (without old x)) v)
-    → AreLowered ids matched (counts old) (counts new) × AreReduced ids mate old new
-left_out ids x matched mate old new is inside beside lowered kept reduced kept_sums =
-    let none : slice_index (counts new) matched ≡ 0 = lowered matched beside ∙ ap (λ n. n - 1) (ap (slice_index (counts (without old x))) (sym is) ∙ count_here old x inside) in
-    let apart : (v : ℕ) → ¬ Among v ids → v ≢ x = λ v no e. no (subst (λ z. Among z ids) (sym (e ∙ is)) beside) in (
-      record {
-        matched = none;
-        lowered = λ v ne h. lowered v h ∙ ap (λ n. n - 1) (count_off old x v (λ e. ne (e ∙ is)));
-        kept = λ v no. kept v no ∙ count_off old x v (apart v no);
-      },
-      record {
-        reduced = λ v some h. reduced v h ∙ ap (λ s. wrapping_sub s mate) (sum_off old x v (λ e. some (ap (slice_index (counts new)) (e ∙ is) ∙ none)));
-        kept = λ v no. kept_sums v no ∙ sum_off old x v (apart v no);
-      },
-    )
+pub sums_after : (a : Matrix) (p : Place) (old new : List Place) (ids : List ℕ) (others : Bool) (s t : NeighbourSums) → AreSums a old s → IsTaking a p old new ids others → IsAfter p.1 p.0 ids others s t → AreSums a new t
+sums_after a p old new ids others s t sums k after = record {
+  of_unit = rw after.unit sums.of_unit;
+  long = after.long ∙ sums.long;
+  bound = after.bound ∙ sums.bound;
+  sums = λ c lt apart. rw after.unit (sum_after a p old new ids others s t k after c apart (sums.sums c lt (unmatched_before p old new c k.adds apart).1));
+  short = rw (after.unit, after.some_long) sums.short;
+}
 
--- where no other has a degree
-pub left_alone : (ids : List ℕ) (x matched mate : ℕ) (old : List Unmatched) → x ≡ matched → x < length old → Among matched ids
-    → ((v : ℕ) → v ≢ matched → Among v ids → slice_index (counts old) v ≡ 0)
-    → AreLowered ids matched (counts old) (counts (without old x)) × AreReduced ids mate old (without old x)
-left_alone ids x matched mate old is inside beside alone =
-    let new = without old x in
-    let none : slice_index (counts new) matched ≡ 0 = ap (slice_index (counts new)) (sym is) ∙ count_here old x inside in
-    let apart : (v : ℕ) → ¬ Among v ids → v ≢ x = λ v no e. no (subst (λ z. Among z ids) (sym (e ∙ is)) beside) in (
-      record {
-        matched = none;
-        lowered = λ v ne h. let zero = alone v ne h in count_off old x v (λ e. ne (e ∙ is)) ∙ zero ∙ ap (λ n. n - 1) (sym zero);
-        kept = λ v no. count_off old x v (apart v no);
-      },
-      record {
-        reduced = λ v some h. elim (cases_eq v matched) [
-          | inl e ↦ absurd (some (ap (slice_index (counts new)) e ∙ none))
-          | inr ne ↦ absurd (some (count_off old x v (λ e. ne (e ∙ is)) ∙ alone v ne h))
-        ];
-        kept = λ v no. sum_off old x v (apart v no);
-      },
-    )
+-- the sum of an unmatched column with exactly one unmatched neighbour looks like one number's
+pub col_looks : (a : Matrix) (m : List Place) (s : NeighbourSums) (c : ℕ) → AreSums a m s → ColOfOne a m c → LooksLikeOne s.unit (slice_index s.words.items c)
+col_looks a m s c sums o =
+    let lt = entry_col a o.0 c o.1.0.0 in
+    one_looks s.unit (λ r. IsFree a m r c) (slice_index s.words.items c) o.0 sums.of_unit.fits (omega (arith, o.1.0.0.0, sums.of_unit.rows_below)) (sums.sums c lt o.1.0.2) o.1
+
+-- where the list is short, a sum that looks like one number's is
+pub col_only : (a : Matrix) (m : List Place) (s : NeighbourSums) (c : ℕ) → AreSums a m s → c < cols a → ¬ Among c (cols_of m) → IsShort s.unit (length (column a c)) → LooksLikeOne s.unit (slice_index s.words.items c)
+    → IsOnly (λ r. IsFree a m r c) (wrapping_sub (slice_index s.words.items c) s.unit)
+col_only a m s c sums lt apart short looks =
+    let k = sums.sums c lt apart in
+    looks_only s.unit (λ r. IsFree a m r c) (slice_index s.words.items c) (length (column a c)) sums.of_unit.positive sums.of_unit.fits k (λ r f. omega (arith, f.0.0, sums.of_unit.rows_below))
+    (few_distinct k.having (column a c) (rising_distinct k.having k.lists.rising) (λ r h. (k.lists.sound r h).0.1)) short looks
+
+-- what a word that was looked at says
+pub only_known : (a : Matrix) (m : List Place) (s : NeighbourSums) (r c n x y : ℕ) → AreSums a m s → IsFree a m r c → x ≡ c → y ≡ r → n ≡ length (column a c) → wrapping_sub (slice_index s.words.items x) s.unit ≡ y
+    → (s.some_long ≡ false) ⊎ IsShort s.unit n → IsOnly (λ z. IsFree a m z c) r
+only_known a m s r c n x y sums free is_c is_r is_n word short =
+    let lt = entry_col a r c free.0 in
+    let here : wrapping_sub (slice_index s.words.items c) s.unit ≡ r = ap (λ z. wrapping_sub (slice_index s.words.items z) s.unit) (sym is_c) ∙ word ∙ is_r in
+    let fits : IsShort s.unit (length (column a c)) = elim short [ inl off ↦ sums.short off c lt | inr e ↦ subst (IsShort s.unit) is_n e ] in
+    subst (IsOnly (λ z. IsFree a m z c)) here (col_only a m s c sums lt free.2 fits (omega (arith, here, free.0.0, sums.of_unit.rows_below)))
+
+-- numbers that are the same
+pub after_at : (x y matched mate : ℕ) (ids : List ℕ) (others : Bool) (s t : NeighbourSums) → x ≡ matched → y ≡ mate → IsAfter x y ids others s t → IsAfter matched mate ids others s t
+after_at x y matched mate ids others s t is_x is_y after = subst (λ z. IsAfter matched z ids others s t) is_y (subst (λ z. IsAfter z y ids others s t) is_x after)
+
+pub ones_after : (a : Matrix) (p : Place) (old new : List Place) (ids : List ℕ) (others : Bool) (s t : NeighbourSums) → AreSums a old s → IsTaking a p old new ids others → IsAfter p.1 p.0 ids others s t
+    → HoldsOnesBut p.1 a old s.of_one.members → HoldsOnes a new t.of_one.members
+ones_after a p old new ids others s t sums k after ones c o =
+    let (ne, had) = unmatched_before p old new c k.adds o.1.0.2 in
+    elim (number_among c ids) [
+      | inl h ↦ elim (either others) [
+        | inl more ↦ (after.left_out more).ones c h (rw after.unit at (col_looks a new t c (sums_after a p old new ids others s t sums k after) o))
+        | inr none ↦ absurd (ne ((k.only none).1 c (k.in_row.sound c h, k.free.1, had)))
+      ]
+      | inr off ↦
+          let here : (r : ℕ) → IsFree a old r c → IsFree a new r c = λ r g. free_after a p old new r c k.adds g (λ e. off (k.in_row.complete c (subst (λ z. IsEntry a z c) e g.0))) ne in
+          after.grows c (ones c ne (o.0, ((free_before a p old new o.0 c k.adds o.1.0).0, λ r g. o.1.1 r (here r g))))
+    ]
+
+-- of a prefix the sums are lowered, and those that look like one number's then are among the members
+pub record IsLowering (unit by : ℕ) (old new before members prefix : List ℕ) : Type 0 where
+  pub lowered : IsChanged (λ s. wrapping_sub s by) old new prefix
+  pub ones : (x : ℕ) → Among x prefix → LooksLikeOne unit (slice_index new x) → Among x members
+  pub grows : (x : ℕ) → Among x before → Among x members
+
+pub lowering_next : (unit by : ℕ) (old new ones members more xs : List ℕ) (i x n : ℕ) → IsRising xs → i < length xs → slice_index xs i ≡ x → x < length old → IsLowering unit by old new ones members (take i xs)
+    → n ≡ wrapping_sub (slice_index new x) by → ((y : ℕ) → Among y members → Among y more) → (LooksLikeOne unit n → Among x more) → IsLowering unit by old (slice_set new x n) ones more (take (i + 1) xs)
+lowering_next unit by old new ones members more xs i x n up lt at inside l is grows looks =
+    let room : x < length new = omega (arith, l.lowered.long, inside) in
+    record {
+      lowered = changed_next (λ s. wrapping_sub s by) old new xs i x n up lt at inside l.lowered is;
+      ones = λ y h one. elim (cases_eq y x) [
+        | inl e ↦ rw e (looks (subst (LooksLikeOne unit) (ap (slice_index (slice_set new x n)) e ∙ get_or-set_same new x n 0 room) one))
+        | inr ne ↦ grows y (l.ones y (⊎_elim (λ k. k) (λ e. absurd (ne (e ∙ at))) (front_next y i xs lt h)) (subst (LooksLikeOne unit) (get_or-set_other new x y n 0 ne) one))
+      ];
+      grows = λ y h. grows y (l.grows y h);
+    }

@@ -1,6 +1,4 @@
 pub mod Choices
-pub mod Counts
-pub mod Tables
 pub mod Free
 pub mod LeftOut
 pub mod LongestMatchings

@@ -4,8 +4,7 @@ ghost use Rattle.std.specs.Prelude.{◌≡◌, ◌<◌, length, map};
 ghost use Rattle.bip_defs.specs.Matrix.{cols, column};
 ghost use Rattle.karp_sipser.specs.Ahead.{IsAhead};
 
-use crate::degrees::Unmatched;
-use int_set::IntSet;
+use crate::neighbour_sums::NeighbourSums;
 use sp_ids::{Col, Id};
 use sp_pattern::Side;
 
@@ -19,19 +18,15 @@ pub struct Ahead<'p, I> {
     pub ids: &'p [I],
 }
 
-/// The list that the next turn is likely to ask for: that of the neighbour of the least member, if
-/// it has one neighbour. Work: a look at the degree and at where the list begins and ends.
+/// The list that the next turn is likely to ask for: that of the neighbour of the least member of
+/// the set, if it has one neighbour. Work: a look at the sum and at where the list begins and ends.
 #[inline(always)]
-pub fn look_ahead<'p, I: Id, S: Side<I>>(
-    side: &'p S,
-    degrees: &[Unmatched],
-    ones: &IntSet,
-) -> Ahead<'p, I>
-    requires { ones.now.bound ≡ length degrees.now }
+pub fn look_ahead<'p, I: Id, S: Side<I>>(side: &'p S, sums: &NeighbourSums) -> Ahead<'p, I>
+    requires { sums.now.of_one.bound ≡ length sums.now.words.items }
     ensures { IsAhead (S.matrix side.now) result.mate (map I.number result.ids.now) }
 {
-    let mate = match ones.least() {
-        Some(vertex) => degrees[vertex as usize].sum,
+    let mate = match sums.of_one.least() {
+        Some(vertex) => sums.words[vertex as usize].wrapping_sub(sums.unit),
         None => NONE,
     };
     if mate < side.cols() {

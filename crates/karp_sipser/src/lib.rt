@@ -3,9 +3,10 @@
 #![tactic(auto)]
 
 mod ahead;
-mod degrees;
 mod laws;
+mod neighbour_sums;
 mod rest;
+mod unmatched;
 
 ghost use Rattle.std.specs.Prelude.{ℕ, IfOk};
 ghost use Rattle.bip_defs.specs.Start.{IsFree, IsStart};
@@ -26,16 +27,18 @@ use std::alloc::Global;
 /// of the first two kinds is in some maximum matching of what was left
 /// ([`only_neighbours_lose_nothing`]), so the start is often maximum or nearly so.
 ///
-/// Beside each degree it keeps the sum of the numbers of the unmatched neighbours. Where there is
-/// one neighbour the sum is its number, and no entry is looked at to find it. Where the list of the
-/// next one's neighbour begins is looked up before the degrees of this turn are lowered, so that the
+/// Of each row and column it keeps in one word the sum over the unmatched neighbours of a unit, the
+/// number of rows or that of columns, whichever is greater, and their number. Where there is one
+/// neighbour the sum shows its number, and no entry is looked at to find it. Where the list of the
+/// next one's neighbour begins is looked up before the sums of this turn are lowered, so that the
 /// memory answers both at once.
 ///
-/// Answers `OutOfMemory` where its tables can't be had: 12 bytes a row and 12 a column for the
-/// matching, the degrees and the sums, and an eighth of a byte each for the waiting ones. Work:
-/// each entry is looked at five times at most, twice where sums are added up, twice where degrees
-/// are lowered and once where a column with more neighbours is taken, and each row and column goes
-/// in and out of a set once at most.
+/// Answers `OutOfMemory` where its tables can't be had: 8 bytes a row and 8 a column for the
+/// matching and the sums, and an eighth of a byte each for the waiting ones. Work: each entry is
+/// looked at five times at most, twice where sums are added up, twice where sums are lowered and
+/// once where a column with more neighbours is looked for, and each row and column goes in and out
+/// of a set. The sum of a list of 2^31 / unit entries or more may look like one neighbour's though
+/// there are more or none, so such a list is looked through each time that it does.
 pub fn start(alloc: Global, pattern: &Pattern) -> Result<Matching, OutOfMemory>
     ensures start { IfOk result (λ m. IsStart pattern.now m.pairs) }
     ensures matching { IfOk result (IsMatchingOf pattern.now) }
@@ -43,7 +46,7 @@ pub fn start(alloc: Global, pattern: &Pattern) -> Result<Matching, OutOfMemory>
 {
     let sides = FromRows { pattern };
     let mut rest = Rest::new(alloc, &sides)?;
-    while let Some((row, col)) = rest.choose(pattern) {
+    while let Some((row, col)) = rest.choose(&sides) {
         rest.take(&sides, row, col);
     }
     let matching = rest.matching;

@@ -24,6 +24,8 @@ mod phases;
 #[cfg(test)]
 mod searches;
 #[cfg(test)]
+mod starts;
+#[cfg(test)]
 mod tables;
 #[cfg(test)]
 mod thresholds;

@@ -1,0 +1,59 @@
+-- Sums of unmatched neighbours, one for each unmatched column of a matrix. Those of the rows are the sums of the transpose.
+use Rattle.std.specs.Prelude.{◌≡◌, ◌≢◌, ℕ, suc, ◌+◌, ◌-◌, ◌*◌, ◌%◌, ◌^◌, ◌<◌, ◌≤◌, List, false, length, slice_index, sum_by}
+use Rattle.bip_defs.specs.Lists.{Among, Lists}
+use Rattle.bip_defs.specs.Matching.{cols_of}
+use Rattle.bip_defs.specs.Matrix.{cols, column, Matrix, Place}
+use Rattle.bip_defs.specs.Start.{ColOfOne, IsFree}
+use Rattle.karp_sipser.specs.declared.neighbour_sums.NeighbourSums.{NeighbourSums}
+
+-- what is left of a sum without a number, modulo 2^32
+abbrev pub wrapping_sub : ℕ → ℕ → ℕ
+wrapping_sub sum x = (sum + (2 ^ 32 - x)) % 2 ^ 32
+
+-- the sum of some numbers, with a unit for each
+abbrev pub total : ℕ → List ℕ → ℕ
+total unit xs = sum_by (λ x. unit + x) xs
+
+-- the numbers that have P have this sum modulo 2^32, with a unit for each
+pub record IsSum (unit : ℕ) (P : ℕ → Type 0) (sum : ℕ) : Type 0 where
+  pub having : List ℕ
+  pub lists : Lists P having
+  pub sum_is : total unit having % 2 ^ 32 ≡ sum
+
+-- a sum like that of one number below the unit
+abbrev pub LooksLikeOne : ℕ → ℕ → Type 0
+LooksLikeOne unit sum = wrapping_sub sum unit < unit
+
+-- so many numbers below the unit, and one more, have a sum of at most 2^32
+abbrev pub IsShort : ℕ → ℕ → Type 0
+IsShort unit count = suc count * (unit + unit) ≤ 2 ^ 32
+
+-- each row of the matrix is below the unit, which fits 32 bits
+pub record IsUnit (a : Matrix) (unit : ℕ) : Type 0 where
+  pub positive : 0 < unit
+  pub fits : unit < 2 ^ 32
+  pub rows_below : a.rows ≤ unit
+
+-- for each unmatched column the sum of the rows of its free entries, and whether some column's list is not short
+pub record AreSums (a : Matrix) (m : List Place) (s : NeighbourSums) : Type 0 where
+  pub of_unit : IsUnit a s.unit
+  pub long : length s.words.items ≡ cols a
+  pub bound : s.of_one.bound ≡ cols a
+  pub sums : (c : ℕ) → c < cols a → ¬ Among c (cols_of m)
+      → IsSum s.unit (λ r. IsFree a m r c) (slice_index s.words.items c)
+  pub short : s.some_long ≡ false → (c : ℕ) → c < cols a → IsShort s.unit (length (column a c))
+
+-- each column with exactly one unmatched neighbour is among these
+abbrev pub HoldsOnes : Matrix → List Place → List ℕ → Type 0
+HoldsOnes a m members = (c : ℕ) → ColOfOne a m c → Among c members
+
+-- each column with exactly one unmatched neighbour, but for one column, is among these
+abbrev pub HoldsOnesBut : ℕ → Matrix → List Place → List ℕ → Type 0
+HoldsOnesBut x a m members = (c : ℕ) → c ≢ x → ColOfOne a m c → Among c members
+
+-- without the mate: of these columns, but for the matched one, the sums are less by it, and those that look like one's are among the members
+pub record IsLeftOut (matched mate : ℕ) (ids : List ℕ) (old new : NeighbourSums) : Type 0 where
+  pub lowered : (x : ℕ) → x ≢ matched → Among x ids → slice_index new.words.items x
+      ≡ wrapping_sub (slice_index old.words.items x) ((old.unit + mate) % 2 ^ 32)
+  pub ones : (x : ℕ) → Among x ids → LooksLikeOne old.unit (slice_index new.words.items x)
+      → Among x new.of_one.members
