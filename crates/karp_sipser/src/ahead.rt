@@ -39,6 +39,25 @@ pub fn look_ahead<'p, I: Id, S: Side<I>>(side: &'p S, sums: &NeighbourSums) -> A
     }
 }
 
+/// What [`look_ahead`] gives, where the sums are about to change; else what was looked up before.
+#[inline(always)]
+pub fn look_again<'p, I: Id, S: Side<I>>(
+    side: &'p S,
+    sums: &NeighbourSums,
+    before: Ahead<'p, I>,
+    change: bool,
+) -> Ahead<'p, I>
+    requires bound { sums.now.of_one.bound ≡ length sums.now.words.items }
+    requires before { IsAhead (S.matrix side.now) before.mate (map I.number before.ids.now) }
+    ensures { IsAhead (S.matrix side.now) result.mate (map I.number result.ids.now) }
+{
+    if change {
+        look_ahead(side, sums)
+    } else {
+        before
+    }
+}
+
 /// The list of this row or column, as it was looked up ahead or else is looked up now.
 #[inline(always)]
 pub fn list_of<'p, I: Id, S: Side<I>>(side: &'p S, ahead: Ahead<'p, I>, mate: u32) -> &'p [I]

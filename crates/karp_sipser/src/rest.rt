@@ -6,7 +6,7 @@ ghost use Rattle.bip_defs.specs.Matrix.{Place};
 ghost use Rattle.bip_defs.specs.Start.{IsFree, IsChoice};
 ghost use Rattle.karp_sipser.specs.Rest.{HasOnes, HasOnesBut, IsUnmatchedRest};
 
-use crate::ahead::{Ahead, list_of, look_ahead};
+use crate::ahead::{Ahead, list_of, look_again, look_ahead};
 use crate::neighbour_sums::NeighbourSums;
 use crate::unmatched::next_free;
 use bip_graph::Matching;
@@ -98,8 +98,8 @@ impl<'p> Rest<'p> {
         let beside_row = list_of(sides, self.cols_ahead, row.0);
         let more_rows = !self.cols.has_only(col.0, row.0, beside_col.len());
         let more_cols = !self.rows.has_only(row.0, col.0, beside_row.len());
-        self.rows_ahead = look_ahead(pattern, &self.rows);
-        self.cols_ahead = look_ahead(sides, &self.cols);
+        self.rows_ahead = look_again(pattern, &self.rows, self.rows_ahead, more_rows);
+        self.cols_ahead = look_again(sides, &self.cols, self.cols_ahead, more_cols);
         self.rows.leave_out(row.0, col.0, beside_col, more_rows);
         self.cols.leave_out(col.0, row.0, beside_row, more_cols);
     }

@@ -88,8 +88,8 @@ returns c =
         same_cols = c.pair.ensures.sizes.1 ∙ rest.same_cols;
         cols_sums = sums_after a (c.args.row, c.args.col) old new cs more_cols s.cols c.leave_out-2.new.self rest.cols_sums taking after_cols;
         rows_sums = sums_after (transpose a) (c.args.col, c.args.row) (transposed_places old) (transposed_places new) rs more_rows s.rows c.leave_out.new.self rest.rows_sums turned after_rows;
-        cols_ahead = c.look_ahead-self-2.ensures;
-        rows_ahead = c.look_ahead-self.ensures;
+        cols_ahead = c.look_again-self-2.ensures;
+        rows_ahead = c.look_again-self.ensures;
         passed = rest.passed;
         below = λ r x lt f. rest.below r x lt (free_before a (c.args.row, c.args.col) old new r x adds f).0;
       };
