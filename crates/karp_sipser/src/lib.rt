@@ -36,9 +36,10 @@ use std::alloc::Global;
 /// Answers `OutOfMemory` where its tables can't be had: 8 bytes a row and 8 a column for the
 /// matching and the sums, and an eighth of a byte each for the waiting ones. Work: each entry is
 /// looked at five times at most, twice where sums are added up, twice where sums are lowered and
-/// once where a column with more neighbours is looked for, and each row and column goes in and out
-/// of a set. The sum of a list of 2^31 / unit entries or more may look like one neighbour's though
-/// there are more or none, so such a list is looked through each time that it does.
+/// once where a column with more neighbours is looked for, and a row or column goes in and out of a
+/// set once at most, unless its list has 2^30 / unit entries or more. A list of 2^31 / unit entries
+/// or more is also looked through each time that its sum looks like that of one neighbour, which it
+/// may though it has more or none.
 pub fn start(alloc: Global, pattern: &Pattern) -> Result<Matching, OutOfMemory>
     ensures start { IfOk result (λ m. IsStart pattern.now m.pairs) }
     ensures matching { IfOk result (IsMatchingOf pattern.now) }
