@@ -2,8 +2,8 @@
 
 ghost use Rattle.std.specs.Prelude.{◌≡◌, ◌||◌, IfOk};
 ghost use Rattle.bip_defs.specs.Parts.{ArePartsOf};
-ghost use Rattle.bip_graph.specs.Answers.{AreOfVersion};
-ghost use Rattle.bip_graph.specs.Decompositions.{parts_of};
+ghost use Rattle.bip_graph.specs.Answers.{AreOfVersion, IsMaximumOrLeast};
+ghost use Rattle.bip_graph.specs.Decompositions.{Decomposes, parts_of};
 ghost use Rattle.btf_text.specs.Reports.{components_in};
 ghost use Rattle.btf_words.specs.Words.{HasWorkers, IsVersion};
 ghost use Rattle.btf_words.specs.declared.jobs.Job.TheVariants.{Analyse};
@@ -17,7 +17,7 @@ use crate::matrix::matrix_of;
 use crate::reading::read_file;
 use crate::writing::hand_on;
 use crate::{Answer, Refusal};
-use bip_graph::{Components, Parts};
+use bip_graph::{Components, Decomposition, Matching, Parts};
 use btf_text::{TextBuf, write_report};
 use btf_words::{EngineChoice, ReportOptions};
 use dm_coarse::{coarse, components};
@@ -33,6 +33,14 @@ pub(crate) struct Options {
     pub(crate) choice: EngineChoice,
     pub(crate) report: ReportOptions,
     pub(crate) drop_zeros: bool,
+}
+
+/// What a report is written from.
+#[derive(Drop)]
+struct Analysis {
+    matching: Matching,
+    decomposition: Decomposition,
+    components: Option<Components>,
 }
 
 /// Reads a matrix and writes the report of its decomposition. With `least` it has the pairs of the
@@ -54,31 +62,51 @@ pub(crate) fn analyse<R: Threads + Sync, S: Source, O: Sink, G: Gate>(
     let triples = read_file(alloc, input)?;
     let pattern = matrix_of(rt, alloc, &triples, options.drop_zeros)?;
     drop(triples);
-    let ReportOptions {
-        version,
-        order,
-        least,
-        ..
-    } = options.report;
-    let listed = lists_pairs(options.report);
-    let found = matching_for(rt, alloc, &pattern, options.choice, gate)?;
-    let parts = coarse(rt, alloc, &pattern, &found)?;
-    let matching = least_if_asked(alloc, &pattern, found, &parts, least)?;
-    matching.is_matching();
-    let decomposition = decompose_in(alloc, &pattern, &matching, parts)?;
-    let components = components_for(alloc, version, &pattern, &decomposition.parts)?;
+    let report = options.report;
+    let analysis = analysis_of(rt, alloc, &pattern, options, gate)?;
+    analysis.matching.is_matching();
+    let listed = lists_pairs(report);
     let mut buf = TextBuf::new(alloc)?;
     let written = write_report(
         out,
         &mut buf,
-        &decomposition,
-        components.as_ref(),
-        &matching,
-        order,
+        &analysis.decomposition,
+        analysis.components.as_ref(),
+        &analysis.matching,
+        report.order,
         listed,
     );
     hand_on(out, written)?;
     Ok(Answer::Positive)
+}
+
+/// The decomposition of a matrix by a maximum matching, which is the least one where the report
+/// wants it, and the components where it has them.
+fn analysis_of<R: Threads + Sync, G: Gate>(
+    rt: &R,
+    alloc: Global,
+    pattern: &Pattern,
+    options: Options,
+    gate: &G,
+) -> Result<Analysis, OutOfMemory>
+    requires workers { HasWorkers options.choice }
+    requires version { IsVersion options.report.version }
+    ensures decomposes { IfOk result (λ a. Decomposes pattern.now a.decomposition) }
+    ensures least { IfOk result
+        (λ a. IsMaximumOrLeast pattern.now options.report.least a.matching.pairs) }
+    ensures of_version { IfOk result
+        (λ a. AreOfVersion pattern.now options.report.version (components_in a.components)) }
+{
+    let found = matching_for(rt, alloc, pattern, options.choice, gate)?;
+    let parts = coarse(rt, alloc, pattern, &found)?;
+    let matching = least_if_asked(alloc, pattern, found, &parts, options.report.least)?;
+    let decomposition = decompose_in(alloc, pattern, &matching, parts)?;
+    let components = components_for(alloc, options.report.version, pattern, &decomposition.parts)?;
+    Ok(Analysis {
+        matching,
+        decomposition,
+        components,
+    })
 }
 
 /// Whether the report has pairs: those of any maximum matching, or those of the least one.

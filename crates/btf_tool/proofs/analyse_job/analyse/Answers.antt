@@ -14,34 +14,34 @@ use Rattle.btf_tool.proofs.analyse_job.analyse.Goals as goal
 pub returns-in_err-hand_on-clause-says : goal.returns-in_err-hand_on-clause-says
 returns-in_err-hand_on-clause-says g c =
     let report = c.args.options.report in
-    let of_version = subst (λ (o : Option Components). AreOfVersion c.in_ok-pattern.pattern report.version (components_in o)) (sym c.as_ref.ensures.value) c.in_ok-components.ensures in
-    let answers = analysis_answers _ _ _ report.version _ report.order report.pairs report.least _ c.in_ok-decomposition.ensures c.in_ok-matching.ensures.least c.is_matching.ensures.cols_rise of_version c.lists_pairs-listed.ensures in
+    let of_version = subst (λ (o : Option Components). AreOfVersion c.in_ok-pattern.pattern report.version (components_in o)) (sym c.as_ref.ensures.value) c.in_ok-analysis.ensures.of_version in
+    let answers = analysis_answers _ _ _ report.version _ report.order report.pairs report.least _ c.in_ok-analysis.ensures.decomposes c.in_ok-analysis.ensures.least c.is_matching.ensures.cols_rise of_version c.lists_pairs-listed.ensures in
     let job = Analyse c.args.options.choice report c.args.options.drop_zeros in
     let input = seen g.S.Source.left g.S.Source.faults c.args.input.now c.read_file.new.input in
     let out = seen g.O.Sink.taken g.O.Sink.faults c.args.out.now c.hand_on.new.out in
     as_refusal _ WriteFault (JobSays job input out) c.from_residual-in_err-hand_on.ensures.1
     (job_not_written job Positive input out _ c.in_ok-triples.triples [] c.in_ok-pattern.pattern tt c.in_ok-triples.ensures.read c.in_ok-triples.ensures.limits c.in_ok-triples.ensures.counts
     c.in_ok-pattern.ensures.fit c.in_ok-pattern.ensures.matrix c.in_ok-pattern.ensures.fits (refl, answers)
-    (c.in_err-hand_on.ensures _ _ _ (c.write_report-written.ensures.of_matrix c.in_ok-pattern.pattern c.in_ok-decomposition.ensures)))
+    (c.in_err-hand_on.ensures _ _ _ (c.write_report-written.ensures.of_matrix c.in_ok-pattern.pattern c.in_ok-analysis.ensures.decomposes)))
 
 pub returns-clause-says : goal.returns-clause-says
 returns-clause-says g c =
     let report = c.args.options.report in
-    let of_version = subst (λ (o : Option Components). AreOfVersion c.in_ok-pattern.pattern report.version (components_in o)) (sym c.as_ref.ensures.value) c.in_ok-components.ensures in
-    let answers = analysis_answers _ _ _ report.version _ report.order report.pairs report.least _ c.in_ok-decomposition.ensures c.in_ok-matching.ensures.least c.is_matching.ensures.cols_rise of_version c.lists_pairs-listed.ensures in
+    let of_version = subst (λ (o : Option Components). AreOfVersion c.in_ok-pattern.pattern report.version (components_in o)) (sym c.as_ref.ensures.value) c.in_ok-analysis.ensures.of_version in
+    let answers = analysis_answers _ _ _ report.version _ report.order report.pairs report.least _ c.in_ok-analysis.ensures.decomposes c.in_ok-analysis.ensures.least c.is_matching.ensures.cols_rise of_version c.lists_pairs-listed.ensures in
     let job = Analyse c.args.options.choice report c.args.options.drop_zeros in
     let input = seen g.S.Source.left g.S.Source.faults c.args.input.now c.read_file.new.input in
     let out = seen g.O.Sink.taken g.O.Sink.faults c.args.out.now c.hand_on.new.out in
     job_written job Positive input out _ c.in_ok-triples.triples [] c.in_ok-pattern.pattern tt c.in_ok-triples.ensures.read c.in_ok-triples.ensures.limits
     c.in_ok-pattern.ensures.fit c.in_ok-pattern.ensures.matrix c.in_ok-pattern.ensures.fits (refl, answers)
-    (c.in_ok-hand_on.ensures _ _ _ (c.write_report-written.ensures.of_matrix c.in_ok-pattern.pattern c.in_ok-decomposition.ensures))
+    (c.in_ok-hand_on.ensures _ _ _ (c.write_report-written.ensures.of_matrix c.in_ok-pattern.pattern c.in_ok-analysis.ensures.decomposes))
 
-pub returns-in_err-components-clause-says : goal.returns-in_err-components-clause-says
-returns-in_err-components-clause-says g c =
+pub returns-in_err-analysis-clause-says : goal.returns-in_err-analysis-clause-says
+returns-in_err-analysis-clause-says g c =
     let job = Analyse c.args.options.choice c.args.options.report c.args.options.drop_zeros in
     let input = seen g.S.Source.left g.S.Source.faults c.args.input.now c.read_file.new.input in
     let out = seen g.O.Sink.taken g.O.Sink.faults c.args.out.now c.args.out.now in
-    as_refusal _ OutOfMemory (JobSays job input out) c.from_residual-in_err-components.ensures.1
+    as_refusal _ OutOfMemory (JobSays job input out) c.from_residual-in_err-analysis.ensures.1
     (no_memory job input out c.in_ok-triples.triples [] c.in_ok-triples.ensures.read c.in_ok-triples.ensures.counts (refl, refl))
 
 pub returns-in_err-buf-clause-says : goal.returns-in_err-buf-clause-says
@@ -50,20 +50,4 @@ returns-in_err-buf-clause-says g c =
     let input = seen g.S.Source.left g.S.Source.faults c.args.input.now c.read_file.new.input in
     let out = seen g.O.Sink.taken g.O.Sink.faults c.args.out.now c.args.out.now in
     as_refusal _ OutOfMemory (JobSays job input out) c.from_residual-in_err-buf.ensures.1
-    (no_memory job input out c.in_ok-triples.triples [] c.in_ok-triples.ensures.read c.in_ok-triples.ensures.counts (refl, refl))
-
-pub returns-in_err-matching-clause-says : goal.returns-in_err-matching-clause-says
-returns-in_err-matching-clause-says g c =
-    let job = Analyse c.args.options.choice c.args.options.report c.args.options.drop_zeros in
-    let input = seen g.S.Source.left g.S.Source.faults c.args.input.now c.read_file.new.input in
-    let out = seen g.O.Sink.taken g.O.Sink.faults c.args.out.now c.args.out.now in
-    as_refusal _ OutOfMemory (JobSays job input out) c.from_residual-in_err-matching.ensures.1
-    (no_memory job input out c.in_ok-triples.triples [] c.in_ok-triples.ensures.read c.in_ok-triples.ensures.counts (refl, refl))
-
-pub returns-in_err-decomposition-clause-says : goal.returns-in_err-decomposition-clause-says
-returns-in_err-decomposition-clause-says g c =
-    let job = Analyse c.args.options.choice c.args.options.report c.args.options.drop_zeros in
-    let input = seen g.S.Source.left g.S.Source.faults c.args.input.now c.read_file.new.input in
-    let out = seen g.O.Sink.taken g.O.Sink.faults c.args.out.now c.args.out.now in
-    as_refusal _ OutOfMemory (JobSays job input out) c.from_residual-in_err-decomposition.ensures.1
     (no_memory job input out c.in_ok-triples.triples [] c.in_ok-triples.ensures.read c.in_ok-triples.ensures.counts (refl, refl))
