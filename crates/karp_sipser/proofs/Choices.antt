@@ -1,9 +1,9 @@
 -- Which pair is taken next.
-use Rattle.std.proofs.Common.{◌≡◌, ℕ, ◌<◌, ◌≤◌, List, ap, sym, subst, inl, inr}
+use Rattle.std.proofs.Common.{ℕ, ◌<◌, ◌≤◌, List, inl, inr}
 use Rattle.std.proofs.lemmas.Bool.{cases_lt}
 use Rattle.bip_defs.specs.Matching.{transposed_places}
 use Rattle.bip_defs.specs.Matrix.{Matrix, Place, transpose}
-use Rattle.bip_defs.specs.Start.{by_any, by_col, by_row, ColOfOne, IsChoice, IsFree, IsLeast, IsOnly}
+use Rattle.bip_defs.specs.Start.{by_any, by_row, ColOfOne, IsChoice, IsFree, IsLeast, IsOnly}
 use Rattle.karp_sipser.proofs.Free.{least_row_turned, no_row_turned, turned_free}
 
 -- else the least row with one neighbour, as it is seen in the transpose

@@ -1,10 +1,10 @@
 -- What taking a pair leaves free, and what is free in the transpose.
-use Rattle.std.proofs.Common.{◌≡◌, ◌≢◌, ◌⊎◌, ◌↔◌, ◌∙◌, ℕ, List, refl, ap, sym, subst, inl, inr, ⊎_elim}
+use Rattle.std.proofs.Common.{◌≡◌, ◌≢◌, ◌⊎◌, ◌↔◌, ℕ, List, refl, ap, sym, subst, inl, inr, ⊎_elim}
 use Rattle.bip_defs.proofs.Sets.{col_among, col_pair, row_among, row_pair}
 use Rattle.bip_defs.proofs.Transposed.{transpose_is, turned_among, turned_back, turned_cols, turned_rows}
 use Rattle.bip_defs.specs.Lists.{Among}
 use Rattle.bip_defs.specs.Matching.{cols_of, rows_of, transposed_places}
-use Rattle.bip_defs.specs.Matrix.{IsEntry, Matrix, Place, transpose}
+use Rattle.bip_defs.specs.Matrix.{Matrix, Place, transpose}
 use Rattle.bip_defs.specs.Start.{ColOfOne, IsFree, IsLeast, IsOnly, RowOfOne}
 
 -- new has the pairs of old and this one

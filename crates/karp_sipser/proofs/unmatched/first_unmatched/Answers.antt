@@ -1,4 +1,4 @@
-use Rattle.std.proofs.Common.{◌≡◌, ◌∙◌, ◌<◌, ◌≤◌, ℕ, List, length, map, slice_index, take_all, sym, subst, arith}
+use Rattle.std.proofs.Common.{◌≡◌, ◌∙◌, ◌≤◌, ℕ, List, length, map, slice_index, take_all, sym, subst}
 use Rattle.std.proofs.lemmas.List.{length-map}
 use Rattle.bip_defs.proofs.Sets.{row_among}
 use Rattle.bip_defs.specs.Lists.{Among}

@@ -1,4 +1,4 @@
-use Rattle.std.proofs.Common.{◌≡◌, ℕ, List, map, subst, inl, inr, arith}
+use Rattle.std.proofs.Common.{ℕ, List, map, subst, inl, inr, arith}
 use Rattle.std.proofs.lemmas.Bool.{cases_eq}
 use Rattle.std.proofs.lemmas.List.{map-id}
 use Rattle.bip_defs.proofs.Sets.{col_among, entry_col}

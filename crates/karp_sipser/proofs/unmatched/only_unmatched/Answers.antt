@@ -1,9 +1,9 @@
-use Rattle.std.proofs.Common.{◌≡◌, ◌∙◌, ◌<◌, ◌≤◌, ℕ, List, Option, None, Some, length, map, slice_index, take, take_all, sym, subst, arith}
+use Rattle.std.proofs.Common.{◌≡◌, ◌∙◌, ◌<◌, ℕ, List, length, map, slice_index, sym, subst}
 use Rattle.std.proofs.lemmas.List.{length-map}
 use Rattle.bip_defs.proofs.Sets.{row_among}
 use Rattle.bip_defs.specs.Lists.{Among}
 use Rattle.bip_defs.specs.Matching.{rows_of}
-use Rattle.karp_sipser.proofs.Prefixes.{IsFound, found_first, found_none, found_only, found_same, found_second, none_found, number_at, read_among, some_found}
+use Rattle.karp_sipser.proofs.Prefixes.{found_first, found_none, found_only, found_same, found_second, none_found, number_at, read_among, some_found}
 use Rattle.karp_sipser.proofs.unmatched.only_unmatched.Goals as goal
 use Rattle.karp_sipser.proofs.unmatched.only_unmatched.Goals.{then-is_none+else-is_some, else-is_none}
 

@@ -1,4 +1,4 @@
-use Rattle.std.proofs.Common.{◌≡◌, ◌∙◌, ℕ, ◌<◌, sym, arith}
+use Rattle.std.proofs.Common.{◌∙◌, ℕ, ◌<◌, sym, arith}
 use Rattle.bip_defs.proofs.Sets.{entry_col}
 use Rattle.bip_defs.proofs.Transposed.{transpose_cols}
 use Rattle.bip_defs.specs.Matrix.{Matrix}
