@@ -1,8 +1,5 @@
 //! The start on a matrix with a list so long that its sum may look like one neighbour's.
 
-ghost use Rattle.std.specs.Prelude.{◌≡◌, ◌≢◌};
-ghost use Rattle.sp_ids.specs.declared.triples.Field.TheVariants.{Integer};
-
 use sp_ids::{Col, Field, Row, Triples};
 use sp_pattern::Pattern;
 use std::process::Abort;
@@ -12,10 +9,7 @@ use std::thread::Threads;
 const COUNT: u32 = 60_000;
 
 // Adds an entry. Fails where it is out of range, or one of more than 200,000.
-fn push(triples: &mut Triples, row: u32, col: u32) -> Result<(), Fail>
-    requires { triples.old.field ≢ Integer }
-    ensures { triples.new.field ≡ triples.old.field }
-{
+fn push(triples: &mut Triples, row: u32, col: u32) -> Result<(), Fail> {
     if row >= triples.rows() || col >= triples.cols() || triples.len() >= 200_000 {
         return Err(Fail::new("an entry is out of range, or there are too many"));
     }
