@@ -1,5 +1,5 @@
 -- Which status has to come, from what each status says.
-use Rattle.std.proofs.Common.{◌≡◌, ◌+◌, ◌-◌, ◌≤◌, ◌<◌, ◌⊎◌, ◌++◌, ◌∙◌, ℕ, Bool, true, false, List, length, take, inl, inr, refl, sym, ap, subst, arith, length-take, Option, Some, None}
+use Rattle.std.proofs.Common.{◌≡◌, ◌+◌, ◌-◌, ◌≤◌, ◌<◌, ◌⊎◌, ◌++◌, ◌∙◌, ℕ, Bool, true, false, List, length, take, inl, inr, refl, sym, ap, subst, arith, length-take, Option, Some, None, if◌then◌else◌}
 use Rattle.sp_ids.specs.declared.outcomes.Status.{Status}
 use Rattle.sp_ids.specs.declared.outcomes.Status.TheVariants as statuses
 use Rattle.sp_ports.specs.Device.{Device, FailsOnceAtMost, HasReadFault, HasWriteFault, SourceRose}
