@@ -4,7 +4,7 @@ use Rattle.std.proofs.Math.Decide.{dec_lt}
 use Rattle.bip_defs.specs.Lists.{Among, AreDistinct}
 use Rattle.bip_defs.specs.Matching.{IsMatching, IsMaximum, cols_of, rows_of}
 use Rattle.bip_defs.specs.Matrix.{AreEntries, IsEntry, Matrix, Place}
-use Rattle.bip_defs.specs.Paths.{Alternates, BeginsUnmatched, Exchanges, Reassigns, IsAugmenting}
+use Rattle.bip_defs.specs.Paths.{Alternates, BeginsUnmatched, Exchanges, IsParted, Reassigns, IsAugmenting}
 use Rattle.bip_defs.specs.Witness.{IsAugmentingPath}
 use Rattle.bip_defs.proofs.Sets.{Drops, among_at, col_among, col_pair, drops_cols, drops_distinct, drops_gone, drops_kept, drops_length, drops_only, drops_rows, number_among, one_col, one_row, row_among, row_pair, taken}
 
@@ -16,6 +16,13 @@ adds_pair a r c m k e nr nc = record {
   rows_differ = (nr, k.rows_differ);
   cols_differ = (nc, k.cols_differ);
 }
+
+-- without a pair its row and its column have no mate
+pub parted_row_free : (p : Place) (m rest : List Place) → IsParted p m rest → ¬ Among p.0 (rows_of rest)
+parted_row_free p m rest parted h = let (c, mate) = row_pair p.0 rest h in ((parted (p.0, c)).0 mate).1 refl
+
+pub parted_col_free : (p : Place) (m rest : List Place) → AreDistinct (cols_of m) → Among p m → IsParted p m rest → ¬ Among p.1 (cols_of rest)
+parted_col_free p m rest differ pair parted h = let (r, mate) = col_pair p.1 rest h in let (old, ne) = (parted (r, p.1)).0 mate in ne (one_row m differ r p.0 p.1 old pair)
 
 pub drops_pair : (a : Matrix) {p : Place} {m n : List Place} → Drops p m n → IsMatching a m → IsMatching a n
 drops_pair a d k = record {

@@ -13,6 +13,7 @@ pub mod FullMatchings
 pub mod LeastMatching
 pub mod Occurrences
 pub mod Paired
+pub mod Pieces
 pub mod Queues
 pub mod Reaching
 pub mod Results

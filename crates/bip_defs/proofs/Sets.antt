@@ -2,7 +2,7 @@
 use Rattle.std.proofs.Common.{◌≡◌, ◌≢◌, ◌⊎◌, ◌↔◌, ◌∙◌, ℕ, zero, suc, ◌+◌, ◌<◌, ◌≤◌, Bool, true, false, cond, not, List, [], ◌∷◌, ◌++◌, map, filter, length, nat_eq, nat_lt, refl, sym, ap, subst, inl, inr, ⊎_elim, arith, zero-le, suc-le-suc, le_of_suc-le-suc, lt_irrefl, ap₂, not-suc-le-zero, ◌||◌, Contains, slice_index_or, eq-eqb, eqb-true, true≢false, take, drop, set, get_or, get_or-set_same, get_or-set_other}
 use Rattle.std.proofs.Math.Decide.{dec_lt, ℕ_discrete}
 use Rattle.std.proofs.lemmas.Bool.Decides.{nat_tests}
-use Rattle.std.proofs.lemmas.List.{get_or-map, get_or_past}
+use Rattle.std.proofs.lemmas.List.{get_or-map, get_or_past, length-map}
 use Rattle.std.proofs.Math.Seq.{take-append_seam}
 use Rattle.std.proofs.lemmas.List.Filters.{length-filter_both}
 use Rattle.std.specs.List.{list_any}
@@ -347,6 +347,9 @@ upto_complete k (suc n) x le lt = ⊎_elim (λ (e : x ≡ k). inl e) (λ (ne : x
 pub upto_length : (k n : ℕ) → length (upto_from k n) ≡ n
 upto_length k zero = refl
 upto_length k (suc n) = ap suc (upto_length (suc k) n)
+
+pub upto_mapped : {X : Type 0} (f : ℕ → X) (n : ℕ) → length (map f (upto n)) ≡ n
+upto_mapped f n = length-map (upto n) f ∙ upto_length 0 n
 
 pub upto_rising : (k n : ℕ) → IsRising (upto_from k n)
 upto_rising k zero = tt

@@ -14,6 +14,7 @@ pub mod Occurrences
 pub mod Once
 pub mod Parts
 pub mod Paths
+pub mod Pieces
 pub mod Queues
 pub mod Searches
 pub mod Small

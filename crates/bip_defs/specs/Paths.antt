@@ -28,3 +28,7 @@ Exchanges path old new = (p : Place) → Among p new
 -- new is old with the row given to the column
 abbrev pub Reassigns : Place → List Place → List Place → Type 0
 Reassigns p old new = (q : Place) → Among q new ↔ ((q ≡ p) ⊎ (Among q old × (q.0 ≢ p.0)))
+
+-- new has the pairs of old but that of p's row
+abbrev pub IsParted : Place → List Place → List Place → Type 0
+IsParted p old new = (q : Place) → Among q new ↔ (Among q old × (q.0 ≢ p.0))
