@@ -13,3 +13,4 @@ pub mod QueueTrees
 pub mod Reports
 pub mod RowGiven
 pub mod TraceLemmas
+pub mod TransposedMatchings

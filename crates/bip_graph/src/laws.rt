@@ -1,8 +1,9 @@
-//! Laws on the texts.
+//! Laws on the texts, and on a matching of the transpose.
 
 ghost use Rattle.std.specs.Prelude.{◌≡◌, ◌↔◌, ℕ, Bool, true, false, List};
-ghost use Rattle.bip_defs.specs.Matrix.{Matrix};
+ghost use Rattle.bip_defs.specs.Matrix.{Matrix, transpose};
 ghost use Rattle.bip_graph.specs.Answers.{IsAnalysis, IsRankText, IsWithPairs};
+ghost use Rattle.bip_graph.specs.Matching.{IsMatchingOf, IsMaximumOf, Pairing, transposed};
 
 /// A matrix has at most one text of its rank.
 pub fn one_rank_text()
@@ -32,4 +33,13 @@ pub fn pairs_before_the_end()
         → IsAnalysis a version order true false t ↔ IsWithPairs a version order false t }
     ensures least { (a : Matrix) (version : ℕ) (order pairs : Bool) (t : List ℕ)
         → IsAnalysis a version order pairs true t ↔ IsWithPairs a version order true t }
+{}
+
+/// The matchings of the transpose are those of the matrix with each pair turned, and so are the
+/// maximum ones.
+pub fn matchings_of_the_transpose()
+    ensures matching { (a : Matrix) (m : Pairing)
+        → IsMatchingOf a m ↔ IsMatchingOf (transpose a) (transposed m) }
+    ensures maximum { (a : Matrix) (m : Pairing)
+        → IsMaximumOf a m ↔ IsMaximumOf (transpose a) (transposed m) }
 {}

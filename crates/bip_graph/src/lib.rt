@@ -15,7 +15,10 @@ mod trace;
 pub use answers::{Bottleneck, Components, Decomposition, Heaviest, Parts};
 pub use blocks::Blocks;
 pub use examples::lower_triangle_in_two_orders;
-pub use laws::{one_rank_text, one_report, one_report_with_least_pairs, pairs_before_the_end};
+pub use laws::{
+    matchings_of_the_transpose, one_rank_text, one_report, one_report_with_least_pairs,
+    pairs_before_the_end,
+};
 pub use matching::Matching;
 pub use mates::Mates;
 pub use opposite::Opposite;
