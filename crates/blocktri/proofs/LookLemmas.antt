@@ -5,12 +5,12 @@ use Rattle.std.specs.List.{slice_range}
 use Rattle.bip_defs.specs.Lists.{Among}
 use Rattle.bip_defs.specs.Matching.{IsMatching, IsMaximum, cols_of, rows_of}
 use Rattle.bip_defs.specs.Matrix.{AreEntries, IsEntry, Matrix, Place, cols, upto}
+use Rattle.bip_defs.specs.Pieces.{AreStarts, piece}
 use Rattle.bip_defs.proofs.Full.{few_below}
 use Rattle.bip_defs.proofs.Sets.{among_at, among_take, col_among, col_pair, few_distinct, number_same, place_among, rising_distinct, row_among, row_pair, upto_length}
 use Rattle.bip_defs.proofs.Slices.{slice_none}
 use Rattle.bip_graph.specs.Matching.{IsMatchingOf, IsPairing, Pairing}
 use Rattle.sp_pattern.specs.Columns.{matrix_of, rows_given}
-use Rattle.sp_pattern.specs.Stored.{AreStarts, piece}
 
 -- what stands in a part of a list
 pub read_part : (xs : List ℕ) (from to k : ℕ) → from ≤ k → k < to → to ≤ length xs → Among (get_or xs k 0) (slice_range xs from to)

@@ -3,10 +3,10 @@ use Rattle.std.proofs.Common.{◌≡◌, ◌↔◌, ℕ, ◌+◌, ◌-◌, ◌<�
 use Rattle.std.specs.List.{slice_range}
 use Rattle.bip_defs.specs.Lists.{Among, IsRising, Lists}
 use Rattle.bip_defs.specs.Matrix.{HasPlaces, IsEntry, column}
+use Rattle.bip_defs.specs.Pieces.{piece}
 use Rattle.bip_defs.proofs.Sets.{among_last, lists_unique, number_same, rising_last}
 use Rattle.bip_defs.proofs.Slices.{slice_none, range_more}
 use Rattle.sp_pattern.specs.Columns.{matrix_of, places_of}
-use Rattle.sp_pattern.specs.Stored.{piece}
 use Rattle.blocktri.specs.RisingColumns.{AreRisingColumns}
 
 -- a rising part, all of which is below a number

@@ -1,8 +1,8 @@
 -- Columns whose row numbers rise.
 use Rattle.std.specs.Prelude.{ℕ, ◌+◌, ◌<◌, List, length}
 use Rattle.bip_defs.specs.Lists.{IsRising}
+use Rattle.bip_defs.specs.Pieces.{piece}
 use Rattle.sp_pattern.specs.Columns.{AreColumns}
-use Rattle.sp_pattern.specs.Stored.{piece}
 
 -- each row number of a column is greater than the one before it
 abbrev pub HaveRisingRows : List ℕ → List ℕ → Type 0

@@ -6,7 +6,6 @@ ghost use Rattle.bip_defs.specs.Lists.{IsRising};
 ghost use Rattle.blocktri.specs.RisingColumns.{AreRisingColumns, HaveRisingRows};
 ghost use Rattle.sp_pattern.specs.Columns.{matrix_of};
 ghost use Rattle.sp_pattern.specs.Pairs.{AreBelow};
-ghost use Rattle.sp_pattern.specs.Stored.{AreStarts};
 
 use sp_ids::{Col, OutOfMemory, Row};
 use sp_pattern::{Neighbours, NumberList, columns_give_their_places, part};
@@ -25,6 +24,7 @@ pub struct RisingColumns {
 
 impl Model for RisingColumns {
     ghost use Rattle.bip_defs.specs.Matrix.{Matrix};
+ghost use Rattle.bip_defs.specs.Pieces.{AreStarts};
 
     ghost Value = { Matrix };
 

@@ -5,7 +5,7 @@ use Rattle.std.proofs.lemmas.List.{drop_at, get_or-map, get_or_append_left, get_
 use Rattle.std.specs.List.{slice_range}
 use Rattle.std.specs.Prelude.{slice_index}
 use Rattle.bip_defs.specs.Matrix.{Matrix, row_list}
-use Rattle.sp_pattern.specs.Stored.{piece}
+use Rattle.bip_defs.specs.Pieces.{piece}
 use Rattle.sp_pattern.specs.Weights.{Weighing, weight_at}
 use Rattle.integer_diagonal.specs.RowWeights.{AreRowWeights, weights_in_row}
 use Rattle.bip_defs.proofs.Slices.{range_before}

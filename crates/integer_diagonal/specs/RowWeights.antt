@@ -1,7 +1,7 @@
 -- The weights of a matrix's entries, row by row in one flat list.
 use Rattle.std.specs.Prelude.{◌≡◌, ℕ, ◌+◌, ◌<◌, ◌≤◌, List, length, map, slice_index}
 use Rattle.bip_defs.specs.Matrix.{row_list}
-use Rattle.sp_pattern.specs.Stored.{piece}
+use Rattle.bip_defs.specs.Pieces.{piece}
 use Rattle.sp_pattern.specs.Weights.{Weighing, weight_at}
 
 -- the weights of a row's entries, in the order of its columns

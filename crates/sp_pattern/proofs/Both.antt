@@ -7,11 +7,12 @@ use Rattle.std.proofs.lemmas.List.{get_or_past, map-id}
 use Rattle.bip_defs.specs.Lists.{Among, Lists}
 use Rattle.bip_defs.specs.Matching.{transposed_places}
 use Rattle.bip_defs.specs.Matrix.{HasPlaces, IsEntry, Matrix, Place, cols}
+use Rattle.bip_defs.specs.Pieces.{piece, pieces}
+use Rattle.bip_defs.proofs.Pieces.{get_or-pieces, length-pieces}
 use Rattle.bip_defs.proofs.Sets.{lists_same}
 use Rattle.bip_defs.proofs.Transposed.{turned_among, turned_back, turned_twice}
 use Rattle.sp_pattern.specs.Pairs.{AreInside, AreParts, IsOrder, IsOrderOf, IsTurned, Pair}
-use Rattle.sp_pattern.specs.Stored.{AreOrders, piece, pieces, stored}
-use Rattle.sp_pattern.proofs.Cuts.{get_or-pieces, length-pieces}
+use Rattle.sp_pattern.specs.Stored.{AreOrders, stored}
 use Rattle.sp_pattern.proofs.Orders.{length-inners}
 use Rattle.sp_pattern.proofs.Shape.{orders_columns}
 use Rattle.sp_pattern.proofs.Sides.{inners_lists, inners_of, order_piece, order_starts, order_table}

@@ -1,6 +1,5 @@
 pub mod Both
 pub mod ColumnLemmas
-pub mod Cuts
 pub mod HalfLemmas
 pub mod LoadLemmas
 pub mod MirrorLemmas

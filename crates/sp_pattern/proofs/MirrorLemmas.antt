@@ -6,16 +6,16 @@ use Rattle.std.proofs.lemmas.List.{drop-append-le, get_or_append_left, length-ap
 use Rattle.std.specs.List.{slice_range}
 use Rattle.bip_defs.specs.Lists.{Among}
 use Rattle.bip_defs.specs.Matrix.{Place}
+use Rattle.bip_defs.proofs.Pieces.{length-slice_range, start_within}
 use Rattle.bip_defs.proofs.Sets.{among_either, among_left, among_right, number_same}
 use Rattle.bip_defs.proofs.Slices.{slice_none}
 use Rattle.sp_pattern.specs.Mirror.{AreSymmetric, HasPieces, IsBehindMirror, both_sides, lower, lowered}
 use Rattle.std.proofs.lemmas.Bool.Decides.{nat_tests}
 use Rattle.bip_defs.specs.Matching.{transposed_places}
+use Rattle.bip_defs.specs.Pieces.{AreStarts, piece}
 use Rattle.bip_defs.proofs.Transposed.{turned_length}
 use Rattle.sp_pattern.specs.Pairs.{pair_at}
-use Rattle.sp_pattern.specs.Stored.{AreStarts, piece}
 use Rattle.std.proofs.lemmas.List.Sums.{count_by-le-length, length-filter}
-use Rattle.sp_pattern.proofs.Cuts.{length-slice_range, start_within}
 
 -- Places beside their mirror images.
 

@@ -4,12 +4,13 @@ use Rattle.std.proofs.Math.Decide.{dec_lt}
 use Rattle.std.proofs.lemmas.List.{map-id}
 use Rattle.bip_defs.specs.Lists.{Among, IsRising, Lists}
 use Rattle.bip_defs.specs.Matrix.{HasPlaces, IsEntry, Matrix, Place, cols, entry_count}
+use Rattle.bip_defs.specs.Pieces.{piece, pieces}
+use Rattle.bip_defs.proofs.Pieces.{length-pieces}
 use Rattle.bip_defs.proofs.Sets.{among_either, among_left, among_map, among_map_back, among_right, below_each_from, below_each_sound, entry_col, filter_complete, filter_sound, lists_same, rising_filter}
 use Rattle.sp_pattern.specs.Mirror.{AreSymmetric, HasPieces, IsLower, both_sides, lower, lowered}
 use Rattle.sp_pattern.specs.Pairs.{AreInside, AreParts}
-use Rattle.sp_pattern.specs.Stored.{AreOrders, piece, pieces, stored}
+use Rattle.sp_pattern.specs.Stored.{AreOrders, stored}
 use Rattle.sp_pattern.proofs.Both.{both_orders, both_places, itself}
-use Rattle.sp_pattern.proofs.Cuts.{length-pieces}
 use Rattle.sp_pattern.proofs.MirrorLemmas.{less_test, lower_above, lower_same, test_less}
 use Rattle.sp_pattern.proofs.Shape.{orders_entries}
 

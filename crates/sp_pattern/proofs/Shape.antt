@@ -7,8 +7,9 @@ use Rattle.std.proofs.lemmas.List.Sorted.{searched}
 use Rattle.std.specs.declared.result.Result.{Result}
 use Rattle.bip_defs.specs.Lists.{Among, Lists}
 use Rattle.bip_defs.specs.Matrix.{IsEntry, Matrix, column, cols, entry_count, row_list}
-use Rattle.sp_pattern.specs.Stored.{AreOrders, IsPattern, piece, pieces, stored}
-use Rattle.sp_pattern.proofs.Cuts.{get_or-pieces, length-pieces, sum_by-length-pieces}
+use Rattle.bip_defs.specs.Pieces.{piece, pieces}
+use Rattle.sp_pattern.specs.Stored.{AreOrders, IsPattern, stored}
+use Rattle.bip_defs.proofs.Pieces.{get_or-pieces, length-pieces, sum_by-length-pieces}
 use Rattle.bip_defs.proofs.Sets.{among_at, place_among, lists_unique, rising_order}
 use Rattle.bip_defs.proofs.Transposed.{row_list_lists}
 

@@ -9,14 +9,14 @@ use Rattle.std.specs.declared.result.Result.{Result}
 use Rattle.std.specs.Result.{result_unwrap_or}
 use Rattle.bip_defs.specs.Lists.{Among, IsRising}
 use Rattle.bip_defs.specs.Matrix.{IsEntry, Matrix, column, cols}
-use Rattle.bip_defs.proofs.Sets.{among_at, number_same}
+use Rattle.bip_defs.specs.Pieces.{AreStarts, piece}
+use Rattle.bip_defs.proofs.Pieces.{length-slice_range, start_within}
+use Rattle.bip_defs.proofs.Sets.{among_at, number_same, upto_mapped}
 use Rattle.sp_ids.specs.Entries.{Triple, place, places, values}
-use Rattle.sp_pattern.specs.Columns.{AreColumns, matrix_of}
-use Rattle.sp_pattern.specs.Stored.{AreStarts, piece}
+use Rattle.sp_pattern.specs.Columns.{AreColumns, matrix_of, rows_given}
 use Rattle.sp_pattern.specs.ValuedColumns.{IsFirstId, IsFirstIdPast, entries_given, triples_in, triples_of_first}
 use Rattle.sp_pattern.specs.Weights.{AreSums, IsFirstPast, place_in, position, start_of}
-use Rattle.sp_pattern.proofs.ColumnLemmas.{given_cols, given_entry}
-use Rattle.sp_pattern.proofs.Cuts.{length-slice_range, start_within}
+use Rattle.sp_pattern.proofs.ColumnLemmas.{given_entry}
 use Rattle.sp_pattern.proofs.SumLemmas.{AreSumsSoFar, no_triple, so_far_next}
 use Rattle.sp_pattern.proofs.Weighed.{found_place, place_in_at, position_fits}
 
@@ -110,7 +110,7 @@ valued_long a starts ids vs v =
 pub valued_cols : (a : Matrix) (starts ids : List ℕ) (vs : List ℤ) → AreValued a starts ids vs → cols a + 1 ≡ length starts
 valued_cols a starts ids vs v =
     let some = v.columns.starts_are.one in
-    let many = ap cols v.matrix_is ∙ given_cols a.rows starts ids in
+    let many = ap cols v.matrix_is ∙ upto_mapped (rows_given a.rows starts ids) (length starts - 1) in
     omega (arith, some, many)
 
 -- an id of a column is the row of an entry

@@ -12,10 +12,11 @@ use Rattle.std.specs.declared.result.Result.{Result}
 use Rattle.std.specs.Result.{result_unwrap_or}
 use Rattle.bip_defs.specs.Lists.{Among, IsRising, Lists}
 use Rattle.bip_defs.specs.Matrix.{IsEntry, Matrix, column, cols, entry_count}
+use Rattle.bip_defs.specs.Pieces.{AreStarts, pieces}
+use Rattle.bip_defs.proofs.Pieces.{get_or-pieces, length-pieces, length-slice_range, start_within}
 use Rattle.bip_defs.proofs.Sets.{among_at, below_each_sound, entry_col, number_same, place_among, rising_order}
-use Rattle.sp_pattern.specs.Stored.{AreOrders, AreStarts, pieces, stored}
+use Rattle.sp_pattern.specs.Stored.{AreOrders, stored}
 use Rattle.sp_pattern.specs.Weights.{Weighing, place_in, position, start_of, weight_at, weights_in}
-use Rattle.sp_pattern.proofs.Cuts.{get_or-pieces, length-pieces, length-slice_range, start_within}
 use Rattle.sp_pattern.proofs.Shape.{col_fits, found_iff, orders_columns, piece_column}
 
 -- The starts are the numbers of entries before each column.

@@ -1,7 +1,7 @@
 -- When compressed columns are refused.
 use Rattle.std.specs.Prelude.{ℕ, ◌^◌, ◌<◌, ◌≤◌, List, length}
 use Rattle.sp_pattern.specs.Columns.{AreColumns, IsBadRow, IsBadStart}
-use Rattle.sp_pattern.specs.Stored.{AreStarts}
+use Rattle.bip_defs.specs.Pieces.{AreStarts}
 use Rattle.sp_pattern.specs.declared.columns.ColumnsError.{ColumnsError}
 use Rattle.sp_pattern.specs.declared.columns.ColumnsError.TheVariants.{TooManyRows, BadStart, BadRow, OutOfMemory}
 

@@ -4,8 +4,8 @@ use Rattle.std.specs.Prelude.{◌≡◌, ℕ, zero, suc, ◌+◌, ◌-◌, ◌^�
 use Rattle.std.specs.List.{list_any}
 use Rattle.bip_defs.specs.Lists.{Among, Lists}
 use Rattle.bip_defs.specs.Matrix.{Matrix, Place, upto}
+use Rattle.bip_defs.specs.Pieces.{AreStarts, piece}
 use Rattle.sp_pattern.specs.Pairs.{AreBelow}
-use Rattle.sp_pattern.specs.Stored.{AreStarts, piece}
 
 -- the lists are compressed columns of a matrix with so many rows
 pub record AreColumns (rows : ℕ) (starts ids : List ℕ) : Type 0 where

@@ -3,7 +3,7 @@
 use Rattle.std.specs.Prelude.{◌≡◌, ◌⊎◌, ℕ, ◌+◌, ◌<◌, ◌≤◌, List, ◌++◌, length, map, filter, nat_lt, if◌then◌else◌, slice_index_or}
 use Rattle.bip_defs.specs.Lists.{Among}
 use Rattle.bip_defs.specs.Matrix.{IsEntry, Matrix, Place}
-use Rattle.sp_pattern.specs.Stored.{AreStarts, piece}
+use Rattle.bip_defs.specs.Pieces.{AreStarts, piece}
 
 abbrev pub place_at : List Place → ℕ → Place
 place_at ps k = slice_index_or ps k (0, 0)

@@ -3,7 +3,7 @@ use Rattle.std.specs.Prelude.{◌≡◌, ◌≢◌, ℕ, ℤ, zero, suc, ◌+◌
 use Rattle.sp_ids.specs.Entries.{Entries, Triple}
 use Rattle.sp_ids.specs.declared.triples.Field.TheVariants.{Integer}
 use Rattle.sp_pattern.specs.Columns.{matrix_of}
-use Rattle.sp_pattern.specs.Stored.{piece}
+use Rattle.bip_defs.specs.Pieces.{piece}
 use Rattle.sp_pattern.specs.Weights.{IsFirstPast}
 
 -- the triples of one column: each of its ids with its value

@@ -5,8 +5,8 @@ ghost use Rattle.std.specs.List.Sorted.{IsBinarySearchResult};
 ghost use Rattle.std.specs.Ordering.{nat_cmp};
 ghost use Rattle.bip_defs.specs.Lists.{Among, IsRising};
 ghost use Rattle.bip_defs.specs.Matrix.{HasPlaces, IsEntry};
+ghost use Rattle.bip_defs.specs.Pieces.{piece};
 ghost use Rattle.sp_pattern.specs.Columns.{AreColumns, matrix_of, places_of};
-ghost use Rattle.sp_pattern.specs.Stored.{piece};
 
 /// A search by halves finds exactly what stands in a rising list.
 pub fn search_finds_members()

@@ -2,7 +2,7 @@
 
 ghost use Rattle.std.specs.Prelude.{◌≡◌, ◌+◌, ◌-◌, ◌<◌, ◌≤◌, ◌^◌, ◌++◌, filter, length, map, nat_lt, IfOk, IfSome, IsTrue, OnOk};
 ghost use Rattle.sp_pattern.specs.Mirror.{AreSymmetric, HasPieces, IsBehindMirror, both_sides};
-ghost use Rattle.sp_pattern.specs.Stored.{AreStarts};
+ghost use Rattle.bip_defs.specs.Pieces.{AreStarts};
 
 use crate::pieces::part;
 use sp_ids::{Col, Id, OutOfMemory, Row};

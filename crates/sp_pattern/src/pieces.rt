@@ -1,7 +1,7 @@
 //! Flat lists that are cut into parts.
 
 ghost use Rattle.std.specs.Prelude.{◌≡◌, ◌+◌, ◌<◌, length};
-ghost use Rattle.sp_pattern.specs.Stored.{AreStarts, piece};
+ghost use Rattle.bip_defs.specs.Pieces.{AreStarts, piece};
 
 /// The part of a flat list from one start to the next, lent without copying.
 pub fn part<'a, T>(starts: &[u32], flat: &'a [T], at: usize) -> &'a [T]

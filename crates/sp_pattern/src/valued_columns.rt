@@ -3,8 +3,8 @@
 ghost use Rattle.std.specs.Prelude.{◌≡◌, ◌≢◌, ◌+◌, ◌<◌, ◌≤◌, ℕ, IfErr, IfOk, length, slice_index};
 ghost use Rattle.std.specs.List.{slice_range};
 ghost use Rattle.bip_defs.specs.Lists.{Among, IsRising};
+ghost use Rattle.bip_defs.specs.Pieces.{piece};
 ghost use Rattle.sp_pattern.specs.Columns.{AreColumns, matrix_of};
-ghost use Rattle.sp_pattern.specs.Stored.{piece};
 ghost use Rattle.sp_pattern.specs.ValuedColumns.{IsFirstId, entries_given};
 ghost use Rattle.sp_pattern.specs.ValuesErrors.{IsValuesError};
 ghost use Rattle.sp_pattern.specs.Weights.{AreSums, AreWeightsOf, place_in};

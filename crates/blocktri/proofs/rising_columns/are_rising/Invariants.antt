@@ -1,6 +1,6 @@
 use Rattle.std.proofs.Common.{◌<◌, ℕ}
 use Rattle.bip_defs.specs.Lists.{IsRising}
-use Rattle.sp_pattern.specs.Stored.{piece}
+use Rattle.bip_defs.specs.Pieces.{piece}
 use Rattle.blocktri.proofs.rising_columns.are_rising.Given as goal
 
 abbrev pub invariant-loop-col : goal.invariant-loop-col

@@ -1,6 +1,6 @@
 use Rattle.std.proofs.Common.{◌+◌, ap, arith, length, length-append, map, refl, ◌∙◌}
 use Rattle.sp_pattern.specs.Mirror.{both_sides}
-use Rattle.sp_pattern.proofs.Cuts.{start_within}
+use Rattle.bip_defs.proofs.Pieces.{start_within}
 use Rattle.sp_pattern.proofs.MirrorLemmas.{both_length, both_more, pieces_more}
 use Rattle.sp_pattern.proofs.Numbers.{length_numbers}
 use Rattle.sp_pattern.proofs.mirror.both_halves.Goals as goal

@@ -1,5 +1,5 @@
 use Rattle.std.proofs.Common.{rules, arith, ◌+◌}
-use Rattle.sp_pattern.proofs.Cuts.{start_within}
+use Rattle.bip_defs.proofs.Pieces.{start_within}
 use Rattle.sp_pattern.proofs.pieces.part.Goals as goal
 
 pub offset_bounds-flat-starts : goal.offset_bounds-flat-starts

@@ -1,5 +1,5 @@
 use Rattle.std.proofs.Common.{sym}
-use Rattle.sp_pattern.proofs.Cuts.{length-pieces}
+use Rattle.bip_defs.proofs.Pieces.{length-pieces}
 use Rattle.sp_pattern.proofs.pattern.Pattern.cols.Goals as goal
 
 pub returns : goal.returns

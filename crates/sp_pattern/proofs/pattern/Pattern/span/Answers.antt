@@ -1,5 +1,5 @@
 use Rattle.std.proofs.Common.{◌+◌, arith, sym}
-use Rattle.sp_pattern.proofs.Cuts.{start_within}
+use Rattle.bip_defs.proofs.Pieces.{start_within}
 use Rattle.sp_pattern.proofs.Shape.{col_fits, orders_columns, orders_entries}
 use Rattle.sp_pattern.proofs.Weighed.{sum_before}
 use Rattle.sp_pattern.proofs.pattern.Pattern.span.Goals as goal
