@@ -1,19 +1,10 @@
 //! Facts for proofs, at no cost.
 
-ghost use Rattle.std.specs.Prelude.{◌↔◌, ◌-◌, ◌<◌, ℕ, List, IsTrue, Result, is_ok, length};
-ghost use Rattle.std.specs.List.Sorted.{IsBinarySearchResult};
-ghost use Rattle.std.specs.Ordering.{nat_cmp};
-ghost use Rattle.bip_defs.specs.Lists.{Among, IsRising};
+ghost use Rattle.std.specs.Prelude.{◌↔◌, ◌-◌, ◌<◌, ℕ, List, length};
+ghost use Rattle.bip_defs.specs.Lists.{Among};
 ghost use Rattle.bip_defs.specs.Matrix.{HasPlaces, IsEntry};
 ghost use Rattle.bip_defs.specs.Pieces.{piece};
 ghost use Rattle.sp_pattern.specs.Columns.{AreColumns, matrix_of, places_of};
-
-/// A search by halves finds exactly what stands in a rising list.
-pub fn search_finds_members()
-    ensures { (list : List ℕ) (x : ℕ) (found : Result ℕ ℕ) → IsRising list
-        → IsBinarySearchResult (λ y. nat_cmp y x) list found
-        → IsTrue (is_ok found) ↔ Among x list }
-{}
 
 /// The matrix of compressed columns has an entry at each place that they give and at no other, and
 /// so it is the matrix of every file with the same places: no two matrices have the same.

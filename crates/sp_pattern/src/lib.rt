@@ -23,7 +23,7 @@ mod weights;
 
 pub use columns::{ColumnsError, Narrow, NumberList, Wide, check_columns};
 pub use filter::Filter;
-pub use laws::{columns_give_their_places, search_finds_members};
+pub use laws::columns_give_their_places;
 pub use load::load_matrix;
 pub use pattern::Pattern;
 pub use pieces::part;

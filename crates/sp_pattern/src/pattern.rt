@@ -15,7 +15,7 @@ use crate::compress::compress;
 use crate::halves::{HalfByCol, HalfByRow, compress_half};
 use crate::mirror::{are_mirrored, as_cols, both_halves};
 use crate::pairs::{ByCol, ByRow, LowerByCol, Pairs, are_sorted};
-use crate::pieces::part;
+use crate::pieces::{part, search_near};
 use crate::sort::sorted;
 use crate::transpose::transpose;
 use sp_ids::{Col, OutOfMemory, Row, Triples};
@@ -316,8 +316,9 @@ impl Pattern {
         from + rows.binary_search(&row).unwrap_or(0)
     }
 
-    /// Where a place stands, in the order of all columns, if it is an entry.
-    pub(crate) fn find(&self, row: Row, col: Col) -> Option<usize>
+    /// Where a place stands, in the order of all columns, if it is an entry. It is looked for where it
+    /// is likely to stand, and then by halves.
+    pub(crate) fn find_near(&self, likely: usize, row: Row, col: Col) -> Option<usize>
         ensures some { IfSome result
             (λ at. IsEntry self.now row col × (at ≡ position self.now row col)) }
         ensures none { IfNone result (¬ IsEntry self.now row col) }
@@ -326,7 +327,7 @@ impl Pattern {
             return None;
         }
         let (from, to) = self.span(col);
-        match self.col_rows.as_slice()[from..to].binary_search(&row) {
+        match search_near(&self.col_rows.as_slice()[from..to], row, likely.wrapping_sub(from)) {
             Ok(k) => Some(from + k),
             Err(_) => None,
         }

@@ -10,7 +10,8 @@ use sp_ids::{OutOfMemory, Triples};
 use std::alloc::Global;
 
 /// The sums of the values of the entries' places, in the order of the pattern's columns: 0 where
-/// the file gives none. It takes 16 bytes an entry.
+/// the file gives none. It takes 16 bytes an entry. Work: one look for a file that gives the entries
+/// in this order, and else a search in its column for each.
 pub fn sums_of(
     alloc: Global,
     pattern: &Pattern,
@@ -21,10 +22,15 @@ pub fn sums_of(
 {
     pattern.is_pattern();
     let mut sums = zeros(alloc, pattern.entries())?;
+    // Most files give one entry behind the other.
+    let mut next = 0;
     for k in 0..triples.len() {
         let (row, col) = triples.place(k);
-        match pattern.find(row, col) {
-            Some(at) => sums[at] = added(sums[at], triples.value(k)),
+        match pattern.find_near(next, row, col) {
+            Some(at) => {
+                sums[at] = added(sums[at], triples.value(k));
+                next = at + 1;
+            }
             None => {}
         }
     }

@@ -85,8 +85,9 @@ impl<'p> Weights<'p> {
     ///
     /// Answers `SumLimit` exactly where the sum of some entry's values passes the limit in
     /// magnitude, and `OutOfMemory` where there is no memory for the weights, or for 16 bytes an
-    /// entry beside them while the values are added up. Work: a search in its column for each entry
-    /// of the file, and one look at each entry of the pattern.
+    /// entry beside them while the values are added up. Work: one look at each entry of the file and
+    /// of the pattern, and a search in its column for each entry that the file does not give right
+    /// behind the one before it in the order of columns.
     pub fn build(
         alloc: Global,
         pattern: &'p Pattern,

@@ -41,7 +41,7 @@ pub loop-k-preserved : goal.loop-k-preserved
 loop-k-preserved c =
     let lt : c.loop-k.k < length c.args.triples.now.items = let n = c.len-k-end.ensures in let t = c.loop-k-test.true in omega (arith, n, t) in
     let few : c.loop-k.k < 4294967296 = let n = c.len-k-end.type_inv in let t = c.loop-k-test.true in omega (arith, n, t) in
-    elim c.match-find.branch [
+    elim c.match-find_near.branch [
       | in-Some w ↦
           let there = w.in-Some.ensures.some in
           let within = position_fits c.args.pattern.now c.place-row.result.0 c.place-row.result.1 there.0 in
@@ -58,3 +58,10 @@ loop-k-preserved c =
           rw (ap (λ (v : Vec ℤ Global). v.items) w.sums-is)
           (so_far_same c.args.triples.now c.args.pattern.now c.loop-k.k c.loop-k.sums.items c.place-row.result w.in-None.ensures.none c.loop-k.invariant lt c.place-row.ensures.place)
     ]
+
+pub overflow_add-next : goal.overflow_add-next
+overflow_add-next c =
+    let there = c.in-Some.ensures.some in
+    let within = position_fits c.args.pattern.now c.place-row.result.0 c.place-row.result.1 there.0 in
+    let few = c.is_pattern.ensures.few_entries in
+    omega (arith, there.1, within, few)
