@@ -1,5 +1,5 @@
 -- How flat lists store a matrix by columns and by rows.
-use Rattle.std.specs.Prelude.{◌≡◌, ℕ, ◌+◌, ◌-◌, ◌^◌, ◌<◌, ◌≤◌, List, [], ◌∷◌, length, slice_index}
+use Rattle.std.specs.Prelude.{◌≡◌, ℕ, ◌+◌, ◌-◌, ◌^◌, ◌<◌, ◌≤◌, List, length}
 use Rattle.bip_defs.specs.Lists.{Lists}
 use Rattle.bip_defs.specs.Matrix.{Matrix, IsEntry, cols, column, entry_count}
 use Rattle.bip_defs.specs.Pieces.{AreStarts, piece, pieces}
