@@ -4,16 +4,16 @@ use Rattle.bip_defs.specs.Bottleneck.{IsBest, IsFull, IsSingular}
 use Rattle.bip_defs.specs.Lists.{Among}
 use Rattle.bip_defs.specs.Matrix.{Matrix, Place, cols}
 use Rattle.bip_defs.proofs.Full.{few_below, matching_few}
-use Rattle.bip_defs.proofs.Sets.{col_pair, entry_col, rising_distinct}
+use Rattle.bip_defs.proofs.Sets.{col_pair, entry_col, rising_distinct, upto_mapped}
 use Rattle.bip_defs.proofs.BottleneckLemmas.{full_length, above_cols}
 use Rattle.bip_graph.specs.Matching.{none}
 use Rattle.blocktri.specs.Answers.{AreRowsOf}
 use Rattle.blocktri.specs.PerfectMatchings.{HasNoPerfectMatching}
 use Rattle.blocktri.specs.Written.{IsPut}
 use Rattle.blocktri.proofs.DiagonalOrderLemmas.{full_rows}
-use Rattle.blocktri.proofs.LookLemmas.{few_rows, matrix_cols}
+use Rattle.blocktri.proofs.LookLemmas.{few_rows}
 use Rattle.integer_diagonal.specs.Heaviest.{IsHeaviestDiagonal}
-use Rattle.sp_pattern.specs.Columns.{AreColumns, matrix_of}
+use Rattle.sp_pattern.specs.Columns.{AreColumns, matrix_of, rows_given}
 use Rattle.sp_pattern.specs.Weights.{Weighing}
 
 -- Where there is no perfect matching.
@@ -39,7 +39,7 @@ singular_none a rank hall s m full =
 -- the matrix of the columns is as wide as a list with a place for each of them
 pub full_fits : (rows : ℕ) (starts ids : List ℕ) (a : Matrix) (m : List Place) (xs : List ℕ) → AreColumns rows starts ids → a ≡ matrix_of rows starts ids → IsFull a m → length xs ≡ length starts - 1
     → (b : Matrix) × IsFull b m × (length xs ≡ cols b) × (b.rows < 2 ^ 32)
-full_fits rows starts ids a m xs columns is full long = (a, full, long ∙ sym (ap cols is ∙ matrix_cols rows starts ids), let same = ap (λ (b : Matrix). b.rows) is in let few = columns.few_rows in omega (arith, same, few))
+full_fits rows starts ids a m xs columns is full long = (a, full, long ∙ sym (ap cols is ∙ upto_mapped (rows_given rows starts ids) (length starts - 1)), let same = ap (λ (b : Matrix). b.rows) is in let few = columns.few_rows in omega (arith, same, few))
 
 -- all pairs are written
 pub pairs_rows : (a : Matrix) (m : List Place) (k : ℕ) (old new : List ℕ) → IsFull a m → length old ≡ cols a → a.rows < 2 ^ 32 → length new ≡ length old → length m ≤ k → ((q : Place) → Among q (take k m) → get_or new q.1 0 ≡ q.0) → AreRowsOf m new

@@ -4,13 +4,12 @@ use Rattle.std.proofs.lemmas.List.{get_or-drop, get_or-take, length-drop, length
 use Rattle.std.specs.List.{slice_range}
 use Rattle.bip_defs.specs.Lists.{Among}
 use Rattle.bip_defs.specs.Matching.{IsMatching, IsMaximum, cols_of, rows_of}
-use Rattle.bip_defs.specs.Matrix.{AreEntries, IsEntry, Matrix, Place, cols, upto}
+use Rattle.bip_defs.specs.Matrix.{AreEntries, IsEntry, Matrix, Place, cols}
 use Rattle.bip_defs.specs.Pieces.{AreStarts, piece}
 use Rattle.bip_defs.proofs.Full.{few_below}
-use Rattle.bip_defs.proofs.Sets.{among_at, among_take, col_among, col_pair, few_distinct, number_same, place_among, rising_distinct, row_among, row_pair, upto_length}
+use Rattle.bip_defs.proofs.Sets.{among_at, among_take, col_among, col_pair, few_distinct, number_same, place_among, rising_distinct, row_among, row_pair}
 use Rattle.bip_defs.proofs.Slices.{slice_none}
 use Rattle.bip_graph.specs.Matching.{IsMatchingOf, IsPairing, Pairing}
-use Rattle.sp_pattern.specs.Columns.{matrix_of, rows_given}
 
 -- what stands in a part of a list
 pub read_part : (xs : List ℕ) (from to k : ℕ) → from ≤ k → k < to → to ≤ length xs → Among (get_or xs k 0) (slice_range xs from to)
@@ -98,10 +97,6 @@ pub columns_more : (old new : List Place) (row col : ℕ) → ((p : Place) → A
 columns_more old new row col grown before c h =
     let (r, k) = col_pair c new h in
     ⊎_elim (λ (e : (r, c) ≡ (row, col)). let same = ap (λ (p : Place). p.1) e in omega (arith, same)) (λ (g : Among (r, c) old). let lt = before c (col_among r c old g) in omega (arith, lt)) ((grown (r, c)).0 k)
-
--- a matrix of compressed columns has a column less than there are starts
-pub matrix_cols : (rows : ℕ) (starts ids : List ℕ) → cols (matrix_of rows starts ids) ≡ length starts - 1
-matrix_cols rows starts ids = length-map (upto (length starts - 1)) (rows_given rows starts ids) ∙ upto_length 0 (length starts - 1)
 
 -- no start is less than one before it
 rising_to : (starts ids : List ℕ) → AreStarts starts ids → (i k : ℕ) → i + k < length starts → get_or starts i 0 ≤ get_or starts (i + k) 0

@@ -7,7 +7,7 @@ ghost use Rattle.sp_pattern.specs.Columns.{AreColumns, matrix_of};
 
 use crate::first_look::{Look, first_look};
 use crate::rising_columns::{RisingColumns, are_rising};
-use bip_graph::{Matching, Opposite};
+use bip_graph::{Matching, Opposite, matchings_of_the_transpose};
 use karp_sipser::start;
 use pothen_fan::{complete, complete_from, phase_from};
 use sp_ids::OutOfMemory;
@@ -93,6 +93,7 @@ fn from_rows(
     requires { IsMatchingOf pattern.now matching }
     ensures { IfOk result (λ found. IfSome found (IsMaximumOf pattern.now)) }
 {
+    matchings_of_the_transpose();
     search_on(alloc, &FromRows { pattern }, matching, unmatched)
 }
 

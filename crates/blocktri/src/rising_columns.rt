@@ -24,7 +24,7 @@ pub struct RisingColumns {
 
 impl Model for RisingColumns {
     ghost use Rattle.bip_defs.specs.Matrix.{Matrix};
-ghost use Rattle.bip_defs.specs.Pieces.{AreStarts};
+    ghost use Rattle.bip_defs.specs.Pieces.{AreStarts};
 
     ghost Value = { Matrix };
 

@@ -10,8 +10,8 @@ use Rattle.bip_defs.specs.Matrix.{Matrix, Place, cols, column, transpose}
 use Rattle.bip_defs.specs.Parts.{IsHorizontalCol, IsHorizontalRow, IsSquareCol, IsSquareRow, IsVerticalCol, IsVerticalRow}
 use Rattle.bip_defs.proofs.Sets.{among_last, among_left, among_right, entry_col, lists_same, number_among, number_same, rising_last}
 use Rattle.bip_defs.proofs.Square.{horizontal_mate, rows_apart}
-use Rattle.bip_defs.proofs.Transposed.{horizontal_turned, square_col_turned, square_row_turned, transpose_back, transpose_cols, transpose_is, turned_horizontal, turned_marks, turned_matching, turned_maximum, turned_twice, turned_vertical, turned_vertical_col, vertical_col_turned, vertical_turned}
-use Rattle.bip_graph.specs.Matching.{IsMatchingOf, IsMaximumOf, Pairing, transposed}
+use Rattle.bip_defs.proofs.Transposed.{horizontal_turned, square_col_turned, square_row_turned, transpose_back, transpose_cols, transpose_is, turned_horizontal, turned_marks, turned_maximum, turned_twice, turned_vertical, turned_vertical_col, vertical_col_turned, vertical_turned}
+use Rattle.bip_graph.specs.Matching.{IsMatchingOf, Pairing}
 use Rattle.dm_coarse.specs.Searches.{AreMarksIfMaximum}
 use Rattle.dm_coarse.specs.Split.{AreColsByPart, AreKnown, AreRowsByPart}
 
@@ -172,19 +172,10 @@ matching_stable a m nn = record {
   cols_differ = distinct_stable (cols_of m) (λ f. nn (λ k. f k.cols_differ));
 }
 
--- A matching that a matrix is known to have, and the same of the transpose.
+-- A matching that a matrix is known to have.
 
 pub known : (a : Matrix) (m : Pairing) → m.rows ≡ a.rows → m.cols ≡ cols a → ¬ ¬ IsMatching a m.pairs → IsMatchingOf a m
 known a m rows sizes nn = record { rows = rows; cols = sizes; matching = matching_stable a m.pairs nn }
-
-turned : (a : Matrix) (m : Pairing) → IsMatchingOf a m → IsMatchingOf (transpose a) (transposed m)
-turned a m k = record { rows = k.cols; cols = k.rows ∙ sym (transpose_cols a); matching = turned_matching a (transpose a) m.pairs (transpose_is a) k.matching }
-
-pub transposed_known : (a : Matrix) (m : Pairing) → m.rows ≡ a.rows → m.cols ≡ cols a → ¬ ¬ IsMatching a m.pairs → IsMatchingOf (transpose a) (transposed m)
-transposed_known a m rows sizes nn = turned a m (known a m rows sizes nn)
-
-pub transposed_maximum : (a : Matrix) (m : Pairing) → IsMaximumOf a m → IsMaximumOf (transpose a) (transposed m)
-transposed_maximum a m k = record { matching = turned a m k.matching; maximum = turned_maximum a (transpose a) m.pairs (transpose_is a) k.maximum }
 
 maximum_back : (a : Matrix) (m : List Place) → IsMaximum (transpose a) (transposed_places m) → IsMaximum a m
 maximum_back a m max = subst (IsMaximum a) (turned_twice m) (turned_maximum (transpose a) a (transposed_places m) (transpose_back a (transpose a) (transpose_is a)) max)

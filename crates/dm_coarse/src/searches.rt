@@ -6,7 +6,7 @@ ghost use Rattle.bip_defs.specs.Matrix.{cols};
 ghost use Rattle.bip_defs.specs.Parts.{IsHorizontalCol, IsVerticalRow};
 ghost use Rattle.dm_coarse.specs.Searches.{AreMarksIfMaximum};
 
-use bip_graph::Matching;
+use bip_graph::{Matching, matchings_of_the_transpose};
 use hall_witness::reached_if_maximum;
 use sp_ids::OutOfMemory;
 use sp_pattern::{FromRows, Pattern};
@@ -90,6 +90,7 @@ impl Matched<'_> {
             (AreMarksIfMaximum self.now.pattern.now self.now.matching.now.pairs
             self.now.pattern.now.rows (IsVerticalRow self.now.pattern.now)) }
     {
+        matchings_of_the_transpose();
         let side = FromRows {
             pattern: self.pattern,
         };

@@ -5,7 +5,7 @@ ghost use Rattle.bip_defs.specs.Matrix.{Matrix};
 ghost use Rattle.bip_graph.specs.Matching.{IsMaximumOf};
 ghost use Rattle.dm_coarse.specs.Split.{AreColsByPart, AreKnown, AreRowsByPart, IsInPart};
 
-use bip_graph::{Matching, Opposite};
+use bip_graph::{Matching, Opposite, matchings_of_the_transpose};
 use sp_ids::{Col, OutOfMemory, Row};
 use sp_pattern::{FromRows, Pattern, Side};
 use std::alloc::Global;
@@ -56,6 +56,7 @@ pub fn split_cols(
     ensures { IfOk result (λ s. AreColsByPart pattern.now s.horizontal.items s.square.items
         s.vertical.items) }
 {
+    matchings_of_the_transpose();
     pattern.is_pattern();
     let side = FromRows { pattern };
     // The horizontal columns are the vertical rows of the transpose.

@@ -7,14 +7,14 @@ use Rattle.bip_defs.specs.EditedMatrix.{with_place, without_place}
 use Rattle.bip_defs.specs.Lists.{Among, AreDistinct, IsMarked, IsRising, Lists}
 use Rattle.bip_defs.specs.Matching.{IsMatching, IsMaximum, cols_of, rows_of}
 use Rattle.bip_defs.specs.Matrix.{IsEntry, Matrix, Place, cols, column, entry_count, transpose}
+use Rattle.bip_defs.specs.Paths.{IsParted}
 use Rattle.bip_defs.proofs.EditLemmas.{kept_is_maximum, kept_with, with_again, without_count, without_lists, without_none, without_place_back, without_place_over, without_or_there}
 use Rattle.bip_defs.proofs.Full.{few_below, matching_few}
-use Rattle.bip_defs.proofs.Sets.{col_among, col_pair, number_among, number_same, one_col, one_row, rising_distinct, row_pair}
+use Rattle.bip_defs.proofs.Sets.{col_among, col_pair, number_among, number_same, one_col, one_row, rising_distinct}
 use Rattle.bip_defs.proofs.Transposed.{transpose_is}
 use Rattle.bip_graph.specs.Matching.{IsMatchingOf, IsMaximumOf, Pairing}
 use Rattle.hall_witness.specs.Back.{IsCoverButRow}
 use Rattle.hall_witness.specs.Covers.{HasMarkedMate, IsCover, IsCoverBut, IsCovered}
-use Rattle.hall_witness.specs.Over.{IsParted}
 use Rattle.sp_pattern.specs.Stored.{IsPattern}
 use Rattle.edit_session.specs.Sessions.{IsSaturating, IsKept, MatchedMatrix}
 use Rattle.edit_session.proofs.TransposeLemmas.{transpose_count, with_transpose, without_transpose}
@@ -135,13 +135,6 @@ cleared_but_row a p m rest marks l pair on parted k = record {
         (λ (e : r ≡ p.0). subst (IsMarked marks) (one_col m l.rows_differ p.0 p.1 c pair (subst (λ x. Among {X = Place} (x, c) m) e mate)) on)
         (λ ne. absurd (free (col_among r c rest ((parted (r, c)).1 (mate, ne)))))
         (number_same r p.0)
-
--- its column has no mate then
-pub cleared_free : (a : Matrix) (p : Place) (m rest : List Place) → IsMatching a m → Among p m → IsParted p m rest → ¬ Among p.1 (cols_of rest)
-cleared_free a p m rest l pair parted h = let (r, mate) = col_pair p.1 rest h in let (old, ne) = (parted (r, p.1)).0 mate in ne (one_row m l.cols_differ r p.0 p.1 old pair)
-
-pub cleared_row_free : (p : Place) (m rest : List Place) → IsParted p m rest → ¬ Among p.0 (rows_of rest)
-cleared_row_free p m rest parted h = let (c, mate) = row_pair p.0 rest h in ((parted (p.0, c)).0 mate).1 refl
 
 -- What a session keeps.
 

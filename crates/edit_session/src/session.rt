@@ -6,12 +6,13 @@ ghost use Rattle.bip_defs.specs.EditedMatrix.{with_place, without_place};
 ghost use Rattle.bip_defs.specs.Lists.{Among, IsMarked};
 ghost use Rattle.bip_defs.specs.Matching.{IsRank, cols_of, rows_of};
 ghost use Rattle.bip_defs.specs.Matrix.{IsEntry, Place, cols, entry_count, transpose};
+ghost use Rattle.bip_defs.specs.Paths.{IsParted};
 ghost use Rattle.bip_graph.specs.Decompositions.{Decomposes, components_of};
 ghost use Rattle.bip_graph.specs.Matching.{IsMatchingOf, IsMaximumOf};
 ghost use Rattle.edit_session.specs.Sessions.{IsSaturating, IsKept, IsPaired, MatchedMatrix};
 ghost use Rattle.hall_witness.specs.Back.{IsSearchedTo};
 ghost use Rattle.hall_witness.specs.Covers.{IsCover, IsCovered, IsSearchedFrom};
-ghost use Rattle.hall_witness.specs.Over.{IsParted, IsSearchedOver};
+ghost use Rattle.hall_witness.specs.Over.{IsSearchedOver};
 
 use crate::columns::Columns;
 use crate::patterns::pattern_of;

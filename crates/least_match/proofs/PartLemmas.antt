@@ -4,20 +4,12 @@ use Rattle.std.proofs.lemmas.List.{get_or_append_left, length-replicate, take_al
 use Rattle.std.proofs.Math.Decide.{dec_lt}
 use Rattle.bip_defs.specs.Lists.{Among, IsMarked, Lists}
 use Rattle.bip_defs.specs.Marks.{Marks}
-use Rattle.bip_defs.specs.Matrix.{IsEntry, Matrix, cols, transpose}
+use Rattle.bip_defs.specs.Matrix.{IsEntry, Matrix, cols}
 use Rattle.bip_defs.specs.Parts.{IsHorizontalCol, IsVerticalCol, IsVerticalRow}
 use Rattle.bip_defs.proofs.Sets.{among_last, among_left, among_right, number_among, number_same}
-use Rattle.bip_defs.proofs.Transposed.{transpose_cols, transpose_is, turned_maximum}
-use Rattle.bip_graph.specs.Matching.{IsMaximumOf, Pairing, transposed}
 use Rattle.least_match.specs.Outcomes.{AreParted, IsGiven, IsIn}
 use Rattle.least_match.specs.declared.parts.Part.{Part}
 use Rattle.least_match.specs.declared.parts.Part.TheVariants.{Horizontal, Square, Vertical}
-
-pub turned_known : (a : Matrix) (m : Pairing) → IsMaximumOf a m → IsMaximumOf (transpose a) (transposed m)
-turned_known a m k = record {
-  matching = record { rows = k.matching.cols; cols = k.matching.rows ∙ sym (transpose_cols a); matching = (turned_maximum a (transpose a) m.pairs (transpose_is a) k.maximum).matching };
-  maximum = turned_maximum a (transpose a) m.pairs (transpose_is a) k.maximum;
-}
 
 -- a column none of whose rows is vertical
 pub not_vertical : (a : Matrix) (c k : ℕ) (rows : List ℕ) (marks : List Bool) → Marks a.rows (IsVerticalRow a) marks → Lists (λ r. IsEntry a r c) rows → ((r : ℕ) → Among r (take k rows) → ¬ IsMarked marks r) → length rows ≤ k → ¬ IsVerticalCol a c

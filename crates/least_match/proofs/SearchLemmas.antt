@@ -1,15 +1,14 @@
 -- Trees that grow, and what scanning a column finds.
-use Rattle.std.proofs.Common.{◌≡◌, ◌⊎◌, ◌∙◌, ℕ, ◌+◌, ◌<◌, ◌≤◌, List, [], ◌∷◌, ◌++◌, length, take, get_or, refl, sym, ap, subst, inl, inr, ⊎_elim, arith, length-append, append_assoc}
+use Rattle.std.proofs.Common.{◌≡◌, ◌⊎◌, ◌∙◌, ℕ, ◌+◌, ◌<◌, ◌≤◌, List, [], ◌∷◌, ◌++◌, length, take, get_or, refl, sym, ap, subst, inl, inr, ⊎_elim, arith, length-append}
 use Rattle.std.proofs.Math.Decide.{dec_lt}
-use Rattle.std.proofs.lemmas.List.{append-nil, get_or_append_left, length-map, map-append, take_all, take_more}
+use Rattle.std.proofs.lemmas.List.{append-nil, length-map, take_all, take_more}
 use Rattle.bip_defs.specs.Lists.{Among, AreDistinct, Lists}
 use Rattle.bip_defs.specs.Matching.{IsMatching, cols_of}
 use Rattle.bip_defs.specs.Matrix.{IsEntry, Matrix, Place, cols}
-use Rattle.bip_defs.specs.Queues.{Queue, at, heads}
+use Rattle.bip_defs.specs.Queues.{IsPrefix, Queue, at, heads}
 use Rattle.bip_defs.proofs.Full.{few_below}
-use Rattle.bip_defs.proofs.Queues.{at_push, heads_push}
-use Rattle.bip_defs.proofs.Sets.{among_at, among_last, among_left, among_right, distinct_last, one_row}
-use Rattle.hall_witness.specs.Search.{IsPrefix}
+use Rattle.bip_defs.proofs.Queues.{at_push, grown_among, grown_at, heads_push}
+use Rattle.bip_defs.proofs.Sets.{among_at, among_last, among_right, distinct_last, one_row}
 use Rattle.least_match.specs.Classes.{IsOther, IsInTail}
 use Rattle.least_match.specs.Trees.{AreSearchTrees, Enters, IsScanned, IsScannedBack, IsTree, LeadsTo, Looks}
 use Rattle.least_match.specs.Outcomes.{AreScanned, AreScannedBack}
@@ -79,21 +78,9 @@ backward_more a m classes j d c p f b b2 t (inr e) off in_tail matched lt leads 
 
 -- Queues that grow.
 
-pub grows_more : (q q2 q3 : Queue) → IsPrefix q q2 → IsPrefix q2 q3 → IsPrefix q q3
-grows_more q q2 q3 g h = (g.0 ++ h.0, h.1 ∙ ap (λ (z : Queue). z ++ h.0) g.1 ∙ append_assoc q g.0 h.0)
-
 pub grows_entered : (c p : ℕ) (q q2 : Queue) → Enters c p q q2 → IsPrefix q q2
 grows_entered c p q q2 (inl e) = ([], e.1 ∙ sym (append-nil q))
 grows_entered c p q q2 (inr e) = ((c, p) ∷ [], e.1)
-
-pub grown_length : (q q2 : Queue) → IsPrefix q q2 → length q ≤ length q2
-grown_length q q2 g = let e : length q2 ≡ length q + length g.0 = ap length g.1 ∙ length-append q g.0 in omega (arith, e)
-
-pub grown_at : (q q2 : Queue) (i : ℕ) → IsPrefix q q2 → i < length q → at q2 i ≡ at q i
-grown_at q q2 i g lt = ap (λ (z : Queue). at z i) g.1 ∙ get_or_append_left q g.0 (0, 0) i lt
-
-pub grown_among : (q q2 : Queue) (c : ℕ) → IsPrefix q q2 → Among c (heads q) → Among c (heads q2)
-grown_among q q2 c g h = subst (λ (z : Queue). Among c (heads z)) (sym g.1) (subst (Among c) (sym (map-append (λ (x : ℕ × ℕ). x.0) q g.0)) (among_left c (heads q) (heads g.0) h))
 
 pub entered_among : (c p : ℕ) (q q2 : Queue) → Enters c p q q2 → Among c (heads q2)
 entered_among c p q q2 (inl e) = subst (λ (z : Queue). Among c (heads z)) (sym e.1) e.0

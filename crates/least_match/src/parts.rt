@@ -9,7 +9,7 @@ ghost use Rattle.bip_graph.specs.Decompositions.{parts_of};
 ghost use Rattle.bip_graph.specs.Matching.{IsMaximumOf};
 ghost use Rattle.least_match.specs.Outcomes.{AreParted, IsGiven, IsIn};
 
-use bip_graph::{Matching, Parts};
+use bip_graph::{Matching, Parts, matchings_of_the_transpose};
 use hall_witness::reached;
 use sp_ids::{Col, OutOfMemory};
 use sp_pattern::{FromRows, Pattern};
@@ -91,6 +91,7 @@ fn vertical_rows(
     ensures { IfOk result
         (λ v. Marks pattern.now.rows (IsVerticalRow pattern.now) v.items) }
 {
+    matchings_of_the_transpose();
     let side = FromRows { pattern };
     reached(alloc, &side, matching)
 }

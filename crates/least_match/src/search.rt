@@ -5,9 +5,8 @@ ghost use Rattle.std.specs.Prelude.{◌≡◌, ℕ, ◌<◌, ◌≤◌, List, le
 ghost use Rattle.bip_defs.specs.Lists.{Among, Lists};
 ghost use Rattle.bip_defs.specs.Matching.{cols_of};
 ghost use Rattle.bip_defs.specs.Matrix.{IsEntry, Place, cols};
-ghost use Rattle.bip_defs.specs.Queues.{at, heads};
+ghost use Rattle.bip_defs.specs.Queues.{IsPrefix, at, heads};
 ghost use Rattle.bip_graph.specs.Matching.{IsMatchingOf};
-ghost use Rattle.hall_witness.specs.Search.{IsPrefix};
 ghost use Rattle.least_match.specs.Classes.{IsOther, IsInTail};
 ghost use Rattle.least_match.specs.Exchanges.{Meets};
 ghost use Rattle.least_match.specs.Outcomes.{EndsAs, IsIn, IsTurn};

@@ -9,8 +9,8 @@ use Rattle.bip_defs.specs.Matrix.{Matrix, Place, cols, transpose}
 use Rattle.bip_defs.proofs.Closed.{closed_maximum}
 use Rattle.bip_defs.proofs.Full.{matching_few}
 use Rattle.bip_defs.proofs.Sets.{among_last}
-use Rattle.bip_defs.proofs.Transposed.{transpose_back, transpose_cols, transpose_is, turned_matching, turned_maximum, turned_twice}
-use Rattle.bip_graph.specs.Matching.{IsMatchingOf, IsMaximumOf, Pairing, transposed}
+use Rattle.bip_defs.proofs.Transposed.{transpose_back, transpose_is, turned_maximum, turned_twice}
+use Rattle.bip_graph.specs.Matching.{Pairing}
 use Rattle.pothen_fan.specs.Roots.{HoldRoots, Extends}
 use Rattle.path_search.specs.Search.{Augments, Fails}
 
@@ -69,23 +69,7 @@ growth_ends a first start m le (inr more) = inr (omega arith)
 
 -- Seen from the rows.
 
-pub transposed_matching : (a : Matrix) (m : Pairing) → IsMatchingOf a m → IsMatchingOf (transpose a) (transposed m)
-transposed_matching a m k = record { rows = k.cols; cols = k.rows ∙ sym (transpose_cols a); matching = turned_matching a (transpose a) m.pairs (transpose_is a) k.matching }
-
-pub straight_matching : (a : Matrix) (m : Pairing) → IsMatchingOf (transpose a) (transposed m) → IsMatchingOf a m
-straight_matching a m k = record {
-  rows = k.cols ∙ transpose_cols a;
-  cols = k.rows;
-  matching = subst (λ (z : List Place). IsMatching a z) (turned_twice m.pairs) (turned_matching (transpose a) a (transposed_places m.pairs) (transpose_back a (transpose a) (transpose_is a)) k.matching);
-}
-
 -- a matching of the transpose that is maximum, or longer than another, is so of the matrix
 pub straight_longer : (a : Matrix) (start m : Pairing) → IsMaximum (transpose a) (transposed_places m.pairs) ⊎ (length (transposed_places start.pairs) < length (transposed_places m.pairs)) → IsMaximum a m.pairs ⊎ (length start.pairs < length m.pairs)
 straight_longer a start m (inl max) = inl (subst (λ (z : List Place). IsMaximum a z) (turned_twice m.pairs) (turned_maximum (transpose a) a (transposed_places m.pairs) (transpose_back a (transpose a) (transpose_is a)) max))
 straight_longer a start m (inr more) = inr (subst₂ (λ n k. n < k) (length-map start.pairs (λ (p : Place). (p.1, p.0))) (length-map m.pairs (λ (p : Place). (p.1, p.0))) more)
-
-pub straight_maximum : (a : Matrix) (m : Pairing) → IsMaximumOf (transpose a) (transposed m) → IsMaximumOf a m
-straight_maximum a m k = record { matching = record { rows = k.matching.cols ∙ transpose_cols a; cols = k.matching.rows; matching = max.matching }; maximum = max }
-  where
-    max : IsMaximum a m.pairs
-    max = subst (λ (z : List Place). IsMaximum a z) (turned_twice m.pairs) (turned_maximum (transpose a) a (transposed_places m.pairs) (transpose_back a (transpose a) (transpose_is a)) k.maximum)

@@ -39,7 +39,7 @@ ghost use Rattle.bip_graph.specs.Matching.{IsMatchingOf, IsMaximumOf};
 
 use crate::longer::lengthen_from;
 use crate::sweep::count_roots;
-use bip_graph::Matching;
+use bip_graph::{Matching, matchings_of_the_transpose};
 pub use kinds::complete_from;
 use sp_ids::OutOfMemory;
 use sp_pattern::{FromRows, Pattern};
@@ -85,6 +85,7 @@ pub fn complete(
     ensures maximum { IfOk result (λ m. IsMaximumOf pattern.now m) }
     ensures covered { IfOk result (λ m. Covers matching.pairs m.pairs) }
 {
+    matchings_of_the_transpose();
     let from_rows = FromRows { pattern };
     if count_roots(&from_rows, &matching) < count_roots(pattern, &matching) {
         complete_from(alloc, &from_rows, matching)
@@ -114,6 +115,7 @@ pub fn lengthen(
         ⊎ (length matching.pairs < length m.pairs)) }
     ensures covered { IfOk result (λ m. Covers matching.pairs m.pairs) }
 {
+    matchings_of_the_transpose();
     let from_rows = FromRows { pattern };
     if count_roots(&from_rows, &matching) < count_roots(pattern, &matching) {
         lengthen_from(alloc, &from_rows, matching)

@@ -1,7 +1,8 @@
-use Rattle.std.proofs.Common.{◌∙◌, ap, arith, length}
+use Rattle.std.proofs.Common.{◌∙◌, ap, arith, length, ◌-◌}
 use Rattle.bip_defs.specs.Matrix.{cols}
+use Rattle.bip_defs.proofs.Sets.{upto_mapped}
 use Rattle.blocktri.proofs.DiagonalLemmas.{full_fits, hall_few, put_same}
-use Rattle.blocktri.proofs.LookLemmas.{matrix_cols}
+use Rattle.sp_pattern.specs.Columns.{rows_given}
 use Rattle.sp_pattern.specs.Weights.{weight_at}
 use Rattle.blocktri.proofs.bottleneck_matching.bottleneck.Goals as goal
 
@@ -17,7 +18,7 @@ pub write_at-requires : goal.write_at-requires
 write_at-requires g c =
     let found = c.in_ok-found.ensures.found in
     let few = hall_few found.weighing.matrix (weight_at found.weighing) c.in_ok-found.found.pairs.items c.in_ok-found.found.least c.in_ok-found.found.hall.items found.holds in
-    let n = ap cols found.weights.matrix_is ∙ matrix_cols c.args.columns.now.rows (g.N.NumberList.numbers c.args.columns.now.starts) (g.N.NumberList.numbers c.args.columns.now.ids) in
+    let n = ap cols found.weights.matrix_is ∙ upto_mapped (rows_given c.args.columns.now.rows (g.N.NumberList.numbers c.args.columns.now.starts) (g.N.NumberList.numbers c.args.columns.now.ids)) (length (g.N.NumberList.numbers c.args.columns.now.starts) - 1) in
     let long = ap length c.as_slice-2.ensures.value in
     let test = c.if-shown_by-cols.false in
     let sub = c.saturating_sub-cols.ensures in
@@ -28,7 +29,7 @@ pub overflow_cast-result : goal.overflow_cast-result
 overflow_cast-result g c =
     let found = c.in_ok-found.ensures.found in
     let few = hall_few found.weighing.matrix (weight_at found.weighing) c.in_ok-found.found.pairs.items c.in_ok-found.found.least c.in_ok-found.found.hall.items found.holds in
-    let n = ap cols found.weights.matrix_is ∙ matrix_cols c.args.columns.now.rows (g.N.NumberList.numbers c.args.columns.now.starts) (g.N.NumberList.numbers c.args.columns.now.ids) in
+    let n = ap cols found.weights.matrix_is ∙ upto_mapped (rows_given c.args.columns.now.rows (g.N.NumberList.numbers c.args.columns.now.starts) (g.N.NumberList.numbers c.args.columns.now.ids)) (length (g.N.NumberList.numbers c.args.columns.now.starts) - 1) in
     let most = found.columns.few_starts in
     let some = found.columns.starts_are.one in
     let len = c.len-3.ensures in
@@ -38,7 +39,7 @@ overflow_cast-result g c =
 pub returns-clause-found : goal.returns-clause-found
 returns-clause-found g c =
     let found = c.in_ok-found.ensures.found in
-    let n = ap cols found.weights.matrix_is ∙ matrix_cols c.args.columns.now.rows (g.N.NumberList.numbers c.args.columns.now.starts) (g.N.NumberList.numbers c.args.columns.now.ids) in
+    let n = ap cols found.weights.matrix_is ∙ upto_mapped (rows_given c.args.columns.now.rows (g.N.NumberList.numbers c.args.columns.now.starts) (g.N.NumberList.numbers c.args.columns.now.ids)) (length (g.N.NumberList.numbers c.args.columns.now.starts) - 1) in
     let test = c.if-row_of_column-cols.false in
     let sub = c.saturating_sub-cols.ensures in
     let len = c.len.ensures in

@@ -1,8 +1,8 @@
-use Rattle.std.proofs.Common.{◌∙◌, ◌+◌, ◌-◌, ℕ, arith, length, sym}
-use Rattle.bip_defs.specs.Matrix.{IsEntry}
-use Rattle.bip_defs.proofs.Sets.{entry_col}
+use Rattle.std.proofs.Common.{◌≡◌, ◌∙◌, ◌+◌, ◌-◌, ℕ, arith, length, sym}
+use Rattle.bip_defs.specs.Matrix.{IsEntry, cols}
+use Rattle.bip_defs.proofs.Sets.{entry_col, upto_mapped}
 use Rattle.sp_pattern.specs.Columns.{matrix_of}
-use Rattle.blocktri.proofs.LookLemmas.{cols_matched_maximum, columns_more, covered_more, covered_none, entries_more, full_rows_maximum, given_row, look_matching, matrix_cols, no_entries, rows_matched_maximum, start_inside}
+use Rattle.blocktri.proofs.LookLemmas.{cols_matched_maximum, columns_more, covered_more, covered_none, entries_more, full_rows_maximum, given_row, look_matching, no_entries, rows_matched_maximum, start_inside}
 use Rattle.blocktri.proofs.first_look.first_look.Goals as goal
 use Rattle.blocktri.proofs.first_look.first_look.Goals.{in-Some, in-None+then-from-to, in-None+else-from-to}
 
@@ -84,7 +84,7 @@ returns-then-missed-eq0 g c =
     let starts = g.N.NumberList.numbers c.args.starts in
     let ids = g.N.NumberList.numbers c.args.ids in
     let a = matrix_of c.args.rows starts ids in
-    let wide = matrix_cols c.args.rows starts ids in
+    let wide : cols (matrix_of c.args.rows starts ids) ≡ length starts - 1 = upto_mapped _ _ in
     let len = c.len.ensures in
     let end = c.loop-col-test.false in
     let is = look_matching a c.loop-col.matching c.loop-col.invariant.rows (c.loop-col.invariant.cols ∙ sym wide) c.loop-col.invariant.entries c.is_matching.ensures in
@@ -95,7 +95,7 @@ returns-then-size-rows g c =
     let starts = g.N.NumberList.numbers c.args.starts in
     let ids = g.N.NumberList.numbers c.args.ids in
     let a = matrix_of c.args.rows starts ids in
-    let wide = matrix_cols c.args.rows starts ids in
+    let wide : cols (matrix_of c.args.rows starts ids) ≡ length starts - 1 = upto_mapped _ _ in
     let is = look_matching a c.loop-col.matching c.loop-col.invariant.rows (c.loop-col.invariant.cols ∙ sym wide) c.loop-col.invariant.entries c.is_matching.ensures in
     record { matching = is; maximum = full_rows_maximum a c.loop-col.matching.pairs is.matching (let size = c.size.ensures.size in let test = c.if-size-rows.true in omega (arith, size, test)) }
 
@@ -104,18 +104,18 @@ returns-in-Some-eq0 g c =
     let starts = g.N.NumberList.numbers c.args.starts in
     let ids = g.N.NumberList.numbers c.args.ids in
     let a = matrix_of c.args.rows starts ids in
-    let wide = matrix_cols c.args.rows starts ids in
+    let wide : cols (matrix_of c.args.rows starts ids) ≡ length starts - 1 = upto_mapped _ _ in
     let is = look_matching a c.loop-col.matching c.loop-col.invariant.rows (c.loop-col.invariant.cols ∙ sym wide) c.loop-col.invariant.entries c.is_matching.ensures in
     record { matching = is; maximum = rows_matched_maximum a c.loop-col.matching.pairs is.matching (λ r d e. given_row c.loop-col.matching.pairs starts ids ((rw c.in-Some-eq0.is at c.in_ok-fewer_unmatched.ensures) c.in-Some-eq0.field-0-test) r d ((c.columns_give_their_places.ensures.entries c.args.rows starts ids r d c.requires).0 e).1) }
 
 pub returns-in-Some-2 : goal.returns-in-Some-2
 returns-in-Some-2 g c =
     let a = matrix_of c.args.rows (g.N.NumberList.numbers c.args.starts) (g.N.NumberList.numbers c.args.ids) in
-    let wide = matrix_cols c.args.rows (g.N.NumberList.numbers c.args.starts) (g.N.NumberList.numbers c.args.ids) in
+    let wide : cols (matrix_of c.args.rows (g.N.NumberList.numbers c.args.starts) (g.N.NumberList.numbers c.args.ids)) ≡ length (g.N.NumberList.numbers c.args.starts) - 1 = upto_mapped _ _ in
     look_matching a c.loop-col.matching c.loop-col.invariant.rows (c.loop-col.invariant.cols ∙ sym wide) c.loop-col.invariant.entries c.is_matching.ensures
 
 pub returns-in-None-2 : goal.returns-in-None-2
 returns-in-None-2 g c =
     let a = matrix_of c.args.rows (g.N.NumberList.numbers c.args.starts) (g.N.NumberList.numbers c.args.ids) in
-    let wide = matrix_cols c.args.rows (g.N.NumberList.numbers c.args.starts) (g.N.NumberList.numbers c.args.ids) in
+    let wide : cols (matrix_of c.args.rows (g.N.NumberList.numbers c.args.starts) (g.N.NumberList.numbers c.args.ids)) ≡ length (g.N.NumberList.numbers c.args.starts) - 1 = upto_mapped _ _ in
     look_matching a c.loop-col.matching c.loop-col.invariant.rows (c.loop-col.invariant.cols ∙ sym wide) c.loop-col.invariant.entries c.is_matching.ensures

@@ -1,9 +1,10 @@
-use Rattle.std.proofs.Common.{◌∙◌, ap, arith, length, rules, FitsSigned}
+use Rattle.std.proofs.Common.{◌∙◌, ap, arith, length, rules, FitsSigned, ◌-◌}
 use Rattle.std.specs.Int.{w128}
 use Rattle.std.proofs.lemmas.Int.{to_z-of_z}
+use Rattle.sp_pattern.specs.Columns.{rows_given}
 use Rattle.bip_defs.specs.Matrix.{cols}
+use Rattle.bip_defs.proofs.Sets.{upto_mapped}
 use Rattle.blocktri.proofs.DiagonalLemmas.{full_fits, heaviest_written}
-use Rattle.blocktri.proofs.LookLemmas.{matrix_cols}
 use Rattle.blocktri.proofs.heaviest_diagonal.heaviest.Goals as goal
 
 pub write_pairs-requires : goal.write_pairs-requires
@@ -17,7 +18,7 @@ write_pairs-requires g c =
 pub write_prices-requires-2-clause-long : goal.write_prices-requires-2-clause-long
 write_prices-requires-2-clause-long g c =
     let found = c.in_ok-found.ensures.found in
-    let n = ap cols found.weights.matrix_is ∙ matrix_cols c.args.columns.now.rows (g.N.NumberList.numbers c.args.columns.now.starts) (g.N.NumberList.numbers c.args.columns.now.ids) in
+    let n = ap cols found.weights.matrix_is ∙ upto_mapped (rows_given c.args.columns.now.rows (g.N.NumberList.numbers c.args.columns.now.starts) (g.N.NumberList.numbers c.args.columns.now.ids)) (length (g.N.NumberList.numbers c.args.columns.now.starts) - 1) in
     let prices = found.holds.heaviest.fair.by_col in
     let long = ap length c.as_slice-3.ensures.value in
     let test = c.if-column_prices-cols.false in
@@ -28,7 +29,7 @@ write_prices-requires-2-clause-long g c =
 pub returns-clause-found : goal.returns-clause-found
 returns-clause-found g c =
     let found = c.in_ok-found.ensures.found in
-    let n = ap cols found.weights.matrix_is ∙ matrix_cols c.args.columns.now.rows (g.N.NumberList.numbers c.args.columns.now.starts) (g.N.NumberList.numbers c.args.columns.now.ids) in
+    let n = ap cols found.weights.matrix_is ∙ upto_mapped (rows_given c.args.columns.now.rows (g.N.NumberList.numbers c.args.columns.now.starts) (g.N.NumberList.numbers c.args.columns.now.ids)) (length (g.N.NumberList.numbers c.args.columns.now.starts) - 1) in
     let test = c.if-row_of_column-cols.false in
     let sub = c.saturating_sub-cols.ensures in
     let len = c.len.ensures in

@@ -1,10 +1,12 @@
-use Rattle.std.proofs.Common.{◌∙◌, arith}
-use Rattle.blocktri.proofs.LookLemmas.{matrix_cols}
+use Rattle.std.proofs.Common.{◌≡◌, ◌∙◌, arith, length, ◌-◌}
+use Rattle.sp_pattern.specs.Columns.{matrix_of, rows_given}
+use Rattle.bip_defs.specs.Matrix.{cols}
+use Rattle.bip_defs.proofs.Sets.{upto_mapped}
 use Rattle.blocktri.proofs.row_of_column.matching.Goals as goal
 
 pub write_rows-requires-clause-long : goal.write_rows-requires-clause-long
 write_rows-requires-clause-long g c =
-    let n = c.in-Ok.ensures.maximum.matching.cols ∙ matrix_cols _ (g.N.NumberList.numbers c.args.starts) (g.N.NumberList.numbers c.args.ids) in
+    let n = c.in-Ok.ensures.maximum.matching.cols ∙ upto_mapped (rows_given _ (g.N.NumberList.numbers c.args.starts) (g.N.NumberList.numbers c.args.ids)) (length (g.N.NumberList.numbers c.args.starts) - 1) in
     let test = c.if-row_of_column-saturating_sub.false in
     let sub = c.saturating_sub.ensures in
     let len = c.len.ensures in
@@ -21,7 +23,7 @@ returns-clause-found g c =
         pairs = c.in-Ok.matching.pairs;
         are_pairs = c.in-Ok.ensures.wanted;
         size_is = c.size.ensures.size;
-        long = let same = c.write_rows.ensures.long in let wide = matrix_cols c.args.rows (g.N.NumberList.numbers c.args.starts) (g.N.NumberList.numbers c.args.ids) in omega (arith, test, sub, len, same, wide);
+        long = let same = c.write_rows.ensures.long in let wide : cols (matrix_of c.args.rows (g.N.NumberList.numbers c.args.starts) (g.N.NumberList.numbers c.args.ids)) ≡ length (g.N.NumberList.numbers c.args.starts) - 1 = upto_mapped _ _ in omega (arith, test, sub, len, same, wide);
         rows = c.write_rows.ensures.rows;
       };
     }

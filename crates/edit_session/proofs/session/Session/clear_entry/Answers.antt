@@ -2,13 +2,14 @@ use Rattle.std.proofs.Common.{◌≡◌, ◌∙◌, ◌<◌, Bool, List, length,
 use Rattle.bip_defs.specs.EditedMatrix.{without_place}
 use Rattle.bip_defs.specs.Lists.{Among, IsMarked}
 use Rattle.bip_defs.specs.Matrix.{IsEntry, IsTransposeOf, Matrix, Place, cols, transpose}
+use Rattle.bip_defs.specs.Paths.{IsParted}
+use Rattle.bip_defs.proofs.Exchange.{parted_col_free, parted_row_free}
 use Rattle.bip_defs.proofs.Transposed.{transpose_is}
 use Rattle.bip_graph.specs.Matching.{IsMatchingOf}
 use Rattle.hall_witness.specs.Back.{IsCoverButRow, IsSearchedTo}
 use Rattle.hall_witness.specs.Covers.{IsCover, IsCoverBut, IsSearchedFrom}
-use Rattle.hall_witness.specs.Over.{IsParted}
 use Rattle.edit_session.specs.Sessions.{IsKept, MatchedMatrix}
-use Rattle.edit_session.proofs.SessionLemmas.{cleared_but, cleared_but_row, cleared_count, cleared_free, cleared_row_free, cleared_rows, cleared_steps, left_kept, parted_kept, parted_matching, parted_unmatched}
+use Rattle.edit_session.proofs.SessionLemmas.{cleared_but, cleared_but_row, cleared_count, cleared_rows, cleared_steps, left_kept, parted_kept, parted_matching, parted_unmatched}
 use Rattle.edit_session.proofs.TransposeLemmas.{turned_within}
 use Rattle.edit_session.proofs.session.Session.clear_entry.Goals as goal
 
@@ -24,7 +25,7 @@ invariant_of-self g c =
     left_kept c.self.inside.columns.matrix c.self.inside.rows.matrix c.take.new.self.matrix c.take-2.new.self.matrix (c.args.row, c.args.col) c.self.inside.matching c.self.inside.cover c.self.invariant c.take.ensures.matrix turned (λ h. true≢false (sym (c.are_mates-were_mates.ensures.1 h) ∙ c.if-not-were_mates.true))
 
 pub augment_from-requires-clause-free : goal.augment_from-requires-clause-free
-augment_from-requires-clause-free g c = cleared_free c.self.inside.columns.matrix (c.args.row, c.args.col) c.self.inside.matching.pairs c.unpair.new.self.pairs c.self.invariant.maximum.matching.matching (c.are_mates-were_mates.ensures.0 c.if-not-were_mates.false) c.unpair.ensures.pairs
+augment_from-requires-clause-free g c = parted_col_free (c.args.row, c.args.col) c.self.inside.matching.pairs c.unpair.new.self.pairs c.self.invariant.maximum.matching.matching.cols_differ (c.are_mates-were_mates.ensures.0 c.if-not-were_mates.false) c.unpair.ensures.pairs
 
 pub augment_from-requires-clause-matching : goal.augment_from-requires-clause-matching
 augment_from-requires-clause-matching g c = subst (λ (a : Matrix). IsMatchingOf a c.unpair.new.self) (sym c.take.ensures.matrix)
@@ -55,7 +56,7 @@ returns-then-not-is_marked-clause-searched_from g c = subst (λ (w : MatchedMatr
     (λ h off. (c.unpair.new.self.pairs, c.unpair.ensures.pairs, rw c.add_root.ensures at c.augment_from.ensures.searched))
 
 pub augment_to-requires-clause-free : goal.augment_to-requires-clause-free
-augment_to-requires-clause-free g c = cleared_row_free (c.args.row, c.args.col) c.self.inside.matching.pairs c.unpair.new.self.pairs c.unpair.ensures.pairs
+augment_to-requires-clause-free g c = parted_row_free (c.args.row, c.args.col) c.self.inside.matching.pairs c.unpair.new.self.pairs c.unpair.ensures.pairs
 
 pub augment_to-requires-clause-transpose : goal.augment_to-requires-clause-transpose
 augment_to-requires-clause-transpose g c =

@@ -3,11 +3,12 @@ use Rattle.std.proofs.lemmas.List.{get_or_read}
 use Rattle.bip_defs.specs.Lists.{Among}
 use Rattle.bip_defs.specs.Matrix.{Place}
 use Rattle.bip_defs.specs.Queues.{at, heads}
+use Rattle.bip_defs.proofs.Queues.{grown_at, grown_length, grows_more}
 use Rattle.bip_defs.proofs.Sets.{entry_col}
 use Rattle.least_match.specs.Classes.{IsOther}
 use Rattle.least_match.specs.Tree.{Reached}
 use Rattle.least_match.specs.Trees.{AreSearchTrees}
-use Rattle.least_match.proofs.SearchLemmas.{col_leads, col_stays, item_among, each_more, grown_at, grown_length, grows_more, looks_back, looks_prefix, looks_seen, seen_grown_back, seen_scanned_back}
+use Rattle.least_match.proofs.SearchLemmas.{col_leads, col_stays, item_among, each_more, looks_back, looks_prefix, looks_seen, seen_grown_back, seen_scanned_back}
 use Rattle.least_match.proofs.search.ClassTail.scan_back.Goals as goal
 
 pub look_back-requires-clause-place : goal.look_back-requires-clause-place

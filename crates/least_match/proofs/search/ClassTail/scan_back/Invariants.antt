@@ -1,5 +1,5 @@
 use Rattle.std.proofs.Common.{◌≡◌, ℕ, take}
-use Rattle.hall_witness.specs.Search.{IsPrefix}
+use Rattle.bip_defs.specs.Queues.{IsPrefix}
 use Rattle.least_match.specs.Trees.{AreSearchTrees}
 use Rattle.least_match.proofs.SearchLemmas.{AreSeenBack}
 use Rattle.least_match.proofs.search.ClassTail.scan_back.Given as goal

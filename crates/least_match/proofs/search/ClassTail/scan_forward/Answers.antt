@@ -3,10 +3,11 @@ use Rattle.std.proofs.lemmas.List.{get_or_read}
 use Rattle.bip_defs.specs.Lists.{Among, Lists}
 use Rattle.bip_defs.specs.Matrix.{IsEntry}
 use Rattle.bip_defs.specs.Queues.{at, heads}
+use Rattle.bip_defs.proofs.Queues.{grown_at, grown_length, grows_more}
 use Rattle.least_match.specs.Classes.{IsOther}
 use Rattle.least_match.specs.Tree.{Reached}
 use Rattle.least_match.specs.Trees.{AreSearchTrees}
-use Rattle.least_match.proofs.SearchLemmas.{col_stays, row_entry, each_more, grown_at, grown_length, grows_more, leads_by, looks_forward, looks_prefix, looks_seen, seen_grown, seen_scanned}
+use Rattle.least_match.proofs.SearchLemmas.{col_stays, row_entry, each_more, leads_by, looks_forward, looks_prefix, looks_seen, seen_grown, seen_scanned}
 use Rattle.least_match.proofs.search.ClassTail.scan_forward.Goals as goal
 
 pub look_forward-requires-clause-place : goal.look_forward-requires-clause-place

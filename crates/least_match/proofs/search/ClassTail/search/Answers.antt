@@ -3,11 +3,11 @@ use Rattle.bip_defs.specs.Lists.{Lists}
 use Rattle.bip_defs.specs.Matrix.{IsEntry, cols}
 use Rattle.bip_defs.proofs.Below.{below_more}
 use Rattle.bip_defs.specs.Queues.{at}
-use Rattle.bip_defs.proofs.Queues.{head_at}
+use Rattle.bip_defs.proofs.Queues.{grown_length, head_at}
 use Rattle.least_match.specs.Outcomes.{AreScanned, AreScannedBack}
 use Rattle.least_match.specs.Trees.{IsScanned, IsScannedBack}
 use Rattle.least_match.proofs.EndLemmas.{backward_inner, forward_inner}
-use Rattle.least_match.proofs.SearchLemmas.{grown_length, scanned_grown, scanned_grown_back, tree_few}
+use Rattle.least_match.proofs.SearchLemmas.{scanned_grown, scanned_grown_back, tree_few}
 use Rattle.least_match.proofs.search.ClassTail.search.Goals as goal
 
 pub returns-in-EndForward-clause-ends : goal.returns-in-EndForward-clause-ends
