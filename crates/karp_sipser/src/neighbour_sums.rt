@@ -47,12 +47,12 @@ impl NeighbourSums {
         let count = side.cols();
         let mut words = Vec::with_capacity(alloc, count as usize)?;
         let mut of_one = IntSet::new(alloc, count)?;
-        let mut some_long = false;
+        let mut longest = 0;
         for vertex in 0..count {
             let ids = side.rows_of(Col(vertex));
             let word = sum_of(ids, unit);
             words.push(word)?;
-            some_long = some_long || is_long(ids.len(), unit);
+            longest = longest.max(ids.len());
             if looks_like_one(word, unit) {
                 of_one.insert(vertex);
             }
@@ -60,7 +60,7 @@ impl NeighbourSums {
         Ok(NeighbourSums {
             unit,
             words,
-            some_long,
+            some_long: is_long(longest, unit),
             of_one,
         })
     }

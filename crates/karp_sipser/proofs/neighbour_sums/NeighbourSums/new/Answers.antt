@@ -1,15 +1,21 @@
-use Rattle.std.proofs.Common.{◌≡◌, ◌∙◌, ◌<◌, ℕ, [], length, length-append, map, sym, subst, ap, inl, inr, refl, arith}
+use Rattle.std.proofs.Common.{◌≡◌, ◌∙◌, ◌<◌, ◌≤◌, ℕ, [], length, length-append, map, sym, ap, inl, inr, refl, arith}
 use Rattle.std.proofs.lemmas.Bool.{cases_eq, true≢false}
+use Rattle.std.proofs.lemmas.Bool.Decides.{nat_tests}
 use Rattle.std.proofs.lemmas.List.{length-map}
+use Rattle.std.specs.Ordering.{nat_cmp, ord_max}
 use Rattle.bip_defs.proofs.Sets.{entry_col, lists_same}
 use Rattle.bip_defs.specs.Lists.{Among, Lists}
 use Rattle.bip_defs.specs.Matrix.{cols, column, Matrix}
 use Rattle.bip_defs.specs.Start.{IsFree}
-use Rattle.karp_sipser.specs.NeighbourSums.{IsShort, IsSum, LooksLikeOne}
+use Rattle.karp_sipser.specs.NeighbourSums.{IsSum, LooksLikeOne}
 use Rattle.karp_sipser.proofs.Prefixes.{each_next}
 use Rattle.karp_sipser.proofs.Sums.{one_looks}
 use Rattle.karp_sipser.proofs.neighbour_sums.NeighbourSums.new.Goals as goal
-use Rattle.karp_sipser.proofs.neighbour_sums.NeighbourSums.new.Goals.{then-some_long, else-some_long, then-looks_like_one, else-looks_like_one}
+use Rattle.karp_sipser.proofs.neighbour_sums.NeighbourSums.new.Goals.{then-looks_like_one, else-looks_like_one}
+
+-- the greater of two numbers
+greater : (a b n : ℕ) → n ≡ ord_max nat_cmp a b → (a ≤ n) × (b ≤ n)
+greater a b n is = grind (arith, nat_tests)
 
 pub loop-vertex-preserved : goal.loop-vertex-preserved
 loop-vertex-preserved g c =
@@ -23,6 +29,7 @@ loop-vertex-preserved g c =
       | else-looks_like_one w ↦ rw w.of_one-is (inv.bound, (λ x h. h), (λ looks. absurd (true≢false (sym (c.looks_like_one.ensures.1 looks) ∙ w.if-looks_like_one.false))))
     ] in
     let long_is : length c.rows_of-ids.result.now ≡ length (column a v) = sym (length-map c.rows_of-ids.result.now g.I.Id.number) ∙ ap length c.rows_of-ids.ensures.column in
+    let most : (c.loop-vertex.longest ≤ c.max-longest.result) × (length c.rows_of-ids.result.now ≤ c.max-longest.result) = greater c.loop-vertex.longest (length c.rows_of-ids.result.now) c.max-longest.result c.max-longest.ensures in
     rw c.in_ok-push.ensures.items
     (record {
       count = inv.count;
@@ -30,12 +37,9 @@ loop-vertex-preserved g c =
       bound = held.0;
       sums = each_next (λ x s. IsSum c.args.unit (λ r. IsFree a [] r x) s) c.loop-vertex.words.items v c.sum_of-word.result inv.long inv.sums last;
       ones = each_next (λ x s. LooksLikeOne c.args.unit s → Among x c.if-looks_like_one.of_one.members) c.loop-vertex.words.items v c.sum_of-word.result inv.long (λ x lt looks. held.1 x (inv.ones x lt looks)) held.2;
-      short = λ off x lt. elim c.if-some_long.branch [
-        | then-some_long w ↦ absurd (true≢false (sym w.if-some_long.true ∙ sym w.some_long-is ∙ off))
-        | else-some_long w ↦ elim (cases_eq x v) [
-          | inl e ↦ rw e (subst (IsShort c.args.unit) long_is (w.is_long-some_long.ensures (sym w.some_long-is ∙ off)))
-          | inr ne ↦ inv.short w.if-some_long.false x (omega arith)
-        ]
+      longest = λ x lt. elim (cases_eq x v) [
+        | inl e ↦ rw e (omega (arith, long_is, most.1))
+        | inr ne ↦ omega (arith, inv.longest x (omega arith), most.0)
       ];
     })
 

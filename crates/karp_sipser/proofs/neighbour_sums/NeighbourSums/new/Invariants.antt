@@ -1,8 +1,8 @@
-use Rattle.std.proofs.Common.{◌≡◌, ◌<◌, ℕ, [], false, length, slice_index}
+use Rattle.std.proofs.Common.{◌≡◌, ◌<◌, ◌≤◌, ℕ, [], length, slice_index}
 use Rattle.bip_defs.specs.Lists.{Among}
 use Rattle.bip_defs.specs.Matrix.{cols, column}
 use Rattle.bip_defs.specs.Start.{IsFree}
-use Rattle.karp_sipser.specs.NeighbourSums.{IsShort, IsSum, LooksLikeOne}
+use Rattle.karp_sipser.specs.NeighbourSums.{IsSum, LooksLikeOne}
 use Rattle.karp_sipser.proofs.neighbour_sums.NeighbourSums.new.Given as goal
 
 abbrev pub invariant-loop-vertex : goal.invariant-loop-vertex
@@ -12,5 +12,5 @@ invariant-loop-vertex g l = record {
   bound : l.of_one.bound ≡ cols (g.S.Side.matrix l.side);
   sums : (c : ℕ) → c < l.vertex → IsSum l.unit (λ r. IsFree (g.S.Side.matrix l.side) [] r c) (slice_index l.words.items c);
   ones : (c : ℕ) → c < l.vertex → LooksLikeOne l.unit (slice_index l.words.items c) → Among c l.of_one.members;
-  short : l.some_long ≡ false → (c : ℕ) → c < l.vertex → IsShort l.unit (length (column (g.S.Side.matrix l.side) c));
+  longest : (c : ℕ) → c < l.vertex → length (column (g.S.Side.matrix l.side) c) ≤ l.longest;
 }
