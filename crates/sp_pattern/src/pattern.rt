@@ -327,7 +327,11 @@ impl Pattern {
             return None;
         }
         let (from, to) = self.span(col);
-        match search_near(&self.col_rows.as_slice()[from..to], row, likely.wrapping_sub(from)) {
+        match search_near(
+            &self.col_rows.as_slice()[from..to],
+            row,
+            likely.wrapping_sub(from),
+        ) {
             Ok(k) => Some(from + k),
             Err(_) => None,
         }
