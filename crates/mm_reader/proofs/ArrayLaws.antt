@@ -19,6 +19,8 @@ use Rattle.mm_defs.specs.Faults.{entry_rules, coordinate_rules, array_rules}
 use Rattle.mm_defs.specs.File.{mirror, placed, said, with_mirrors, items, triple}
 use Rattle.mm_defs.proofs.ArrayLemmas.{general_count, square_count, places_first, places_next, places_inside}
 use Rattle.mm_reader.specs.declared.array.ArrayPlace.{ArrayPlace}
+use Rattle.mm_reader.specs.declared.machine.Position.{Position}
+use Rattle.mm_reader.specs.declared.machine.Preamble.{Preamble}
 use Rattle.mm_reader.specs.Additions.{with_entries}
 use Rattle.mm_reader.specs.Judged.{IsHeader, IsWithin}
 use Rattle.mm_reader.specs.Machine.{HasRoom}
@@ -126,17 +128,19 @@ pub next_first : (h : Header) (s : Size) → IsWithin h s → IsNext h s 0 (arra
 next_first h s within array low = places_first h.symmetry s.rows s.cols (in_places h s within array 0 low)
 
 -- one more value is kept
-pub more_room : (h : Header) (s : Size) (done : ℕ) (next : ArrayPlace) (t t2 : entries.Entries) (v : ℤ) → HasRoom h s done next t → h.format ≡ Array → done < s.count
-    → t2 ≡ with_entries t (with_mirrors h.symmetry (placed (place_of next) v)) → HasRoom h s (done + 1) (array_place (following h.symmetry s.rows (place_of next))) t2
-more_room h s done next t t2 v r e low is =
-    let n : length t2.items ≡ length t.items + length (with_mirrors h.symmetry (placed (place_of next) v)) =
-    ap (λ (x : entries.Entries). length x.items) is ∙ length-append t.items (with_mirrors h.symmetry (placed (place_of next) v)) in
-    let f = few_added h.symmetry (place_of next) v in
+pub more_room : (b : Preamble) (at : Position) (t t2 : entries.Entries) (v : ℤ) → HasRoom b at t → b.header.format ≡ Array → at.done < b.size.count
+    → t2 ≡ with_entries t (with_mirrors b.header.symmetry (placed (place_of at.place) v))
+    → HasRoom b (record { done = at.done + 1; place = array_place (following b.header.symmetry b.size.rows (place_of at.place)) }) t2
+more_room b at t t2 v r e low is =
+    let h = b.header in
+    let n : length t2.items ≡ length t.items + length (with_mirrors h.symmetry (placed (place_of at.place) v)) =
+    ap (λ (x : entries.Entries). length x.items) is ∙ length-append t.items (with_mirrors h.symmetry (placed (place_of at.place) v)) in
+    let f = few_added h.symmetry (place_of at.place) v in
     record {
       header = r.header;
       within = r.within;
       in_count = omega arith;
-      next_is = next_follows h s r.within (rw e refl) done next low r.next_is;
+      next_is = next_follows h b.size r.within (rw e refl) at.done at.place low r.next_is;
       rows = ap (λ (x : entries.Entries). x.rows) is ∙ r.rows;
       cols = ap (λ (x : entries.Entries). x.cols) is ∙ r.cols;
       field = ap (λ (x : entries.Entries). x.field) is ∙ r.field;
@@ -145,7 +149,7 @@ more_room h s done next t t2 v r e low is =
 
 -- no value has come yet
 pub first_room : (h : Header) (s : Size) (next : ArrayPlace) (t : entries.Entries) → IsHeader h → IsWithin h s → next ≡ array_place (first_row h.symmetry 0, 0)
-    → t ≡ record { rows = s.rows; cols = s.cols; field = h.field; items = [] } → HasRoom h s 0 next t
+    → t ≡ record { rows = s.rows; cols = s.cols; field = h.field; items = [] } → HasRoom (record { header = h; size = s }) (record { done = 0; place = next }) t
 first_room h s next t header within place_is is = record {
   header = header;
   within = within;

@@ -12,9 +12,10 @@ use Rattle.mm_defs.specs.File.{header_of, size_of, later_lines, entry_lines, ite
 use Rattle.mm_defs.proofs.Behind.{behind-prefix}
 use Rattle.mm_defs.proofs.Lines.{lines-append}
 use Rattle.mm_defs.proofs.Roles.{later_lines-append, line_faults-past}
-use Rattle.mm_reader.specs.declared.array.ArrayPlace.{ArrayPlace}
 use Rattle.mm_reader.specs.declared.machine.Phase.{Phase}
 use Rattle.mm_reader.specs.declared.machine.Phase.TheVariants as phases
+use Rattle.mm_reader.specs.declared.machine.Position.{Position}
+use Rattle.mm_reader.specs.declared.machine.Preamble.{Preamble}
 use Rattle.mm_reader.specs.Machine.{HasBanner, HasEntries, HasLines, is_complete}
 
 -- lines that say the same say the same entries
@@ -86,10 +87,13 @@ module _ (h : Header) (s : Size) (done : ℕ) (t : entries.Entries) (ls more : L
   last_is e = ap last_number matrix_is ∙ ap last_number (sym has.later_are) ∙ e
 
 -- the matrix is read, and this follows it
-complete_entries : (h : Header) (s : Size) (done : ℕ) (p : ArrayPlace) (t : entries.Entries) (used rest : List ℕ) → HasLines LastEntry (phases.Entries h s done p) t (lines false used)
-    → is_complete LastEntry (phases.Entries h s done p) ≡ true → open_line used ≡ [] → Reads (used ++ rest) LastEntry t rest
+complete_entries : (b : Preamble) (at : Position) (t : entries.Entries) (used rest : List ℕ) → HasLines LastEntry (phases.Entries b at) t (lines false used)
+    → is_complete LastEntry (phases.Entries b at) ≡ true → open_line used ≡ [] → Reads (used ++ rest) LastEntry t rest
 unfolding rest_of
-complete_entries h s done p t used rest l e closed =
+complete_entries b at t used rest l e closed =
+    let h = b.header in
+    let s = b.size in
+    let done = at.done in
     let r = lines-append true used rest in
     let full = eqb-true done s.count e in
     let n = last_is h s done t (lines false used) r.0 l.phase_is.0 l.phase_is.1 full (l.last e) in
@@ -103,4 +107,4 @@ pub complete_reads : (end : End) (phase : Phase) (t : entries.Entries) (used res
 complete_reads File phase t used rest l e closed = absurd cc
 complete_reads LastEntry phases.Banner t used rest l e closed = absurd cc
 complete_reads LastEntry (phases.Sizes h) t used rest l e closed = absurd cc
-complete_reads LastEntry (phases.Entries h s done p) t used rest l e closed = complete_entries h s done p t used rest l e closed
+complete_reads LastEntry (phases.Entries b at) t used rest l e closed = complete_entries b at t used rest l e closed

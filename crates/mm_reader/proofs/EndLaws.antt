@@ -12,9 +12,10 @@ use Rattle.mm_defs.specs.File.{Fault, header_of, size_of, later_lines, entry_lin
 use Rattle.mm_defs.proofs.Behind.{length-lines, behind-prefix, behind-past}
 use Rattle.mm_defs.proofs.Prefixes.{fault_stays}
 use Rattle.mm_defs.proofs.Lines.{lines-ended}
-use Rattle.mm_reader.specs.declared.array.ArrayPlace.{ArrayPlace}
 use Rattle.mm_reader.specs.declared.machine.Phase.{Phase}
 use Rattle.mm_reader.specs.declared.machine.Phase.TheVariants as phases
+use Rattle.mm_reader.specs.declared.machine.Position.{Position}
+use Rattle.mm_reader.specs.declared.machine.Preamble.{Preamble}
 use Rattle.mm_reader.specs.declared.machine.Stop.{Stop}
 use Rattle.mm_reader.specs.declared.machine.Stop.TheVariants as stops
 use Rattle.mm_reader.specs.Machine.{HasBanner, HasEntries, HasLines, is_complete, StopsAt}
@@ -57,23 +58,26 @@ module _ (h : Header) (s : Size) (done : ℕ) (t : entries.Entries) (ls : List (
       let z : size_of ls ≡ s = rw has.later_are (sym (size_said h s done t ls b has)) in
       has.triples_are ∙ same_entries h (header_of ls) s (size_of ls) has.entry_lines (entry_lines ls) (sym (header_said h ls b)) (sym z) (sym k)
 
-pub all_lines : (end : End) (h : Header) (s : Size) (done : ℕ) (p : ArrayPlace) (t : entries.Entries) (ls : List (List ℕ)) → HasLines end (phases.Entries h s done p) t ls → s.count ≤ done → IsAll end (phases.Entries h s done p) t ls
-all_lines end h s done p t ls l full =
-    let b = l.phase_is.0 in
+pub all_lines : (end : End) (b : Preamble) (at : Position) (t : entries.Entries) (ls : List (List ℕ)) → HasLines end (phases.Entries b at) t ls → b.size.count ≤ at.done → IsAll end (phases.Entries b at) t ls
+all_lines end b at t ls l full =
+    let h = b.header in
+    let s = b.size in
+    let done = at.done in
+    let banner = l.phase_is.0 in
     let has = l.phase_is.1 in
     let full_is : done ≡ s.count = omega (arith, has.in_count) in
-    let yes_it_is : is_complete LastEntry (phases.Entries h s done p) ≡ true = eq-eqb done s.count full_is in
-    let nb = no_banner-none h ls b in
+    let yes_it_is : is_complete LastEntry (phases.Entries b at) ≡ true = eq-eqb done s.count full_is in
+    let nb = no_banner-none h ls banner in
     let good = l.good in
-    let m = missing-none ls has.size_line has.entry_lines has.later_are (enough h s done t ls b has full) in
+    let m = missing-none ls has.size_line has.entry_lines has.later_are (enough h s done t ls banner has full) in
     record {
       good = rw (nb, good, m) refl;
-      entries = entries-are h s done t ls b has full;
+      entries = entries-are h s done t ls banner has full;
       complete = yes_it_is;
       last = λ e.
-          let k : is_complete end (phases.Entries h s done p) ≡ true = rw e yes_it_is in
+          let k : is_complete end (phases.Entries b at) ≡ true = rw e yes_it_is in
           let n : last_number (has.size_line ∷ has.entry_lines) ≡ length ls = ap last_number (sym has.later_are) ∙ l.last k in
-          let x : matrix_lines ls ≡ has.size_line ∷ has.entry_lines = rw has.later_are (ap (λ (r : List Line). has.size_line ∷ r) (all h s done t ls b has full)) in
+          let x : matrix_lines ls ≡ has.size_line ∷ has.entry_lines = rw has.later_are (ap (λ (r : List Line). has.size_line ∷ r) (all h s done t ls banner has full)) in
           ap last_number x ∙ n;
     }
 

@@ -1,18 +1,17 @@
 -- What the machine keeps is within the limits.
-use Rattle.std.proofs.Common.{◌≡◌, ℕ, true, arith}
+use Rattle.std.proofs.Common.{◌≡◌, true, arith}
 use Rattle.sp_ids.specs.Entries.{Entries}
 use Rattle.mm_defs.specs.declared.answers.End.{End}
 use Rattle.mm_defs.specs.declared.answers.End.TheVariants.{File, LastEntry}
-use Rattle.mm_defs.specs.declared.header.Header.{Header}
-use Rattle.mm_defs.specs.declared.header.Size.{Size}
 use Rattle.mm_reader.specs.EntryLimits.{AreWithinLimits}
 use Rattle.mm_reader.specs.Machine.{HasRoom, IsReady, is_complete}
-use Rattle.mm_reader.specs.declared.array.ArrayPlace.{ArrayPlace}
 use Rattle.mm_reader.specs.declared.machine.Phase.{Phase}
 use Rattle.mm_reader.specs.declared.machine.Phase.TheVariants as phases
+use Rattle.mm_reader.specs.declared.machine.Position.{Position}
+use Rattle.mm_reader.specs.declared.machine.Preamble.{Preamble}
 
-pub room_within : (h : Header) (s : Size) (done : ℕ) (next : ArrayPlace) (t : Entries) → HasRoom h s done next t → AreWithinLimits t
-room_within h s done next t room =
+pub room_within : (b : Preamble) (at : Position) (t : Entries) → HasRoom b at t → AreWithinLimits t
+room_within b at t room =
     let rows = room.rows in
     let cols = room.cols in
     let few = room.few in
@@ -27,4 +26,4 @@ pub complete_within : (end : End) (phase : Phase) (t : Entries) → IsReady phas
 complete_within File phase t ready is = absurd cc
 complete_within LastEntry phases.Banner t ready is = absurd cc
 complete_within LastEntry (phases.Sizes h) t ready is = absurd cc
-complete_within LastEntry (phases.Entries h s done next) t ready is = room_within h s done next t ready
+complete_within LastEntry (phases.Entries b at) t ready is = room_within b at t ready

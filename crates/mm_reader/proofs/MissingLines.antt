@@ -30,6 +30,6 @@ pub lacks_lines : (end : End) (phase : Phase) (t : entries.Entries) (ls : List (
 lacks_lines File phase t ls l e = tt
 lacks_lines LastEntry phases.Banner t ls l e = λ none. let k = rw l.phase_is at none in cc
 lacks_lines LastEntry (phases.Sizes h) t ls l e = λ none. let k = rw l.phase_is.1 at none in cc
-lacks_lines LastEntry (phases.Entries h s done p) t ls l e =
-    let ne : done ≢ s.count = λ x. let y = eq-eqb done s.count x in cc in
-    too_few ls l.phase_is.1.size_line l.phase_is.1.entry_lines l.phase_is.1.later_are (few_entries h s done t ls l.phase_is.0 l.phase_is.1 ne)
+lacks_lines LastEntry (phases.Entries b at) t ls l e =
+    let ne : at.done ≢ b.size.count = λ x. let y = eq-eqb at.done b.size.count x in cc in
+    too_few ls l.phase_is.1.size_line l.phase_is.1.entry_lines l.phase_is.1.later_are (few_entries b.header b.size at.done t ls l.phase_is.0 l.phase_is.1 ne)

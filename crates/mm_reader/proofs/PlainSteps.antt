@@ -2,18 +2,16 @@
 use Rattle.std.proofs.Common.{◌≡◌, ℕ, ◌+◌, ◌-◌, ◌<◌, ◌≤◌, true, false, List, [], ◌∷◌, ◌++◌, length, take, drop, get_or, refl, sym, ap, subst, ◌∙◌, arith, append-nil, append_assoc, take-append-drop, take-add, length-append, drop-drop, ne_eqb}
 use Rattle.mm_defs.specs.declared.answers.End.{End}
 use Rattle.mm_defs.specs.declared.answers.End.TheVariants.{File, LastEntry}
-use Rattle.mm_defs.specs.declared.header.Header.{Header}
-use Rattle.mm_defs.specs.declared.header.Size.{Size}
 use Rattle.mm_defs.specs.Words.{lines, open_line}
 use Rattle.sp_ids.specs.Entries as entries
-use Rattle.mm_reader.specs.declared.array.ArrayPlace.{ArrayPlace}
 use Rattle.mm_reader.specs.declared.machine.Machine.{Machine}
-use Rattle.mm_reader.specs.declared.machine.Phase.{Phase}
 use Rattle.mm_reader.specs.declared.machine.Phase.TheVariants as phases
+use Rattle.mm_reader.specs.declared.machine.Position.{Position}
+use Rattle.mm_reader.specs.declared.machine.Preamble.{Preamble}
 use Rattle.mm_reader.specs.declared.machine.Stop.{Stop}
 use Rattle.mm_reader.specs.declared.machine.Stop.TheVariants as stops
 use Rattle.std.proofs.Common.{Result, Ok, Err}
-use Rattle.mm_reader.specs.Machine.{HasRoom, IsReady, Steps, TakesLine, is_complete}
+use Rattle.mm_reader.specs.Machine.{HasRoom, IsReady, StepsTo, TakesLine, is_complete}
 use Rattle.mm_reader.specs.Plain.{AwaitsPlain, IsWholeLine, between}
 use Rattle.mm_reader.specs.Stages.{begun_lines, GoesOn, Halts, IsAfter, StopsIn, StopsWithin}
 use Rattle.mm_reader.proofs.PlainLaws.{whole_line, whole_closed_line, between_join, between-none, between-push, split_at}
@@ -30,20 +28,20 @@ stays m piece at h ready = record {
 }
 
 -- a whole line of the matrix
-module _ (m : Machine) (h : Header) (s : Size) (done : ℕ) (place : ArrayPlace) (w : AwaitsPlain m h s done place) (piece : List ℕ) (at next : ℕ) (text : List ℕ) (p : IsWholeLine piece at next text) (t : entries.Entries) where
-  abbrev Shown : Result Phase Stop → Type 0
-  Shown result = (end : End) → TakesLine h s done m.triples (m.number + 1) end text t result
+module _ (m : Machine) (b : Preamble) (before : Position) (w : AwaitsPlain m b before) (piece : List ℕ) (at next : ℕ) (text : List ℕ) (p : IsWholeLine piece at next text) (t : entries.Entries) where
+  abbrev Shown : Result Position Stop → Type 0
+  Shown result = (end : End) → TakesLine b before m.triples (m.number + 1) end text t result
 
   closed_is : (end : End) (bytes : List ℕ) → IsAfter end m bytes → open_line bytes ≡ []
   closed_is end bytes a = empty_of (open_line bytes) (sym a.begun_is ∙ w.closed)
 
-  shown_at : (result : Result Phase Stop) → Shown result → (end : End) (bytes : List ℕ) → IsAfter end m bytes → Steps end (lines false bytes ++ text ∷ []) t result
+  shown_at : (result : Result Position Stop) → Shown result → (end : End) (bytes : List ℕ) → IsAfter end m bytes → StepsTo b end (lines false bytes ++ text ∷ []) t result
   shown_at result f end bytes a =
       let k = rw w.phase_is at a.lines_are.phase_is in
       f end (lines false bytes) k.0 k.1 a.lines_are.good (ap (λ n. n + 1) a.number_is)
 
-  pub plain_goes : (phase : Phase) → IsReady phase t → Shown (Ok phase) → GoesOn m (record { phase = phase; number = m.number + 1; triples = t; begun = m.begun; line = m.line }) piece at next
-  plain_goes phase ready f = record {
+  pub plain_goes : (after : Position) → HasRoom b after t → Shown (Ok after) → GoesOn m (record { phase = phases.Entries b after; number = m.number + 1; triples = t; begun = m.begun; line = m.line }) piece at next
+  plain_goes after ready f = record {
     in_order = omega (arith, p.in_order);
     within = p.within;
     number = omega (arith, p.in_order);
@@ -51,11 +49,11 @@ module _ (m : Machine) (h : Header) (s : Size) (done : ℕ) (place : ArrayPlace)
     closed = λ end out full. w.closed;
     stands = λ end bytes a out.
         let o = closed_is end bytes a in
-        let r = shown_at (Ok phase) f end bytes a in
+        let r = shown_at (Ok after) f end bytes a in
         let e = whole_line bytes text o p.no_lf in
         let c = whole_closed_line bytes text in
         let n : m.number + 1 ≡ length (lines false bytes ++ text ∷ []) = ap (λ k. k + 1) a.number_is ∙ sym (length-append (lines false bytes) (text ∷ [])) in
-        subst (λ (x : List ℕ). IsAfter end (record { phase = phase; number = m.number + 1; triples = t; begun = m.begun; line = m.line }) (bytes ++ x)) (sym p.line_is)
+        subst (λ (x : List ℕ). IsAfter end (record { phase = phases.Entries b after; number = m.number + 1; triples = t; begun = m.begun; line = m.line }) (bytes ++ x)) (sym p.line_is)
         (record {
           lines_are = rw e r;
           number_is = rw e n;
@@ -126,15 +124,9 @@ stops_piece end stop bytes piece at s = record {
 
 -- ---- line behind line
 
-pub open_entries : (end : End) (h : Header) (s : Size) (done : ℕ) (p : ArrayPlace) → done < s.count → is_complete end (phases.Entries h s done p) ≡ false
-open_entries File h s done p low = refl
-open_entries LastEntry h s done p low = ne_eqb done s.count (omega arith)
-
-pub open_machine : (m : Machine) (h : Header) (s : Size) (done : ℕ) (p : ArrayPlace) → AwaitsPlain m h s done p → done < s.count → (end : End) → is_complete end m.phase ≡ false
-open_machine m h s done p w low end = ap (is_complete end) w.phase_is ∙ open_entries end h s done p low
-
-pub room_at : (m : Machine) (h : Header) (s : Size) (done : ℕ) (p : ArrayPlace) → AwaitsPlain m h s done p → IsReady m.phase m.triples → HasRoom h s done p m.triples
-room_at m h s done p w ready = rw w.phase_is at ready
+pub open_entries : (end : End) (b : Preamble) (at : Position) → at.done < b.size.count → is_complete end (phases.Entries b at) ≡ false
+open_entries File b at low = refl
+open_entries LastEntry b at low = ne_eqb at.done b.size.count (omega arith)
 
 pub goes_then : (a b c : Machine) (piece : List ℕ) (from mid to : ℕ) → GoesOn a b piece from mid → GoesOn b c piece mid to → ((end : End) → is_complete end b.phase ≡ false) → GoesOn a c piece from to
 goes_then a b c piece from mid to f g out = record {

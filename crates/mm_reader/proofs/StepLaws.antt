@@ -13,12 +13,17 @@ use Rattle.mm_defs.specs.Faults.{Rule, first_kind, banner_rules, size_rules, ent
 use Rattle.mm_defs.specs.File.{Fault, fault_by, header_of, later_lines, line_faults, trailing, with_mirrors, items, last_number}
 use Rattle.mm_defs.proofs.Roles.{line_at, later_lines-push, later_lines-push_skipped, banner_comes, skipped_comes, size_comes, entry_comes, trailing_comes}
 use Rattle.mm_reader.specs.declared.array.ArrayPlace.{ArrayPlace}
+use Rattle.mm_reader.specs.declared.machine.Phase.{Phase}
 use Rattle.mm_reader.specs.declared.machine.Phase.TheVariants as phases
 use Rattle.mm_reader.specs.Additions.{with_entries}
 use Rattle.mm_reader.specs.ArrayPlaces.{said_next}
 use Rattle.mm_reader.specs.Judged.{IsWithin}
 use Rattle.mm_reader.specs.Machine.{HasBanner, HasEntries, HasLines, is_complete}
 use Rattle.mm_reader.proofs.ArrayLaws.{in_places, items-none, items-push}
+
+-- the phase behind the size line
+abbrev pub entries_phase : Header → Size → ℕ → ArrayPlace → Phase
+entries_phase h s done next = phases.Entries (record { header = h; size = s }) (record { done = done; place = next })
 
 none_fault : (rules : List Word → List Rule) (l : Line) → first_kind (rules l.words) ≡ None → fault_by rules l ≡ []
 none_fault rules l h = rw h refl
@@ -79,8 +84,8 @@ module _ (end : End) (ls : List (List ℕ)) (l : List ℕ) (h : Header) (n : ℕ
     last = λ c. absurd (sizes_open end h c);
   }
 
-  pub entries_skipped : (s : Size) (done : ℕ) (p : ArrayPlace) (t : entries.Entries) → HasEntries h s done t (later_lines ls) → is_complete end (phases.Entries h s done p) ≡ false → is_skipped (words l) ≡ true
-      → HasLines end (phases.Entries h s done p) t (ls ++ l ∷ [])
+  pub entries_skipped : (s : Size) (done : ℕ) (p : ArrayPlace) (t : entries.Entries) → HasEntries h s done t (later_lines ls) → is_complete end (entries_phase h s done p) ≡ false → is_skipped (words l) ≡ true
+      → HasLines end (entries_phase h s done p) t (ls ++ l ∷ [])
   entries_skipped s done p t has out e = record {
     phase_is = (banner_stays, subst (λ (x : List Line). HasEntries h s done t x) (sym (later_skipped e)) has);
     good = faults_skipped e;
@@ -103,7 +108,7 @@ module _ (end : End) (ls : List (List ℕ)) (l : List ℕ) (h : Header) (n : ℕ
         k ∙ ap (λ (t : List Fault). t ++ fault_by (size_rules (header (words b.first))) (line_at n l)) good ∙ ap (λ (x : Header). fault_by (size_rules x) (line_at n l)) (sym b.header_is)
 
     pub size_good : (s : Size) (p : ArrayPlace) → later_lines ls ≡ [] → first_kind (size_rules h (words l)) ≡ None → s ≡ size h (words l)
-        → HasLines end (phases.Entries h s 0 p) (record { rows = s.rows; cols = s.cols; field = h.field; items = [] }) (ls ++ l ∷ [])
+        → HasLines end (entries_phase h s 0 p) (record { rows = s.rows; cols = s.cols; field = h.field; items = [] }) (ls ++ l ∷ [])
     size_good s p none first is = record {
       phase_is = (
         banner_stays,
@@ -164,7 +169,7 @@ module _ (end : End) (ls : List (List ℕ)) (l : List ℕ) (h : Header) (n : ℕ
 
       pub entry_good : (p : ArrayPlace) (after : entries.Entries) → IsWithin h s → done < s.count → first_kind (entry_rules h s (words l)) ≡ None
           → after ≡ with_entries t added
-          → HasLines end (phases.Entries h s (done + 1) p) after (ls ++ l ∷ [])
+          → HasLines end (entries_phase h s (done + 1) p) after (ls ++ l ∷ [])
       entry_good p after within low first is = record {
         phase_is = (
           banner_stays,
@@ -193,10 +198,10 @@ module _ (end : End) (ls : List (List ℕ)) (l : List ℕ) (h : Header) (n : ℕ
           rw b.lines_are (trailing_comes end b.first b.others l n kept length_at has.size_line has.entry_lines later_at (sym has.done_is ∙ full ∙ c)) in
           k ∙ ap (λ (x : List Fault). x ++ trailing end (line_at n l ∷ [])) good
 
-      pub line_trails : (p : ArrayPlace) → done ≡ s.count → is_complete end (phases.Entries h s done p) ≡ false
+      pub line_trails : (p : ArrayPlace) → done ≡ s.count → is_complete end (entries_phase h s done p) ≡ false
           → (line_faults end (ls ++ l ∷ []) ≡ record { line = n; kind = Trailing } ∷ []) × (n ≡ length (ls ++ l ∷ []))
       line_trails p full out = (trailing_faults full ∙ by end out, number_is)
         where
-          by : (e : End) → is_complete e (phases.Entries h s done p) ≡ false → trailing e (line_at n l ∷ []) ≡ record { line = n; kind = Trailing } ∷ []
+          by : (e : End) → is_complete e (entries_phase h s done p) ≡ false → trailing e (line_at n l ∷ []) ≡ record { line = n; kind = Trailing } ∷ []
           by File o = refl
           by LastEntry o = let k : (done == s.count) ≡ true = eq-eqb done s.count full in absurd cc

@@ -8,9 +8,10 @@ use Rattle.mm_defs.specs.declared.header.Size.{Size}
 use Rattle.mm_defs.specs.Words.{Line, words}
 use Rattle.mm_defs.specs.Header.{header, size}
 use Rattle.mm_defs.specs.File.{later_lines, line_faults, items, last_number}
-use Rattle.mm_reader.specs.declared.array.ArrayPlace.{ArrayPlace}
 use Rattle.mm_reader.specs.declared.machine.Phase.{Phase}
 use Rattle.mm_reader.specs.declared.machine.Phase.TheVariants as phases
+use Rattle.mm_reader.specs.declared.machine.Position.{Position}
+use Rattle.mm_reader.specs.declared.machine.Preamble.{Preamble}
 use Rattle.mm_reader.specs.declared.machine.Stop.{Stop}
 use Rattle.mm_reader.specs.declared.machine.Stop.TheVariants as stops
 use Rattle.mm_reader.specs.Judged.{IsHeader, IsWithin}
@@ -45,15 +46,15 @@ pub record HasEntries (h : Header) (s : Size) (done : ℕ) (t : entries.Entries)
 abbrev pub IsPhase : Phase → entries.Entries → List (List ℕ) → Type 0
 IsPhase phases.Banner t ls = ls ≡ []
 IsPhase (phases.Sizes h) t ls = HasBanner h ls × (later_lines ls ≡ [])
-IsPhase (phases.Entries h s done next) t ls = HasBanner h ls
-    × HasEntries h s done t (later_lines ls)
+IsPhase (phases.Entries b at) t ls = HasBanner b.header ls
+    × HasEntries b.header b.size at.done t (later_lines ls)
 
 -- the matrix is read and what follows is not judged
 abbrev pub is_complete : End → Phase → Bool
 is_complete File phase = false
 is_complete LastEntry phases.Banner = false
 is_complete LastEntry (phases.Sizes h) = false
-is_complete LastEntry (phases.Entries h s done next) = done == s.count
+is_complete LastEntry (phases.Entries b at) = at.done == b.size.count
 
 -- ---- what one more line does
 
@@ -75,27 +76,32 @@ abbrev pub Steps : End → List (List ℕ) → entries.Entries → Result Phase 
 Steps end ls t (Ok phase) = HasLines end phase t ls
 Steps end ls t (Err stop) = StopsAt end ls stop
 
+-- the same, where the phase is behind the size line
+abbrev pub StepsTo : Preamble → End → List (List ℕ) → entries.Entries → Result Position Stop
+    → Type 0
+StepsTo b end ls t (Ok next) = HasLines end (phases.Entries b next) t ls
+StepsTo b end ls t (Err stop) = StopsAt end ls stop
+
 -- Such a line comes behind the size line and so many lines of the matrix, and no line was bad before it.
-abbrev pub TakesLine : Header → Size → ℕ → entries.Entries → ℕ → End → List ℕ → entries.Entries
-    → Result Phase Stop → Type 0
-TakesLine h s done before number end line after result = (ls : List (List ℕ)) → HasBanner h ls
-    → HasEntries h s done before (later_lines ls) → line_faults end ls ≡ []
-    → number ≡ length ls + 1 → Steps end (ls ++ line ∷ []) after result
+abbrev pub TakesLine : Preamble → Position → entries.Entries → ℕ → End → List ℕ → entries.Entries
+    → Result Position Stop → Type 0
+TakesLine b at before number end line after result = (ls : List (List ℕ)) → HasBanner b.header ls
+    → HasEntries b.header b.size at.done before (later_lines ls) → line_faults end ls ≡ []
+    → number ≡ length ls + 1 → StepsTo b end (ls ++ line ∷ []) after result
 
 -- ---- what the code keeps of its own, whatever the lines were
 
-pub record HasRoom (h : Header) (s : Size) (done : ℕ) (next : ArrayPlace)
-    (t : entries.Entries) : Type 0 where
-  pub header : IsHeader h
-  pub within : IsWithin h s
-  pub in_count : done ≤ s.count
-  pub next_is : IsNext h s done next
-  pub rows : t.rows ≡ s.rows
-  pub cols : t.cols ≡ s.cols
-  pub field : t.field ≡ h.field
-  pub few : length t.items ≤ 2 * done
+pub record HasRoom (b : Preamble) (at : Position) (t : entries.Entries) : Type 0 where
+  pub header : IsHeader b.header
+  pub within : IsWithin b.header b.size
+  pub in_count : at.done ≤ b.size.count
+  pub next_is : IsNext b.header b.size at.done at.place
+  pub rows : t.rows ≡ b.size.rows
+  pub cols : t.cols ≡ b.size.cols
+  pub field : t.field ≡ b.header.field
+  pub few : length t.items ≤ 2 * at.done
 
 abbrev pub IsReady : Phase → entries.Entries → Type 0
 IsReady phases.Banner t = Unit {0}
 IsReady (phases.Sizes h) t = IsHeader h
-IsReady (phases.Entries h s done next) t = HasRoom h s done next t
+IsReady (phases.Entries b at) t = HasRoom b at t

@@ -6,12 +6,11 @@ use Rattle.std.specs.List.{slice_split}
 use Rattle.sp_ids.specs.declared.triples.Field.{Field}
 use Rattle.mm_defs.specs.Numbers.{value, is_number, number, is_negative}
 use Rattle.mm_defs.specs.Words.{Word, is_lf, is_blank, has_bytes, word, words}
-use Rattle.mm_defs.specs.declared.header.Header.{Header}
-use Rattle.mm_defs.specs.declared.header.Size.{Size}
 use Rattle.mm_defs.specs.Header.{value_words, is_integer_field}
-use Rattle.mm_reader.specs.declared.array.ArrayPlace.{ArrayPlace}
 use Rattle.mm_reader.specs.declared.machine.Machine.{Machine}
 use Rattle.mm_reader.specs.declared.machine.Phase.TheVariants as phases
+use Rattle.mm_reader.specs.declared.machine.Position.{Position}
+use Rattle.mm_reader.specs.declared.machine.Preamble.{Preamble}
 use Rattle.mm_reader.specs.declared.number.Integer.{Integer}
 use Rattle.mm_reader.specs.declared.plain.PlainLine.{PlainLine}
 use Rattle.mm_reader.specs.declared.plain.PlainValue.{PlainValue}
@@ -129,7 +128,6 @@ pub record IsPlainValue (bytes : List ℕ) (from : ℕ) (p : PlainValue) : Type 
   pub reads : ReadsInteger word (Some p.value)
 
 -- entries are to come, and no line has begun
-pub record AwaitsPlain (m : Machine) (h : Header) (s : Size) (done : ℕ)
-    (next : ArrayPlace) : Type 0 where
-  pub phase_is : m.phase ≡ phases.Entries h s done next
+pub record AwaitsPlain (m : Machine) (b : Preamble) (at : Position) : Type 0 where
+  pub phase_is : m.phase ≡ phases.Entries b at
   pub closed : m.begun ≡ false

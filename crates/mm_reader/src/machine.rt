@@ -13,8 +13,7 @@ ghost use Rattle.mm_reader.specs.Machine.{HasBanner, HasLines, HasRoom, IsReady,
 ghost use Rattle.mm_reader.specs.Stages.{begun_lines, IsBetween, IsAfter, IsAll, GoesOn, Halts, Lacks, StopsIn, StopsWithin, StopsAtEnd};
 ghost use Rattle.mm_reader.specs.Additions.{with_entries};
 ghost use Rattle.mm_reader.specs.Plain.{AwaitsPlain, IsPlainLine, IsPlainValue};
-ghost use Rattle.mm_reader.specs.ArrayPlaces.{array_place, place_of};
-ghost use Rattle.mm_defs.specs.Arrays.{following};
+ghost use Rattle.mm_reader.specs.ArrayPlaces.{place_of};
 
 use crate::array::{ArrayPlace, first_place, following};
 use crate::judge::{
@@ -32,17 +31,23 @@ pub enum Phase {
     /// None.
     Banner,
     /// The banner, and no size line yet.
-    Sizes {
-        header: Header,
-    },
-    /// The size line, and so many entry lines or value lines. The place is that of the next value
-    /// of an array file.
-    Entries {
-        header: Header,
-        size: Size,
-        done: u32,
-        place: ArrayPlace,
-    },
+    Sizes { header: Header },
+    /// The size line, and lines of the matrix.
+    Entries { preamble: Preamble, at: Position },
+}
+
+/// What the banner and the size line said.
+#[derive(Clone, Copy, Debug, PartialEq, Eq)]
+pub struct Preamble {
+    pub header: Header,
+    pub size: Size,
+}
+
+/// How many entry lines or value lines have come, and the place of the next value of an array file.
+#[derive(Clone, Copy, Debug, PartialEq, Eq)]
+pub struct Position {
+    pub done: u32,
+    pub place: ArrayPlace,
 }
 
 /// Why the machine stopped.
@@ -63,7 +68,7 @@ pub fn is_complete(end: End, phase: Phase) -> bool
         End::LastEntry => match phase {
             Phase::Banner => false,
             Phase::Sizes { .. } => false,
-            Phase::Entries { size, done, .. } => done == size.count,
+            Phase::Entries { preamble, at } => at.done == preamble.size.count,
         },
     }
 }
@@ -109,164 +114,145 @@ fn after_size(
         Ok(empty) => *triples = empty,
     }
     Ok(Phase::Entries {
-        header,
-        size,
-        done: 0,
-        place: first_place(header.symmetry),
+        preamble: Preamble { header, size },
+        at: Position {
+            done: 0,
+            place: first_place(header.symmetry),
+        },
     })
 }
 
-/// A line behind the size line has come.
+/// A line behind the size line has come. It gives the position behind it.
 fn after_line(
-    header: Header,
-    size: Size,
-    done: u32,
-    place: ArrayPlace,
+    preamble: Preamble,
+    at: Position,
     line: &LineSoFar,
     number: u64,
     triples: &mut Triples,
-) -> Result<Phase, Stop>
-    requires { HasRoom header size done place triples.old }
+) -> Result<Position, Stop>
+    requires { HasRoom preamble at triples.old }
     ensures steps { (end : End) (bytes : List ℕ)
         → IsLine line.now bytes
-        → is_complete end (Phase.Entries header size done place) ≡ false
-        → TakesLine header size done triples.old number end bytes triples.new result }
-    ensures ready { IfOk result (λ phase. IsReady phase triples.new) }
+        → is_complete end (Phase.Entries preamble at) ≡ false
+        → TakesLine preamble at triples.old number end bytes triples.new result }
+    ensures ready { IfOk result (λ next. HasRoom preamble next triples.new) }
 {
     if line.is_skipped() {
-        return Ok(Phase::Entries {
-            header,
-            size,
-            done,
-            place,
-        });
+        return Ok(at);
     }
-    if done == size.count {
+    if at.done == preamble.size.count {
         return Err(Stop::Bad {
             line: number,
             kind: Kind::Trailing,
         });
     }
-    match header.format {
-        Format::Coordinate => after_entry(header, size, done, place, line, number, triples),
-        Format::Array => after_value(header, size, done, place, line, number, triples),
+    match preamble.header.format {
+        Format::Coordinate => after_entry(preamble, at, line, number, triples),
+        Format::Array => after_value(preamble, at, line, number, triples),
     }
 }
 
-/// An entry line has come.
+/// An entry line has come. It gives the position behind it.
 fn after_entry(
-    header: Header,
-    size: Size,
-    done: u32,
-    place: ArrayPlace,
+    preamble: Preamble,
+    at: Position,
     line: &LineSoFar,
     number: u64,
     triples: &mut Triples,
-) -> Result<Phase, Stop>
-    requires room { HasRoom header size done place triples.old }
-    requires low { done < size.count }
-    requires format { header.format ≡ Format.Coordinate }
+) -> Result<Position, Stop>
+    requires room { HasRoom preamble at triples.old }
+    requires low { at.done < preamble.size.count }
+    requires format { preamble.header.format ≡ Format.Coordinate }
     ensures steps { (end : End) (bytes : List ℕ)
         → IsLine line.now bytes
         → is_skipped (words bytes) ≡ false
-        → TakesLine header size done triples.old number end bytes triples.new result }
-    ensures ready { IfOk result (λ phase. IsReady phase triples.new) }
+        → TakesLine preamble at triples.old number end bytes triples.new result }
+    ensures ready { IfOk result (λ next. HasRoom preamble next triples.new) }
 {
-    match judge_entry(header, size, line) {
+    match judge_entry(preamble.header, preamble.size, line) {
         Err(kind) => Err(Stop::Bad { line: number, kind }),
-        Ok(entry) => keep_entry(header, size, done, place, entry, triples),
+        Ok(entry) => keep_entry(preamble, at, entry, triples),
     }
 }
 
-/// A value line has come.
+/// A value line has come. It gives the position behind it.
 fn after_value(
-    header: Header,
-    size: Size,
-    done: u32,
-    place: ArrayPlace,
+    preamble: Preamble,
+    at: Position,
     line: &LineSoFar,
     number: u64,
     triples: &mut Triples,
-) -> Result<Phase, Stop>
-    requires room { HasRoom header size done place triples.old }
-    requires low { done < size.count }
-    requires format { header.format ≡ Format.Array }
+) -> Result<Position, Stop>
+    requires room { HasRoom preamble at triples.old }
+    requires low { at.done < preamble.size.count }
+    requires format { preamble.header.format ≡ Format.Array }
     ensures steps { (end : End) (bytes : List ℕ)
         → IsLine line.now bytes
         → is_skipped (words bytes) ≡ false
-        → TakesLine header size done triples.old number end bytes triples.new result }
-    ensures ready { IfOk result (λ phase. IsReady phase triples.new) }
+        → TakesLine preamble at triples.old number end bytes triples.new result }
+    ensures ready { IfOk result (λ next. HasRoom preamble next triples.new) }
 {
-    match judge_value(header, line) {
+    match judge_value(preamble.header, line) {
         Err(kind) => Err(Stop::Bad { line: number, kind }),
-        Ok(value) => keep_value(header, size, done, place, value, triples),
+        Ok(value) => keep_value(preamble, at, value, triples),
     }
 }
 
-/// Keeps an entry line's entry.
+/// Keeps an entry line's entry. It gives the position behind it.
 #[inline(always)]
 fn keep_entry(
-    header: Header,
-    size: Size,
-    done: u32,
-    place: ArrayPlace,
+    preamble: Preamble,
+    at: Position,
     entry: Entry,
     triples: &mut Triples,
-) -> Result<Phase, Stop>
-    requires room { HasRoom header size done place triples.old }
-    requires low { done < size.count }
-    requires format { header.format ≡ Format.Coordinate }
-    requires row { entry.row < size.rows }
-    requires col { entry.col < size.cols }
-    requires value { is_integer_field header.field ≡ false → entry.value ≡ pos 0 }
+) -> Result<Position, Stop>
+    requires room { HasRoom preamble at triples.old }
+    requires low { at.done < preamble.size.count }
+    requires format { preamble.header.format ≡ Format.Coordinate }
+    requires row { entry.row < preamble.size.rows }
+    requires col { entry.col < preamble.size.cols }
+    requires value { is_integer_field preamble.header.field ≡ false → entry.value ≡ pos 0 }
     requires small { nat_abs entry.value ≤ max_value }
     ensures entries { OnOk result
         (triples.new ≡ with_entries triples.old
-        (triple_of entry ∷ mirror header.symmetry (triple_of entry))) }
-    ensures ready { IfOk result (λ phase. IsReady phase triples.new) }
-    ensures phase { IfOk result (λ phase. phase ≡ Phase.Entries header size (done + 1) place) }
+        (triple_of entry ∷ mirror preamble.header.symmetry (triple_of entry))) }
+    ensures ready { IfOk result (λ next. HasRoom preamble next triples.new) }
+    ensures done { IfOk result (λ next. next.done ≡ at.done + 1) }
     ensures err { IfErr result (λ stop. stop ≡ Stop.Memory) }
 {
-    match add(header.symmetry, entry, triples) {
+    match add(preamble.header.symmetry, entry, triples) {
         Err(_) => Err(Stop::Memory),
-        Ok(()) => Ok(Phase::Entries {
-            header,
-            size,
-            done: done + 1,
-            place,
+        Ok(()) => Ok(Position {
+            done: at.done + 1,
+            place: at.place,
         }),
     }
 }
 
-/// Keeps the value of the next place of an array file.
+/// Keeps the value of the next place of an array file. It gives the position behind it.
 #[inline(always)]
 fn keep_value(
-    header: Header,
-    size: Size,
-    done: u32,
-    place: ArrayPlace,
+    preamble: Preamble,
+    at: Position,
     value: i64,
     triples: &mut Triples,
-) -> Result<Phase, Stop>
-    requires room { HasRoom header size done place triples.old }
-    requires low { done < size.count }
-    requires format { header.format ≡ Format.Array }
+) -> Result<Position, Stop>
+    requires room { HasRoom preamble at triples.old }
+    requires low { at.done < preamble.size.count }
+    requires format { preamble.header.format ≡ Format.Array }
     requires small { nat_abs value ≤ max_value }
     ensures entries { OnOk result
         (triples.new ≡ with_entries triples.old
-        (with_mirrors header.symmetry (placed (place_of place) value))) }
-    ensures ready { IfOk result (λ phase. IsReady phase triples.new) }
-    ensures phase { IfOk result (λ phase. phase ≡ Phase.Entries header size (done + 1)
-        (array_place (following header.symmetry size.rows (place_of place)))) }
+        (with_mirrors preamble.header.symmetry (placed (place_of at.place) value))) }
+    ensures ready { IfOk result (λ next. HasRoom preamble next triples.new) }
+    ensures done { IfOk result (λ next. next.done ≡ at.done + 1) }
     ensures err { IfErr result (λ stop. stop ≡ Stop.Memory) }
 {
-    match add_value(header.symmetry, place, value, triples) {
+    match add_value(preamble.header.symmetry, at.place, value, triples) {
         Err(_) => Err(Stop::Memory),
-        Ok(()) => Ok(Phase::Entries {
-            header,
-            size,
-            done: done + 1,
-            place: following(header.symmetry, size.rows, place),
+        Ok(()) => Ok(Position {
+            done: at.done + 1,
+            place: following(preamble.header.symmetry, preamble.size.rows, at.place),
         }),
     }
 }
@@ -375,12 +361,10 @@ fn next_phase(
     match phase {
         Phase::Banner => after_banner(line),
         Phase::Sizes { header } => after_size(alloc, header, line, number, triples),
-        Phase::Entries {
-            header,
-            size,
-            done,
-            place,
-        } => after_line(header, size, done, place, line, number, triples),
+        Phase::Entries { preamble, at } => {
+            let at = after_line(preamble, at, line, number, triples)?;
+            Ok(Phase::Entries { preamble, at })
+        }
     }
 }
 
@@ -431,70 +415,66 @@ fn take(alloc: Global, m: &mut Machine, byte: u8) -> Result<(), Stop>
 
 /// Where entries are to come and no line has begun, what the banner and the size line said, how
 /// many lines of the matrix have come, and the place of the next value.
-fn awaits_plain(m: &Machine) -> Option<(Header, Size, u32, ArrayPlace)>
-    ensures { IfSome result (λ x. AwaitsPlain m.now x.0 x.1 x.2 x.3) }
+fn awaits_plain(m: &Machine) -> Option<(Preamble, Position)>
+    ensures { IfSome result (λ x. AwaitsPlain m.now x.0 x.1) }
 {
     if m.begun {
         return None;
     }
     match m.phase {
-        Phase::Entries {
-            header,
-            size,
-            done,
-            place,
-        } => Some((header, size, done, place)),
+        Phase::Entries { preamble, at } => Some((preamble, at)),
         _ => None,
     }
 }
 
-/// An entry line of the usual form has come.
+/// An entry line of the usual form has come. It gives the position behind it.
 fn after_plain(
-    header: Header,
-    size: Size,
-    done: u32,
-    place: ArrayPlace,
+    preamble: Preamble,
+    at: Position,
     plain: PlainLine,
     number: u64,
     triples: &mut Triples,
-) -> Result<Phase, Stop>
-    requires room { HasRoom header size done place triples.old }
-    requires low { done < size.count }
-    requires format { header.format ≡ Format.Coordinate }
-    ensures steps { (end : End) (piece : List ℕ) (at : ℕ)
-        (p : IsPlainLine header.field piece at plain)
-        → TakesLine header size done triples.old number end p.line triples.new result }
-    ensures ready { IfOk result (λ phase. IsReady phase triples.new) }
-    ensures phase { IfOk result (λ phase. phase ≡ Phase.Entries header size (done + 1) place) }
+) -> Result<Position, Stop>
+    requires room { HasRoom preamble at triples.old }
+    requires low { at.done < preamble.size.count }
+    requires format { preamble.header.format ≡ Format.Coordinate }
+    ensures steps { (end : End) (piece : List ℕ) (from : ℕ)
+        (p : IsPlainLine preamble.header.field piece from plain)
+        → TakesLine preamble at triples.old number end p.line triples.new result }
+    ensures ready { IfOk result (λ next. HasRoom preamble next triples.new) }
+    ensures done { IfOk result (λ next. next.done ≡ at.done + 1) }
 {
-    match judge_place(header, size, plain.row, plain.col, Some(plain.value)) {
+    match judge_place(
+        preamble.header,
+        preamble.size,
+        plain.row,
+        plain.col,
+        Some(plain.value),
+    ) {
         Err(kind) => Err(Stop::Bad { line: number, kind }),
-        Ok(entry) => keep_entry(header, size, done, place, entry, triples),
+        Ok(entry) => keep_entry(preamble, at, entry, triples),
     }
 }
 
-/// A value line of the usual form has come.
+/// A value line of the usual form has come. It gives the position behind it.
 fn after_plain_value(
-    header: Header,
-    size: Size,
-    done: u32,
-    place: ArrayPlace,
+    preamble: Preamble,
+    at: Position,
     plain: PlainValue,
     number: u64,
     triples: &mut Triples,
-) -> Result<Phase, Stop>
-    requires room { HasRoom header size done place triples.old }
-    requires low { done < size.count }
-    requires format { header.format ≡ Format.Array }
-    ensures steps { (end : End) (piece : List ℕ) (at : ℕ) (p : IsPlainValue piece at plain)
-        → TakesLine header size done triples.old number end p.line triples.new result }
-    ensures ready { IfOk result (λ phase. IsReady phase triples.new) }
-    ensures phase { IfOk result (λ phase. phase ≡ Phase.Entries header size (done + 1)
-        (array_place (following header.symmetry size.rows (place_of place)))) }
+) -> Result<Position, Stop>
+    requires room { HasRoom preamble at triples.old }
+    requires low { at.done < preamble.size.count }
+    requires format { preamble.header.format ≡ Format.Array }
+    ensures steps { (end : End) (piece : List ℕ) (from : ℕ) (p : IsPlainValue piece from plain)
+        → TakesLine preamble at triples.old number end p.line triples.new result }
+    ensures ready { IfOk result (λ next. HasRoom preamble next triples.new) }
+    ensures done { IfOk result (λ next. next.done ≡ at.done + 1) }
 {
     match judge_integer(Some(plain.value)) {
         Err(kind) => Err(Stop::Bad { line: number, kind }),
-        Ok(value) => keep_value(header, size, done, place, value, triples),
+        Ok(value) => keep_value(preamble, at, value, triples),
     }
 }
 
@@ -510,25 +490,23 @@ fn take_plain(m: &mut Machine, piece: &[u8], at: usize) -> Result<usize, Stop>
 {
     match awaits_plain(m) {
         None => Ok(at),
-        Some((header, size, done, place)) => match header.format {
-            Format::Coordinate => take_entries(header, size, done, place, m, piece, at),
-            Format::Array => take_values(header, size, done, place, m, piece, at),
+        Some((preamble, position)) => match preamble.header.format {
+            Format::Coordinate => take_entries(preamble, position, m, piece, at),
+            Format::Array => take_values(preamble, position, m, piece, at),
         },
     }
 }
 
 /// Takes the entry lines of the usual form that begin here.
 fn take_entries(
-    header: Header,
-    size: Size,
-    before: u32,
-    place: ArrayPlace,
+    preamble: Preamble,
+    before: Position,
     m: &mut Machine,
     piece: &[u8],
     at: usize,
 ) -> Result<usize, Stop>
-    requires awaits { AwaitsPlain m.old header size before place }
-    requires format { header.format ≡ Format.Coordinate }
+    requires awaits { AwaitsPlain m.old preamble before }
+    requires format { preamble.header.format ≡ Format.Coordinate }
     requires place { at ≤ length piece.now }
     requires ready { IsReady m.old.phase m.old.triples }
     requires room { begun_lines m.old + (length piece.now - at) < 2 ^ 64 }
@@ -536,37 +514,35 @@ fn take_entries(
     ensures same { IfOk result (λ next. next ≡ at → m.new ≡ m.old) }
     ensures err { IfErr result (Halts m.old piece.now at) }
 {
-    let mut done = before;
+    let mut position = before;
     let mut next = at;
-    // The machine gets it once, and not line by line.
-    let mut phase = m.phase;
-    while done < size.count {
-        let plain = match plain_line(piece, next, header.field) {
+    while position.done < preamble.size.count {
+        let plain = match plain_line(piece, next, preamble.header.field) {
             None => break,
             Some(plain) => plain,
         };
         let number = m.number + 1;
-        phase = after_plain(header, size, done, place, plain, number, &mut m.triples)?;
+        position = after_plain(preamble, position, plain, number, &mut m.triples)?;
         m.number = number;
-        done += 1;
         next = plain.next;
     }
-    m.phase = phase;
+    m.phase = Phase::Entries {
+        preamble,
+        at: position,
+    };
     Ok(next)
 }
 
 /// Takes the value lines of the usual form that begin here.
 fn take_values(
-    header: Header,
-    size: Size,
-    before: u32,
-    first: ArrayPlace,
+    preamble: Preamble,
+    before: Position,
     m: &mut Machine,
     piece: &[u8],
     at: usize,
 ) -> Result<usize, Stop>
-    requires awaits { AwaitsPlain m.old header size before first }
-    requires format { header.format ≡ Format.Array }
+    requires awaits { AwaitsPlain m.old preamble before }
+    requires format { preamble.header.format ≡ Format.Array }
     requires place { at ≤ length piece.now }
     requires ready { IsReady m.old.phase m.old.triples }
     requires room { begun_lines m.old + (length piece.now - at) < 2 ^ 64 }
@@ -574,23 +550,22 @@ fn take_values(
     ensures same { IfOk result (λ next. next ≡ at → m.new ≡ m.old) }
     ensures err { IfErr result (Halts m.old piece.now at) }
 {
-    let mut done = before;
-    let mut place = first;
+    let mut position = before;
     let mut next = at;
-    let mut phase = m.phase;
-    while done < size.count {
+    while position.done < preamble.size.count {
         let plain = match plain_value(piece, next) {
             None => break,
             Some(plain) => plain,
         };
         let number = m.number + 1;
-        phase = after_plain_value(header, size, done, place, plain, number, &mut m.triples)?;
+        position = after_plain_value(preamble, position, plain, number, &mut m.triples)?;
         m.number = number;
-        done += 1;
-        place = following(header.symmetry, size.rows, place);
         next = plain.next;
     }
-    m.phase = phase;
+    m.phase = Phase::Entries {
+        preamble,
+        at: position,
+    };
     Ok(next)
 }
 
@@ -668,8 +643,8 @@ fn missing(phase: Phase, number: u64) -> Result<(), Stop>
             line: number,
             kind: Kind::NoSize,
         }),
-        Phase::Entries { size, done, .. } => {
-            if done < size.count {
+        Phase::Entries { preamble, at } => {
+            if at.done < preamble.size.count {
                 return Err(Stop::Bad {
                     line: number,
                     kind: Kind::MissingEntries,

@@ -4,15 +4,15 @@ use Rattle.mm_reader.proofs.machine.after_plain.Goals as goal
 
 pub returns-in-Err-clause-steps : goal.returns-in-Err-clause-steps
 returns-in-Err-clause-steps c end piece at p =
-    let kept = plain_kept c.args.header piece at c.args.plain p in
-    let j = plain_judged c.args.header piece at c.args.plain p c.args.size c.judge_place.result c.judge_place.ensures.judged in
-    entry_refused c.args.header c.args.size c.args.done c.args.place c.args.triples.now c.requires.room c.requires.low c.args.number end p.line kept c.requires.format
+    let kept = plain_kept c.args.preamble.header piece at c.args.plain p in
+    let j = plain_judged c.args.preamble.header piece at c.args.plain p c.args.preamble.size c.judge_place.result c.judge_place.ensures.judged in
+    entry_refused c.args.preamble c.args.at c.args.triples.now c.requires.room c.requires.low c.args.number end p.line kept c.requires.format
     c.in-Err.kind c.args.triples.now (rw c.in-Err.is at j)
 
 pub returns-in-Ok-clause-steps : goal.returns-in-Ok-clause-steps
 returns-in-Ok-clause-steps c end piece at p =
-    let kept = plain_kept c.args.header piece at c.args.plain p in
-    let j = plain_judged c.args.header piece at c.args.plain p c.args.size c.judge_place.result c.judge_place.ensures.judged in
+    let kept = plain_kept c.args.preamble.header piece at c.args.plain p in
+    let j = plain_judged c.args.preamble.header piece at c.args.plain p c.args.preamble.size c.judge_place.result c.judge_place.ensures.judged in
     let k = c.keep_entry.ensures in
-    entry_taken c.args.header c.args.size c.args.done c.args.place c.args.triples.now c.requires.room c.requires.low c.args.number end p.line kept c.requires.format
-    c.in-Ok.entry c.keep_entry.new.triples c.keep_entry.result (rw c.in-Ok.is at j) k.entries k.phase k.err
+    entry_taken c.args.preamble c.args.at c.args.triples.now c.requires.room c.requires.low c.args.number end p.line kept c.requires.format
+    c.in-Ok.entry c.keep_entry.new.triples c.keep_entry.result (rw c.in-Ok.is at j) k.entries k.done k.err

@@ -7,17 +7,17 @@ pub returns-in-Err-clause-steps : goal.returns-in-Err-clause-steps
 returns-in-Err-clause-steps c end piece at p =
     let r = c.requires.room in
     let kept = value_kept piece at c.args.plain p in
-    let j = line_judged piece at c.args.plain p c.args.header c.judge_integer.result (r.header (rw c.requires.format refl)) c.judge_integer.ensures.judged in
-    value_refused c.args.header c.args.size c.args.done c.args.place c.args.triples.now r c.requires.low c.args.number end p.line kept c.requires.format
+    let j = line_judged piece at c.args.plain p c.args.preamble.header c.judge_integer.result (r.header (rw c.requires.format refl)) c.judge_integer.ensures.judged in
+    value_refused c.args.preamble c.args.at c.args.triples.now r c.requires.low c.args.number end p.line kept c.requires.format
     c.in-Err.kind c.args.triples.now (rw c.in-Err.is at j)
 
 pub returns-in-Ok-clause-steps : goal.returns-in-Ok-clause-steps
 returns-in-Ok-clause-steps c end piece at p =
     let r = c.requires.room in
     let kept = value_kept piece at c.args.plain p in
-    let j = line_judged piece at c.args.plain p c.args.header c.judge_integer.result (r.header (rw c.requires.format refl)) c.judge_integer.ensures.judged in
+    let j = line_judged piece at c.args.plain p c.args.preamble.header c.judge_integer.result (r.header (rw c.requires.format refl)) c.judge_integer.ensures.judged in
     let f = rw c.in-Ok.is at j in
     let k = c.keep_value.ensures in
     let fits : SFits w64 c.in-Ok.value = search rules in
-    value_taken c.args.header c.args.size c.args.done c.args.place c.args.triples.now r c.requires.low c.args.number end p.line kept c.requires.format
-    _ (to_z w64 (of_z w64 c.in-Ok.value)) c.keep_value.new.triples c.keep_value.result f.0 (to_z-of_z fits ∙ f.1) k.entries k.phase k.err
+    value_taken c.args.preamble c.args.at c.args.triples.now r c.requires.low c.args.number end p.line kept c.requires.format
+    (to_z w64 (of_z w64 c.in-Ok.value)) c.keep_value.new.triples c.keep_value.result f.0 (to_z-of_z fits ∙ f.1) k.entries k.done k.err

@@ -1,15 +1,15 @@
-use Rattle.std.proofs.Common.{◌≡◌, ◌-◌}
+use Rattle.std.proofs.Common.{◌≡◌, ◌-◌, false}
 use Rattle.mm_reader.specs.declared.machine.Machine.{Machine}
-use Rattle.mm_reader.specs.Plain.{AwaitsPlain}
+use Rattle.mm_reader.specs.declared.machine.Phase.TheVariants as phases
 use Rattle.mm_reader.specs.Stages.{GoesOn}
 use Rattle.mm_reader.proofs.machine.take_entries.Given as goal
 
-abbrev pub invariant-loop-done : goal.invariant-loop-done
-invariant-loop-done l = record {
-  awaits : AwaitsPlain (record l.m { phase = l.phase }) l.header l.size l.done l.place;
-  goes : GoesOn l.fn.m (record l.m { phase = l.phase }) l.piece l.at l.next;
-  same : l.next ≡ l.at → ◌≡◌ {A = Machine} (record l.m { phase = l.phase }) l.fn.m;
+abbrev pub invariant-loop-position : goal.invariant-loop-position
+invariant-loop-position l = record {
+  closed : l.m.begun ≡ false;
+  goes : GoesOn l.fn.m (record l.m { phase = phases.Entries l.preamble l.position }) l.piece l.at l.next;
+  same : l.next ≡ l.at → ◌≡◌ {A = Machine} (record l.m { phase = phases.Entries l.preamble l.position }) l.fn.m;
 }
 
-abbrev pub decreases-loop-done : goal.decreases-loop-done
-decreases-loop-done l = l.size.count - l.done
+abbrev pub decreases-loop-position : goal.decreases-loop-position
+decreases-loop-position l = l.preamble.size.count - l.position.done
