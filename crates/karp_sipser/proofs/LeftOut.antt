@@ -24,7 +24,7 @@ pub record IsAfter (matched mate : ℕ) (ids : List ℕ) (others : Bool) (s t : 
   pub unit : t.unit ≡ s.unit
   pub some_long : t.some_long ≡ s.some_long
 
-either : (b : Bool) → (b ≡ true) ⊎ (b ≡ false)
+pub either : (b : Bool) → (b ≡ true) ⊎ (b ≡ false)
 either true = inl refl
 either false = inr refl
 
@@ -94,6 +94,19 @@ only_known a m s r c n x y sums free is_c is_r is_n word short =
 -- numbers that are the same
 pub after_at : (x y matched mate : ℕ) (ids : List ℕ) (others : Bool) (s t : NeighbourSums) → x ≡ matched → y ≡ mate → IsAfter x y ids others s t → IsAfter matched mate ids others s t
 after_at x y matched mate ids others s t is_x is_y after = subst (λ z. IsAfter matched z ids others s t) is_y (subst (λ z. IsAfter z y ids others s t) is_x after)
+
+-- where the list is that of the row if others may be unmatched
+pub after_wanted : (matched mate : ℕ) (ids all : List ℕ) (others : Bool) (s t : NeighbourSums) → (others ≡ true → ids ≡ all) → IsAfter matched mate ids others s t → IsAfter matched mate all others s t
+after_wanted matched mate ids all others s t same after = record {
+  left_out = λ more. subst (λ l. IsLeftOut matched mate l s t) (same more) (after.left_out more);
+  alone = after.alone;
+  kept = λ x ne off. elim (either others) [ inl more ↦ after.kept x ne (λ h. off (subst (λ l. Among x l) (same more) h)) | inr none ↦ after.alone none x ne ];
+  grows = after.grows;
+  bound = after.bound;
+  long = after.long;
+  unit = after.unit;
+  some_long = after.some_long;
+}
 
 pub ones_after : (a : Matrix) (p : Place) (old new : List Place) (ids : List ℕ) (others : Bool) (s t : NeighbourSums) → AreSums a old s → IsTaking a p old new ids others → IsAfter p.1 p.0 ids others s t
     → HoldsOnesBut p.1 a old s.of_one.members → HoldsOnes a new t.of_one.members

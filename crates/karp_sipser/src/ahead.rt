@@ -1,6 +1,6 @@
 //! Lists that are looked up before their turn.
 
-ghost use Rattle.std.specs.Prelude.{◌≡◌, ◌<◌, length, map};
+ghost use Rattle.std.specs.Prelude.{◌≡◌, ◌<◌, [], true, false, length, map};
 ghost use Rattle.bip_defs.specs.Matrix.{cols, column};
 ghost use Rattle.karp_sipser.specs.Ahead.{IsAhead};
 
@@ -58,13 +58,24 @@ pub fn look_again<'p, I: Id, S: Side<I>>(
     }
 }
 
-/// The list of this row or column, as it was looked up ahead or else is looked up now.
+/// The list of this row or column, as it was looked up ahead or else is looked up now. None of its
+/// entries where it is not wanted, and then nothing is looked up.
 #[inline(always)]
-pub fn list_of<'p, I: Id, S: Side<I>>(side: &'p S, ahead: Ahead<'p, I>, mate: u32) -> &'p [I]
+pub fn list_of<'p, I: Id, S: Side<I>>(
+    side: &'p S,
+    ahead: Ahead<'p, I>,
+    mate: u32,
+    wanted: bool,
+) -> &'p [I]
     requires ahead { IsAhead (S.matrix side.now) ahead.mate (map I.number ahead.ids.now) }
     requires in_range { mate < cols (S.matrix side.now) }
-    ensures { map I.number result.now ≡ column (S.matrix side.now) mate }
+    ensures wanted { wanted ≡ true
+        → map I.number result.now ≡ column (S.matrix side.now) mate }
+    ensures unwanted { wanted ≡ false → map I.number result.now ≡ [] }
 {
+    if !wanted {
+        return &[];
+    }
     if ahead.mate == mate {
         return ahead.ids;
     }

@@ -126,19 +126,20 @@ impl NeighbourSums {
         only_unmatched(matching, ids)
     }
 
-    /// Whether a vertex with a list of so many entries surely has this one unmatched neighbour
-    /// alone.
+    /// Whether an unmatched vertex surely has this one unmatched neighbour alone.
     #[inline(always)]
-    pub fn has_only(&self, vertex: u32, mate: u32, entries: usize) -> bool
-        requires vertex { vertex < length self.now.words.items }
+    pub fn has_only<I: Id, S: Side<I>>(&self, side: &S, vertex: u32, mate: u32) -> bool
+        requires vertex { vertex < cols (S.matrix side.now) }
+        requires long { length self.now.words.items ≡ cols (S.matrix side.now) }
         requires positive { 0 < self.now.unit }
         ensures word { IsTrue result
             → wrapping_sub (slice_index self.now.words.items vertex) self.now.unit ≡ mate }
         ensures short { IsTrue result
-            → (self.now.some_long ≡ false) ⊎ IsShort self.now.unit entries }
+            → (self.now.some_long ≡ false)
+            ⊎ IsShort self.now.unit (length (column (S.matrix side.now) vertex)) }
     {
         self.words[vertex as usize].wrapping_sub(self.unit) == mate
-            && !(self.some_long && is_long(entries, self.unit))
+            && !(self.some_long && is_long(side.rows_of(Col(vertex)).len(), self.unit))
     }
 
     /// Leaves out a vertex that is matched now, and its mate: those of `ids`, which are beside the

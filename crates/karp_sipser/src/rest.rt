@@ -94,10 +94,10 @@ impl<'p> Rest<'p> {
         let pattern = sides.pattern;
         pattern.is_pattern();
         self.matching.pair(row, col);
-        let beside_col = list_of(pattern, self.rows_ahead, col.0);
-        let beside_row = list_of(sides, self.cols_ahead, row.0);
-        let more_rows = !self.cols.has_only(col.0, row.0, beside_col.len());
-        let more_cols = !self.rows.has_only(row.0, col.0, beside_row.len());
+        let more_rows = !self.cols.has_only(pattern, col.0, row.0);
+        let more_cols = !self.rows.has_only(sides, row.0, col.0);
+        let beside_col = list_of(pattern, self.rows_ahead, col.0, more_rows);
+        let beside_row = list_of(sides, self.cols_ahead, row.0, more_cols);
         self.rows_ahead = look_again(pattern, &self.rows, self.rows_ahead, more_rows);
         self.cols_ahead = look_again(sides, &self.cols, self.cols_ahead, more_cols);
         self.rows.leave_out(row.0, col.0, beside_col, more_rows);
