@@ -1,5 +1,5 @@
 -- Runs of events, part by part, and workers that are settled one after the other.
-use Rattle.std.proofs.Common.{◌≡◌, ◌∙◌, ℕ, ◌+◌, ◌<◌, List, [], ◌∷◌, ◌++◌, flat_map, get_or, length, map, set, take, drop, refl, sym, ap, ap₂, subst, arith, append_assoc, append-nil, length-set}
+use Rattle.std.proofs.Common.{◌≡◌, ◌∙◌, ℕ, ◌+◌, ◌<◌, List, [], ◌∷◌, ◌++◌, flat_map, get_or, length, map, set, take, drop, sym, ap, ap₂, subst, arith, append_assoc, append-nil, length-set}
 use Rattle.std.proofs.lemmas.Grind.{drop_more_same, flat_map-append}
 use Rattle.std.proofs.lemmas.List.{drop-set-lt, drop_more, map-append, take-append-drop, take_more, take_more_set}
 use Rattle.bip_defs.specs.Forest.{State, grown_by}
@@ -10,13 +10,12 @@ use Rattle.sp_ids.specs.Events.{claim_events, claims_then_wins, win_events}
 use Rattle.sp_ids.specs.declared.events.Event.{Event}
 use Rattle.sp_ids.specs.declared.events.Event.TheVariants.{Claim, Win}
 
--- a run of some events and then of others is a run of each
-pub runs_split : (s t : State) (es ds : List Event) → Runs s (es ++ ds) t → (u : State) × Runs s es u × Runs u ds t
-runs_split s t [] ds r = (s, refl, r)
-runs_split s t (e ∷ es) ds (legal, v, becomes, r) = let (u, prefix, suffix) = runs_split v t es ds r in (u, (legal, v, becomes, prefix), suffix)
+-- a run of some events and then of others is a run of each, as the laws of forests say
+abbrev pub Splits : Type 0
+Splits = (s u : State) (es ds : List Event) → Runs s (es ++ ds) u → (t : State) × Runs s es t × Runs t ds u
 
 -- One kind of event, of which each adds a pair to one of the forest's lists.
-module _ (event : ℕ × ℕ → Event) (add : State → List (ℕ × ℕ) → State)
+module _ (split : Splits) (event : ℕ × ℕ → Event) (add : State → List (ℕ × ℕ) → State)
     (none : (s : State) → add s [] ≡ s) (joins : (s : State) (ps qs : List (ℕ × ℕ)) → add (add s ps) qs ≡ add s (ps ++ qs))
     (adds : (s t : State) (p : ℕ × ℕ) → Becomes s (event p) t → t ≡ add s (p ∷ [])) where
   pub added : (s t : State) (ps : List (ℕ × ℕ)) → Runs s (map event ps) t → t ≡ add s ps
@@ -26,7 +25,7 @@ module _ (event : ℕ × ℕ → Event) (add : State → List (ℕ × ℕ) → S
   -- a run of the events of some pairs and then of other events
   pub split_at : (s t : State) (ps : List (ℕ × ℕ)) (ds : List Event) → Runs s (map event ps ++ ds) t → Runs s (map event ps) (add s ps) × Runs (add s ps) ds t
   split_at s t ps ds r =
-      let (u, prefix, suffix) = runs_split s t (map event ps) ds r in
+      let (u, prefix, suffix) = split s t (map event ps) ds r in
       let is : u ≡ add s ps = added s u ps prefix in
       (subst (Runs s (map event ps)) is prefix, subst (λ (v : State). Runs v ds t) is suffix)
 
@@ -88,9 +87,9 @@ pub by_win : (s t : State) (p : ℕ × ℕ) → Becomes s (win_event p) t → t 
 by_win s t p e = e
 
 -- a level's claims run, and then its wins
-pub level_runs : (s : State) (claims wins : List (ℕ × ℕ)) → Runs s (claims_then_wins claims wins) (grown_by s claims wins)
+pub level_runs : (split : Splits) (s : State) (claims wins : List (ℕ × ℕ)) → Runs s (claims_then_wins claims wins) (grown_by s claims wins)
     → Runs s (claim_events claims) (with_claims s claims) × Runs (with_claims s claims) (win_events wins) (grown_by s claims wins)
-level_runs s claims wins r = split_at claim_event with_claims no_claims more_claims by_claim s (grown_by s claims wins) claims (win_events wins) r
+level_runs split s claims wins r = split_at split claim_event with_claims no_claims more_claims by_claim s (grown_by s claims wins) claims (win_events wins) r
 
 -- A list whose elements are changed one after the other.
 

@@ -10,7 +10,7 @@ ghost use Rattle.level_sharing.specs.Growth.{fresh_events, grown};
 ghost use Rattle.sp_ids.specs.Events.{claim_events, win_events};
 
 use claim_words::Worker;
-use forest_core::{Forest, claims_and_wins_grow};
+use forest_core::{Forest, claims_and_wins_grow, runs_join};
 use level_sharing::settled_workers_agree;
 use sp_ids::{Col, Row};
 
@@ -33,6 +33,7 @@ pub fn absorb(forest: &mut Forest, workers: &mut [Worker])
 {
     settled_workers_agree();
     claims_and_wins_grow();
+    runs_join();
     make_claims(forest, workers);
     make_wins(forest, workers);
     settle(workers);
@@ -45,6 +46,7 @@ fn make_claims(forest: &mut Forest, workers: &[Worker])
     ensures { forest.new
         ≡ record forest.old { claims = forest.old.claims ++ fresh_claims_of workers.now } }
 {
+    runs_join();
     for worker in workers {
         make_claims_of(forest, worker.fresh_claims());
     }
@@ -56,6 +58,7 @@ fn make_claims_of(forest: &mut Forest, claims: &[(Row, Col)])
         (record forest.old { claims = forest.old.claims ++ claims.now }) }
     ensures { forest.new ≡ record forest.old { claims = forest.old.claims ++ claims.now } }
 {
+    runs_join();
     for claim in claims {
         let (row, col) = *claim;
         forest.claim(row, col);
@@ -69,6 +72,7 @@ fn make_wins(forest: &mut Forest, workers: &[Worker])
     ensures { forest.new
         ≡ record forest.old { leaves = forest.old.leaves ++ fresh_wins_of workers.now } }
 {
+    runs_join();
     for worker in workers {
         make_wins_of(forest, worker.fresh_wins());
     }
@@ -80,6 +84,7 @@ fn make_wins_of(forest: &mut Forest, wins: &[(Col, Row)])
         (record forest.old { leaves = forest.old.leaves ++ wins.now }) }
     ensures { forest.new ≡ record forest.old { leaves = forest.old.leaves ++ wins.now } }
 {
+    runs_join();
     for win in wins {
         let (root, leaf) = *win;
         forest.win(root, leaf);

@@ -8,11 +8,11 @@ use Rattle.frontier_levels.proofs.EventLemmas.{level_grows, level_runs, with_lea
 use Rattle.frontier_levels.proofs.events.absorb.Goals as goal
 
 pub make_claims-requires : goal.make_claims-requires
-make_claims-requires c = (level_runs _ (fresh_claims_of c.args.workers.now) (fresh_wins_of c.args.workers.now) c.requires).0
+make_claims-requires c = (level_runs c.runs_join.ensures.split _ (fresh_claims_of c.args.workers.now) (fresh_wins_of c.args.workers.now) c.requires).0
 
 pub make_wins-requires : goal.make_wins-requires
 make_wins-requires c =
-    let wins = (level_runs _ (fresh_claims_of c.args.workers.now) (fresh_wins_of c.args.workers.now) c.requires).1 in
+    let wins = (level_runs c.runs_join.ensures.split _ (fresh_claims_of c.args.workers.now) (fresh_wins_of c.args.workers.now) c.requires).1 in
     subst (λ (s : State). Runs s (win_events (fresh_wins_of c.args.workers.now)) (with_leaves s (fresh_wins_of c.args.workers.now))) (sym c.make_claims.ensures) wins
 
 pub returns-clause-agree : goal.returns-clause-agree
