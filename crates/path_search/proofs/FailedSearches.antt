@@ -1,6 +1,8 @@
 -- What a failed search, and a search whose marks were taken away, leave of the marks.
-use Rattle.std.proofs.Common.{◌≡◌, ◌∙◌, ℕ, zero, suc, Bool, true, false, List, [], ◌∷◌, length, slice_index_or, refl, sym, ap, ⊎_elim, arith}
-use Rattle.bip_defs.specs.Matrix.{Matrix, Place}
+use Rattle.std.proofs.Common.{◌≡◌, ◌∙◌, ℕ, zero, suc, ◌<◌, Bool, true, false, List, [], ◌∷◌, length, slice_index_or, refl, sym, ap, ⊎_elim, arith}
+use Rattle.bip_defs.specs.Lists.{Among}
+use Rattle.bip_defs.specs.Matching.{cols_of}
+use Rattle.bip_defs.specs.Matrix.{Matrix, Place, cols}
 use Rattle.bip_defs.proofs.Sets.{number_among}
 use Rattle.path_search.specs.Search.{Exhausts, Fails, HasMarked, Unmarks}
 use Rattle.path_search.proofs.MarkLemmas.{Grows, explored_grows}
@@ -9,10 +11,11 @@ marked_grows_to : (visited : List ℕ) (old new : List Bool) → HasMarked visit
 marked_grows_to visited old new k r h = ⊎_elim (λ g. k.marked r g) (λ g. k.others r g ∙ h) (number_among r visited)
 
 -- the rows that a failed search has marked lead nowhere
-pub search_failed : (a : Matrix) (m : List Place) (visited : List ℕ) (old new : List Bool) (root : ℕ) → HasMarked visited old new → Exhausts a m new visited root → Fails a m old new root
-search_failed a m visited old new root k spent = record {
+pub search_failed : (a : Matrix) (m : List Place) (visited : List ℕ) (old new : List Bool) (root : ℕ) → root < cols a → ¬ Among root (cols_of m) → HasMarked visited old new → Exhausts a m new visited root → Fails a m old new root
+search_failed a m visited old new root below free k spent = record {
   marked = grows;
   closed = λ closed r h. ⊎_elim (λ g. spent.of_mates r g) (λ g. let (d, p, explored) = closed r (sym (k.others r g) ∙ h) in (d, p, explored_grows a old new d grows explored)) (number_among r visited);
+  led = λ led r h. ⊎_elim (λ g. let (c, walk, e) = spent.walked r g in (c, (root, below, free, walk), e)) (λ g. led r (sym (k.others r g) ∙ h)) (number_among r visited);
   of_root = spent.of_root;
 }
   where

@@ -3,6 +3,7 @@ mod ExchangeLemmas
 mod FailedSearches
 mod FlipLemmas
 mod GrownTrees
+mod HorizontalLemmas
 mod LayerLemmas
 mod MarkLemmas
 mod PathLemmas

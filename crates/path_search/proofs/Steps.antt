@@ -11,7 +11,7 @@ use Rattle.path_search.specs.Search.{Exhausts, SearchState}
 use Rattle.path_search.specs.Trails.{IsSearchAt, HasPassed, Trail, read_place}
 use Rattle.bip_defs.proofs.Full.{few_below}
 use Rattle.path_search.proofs.MarkLemmas.{marked_grows, marked_now, marks_more, explored_grows}
-use Rattle.path_search.proofs.TrailLemmas.{passed_all, passed_more, passed_none, rows_last, passed_grows, trail_alternates, trail_back, trail_begins, trail_empty, trail_entries, trail_grows, trail_matched, trail_on, trail_root}
+use Rattle.path_search.proofs.TrailLemmas.{passed_all, passed_more, passed_none, rows_last, passed_grows, trail_alternates, trail_back, trail_begins, trail_empty, trail_entries, trail_grows, trail_matched, trail_on, trail_root, trail_walk}
 
 abbrev pub ended : SearchState → ℕ → ℕ → SearchState
 ended s r c = record s { path = s.path ++ (r, c) ∷ [] }
@@ -78,6 +78,7 @@ goes_down a m reversed s c k r d i j matching f e un mate passed at next = recor
     visited_differ = distinct_last s.visited r f.visited_differ unvisited;
     visited_marked = λ x h. ⊎_elim (λ g. grows x (f.visited_marked x g)) (λ (g : x ≡ r). subst (λ y. IsMarked now y) (sym g) (marked_now s.marks r lt)) (among_last x r s.visited h);
     finished = λ x h. ⊎_elim (λ g. ⊎_elim (λ p. inl (rw rows_last (among_left x (rows_of s.path) (r ∷ []) p))) (λ p. inr (p.0, p.1, explored_grows a s.marks now p.0 grows p.2)) (f.finished x g)) (λ (g : x ≡ r). inl (rw rows_last (among_right x (rows_of s.path) (r ∷ []) (inl g)))) (among_last x r s.visited h);
+    walked = λ x h. ⊎_elim (λ g. f.walked x g) (λ (g : x ≡ r). (c, trail_walk a m reversed s.marks s.root c s.path s.places f.trail, subst (λ y. IsEntry a y c) (sym g) e)) (among_last x r s.visited h);
     path_shorter = let le = f.path_shorter in omega (arith, length-append s.path ((r, c) ∷ []), length-append s.visited (r ∷ []));
   };
   falls = let room = visited_room a m reversed s c k r f e.0 unvisited in omega (arith, length-append s.path ((r, c) ∷ []), length-append s.visited (r ∷ []));
@@ -113,6 +114,7 @@ goes_back a m reversed t c k r d j f explored = record {
     visited_differ = f.visited_differ;
     visited_marked = f.visited_marked;
     finished = λ x h. ⊎_elim (λ g. ⊎_elim (λ p. inl p) (λ (e : x ≡ r). inr (c, subst (λ y. Among (y, c) m) (sym e) back.3, explored)) (row_on_path t.path x r d g)) (λ g. inr g) (f.finished x h);
+    walked = f.walked;
     path_shorter = let le = f.path_shorter in omega (arith, length-append t.path ((r, d) ∷ []));
   };
   falls = omega (arith, length-append t.path ((r, d) ∷ []));
@@ -131,6 +133,7 @@ pub search_fails : (a : Matrix) (m : List Place) (reversed : Bool) (s : SearchSt
 search_fails a m reversed s c k f explored empty = record {
   of_root = subst (λ x. IsExplored a s.marks x) (sym (trail_empty a m reversed s.marks s.root c s.places (subst (λ (path : List Place). Trail a m reversed s.marks s.root path s.places c) empty f.trail))) explored;
   of_mates = λ r h. ⊎_elim (λ g. absurd (subst (λ (path : List Place). Among r (rows_of path)) empty g)) (λ g. g) (f.finished r h);
+  walked = f.walked;
 }
 
 -- The same, where the column's list is lent.

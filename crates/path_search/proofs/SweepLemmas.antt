@@ -53,14 +53,17 @@ pub no_path_more : (a : Matrix) (m : List Place) (root : ℕ) (old new : Trees) 
 no_path_more a m root old new place f lt free s on explored = no_path_explored a m new place (place + 1) (no_path_spread a m root old new place f (omega arith) free s on) (λ i from below. let e : i ≡ place = omega arith in subst (λ (x : Reached). IsExplored a new.marks x.col) (sym (ap (λ j. reached_at new.queue j) e ∙ extended_at old new place (spreads_extends root old new s) lt)) explored)
 
 -- where no path was found the marked rows cover what their mates have
-pub no_path_maximum : (a : Matrix) (m : List Place) (t : Trees) (place : ℕ) → IsMatching a m → HaveNoPath a m t place → length t.queue ≤ place → IsMaximum a m
-no_path_maximum a m t place k f le = closed_maximum a m t.marks k out (λ c lt free. explored_reached c (f.unmatched c lt free))
-  where
-    explored_reached : (c : ℕ) → Among c (reached_cols t.queue) → IsExplored a t.marks c
-    explored_reached c h = let (i, lt, e) = place_of t.queue c h in subst (λ x. IsExplored a t.marks x) e (f.explored i (omega arith))
+explored_reached : (a : Matrix) (m : List Place) (t : Trees) (place c : ℕ) → HaveNoPath a m t place → length t.queue ≤ place → Among c (reached_cols t.queue) → IsExplored a t.marks c
+explored_reached a m t place c f le h = let (i, lt, e) = place_of t.queue c h in subst (λ x. IsExplored a t.marks x) e (f.explored i (omega arith))
 
-    out : AreClosed a m t.marks
-    out r h = let (d, pair, had) = f.leads_on r h in (d, pair, explored_reached d had)
+pub no_path_closed : (a : Matrix) (m : List Place) (t : Trees) (place : ℕ) → HaveNoPath a m t place → length t.queue ≤ place → AreClosed a m t.marks
+no_path_closed a m t place f le r h = let (d, pair, had) = f.leads_on r h in (d, pair, explored_reached a m t place d f le had)
+
+pub no_path_explored_all : (a : Matrix) (m : List Place) (t : Trees) (place : ℕ) → HaveNoPath a m t place → length t.queue ≤ place → (c : ℕ) → c < cols a → ¬ Among c (cols_of m) → IsExplored a t.marks c
+no_path_explored_all a m t place f le c lt free = explored_reached a m t place c f le (f.unmatched c lt free)
+
+pub no_path_maximum : (a : Matrix) (m : List Place) (t : Trees) (place : ℕ) → IsMatching a m → HaveNoPath a m t place → length t.queue ≤ place → IsMaximum a m
+no_path_maximum a m t place k f le = closed_maximum a m t.marks k (no_path_closed a m t place f le) (no_path_explored_all a m t place f le)
 
 pub progresses_none : (a : Matrix) (m : Pairing) (t : Trees) (place : ℕ) → Progresses a m m t t place (place + 0)
 progresses_none a m t place = inl (refl, λ f. subst (λ n. HaveNoPath a m.pairs t n) (let e : place ≡ place + 0 = omega arith in e) f)

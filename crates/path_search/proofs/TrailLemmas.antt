@@ -6,6 +6,7 @@ use Rattle.bip_defs.specs.Matrix.{AreEntries, IsEntry, Matrix, Place, column}
 use Rattle.bip_defs.specs.Paths.{Alternates, BeginsUnmatched}
 use Rattle.bip_defs.proofs.Sets.{number_same, place_among, row_among}
 use Rattle.bip_defs.specs.Marks.{IsExplored}
+use Rattle.bip_defs.specs.Walks.{Walk, stay, step}
 use Rattle.path_search.specs.Trails.{HasPassed, Trail, read_place}
 use Rattle.path_search.proofs.MarkLemmas.{Grows}
 
@@ -44,6 +45,13 @@ trail_grows a m reversed old new from to [] [] g t = t
 trail_grows a m reversed old new from to [] (k ∷ places) g t = elim t [ ]
 trail_grows a m reversed old new from to (p ∷ path) [] g t = elim t [ ]
 trail_grows a m reversed old new from to (p ∷ path) (k ∷ places) g t = (t.0, t.1, passed_grows reversed old new (column a p.1) k g t.2, t.3, t.4, trail_grows a m reversed old new t.3 to path places g t.5)
+
+-- it is a walk
+pub trail_walk : (a : Matrix) (m : List Place) (reversed : Bool) (marks : List Bool) (from to : ℕ) (path : List Place) (places : List ℕ) → Trail a m reversed marks from path places to → Walk a m from to
+trail_walk a m reversed marks from to [] [] t = subst (λ x. Walk a m from x) t stay
+trail_walk a m reversed marks from to [] (k ∷ places) t = elim t [ ]
+trail_walk a m reversed marks from to (p ∷ path) [] t = elim t [ ]
+trail_walk a m reversed marks from to (p ∷ path) (k ∷ places) t = subst (λ x. Walk a m x to) t.0 (step p.0 t.1 t.4 (trail_walk a m reversed marks t.3 to path places t.5))
 
 -- one pair more at its end
 pub trail_on : (a : Matrix) (m : List Place) (reversed : Bool) (marks : List Bool) (from to r d k : ℕ) (path : List Place) (places : List ℕ) → Trail a m reversed marks from path places to → IsEntry a r to → HasPassed reversed marks (column a to) k → Among (r, d) m → Trail a m reversed marks from (path ++ (r, to) ∷ []) (places ++ k ∷ []) d

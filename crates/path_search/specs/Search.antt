@@ -3,8 +3,9 @@ use Rattle.std.specs.Prelude.{◌≡◌, ℕ, suc, Bool, false, List, length, sl
 use Rattle.bip_defs.specs.Lists.{Among, IsMarked}
 use Rattle.bip_defs.specs.Marks.{AreClosed, IsExplored}
 use Rattle.bip_defs.specs.Matching.{cols_of, rows_of}
-use Rattle.bip_defs.specs.Matrix.{AreEntries, Matrix, Place}
+use Rattle.bip_defs.specs.Matrix.{AreEntries, IsEntry, Matrix, Place}
 use Rattle.bip_defs.specs.Paths.{IsAugmenting}
+use Rattle.bip_defs.specs.Walks.{IsLed, Walk}
 
 -- the number of columns, the mark of each row, the column where the last search began, the path
 -- that it stands on with a place in each column's list, and the rows that it has marked
@@ -32,11 +33,12 @@ pub record Finds (a : Matrix) (m : List Place) (marks : List Bool) (root : ℕ)
   pub fresh : (r : ℕ) → Among r (rows_of path) → Among r (rows_of m) → ¬ IsMarked marks r
 
 -- no unmarked row is left to which a walk leads: the root's entries are in marked rows, and so are
--- those of the mates of the rows that were visited
+-- those of the mates of the rows that were visited, each of which is in a column that a walk reaches
 pub record Exhausts (a : Matrix) (m : List Place) (marks : List Bool) (visited : List ℕ)
     (root : ℕ) : Type 0 where
   pub of_root : IsExplored a marks root
   pub of_mates : (r : ℕ) → Among r visited → (d : ℕ) × Among (r, d) m × IsExplored a marks d
+  pub walked : (r : ℕ) → Among r visited → (c : ℕ) × Walk a m root c × IsEntry a r c
 
 -- the rows of the list lost their marks, and no others
 pub record Unmarks (rows : List ℕ) (old new : List Bool) : Type 0 where
@@ -48,10 +50,16 @@ pub record Unmarks (rows : List ℕ) (old new : List Bool) : Type 0 where
 abbrev pub KeepsMarked : List Bool → List Place → List Place → Type 0
 KeepsMarked marks old new = (r d : ℕ) → IsMarked marks r → Among (r, d) old → Among (r, d) new
 
--- no augmenting path begins at the root, or leads through a row that was marked on the way
+-- each marked row has an entry in a column to which a walk leads from an unmatched column
+abbrev pub AreLedTo : Matrix → List Place → List Bool → Type 0
+AreLedTo a m marks = (r : ℕ) → IsMarked marks r → (c : ℕ) × IsLed a m c × IsEntry a r c
+
+-- no augmenting path begins at the root, or leads through a row that was marked on the way, and
+-- walks from unmatched columns lead to all of these rows
 pub record Fails (a : Matrix) (m : List Place) (old new : List Bool) (root : ℕ) : Type 0 where
   pub marked : (r : ℕ) → IsMarked old r → IsMarked new r
   pub closed : AreClosed a m old → AreClosed a m new
+  pub led : AreLedTo a m old → AreLedTo a m new
   pub of_root : IsExplored a new root
 
 -- a longer matching with the root, which has each vertex of the old one

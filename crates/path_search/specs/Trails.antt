@@ -4,6 +4,7 @@ use Rattle.bip_defs.specs.Lists.{Among, AreDistinct, IsMarked}
 use Rattle.bip_defs.specs.Marks.{IsExplored}
 use Rattle.bip_defs.specs.Matching.{cols_of, rows_of}
 use Rattle.bip_defs.specs.Matrix.{IsEntry, Matrix, Place, cols, column}
+use Rattle.bip_defs.specs.Walks.{Walk}
 use Rattle.path_search.specs.Search.{SearchState}
 
 -- the place at which a list of n is read as its k-th, from its start or from its end
@@ -42,4 +43,6 @@ pub record IsSearchAt (a : Matrix) (m : List Place) (reversed : Bool) (s : Searc
   -- a row that was visited is on the path, or its mate's rows are all marked
   pub finished : (r : ℕ) → Among r s.visited → Among r (rows_of s.path)
       ⊎ ((d : ℕ) × Among (r, d) m × IsExplored a s.marks d)
+  -- and has an entry in a column to which a walk leads from the root
+  pub walked : (r : ℕ) → Among r s.visited → (c : ℕ) × Walk a m s.root c × IsEntry a r c
   pub path_shorter : length s.path ≤ length s.visited

@@ -2,9 +2,10 @@
 
 ghost use Rattle.std.specs.Prelude.{◌≡◌, ◌⊎◌, ◌↔◌, ℕ, suc, ◌+◌, ◌<◌, ◌≤◌, ◌∷◌, ◌++◌, [], true, length, set, IsTrue, IfOk, IfSome, IfNone};
 ghost use Rattle.bip_defs.specs.Lists.{Among, IsMarked};
-ghost use Rattle.bip_defs.specs.Marks.{IsExplored};
+ghost use Rattle.bip_defs.specs.Marks.{IsExplored, Marks};
 ghost use Rattle.bip_defs.specs.Matching.{Covers, IsMaximum, cols_of};
 ghost use Rattle.bip_defs.specs.Matrix.{AreEntries, IsEntry, Matrix, cols};
+ghost use Rattle.bip_defs.specs.Parts.{IsHorizontalRow};
 ghost use Rattle.bip_defs.specs.Paths.{Exchanges, IsAugmenting};
 ghost use Rattle.bip_graph.specs.Matching.{IsMatchingOf};
 ghost use Rattle.path_search.specs.Batches.{Follows, HaveRows, numbers_in};
@@ -116,6 +117,13 @@ impl SearchForest {
         ensures { result.now ≡ self.now.marks }
     {
         self.marks.as_slice()
+    }
+
+    /// The marks of the rows. It takes no memory.
+    pub fn into_marks(self) -> Vec<bool>
+        ensures { result.items ≡ self.marks }
+    {
+        self.marks
     }
 
     pub(crate) fn at(&self, place: u32) -> Reached
@@ -440,7 +448,7 @@ impl SearchForest {
     /// From each unmatched column grows a tree of alternating paths, which ends at the first
     /// unmatched row that it comes to (Azad, Buluç and Pothen 2017). Each row is in one tree at
     /// most, so the paths have no vertex in common. Where there is no path the matching was
-    /// maximum. Takes no memory. Work: one look at each row and column, and at each entry once at
+    /// maximum, and the rows of the columns that walks lead to stay marked. Takes no memory. Work: one look at each row and column, and at each entry once at
     /// most.
     ///
     /// Up to 64 columns are looked through at a time, with the outcome of one after another: their
@@ -455,10 +463,13 @@ impl SearchForest {
         ensures matching { IsMatchingOf (S.matrix side.now) (F.seen matching.new) }
         ensures covered { Covers (F.seen matching.old).pairs (F.seen matching.new).pairs }
 
-        // Where the matching hasn't grown it was maximum.
+        // Where the matching hasn't grown it was maximum, and the marked rows are the horizontal
+        // rows.
         ensures maximum { ((F.seen matching.new ≡ F.seen matching.old)
             × IsMaximum (S.matrix side.now) (F.seen matching.old).pairs)
             ⊎ (length (F.seen matching.old).pairs < length (F.seen matching.new).pairs) }
+        ensures marks { length (F.seen matching.new).pairs ≡ length (F.seen matching.old).pairs
+            → Marks (S.matrix side.now).rows (IsHorizontalRow (S.matrix side.now)) self.new.marks }
     {
         sizes_fit::<F, S>(side);
         self.start(side, matching);

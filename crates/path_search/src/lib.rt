@@ -7,6 +7,7 @@
 mod batches;
 mod columns;
 mod forest;
+mod laws;
 mod layers;
 mod reached;
 mod search;
@@ -14,5 +15,6 @@ mod shortest;
 mod step;
 
 pub use forest::SearchForest;
+pub use laws::marked_rows_are_horizontal;
 pub use layers::Layers;
 pub use search::Search;

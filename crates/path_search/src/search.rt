@@ -361,4 +361,11 @@ impl Search {
     {
         unmark_all(self.marks.as_mut_slice());
     }
+
+    /// The marks of the rows. It takes no memory.
+    pub fn into_marks(self) -> Vec<bool>
+        ensures { result.items ≡ self.marks }
+    {
+        self.marks
+    }
 }

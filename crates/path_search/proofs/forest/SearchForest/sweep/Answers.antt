@@ -1,5 +1,6 @@
 use Rattle.std.proofs.Common.{arith}
 use Rattle.bip_defs.proofs.Covers.{covers_more}
+use Rattle.path_search.proofs.HorizontalLemmas.{grown_marks}
 use Rattle.path_search.proofs.SweepLemmas.{forest_short, grown_end, grown_more}
 use Rattle.path_search.proofs.forest.SearchForest.sweep.Goals as goal
 
@@ -20,3 +21,6 @@ loop-place-preserved g c =
 
 pub returns-clause-maximum : goal.returns-clause-maximum
 returns-clause-maximum g c = grown_end _ _ _ _ _ c.loop-place.invariant.grown c.loop-place.invariant.matching.matching (omega arith)
+
+pub returns-clause-marks : goal.returns-clause-marks
+returns-clause-marks g c same = grown_marks _ _ _ _ _ c.loop-place.invariant.grown c.loop-place.invariant.forest c.loop-place.invariant.matching.matching (omega arith) same

@@ -8,7 +8,7 @@ pub flip-requires-clause-in_range : goal.flip-requires-clause-in_range
 flip-requires-clause-in_range g c = rw (c.requires.matching.rows, c.requires.matching.cols) (entries_within _ c.find.new.self.path c.if-not-find.ensures.found.entries)
 
 pub returns-then-not-find-clause-failed : goal.returns-then-not-find-clause-failed
-returns-then-not-find-clause-failed g c = (refl, search_failed _ _ c.find.new.self.visited _ _ _ c.find.ensures.marks c.if-not-find.ensures.failed)
+returns-then-not-find-clause-failed g c = (refl, search_failed _ _ c.find.new.self.visited _ _ _ c.requires.root c.requires.unmatched c.find.ensures.marks c.if-not-find.ensures.failed)
 
 pub returns-clause-matching : goal.returns-clause-matching
 returns-clause-matching g c = c.flip.ensures.matching _ c.requires.matching c.if-not-find.ensures.found.entries
