@@ -3,39 +3,52 @@ use Rattle.std.proofs.Common.{◌≡◌, ◌⊎◌, ◌↔◌, ◌∙◌, ℕ, �
 use Rattle.std.proofs.lemmas.List.{length-map}
 use Rattle.std.specs.Bool.{OnFalse, OnTrue}
 use Rattle.bip_defs.specs.Lists.{Among}
-use Rattle.bip_defs.specs.Marks.{AreClosed, IsExplored}
+use Rattle.bip_defs.specs.Marks.{AreClosed, IsExplored, Marks}
 use Rattle.bip_defs.specs.Matching.{Covers, IsMatching, IsMaximum, cols_of, transposed_places}
 use Rattle.bip_defs.specs.Matrix.{Matrix, Place, cols, transpose}
+use Rattle.bip_defs.specs.Parts.{IsHorizontalRow, IsVerticalCol}
 use Rattle.bip_defs.proofs.Closed.{closed_maximum}
 use Rattle.bip_defs.proofs.Full.{matching_few}
 use Rattle.bip_defs.proofs.Sets.{among_last}
-use Rattle.bip_defs.proofs.Transposed.{transpose_back, transpose_is, turned_maximum, turned_twice}
+use Rattle.bip_defs.proofs.Transposed.{transpose_back, transpose_is, turned_maximum, turned_twice, turned_vertical_col, vertical_col_turned}
 use Rattle.bip_graph.specs.Matching.{Pairing}
 use Rattle.pothen_fan.specs.Roots.{HoldRoots, Extends}
-use Rattle.path_search.specs.Search.{Augments, Fails}
+use Rattle.path_search.specs.Search.{Augments, AreLedTo, Fails}
 
 pub extends_matched : (a : Matrix) (m : Pairing) (marks : List Bool) (root : ℕ) → Among root (cols_of m.pairs) → Extends a m m marks marks root
-extends_matched a m marks root on = inl (refl, record { marked = λ r h. h; closed = λ closed. closed; of_root = λ free. absurd (free on) })
+extends_matched a m marks root on = inl (refl, record { marked = λ r h. h; closed = λ closed. closed; led = λ led. led; of_root = λ free. absurd (free on) })
 
 pub extends_failed : (a : Matrix) (m n : Pairing) (old new : List Bool) (root : ℕ) → n ≡ m → Fails a m.pairs old new root → Extends a m n old new root
-extends_failed a m n old new root same fails = inl (same, record { marked = fails.marked; closed = fails.closed; of_root = λ free. fails.of_root })
+extends_failed a m n old new root same fails = inl (same, record { marked = fails.marked; closed = fails.closed; led = fails.led; of_root = λ free. fails.of_root })
 
 pub extends_found : (a : Matrix) (m n : Pairing) (old new : List Bool) (root : ℕ) → Augments root old m.pairs n.pairs → Extends a m n old new root
 extends_found a m n old new root found = inr (let e = found.size in omega arith)
 
 -- the matching is as at the phase's start, and the rows that were marked are left out for good, or it has grown
 abbrev pub Progress : Matrix → Pairing → Pairing → List Bool → List ℕ → Type 0
-Progress a start m marks roots = ((m ≡ start) × AreClosed a m.pairs marks × ((c : ℕ) → Among c roots → ¬ Among c (cols_of m.pairs) → IsExplored a marks c)) ⊎ (length start.pairs < length m.pairs)
+Progress a start m marks roots = ((m ≡ start) × AreClosed a m.pairs marks × AreLedTo a m.pairs marks × ((c : ℕ) → Among c roots → ¬ Among c (cols_of m.pairs) → IsExplored a marks c)) ⊎ (length start.pairs < length m.pairs)
 
 pub progress_more : (a : Matrix) (start m n : Pairing) (old new : List Bool) (roots : List ℕ) (root : ℕ) → Progress a start m old roots → Extends a m n old new root → Progress a start n new (roots ++ root ∷ [])
 progress_more a start m n old new roots root (inr grown) (inr more) = inr (omega arith)
 progress_more a start m n old new roots root (inr grown) (inl same) = inr (subst (λ (p : Pairing). length start.pairs < length p.pairs) (sym same.0) grown)
 progress_more a start m n old new roots root (inl stays) (inr more) = inr (subst (λ (p : Pairing). length p.pairs < length n.pairs) stays.0 more)
-progress_more a start m n old new roots root (inl stays) (inl same) = inl (same.0 ∙ stays.0, subst (λ (p : Pairing). AreClosed a p.pairs new) (sym same.0) (same.1.closed stays.1), λ c h. subst (λ (p : Pairing). ¬ Among c (cols_of p.pairs) → IsExplored a new c) (sym same.0) (λ free. ⊎_elim (λ g. (λ r e. same.1.marked r (stays.2 c g free r e))) (λ (e : c ≡ root). subst (λ x. IsExplored a new x) (sym e) (same.1.of_root (subst (λ x. ¬ Among x (cols_of m.pairs)) e free))) (among_last c root roots h)))
+progress_more a start m n old new roots root (inl stays) (inl same) = inl (same.0 ∙ stays.0, subst (λ (p : Pairing). AreClosed a p.pairs new) (sym same.0) (same.1.closed stays.1), subst (λ (p : Pairing). AreLedTo a p.pairs new) (sym same.0) (same.1.led stays.2), λ c h. subst (λ (p : Pairing). ¬ Among c (cols_of p.pairs) → IsExplored a new c) (sym same.0) (λ free. ⊎_elim (λ g. (λ r e. same.1.marked r (stays.3 c g free r e))) (λ (e : c ≡ root). subst (λ x. IsExplored a new x) (sym e) (same.1.of_root (subst (λ x. ¬ Among x (cols_of m.pairs)) e free))) (among_last c root roots h)))
+
+-- each unmatched column has all its entries in marked rows
+all_explored : (a : Matrix) (start m : Pairing) (marks : List Bool) (roots : List ℕ) → m ≡ start → ((c : ℕ) → Among c roots → ¬ Among c (cols_of m.pairs) → IsExplored a marks c) → HoldRoots a start.pairs roots → (c : ℕ) → c < cols a → ¬ Among c (cols_of m.pairs) → IsExplored a marks c
+all_explored a start m marks roots same explored hold c lt free r e = explored c (hold.complete c (record { unmatched = subst (λ (p : Pairing). ¬ Among c (cols_of p.pairs)) same free; entry = (r, e) })) free r e
 
 pub progress_ends : (a : Matrix) (start m : Pairing) (marks : List Bool) (roots : List ℕ) → Progress a start m marks roots → HoldRoots a start.pairs roots → IsMatching a m.pairs → ((m ≡ start) × IsMaximum a start.pairs) ⊎ (length start.pairs < length m.pairs)
 progress_ends a start m marks roots (inr grown) hold k = inr grown
-progress_ends a start m marks roots (inl stays) hold k = inl (stays.0, subst (λ (p : Pairing). IsMaximum a p.pairs) stays.0 (closed_maximum a m.pairs marks k stays.1 (λ c lt free r e. stays.2 c (hold.complete c (record { unmatched = subst (λ (p : Pairing). ¬ Among c (cols_of p.pairs)) stays.0 free; entry = (r, e) })) free r e)))
+progress_ends a start m marks roots (inl stays) hold k = inl (stays.0, subst (λ (p : Pairing). IsMaximum a p.pairs) stays.0 (closed_maximum a m.pairs marks k stays.1 (all_explored a start m marks roots stays.0 stays.3 hold)))
+
+-- that such rows are the horizontal ones
+abbrev pub AreTold : Matrix → List Place → List Bool → Type 0
+AreTold a m marks = IsMatching a m → length marks ≡ a.rows → AreClosed a m marks → AreLedTo a m marks → ((c : ℕ) → c < cols a → ¬ Among c (cols_of m) → IsExplored a marks c) → Marks a.rows (IsHorizontalRow a) marks
+
+pub progress_marks : (a : Matrix) (start m : Pairing) (marks : List Bool) (roots : List ℕ) → AreTold a m.pairs marks → Progress a start m marks roots → HoldRoots a start.pairs roots → IsMatching a m.pairs → length marks ≡ a.rows → length m.pairs ≡ length start.pairs → Marks a.rows (IsHorizontalRow a) marks
+progress_marks a start m marks roots told (inr grown) hold k long same = absurd (omega arith)
+progress_marks a start m marks roots told (inl stays) hold k long same = told k long stays.1 stays.2 (all_explored a start m marks roots stays.0 stays.3 hold)
 
 -- Lists of roots.
 
@@ -50,6 +63,10 @@ extends_either a m n old new root false found failed = extends_failed a m n old 
 pub last_phase : (a : Matrix) (start m : Pairing) (grew : Bool) → (IsTrue grew ↔ (length start.pairs < length m.pairs)) → ((m ≡ start) × IsMaximum a start.pairs) ⊎ (length start.pairs < length m.pairs) → grew ≡ false → IsMaximum a m.pairs
 last_phase a start m grew fact (inl same) e = subst (λ (p : Pairing). IsMaximum a p.pairs) (sym same.0) same.1
 last_phase a start m grew fact (inr more) e = absurd (true≢false (sym (fact.1 more) ∙ e))
+
+pub on_false : {P : Type 0} (b : Bool) → b ≡ false → OnFalse b P → P
+on_false true e p = absurd (true≢false e)
+on_false false e p = p
 
 -- the columns without a pair, and one while phases go on, fall
 pub phases_fall : (a : Matrix) (start m : Pairing) (grew : Bool) → (IsTrue grew ↔ (length start.pairs < length m.pairs)) → ((m ≡ start) × IsMaximum a start.pairs) ⊎ (length start.pairs < length m.pairs) → IsMatching a m.pairs → (cols a - length m.pairs) + (if grew then 1 else 0) < (cols a - length start.pairs) + 1
@@ -73,3 +90,10 @@ growth_ends a first start m le (inr more) = inr (omega arith)
 pub straight_longer : (a : Matrix) (start m : Pairing) → IsMaximum (transpose a) (transposed_places m.pairs) ⊎ (length (transposed_places start.pairs) < length (transposed_places m.pairs)) → IsMaximum a m.pairs ⊎ (length start.pairs < length m.pairs)
 straight_longer a start m (inl max) = inl (subst (λ (z : List Place). IsMaximum a z) (turned_twice m.pairs) (turned_maximum (transpose a) a (transposed_places m.pairs) (transpose_back a (transpose a) (transpose_is a)) max))
 straight_longer a start m (inr more) = inr (subst₂ (λ n k. n < k) (length-map start.pairs (λ (p : Place). (p.1, p.0))) (length-map m.pairs (λ (p : Place). (p.1, p.0))) more)
+
+-- horizontal rows of the transpose are the vertical columns
+pub straight_marks : (a : Matrix) (marks : List Bool) → Marks (cols a) (IsHorizontalRow (transpose a)) marks → Marks (cols a) (IsVerticalCol a) marks
+straight_marks a marks k = record {
+  long = k.long;
+  exact = λ c lt. (λ h. turned_vertical_col a (transpose a) c (transpose_is a) ((k.exact c lt).0 h), λ h. (k.exact c lt).1 (vertical_col_turned a (transpose a) c (transpose_is a) h));
+}

@@ -1,2 +1,3 @@
+pub mod OuterMarks
 pub mod Ready
 pub mod Roots

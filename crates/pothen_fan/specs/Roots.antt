@@ -5,6 +5,7 @@ use Rattle.bip_defs.specs.Marks.{AreClosed, IsExplored}
 use Rattle.bip_defs.specs.Matching.{cols_of}
 use Rattle.bip_defs.specs.Matrix.{IsEntry, Matrix, Place, cols}
 use Rattle.bip_graph.specs.Matching.{Pairing}
+use Rattle.path_search.specs.Search.{AreLedTo}
 
 -- an unmatched column that has an entry
 pub record IsRoot (a : Matrix) (m : List Place) (c : ℕ) : Type 0 where
@@ -20,6 +21,7 @@ pub record HoldRoots (a : Matrix) (m : List Place) (roots : List ℕ) : Type 0 w
 pub record FindsNone (a : Matrix) (m : List Place) (old new : List Bool) (root : ℕ) : Type 0 where
   pub marked : (r : ℕ) → IsMarked old r → IsMarked new r
   pub closed : AreClosed a m old → AreClosed a m new
+  pub led : AreLedTo a m old → AreLedTo a m new
   pub of_root : ¬ Among root (cols_of m) → IsExplored a new root
 
 -- the matching stayed, since no path begins at the root, or it grew

@@ -1,8 +1,12 @@
 //! Phases of both kinds, and which one is next.
 
+ghost use Rattle.std.specs.Bool.{OnFalse};
 ghost use Rattle.std.specs.Prelude.{◌≡◌, ◌⊎◌, ◌↔◌, ◌<◌, length, IfOk, IsTrue};
+ghost use Rattle.bip_defs.specs.Marks.{Marks};
 ghost use Rattle.bip_defs.specs.Matching.{Covers, IsMaximum};
+ghost use Rattle.bip_defs.specs.Parts.{IsHorizontalRow};
 ghost use Rattle.bip_graph.specs.Matching.{IsMatchingOf, IsMaximumOf};
+ghost use Rattle.pothen_fan.specs.OuterMarks.{marks_of};
 ghost use Rattle.pothen_fan.specs.Ready.{AreReady};
 
 use crate::shortest::complete_by_shortest;
@@ -60,16 +64,23 @@ impl Phases {
         ensures grown { IsTrue result
             ↔ (length (F.seen matching.old).pairs < length (F.seen matching.new).pairs) }
 
-        // Where the matching hasn't grown it was maximum.
+        // Where the matching hasn't grown it was maximum, and the rows that the phase has marked are
+        // the horizontal rows.
         ensures maximum { ((F.seen matching.new ≡ F.seen matching.old)
             × IsMaximum (S.matrix side.now) (F.seen matching.old).pairs)
             ⊎ (length (F.seen matching.old).pairs < length (F.seen matching.new).pairs) }
+        ensures marks { OnFalse result
+            (Marks (S.matrix side.now).rows (IsHorizontalRow (S.matrix side.now))
+            (marks_of self.new)) }
     {
         let before = F::size(matching);
         self.search(side, matching);
         let growth = F::size(matching) - before;
+        if growth == 0 {
+            return false;
+        }
         self.choose(growth as usize);
-        growth > 0
+        true
     }
 
     // One phase of the kind that is next.
@@ -80,6 +91,10 @@ impl Phases {
         ensures maximum { ((F.seen matching.new ≡ F.seen matching.old)
             × IsMaximum (S.matrix side.now) (F.seen matching.old).pairs)
             ⊎ (length (F.seen matching.old).pairs < length (F.seen matching.new).pairs) }
+        ensures kind { self.new.breadth_first ≡ self.old.breadth_first }
+        ensures marks { length (F.seen matching.new).pairs ≡ length (F.seen matching.old).pairs
+            → Marks (S.matrix side.now).rows (IsHorizontalRow (S.matrix side.now))
+            (marks_of self.new) }
     {
         if self.breadth_first {
             self.forest.sweep(side, matching);
@@ -101,6 +116,18 @@ impl Phases {
         }
         self.unmatched = self.unmatched.saturating_sub(growth);
     }
+
+    /// The marks of the searches of the kind that is next: of the last phase, where it has not grown
+    /// the matching.
+    fn into_marks(self) -> Vec<bool>
+        ensures { result.items ≡ marks_of self }
+    {
+        if self.breadth_first {
+            self.forest.into_marks()
+        } else {
+            self.search.into_marks()
+        }
+    }
 }
 
 /// A maximum matching, by phases from one side, in which every row and column that was matched
@@ -119,11 +146,31 @@ pub fn complete_from<F: Opposite, S: Side<F>>(
     ensures maximum { IfOk result (λ m. IsMaximumOf (S.matrix side.now) (F.seen m)) }
     ensures covered { IfOk result (λ m. Covers (F.seen matching).pairs (F.seen m).pairs) }
 {
+    let (maximum, _marks) = complete_from_with_marks(alloc, side, matching)?;
+    Ok(maximum)
+}
+
+/// [`complete_from`], with what the last phase has marked: for each row, as the side sees them,
+/// whether it is horizontal.
+///
+/// No row is looked at for that: the marks are those of the searches. Memory, errors and work: as
+/// those of `complete_from`; of its memory a byte a row stays in use.
+pub fn complete_from_with_marks<F: Opposite, S: Side<F>>(
+    alloc: Global,
+    side: &S,
+    matching: Matching,
+) -> Result<(Matching, Vec<bool>), OutOfMemory>
+    requires matching { IsMatchingOf (S.matrix side.now) (F.seen matching) }
+    ensures maximum { IfOk result (λ p. IsMaximumOf (S.matrix side.now) (F.seen p.0)) }
+    ensures covered { IfOk result (λ p. Covers (F.seen matching).pairs (F.seen p.0).pairs) }
+    ensures marks { IfOk result (λ p.
+        Marks (S.matrix side.now).rows (IsHorizontalRow (S.matrix side.now)) p.1.items) }
+{
     let mut phases = Phases::new(alloc, side, &matching)?;
     let mut grown = matching;
     for _phase in 0..MIXED_PHASES {
         if !phases.run(side, &mut grown) {
-            return Ok(grown);
+            return Ok((grown, phases.into_marks()));
         }
     }
     drop(phases);

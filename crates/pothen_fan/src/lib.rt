@@ -30,17 +30,20 @@
 
 mod kinds;
 mod longer;
+mod outer_marks;
 mod shortest;
 mod sweep;
 
 ghost use Rattle.std.specs.Prelude.{◌≡◌, ◌⊎◌, ◌↔◌, ◌+◌, ◌<◌, length, IfOk, OnErr};
 ghost use Rattle.bip_defs.specs.Matching.{Covers, IsMaximum};
 ghost use Rattle.bip_graph.specs.Matching.{IsMatchingOf, IsMaximumOf};
+ghost use Rattle.pothen_fan.specs.OuterMarks.{AreOuterMarks};
 
 use crate::longer::lengthen_from;
 use crate::sweep::count_roots;
 use bip_graph::{Matching, matchings_of_the_transpose};
-pub use kinds::complete_from;
+pub use kinds::{complete_from, complete_from_with_marks};
+pub use outer_marks::OuterMarks;
 use sp_ids::OutOfMemory;
 use sp_pattern::{FromRows, Pattern};
 use std::alloc::Global;
@@ -85,12 +88,35 @@ pub fn complete(
     ensures maximum { IfOk result (λ m. IsMaximumOf pattern.now m) }
     ensures covered { IfOk result (λ m. Covers matching.pairs m.pairs) }
 {
+    let (maximum, _marks) = complete_with_marks(alloc, pattern, matching)?;
+    Ok(maximum)
+}
+
+/// [`complete`], with what the last phase has marked: the horizontal rows where phases searched from
+/// the columns, and the vertical columns where they searched from the rows.
+///
+/// A phase that finds no path has gone over exactly the rows of the columns that alternating paths
+/// lead to from unmatched columns (Dulmage and Mendelsohn 1958; Pothen and Fan 1990), and seen from
+/// the rows over the columns of such rows. Memory, errors and work: as those of `complete`; of its
+/// memory a byte a row, or a byte a column, stays in use.
+pub fn complete_with_marks(
+    alloc: Global,
+    pattern: &Pattern,
+    matching: Matching,
+) -> Result<(Matching, OuterMarks), OutOfMemory>
+    requires matching { IsMatchingOf pattern.now matching }
+    ensures maximum { IfOk result (λ p. IsMaximumOf pattern.now p.0) }
+    ensures covered { IfOk result (λ p. Covers matching.pairs p.0.pairs) }
+    ensures marks { IfOk result (λ p. AreOuterMarks pattern.now p.1) }
+{
     matchings_of_the_transpose();
     let from_rows = FromRows { pattern };
     if count_roots(&from_rows, &matching) < count_roots(pattern, &matching) {
-        complete_from(alloc, &from_rows, matching)
+        let (maximum, marks) = complete_from_with_marks(alloc, &from_rows, matching)?;
+        Ok((maximum, OuterMarks::VerticalCols(marks)))
     } else {
-        complete_from(alloc, pattern, matching)
+        let (maximum, marks) = complete_from_with_marks(alloc, pattern, matching)?;
+        Ok((maximum, OuterMarks::HorizontalRows(marks)))
     }
 }
 

@@ -1,7 +1,10 @@
 //! Phases of shortest augmenting paths alone.
 
+ghost use Rattle.std.specs.Bool.{OnFalse};
 ghost use Rattle.std.specs.Prelude.{◌≡◌, ◌⊎◌, ◌↔◌, ◌<◌, length, IfOk, IsTrue};
+ghost use Rattle.bip_defs.specs.Marks.{Marks};
 ghost use Rattle.bip_defs.specs.Matching.{Covers, IsMaximum};
+ghost use Rattle.bip_defs.specs.Parts.{IsHorizontalRow};
 ghost use Rattle.bip_graph.specs.Matching.{IsMatchingOf, IsMaximumOf};
 ghost use Rattle.pothen_fan.specs.Ready.{AreLaid};
 
@@ -49,11 +52,15 @@ impl ShortestPhases {
             (λ b. IsTrue b
             ↔ (length (F.seen matching.old).pairs < length (F.seen matching.new).pairs)) }
 
-        // Where the matching hasn't grown it was maximum.
+        // Where the matching hasn't grown it was maximum, and the marked rows are the horizontal
+        // rows.
         ensures maximum { IfOk result
             (λ b. ((F.seen matching.new ≡ F.seen matching.old)
             × IsMaximum (S.matrix side.now) (F.seen matching.old).pairs)
             ⊎ (length (F.seen matching.old).pairs < length (F.seen matching.new).pairs)) }
+        ensures marks { IfOk result (λ b. OnFalse b
+            (Marks (S.matrix side.now).rows (IsHorizontalRow (S.matrix side.now))
+            self.new.forest.marks)) }
     {
         let before = F::size(matching);
         self.forest.shortest(side, matching, &mut self.layers)?;
@@ -64,7 +71,8 @@ impl ShortestPhases {
     }
 }
 
-/// Phases of shortest paths from one side, until the matching is maximum.
+/// Phases of shortest paths from one side, until the matching is maximum, and what the last one has
+/// marked.
 ///
 /// They are at most twice the square root of the number of pairs of a maximum matching, and two
 /// more (Hopcroft and Karp 1973).
@@ -72,10 +80,12 @@ pub fn complete_by_shortest<F: Opposite, S: Side<F>>(
     alloc: Global,
     side: &S,
     matching: Matching,
-) -> Result<Matching, OutOfMemory>
+) -> Result<(Matching, Vec<bool>), OutOfMemory>
     requires matching { IsMatchingOf (S.matrix side.now) (F.seen matching) }
-    ensures maximum { IfOk result (λ m. IsMaximumOf (S.matrix side.now) (F.seen m)) }
-    ensures covered { IfOk result (λ m. Covers (F.seen matching).pairs (F.seen m).pairs) }
+    ensures maximum { IfOk result (λ p. IsMaximumOf (S.matrix side.now) (F.seen p.0)) }
+    ensures covered { IfOk result (λ p. Covers (F.seen matching).pairs (F.seen p.0).pairs) }
+    ensures marks { IfOk result (λ p.
+        Marks (S.matrix side.now).rows (IsHorizontalRow (S.matrix side.now)) p.1.items) }
 {
     let mut phases = ShortestPhases::new(alloc, side, &matching)?;
     let mut grown = matching;
@@ -83,5 +93,5 @@ pub fn complete_by_shortest<F: Opposite, S: Side<F>>(
     while grows {
         grows = phases.run(side, &mut grown)?;
     }
-    Ok(grown)
+    Ok((grown, phases.forest.into_marks()))
 }

@@ -2,13 +2,15 @@
 
 ghost use Rattle.std.specs.Prelude.{◌≡◌, ◌⊎◌, ℕ, ◌<◌, ◌↔◌, ◌+◌, List, length, IfOk, IsTrue, OnErr};
 ghost use Rattle.bip_defs.specs.Lists.{Lists};
+ghost use Rattle.bip_defs.specs.Marks.{Marks};
 ghost use Rattle.bip_defs.specs.Matching.{Covers, IsMaximum};
 ghost use Rattle.bip_defs.specs.Matrix.{cols};
+ghost use Rattle.bip_defs.specs.Parts.{IsHorizontalRow};
 ghost use Rattle.bip_graph.specs.Matching.{IsMatchingOf};
 ghost use Rattle.pothen_fan.specs.Roots.{Extends, HoldRoots, IsRoot};
 
 use bip_graph::{Matching, Opposite};
-use path_search::Search;
+use path_search::{Search, marked_rows_are_horizontal};
 use sp_ids::{Col, OutOfMemory};
 use sp_pattern::Side;
 use std::alloc::Global;
@@ -107,11 +109,14 @@ pub fn sweep<F: Opposite, S: Side<F>>(
     ensures cols { search.new.cols ≡ search.old.cols }
     ensures covered { Covers (F.seen matching.old).pairs (F.seen matching.new).pairs }
 
-    // Where the matching hasn't grown it was maximum.
+    // Where the matching hasn't grown it was maximum, and the marked rows are the horizontal rows.
     ensures maximum { ((F.seen matching.new ≡ F.seen matching.old)
         × IsMaximum (S.matrix side.now) (F.seen matching.old).pairs)
         ⊎ (length (F.seen matching.old).pairs < length (F.seen matching.new).pairs) }
+    ensures marks { length (F.seen matching.new).pairs ≡ length (F.seen matching.old).pairs
+        → Marks (S.matrix side.now).rows (IsHorizontalRow (S.matrix side.now)) search.new.marks }
 {
+    marked_rows_are_horizontal();
     search.clear();
     for root in roots {
         extend(search, side, matching, *root, reversed);

@@ -1,5 +1,5 @@
 use Rattle.bip_defs.proofs.Covers.{covers_more}
-use Rattle.pothen_fan.proofs.Phases.{last_phase, phases_fall}
+use Rattle.pothen_fan.proofs.Phases.{last_phase, on_false, phases_fall}
 use Rattle.pothen_fan.proofs.shortest.complete_by_shortest.Goals as goal
 
 pub loop-grows-smaller : goal.loop-grows-smaller
@@ -14,5 +14,6 @@ loop-grows-preserved g c =
     record {
       ready = e.ready;
       last = last_phase _ _ _ _ e.grown e.maximum;
+      marks = λ none. on_false c.in_ok-grows.grows none e.marks;
       covered = covers_more k.covered e.covered;
     }

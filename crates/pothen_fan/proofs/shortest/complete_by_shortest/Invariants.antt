@@ -1,6 +1,8 @@
 use Rattle.std.proofs.Common.{◌≡◌, ◌-◌, ◌+◌, false, length, if◌then◌else◌}
+use Rattle.bip_defs.specs.Marks.{Marks}
 use Rattle.bip_defs.specs.Matching.{Covers, IsMaximum}
 use Rattle.bip_defs.specs.Matrix.{cols}
+use Rattle.bip_defs.specs.Parts.{IsHorizontalRow}
 use Rattle.pothen_fan.specs.Ready.{AreLaid}
 use Rattle.pothen_fan.proofs.shortest.complete_by_shortest.Given as goal
 
@@ -8,6 +10,7 @@ abbrev pub invariant-loop-grows : goal.invariant-loop-grows
 invariant-loop-grows g l = record {
   ready : AreLaid (g.S.Side.matrix l.side) (g.F.Opposite.seen l.grown) l.phases;
   last : l.grows ≡ false → IsMaximum (g.S.Side.matrix l.side) (g.F.Opposite.seen l.grown).pairs;
+  marks : l.grows ≡ false → Marks (g.S.Side.matrix l.side).rows (IsHorizontalRow (g.S.Side.matrix l.side)) l.phases.forest.marks;
   covered : Covers (g.F.Opposite.seen l.fn.matching).pairs (g.F.Opposite.seen l.grown).pairs;
 }
 

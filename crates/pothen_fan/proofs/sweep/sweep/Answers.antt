@@ -2,7 +2,7 @@ use Rattle.std.proofs.Common.{◌≡◌, length, take, arith, ap, ◌∙◌, sub
 use Rattle.std.proofs.Math.Seq.{take-length}
 use Rattle.std.proofs.lemmas.List.{take_more}
 use Rattle.bip_defs.proofs.Covers.{covers_more}
-use Rattle.pothen_fan.proofs.Phases.{Progress, progress_ends, progress_more}
+use Rattle.pothen_fan.proofs.Phases.{Progress, progress_ends, progress_marks, progress_more}
 use Rattle.bip_defs.proofs.Slices.{read_among, read_at}
 use Rattle.pothen_fan.proofs.sweep.sweep.Goals as goal
 
@@ -26,3 +26,9 @@ returns-clause-maximum g c =
     let roots = c.args.roots.now in
     let all : take c.loop-root.root-index roots ≡ roots = (let e : c.loop-root.root-index ≡ length roots = (let to = c.loop-root.auto.root-index-end in let past = c.loop-root-test.false in omega arith) in ap (λ k. take k roots) e ∙ take-length roots) in
     progress_ends _ _ _ _ roots (subst (λ xs. Progress (g.S.Side.matrix c.args.side.now) (g.F.Opposite.seen c.args.matching.now) (g.F.Opposite.seen c.loop-root.matching) c.loop-root.search.marks xs) all c.loop-root.invariant.progress) c.requires.roots c.loop-root.invariant.matching.matching
+
+pub returns-clause-marks : goal.returns-clause-marks
+returns-clause-marks g c same =
+    let roots = c.args.roots.now in
+    let all : take c.loop-root.root-index roots ≡ roots = (let e : c.loop-root.root-index ≡ length roots = (let to = c.loop-root.auto.root-index-end in let past = c.loop-root-test.false in omega arith) in ap (λ k. take k roots) e ∙ take-length roots) in
+    progress_marks _ _ _ _ roots (c.marked_rows_are_horizontal.ensures _ _ _) (subst (λ xs. Progress (g.S.Side.matrix c.args.side.now) (g.F.Opposite.seen c.args.matching.now) (g.F.Opposite.seen c.loop-root.matching) c.loop-root.search.marks xs) all c.loop-root.invariant.progress) c.requires.roots c.loop-root.invariant.matching.matching (c.loop-root.invariant.rows ∙ c.requires.rows) same

@@ -1,6 +1,6 @@
 use Rattle.std.proofs.lemmas.Result.{IfOk-weaker}
 use Rattle.bip_defs.proofs.Covers.{covers_more}
-use Rattle.pothen_fan.proofs.kinds.complete_from.Goals as goal
+use Rattle.pothen_fan.proofs.kinds.complete_from_with_marks.Goals as goal
 
 pub loop-phase-preserved : goal.loop-phase-preserved
 loop-phase-preserved g c = record {

@@ -1,6 +1,6 @@
 use Rattle.bip_defs.specs.Matching.{Covers}
 use Rattle.pothen_fan.specs.Ready.{AreReady}
-use Rattle.pothen_fan.proofs.kinds.complete_from.Given as goal
+use Rattle.pothen_fan.proofs.kinds.complete_from_with_marks.Given as goal
 
 abbrev pub invariant-loop-phase : goal.invariant-loop-phase
 invariant-loop-phase g l = record {
