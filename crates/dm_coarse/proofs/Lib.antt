@@ -1,4 +1,5 @@
 pub mod ForestLemmas
 pub mod GatheredLemmas
+pub mod LedLemmas
 pub mod NumberingLemmas
 pub mod SplitLemmas

@@ -4,25 +4,30 @@
 
 mod connected_components;
 mod forest;
+mod known_side;
 mod numbering;
 mod searches;
 mod split;
 
 ghost use Rattle.std.specs.Prelude.{IfNone, IfOk, IfSome};
+ghost use Rattle.bip_defs.specs.Marks.{Marks};
 ghost use Rattle.bip_defs.specs.Matching.{IsMaximum};
 ghost use Rattle.bip_defs.specs.Matrix.{cols};
-ghost use Rattle.bip_defs.specs.Parts.{ArePartsOf, IsHorizontalCol, IsVerticalRow};
+ghost use Rattle.bip_defs.specs.Parts.{ArePartsOf, IsHorizontalCol, IsHorizontalRow, IsVerticalCol, IsVerticalRow};
 ghost use Rattle.bip_graph.specs.Decompositions.{parts_of};
 ghost use Rattle.bip_graph.specs.Matching.{IsMatchingOf, IsMaximumOf};
 ghost use Rattle.dm_coarse.specs.Searches.{AreMarksIfMaximum};
 ghost use Rattle.dm_coarse.specs.Split.{AreKnown};
 
+use crate::known_side::mark_horizontal_cols;
 use crate::searches::Matched;
 use crate::split::{split_cols, split_rows};
-use bip_graph::{Matching, Parts};
+use bip_graph::{Matching, Parts, matchings_of_the_transpose};
 pub use connected_components::components;
+use hall_witness::reached;
+pub use known_side::horizontal_cols;
 use sp_ids::OutOfMemory;
-use sp_pattern::Pattern;
+use sp_pattern::{FromRows, Pattern};
 use std::alloc::Global;
 use std::thread::Threads;
 
@@ -67,6 +72,50 @@ pub fn coarse_in_turn(
         Some(parts) => Ok(parts),
         None => unreachable!(),
     }
+}
+
+/// [`coarse`], where it is known which rows are horizontal: by one search, from the unmatched rows.
+///
+/// The horizontal columns are the unmatched ones and the mates of the horizontal rows. Answers
+/// `OutOfMemory` where 9 bytes a row and 1 a column can't be had, or 4 each for the lists. Work:
+/// each entry is looked at once at most, and each row and column a fixed number of times.
+pub fn coarse_by_rows(
+    alloc: Global,
+    pattern: &Pattern,
+    matching: &Matching,
+    horizontal: &[bool],
+) -> Result<Parts, OutOfMemory>
+    requires maximum { IsMaximumOf pattern.now matching.now }
+    requires rows { Marks pattern.now.rows (IsHorizontalRow pattern.now) horizontal.now }
+    ensures { IfOk result (λ p. ArePartsOf pattern.now (parts_of p)) }
+{
+    matchings_of_the_transpose();
+    let cols = mark_horizontal_cols(alloc, pattern, matching, horizontal)?;
+    let rows = reached(alloc, &FromRows { pattern }, matching)?;
+    parts_by(alloc, pattern, matching, cols.as_slice(), rows.as_slice())
+}
+
+/// [`coarse`], where it is known which columns are vertical: by one search, from the unmatched
+/// columns.
+///
+/// The vertical rows are the unmatched ones and the mates of the vertical columns. Answers
+/// `OutOfMemory` where 9 bytes a column and 1 a row can't be had, or 4 each for the lists. Work: as
+/// [`coarse_by_rows`].
+pub fn coarse_by_cols(
+    alloc: Global,
+    pattern: &Pattern,
+    matching: &Matching,
+    vertical: &[bool],
+) -> Result<Parts, OutOfMemory>
+    requires maximum { IsMaximumOf pattern.now matching.now }
+    requires cols { Marks (cols pattern.now) (IsVerticalCol pattern.now) vertical.now }
+    ensures { IfOk result (λ p. ArePartsOf pattern.now (parts_of p)) }
+{
+    matchings_of_the_transpose();
+    // The vertical columns are the horizontal rows of the transpose.
+    let rows = mark_horizontal_cols(alloc, &FromRows { pattern }, matching, vertical)?;
+    let cols = reached(alloc, pattern, matching)?;
+    parts_by(alloc, pattern, matching, cols.as_slice(), rows.as_slice())
 }
 
 /// [`coarse`] from a matching of which it is not known whether it is maximum: the same two searches
