@@ -2,6 +2,7 @@
 use Rattle.std.proofs.Common.{IfOk, Result, Ok, Err, ◌≡◌, ◌∙◌, ◌↔◌, ℕ, ◌+◌, ◌<◌, Bool, true, false, List, [], ◌∷◌, ◌++◌, take, length, get_or, set, sym, ap, subst, inl, ⊎_elim, arith, get_or-set_same, get_or-set_other}
 use Rattle.std.proofs.lemmas.List.{take_more}
 use Rattle.bip_defs.specs.Lists.{Among, AreDistinct, IsMarked, Lists}
+use Rattle.bip_defs.specs.Marks.{Marks}
 use Rattle.bip_defs.specs.Matching.{IsMaximum, cols_of, rows_of}
 use Rattle.bip_defs.specs.Matrix.{Matrix, Place}
 use Rattle.bip_defs.specs.Parts.{IsHorizontalCol, IsHorizontalRow}
@@ -61,3 +62,7 @@ mates_listed items (Ok v) m columns n marks slice e long within exact h =
     lists_same (λ r. (r < length marks) × IsMarked marks r) (IsMateOf m columns) (items v) (λ r k. (exact r).0 k.1) (λ r k. (let lt = within r k.0 k.2 in omega (arith, lt, long), (exact r).1 k))
     (subst (λ (s : List Bool). Lists (λ r. (r < length s) × IsMarked s r) (items v)) e h)
 mates_listed items (Err x) m columns n marks slice e long within exact h = tt
+
+-- the marked rows, where the horizontal ones are marked
+pub marked_rows : (a : Matrix) (marks : List Bool) (rows : List ℕ) → Marks a.rows (IsHorizontalRow a) marks → Lists (λ r. (r < length marks) × IsMarked marks r) rows → Lists (IsHorizontalRow a) rows
+marked_rows a marks rows k l = lists_same (λ r. (r < length marks) × IsMarked marks r) (IsHorizontalRow a) rows (λ r h. (k.exact r (let lt = h.0 in omega (arith, lt, k.long))).0 h.1) (λ r h. let lt = h.2.0 in (omega (arith, lt, k.long), (k.exact r lt).1 h)) l

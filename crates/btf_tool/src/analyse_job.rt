@@ -11,8 +11,8 @@ ghost use Rattle.sp_ports.specs.Device.{seen};
 ghost use Rattle.btf_tool.specs.Jobs.{GavePrefix, OfReading};
 ghost use Rattle.btf_tool.specs.Runs.{JobSays};
 
-use crate::decompose::decompose_in;
-use crate::engines::{least_if_asked, matching_for};
+use crate::decompose::{decompose, matched_parts};
+use crate::engines::least_if_asked;
 use crate::matrix::matrix_of;
 use crate::reading::read_file;
 use crate::writing::hand_on;
@@ -20,7 +20,7 @@ use crate::{Answer, Refusal};
 use bip_graph::{Components, Decomposition, Matching, Parts};
 use btf_text::{TextBuf, write_report};
 use btf_words::{EngineChoice, ReportOptions};
-use dm_coarse::{coarse, components};
+use dm_coarse::components;
 use sp_ids::OutOfMemory;
 use sp_pattern::Pattern;
 use sp_ports::{Gate, Sink, Source};
@@ -97,10 +97,9 @@ fn analysis_of<R: Threads + Sync, G: Gate>(
     ensures of_version { IfOk result
         (λ a. AreOfVersion pattern.now options.report.version (components_in a.components)) }
 {
-    let found = matching_for(rt, alloc, pattern, options.choice, gate)?;
-    let parts = coarse(rt, alloc, pattern, &found)?;
+    let (found, parts) = matched_parts(rt, alloc, pattern, options.choice, gate)?;
     let matching = least_if_asked(alloc, pattern, found, &parts, options.report.least)?;
-    let decomposition = decompose_in(alloc, pattern, &matching, parts)?;
+    let decomposition = decompose(alloc, pattern, &matching, parts)?;
     let components = components_for(alloc, options.report.version, pattern, &decomposition.parts)?;
     Ok(Analysis {
         matching,

@@ -101,7 +101,7 @@ fn perform<R: Threads + Sync, S: Source, O: Sink, G: Gate>(
     ensures unread { ¬ ReadsFile job → IsUntouched (seen S.left S.faults input.old input.new) }
 {
     match job {
-        Job::Rank { drop_zeros } => rank(rt, alloc, drop_zeros, input, out, gate),
+        Job::Rank { drop_zeros } => rank(rt, alloc, drop_zeros, input, out),
         Job::Analyse {
             choice,
             report,

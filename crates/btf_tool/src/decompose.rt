@@ -1,38 +1,74 @@
-//! The decomposition of a matrix that stands.
+//! The coarse parts and the decomposition of a matrix that stands.
 
 ghost use Rattle.std.specs.Prelude.{IfOk};
 ghost use Rattle.bip_defs.specs.Parts.{ArePartsOf};
 ghost use Rattle.bip_graph.specs.Decompositions.{Decomposes, parts_of};
 ghost use Rattle.bip_graph.specs.Matching.{IsMaximumOf};
+ghost use Rattle.btf_words.specs.Words.{HasWorkers};
 
+use crate::engines::{matching_for, solve_with_marks};
 use bip_graph::{Decomposition, Matching, Parts};
-use dm_coarse::coarse;
+use btf_words::{Engine, EngineChoice};
+use dm_coarse::{coarse, coarse_by_cols, coarse_by_rows};
 use dm_fine::fine;
+use pothen_fan::OuterMarks;
 use sp_ids::OutOfMemory;
 use sp_pattern::Pattern;
+use sp_ports::Gate;
 use std::alloc::Global;
 use std::thread::Threads;
 
-/// The decomposition of a matrix, by a maximum matching of it.
+/// A maximum matching, by the engine that is asked for with so many workers, and the coarse parts.
 ///
-/// Answers `OutOfMemory` where the tables of the coarse parts or of the fine blocks can't be had.
-pub(crate) fn decompose<R: Threads + Sync>(
+/// Answers `OutOfMemory` where the tables of the engine or of the coarse parts can't be had.
+pub(crate) fn matched_parts<R: Threads + Sync, G: Gate>(
     rt: &R,
     alloc: Global,
     pattern: &Pattern,
-    matching: &Matching,
-) -> Result<Decomposition, OutOfMemory>
-    requires { IsMaximumOf pattern.now matching.now }
-    ensures { IfOk result (Decomposes pattern.now) }
+    choice: EngineChoice,
+    gate: &G,
+) -> Result<(Matching, Parts), OutOfMemory>
+    requires workers { HasWorkers choice }
+    ensures maximum { IfOk result (λ p. IsMaximumOf pattern.now p.0) }
+    ensures parts { IfOk result (λ p. ArePartsOf pattern.now (parts_of p.1)) }
 {
-    let parts = coarse(rt, alloc, pattern, matching)?;
-    decompose_in(alloc, pattern, matching, parts)
+    match choice.engine {
+        Engine::Pf => parts_by_marks(alloc, pattern),
+        Engine::Plain | Engine::Mc21 | Engine::Graft => {
+            let matching = matching_for(rt, alloc, pattern, choice, gate)?;
+            let parts = coarse(rt, alloc, pattern, &matching)?;
+            Ok((matching, parts))
+        }
+    }
 }
 
-/// [`decompose`], where the coarse parts are known.
+/// A maximum matching by the engine `Pf`, and the coarse parts by what its last phase has marked and
+/// one search from the other side.
+///
+/// Answers `OutOfMemory` where the tables of the engine or of the search can't be had.
+pub(crate) fn parts_by_marks(
+    alloc: Global,
+    pattern: &Pattern,
+) -> Result<(Matching, Parts), OutOfMemory>
+    ensures maximum { IfOk result (λ p. IsMaximumOf pattern.now p.0) }
+    ensures parts { IfOk result (λ p. ArePartsOf pattern.now (parts_of p.1)) }
+{
+    let (matching, marks) = solve_with_marks(alloc, pattern)?;
+    let parts = match marks {
+        OuterMarks::HorizontalRows(rows) => {
+            coarse_by_rows(alloc, pattern, &matching, rows.as_slice())?
+        }
+        OuterMarks::VerticalCols(cols) => {
+            coarse_by_cols(alloc, pattern, &matching, cols.as_slice())?
+        }
+    };
+    Ok((matching, parts))
+}
+
+/// The decomposition of a matrix, by a maximum matching of it, where the coarse parts are known.
 ///
 /// Answers `OutOfMemory` where the tables of the fine blocks can't be had.
-pub(crate) fn decompose_in(
+pub(crate) fn decompose(
     alloc: Global,
     pattern: &Pattern,
     matching: &Matching,

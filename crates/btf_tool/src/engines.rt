@@ -6,6 +6,7 @@ ghost use Rattle.bip_graph.specs.Answers.{IsMaximumOrLeast};
 ghost use Rattle.bip_graph.specs.Decompositions.{parts_of};
 ghost use Rattle.bip_graph.specs.Matching.{IsMaximumOf};
 ghost use Rattle.btf_words.specs.Words.{HasWorkers};
+ghost use Rattle.pothen_fan.specs.OuterMarks.{AreOuterMarks};
 ghost use Rattle.sp_ids.specs.Limits.{max_workers};
 
 use bip_graph::{Matching, Parts};
@@ -13,6 +14,7 @@ use btf_words::{Engine, EngineChoice};
 use hall_witness::plain;
 use karp_sipser::start;
 use least_match::least_by_parts;
+use pothen_fan::{OuterMarks, complete_with_marks};
 use sp_ids::OutOfMemory;
 use sp_pattern::Pattern;
 use sp_ports::Gate;
@@ -55,6 +57,18 @@ pub fn solve<R: Threads + Sync, G: Gate>(
             tree_graft::complete(rt, alloc, pattern, matching, workers, gate)
         }
     }
+}
+
+/// A maximum matching by the engine `Pf`, and what its last phase has marked.
+pub(crate) fn solve_with_marks(
+    alloc: Global,
+    pattern: &Pattern,
+) -> Result<(Matching, OuterMarks), OutOfMemory>
+    ensures maximum { IfOk result (λ p. IsMaximumOf pattern.now p.0) }
+    ensures marks { IfOk result (λ p. AreOuterMarks pattern.now p.1) }
+{
+    let matching = start(alloc, pattern)?;
+    complete_with_marks(alloc, pattern, matching)
 }
 
 /// A maximum matching, by the engine that is asked for with so many workers.

@@ -6,16 +6,14 @@ ghost use Rattle.mm_defs.specs.File.{Reads};
 ghost use Rattle.mm_defs.specs.declared.answers.End.TheVariants.{File};
 ghost use Rattle.btf_tool.specs.FileAnswer.{IsFileAnswer};
 
-use crate::decompose::decompose;
-use crate::engines::solve;
+use crate::decompose::{decompose, parts_by_marks};
 use bip_graph::{Components, Decomposition};
-use btf_words::Engine;
 use dm_coarse::components;
 use mm_defs::{End, Kind, ReadError};
 use mm_reader::{Input, read_matrix};
 use sp_ids::{MAX_INPUT_BYTES, OutOfMemory, Triples};
 use sp_pattern::Pattern;
-use sp_ports::{LentSource, NoGate};
+use sp_ports::LentSource;
 use std::alloc::Global;
 use std::thread::Threads;
 
@@ -73,8 +71,8 @@ fn analysed<R: Threads + Sync>(
 {
     let pattern = Pattern::build(rt, alloc, &triples)?;
     drop(triples);
-    let matching = solve(rt, alloc, &pattern, Engine::Pf, 1, &NoGate)?;
-    let decomposition = decompose(rt, alloc, &pattern, &matching)?;
+    let (matching, parts) = parts_by_marks(alloc, &pattern)?;
+    let decomposition = decompose(alloc, &pattern, &matching, parts)?;
     let components = components(alloc, &pattern, &decomposition.parts)?;
     Ok(FileAnswer::Report(decomposition, components))
 }

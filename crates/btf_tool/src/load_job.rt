@@ -10,8 +10,7 @@ ghost use Rattle.sp_ports.specs.Device.{Device, IsUntouched, seen};
 ghost use Rattle.btf_tool.specs.Runs.{JobSays};
 ghost use Rattle.btf_tool.specs.Summaries.{IsLoadMatrix};
 
-use crate::decompose::decompose;
-use crate::engines::matching_for;
+use crate::decompose::{decompose, matched_parts};
 use crate::writing::hand_on;
 use crate::{Answer, Refusal};
 use bip_graph::Decomposition;
@@ -63,6 +62,6 @@ fn decomposition_of<R: Threads + Sync, G: Gate>(
         (λ d. (a : Matrix) × IsLoadMatrix size seed a × Decomposes a d) }
 {
     let pattern = load_matrix(rt, alloc, size, seed)?;
-    let matching = matching_for(rt, alloc, &pattern, choice, gate)?;
-    decompose(rt, alloc, &pattern, &matching)
+    let (matching, parts) = matched_parts(rt, alloc, &pattern, choice, gate)?;
+    decompose(alloc, &pattern, &matching, parts)
 }

@@ -45,7 +45,7 @@ fn mark(matching: &Matching, columns: &[Col], marks: &mut [bool])
 }
 
 /// The marked rows, rising.
-fn listed(alloc: Global, marks: &[bool]) -> Result<Vec<Row>, OutOfMemory>
+pub(crate) fn listed(alloc: Global, marks: &[bool]) -> Result<Vec<Row>, OutOfMemory>
     requires { length marks.now < 2 ^ 32 }
     ensures { IfOk result
         (λ v. Lists (λ r. (r < length marks.now) × IsMarked marks.now r) v.items) }

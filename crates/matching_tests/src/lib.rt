@@ -14,6 +14,8 @@ mod engines;
 #[cfg(test)]
 mod forests;
 #[cfg(test)]
+mod last_marks;
+#[cfg(test)]
 mod least_matchings;
 #[cfg(test)]
 mod matching_types;
