@@ -3,6 +3,7 @@
 ghost use Rattle.std.specs.Prelude.{◌≡◌, ◌^◌, ◌≤◌, IfOk, IsTrue, length};
 ghost use Rattle.std.specs.List.{slice_range};
 ghost use Rattle.bip_defs.specs.Lists.{IsRising};
+ghost use Rattle.bip_defs.specs.Pieces.{AreStarts};
 ghost use Rattle.blocktri.specs.RisingColumns.{AreRisingColumns, HaveRisingRows};
 ghost use Rattle.sp_pattern.specs.Columns.{matrix_of};
 ghost use Rattle.sp_pattern.specs.Pairs.{AreBelow};
