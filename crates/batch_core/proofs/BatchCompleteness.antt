@@ -1,5 +1,6 @@
 -- Which status has to come, from what each status says.
 use Rattle.std.proofs.Common.{◌≡◌, ◌+◌, ◌-◌, ◌≤◌, ◌<◌, ◌⊎◌, ◌++◌, ◌∙◌, ℕ, Bool, true, false, List, length, take, inl, inr, refl, sym, ap, subst, arith, length-take, Option, Some, None, if◌then◌else◌}
+use Rattle.std.proofs.lemmas.Option.{none-some}
 use Rattle.sp_ids.specs.declared.outcomes.Status.{Status}
 use Rattle.sp_ids.specs.declared.outcomes.Status.TheVariants as statuses
 use Rattle.sp_ports.specs.Device.{Device, FailsOnceAtMost, HasReadFault, HasWriteFault, SourceRose}
@@ -30,16 +31,13 @@ pub record Laws : Type 0 where
   pub read : (call : Call) (error : BatchError) (files : List (List ℕ)) → RefusesBatch call error → IsBatch (offered call) files → length (offered call) ≤ call.room
       → call.failures_after ≡ call.failures_before → error ≡ errors.OutOfMemory
 
-clash : (first : Option BatchFault) (fault : BatchFault) → first ≡ None → first ≡ Some fault → ⊥
-clash first fault none some = cc
-
 module _ (laws : Laws) where
   stays_none : (ended : Bool) (bytes more : List ℕ) → first_bad_frame ended (bytes ++ more) ≡ None → first_bad_frame false bytes ≡ None
   stays_none ended bytes more none = by (first_bad_frame false bytes) refl
     where
       by : (o : Option BatchFault) → first_bad_frame false bytes ≡ o → first_bad_frame false bytes ≡ None
       by None e = e
-      by (Some x) e = let h = laws.stays ended bytes more x e in absurd (clash (first_bad_frame ended (bytes ++ more)) x none h)
+      by (Some x) e = let h = laws.stays ended bytes more x e in absurd (none-some x (sym none ∙ h))
 
   -- of a batch no frame is bad, however much of it was given
   batch_given : (call : Call) (files : List (List ℕ)) → IsBatch (offered call) files → first_bad_file call ≡ None
@@ -85,7 +83,7 @@ module _ (laws : Laws) where
   answered r status P answer taken written ends = record {
     usage = λ not. absurd (not taken);
     bad_file = λ _. where_known r.input.before r.input.after is.was_read
-        (λ x y before read fault bad. absurd (clash (first_bad_file (reading r.input x y)) fault (batch_given (reading r.input x y) is.files read.batch) bad));
+        (λ x y before read fault bad. absurd (none-some fault (sym (batch_given (reading r.input x y) is.files read.batch) ∙ bad)));
     good = λ _ no_read no_write. where_known r.input.before r.input.after is.was_read
         (λ x y before read files batch few. subst (λ (fs : List (List ℕ)). EndsWell fs status) (laws.one_list x is.files files read.batch batch)
         (ends_well is.files answer status is.answer_is (ends no_write)));
@@ -133,9 +131,9 @@ module _ (laws : Laws) where
         (λ x y before h files batch few. absurd (not_memory limit file kind
         (laws.read (reading r.input x y) (told limit file kind) files (refuses limit (reading r.input x y) file kind h) batch few (steady r.input x before later no_read))));
     not_good = λ _ no_read. where_known r.input.before r.input.after first (λ x y before h none. inl (either status limit said));
-    too_many = λ _. where_known r.input.before r.input.after first (λ x y before h none past. absurd (clash (first_bad_file (reading r.input x y)) _ none h.0));
+    too_many = λ _. where_known r.input.before r.input.after first (λ x y before h none past. absurd (none-some _ (sym none ∙ h.0)));
     too_long = λ _ no_read. where_known r.input.before r.input.after first
-        (λ x y before h past none. absurd (clash (first_bad_file (reading r.input x y)) _ (limit_given (reading r.input x y) past none) h.0));
+        (λ x y before h past none. absurd (none-some _ (sym (limit_given (reading r.input x y) past none) ∙ h.0)));
   }
 
   too_long_or_memory : errors.TooLong ≡ errors.OutOfMemory → ⊥
@@ -155,7 +153,7 @@ module _ (laws : Laws) where
   refused r status (Limit file kind) said c = bad r status file kind true said c.0 c.1 c.2.0
   refused r status TooLong said c = record {
     usage = λ not. absurd (not c.0);
-    bad_file = λ _. where_known r.input.before r.input.after c.2.0 (λ x y before h fault two. absurd (clash (first_bad_file (reading r.input x y)) fault h.0 two));
+    bad_file = λ _. where_known r.input.before r.input.after c.2.0 (λ x y before h fault two. absurd (none-some fault (sym h.0 ∙ two)));
     good = λ _ no_read no_write. where_known r.input.before r.input.after c.2.0
         (λ x y before h files batch few. absurd (too_long_or_memory (laws.read (reading r.input x y) errors.TooLong files h batch few (steady r.input x before c.1 no_read))));
     not_good = λ _ no_read. where_known r.input.before r.input.after c.2.0 (λ x y before h none. inl (inr said));
@@ -164,7 +162,7 @@ module _ (laws : Laws) where
   }
   refused r status ReadFault said c = record {
     usage = λ not. absurd (not c.0);
-    bad_file = λ _. where_known r.input.before r.input.after c.2.0.1 (λ x y before h fault two. absurd (clash (first_bad_file (reading r.input x y)) fault h.0 two));
+    bad_file = λ _. where_known r.input.before r.input.after c.2.0.1 (λ x y before h fault two. absurd (none-some fault (sym h.0 ∙ two)));
     good = λ _ no_read. absurd (no_read c.2.0.0);
     not_good = λ _ no_read. absurd (no_read c.2.0.0);
     too_many = λ _. where_known r.input.before r.input.after c.2.0.1 (λ x y before h none past. let few = h.1 in absurd (omega (arith, few, past)));

@@ -1,5 +1,6 @@
 -- There is one text over the files of a batch, and it is that of their answers.
 use Rattle.std.proofs.Common.{◌≡◌, ◌≢◌, ◌<◌, ◌+◌, ◌∙◌, ◌++◌, ℕ, suc, take, drop, get_or, arith, append_assoc, append-nil, length-take, Bool, true, false, List, [], ◌∷◌, Option, Some, None, ap, ap₂, length, refl, sym, subst, inl, inr, if◌then◌else◌}
+use Rattle.std.proofs.lemmas.Option.{none-some}
 use Rattle.std.proofs.lemmas.List.{take-append-drop, take_more}
 use Rattle.bip_defs.proofs.Uniqueness.{same_matrix}
 use Rattle.bip_defs.specs.ConnectedComponents as connected
@@ -31,9 +32,6 @@ use Rattle.batch_core.specs.Shares.{AreSlotsOf, IsAnswerAt, slot_at}
 abbrev pub HasOneReport : Type 0
 HasOneReport = (a : Matrix) (version : ℕ) (order : Bool) (s t : List ℕ) → IsAnalysis a version order false false s → IsAnalysis a version order false false t → s ≡ t
 
-no_fault_and_one : (found : Option Fault) (fault : Fault) → found ≡ None → found ≡ Some fault → ⊥
-no_fault_and_one found fault none some = cc
-
 one_file_text : HasOneReport → (number : ℕ) (file s t : List ℕ) → IsFileText number file s → IsFileText number file t → s ≡ t
 one_file_text one number file s t (inl p) (inl q) =
     let same_t : p.entries ≡ q.entries = p.reads.entries ∙ sym q.reads.entries in
@@ -41,8 +39,8 @@ one_file_text one number file s t (inl p) (inl q) =
     let same_a : p.matrix ≡ q.matrix = same_matrix _ _ _ p.matrix q.matrix mine q.is_matrix in
     let same_r : p.report ≡ q.report = one q.matrix 2 false p.report q.report (subst (λ (a : Matrix). IsAnalysis a 2 false false false p.report) same_a p.is_report) q.is_report in
     p.spelled ∙ ap (behind_file_line number 0) same_r ∙ sym q.spelled
-one_file_text one number file s t (inl p) (inr q) = absurd (no_fault_and_one _ q.fault (good_file File file p.reads.good) q.first)
-one_file_text one number file s t (inr p) (inl q) = absurd (no_fault_and_one _ p.fault (good_file File file q.reads.good) p.first)
+one_file_text one number file s t (inl p) (inr q) = absurd (none-some q.fault (sym (good_file File file p.reads.good) ∙ q.first))
+one_file_text one number file s t (inr p) (inl q) = absurd (none-some p.fault (sym (good_file File file q.reads.good) ∙ p.first))
 one_file_text one number file s t (inr p) (inr q) =
     let some : Some p.fault ≡ Some q.fault = sym p.first ∙ q.first in
     let same : p.fault ≡ q.fault = cc in
@@ -170,7 +168,7 @@ slots_answer [] (slot ∷ slots) are = absurd are
 slots_answer (file ∷ files) [] are = absurd are
 slots_answer (file ∷ files) (None ∷ slots) are = absurd are
 slots_answer (file ∷ files) (Some (Reported d c) ∷ slots) are = behind_good file files (answer_of slots) (good_file File file are.0.reads.good) (slots_answer files slots are.1)
-slots_answer (file ∷ files) (Some (Bad limit line kind) ∷ slots) are = λ all. no_fault_and_one _ _ all.0 are.0.first
+slots_answer (file ∷ files) (Some (Bad limit line kind) ∷ slots) are = λ all. none-some _ (sym all.0 ∙ are.0.first)
 
 -- ---- slot by slot
 

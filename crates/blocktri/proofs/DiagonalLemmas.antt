@@ -1,5 +1,6 @@
 -- What the diagonals' answers and refusals rest on.
-use Rattle.std.proofs.Common.{◌≡◌, ◌≢◌, ◌∙◌, ℕ, ℤ, ◌-◌, ◌<◌, ◌≤◌, ◌^◌, List, length, get_or, take, refl, sym, ap, arith, subst, take_all, map, [], ◌∷◌}
+use Rattle.std.proofs.Common.{◌≡◌, ◌≢◌, ◌∙◌, ℕ, ℤ, ◌-◌, ◌<◌, ◌≤◌, ◌^◌, List, length, get_or, take, sym, ap, arith, subst, take_all, map}
+use Rattle.std.proofs.lemmas.List.{map-id}
 use Rattle.bip_defs.specs.Bottleneck.{IsBest, IsFull, IsSingular}
 use Rattle.bip_defs.specs.Lists.{Among}
 use Rattle.bip_defs.specs.Matrix.{Matrix, Place, cols}
@@ -58,12 +59,8 @@ hall_few a weight m least hall best = few_below (cols a) hall (rising_distinct h
 
 -- A list that is written from its first place on.
 
-numbers_same : (xs : List ℕ) → map (λ (x : ℕ). x) xs ≡ xs
-numbers_same [] = refl
-numbers_same (x ∷ xs) = ap (λ ys. x ∷ ys) (numbers_same xs)
-
 pub put_same : (xs slice old new : List ℕ) → slice ≡ xs → IsPut 0 (map (λ (x : ℕ). x) slice) old new → IsPut 0 xs old new
-put_same xs slice old new e put = subst (λ ys. IsPut 0 ys old new) (numbers_same slice ∙ e) put
+put_same xs slice old new e put = subst (λ ys. IsPut 0 ys old new) (map-id slice ∙ e) put
 
 -- A heaviest diagonal whose prices and sum are written.
 

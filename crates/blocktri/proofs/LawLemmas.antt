@@ -7,7 +7,6 @@ use Rattle.bip_defs.specs.Blocks.{Block, ColAt, RowAt, Vertex, all_cols, all_row
 use Rattle.bip_defs.specs.ConnectedComponents.{AreConnectedComponents, AreOrderedComponents, Components, IsComponentWith, IsHorizontalVertex, IsVerticalVertex, Joined, alone, least_row}
 use Rattle.bip_defs.specs.Decomposition.{Decomposition, IsDecompositionOf}
 use Rattle.bip_defs.specs.Lists.{Among}
-use Rattle.bip_defs.specs.Matching.{IsRank}
 use Rattle.bip_defs.specs.Matrix.{HasPlaces, Matrix, Place, cols}
 use Rattle.bip_defs.specs.Parts.{IsSquareCol, IsSquareRow}
 use Rattle.bip_defs.proofs.Connected.{joined_inside, same_components}
@@ -31,16 +30,6 @@ same_places m n places others a b same h k = same_matrix m n others a b (record 
   entries = λ r c. (λ e. (same (r, c)).0 ((h.entries r c).0 e), λ on. (h.entries r c).1 ((same (r, c)).1 on));
   columns = h.columns;
 }) k
-
--- The rank.
-
-pub one_rank : (a : Matrix) (j k : ℕ) → IsRank a j → IsRank a k → j ≡ k
-one_rank a j k x y =
-    let (m, max, size) = x in
-    let (o, most, size2) = y in
-    let up = max.longest o most.matching in
-    let down = most.longest m max.matching in
-    omega (arith, size, size2, up, down)
 
 -- The decomposition.
 

@@ -1,5 +1,5 @@
 -- Matchings, seen from the rows.
-use Rattle.std.proofs.Common.{Option, Some, None, subst}
+use Rattle.std.proofs.Common.{Option, Some, None}
 use Rattle.std.specs.Prelude.{IfSome}
 use Rattle.bip_defs.specs.Matrix.{Matrix, transpose}
 use Rattle.bip_graph.specs.Matching.{IsMaximumOf, Pairing, transposed}

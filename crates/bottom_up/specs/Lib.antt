@@ -1,2 +1,2 @@
 pub mod Candidates
-pub mod Search
+pub mod BottomUpSearch

@@ -10,7 +10,7 @@ ghost use Rattle.level_sharing.specs.Agreement.{Agree, Shows};
 ghost use Rattle.level_sharing.specs.Growth.{fresh_events, grown};
 ghost use Rattle.level_sharing.specs.Shares.{KeepToRows};
 
-use crate::search::Search;
+use crate::search::BottomUpSearch;
 use claim_words::{ClaimBoard, Worker, workers_are_few};
 use forest_core::{Forest, new_pairs_run};
 use level_sharing::{
@@ -69,7 +69,7 @@ pub fn attach<R: Threads + Sync, G: Gate>(
     levels_are_shown();
     levels_go_through_rows();
     let count = workers.len();
-    let search = Search {
+    let search = BottomUpSearch {
         forest,
         board,
         free,

@@ -6,7 +6,7 @@ ghost use Rattle.bip_defs.specs.Lists.{Among};
 ghost use Rattle.bip_defs.specs.Matrix.{cols};
 ghost use Rattle.arrayvec.specs.ArrayVec.{array_vec_len};
 ghost use Rattle.bottom_up.specs.Candidates.{HasGathered, IsCandidate, IsCovered, StaysCovered};
-ghost use Rattle.bottom_up.specs.Search.{IsSearch, IsSized};
+ghost use Rattle.bottom_up.specs.BottomUpSearch.{IsSearch, IsSized};
 ghost use Rattle.level_sharing.specs.Progress.{HasSettled, IsThroughRow, IsThroughRows, KnowsWon, Progress};
 ghost use Rattle.level_sharing.specs.Shares.{IsOwn, Share, of_rows};
 
@@ -21,7 +21,7 @@ use sp_ids::{Col, OutOfMemory, Row};
 
 /// The level's forest, board and free rows, and how many workers share them.
 #[derive(Clone, Copy)]
-pub(crate) struct Search<'a, 'p> {
+pub(crate) struct BottomUpSearch<'a, 'p> {
     pub(crate) forest: &'a Forest<'p>,
     pub(crate) board: &'a ClaimBoard,
     pub(crate) free: &'a [Row],
@@ -29,7 +29,7 @@ pub(crate) struct Search<'a, 'p> {
     ghost over: { IsSearch forest.now board.now free.now },
 }
 
-impl<'a, 'p> Work<Worker, OutOfMemory> for Search<'a, 'p> {
+impl<'a, 'p> Work<Worker, OutOfMemory> for BottomUpSearch<'a, 'p> {
     ghost use Rattle.level_sharing.specs.Progress.{IsAtStart, IsThroughRows, Progress};
     ghost use Rattle.level_sharing.specs.Shares.{share_of, shares_of_rows};
 
@@ -44,7 +44,7 @@ impl<'a, 'p> Work<Worker, OutOfMemory> for Search<'a, 'p> {
 
     fn run(&self, number: u32, worker: &mut Worker) -> Result<(), OutOfMemory> {
         shares_cover_a_list();
-        let own = Search {
+        let own = BottomUpSearch {
             forest: self.forest,
             board: self.board,
             free: share(self.free, self.workers, number as usize),
@@ -54,7 +54,7 @@ impl<'a, 'p> Work<Worker, OutOfMemory> for Search<'a, 'p> {
     }
 }
 
-impl<'a, 'p> Search<'a, 'p> {
+impl<'a, 'p> BottomUpSearch<'a, 'p> {
     // The worker looks for a column for each of these rows. It gathers the rows that it may claim,
     // with looks alone, and claims them once there are 512, or no row is left.
     fn go_through(&self, worker: &mut Worker) -> Result<(), OutOfMemory>

@@ -1,5 +1,5 @@
 -- What the comparisons show of a report.
-use Rattle.std.proofs.Common.{◌≡◌, ◌↔◌, ℕ, List, Some, Result, Ok, Err, IfOk, refl, sym, subst, arith}
+use Rattle.std.proofs.Common.{◌≡◌, ◌↔◌, ℕ, List, Some, refl, sym, subst, arith}
 use Rattle.std.specs.Prelude.{IfSome}
 use Rattle.bip_defs.specs.Blocks.{AreBlocksOf, Block, all_cols, all_rows}
 use Rattle.bip_defs.specs.ConnectedComponents.{AreConnectedComponents, Components}
@@ -66,12 +66,6 @@ tells_blocks a r bs blocks same orders = record { blocks = subst (AreBlocksOf a)
 
 pub told_blocks : (a : Matrix) (m : List Place) (p : Parts) (r : Report) (bs : List Block) → IsMaximum a m → ArePartsOf a p → AreBlocksOf a bs → TellsBlocks a r → r.blocks ≡ bs
 told_blocks a m p r bs max parts blocks tells = one_blocks a (in_rows p.square_rows m) r.blocks bs (square_pairs_perfect a m p.square_rows max parts.square_rows) tells.blocks blocks
-
--- What follows from an answer.
-
-pub answer_weaker : {T E : Type 0} (P Q : T → Type 0) (r : Result T E) → ((b : T) → P b → Q b) → IfOk r P → IfOk r Q
-answer_weaker P Q (Ok b) f h = f b h
-answer_weaker P Q (Err e) f h = tt
 
 -- The first reason.
 

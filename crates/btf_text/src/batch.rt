@@ -59,7 +59,7 @@ pub fn write_file_fault<K: Sink>(
 {
     buf.start();
     buf.put_line(out, b"file", &[number, status]);
-    buf.put(out, why);
+    buf.put_piece(out, why);
     buf.finish(out)
 }
 

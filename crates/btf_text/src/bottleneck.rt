@@ -83,11 +83,11 @@ fn put_rows_above<K: Sink>(
         (neighbours (above weights.now.matrix (weight_at weights.now) least) hall.now)) ∷ []) }
 {
     let rising = rises(hall);
-    buf.put(out, b"above_rows");
+    buf.put_piece(out, b"above_rows");
     for row in 0..pattern.rows() {
         put_where_above(out, buf, pattern, weights, least, hall, rising, Row(row));
     }
-    buf.put(out, b"\n");
+    buf.put_piece(out, b"\n");
 }
 
 /// Goes on with a perfect matching, the least of its weights, and the columns that show that none

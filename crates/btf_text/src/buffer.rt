@@ -113,7 +113,7 @@ impl TextBuf {
     }
 
     /// Goes on with these bytes, at most 65,536.
-    pub fn put<K: Sink>(&mut self, out: &mut K, piece: &[u8])
+    pub fn put_piece<K: Sink>(&mut self, out: &mut K, piece: &[u8])
         requires { length piece.now ≤ 65536 }
         ensures { Appends (seen K.taken K.faults out.old out.new) self.old self.new piece.now }
     {
@@ -139,11 +139,11 @@ impl TextBuf {
         ensures { AppendsLines (seen K.taken K.faults out.old out.new) self.old self.new
             (line word.now numbers.now ∷ []) }
     {
-        self.put(out, word);
+        self.put_piece(out, word);
         for number in numbers {
             self.put_number(out, *number);
         }
-        self.put(out, b"\n");
+        self.put_piece(out, b"\n");
     }
 
     /// Goes on with a list line: a word of at most 65,536 bytes, and a space and a number each,
@@ -153,9 +153,9 @@ impl TextBuf {
         ensures { AppendsLines (seen K.taken K.faults out.old out.new) self.old self.new
             (line word.now (counted (map N.number list.now)) ∷ []) }
     {
-        self.put(out, word);
+        self.put_piece(out, word);
         self.put_ids(out, list);
-        self.put(out, b"\n");
+        self.put_piece(out, b"\n");
     }
 
     /// Goes on with a space and a number each, which count from 1.

@@ -24,8 +24,8 @@ fn put_signed<K: Sink>(out: &mut K, buf: &mut TextBuf, number: i128)
 {
     let mut digits = Buffer::new();
     let text = digits.format(number).as_bytes();
-    buf.put(out, b" ");
-    buf.put(out, text);
+    buf.put_piece(out, b" ");
+    buf.put_piece(out, text);
 }
 
 /// Goes on with a line: a word, and a space and a number each, which may be below zero.
@@ -34,11 +34,11 @@ fn put_signed_line<K: Sink>(out: &mut K, buf: &mut TextBuf, word: &[u8], numbers
     ensures { AppendsLines (seen K.taken K.faults out.old out.new) buf.old buf.new
         (signed_line word.now numbers.now ∷ []) }
 {
-    buf.put(out, word);
+    buf.put_piece(out, word);
     for number in numbers {
         put_signed(out, buf, *number);
     }
-    buf.put(out, b"\n");
+    buf.put_piece(out, b"\n");
 }
 
 /// Goes on with the line of an entry: its row, its column and its weight.
@@ -162,11 +162,11 @@ fn put_neighbours<K: Sink>(out: &mut K, buf: &mut TextBuf, pattern: &Pattern, ha
         (line (codes "rows") (counted (neighbours pattern.now hall.now)) ∷ []) }
 {
     let rising = rises(hall);
-    buf.put(out, b"rows");
+    buf.put_piece(out, b"rows");
     for row in 0..pattern.rows() {
         put_where_touched(out, buf, pattern, hall, rising, Row(row));
     }
-    buf.put(out, b"\n");
+    buf.put_piece(out, b"\n");
 }
 
 /// Goes on with the rank, the rows with an entry in one of these columns, and these columns.

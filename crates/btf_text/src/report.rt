@@ -120,11 +120,11 @@ fn put_order<K: Sink, N: Id>(
     ensures { AppendsLines (seen K.taken K.faults out.old out.new) buf.old buf.new
         (line word.now (counted (map N.number (first.now ++ middle.now ++ last.now))) ∷ []) }
 {
-    buf.put(out, word);
+    buf.put_piece(out, word);
     buf.put_ids(out, first);
     buf.put_ids(out, middle);
     buf.put_ids(out, last);
-    buf.put(out, b"\n");
+    buf.put_piece(out, b"\n");
 }
 
 /// Goes on with the rows and the columns in the order of the block triangular form, where they are

@@ -1,5 +1,6 @@
 -- Which status has to come, from what each status says.
 use Rattle.std.proofs.Common.{IfOk, ◌≡◌, ◌≤◌, ◌<◌, ◌⊎◌, ℕ, Bool, true, false, List, [], length, inl, inr, refl, sym, ap, ◌∙◌, subst, arith, Option, Some, None, Ok, Err, Result, if◌then◌else◌}
+use Rattle.std.proofs.lemmas.Option.{none-some}
 use Rattle.sp_ids.specs.Entries.{Entries}
 use Rattle.sp_ids.specs.declared.outcomes.Status.{Status}
 use Rattle.sp_ids.specs.declared.outcomes.Status.TheVariants as statuses
@@ -50,12 +51,9 @@ kind_status line kind fault first limit one is two =
     let same : record { line = line; kind = kind } ≡ fault = cc in
     ap (λ (b : Bool). if b then statuses.Limit else statuses.Malformed) (sym is) ∙ ap status_of_fault same
 
-clash : (first : Option Fault) (fault : Fault) → first ≡ None → first ≡ Some fault → ⊥
-clash first fault none some = cc
-
 -- a good input has no bad line
 good_clash : (form : Form) (call : Call) (t : Entries) (rest : List ℕ) (fault : Fault) → IsGoodInput form (offered call) t rest → first_bad_in form call ≡ Some fault → ⊥
-good_clash form call t rest fault good some = clash (first_bad_in form call) fault (no_bad_line form call t rest good) some
+good_clash form call t rest fault good some = none-some fault (sym (no_bad_line form call t rest good) ∙ some)
 
 -- good inputs of the same bytes have the same entries, and the same behind them
 same_entries : (form : Form) (bytes : List ℕ) (t u : Entries) (rest more : List ℕ) → IsGoodInput form bytes t rest → IsGoodInput form bytes u more → t ≡ u
@@ -221,9 +219,9 @@ bad r status line kind limit said job names reads is first = record {
       (λ x y before h t rest good few integer row col past. absurd (good_clash (form_of other) (reading r.input x y) t rest _ good h));
   not_good = λ other reader no_read. where_known r.input.before r.input.after (of other reader) (λ x y before h none. inl (either limit said));
   too_many = λ other reader. where_known r.input.before r.input.after (of other reader)
-      (λ x y before h none past. absurd (clash (first_bad_in (form_of other) (reading r.input x y)) _ none h));
+      (λ x y before h none past. absurd (none-some _ (sym none ∙ h)));
   too_long = λ other reader no_read. where_known r.input.before r.input.after (of other reader)
-      (λ x y before h past none. absurd (clash (first_bad_in (form_of other) (reading r.input x y)) _ (none_within (form_of other) (reading r.input x y) past none) h));
+      (λ x y before h past none. absurd (none-some _ (sym (none_within (form_of other) (reading r.input x y) past none) ∙ h)));
   made = λ maker. absurd (made_named r.words job names maker reads);
 }
   where
@@ -345,7 +343,7 @@ refused one_verdict full_rank r status (Malformed line kind) said c = bad r stat
 refused one_verdict full_rank r status (Limit line kind) said c = bad r status line kind true said c.0 c.1 c.3.0 c.3.1 c.3.2
 refused one_verdict full_rank r status TooLong said c = record {
   usage = λ not. absurd (not c.1.taken);
-  bad_line = λ other reader. where_known r.input.before r.input.after (of other reader) (λ x y before h fault two. absurd (clash (first_bad_in (form_of other) (reading r.input x y)) fault h.0 two));
+  bad_line = λ other reader. where_known r.input.before r.input.after (of other reader) (λ x y before h fault two. absurd (none-some fault (sym h.0 ∙ two)));
   good = λ other reader no_read no_write. where_known r.input.before r.input.after (of other reader)
       (λ x y before h t rest good few fit. absurd (not_past (reading r.input x y) few h.1));
   other_field = λ other reader needs no_read. where_known r.input.before r.input.after (of other reader)
@@ -362,7 +360,7 @@ refused one_verdict full_rank r status TooLong said c = record {
     of other reader = in_place r.words c.0 other c.1 reader.0 (λ (j : Job). IsTooLong (form_of j) r.input) c.3.1
 refused one_verdict full_rank r status ReadFault said c = record {
   usage = λ not. absurd (not c.1.taken);
-  bad_line = λ other reader. where_known r.input.before r.input.after (of other reader) (λ x y before h fault two. absurd (clash (first_bad_in (form_of other) (reading r.input x y)) fault h.0 two));
+  bad_line = λ other reader. where_known r.input.before r.input.after (of other reader) (λ x y before h fault two. absurd (none-some fault (sym h.0 ∙ two)));
   good = λ other reader no_read. absurd (no_read c.3.1);
   other_field = λ other reader needs no_read. absurd (no_read c.3.1);
   past = λ other reader weighs no_read. absurd (no_read c.3.1);

@@ -8,6 +8,7 @@ use Rattle.bip_defs.specs.Marks.{Marks}
 use Rattle.bip_defs.specs.Matching.{IsMatching, IsMaximum, cols_of, rows_of, transposed_places}
 use Rattle.bip_defs.specs.Matrix.{Matrix, Place, cols, column, transpose}
 use Rattle.bip_defs.specs.Parts.{IsHorizontalCol, IsHorizontalRow, IsSquareCol, IsSquareRow, IsVerticalCol, IsVerticalRow}
+use Rattle.bip_defs.proofs.Counts.{horizontal_row_in_range}
 use Rattle.bip_defs.proofs.Sets.{among_last, among_left, among_right, entry_col, lists_same, number_among, number_same, rising_last}
 use Rattle.bip_defs.proofs.Square.{horizontal_mate, rows_apart}
 use Rattle.bip_defs.proofs.Transposed.{horizontal_turned, square_col_turned, square_row_turned, transpose_back, transpose_cols, transpose_is, turned_horizontal, turned_marks, turned_maximum, turned_twice, turned_vertical, turned_vertical_col, vertical_col_turned, vertical_turned}
@@ -66,9 +67,6 @@ number_last f xs x n e = map-append f xs (x ∷ []) ∙ ap (λ k. map f xs ++ k 
 pub all_below : (P : ℕ → Type 0) (n : ℕ) (xs : List ℕ) → ((x : ℕ) → P x → x < n) → Lists (Below P n) xs → Lists P xs
 all_below P n xs below l = lists_same (Below P n) P xs (λ x h. h.1) (λ x h. (below x h, h)) l
 
-pub horizontal_below : (a : Matrix) (r : ℕ) → IsHorizontalRow a r → r < a.rows
-horizontal_below a r h = h.2.0
-
 -- Which part a row is in.
 
 pub mate_horizontal : (a : Matrix) (m : List Place) (r c : ℕ) → IsMaximum a m → Among (r, c) m → IsHorizontalCol a c → IsHorizontalRow a r
@@ -110,7 +108,7 @@ more_vertical f a n x hs ss vs hs2 ss2 vs2 e p s i j k =
 
 pub split_end : (a : Matrix) (n : ℕ) (hs ss vs : List ℕ) → a.rows ≤ n → IsSplit a n hs ss vs → AreRowsByPart a hs ss vs
 split_end a n hs ss vs le s = record {
-  horizontal = all_below (IsHorizontalRow a) n hs (λ x h. let lt = horizontal_below a x h in omega arith) s.horizontal;
+  horizontal = all_below (IsHorizontalRow a) n hs (λ x h. let lt = horizontal_row_in_range a x h in omega arith) s.horizontal;
   square = all_below (IsSquareRow a) n ss (λ x h. let lt = h.0 in omega arith) s.square;
   vertical = all_below (IsVerticalRow a) n vs (λ x h. let lt = h.0 in omega arith) s.vertical;
 }

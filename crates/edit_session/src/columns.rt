@@ -172,7 +172,7 @@ impl Columns {
 
     /// Puts an entry in, unless it is there. The column must have room for it. Work: a search by
     /// halves, and one move of each row of the column behind it.
-    pub fn put(&mut self, row: Row, col: Col)
+    pub fn insert(&mut self, row: Row, col: Col)
         requires row { row < self.old.matrix.rows }
         requires col { col < cols self.old.matrix }
         requires few { entry_count self.old.matrix + 1 < 2 ^ 32 }
@@ -186,7 +186,7 @@ impl Columns {
     }
 
     /// Takes an entry out, if it is there, and leaves its room to the column. Work: as for
-    /// [`Columns::put`].
+    /// [`Columns::insert`].
     pub fn take(&mut self, row: Row, col: Col)
         requires col { col < cols self.old.matrix }
         ensures matrix { self.new.matrix ≡ without_place self.old.matrix (row, col) }

@@ -227,8 +227,8 @@ impl Session {
         }
         self.columns.make_room(self.alloc, col)?;
         self.rows.make_room(self.alloc, Col(row.0))?;
-        self.columns.put(row, col);
-        self.rows.put(Row(col.0), Col(row.0));
+        self.columns.insert(row, col);
+        self.rows.insert(Row(col.0), Col(row.0));
         match_entry(
             &self.columns,
             &self.rows,

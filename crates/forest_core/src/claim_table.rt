@@ -108,7 +108,7 @@ impl ClaimTable {
     }
 
     /// Puts a column and a root beside a row.
-    pub fn put(&mut self, row: Row, holder: Col, root: Col)
+    pub fn write(&mut self, row: Row, holder: Col, root: Col)
         requires within { row < length self.old.holders }
         requires holder { holder < 4294967295 }
         ensures holders { self.new.holders ≡ set self.old.holders row (Some holder) }

@@ -379,7 +379,7 @@ impl<'p> Forest<'p> {
         let root = self.root(col);
         self.pattern.is_pattern();
         self.claimed.is_alike();
-        self.claimed.put(row, col, root);
+        self.claimed.write(row, col, root);
         self.claims.push_reserved((row, col));
         self.claim_roots.push_reserved(root);
     }
@@ -392,7 +392,7 @@ impl<'p> Forest<'p> {
         ensures leaves { Becomes self.old (Win root leaf) self.new }
     {
         self.pattern.is_pattern();
-        self.leaf_of.put(root.number(), leaf.number());
+        self.leaf_of.write(root.number(), leaf.number());
         self.leaves.push_reserved((root, leaf));
     }
 

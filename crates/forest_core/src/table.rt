@@ -54,7 +54,7 @@ impl Table {
     }
 
     /// Puts a number beside this one.
-    pub fn put(&mut self, at: u32, value: u32)
+    pub fn write(&mut self, at: u32, value: u32)
         requires within { at < length self.old }
         requires value { value < 4294967295 }
         ensures { self.new ≡ set self.old at (Some value) }

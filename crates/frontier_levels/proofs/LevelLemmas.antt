@@ -3,7 +3,7 @@ use Rattle.std.proofs.Common.{ℕ, suc, List, [], ◌∷◌}
 use Rattle.bip_defs.specs.Forest.{State}
 use Rattle.claim_words.specs.Board.{Board}
 use Rattle.claim_words.specs.WorkerState.{WorkerState}
-use Rattle.frontier_levels.specs.Search.{IsSearch}
+use Rattle.frontier_levels.specs.TopDownSearch.{IsSearch}
 use Rattle.level_sharing.specs.Each.{EachFrom}
 use Rattle.level_sharing.specs.Progress.{IsAtStart}
 

@@ -6,7 +6,7 @@ use Rattle.bip_defs.specs.Matrix.{column}
 use Rattle.bip_defs.proofs.Sets.{among_last, among_left, among_right}
 use Rattle.claim_words.specs.Board.{Board}
 use Rattle.claim_words.specs.WorkerState.{WorkerState}
-use Rattle.frontier_levels.specs.Search.{HasGathered, IsCoveredColumn, StaysCovered}
+use Rattle.frontier_levels.specs.TopDownSearch.{HasGathered, IsCoveredColumn, StaysCovered}
 use Rattle.level_sharing.specs.Candidates.{IsCovered, IsDecided}
 use Rattle.level_sharing.specs.Progress.{CanClaim, HasSettled, IsThroughColumn, KnowsHolder, KnowsLeaf}
 use Rattle.level_sharing.specs.Shares.{by_columns}

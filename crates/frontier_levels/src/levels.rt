@@ -9,7 +9,7 @@ ghost use Rattle.level_sharing.specs.Agreement.{Agree, Shows};
 ghost use Rattle.level_sharing.specs.Growth.{fresh_events, grown};
 ghost use Rattle.level_sharing.specs.Shares.{KeepToColumns};
 
-use crate::search::Search;
+use crate::search::TopDownSearch;
 use claim_words::{ClaimBoard, Worker, workers_are_few};
 use forest_core::{Forest, new_pairs_run};
 use level_sharing::{
@@ -87,7 +87,7 @@ struct TopDown<'a, 'p> {
 }
 
 impl<'a, 'p> Work<Worker, OutOfMemory> for TopDown<'a, 'p> {
-    ghost use Rattle.frontier_levels.specs.Search.{IsSearch};
+    ghost use Rattle.frontier_levels.specs.TopDownSearch.{IsSearch};
     ghost use Rattle.level_sharing.specs.Progress.{IsAtStart, IsThroughColumns, Progress};
     ghost use Rattle.level_sharing.specs.Shares.{share_of, shares_by_columns};
 
@@ -103,7 +103,7 @@ impl<'a, 'p> Work<Worker, OutOfMemory> for TopDown<'a, 'p> {
     fn run(&self, number: u32, worker: &mut Worker) -> Result<(), OutOfMemory> {
         shares_cover_a_list();
         let share = share(self.frontier, self.workers, number as usize);
-        let search = Search {
+        let search = TopDownSearch {
             forest: self.forest,
             board: self.board,
             share,

@@ -5,7 +5,7 @@ ghost use Rattle.arrayvec.specs.ArrayVec.{array_vec_len};
 ghost use Rattle.bip_defs.specs.Forest.{RootOf};
 ghost use Rattle.bip_defs.specs.Lists.{Among};
 ghost use Rattle.bip_defs.specs.Matrix.{IsEntry, cols, column};
-ghost use Rattle.frontier_levels.specs.Search.{HasGathered, IsCoveredColumn, IsSearch, StaysCovered};
+ghost use Rattle.frontier_levels.specs.TopDownSearch.{HasGathered, IsCoveredColumn, IsSearch, StaysCovered};
 ghost use Rattle.level_sharing.specs.Candidates.{IsCovered};
 ghost use Rattle.level_sharing.specs.Progress.{HasSettled, IsThroughColumns, Progress};
 ghost use Rattle.level_sharing.specs.Shares.{by_columns};
@@ -21,13 +21,13 @@ use sp_ids::{Col, OutOfMemory, Row};
 /// A worker's search through its share of the frontier. It gathers the rows that it may claim, with
 /// looks alone, and claims them once there are 512, or no column is left.
 #[derive(Drop)]
-pub(crate) struct Search<'a, 'p> {
+pub(crate) struct TopDownSearch<'a, 'p> {
     pub forest: &'a Forest<'p>,
     pub board: &'a ClaimBoard,
     pub share: &'a [Col],
 }
 
-impl<'a, 'p> Search<'a, 'p> {
+impl<'a, 'p> TopDownSearch<'a, 'p> {
     /// The worker goes through all its columns.
     pub fn run(&self, worker: &mut Worker) -> Result<(), OutOfMemory>
         requires search { IsSearch self.now.forest.now self.now.board.now self.now.share.now }

@@ -4,7 +4,7 @@ use Rattle.bip_defs.specs.Lists.{Among, IsMarked}
 use Rattle.bip_defs.specs.Matching.{rows_of}
 use Rattle.bip_defs.specs.Matrix.{IsEntry, Place}
 use Rattle.integer_diagonal.specs.declared.search.Nearest.{Nearest}
-use Rattle.integer_diagonal.specs.declared.search.Search.{Search}
+use Rattle.integer_diagonal.specs.declared.search.DijkstraSearch.{DijkstraSearch}
 use Rattle.integer_diagonal.specs.Duals.{Priced, dual, paid}
 use Rattle.integer_diagonal.specs.SearchTree.{IsGrown, IsNearest, Reaches, Tree, depth, stop}
 use Rattle.integer_diagonal.specs.Amounts.{infinity}
@@ -19,10 +19,10 @@ abbrev pub distance_of : Labels → ℕ → ℕ
 distance_of l r = slice_index_or l.distances r infinity
 
 -- a search as contracts see it
-abbrev pub tree_of : {W : Type 0} → Search W → Tree
+abbrev pub tree_of : {W : Type 0} → DijkstraSearch W → Tree
 tree_of s = record { queue = s.queue.items; depths = s.depths.items }
 
-abbrev pub labels_of : {W : Type 0} → Search W → Labels
+abbrev pub labels_of : {W : Type 0} → DijkstraSearch W → Labels
 labels_of s = record {
   distances = s.distances.items;
   parents = s.parents.items;

@@ -14,7 +14,7 @@ ghost use Rattle.sp_pattern.specs.Weights.{Weighing};
 
 use crate::amount::Amount;
 use crate::assignment::Assignment;
-use crate::search::Search;
+use crate::search::DijkstraSearch;
 use crate::width::Width;
 use bip_graph::Queue;
 use sp_ids::{Col, OutOfMemory, Row};
@@ -24,7 +24,7 @@ use std::alloc::{AllocError, Global};
 /// A search, and the augmenting path to the row that it found.
 #[derive(Drop)]
 pub struct PathSearch<W: Width> {
-    pub search: Search<W>,
+    pub search: DijkstraSearch<W>,
     pub path: Vec<(Row, Col)>,
 }
 
@@ -34,7 +34,7 @@ impl<W: Width> PathSearch<W> {
         ensures { IfOk result (IsReady pattern.now) }
     {
         Ok(PathSearch {
-            search: Search::new(alloc, pattern.rows())?,
+            search: DijkstraSearch::new(alloc, pattern.rows())?,
             path: Vec::with_capacity(alloc, pattern.cols() as usize)?,
         })
     }

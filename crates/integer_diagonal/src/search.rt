@@ -23,7 +23,7 @@ use std::alloc::{AllocError, Global};
 /// one that it was led from, and their distances. Beside it stand how many searches there were
 /// before, and how many columns they came to.
 #[derive(Drop)]
-pub struct Search<W: Width> {
+pub struct DijkstraSearch<W: Width> {
     pub distances: Vec<Amount<W>>,
     pub parents: Vec<u32>,
     pub settled: Vec<bool>,
@@ -55,9 +55,9 @@ impl<W: Width> Nearest<W> {
     }
 }
 
-impl<W: Width> Search<W> {
+impl<W: Width> DijkstraSearch<W> {
     /// For a matrix of so many rows, and as many columns.
-    pub fn new(alloc: Global, rows: u32) -> Result<Search<W>, OutOfMemory>
+    pub fn new(alloc: Global, rows: u32) -> Result<DijkstraSearch<W>, OutOfMemory>
         ensures clear { IfOk result (λ s. IsClear rows (tree_of s) (labels_of s)) }
         ensures listed { IfOk result (λ s. s.reached.items ≡ []) }
     {
@@ -65,7 +65,7 @@ impl<W: Width> Search<W> {
         let distances = vec![in alloc; Amount::infinity(); rows]?;
         let parents = vec![in alloc; 0u32; rows]?;
         let settled = vec![in alloc; false; rows]?;
-        Ok(Search {
+        Ok(DijkstraSearch {
             distances,
             parents,
             settled,

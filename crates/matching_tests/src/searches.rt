@@ -26,7 +26,7 @@ enum Wanted<'a> {
 
 /// The places after an edit, the pairs that are left, and what the search is to find.
 #[derive(Clone, Copy)]
-struct Search<'a> {
+struct SearchCase<'a> {
     name: &'a str,
     rows: u32,
     cols: u32,
@@ -35,8 +35,8 @@ struct Search<'a> {
     wanted: Wanted<'a>,
 }
 
-const SEARCHES: [Search<'static>; 8] = [
-    Search {
+const SEARCHES: [SearchCase<'static>; 8] = [
+    SearchCase {
         name: "a first search in a row of two entries",
         rows: 1,
         cols: 2,
@@ -44,7 +44,7 @@ const SEARCHES: [Search<'static>; 8] = [
         pairs: &[],
         wanted: Wanted::Path(&[(1, 1)]),
     },
-    Search {
+    SearchCase {
         name: "a set that moves a pair",
         rows: 2,
         cols: 2,
@@ -52,7 +52,7 @@ const SEARCHES: [Search<'static>; 8] = [
         pairs: &[(1, 1)],
         wanted: Wanted::Path(&[(1, 2), (2, 1)]),
     },
-    Search {
+    SearchCase {
         name: "a set in a row and a column without mates",
         rows: 2,
         cols: 2,
@@ -60,7 +60,7 @@ const SEARCHES: [Search<'static>; 8] = [
         pairs: &[(1, 1)],
         wanted: Wanted::Path(&[(2, 2)]),
     },
-    Search {
+    SearchCase {
         name: "a set of an entry that was there",
         rows: 2,
         cols: 2,
@@ -68,7 +68,7 @@ const SEARCHES: [Search<'static>; 8] = [
         pairs: &[(1, 1)],
         wanted: Wanted::Missed(&[2]),
     },
-    Search {
+    SearchCase {
         name: "a set that leads to no row without a mate",
         rows: 2,
         cols: 3,
@@ -76,7 +76,7 @@ const SEARCHES: [Search<'static>; 8] = [
         pairs: &[(1, 1), (2, 2)],
         wanted: Wanted::Missed(&[1, 3]),
     },
-    Search {
+    SearchCase {
         name: "a clear of a pair, whose row and column are paired anew",
         rows: 2,
         cols: 2,
@@ -84,7 +84,7 @@ const SEARCHES: [Search<'static>; 8] = [
         pairs: &[(2, 2)],
         wanted: Wanted::Path(&[(2, 1), (1, 2)]),
     },
-    Search {
+    SearchCase {
         name: "a clear of a pair, which lowers the rank",
         rows: 2,
         cols: 2,
@@ -92,7 +92,7 @@ const SEARCHES: [Search<'static>; 8] = [
         pairs: &[(1, 1)],
         wanted: Wanted::Missed(&[1, 2]),
     },
-    Search {
+    SearchCase {
         name: "a clear of the only entry",
         rows: 1,
         cols: 2,
@@ -103,7 +103,7 @@ const SEARCHES: [Search<'static>; 8] = [
 ];
 
 /// Compares marks, one for each column, with numbers that count from 1.
-fn has_marks<R: Abort>(rt: &R, search: &Search<'_>, marks: &[bool], numbers: &[u32]) {
+fn has_marks<R: Abort>(rt: &R, search: &SearchCase<'_>, marks: &[bool], numbers: &[u32]) {
     assert_eq!(rt; marks.len(), search.cols as usize, "{}", search.name);
     let mut number: u32 = 0;
     for marked in marks {
@@ -115,7 +115,7 @@ fn has_marks<R: Abort>(rt: &R, search: &Search<'_>, marks: &[bool], numbers: &[u
 /// Where there is a path, no marks; else the missed columns are marked.
 fn marks<R: Abort + AllocGlobal>(
     rt: &R,
-    search: &Search<'_>,
+    search: &SearchCase<'_>,
     pattern: &Pattern,
     matching: &Matching,
 ) -> Result<(), OutOfMemory>
@@ -133,7 +133,7 @@ fn marks<R: Abort + AllocGlobal>(
 }
 
 /// Compares the columns or the path that a search has found.
-fn is_wanted<R: Abort>(rt: &R, search: &Search<'_>, found: &Reach) {
+fn is_wanted<R: Abort>(rt: &R, search: &SearchCase<'_>, found: &Reach) {
     match (found, search.wanted) {
         (Reach::Witness(columns), Wanted::Missed(numbers)) => {
             assert!(rt; are(columns.as_slice(), numbers), "{}", search.name);
@@ -148,7 +148,7 @@ fn is_wanted<R: Abort>(rt: &R, search: &Search<'_>, found: &Reach) {
 /// The search finds what it is to find, with its steps counted and without.
 fn finds<R: Abort + AllocGlobal + Threads + Sync, L: Ledger>(
     rt: &R,
-    search: &Search<'_>,
+    search: &SearchCase<'_>,
     steps: &mut Steps<L>,
 ) -> Result<(), Fail> {
     let pattern = pattern_of(rt, search.rows, search.cols, search.places)?;

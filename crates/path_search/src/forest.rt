@@ -448,8 +448,8 @@ impl SearchForest {
     /// From each unmatched column grows a tree of alternating paths, which ends at the first
     /// unmatched row that it comes to (Azad, Buluç and Pothen 2017). Each row is in one tree at
     /// most, so the paths have no vertex in common. Where there is no path the matching was
-    /// maximum, and the rows of the columns that walks lead to stay marked. Takes no memory. Work: one look at each row and column, and at each entry once at
-    /// most.
+    /// maximum, and the rows of the columns that walks lead to stay marked. Takes no memory. Work:
+    /// one look at each row and column, and at each entry once at most.
     ///
     /// Up to 64 columns are looked through at a time, with the outcome of one after another: their
     /// lists are looked up, then their rows' marks, up to 512 at once, and then the unmarked rows

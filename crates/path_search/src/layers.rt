@@ -104,7 +104,7 @@ impl Layers {
     }
 
     // Puts a column into a layer, and among those that are to be looked through.
-    fn put(&mut self, col: Col, number: u32) -> Result<(), OutOfMemory>
+    fn add_col(&mut self, col: Col, number: u32) -> Result<(), OutOfMemory>
         requires { col < length self.old.numbers }
         ensures numbers { length self.new.numbers ≡ length self.old.numbers }
         ensures places { self.new.places ≡ self.old.places }
@@ -148,7 +148,7 @@ impl Layers {
     {
         match F::row_of(matching, col) {
             Some(_) => Ok(()),
-            None => self.put(col, 0),
+            None => self.add_col(col, 0),
         }
     }
 
@@ -187,7 +187,7 @@ impl Layers {
             None => Ok(true),
             Some(mate) => {
                 if self.number(mate) == NONE {
-                    self.put(mate, number)?;
+                    self.add_col(mate, number)?;
                 }
                 Ok(false)
             }

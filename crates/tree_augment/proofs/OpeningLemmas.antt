@@ -1,5 +1,5 @@
 -- The opening of a board from a forest.
-use Rattle.std.proofs.Common.{◌≡◌, ◌∙◌, ℕ, zero, suc, inl, inr, ◌+◌, ◌<◌, List, ◌++◌, Option, None, Result, Ok, Err, IfOk, length, refl, sym, ap, subst, arith}
+use Rattle.std.proofs.Common.{◌≡◌, ◌∙◌, ℕ, zero, suc, inl, inr, ◌+◌, ◌<◌, List, ◌++◌, Option, None, length, refl, sym, ap, subst, arith}
 use Rattle.std.proofs.lemmas.List.{get_or-append-add}
 use Rattle.std.proofs.Math.ListN.{get_or-append}
 use Rattle.bip_defs.specs.Forest.{IsRootOfRow, RootOf, State}
@@ -50,9 +50,3 @@ pub new_taken_none : (b : Board) (count : ℕ) → HaveTakenNone (new_seats b co
 new_taken_none b zero t h = absurd h
 new_taken_none b (suc others) t (inl e) = ap (λ (u : Seat). u.listed.taken) e
 new_taken_none b (suc others) t (inr h) = more_taken_none b 1 others t h
-
--- What holds of the value of an answer, where it has one.
-
-pub if_ok : {A E : Type 0} {P Q : A → Type 0} (r : Result A E) → ((a : A) → P a → Q a) → IfOk r P → IfOk r Q
-if_ok (Ok a) over h = over a h
-if_ok (Err e) over h = h

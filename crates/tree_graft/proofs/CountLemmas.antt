@@ -13,7 +13,7 @@ use Rattle.bip_defs.proofs.Triangular.{lists_once}
 use Rattle.forest_core.specs.Sound.{IsSound}
 use Rattle.forest_core.specs.Trees.{HasTrees}
 use Rattle.tree_graft.specs.Counts.{IsCountOf, IsFreed, IsKept}
-use Rattle.tree_graft.specs.Search.{IsUnclaimed}
+use Rattle.tree_graft.specs.PhaseSearch.{IsUnclaimed}
 use Rattle.tree_graft.proofs.SearchLemmas.{row_apart, row_last, rows_had, rows_more}
 
 -- Counts.

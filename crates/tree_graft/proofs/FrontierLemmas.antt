@@ -10,7 +10,7 @@ use Rattle.bip_defs.proofs.Sets.{among_either, among_last, among_left, among_rig
 use Rattle.bip_defs.specs.Forest.{HasWon, InForest, IsWon, RootOf, State, above, roots_of}
 use Rattle.forest_core.specs.Events.{Grows}
 use Rattle.forest_core.specs.Trees.{HasTrees}
-use Rattle.tree_graft.specs.Search.{AreMatesOf, IsFrontier, IsGoneThrough, IsScanned, levels_left}
+use Rattle.tree_graft.specs.PhaseSearch.{AreMatesOf, IsFrontier, IsGoneThrough, IsScanned, levels_left}
 use Rattle.tree_graft.proofs.SearchLemmas.{row_last, rows_had, rows_more}
 
 -- what is scanned stays scanned

@@ -12,8 +12,8 @@ use Rattle.forest_core.specs.Events.{Grows}
 use Rattle.forest_core.specs.Trees.{HasTrees}
 use Rattle.level_sharing.specs.Agreement.{Agree}
 use Rattle.level_sharing.specs.Growth.{grown}
-use Rattle.tree_graft.specs.Search.{AreMatesOf, IsAtNextLevel, IsDone, IsGoneThrough, IsReady}
-use Rattle.tree_graft.specs.declared.levels.Search.{Search}
+use Rattle.tree_graft.specs.PhaseSearch.{AreMatesOf, IsAtNextLevel, IsDone, IsGoneThrough, IsReady}
+use Rattle.tree_graft.specs.declared.levels.PhaseSearch.{PhaseSearch}
 use Rattle.tree_graft.proofs.FrontierLemmas.{next_is_frontier, scanned_after}
 
 -- what was claimed since then
@@ -33,7 +33,7 @@ through_rows s ws free unclaimed attached c i = inr (inr (λ r e. ⊎_elim
     (number_among r (rows_of s.claims))))
 
 -- the level after one that is done, and made on the forest
-pub next_level : {m : Search} (ws us : List WorkerState) (s t : State) → IsDone m.board ws s → t ≡ grown s ws → Grows s t → m.workers.items ≡ us → length us ≡ length ws → Agree m.board us t.claims t.leaves
+pub next_level : {m : PhaseSearch} (ws us : List WorkerState) (s t : State) → IsDone m.board ws s → t ≡ grown s ws → Grows s t → m.workers.items ≡ us → length us ≡ length ws → Agree m.board us t.claims t.leaves
     → HasTrees t → AreMatesOf t (fresh_claims_of ws) m.frontier.items → IsAtNextLevel s m t
 next_level {m = m} ws us s t done e g over many agree trees mates = record {
   level = record {

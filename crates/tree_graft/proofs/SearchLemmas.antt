@@ -1,15 +1,15 @@
--- What holds at the end of a search, and lists that are filled in order.
+-- What holds at the end of a search, the rows of claims, and what is known of an answer that is there.
 use Rattle.std.proofs.Common.{◌≡◌, ◌≢◌, ◌∙◌, ◌==◌, ℕ, ◌+◌, ◌<◌, Bool, true, true≢false, Option, None, Some, IfNone, IfSome, false, is_some, List, [], ◌∷◌, ◌++◌, length, slice_index_or, take, ◌⊎◌, refl, sym, subst, inl, inr, ⊎_elim, arith}
 use Rattle.std.proofs.lemmas.Bool.{eqb-true}
 use Rattle.std.proofs.lemmas.List.{get_or-map, length-map, map-append, take-map}
-use Rattle.bip_defs.specs.Lists.{Among, AreDistinct, Lists}
+use Rattle.bip_defs.specs.Lists.{Among, AreDistinct}
 use Rattle.bip_defs.specs.Matching.{cols_of, rows_of}
 use Rattle.bip_defs.specs.Matrix.{IsEntry, Place}
-use Rattle.bip_defs.proofs.Sets.{among_at, apart_from_front, among_last, among_left, among_right, number_same, rising_last, row_among}
+use Rattle.bip_defs.proofs.Sets.{among_at, apart_from_front, among_last, among_left, among_right, row_among}
 use Rattle.sp_ids.specs.declared.events.Event.TheVariants.{Done}
 use Rattle.forest_core.specs.Events.{IsLegal}
 use Rattle.bip_defs.specs.Forest.{InForest, IsRested, State, roots_of}
-use Rattle.tree_graft.specs.Search.{IsScanned}
+use Rattle.tree_graft.specs.PhaseSearch.{IsScanned}
 
 -- where all columns in the forest are scanned and there is no leaf
 pub closed : (s : State) → ((c : ℕ) → InForest s c → IsScanned s c) → s.leaves ≡ [] → IsLegal s Done
@@ -22,24 +22,6 @@ nothing_to_claim s rested none covered = (rested.no_leaves, λ c i r e. absurd (
     out : (c : ℕ) → InForest s c → ¬ Among c (cols_of s.base)
     out c (lt, inl free) = free
     out c (lt, inr (q, m, h)) = absurd (subst (λ (ps : List Place). Among q (rows_of ps)) none h)
-
--- Lists in order.
-
--- one number more that has P
-pub level_more : (P : ℕ → Type 0) (n : ℕ) (xs : List ℕ) → Lists (λ c. (c < n) × P c) xs → P n → Lists (λ c. (c < n + 1) × P c) (xs ++ n ∷ [])
-level_more P n xs k p = record {
-  rising = rising_last xs n k.rising (λ x h. (k.sound x h).0);
-  sound = λ x h. ⊎_elim (λ g. (let lt = (k.sound x g).0 in omega (arith, lt), (k.sound x g).1)) (λ (e : x ≡ n). (omega arith, subst P (sym e) p)) (among_last x n xs h);
-  complete = λ x h. ⊎_elim (λ (e : x ≡ n). among_right x xs (n ∷ []) (inl e)) (λ (ne : x ≢ n). among_left x xs (n ∷ []) (k.complete x (let lt = h.0 in omega arith, h.1))) (number_same x n);
-}
-
--- and one that doesn't have it
-pub level_same : (P : ℕ → Type 0) (n : ℕ) (xs : List ℕ) → Lists (λ c. (c < n) × P c) xs → ¬ P n → Lists (λ c. (c < n + 1) × P c) xs
-level_same P n xs k np = record {
-  rising = k.rising;
-  sound = λ x h. (let lt = (k.sound x h).0 in omega (arith, lt), (k.sound x h).1);
-  complete = λ x h. ⊎_elim (λ (e : x ≡ n). absurd (np (subst P e h.1))) (λ (ne : x ≢ n). k.complete x (let lt = h.0 in omega arith, h.1)) (number_same x n);
-}
 
 -- Rows of claims.
 

@@ -2,7 +2,7 @@
 
 ghost use Rattle.bip_defs.specs.Forest.{IsSettled};
 ghost use Rattle.tree_graft.specs.Counts.{IsCountOf, IsFreed, IsKept};
-ghost use Rattle.tree_graft.specs.Search.{IsUnclaimed};
+ghost use Rattle.tree_graft.specs.PhaseSearch.{IsUnclaimed};
 
 use forest_core::Forest;
 

@@ -5,7 +5,7 @@ ghost use Rattle.bip_defs.specs.Forest.{IsWon};
 ghost use Rattle.bip_defs.specs.Lists.{Among, AreDistinct, Lists};
 ghost use Rattle.bip_defs.specs.Matching.{rows_of};
 ghost use Rattle.forest_core.specs.Trees.{HasTrees};
-ghost use Rattle.tree_graft.specs.Search.{AreMatesOf, IsUnclaimed, IsUnmatched};
+ghost use Rattle.tree_graft.specs.PhaseSearch.{AreMatesOf, IsUnclaimed, IsUnmatched};
 
 use forest_core::Forest;
 use sp_ids::{Col, OutOfMemory, Row};

@@ -10,7 +10,7 @@ ghost use Rattle.forest_core.specs.Events.{Runs};
 ghost use Rattle.forest_core.specs.Growing.{GrowsOn};
 ghost use Rattle.level_sharing.specs.Growth.{fresh_events, grown};
 ghost use Rattle.sp_ids.specs.Limits.{max_workers};
-ghost use Rattle.tree_graft.specs.Search.{IsAtLevel, IsAtNextLevel, IsDone, IsReady, IsScanned};
+ghost use Rattle.tree_graft.specs.PhaseSearch.{IsAtLevel, IsAtNextLevel, IsDone, IsReady, IsScanned};
 
 use crate::frontiers::{mates_of, unclaimed_rows, unmatched_columns};
 use crate::switches::goes_down_from;
@@ -61,9 +61,9 @@ pub fn grow<R: Threads + Sync, G: Gate>(
     ensures settled { OnOk result (IsSettled forest.new) }
     ensures scanned { OnOk result ((c : ℕ) → InForest forest.new c → IsScanned forest.new c) }
 {
-    let mut search = Search::open(rt, alloc, forest, workers)?;
+    let mut search = PhaseSearch::open(rt, alloc, forest, workers)?;
     search.run(rt, forest, gate)?;
-    let Search { board, workers, .. } = search;
+    let PhaseSearch { board, workers, .. } = search;
     board.close_with(alloc, workers)?;
     Ok(())
 }
@@ -71,21 +71,21 @@ pub fn grow<R: Threads + Sync, G: Gate>(
 /// The search of one phase: the workers and the board of words that they share, and the columns or
 /// the rows from which a level starts.
 #[derive(Drop)]
-pub(crate) struct Search {
+pub(crate) struct PhaseSearch {
     pub board: ClaimBoard,
     pub workers: Vec<Worker>,
     pub frontier: Vec<Col>,
     pub free: Vec<Row>,
 }
 
-impl Search {
+impl PhaseSearch {
     // A search that has made no level yet, by so many workers.
     fn open<R: Threads + Sync>(
         rt: &R,
         alloc: Global,
         forest: &Forest,
         workers: u32,
-    ) -> Result<Search, OutOfMemory>
+    ) -> Result<PhaseSearch, OutOfMemory>
         requires workers { (1 ≤ workers) × (workers ≤ max_workers) }
         requires settled { IsSettled forest.now }
         ensures { IfOk result (λ search. IsReady search.board search.workers.items forest.now) }
@@ -93,7 +93,7 @@ impl Search {
         let frontier = Vec::with_capacity(alloc, forest.pattern().cols() as usize)?;
         let free = Vec::with_capacity(alloc, forest.pattern().rows() as usize)?;
         let (board, workers) = open(rt, alloc, forest, workers)?;
-        Ok(Search {
+        Ok(PhaseSearch {
             board,
             workers,
             frontier,

@@ -3,7 +3,7 @@
 ghost use Rattle.std.specs.Prelude.{ℕ, ◌↔◌, ◌<◌, ◌*◌, ◌^◌, length, IsTrue};
 ghost use Rattle.bip_defs.specs.Forest.{IsSettled};
 ghost use Rattle.tree_graft.specs.Counts.{IsCountOf, IsFreed, IsKept};
-ghost use Rattle.tree_graft.specs.Search.{IsUnclaimed};
+ghost use Rattle.tree_graft.specs.PhaseSearch.{IsUnclaimed};
 
 use crate::counts::{freed_count, kept_count, unclaimed_count};
 use forest_core::Forest;

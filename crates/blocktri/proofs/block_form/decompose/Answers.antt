@@ -1,4 +1,4 @@
-use Rattle.std.proofs.Common.{◌≡◌, ◌-◌, ◌<◌, ◌≤◌, ◌^◌, arith, length, subst}
+use Rattle.std.proofs.Common.{◌≡◌, ◌-◌, arith, length, subst}
 use Rattle.bip_defs.specs.ConnectedComponents.{AreConnectedComponents}
 use Rattle.bip_defs.specs.Matrix.{Matrix, cols}
 use Rattle.bip_defs.proofs.Sets.{upto_mapped}

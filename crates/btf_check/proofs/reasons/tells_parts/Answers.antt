@@ -1,6 +1,7 @@
 use Rattle.std.proofs.Common.{◌∙◌, IsTrue, rules, sym, subst, arith, true≢false}
 use Rattle.std.proofs.lemmas.List.{map-id}
 use Rattle.std.specs.Prelude.{◌↔◌}
+use Rattle.std.proofs.lemmas.Result.{IfOk-weaker}
 use Rattle.bip_defs.specs.Lists.{Among, AreDistinct}
 use Rattle.bip_defs.proofs.Sets.{rising_distinct}
 use Rattle.bip_defs.specs.Blocks.{all_cols, all_rows}
@@ -8,7 +9,7 @@ use Rattle.bip_graph.specs.Decompositions.{parts_of}
 use Rattle.btf_check.specs.ReportParts.{HasOuterParts, HasSizes}
 use Rattle.btf_check.specs.Reasons.{TellsParts}
 use Rattle.btf_text.specs.ReportRead.{contents}
-use Rattle.btf_check.proofs.Comparisons.{answer_weaker, once_back, once_same, tells_parts, told_cols, told_outer, told_rows}
+use Rattle.btf_check.proofs.Comparisons.{once_back, once_same, tells_parts, told_cols, told_outer, told_rows}
 use Rattle.btf_check.proofs.reasons.tells_parts.Goals as goal
 
 pub returns-then-not-has_outer_parts : goal.returns-then-not-has_outer_parts
@@ -48,7 +49,7 @@ returns c =
     let rows = once_back p.square_rows (all_rows c.args.report.now.blocks) _ _ (map-id c.as_slice.result.now ∙ c.as_slice.ensures.value) (map-id c.all_rows-rows.result.now ∙ c.all_rows-rows.ensures) (c.in_ok-are_once.ensures.0 c.if-not-branch.false) in
     let cols_are = map-id c.as_slice-2.result.now ∙ c.as_slice-2.ensures.value in
     let list_is = map-id c.all_cols-cols.result.now ∙ c.all_cols-cols.ensures in
-    answer_weaker _ (λ b. IsTrue b ↔ TellsParts a r) c.are_once-2.result (λ b h. (
+    IfOk-weaker c.are_once-2.result _ (λ b. IsTrue b ↔ TellsParts a r) (λ b h. (
       λ t. tells_parts a c.args.matching.now.pairs p r c.requires.maximum c.requires.parts sizes (record { outer = outer; square_rows = rows; square_cols = once_back p.square_cols (all_cols c.args.report.now.blocks) _ _ cols_are list_is (h.0 t) }),
       λ tells. h.1 (once_same p.square_cols (all_cols c.args.report.now.blocks) _ _ cols_are list_is (told_cols a p r c.requires.parts tells)),
     ))

@@ -1,11 +1,11 @@
 use Rattle.std.proofs.Common.{◌≡◌, ℕ, List, Option, Some, None, refl, rules, subst}
 use Rattle.std.specs.Prelude.{IfNone, IfSome}
+use Rattle.std.proofs.lemmas.Result.{IfOk-weaker}
 use Rattle.bip_graph.specs.Texts.{report_text}
 use Rattle.btf_text.specs.Readable.{IsReadable}
 use Rattle.btf_text.specs.ReportRead.{contents}
 use Rattle.btf_text.specs.declared.reader.Report.{Report}
 use Rattle.btf_check.specs.Verdicts.{IsJudged, IsVerdict}
-use Rattle.btf_check.proofs.Comparisons.{answer_weaker}
 use Rattle.btf_check.proofs.Verdicts.{judged, no_report, rising_pairs}
 use Rattle.btf_check.proofs.report.judge.Goals as goal
 
@@ -22,7 +22,7 @@ judge_report-requires g c = (search rules, rising_pairs (contents c.in-Some.repo
 pub returns-in-Some : goal.returns-in-Some
 returns-in-Some g c =
     let both = read c.args.bytes.now c.in_ok-report.field-0 c.in-Some.report c.in-Some.is c.in_ok-report.ensures.found in
-    answer_weaker (IsJudged c.args.pattern.now (contents c.in-Some.report)) (IsVerdict c.args.pattern.now c.args.bytes.now) c.judge_report.result (λ v is. judged c.one_spelling.ensures c.args.pattern.now c.args.bytes.now (contents c.in-Some.report) v both.0 both.1 is) c.judge_report.ensures
+    IfOk-weaker c.judge_report.result (IsJudged c.args.pattern.now (contents c.in-Some.report)) (IsVerdict c.args.pattern.now c.args.bytes.now) (λ v is. judged c.one_spelling.ensures c.args.pattern.now c.args.bytes.now (contents c.in-Some.report) v both.0 both.1 is) c.judge_report.ensures
 
 pub returns-in-None : goal.returns-in-None
 returns-in-None g c = no_report c.args.pattern.now c.args.bytes.now (unread _ c.in_ok-report.field-0 c.in-None.is c.in_ok-report.ensures.none)

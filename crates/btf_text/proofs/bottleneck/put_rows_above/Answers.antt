@@ -12,7 +12,7 @@ use Rattle.btf_text.proofs.NeighbourRows.{rows_go_on}
 use Rattle.btf_text.proofs.bottleneck.put_rows_above.Goals as goal
 
 pub loop-row-init : goal.loop-row-init
-loop-row-init g c = appends_as _ _ (sym (append-nil _)) c.put.ensures
+loop-row-init g c = appends_as _ _ (sym (append-nil _)) c.put_piece.ensures
 
 pub put_where_above-requires-clause-rising : goal.put_where_above-requires-clause-rising
 put_where_above-requires-clause-rising g c e = rises_sound c.args.hall.now (ap rises (sym (same_ids c.args.hall.now)) ∙ sym c.rises-rising.ensures ∙ e)
@@ -28,5 +28,5 @@ returns g c =
     let all : c.loop-row.row ≡ b.rows = omega (arith, c.loop-row-test.false, c.loop-row.auto.row-end, c.rows-row-end.ensures, ap (λ (a : Matrix). a.rows) c.requires.weights) in
     record {
       appends = line_alone (line (codes "above_rows") (counted (neighbours b w)))
-          (appends_as _ _ (line_ends (codes "above_rows") _ _ (ap (λ (n : ℕ). counted (filter (touches b w) (upto n))) all)) (appends_then _ _ c.loop-row.invariant c.put-2.ensures));
+          (appends_as _ _ (line_ends (codes "above_rows") _ _ (ap (λ (n : ℕ). counted (filter (touches b w) (upto n))) all)) (appends_then _ _ c.loop-row.invariant c.put_piece-2.ensures));
     }

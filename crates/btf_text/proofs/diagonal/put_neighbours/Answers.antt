@@ -10,7 +10,7 @@ use Rattle.btf_text.proofs.NeighbourRows.{rows_go_on}
 use Rattle.btf_text.proofs.diagonal.put_neighbours.Goals as goal
 
 pub loop-row-init : goal.loop-row-init
-loop-row-init g c = appends_as _ _ (sym (append-nil _)) c.put.ensures
+loop-row-init g c = appends_as _ _ (sym (append-nil _)) c.put_piece.ensures
 
 pub put_where_touched-requires : goal.put_where_touched-requires
 put_where_touched-requires g c = record {
@@ -28,5 +28,5 @@ returns g c =
     let all : c.loop-row.row ≡ a.rows = omega (arith, c.loop-row-test.false, c.loop-row.auto.row-end, c.rows-row-end.ensures) in
     record {
       appends = line_alone (line (codes "rows") (counted (neighbours a w)))
-          (appends_as _ _ (line_ends (codes "rows") _ _ (ap (λ (n : ℕ). counted (filter (touches a w) (upto n))) all)) (appends_then _ _ c.loop-row.invariant c.put-2.ensures));
+          (appends_as _ _ (line_ends (codes "rows") _ _ (ap (λ (n : ℕ). counted (filter (touches a w) (upto n))) all)) (appends_then _ _ c.loop-row.invariant c.put_piece-2.ensures));
     }

@@ -6,4 +6,4 @@ use Rattle.btf_text.proofs.diagonal.put_signed.Goals as goal
 pub returns : goal.returns
 returns g c =
     appends_as _ _ (ap (λ (t : List ℕ). 32 ∷ t) (c.as_bytes-text.ensures.value ∙ c.format.ensures.text ∙ ap signed_decimal (to_z-of_z c.ranges.number)))
-    (appends_then (32 ∷ []) _ c.put.ensures c.put-2.ensures)
+    (appends_then (32 ∷ []) _ c.put_piece.ensures c.put_piece-2.ensures)

@@ -9,7 +9,7 @@ use Rattle.btf_text.proofs.Weighed.{signed_ends, signed_go_on}
 use Rattle.btf_text.proofs.diagonal.put_signed_line.Goals as goal
 
 pub loop-number-init : goal.loop-number-init
-loop-number-init g c = appends_as _ _ (sym (append-nil _)) c.put.ensures
+loop-number-init g c = appends_as _ _ (sym (append-nil _)) c.put_piece.ensures
 
 pub loop-number-preserved : goal.loop-number-preserved
 loop-number-preserved g c =
@@ -21,5 +21,5 @@ loop-number-preserved g c =
 
 pub returns : goal.returns
 returns g c = record {
-  appends = line_alone (signed_line c.args.word.now c.args.numbers.now) (appends_as _ _ (signed_ends _ c.args.numbers.now _ (take_all _ _ c.loop-number-test.false)) (appends_then _ _ c.loop-number.invariant c.put-2.ensures));
+  appends = line_alone (signed_line c.args.word.now c.args.numbers.now) (appends_as _ _ (signed_ends _ c.args.numbers.now _ (take_all _ _ c.loop-number-test.false)) (appends_then _ _ c.loop-number.invariant c.put_piece-2.ensures));
 }

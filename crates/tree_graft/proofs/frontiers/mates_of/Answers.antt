@@ -4,7 +4,7 @@ use Rattle.bip_defs.specs.Lists.{Among}
 use Rattle.bip_defs.specs.Matching.{rows_of}
 use Rattle.bip_defs.specs.Matrix.{Place}
 use Rattle.bip_defs.proofs.Sets.{row_among, row_pair}
-use Rattle.tree_graft.specs.Search.{AreMatesOf}
+use Rattle.tree_graft.specs.PhaseSearch.{AreMatesOf}
 use Rattle.tree_graft.proofs.FrontierLemmas.{mates_more, mates_same}
 use Rattle.tree_graft.proofs.SearchLemmas.{row_apart, row_read}
 use Rattle.tree_graft.proofs.frontiers.mates_of.Goals.{in-Some+then-not-is_won+in_ok-push-in-Some, in-Some+else-not-is_won, in-None}

@@ -1,5 +1,5 @@
 use Rattle.std.proofs.Common.{take}
-use Rattle.tree_graft.specs.Search.{AreMatesOf}
+use Rattle.tree_graft.specs.PhaseSearch.{AreMatesOf}
 use Rattle.tree_graft.proofs.frontiers.mates_of.Given as goal
 
 abbrev pub invariant-loop-row : goal.invariant-loop-row

@@ -2,15 +2,15 @@ use Rattle.std.proofs.Common.{◌<◌, ◌∙◌, ap, arith, sym, true≢false}
 use Rattle.bip_defs.specs.Lists.{Among}
 use Rattle.bip_defs.specs.Matching.{rows_of}
 use Rattle.bip_defs.specs.Matrix.{Matrix}
+use Rattle.bip_defs.proofs.Below.{listed_more, listed_same}
 use Rattle.bip_defs.proofs.Sets.{lists_same}
-use Rattle.tree_graft.proofs.SearchLemmas.{level_more, level_same}
 use Rattle.tree_graft.proofs.frontiers.unclaimed_rows.Goals.{then-not-is_claimed+in_ok-push, else-not-is_claimed}
 use Rattle.tree_graft.proofs.frontiers.unclaimed_rows.Goals as goal
 
 pub loop-number-preserved : goal.loop-number-preserved
 loop-number-preserved c = elim c.if-not-is_claimed.branch [
-  | then-not-is_claimed+in_ok-push w ↦ rw (w.rows-is, w.in_ok-push.ensures.items) (level_more (λ r. ¬ Among r (rows_of c.args.forest.now.claims)) c.loop-number.number c.loop-number.rows.items c.loop-number.invariant (λ h. true≢false (sym (c.is_claimed.ensures.1 h) ∙ w.if-not-is_claimed.true)))
-  | else-not-is_claimed w ↦ rw w.rows-is (level_same (λ r. ¬ Among r (rows_of c.args.forest.now.claims)) c.loop-number.number c.loop-number.rows.items c.loop-number.invariant (λ n. n (c.is_claimed.ensures.0 w.if-not-is_claimed.false)))
+  | then-not-is_claimed+in_ok-push w ↦ rw (w.rows-is, w.in_ok-push.ensures.items) (listed_more (λ r. ¬ Among r (rows_of c.args.forest.now.claims)) c.loop-number.number c.loop-number.rows.items c.loop-number.invariant (λ h. true≢false (sym (c.is_claimed.ensures.1 h) ∙ w.if-not-is_claimed.true)))
+  | else-not-is_claimed w ↦ rw w.rows-is (listed_same (λ r. ¬ Among r (rows_of c.args.forest.now.claims)) c.loop-number.number c.loop-number.rows.items c.loop-number.invariant (λ n. n (c.is_claimed.ensures.0 w.if-not-is_claimed.false)))
 ]
 
 pub returns : goal.returns

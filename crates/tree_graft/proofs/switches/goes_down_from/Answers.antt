@@ -1,5 +1,5 @@
 use Rattle.std.proofs.Common.{◌↔◌, ◌<◌, ◌*◌, IsTrue, length}
-use Rattle.tree_graft.specs.Search.{IsUnclaimed}
+use Rattle.tree_graft.specs.PhaseSearch.{IsUnclaimed}
 use Rattle.tree_graft.proofs.CountLemmas.{choose_one}
 use Rattle.tree_graft.proofs.switches.goes_down_from.Goals as goal
 

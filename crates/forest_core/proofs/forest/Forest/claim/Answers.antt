@@ -29,7 +29,7 @@ invariant_of-self c =
     let root = subst (λ (s : State). RootOf s.base s.claims c.root-root.result c.args.col) (sym c.self.view_is) c.root-root.ensures.root in
     let long : c.args.row < length c.self.inside.claimed.roots = (let lt = legal.1.0 in let rows = c.self.invariant.0.holders_long in let same = c.is_alike.ensures.long in omega (arith, lt, rows, same)) in
     let room = c.self.invariant.1 in
-    let stored = stored_claim_at (state_of c.self.inside) _ (tables_of c.self.inside) _ c.args.row c.args.col c.root-root.result _ _ c.self.invariant.0 long legal root c.push_reserved.ensures.items c.push_reserved-2.ensures.items c.put.ensures.holders c.put.ensures.roots in (
+    let stored = stored_claim_at (state_of c.self.inside) _ (tables_of c.self.inside) _ c.args.row c.args.col c.root-root.result _ _ c.self.invariant.0 long legal root c.push_reserved.ensures.items c.push_reserved-2.ensures.items c.write.ensures.holders c.write.ensures.roots in (
       stored,
       record {
         claims = (let le = room.claims in let more = c.push_reserved.ensures.capacity in omega (arith, le, more));

@@ -9,14 +9,14 @@ use Rattle.forest_core.proofs.RunLemmas.{win_grows_at}
 use Rattle.forest_core.proofs.StoredForests.{claim_in_range, root_in_range, stored_win_at, win_room}
 use Rattle.forest_core.proofs.forest.Forest.win.Goals as goal
 
-pub put-requires-clause-within : goal.put-requires-clause-within
-put-requires-clause-within c =
+pub write-requires-clause-within : goal.write-requires-clause-within
+write-requires-clause-within c =
     let legal = subst (λ (s : State). IsLegal s (Win c.args.root c.args.leaf)) (sym c.self.view_is) c.requires in
     let lt : c.args.root < cols (state_of c.self.inside).matrix = root_in_range (state_of c.self.inside) c.self.invariant.0.sound c.args.root c.args.leaf legal.3 in
     omega (arith, lt, c.self.invariant.0.leaves_long, c.number.ensures)
 
-pub put-requires-clause-value : goal.put-requires-clause-value
-put-requires-clause-value c =
+pub write-requires-clause-value : goal.write-requires-clause-value
+write-requires-clause-value c =
     let legal = subst (λ (s : State). IsLegal s (Win c.args.root c.args.leaf)) (sym c.self.view_is) c.requires in
     let lt : c.args.leaf < (state_of c.self.inside).matrix.rows = (claim_in_range (state_of c.self.inside) c.self.invariant.0.sound c.args.leaf legal.3.0 legal.3.1).0 in
     omega (arith, lt, c.is_pattern.ensures.few_rows, c.number-2.ensures)
@@ -33,7 +33,7 @@ invariant_of-self c =
     let legal = subst (λ (s : State). IsLegal s (Win c.args.root c.args.leaf)) (sym c.self.view_is) c.requires in
     let room = c.self.invariant.1 in
     let stored = stored_win_at (state_of c.self.inside) _ (tables_of c.self.inside) _ c.args.root c.args.leaf _ c.self.invariant.0 legal c.push_reserved.ensures.items
-    (c.put.ensures ∙ ap (λ (i : ℕ). set c.self.inside.leaf_of i (Some c.number-2.result)) c.number.ensures ∙ ap (λ (x : ℕ). set c.self.inside.leaf_of c.args.root (Some x)) c.number-2.ensures) in (
+    (c.write.ensures ∙ ap (λ (i : ℕ). set c.self.inside.leaf_of i (Some c.number-2.result)) c.number.ensures ∙ ap (λ (x : ℕ). set c.self.inside.leaf_of c.args.root (Some x)) c.number-2.ensures) in (
       stored,
       record { claims = room.claims; claim_roots = room.claim_roots; path = room.path; leaves = (let le = room.leaves in let more = c.push_reserved.ensures.capacity in omega (arith, le, more)); flipped = room.flipped },
       adopted_win (state_of c.self.inside) _ (c.args.root, c.args.leaf) c.self.inside.adopted c.self.invariant.0.sound stored.sound c.push_reserved.ensures.items c.self.invariant.2,

@@ -1,0 +1,35 @@
+use Rattle.std.proofs.Common.{inl}
+use Rattle.std.proofs.lemmas.Result.{on_ok_weaker}
+use Rattle.level_sharing.specs.Shares.{by_columns}
+use Rattle.frontier_levels.proofs.SearchLemmas.{gathered_on}
+use Rattle.frontier_levels.proofs.search.TopDownSearch.gather.Goals as goal
+
+pub root-root-requires : goal.root-root-requires
+root-root-requires c = c.requires.search.inside c.args.col c.requires.col
+
+pub gather_rows-requires-clause-gathered : goal.gather_rows-requires-clause-gathered
+gather_rows-requires-clause-gathered c = gathered_on _ _ _ _ _ _ c.finds_leaf.ensures.seat (c.finds_leaf.ensures.settled c.args.self.now.forest.now) c.requires.gathered
+
+pub returns-then-finds_leaf-clause-gathered : goal.returns-then-finds_leaf-clause-gathered
+returns-then-finds_leaf-clause-gathered c = gathered_on _ _ _ _ _ _ c.finds_leaf.ensures.seat (c.finds_leaf.ensures.settled c.args.self.now.forest.now) c.requires.gathered
+
+pub returns-then-finds_leaf-clause-stays : goal.returns-then-finds_leaf-clause-stays
+returns-then-finds_leaf-clause-stays c =
+    let s = c.args.self.now.forest.now in
+    let own = by_columns c.args.self.now.share.now in
+    λ row root. c.steps_are_remembered.ensures.covered s own _ _ _ row root (c.finds_leaf.ensures.progress s own)
+
+pub returns-then-finds_leaf-clause-column : goal.returns-then-finds_leaf-clause-column
+returns-then-finds_leaf-clause-column c = (c.root-root.result, c.root-root.ensures.root, inl (c.finds_leaf.ensures.leaf c.if-finds_leaf.true))
+
+pub returns-clause-progress : goal.returns-clause-progress
+returns-clause-progress c =
+    let s = c.args.self.now.forest.now in
+    let own = by_columns c.args.self.now.share.now in
+    c.steps_are_progress.ensures.on s own _ _ _ (c.finds_leaf.ensures.progress s own) c.gather_rows.ensures.progress
+
+pub returns-clause-stays : goal.returns-clause-stays
+returns-clause-stays c =
+    let s = c.args.self.now.forest.now in
+    let own = by_columns c.args.self.now.share.now in
+    on_ok_weaker c.gather_rows.result (λ stays row root covered. stays row root (c.steps_are_remembered.ensures.covered s own _ _ _ row root (c.finds_leaf.ensures.progress s own) covered)) c.gather_rows.ensures.stays

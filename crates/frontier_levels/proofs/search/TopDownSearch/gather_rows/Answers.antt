@@ -1,0 +1,31 @@
+use Rattle.std.proofs.Common.{ℕ, List, sym, subst}
+use Rattle.std.proofs.lemmas.List.{take_all}
+use Rattle.bip_defs.specs.Lists.{Among}
+use Rattle.bip_defs.specs.Matrix.{IsEntry, Matrix}
+use Rattle.bip_defs.proofs.Slices.{each_more, read_among}
+use Rattle.level_sharing.specs.Candidates.{IsCovered}
+use Rattle.level_sharing.specs.Shares.{by_columns}
+use Rattle.frontier_levels.proofs.search.TopDownSearch.gather_rows.Goals as goal
+
+pub rows_of-row-items-requires : goal.rows_of-row-items-requires
+rows_of-row-items-requires c = rw c.pattern.ensures ((c.requires.search.inside c.args.col c.requires.col).0)
+
+pub gather_row-requires-clause-entry : goal.gather_row-requires-clause-entry
+gather_row-requires-clause-entry c =
+    let listed = read_among c.row-item.result c.rows_of-row-items.result.now c.loop-row.row-index c.loop-row-test.true c.row-item.is in
+    subst (λ (a : Matrix). IsEntry a c.row-item.result c.args.col) c.pattern.ensures (c.rows_of-row-items.ensures.rows.sound c.row-item.result listed)
+
+pub loop-row-preserved : goal.loop-row-preserved
+loop-row-preserved c =
+    let step = c.in_ok-gather_row.ensures in record {
+      column_rows = c.loop-row.invariant.column_rows;
+      progress = c.steps_are_progress.ensures.on c.args.self.now.forest.now (by_columns c.args.self.now.share.now) c.args.worker.now c.loop-row.worker c.gather_row.new.worker c.loop-row.invariant.progress step.progress;
+      gathered = step.gathered;
+      stays = λ row root covered. step.stays row root (c.loop-row.invariant.stays row root covered);
+      covered = each_more (λ r. IsCovered c.gather_row.new.worker c.gather_row.new.candidates.items r c.args.root) c.rows_of-row-items.result.now c.loop-row.row-index c.row-item.result c.loop-row-test.true c.row-item.is
+          (λ r m. step.stays r c.args.root (c.loop-row.invariant.covered r m)) step.row;
+    }
+
+pub returns-clause-rows : goal.returns-clause-rows
+returns-clause-rows c r m = c.loop-row.invariant.covered r
+    (subst (λ (l : List ℕ). Among r l) (sym (take_all c.loop-row.row-index c.rows_of-row-items.result.now c.loop-row-test.false)) (subst (λ (l : List ℕ). Among r l) (sym c.loop-row.invariant.column_rows) m))
