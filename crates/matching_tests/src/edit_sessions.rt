@@ -4,7 +4,7 @@
 ghost use Rattle.std.specs.Prelude.{◌≡◌, ◌<◌, ◌≤◌};
 ghost use Rattle.bip_defs.specs.Matrix.{cols, entry_count};
 
-use bip_graph::{Blocks, Parts};
+use bip_graph::{Blocks, Components, Parts};
 use dm_coarse::{coarse, components};
 use dm_fine::fine;
 use edit_session::Session;
@@ -269,6 +269,36 @@ fn same_blocks<R: Abort>(rt: &R, found: &Blocks, wanted: &Blocks) {
     assert_eq!(rt; found.all_cols(), wanted.all_cols());
 }
 
+/// What is found in a matrix that is made of places anew.
+#[derive(Drop)]
+struct MadeAnew {
+    entries: u32,
+    rank: u32,
+    parts: Parts,
+    blocks: Blocks,
+    components: Components,
+}
+
+fn made_anew<R: AllocGlobal + Threads + Sync>(
+    rt: &R,
+    rows: u32,
+    cols: u32,
+    places: &[(u32, u32)],
+) -> Result<MadeAnew, Fail> {
+    let pattern = pattern_of(rt, rows, cols, places)?;
+    let (matching, _missed) = plain(rt.alloc(), &pattern)?;
+    let parts = coarse(rt, rt.alloc(), &pattern, &matching)?;
+    let blocks = fine(rt.alloc(), &pattern, &matching, &parts)?;
+    let components = components(rt.alloc(), &pattern, &parts)?;
+    Ok(MadeAnew {
+        entries: pattern.entries(),
+        rank: matching.size(),
+        parts,
+        blocks,
+        components,
+    })
+}
+
 /// The session's rank, its number of entries and its report are those of the matrix that is made of
 /// these places anew.
 fn is_from_scratch<R: Abort + AllocGlobal + Threads + Sync>(
@@ -278,20 +308,20 @@ fn is_from_scratch<R: Abort + AllocGlobal + Threads + Sync>(
     cols: u32,
     places: &[(u32, u32)],
 ) -> Result<(), Fail> {
-    let pattern = pattern_of(rt, rows, cols, places)?;
-    let (matching, _missed) = plain(rt.alloc(), &pattern)?;
-    let parts = coarse(rt, rt.alloc(), &pattern, &matching)?;
-    let blocks = fine(rt.alloc(), &pattern, &matching, &parts)?;
-    let outer = components(rt.alloc(), &pattern, &parts)?;
+    let anew = made_anew(rt, rows, cols, places)?;
     let (found, joined) = session.report(rt)?;
-    assert_eq!(rt; session.rank(), matching.size());
-    assert_eq!(rt; session.entries(), pattern.entries());
-    assert_eq!(rt; (found.m, found.n), (rows, cols));
-    assert_eq!(rt; (found.e, found.rank), (pattern.entries(), matching.size()));
-    same_parts(rt, &found.parts, &parts);
-    same_blocks(rt, &found.blocks, &blocks);
-    same_blocks(rt, &joined.horizontal, &outer.horizontal);
-    same_blocks(rt, &joined.vertical, &outer.vertical);
+    assert_eq!(rt;
+        (session.rank(), session.entries()),
+        (anew.rank, anew.entries)
+    );
+    assert_eq!(rt;
+        (found.m, found.n, found.e, found.rank),
+        (rows, cols, anew.entries, anew.rank)
+    );
+    same_parts(rt, &found.parts, &anew.parts);
+    same_blocks(rt, &found.blocks, &anew.blocks);
+    same_blocks(rt, &joined.horizontal, &anew.components.horizontal);
+    same_blocks(rt, &joined.vertical, &anew.components.vertical);
     Ok(())
 }
 

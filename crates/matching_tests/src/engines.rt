@@ -84,9 +84,9 @@ fn is_maximum<R: Abort + AllocGlobal>(
     Ok(())
 }
 
-/// Every engine makes the matching maximum. The search gives a path where it is smaller, and then
-/// depth-first phases make it longer.
-fn all_complete<R: Abort + AllocGlobal + Threads + Sync>(
+/// The search gives a path where the matching is smaller than the rank, and then depth-first phases
+/// make it longer.
+fn grows_below_the_rank<R: Abort + AllocGlobal>(
     rt: &R,
     pattern: &Pattern,
     matching: &Matching,
@@ -100,6 +100,19 @@ fn all_complete<R: Abort + AllocGlobal + Threads + Sync>(
         let longer = lengthen(rt.alloc(), pattern, matching.copy(rt.alloc())?)?;
         assert!(rt; longer.size() > matching.size(), "{}", found.name);
     }
+    Ok(())
+}
+
+/// Every engine makes the matching maximum.
+fn all_complete<R: Abort + AllocGlobal + Threads + Sync>(
+    rt: &R,
+    pattern: &Pattern,
+    matching: &Matching,
+    found: &Found<'_>,
+) -> Result<(), OutOfMemory>
+    requires { IsMatchingOf pattern.now matching.now }
+{
+    grows_below_the_rank(rt, pattern, matching, found)?;
     for engine in ENGINES {
         let mut grown = completed(rt, engine, pattern, matching.copy(rt.alloc())?)?;
         is_maximum(rt, pattern, &mut grown, found)?;

@@ -2,6 +2,7 @@
 //! with fewer rows than columns or the other way round.
 
 ghost use Rattle.std.specs.Prelude.{◌≤◌};
+ghost use Rattle.bip_graph.specs.Matching.{IsMatchingOf};
 ghost use Rattle.sp_ids.specs.Limits.{max_workers};
 
 use bip_graph::Matching;
@@ -29,7 +30,7 @@ fn one_row_of<R: Abort + AllocGlobal + Threads + Sync>(
     Pattern::build(rt, rt.alloc(), &triples)
 }
 
-/// One pair is found. All columns may be missed, and their one neighbour is the first row.
+/// One pair is found.
 fn has_one_pair<R: Abort + AllocGlobal + Threads + Sync, G: Gate>(
     rt: &R,
     pattern: &Pattern,
@@ -41,7 +42,18 @@ fn has_one_pair<R: Abort + AllocGlobal + Threads + Sync, G: Gate>(
     let none = Matching::empty(rt.alloc(), pattern.rows(), pattern.cols())?;
     let found = complete(rt, rt.alloc(), pattern, none, workers, gate)?;
     assert_eq!(rt; found.size(), 1);
-    let Reach::Witness(columns) = reach(rt.alloc(), pattern, &found)? else {
+    may_miss_each_column(rt, pattern, &found)
+}
+
+/// All columns may be missed, and their one neighbour is the first row.
+fn may_miss_each_column<R: Abort + AllocGlobal>(
+    rt: &R,
+    pattern: &Pattern,
+    found: &Matching,
+) -> Result<(), OutOfMemory>
+    requires { IsMatchingOf pattern.now found.now }
+{
+    let Reach::Witness(columns) = reach(rt.alloc(), pattern, found)? else {
         panic!(rt; "one pair is all that there is");
     };
     assert_eq!(rt; columns.len(), pattern.cols() as usize);

@@ -84,8 +84,7 @@ fn pair_up(pattern: &Pattern, matching: &mut Matching, row: Row, col: Col) -> bo
         return false;
     }
     matching.pair(row, col);
-    // Tells the proof that no row and no column stands twice.
-    let _size = matching.size();
+    matching.is_matching();
     true
 }
 

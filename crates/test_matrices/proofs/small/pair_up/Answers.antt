@@ -11,7 +11,7 @@ returns c =
       cols = search rules;
       matching = record {
         entries = λ r x h. ⊎_elim (λ e. subst (λ (q : Place). IsEntry c.args.pattern.now q.0 q.1) (sym e) entry) (λ k. c.requires.matching.entries r x k) ((c.pair.ensures.added (r, x)).0 h);
-        rows_differ = c.size-size.ensures.rows_differ;
-        cols_differ = rising_distinct _ c.size-size.ensures.cols_rise;
+        rows_differ = c.is_matching.ensures.rows_differ;
+        cols_differ = rising_distinct _ c.is_matching.ensures.cols_rise;
       };
     }
