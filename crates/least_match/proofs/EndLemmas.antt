@@ -110,7 +110,7 @@ has_maximum a m n j r k rows sizes h = record {
 
 -- What is kept, where the column j is settled.
 pub ready_more : (a : Matrix) (m m2 : List Place) (j : ℕ) (x : Exchanges) → IsReady a m j x → Extends a m j m2 → IsReady a m2 (j + 1) x
-ready_more a m m2 j x k e = record { pattern = k.pattern; parts = k.parts; classes = classes_more a m m2 j x.classes.numbers.items x.classes.count k.classes e; forward_cols = k.forward_cols; backward_cols = k.backward_cols }
+ready_more a m m2 j x k e = record { pattern = k.pattern; parts = k.parts; classes = classes_more a m m2 j x.classes.numbers.items x.classes.count k.classes e; trees = k.trees }
 
 -- the same of the matrix and the matching by another name
 pub ready_same : (a a2 : Matrix) (m m2 : Pairing) (j : ℕ) (x : Exchanges) → a ≡ a2 → m ≡ m2 → IsReady a m.pairs j x → IsReady a2 m2.pairs j x

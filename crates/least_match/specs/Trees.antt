@@ -5,6 +5,7 @@ use Rattle.bip_defs.specs.Matching.{cols_of}
 use Rattle.bip_defs.specs.Matrix.{IsEntry, Matrix, Place}
 use Rattle.bip_defs.specs.Queues.{Queue, at, heads}
 use Rattle.least_match.specs.Classes.{IsOther, IsInTail}
+use Rattle.least_match.specs.declared.tree.Trees.{Trees}
 
 -- the first column has an entry in the row of the second one's pair
 abbrev pub LeadsTo : Matrix → List Place → ℕ → ℕ → Type 0
@@ -57,3 +58,7 @@ abbrev pub Looks : Matrix → List Place → List ℕ → ℕ → ℕ → ℕ �
 Looks a m classes j c parent old new other = (IsOther classes j c × (new ≡ old))
     ⊎ (IsInTail a classes j c × Among c (cols_of m) × (¬ Among c (heads other))
     × Enters c parent old new)
+
+-- trees for a matrix of so many columns
+abbrev pub HaveCols : ℕ → Trees → Type 0
+HaveCols n t = (t.forward.cols ≡ n) × (t.backward.cols ≡ n)

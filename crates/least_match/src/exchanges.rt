@@ -15,7 +15,7 @@ use crate::classes::Classes;
 use crate::exchange::{pass, swap};
 use crate::parts::Part;
 use crate::search::{ClassTail, Outcome};
-use crate::tree::Tree;
+use crate::tree::Trees;
 use bip_graph::Matching;
 use sp_ids::{Col, OutOfMemory, Row};
 use sp_pattern::Pattern;
@@ -27,8 +27,7 @@ pub struct Exchanges<'p> {
     pub pattern: &'p Pattern,
     pub parts: Vec<Part>,
     pub classes: Classes,
-    pub forward: Tree,
-    pub backward: Tree,
+    pub trees: Trees,
 }
 
 impl<'p> Exchanges<'p> {
@@ -45,14 +44,12 @@ impl<'p> Exchanges<'p> {
             → IsReady pattern.entry.now m 0 x) }
     {
         let classes = Classes::new(alloc, parts.as_slice())?;
-        let forward = Tree::new(alloc, pattern.cols())?;
-        let backward = Tree::new(alloc, pattern.cols())?;
+        let trees = Trees::new(alloc, pattern.cols())?;
         Ok(Exchanges {
             pattern,
             parts,
             classes,
-            forward,
-            backward,
+            trees,
         })
     }
 
@@ -117,18 +114,18 @@ impl<'p> Exchanges<'p> {
             return false;
         }
         let part = self.parts[col.0 as usize];
-        match tail.search(matching, part, other, &mut self.forward, &mut self.backward) {
+        match tail.search(matching, part, other, &mut self.trees) {
             Outcome::Path(meeting) => {
-                tail.exchange_path(matching, &self.forward, &self.backward, meeting);
+                tail.exchange_path(matching, &self.trees, meeting);
                 matching.pair(row, col);
                 true
             }
             Outcome::ForwardEnds => {
-                self.classes.split(&self.forward);
+                self.classes.split(&self.trees.forward);
                 false
             }
             Outcome::BackwardEnds => {
-                self.classes.split(&self.backward);
+                self.classes.split(&self.trees.backward);
                 false
             }
         }

@@ -10,12 +10,12 @@ ghost use Rattle.bip_graph.specs.Matching.{IsMatchingOf};
 ghost use Rattle.least_match.specs.Classes.{IsOther, IsInTail};
 ghost use Rattle.least_match.specs.Exchanges.{Meets};
 ghost use Rattle.least_match.specs.Outcomes.{EndsAs, IsIn, IsTurn};
-ghost use Rattle.least_match.specs.Trees.{AreSearchTrees, Enters, IsScanned, IsScannedBack, LeadsTo, Looks};
+ghost use Rattle.least_match.specs.Trees.{AreSearchTrees, Enters, HaveCols, IsScanned, IsScannedBack, LeadsTo, Looks};
 
 use crate::ahead::{cols_at, rows_at};
 use crate::exchange::Meeting;
 use crate::parts::Part;
-use crate::tree::Tree;
+use crate::tree::{Tree, Trees};
 use bip_graph::Matching;
 use sp_ids::{Col, Row};
 use sp_pattern::Pattern;
@@ -63,21 +63,19 @@ impl ClassTail<'_> {
     }
 
     // Begins the forward tree with a column behind its own, and the backward tree with its own.
-    fn begin(&self, first: Col, forward: &mut Tree, backward: &mut Tree)
+    fn begin(&self, first: Col, trees: &mut Trees)
         requires first { IsInTail self.now.pattern.now self.now.classes.now self.now.col first }
         requires behind { self.now.col < first }
-        requires cols { (forward.old.cols ≡ cols self.now.pattern.now)
-            × (backward.old.cols ≡ cols self.now.pattern.now) }
-        ensures cols { (forward.new.cols ≡ cols self.now.pattern.now)
-            × (backward.new.cols ≡ cols self.now.pattern.now) }
+        requires cols { HaveCols (cols self.now.pattern.now) trees.old }
+        ensures cols { HaveCols (cols self.now.pattern.now) trees.new }
         ensures trees { (m : List Place) → Among first (cols_of m) → Among self.now.col (cols_of m)
             → AreSearchTrees self.now.pattern.now m self.now.classes.now self.now.col first
-            forward.new.queue backward.new.queue }
+            trees.new.forward.queue trees.new.backward.queue }
     {
-        forward.clear();
-        forward.push(first, 0);
-        backward.clear();
-        backward.push(self.col, 0);
+        trees.forward.clear();
+        trees.forward.push(first, 0);
+        trees.backward.clear();
+        trees.backward.push(self.col, 0);
     }
 
     // Looks at a row in which the column at a place of the forward tree has an entry: adds its
@@ -87,23 +85,22 @@ impl ClassTail<'_> {
         matching: &Matching,
         row: Row,
         place: u32,
-        forward: &mut Tree,
-        backward: &Tree,
+        trees: &mut Trees,
     ) -> Option<Meeting>
         requires matching { IsMatchingOf self.now.pattern.now matching.now }
-        requires cols { (forward.old.cols ≡ cols self.now.pattern.now)
-            × (backward.now.cols ≡ cols self.now.pattern.now) }
-        requires place { place < length forward.old.queue }
-        requires entry { IsEntry self.now.pattern.now row (at forward.old.queue place).0 }
-        ensures cols { forward.new.cols ≡ forward.old.cols }
-        ensures same { IfSome result (λ meeting. forward.new ≡ forward.old) }
+        requires cols { HaveCols (cols self.now.pattern.now) trees.old }
+        requires place { place < length trees.old.forward.queue }
+        requires entry { IsEntry self.now.pattern.now row (at trees.old.forward.queue place).0 }
+        ensures cols { HaveCols (cols self.now.pattern.now) trees.new }
+        ensures other { trees.new.backward ≡ trees.old.backward }
+        ensures same { IfSome result (λ meeting. trees.new ≡ trees.old) }
         ensures found { IfSome result
             (Meets self.now.pattern.now matching.now.pairs self.now.col
-            forward.old.queue backward.now.queue) }
+            trees.old.forward.queue trees.old.backward.queue) }
         ensures seen { IfNone result
             ((d : ℕ) × Among (row, d) matching.now.pairs
             × Looks self.now.pattern.now matching.now.pairs self.now.classes.now self.now.col
-            d place forward.old.queue forward.new.queue backward.now.queue) }
+            d place trees.old.forward.queue trees.new.forward.queue trees.old.backward.queue) }
     {
         match matching.col_of(row) {
             None => Some(Meeting::FreeRow { from: place, row }),
@@ -111,7 +108,7 @@ impl ClassTail<'_> {
                 if !self.has(next) {
                     return None;
                 }
-                match enter(next, place, forward, backward) {
+                match enter(next, place, &mut trees.forward, &trees.backward) {
                     Some(to) => Some(Meeting::Trees { from: place, to }),
                     None => None,
                 }
@@ -126,25 +123,24 @@ impl ClassTail<'_> {
         matching: &Matching,
         next: Col,
         place: u32,
-        forward: &Tree,
-        backward: &mut Tree,
+        trees: &mut Trees,
     ) -> Option<Meeting>
         requires matching { IsMatchingOf self.now.pattern.now matching.now }
         requires own { Among self.now.col (cols_of matching.now.pairs) }
-        requires cols { (forward.now.cols ≡ cols self.now.pattern.now)
-            × (backward.old.cols ≡ cols self.now.pattern.now) }
-        requires place { place < length backward.old.queue }
+        requires cols { HaveCols (cols self.now.pattern.now) trees.old }
+        requires place { place < length trees.old.backward.queue }
         requires next { next < cols self.now.pattern.now }
         requires leads { LeadsTo self.now.pattern.now matching.now.pairs
-            next (at backward.old.queue place).0 }
-        ensures cols { backward.new.cols ≡ backward.old.cols }
-        ensures same { IfSome result (λ meeting. backward.new ≡ backward.old) }
+            next (at trees.old.backward.queue place).0 }
+        ensures cols { HaveCols (cols self.now.pattern.now) trees.new }
+        ensures other { trees.new.forward ≡ trees.old.forward }
+        ensures same { IfSome result (λ meeting. trees.new ≡ trees.old) }
         ensures found { IfSome result
             (Meets self.now.pattern.now matching.now.pairs self.now.col
-            forward.now.queue backward.old.queue) }
+            trees.old.forward.queue trees.old.backward.queue) }
         ensures seen { IfNone result
             (Looks self.now.pattern.now matching.now.pairs self.now.classes.now self.now.col
-            next place backward.old.queue backward.new.queue forward.now.queue) }
+            next place trees.old.backward.queue trees.new.backward.queue trees.old.forward.queue) }
     {
         if !self.has(next) {
             return None;
@@ -154,7 +150,7 @@ impl ClassTail<'_> {
                 col: next,
                 to: place,
             }),
-            Some(_) => match enter(next, place, backward, forward) {
+            Some(_) => match enter(next, place, &mut trees.backward, &trees.forward) {
                 Some(from) => Some(Meeting::Trees { from, to: place }),
                 None => None,
             },
@@ -167,30 +163,29 @@ impl ClassTail<'_> {
         matching: &Matching,
         place: u32,
         rows: &[Row],
-        forward: &mut Tree,
-        backward: &Tree,
+        trees: &mut Trees,
     ) -> Option<Meeting>
         requires matching { IsMatchingOf self.now.pattern.now matching.now }
-        requires cols { (forward.old.cols ≡ cols self.now.pattern.now)
-            × (backward.now.cols ≡ cols self.now.pattern.now) }
-        requires place { place < length forward.old.queue }
+        requires cols { HaveCols (cols self.now.pattern.now) trees.old }
+        requires place { place < length trees.old.forward.queue }
         requires rows { Lists
-            (λ r. IsEntry self.now.pattern.now r (at forward.old.queue place).0) rows.now }
-        ensures cols { forward.new.cols ≡ forward.old.cols }
-        ensures grows { IsPrefix forward.old.queue forward.new.queue }
+            (λ r. IsEntry self.now.pattern.now r (at trees.old.forward.queue place).0) rows.now }
+        ensures cols { HaveCols (cols self.now.pattern.now) trees.new }
+        ensures other { trees.new.backward ≡ trees.old.backward }
+        ensures grows { IsPrefix trees.old.forward.queue trees.new.forward.queue }
         ensures trees { (d : ℕ) → AreSearchTrees self.now.pattern.now matching.now.pairs
-            self.now.classes.now self.now.col d forward.old.queue backward.now.queue
+            self.now.classes.now self.now.col d trees.old.forward.queue trees.old.backward.queue
             → AreSearchTrees self.now.pattern.now matching.now.pairs
-            self.now.classes.now self.now.col d forward.new.queue backward.now.queue }
+            self.now.classes.now self.now.col d trees.new.forward.queue trees.new.backward.queue }
         ensures found { IfSome result
             (Meets self.now.pattern.now matching.now.pairs self.now.col
-            forward.new.queue backward.now.queue) }
+            trees.new.forward.queue trees.new.backward.queue) }
         ensures scanned { IfNone result
             (IsScanned self.now.pattern.now matching.now.pairs self.now.classes.now self.now.col
-            forward.new.queue (at forward.new.queue place).0) }
+            trees.new.forward.queue (at trees.new.forward.queue place).0) }
     {
         for row in rows {
-            match self.look_forward(matching, *row, place, forward, backward) {
+            match self.look_forward(matching, *row, place, trees) {
                 Some(meeting) => return Some(meeting),
                 None => {}
             }
@@ -204,33 +199,31 @@ impl ClassTail<'_> {
         &self,
         matching: &Matching,
         place: u32,
-        row: Row,
         found: &[Col],
-        forward: &Tree,
-        backward: &mut Tree,
+        trees: &mut Trees,
     ) -> Option<Meeting>
         requires matching { IsMatchingOf self.now.pattern.now matching.now }
         requires own { Among self.now.col (cols_of matching.now.pairs) }
-        requires cols { (forward.now.cols ≡ cols self.now.pattern.now)
-            × (backward.old.cols ≡ cols self.now.pattern.now) }
-        requires place { place < length backward.old.queue }
-        requires mate { Among (row, (at backward.old.queue place).0) matching.now.pairs }
-        requires found { Lists (λ c. IsEntry self.now.pattern.now row c) found.now }
-        ensures cols { backward.new.cols ≡ backward.old.cols }
-        ensures grows { IsPrefix backward.old.queue backward.new.queue }
+        requires cols { HaveCols (cols self.now.pattern.now) trees.old }
+        requires place { place < length trees.old.backward.queue }
+        requires found { (r : ℕ) × Among (r, (at trees.old.backward.queue place).0)
+            matching.now.pairs × Lists (λ c. IsEntry self.now.pattern.now r c) found.now }
+        ensures cols { HaveCols (cols self.now.pattern.now) trees.new }
+        ensures other { trees.new.forward ≡ trees.old.forward }
+        ensures grows { IsPrefix trees.old.backward.queue trees.new.backward.queue }
         ensures trees { (d : ℕ) → AreSearchTrees self.now.pattern.now matching.now.pairs
-            self.now.classes.now self.now.col d forward.now.queue backward.old.queue
+            self.now.classes.now self.now.col d trees.old.forward.queue trees.old.backward.queue
             → AreSearchTrees self.now.pattern.now matching.now.pairs
-            self.now.classes.now self.now.col d forward.now.queue backward.new.queue }
+            self.now.classes.now self.now.col d trees.new.forward.queue trees.new.backward.queue }
         ensures found { IfSome result
             (Meets self.now.pattern.now matching.now.pairs self.now.col
-            forward.now.queue backward.new.queue) }
+            trees.new.forward.queue trees.new.backward.queue) }
         ensures scanned { IfNone result
             (IsScannedBack self.now.pattern.now matching.now.pairs self.now.classes.now
-            self.now.col backward.new.queue (at backward.new.queue place).0) }
+            self.now.col trees.new.backward.queue (at trees.new.backward.queue place).0) }
     {
         for next in found {
-            match self.look_back(matching, *next, place, forward, backward) {
+            match self.look_back(matching, *next, place, trees) {
                 Some(meeting) => return Some(meeting),
                 None => {}
             }
@@ -245,48 +238,40 @@ impl ClassTail<'_> {
     /// costs about as much as the set with fewer entries of the two that it parts, and the entries
     /// of one column or one row more. Of each tree the list that it looks at next is looked up
     /// before the one at hand is gone through.
-    pub fn search(
-        &self,
-        matching: &Matching,
-        part: Part,
-        first: Col,
-        forward: &mut Tree,
-        backward: &mut Tree,
-    ) -> Outcome
+    pub fn search(&self, matching: &Matching, part: Part, first: Col, trees: &mut Trees) -> Outcome
         requires matching { IsMatchingOf self.now.pattern.now matching.now }
         requires own { Among self.now.col (cols_of matching.now.pairs) }
         requires part { IsIn self.now.pattern.now self.now.col part }
         requires first { IsInTail self.now.pattern.now self.now.classes.now self.now.col first }
         requires behind { self.now.col < first }
         requires matched { Among first (cols_of matching.now.pairs) }
-        requires cols { (forward.old.cols ≡ cols self.now.pattern.now)
-            × (backward.old.cols ≡ cols self.now.pattern.now) }
-        ensures cols { (forward.new.cols ≡ cols self.now.pattern.now)
-            × (backward.new.cols ≡ cols self.now.pattern.now) }
+        requires cols { HaveCols (cols self.now.pattern.now) trees.old }
+        ensures cols { HaveCols (cols self.now.pattern.now) trees.new }
         ensures trees { AreSearchTrees self.now.pattern.now matching.now.pairs
-            self.now.classes.now self.now.col first forward.new.queue backward.new.queue }
+            self.now.classes.now self.now.col first
+            trees.new.forward.queue trees.new.backward.queue }
         ensures ends { EndsAs self.now.pattern.now matching.now.pairs self.now.classes.now
-            self.now.col forward.new.queue backward.new.queue result }
+            self.now.col trees.new.forward.queue trees.new.backward.queue result }
     {
-        self.begin(first, forward, backward);
-        let mut rows_ahead = self.rows_ahead(forward, 0);
-        let mut cols_ahead = self.cols_ahead(matching, backward, 0);
+        self.begin(first, trees);
+        let mut rows_ahead = self.rows_ahead(&trees.forward, 0);
+        let mut cols_ahead = self.cols_ahead(matching, &trees.backward, 0);
         let mut ahead: u32 = 0;
         let mut back: u32 = 0;
         let mut looked_ahead: u64 = 0;
         let mut looked_back: u64 = 0;
         loop {
             let forward_first = looked_ahead <= looked_back;
-            let ahead_scan = scan_of(forward, ahead);
-            let back_scan = scan_of(backward, back);
+            let ahead_scan = scan_of(&trees.forward, ahead);
+            let back_scan = scan_of(&trees.backward, back);
             match next_turn(part, ahead_scan, back_scan, forward_first) {
                 Turn::EndForward => return Outcome::ForwardEnds,
                 Turn::EndBackward => return Outcome::BackwardEnds,
                 Turn::GrowForward => {
-                    let (col, _) = forward.at(ahead);
+                    let (col, _) = trees.forward.at(ahead);
                     let rows = rows_at(self.pattern, rows_ahead, col);
-                    rows_ahead = self.rows_ahead(forward, ahead);
-                    match self.scan_forward(matching, ahead, rows, forward, backward) {
+                    rows_ahead = self.rows_ahead(&trees.forward, ahead);
+                    match self.scan_forward(matching, ahead, rows, trees) {
                         Some(meeting) => return Outcome::Path(meeting),
                         None => {}
                     }
@@ -295,10 +280,10 @@ impl ClassTail<'_> {
                     continue;
                 }
                 Turn::GrowBackward => {
-                    let row = self.row_at(matching, backward, back);
+                    let row = self.row_at(matching, &trees.backward, back);
                     let cols = cols_at(self.pattern, cols_ahead, row);
-                    cols_ahead = self.cols_ahead(matching, backward, back);
-                    match self.scan_back(matching, back, row, cols, forward, backward) {
+                    cols_ahead = self.cols_ahead(matching, &trees.backward, back);
+                    match self.scan_back(matching, back, cols, trees) {
                         Some(meeting) => return Outcome::Path(meeting),
                         None => {}
                     }

@@ -4,6 +4,7 @@ ghost use Rattle.std.specs.Prelude.{◌≡◌, ◌<◌, ◌≤◌, ◌++◌, ◌
 ghost use Rattle.bip_defs.specs.Lists.{Among, AreDistinct};
 ghost use Rattle.bip_defs.specs.Queues.{at, heads};
 ghost use Rattle.least_match.specs.Tree.{Reached};
+ghost use Rattle.least_match.specs.Trees.{HaveCols};
 
 use sp_ids::{Col, OutOfMemory};
 use std::alloc::Global;
@@ -88,5 +89,24 @@ impl Tree {
         while let Some((col, _parent)) = self.queue.pop() {
             self.places[col as usize] = NONE;
         }
+    }
+}
+
+/// The two trees of a search: one from a column whose row is wanted, and one to the column that
+/// wants it.
+#[derive(Drop)]
+pub struct Trees {
+    pub forward: Tree,
+    pub backward: Tree,
+}
+
+impl Trees {
+    /// Without columns, for a matrix of so many.
+    pub fn new(alloc: Global, cols: u32) -> Result<Trees, OutOfMemory>
+        ensures { IfOk result (HaveCols cols) }
+    {
+        let forward = Tree::new(alloc, cols)?;
+        let backward = Tree::new(alloc, cols)?;
+        Ok(Trees { forward, backward })
     }
 }

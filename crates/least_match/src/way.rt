@@ -9,7 +9,7 @@ ghost use Rattle.least_match.specs.Trees.{AreSearchTrees};
 
 use crate::exchange::{Meeting, shift, unpair_col, vacate};
 use crate::search::ClassTail;
-use crate::tree::Tree;
+use crate::tree::Trees;
 use bip_graph::Matching;
 
 impl ClassTail<'_> {
@@ -17,36 +17,30 @@ impl ClassTail<'_> {
     /// tree's first column have no mates, and the matching has a pair less.
     ///
     /// Takes no memory. Work: some reads and writes a pair of the path.
-    pub fn exchange_path(
-        &self,
-        matching: &mut Matching,
-        forward: &Tree,
-        backward: &Tree,
-        meeting: Meeting,
-    )
+    pub fn exchange_path(&self, matching: &mut Matching, trees: &Trees, meeting: Meeting)
         requires matching { IsMatchingOf self.now.pattern.now matching.old }
         requires trees { (d : ℕ) × AreSearchTrees self.now.pattern.now matching.old.pairs
-            self.now.classes.now self.now.col d forward.now.queue backward.now.queue }
+            self.now.classes.now self.now.col d trees.now.forward.queue trees.now.backward.queue }
         requires meets { Meets self.now.pattern.now matching.old.pairs self.now.col
-            forward.now.queue backward.now.queue meeting }
+            trees.now.forward.queue trees.now.backward.queue meeting }
         ensures sizes { (matching.new.rows ≡ matching.old.rows)
             × (matching.new.cols ≡ matching.old.cols) }
-        ensures frees { (r : ℕ) → Among (r, (at forward.now.queue 0).0) matching.old.pairs
+        ensures frees { (r : ℕ) → Among (r, (at trees.now.forward.queue 0).0) matching.old.pairs
             → Frees self.now.pattern.now matching.old.pairs self.now.col r matching.new.pairs }
     {
         match meeting {
             Meeting::Trees { from, to } => {
-                let row = vacate(matching, backward, to);
-                shift(matching, forward, from, row);
+                let row = vacate(matching, &trees.backward, to);
+                shift(matching, &trees.forward, from, row);
             }
             Meeting::FreeRow { from, row } => {
                 unpair_col(matching, self.col);
-                shift(matching, forward, from, row);
+                shift(matching, &trees.forward, from, row);
             }
             Meeting::FreeCol { col, to } => {
-                let row = vacate(matching, backward, to);
+                let row = vacate(matching, &trees.backward, to);
                 matching.pair(row, col);
-                let (first, _) = forward.at(0);
+                let (first, _) = trees.forward.at(0);
                 unpair_col(matching, first);
             }
         }

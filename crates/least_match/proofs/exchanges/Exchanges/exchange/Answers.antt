@@ -49,9 +49,8 @@ returns-in-ForwardEnds-clause-ready c =
     record {
       pattern = refl;
       parts = c.requires.ready.parts;
-      classes = split_or_not c.requires.ready.classes (λ s. forward_splits _ _ _ _ _ _ _ _ _ classes c.requires.maximum.maximum (entry_col _ _ _ c.requires.entry) c.search.ensures.trees c.requires.mate ends.0 ends.1 _ (subst (λ (z : List ℕ). IsSplit z c.args.self.now.classes.count (heads c.search.new.forward.queue) c.split.new.self.numbers.items) (sym c.as_slice.ensures.value) s)) c.split.ensures;
-      forward_cols = c.search.ensures.cols.0;
-      backward_cols = c.search.ensures.cols.1;
+      classes = split_or_not c.requires.ready.classes (λ s. forward_splits _ _ _ _ _ _ _ _ _ classes c.requires.maximum.maximum (entry_col _ _ _ c.requires.entry) c.search.ensures.trees c.requires.mate ends.0 ends.1 _ (subst (λ (z : List ℕ). IsSplit z c.args.self.now.classes.count (heads c.search.new.trees.forward.queue) c.split.new.self.numbers.items) (sym c.as_slice.ensures.value) s)) c.split.ensures;
+      trees = c.search.ensures.cols;
     }
 
 pub returns-in-ForwardEnds-clause-none : goal.returns-in-ForwardEnds-clause-none
@@ -67,9 +66,8 @@ returns-in-BackwardEnds-clause-ready c =
     record {
       pattern = refl;
       parts = c.requires.ready.parts;
-      classes = split_or_not c.requires.ready.classes (λ s. backward_splits _ _ _ _ _ _ _ _ _ classes c.requires.maximum.maximum (entry_col _ _ _ c.requires.entry) c.search.ensures.trees c.requires.mate ends.0 ends.1 _ (subst (λ (z : List ℕ). IsSplit z c.args.self.now.classes.count (heads c.search.new.backward.queue) c.split-in-BackwardEnds.new.self.numbers.items) (sym c.as_slice.ensures.value) s)) c.split-in-BackwardEnds.ensures;
-      forward_cols = c.search.ensures.cols.0;
-      backward_cols = c.search.ensures.cols.1;
+      classes = split_or_not c.requires.ready.classes (λ s. backward_splits _ _ _ _ _ _ _ _ _ classes c.requires.maximum.maximum (entry_col _ _ _ c.requires.entry) c.search.ensures.trees c.requires.mate ends.0 ends.1 _ (subst (λ (z : List ℕ). IsSplit z c.args.self.now.classes.count (heads c.search.new.trees.backward.queue) c.split-in-BackwardEnds.new.self.numbers.items) (sym c.as_slice.ensures.value) s)) c.split-in-BackwardEnds.ensures;
+      trees = c.search.ensures.cols;
     }
 
 pub returns-in-BackwardEnds-clause-none : goal.returns-in-BackwardEnds-clause-none

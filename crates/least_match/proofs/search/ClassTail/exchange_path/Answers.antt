@@ -34,7 +34,7 @@ shift-requires-in-FreeRow-clause-tree c =
 
 pub shift-requires-in-FreeRow-clause-free : goal.shift-requires-in-FreeRow-clause-free
 shift-requires-in-FreeRow-clause-free c =
-    let meets = subst (Meets c.args.self.now.pattern.now c.args.matching.now.pairs c.args.self.now.col c.args.forward.now.queue c.args.backward.now.queue) c.in-FreeRow.is c.requires.meets in
+    let meets = subst (Meets c.args.self.now.pattern.now c.args.matching.now.pairs c.args.self.now.col c.args.trees.now.forward.queue c.args.trees.now.backward.queue) c.in-FreeRow.is c.requires.meets in
     parted_free _ _ _ _ c.unpair_col.ensures.pairs meets.2
 
 pub pair-requires-clause-col_free : goal.pair-requires-clause-col_free
@@ -42,7 +42,7 @@ pair-requires-clause-col_free c =
     let k = c.requires.matching.matching in
     let t = c.requires.trees.1 in
     let e = c.vacate-row-in-FreeCol.ensures in
-    let meets = subst (Meets c.args.self.now.pattern.now c.args.matching.now.pairs c.args.self.now.col c.args.forward.now.queue c.args.backward.now.queue) c.in-FreeCol.is c.requires.meets in
+    let meets = subst (Meets c.args.self.now.pattern.now c.args.matching.now.pairs c.args.self.now.col c.args.trees.now.forward.queue c.args.trees.now.backward.queue) c.in-FreeCol.is c.requires.meets in
     col_fresh _ _ _ _ _ _ _ k t _ (vacate_vacates _ _ _ _ _ _ _ k t _ (e.matching _ k t.backward_leads) e.size e.col_free e.beside) _ meets.3
 
 pub unpair_col-requires-in-FreeCol : goal.unpair_col-requires-in-FreeCol
@@ -51,7 +51,7 @@ unpair_col-requires-in-FreeCol c =
     let t = c.requires.trees.1 in
     let e = c.vacate-row-in-FreeCol.ensures in
     let h = forward_hangs _ _ _ _ _ _ _ k t _ (vacate_vacates _ _ _ _ _ _ _ k t _ (e.matching _ k t.backward_leads) e.size e.col_free e.beside) in
-    subst (λ (x : ℕ × ℕ). Among x.0 (cols_of c.pair.new.self.pairs)) (sym c.at-first.ensures) (still_matched _ _ _ _ c.pair.ensures.added (h.matched _ (head_at c.args.forward.now.queue 0 t.forward_tree.some)))
+    subst (λ (x : ℕ × ℕ). Among x.0 (cols_of c.pair.new.self.pairs)) (sym c.at-first.ensures) (still_matched _ _ _ _ c.pair.ensures.added (h.matched _ (head_at c.args.trees.now.forward.queue 0 t.forward_tree.some)))
 
 pub returns-in-Trees-clause-frees : goal.returns-in-Trees-clause-frees
 returns-in-Trees-clause-frees c = λ r p.
@@ -59,7 +59,7 @@ returns-in-Trees-clause-frees c = λ r p.
     let t = c.requires.trees.1 in
     let e = c.vacate-row.ensures in
     let v = vacate_vacates _ _ _ _ _ _ _ k t _ (e.matching _ k t.backward_leads) e.size e.col_free e.beside in
-    let meets = subst (Meets c.args.self.now.pattern.now c.args.matching.now.pairs c.args.self.now.col c.args.forward.now.queue c.args.backward.now.queue) c.in-Trees.is c.requires.meets in
+    let meets = subst (Meets c.args.self.now.pattern.now c.args.matching.now.pairs c.args.self.now.col c.args.trees.now.forward.queue c.args.trees.now.backward.queue) c.in-Trees.is c.requires.meets in
     let o = c.shift.ensures in
     shifted_frees _ _ _ _ _ _ _ k t _ v _ _ r (o.matching _ v.matching (forward_led _ _ _ _ _ _ _ k t _ v) (meets.2 _ e.row)) o.size o.beside o.row o.row_free p
 
@@ -68,7 +68,7 @@ returns-in-FreeRow-clause-frees c = λ r p.
     let k = c.requires.matching.matching in
     let t = c.requires.trees.1 in
     let v = parted_vacates _ _ _ _ _ _ _ k t _ _ c.unpair_col.ensures.pairings.1.rows_differ (rising_distinct _ c.unpair_col.ensures.pairings.1.cols_rise) c.unpair_col.ensures.row c.unpair_col.ensures.pairs c.unpair_col.ensures.size in
-    let meets = subst (Meets c.args.self.now.pattern.now c.args.matching.now.pairs c.args.self.now.col c.args.forward.now.queue c.args.backward.now.queue) c.in-FreeRow.is c.requires.meets in
+    let meets = subst (Meets c.args.self.now.pattern.now c.args.matching.now.pairs c.args.self.now.col c.args.trees.now.forward.queue c.args.trees.now.backward.queue) c.in-FreeRow.is c.requires.meets in
     let o = c.shift-in-FreeRow.ensures in
     shifted_frees _ _ _ _ _ _ _ k t _ v _ _ r (o.matching _ v.matching (forward_led _ _ _ _ _ _ _ k t _ v) meets.1) o.size o.beside o.row o.row_free p
 
@@ -78,6 +78,6 @@ returns-in-FreeCol-clause-frees c = λ r p.
     let t = c.requires.trees.1 in
     let e = c.vacate-row-in-FreeCol.ensures in
     let v = vacate_vacates _ _ _ _ _ _ _ k t _ (e.matching _ k t.backward_leads) e.size e.col_free e.beside in
-    let meets = subst (Meets c.args.self.now.pattern.now c.args.matching.now.pairs c.args.self.now.col c.args.forward.now.queue c.args.backward.now.queue) c.in-FreeCol.is c.requires.meets in
+    let meets = subst (Meets c.args.self.now.pattern.now c.args.matching.now.pairs c.args.self.now.col c.args.trees.now.forward.queue c.args.trees.now.backward.queue) c.in-FreeCol.is c.requires.meets in
     let own = subst (λ (x : ℕ × ℕ). Among (c.unpair_col-in-FreeCol.result, x.0) c.pair.new.self.pairs) c.at-first.ensures c.unpair_col-in-FreeCol.ensures.row in
     taken_frees _ _ _ _ _ _ _ k t _ v _ _ _ _ _ r c.unpair_col-in-FreeCol.ensures.pairings.1.rows_differ (rising_distinct _ c.unpair_col-in-FreeCol.ensures.pairings.1.cols_rise) meets.1 meets.3 e.row_free (meets.4 _ e.row) c.pair.ensures.pairs c.pair.ensures.size own c.unpair_col-in-FreeCol.ensures.pairs c.unpair_col-in-FreeCol.ensures.size p

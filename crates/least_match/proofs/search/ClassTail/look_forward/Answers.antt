@@ -9,7 +9,7 @@ pub has-requires : goal.has-requires
 has-requires c = record { col = entry_col _ _ _ (c.requires.matching.matching.entries _ _ c.in-Some.ensures.found) }
 
 pub returns-in-Some-enter-clause-found : goal.returns-in-Some-enter-clause-found
-returns-in-Some-enter-clause-found c = (c.requires.place, c.in-Some-enter.ensures.within, subst (LeadsTo c.args.self.now.pattern.now c.args.matching.now.pairs (at c.args.forward.now.queue c.args.place).0) (sym c.in-Some-enter.ensures.meets) (leads_by _ _ _ _ _ c.requires.matching.matching c.in-Some.ensures.found c.requires.entry))
+returns-in-Some-enter-clause-found c = (c.requires.place, c.in-Some-enter.ensures.within, subst (LeadsTo c.args.self.now.pattern.now c.args.matching.now.pairs (at c.args.trees.now.forward.queue c.args.place).0) (sym c.in-Some-enter.ensures.meets) (leads_by _ _ _ _ _ c.requires.matching.matching c.in-Some.ensures.found c.requires.entry))
 
 pub returns-in-None-enter-clause-seen : goal.returns-in-None-enter-clause-seen
 returns-in-None-enter-clause-seen c = (c.in-Some.next, c.in-Some.ensures.found, inr (c.if-not-has.ensures.yes, col_among _ _ _ c.in-Some.ensures.found, c.in-None-enter.ensures.apart, c.in-None-enter.ensures.entered))

@@ -8,6 +8,7 @@ use Rattle.bip_defs.proofs.Sets.{entry_col}
 use Rattle.least_match.specs.Classes.{IsOther}
 use Rattle.least_match.specs.Tree.{Reached}
 use Rattle.least_match.specs.Trees.{AreSearchTrees}
+use Rattle.least_match.specs.declared.tree.Trees.{Trees}
 use Rattle.least_match.proofs.SearchLemmas.{col_leads, col_stays, item_among, each_more, looks_back, looks_prefix, looks_seen, seen_grown_back, seen_scanned_back}
 use Rattle.least_match.proofs.search.ClassTail.scan_back.Goals as goal
 
@@ -15,13 +16,13 @@ pub look_back-requires-clause-place : goal.look_back-requires-clause-place
 look_back-requires-clause-place c = let le = grown_length _ _ c.loop-next.invariant.grows in omega (arith, le, c.requires.place)
 
 pub look_back-requires-clause-next : goal.look_back-requires-clause-next
-look_back-requires-clause-next c = entry_col _ _ _ (c.requires.found.sound _ (item_among c.args.found.now c.loop-next.next-index c.next-item.result c.next-item.is c.loop-next-test.true))
+look_back-requires-clause-next c = entry_col _ _ _ (c.requires.found.2.sound _ (item_among c.args.found.now c.loop-next.next-index c.next-item.result c.next-item.is c.loop-next-test.true))
 
 pub look_back-requires-clause-leads : goal.look_back-requires-clause-leads
-look_back-requires-clause-leads c = col_leads _ _ c.args.found.now c.loop-next.next-index c.next-item.result c.args.row _ _ c.requires.matching.matching c.requires.mate c.requires.found c.next-item.is c.loop-next-test.true (col_stays _ _ c.args.place _ c.loop-next.invariant.grows c.requires.place refl)
+look_back-requires-clause-leads c = col_leads _ _ c.args.found.now c.loop-next.next-index c.next-item.result c.requires.found.0 _ _ c.requires.matching.matching c.requires.found.1 c.requires.found.2 c.next-item.is c.loop-next-test.true (col_stays _ _ c.args.place _ c.loop-next.invariant.grows c.requires.place refl)
 
 pub returns-in-Some-clause-trees : goal.returns-in-Some-clause-trees
-returns-in-Some-clause-trees c = λ d t. subst (λ (z : Reached). AreSearchTrees c.args.self.now.pattern.now c.args.matching.now.pairs c.args.self.now.classes.now c.args.self.now.col d c.args.forward.now.queue z.queue) (sym c.in-Some.ensures.same) (c.loop-next.invariant.trees d t)
+returns-in-Some-clause-trees c = λ d t. subst (λ (z : Trees). AreSearchTrees c.args.self.now.pattern.now c.args.matching.now.pairs c.args.self.now.classes.now c.args.self.now.col d z.forward.queue z.backward.queue) (sym c.in-Some.ensures.same) (c.loop-next.invariant.trees d t)
 
 pub loop-next-preserved : goal.loop-next-preserved
 loop-next-preserved c =
@@ -29,15 +30,16 @@ loop-next-preserved c =
     let s = c.in-None.ensures.seen in
     let grows = looks_prefix _ _ _ _ _ _ _ _ _ s in
     let le = grown_length _ _ i.grows in
-    let place : c.args.place < length c.loop-next.backward.queue = omega (arith, le, c.requires.place) in
+    let place : c.args.place < length c.loop-next.trees.backward.queue = omega (arith, le, c.requires.place) in
     record {
-      cols = c.in-None.ensures.cols ∙ i.cols;
+      cols = c.in-None.ensures.cols;
+      other = c.in-None.ensures.other ∙ i.other;
       grows = grows_more _ _ _ i.grows grows;
-      trees = λ d t. looks_back _ _ _ _ d _ _ _ _ _ (i.trees d t) s place (col_leads _ _ c.args.found.now c.loop-next.next-index c.next-item.result c.args.row _ _ c.requires.matching.matching c.requires.mate c.requires.found c.next-item.is c.loop-next-test.true (col_stays _ _ c.args.place _ c.loop-next.invariant.grows c.requires.place refl));
-      seen = each_more (λ x. IsOther c.args.self.now.classes.now c.args.self.now.col x ⊎ Among x (heads c.look_back.new.backward.queue)) c.args.found.now c.loop-next.next-index c.next-item.result (seen_grown_back _ _ _ _ _ i.seen grows) c.loop-next-test.true (sym (get_or_read c.args.found.now c.loop-next.next-index c.next-item.result c.loop-next-test.true c.next-item.is 0)) (looks_seen _ _ _ _ _ _ _ _ _ s);
+      trees = λ d t. subst (λ (z : Reached). AreSearchTrees c.args.self.now.pattern.now c.args.matching.now.pairs c.args.self.now.classes.now c.args.self.now.col d z.queue c.look_back.new.trees.backward.queue) (sym c.in-None.ensures.other) (looks_back _ _ _ _ d _ _ _ _ _ (i.trees d t) s place (col_leads _ _ c.args.found.now c.loop-next.next-index c.next-item.result c.requires.found.0 _ _ c.requires.matching.matching c.requires.found.1 c.requires.found.2 c.next-item.is c.loop-next-test.true (col_stays _ _ c.args.place _ c.loop-next.invariant.grows c.requires.place refl)));
+      seen = each_more (λ x. IsOther c.args.self.now.classes.now c.args.self.now.col x ⊎ Among x (heads c.look_back.new.trees.backward.queue)) c.args.found.now c.loop-next.next-index c.next-item.result (seen_grown_back _ _ _ _ _ i.seen grows) c.loop-next-test.true (sym (get_or_read c.args.found.now c.loop-next.next-index c.next-item.result c.loop-next-test.true c.next-item.is 0)) (looks_seen _ _ _ _ _ _ _ _ _ s);
     }
 
 pub returns-clause-scanned : goal.returns-clause-scanned
 returns-clause-scanned c =
     let here = ap (λ (x : ℕ × ℕ). x.0) (sym (grown_at _ _ c.args.place c.loop-next.invariant.grows c.requires.place)) in
-    seen_scanned_back c.args.self.now.pattern.now _ _ _ (at c.loop-next.backward.queue c.args.place).0 c.args.row c.loop-next.next-index _ c.args.found.now c.requires.matching.matching (subst (λ x. Among {X = Place} (c.args.row, x) c.args.matching.now.pairs) here c.requires.mate) c.loop-next.invariant.seen c.loop-next-test.false c.requires.found
+    seen_scanned_back c.args.self.now.pattern.now _ _ _ (at c.loop-next.trees.backward.queue c.args.place).0 c.requires.found.0 c.loop-next.next-index _ c.args.found.now c.requires.matching.matching (subst (λ x. Among {X = Place} (c.requires.found.0, x) c.args.matching.now.pairs) here c.requires.found.1) c.loop-next.invariant.seen c.loop-next-test.false c.requires.found.2

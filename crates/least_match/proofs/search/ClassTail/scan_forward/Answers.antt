@@ -7,6 +7,7 @@ use Rattle.bip_defs.proofs.Queues.{grown_at, grown_length, grows_more}
 use Rattle.least_match.specs.Classes.{IsOther}
 use Rattle.least_match.specs.Tree.{Reached}
 use Rattle.least_match.specs.Trees.{AreSearchTrees}
+use Rattle.least_match.specs.declared.tree.Trees.{Trees}
 use Rattle.least_match.proofs.SearchLemmas.{col_stays, row_entry, each_more, leads_by, looks_forward, looks_prefix, looks_seen, seen_grown, seen_scanned}
 use Rattle.least_match.proofs.search.ClassTail.scan_forward.Goals as goal
 
@@ -17,7 +18,7 @@ pub look_forward-requires-clause-entry : goal.look_forward-requires-clause-entry
 look_forward-requires-clause-entry c = row_entry _ c.args.rows.now c.loop-row.row-index c.row-item.result _ _ c.requires.rows c.row-item.is c.loop-row-test.true (col_stays _ _ c.args.place _ c.loop-row.invariant.grows c.requires.place refl)
 
 pub returns-in-Some-clause-trees : goal.returns-in-Some-clause-trees
-returns-in-Some-clause-trees c = λ d t. subst (λ (z : Reached). AreSearchTrees c.args.self.now.pattern.now c.args.matching.now.pairs c.args.self.now.classes.now c.args.self.now.col d z.queue c.args.backward.now.queue) (sym c.in-Some.ensures.same) (c.loop-row.invariant.trees d t)
+returns-in-Some-clause-trees c = λ d t. subst (λ (z : Trees). AreSearchTrees c.args.self.now.pattern.now c.args.matching.now.pairs c.args.self.now.classes.now c.args.self.now.col d z.forward.queue z.backward.queue) (sym c.in-Some.ensures.same) (c.loop-row.invariant.trees d t)
 
 pub loop-row-preserved : goal.loop-row-preserved
 loop-row-preserved c =
@@ -25,15 +26,16 @@ loop-row-preserved c =
     let s = c.in-None.ensures.seen in
     let grows = looks_prefix _ _ _ _ _ _ _ _ _ s.2 in
     let le = grown_length _ _ i.grows in
-    let place : c.args.place < length c.loop-row.forward.queue = omega (arith, le, c.requires.place) in
+    let place : c.args.place < length c.loop-row.trees.forward.queue = omega (arith, le, c.requires.place) in
     record {
-      cols = c.in-None.ensures.cols ∙ i.cols;
+      cols = c.in-None.ensures.cols;
+      other = c.in-None.ensures.other ∙ i.other;
       grows = grows_more _ _ _ i.grows grows;
-      trees = λ d t. looks_forward _ _ _ _ d _ _ _ _ _ (i.trees d t) s.2 place (leads_by _ _ _ _ _ c.requires.matching.matching s.1 (row_entry _ c.args.rows.now c.loop-row.row-index c.row-item.result _ _ c.requires.rows c.row-item.is c.loop-row-test.true (col_stays _ _ c.args.place _ c.loop-row.invariant.grows c.requires.place refl)));
-      seen = each_more (λ r. (d : ℕ) × Among (r, d) c.args.matching.now.pairs × (IsOther c.args.self.now.classes.now c.args.self.now.col d ⊎ Among d (heads c.look_forward.new.forward.queue))) c.args.rows.now c.loop-row.row-index c.row-item.result (seen_grown _ _ _ _ _ _ i.seen grows) c.loop-row-test.true (sym (get_or_read c.args.rows.now c.loop-row.row-index c.row-item.result c.loop-row-test.true c.row-item.is 0)) (s.0, s.1, looks_seen _ _ _ _ _ _ _ _ _ s.2);
+      trees = λ d t. subst (λ (z : Reached). AreSearchTrees c.args.self.now.pattern.now c.args.matching.now.pairs c.args.self.now.classes.now c.args.self.now.col d c.look_forward.new.trees.forward.queue z.queue) (sym c.in-None.ensures.other) (looks_forward _ _ _ _ d _ _ _ _ _ (i.trees d t) s.2 place (leads_by _ _ _ _ _ c.requires.matching.matching s.1 (row_entry _ c.args.rows.now c.loop-row.row-index c.row-item.result _ _ c.requires.rows c.row-item.is c.loop-row-test.true (col_stays _ _ c.args.place _ c.loop-row.invariant.grows c.requires.place refl))));
+      seen = each_more (λ r. (d : ℕ) × Among (r, d) c.args.matching.now.pairs × (IsOther c.args.self.now.classes.now c.args.self.now.col d ⊎ Among d (heads c.look_forward.new.trees.forward.queue))) c.args.rows.now c.loop-row.row-index c.row-item.result (seen_grown _ _ _ _ _ _ i.seen grows) c.loop-row-test.true (sym (get_or_read c.args.rows.now c.loop-row.row-index c.row-item.result c.loop-row-test.true c.row-item.is 0)) (s.0, s.1, looks_seen _ _ _ _ _ _ _ _ _ s.2);
     }
 
 pub returns-clause-scanned : goal.returns-clause-scanned
 returns-clause-scanned c =
     let here = ap (λ (x : ℕ × ℕ). x.0) (sym (grown_at _ _ c.args.place c.loop-row.invariant.grows c.requires.place)) in
-    seen_scanned c.args.self.now.pattern.now _ _ _ (at c.loop-row.forward.queue c.args.place).0 c.loop-row.row-index _ c.args.rows.now c.loop-row.invariant.seen c.loop-row-test.false (subst (λ x. Lists (λ r. IsEntry c.args.self.now.pattern.now r x) c.args.rows.now) here c.requires.rows)
+    seen_scanned c.args.self.now.pattern.now _ _ _ (at c.loop-row.trees.forward.queue c.args.place).0 c.loop-row.row-index _ c.args.rows.now c.loop-row.invariant.seen c.loop-row-test.false (subst (λ x. Lists (λ r. IsEntry c.args.self.now.pattern.now r x) c.args.rows.now) here c.requires.rows)
