@@ -1,11 +1,11 @@
--- Two trees of alternating paths: one from a column whose row is wanted, and one to the column that wants it.
+-- Two trees of alternating paths: one from a column that has a row, and one to the column that is to get it.
 use Rattle.std.specs.Prelude.{◌≡◌, ◌⊎◌, ℕ, ◌<◌, ◌++◌, ◌∷◌, [], List, length}
 use Rattle.bip_defs.specs.Lists.{Among, AreDistinct}
 use Rattle.bip_defs.specs.Matching.{cols_of}
 use Rattle.bip_defs.specs.Matrix.{IsEntry, Matrix, Place}
 use Rattle.bip_defs.specs.Queues.{Queue, at, heads}
 use Rattle.least_match.specs.Classes.{IsOther, IsInTail}
-use Rattle.least_match.specs.declared.tree.Trees.{Trees}
+use Rattle.least_match.specs.declared.tree.SearchTrees.{SearchTrees}
 
 -- the first column has an entry in the row of the second one's pair
 abbrev pub LeadsTo : Matrix → List Place → ℕ → ℕ → Type 0
@@ -60,5 +60,5 @@ Looks a m classes j c parent old new other = (IsOther classes j c × (new ≡ ol
     × Enters c parent old new)
 
 -- trees for a matrix of so many columns
-abbrev pub HaveCols : ℕ → Trees → Type 0
+abbrev pub HaveCols : ℕ → SearchTrees → Type 0
 HaveCols n t = (t.forward.cols ≡ n) × (t.backward.cols ≡ n)

@@ -1,6 +1,6 @@
 //! Exchanges along alternating paths.
 
-ghost use Rattle.std.specs.Prelude.{◌≡◌, ◌≢◌, ◌↔◌, suc, ◌<◌, length};
+ghost use Rattle.std.specs.Prelude.{◌≡◌, ◌≢◌, ◌↔◌, ℕ, suc, ◌<◌, length};
 ghost use Rattle.bip_defs.specs.Lists.{Among};
 ghost use Rattle.bip_defs.specs.Matching.{IsMatching, cols_of, rows_of};
 ghost use Rattle.bip_defs.specs.Matrix.{IsEntry, Matrix, Place};
@@ -62,12 +62,12 @@ pub fn swap(matching: &mut Matching, row: Row, col: Col) -> Row
 }
 
 /// Gives the row of a matched column to an unmatched one.
-pub fn pass(matching: &mut Matching, from: Col, to: Col) -> Row
+pub fn pass(matching: &mut Matching, from: Col, to: Col)
     requires from { Among from (cols_of matching.old.pairs) }
     requires to { ¬ Among to (cols_of matching.old.pairs) }
     requires in_range { to < matching.old.cols }
-    ensures row { Among (result, from) matching.old.pairs }
-    ensures pairs { Swaps (result, to) result matching.old.pairs matching.new.pairs }
+    ensures pairs { (r : ℕ) × Among (r, from) matching.old.pairs
+        × Swaps (r, to) r matching.old.pairs matching.new.pairs }
     ensures size { length matching.new.pairs ≡ length matching.old.pairs }
     ensures sizes { (matching.new.rows ≡ matching.old.rows)
         × (matching.new.cols ≡ matching.old.cols) }
@@ -75,7 +75,6 @@ pub fn pass(matching: &mut Matching, from: Col, to: Col) -> Row
 {
     let row = unpair_col(matching, from);
     matching.pair(row, to);
-    row
 }
 
 /// Leaves the first column of a tree without a mate, and the row of the column at a place too: that
@@ -110,14 +109,14 @@ pub fn vacate(matching: &mut Matching, tree: &Tree, place: u32) -> Row
 }
 
 /// Gives an unmatched row to the column at a place of a tree, that column's row to its parent, and
-/// so on up to the first column, whose row is left without a mate. Gives this row.
-pub fn shift(matching: &mut Matching, tree: &Tree, place: u32, free: Row) -> Row
+/// so on up to the first column, whose row is left without a mate.
+pub fn shift(matching: &mut Matching, tree: &Tree, place: u32, free: Row)
     requires place { place < length tree.now.queue }
     requires tree { Hangs matching.old.pairs tree.now.queue }
     requires free { ¬ Among free (rows_of matching.old.pairs) }
     requires in_range { free < matching.old.rows }
-    ensures row { Among (result, (at tree.now.queue 0).0) matching.old.pairs }
-    ensures row_free { ¬ Among result (rows_of matching.new.pairs) }
+    ensures row_free { (r : ℕ) × Among (r, (at tree.now.queue 0).0) matching.old.pairs
+        × (¬ Among r (rows_of matching.new.pairs)) }
     ensures beside { AgreeBeside tree.now.queue matching.old.pairs matching.new.pairs }
     ensures size { length matching.new.pairs ≡ length matching.old.pairs }
     ensures sizes { (matching.new.rows ≡ matching.old.rows)
@@ -136,6 +135,5 @@ pub fn shift(matching: &mut Matching, tree: &Tree, place: u32, free: Row) -> Row
         at = parent;
     }
     let (first, _) = tree.at(0);
-    let own = swap(matching, row, first);
-    own
+    swap(matching, row, first);
 }

@@ -15,7 +15,7 @@ use crate::classes::Classes;
 use crate::exchange::{pass, swap};
 use crate::parts::Part;
 use crate::search::{ClassTail, Outcome};
-use crate::tree::Trees;
+use crate::tree::SearchTrees;
 use bip_graph::Matching;
 use sp_ids::{Col, OutOfMemory, Row};
 use sp_pattern::Pattern;
@@ -27,7 +27,7 @@ pub struct Exchanges<'p> {
     pub pattern: &'p Pattern,
     pub parts: Vec<Part>,
     pub classes: Classes,
-    pub trees: Trees,
+    pub trees: SearchTrees,
 }
 
 impl<'p> Exchanges<'p> {
@@ -44,7 +44,7 @@ impl<'p> Exchanges<'p> {
             → IsReady pattern.entry.now m 0 x) }
     {
         let classes = Classes::new(alloc, parts.as_slice())?;
-        let trees = Trees::new(alloc, pattern.cols())?;
+        let trees = SearchTrees::new(alloc, pattern.cols())?;
         Ok(Exchanges {
             pattern,
             parts,

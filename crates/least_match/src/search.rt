@@ -15,7 +15,7 @@ ghost use Rattle.least_match.specs.Trees.{AreSearchTrees, Enters, HaveCols, IsSc
 use crate::ahead::{cols_at, rows_at};
 use crate::exchange::Meeting;
 use crate::parts::Part;
-use crate::tree::{Tree, Trees};
+use crate::tree::{SearchTrees, Tree};
 use bip_graph::Matching;
 use sp_ids::{Col, Row};
 use sp_pattern::Pattern;
@@ -63,7 +63,7 @@ impl ClassTail<'_> {
     }
 
     // Begins the forward tree with a column behind its own, and the backward tree with its own.
-    fn begin(&self, first: Col, trees: &mut Trees)
+    fn begin(&self, first: Col, trees: &mut SearchTrees)
         requires first { IsInTail self.now.pattern.now self.now.classes.now self.now.col first }
         requires behind { self.now.col < first }
         requires cols { HaveCols (cols self.now.pattern.now) trees.old }
@@ -85,7 +85,7 @@ impl ClassTail<'_> {
         matching: &Matching,
         row: Row,
         place: u32,
-        trees: &mut Trees,
+        trees: &mut SearchTrees,
     ) -> Option<Meeting>
         requires matching { IsMatchingOf self.now.pattern.now matching.now }
         requires cols { HaveCols (cols self.now.pattern.now) trees.old }
@@ -123,7 +123,7 @@ impl ClassTail<'_> {
         matching: &Matching,
         next: Col,
         place: u32,
-        trees: &mut Trees,
+        trees: &mut SearchTrees,
     ) -> Option<Meeting>
         requires matching { IsMatchingOf self.now.pattern.now matching.now }
         requires own { Among self.now.col (cols_of matching.now.pairs) }
@@ -163,7 +163,7 @@ impl ClassTail<'_> {
         matching: &Matching,
         place: u32,
         rows: &[Row],
-        trees: &mut Trees,
+        trees: &mut SearchTrees,
     ) -> Option<Meeting>
         requires matching { IsMatchingOf self.now.pattern.now matching.now }
         requires cols { HaveCols (cols self.now.pattern.now) trees.old }
@@ -200,7 +200,7 @@ impl ClassTail<'_> {
         matching: &Matching,
         place: u32,
         found: &[Col],
-        trees: &mut Trees,
+        trees: &mut SearchTrees,
     ) -> Option<Meeting>
         requires matching { IsMatchingOf self.now.pattern.now matching.now }
         requires own { Among self.now.col (cols_of matching.now.pairs) }
@@ -238,7 +238,13 @@ impl ClassTail<'_> {
     /// costs about as much as the set with fewer entries of the two that it parts, and the entries
     /// of one column or one row more. Of each tree the list that it looks at next is looked up
     /// before the one at hand is gone through.
-    pub fn search(&self, matching: &Matching, part: Part, first: Col, trees: &mut Trees) -> Outcome
+    pub fn search(
+        &self,
+        matching: &Matching,
+        part: Part,
+        first: Col,
+        trees: &mut SearchTrees,
+    ) -> Outcome
         requires matching { IsMatchingOf self.now.pattern.now matching.now }
         requires own { Among self.now.col (cols_of matching.now.pairs) }
         requires part { IsIn self.now.pattern.now self.now.col part }

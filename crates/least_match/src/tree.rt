@@ -92,21 +92,21 @@ impl Tree {
     }
 }
 
-/// The two trees of a search: one from a column whose row is wanted, and one to the column that
-/// wants it.
+/// The two trees of a search for an exchange that gives a column the row of another: the forward
+/// one from the column that has the row, the backward one to the column that is to get it.
 #[derive(Drop)]
-pub struct Trees {
+pub struct SearchTrees {
     pub forward: Tree,
     pub backward: Tree,
 }
 
-impl Trees {
+impl SearchTrees {
     /// Without columns, for a matrix of so many.
-    pub fn new(alloc: Global, cols: u32) -> Result<Trees, OutOfMemory>
+    pub fn new(alloc: Global, cols: u32) -> Result<SearchTrees, OutOfMemory>
         ensures { IfOk result (HaveCols cols) }
     {
         let forward = Tree::new(alloc, cols)?;
         let backward = Tree::new(alloc, cols)?;
-        Ok(Trees { forward, backward })
+        Ok(SearchTrees { forward, backward })
     }
 }

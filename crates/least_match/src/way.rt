@@ -9,7 +9,7 @@ ghost use Rattle.least_match.specs.Trees.{AreSearchTrees};
 
 use crate::exchange::{Meeting, shift, unpair_col, vacate};
 use crate::search::ClassTail;
-use crate::tree::Trees;
+use crate::tree::SearchTrees;
 use bip_graph::Matching;
 
 impl ClassTail<'_> {
@@ -17,7 +17,7 @@ impl ClassTail<'_> {
     /// tree's first column have no mates, and the matching has a pair less.
     ///
     /// Takes no memory. Work: some reads and writes a pair of the path.
-    pub fn exchange_path(&self, matching: &mut Matching, trees: &Trees, meeting: Meeting)
+    pub fn exchange_path(&self, matching: &mut Matching, trees: &SearchTrees, meeting: Meeting)
         requires matching { IsMatchingOf self.now.pattern.now matching.old }
         requires trees { (d : ℕ) × AreSearchTrees self.now.pattern.now matching.old.pairs
             self.now.classes.now self.now.col d trees.now.forward.queue trees.now.backward.queue }

@@ -35,23 +35,20 @@ loop-at-preserved c =
 at_first : (c : goal.After-swap-arg-2-1) → c.loop-at.at ≡ 0
 at_first c = let le = c.loop-at-test.false in omega (arith, le)
 
-pub swap-own-requires-clause-col : goal.swap-own-requires-clause-col
-swap-own-requires-clause-col c = subst (λ (x : ℕ × ℕ). Among x.0 (cols_of c.loop-at.matching.pairs)) (ap (at c.args.tree.now.queue) (at_first c) ∙ sym c.at-first.ensures) (free_matched _ _ _ _ _ _ _ c.requires.tree c.loop-at.invariant.free)
+pub swap-requires-clause-col : goal.swap-requires-clause-col
+swap-requires-clause-col c = subst (λ (x : ℕ × ℕ). Among x.0 (cols_of c.loop-at.matching.pairs)) (ap (at c.args.tree.now.queue) (at_first c) ∙ sym c.at-first.ensures) (free_matched _ _ _ _ _ _ _ c.requires.tree c.loop-at.invariant.free)
 
-given : (c : goal.After-swap-own) → HasGiven c.args.matching.now.pairs c.swap-own.new.matching.pairs c.args.tree.now.queue c.args.place c.args.free 0 c.swap-own.result
+given : (c : goal.After-swap) → HasGiven c.args.matching.now.pairs c.swap.new.matching.pairs c.args.tree.now.queue c.args.place c.args.free 0 c.swap.result
 given c =
     let le = c.loop-at-test.false in
     let first : c.loop-at.at ≡ 0 = omega (arith, le) in
-    let has = subst (λ (x : ℕ × ℕ). Among (c.swap-own.result, x.0) c.loop-at.matching.pairs) c.at-first.ensures c.swap-own.ensures.row in
-    let swaps = subst (λ (x : ℕ × ℕ). Swaps (c.loop-at.row, x.0) c.swap-own.result c.loop-at.matching.pairs c.swap-own.new.matching.pairs) c.at-first.ensures c.swap-own.ensures.pairs in
+    let has = subst (λ (x : ℕ × ℕ). Among (c.swap.result, x.0) c.loop-at.matching.pairs) c.at-first.ensures c.swap.ensures.row in
+    let swaps = subst (λ (x : ℕ × ℕ). Swaps (c.loop-at.row, x.0) c.swap.result c.loop-at.matching.pairs c.swap.new.matching.pairs) c.at-first.ensures c.swap.ensures.pairs in
     let free = subst (λ i. HasFree c.args.matching.now.pairs c.loop-at.matching.pairs c.args.tree.now.queue c.args.place c.args.free i c.loop-at.row) first c.loop-at.invariant.free in
-    free_gives _ _ _ _ _ _ _ _ _ c.swap-own.ensures.pairings.0.rows_differ (rising_distinct _ c.swap-own.ensures.pairings.0.cols_rise) c.requires.tree free has swaps c.swap-own.ensures.size
-
-pub returns-clause-row : goal.returns-clause-row
-returns-clause-row c = (given c).own
+    free_gives _ _ _ _ _ _ _ _ _ c.swap.ensures.pairings.0.rows_differ (rising_distinct _ c.swap.ensures.pairings.0.cols_rise) c.requires.tree free has swaps c.swap.ensures.size
 
 pub returns-clause-row_free : goal.returns-clause-row_free
-returns-clause-row_free c = (given c).row_free
+returns-clause-row_free c = (c.swap.result, (given c).own, (given c).row_free)
 
 pub returns-clause-beside : goal.returns-clause-beside
 returns-clause-beside c = (given c).beside
@@ -60,4 +57,4 @@ pub returns-clause-size : goal.returns-clause-size
 returns-clause-size c = (given c).size
 
 pub returns-clause-matching : goal.returns-clause-matching
-returns-clause-matching c = given_matching _ _ _ _ _ _ _ c.swap-own.ensures.pairings.1.rows_differ (rising_distinct _ c.swap-own.ensures.pairings.1.cols_rise) (given c)
+returns-clause-matching c = given_matching _ _ _ _ _ _ _ c.swap.ensures.pairings.1.rows_differ (rising_distinct _ c.swap.ensures.pairings.1.cols_rise) (given c)

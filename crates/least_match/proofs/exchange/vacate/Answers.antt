@@ -39,8 +39,8 @@ pub loop-at-preserved : goal.loop-at-preserved
 loop-at-preserved c =
     let i = c.loop-at.invariant in
     let up = sym (ap (λ (x : ℕ × ℕ). x.1) c.at-col.ensures) in
-    let has = subst (λ (x : ℕ × ℕ). Among (c.pass.result, x.0) c.loop-at.matching.pairs) c.at-next.ensures c.pass.ensures.row in
-    let swaps = subst (λ (x : ℕ × ℕ). Swaps (c.pass.result, x.0) c.pass.result c.loop-at.matching.pairs c.pass.new.matching.pairs) c.at-col.ensures c.pass.ensures.pairs in
+    let has = subst (λ (x : ℕ × ℕ). Among (c.pass.ensures.pairs.0, x.0) c.loop-at.matching.pairs) c.at-next.ensures c.pass.ensures.pairs.1 in
+    let swaps = subst (λ (x : ℕ × ℕ). Swaps (c.pass.ensures.pairs.0, x.0) c.pass.ensures.pairs.0 c.loop-at.matching.pairs c.pass.new.matching.pairs) c.at-col.ensures c.pass.ensures.pairs.2 in
     record {
       hole = hole_step _ _ _ _ _ _ _ _ c.pass.ensures.pairings.0.rows_differ (rising_distinct _ c.pass.ensures.pairings.0.cols_rise) c.requires.tree i.hole c.loop-at-test.true up has swaps c.pass.ensures.size;
       pairing = c.pass.ensures.pairings.1;

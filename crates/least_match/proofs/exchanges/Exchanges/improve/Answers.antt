@@ -33,9 +33,9 @@ returns-in-None-row_of-clause-found c =
     let le = c.if-other-col.false in
     let is : c.other.inside.0 ≡ c.in-Some.other = c.other.view_is in
     let at : c.col.inside.0 ≡ c.args.col = c.col.view_is in
-    let own = one_row c.args.matching.now.pairs c.requires.maximum.maximum.matching.cols_differ c.pass.result c.args.row c.in-Some.other c.pass.ensures.row c.in-Some.ensures.found in
-    let swaps = subst (λ r. Swaps (r, c.args.col) c.pass.result c.args.matching.now.pairs c.pass.new.matching.pairs) own c.pass.ensures.pairs in
-    let has = swapped c.args.self.now.pattern.now c.args.matching.now.pairs c.pass.new.matching.pairs c.args.col c.args.row c.pass.result c.in-Some.other c.requires.maximum.maximum c.requires.entry c.pass.ensures.pairings.1.rows_differ (rising_distinct _ c.pass.ensures.pairings.1.cols_rise) swaps c.pass.ensures.size c.pass.ensures.row (omega (arith, le, is, at)) in
+    let own = one_row c.args.matching.now.pairs c.requires.maximum.maximum.matching.cols_differ c.pass.ensures.pairs.0 c.args.row c.in-Some.other c.pass.ensures.pairs.1 c.in-Some.ensures.found in
+    let swaps = subst (λ r. Swaps (r, c.args.col) c.pass.ensures.pairs.0 c.args.matching.now.pairs c.pass.new.matching.pairs) own c.pass.ensures.pairs.2 in
+    let has = swapped c.args.self.now.pattern.now c.args.matching.now.pairs c.pass.new.matching.pairs c.args.col c.args.row c.pass.ensures.pairs.0 c.in-Some.other c.requires.maximum.maximum c.requires.entry c.pass.ensures.pairings.1.rows_differ (rising_distinct _ c.pass.ensures.pairings.1.cols_rise) swaps c.pass.ensures.size c.pass.ensures.pairs.1 (omega (arith, le, is, at)) in
     has
 
 pub returns-in-None-row_of-clause-maximum : goal.returns-in-None-row_of-clause-maximum
@@ -43,7 +43,7 @@ returns-in-None-row_of-clause-maximum c =
     let le = c.if-other-col.false in
     let is : c.other.inside.0 ≡ c.in-Some.other = c.other.view_is in
     let at : c.col.inside.0 ≡ c.args.col = c.col.view_is in
-    let own = one_row c.args.matching.now.pairs c.requires.maximum.maximum.matching.cols_differ c.pass.result c.args.row c.in-Some.other c.pass.ensures.row c.in-Some.ensures.found in
-    let swaps = subst (λ r. Swaps (r, c.args.col) c.pass.result c.args.matching.now.pairs c.pass.new.matching.pairs) own c.pass.ensures.pairs in
-    let has = swapped c.args.self.now.pattern.now c.args.matching.now.pairs c.pass.new.matching.pairs c.args.col c.args.row c.pass.result c.in-Some.other c.requires.maximum.maximum c.requires.entry c.pass.ensures.pairings.1.rows_differ (rising_distinct _ c.pass.ensures.pairings.1.cols_rise) swaps c.pass.ensures.size c.pass.ensures.row (omega (arith, le, is, at)) in
+    let own = one_row c.args.matching.now.pairs c.requires.maximum.maximum.matching.cols_differ c.pass.ensures.pairs.0 c.args.row c.in-Some.other c.pass.ensures.pairs.1 c.in-Some.ensures.found in
+    let swaps = subst (λ r. Swaps (r, c.args.col) c.pass.ensures.pairs.0 c.args.matching.now.pairs c.pass.new.matching.pairs) own c.pass.ensures.pairs.2 in
+    let has = swapped c.args.self.now.pattern.now c.args.matching.now.pairs c.pass.new.matching.pairs c.args.col c.args.row c.pass.ensures.pairs.0 c.in-Some.other c.requires.maximum.maximum c.requires.entry c.pass.ensures.pairings.1.rows_differ (rising_distinct _ c.pass.ensures.pairings.1.cols_rise) swaps c.pass.ensures.size c.pass.ensures.pairs.1 (omega (arith, le, is, at)) in
     has_maximum c.args.self.now.pattern.now c.args.matching.now c.pass.new.matching c.args.col c.args.row c.requires.maximum c.pass.ensures.sizes.0 c.pass.ensures.sizes.1 has

@@ -61,7 +61,7 @@ returns-in-Trees-clause-frees c = λ r p.
     let v = vacate_vacates _ _ _ _ _ _ _ k t _ (e.matching _ k t.backward_leads) e.size e.col_free e.beside in
     let meets = subst (Meets c.args.self.now.pattern.now c.args.matching.now.pairs c.args.self.now.col c.args.trees.now.forward.queue c.args.trees.now.backward.queue) c.in-Trees.is c.requires.meets in
     let o = c.shift.ensures in
-    shifted_frees _ _ _ _ _ _ _ k t _ v _ _ r (o.matching _ v.matching (forward_led _ _ _ _ _ _ _ k t _ v) (meets.2 _ e.row)) o.size o.beside o.row o.row_free p
+    shifted_frees _ _ _ _ _ _ _ k t _ v _ _ r (o.matching _ v.matching (forward_led _ _ _ _ _ _ _ k t _ v) (meets.2 _ e.row)) o.size o.beside o.row_free.1 o.row_free.2 p
 
 pub returns-in-FreeRow-clause-frees : goal.returns-in-FreeRow-clause-frees
 returns-in-FreeRow-clause-frees c = λ r p.
@@ -70,7 +70,7 @@ returns-in-FreeRow-clause-frees c = λ r p.
     let v = parted_vacates _ _ _ _ _ _ _ k t _ _ c.unpair_col.ensures.pairings.1.rows_differ (rising_distinct _ c.unpair_col.ensures.pairings.1.cols_rise) c.unpair_col.ensures.row c.unpair_col.ensures.pairs c.unpair_col.ensures.size in
     let meets = subst (Meets c.args.self.now.pattern.now c.args.matching.now.pairs c.args.self.now.col c.args.trees.now.forward.queue c.args.trees.now.backward.queue) c.in-FreeRow.is c.requires.meets in
     let o = c.shift-in-FreeRow.ensures in
-    shifted_frees _ _ _ _ _ _ _ k t _ v _ _ r (o.matching _ v.matching (forward_led _ _ _ _ _ _ _ k t _ v) meets.1) o.size o.beside o.row o.row_free p
+    shifted_frees _ _ _ _ _ _ _ k t _ v _ _ r (o.matching _ v.matching (forward_led _ _ _ _ _ _ _ k t _ v) meets.1) o.size o.beside o.row_free.1 o.row_free.2 p
 
 pub returns-in-FreeCol-clause-frees : goal.returns-in-FreeCol-clause-frees
 returns-in-FreeCol-clause-frees c = λ r p.

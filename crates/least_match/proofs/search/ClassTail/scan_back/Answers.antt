@@ -8,7 +8,7 @@ use Rattle.bip_defs.proofs.Sets.{entry_col}
 use Rattle.least_match.specs.Classes.{IsOther}
 use Rattle.least_match.specs.Tree.{Reached}
 use Rattle.least_match.specs.Trees.{AreSearchTrees}
-use Rattle.least_match.specs.declared.tree.Trees.{Trees}
+use Rattle.least_match.specs.declared.tree.SearchTrees.{SearchTrees}
 use Rattle.least_match.proofs.SearchLemmas.{col_leads, col_stays, item_among, each_more, looks_back, looks_prefix, looks_seen, seen_grown_back, seen_scanned_back}
 use Rattle.least_match.proofs.search.ClassTail.scan_back.Goals as goal
 
@@ -22,7 +22,7 @@ pub look_back-requires-clause-leads : goal.look_back-requires-clause-leads
 look_back-requires-clause-leads c = col_leads _ _ c.args.found.now c.loop-next.next-index c.next-item.result c.requires.found.0 _ _ c.requires.matching.matching c.requires.found.1 c.requires.found.2 c.next-item.is c.loop-next-test.true (col_stays _ _ c.args.place _ c.loop-next.invariant.grows c.requires.place refl)
 
 pub returns-in-Some-clause-trees : goal.returns-in-Some-clause-trees
-returns-in-Some-clause-trees c = λ d t. subst (λ (z : Trees). AreSearchTrees c.args.self.now.pattern.now c.args.matching.now.pairs c.args.self.now.classes.now c.args.self.now.col d z.forward.queue z.backward.queue) (sym c.in-Some.ensures.same) (c.loop-next.invariant.trees d t)
+returns-in-Some-clause-trees c = λ d t. subst (λ (z : SearchTrees). AreSearchTrees c.args.self.now.pattern.now c.args.matching.now.pairs c.args.self.now.classes.now c.args.self.now.col d z.forward.queue z.backward.queue) (sym c.in-Some.ensures.same) (c.loop-next.invariant.trees d t)
 
 pub loop-next-preserved : goal.loop-next-preserved
 loop-next-preserved c =

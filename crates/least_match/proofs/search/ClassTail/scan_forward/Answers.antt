@@ -7,7 +7,7 @@ use Rattle.bip_defs.proofs.Queues.{grown_at, grown_length, grows_more}
 use Rattle.least_match.specs.Classes.{IsOther}
 use Rattle.least_match.specs.Tree.{Reached}
 use Rattle.least_match.specs.Trees.{AreSearchTrees}
-use Rattle.least_match.specs.declared.tree.Trees.{Trees}
+use Rattle.least_match.specs.declared.tree.SearchTrees.{SearchTrees}
 use Rattle.least_match.proofs.SearchLemmas.{col_stays, row_entry, each_more, leads_by, looks_forward, looks_prefix, looks_seen, seen_grown, seen_scanned}
 use Rattle.least_match.proofs.search.ClassTail.scan_forward.Goals as goal
 
@@ -18,7 +18,7 @@ pub look_forward-requires-clause-entry : goal.look_forward-requires-clause-entry
 look_forward-requires-clause-entry c = row_entry _ c.args.rows.now c.loop-row.row-index c.row-item.result _ _ c.requires.rows c.row-item.is c.loop-row-test.true (col_stays _ _ c.args.place _ c.loop-row.invariant.grows c.requires.place refl)
 
 pub returns-in-Some-clause-trees : goal.returns-in-Some-clause-trees
-returns-in-Some-clause-trees c = λ d t. subst (λ (z : Trees). AreSearchTrees c.args.self.now.pattern.now c.args.matching.now.pairs c.args.self.now.classes.now c.args.self.now.col d z.forward.queue z.backward.queue) (sym c.in-Some.ensures.same) (c.loop-row.invariant.trees d t)
+returns-in-Some-clause-trees c = λ d t. subst (λ (z : SearchTrees). AreSearchTrees c.args.self.now.pattern.now c.args.matching.now.pairs c.args.self.now.classes.now c.args.self.now.col d z.forward.queue z.backward.queue) (sym c.in-Some.ensures.same) (c.loop-row.invariant.trees d t)
 
 pub loop-row-preserved : goal.loop-row-preserved
 loop-row-preserved c =
