@@ -1,5 +1,6 @@
 -- A search by halves in a list that rises.
-use Rattle.std.proofs.Common.{◌≡◌, ◌<◌, ◌≤◌, ◌+◌, ◌-◌, ◌*◌, ◌/◌, ℕ, Bool, true, false, List, length, get_or, nat_lt, arith, refl, subst, ltb-true, ltb-false}
+use Rattle.std.proofs.Common.{◌≡◌, ◌∙◌, ◌<◌, ◌≤◌, ◌+◌, ◌-◌, ◌*◌, ◌/◌, ℕ, zero, suc, Bool, true, false, List, [], ◌∷◌, length, get_or, min, nat_lt, arith, refl, subst, ltb-true, ltb-false}
+use Rattle.std.proofs.lemmas.List.{get_or_default}
 use Rattle.bip_defs.specs.Lists.{Among, IsRising}
 use Rattle.bip_defs.proofs.Sets.{place_among, rising_order}
 
@@ -10,13 +11,51 @@ pub record IsSearched (xs : List ℕ) (x first len : ℕ) : Type 0 where
   pub from : Among x xs → get_or xs first 0 ≤ x
   pub to : first + len < length xs → x < get_or xs (first + len) 0
 
-pub searched_whole : (xs : List ℕ) (x : ℕ) → IsRising xs → IsSearched xs x 0 (length xs)
-searched_whole xs x rising = record {
-  within = omega arith;
-  some = λ h. h;
-  from = λ h. let (k, lt, e) = place_among x 0 xs h in let le = rising_order xs rising 0 k (omega arith) lt in omega (arith, le, e);
-  to = λ lt. absurd (omega (arith, lt));
+-- numbers of a rising list are as far apart as their places at least
+rising_apart : (xs : List ℕ) → IsRising xs → (i j : ℕ) → i ≤ j → j < length xs → get_or xs i 0 + j ≤ get_or xs j 0 + i
+rising_apart [] a i j le lt = absurd (omega arith)
+rising_apart (x ∷ xs) a zero zero le lt = omega arith
+rising_apart (x ∷ []) a zero (suc j) le lt = absurd (omega (arith, lt))
+rising_apart (x ∷ y ∷ ys) a zero (suc j) le lt = let b = rising_apart (y ∷ ys) a.1 0 j (omega arith) (omega (arith, lt)) in let c = a.0.0 in omega (arith, b, c)
+rising_apart (x ∷ xs) a (suc i) zero le lt = absurd (omega arith)
+rising_apart (x ∷ xs) a (suc i) (suc j) le lt = let b = rising_apart xs a.1 i j (omega (arith, le)) (omega (arith, lt)) in omega (arith, b)
+
+-- from the least of a rising list to its greatest there is room for all
+pub spread : (xs : List ℕ) (last least greatest : ℕ) → IsRising xs → length xs ≡ suc last → least ≡ get_or xs 0 least → greatest ≡ get_or xs last greatest → least + last ≤ greatest
+spread xs last least greatest rising long is_least is_greatest =
+    let first_is = get_or_default xs 0 least 0 (omega (arith, long)) in
+    let last_is = get_or_default xs last greatest 0 (omega (arith, long)) in
+    let far = rising_apart xs rising 0 last (omega arith) (omega (arith, long)) in
+    omega (arith, far, is_least, is_greatest, first_is, last_is)
+
+-- a number of a rising list has all numbers from the least on before it but those that are missing there, which are no more than are missing in all
+pub searched_places : (xs : List ℕ) (x last least greatest before first end : ℕ) → IsRising xs → length xs ≡ suc last → least ≡ get_or xs 0 least → greatest ≡ get_or xs last greatest
+    → before ≡ x - least → first ≡ min (before - (greatest - least - last)) last → end ≡ min before last → IsSearched xs x first (end - first + 1)
+searched_places xs x last least greatest before first end rising long is_least is_greatest is_before is_first is_end = record {
+  within = omega (arith, long, is_first, is_end);
+  some = λ h. omega arith;
+  from = from;
+  to = to;
 }
+  where
+    least_is : least ≡ get_or xs 0 0
+    least_is = is_least ∙ get_or_default xs 0 least 0 (omega (arith, long))
+
+    greatest_is : greatest ≡ get_or xs last 0
+    greatest_is = is_greatest ∙ get_or_default xs last greatest 0 (omega (arith, long))
+
+    from : Among x xs → get_or xs first 0 ≤ x
+    from h =
+        let (k, lt, e) = place_among x 0 xs h in
+        let least_first = rising_order xs rising 0 k (omega arith) lt in
+        let far = rising_apart xs rising k last (omega (arith, lt, long)) (omega (arith, long)) in
+        let le = rising_order xs rising first k (omega (arith, least_first, e, far, least_is, greatest_is, is_before, is_first)) lt in
+        omega (arith, le, e)
+
+    to : first + (end - first + 1) < length xs → x < get_or xs (first + (end - first + 1)) 0
+    to lt =
+        let far = rising_apart xs rising 0 (first + (end - first + 1)) (omega arith) lt in
+        omega (arith, lt, far, long, least_is, is_before, is_first, is_end)
 
 -- whether one number is at most another, as a factor
 factor_one : (x y : ℕ) → x < 4294967296 → y ≤ x → (4294967296 + x - y) / 4294967296 ≡ 1
@@ -71,9 +110,3 @@ searched_one xs x first len rising s one h =
         let above = s.to (omega (arith, less, lt, one)) in
         let up = rising_order xs rising (first + len) k (omega (arith, less, one)) lt in
         absurd (omega (arith, above, up, e))
-
-pub searched_none : (xs : List ℕ) (x first len : ℕ) → IsSearched xs x first len → len ≤ 1 → ¬ (len ≡ 1) → Among x xs → ⊥
-searched_none xs x first len s few none h =
-    let (k, lt, e) = place_among x 0 xs h in
-    let some = s.some (omega (arith, lt)) in
-    omega (arith, some, few, none)

@@ -91,14 +91,22 @@ fn put_weighed<K: Sink>(
     buf.put_line(out, b"end", &[]);
 }
 
-/// Whether a column is one of these, which rise: found by halves. Each step adds a product:
-/// a branch in its place would be mispredicted half of the time.
+/// Whether a column is one of these, which rise: found by halves among the places where it can
+/// stand, since no more numbers are missing before it than in all. Each step adds a product: a
+/// branch in its place would be mispredicted half of the time.
 fn has_by_halves(hall: &[Col], col: Col) -> bool
     requires { IsRising hall.now }
     ensures { IsTrue result ↔ Among col hall.now }
 {
-    let mut first = 0;
-    let mut len = hall.len();
+    if hall.len() == 0 {
+        return false;
+    }
+    let last = hall.len() - 1;
+    let least = hall[0].number();
+    let missing = (hall[last].number() - least) as usize - last;
+    let before = col.number().saturating_sub(least) as usize;
+    let mut first = before.saturating_sub(missing).min(last);
+    let mut len = before.min(last) - first + 1;
     while len > 1 {
         let half = len / 2;
         let middle = hall[first + half];
@@ -106,7 +114,7 @@ fn has_by_halves(hall: &[Col], col: Col) -> bool
         first += half * is_at_most as usize;
         len -= half;
     }
-    len == 1 && hall[first] == col
+    hall[first] == col
 }
 
 /// Whether a column is one of these: found by halves where they rise, else one by one.
