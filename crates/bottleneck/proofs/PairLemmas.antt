@@ -5,7 +5,8 @@ use Rattle.bip_defs.specs.Bottleneck.{IsLeastWeight}
 use Rattle.bip_defs.specs.Lists.{Among}
 use Rattle.bip_defs.specs.Matching.{IsMatching}
 use Rattle.bip_defs.specs.Matrix.{AreEntries, IsEntry, Matrix, Place}
-use Rattle.bip_defs.proofs.Sets.{among_last, among_left, among_right}
+use Rattle.bip_defs.proofs.Sets.{among_last, among_left, among_right, among_take}
+use Rattle.bottleneck.specs.Heavier.{WeighAtLeast}
 
 -- one pair has the weight, and none has less
 pub record IsLeast (weight : ℕ → ℕ → ℕ) (m : List Place) (least : ℕ) : Type 0 where
@@ -57,6 +58,13 @@ step_first weight (q ∷ ps) p least lt is e = subst (λ (z : Place). IsLeast we
 pub positive : (n : ℕ) → (n ≡ 0 → ⊥) → 0 < n
 positive zero ne = absurd (ne refl)
 positive (suc n) ne = omega arith
+
+-- where all pairs weigh at least so much, the least weight of the first ones that weighs no more is that of all
+pub least_reached : (weight : ℕ → ℕ → ℕ) (ps : List Place) (k least bound : ℕ) → IsLeast weight (take k ps) least → WeighAtLeast weight ps bound → least ≤ bound → IsLeastWeight weight ps least
+least_reached weight ps k least bound l all le = least_weight weight ps least (record {
+  has = let (r, c, h, e) = l.has in (r, c, among_take k (r, c) ps h, e);
+  all = λ r c h. let b = all r c h in omega (arith, b, le);
+})
 
 -- pairs that are all heavier have a greater least weight
 pub least_greater : (weight : ℕ → ℕ → ℕ) (m : List Place) (least new : ℕ) → IsLeastWeight weight m new → 0 < length m → ((r c : ℕ) → Among (r, c) m → least < weight r c) → least < new

@@ -7,7 +7,7 @@ ghost use Rattle.bip_defs.specs.Matching.{cols_of};
 ghost use Rattle.bip_defs.specs.Matrix.{cols};
 ghost use Rattle.bip_graph.specs.Matching.{IsMatchingOf, IsMaximumOf};
 ghost use Rattle.bottleneck.specs.Answers.{IsBottleneck};
-ghost use Rattle.bottleneck.specs.Heavier.{IsHeavier, IsShort};
+ghost use Rattle.bottleneck.specs.Heavier.{IsHeavier, IsShort, WeighAtLeast};
 ghost use Rattle.sp_pattern.specs.Weights.{Weighing, weight_at};
 
 use crate::bound::{bound, bounded_matching};
@@ -27,9 +27,9 @@ use std::alloc::Global;
 /// The weights must be those of the pattern. `Rectangular` exactly where the matrix has not as many
 /// rows as columns; `Singular` exactly where it has, and its rank is less, with the columns that
 /// some maximum matching misses. Answers `OutOfMemory` where there is no memory for 8 bytes an
-/// entry, the pattern of the entries above a weight and what a maximum matching takes. Work: three
-/// maximum matchings and one search where the first matching is best already, and else at most as
-/// many more as the number of distinct weights has binary digits.
+/// entry, the pattern of the entries above a weight and what a maximum matching takes. Work: at
+/// most three maximum matchings and one search where the first matching is best already, and else
+/// at most as many more as the number of distinct weights has binary digits.
 pub fn best(alloc: Global, pattern: &Pattern, weights: &Weights) -> Result<Bottleneck, OutOfMemory>
     requires { weights.now.matrix ≡ pattern.now }
     ensures { IfOk result (IsBottleneck weights.now) }
@@ -39,6 +39,9 @@ pub fn best(alloc: Global, pattern: &Pattern, weights: &Weights) -> Result<Bottl
     }
     let bound = bound(alloc, pattern, weights)?;
     let heavy = bounded_matching(alloc, pattern, weights, bound)?;
+    if heavy.size() == pattern.cols() {
+        return shown(alloc, pattern, weights, heavy, bound);
+    }
     let matching = complete(alloc, pattern, heavy)?;
     if matching.size() < pattern.cols() {
         return singular(alloc, pattern, &matching);
@@ -83,33 +86,35 @@ fn answered(
 {
     if let Some(heavier) = short {
         let pairs = matching.pairs(alloc)?;
-        let least = least_of(weights, pairs.as_slice());
+        let least = least_of(weights, pairs.as_slice(), 0);
         if heavier.above == least {
             matching.is_matching();
             return with_hall_set(alloc, pattern, weights, &heavier, pairs);
         }
     }
-    shown(alloc, pattern, weights, matching)
+    shown(alloc, pattern, weights, matching, 0)
 }
 
-// The answer from a perfect matching: it is shown to be best, or one of greater least weight is
-// found and shown to be.
+// The answer from a perfect matching, each pair of which weighs at least `bound`: it is shown to be
+// best, or one of greater least weight is found and shown to be.
 fn shown(
     alloc: Global,
     pattern: &Pattern,
     weights: &Weights,
     matching: Matching,
+    bound: u64,
 ) -> Result<Bottleneck, OutOfMemory>
     requires of { weights.now.matrix ≡ pattern.now }
     requires square { pattern.now.rows ≡ cols pattern.now }
     requires matching { IsMatchingOf pattern.now matching }
     requires full { length matching.pairs ≡ cols pattern.now }
+    requires bound { WeighAtLeast (weight_at weights.now) matching.pairs bound }
     ensures { IfOk result (IsBottleneck weights.now) }
 {
     let cols = pattern.cols();
     let mut matching = matching;
     let mut pairs = matching.pairs(alloc)?;
-    let mut least = least_of(weights, pairs.as_slice());
+    let mut least = least_of(weights, pairs.as_slice(), bound);
     loop {
         let heavier = heavier_matching(alloc, pattern, weights, &matching, least)?;
         if cols == 0 || heavier.maximum.size() < cols {
@@ -118,7 +123,7 @@ fn shown(
         }
         matching = heavier.maximum;
         pairs = matching.pairs(alloc)?;
-        least = least_of(weights, pairs.as_slice());
+        least = least_of(weights, pairs.as_slice(), 0);
     }
 }
 

@@ -3,6 +3,8 @@
 ghost use Rattle.std.specs.Prelude.{◌≡◌, ◌<◌, IfOk, length};
 ghost use Rattle.bip_defs.specs.Matrix.{cols};
 ghost use Rattle.bip_graph.specs.Matching.{IsMatchingOf};
+ghost use Rattle.bottleneck.specs.Heavier.{WeighAtLeast};
+ghost use Rattle.sp_pattern.specs.Weights.{weight_at};
 
 use bip_graph::Matching;
 use karp_sipser::start;
@@ -52,9 +54,7 @@ fn raise_rows(pattern: &Pattern, weights: &Weights, of_rows: &mut [u64], col: Co
         if weight > greatest {
             greatest = weight;
         }
-        if weight > of_rows[at] {
-            of_rows[at] = weight;
-        }
+        of_rows[at] = of_rows[at].max(weight);
     }
     greatest
 }
@@ -70,7 +70,8 @@ pub fn bounded_matching(
     bound: u64,
 ) -> Result<Matching, OutOfMemory>
     requires { weights.now.matrix ≡ pattern.now }
-    ensures { IfOk result (IsMatchingOf pattern.now) }
+    ensures matching { IfOk result (IsMatchingOf pattern.now) }
+    ensures bound { IfOk result (λ m. WeighAtLeast (weight_at weights.now) m.pairs bound) }
 {
     if bound == 0 {
         return start(alloc, pattern);

@@ -34,7 +34,7 @@ pub fn raised(
         (λ o. IfSome o.1 (IsShort pattern.now (weight_at weights.now))) }
 {
     let pairs = matching.pairs(alloc)?;
-    let least = least_of(weights, pairs.as_slice());
+    let least = least_of(weights, pairs.as_slice(), 0);
     drop(pairs);
     let thresholds = weights_between(alloc, pattern, weights, least, bound)?;
     let mut matching = matching;

@@ -8,8 +8,8 @@ use Rattle.sp_pattern.specs.Weights.{weight_at}
 use Rattle.bottleneck.proofs.PairLemmas.{are_entries}
 use Rattle.bottleneck.proofs.answer.answered.Goals as goal
 
-pub least_of-least-requires : goal.least_of-least-requires
-least_of-least-requires c = are_entries c.args.pattern.now c.args.weights.now.matrix c.args.matching.pairs c.as_slice.result.now c.requires.of c.requires.matching.matching (c.as_slice.ensures.value ∙ c.in_ok-pairs.ensures)
+pub least_of-least-requires-clause-entries : goal.least_of-least-requires-clause-entries
+least_of-least-requires-clause-entries c = are_entries c.args.pattern.now c.args.weights.now.matrix c.args.matching.pairs c.as_slice.result.now c.requires.of c.requires.matching.matching (c.as_slice.ensures.value ∙ c.in_ok-pairs.ensures)
 
 pub with_hall_set-requires-clause-full : goal.with_hall_set-requires-clause-full
 with_hall_set-requires-clause-full c =

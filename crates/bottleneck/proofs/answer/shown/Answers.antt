@@ -5,13 +5,17 @@ use Rattle.bip_defs.specs.Matching.{cols_of}
 use Rattle.bip_defs.specs.Matrix.{Place, cols}
 use Rattle.bip_defs.proofs.FullMatchings.{long_full}
 use Rattle.sp_pattern.specs.Weights.{weight_at}
+use Rattle.bottleneck.specs.Heavier.{WeighAtLeast}
 use Rattle.bottleneck.proofs.AnswerLemmas.{not_short, progress}
 use Rattle.bottleneck.proofs.HeavierLemmas.{lowered}
 use Rattle.bottleneck.proofs.PairLemmas.{are_entries, positive}
 use Rattle.bottleneck.proofs.answer.shown.Goals as goal
 
-pub least_of-least-requires : goal.least_of-least-requires
-least_of-least-requires c = are_entries c.args.pattern.now c.args.weights.now.matrix c.args.matching.pairs c.as_slice.result.now c.requires.of c.requires.matching.matching (c.as_slice.ensures.value ∙ c.in_ok-pairs.ensures)
+pub least_of-least-requires-clause-entries : goal.least_of-least-requires-clause-entries
+least_of-least-requires-clause-entries c = are_entries c.args.pattern.now c.args.weights.now.matrix c.args.matching.pairs c.as_slice.result.now c.requires.of c.requires.matching.matching (c.as_slice.ensures.value ∙ c.in_ok-pairs.ensures)
+
+pub least_of-least-requires-clause-bound : goal.least_of-least-requires-clause-bound
+least_of-least-requires-clause-bound c = subst (λ (z : List Place). WeighAtLeast (weight_at c.args.weights.now) z c.args.bound) (sym (c.as_slice.ensures.value ∙ c.in_ok-pairs.ensures)) c.requires.bound
 
 pub loop-pairs-init : goal.loop-pairs-init
 loop-pairs-init c = record {
@@ -33,8 +37,8 @@ with_hall_set-requires-clause-rising c = subst (λ (z : List Place). IsRising (c
 pub with_hall_set-requires-clause-least : goal.with_hall_set-requires-clause-least
 with_hall_set-requires-clause-least c = subst (λ (z : List Place). IsLeastWeight (weight_at c.args.weights.now) z c.in_ok-heavier.heavier.above) (sym c.loop-pairs.invariant.pairs) (subst (IsLeastWeight (weight_at c.args.weights.now) c.loop-pairs.matching.pairs) (sym c.in_ok-heavier.ensures.above) c.loop-pairs.invariant.least)
 
-pub least_of-least-requires-in-loop-pairs : goal.least_of-least-requires-in-loop-pairs
-least_of-least-requires-in-loop-pairs c =
+pub least_of-least-requires-in-loop-pairs-clause-entries : goal.least_of-least-requires-in-loop-pairs-clause-entries
+least_of-least-requires-in-loop-pairs-clause-entries c =
     let k = lowered c.args.pattern.now c.in_ok-heavier.heavier.entries (weight_at c.args.weights.now) c.in_ok-heavier.heavier.above c.in_ok-heavier.heavier.maximum c.in_ok-heavier.ensures.heavier.entries c.in_ok-heavier.ensures.heavier.maximum.matching in
     are_entries c.args.pattern.now c.args.weights.now.matrix c.in_ok-heavier.heavier.maximum.pairs c.as_slice-in-loop-pairs.result.now c.requires.of k.matching (c.as_slice-in-loop-pairs.ensures.value ∙ c.in_ok-pairs-2.ensures)
 

@@ -5,8 +5,8 @@ use Rattle.bottleneck.proofs.HeavierLemmas.{lowered}
 use Rattle.bottleneck.proofs.PairLemmas.{are_entries}
 use Rattle.bottleneck.proofs.thresholds.raised.Goals as goal
 
-pub least_of-least-requires : goal.least_of-least-requires
-least_of-least-requires c = are_entries c.args.pattern.now c.args.weights.now.matrix c.args.matching.pairs c.as_slice.result.now c.requires.of c.requires.matching.matching (c.as_slice.ensures.value ∙ c.in_ok-pairs.ensures)
+pub least_of-least-requires-clause-entries : goal.least_of-least-requires-clause-entries
+least_of-least-requires-clause-entries c = are_entries c.args.pattern.now c.args.weights.now.matrix c.args.matching.pairs c.as_slice.result.now c.requires.of c.requires.matching.matching (c.as_slice.ensures.value ∙ c.in_ok-pairs.ensures)
 
 pub loop-low-preserved-then-size-cols : goal.loop-low-preserved-then-size-cols
 loop-low-preserved-then-size-cols c =
