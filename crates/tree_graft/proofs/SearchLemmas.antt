@@ -1,5 +1,5 @@
 -- What holds at the end of a search, the rows of claims, and what is known of an answer that is there.
-use Rattle.std.proofs.Common.{◌≡◌, ◌≢◌, ◌∙◌, ◌==◌, ℕ, ◌+◌, ◌<◌, Bool, true, true≢false, Option, None, Some, IfNone, IfSome, false, is_some, List, [], ◌∷◌, ◌++◌, length, slice_index_or, take, ◌⊎◌, refl, sym, subst, inl, inr, ⊎_elim, arith}
+use Rattle.std.proofs.Common.{◌≡◌, ◌∙◌, ◌==◌, ℕ, ◌<◌, Bool, true, true≢false, Option, None, Some, IfNone, IfSome, false, is_some, List, [], ◌∷◌, ◌++◌, length, slice_index_or, take, ◌⊎◌, refl, sym, subst, inl, inr, ⊎_elim, arith}
 use Rattle.std.proofs.lemmas.Bool.{eqb-true}
 use Rattle.std.proofs.lemmas.List.{get_or-map, length-map, map-append, take-map}
 use Rattle.bip_defs.specs.Lists.{Among, AreDistinct}

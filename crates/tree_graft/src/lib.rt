@@ -13,11 +13,12 @@ mod frontiers;
 mod levels;
 mod switches;
 
-ghost use Rattle.std.specs.Prelude.{◌≡◌, ◌↔◌, ◌+◌, ◌≤◌, length, IfOk};
+ghost use Rattle.std.specs.Prelude.{◌≡◌, ◌↔◌, ◌+◌, ◌≤◌, length, IfOk, IfSome};
 ghost use Rattle.bip_defs.specs.Matching.{Covers, IsMaximum};
 ghost use Rattle.bip_graph.specs.Matching.{IsMatchingOf, IsMaximumOf};
 ghost use Rattle.forest_core.specs.Events.{IsLegal, LeadsTo};
 ghost use Rattle.bip_defs.specs.Forest.{IsRested};
+ghost use Rattle.pothen_fan.specs.OuterMarks.{AreOuterMarks};
 ghost use Rattle.sp_ids.specs.Limits.{max_workers};
 ghost use Rattle.sp_ids.specs.declared.events.Event.TheVariants.{Done};
 
@@ -30,7 +31,7 @@ use forest_core::{
     Forest, claims_and_wins_grow, done_is_maximum, events_keep_covered, events_keep_sound,
     forests_are_rested, runs_join,
 };
-use pothen_fan::lengthen;
+use pothen_fan::{OuterMarks, lengthen};
 use sp_ids::OutOfMemory;
 use sp_pattern::Pattern;
 use sp_ports::Gate;
@@ -96,11 +97,11 @@ pub fn phase<R: Threads + Sync, G: Gate>(
 /// gives 0, unless each column that has an entry is matched by then. Where the gate needs threads
 /// the workers have a pattern of at most 10,000 rows and 10,000 columns to themselves.
 ///
-/// Answers `OutOfMemory` where there is no memory for the forest and a phase, at most 56 bytes a
-/// row and 57 a column, or for the workers' lists; the matching is dropped then. The serial phases
-/// take at most 30 bytes a row or column, before the forest is made. Where each column that has an
-/// entry is matched it takes no memory. Work: phases, of which all but the last by each kind of
-/// worker make the matching larger.
+/// Answers `OutOfMemory` where there is no memory for the forest and a phase, at most 57 bytes a
+/// row and 58 a column, or for the workers' lists; the matching is dropped then. The serial phases
+/// take at most 30 bytes a row or column, of which one stays in use while the forest is made. Where
+/// each column that has an entry is matched it takes no memory. Work: phases, of which all but the
+/// last by each kind of worker make the matching larger.
 pub fn complete<R: Threads + Sync, G: Gate>(
     rt: &R,
     alloc: Global,
@@ -115,29 +116,60 @@ pub fn complete<R: Threads + Sync, G: Gate>(
     ensures maximum { IfOk result (λ m. IsMaximumOf pattern.now m) }
     ensures covered { IfOk result (λ m. Covers matching.pairs m.pairs) }
 {
-    let workers_alone = gate.needs_threads() && is_small(pattern);
-    if workers_alone || !can_grow(pattern, &matching) {
-        return complete_by_phases(rt, alloc, pattern, matching, workers, gate);
-    }
-    let longer = lengthen_alone(alloc, pattern, matching)?;
-    complete_by_phases(rt, alloc, pattern, longer, workers, gate)
+    let (maximum, _marks) = complete_with_marks(rt, alloc, pattern, matching, workers, gate)?;
+    Ok(maximum)
 }
 
-// What serial phases make of a matching: a maximum one, unless the pattern is large.
+/// [`complete`], with what the last serial phase has marked, where serial phases went on until the
+/// matching was maximum: the horizontal rows or the vertical columns.
+///
+/// There are no marks of a pattern with more than 6,000,000 rows and columns together, nor where the
+/// workers have it to themselves, nor where each column that has an entry was matched before. Memory,
+/// errors and work: as those of `complete`; of its memory a byte a row, or a byte a column, stays in
+/// use.
+pub fn complete_with_marks<R: Threads + Sync, G: Gate>(
+    rt: &R,
+    alloc: Global,
+    pattern: &Pattern,
+    matching: Matching,
+    workers: u32,
+    gate: &G,
+) -> Result<(Matching, Option<OuterMarks>), OutOfMemory>
+    requires some { 1 ≤ workers }
+    requires few { workers ≤ max_workers }
+    requires matching { IsMatchingOf pattern.now matching }
+    ensures maximum { IfOk result (λ p. IsMaximumOf pattern.now p.0) }
+    ensures covered { IfOk result (λ p. Covers matching.pairs p.0.pairs) }
+    ensures marks { IfOk result (λ p. IfSome p.1 (AreOuterMarks pattern.now)) }
+{
+    let workers_alone = gate.needs_threads() && is_small(pattern);
+    if workers_alone || !can_grow(pattern, &matching) {
+        let maximum = complete_by_phases(rt, alloc, pattern, matching, workers, gate)?;
+        return Ok((maximum, None));
+    }
+    let (longer, marks) = lengthen_alone(alloc, pattern, matching)?;
+    let maximum = complete_by_phases(rt, alloc, pattern, longer, workers, gate)?;
+    Ok((maximum, marks))
+}
+
+// What serial phases make of a matching: a maximum one, with what the last of them has marked,
+// unless the pattern is large.
 fn lengthen_alone(
     alloc: Global,
     pattern: &Pattern,
     matching: Matching,
-) -> Result<Matching, OutOfMemory>
+) -> Result<(Matching, Option<OuterMarks>), OutOfMemory>
     requires matching { IsMatchingOf pattern.now matching }
-    ensures matching { IfOk result (λ m. IsMatchingOf pattern.now m) }
-    ensures covered { IfOk result (λ m. Covers matching.pairs m.pairs) }
+    ensures matching { IfOk result (λ p. IsMatchingOf pattern.now p.0) }
+    ensures covered { IfOk result (λ p. Covers matching.pairs p.0.pairs) }
+    ensures marks { IfOk result (λ p. IfSome p.1 (AreOuterMarks pattern.now)) }
 {
     if is_large(pattern) {
-        lengthen(alloc, pattern, matching)
-    } else {
-        pothen_fan::complete(alloc, pattern, matching)
+        let longer = lengthen(alloc, pattern, matching)?;
+        return Ok((longer, None));
     }
+    let (maximum, marks) = pothen_fan::complete_with_marks(alloc, pattern, matching)?;
+    Ok((maximum, Some(marks)))
 }
 
 // A maximum matching by phases of the workers, until one gives 0.
