@@ -11,7 +11,7 @@ use Rattle.bip_defs.specs.Lists.{Among, Lists}
 use Rattle.bip_defs.specs.Matrix.{IsEntry, Matrix, Place, cols, column}
 use Rattle.bip_defs.proofs.Sets.{among_at, col_pair, entry_col, number_same, place_among, row_pair}
 use Rattle.blocktri.specs.Diagonals.{AreNarrow}
-use Rattle.blocktri.specs.RowPrices.{AreAtMost, AreColumnPrices, AreEnough, AreLow, AreMet, AreRaised, asked, gap, place_at}
+use Rattle.blocktri.specs.RowPrices.{AreColumnPrices, AreEnough, AreLow, AreMet, AreRaised, asked, gap, place_at}
 use Rattle.integer_diagonal.specs.Prices.{AreFair, price}
 use Rattle.sp_pattern.specs.Weights.{Weighing, weight_at, weight_limit}
 

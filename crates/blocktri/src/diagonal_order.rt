@@ -90,11 +90,11 @@ fn perfect<N: NumberList>(
     ensures singular { IfOk result (λ o. IfNone o
         (HasNoPerfectMatching (matrix_of rows (N.numbers starts) (N.numbers ids)))) }
 {
-    let (pattern, matching) = matched(alloc, rows, starts, ids)?;
+    let (pattern, matching, marks) = matched(alloc, rows, starts, ids)?;
     if matching.cols() != rows || matching.size() != rows {
         return Ok(None);
     }
-    let found = decomposed(alloc, &pattern, &matching)?;
+    let found = decomposed(alloc, &pattern, &matching, marks)?;
     Ok(Some((found, matching)))
 }
 

@@ -1,15 +1,18 @@
 //! Maximum matchings of compressed columns.
 
 ghost use Rattle.std.specs.Prelude.{◌≡◌, IfOk, IfSome};
+ghost use Rattle.bip_defs.specs.Marks.{Marks};
+ghost use Rattle.bip_defs.specs.Parts.{IsHorizontalRow};
 ghost use Rattle.bip_graph.specs.Matching.{IsMatchingOf, IsMaximumOf};
 ghost use Rattle.blocktri.specs.Looks.{IsLook};
+ghost use Rattle.pothen_fan.specs.OuterMarks.{AreOuterMarks};
 ghost use Rattle.sp_pattern.specs.Columns.{AreColumns, matrix_of};
 
 use crate::first_look::{Look, first_look};
 use crate::rising_columns::{RisingColumns, are_rising};
 use bip_graph::{Matching, Opposite, matchings_of_the_transpose};
 use karp_sipser::start;
-use pothen_fan::{complete, complete_from, phase_from};
+use pothen_fan::{OuterMarks, complete_from_with_marks, complete_with_marks, phase_from};
 use sp_ids::OutOfMemory;
 use sp_pattern::{FromRows, NumberList, Pattern, Side};
 use std::alloc::Global;
@@ -30,57 +33,90 @@ pub fn maximum_matching<N: NumberList>(
         Look::FromColumns(matching, unmatched) => {
             if are_rising(starts, ids) {
                 let columns = RisingColumns::copy(alloc, rows, starts, ids)?;
-                if let Some(found) = search_on(alloc, &columns, matching, unmatched)? {
+                if let Some((found, _marks)) = search_on(alloc, &columns, matching, unmatched)? {
                     return Ok(found);
                 }
                 drop(columns);
                 let pattern = Pattern::of_checked_columns(alloc, rows, starts, ids)?;
-                return search_anew(alloc, &pattern);
+                let (found, _marks) = search_anew(alloc, &pattern)?;
+                return Ok(found);
             }
             let pattern = Pattern::of_checked_columns(alloc, rows, starts, ids)?;
-            searched(alloc, &pattern, Look::FromColumns(matching, unmatched))
+            let look = Look::FromColumns(matching, unmatched);
+            let (found, _marks) = searched(alloc, &pattern, look)?;
+            Ok(found)
         }
         Look::FromRows(matching, unmatched) => {
             let pattern = Pattern::of_checked_columns(alloc, rows, starts, ids)?;
-            searched(alloc, &pattern, Look::FromRows(matching, unmatched))
+            let (found, _marks) = searched(alloc, &pattern, Look::FromRows(matching, unmatched))?;
+            Ok(found)
         }
     }
 }
 
-/// The pattern, and a maximum matching.
+/// The pattern, a maximum matching, and what the last phase has marked, unless the first look or a
+/// first phase alone has found it.
 pub fn matched<N: NumberList>(
     alloc: Global,
     rows: u32,
     starts: N,
     ids: N,
-) -> Result<(Pattern, Matching), OutOfMemory>
+) -> Result<(Pattern, Matching, Option<OuterMarks>), OutOfMemory>
     requires { AreColumns rows (N.numbers starts) (N.numbers ids) }
     ensures pattern { IfOk result
         (λ p. p.0 ≡ matrix_of rows (N.numbers starts) (N.numbers ids)) }
     ensures maximum { IfOk result
         (λ p. IsMaximumOf (matrix_of rows (N.numbers starts) (N.numbers ids)) p.1) }
+    ensures marks { IfOk result (λ p. IfSome p.2
+        (AreOuterMarks (matrix_of rows (N.numbers starts) (N.numbers ids)))) }
 {
     let pattern = Pattern::of_checked_columns(alloc, rows, starts, ids)?;
     let look = first_look(alloc, rows, starts, ids)?;
-    let matching = searched(alloc, &pattern, look)?;
-    Ok((pattern, matching))
+    let (matching, marks) = searched(alloc, &pattern, look)?;
+    Ok((pattern, matching, marks))
 }
 
 // A maximum matching, from what a look at the columns found, or from the start of Karp and Sipser
-// where searches from there do not go on.
-fn searched(alloc: Global, pattern: &Pattern, look: Look) -> Result<Matching, OutOfMemory>
+// where searches from there do not go on, and what the last phase has marked.
+fn searched(
+    alloc: Global,
+    pattern: &Pattern,
+    look: Look,
+) -> Result<(Matching, Option<OuterMarks>), OutOfMemory>
     requires { IsLook pattern.now look }
-    ensures { IfOk result (IsMaximumOf pattern.now) }
+    ensures maximum { IfOk result (λ p. IsMaximumOf pattern.now p.0) }
+    ensures marks { IfOk result (λ p. IfSome p.1 (AreOuterMarks pattern.now)) }
 {
     let found = match look {
-        Look::Maximum(matching) => Some(matching),
-        Look::FromColumns(matching, unmatched) => search_on(alloc, pattern, matching, unmatched)?,
+        Look::Maximum(matching) => Some((matching, None)),
+        Look::FromColumns(matching, unmatched) => {
+            from_columns(alloc, pattern, matching, unmatched)?
+        }
         Look::FromRows(matching, unmatched) => from_rows(alloc, pattern, matching, unmatched)?,
     };
     match found {
-        Some(matching) => Ok(matching),
+        Some((matching, marks)) => Ok((matching, marks)),
         None => search_anew(alloc, pattern),
     }
+}
+
+// As `search_on`, from the columns.
+fn from_columns(
+    alloc: Global,
+    pattern: &Pattern,
+    matching: Matching,
+    unmatched: u32,
+) -> Result<Option<(Matching, Option<OuterMarks>)>, OutOfMemory>
+    requires { IsMatchingOf pattern.now matching }
+    ensures maximum { IfOk result (λ found. IfSome found (λ p. IsMaximumOf pattern.now p.0)) }
+    ensures marks { IfOk result (λ found. IfSome found
+        (λ p. IfSome p.1 (AreOuterMarks pattern.now))) }
+{
+    let Some((maximum, marked)) = search_on(alloc, pattern, matching, unmatched)? else {
+        return Ok(None);
+    };
+    let marks = marked.map(OuterMarks::HorizontalRows);
+    Ok(Some((maximum, marks)))
 }
 
 // As `search_on`, from the rows.
@@ -89,36 +125,47 @@ fn from_rows(
     pattern: &Pattern,
     matching: Matching,
     unmatched: u32,
-) -> Result<Option<Matching>, OutOfMemory>
+) -> Result<Option<(Matching, Option<OuterMarks>)>, OutOfMemory>
     requires { IsMatchingOf pattern.now matching }
-    ensures { IfOk result (λ found. IfSome found (IsMaximumOf pattern.now)) }
+    ensures maximum { IfOk result (λ found. IfSome found (λ p. IsMaximumOf pattern.now p.0)) }
+    ensures marks { IfOk result (λ found. IfSome found
+        (λ p. IfSome p.1 (AreOuterMarks pattern.now))) }
 {
     matchings_of_the_transpose();
-    search_on(alloc, &FromRows { pattern }, matching, unmatched)
+    let side = FromRows { pattern };
+    let Some((maximum, marked)) = search_on(alloc, &side, matching, unmatched)? else {
+        return Ok(None);
+    };
+    // The horizontal rows of the transpose are the vertical columns.
+    let marks = marked.map(OuterMarks::VerticalCols);
+    Ok(Some((maximum, marks)))
 }
 
 // A maximum matching, by phases from one side that begin at a matching which leaves so many
-// unmatched there. None where the first phase does not make it likely that they end soon.
+// unmatched there, and which rows are horizontal, as the side sees them, where there were more
+// phases than one. None where the first phase does not make it likely that they end soon.
 fn search_on<F: Opposite, S: Side<F>>(
     alloc: Global,
     side: &S,
     matching: Matching,
     unmatched: u32,
-) -> Result<Option<Matching>, OutOfMemory>
+) -> Result<Option<(Matching, Option<Vec<bool>>)>, OutOfMemory>
     requires { IsMatchingOf (S.matrix side.now) (F.seen matching) }
-    ensures { IfOk result
-        (λ found. IfSome found (λ m. IsMaximumOf (S.matrix side.now) (F.seen m))) }
+    ensures maximum { IfOk result
+        (λ found. IfSome found (λ p. IsMaximumOf (S.matrix side.now) (F.seen p.0))) }
+    ensures marks { IfOk result (λ found. IfSome found (λ p. IfSome p.1 (λ marks.
+        Marks (S.matrix side.now).rows (IsHorizontalRow (S.matrix side.now)) marks.items))) }
 {
     let mut grown = matching;
     let growth = phase_from(alloc, side, &mut grown)?;
     if growth == 0 {
-        return Ok(Some(grown));
+        return Ok(Some((grown, None)));
     }
     if !pays(growth, unmatched) {
         return Ok(None);
     }
-    let maximum = complete_from(alloc, side, grown)?;
-    Ok(Some(maximum))
+    let (maximum, marks) = complete_from_with_marks(alloc, side, grown)?;
+    Ok(Some((maximum, Some(marks))))
 }
 
 // Whether it pays to go on after a first phase: where it has matched most of what was unmatched, or
@@ -127,9 +174,14 @@ fn pays(growth: u32, unmatched: u32) -> bool {
     growth >= unmatched - unmatched / 4 || growth <= unmatched / 4
 }
 
-// A maximum matching, from the start of Karp and Sipser.
-fn search_anew(alloc: Global, pattern: &Pattern) -> Result<Matching, OutOfMemory>
-    ensures { IfOk result (IsMaximumOf pattern.now) }
+// A maximum matching, from the start of Karp and Sipser, and what the last phase has marked.
+fn search_anew(
+    alloc: Global,
+    pattern: &Pattern,
+) -> Result<(Matching, Option<OuterMarks>), OutOfMemory>
+    ensures maximum { IfOk result (λ p. IsMaximumOf pattern.now p.0) }
+    ensures marks { IfOk result (λ p. IfSome p.1 (AreOuterMarks pattern.now)) }
 {
-    complete(alloc, pattern, start(alloc, pattern)?)
+    let (maximum, marks) = complete_with_marks(alloc, pattern, start(alloc, pattern)?)?;
+    Ok((maximum, Some(marks)))
 }

@@ -71,7 +71,7 @@ fn wanted<N: NumberList>(
         (matrix_of rows (N.numbers starts) (N.numbers ids)) is_least m.pairs) }
 {
     if is_least {
-        let (pattern, matching) = matched(alloc, rows, starts, ids)?;
+        let (pattern, matching, _marks) = matched(alloc, rows, starts, ids)?;
         least(alloc, &pattern, matching)
     } else {
         maximum_matching(alloc, rows, starts, ids)

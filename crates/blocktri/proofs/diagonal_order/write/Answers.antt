@@ -1,8 +1,8 @@
-use Rattle.std.proofs.Common.{◌≡◌, ◌∙◌, ◌<◌, ℕ, List, arith, length, subst}
-use Rattle.bip_defs.specs.Matrix.{Matrix, cols}
+use Rattle.std.proofs.Common.{◌<◌, arith, subst}
+use Rattle.bip_defs.specs.Matrix.{cols}
 use Rattle.bip_defs.specs.Once.{ListsOnce}
 use Rattle.bip_defs.proofs.Full.{has_all_cols}
-use Rattle.bip_graph.specs.Decompositions.{Decomposes, decomposition_of}
+use Rattle.bip_graph.specs.Decompositions.{decomposition_of}
 use Rattle.blocktri.proofs.DiagonalOrderLemmas.{order_told}
 use Rattle.blocktri.proofs.WriteLemmas.{once_long}
 use Rattle.blocktri.proofs.diagonal_order.write.Goals as goal

@@ -1,9 +1,9 @@
-use Rattle.std.proofs.lemmas.Result.{IfOk-weaker}
-use Rattle.blocktri.proofs.MaximumLemmas.{found_from_rows}
+use Rattle.std.proofs.Common.{rules}
+use Rattle.blocktri.proofs.MaximumLemmas.{vertical_marks}
 use Rattle.blocktri.proofs.maximum.from_rows.Goals as goal
 
-pub search_on-requires : goal.search_on-requires
-search_on-requires c = (c.matchings_of_the_transpose.ensures.matching _ _).0 (record { rows = c.requires.rows; cols = c.requires.cols; matching = c.requires.matching })
+pub returns-clause-maximum : goal.returns-clause-maximum
+returns-clause-maximum c = (c.matchings_of_the_transpose.ensures.maximum c.args.pattern.now c.in-Some.maximum).1 (rw c.in-Some.is at c.in_ok-maximum.ensures.maximum)
 
-pub returns : goal.returns
-returns c = IfOk-weaker c.search_on.result _ _ (λ found k. found_from_rows c.args.pattern.now found (λ m is. (c.matchings_of_the_transpose.ensures.maximum c.args.pattern.now m).1 is) k) c.search_on.ensures
+pub returns-clause-marks : goal.returns-clause-marks
+returns-clause-marks c = search (rules, vertical_marks)

@@ -1,4 +1,4 @@
-use Rattle.std.proofs.Common.{◌∙◌, ◌+◌, arith, length}
+use Rattle.std.proofs.Common.{◌∙◌, arith}
 use Rattle.bip_defs.specs.Blocks.{all_rows}
 use Rattle.blocktri.proofs.DiagonalOrderLemmas.{three_same}
 use Rattle.blocktri.proofs.orders.write_row_order.Goals as goal

@@ -1,4 +1,4 @@
-use Rattle.std.proofs.Common.{◌≡◌, ◌∙◌, ℕ, ◌+◌, ◌<◌, FitsSigned, List, IsTrue, ap, arith, length, of_z, pos, rules, slice_index, subst, sym, to_z, true≢false}
+use Rattle.std.proofs.Common.{◌∙◌, ◌+◌, ◌<◌, FitsSigned, IsTrue, ap, arith, of_z, rules, slice_index, subst, sym, to_z, true≢false}
 use Rattle.std.proofs.lemmas.Int.{to_z-of_z}
 use Rattle.std.specs.Int.{w128}
 use Rattle.bip_defs.specs.Matrix.{IsEntry, Matrix, cols}
