@@ -9,6 +9,6 @@ mod Inputs
 mod Jobs
 mod LentFiles
 mod Loads
-mod MateLemmas
+mod RankLemmas
 mod Sessions
 mod Summaries

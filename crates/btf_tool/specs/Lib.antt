@@ -3,7 +3,6 @@ pub mod Diagonals
 pub mod FileAnswer
 pub mod Inputs
 pub mod Jobs
-pub mod Mates
 pub mod Ranks
 pub mod Refusals
 pub mod Runs

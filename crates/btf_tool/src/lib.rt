@@ -13,7 +13,6 @@ mod engines;
 mod file_answer;
 mod laws;
 mod load_job;
-mod mates;
 mod matrix;
 mod rank_job;
 mod reading;

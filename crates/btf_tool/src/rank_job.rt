@@ -1,7 +1,8 @@
 //! The job `rank`.
 
-ghost use Rattle.std.specs.Prelude.{IfOk};
-ghost use Rattle.bip_defs.specs.Lists.{Lists};
+ghost use Rattle.std.specs.Prelude.{◌<◌, ◌^◌, length, IfOk};
+ghost use Rattle.bip_defs.specs.Lists.{IsMarked, Lists};
+ghost use Rattle.bip_defs.specs.Marks.{Marks};
 ghost use Rattle.bip_defs.specs.Parts.{IsHorizontalCol, IsHorizontalRow};
 ghost use Rattle.bip_graph.specs.Matching.{IsMaximumOf};
 ghost use Rattle.btf_words.specs.declared.jobs.Job.TheVariants.{Rank};
@@ -12,7 +13,6 @@ ghost use Rattle.btf_tool.specs.Ranks.{IsRankOf};
 ghost use Rattle.btf_tool.specs.Runs.{JobSays};
 
 use crate::engines::solve_with_marks;
-use crate::mates::{listed, mates};
 use crate::matrix::matrix_of;
 use crate::reading::read_file;
 use crate::writing::hand_on;
@@ -20,7 +20,7 @@ use crate::{Answer, Refusal};
 use bip_graph::Matching;
 use btf_text::{TextBuf, write_rank};
 use dm_coarse::horizontal_cols;
-use hall_witness::hall_set;
+use horizontal_rows::horizontal_rows;
 use pothen_fan::OuterMarks;
 use sp_ids::{Col, OutOfMemory, Row};
 use sp_pattern::Pattern;
@@ -69,8 +69,8 @@ fn rank_of(alloc: Global, pattern: &Pattern) -> Result<RankAnswer, OutOfMemory>
     Ok(RankAnswer { rank, rows, cols })
 }
 
-/// The rows and the columns of the horizontal part: by marks of its rows, or by a search from the
-/// unmatched columns.
+/// The rows and the columns of the horizontal part, by the marks where they are of its rows, or else
+/// by a search for these. That takes a byte a row and 4 bytes a column.
 fn horizontal_part(
     alloc: Global,
     pattern: &Pattern,
@@ -84,16 +84,44 @@ fn horizontal_part(
 {
     match marks {
         OuterMarks::HorizontalRows(marked) => {
-            pattern.is_pattern();
-            let rows = listed(alloc, marked.as_slice())?;
-            let cols = horizontal_cols(alloc, pattern, matching, marked.as_slice())?;
-            Ok((rows, cols))
+            part_by_rows(alloc, pattern, matching, marked.as_slice())
         }
         OuterMarks::VerticalCols(_) => {
-            let cols = hall_set(alloc, pattern, matching)?;
-            // The horizontal rows are the mates of the horizontal columns.
-            let rows = mates(alloc, matching, cols.as_slice())?;
-            Ok((rows, cols))
+            let marked = horizontal_rows(alloc, pattern, matching)?;
+            part_by_rows(alloc, pattern, matching, marked.as_slice())
         }
     }
+}
+
+/// The rows and the columns of the horizontal part, by marks of its rows.
+fn part_by_rows(
+    alloc: Global,
+    pattern: &Pattern,
+    matching: &Matching,
+    marked: &[bool],
+) -> Result<(Vec<Row>, Vec<Col>), OutOfMemory>
+    requires maximum { IsMaximumOf pattern.now matching.now }
+    requires marks { Marks pattern.now.rows (IsHorizontalRow pattern.now) marked.now }
+    ensures rows { IfOk result (λ p. Lists (IsHorizontalRow pattern.now) p.0.items) }
+    ensures cols { IfOk result (λ p. Lists (IsHorizontalCol pattern.now) p.1.items) }
+{
+    pattern.is_pattern();
+    let rows = listed(alloc, marked)?;
+    let cols = horizontal_cols(alloc, pattern, matching, marked)?;
+    Ok((rows, cols))
+}
+
+/// The marked rows, rising.
+fn listed(alloc: Global, marks: &[bool]) -> Result<Vec<Row>, OutOfMemory>
+    requires { length marks.now < 2 ^ 32 }
+    ensures { IfOk result
+        (λ v. Lists (λ r. (r < length marks.now) × IsMarked marks.now r) v.items) }
+{
+    let mut rows = Vec::new(alloc);
+    for row in 0..marks.len() {
+        if marks[row] {
+            rows.push(Row(row as u32))?;
+        }
+    }
+    Ok(rows)
 }

@@ -23,6 +23,12 @@ fn ranks_of_small_matrices(rt: HostRuntime) -> Result<(), Fail> {
         ),
         (THREE_PARTS, parts),
         (THREE_PARTS_EXAMPLE, parts),
+        // Each of columns 1 to 4 is missed by a matching of rows 1 to 3 with the others, and walks
+        // from it lead to lesser and greater numbers. Row 4 has column 5 alone.
+        (
+            "4 5 8\n1 1\n1 3\n1 5\n2 1\n2 4\n3 2\n3 4\n4 5\n",
+            "matrix 4 5 8\nrank 4\nhorizontal 3 4\nrows 1 2 3\ncolumns 1 2 3 4\nend\n",
+        ),
         (
             "9 9 1\n+007 00009\n",
             "matrix 9 9 1\nrank 1\nhorizontal 0 8\nrows\ncolumns 1 2 3 4 5 6 7 8\nend\n",

@@ -2,8 +2,8 @@ use Rattle.std.proofs.Common.{◌≡◌, ◌∙◌, ◌<◌, ◌+◌, ℕ, ap, a
 use Rattle.bip_defs.specs.Lists.{Lists}
 use Rattle.bip_defs.specs.Lists.{IsMarked}
 use Rattle.bip_defs.proofs.Below.{listed_more, listed_same}
-use Rattle.btf_tool.proofs.mates.listed.Goals as goal
-use Rattle.btf_tool.proofs.mates.listed.Goals.{then-marks-row+in_ok-push, else-marks-row}
+use Rattle.btf_tool.proofs.rank_job.listed.Goals as goal
+use Rattle.btf_tool.proofs.rank_job.listed.Goals.{then-marks-row+in_ok-push, else-marks-row}
 
 pub loop-row-preserved : goal.loop-row-preserved
 loop-row-preserved c =
