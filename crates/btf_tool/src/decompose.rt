@@ -1,14 +1,15 @@
 //! The coarse parts and the decomposition of a matrix that stands.
 
-ghost use Rattle.std.specs.Prelude.{IfOk};
+ghost use Rattle.std.specs.Prelude.{IfOk, IfSome};
 ghost use Rattle.bip_defs.specs.Parts.{ArePartsOf};
 ghost use Rattle.bip_graph.specs.Decompositions.{Decomposes, parts_of};
 ghost use Rattle.bip_graph.specs.Matching.{IsMaximumOf};
 ghost use Rattle.btf_words.specs.Words.{HasWorkers};
+ghost use Rattle.pothen_fan.specs.OuterMarks.{AreOuterMarks};
 
-use crate::engines::{matching_for, solve_with_marks};
+use crate::engines::matching_for;
 use bip_graph::{Decomposition, Matching, Parts};
-use btf_words::{Engine, EngineChoice};
+use btf_words::EngineChoice;
 use dm_coarse::{coarse, coarse_by_cols, coarse_by_rows};
 use dm_fine::fine;
 use pothen_fan::OuterMarks;
@@ -32,37 +33,52 @@ pub(crate) fn matched_parts<R: Threads + Sync, G: Gate>(
     ensures maximum { IfOk result (λ p. IsMaximumOf pattern.now p.0) }
     ensures parts { IfOk result (λ p. ArePartsOf pattern.now (parts_of p.1)) }
 {
-    match choice.engine {
-        Engine::Pf => parts_by_marks(alloc, pattern),
-        Engine::Plain | Engine::Mc21 | Engine::Graft => {
-            let matching = matching_for(rt, alloc, pattern, choice, gate)?;
-            let parts = coarse(rt, alloc, pattern, &matching)?;
-            Ok((matching, parts))
-        }
+    let (matching, marks) = matching_for(rt, alloc, pattern, choice, gate)?;
+    let parts = parts_from(rt, alloc, pattern, &matching, marks)?;
+    Ok((matching, parts))
+}
+
+/// The coarse parts, from a maximum matching: by what the last phase has marked and one search from
+/// the other side, or by searches from both sides where there are no marks.
+fn parts_from<R: Threads + Sync>(
+    rt: &R,
+    alloc: Global,
+    pattern: &Pattern,
+    matching: &Matching,
+    marks: Option<OuterMarks>,
+) -> Result<Parts, OutOfMemory>
+    requires maximum { IsMaximumOf pattern.now matching.now }
+    requires marks { IfSome marks (AreOuterMarks pattern.now) }
+    ensures { IfOk result (λ p. ArePartsOf pattern.now (parts_of p)) }
+{
+    match marks {
+        Some(marks) => parts_by_marks(alloc, pattern, matching, &marks),
+        None => coarse(rt, alloc, pattern, matching),
     }
 }
 
-/// A maximum matching by the engine `Pf`, and the coarse parts by what its last phase has marked and
-/// one search from the other side.
+/// The coarse parts, from a maximum matching, by what the last phase has marked and one search from
+/// the other side.
 ///
-/// Answers `OutOfMemory` where the tables of the engine or of the search can't be had.
+/// Answers `OutOfMemory` where the tables of the search can't be had.
 pub(crate) fn parts_by_marks(
     alloc: Global,
     pattern: &Pattern,
-) -> Result<(Matching, Parts), OutOfMemory>
-    ensures maximum { IfOk result (λ p. IsMaximumOf pattern.now p.0) }
-    ensures parts { IfOk result (λ p. ArePartsOf pattern.now (parts_of p.1)) }
+    matching: &Matching,
+    marks: &OuterMarks,
+) -> Result<Parts, OutOfMemory>
+    requires maximum { IsMaximumOf pattern.now matching.now }
+    requires marks { AreOuterMarks pattern.now marks.now }
+    ensures { IfOk result (λ p. ArePartsOf pattern.now (parts_of p)) }
 {
-    let (matching, marks) = solve_with_marks(alloc, pattern)?;
-    let parts = match marks {
+    match marks {
         OuterMarks::HorizontalRows(rows) => {
-            coarse_by_rows(alloc, pattern, &matching, rows.as_slice())?
+            coarse_by_rows(alloc, pattern, matching, rows.as_slice())
         }
         OuterMarks::VerticalCols(cols) => {
-            coarse_by_cols(alloc, pattern, &matching, cols.as_slice())?
+            coarse_by_cols(alloc, pattern, matching, cols.as_slice())
         }
-    };
-    Ok((matching, parts))
+    }
 }
 
 /// The decomposition of a matrix, by a maximum matching of it, where the coarse parts are known.

@@ -1,6 +1,6 @@
 //! The choice of the search that finds a maximum matching.
 
-ghost use Rattle.std.specs.Prelude.{◌≤◌, IfOk};
+ghost use Rattle.std.specs.Prelude.{◌≤◌, IfOk, IfSome};
 ghost use Rattle.bip_defs.specs.Parts.{ArePartsOf};
 ghost use Rattle.bip_graph.specs.Answers.{IsMaximumOrLeast};
 ghost use Rattle.bip_graph.specs.Decompositions.{parts_of};
@@ -39,24 +39,9 @@ pub fn solve<R: Threads + Sync, G: Gate>(
     requires few { workers ≤ max_workers }
     ensures maximum { IfOk result (λ m. IsMaximumOf pattern.now m) }
 {
-    match engine {
-        Engine::Plain => {
-            let (matching, _columns) = plain(alloc, pattern)?;
-            Ok(matching)
-        }
-        Engine::Mc21 => {
-            let matching = start(alloc, pattern)?;
-            mc21_match::complete(alloc, pattern, matching)
-        }
-        Engine::Pf => {
-            let matching = start(alloc, pattern)?;
-            pothen_fan::complete(alloc, pattern, matching)
-        }
-        Engine::Graft => {
-            let matching = start(alloc, pattern)?;
-            tree_graft::complete(rt, alloc, pattern, matching, workers, gate)
-        }
-    }
+    let choice = EngineChoice { engine, workers };
+    let (matching, _marks) = matching_for(rt, alloc, pattern, choice, gate)?;
+    Ok(matching)
 }
 
 /// A maximum matching by the engine `Pf`, and what its last phase has marked.
@@ -71,18 +56,39 @@ pub(crate) fn solve_with_marks(
     complete_with_marks(alloc, pattern, matching)
 }
 
-/// A maximum matching, by the engine that is asked for with so many workers.
+/// A maximum matching, by the engine that is asked for with so many workers, and what the last
+/// serial phase has marked, where it has such phases and they have gone on to the end.
 pub(crate) fn matching_for<R: Threads + Sync, G: Gate>(
     rt: &R,
     alloc: Global,
     pattern: &Pattern,
     choice: EngineChoice,
     gate: &G,
-) -> Result<Matching, OutOfMemory>
+) -> Result<(Matching, Option<OuterMarks>), OutOfMemory>
     requires workers { HasWorkers choice }
-    ensures maximum { IfOk result (IsMaximumOf pattern.now) }
+    ensures maximum { IfOk result (λ p. IsMaximumOf pattern.now p.0) }
+    ensures marks { IfOk result (λ p. IfSome p.1 (AreOuterMarks pattern.now)) }
 {
-    solve(rt, alloc, pattern, choice.engine, choice.workers, gate)
+    match choice.engine {
+        Engine::Plain => {
+            let (maximum, _columns) = plain(alloc, pattern)?;
+            Ok((maximum, None))
+        }
+        Engine::Mc21 => {
+            let matching = start(alloc, pattern)?;
+            let maximum = mc21_match::complete(alloc, pattern, matching)?;
+            Ok((maximum, None))
+        }
+        Engine::Pf => {
+            let (maximum, marks) = solve_with_marks(alloc, pattern)?;
+            Ok((maximum, Some(marks)))
+        }
+        Engine::Graft => {
+            let matching = start(alloc, pattern)?;
+            let workers = choice.workers;
+            tree_graft::complete_with_marks(rt, alloc, pattern, matching, workers, gate)
+        }
+    }
 }
 
 /// A maximum matching of a matrix whose parts these are: this one, or with `least` the least one,

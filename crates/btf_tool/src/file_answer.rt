@@ -7,6 +7,7 @@ ghost use Rattle.mm_defs.specs.declared.answers.End.TheVariants.{File};
 ghost use Rattle.btf_tool.specs.FileAnswer.{IsFileAnswer};
 
 use crate::decompose::{decompose, parts_by_marks};
+use crate::engines::solve_with_marks;
 use bip_graph::{Components, Decomposition};
 use dm_coarse::components;
 use mm_defs::{End, Kind, ReadError};
@@ -71,7 +72,8 @@ fn analysed<R: Threads + Sync>(
 {
     let pattern = Pattern::build(rt, alloc, &triples)?;
     drop(triples);
-    let (matching, parts) = parts_by_marks(alloc, &pattern)?;
+    let (matching, marks) = solve_with_marks(alloc, &pattern)?;
+    let parts = parts_by_marks(alloc, &pattern, &matching, &marks)?;
     let decomposition = decompose(alloc, &pattern, &matching, parts)?;
     let components = components(alloc, &pattern, &decomposition.parts)?;
     Ok(FileAnswer::Report(decomposition, components))

@@ -8,6 +8,7 @@ use bip_graph::{Matching, Parts};
 use dm_coarse::{coarse_by_cols, coarse_by_rows, horizontal_cols};
 use pothen_fan::{OuterMarks, complete_with_marks};
 use sp_pattern::Pattern;
+use sp_ports::NoGate;
 use std::process::Abort;
 use std::test::Fail;
 use std::thread::Threads;
@@ -148,10 +149,39 @@ fn marks_all<R: Abort + AllocGlobal + Threads + Sync>(rt: &R, wanted: &Marked) -
     has_parts(rt, wanted, &pattern, &matching, &marks)
 }
 
+/// The last serial phase of the search by workers marks the same. There is none without entries.
+fn serial_marks_all<R: Abort + AllocGlobal + Threads + Sync>(
+    rt: &R,
+    wanted: &Marked,
+) -> Result<(), Fail> {
+    let pattern = pattern_of(rt, wanted.rows, wanted.cols, wanted.places)?;
+    let no_pairs = matching_of(rt.alloc(), &pattern, &[])?;
+    let completed = tree_graft::complete_with_marks(rt, rt.alloc(), &pattern, no_pairs, 2, &NoGate);
+    let (matching, marks) = completed?;
+    assert_eq!(rt;
+        marks.is_none(),
+        wanted.places.is_empty(),
+        "{}",
+        wanted.name
+    );
+    match marks {
+        Some(marks) => has_parts(rt, wanted, &pattern, &matching, &marks),
+        None => Ok(()),
+    }
+}
+
 #[test]
 fn the_last_phase_marks_the_horizontal_rows(rt: HostRuntime) -> Result<(), Fail> {
     for wanted in &MARKED {
         marks_all(&rt, wanted)?;
+    }
+    Ok(())
+}
+
+#[test]
+fn so_does_the_last_serial_phase_before_workers(rt: HostRuntime) -> Result<(), Fail> {
+    for wanted in &MARKED {
+        serial_marks_all(&rt, wanted)?;
     }
     Ok(())
 }
