@@ -4,7 +4,7 @@
 ghost use Rattle.std.specs.Prelude.{◌≡◌, ◌<◌, ◌≤◌};
 ghost use Rattle.bip_defs.specs.Matrix.{cols, entry_count};
 
-use bip_graph::{Blocks, Components, Parts};
+use bip_graph::{Blocks, Components, Decomposition, Parts};
 use dm_coarse::{coarse, components};
 use dm_fine::fine;
 use edit_session::Session;
@@ -299,6 +299,15 @@ fn made_anew<R: AllocGlobal + Threads + Sync>(
     })
 }
 
+/// A report tells what is found in a matrix that is made anew.
+fn tells<R: Abort>(rt: &R, found: &Decomposition, joined: &Components, anew: &MadeAnew) {
+    assert_eq!(rt; (found.e, found.rank), (anew.entries, anew.rank));
+    same_parts(rt, &found.parts, &anew.parts);
+    same_blocks(rt, &found.blocks, &anew.blocks);
+    same_blocks(rt, &joined.horizontal, &anew.components.horizontal);
+    same_blocks(rt, &joined.vertical, &anew.components.vertical);
+}
+
 /// The session's rank, its number of entries and its report are those of the matrix that is made of
 /// these places anew.
 fn is_from_scratch<R: Abort + AllocGlobal + Threads + Sync>(
@@ -309,19 +318,13 @@ fn is_from_scratch<R: Abort + AllocGlobal + Threads + Sync>(
     places: &[(u32, u32)],
 ) -> Result<(), Fail> {
     let anew = made_anew(rt, rows, cols, places)?;
-    let (found, joined) = session.report(rt)?;
     assert_eq!(rt;
         (session.rank(), session.entries()),
         (anew.rank, anew.entries)
     );
-    assert_eq!(rt;
-        (found.m, found.n, found.e, found.rank),
-        (rows, cols, anew.entries, anew.rank)
-    );
-    same_parts(rt, &found.parts, &anew.parts);
-    same_blocks(rt, &found.blocks, &anew.blocks);
-    same_blocks(rt, &joined.horizontal, &anew.components.horizontal);
-    same_blocks(rt, &joined.vertical, &anew.components.vertical);
+    let (found, joined) = session.report(rt)?;
+    assert_eq!(rt; (found.m, found.n), (rows, cols));
+    tells(rt, &found, &joined, &anew);
     Ok(())
 }
 
@@ -337,6 +340,27 @@ fn session_of<R: AllocGlobal + Threads + Sync>(
     Ok(Session::new(rt.alloc(), &pattern, matching)?)
 }
 
+/// Makes an edit, and compares with the matrix made anew of the places after it, which it gives.
+fn edited<R: Abort + AllocGlobal + Threads + Sync, L: Ledger>(
+    rt: &R,
+    session: &mut Session,
+    (change, rank): (Edit, u32),
+    places: &[(u32, u32)],
+    steps: &mut Steps<L>,
+) -> Result<Vec<(u32, u32)>, Fail> {
+    let found = edit_or_again(rt, session, change, places, steps)?;
+    assert_eq!(rt; (found, session.rank()), (rank, rank), "{change:?}");
+    let after = after_edit(rt.alloc(), places, change)?;
+    is_from_scratch(
+        rt,
+        session,
+        session.rows(),
+        session.cols(),
+        after.as_slice(),
+    )?;
+    Ok(after)
+}
+
 /// Makes the edits of a session and compares after each.
 fn replay<R: Abort + AllocGlobal + Threads + Sync, L: Ledger>(
     rt: &R,
@@ -347,15 +371,12 @@ fn replay<R: Abort + AllocGlobal + Threads + Sync, L: Ledger>(
     requires parts { blank.parts ≡ L.parts }
     requires some { 0 < blank.parts }
 {
-    let mut places = Vec::from_slice(rt.alloc(), edits.places)?;
-    let mut session = session_of(rt, edits.rows, edits.cols, places.as_slice())?;
-    let mut steps = Steps::<L>::new(blank);
+    let mut session = session_of(rt, edits.rows, edits.cols, edits.places)?;
     assert_eq!(rt; session.rank(), edits.rank);
-    for (change, rank) in edits.edits {
-        let found = edit_or_again(rt, &mut session, *change, places.as_slice(), &mut steps)?;
-        assert_eq!(rt; (found, session.rank()), (*rank, *rank), "{change:?}");
-        places = after_edit(rt.alloc(), places.as_slice(), *change)?;
-        is_from_scratch(rt, &session, edits.rows, edits.cols, places.as_slice())?;
+    let mut places = Vec::from_slice(rt.alloc(), edits.places)?;
+    let mut steps = Steps::<L>::new(blank);
+    for edit in edits.edits {
+        places = edited(rt, &mut session, *edit, places.as_slice(), &mut steps)?;
     }
     Ok(())
 }
@@ -377,6 +398,21 @@ fn sessions_of<R: AllocGlobal + Threads + Sync>(
     Ok(sessions)
 }
 
+/// Makes an edit in every one of several sessions.
+fn edit_all<R: Abort + AllocGlobal + Threads + Sync, L: Ledger>(
+    rt: &R,
+    sessions: &mut [Session],
+    (change, rank): (Edit, u32),
+    places: &[(u32, u32)],
+    steps: &mut Steps<L>,
+) -> Result<(), Fail> {
+    for session in sessions {
+        let found = edit_or_again(rt, session, change, places, steps)?;
+        assert_eq!(rt; (found, session.rank()), (rank, rank), "{change:?}");
+    }
+    Ok(())
+}
+
 /// Makes each edit in every one of several sessions, and compares them at the end. From session to
 /// session only the edits take memory.
 fn replay_side_by_side<R: Abort + AllocGlobal + Threads + Sync, L: Ledger>(
@@ -391,12 +427,15 @@ fn replay_side_by_side<R: Abort + AllocGlobal + Threads + Sync, L: Ledger>(
     let mut places = Vec::from_slice(rt.alloc(), edits.places)?;
     let mut sessions = sessions_of(rt, edits.rows, edits.cols, places.as_slice())?;
     let mut steps = Steps::<L>::new(blank);
-    for (change, rank) in edits.edits {
-        for session in sessions.as_mut_slice() {
-            let found = edit_or_again(rt, session, *change, places.as_slice(), &mut steps)?;
-            assert_eq!(rt; (found, session.rank()), (*rank, *rank), "{change:?}");
-        }
-        places = after_edit(rt.alloc(), places.as_slice(), *change)?;
+    for edit in edits.edits {
+        edit_all(
+            rt,
+            sessions.as_mut_slice(),
+            *edit,
+            places.as_slice(),
+            &mut steps,
+        )?;
+        places = after_edit(rt.alloc(), places.as_slice(), edit.0)?;
     }
     for session in &sessions {
         is_from_scratch(rt, session, edits.rows, edits.cols, places.as_slice())?;

@@ -320,23 +320,42 @@ fn numbers_of<I: Id>(list: &[Option<I>]) -> [u32; 4] {
     numbers
 }
 
+/// A list has these numbers.
+fn has_numbers<R: Abort, I: Id>(rt: &R, list: &Vec<Option<I>>, numbers: [u32; 4]) {
+    assert_eq!(rt; numbers_of(list.as_slice()), numbers);
+}
+
+/// The lists by row that a board is opened with.
+fn has_row_lists<R: Abort + AllocGlobal>(rt: &R, forest: &Forest<'_>) -> Result<(), Fail> {
+    has_numbers(rt, &forest.row_holders(rt.alloc())?, [0, 1, 2, 0]);
+    has_numbers(rt, &forest.row_trees(rt.alloc())?, [0, 1, 1, 0]);
+    Ok(())
+}
+
+/// The lists by column.
+fn has_column_lists<R: Abort + AllocGlobal>(rt: &R, forest: &Forest<'_>) -> Result<(), Fail> {
+    has_numbers(rt, &forest.root_leaves(rt.alloc())?, [3, 0, 0, 0]);
+    has_numbers(rt, &forest.col_trees(rt.alloc())?, [1, 1, 3, 0]);
+    Ok(())
+}
+
 // Column 1 claims row 2 and wins row 3 by way of column 2. Boards are opened with these lists.
 #[test]
 fn lists_by_row_and_by_column(rt: HostRuntime) -> Result<(), Fail> {
-    let alloc = rt.alloc();
     let places = [(1, 1), (2, 1), (2, 2), (3, 2), (4, 2)];
     let pattern = pattern_of(&rt, 4, 3, &places)?;
     let steps = [Claim(2, 1), Claim(3, 2), Win(1, 3)];
     let (forest, made) = after(&rt, &pattern, &[(2, 2)], &steps)?;
     assert_eq!(rt; made, 3);
-    let holders = forest.row_holders(alloc)?;
-    assert_eq!(rt; numbers_of(holders.as_slice()), [0, 1, 2, 0]);
-    let leaves = forest.root_leaves(alloc)?;
-    assert_eq!(rt; numbers_of(leaves.as_slice()), [3, 0, 0, 0]);
-    let row_trees = forest.row_trees(alloc)?;
-    assert_eq!(rt; numbers_of(row_trees.as_slice()), [0, 1, 1, 0]);
-    let col_trees = forest.col_trees(alloc)?;
-    assert_eq!(rt; numbers_of(col_trees.as_slice()), [1, 1, 3, 0]);
+    has_row_lists(&rt, &forest)?;
+    has_column_lists(&rt, &forest)
+}
+
+/// No row is claimed, and the base matching has the exchanged path.
+fn is_rebuilt<R: Abort + AllocGlobal>(rt: &R, forest: &Forest<'_>) -> Result<(), Fail> {
+    assert!(rt; forest.claims().is_empty());
+    has_numbers(rt, &forest.row_holders(rt.alloc())?, [0; 4]);
+    has_pairs(rt, "few claims", forest.base(), &[(2, 1), (3, 2)]);
     Ok(())
 }
 
@@ -356,9 +375,5 @@ fn a_rebuild_with_few_claims(rt: HostRuntime) -> Result<(), Fail> {
     ];
     let (forest, made) = after(&rt, &pattern, &[(2, 2)], &steps)?;
     assert_eq!(rt; made, 5);
-    assert!(rt; forest.claims().is_empty());
-    let holders = forest.row_holders(rt.alloc())?;
-    assert_eq!(rt; numbers_of(holders.as_slice()), [0; 4]);
-    has_pairs(&rt, "few claims", forest.base(), &[(2, 1), (3, 2)]);
-    Ok(())
+    is_rebuilt(&rt, &forest)
 }

@@ -119,6 +119,23 @@ fn goes<R: Abort + AllocGlobal + Threads + Sync>(
     Ok(())
 }
 
+/// Both phases leave what they are to leave, and then the forest is done.
+fn goes_twice<R: Abort + AllocGlobal + Threads + Sync>(
+    rt: &R,
+    phases: &Phases,
+    workers: u32,
+    forest: &mut Forest<'_>,
+) -> Result<(), Fail>
+    requires workers { (1 ≤ workers) × (workers ≤ max_workers) }
+    requires rested { IsRested forest.old }
+{
+    let gate = gate_for(rt, workers)?;
+    goes(rt, phases.name, forest, workers, &gate, &phases.first)?;
+    goes(rt, phases.name, forest, workers, &gate, &phases.second)?;
+    assert!(rt; forest.done(), "{}", phases.name);
+    Ok(())
+}
+
 fn go<R: Abort + AllocGlobal + Threads + Sync>(
     rt: &R,
     phases: &Phases,
@@ -129,11 +146,7 @@ fn go<R: Abort + AllocGlobal + Threads + Sync>(
     let pattern = pattern_of(rt, phases.rows, phases.cols, phases.places)?;
     let matching = matching_of(rt.alloc(), &pattern, phases.pairs)?;
     let mut forest = Forest::new(rt.alloc(), &pattern, matching)?;
-    let gate = gate_for(rt, workers)?;
-    goes(rt, phases.name, &mut forest, workers, &gate, &phases.first)?;
-    goes(rt, phases.name, &mut forest, workers, &gate, &phases.second)?;
-    assert!(rt; forest.done(), "{}", phases.name);
-    Ok(())
+    goes_twice(rt, phases, workers, &mut forest)
 }
 
 #[test]
@@ -197,24 +210,35 @@ fn phases_beside_a_single_entry(rt: HostRuntime) -> Result<(), Fail> {
     Ok(())
 }
 
-/// Two phases by two workers at this gate, on one row with an entry in each of two columns. The
-/// first goes up once and exchanges a path. The second goes up twice, at last with no row to claim.
+/// Two phases by two workers at this gate. The first goes up once and exchanges a path. The second
+/// goes up twice, at last with no row to claim.
 fn two_phases<R: Abort + AllocGlobal + Threads + Sync, G: Gate>(
+    rt: &R,
+    gate: &G,
+    forest: &mut Forest<'_>,
+) -> Result<(), Fail>
+    requires { IsRested forest.old }
+{
+    assert_eq!(rt; phase(rt, rt.alloc(), forest, 2, gate)?, 1);
+    assert_eq!(rt; phase(rt, rt.alloc(), forest, 2, gate)?, 0);
+    Ok(())
+}
+
+/// Two phases on one row with an entry in each of two columns.
+fn two_phases_on_one_row<R: Abort + AllocGlobal + Threads + Sync, G: Gate>(
     rt: &R,
     gate: &G,
 ) -> Result<(), Fail> {
     let pattern = pattern_of(rt, 1, 2, &[(1, 1), (1, 2)])?;
     let none = matching_of(rt.alloc(), &pattern, &[])?;
     let mut forest = Forest::new(rt.alloc(), &pattern, none)?;
-    assert_eq!(rt; phase(rt, rt.alloc(), &mut forest, 2, gate)?, 1);
-    assert_eq!(rt; phase(rt, rt.alloc(), &mut forest, 2, gate)?, 0);
-    Ok(())
+    two_phases(rt, gate, &mut forest)
 }
 
 #[test]
 fn workers_arrive_in_each_phase(rt: HostRuntime) -> Result<(), Fail> {
     let meeting = MeetGate::new(rt.alloc())?;
-    two_phases(&rt, &meeting)?;
+    two_phases_on_one_row(&rt, &meeting)?;
     assert_eq!(rt; (meeting.arrivals(0), meeting.arrivals(1)), (4, 4));
     assert!(rt; !meeting.ran_out());
     Ok(())
