@@ -1,4 +1,4 @@
-use Rattle.std.proofs.Common.{◌∙◌, ap, inr, subst, sym, true≢false}
+use Rattle.std.proofs.Common.{◌∙◌, ⊎_elim, ap, inl, inr, refl, subst, sym, true≢false}
 use Rattle.bip_defs.specs.Lists.{Among}
 use Rattle.bip_defs.specs.Matrix.{IsTransposeOf, Matrix, Place, entry_count}
 use Rattle.bip_defs.proofs.Sets.{col_among, row_among}
@@ -62,3 +62,60 @@ augment_over-requires-clause-matched g c = let (d, pair) = some_found (λ x. Amo
 
 pub augment_over-requires-clause-uncovered : goal.augment_over-requires-clause-uncovered
 augment_over-requires-clause-uncovered g c h = true≢false (sym (c.has.ensures.1 (inr h)) ∙ c.if-has.false)
+
+pub returns-then-has-clause-no_search : goal.returns-then-has-clause-no_search
+returns-then-has-clause-no_search g c = λ h. refl
+
+pub returns-then-has-clause-searched : goal.returns-then-has-clause-searched
+returns-then-has-clause-searched g c = λ partial other mated on. absurd (other (c.has.ensures.0 c.if-has.true))
+
+pub returns-then-has-clause-searched_to : goal.returns-then-has-clause-searched_to
+returns-then-has-clause-searched_to g c = λ partial other mated out. absurd (other (c.has.ensures.0 c.if-has.true))
+
+pub returns-then-has-clause-searched_from : goal.returns-then-has-clause-searched_from
+returns-then-has-clause-searched_from g c = λ partial other free on. absurd (other (c.has.ensures.0 c.if-has.true))
+
+pub returns-then-has-clause-paired : goal.returns-then-has-clause-paired
+returns-then-has-clause-paired g c = λ partial other free out. absurd (other (c.has.ensures.0 c.if-has.true))
+
+pub returns-then-size-rows-clause-no_search : goal.returns-then-size-rows-clause-no_search
+returns-then-size-rows-clause-no_search g c = λ h. refl
+
+pub returns-then-size-rows-clause-searched : goal.returns-then-size-rows-clause-searched
+returns-then-size-rows-clause-searched g c = λ partial other mated on. absurd (partial (inl (sym c.size.ensures.size ∙ c.if-size-rows.true ∙ c.rows.ensures)))
+
+pub returns-then-size-rows-clause-searched_to : goal.returns-then-size-rows-clause-searched_to
+returns-then-size-rows-clause-searched_to g c = λ partial other mated out. absurd (partial (inl (sym c.size.ensures.size ∙ c.if-size-rows.true ∙ c.rows.ensures)))
+
+pub returns-then-size-rows-clause-searched_from : goal.returns-then-size-rows-clause-searched_from
+returns-then-size-rows-clause-searched_from g c = λ partial other free on. absurd (partial (inl (sym c.size.ensures.size ∙ c.if-size-rows.true ∙ c.rows.ensures)))
+
+pub returns-then-size-rows-clause-paired : goal.returns-then-size-rows-clause-paired
+returns-then-size-rows-clause-paired g c = λ partial other free out. absurd (partial (inl (sym c.size.ensures.size ∙ c.if-size-rows.true ∙ c.rows.ensures)))
+
+pub returns-then-size-cols-clause-no_search : goal.returns-then-size-cols-clause-no_search
+returns-then-size-cols-clause-no_search g c = λ h. refl
+
+pub returns-then-size-cols-clause-searched : goal.returns-then-size-cols-clause-searched
+returns-then-size-cols-clause-searched g c = λ partial other mated on. absurd (partial (inr (sym c.size-2.ensures.size ∙ c.if-size-cols.true ∙ c.cols.ensures)))
+
+pub returns-then-size-cols-clause-searched_to : goal.returns-then-size-cols-clause-searched_to
+returns-then-size-cols-clause-searched_to g c = λ partial other mated out. absurd (partial (inr (sym c.size-2.ensures.size ∙ c.if-size-cols.true ∙ c.cols.ensures)))
+
+pub returns-then-size-cols-clause-searched_from : goal.returns-then-size-cols-clause-searched_from
+returns-then-size-cols-clause-searched_from g c = λ partial other free on. absurd (partial (inr (sym c.size-2.ensures.size ∙ c.if-size-cols.true ∙ c.cols.ensures)))
+
+pub returns-then-size-cols-clause-paired : goal.returns-then-size-cols-clause-paired
+returns-then-size-cols-clause-paired g c = λ partial other free out. absurd (partial (inr (sym c.size-2.ensures.size ∙ c.if-size-cols.true ∙ c.cols.ensures)))
+
+pub returns-then-row_is_free-clause-no_search : goal.returns-then-row_is_free-clause-no_search
+returns-then-row_is_free-clause-no_search g c = λ h. absurd (⊎_elim (⊎_elim (λ e. c.if-size-rows.false (c.size.ensures.size ∙ e ∙ sym c.rows.ensures)) (λ e. c.if-size-cols.false (c.size-2.ensures.size ∙ e ∙ sym c.cols.ensures))) (λ covered. true≢false (sym (c.has.ensures.1 covered) ∙ c.if-has.false)) h)
+
+pub returns-else-row_is_free-clause-no_search : goal.returns-else-row_is_free-clause-no_search
+returns-else-row_is_free-clause-no_search g c = λ h. absurd (⊎_elim (⊎_elim (λ e. c.if-size-rows.false (c.size.ensures.size ∙ e ∙ sym c.rows.ensures)) (λ e. c.if-size-cols.false (c.size-2.ensures.size ∙ e ∙ sym c.cols.ensures))) (λ covered. true≢false (sym (c.has.ensures.1 covered) ∙ c.if-has.false)) h)
+
+pub returns-then-not-row_is_free-clause-no_search : goal.returns-then-not-row_is_free-clause-no_search
+returns-then-not-row_is_free-clause-no_search g c = λ h. absurd (⊎_elim (⊎_elim (λ e. c.if-size-rows.false (c.size.ensures.size ∙ e ∙ sym c.rows.ensures)) (λ e. c.if-size-cols.false (c.size-2.ensures.size ∙ e ∙ sym c.cols.ensures))) (λ covered. true≢false (sym (c.has.ensures.1 covered) ∙ c.if-has.false)) h)
+
+pub returns-clause-no_search : goal.returns-clause-no_search
+returns-clause-no_search g c = λ h. absurd (⊎_elim (⊎_elim (λ e. c.if-size-rows.false (c.size.ensures.size ∙ e ∙ sym c.rows.ensures)) (λ e. c.if-size-cols.false (c.size-2.ensures.size ∙ e ∙ sym c.cols.ensures))) (λ covered. true≢false (sym (c.has.ensures.1 covered) ∙ c.if-has.false)) h)

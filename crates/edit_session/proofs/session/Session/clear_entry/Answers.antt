@@ -1,4 +1,4 @@
-use Rattle.std.proofs.Common.{◌≡◌, ◌∙◌, ◌<◌, Bool, List, length, subst, sym, true≢false}
+use Rattle.std.proofs.Common.{◌≡◌, ◌∙◌, ◌<◌, Bool, List, length, refl, subst, sym, true≢false}
 use Rattle.bip_defs.specs.EditedMatrix.{without_place}
 use Rattle.bip_defs.specs.Lists.{Among, IsMarked}
 use Rattle.bip_defs.specs.Matrix.{IsEntry, IsTransposeOf, Matrix, Place, cols, transpose}
@@ -100,3 +100,18 @@ pub returns-clause-searched_from : goal.returns-clause-searched_from
 returns-clause-searched_from g c = subst (λ (w : MatchedMatrix). Among {X = Place} (c.args.row, c.args.col) w.matching.pairs → ¬ IsMarked w.marks c.args.col
     → (rest : List Place) × IsParted (c.args.row, c.args.col) w.matching.pairs rest × IsSearchedFrom c.args.col c.take.new.self.matrix rest w.marks c.augment_to.new.matching.pairs c.augment_to.new.self c.args.steps.now c.augment_to.new.steps) c.self.view_is
     (λ h off. absurd (off (subst (λ (z : List Bool). IsMarked z c.args.col) c.add_root.ensures (c.is_marked.ensures.0 c.if-not-is_marked.false))))
+
+pub returns-then-not-were_mates-clause-no_step : goal.returns-then-not-were_mates-clause-no_step
+returns-then-not-were_mates-clause-no_step g c = λ h. refl
+
+pub returns-then-not-were_mates-clause-searched_to : goal.returns-then-not-were_mates-clause-searched_to
+returns-then-not-were_mates-clause-searched_to g c = λ h on. absurd (true≢false (sym (c.are_mates-were_mates.ensures.1 (subst (λ (w : MatchedMatrix). Among {X = Place} (c.args.row, c.args.col) w.matching.pairs) (sym c.self.view_is) h)) ∙ c.if-not-were_mates.true))
+
+pub returns-then-not-were_mates-clause-searched_from : goal.returns-then-not-were_mates-clause-searched_from
+returns-then-not-were_mates-clause-searched_from g c = λ h off. absurd (true≢false (sym (c.are_mates-were_mates.ensures.1 (subst (λ (w : MatchedMatrix). Among {X = Place} (c.args.row, c.args.col) w.matching.pairs) (sym c.self.view_is) h)) ∙ c.if-not-were_mates.true))
+
+pub returns-then-not-is_marked-clause-no_step : goal.returns-then-not-is_marked-clause-no_step
+returns-then-not-is_marked-clause-no_step g c = λ not. absurd (not (subst (λ (w : MatchedMatrix). Among {X = Place} (c.args.row, c.args.col) w.matching.pairs) c.self.view_is (c.are_mates-were_mates.ensures.0 c.if-not-were_mates.false)))
+
+pub returns-clause-no_step : goal.returns-clause-no_step
+returns-clause-no_step g c = λ not. absurd (not (subst (λ (w : MatchedMatrix). Among {X = Place} (c.args.row, c.args.col) w.matching.pairs) c.self.view_is (c.are_mates-were_mates.ensures.0 c.if-not-were_mates.false)))
