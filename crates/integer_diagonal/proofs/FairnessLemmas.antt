@@ -1,7 +1,7 @@
 -- New prices that are looked at on every entry.
 use Rattle.std.proofs.Common.{◌≡◌, ◌∙◌, ℕ, slice_index, ◌+◌, ◌<◌, ◌≤◌, List, [], ◌∷◌, ◌++◌, length, map, take, get_or, sym, ap, subst, below_more, arith}
 use Rattle.std.proofs.Math.Decide.{dec_lt}
-use Rattle.std.proofs.lemmas.List.{get_or-map, get_or_past, get_or_read, length-map, map_more}
+use Rattle.std.proofs.lemmas.List.{get_or-map, get_or_past, get_or_read, length-map, map_more, take_all}
 use Rattle.bip_defs.specs.Lists.{Among, AreDistinct, Lists}
 use Rattle.bip_defs.specs.Matching.{cols_of, rows_of}
 use Rattle.bip_defs.specs.Matrix.{IsEntry, Matrix, Place, cols, column}
@@ -36,8 +36,12 @@ pub all_risen : (xs ys : List ℕ) (rise most : ℕ) → ys ≡ map (λ a. a + r
 all_risen xs ys rise most is low = all_at_most ys most (λ k lt. (let long = ap (λ (z : List ℕ). length z) is ∙ length-map xs (λ a. a + rise) in let here = ap (λ (z : List ℕ). slice_index z k) is ∙ get_or-map (λ a. a + rise) xs k 0 0 (omega (arith, lt, long)) in let bound = low k in omega (arith, here, bound)))
 
 -- a list that is written from another, by one place more
-pub mapped_push : (f : ℕ → ℕ) (xs ys new : List ℕ) (i x y : ℕ) → i < length xs → x ≡ get_or xs i x → ys ≡ map f (take i xs) → y ≡ f x → new ≡ ys ++ y ∷ [] → new ≡ map f (take (i + 1) xs)
+pub mapped_push : {X Y : Type 0} (f : X → Y) (xs : List X) (ys new : List Y) (i : ℕ) (x : X) (y : Y) → i < length xs → x ≡ get_or xs i x → ys ≡ map f (take i xs) → y ≡ f x → new ≡ ys ++ y ∷ [] → new ≡ map f (take (i + 1) xs)
 mapped_push f xs ys new i x y lt is old value pushed = pushed ∙ ap (λ z. z ++ y ∷ []) old ∙ ap (λ z. map f (take i xs) ++ z ∷ []) (value ∙ ap f is) ∙ sym (map_more f xs i x lt)
+
+-- all places of the other have been written
+pub mapped_all : {X Y : Type 0} (f : X → Y) (xs : List X) (ys : List Y) (i : ℕ) → length xs ≤ i → ys ≡ map f (take i xs) → ys ≡ map f xs
+mapped_all f xs ys i past is = is ∙ ap (λ z. map f z) (take_all i xs past)
 
 -- a candidate whose columns are fair is an assignment
 pub fair_assigned : (x : Priced) (m : Pairing) → IsCandidate x m → ((c : ℕ) → c < cols x.weighing.matrix → IsFairColumn x m.pairs c) → IsAssigned x m

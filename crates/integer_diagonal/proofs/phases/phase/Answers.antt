@@ -1,4 +1,5 @@
-use Rattle.std.proofs.Common.{◌≡◌, ◌+◌, ℕ, ◌<◌, List, slice_index, sym, subst}
+use Rattle.std.proofs.Common.{◌≡◌, ◌∙◌, ◌+◌, ℕ, ◌<◌, List, ap, length, slice_index, sym, subst}
+use Rattle.bip_defs.specs.Matrix.{Matrix, cols}
 use Rattle.integer_diagonal.proofs.PhaseLemmas.{dual_rises, ok_room, price_rises}
 use Rattle.integer_diagonal.specs.Duals.{priced}
 use Rattle.integer_diagonal.proofs.phases.phase.Goals as goal
@@ -11,3 +12,39 @@ higher-requires-2-clause-fits g c = subst (λ (z : List ℕ). (r : ℕ) → slic
 
 pub returns-clause-room : goal.returns-clause-room
 returns-clause-room g c = ok_room _ c.in_ok-assignment.assignment.top g.W.Width.limit (λ a. a.prices ≡ c.in_ok-assignment.assignment.prices) (λ a. a.duals ≡ c.in_ok-assignment.assignment.duals) c.match_tight.result c.in_ok-assignment.ensures.room c.match_tight.ensures.same
+
+pub higher-requires-clause-square : goal.higher-requires-clause-square
+higher-requires-clause-square g c =
+    let a = c.requires.assignment in
+    let of = c.args.graph.now.of in
+    a.rows_are ∙ ap (λ (z : Matrix). z.rows) of ∙ c.requires.square ∙ sym (a.cols_are ∙ ap cols of)
+
+pub higher-requires-2-clause-square : goal.higher-requires-2-clause-square
+higher-requires-2-clause-square g c =
+    let a = c.requires.assignment in
+    let of = c.args.graph.now.of in
+    a.rows_are ∙ ap (λ (z : Matrix). z.rows) of ∙ c.requires.square ∙ sym (a.cols_are ∙ ap cols of)
+
+pub higher-requires-clause-amounts : goal.higher-requires-clause-amounts
+higher-requires-clause-amounts g c = ap (λ (z : List ℕ). length z) c.as_slice.ensures.value ∙ c.requires.assignment.feasible.prices_are ∙ sym c.requires.assignment.rows_are
+
+pub higher-requires-2-clause-amounts : goal.higher-requires-2-clause-amounts
+higher-requires-2-clause-amounts g c =
+    let a = c.requires.assignment in
+    let of = c.args.graph.now.of in
+    ap (λ (z : List ℕ). length z) c.as_slice-2.ensures.value ∙ a.feasible.duals_are ∙ ap cols of ∙ sym (a.rows_are ∙ ap (λ (z : Matrix). z.rows) of ∙ c.requires.square)
+
+pub at_prices-requires-clause-rows : goal.at_prices-requires-clause-rows
+at_prices-requires-clause-rows g c = c.in_ok-prices.ensures ∙ c.requires.assignment.rows_are ∙ ap (λ (z : Matrix). z.rows) c.args.graph.now.of
+
+pub at_prices-requires-clause-cols : goal.at_prices-requires-clause-cols
+at_prices-requires-clause-cols g c = c.in_ok-duals.ensures ∙ c.requires.assignment.rows_are ∙ ap (λ (z : Matrix). z.rows) c.args.graph.now.of ∙ c.requires.square
+
+pub match_tight-requires-clause-assignment : goal.match_tight-requires-clause-assignment
+match_tight-requires-clause-assignment g c = c.in_ok-assignment.ensures.assignment
+
+pub match_tight-requires-clause-room : goal.match_tight-requires-clause-room
+match_tight-requires-clause-room g c = c.in_ok-assignment.ensures.room
+
+pub returns-clause-assignment : goal.returns-clause-assignment
+returns-clause-assignment g c = c.match_tight.ensures.assignment

@@ -1,6 +1,8 @@
-use Rattle.std.proofs.Common.{◌≡◌, ◌∙◌, ◌<◌, arith, length, rules, subst, sym, vec_len}
+use Rattle.std.proofs.Common.{◌≡◌, ◌∙◌, ◌∷◌, ◌<◌, ℕ, List, [], ap, arith, length, length-append, rules, subst, sym, vec_len}
+use Rattle.std.specs.BinaryHeap.{heap_items}
+use Rattle.std.proofs.lemmas.List.Sorted.{length_permutation}
 use Rattle.integer_diagonal.proofs.Levels.{back_more, level_nearest, near_more, none_more, none_nearest}
-use Rattle.integer_diagonal.proofs.HeapLemmas.{nearest_first, popped}
+use Rattle.integer_diagonal.proofs.HeapLemmas.{length_of_both, nearest_first, popped}
 use Rattle.integer_diagonal.specs.Nearness.{unwrapped}
 use Rattle.integer_diagonal.proofs.frontier.Frontier.pop.Goals as goal
 
@@ -29,3 +31,38 @@ pub returns-in_ok-nearest-in-None-clause-nearest : goal.returns-in_ok-nearest-in
 returns-in_ok-nearest-in-None-clause-nearest g c =
     let old_long : vec_len c.self.inside.near ≡ length c.self.inside.near.items = search rules in
     rw (← c.self.view_is) (none_nearest _ _ c.self.inside.near.items _ (sym old_long ∙ c.in-None.ensures.cases.0) (nearest_first _ _ (c.in_ok-nearest-in-None.ensures.heap_order c.self.invariant).1))
+
+pub invariant_of-self-then-begins_below : goal.invariant_of-self-then-begins_below
+invariant_of-self-then-begins_below g c = (c.in_ok-nearest.ensures.heap_order c.self.invariant).0
+
+pub invariant_of-self-in-Some : goal.invariant_of-self-in-Some
+invariant_of-self-in-Some g c = c.self.invariant
+
+pub invariant_of-self-in-None : goal.invariant_of-self-in-None
+invariant_of-self-in-None g c = (c.in_ok-nearest-in-None.ensures.heap_order c.self.invariant).0
+
+pub returns-then-begins_below-clause-shorter : goal.returns-then-begins_below-clause-shorter
+returns-then-begins_below-clause-shorter g c =
+    let s = c.self.inside in
+    let new = length_of_both s.level s.near.items (heap_items c.pop.new.self) in
+    let old = length_of_both s.level s.near.items (heap_items s.heap) in
+    let one = length_permutation _ _ c.in_ok-nearest.ensures.permutation in
+    rw (← c.self.view_is) (omega (arith, new, old, one))
+
+pub returns-in-Some-clause-shorter : goal.returns-in-Some-clause-shorter
+returns-in-Some-clause-shorter g c =
+    let s = c.self.inside in
+    let rows = c.pop-2.new.self.items in
+    let new = length_of_both s.level rows (heap_items s.heap) in
+    let old = length_of_both s.level s.near.items (heap_items s.heap) in
+    let one = ap (λ (z : List ℕ). length z) c.in-Some.ensures.items ∙ length-append rows (c.in-Some.row ∷ []) in
+    rw (← c.self.view_is) (omega (arith, new, old, one))
+
+pub returns-in_ok-nearest-in-None-clause-shorter : goal.returns-in_ok-nearest-in-None-clause-shorter
+returns-in_ok-nearest-in-None-clause-shorter g c =
+    let s = c.self.inside in
+    let rows = c.pop-2.new.self in
+    let new = length_of_both c.in_ok-nearest-in-None.nearest.0.0 rows.items (heap_items c.pop-in-None.new.self) in
+    let old = length_of_both s.level s.near.items (heap_items s.heap) in
+    let one = length_permutation _ _ c.in_ok-nearest-in-None.ensures.permutation in
+    rw (← c.self.view_is) (omega (arith, new, old, one, rows.ok.0, c.in-None.ensures.cases.1))

@@ -6,7 +6,7 @@ use Rattle.integer_diagonal.proofs.SearchInvariant.{listed_same}
 use Rattle.integer_diagonal.specs.Labels.{AreListed, IsSearch, Labels, labels_of, tree_of}
 use Rattle.integer_diagonal.specs.Amounts.{HasRoom}
 use Rattle.integer_diagonal.specs.Duals.{priced}
-use Rattle.integer_diagonal.specs.SearchTree.{IsNearest, IsSearched, IsStuck, Tree, depth}
+use Rattle.integer_diagonal.specs.SearchTree.{IsGrown, IsNearest, IsSearched, IsStuck, Tree, depth}
 use Rattle.integer_diagonal.proofs.search.DijkstraSearch.find.Goals as goal
 
 pub loop-closest-init : goal.loop-closest-init
@@ -77,3 +77,16 @@ pub returns-clause-listed : goal.returns-clause-listed
 returns-clause-listed g c =
     let same = c.in_default.ensures.none.1 in
     listed_same (labels_of c.loop-closest.self) (labels_of c.next.new.self) _ (ap (λ (z : Labels). z.distances) same) (ap (λ (z : Labels). z.settled) same) (subst (AreListed (labels_of c.loop-closest.self)) (sym c.in_default.ensures.listed) c.loop-closest.invariant.search.1.listed)
+
+pub returns-clause-tree : goal.returns-clause-tree
+returns-clause-tree g c = subst (λ (z : Tree). IsGrown (priced c.args.weights.now c.args.assignment.now) c.args.assignment.now.matching.pairs c.args.root z) (sym c.in_default.ensures.tree) c.loop-closest.invariant.search.1.grown
+
+pub returns-clause-within : goal.returns-clause-within
+returns-clause-within g c = c.loop-closest.invariant.search.1.best.within
+
+pub returns-clause-lengths : goal.returns-clause-lengths
+returns-clause-lengths g c =
+    let k = c.loop-closest.invariant.search.1.kept in
+    let same = c.in_default.ensures.none.1 in
+    let rows = ap (λ (z : Matrix). z.rows) c.requires.of in
+    (ap (λ (z : Labels). length z.distances) same ∙ k.distances_are ∙ rows, ap (λ (z : Labels). length z.settled) same ∙ k.settled_are ∙ rows, ap (λ (z : Labels). length z.parents) same ∙ k.parents_are ∙ rows)
