@@ -1,8 +1,29 @@
 //! Reports that are read, and bytes that are none.
 
+use bip_graph::{Blocks, Parts};
 use btf_text::read_report;
 use sp_ids::{Col, Row};
+use std::process::Abort;
 use std::test::Fail;
+
+fn has_the_outer_lists<R: Abort>(rt: &R, parts: &Parts) {
+    assert_eq!(rt; parts.hr.as_slice(), [Row(0)].as_slice());
+    assert_eq!(rt; parts.hc.as_slice(), [Col(0), Col(1)].as_slice());
+    assert_eq!(rt; parts.vr.as_slice(), [Row(2), Row(3)].as_slice());
+    assert_eq!(rt; parts.vc.as_slice(), [Col(3)].as_slice());
+    assert!(rt; parts.sr.is_empty() && parts.sc.is_empty());
+}
+
+fn has_the_two_blocks<R: Abort>(rt: &R, blocks: &Blocks) {
+    assert_eq!(rt; blocks.len(), 2);
+    assert_eq!(rt; blocks.all_rows(), [Row(4), Row(1), Row(5)].as_slice());
+    assert_eq!(rt; blocks.all_cols(), [Col(4), Col(2), Col(5)].as_slice());
+}
+
+fn has_the_orders<R: Abort>(rt: &R, rows: &[Row], cols: &[Col]) {
+    assert_eq!(rt; rows, [Row(0), Row(1), Row(2), Row(3)].as_slice());
+    assert_eq!(rt; cols, [Col(3), Col(2)].as_slice());
+}
 
 #[test]
 fn a_report_with_orders(rt: HostRuntime) -> Result<(), Fail> {
@@ -11,24 +32,14 @@ fn a_report_with_orders(rt: HostRuntime) -> Result<(), Fail> {
         b"btf 1\nmatrix 6 6 9\nrank 5\nhorizontal 1 2\nrows 1\ncolumns 1 2\nsquare 3 2\nblock 1 1\nrows 5\ncolumns 5\nblock 2 2\nrows 2 6\ncolumns 3 6\nvertical 2 1\nrows 3 4\ncolumns 4\nrow_order 1 2 3 4\ncolumn_order 4 3\npairs 3\n1 1\n2 3\n3 4\nend\n";
     let read = read_report(rt.alloc(), text)?.ok_or("these bytes are a report")?;
     assert_eq!(rt; (read.m, read.n, read.e, read.rank), (6, 6, 9, 5));
-    assert_eq!(rt; read.parts.hr.as_slice(), [Row(0)].as_slice());
-    assert_eq!(rt; read.parts.hc.as_slice(), [Col(0), Col(1)].as_slice());
-    assert_eq!(rt; read.parts.vr.as_slice(), [Row(2), Row(3)].as_slice());
-    assert_eq!(rt; read.parts.vc.as_slice(), [Col(3)].as_slice());
-    assert!(rt; read.parts.sr.is_empty() && read.parts.sc.is_empty());
-    assert_eq!(rt; read.blocks.len(), 2);
-    assert_eq!(rt; read.blocks.all_rows(), [Row(4), Row(1), Row(5)].as_slice());
-    assert_eq!(rt; read.blocks.all_cols(), [Col(4), Col(2), Col(5)].as_slice());
+    has_the_outer_lists(&rt, &read.parts);
+    has_the_two_blocks(&rt, &read.blocks);
     assert_eq!(rt;
         read.pairs.as_slice(),
         [(Row(0), Col(0)), (Row(1), Col(2)), (Row(2), Col(3))].as_slice()
     );
     let orders = read.orders.ok_or("the orders stand there")?;
-    assert_eq!(rt;
-        orders.0.as_slice(),
-        [Row(0), Row(1), Row(2), Row(3)].as_slice()
-    );
-    assert_eq!(rt; orders.1.as_slice(), [Col(3), Col(2)].as_slice());
+    has_the_orders(&rt, orders.0.as_slice(), orders.1.as_slice());
     Ok(())
 }
 
