@@ -1,17 +1,19 @@
 //! What is told of the seats of a board, for callers that step on it.
 
-ghost use Rattle.std.specs.Prelude.{ℕ, ◌≤◌, List};
+ghost use Rattle.std.specs.Prelude.{◌≡◌, ℕ, ◌≤◌, List, length};
 ghost use Rattle.std.specs.List.{AllZip};
 ghost use Rattle.bip_graph.specs.Mates.{Mated};
 ghost use Rattle.flip_words.specs.Board.{Board};
 ghost use Rattle.flip_words.specs.ClosedBoards.{AreMatesAfter, HaveOneTakerEach, SettlesAll};
 ghost use Rattle.flip_words.specs.Seat.{AreAllSeats, HoldsAllSeats, IsSameSeat, Seat, new_seats};
 
-/// The seats with which a board is opened are all its seats, in the order of their numbers.
+/// The seats with which a board is opened are as many as were asked for, and at least one of them is
+/// all seats of the board, in the order of their numbers.
 pub fn new_seats_are_all()
     ensures all { (b : Board) (count : ℕ) → 1 ≤ count → AreAllSeats b (new_seats b count) }
     ensures in_any_order { (b : Board) (count : ℕ) → 1 ≤ count
         → HoldsAllSeats b (new_seats b count) }
+    ensures many { (b : Board) (count : ℕ) → length (new_seats b count) ≡ count }
 {}
 
 /// Seats that are all seats of a board in the order of their numbers are all its seats in any

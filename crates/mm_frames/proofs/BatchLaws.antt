@@ -142,7 +142,7 @@ frame_stays ended bytes more fault h = stays (length bytes) ended 0 bytes more f
 -- ---- of a call
 
 -- no frame of a batch is bad, however much of it was given
-batch_given : (call : Call) (files : List (List ℕ)) → IsBatch (offered call) files → first_bad_file call ≡ None
+pub batch_given : (call : Call) (files : List (List ℕ)) → IsBatch (offered call) files → first_bad_file call ≡ None
 batch_given call files batch = by (ended call) refl
   where
     good : first_bad_frame true (offered call) ≡ None

@@ -11,12 +11,15 @@ pub fn batch_has_one_list_of_files()
         → IsBatch bytes others → files ≡ others }
 {}
 
-/// Bytes are a batch where no frame of them is bad, and there alone.
+/// Bytes are a batch where no frame of them is bad, and there alone. No file of a batch is bad,
+/// however much of it was given.
 pub fn batch_has_no_bad_frame()
     ensures none_bad { (bytes : List ℕ) (files : List (List ℕ)) → IsBatch bytes files
         → first_bad_frame true bytes ≡ None }
     ensures batch { (bytes : List ℕ) → first_bad_frame true bytes ≡ None
         → (files : List (List ℕ)) × IsBatch bytes files }
+    ensures given { (call : Call) (files : List (List ℕ)) → IsBatch (offered call) files
+        → first_bad_file call ≡ None }
 {}
 
 /// The first bad frame stays the first one, whatever follows, and whether the input ends there or

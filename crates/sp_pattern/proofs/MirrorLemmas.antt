@@ -7,10 +7,9 @@ use Rattle.std.specs.List.{slice_range}
 use Rattle.bip_defs.specs.Lists.{Among}
 use Rattle.bip_defs.specs.Matrix.{Place}
 use Rattle.bip_defs.proofs.Pieces.{length-slice_range, start_within}
-use Rattle.bip_defs.proofs.Sets.{among_either, among_left, among_right, number_same}
+use Rattle.bip_defs.proofs.Sets.{among_either, among_left, among_right, number_same, test_is, test_is_not}
 use Rattle.bip_defs.proofs.Slices.{slice_none}
 use Rattle.sp_pattern.specs.Mirror.{AreSymmetric, HasPieces, IsBehindMirror, both_sides, lower, lowered}
-use Rattle.std.proofs.lemmas.Bool.Decides.{nat_tests}
 use Rattle.bip_defs.specs.Matching.{transposed_places}
 use Rattle.bip_defs.specs.Pieces.{AreStarts, piece}
 use Rattle.bip_defs.proofs.Transposed.{turned_length}
@@ -57,20 +56,11 @@ behind_within ps k next lt (inr h) = let is = h.0 in let le = h.1 in (omega (ari
 
 -- Places on and below the diagonal.
 
-pub less_test : (x y : ℕ) → x < y → nat_lt x y ≡ true
-less_test x y lt = grind (arith, nat_tests)
-
-pub test_less : (x y : ℕ) → nat_lt x y ≡ true → x < y
-test_less x y t = grind (arith, nat_tests)
-
-other_test : (x y : ℕ) → y ≤ x → nat_lt x y ≡ false
-other_test x y le = grind (arith, nat_tests)
-
 pub lower_above : (p : Place) → p.0 < p.1 → lower p ≡ (p.1, p.0)
-lower_above p lt = ap (λ b. if b then (p.1, p.0) else p) (less_test p.0 p.1 lt)
+lower_above p lt = ap (λ b. if b then (p.1, p.0) else p) (test_is p.0 p.1 lt)
 
 pub lower_same : (p : Place) → p.1 ≤ p.0 → lower p ≡ p
-lower_same p le = ap (λ b. if b then (p.1, p.0) else p) (other_test p.0 p.1 le)
+lower_same p le = ap (λ b. if b then (p.1, p.0) else p) (test_is_not p.0 p.1 le)
 
 lower_at : (ps : List Place) (k : ℕ) → k < length ps → pair_at (transposed_places (lowered ps)) k ≡ ((lower (get_or ps k (0, 0))).1, (lower (get_or ps k (0, 0))).0)
 lower_at ps k lt =

@@ -1,17 +1,18 @@
 -- A symmetric matrix from its entries on and below the diagonal.
 use Rattle.std.proofs.Common.{◌≡◌, ◌⊎◌, ◌∙◌, ℕ, ◌+◌, ◌-◌, ◌<◌, ◌≤◌, ◌^◌, List, [], ◌∷◌, ◌++◌, length, filter, map, nat_lt, refl, sym, ap, arith, subst, inl, inr, ⊎_elim}
 use Rattle.std.proofs.Math.Decide.{dec_lt}
+use Rattle.std.proofs.lemmas.Bool.Decides.{nat_tests}
 use Rattle.std.proofs.lemmas.List.{map-id}
 use Rattle.bip_defs.specs.Lists.{Among, IsRising, Lists}
 use Rattle.bip_defs.specs.Matrix.{HasPlaces, IsEntry, Matrix, Place, cols, entry_count}
 use Rattle.bip_defs.specs.Pieces.{piece, pieces}
 use Rattle.bip_defs.proofs.Pieces.{length-pieces}
-use Rattle.bip_defs.proofs.Sets.{among_either, among_left, among_map, among_map_back, among_right, below_each_from, below_each_sound, entry_col, filter_complete, filter_sound, lists_same, rising_filter}
+use Rattle.bip_defs.proofs.Sets.{among_either, among_left, among_map, among_map_back, among_right, below_each_from, below_each_sound, entry_col, filter_complete, filter_sound, lists_same, rising_filter, test_is}
 use Rattle.sp_pattern.specs.Mirror.{AreSymmetric, HasPieces, IsLower, both_sides, lower, lowered}
 use Rattle.sp_pattern.specs.Pairs.{AreInside, AreParts}
 use Rattle.sp_pattern.specs.Stored.{AreOrders, stored}
 use Rattle.sp_pattern.proofs.Both.{both_orders, both_places, itself}
-use Rattle.sp_pattern.proofs.MirrorLemmas.{less_test, lower_above, lower_same, test_less}
+use Rattle.sp_pattern.proofs.MirrorLemmas.{lower_above, lower_same}
 use Rattle.sp_pattern.proofs.Shape.{orders_entries}
 
 -- Places on and below the diagonal.
@@ -84,7 +85,7 @@ module _ (cs rs us vs ns nf : List ℕ) (o : AreOrders cs rs us vs) (square : le
   either_lists : (i : ℕ) → i < length cs - 1 → Lists (IsEither i) (both_sides cs rs us vs i)
   either_lists i lt = record {
     rising = rising_joined before (piece cs rs i) (rising_filter (λ j. nat_lt j i) (piece us vs i) row.rising) col.rising
-        (λ x y k l. let e = test_less x i (filter_sound (λ j. nat_lt j i) x (piece us vs i) k).1 in let le = is_lower y i (col.sound y l) in omega (arith, e, le));
+        (λ x y k l. let below = (filter_sound (λ j. nat_lt j i) x (piece us vs i) k).1 in let le = is_lower y i (col.sound y l) in grind (arith, nat_tests, below, le));
     sound = λ x k. ⊎_elim (λ (l : Among x before). inl (row.sound x (filter_sound (λ j. nat_lt j i) x (piece us vs i) l).0)) (λ (l : Among x (piece cs rs i)). inr (col.sound x l)) (among_either x before (piece cs rs i) k);
     complete = complete;
   }
@@ -102,7 +103,7 @@ module _ (cs rs us vs ns nf : List ℕ) (o : AreOrders cs rs us vs) (square : le
       complete x (inl e) = by (dec_lt x i)
         where
           by : Dec (x < i) → Among x (before ++ piece cs rs i)
-          by (yes l) = among_left x before (piece cs rs i) (filter_complete (λ j. nat_lt j i) x (piece us vs i) (row.complete x e) (less_test x i l))
+          by (yes l) = among_left x before (piece cs rs i) (filter_complete (λ j. nat_lt j i) x (piece us vs i) (row.complete x e) (test_is x i l))
           by (no nl) = let le = is_lower i x e in let same : i ≡ x = omega (arith, le, nl) in among_right x before (piece cs rs i) (col.complete x (subst (λ y. IsEntry (stored cs rs us) y i) same (subst (λ y. IsEntry (stored cs rs us) i y) (sym same) e)))
       complete x (inr e) = among_right x before (piece cs rs i) (col.complete x e)
 

@@ -33,14 +33,6 @@ opened_board {s = s} {b = b} rows_are cols_are o long row_is col_is = record {
 
 -- New seats.
 
-more_count : (b : Board) (n count : ℕ) → length (more_seats b n count) ≡ count
-more_count b n zero = refl
-more_count b n (suc count) = ap (λ (k : ℕ). suc k) (more_count b (1 + n) count)
-
-pub new_count : (b : Board) (count : ℕ) → length (new_seats b count) ≡ count
-new_count b zero = refl
-new_count b (suc others) = ap (λ (k : ℕ). suc k) (more_count b 1 others)
-
 more_taken_none : (b : Board) (n count : ℕ) → HaveTakenNone (more_seats b n count)
 more_taken_none b n zero t h = absurd h
 more_taken_none b n (suc count) t (inl e) = ap (λ (u : Seat). u.listed.taken) e

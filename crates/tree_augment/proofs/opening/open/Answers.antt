@@ -6,7 +6,7 @@ use Rattle.forest_core.specs.Stored.{AreColTrees, AreRowTrees}
 use Rattle.flip_words.specs.Board.{AreTrees, IsOpenedFrom}
 use Rattle.flip_words.specs.Seat.{AreAllSeats, HoldsAllSeats, Seat}
 use Rattle.tree_augment.specs.Augmented.{HaveTakenNone}
-use Rattle.tree_augment.proofs.OpeningLemmas.{col_trees_fit, new_count, new_taken_none, opened_board, row_trees_fit}
+use Rattle.tree_augment.proofs.OpeningLemmas.{col_trees_fit, new_taken_none, opened_board, row_trees_fit}
 use Rattle.tree_augment.proofs.opening.open.Goals as goal
 
 pub new-requires-clause-row_tree : goal.new-requires-clause-row_tree
@@ -43,7 +43,7 @@ pub returns-clause-all : goal.returns-clause-all
 returns-clause-all g c = IfOk-weaker c.new.result _ _ (λ b are. subst (HoldsAllSeats b.0) (sym are) (c.new_seats_are_all.ensures.in_any_order b.0 c.args.seats c.requires.seats.0)) c.new.ensures.seats
 
 pub returns-clause-count : goal.returns-clause-count
-returns-clause-count g c = IfOk-weaker c.new.result _ _ (λ b are. ap (λ (ts : List Seat). length ts) are ∙ new_count b.0 c.args.seats) c.new.ensures.seats
+returns-clause-count g c = IfOk-weaker c.new.result _ _ (λ b are. ap (λ (ts : List Seat). length ts) are ∙ c.new_seats_are_all.ensures.many b.0 c.args.seats) c.new.ensures.seats
 
 pub returns-clause-none_taken : goal.returns-clause-none_taken
 returns-clause-none_taken g c = IfOk-weaker c.new.result _ _ (λ b are. subst HaveTakenNone (sym are) (new_taken_none b.0 c.args.seats)) c.new.ensures.seats
