@@ -3,10 +3,9 @@ use Rattle.std.proofs.Common.{◌≡◌, ◌∙◌, ℕ, zero, suc, ◌+◌, ◌
 use Rattle.std.proofs.lemmas.List.{get_or-map, length-map}
 use Rattle.std.specs.List.{list_any}
 use Rattle.bip_defs.specs.Lists.{Among, Lists}
-use Rattle.bip_defs.specs.Marks.{Marks}
 use Rattle.bip_defs.specs.Matching.{IsMatching, IsMaximum, cols_of, rows_of, transposed_places}
 use Rattle.bip_defs.specs.Matrix.{IsEntry, IsTransposeOf, Matrix, Place, column, cols, row_list, transpose, upto, upto_from}
-use Rattle.bip_defs.specs.Parts.{IsHorizontalCol, IsHorizontalRow, IsSquareCol, IsSquareRow, IsVerticalCol, IsVerticalRow}
+use Rattle.bip_defs.specs.Parts.{IsHorizontalCol, IsHorizontalRow, IsSquareCol, IsSquareRow, IsVerticalCol, IsVerticalRow, MarkHorizontalCols, MarkHorizontalRows, MarkVerticalCols, MarkVerticalRows}
 use Rattle.bip_defs.proofs.Sets.{among_map, among_test, entry_col, filter_lists, lists_same, upto_length}
 
 -- The columns of a row.
@@ -100,11 +99,36 @@ turned_vertical_col a b c t h = horizontal_row_turned b a c (transpose_back a b 
 pub turned_horizontal_row : (a b : Matrix) (r : ℕ) → IsTransposeOf a b → IsVerticalCol b r → IsHorizontalRow a r
 turned_horizontal_row a b r t v = vertical_col_turned b a r (transpose_back a b t) v
 
--- marks of the transpose's horizontal columns, as marks of the vertical rows
-pub turned_marks : (a : Matrix) (marks : List Bool) → Marks (cols (transpose a)) (IsHorizontalCol (transpose a)) marks → Marks a.rows (IsVerticalRow a) marks
+-- Marks of a part, as marks of the transpose's part.
+
+pub turned_marks : (a : Matrix) (marks : List Bool) → MarkHorizontalCols (transpose a) marks → MarkVerticalRows a marks
 turned_marks a marks k = record {
   long = k.long ∙ transpose_cols a;
   exact = λ i lt. (λ h. turned_vertical a (transpose a) i (transpose_is a) ((k.exact i (rw transpose_cols lt)).0 h), λ v. (k.exact i (rw transpose_cols lt)).1 (vertical_turned a (transpose a) i (transpose_is a) v));
+}
+
+pub vertical_marks_turned : (a : Matrix) (marks : List Bool) → MarkVerticalRows a marks → MarkHorizontalCols (transpose a) marks
+vertical_marks_turned a marks k = record {
+  long = k.long ∙ sym (transpose_cols a);
+  exact = λ i lt. (λ h. vertical_turned a (transpose a) i (transpose_is a) ((k.exact i (rw transpose_cols at lt)).0 h), λ v. (k.exact i (rw transpose_cols at lt)).1 (turned_vertical a (transpose a) i (transpose_is a) v));
+}
+
+pub horizontal_marks_turned : (a : Matrix) (marks : List Bool) → MarkHorizontalCols a marks → MarkVerticalRows (transpose a) marks
+horizontal_marks_turned a marks k = record {
+  long = k.long;
+  exact = λ i lt. (λ h. horizontal_turned a (transpose a) i (transpose_is a) ((k.exact i lt).0 h), λ v. (k.exact i lt).1 (turned_horizontal a (transpose a) i (transpose_is a) v));
+}
+
+pub vertical_col_marks_turned : (a : Matrix) (marks : List Bool) → MarkVerticalCols a marks → MarkHorizontalRows (transpose a) marks
+vertical_col_marks_turned a marks k = record {
+  long = k.long;
+  exact = λ c lt. (λ h. vertical_col_turned a (transpose a) c (transpose_is a) ((k.exact c lt).0 h), λ h. (k.exact c lt).1 (turned_vertical_col a (transpose a) c (transpose_is a) h));
+}
+
+pub turned_vertical_col_marks : (a : Matrix) (marks : List Bool) → MarkHorizontalRows (transpose a) marks → MarkVerticalCols a marks
+turned_vertical_col_marks a marks k = record {
+  long = k.long;
+  exact = λ c lt. (λ h. turned_vertical_col a (transpose a) c (transpose_is a) ((k.exact c lt).0 h), λ v. (k.exact c lt).1 (vertical_col_turned a (transpose a) c (transpose_is a) v));
 }
 
 pub square_row_turned : (a b : Matrix) (r : ℕ) → IsTransposeOf a b → IsSquareRow a r → IsSquareCol b r

@@ -1,6 +1,7 @@
 -- The coarse parts of Dulmage and Mendelsohn: horizontal, vertical, square.
-use Rattle.std.specs.Prelude.{ℕ, ◌<◌, List}
+use Rattle.std.specs.Prelude.{ℕ, ◌<◌, Bool, List}
 use Rattle.bip_defs.specs.Lists.{Among, Lists}
+use Rattle.bip_defs.specs.Marks.{Marks}
 use Rattle.bip_defs.specs.Matching.{IsMaximum, cols_of, rows_of}
 use Rattle.bip_defs.specs.Matrix.{IsEntry, Matrix, Place, cols}
 
@@ -26,6 +27,19 @@ IsSquareRow a r = (r < a.rows) × (¬ IsHorizontalRow a r) × (¬ IsVerticalRow 
 
 abbrev pub IsSquareCol : Matrix → ℕ → Type 0
 IsSquareCol a c = (c < cols a) × (¬ IsHorizontalCol a c) × (¬ IsVerticalCol a c)
+
+-- of each column, or of each row, whether it is in the part
+abbrev pub MarkHorizontalCols : Matrix → List Bool → Type 0
+MarkHorizontalCols a marks = Marks (cols a) (IsHorizontalCol a) marks
+
+abbrev pub MarkHorizontalRows : Matrix → List Bool → Type 0
+MarkHorizontalRows a marks = Marks a.rows (IsHorizontalRow a) marks
+
+abbrev pub MarkVerticalRows : Matrix → List Bool → Type 0
+MarkVerticalRows a marks = Marks a.rows (IsVerticalRow a) marks
+
+abbrev pub MarkVerticalCols : Matrix → List Bool → Type 0
+MarkVerticalCols a marks = Marks (cols a) (IsVerticalCol a) marks
 
 -- the six rising lists
 pub record Parts : Type 0 where

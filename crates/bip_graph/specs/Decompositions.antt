@@ -19,6 +19,10 @@ parts_of p = record {
   vertical_cols = p.vc.items;
 }
 
+-- the six lists are the matrix's parts
+abbrev pub HasParts : Matrix → Parts → Type 0
+HasParts a p = coarse.ArePartsOf a (parts_of p)
+
 -- both lists
 abbrev pub components_of : Components → connected.Components
 components_of c = record { horizontal = c.horizontal; vertical = c.vertical }

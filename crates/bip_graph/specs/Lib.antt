@@ -4,5 +4,6 @@ pub mod Decompositions
 pub mod Matching
 pub mod Mates
 pub mod Orders
+pub mod OuterMarks
 pub mod Parents
 pub mod Texts

@@ -1,5 +1,5 @@
 -- What contracts see of a matching, and how two flat arrays store it.
-use Rattle.std.specs.Prelude.{◌≡◌, ◌≢◌, ℕ, zero, suc, ◌<◌, ◌^◌, ◌==◌, if◌then◌else◌, List, [], ◌∷◌, length, slice_index}
+use Rattle.std.specs.Prelude.{◌≡◌, ◌≢◌, ℕ, zero, suc, ◌<◌, ◌^◌, ◌==◌, if◌then◌else◌, List, [], ◌∷◌, length, slice_index, Option, IfNone, IfSome}
 use Rattle.bip_defs.specs.Lists.{Among, AreDistinct, IsRising}
 use Rattle.bip_defs.specs.Matching.{IsMatching, IsMaximum, cols_of, rows_of, transposed_places}
 use Rattle.bip_defs.specs.Matrix.{Matrix, Place, cols}
@@ -27,6 +27,12 @@ pub record IsMatchingOf (a : Matrix) (m : Pairing) : Type 0 where
 pub record IsMaximumOf (a : Matrix) (m : Pairing) : Type 0 where
   pub matching : IsMatchingOf a m
   pub maximum : IsMaximum a m.pairs
+
+-- where the matching is maximum, an answer that has P; else none
+pub record IsIfMaximum (a : Matrix) (m : List Place) {A : Type 0} (P : A → Type 0) (o : Option A) : Type 0 where
+  pub maximum : IfSome o (λ _. IsMaximum a m)
+  pub holds : IfSome o P
+  pub not_maximum : IfNone o (¬ IsMaximum a m)
 
 -- the same matching of the transpose
 abbrev pub transposed : Pairing → Pairing

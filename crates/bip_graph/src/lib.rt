@@ -9,6 +9,7 @@ mod matching;
 mod mates;
 mod opposite;
 mod orders;
+mod outer_marks;
 mod surplus;
 mod trace;
 
@@ -23,5 +24,6 @@ pub use matching::Matching;
 pub use mates::Mates;
 pub use opposite::Opposite;
 pub use orders::{orders_are_block_upper_triangular, square_size_counts_the_square_part};
+pub use outer_marks::OuterMarks;
 pub use surplus::surplus_is_unmatched;
 pub use trace::{Parents, Queue, trace_back};

@@ -3,7 +3,6 @@ pub mod DiagonalLemmas
 pub mod DiagonalOrderLemmas
 pub mod LawLemmas
 pub mod LookLemmas
-pub mod MaximumLemmas
 pub mod PriceLemmas
 pub mod RisingLemmas
 pub mod SetLemmas

@@ -3,23 +3,21 @@
 ghost use Rattle.std.specs.Prelude.{◌≡◌, ◌<◌, ◌^◌, IfErr, IfOk, IfSome, OnErr, length};
 ghost use Rattle.bip_defs.specs.ConnectedComponents.{AreConnectedComponents};
 ghost use Rattle.bip_defs.specs.Matrix.{Matrix};
-ghost use Rattle.bip_defs.specs.Parts.{ArePartsOf};
-ghost use Rattle.bip_graph.specs.Decompositions.{Decomposes, components_of, decomposition_of, parts_of};
+ghost use Rattle.bip_graph.specs.Decompositions.{Decomposes, components_of, decomposition_of};
 ghost use Rattle.bip_graph.specs.Matching.{IsMaximumOf};
+ghost use Rattle.bip_graph.specs.OuterMarks.{AreOuterMarks};
 ghost use Rattle.blocktri.specs.Answers.{AreSizesOf, HasMatrix, HaveFormLengths, Tells};
 ghost use Rattle.blocktri.specs.Causes.{IsRefusal};
 ghost use Rattle.blocktri.specs.OuterComponents.{TellsComponents};
-ghost use Rattle.pothen_fan.specs.OuterMarks.{AreOuterMarks};
 ghost use Rattle.sp_pattern.specs.Columns.{AreColumns, matrix_of};
 
 use crate::maximum::matched;
 use crate::orders::{lengths_add_up, write_block_starts, write_column_order, write_row_order};
 use crate::outer_components::write_components;
 use crate::refusals::Refusal;
-use bip_graph::{Components, Decomposition, Matching, Parts};
-use dm_coarse::{coarse_by_cols, coarse_by_rows, coarse_in_turn, components};
+use bip_graph::{Components, Decomposition, Matching, OuterMarks};
+use dm_coarse::{coarse_by_marks, coarse_in_turn, components};
 use dm_fine::fine;
-use pothen_fan::OuterMarks;
 use sp_ids::OutOfMemory;
 use sp_pattern::{ColumnsError, NumberList, Pattern, check_columns};
 use std::alloc::Global;
@@ -150,7 +148,7 @@ pub fn decomposed(
     ensures { IfOk result (Decomposes pattern.now) }
 {
     let parts = match marks {
-        Some(marks) => parts_by_marks(alloc, pattern, matching, &marks)?,
+        Some(marks) => coarse_by_marks(alloc, pattern, matching, &marks)?,
         None => coarse_in_turn(alloc, pattern, matching)?,
     };
     let blocks = fine(alloc, pattern, matching, &parts)?;
@@ -162,27 +160,6 @@ pub fn decomposed(
         parts,
         blocks,
     })
-}
-
-// The coarse parts, by what the last phase has marked and one search from the other side.
-fn parts_by_marks(
-    alloc: Global,
-    pattern: &Pattern,
-    matching: &Matching,
-    marks: &OuterMarks,
-) -> Result<Parts, OutOfMemory>
-    requires maximum { IsMaximumOf pattern.now matching.now }
-    requires marks { AreOuterMarks pattern.now marks.now }
-    ensures { IfOk result (λ p. ArePartsOf pattern.now (parts_of p)) }
-{
-    match marks {
-        OuterMarks::HorizontalRows(rows) => {
-            coarse_by_rows(alloc, pattern, matching, rows.as_slice())
-        }
-        OuterMarks::VerticalCols(cols) => {
-            coarse_by_cols(alloc, pattern, matching, cols.as_slice())
-        }
-    }
 }
 
 // The sizes of a decomposition, and of its components.

@@ -4,15 +4,15 @@ ghost use Rattle.std.specs.Prelude.{◌≡◌, IfOk, IfSome};
 ghost use Rattle.bip_defs.specs.Marks.{Marks};
 ghost use Rattle.bip_defs.specs.Parts.{IsHorizontalRow};
 ghost use Rattle.bip_graph.specs.Matching.{IsMatchingOf, IsMaximumOf};
+ghost use Rattle.bip_graph.specs.OuterMarks.{AreOuterMarks};
 ghost use Rattle.blocktri.specs.Looks.{IsLook};
-ghost use Rattle.pothen_fan.specs.OuterMarks.{AreOuterMarks};
 ghost use Rattle.sp_pattern.specs.Columns.{AreColumns, matrix_of};
 
 use crate::first_look::{Look, first_look};
 use crate::rising_columns::{RisingColumns, are_rising};
-use bip_graph::{Matching, Opposite, matchings_of_the_transpose};
+use bip_graph::{Matching, Opposite, OuterMarks, matchings_of_the_transpose};
 use karp_sipser::start;
-use pothen_fan::{OuterMarks, complete_from_with_marks, complete_with_marks, phase_from};
+use pothen_fan::{complete_from_with_marks, complete_with_marks, phase_from};
 use sp_ids::OutOfMemory;
 use sp_pattern::{FromRows, NumberList, Pattern, Side};
 use std::alloc::Global;

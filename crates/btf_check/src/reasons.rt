@@ -4,8 +4,7 @@ ghost use Rattle.std.specs.Prelude.{◌↔◌, IfOk, IfSome, IsTrue};
 ghost use Rattle.bip_defs.specs.ConnectedComponents.{AreConnectedComponents};
 ghost use Rattle.bip_defs.specs.Lists.{IsRising};
 ghost use Rattle.bip_defs.specs.Matching.{IsMaximum, cols_of};
-ghost use Rattle.bip_defs.specs.Parts.{ArePartsOf};
-ghost use Rattle.bip_graph.specs.Decompositions.{parts_of};
+ghost use Rattle.bip_graph.specs.Decompositions.{HasParts, parts_of};
 ghost use Rattle.btf_check.specs.ReportParts.{HasOuterParts, HasSizes};
 ghost use Rattle.btf_check.specs.Reasons.{AreOrdersOf, TellsParts};
 ghost use Rattle.btf_text.specs.ReportRead.{orders_in, contents};
@@ -66,7 +65,7 @@ fn tells_components(
     parts: &Parts,
     report: &Report,
 ) -> Result<bool, OutOfMemory>
-    requires { ArePartsOf pattern.now (parts_of parts.now) }
+    requires { HasParts pattern.now parts.now }
     ensures { IfOk result
         (λ b. IsTrue b
         ↔ IfSome (components_in report.now.components) (AreConnectedComponents pattern.now)) }
@@ -88,7 +87,7 @@ fn tells_parts(
     report: &Report,
 ) -> Result<bool, OutOfMemory>
     requires maximum { IsMaximum pattern.now matching.now.pairs }
-    requires parts { ArePartsOf pattern.now (parts_of parts.now) }
+    requires parts { HasParts pattern.now parts.now }
     ensures { IfOk result (λ b. IsTrue b ↔ TellsParts pattern.now (contents report.now)) }
 {
     if !has_sizes(pattern, matching, report) {

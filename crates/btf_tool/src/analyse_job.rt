@@ -1,9 +1,8 @@
 //! The job `analyse`.
 
 ghost use Rattle.std.specs.Prelude.{◌≡◌, ◌||◌, IfOk};
-ghost use Rattle.bip_defs.specs.Parts.{ArePartsOf};
 ghost use Rattle.bip_graph.specs.Answers.{AreOfVersion, IsMaximumOrLeast};
-ghost use Rattle.bip_graph.specs.Decompositions.{Decomposes, parts_of};
+ghost use Rattle.bip_graph.specs.Decompositions.{Decomposes, HasParts};
 ghost use Rattle.btf_text.specs.Reports.{components_in};
 ghost use Rattle.btf_words.specs.Words.{HasWorkers, IsVersion};
 ghost use Rattle.btf_words.specs.declared.jobs.Job.TheVariants.{Analyse};
@@ -123,7 +122,7 @@ fn components_for(
     parts: &Parts,
 ) -> Result<Option<Components>, OutOfMemory>
     requires version { IsVersion version }
-    requires parts { ArePartsOf pattern.now (parts_of parts.now) }
+    requires parts { HasParts pattern.now parts.now }
     ensures { IfOk result (λ c. AreOfVersion pattern.now version (components_in c)) }
 {
     if version == 1 {

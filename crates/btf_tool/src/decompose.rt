@@ -1,18 +1,16 @@
 //! The coarse parts and the decomposition of a matrix that stands.
 
 ghost use Rattle.std.specs.Prelude.{IfOk, IfSome};
-ghost use Rattle.bip_defs.specs.Parts.{ArePartsOf};
-ghost use Rattle.bip_graph.specs.Decompositions.{Decomposes, parts_of};
+ghost use Rattle.bip_graph.specs.Decompositions.{Decomposes, HasParts};
 ghost use Rattle.bip_graph.specs.Matching.{IsMaximumOf};
+ghost use Rattle.bip_graph.specs.OuterMarks.{AreOuterMarks};
 ghost use Rattle.btf_words.specs.Words.{HasWorkers};
-ghost use Rattle.pothen_fan.specs.OuterMarks.{AreOuterMarks};
 
 use crate::engines::matching_for;
-use bip_graph::{Decomposition, Matching, Parts};
+use bip_graph::{Decomposition, Matching, OuterMarks, Parts};
 use btf_words::EngineChoice;
-use dm_coarse::{coarse, coarse_by_cols, coarse_by_rows};
+use dm_coarse::{coarse, coarse_by_marks};
 use dm_fine::fine;
-use pothen_fan::OuterMarks;
 use sp_ids::OutOfMemory;
 use sp_pattern::Pattern;
 use sp_ports::Gate;
@@ -31,7 +29,7 @@ pub(crate) fn matched_parts<R: Threads + Sync, G: Gate>(
 ) -> Result<(Matching, Parts), OutOfMemory>
     requires workers { HasWorkers choice }
     ensures maximum { IfOk result (λ p. IsMaximumOf pattern.now p.0) }
-    ensures parts { IfOk result (λ p. ArePartsOf pattern.now (parts_of p.1)) }
+    ensures parts { IfOk result (λ p. HasParts pattern.now p.1) }
 {
     let (matching, marks) = matching_for(rt, alloc, pattern, choice, gate)?;
     let parts = parts_from(rt, alloc, pattern, &matching, marks)?;
@@ -49,35 +47,11 @@ fn parts_from<R: Threads + Sync>(
 ) -> Result<Parts, OutOfMemory>
     requires maximum { IsMaximumOf pattern.now matching.now }
     requires marks { IfSome marks (AreOuterMarks pattern.now) }
-    ensures { IfOk result (λ p. ArePartsOf pattern.now (parts_of p)) }
+    ensures { IfOk result (HasParts pattern.now) }
 {
     match marks {
-        Some(marks) => parts_by_marks(alloc, pattern, matching, &marks),
+        Some(marks) => coarse_by_marks(alloc, pattern, matching, &marks),
         None => coarse(rt, alloc, pattern, matching),
-    }
-}
-
-/// The coarse parts, from a maximum matching, by what the last phase has marked and one search from
-/// the other side.
-///
-/// Answers `OutOfMemory` where the tables of the search can't be had.
-pub(crate) fn parts_by_marks(
-    alloc: Global,
-    pattern: &Pattern,
-    matching: &Matching,
-    marks: &OuterMarks,
-) -> Result<Parts, OutOfMemory>
-    requires maximum { IsMaximumOf pattern.now matching.now }
-    requires marks { AreOuterMarks pattern.now marks.now }
-    ensures { IfOk result (λ p. ArePartsOf pattern.now (parts_of p)) }
-{
-    match marks {
-        OuterMarks::HorizontalRows(rows) => {
-            coarse_by_rows(alloc, pattern, matching, rows.as_slice())
-        }
-        OuterMarks::VerticalCols(cols) => {
-            coarse_by_cols(alloc, pattern, matching, cols.as_slice())
-        }
     }
 }
 
@@ -91,7 +65,7 @@ pub(crate) fn decompose(
     parts: Parts,
 ) -> Result<Decomposition, OutOfMemory>
     requires maximum { IsMaximumOf pattern.now matching.now }
-    requires parts { ArePartsOf pattern.now (parts_of parts) }
+    requires parts { HasParts pattern.now parts }
     ensures { IfOk result (Decomposes pattern.now) }
 {
     let blocks = fine(alloc, pattern, matching, &parts)?;

@@ -1,20 +1,19 @@
 //! The choice of the search that finds a maximum matching.
 
 ghost use Rattle.std.specs.Prelude.{◌≤◌, IfOk, IfSome};
-ghost use Rattle.bip_defs.specs.Parts.{ArePartsOf};
 ghost use Rattle.bip_graph.specs.Answers.{IsMaximumOrLeast};
-ghost use Rattle.bip_graph.specs.Decompositions.{parts_of};
+ghost use Rattle.bip_graph.specs.Decompositions.{HasParts};
 ghost use Rattle.bip_graph.specs.Matching.{IsMaximumOf};
+ghost use Rattle.bip_graph.specs.OuterMarks.{AreOuterMarks};
 ghost use Rattle.btf_words.specs.Words.{HasWorkers};
-ghost use Rattle.pothen_fan.specs.OuterMarks.{AreOuterMarks};
 ghost use Rattle.sp_ids.specs.Limits.{max_workers};
 
-use bip_graph::{Matching, Parts};
+use bip_graph::{Matching, OuterMarks, Parts};
 use btf_words::{Engine, EngineChoice};
 use hall_witness::plain;
 use karp_sipser::start;
 use least_match::least_by_parts;
-use pothen_fan::{OuterMarks, complete_with_marks};
+use pothen_fan::complete_with_marks;
 use sp_ids::OutOfMemory;
 use sp_pattern::Pattern;
 use sp_ports::Gate;
@@ -101,7 +100,7 @@ pub(crate) fn least_if_asked(
     least: bool,
 ) -> Result<Matching, OutOfMemory>
     requires maximum { IsMaximumOf pattern.now matching }
-    requires parts { ArePartsOf pattern.now (parts_of parts.now) }
+    requires parts { HasParts pattern.now parts.now }
     ensures maximum { IfOk result (IsMaximumOf pattern.now) }
     ensures least { IfOk result (λ m. IsMaximumOrLeast pattern.now least m.pairs) }
 {

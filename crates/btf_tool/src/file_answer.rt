@@ -6,10 +6,10 @@ ghost use Rattle.mm_defs.specs.File.{Reads};
 ghost use Rattle.mm_defs.specs.declared.answers.End.TheVariants.{File};
 ghost use Rattle.btf_tool.specs.FileAnswer.{IsFileAnswer};
 
-use crate::decompose::{decompose, parts_by_marks};
+use crate::decompose::decompose;
 use crate::engines::solve_with_marks;
 use bip_graph::{Components, Decomposition};
-use dm_coarse::components;
+use dm_coarse::{coarse_by_marks, components};
 use mm_defs::{End, Kind, ReadError};
 use mm_reader::{Input, read_matrix};
 use sp_ids::{MAX_INPUT_BYTES, OutOfMemory, Triples};
@@ -73,7 +73,7 @@ fn analysed<R: Threads + Sync>(
     let pattern = Pattern::build(rt, alloc, &triples)?;
     drop(triples);
     let (matching, marks) = solve_with_marks(alloc, &pattern)?;
-    let parts = parts_by_marks(alloc, &pattern, &matching, &marks)?;
+    let parts = coarse_by_marks(alloc, &pattern, &matching, &marks)?;
     let decomposition = decompose(alloc, &pattern, &matching, parts)?;
     let components = components(alloc, &pattern, &decomposition.parts)?;
     Ok(FileAnswer::Report(decomposition, components))

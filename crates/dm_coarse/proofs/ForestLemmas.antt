@@ -5,7 +5,7 @@ use Rattle.bip_defs.specs.Matrix.{Matrix}
 use Rattle.bip_defs.proofs.Connected.{joined_back, joined_on}
 use Rattle.bip_defs.proofs.Sets.{number_same}
 use Rattle.bip_graph.specs.Matching.{none}
-use Rattle.dm_coarse.specs.Forest.{AreJoinedCols, AreParentsJoined, HasNewAnchor, IsAlong, IsForest, IsNode, IsRoot, IsSameForest, IsUnion, LeadsToRoot}
+use Rattle.dm_coarse.specs.Forest.{AreJoinedCols, AreParentsJoined, HasNewAnchor, IsAlong, IsForest, IsNode, IsRoot, IsSameForest, IsUnion, LeadsToRoot, ShareTree}
 
 pub same_forest : (ps : List ℕ) → IsSameForest ps ps
 same_forest ps = record { long = refl; node = λ c n. n; was_node = λ c n. n; along = λ f x. x }
@@ -55,7 +55,7 @@ module _ (ps : List ℕ) (x g : ℕ) (forest : IsForest ps) (node_x : IsNode ps 
   pub moved_forest : IsForest qs
   moved_forest c n = parent c n (number_same c x)
 
-  pub moved_same : ((f : ℕ → ℕ) → IsAlong f qs → f (get_or ps x 0) ≡ f x) → IsSameForest ps qs
+  pub moved_same : ShareTree qs (get_or ps x 0) x → IsSameForest ps qs
   moved_same of_x = record {
     long = long;
     node = moved_node;
@@ -67,7 +67,7 @@ module _ (ps : List ℕ) (x g : ℕ) (forest : IsForest ps) (node_x : IsNode ps 
       along f z c n (inl e) = rw e (of_x f z)
       along f z c n (inr ne) = ap f (sym (there c ne)) ∙ z c (moved_node c n)
 
-  pub moved_along : (f : ℕ → ℕ) → IsAlong f qs → f g ≡ f x
+  pub moved_along : ShareTree qs g x
   moved_along f z = ap f (sym here) ∙ z x (moved_node x node_x)
 
   pub moved_joined : (a : Matrix) → AreParentsJoined a ps → AreJoinedCols a g x → AreParentsJoined a qs
@@ -92,7 +92,7 @@ pub record IsWalking (col at : ℕ) (old ps : List ℕ) : Type 0 where
   pub forest : IsForest ps
   pub same : IsSameForest old ps
   pub roots : (c : ℕ) → IsRoot old c → IsRoot ps c
-  pub along : (f : ℕ → ℕ) → IsAlong f ps → f at ≡ f col
+  pub along : ShareTree ps at col
   pub joined : (a : Matrix) → AreParentsJoined a old → AreParentsJoined a ps × AreJoinedCols a at col
 
 pub walking_start : (col : ℕ) (ps : List ℕ) → IsForest ps → IsNode ps col → IsWalking col col ps ps

@@ -5,14 +5,13 @@ use Rattle.std.proofs.lemmas.List.{get_or_append_left}
 use Rattle.bip_defs.specs.Lists.{Among, AreDistinct, IsMarked}
 use Rattle.bip_defs.specs.Marks.{Marks}
 use Rattle.bip_defs.specs.Matching.{IsMatching, IsMaximum, cols_of, rows_of}
-use Rattle.bip_defs.specs.Matrix.{Matrix, Place, cols, transpose}
-use Rattle.bip_defs.specs.Parts.{IsHorizontalCol, IsHorizontalRow, IsVerticalCol}
+use Rattle.bip_defs.specs.Matrix.{Matrix, Place, cols}
+use Rattle.bip_defs.specs.Parts.{IsHorizontalCol, IsHorizontalRow, MarkHorizontalRows}
 use Rattle.bip_defs.specs.Walks.{IsLed, stay}
 use Rattle.bip_defs.proofs.Exchange.{adds_pair, drops_pair}
 use Rattle.bip_defs.proofs.Full.{few_below}
 use Rattle.bip_defs.proofs.Reaching.{led_horizontal, same_size_maximum, walk_on}
 use Rattle.bip_defs.proofs.Sets.{Drops, col_among, col_pair, drops_cols, drops_gone, drops_kept, drops_length, drops_only, drops_rows, entry_col, number_among, number_same, one_col, row_pair, taken}
-use Rattle.bip_defs.proofs.Transposed.{transpose_is, turned_vertical_col, vertical_col_turned}
 
 -- n, which misses the column, is turned into m row by row: the rows that were turned have their mates of m
 record IsTurned (a : Matrix) (m n : List Place) (c : ℕ) (rs : List ℕ) : Type 0 where
@@ -65,7 +64,7 @@ mate_led a m r c max h p = let (s, below, free, walk) = horizontal_led a m h.0 m
 
 -- What marks of the horizontal rows tell of a column.
 
-pub mate_tells : (a : Matrix) (m : List Place) (marks : List Bool) (r c : ℕ) → IsMaximum a m → Marks a.rows (IsHorizontalRow a) marks → Among (r, c) m → IsMarked marks r ↔ IsHorizontalCol a c
+pub mate_tells : (a : Matrix) (m : List Place) (marks : List Bool) (r c : ℕ) → IsMaximum a m → MarkHorizontalRows a marks → Among (r, c) m → IsMarked marks r ↔ IsHorizontalCol a c
 mate_tells a m marks r c max k p = let e = max.matching.entries r c p in (λ h. mate_led a m r c max ((k.exact r e.0).0 h) p, λ h. (k.exact r e.0).1 (c, h, e))
 
 pub unmatched_tells : (a : Matrix) (m : List Place) (c : ℕ) → IsMaximum a m → c < cols a → ¬ Among c (cols_of m) → IsTrue true ↔ IsHorizontalCol a c
@@ -84,10 +83,3 @@ marks_last P n marks b k tells = record { long = let e = k.long in omega (arith,
         let below : i < n = omega arith in
         let same = get_or_append_left marks (b ∷ []) false i (let long = k.long in omega arith) in
         (λ h. (k.exact i below).0 (sym same ∙ h), λ h. same ∙ (k.exact i below).1 h)) (number_same i n)
-
--- vertical columns are the horizontal rows of the transpose
-pub vertical_marks_turned : (a : Matrix) (marks : List Bool) → Marks (cols a) (IsVerticalCol a) marks → Marks (cols a) (IsHorizontalRow (transpose a)) marks
-vertical_marks_turned a marks k = record {
-  long = k.long;
-  exact = λ c lt. (λ h. vertical_col_turned a (transpose a) c (transpose_is a) ((k.exact c lt).0 h), λ h. (k.exact c lt).1 (turned_vertical_col a (transpose a) c (transpose_is a) h));
-}

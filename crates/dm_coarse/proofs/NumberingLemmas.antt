@@ -11,7 +11,7 @@ use Rattle.bip_defs.proofs.Connected.{joined_back, joined_on}
 use Rattle.bip_defs.proofs.Full.{few_below}
 use Rattle.bip_defs.proofs.Sets.{among_at, below_each_sound, number_among, number_same, place_among, rising_distinct, rising_last}
 use Rattle.bip_graph.specs.Matching.{none}
-use Rattle.dm_coarse.specs.Forest.{AreAnchorsJoined, AreJoinedCols, AreParentsJoined, HasNewAnchor, IsAlong, IsAnchored, IsForest, IsJoinedRow, IsNode, IsRoot, IsSameForest, LeadsToRoot}
+use Rattle.dm_coarse.specs.Forest.{AreAnchorsJoined, AreJoinedCols, AreParentsJoined, HasAnchor, HasNewAnchor, IsAlong, IsAnchored, IsForest, IsJoinedRow, IsNode, IsRoot, IsSameForest, LeadsToRoot, ShareTree}
 use Rattle.dm_coarse.specs.Numbering.{AreColNumbers, AreComponents, AreNumbers, AreNumbersOfRows, AreTrees, HasOwnTrees, IsOfRoot, Keeps}
 use Rattle.dm_coarse.proofs.ForestLemmas.{root_number, same_forest, same_forests}
 
@@ -97,7 +97,7 @@ pub record IsJoining (a : Matrix) (col root at : ℕ) (list ps0 anchors0 ps anch
   pub trees : AreTrees a ps anchors
   pub keeps : Keeps ps0 anchors0 ps anchors
   pub is_root : IsRoot ps root
-  pub along : (f : ℕ → ℕ) → IsAlong f ps → f root ≡ f col
+  pub along : ShareTree ps root col
   pub joined : AreJoinedCols a root col
   pub done : (i : ℕ) → i < at → IsAnchored ps anchors (get_or list i 0) col
 
@@ -124,7 +124,7 @@ joining_start a col root list ps ps2 anchors t x = record {
   done = λ i lt. absurd (omega (arith, lt));
 }
 
-module _ (a : Matrix) (col root at row low : ℕ) (list ps0 anchors0 ps anchors ps2 anchors2 : List ℕ) (x : IsJoining a col root at list ps0 anchors0 ps anchors) (h : IsHorizontalCol a col) (entry : IsEntry a row col) (is : row ≡ get_or list at 0) (low_root : IsRoot ps2 low) (forest2 : IsForest ps2) (same : IsSameForest ps ps2) (new : HasNewAnchor anchors row low anchors2) (along : (f : ℕ → ℕ) → IsAlong f ps2 → f low ≡ f root) (before : get_or anchors row 0 ≢ none → (f : ℕ → ℕ) → IsAlong f ps2 → f low ≡ f (get_or anchors row 0)) (joined : (b : Matrix) → AreParentsJoined b ps → AreAnchorsJoined b anchors → IsJoinedRow b root row → AreParentsJoined b ps2 × IsJoinedRow b low row) where
+module _ (a : Matrix) (col root at row low : ℕ) (list ps0 anchors0 ps anchors ps2 anchors2 : List ℕ) (x : IsJoining a col root at list ps0 anchors0 ps anchors) (h : IsHorizontalCol a col) (entry : IsEntry a row col) (is : row ≡ get_or list at 0) (low_root : IsRoot ps2 low) (forest2 : IsForest ps2) (same : IsSameForest ps ps2) (new : HasNewAnchor anchors row low anchors2) (along : ShareTree ps2 low root) (before : HasAnchor anchors row → ShareTree ps2 low (get_or anchors row 0)) (joined : (b : Matrix) → AreParentsJoined b ps → AreAnchorsJoined b anchors → IsJoinedRow b root row → AreParentsJoined b ps2 × IsJoinedRow b low row) where
   t : AreTrees a ps anchors
   t = x.trees
 

@@ -1,20 +1,20 @@
 -- Rows of a side one after another, each in its part.
 use Rattle.std.proofs.Common.{Result, Ok, Err, IfOk, Option, Some, None, Vec, Global, ◌≡◌, ◌∙◌, true≢false, ℕ, ◌+◌, ◌<◌, ◌≤◌, Bool, true, false, List, [], ◌∷◌, ◌++◌, map, get_or, sym, ap, subst, inl, ⊎_elim, arith}
 use Rattle.std.proofs.Math.Decide.{dec_lt}
-use Rattle.std.specs.Prelude.{IfNone, IfSome}
 use Rattle.std.proofs.lemmas.List.{map-append, map-id}
 use Rattle.bip_defs.specs.Lists.{Among, AreDistinct, Lists}
 use Rattle.bip_defs.specs.Marks.{Marks}
 use Rattle.bip_defs.specs.Matching.{IsMatching, IsMaximum, cols_of, rows_of, transposed_places}
 use Rattle.bip_defs.specs.Matrix.{Matrix, Place, cols, column, transpose}
-use Rattle.bip_defs.specs.Parts.{IsHorizontalCol, IsHorizontalRow, IsSquareCol, IsSquareRow, IsVerticalCol, IsVerticalRow}
+use Rattle.bip_defs.specs.Parts.{ArePartsOf, IsHorizontalCol, IsHorizontalRow, IsSquareCol, IsSquareRow, IsVerticalCol, IsVerticalRow}
 use Rattle.bip_defs.proofs.Counts.{horizontal_row_in_range}
 use Rattle.bip_defs.proofs.Sets.{among_last, among_left, among_right, entry_col, lists_same, number_among, number_same, rising_last}
 use Rattle.bip_defs.proofs.Square.{horizontal_mate, rows_apart}
-use Rattle.bip_defs.proofs.Transposed.{horizontal_turned, square_col_turned, square_row_turned, transpose_back, transpose_cols, transpose_is, turned_horizontal, turned_marks, turned_maximum, turned_twice, turned_vertical, turned_vertical_col, vertical_col_turned, vertical_turned}
-use Rattle.bip_graph.specs.Matching.{IsMatchingOf, Pairing}
-use Rattle.dm_coarse.specs.Searches.{AreMarksIfMaximum}
-use Rattle.dm_coarse.specs.Split.{AreColsByPart, AreKnown, AreRowsByPart}
+use Rattle.bip_defs.proofs.Transposed.{horizontal_marks_turned, horizontal_turned, square_col_turned, square_row_turned, transpose_back, transpose_is, turned_horizontal, turned_marks, turned_maximum, turned_twice, turned_vertical_col, vertical_col_turned, vertical_marks_turned}
+use Rattle.bip_graph.specs.Matching.{IsMatchingOf, IsMaximumOf, Pairing, transposed}
+use Rattle.dm_coarse.specs.Searches.{AreColsIfMaximum, AreRowsIfMaximum}
+use Rattle.dm_coarse.specs.Split.{AreKnown, AreRowsByPart}
+use Rattle.dm_coarse.specs.declared.split.ByPart.{ByPart}
 
 -- The numbers below a bound that have P, as the bound grows.
 
@@ -106,35 +106,23 @@ more_vertical f a n x hs ss vs hs2 ss2 vs2 e p s i j k =
     (subst (λ z. IsSplit a (n + 1) (map f hs) z (map f vs2)) (sym (ap (map f) j))
     (subst (λ z. IsSplit a (n + 1) (map f hs) (map f ss) z) (sym (ap (map f) k ∙ number_last f vs x n e)) (split_vertical a n (map f hs) (map f ss) (map f vs) (subst (IsVerticalRow a) e p) s)))
 
-pub split_end : (a : Matrix) (n : ℕ) (hs ss vs : List ℕ) → a.rows ≤ n → IsSplit a n hs ss vs → AreRowsByPart a hs ss vs
-split_end a n hs ss vs le s = record {
-  horizontal = all_below (IsHorizontalRow a) n hs (λ x h. let lt = horizontal_row_in_range a x h in omega arith) s.horizontal;
-  square = all_below (IsSquareRow a) n ss (λ x h. let lt = h.0 in omega arith) s.square;
-  vertical = all_below (IsVerticalRow a) n vs (λ x h. let lt = h.0 in omega arith) s.vertical;
+pub split_end : {F : Type 0} (number : F → ℕ) (a : Matrix) (n : ℕ) (s : ByPart F) → a.rows ≤ n → IsSplit a n (map number s.horizontal.items) (map number s.square.items) (map number s.vertical.items) → AreRowsByPart number a s
+split_end number a n s le k = record {
+  horizontal = all_below (IsHorizontalRow a) n (map number s.horizontal.items) (λ x h. let lt = horizontal_row_in_range a x h in omega arith) k.horizontal;
+  square = all_below (IsSquareRow a) n (map number s.square.items) (λ x h. let lt = h.0 in omega arith) k.square;
+  vertical = all_below (IsVerticalRow a) n (map number s.vertical.items) (λ x h. let lt = h.0 in omega arith) k.vertical;
 }
 
 -- The transpose.
 
-marks_turned : (a : Matrix) (marks : List Bool) → Marks a.rows (IsVerticalRow a) marks → Marks (cols (transpose a)) (IsHorizontalCol (transpose a)) marks
-marks_turned a marks k = record {
-  long = k.long ∙ sym (transpose_cols a);
-  exact = λ i lt. (λ h. vertical_turned a (transpose a) i (transpose_is a) ((k.exact i (rw transpose_cols at lt)).0 h), λ v. (k.exact i (rw transpose_cols at lt)).1 (turned_vertical a (transpose a) i (transpose_is a) v));
-}
-
-col_marks_turned : (a : Matrix) (marks : List Bool) → Marks (cols a) (IsHorizontalCol a) marks → Marks (cols a) (IsVerticalRow (transpose a)) marks
-col_marks_turned a marks k = record {
-  long = k.long;
-  exact = λ i lt. (λ h. horizontal_turned a (transpose a) i (transpose_is a) ((k.exact i lt).0 h), λ v. (k.exact i lt).1 (turned_horizontal a (transpose a) i (transpose_is a) v));
-}
-
-pub known_turned : (a : Matrix) (hcs vrs : List Bool) → AreKnown a hcs vrs → AreKnown (transpose a) vrs hcs
-known_turned a hcs vrs k = record { horizontal = marks_turned a vrs k.vertical; vertical = col_marks_turned a hcs k.horizontal }
-
-horizontal_cols_lists : (a : Matrix) (xs : List ℕ) → Lists (IsVerticalRow (transpose a)) xs → Lists (IsHorizontalCol a) xs
-horizontal_cols_lists a xs l = lists_same (IsVerticalRow (transpose a)) (IsHorizontalCol a) xs (λ c k. turned_horizontal a (transpose a) c (transpose_is a) k) (λ c k. horizontal_turned a (transpose a) c (transpose_is a) k) l
+pub known_turned : (a : Matrix) (m : Pairing) (hcs vrs : List Bool) → IsMaximumOf (transpose a) (transposed m) → AreKnown a m hcs vrs → AreKnown (transpose a) (transposed m) vrs hcs
+known_turned a m hcs vrs max k = record { maximum = max; horizontal = vertical_marks_turned a vrs k.vertical; vertical = horizontal_marks_turned a hcs k.horizontal }
 
 square_cols_lists : (a : Matrix) (xs : List ℕ) → Lists (IsSquareRow (transpose a)) xs → Lists (IsSquareCol a) xs
 square_cols_lists a xs l = lists_same (IsSquareRow (transpose a)) (IsSquareCol a) xs (λ c k. square_row_turned (transpose a) a c (transpose_back a (transpose a) (transpose_is a)) k) (λ c k. square_col_turned a (transpose a) c (transpose_is a) k) l
+
+horizontal_cols_lists : (a : Matrix) (xs : List ℕ) → Lists (IsVerticalRow (transpose a)) xs → Lists (IsHorizontalCol a) xs
+horizontal_cols_lists a xs l = lists_same (IsVerticalRow (transpose a)) (IsHorizontalCol a) xs (λ c k. turned_horizontal a (transpose a) c (transpose_is a) k) (λ c k. horizontal_turned a (transpose a) c (transpose_is a) k) l
 
 vertical_cols_lists : (a : Matrix) (xs : List ℕ) → Lists (IsHorizontalRow (transpose a)) xs → Lists (IsVerticalCol a) xs
 vertical_cols_lists a xs l = lists_same (IsHorizontalRow (transpose a)) (IsVerticalCol a) xs (λ c k. turned_vertical_col a (transpose a) c (transpose_is a) k) (λ c k. vertical_col_turned a (transpose a) c (transpose_is a) k) l
@@ -142,12 +130,15 @@ vertical_cols_lists a xs l = lists_same (IsHorizontalRow (transpose a)) (IsVerti
 plain_lists : (P : ℕ → Type 0) (xs : List ℕ) → Lists P (map (λ (x : ℕ). x) xs) → Lists P xs
 plain_lists P xs l = subst (Lists P) (map-id xs) l
 
--- the rows of each part of the transpose are the columns of the part opposite
-pub cols_by_part : (a : Matrix) (hs ss vs : List ℕ) → AreRowsByPart (transpose a) (map (λ (x : ℕ). x) hs) (map (λ (x : ℕ). x) ss) (map (λ (x : ℕ). x) vs) → AreColsByPart a vs ss hs
-cols_by_part a hs ss vs s = record {
-  horizontal = horizontal_cols_lists a vs (plain_lists (IsVerticalRow (transpose a)) vs s.vertical);
-  square = square_cols_lists a ss (plain_lists (IsSquareRow (transpose a)) ss s.square);
-  vertical = vertical_cols_lists a hs (plain_lists (IsHorizontalRow (transpose a)) hs s.horizontal);
+-- the columns of each part are the rows of the transpose's part opposite
+pub parts_from : (a : Matrix) (rows cols : ByPart ℕ) → AreRowsByPart (λ (x : ℕ). x) a rows → AreRowsByPart (λ (x : ℕ). x) (transpose a) cols → ArePartsOf a (record { horizontal_rows = rows.horizontal.items; horizontal_cols = cols.vertical.items; square_rows = rows.square.items; square_cols = cols.square.items; vertical_rows = rows.vertical.items; vertical_cols = cols.horizontal.items })
+parts_from a rows cols r c = record {
+  horizontal_rows = plain_lists (IsHorizontalRow a) rows.horizontal.items r.horizontal;
+  horizontal_cols = horizontal_cols_lists a cols.vertical.items (plain_lists (IsVerticalRow (transpose a)) cols.vertical.items c.vertical);
+  square_rows = plain_lists (IsSquareRow a) rows.square.items r.square;
+  square_cols = square_cols_lists a cols.square.items (plain_lists (IsSquareRow (transpose a)) cols.square.items c.square);
+  vertical_rows = plain_lists (IsVerticalRow a) rows.vertical.items r.vertical;
+  vertical_cols = vertical_cols_lists a cols.horizontal.items (plain_lists (IsHorizontalRow (transpose a)) cols.horizontal.items c.horizontal);
 }
 
 -- What nothing refutes.
@@ -178,13 +169,9 @@ known a m rows sizes nn = record { rows = rows; cols = sizes; matching = matchin
 maximum_back : (a : Matrix) (m : List Place) → IsMaximum (transpose a) (transposed_places m) → IsMaximum a m
 maximum_back a m max = subst (IsMaximum a) (turned_twice m) (turned_maximum (transpose a) a (transposed_places m) (transpose_back a (transpose a) (transpose_is a)) max)
 
--- What a search told, put together.
+-- What a search over the transpose told.
 
-pub cols_told : {E : Type 0} (a : Matrix) (m : List Place) (r : Result (Option (Vec Bool Global)) E) → IfOk r (λ o. IfSome o (λ v. IsMaximum a m)) → IfOk r (λ o. IfSome o (λ v. Marks (cols a) (IsHorizontalCol a) v.items)) → IfOk r (λ o. IfNone o (¬ IsMaximum a m)) → IfOk r (AreMarksIfMaximum a m (cols a) (IsHorizontalCol a))
-cols_told a m (Ok o) max marks none = record { maximum = max; marks = marks; not_maximum = none }
-cols_told a m (Err e) max marks none = tt
-
-pub rows_told : {E : Type 0} (a : Matrix) (m : List Place) (r : Result (Option (Vec Bool Global)) E) → IfOk r (λ o. IfSome o (λ v. IsMaximum (transpose a) (transposed_places m))) → IfOk r (λ o. IfSome o (λ v. Marks (cols (transpose a)) (IsHorizontalCol (transpose a)) v.items)) → IfOk r (λ o. IfNone o (¬ IsMaximum (transpose a) (transposed_places m))) → IfOk r (AreMarksIfMaximum a m a.rows (IsVerticalRow a))
-rows_told a m (Ok (Some v)) max marks none = record { maximum = maximum_back a m max; marks = turned_marks a v.items marks; not_maximum = tt }
-rows_told a m (Ok None) max marks none = record { maximum = tt; marks = tt; not_maximum = λ k. none (turned_maximum a (transpose a) m (transpose_is a) k) }
-rows_told a m (Err e) max marks none = tt
+pub rows_told : {E : Type 0} (a : Matrix) (m : Pairing) (r : Result (Option (Vec Bool Global)) E) → IfOk r (AreColsIfMaximum (transpose a) (transposed m)) → IfOk r (AreRowsIfMaximum a m)
+rows_told a m (Ok (Some v)) k = record { maximum = maximum_back a m.pairs k.maximum; holds = turned_marks a v.items k.holds; not_maximum = tt }
+rows_told a m (Ok None) k = record { maximum = tt; holds = tt; not_maximum = λ max. k.not_maximum (turned_maximum a (transpose a) m.pairs (transpose_is a) max) }
+rows_told a m (Err e) k = tt

@@ -22,6 +22,10 @@ IsForest parents = (c : ℕ) → IsNode parents c
 abbrev pub IsAlong : (ℕ → ℕ) → List ℕ → Type 0
 IsAlong f parents = (c : ℕ) → IsNode parents c → f (slice_index parents c) ≡ f c
 
+-- the two columns share a tree
+abbrev pub ShareTree : List ℕ → ℕ → ℕ → Type 0
+ShareTree parents c d = (f : ℕ → ℕ) → IsAlong f parents → f c ≡ f d
+
 -- the same columns have parents, and whoever shared a tree still does
 pub record IsSameForest (old new : List ℕ) : Type 0 where
   pub long : length new ≡ length old
@@ -29,9 +33,13 @@ pub record IsSameForest (old new : List ℕ) : Type 0 where
   pub was_node : (c : ℕ) → IsNode new c → IsNode old c
   pub along : (f : ℕ → ℕ) → IsAlong f new → IsAlong f old
 
+-- the row has an anchor
+abbrev pub HasAnchor : List ℕ → ℕ → Type 0
+HasAnchor anchors r = slice_index anchors r ≢ none
+
 -- each row that has an anchor has it in the forest
 abbrev pub AreAnchors : List ℕ → List ℕ → Type 0
-AreAnchors parents anchors = (r : ℕ) → r < length anchors → slice_index anchors r ≢ none
+AreAnchors parents anchors = (r : ℕ) → r < length anchors → HasAnchor anchors r
     → IsNode parents (slice_index anchors r)
 
 -- chains of the horizontal part join the two columns
@@ -48,13 +56,12 @@ AreParentsJoined a parents = (c : ℕ) → IsNode parents c → AreJoinedCols a 
 
 -- they join each row with its anchor
 abbrev pub AreAnchorsJoined : Matrix → List ℕ → Type 0
-AreAnchorsJoined a anchors = (r : ℕ) → r < length anchors → slice_index anchors r ≢ none
+AreAnchorsJoined a anchors = (r : ℕ) → r < length anchors → HasAnchor anchors r
     → IsJoinedRow a (slice_index anchors r) r
 
 -- the row has an anchor, in the tree of the column
 abbrev pub IsAnchored : List ℕ → List ℕ → ℕ → ℕ → Type 0
-IsAnchored parents anchors r c = (slice_index anchors r ≢ none)
-    × ((f : ℕ → ℕ) → IsAlong f parents → f (slice_index anchors r) ≡ f c)
+IsAnchored parents anchors r c = HasAnchor anchors r × ShareTree parents (slice_index anchors r) c
 
 -- the row has this anchor now, and the others have those that they had
 pub record HasNewAnchor (old : List ℕ) (row anchor : ℕ) (new : List ℕ) : Type 0 where
@@ -68,7 +75,7 @@ pub record LeadsToRoot (col root : ℕ) (old new : List ℕ) : Type 0 where
   pub forest : IsForest new
   pub same : IsSameForest old new
   pub roots : (c : ℕ) → IsRoot old c → IsRoot new c
-  pub along : (f : ℕ → ℕ) → IsAlong f new → f root ≡ f col
+  pub along : ShareTree new root col
   pub joined : (a : Matrix) → AreParentsJoined a old
       → AreParentsJoined a new × AreJoinedCols a root col
 

@@ -6,7 +6,7 @@ use Rattle.bip_defs.specs.Lists.{Among, IsRising}
 use Rattle.bip_defs.specs.Matrix.{IsEntry, Matrix, cols}
 use Rattle.bip_defs.specs.Parts.{IsHorizontalCol}
 use Rattle.bip_graph.specs.Matching.{none}
-use Rattle.dm_coarse.specs.Forest.{AreAnchors, AreAnchorsJoined, AreJoinedCols, AreParentsJoined, IsAlong, IsAnchored, IsForest, IsNode, IsSameForest}
+use Rattle.dm_coarse.specs.Forest.{AreAnchors, AreAnchorsJoined, AreJoinedCols, AreParentsJoined, HasAnchor, IsAlong, IsAnchored, IsForest, IsNode, IsSameForest}
 
 -- chains join the vertex with the column from which component k was found
 abbrev pub IsOfRoot : Matrix → List ℕ → ℕ → Vertex → Type 0
@@ -76,7 +76,7 @@ pub record AreColNumbers (parents : List ℕ) (count : ℕ) (numbers : List ℕ)
 -- each row has the number of its anchor, and none where it has none
 pub record AreNumbersOfRows (numbers anchors rows : List ℕ) : Type 0 where
   pub long : length rows ≡ length anchors
-  pub row : (r : ℕ) → r < length anchors → slice_index anchors r ≢ none
+  pub row : (r : ℕ) → r < length anchors → HasAnchor anchors r
       → slice_index rows r ≡ slice_index numbers (slice_index anchors r)
   pub none_stays : (r : ℕ) → r < length anchors → slice_index anchors r ≡ none
       → slice_index rows r ≡ none

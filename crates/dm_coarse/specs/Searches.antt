@@ -1,13 +1,14 @@
 -- What a search from one side tells.
-use Rattle.std.specs.Prelude.{ℕ, Bool, List, Option, IfNone, IfSome}
+use Rattle.std.specs.Prelude.{Bool, Option}
 use Rattle.std.specs.Global.{Vec}
-use Rattle.bip_defs.specs.Marks.{Marks}
-use Rattle.bip_defs.specs.Matching.{IsMaximum}
-use Rattle.bip_defs.specs.Matrix.{Matrix, Place}
+use Rattle.bip_defs.specs.Matrix.{Matrix}
+use Rattle.bip_defs.specs.Parts.{MarkHorizontalCols, MarkVerticalRows}
+use Rattle.bip_graph.specs.Matching.{IsIfMaximum, Pairing}
 
--- where the matching is maximum, marks of the numbers below n that have P, else none
-pub record AreMarksIfMaximum (a : Matrix) (m : List Place) (n : ℕ) (P : ℕ → Type 0)
-    (o : Option (Vec Bool)) : Type 0 where
-  pub maximum : IfSome o (λ v. IsMaximum a m)
-  pub marks : IfSome o (λ v. Marks n P v.items)
-  pub not_maximum : IfNone o (¬ IsMaximum a m)
+-- where the matching is maximum, marks of the horizontal columns
+abbrev pub AreColsIfMaximum : Matrix → Pairing → Option (Vec Bool) → Type 0
+AreColsIfMaximum a m o = IsIfMaximum a m.pairs (λ (v : Vec Bool). MarkHorizontalCols a v.items) o
+
+-- and of the vertical rows
+abbrev pub AreRowsIfMaximum : Matrix → Pairing → Option (Vec Bool) → Type 0
+AreRowsIfMaximum a m o = IsIfMaximum a m.pairs (λ (v : Vec Bool). MarkVerticalRows a v.items) o

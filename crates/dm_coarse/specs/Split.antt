@@ -1,9 +1,10 @@
--- Which part a row is in, and the rows and the columns of each part.
-use Rattle.std.specs.Prelude.{ℕ, Bool, List}
+-- Which part a row is in, and the rows of each part.
+use Rattle.std.specs.Prelude.{ℕ, Bool, List, map}
 use Rattle.bip_defs.specs.Lists.{Lists}
-use Rattle.bip_defs.specs.Marks.{Marks}
-use Rattle.bip_defs.specs.Matrix.{Matrix, cols}
-use Rattle.bip_defs.specs.Parts.{IsHorizontalCol, IsHorizontalRow, IsSquareCol, IsSquareRow, IsVerticalCol, IsVerticalRow}
+use Rattle.bip_defs.specs.Matrix.{Matrix}
+use Rattle.bip_defs.specs.Parts.{IsHorizontalRow, IsSquareRow, IsVerticalRow, MarkHorizontalCols, MarkVerticalRows}
+use Rattle.bip_graph.specs.Matching.{IsMaximumOf, Pairing}
+use Rattle.dm_coarse.specs.declared.split.ByPart.{ByPart}
 use Rattle.dm_coarse.specs.declared.split.Part.{Part}
 use Rattle.dm_coarse.specs.declared.split.Part.TheVariants.{Horizontal, Square, Vertical}
 
@@ -12,19 +13,14 @@ IsInPart a r Horizontal = IsHorizontalRow a r
 IsInPart a r Square = IsSquareRow a r
 IsInPart a r Vertical = IsVerticalRow a r
 
--- marks of the horizontal columns and of the vertical rows
-pub record AreKnown (a : Matrix) (hcs vrs : List Bool) : Type 0 where
-  pub horizontal : Marks (cols a) (IsHorizontalCol a) hcs
-  pub vertical : Marks a.rows (IsVerticalRow a) vrs
+-- a maximum matching, and marks of the horizontal columns and of the vertical rows
+pub record AreKnown (a : Matrix) (m : Pairing) (hcs vrs : List Bool) : Type 0 where
+  pub maximum : IsMaximumOf a m
+  pub horizontal : MarkHorizontalCols a hcs
+  pub vertical : MarkVerticalRows a vrs
 
--- the rows of each part
-pub record AreRowsByPart (a : Matrix) (hrs srs vrs : List ℕ) : Type 0 where
-  pub horizontal : Lists (IsHorizontalRow a) hrs
-  pub square : Lists (IsSquareRow a) srs
-  pub vertical : Lists (IsVerticalRow a) vrs
-
--- the columns of each part
-pub record AreColsByPart (a : Matrix) (hcs scs vcs : List ℕ) : Type 0 where
-  pub horizontal : Lists (IsHorizontalCol a) hcs
-  pub square : Lists (IsSquareCol a) scs
-  pub vertical : Lists (IsVerticalCol a) vcs
+-- the rows of each part, by their numbers
+pub record AreRowsByPart {F : Type 0} (number : F → ℕ) (a : Matrix) (s : ByPart F) : Type 0 where
+  pub horizontal : Lists (IsHorizontalRow a) (map number s.horizontal.items)
+  pub square : Lists (IsSquareRow a) (map number s.square.items)
+  pub vertical : Lists (IsVerticalRow a) (map number s.vertical.items)

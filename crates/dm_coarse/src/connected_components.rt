@@ -5,8 +5,8 @@ ghost use Rattle.bip_defs.specs.ConnectedComponents.{AreConnectedComponents, Are
 ghost use Rattle.bip_defs.specs.Blocks.{least_col};
 ghost use Rattle.bip_defs.specs.Lists.{Lists};
 ghost use Rattle.bip_defs.specs.Matrix.{Matrix, cols, upto};
-ghost use Rattle.bip_defs.specs.Parts.{ArePartsOf, IsHorizontalCol, IsVerticalRow};
-ghost use Rattle.bip_graph.specs.Decompositions.{components_of, parts_of};
+ghost use Rattle.bip_defs.specs.Parts.{IsHorizontalCol, IsVerticalRow};
+ghost use Rattle.bip_graph.specs.Decompositions.{HasParts, components_of};
 ghost use Rattle.dm_coarse.specs.Gathered.{AreGathered};
 ghost use Rattle.id_groups.specs.Groups.{block_of};
 
@@ -34,7 +34,7 @@ pub fn components(
     pattern: &Pattern,
     parts: &Parts,
 ) -> Result<Components, OutOfMemory>
-    requires { ArePartsOf pattern.now (parts_of parts.now) }
+    requires { HasParts pattern.now parts.now }
     ensures { IfOk result (λ c. AreConnectedComponents pattern.now (components_of c)) }
 {
     let horizontal = horizontal_components(alloc, pattern, parts)?;
@@ -51,7 +51,7 @@ fn horizontal_components(
     pattern: &Pattern,
     parts: &Parts,
 ) -> Result<Blocks, OutOfMemory>
-    requires { ArePartsOf pattern.now (parts_of parts.now) }
+    requires { HasParts pattern.now parts.now }
     ensures { IfOk result
         (λ b. AreOrderedComponents pattern.now (IsHorizontalVertex pattern.now) least_col b) }
 {
@@ -71,7 +71,7 @@ fn vertical_components(
     pattern: &Pattern,
     parts: &Parts,
 ) -> Result<Blocks, OutOfMemory>
-    requires { ArePartsOf pattern.now (parts_of parts.now) }
+    requires { HasParts pattern.now parts.now }
     ensures { IfOk result
         (λ b. AreOrderedComponents pattern.now (IsVerticalVertex pattern.now) least_row b) }
 {

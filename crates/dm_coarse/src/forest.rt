@@ -1,9 +1,8 @@
 //! A forest of disjoint sets of columns, and the rows that are anchored in it.
 
-ghost use Rattle.std.specs.Prelude.{◌≡◌, ◌≢◌, ◌<◌, ◌≤◌, ℕ, length, slice_index};
+ghost use Rattle.std.specs.Prelude.{◌<◌, length, slice_index};
 ghost use Rattle.bip_defs.specs.Matrix.{Matrix};
-ghost use Rattle.bip_graph.specs.Matching.{none};
-ghost use Rattle.dm_coarse.specs.Forest.{AreAnchors, AreAnchorsJoined, AreParentsJoined, AreJoinedCols, HasNewAnchor, IsAlong, IsForest, IsJoinedRow, IsNode, IsRoot, IsSameForest, IsUnion, LeadsToRoot};
+ghost use Rattle.dm_coarse.specs.Forest.{AreAnchors, AreAnchorsJoined, AreParentsJoined, HasAnchor, HasNewAnchor, IsForest, IsJoinedRow, IsNode, IsRoot, IsSameForest, IsUnion, LeadsToRoot, ShareTree};
 
 /// What stands for no column, and for no component.
 pub const NONE: u32 = u32::MAX;
@@ -19,9 +18,9 @@ pub fn anchor(row: u32, root: u32, anchors: &mut [u32], parents: &mut [u32]) -> 
     ensures forest { IsForest parents.new }
     ensures same { IsSameForest parents.old parents.new }
     ensures anchors { HasNewAnchor anchors.old row result anchors.new }
-    ensures along { (f : ℕ → ℕ) → IsAlong f parents.new → f result ≡ f root }
-    ensures before { slice_index anchors.old row ≢ none
-        → (f : ℕ → ℕ) → IsAlong f parents.new → f result ≡ f (slice_index anchors.old row) }
+    ensures along { ShareTree parents.new result root }
+    ensures before { HasAnchor anchors.old row
+        → ShareTree parents.new result (slice_index anchors.old row) }
     ensures joined { (a : Matrix) → AreParentsJoined a parents.old
         → AreAnchorsJoined a anchors.old → IsJoinedRow a root row
         → AreParentsJoined a parents.new × IsJoinedRow a result row }

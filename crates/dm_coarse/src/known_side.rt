@@ -2,9 +2,8 @@
 
 ghost use Rattle.std.specs.Prelude.{◌<◌, ◌↔◌, IfOk, IsTrue};
 ghost use Rattle.bip_defs.specs.Lists.{Lists};
-ghost use Rattle.bip_defs.specs.Marks.{Marks};
-ghost use Rattle.bip_defs.specs.Matrix.{Matrix, cols};
-ghost use Rattle.bip_defs.specs.Parts.{IsHorizontalCol, IsHorizontalRow};
+ghost use Rattle.bip_defs.specs.Matrix.{cols};
+ghost use Rattle.bip_defs.specs.Parts.{IsHorizontalCol, MarkHorizontalCols, MarkHorizontalRows};
 ghost use Rattle.bip_graph.specs.Matching.{IsMaximumOf};
 
 use bip_graph::{Matching, Opposite};
@@ -24,7 +23,7 @@ pub fn horizontal_cols(
     rows: &[bool],
 ) -> Result<Vec<Col>, OutOfMemory>
     requires maximum { IsMaximumOf pattern.now matching.now }
-    requires rows { Marks (Matrix.rows pattern.now) (IsHorizontalRow pattern.now) rows.now }
+    requires rows { MarkHorizontalRows pattern.now rows.now }
     ensures { IfOk result (λ w. Lists (IsHorizontalCol pattern.now) w.items) }
 {
     let mut columns = Vec::new(alloc);
@@ -46,10 +45,8 @@ pub fn mark_horizontal_cols<F: Opposite, S: Side<F>>(
     rows: &[bool],
 ) -> Result<Vec<bool>, OutOfMemory>
     requires maximum { IsMaximumOf (S.matrix side.now) (F.seen matching.now) }
-    requires rows { Marks (Matrix.rows (S.matrix side.now)) (IsHorizontalRow (S.matrix side.now))
-        rows.now }
-    ensures { IfOk result
-        (λ v. Marks (cols (S.matrix side.now)) (IsHorizontalCol (S.matrix side.now)) v.items) }
+    requires rows { MarkHorizontalRows (S.matrix side.now) rows.now }
+    ensures { IfOk result (λ v. MarkHorizontalCols (S.matrix side.now) v.items) }
 {
     let mut marks = Vec::with_capacity(alloc, side.cols() as usize)?;
     for number in 0..side.cols() {
@@ -66,8 +63,7 @@ fn is_horizontal<F: Opposite, S: Side<F>>(
     col: Col,
 ) -> bool
     requires maximum { IsMaximumOf (S.matrix side.now) (F.seen matching.now) }
-    requires rows { Marks (Matrix.rows (S.matrix side.now)) (IsHorizontalRow (S.matrix side.now))
-        rows.now }
+    requires rows { MarkHorizontalRows (S.matrix side.now) rows.now }
     requires col { col < cols (S.matrix side.now) }
     ensures { IsTrue result ↔ IsHorizontalCol (S.matrix side.now) col }
 {

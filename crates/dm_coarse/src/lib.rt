@@ -9,24 +9,22 @@ mod numbering;
 mod searches;
 mod split;
 
-ghost use Rattle.std.specs.Prelude.{IfNone, IfOk, IfSome};
-ghost use Rattle.bip_defs.specs.Marks.{Marks};
-ghost use Rattle.bip_defs.specs.Matching.{IsMaximum};
-ghost use Rattle.bip_defs.specs.Matrix.{cols};
-ghost use Rattle.bip_defs.specs.Parts.{ArePartsOf, IsHorizontalCol, IsHorizontalRow, IsVerticalCol, IsVerticalRow};
-ghost use Rattle.bip_graph.specs.Decompositions.{parts_of};
-ghost use Rattle.bip_graph.specs.Matching.{IsMatchingOf, IsMaximumOf};
-ghost use Rattle.dm_coarse.specs.Searches.{AreMarksIfMaximum};
+ghost use Rattle.std.specs.Prelude.{IfOk};
+ghost use Rattle.bip_defs.specs.Parts.{MarkHorizontalRows, MarkVerticalCols};
+ghost use Rattle.bip_graph.specs.Decompositions.{HasParts};
+ghost use Rattle.bip_graph.specs.Matching.{IsIfMaximum, IsMatchingOf, IsMaximumOf};
+ghost use Rattle.bip_graph.specs.OuterMarks.{AreOuterMarks};
+ghost use Rattle.dm_coarse.specs.Searches.{AreColsIfMaximum, AreRowsIfMaximum};
 ghost use Rattle.dm_coarse.specs.Split.{AreKnown};
 
 use crate::known_side::mark_horizontal_cols;
 use crate::searches::Matched;
-use crate::split::{split_cols, split_rows};
-use bip_graph::{Matching, Parts, matchings_of_the_transpose};
+use crate::split::split;
+use bip_graph::{Matching, OuterMarks, Parts, matchings_of_the_transpose};
 pub use connected_components::components;
 use hall_witness::reached;
 pub use known_side::horizontal_cols;
-use sp_ids::OutOfMemory;
+use sp_ids::{Col, OutOfMemory, Row};
 use sp_pattern::{FromRows, Pattern};
 use std::alloc::Global;
 use std::thread::Threads;
@@ -49,7 +47,7 @@ pub fn coarse<R: Threads + Sync>(
     matching: &Matching,
 ) -> Result<Parts, OutOfMemory>
     requires maximum { IsMaximumOf pattern.now matching.now }
-    ensures { IfOk result (λ p. ArePartsOf pattern.now (parts_of p)) }
+    ensures { IfOk result (HasParts pattern.now) }
 {
     match coarse_if_maximum(rt, alloc, pattern, matching)? {
         Some(parts) => Ok(parts),
@@ -64,7 +62,7 @@ pub fn coarse_in_turn(
     matching: &Matching,
 ) -> Result<Parts, OutOfMemory>
     requires maximum { IsMaximumOf pattern.now matching.now }
-    ensures { IfOk result (λ p. ArePartsOf pattern.now (parts_of p)) }
+    ensures { IfOk result (HasParts pattern.now) }
 {
     let matched = Matched { pattern, matching };
     let (cols, rows) = matched.marks_in_turn(alloc);
@@ -74,20 +72,43 @@ pub fn coarse_in_turn(
     }
 }
 
-/// [`coarse`], where it is known which rows are horizontal: by one search, from the unmatched rows.
+/// [`coarse`], where the last phase's marks are known: by one search, from the other side.
 ///
-/// The horizontal columns are the unmatched ones and the mates of the horizontal rows. Answers
-/// `OutOfMemory` where 9 bytes a row and 1 a column can't be had, or 4 each for the lists. Work:
-/// each entry is looked at once at most, and each row and column a fixed number of times.
-pub fn coarse_by_rows(
+/// The horizontal columns are the unmatched ones and the mates of the horizontal rows, and the
+/// vertical rows the unmatched ones and the mates of the vertical columns. Answers `OutOfMemory`
+/// where there is none for 9 bytes for each row or column on the side of the marks and 1 for each on
+/// the other, or for 4 each for the lists. Work: each entry is looked at once at most, and each row
+/// and column a fixed number of times.
+pub fn coarse_by_marks(
+    alloc: Global,
+    pattern: &Pattern,
+    matching: &Matching,
+    marks: &OuterMarks,
+) -> Result<Parts, OutOfMemory>
+    requires maximum { IsMaximumOf pattern.now matching.now }
+    requires marks { AreOuterMarks pattern.now marks.now }
+    ensures { IfOk result (HasParts pattern.now) }
+{
+    match marks {
+        OuterMarks::HorizontalRows(rows) => {
+            coarse_by_rows(alloc, pattern, matching, rows.as_slice())
+        }
+        OuterMarks::VerticalCols(cols) => {
+            coarse_by_cols(alloc, pattern, matching, cols.as_slice())
+        }
+    }
+}
+
+// The parts, where it is known which rows are horizontal.
+fn coarse_by_rows(
     alloc: Global,
     pattern: &Pattern,
     matching: &Matching,
     horizontal: &[bool],
 ) -> Result<Parts, OutOfMemory>
     requires maximum { IsMaximumOf pattern.now matching.now }
-    requires rows { Marks pattern.now.rows (IsHorizontalRow pattern.now) horizontal.now }
-    ensures { IfOk result (λ p. ArePartsOf pattern.now (parts_of p)) }
+    requires rows { MarkHorizontalRows pattern.now horizontal.now }
+    ensures { IfOk result (HasParts pattern.now) }
 {
     matchings_of_the_transpose();
     let cols = mark_horizontal_cols(alloc, pattern, matching, horizontal)?;
@@ -95,21 +116,16 @@ pub fn coarse_by_rows(
     parts_by(alloc, pattern, matching, cols.as_slice(), rows.as_slice())
 }
 
-/// [`coarse`], where it is known which columns are vertical: by one search, from the unmatched
-/// columns.
-///
-/// The vertical rows are the unmatched ones and the mates of the vertical columns. Answers
-/// `OutOfMemory` where 9 bytes a column and 1 a row can't be had, or 4 each for the lists. Work: as
-/// [`coarse_by_rows`].
-pub fn coarse_by_cols(
+// The parts, where it is known which columns are vertical.
+fn coarse_by_cols(
     alloc: Global,
     pattern: &Pattern,
     matching: &Matching,
     vertical: &[bool],
 ) -> Result<Parts, OutOfMemory>
     requires maximum { IsMaximumOf pattern.now matching.now }
-    requires cols { Marks (cols pattern.now) (IsVerticalCol pattern.now) vertical.now }
-    ensures { IfOk result (λ p. ArePartsOf pattern.now (parts_of p)) }
+    requires cols { MarkVerticalCols pattern.now vertical.now }
+    ensures { IfOk result (HasParts pattern.now) }
 {
     matchings_of_the_transpose();
     // The vertical columns are the horizontal rows of the transpose.
@@ -131,11 +147,7 @@ pub fn coarse_if_maximum<R: Threads + Sync>(
     matching: &Matching,
 ) -> Result<Option<Parts>, OutOfMemory>
     requires matching { IsMatchingOf pattern.now matching.now }
-    ensures maximum { IfOk result
-        (λ o. IfSome o (λ p. IsMaximum pattern.now matching.now.pairs)) }
-    ensures parts { IfOk result (λ o. IfSome o (λ p. ArePartsOf pattern.now (parts_of p))) }
-    ensures not_maximum { IfOk result
-        (λ o. IfNone o (¬ IsMaximum pattern.now matching.now.pairs)) }
+    ensures { IfOk result (IsIfMaximum pattern.now matching.now.pairs (HasParts pattern.now)) }
 {
     let matched = Matched { pattern, matching };
     let (cols, rows) = matched.marks(rt, alloc);
@@ -152,15 +164,9 @@ fn parts_if_marked(
     vertical: Option<Vec<bool>>,
 ) -> Result<Option<Parts>, OutOfMemory>
     requires matching { IsMatchingOf pattern.now matching.now }
-    requires horizontal { AreMarksIfMaximum pattern.now matching.now.pairs (cols pattern.now)
-        (IsHorizontalCol pattern.now) horizontal }
-    requires vertical { AreMarksIfMaximum pattern.now matching.now.pairs pattern.now.rows
-        (IsVerticalRow pattern.now) vertical }
-    ensures maximum { IfOk result
-        (λ o. IfSome o (λ p. IsMaximum pattern.now matching.now.pairs)) }
-    ensures parts { IfOk result (λ o. IfSome o (λ p. ArePartsOf pattern.now (parts_of p))) }
-    ensures not_maximum { IfOk result
-        (λ o. IfNone o (¬ IsMaximum pattern.now matching.now.pairs)) }
+    requires horizontal { AreColsIfMaximum pattern.now matching.now horizontal }
+    requires vertical { AreRowsIfMaximum pattern.now matching.now vertical }
+    ensures { IfOk result (IsIfMaximum pattern.now matching.now.pairs (HasParts pattern.now)) }
 {
     let Some(cols) = horizontal else {
         return Ok(None);
@@ -180,18 +186,20 @@ fn parts_by(
     horizontal: &[bool],
     vertical: &[bool],
 ) -> Result<Parts, OutOfMemory>
-    requires maximum { IsMaximumOf pattern.now matching.now }
-    requires known { AreKnown pattern.now horizontal.now vertical.now }
-    ensures { IfOk result (λ p. ArePartsOf pattern.now (parts_of p)) }
+    requires { AreKnown pattern.now matching.now horizontal.now vertical.now }
+    ensures { IfOk result (HasParts pattern.now) }
 {
-    let of_rows = split_rows(alloc, pattern, matching, horizontal, vertical)?;
-    let of_cols = split_cols(alloc, pattern, matching, horizontal, vertical)?;
+    matchings_of_the_transpose();
+    let of_rows = split::<Row, Pattern>(alloc, pattern, matching, horizontal, vertical)?;
+    // The horizontal columns are the vertical rows of the transpose.
+    let side = FromRows { pattern };
+    let of_cols = split::<Col, FromRows>(alloc, &side, matching, vertical, horizontal)?;
     Ok(Parts {
         hr: of_rows.horizontal,
-        hc: of_cols.horizontal,
+        hc: of_cols.vertical,
         sr: of_rows.square,
         sc: of_cols.square,
         vr: of_rows.vertical,
-        vc: of_cols.vertical,
+        vc: of_cols.horizontal,
     })
 }

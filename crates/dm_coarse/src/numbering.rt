@@ -1,11 +1,10 @@
 //! The numbers of the connected components of the horizontal part of the matrix that a side sees.
 
-ghost use Rattle.std.specs.Prelude.{◌≡◌, ◌≢◌, ◌⊎◌, ◌<◌, ◌≤◌, ◌^◌, ℕ, length, map, slice_index, IfOk};
+ghost use Rattle.std.specs.Prelude.{◌<◌, ◌^◌, ℕ, length, map, slice_index, IfOk};
 ghost use Rattle.bip_defs.specs.Lists.{Among, Lists};
 ghost use Rattle.bip_defs.specs.Matrix.{IsEntry, Matrix, cols};
 ghost use Rattle.bip_defs.specs.Parts.{IsHorizontalCol};
-ghost use Rattle.bip_graph.specs.Matching.{none};
-ghost use Rattle.dm_coarse.specs.Forest.{IsAnchored, IsForest, IsNode};
+ghost use Rattle.dm_coarse.specs.Forest.{HasAnchor, IsAnchored, IsForest, IsNode};
 ghost use Rattle.dm_coarse.specs.Numbering.{AreColNumbers, AreComponents, AreNumbers, AreNumbersOfRows, AreTrees, HasOwnTrees, Keeps};
 
 use crate::forest::{NONE, anchor, root_of};
@@ -38,8 +37,7 @@ pub fn number_components<F: Id, N: Id, S: Side<F>>(
     side: &S,
     columns: &[N],
 ) -> Result<Numbers, OutOfMemory>
-    requires columns { Lists (IsHorizontalCol (S.matrix side.now)) (map N.number columns.now) }
-    requires few { cols (S.matrix side.now) < 2 ^ 32 }
+    requires { Lists (IsHorizontalCol (S.matrix side.now)) (map N.number columns.now) }
     ensures { IfOk result (λ n. AreNumbers (S.matrix side.now) n.count n.rows.items n.cols.items) }
 {
     let mut rows = vec![in alloc; NONE; side.rows() as usize]?;
@@ -135,7 +133,7 @@ fn number_cols<N: Id>(columns: &[N], parents: &mut [u32]) -> u32
 
 // Gives each row the number of its anchor, in its place.
 fn number_rows(numbers: &[u32], anchors: &mut [u32])
-    requires { (r : ℕ) → r < length anchors.old → slice_index anchors.old r ≢ none
+    requires { (r : ℕ) → r < length anchors.old → HasAnchor anchors.old r
         → slice_index anchors.old r < length numbers.now }
     ensures { AreNumbersOfRows numbers.now anchors.old anchors.new }
 {

@@ -3,8 +3,7 @@
 ghost use Rattle.std.specs.Prelude.{◌≡◌, IfOk};
 ghost use Rattle.bip_defs.specs.Matching.{IsMatching};
 ghost use Rattle.bip_defs.specs.Matrix.{cols};
-ghost use Rattle.bip_defs.specs.Parts.{IsHorizontalCol, IsVerticalRow};
-ghost use Rattle.dm_coarse.specs.Searches.{AreMarksIfMaximum};
+ghost use Rattle.dm_coarse.specs.Searches.{AreColsIfMaximum, AreRowsIfMaximum};
 
 use bip_graph::{Matching, matchings_of_the_transpose};
 use hall_witness::reached_if_maximum;
@@ -35,24 +34,16 @@ impl Matched<'_> {
         Result<Option<Vec<bool>>, OutOfMemory>,
         Result<Option<Vec<bool>>, OutOfMemory>,
     )
-        ensures cols { IfOk result.0
-            (AreMarksIfMaximum self.now.pattern.now self.now.matching.now.pairs
-            (cols self.now.pattern.now) (IsHorizontalCol self.now.pattern.now)) }
-        ensures rows { IfOk result.1
-            (AreMarksIfMaximum self.now.pattern.now self.now.matching.now.pairs
-            self.now.pattern.now.rows (IsVerticalRow self.now.pattern.now)) }
+        ensures cols { IfOk result.0 (AreColsIfMaximum self.now.pattern.now self.now.matching.now) }
+        ensures rows { IfOk result.1 (AreRowsIfMaximum self.now.pattern.now self.now.matching.now) }
     {
         let of_cols = move || -> Result<Option<Vec<bool>>, OutOfMemory>
             ensures { IfOk result
-                (AreMarksIfMaximum self.entry.now.pattern.now self.entry.now.matching.now.pairs
-                (cols self.entry.now.pattern.now)
-                (IsHorizontalCol self.entry.now.pattern.now)) }
+                (AreColsIfMaximum self.entry.now.pattern.now self.entry.now.matching.now) }
         { self.horizontal_cols(alloc) };
         let of_rows = move || -> Result<Option<Vec<bool>>, OutOfMemory>
             ensures { IfOk result
-                (AreMarksIfMaximum self.entry.now.pattern.now self.entry.now.matching.now.pairs
-                self.entry.now.pattern.now.rows
-                (IsVerticalRow self.entry.now.pattern.now)) }
+                (AreRowsIfMaximum self.entry.now.pattern.now self.entry.now.matching.now) }
         { self.vertical_rows(alloc) };
         join(rt, of_cols, of_rows)
     }
@@ -65,30 +56,22 @@ impl Matched<'_> {
         Result<Option<Vec<bool>>, OutOfMemory>,
         Result<Option<Vec<bool>>, OutOfMemory>,
     )
-        ensures cols { IfOk result.0
-            (AreMarksIfMaximum self.now.pattern.now self.now.matching.now.pairs
-            (cols self.now.pattern.now) (IsHorizontalCol self.now.pattern.now)) }
-        ensures rows { IfOk result.1
-            (AreMarksIfMaximum self.now.pattern.now self.now.matching.now.pairs
-            self.now.pattern.now.rows (IsVerticalRow self.now.pattern.now)) }
+        ensures cols { IfOk result.0 (AreColsIfMaximum self.now.pattern.now self.now.matching.now) }
+        ensures rows { IfOk result.1 (AreRowsIfMaximum self.now.pattern.now self.now.matching.now) }
     {
         (self.horizontal_cols(alloc), self.vertical_rows(alloc))
     }
 
     /// Marks the horizontal columns, if the matching is maximum.
     fn horizontal_cols(&self, alloc: Global) -> Result<Option<Vec<bool>>, OutOfMemory>
-        ensures { IfOk result
-            (AreMarksIfMaximum self.now.pattern.now self.now.matching.now.pairs
-            (cols self.now.pattern.now) (IsHorizontalCol self.now.pattern.now)) }
+        ensures { IfOk result (AreColsIfMaximum self.now.pattern.now self.now.matching.now) }
     {
         reached_if_maximum(alloc, self.pattern, self.matching)
     }
 
     /// Marks the vertical rows, if the matching is maximum.
     fn vertical_rows(&self, alloc: Global) -> Result<Option<Vec<bool>>, OutOfMemory>
-        ensures { IfOk result
-            (AreMarksIfMaximum self.now.pattern.now self.now.matching.now.pairs
-            self.now.pattern.now.rows (IsVerticalRow self.now.pattern.now)) }
+        ensures { IfOk result (AreRowsIfMaximum self.now.pattern.now self.now.matching.now) }
     {
         matchings_of_the_transpose();
         let side = FromRows {

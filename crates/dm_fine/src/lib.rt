@@ -9,9 +9,8 @@ mod sources;
 
 ghost use Rattle.std.specs.Prelude.{IfOk};
 ghost use Rattle.bip_defs.specs.Blocks.{AreBlocksOf};
-ghost use Rattle.bip_defs.specs.Parts.{ArePartsOf};
 ghost use Rattle.bip_graph.specs.Matching.{IsMaximumOf};
-ghost use Rattle.bip_graph.specs.Decompositions.{parts_of};
+ghost use Rattle.bip_graph.specs.Decompositions.{HasParts};
 
 use crate::condensation::Condensation;
 use crate::renumbering::by_least_column;
@@ -40,7 +39,7 @@ pub fn fine(
     parts: &Parts,
 ) -> Result<Blocks, OutOfMemory>
     requires maximum { IsMaximumOf pattern.now matching.now }
-    requires parts { ArePartsOf pattern.now (parts_of parts.now) }
+    requires parts { HasParts pattern.now parts.now }
     ensures { IfOk result (λ b. AreBlocksOf pattern.now b) }
 {
     pattern.is_pattern();

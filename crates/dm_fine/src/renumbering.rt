@@ -1,8 +1,7 @@
 //! The components numbered by their least columns.
 
 ghost use Rattle.std.specs.Prelude.{◌<◌, ◌^◌, length, IfOk};
-ghost use Rattle.bip_defs.specs.Parts.{ArePartsOf};
-ghost use Rattle.bip_graph.specs.Decompositions.{parts_of};
+ghost use Rattle.bip_graph.specs.Decompositions.{HasParts};
 ghost use Rattle.bip_graph.specs.Matching.{IsMaximumOf, none};
 ghost use Rattle.dm_fine.specs.Renumbering.{AreNumberedByLeast, AreRenumbered, Gives};
 ghost use Rattle.sp_pattern.specs.Stored.{IsPattern};
@@ -28,7 +27,7 @@ pub fn by_least_column(
 ) -> Result<Components, OutOfMemory>
     requires pattern { IsPattern pattern.now }
     requires maximum { IsMaximumOf pattern.now matching.now }
-    requires parts { ArePartsOf pattern.now (parts_of parts.now) }
+    requires parts { HasParts pattern.now parts.now }
     ensures { IfOk result
         (λ s. AreNumberedByLeast pattern.now matching.now.pairs s.numbers.items s.count) }
 {

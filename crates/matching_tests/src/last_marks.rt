@@ -1,12 +1,13 @@
-//! What the last phase of the engine of Pothen and Fan has marked, and the coarse parts and the
-//! horizontal columns by it, worked out by hand.
+//! What the last phase of the engine of Pothen and Fan has marked, the coarse parts and the horizontal
+//! columns by it, and the horizontal rows by a search, worked out by hand.
 
 ghost use Rattle.bip_graph.specs.Matching.{IsMaximumOf};
-ghost use Rattle.pothen_fan.specs.OuterMarks.{AreOuterMarks};
+ghost use Rattle.bip_graph.specs.OuterMarks.{AreOuterMarks};
 
-use bip_graph::{Matching, Parts};
-use dm_coarse::{coarse_by_cols, coarse_by_rows, horizontal_cols};
-use pothen_fan::{OuterMarks, complete_with_marks};
+use bip_graph::{Matching, OuterMarks, Parts};
+use dm_coarse::{coarse_by_marks, horizontal_cols};
+use horizontal_rows::horizontal_rows;
+use pothen_fan::complete_with_marks;
 use sp_pattern::Pattern;
 use sp_ports::NoGate;
 use std::process::Abort;
@@ -123,29 +124,49 @@ fn has_parts<R: Abort + AllocGlobal>(
     requires marks { AreOuterMarks pattern.now marks.now }
 {
     let name = wanted.name;
-    let parts = match marks {
+    match marks {
         OuterMarks::HorizontalRows(rows) => {
             assert!(rt; !wanted.from_rows, "{name}");
             are_marks(rt, name, rows.as_slice(), wanted.rows, wanted.marked);
             let cols = horizontal_cols(rt.alloc(), pattern, matching, rows.as_slice())?;
             assert!(rt; are(cols.as_slice(), wanted.horizontal.1), "{name}");
-            coarse_by_rows(rt.alloc(), pattern, matching, rows.as_slice())?
         }
         OuterMarks::VerticalCols(cols) => {
             assert!(rt; wanted.from_rows, "{name}");
             are_marks(rt, name, cols.as_slice(), wanted.cols, wanted.marked);
-            coarse_by_cols(rt.alloc(), pattern, matching, cols.as_slice())?
         }
-    };
+    }
+    let parts = coarse_by_marks(rt.alloc(), pattern, matching, marks)?;
     are_parts(rt, wanted, &parts);
     Ok(())
 }
 
-/// The last phase marks what it is to mark, and the parts are as wanted.
+/// The search that takes up the columns in order marks the horizontal rows.
+fn has_rows<R: Abort + AllocGlobal>(
+    rt: &R,
+    wanted: &Marked,
+    pattern: &Pattern,
+    matching: &Matching,
+) -> Result<(), Fail>
+    requires maximum { IsMaximumOf pattern.now matching.now }
+{
+    let rows = horizontal_rows(rt.alloc(), pattern, matching)?;
+    are_marks(
+        rt,
+        wanted.name,
+        rows.as_slice(),
+        wanted.rows,
+        wanted.horizontal.0,
+    );
+    Ok(())
+}
+
+/// The last phase marks what it is to mark, and the rows and parts are as wanted.
 fn marks_all<R: Abort + AllocGlobal + Threads + Sync>(rt: &R, wanted: &Marked) -> Result<(), Fail> {
     let pattern = pattern_of(rt, wanted.rows, wanted.cols, wanted.places)?;
     let no_pairs = matching_of(rt.alloc(), &pattern, &[])?;
     let (matching, marks) = complete_with_marks(rt.alloc(), &pattern, no_pairs)?;
+    has_rows(rt, wanted, &pattern, &matching)?;
     has_parts(rt, wanted, &pattern, &matching, &marks)
 }
 

@@ -1,6 +1,7 @@
 pub mod Advances
 pub mod Batches
 pub mod Forests
+pub mod Growth
 pub mod Layers
 pub mod Search
 pub mod Shortest

@@ -1,13 +1,14 @@
 //! Phases of breadth-first searches from all unmatched columns at once.
 
-ghost use Rattle.std.specs.Prelude.{◌≡◌, ◌⊎◌, ◌↔◌, ℕ, suc, ◌+◌, ◌<◌, ◌≤◌, ◌∷◌, ◌++◌, [], true, length, set, IsTrue, IfOk, IfSome, IfNone};
+ghost use Rattle.std.specs.Prelude.{◌≡◌, ◌↔◌, ℕ, suc, ◌+◌, ◌<◌, ◌≤◌, ◌∷◌, ◌++◌, [], true, length, set, IsTrue, IfOk, IfSome, IfNone};
 ghost use Rattle.bip_defs.specs.Lists.{Among, IsMarked};
-ghost use Rattle.bip_defs.specs.Marks.{IsExplored, Marks};
-ghost use Rattle.bip_defs.specs.Matching.{Covers, IsMaximum, cols_of};
+ghost use Rattle.bip_defs.specs.Marks.{IsExplored};
+ghost use Rattle.bip_defs.specs.Matching.{Covers, cols_of};
 ghost use Rattle.bip_defs.specs.Matrix.{AreEntries, IsEntry, Matrix, cols};
-ghost use Rattle.bip_defs.specs.Parts.{IsHorizontalRow};
+ghost use Rattle.bip_defs.specs.Parts.{MarkHorizontalRows};
 ghost use Rattle.bip_defs.specs.Paths.{Exchanges, IsAugmenting};
 ghost use Rattle.bip_graph.specs.Matching.{IsMatchingOf};
+ghost use Rattle.path_search.specs.Growth.{GrowsUnlessMaximum};
 ghost use Rattle.path_search.specs.Batches.{Follows, HaveRows, numbers_in};
 ghost use Rattle.path_search.specs.Forests.{Extends, HaveNoPath, IsForest, IsLeafOf, LeadOn, Progresses, Spreads, Traces, Visits, reached_at};
 
@@ -465,11 +466,10 @@ impl SearchForest {
 
         // Where the matching hasn't grown it was maximum, and the marked rows are the horizontal
         // rows.
-        ensures maximum { ((F.seen matching.new ≡ F.seen matching.old)
-            × IsMaximum (S.matrix side.now) (F.seen matching.old).pairs)
-            ⊎ (length (F.seen matching.old).pairs < length (F.seen matching.new).pairs) }
+        ensures maximum { GrowsUnlessMaximum (S.matrix side.now) (F.seen matching.old)
+            (F.seen matching.new) }
         ensures marks { length (F.seen matching.new).pairs ≡ length (F.seen matching.old).pairs
-            → Marks (S.matrix side.now).rows (IsHorizontalRow (S.matrix side.now)) self.new.marks }
+            → MarkHorizontalRows (S.matrix side.now) self.new.marks }
     {
         sizes_fit::<F, S>(side);
         self.start(side, matching);

@@ -3,14 +3,14 @@ use Rattle.std.proofs.Common.{◌≡◌, ◌⊎◌, ◌↔◌, ◌∙◌, ℕ, �
 use Rattle.std.proofs.lemmas.List.{length-map}
 use Rattle.std.specs.Bool.{OnFalse, OnTrue}
 use Rattle.bip_defs.specs.Lists.{Among}
-use Rattle.bip_defs.specs.Marks.{AreClosed, IsExplored, Marks}
+use Rattle.bip_defs.specs.Marks.{AreClosed, IsExplored}
 use Rattle.bip_defs.specs.Matching.{Covers, IsMatching, IsMaximum, cols_of, transposed_places}
 use Rattle.bip_defs.specs.Matrix.{Matrix, Place, cols, transpose}
-use Rattle.bip_defs.specs.Parts.{IsHorizontalRow, IsVerticalCol}
+use Rattle.bip_defs.specs.Parts.{MarkHorizontalRows}
 use Rattle.bip_defs.proofs.Closed.{closed_maximum}
 use Rattle.bip_defs.proofs.Full.{matching_few}
 use Rattle.bip_defs.proofs.Sets.{among_last}
-use Rattle.bip_defs.proofs.Transposed.{transpose_back, transpose_is, turned_maximum, turned_twice, turned_vertical_col, vertical_col_turned}
+use Rattle.bip_defs.proofs.Transposed.{transpose_back, transpose_is, turned_maximum, turned_twice}
 use Rattle.bip_graph.specs.Matching.{Pairing}
 use Rattle.pothen_fan.specs.Roots.{HoldRoots, Extends}
 use Rattle.path_search.specs.Search.{Augments, AreLedTo, Fails}
@@ -44,9 +44,9 @@ progress_ends a start m marks roots (inl stays) hold k = inl (stays.0, subst (λ
 
 -- that such rows are the horizontal ones
 abbrev pub AreTold : Matrix → List Place → List Bool → Type 0
-AreTold a m marks = IsMatching a m → length marks ≡ a.rows → AreClosed a m marks → AreLedTo a m marks → ((c : ℕ) → c < cols a → ¬ Among c (cols_of m) → IsExplored a marks c) → Marks a.rows (IsHorizontalRow a) marks
+AreTold a m marks = IsMatching a m → length marks ≡ a.rows → AreClosed a m marks → AreLedTo a m marks → ((c : ℕ) → c < cols a → ¬ Among c (cols_of m) → IsExplored a marks c) → MarkHorizontalRows a marks
 
-pub progress_marks : (a : Matrix) (start m : Pairing) (marks : List Bool) (roots : List ℕ) → AreTold a m.pairs marks → Progress a start m marks roots → HoldRoots a start.pairs roots → IsMatching a m.pairs → length marks ≡ a.rows → length m.pairs ≡ length start.pairs → Marks a.rows (IsHorizontalRow a) marks
+pub progress_marks : (a : Matrix) (start m : Pairing) (marks : List Bool) (roots : List ℕ) → AreTold a m.pairs marks → Progress a start m marks roots → HoldRoots a start.pairs roots → IsMatching a m.pairs → length marks ≡ a.rows → length m.pairs ≡ length start.pairs → MarkHorizontalRows a marks
 progress_marks a start m marks roots told (inr grown) hold k long same = absurd (omega arith)
 progress_marks a start m marks roots told (inl stays) hold k long same = told k long stays.1 stays.2 (all_explored a start m marks roots stays.0 stays.3 hold)
 
@@ -90,10 +90,3 @@ growth_ends a first start m le (inr more) = inr (omega arith)
 pub straight_longer : (a : Matrix) (start m : Pairing) → IsMaximum (transpose a) (transposed_places m.pairs) ⊎ (length (transposed_places start.pairs) < length (transposed_places m.pairs)) → IsMaximum a m.pairs ⊎ (length start.pairs < length m.pairs)
 straight_longer a start m (inl max) = inl (subst (λ (z : List Place). IsMaximum a z) (turned_twice m.pairs) (turned_maximum (transpose a) a (transposed_places m.pairs) (transpose_back a (transpose a) (transpose_is a)) max))
 straight_longer a start m (inr more) = inr (subst₂ (λ n k. n < k) (length-map start.pairs (λ (p : Place). (p.1, p.0))) (length-map m.pairs (λ (p : Place). (p.1, p.0))) more)
-
--- horizontal rows of the transpose are the vertical columns
-pub straight_marks : (a : Matrix) (marks : List Bool) → Marks (cols a) (IsHorizontalRow (transpose a)) marks → Marks (cols a) (IsVerticalCol a) marks
-straight_marks a marks k = record {
-  long = k.long;
-  exact = λ c lt. (λ h. turned_vertical_col a (transpose a) c (transpose_is a) ((k.exact c lt).0 h), λ h. (k.exact c lt).1 (vertical_col_turned a (transpose a) c (transpose_is a) h));
-}

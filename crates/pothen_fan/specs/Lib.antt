@@ -1,3 +1,2 @@
-pub mod OuterMarks
 pub mod Ready
 pub mod Roots

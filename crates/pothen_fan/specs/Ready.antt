@@ -1,5 +1,5 @@
 -- What phases begin with.
-use Rattle.std.specs.Prelude.{◌≡◌, length}
+use Rattle.std.specs.Prelude.{◌≡◌, Bool, List, length, if◌then◌else◌}
 use Rattle.bip_defs.specs.Matrix.{Matrix, cols}
 use Rattle.bip_graph.specs.Matching.{IsMatchingOf, Pairing}
 use Rattle.pothen_fan.specs.Roots.{HoldRoots}
@@ -23,3 +23,7 @@ pub record AreLaid (a : Matrix) (m : Pairing) (p : ShortestPhases) : Type 0 wher
   pub forest_rows : length p.forest.marks ≡ a.rows
   pub forest_cols : p.forest.cols ≡ cols a
   pub layers : AreLayers (cols a) p.layers
+
+-- the marks of the searches of the kind that is next
+abbrev pub marks_of : Phases → List Bool
+marks_of p = if p.breadth_first then p.forest.marks else p.search.marks

@@ -1,13 +1,12 @@
 //! Phases of both kinds, and which one is next.
 
 ghost use Rattle.std.specs.Bool.{OnFalse};
-ghost use Rattle.std.specs.Prelude.{◌≡◌, ◌⊎◌, ◌↔◌, ◌<◌, length, IfOk, IsTrue};
-ghost use Rattle.bip_defs.specs.Marks.{Marks};
-ghost use Rattle.bip_defs.specs.Matching.{Covers, IsMaximum};
-ghost use Rattle.bip_defs.specs.Parts.{IsHorizontalRow};
+ghost use Rattle.std.specs.Prelude.{◌≡◌, ◌↔◌, ◌<◌, length, IfOk, IsTrue};
+ghost use Rattle.bip_defs.specs.Matching.{Covers};
+ghost use Rattle.bip_defs.specs.Parts.{MarkHorizontalRows};
 ghost use Rattle.bip_graph.specs.Matching.{IsMatchingOf, IsMaximumOf};
-ghost use Rattle.pothen_fan.specs.OuterMarks.{marks_of};
-ghost use Rattle.pothen_fan.specs.Ready.{AreReady};
+ghost use Rattle.path_search.specs.Growth.{GrowsUnlessMaximum};
+ghost use Rattle.pothen_fan.specs.Ready.{AreReady, marks_of};
 
 use crate::shortest::complete_by_shortest;
 use crate::sweep::{roots, sweep};
@@ -66,11 +65,10 @@ impl Phases {
 
         // Where the matching hasn't grown it was maximum, and the rows that the phase has marked are
         // the horizontal rows.
-        ensures maximum { ((F.seen matching.new ≡ F.seen matching.old)
-            × IsMaximum (S.matrix side.now) (F.seen matching.old).pairs)
-            ⊎ (length (F.seen matching.old).pairs < length (F.seen matching.new).pairs) }
+        ensures maximum { GrowsUnlessMaximum (S.matrix side.now) (F.seen matching.old)
+            (F.seen matching.new) }
         ensures marks { OnFalse result
-            (Marks (S.matrix side.now).rows (IsHorizontalRow (S.matrix side.now))
+            (MarkHorizontalRows (S.matrix side.now)
             (marks_of self.new)) }
     {
         let before = F::size(matching);
@@ -88,12 +86,11 @@ impl Phases {
         requires ready { AreReady (S.matrix side.now) (F.seen matching.old) self.old }
         ensures ready { AreReady (S.matrix side.now) (F.seen matching.new) self.new }
         ensures covered { Covers (F.seen matching.old).pairs (F.seen matching.new).pairs }
-        ensures maximum { ((F.seen matching.new ≡ F.seen matching.old)
-            × IsMaximum (S.matrix side.now) (F.seen matching.old).pairs)
-            ⊎ (length (F.seen matching.old).pairs < length (F.seen matching.new).pairs) }
+        ensures maximum { GrowsUnlessMaximum (S.matrix side.now) (F.seen matching.old)
+            (F.seen matching.new) }
         ensures kind { self.new.breadth_first ≡ self.old.breadth_first }
         ensures marks { length (F.seen matching.new).pairs ≡ length (F.seen matching.old).pairs
-            → Marks (S.matrix side.now).rows (IsHorizontalRow (S.matrix side.now))
+            → MarkHorizontalRows (S.matrix side.now)
             (marks_of self.new) }
     {
         if self.breadth_first {
@@ -164,7 +161,7 @@ pub fn complete_from_with_marks<F: Opposite, S: Side<F>>(
     ensures maximum { IfOk result (λ p. IsMaximumOf (S.matrix side.now) (F.seen p.0)) }
     ensures covered { IfOk result (λ p. Covers (F.seen matching).pairs (F.seen p.0).pairs) }
     ensures marks { IfOk result (λ p.
-        Marks (S.matrix side.now).rows (IsHorizontalRow (S.matrix side.now)) p.1.items) }
+        MarkHorizontalRows (S.matrix side.now) p.1.items) }
 {
     let mut phases = Phases::new(alloc, side, &matching)?;
     let mut grown = matching;

@@ -30,20 +30,18 @@
 
 mod kinds;
 mod longer;
-mod outer_marks;
 mod shortest;
 mod sweep;
 
 ghost use Rattle.std.specs.Prelude.{◌≡◌, ◌⊎◌, ◌↔◌, ◌+◌, ◌<◌, length, IfOk, OnErr};
 ghost use Rattle.bip_defs.specs.Matching.{Covers, IsMaximum};
 ghost use Rattle.bip_graph.specs.Matching.{IsMatchingOf, IsMaximumOf};
-ghost use Rattle.pothen_fan.specs.OuterMarks.{AreOuterMarks};
+ghost use Rattle.bip_graph.specs.OuterMarks.{AreOuterMarks};
 
 use crate::longer::lengthen_from;
 use crate::sweep::count_roots;
-use bip_graph::{Matching, matchings_of_the_transpose};
+use bip_graph::{Matching, OuterMarks, matchings_of_the_transpose};
 pub use kinds::{complete_from, complete_from_with_marks};
-pub use outer_marks::OuterMarks;
 use sp_ids::OutOfMemory;
 use sp_pattern::{FromRows, Pattern};
 use std::alloc::Global;

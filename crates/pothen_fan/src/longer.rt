@@ -4,6 +4,7 @@ ghost use Rattle.std.specs.Prelude.{◌≡◌, ◌⊎◌, ◌+◌, ◌<◌, leng
 ghost use Rattle.bip_defs.specs.Matching.{Covers, IsMaximum};
 ghost use Rattle.bip_defs.specs.Matrix.{cols};
 ghost use Rattle.bip_graph.specs.Matching.{IsMatchingOf};
+ghost use Rattle.path_search.specs.Growth.{GrowsUnlessMaximum};
 ghost use Rattle.pothen_fan.specs.Roots.{HoldRoots};
 
 use crate::sweep::{roots, sweep};
@@ -61,9 +62,8 @@ fn grow<F: Opposite, S: Side<F>>(
         ≡ length (F.seen matching.old).pairs + result }
 
     // Where the matching hasn't grown it was maximum.
-    ensures maximum { ((F.seen matching.new ≡ F.seen matching.old)
-        × IsMaximum (S.matrix side.now) (F.seen matching.old).pairs)
-        ⊎ (length (F.seen matching.old).pairs < length (F.seen matching.new).pairs) }
+    ensures maximum { GrowsUnlessMaximum (S.matrix side.now) (F.seen matching.old)
+        (F.seen matching.new) }
 {
     let before = F::size(matching);
     sweep(search, side, matching, roots, reversed);

@@ -1,11 +1,11 @@
 //! Phases of shortest augmenting paths alone.
 
 ghost use Rattle.std.specs.Bool.{OnFalse};
-ghost use Rattle.std.specs.Prelude.{◌≡◌, ◌⊎◌, ◌↔◌, ◌<◌, length, IfOk, IsTrue};
-ghost use Rattle.bip_defs.specs.Marks.{Marks};
-ghost use Rattle.bip_defs.specs.Matching.{Covers, IsMaximum};
-ghost use Rattle.bip_defs.specs.Parts.{IsHorizontalRow};
+ghost use Rattle.std.specs.Prelude.{◌↔◌, ◌<◌, length, IfOk, IsTrue};
+ghost use Rattle.bip_defs.specs.Matching.{Covers};
+ghost use Rattle.bip_defs.specs.Parts.{MarkHorizontalRows};
 ghost use Rattle.bip_graph.specs.Matching.{IsMatchingOf, IsMaximumOf};
+ghost use Rattle.path_search.specs.Growth.{GrowsUnlessMaximum};
 ghost use Rattle.pothen_fan.specs.Ready.{AreLaid};
 
 use bip_graph::{Matching, Opposite};
@@ -55,11 +55,10 @@ impl ShortestPhases {
         // Where the matching hasn't grown it was maximum, and the marked rows are the horizontal
         // rows.
         ensures maximum { IfOk result
-            (λ b. ((F.seen matching.new ≡ F.seen matching.old)
-            × IsMaximum (S.matrix side.now) (F.seen matching.old).pairs)
-            ⊎ (length (F.seen matching.old).pairs < length (F.seen matching.new).pairs)) }
+            (λ b. GrowsUnlessMaximum (S.matrix side.now) (F.seen matching.old)
+            (F.seen matching.new)) }
         ensures marks { IfOk result (λ b. OnFalse b
-            (Marks (S.matrix side.now).rows (IsHorizontalRow (S.matrix side.now))
+            (MarkHorizontalRows (S.matrix side.now)
             self.new.forest.marks)) }
     {
         let before = F::size(matching);
@@ -85,7 +84,7 @@ pub fn complete_by_shortest<F: Opposite, S: Side<F>>(
     ensures maximum { IfOk result (λ p. IsMaximumOf (S.matrix side.now) (F.seen p.0)) }
     ensures covered { IfOk result (λ p. Covers (F.seen matching).pairs (F.seen p.0).pairs) }
     ensures marks { IfOk result (λ p.
-        Marks (S.matrix side.now).rows (IsHorizontalRow (S.matrix side.now)) p.1.items) }
+        MarkHorizontalRows (S.matrix side.now) p.1.items) }
 {
     let mut phases = ShortestPhases::new(alloc, side, &matching)?;
     let mut grown = matching;

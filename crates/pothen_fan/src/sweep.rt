@@ -1,12 +1,12 @@
 //! One depth-first phase.
 
-ghost use Rattle.std.specs.Prelude.{◌≡◌, ◌⊎◌, ℕ, ◌<◌, ◌↔◌, ◌+◌, List, length, IfOk, IsTrue, OnErr};
+ghost use Rattle.std.specs.Prelude.{◌≡◌, ℕ, ◌<◌, ◌↔◌, ◌+◌, List, length, IfOk, IsTrue, OnErr};
 ghost use Rattle.bip_defs.specs.Lists.{Lists};
-ghost use Rattle.bip_defs.specs.Marks.{Marks};
 ghost use Rattle.bip_defs.specs.Matching.{Covers, IsMaximum};
 ghost use Rattle.bip_defs.specs.Matrix.{cols};
-ghost use Rattle.bip_defs.specs.Parts.{IsHorizontalRow};
+ghost use Rattle.bip_defs.specs.Parts.{MarkHorizontalRows};
 ghost use Rattle.bip_graph.specs.Matching.{IsMatchingOf};
+ghost use Rattle.path_search.specs.Growth.{GrowsUnlessMaximum};
 ghost use Rattle.pothen_fan.specs.Roots.{Extends, HoldRoots, IsRoot};
 
 use bip_graph::{Matching, Opposite};
@@ -110,11 +110,10 @@ pub fn sweep<F: Opposite, S: Side<F>>(
     ensures covered { Covers (F.seen matching.old).pairs (F.seen matching.new).pairs }
 
     // Where the matching hasn't grown it was maximum, and the marked rows are the horizontal rows.
-    ensures maximum { ((F.seen matching.new ≡ F.seen matching.old)
-        × IsMaximum (S.matrix side.now) (F.seen matching.old).pairs)
-        ⊎ (length (F.seen matching.old).pairs < length (F.seen matching.new).pairs) }
+    ensures maximum { GrowsUnlessMaximum (S.matrix side.now) (F.seen matching.old)
+        (F.seen matching.new) }
     ensures marks { length (F.seen matching.new).pairs ≡ length (F.seen matching.old).pairs
-        → Marks (S.matrix side.now).rows (IsHorizontalRow (S.matrix side.now)) search.new.marks }
+        → MarkHorizontalRows (S.matrix side.now) search.new.marks }
 {
     marked_rows_are_horizontal();
     search.clear();

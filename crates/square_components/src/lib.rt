@@ -6,9 +6,8 @@ mod mates;
 mod search;
 
 ghost use Rattle.std.specs.Prelude.{IfOk};
-ghost use Rattle.bip_defs.specs.Parts.{ArePartsOf};
 ghost use Rattle.bip_graph.specs.Matching.{IsMaximumOf};
-ghost use Rattle.bip_graph.specs.Decompositions.{parts_of};
+ghost use Rattle.bip_graph.specs.Decompositions.{HasParts};
 ghost use Rattle.square_components.specs.Numbers.{AreNumbered};
 
 use crate::mates::square_mates;
@@ -41,7 +40,7 @@ pub fn strong_components(
     parts: &Parts,
 ) -> Result<Components, OutOfMemory>
     requires maximum { IsMaximumOf pattern.now matching.now }
-    requires parts { ArePartsOf pattern.now (parts_of parts.now) }
+    requires parts { HasParts pattern.now parts.now }
     ensures { IfOk result
         (λ s. AreNumbered pattern.now matching.now.pairs s.numbers.items s.count) }
 {

@@ -1,11 +1,11 @@
 //! The exchange of all paths of a phase.
 
-ghost use Rattle.std.specs.Prelude.{◌≡◌, ◌+◌, ◌*◌, ◌<◌, ◌≤◌, ℕ, [], length, IfOk, IsTrue, OnOk};
+ghost use Rattle.std.specs.Prelude.{◌≡◌, ◌+◌, ◌≤◌, [], length, IfOk, IsTrue, OnOk};
 ghost use Rattle.bip_defs.specs.Forest.{IsRested, IsSettled};
-ghost use Rattle.forest_core.specs.Events.{AreFlipped, AreKept, LeadsTo};
+ghost use Rattle.forest_core.specs.Events.{AreFlipped, LeadsTo};
 ghost use Rattle.forest_core.specs.Exchanged.{AreExchanged};
 ghost use Rattle.sp_ids.specs.Limits.{max_workers};
-ghost use Rattle.tree_graft.specs.Counts.{IsCountOf, IsFreed, IsKept};
+ghost use Rattle.tree_graft.specs.Counts.{AreKeptIf, FreesFew};
 
 use crate::switches::trees_stay;
 use bip_graph::Mates;
@@ -34,15 +34,7 @@ pub fn augment<R: Threads + Sync, G: Gate>(
     ensures rested { OnOk result (IsRested forest.new) }
     ensures paths { IfOk result (λ k. k ≡ length forest.old.leaves) }
     ensures growth { IfOk result (λ k. length forest.new.base ≡ length forest.old.base + k) }
-
-    // The claims of the trees without a leaf stay where fewer than five rows are freed for each
-    // column in them, and else none.
-    ensures kept { (kept freed : ℕ) → IsCountOf (IsKept forest.old) kept
-        → IsCountOf (IsFreed forest.old) freed → freed < 5 * kept
-        → OnOk result (AreKept forest.old forest.old.claims forest.new.claims) }
-    ensures cleared { (kept freed : ℕ) → IsCountOf (IsKept forest.old) kept
-        → IsCountOf (IsFreed forest.old) freed → 5 * kept ≤ freed
-        → OnOk result (forest.new.claims ≡ []) }
+    ensures claims { OnOk result (AreKeptIf (FreesFew forest.old) forest.old forest.new) }
 {
     runs_join();
     let before = forest.base().size();
@@ -82,8 +74,7 @@ fn renew(forest: &mut Forest, keeps: bool)
     ensures legal { LeadsTo forest.old forest.new }
     ensures rested { IsRested forest.new }
     ensures growth { length forest.new.base ≡ length forest.old.base + length forest.old.flipped }
-    ensures kept { IsTrue keeps → AreKept forest.old forest.old.claims forest.new.claims }
-    ensures cleared { ¬ IsTrue keeps → forest.new.claims ≡ [] }
+    ensures claims { AreKeptIf (IsTrue keeps) forest.old forest.new }
 {
     forest.is_sound();
     runs_join();

@@ -61,7 +61,7 @@ pub fn grow<R: Threads + Sync, G: Gate>(
     ensures settled { OnOk result (IsSettled forest.new) }
     ensures scanned { OnOk result ((c : ℕ) → InForest forest.new c → IsScanned forest.new c) }
 {
-    let mut search = PhaseSearch::open(rt, alloc, forest, workers)?;
+    let mut search = PhaseSearch::begin(rt, alloc, forest, workers)?;
     search.run(rt, forest, gate)?;
     let PhaseSearch { board, workers, .. } = search;
     board.close_with(alloc, workers)?;
@@ -80,7 +80,7 @@ pub(crate) struct PhaseSearch {
 
 impl PhaseSearch {
     // A search that has made no level yet, by so many workers.
-    fn open<R: Threads + Sync>(
+    fn begin<R: Threads + Sync>(
         rt: &R,
         alloc: Global,
         forest: &Forest,

@@ -16,9 +16,9 @@ mod switches;
 ghost use Rattle.std.specs.Prelude.{◌≡◌, ◌↔◌, ◌+◌, ◌≤◌, length, IfOk, IfSome};
 ghost use Rattle.bip_defs.specs.Matching.{Covers, IsMaximum};
 ghost use Rattle.bip_graph.specs.Matching.{IsMatchingOf, IsMaximumOf};
+ghost use Rattle.bip_graph.specs.OuterMarks.{AreOuterMarks};
 ghost use Rattle.forest_core.specs.Events.{IsLegal, LeadsTo};
 ghost use Rattle.bip_defs.specs.Forest.{IsRested};
-ghost use Rattle.pothen_fan.specs.OuterMarks.{AreOuterMarks};
 ghost use Rattle.sp_ids.specs.Limits.{max_workers};
 ghost use Rattle.sp_ids.specs.declared.events.Event.TheVariants.{Done};
 
@@ -26,12 +26,12 @@ use crate::augment::augment;
 use crate::levels::{can_grow, grow};
 use crate::switches::{is_large, is_small};
 pub use crate::switches::{goes_top_down, keeps_trees};
-use bip_graph::Matching;
+use bip_graph::{Matching, OuterMarks};
 use forest_core::{
     Forest, claims_and_wins_grow, done_is_maximum, events_keep_covered, events_keep_sound,
     forests_are_rested, runs_join,
 };
-use pothen_fan::{OuterMarks, lengthen};
+use pothen_fan::lengthen;
 use sp_ids::OutOfMemory;
 use sp_pattern::Pattern;
 use sp_ports::Gate;
@@ -90,12 +90,13 @@ pub fn phase<R: Threads + Sync, G: Gate>(
 
 /// A maximum matching, in which every row and column that was matched before is matched.
 ///
-/// The matching must be of the pattern's entries and sizes, and there may be 1 to 64 workers. Serial
-/// phases on the calling thread come first, since they cost less than the boards that workers share:
-/// of a pattern with at most 6,000,000 rows and columns together until the matching is maximum, of
-/// a larger one depth-first, as long as they match many. Then phases by workers follow, until one
-/// gives 0, unless each column that has an entry is matched by then. Where the gate needs threads
-/// the workers have a pattern of at most 10,000 rows and 10,000 columns to themselves.
+/// The matching must be of the pattern's entries and sizes, and there may be 1 to 64 workers.
+/// Serial phases on the calling thread come first, since they cost less than the boards that
+/// workers share: of a pattern with at most 6,000,000 rows and columns together until the matching
+/// is maximum, of a larger one depth-first, as long as they match many. Then phases by workers
+/// follow, until one gives 0, unless each column that has an entry is matched by then. Where the
+/// gate needs threads the workers have a pattern of at most 10,000 rows and 10,000 columns to
+/// themselves.
 ///
 /// Answers `OutOfMemory` where there is no memory for the forest and a phase, at most 57 bytes a
 /// row and 58 a column, or for the workers' lists; the matching is dropped then. The serial phases
@@ -123,10 +124,10 @@ pub fn complete<R: Threads + Sync, G: Gate>(
 /// [`complete`], with what the last serial phase has marked, where serial phases went on until the
 /// matching was maximum: the horizontal rows or the vertical columns.
 ///
-/// There are no marks of a pattern with more than 6,000,000 rows and columns together, nor where the
-/// workers have it to themselves, nor where each column that has an entry was matched before. Memory,
-/// errors and work: as those of `complete`; of its memory a byte a row, or a byte a column, stays in
-/// use.
+/// There are no marks of a pattern with more than 6,000,000 rows and columns together, nor where
+/// the workers have it to themselves, nor where each column that has an entry was matched before.
+/// Memory, errors and work: as those of `complete`; of its memory a byte a row, or a byte a column,
+/// stays in use.
 pub fn complete_with_marks<R: Threads + Sync, G: Gate>(
     rt: &R,
     alloc: Global,
@@ -181,8 +182,7 @@ fn complete_by_phases<R: Threads + Sync, G: Gate>(
     workers: u32,
     gate: &G,
 ) -> Result<Matching, OutOfMemory>
-    requires some { 1 ≤ workers }
-    requires few { workers ≤ max_workers }
+    requires workers { (1 ≤ workers) × (workers ≤ max_workers) }
     requires matching { IsMatchingOf pattern.now matching }
     ensures maximum { IfOk result (λ m. IsMaximumOf pattern.now m) }
     ensures covered { IfOk result (λ m. Covers matching.pairs m.pairs) }

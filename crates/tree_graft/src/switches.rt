@@ -2,7 +2,7 @@
 
 ghost use Rattle.std.specs.Prelude.{ℕ, ◌↔◌, ◌<◌, ◌*◌, ◌^◌, length, IsTrue};
 ghost use Rattle.bip_defs.specs.Forest.{IsSettled};
-ghost use Rattle.tree_graft.specs.Counts.{IsCountOf, IsFreed, IsKept};
+ghost use Rattle.tree_graft.specs.Counts.{FreesFew, IsCountOf};
 ghost use Rattle.tree_graft.specs.PhaseSearch.{IsUnclaimed};
 
 use crate::counts::{freed_count, kept_count, unclaimed_count};
@@ -46,8 +46,7 @@ pub fn goes_down_from(forest: &Forest, frontier: &[Col]) -> bool
 /// columns in them and of the rows that the other trees free.
 pub fn trees_stay(forest: &Forest) -> bool
     requires { IsSettled forest.now }
-    ensures { (kept freed : ℕ) → IsCountOf (IsKept forest.now) kept
-        → IsCountOf (IsFreed forest.now) freed → IsTrue result ↔ (freed < 5 * kept) }
+    ensures { IsTrue result ↔ FreesFew forest.now }
 {
     let freed = freed_count(forest);
     keeps_trees(kept_count(forest, freed), freed)

@@ -1,5 +1,5 @@
 use Rattle.bip_defs.proofs.Covers.{straight_covers}
-use Rattle.pothen_fan.proofs.Phases.{straight_marks}
+use Rattle.bip_defs.proofs.Transposed.{turned_vertical_col_marks}
 use Rattle.pothen_fan.proofs.complete_with_marks.Goals as goal
 
 pub count_roots-requires : goal.count_roots-requires
@@ -15,4 +15,4 @@ pub returns-in_ok-maximum-clause-covered : goal.returns-in_ok-maximum-clause-cov
 returns-in_ok-maximum-clause-covered c = straight_covers c.args.matching.pairs c.in_ok-maximum.maximum.pairs c.in_ok-maximum.ensures.covered
 
 pub returns-in_ok-maximum-clause-marks : goal.returns-in_ok-maximum-clause-marks
-returns-in_ok-maximum-clause-marks c = straight_marks c.args.pattern.now c.in_ok-maximum.marks.items c.in_ok-maximum.ensures.marks
+returns-in_ok-maximum-clause-marks c = turned_vertical_col_marks c.args.pattern.now c.in_ok-maximum.marks.items c.in_ok-maximum.ensures.marks

@@ -5,12 +5,12 @@ use Rattle.dm_coarse.proofs.NumberingLemmas.{own_are_trees}
 use Rattle.dm_coarse.proofs.numbering.number_components.Goals as goal
 
 pub own_trees-requires : goal.own_trees-requires
-own_trees-requires g c = λ k on. let lt = (c.requires.columns.sound k on).0 in omega (arith, lt, c.cols.ensures)
+own_trees-requires g c = λ k on. let lt = (c.requires.sound k on).0 in omega (arith, lt, c.cols.ensures)
 
 pub number_all-count-requires-clause-trees : goal.number_all-count-requires-clause-trees
 number_all-count-requires-clause-trees g c =
     let rows : c.in_ok-rows.rows.items ≡ replicate c.rows.result none = search rules in
-    rw (c.as_mut_slice.ensures.value, c.as_mut_slice-2.ensures.value) (own_are_trees (g.S.Side.matrix c.args.side.now) _ c.in_ok-cols.cols.items c.in_ok-rows.rows.items c.requires.columns c.requires.few (rw (← c.cols.ensures) c.in_ok-cols.ensures) (rows ∙ ap (λ n. replicate n none) c.rows.ensures))
+    rw (c.as_mut_slice.ensures.value, c.as_mut_slice-2.ensures.value) (own_are_trees (g.S.Side.matrix c.args.side.now) _ c.in_ok-cols.cols.items c.in_ok-rows.rows.items c.requires (omega (arith, c.cols.ensures)) (rw (← c.cols.ensures) c.in_ok-cols.ensures) (rows ∙ ap (λ n. replicate n none) c.rows.ensures))
 
 pub returns : goal.returns
 returns g c =

@@ -13,4 +13,4 @@ loop-at-preserved g c =
     ]
 
 pub returns : goal.returns
-returns g c = split_end _ _ _ _ _ (omega (arith, c.requires.known.vertical.long)) c.loop-at.invariant
+returns g c = split_end _ _ _ _ (omega (arith, c.rows-at-end.ensures, c.loop-at-test.false)) c.loop-at.invariant

@@ -22,10 +22,8 @@ returns-clause-paths g c = omega (arith, growth g c, c.size.ensures.size, c.size
 pub returns-clause-growth : goal.returns-clause-growth
 returns-clause-growth g c = omega (arith, growth g c, c.size.ensures.size, c.size-before.ensures.size, ap (λ (p : Pairing). length p.pairs) c.base.ensures, ap (λ (p : Pairing). length p.pairs) c.base-2.ensures)
 
-pub returns-clause-kept : goal.returns-clause-kept
-returns-clause-kept g c kept freed is_kept is_freed few =
-    kept_before c.args.forest.now c.adopt.new.self _ _ c.adopt.ensures.flipped (c.renew.ensures.kept ((c.trees_stay-keeps.ensures kept freed is_kept is_freed).1 few))
-
-pub returns-clause-cleared : goal.returns-clause-cleared
-returns-clause-cleared g c kept freed is_kept is_freed many =
-    c.renew.ensures.cleared (λ stay. let few = (c.trees_stay-keeps.ensures kept freed is_kept is_freed).0 stay in omega (arith, few, many))
+pub returns-clause-claims : goal.returns-clause-claims
+returns-clause-claims g c = record {
+  kept = λ few. kept_before c.args.forest.now c.adopt.new.self _ _ c.adopt.ensures.flipped (c.renew.ensures.claims.kept (c.trees_stay-keeps.ensures.1 few));
+  cleared = λ many. c.renew.ensures.claims.cleared (λ stay. many (c.trees_stay-keeps.ensures.0 stay));
+}
