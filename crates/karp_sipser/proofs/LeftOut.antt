@@ -1,5 +1,5 @@
 -- The sums after a pair was taken.
-use Rattle.std.proofs.Common.{◌≡◌, ◌≢◌, ◌⊎◌, ◌∙◌, ℕ, ◌+◌, ◌<◌, Bool, true, false, List, length, slice_index, slice_set, take, refl, ap, sym, subst, inl, inr, ⊎_elim, arith}
+use Rattle.std.proofs.Common.{◌≡◌, ◌≢◌, ◌⊎◌, ◌∙◌, ℕ, ◌+◌, ◌%◌, ◌^◌, ◌<◌, Bool, true, false, not, Option, None, Some, IfSome, MatchOption, List, [], ◌∷◌, length, map, slice_index, slice_set, take, refl, ap, sym, subst, inl, inr, ⊎_elim, arith}
 use Rattle.std.proofs.lemmas.Bool.{cases_eq}
 use Rattle.std.proofs.lemmas.List.{get_or-set_other, get_or-set_same}
 use Rattle.bip_defs.proofs.Sets.{col_among, entry_col, few_distinct, number_among, rising_distinct}
@@ -7,16 +7,15 @@ use Rattle.bip_defs.specs.Lists.{Among, IsRising, Lists}
 use Rattle.bip_defs.specs.Matching.{cols_of}
 use Rattle.bip_defs.specs.Matrix.{cols, column, IsEntry, Matrix, Place}
 use Rattle.bip_defs.specs.Start.{ColOfOne, IsFree, IsOnly}
-use Rattle.karp_sipser.specs.NeighbourSums.{AreSums, HoldsOnes, HoldsOnesBut, IsLeftOut, IsShort, IsSum, LooksLikeOne, wrapping_sub}
+use Rattle.karp_sipser.specs.NeighbourSums.{AreSums, HoldsOnes, HoldsOnesBut, IsLeftOut, IsRest, IsShort, IsSum, LooksLikeOne, wrapping_sub}
 use Rattle.karp_sipser.specs.declared.neighbour_sums.NeighbourSums.{NeighbourSums}
 use Rattle.karp_sipser.proofs.Free.{Adds, cols_kept, free_after, free_before}
-use Rattle.karp_sipser.proofs.Prefixes.{IsChanged, changed_next, front_next}
+use Rattle.karp_sipser.proofs.Prefixes.{IsChanged, changed_next, flips, front_next}
 use Rattle.karp_sipser.proofs.Sums.{looks_only, one_looks, sum_same, sum_without}
 
--- what leaving out a matched column and its mate changes, where others tells whether others of these columns may be unmatched
-pub record IsAfter (matched mate : ℕ) (ids : List ℕ) (others : Bool) (s t : NeighbourSums) : Type 0 where
-  pub left_out : others ≡ true → IsLeftOut matched mate ids s t
-  pub alone : others ≡ false → (x : ℕ) → x ≢ matched → slice_index t.words.items x ≡ slice_index s.words.items x
+-- what leaving out a matched column and its mate changes
+pub record IsAfter (matched mate : ℕ) (ids : List ℕ) (s t : NeighbourSums) : Type 0 where
+  pub left_out : IsLeftOut matched mate ids s t
   pub kept : (x : ℕ) → x ≢ matched → ¬ Among x ids → slice_index t.words.items x ≡ slice_index s.words.items x
   pub grows : (x : ℕ) → Among x s.of_one.members → Among x t.of_one.members
   pub bound : t.of_one.bound ≡ s.of_one.bound
@@ -24,9 +23,46 @@ pub record IsAfter (matched mate : ℕ) (ids : List ℕ) (others : Bool) (s t : 
   pub unit : t.unit ≡ s.unit
   pub some_long : t.some_long ≡ s.some_long
 
+-- some that have E, rising, and among them all but one that have F
+pub record AreBeside (E F : ℕ → Type 0) (mate : ℕ) (ids : List ℕ) : Type 0 where
+  pub rising : IsRising ids
+  pub sound : (x : ℕ) → Among x ids → E x
+  pub complete : (x : ℕ) → F x → x ≢ mate → Among x ids
+
+pub beside_same : (E F G H : ℕ → Type 0) (mate : ℕ) (ids : List ℕ) → ((x : ℕ) → E x → G x) → ((x : ℕ) → H x → F x) → AreBeside E F mate ids → AreBeside G H mate ids
+beside_same E F G H mate ids to from b = record { rising = b.rising; sound = λ x h. to x (b.sound x h); complete = λ x f ne. b.complete x (from x f) ne }
+
+pub only_same : (P Q : ℕ → Type 0) (x : ℕ) → ((y : ℕ) → P y → Q y) → ((y : ℕ) → Q y → P y) → IsOnly P x → IsOnly Q x
+only_same P Q x to from o = (to x o.0, λ y q. o.1 y (from y q))
+
 pub either : (b : Bool) → (b ≡ true) ⊎ (b ≡ false)
 either true = inl refl
 either false = inr refl
+
+-- none, or the one of which this is known
+pub one_known : (o : Option ℕ) (ids : List ℕ) (Q : ℕ → Type 0) → MatchOption o (ids ≡ []) (λ x. ids ≡ x ∷ []) → IfSome o Q → (ids ≡ []) ⊎ ((x : ℕ) × (ids ≡ x ∷ []) × Q x)
+one_known None ids Q is q = inl is
+one_known (Some x) ids Q is q = inr (x, is, q)
+
+-- a whole list, or the other one that is known to be alone, or none where none is left
+pub beside_of : (E F : ℕ → Type 0) (mate : ℕ) (all alone ids : List ℕ) (wanted : Bool) → Lists E all → ((x : ℕ) → F x → E x)
+    → (wanted ≡ true → length alone ≡ 0 → ids ≡ all) → (wanted ≡ true → 0 < length alone → ids ≡ map (λ (x : ℕ). x) alone) → (wanted ≡ false → ids ≡ [])
+    → (wanted ≡ false → IsOnly F mate) → (alone ≡ []) ⊎ ((x : ℕ) × (alone ≡ x ∷ []) × IsOnly (λ y. F y × (y ≢ mate)) x) → AreBeside E F mate ids
+beside_of E F mate all alone ids wanted lists entry whole one none only known = elim (either wanted) [
+  | inl on ↦ elim known [
+    | inl empty ↦ subst (AreBeside E F mate) (sym (whole on (ap length empty))) (record { rising = lists.rising; sound = lists.sound; complete = λ x f ne. lists.complete x (entry x f) })
+    | inr k ↦
+        let (x, is, left) = k in
+        let some : length alone ≡ 1 = ap length is in
+        let are : ids ≡ x ∷ [] = one on (omega (arith, some)) ∙ ap (map (λ (y : ℕ). y)) is in
+        subst (AreBeside E F mate) (sym are) (record {
+          rising = (tt, tt);
+          sound = λ y (h : Among y (x ∷ [])). elim h [ inl e ↦ subst E (sym e) (entry x left.0.0) | inr h ↦ absurd h ];
+          complete = λ y f ne. inl (left.1 y (f, ne));
+        })
+  ]
+  | inr off ↦ subst (AreBeside E F mate) (sym (none off)) (record { rising = tt; sound = λ x h. absurd h; complete = λ x f ne. absurd (ne ((only off).1 x f)) })
+]
 
 -- a column that is unmatched after a pair was taken was so before, and is not the pair's
 unmatched_before : (p : Place) (old new : List Place) (c : ℕ) → Adds p old new → ¬ Among c (cols_of new) → (c ≢ p.1) × (¬ Among c (cols_of old))
@@ -35,36 +71,35 @@ unmatched_before p old new c adds apart = (
   (λ h. apart (cols_kept p old new c adds h)),
 )
 
--- what is known of a pair that is taken: if others is false, its row has no other unmatched column
-pub record IsTaking (a : Matrix) (p : Place) (old new : List Place) (ids : List ℕ) (others : Bool) : Type 0 where
+-- what is known of a pair that is taken, where these are beside its column
+pub record IsTaking (a : Matrix) (p : Place) (old new : List Place) (ids : List ℕ) : Type 0 where
   pub adds : Adds p old new
   pub free : IsFree a old p.0 p.1
-  pub in_row : Lists (λ c. IsEntry a p.0 c) ids
-  pub only : others ≡ false → IsOnly (λ c. IsFree a old p.0 c) p.1
+  pub beside : AreBeside (λ c. IsEntry a p.0 c) (λ c. IsFree a old p.0 c) p.1 ids
 
-sum_after : (a : Matrix) (p : Place) (old new : List Place) (ids : List ℕ) (others : Bool) (s t : NeighbourSums) → IsTaking a p old new ids others → IsAfter p.1 p.0 ids others s t
+-- a column that is not beside the pair's keeps what was free
+kept_free : (a : Matrix) (p : Place) (old new : List Place) (ids : List ℕ) (c : ℕ) → IsTaking a p old new ids → ¬ Among c ids → c ≢ p.1 → (r : ℕ) → IsFree a old r c → IsFree a new r c
+kept_free a p old new ids c k off ne r g = free_after a p old new r c k.adds g (λ e. off (k.beside.complete c (subst (λ z. IsFree a old z c) e g) ne)) ne
+
+sum_after : (a : Matrix) (p : Place) (old new : List Place) (ids : List ℕ) (s t : NeighbourSums) → IsTaking a p old new ids → IsAfter p.1 p.0 ids s t
     → (c : ℕ) → ¬ Among c (cols_of new) → IsSum s.unit (λ r. IsFree a old r c) (slice_index s.words.items c) → IsSum s.unit (λ r. IsFree a new r c) (slice_index t.words.items c)
-sum_after a p old new ids others s t k after c apart sum =
+sum_after a p old new ids s t k after c apart sum =
     let (ne, had) = unmatched_before p old new c k.adds apart in
     elim (number_among c ids) [
       | inl h ↦
-          let f : IsFree a old p.0 c = (k.in_row.sound c h, k.free.1, had) in
-          elim (either others) [
-            | inl more ↦ subst (IsSum s.unit (λ r. IsFree a new r c)) (sym ((after.left_out more).lowered c ne h))
-                (sum_without s.unit (λ r. IsFree a old r c) (λ r. IsFree a new r c) (slice_index s.words.items c) p.0 sum f (λ r g. let b = free_before a p old new r c k.adds g in (b.0, b.1)) (λ r g ner. free_after a p old new r c k.adds g ner ne))
-            | inr none ↦ absurd (ne ((k.only none).1 c f))
-          ]
+          let f : IsFree a old p.0 c = (k.beside.sound c h, k.free.1, had) in
+          subst (IsSum s.unit (λ r. IsFree a new r c)) (sym (after.left_out.lowered c ne h))
+          (sum_without s.unit (λ r. IsFree a old r c) (λ r. IsFree a new r c) (slice_index s.words.items c) p.0 sum f (λ r g. let b = free_before a p old new r c k.adds g in (b.0, b.1)) (λ r g ner. free_after a p old new r c k.adds g ner ne))
       | inr off ↦ subst (IsSum s.unit (λ r. IsFree a new r c)) (sym (after.kept c ne off))
-          (sum_same s.unit (λ r. IsFree a old r c) (λ r. IsFree a new r c) (slice_index s.words.items c)
-          (λ r g. free_after a p old new r c k.adds g (λ e. off (k.in_row.complete c (subst (λ z. IsEntry a z c) e g.0))) ne) (λ r g. (free_before a p old new r c k.adds g).0) sum)
+          (sum_same s.unit (λ r. IsFree a old r c) (λ r. IsFree a new r c) (slice_index s.words.items c) (kept_free a p old new ids c k off ne) (λ r g. (free_before a p old new r c k.adds g).0) sum)
     ]
 
-pub sums_after : (a : Matrix) (p : Place) (old new : List Place) (ids : List ℕ) (others : Bool) (s t : NeighbourSums) → AreSums a old s → IsTaking a p old new ids others → IsAfter p.1 p.0 ids others s t → AreSums a new t
-sums_after a p old new ids others s t sums k after = record {
+pub sums_after : (a : Matrix) (p : Place) (old new : List Place) (ids : List ℕ) (s t : NeighbourSums) → AreSums a old s → IsTaking a p old new ids → IsAfter p.1 p.0 ids s t → AreSums a new t
+sums_after a p old new ids s t sums k after = record {
   of_unit = rw after.unit sums.of_unit;
   long = after.long ∙ sums.long;
   bound = after.bound ∙ sums.bound;
-  sums = λ c lt apart. rw after.unit (sum_after a p old new ids others s t k after c apart (sums.sums c lt (unmatched_before p old new c k.adds apart).1));
+  sums = λ c lt apart. rw after.unit (sum_after a p old new ids s t k after c apart (sums.sums c lt (unmatched_before p old new c k.adds apart).1));
   short = rw (after.unit, after.some_long) sums.short;
 }
 
@@ -91,35 +126,47 @@ only_known a m s r c n x y sums free is_c is_r is_n word short =
     let fits : IsShort s.unit (length (column a c)) = elim short [ inl off ↦ sums.short off c lt | inr e ↦ subst (IsShort s.unit) is_n e ] in
     subst (IsOnly (λ z. IsFree a m z c)) here (col_only a m s c sums lt free.2 fits (omega (arith, here, free.0.0, sums.of_unit.rows_below)))
 
+-- what a word that was looked at says without the mate
+pub rest_known : (a : Matrix) (m : List Place) (s : NeighbourSums) (r c x y z : ℕ) → AreSums a m s → IsFree a m r c → x ≡ c → y ≡ r → IsRest s.unit (slice_index s.words.items x) y z
+    → (s.some_long ≡ false) ⊎ IsShort s.unit (length (column a x)) → IsOnly (λ d. IsFree a m d c × (d ≢ r)) z
+rest_known a m s r c x y z sums free is_c is_r rest short =
+    let lt = entry_col a r c free.0 in
+    let w : ℕ = slice_index s.words.items c in
+    let fits : IsShort s.unit (length (column a c)) = elim short [ inl off ↦ sums.short off c lt | inr e ↦ subst (λ k. IsShort s.unit (length (column a k))) is_c e ] in
+    let here : IsRest s.unit w r z = subst (λ k. IsRest s.unit w k z) is_r (subst (λ k. IsRest s.unit (slice_index s.words.items k) y z) is_c rest) in
+    let k : IsSum s.unit (λ d. IsFree a m d c × (d ≢ r)) (wrapping_sub w ((s.unit + r) % 2 ^ 32)) = sum_without s.unit (λ d. IsFree a m d c) (λ d. IsFree a m d c × (d ≢ r)) w r (sums.sums c lt free.2) free (λ d f. f) (λ d f ne. (f, ne)) in
+    subst (IsOnly (λ d. IsFree a m d c × (d ≢ r))) here.1
+    (looks_only s.unit (λ d. IsFree a m d c × (d ≢ r)) (wrapping_sub w ((s.unit + r) % 2 ^ 32)) (length (column a c)) sums.of_unit.positive sums.of_unit.fits k (λ d f. omega (arith, f.0.0.0, sums.of_unit.rows_below))
+    (few_distinct k.having (column a c) (rising_distinct k.having k.lists.rising) (λ d h. (k.lists.sound d h).0.0.1)) fits here.0)
+
+both_known : (o : Option ℕ) (P Q R : ℕ → Type 0) → ((x : ℕ) → P x → Q x → R x) → IfSome o P → IfSome o Q → IfSome o R
+both_known None P Q R to p q = tt
+both_known (Some x) P Q R to p q = to x p q
+
+-- the list that is left out beside a mate, by what the word of its column was found to say
+pub beside_known : (a : Matrix) (m : List Place) (s : NeighbourSums) (r c x y : ℕ) (sure : Bool) (o : Option ℕ) (alone ids : List ℕ) → AreSums a m s → IsFree a m r c → x ≡ c → y ≡ r → Lists (λ z. IsEntry a z c) (column a c)
+    → (sure ≡ true → wrapping_sub (slice_index s.words.items x) s.unit ≡ y) → (sure ≡ true → (s.some_long ≡ false) ⊎ IsShort s.unit (length (column a x)))
+    → IfSome o (λ z. IsRest s.unit (slice_index s.words.items x) y z) → IfSome o (λ z. (s.some_long ≡ false) ⊎ IsShort s.unit (length (column a x))) → MatchOption o (alone ≡ []) (λ z. alone ≡ z ∷ [])
+    → (not sure ≡ true → length alone ≡ 0 → ids ≡ column a x) → (not sure ≡ true → 0 < length alone → ids ≡ map (λ (z : ℕ). z) alone) → (not sure ≡ false → ids ≡ [])
+    → AreBeside (λ z. IsEntry a z c) (λ z. IsFree a m z c) r ids
+beside_known a m s r c x y sure o alone ids sums free is_c is_r lists word short rest fits is whole one none =
+    let Left : ℕ → Type 0 = λ z. IsOnly (λ d. IsFree a m d c × (d ≢ r)) z in
+    let left : IfSome o Left = both_known o (λ z. IsRest s.unit (slice_index s.words.items x) y z) (λ z. (s.some_long ≡ false) ⊎ IsShort s.unit (length (column a x))) Left (λ z k f. rest_known a m s r c x y z sums free is_c is_r k f) rest fits in
+    beside_of (λ z. IsEntry a z c) (λ z. IsFree a m z c) r (column a c) alone ids (not sure) lists (λ z f. f.0) (λ on e. whole on e ∙ ap (column a) is_c) one none
+    (λ off. let t = flips sure off in only_known a m s r c (length (column a x)) x y sums free is_c is_r (ap (λ k. length (column a k)) is_c) (word t) (short t))
+    (one_known o alone Left is left)
+
 -- numbers that are the same
-pub after_at : (x y matched mate : ℕ) (ids : List ℕ) (others : Bool) (s t : NeighbourSums) → x ≡ matched → y ≡ mate → IsAfter x y ids others s t → IsAfter matched mate ids others s t
-after_at x y matched mate ids others s t is_x is_y after = subst (λ z. IsAfter matched z ids others s t) is_y (subst (λ z. IsAfter z y ids others s t) is_x after)
+pub after_at : (x y matched mate : ℕ) (ids : List ℕ) (s t : NeighbourSums) → x ≡ matched → y ≡ mate → IsAfter x y ids s t → IsAfter matched mate ids s t
+after_at x y matched mate ids s t is_x is_y after = subst (λ z. IsAfter matched z ids s t) is_y (subst (λ z. IsAfter z y ids s t) is_x after)
 
--- where the list is that of the row if others may be unmatched
-pub after_wanted : (matched mate : ℕ) (ids all : List ℕ) (others : Bool) (s t : NeighbourSums) → (others ≡ true → ids ≡ all) → IsAfter matched mate ids others s t → IsAfter matched mate all others s t
-after_wanted matched mate ids all others s t same after = record {
-  left_out = λ more. subst (λ l. IsLeftOut matched mate l s t) (same more) (after.left_out more);
-  alone = after.alone;
-  kept = λ x ne off. elim (either others) [ inl more ↦ after.kept x ne (λ h. off (subst (λ l. Among x l) (same more) h)) | inr none ↦ after.alone none x ne ];
-  grows = after.grows;
-  bound = after.bound;
-  long = after.long;
-  unit = after.unit;
-  some_long = after.some_long;
-}
-
-pub ones_after : (a : Matrix) (p : Place) (old new : List Place) (ids : List ℕ) (others : Bool) (s t : NeighbourSums) → AreSums a old s → IsTaking a p old new ids others → IsAfter p.1 p.0 ids others s t
+pub ones_after : (a : Matrix) (p : Place) (old new : List Place) (ids : List ℕ) (s t : NeighbourSums) → AreSums a old s → IsTaking a p old new ids → IsAfter p.1 p.0 ids s t
     → HoldsOnesBut p.1 a old s.of_one.members → HoldsOnes a new t.of_one.members
-ones_after a p old new ids others s t sums k after ones c o =
+ones_after a p old new ids s t sums k after ones c o =
     let (ne, had) = unmatched_before p old new c k.adds o.1.0.2 in
     elim (number_among c ids) [
-      | inl h ↦ elim (either others) [
-        | inl more ↦ (after.left_out more).ones c h (rw after.unit at (col_looks a new t c (sums_after a p old new ids others s t sums k after) o))
-        | inr none ↦ absurd (ne ((k.only none).1 c (k.in_row.sound c h, k.free.1, had)))
-      ]
-      | inr off ↦
-          let here : (r : ℕ) → IsFree a old r c → IsFree a new r c = λ r g. free_after a p old new r c k.adds g (λ e. off (k.in_row.complete c (subst (λ z. IsEntry a z c) e g.0))) ne in
-          after.grows c (ones c ne (o.0, ((free_before a p old new o.0 c k.adds o.1.0).0, λ r g. o.1.1 r (here r g))))
+      | inl h ↦ after.left_out.ones c h (rw after.unit at (col_looks a new t c (sums_after a p old new ids s t sums k after) o))
+      | inr off ↦ after.grows c (ones c ne (o.0, ((free_before a p old new o.0 c k.adds o.1.0).0, λ r g. o.1.1 r (kept_free a p old new ids c k off ne r g))))
     ]
 
 -- of a prefix the sums are lowered, and those that look like one number's then are among the members

@@ -24,6 +24,11 @@ pub record IsSum (unit : ℕ) (P : ℕ → Type 0) (sum : ℕ) : Type 0 where
 abbrev pub LooksLikeOne : ℕ → ℕ → Type 0
 LooksLikeOne unit sum = wrapping_sub sum unit < unit
 
+-- what a word leaves without a unit and the mate's number is like the sum of one number, this one
+abbrev pub IsRest : ℕ → ℕ → ℕ → ℕ → Type 0
+IsRest unit word mate x = LooksLikeOne unit (wrapping_sub word ((unit + mate) % 2 ^ 32))
+    × (wrapping_sub (wrapping_sub word ((unit + mate) % 2 ^ 32)) unit ≡ x)
+
 -- so many numbers below the unit, and one more, have a sum of at most 2^32
 abbrev pub IsShort : ℕ → ℕ → Type 0
 IsShort unit count = suc count * (unit + unit) ≤ 2 ^ 32

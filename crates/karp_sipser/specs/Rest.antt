@@ -1,22 +1,17 @@
 -- The unmatched rest, as the start keeps it.
-use Rattle.std.specs.Prelude.{◌≡◌, ℕ, ◌<◌, ◌≤◌, map}
+use Rattle.std.specs.Prelude.{◌≡◌, ℕ, ◌<◌, ◌≤◌}
 use Rattle.bip_defs.specs.Matching.{transposed_places}
 use Rattle.bip_defs.specs.Matrix.{cols, Matrix, Place, transpose}
 use Rattle.bip_defs.specs.Start.{IsFree}
-use Rattle.karp_sipser.specs.Ahead.{IsAhead}
 use Rattle.karp_sipser.specs.NeighbourSums.{AreSums, HoldsOnes, HoldsOnesBut}
 use Rattle.karp_sipser.specs.declared.rest.Rest.{Rest}
 
--- the sums are those of the matching, what was looked up ahead are lists of the matrix, and no column before next_col has a
--- free entry
+-- the sums are those of the matching, and no column before next_col has a free entry
 pub record IsUnmatchedRest (a : Matrix) (rest : Rest) : Type 0 where
   pub same_rows : rest.matching.rows ≡ a.rows
   pub same_cols : rest.matching.cols ≡ cols a
   pub cols_sums : AreSums a rest.matching.pairs rest.cols
   pub rows_sums : AreSums (transpose a) (transposed_places rest.matching.pairs) rest.rows
-  pub cols_ahead : IsAhead (transpose a) rest.cols_ahead.mate
-      (map (λ (x : ℕ). x) rest.cols_ahead.ids.now)
-  pub rows_ahead : IsAhead a rest.rows_ahead.mate (map (λ (x : ℕ). x) rest.rows_ahead.ids.now)
   pub passed : rest.next_col ≤ cols a
   pub below : (r c : ℕ) → c < rest.next_col → ¬ IsFree a rest.matching.pairs r c
 

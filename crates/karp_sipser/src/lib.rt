@@ -2,7 +2,6 @@
 //! neighbour first.
 #![tactic(auto)]
 
-mod ahead;
 mod laws;
 mod neighbour_sums;
 mod rest;
@@ -29,9 +28,9 @@ use std::alloc::Global;
 ///
 /// Of each row and column it keeps in one word the sum over the unmatched neighbours of a unit, the
 /// number of rows or that of columns, whichever is greater, and their number. Where there is one
-/// neighbour the sum shows its number, and no entry is looked at to find it. Where the list of the
-/// next one's neighbour begins is looked up before the sums of this turn are lowered, so that the
-/// memory answers both at once.
+/// neighbour the sum shows its number, and no entry is looked at to find it. A sum without a mate's
+/// number shows in the same way whether one other neighbour is left alone, and which: only where
+/// more are left, the list is looked at.
 ///
 /// Answers `OutOfMemory` where its tables can't be had: 8 bytes a row and 8 a column for the
 /// matching and the sums, and an eighth of a byte each for the waiting ones. Work: each entry is

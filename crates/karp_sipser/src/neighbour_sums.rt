@@ -4,7 +4,7 @@ ghost use Rattle.std.specs.Prelude.{◌≡◌, ◌≢◌, ◌⊎◌, ◌+◌, �
 ghost use Rattle.bip_defs.specs.Lists.{Among, IsRising};
 ghost use Rattle.bip_defs.specs.Matrix.{Matrix, cols, column};
 ghost use Rattle.bip_defs.specs.Start.{ColOfOne, IsFree, IsLeast, IsOnly};
-ghost use Rattle.karp_sipser.specs.NeighbourSums.{AreSums, HoldsOnes, HoldsOnesBut, IsLeftOut, IsShort, IsUnit, LooksLikeOne, total, wrapping_sub};
+ghost use Rattle.karp_sipser.specs.NeighbourSums.{AreSums, HoldsOnes, HoldsOnesBut, IsLeftOut, IsRest, IsShort, IsUnit, LooksLikeOne, total, wrapping_sub};
 
 use crate::unmatched::only_unmatched;
 use bip_graph::{Matching, Opposite};
@@ -142,19 +142,39 @@ impl NeighbourSums {
             && !(self.some_long && is_long(side.rows_of(Col(vertex)).len(), self.unit))
     }
 
+    /// The one unmatched neighbour of an unmatched vertex beside this one, where surely no other
+    /// is unmatched.
+    #[inline(always)]
+    pub fn only_beside<I: Id, S: Side<I>>(&self, side: &S, vertex: u32, mate: u32) -> Option<I>
+        requires vertex { vertex < cols (S.matrix side.now) }
+        requires long { length self.now.words.items ≡ cols (S.matrix side.now) }
+        requires positive { 0 < self.now.unit }
+        ensures word { IfSome result (λ id. IsRest self.now.unit
+            (slice_index self.now.words.items vertex) mate (I.number id)) }
+        ensures short { IfSome result (λ id. (self.now.some_long ≡ false)
+            ⊎ IsShort self.now.unit (length (column (S.matrix side.now) vertex))) }
+    {
+        let by = self.unit.wrapping_add(mate);
+        let other = self.words[vertex as usize]
+            .wrapping_sub(by)
+            .wrapping_sub(self.unit);
+        if other >= self.unit
+            || self.some_long && is_long(side.rows_of(Col(vertex)).len(), self.unit)
+        {
+            return None;
+        }
+        Some(I::of(other))
+    }
+
     /// Leaves out a vertex that is matched now, and its mate: those of `ids`, which are beside the
-    /// mate, lose it, and those that come to one neighbour go into the set. `others` tells whether
-    /// others of these than the matched one may be unmatched.
-    pub fn leave_out<I: Id>(&mut self, matched: u32, mate: u32, ids: &[I], others: bool)
+    /// mate, lose it, and those that come to one neighbour go into the set.
+    pub fn leave_out<I: Id>(&mut self, matched: u32, mate: u32, ids: &[I])
         requires rising { IsRising (map I.number ids.now) }
         requires in_range { (x : ℕ) → Among x (map I.number ids.now)
             → x < length self.old.words.items }
         requires matched { matched < length self.old.words.items }
         requires bound { self.old.of_one.bound ≡ length self.old.words.items }
-        ensures left_out { others ≡ true
-            → IsLeftOut matched mate (map I.number ids.now) self.old self.new }
-        ensures alone { others ≡ false → (x : ℕ) → x ≢ matched
-            → slice_index self.new.words.items x ≡ slice_index self.old.words.items x }
+        ensures left_out { IsLeftOut matched mate (map I.number ids.now) self.old self.new }
         ensures kept { (x : ℕ) → x ≢ matched → ¬ Among x (map I.number ids.now)
             → slice_index self.new.words.items x ≡ slice_index self.old.words.items x }
         ensures grows { (x : ℕ) → Among x self.old.of_one.members
@@ -166,10 +186,8 @@ impl NeighbourSums {
     {
         // Far from what looks like one neighbour.
         self.words[matched as usize] = self.unit.wrapping_add(1 << 31);
-        if others {
-            let words = self.words.as_mut_slice();
-            lower(words, self.unit, ids, mate, &mut self.of_one);
-        }
+        let words = self.words.as_mut_slice();
+        lower(words, self.unit, ids, mate, &mut self.of_one);
     }
 }
 

@@ -1,36 +1,31 @@
 //! What is left unmatched, and the next pair of it.
 
-ghost use Rattle.std.specs.Prelude.{◌≡◌, ◌⊎◌, ◌↔◌, ℕ, suc, ◌≤◌, [], length, IfOk, IfSome, IfNone};
+ghost use Rattle.std.specs.Prelude.{◌≡◌, ◌⊎◌, ◌↔◌, ℕ, suc, ◌<◌, ◌≤◌, [], true, false, length, map, IfOk, IfSome, IfNone};
 ghost use Rattle.bip_defs.specs.Lists.{Among};
-ghost use Rattle.bip_defs.specs.Matrix.{Place};
+ghost use Rattle.bip_defs.specs.Matrix.{Place, cols, column};
 ghost use Rattle.bip_defs.specs.Start.{IsFree, IsChoice};
 ghost use Rattle.karp_sipser.specs.Rest.{HasOnes, HasOnesBut, IsUnmatchedRest};
 
-use crate::ahead::{Ahead, list_of, look_again, look_ahead};
 use crate::neighbour_sums::NeighbourSums;
 use crate::unmatched::next_free;
 use bip_graph::Matching;
-use sp_ids::{Col, OutOfMemory, Row};
-use sp_pattern::{FromRows, Pattern};
+use sp_ids::{Col, Id, OutOfMemory, Row};
+use sp_pattern::{FromRows, Side};
 use std::alloc::Global;
 
 /// The matching so far, and the sums over the rows and columns that it leaves: `cols` has for each
-/// column that of its rows, and `rows` for each row that of its columns. `cols_ahead` is the list of
-/// columns, that is of a row, that the next column with one neighbour is likely to ask for, and
-/// `rows_ahead` that of the next row.
+/// column that of its rows, and `rows` for each row that of its columns.
 #[derive(Drop)]
-pub struct Rest<'p> {
+pub struct Rest {
     pub matching: Matching,
     pub cols: NeighbourSums,
     pub rows: NeighbourSums,
-    pub cols_ahead: Ahead<'p, Col>,
-    pub rows_ahead: Ahead<'p, Row>,
     pub next_col: u32,
 }
 
-impl<'p> Rest<'p> {
+impl Rest {
     /// Nothing is matched.
-    pub fn new(alloc: Global, sides: &'p FromRows<'_>) -> Result<Rest<'p>, OutOfMemory>
+    pub fn new(alloc: Global, sides: &FromRows<'_>) -> Result<Rest, OutOfMemory>
         ensures rest { IfOk result (IsUnmatchedRest sides.now.pattern.now) }
         ensures ones { IfOk result (HasOnes sides.now.pattern.now) }
         ensures empty { IfOk result (λ rest. rest.matching.pairs ≡ []) }
@@ -41,14 +36,10 @@ impl<'p> Rest<'p> {
         let unit = pattern.rows().max(pattern.cols()).max(1);
         let cols = NeighbourSums::new(alloc, pattern, unit)?;
         let rows = NeighbourSums::new(alloc, sides, unit)?;
-        let cols_ahead = look_ahead(sides, &cols);
-        let rows_ahead = look_ahead(pattern, &rows);
         Ok(Rest {
             matching,
             cols,
             rows,
-            cols_ahead,
-            rows_ahead,
             next_col: 0,
         })
     }
@@ -78,9 +69,9 @@ impl<'p> Rest<'p> {
         Some((row, col))
     }
 
-    /// Takes a pair. What the next turn is likely to ask for is looked up before any sum is
-    /// lowered, so that the memory answers both at once.
-    pub fn take(&mut self, sides: &'p FromRows<'_>, row: Row, col: Col)
+    /// Takes a pair. Both lists are looked up before any sum is lowered, so that the memory answers
+    /// both at once.
+    pub fn take(&mut self, sides: &FromRows<'_>, row: Row, col: Col)
         requires rest { IsUnmatchedRest sides.now.pattern.now self.old }
         requires ones { HasOnesBut (row, col) sides.now.pattern.now self.old }
         requires free { IsFree sides.now.pattern.now self.old.matching.pairs row col }
@@ -96,11 +87,34 @@ impl<'p> Rest<'p> {
         self.matching.pair(row, col);
         let more_rows = !self.cols.has_only(pattern, col.0, row.0);
         let more_cols = !self.rows.has_only(sides, row.0, col.0);
-        let beside_col = list_of(pattern, self.rows_ahead, col.0, more_rows);
-        let beside_row = list_of(sides, self.cols_ahead, row.0, more_cols);
-        self.rows_ahead = look_again(pattern, &self.rows, self.rows_ahead, more_rows);
-        self.cols_ahead = look_again(sides, &self.cols, self.cols_ahead, more_cols);
-        self.rows.leave_out(row.0, col.0, beside_col, more_rows);
-        self.cols.leave_out(col.0, row.0, beside_row, more_cols);
+        let other_row: Option<Row> = self.cols.only_beside(pattern, col.0, row.0);
+        let other_col: Option<Col> = self.rows.only_beside(sides, row.0, col.0);
+        let one_row = other_row.as_slice();
+        let one_col = other_col.as_slice();
+        let beside_col = list_of(pattern, col.0, more_rows, one_row);
+        let beside_row = list_of(sides, row.0, more_cols, one_col);
+        self.rows.leave_out(row.0, col.0, beside_col);
+        self.cols.leave_out(col.0, row.0, beside_row);
     }
+}
+
+/// The list of this row or column, or the other one that is known to be alone in place of the list.
+/// None of its entries where it is not wanted. Where it is not wanted or one is alone, nothing is
+/// looked up.
+#[inline(always)]
+fn list_of<'p, I: Id, S: Side<I>>(side: &'p S, mate: u32, wanted: bool, alone: &'p [I]) -> &'p [I]
+    requires in_range { mate < cols (S.matrix side.now) }
+    ensures list { wanted ≡ true → length alone.now ≡ 0
+        → map I.number result.now ≡ column (S.matrix side.now) mate }
+    ensures alone { wanted ≡ true → 0 < length alone.now
+        → map I.number result.now ≡ map I.number alone.now }
+    ensures unwanted { wanted ≡ false → map I.number result.now ≡ [] }
+{
+    if !wanted {
+        return &[];
+    }
+    if alone.len() > 0 {
+        return alone;
+    }
+    side.rows_of(Col(mate))
 }

@@ -48,8 +48,6 @@ returns-clause-rest c =
       same_cols = c.requires.rest.same_cols;
       cols_sums = c.take_of_one.ensures.sums;
       rows_sums = c.take_of_one-2.ensures.sums;
-      cols_ahead = c.requires.rest.cols_ahead;
-      rows_ahead = c.requires.rest.rows_ahead;
       passed = omega (arith, c.col.view_is, inside);
       below = λ r x lt. before r x (omega (arith, c.col.view_is, lt));
     }
