@@ -7,7 +7,7 @@ use Rattle.bip_defs.specs.Paths.{Reassigns}
 use Rattle.bip_defs.specs.Queues.{Queue, at, heads}
 use Rattle.bip_defs.proofs.Queues.{head_at, one_place}
 use Rattle.bip_defs.proofs.Sets.{col_among, col_pair, one_col, one_row, row_among, row_pair}
-use Rattle.least_match.specs.Exchanges.{AgreeBeside, Hangs, Swaps}
+use Rattle.least_match.specs.Exchanges.{AgreeBeside, IsMatchedTree, Swaps}
 use Rattle.least_match.specs.Trees.{IsLedTo, LeadsBack}
 
 -- a row's pair parted
@@ -58,41 +58,41 @@ pub record HasHole (m0 m : List Place) (q : Queue) (i row : ℕ) : Type 0 where
   pub row_free : ¬ Among row (rows_of m)
   pub entries : (a : Matrix) → IsMatching a m0 → LeadsBack a m0 q → AreEntries a m
 
-pub hole_start : (m0 m : List Place) (q : Queue) (i row : ℕ) → AreDistinct (rows_of m0) → AreDistinct (cols_of m0) → Hangs m0 q → i < length q → Among (row, (at q i).0) m0 → Unpairs row m0 m → length m0 ≡ suc (length m) → HasHole m0 m q i row
-hole_start m0 m q i row rows cols hangs lt p f size = record {
+pub hole_start : (m0 m : List Place) (q : Queue) (i row : ℕ) → AreDistinct (rows_of m0) → AreDistinct (cols_of m0) → IsMatchedTree m0 q → i < length q → Among (row, (at q i).0) m0 → Unpairs row m0 m → length m0 ≡ suc (length m) → HasHole m0 m q i row
+hole_start m0 m q i row rows cols matched_tree lt p f size = record {
   within = lt;
   size = size;
   hole = parted_col row (at q i).0 m0 m cols f p;
-  kept = λ k l r g. (f (r, (at q k).0)).1 (g, row_apart m0 r row (at q k).0 (at q i).0 rows g p (cols_apart q i k hangs.distinct l lt));
+  kept = λ k l r g. (f (r, (at q k).0)).1 (g, row_apart m0 r row (at q k).0 (at q i).0 rows g p (cols_apart q i k matched_tree.distinct l lt));
   beside = λ r c off. (λ g. (f (r, c)).1 (g, row_apart m0 r row c (at q i).0 rows g p (λ e. off (subst (λ x. Among x (heads q)) (sym e) (head_at q i lt)))), λ g. ((f (r, c)).0 g).0);
   row_free = parted_row row m0 m f;
   entries = λ a k leads r c g. k.entries r c ((f (r, c)).0 g).0;
 }
 
-pub hole_step : (m0 m n : List Place) (q : Queue) (i p row s : ℕ) → AreDistinct (rows_of m) → AreDistinct (cols_of m) → Hangs m0 q → HasHole m0 m q i row → 0 < i → (at q i).1 ≡ p → Among (s, (at q p).0) m → Swaps (s, (at q i).0) s m n → length n ≡ length m → HasHole m0 n q p row
-hole_step m0 m n q i p row s rows cols hangs h some e has g size = record {
+pub hole_step : (m0 m n : List Place) (q : Queue) (i p row s : ℕ) → AreDistinct (rows_of m) → AreDistinct (cols_of m) → IsMatchedTree m0 q → HasHole m0 m q i row → 0 < i → (at q i).1 ≡ p → Among (s, (at q p).0) m → Swaps (s, (at q i).0) s m n → length n ≡ length m → HasHole m0 n q p row
+hole_step m0 m n q i p row s rows cols matched_tree h some e has g size = record {
   within = omega (arith, h.within, before);
   size = h.size ∙ ap suc (sym size);
-  hole = λ k. let (t, at_y) = col_pair (at q p).0 n k in ⊎_elim (λ f. cols_apart q i p hangs.distinct before h.within (ap (λ (z : Place). z.1) f)) (λ f. f.1 (one_row m cols t s (at q p).0 f.0 has)) ((g (t, (at q p).0)).0 at_y);
-  kept = λ k lt r at_k. let in_m = h.kept k (omega (arith, before)) r at_k in (g (r, (at q k).0)).1 (inr (in_m, row_apart m r s (at q k).0 (at q p).0 rows in_m has (cols_apart q p k hangs.distinct lt (omega (arith, h.within, before)))));
+  hole = λ k. let (t, at_y) = col_pair (at q p).0 n k in ⊎_elim (λ f. cols_apart q i p matched_tree.distinct before h.within (ap (λ (z : Place). z.1) f)) (λ f. f.1 (one_row m cols t s (at q p).0 f.0 has)) ((g (t, (at q p).0)).0 at_y);
+  kept = λ k lt r at_k. let in_m = h.kept k (omega (arith, before)) r at_k in (g (r, (at q k).0)).1 (inr (in_m, row_apart m r s (at q k).0 (at q p).0 rows in_m has (cols_apart q p k matched_tree.distinct lt (omega (arith, h.within, before)))));
   beside = λ r c off. (λ k. let in_m = (h.beside r c off).0 k in (g (r, c)).1 (inr (in_m, row_apart m r s c (at q p).0 rows in_m has (λ f. off (subst (λ x. Among x (heads q)) (sym f) (head_at q p (omega (arith, h.within, before))))))), λ k. ⊎_elim (λ f. absurd (off (subst (λ x. Among x (heads q)) (sym (ap (λ (z : Place). z.1) f)) (head_at q i h.within)))) (λ f. (h.beside r c off).1 f.0) ((g (r, c)).0 k));
   row_free = λ k. let (c, at_row) = row_pair row n k in ⊎_elim (λ f. h.row_free (subst (λ x. Among x (rows_of m)) (sym (ap (λ (z : Place). z.0) f)) (row_among s (at q p).0 m has))) (λ f. h.row_free (row_among row c m f.0)) ((g (row, c)).0 at_row);
   entries = λ a k leads r c at_c. ⊎_elim (λ f. subst (λ (z : Place). IsEntry a z.0 z.1) (sym f) (leads i some h.within s (subst (λ x. Among (s, (at q x).0) m0) (sym e) own))) (λ f. h.entries a k leads r c f.0) ((g (r, c)).0 at_c);
 }
   where
     before : p < i
-    before = let lt = hangs.behind i some h.within in omega (arith, e)
+    before = let lt = matched_tree.behind i some h.within in omega (arith, e)
 
     -- the row is that of the column's pair in m0
     own : Among (s, (at q p).0) m0
     own =
-        let (t, k) = col_pair (at q p).0 m0 (hangs.matched (at q p).0 (head_at q p (omega (arith, h.within, before)))) in
+        let (t, k) = col_pair (at q p).0 m0 (matched_tree.matched (at q p).0 (head_at q p (omega (arith, h.within, before)))) in
         subst (λ x. Among (x, (at q p).0) m0) (one_row m cols t s (at q p).0 (h.kept p before t k) has) k
 
-pub hole_matched : (m0 m : List Place) (q : Queue) (i p row : ℕ) → Hangs m0 q → HasHole m0 m q i row → 0 < i → (at q i).1 ≡ p → Among (at q p).0 (cols_of m)
-hole_matched m0 m q i p row hangs h some e =
-    let lt = hangs.behind i some h.within in
-    let (t, k) = col_pair (at q p).0 m0 (hangs.matched (at q p).0 (head_at q p (omega (arith, h.within, e)))) in
+pub hole_matched : (m0 m : List Place) (q : Queue) (i p row : ℕ) → IsMatchedTree m0 q → HasHole m0 m q i row → 0 < i → (at q i).1 ≡ p → Among (at q p).0 (cols_of m)
+hole_matched m0 m q i p row matched_tree h some e =
+    let lt = matched_tree.behind i some h.within in
+    let (t, k) = col_pair (at q p).0 m0 (matched_tree.matched (at q p).0 (head_at q p (omega (arith, h.within, e)))) in
     col_among t (at q p).0 m (h.kept p (omega (arith, e)) t k)
 
 pub hole_matching : (m0 m : List Place) (q : Queue) (i row : ℕ) → AreDistinct (rows_of m) → AreDistinct (cols_of m) → HasHole m0 m q i row → (a : Matrix) → IsMatching a m0 → LeadsBack a m0 q → IsMatching a m
@@ -127,19 +127,19 @@ pub record HasGiven (m0 n : List Place) (q : Queue) (place free i s : ℕ) : Typ
   pub beside : AgreeBeside q m0 n
   pub entries : (a : Matrix) → IsMatching a m0 → IsLedTo a m0 q → IsEntry a free (at q place).0 → AreEntries a n
 
-pub free_gives : (m0 m n : List Place) (q : Queue) (place free i f s : ℕ) → AreDistinct (rows_of m) → AreDistinct (cols_of m) → Hangs m0 q → HasFree m0 m q place free i f → Among (s, (at q i).0) m → Swaps (f, (at q i).0) s m n → length n ≡ length m → HasGiven m0 n q place free i s
-free_gives m0 m n q place free i f s rows cols hangs h has g size = record {
+pub free_gives : (m0 m n : List Place) (q : Queue) (place free i f s : ℕ) → AreDistinct (rows_of m) → AreDistinct (cols_of m) → IsMatchedTree m0 q → HasFree m0 m q place free i f → Among (s, (at q i).0) m → Swaps (f, (at q i).0) s m n → length n ≡ length m → HasGiven m0 n q place free i s
+free_gives m0 m n q place free i f s rows cols matched_tree h has g size = record {
   size = size ∙ h.size;
   row_free = λ k. let (c, at_s) = row_pair s n k in ⊎_elim (λ e. h.row_free (subst (λ x. Among x (rows_of m)) (ap (λ (z : Place). z.0) e) (row_among s (at q i).0 m has))) (λ e. e.1 refl) ((g (s, c)).0 at_s);
-  own = let (t, k) = col_pair (at q i).0 m0 (hangs.matched (at q i).0 (head_at q i h.within)) in subst (λ x. Among (x, (at q i).0) m0) (one_row m cols t s (at q i).0 (h.kept i (omega arith) t k) has) k;
-  kept = λ k lt r at_k. let in_m = h.kept k (omega arith) r at_k in (g (r, (at q k).0)).1 (inr (in_m, row_apart m r s (at q k).0 (at q i).0 rows in_m has (cols_apart q i k hangs.distinct lt h.within)));
+  own = let (t, k) = col_pair (at q i).0 m0 (matched_tree.matched (at q i).0 (head_at q i h.within)) in subst (λ x. Among (x, (at q i).0) m0) (one_row m cols t s (at q i).0 (h.kept i (omega arith) t k) has) k;
+  kept = λ k lt r at_k. let in_m = h.kept k (omega arith) r at_k in (g (r, (at q k).0)).1 (inr (in_m, row_apart m r s (at q k).0 (at q i).0 rows in_m has (cols_apart q i k matched_tree.distinct lt h.within)));
   beside = λ r c off. (λ k. let in_m = (h.beside r c off).0 k in (g (r, c)).1 (inr (in_m, row_apart m r s c (at q i).0 rows in_m has (λ e. off (subst (λ x. Among x (heads q)) (sym e) (head_at q i h.within))))), λ k. ⊎_elim (λ e. absurd (off (subst (λ x. Among x (heads q)) (sym (ap (λ (z : Place). z.1) e)) (head_at q i h.within)))) (λ e. (h.beside r c off).1 e.0) ((g (r, c)).0 k));
   entries = λ a k led e r c at_c. let old = h.entries a k led e in ⊎_elim (λ z. subst (λ (y : Place). IsEntry a y.0 y.1) (sym z) old.1) (λ z. old.0 r c z.0) ((g (r, c)).0 at_c);
 }
 
-pub free_step : (m0 n : List Place) (q : Queue) (place free i p s : ℕ) → Hangs m0 q → HasGiven m0 n q place free i s → i < length q → 0 < i → (at q i).1 ≡ p → HasFree m0 n q place free p s
-free_step m0 n q place free i p s hangs h within some e =
-    let lt = hangs.behind i some within in
+pub free_step : (m0 n : List Place) (q : Queue) (place free i p s : ℕ) → IsMatchedTree m0 q → HasGiven m0 n q place free i s → i < length q → 0 < i → (at q i).1 ≡ p → HasFree m0 n q place free p s
+free_step m0 n q place free i p s matched_tree h within some e =
+    let lt = matched_tree.behind i some within in
     record {
       within = omega (arith, e);
       size = h.size;
@@ -149,8 +149,8 @@ free_step m0 n q place free i p s hangs h within some e =
       entries = λ a k led f. (h.entries a k led f, subst (λ x. IsEntry a s (at q x).0) e (led i some within s h.own));
     }
 
-pub free_matched : (m0 m : List Place) (q : Queue) (place free i f : ℕ) → Hangs m0 q → HasFree m0 m q place free i f → Among (at q i).0 (cols_of m)
-free_matched m0 m q place free i f hangs h = let (t, k) = col_pair (at q i).0 m0 (hangs.matched (at q i).0 (head_at q i h.within)) in col_among t (at q i).0 m (h.kept i (omega arith) t k)
+pub free_matched : (m0 m : List Place) (q : Queue) (place free i f : ℕ) → IsMatchedTree m0 q → HasFree m0 m q place free i f → Among (at q i).0 (cols_of m)
+free_matched m0 m q place free i f matched_tree h = let (t, k) = col_pair (at q i).0 m0 (matched_tree.matched (at q i).0 (head_at q i h.within)) in col_among t (at q i).0 m (h.kept i (omega arith) t k)
 
 pub given_matching : (m0 n : List Place) (q : Queue) (place free i s : ℕ) → AreDistinct (rows_of n) → AreDistinct (cols_of n) → HasGiven m0 n q place free i s → (a : Matrix) → IsMatching a m0 → IsLedTo a m0 q → IsEntry a free (at q place).0 → IsMatching a n
 given_matching m0 n q place free i s rows cols h a k led e = record { entries = h.entries a k led e; rows_differ = rows; cols_differ = cols }

@@ -1,3 +1,4 @@
+pub mod AheadLemmas
 pub mod ClassLemmas
 pub mod EndLemmas
 pub mod ExchangeLemmas

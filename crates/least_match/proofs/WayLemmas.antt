@@ -9,13 +9,13 @@ use Rattle.bip_defs.proofs.Exchange.{adds_pair}
 use Rattle.bip_defs.proofs.Queues.{head_at}
 use Rattle.bip_defs.proofs.Reaching.{same_size_maximum}
 use Rattle.bip_defs.proofs.Sets.{col_among, col_pair, number_among, one_col, one_row, row_among}
-use Rattle.least_match.specs.Exchanges.{AgreeBeside, Frees, Hangs, Swaps}
+use Rattle.least_match.specs.Exchanges.{AgreeBeside, Frees, IsMatchedTree, Swaps}
 use Rattle.least_match.specs.Extensions.{HasAt}
 use Rattle.least_match.specs.Trees.{AreSearchTrees, IsLedTo, IsTree}
 use Rattle.least_match.proofs.ExchangeLemmas.{Unpairs, parted_col, parted_row}
 
-pub hangs : (a : Matrix) (m : List Place) (classes : List ℕ) (j first : ℕ) (q : Queue) → IsTree a m classes j first q → Hangs m q
-hangs a m classes j first q t = record { distinct = t.distinct; matched = t.matched; behind = t.behind }
+pub matched_tree : (a : Matrix) (m : List Place) (classes : List ℕ) (j first : ℕ) (q : Queue) → IsTree a m classes j first q → IsMatchedTree m q
+matched_tree a m classes j first q t = record { distinct = t.distinct; matched = t.matched; behind = t.behind }
 
 -- the first column of the backward tree has lost its mate
 pub record HasVacated (a : Matrix) (m n : List Place) (j : ℕ) (b : Queue) : Type 0 where
@@ -54,8 +54,8 @@ module _ (a : Matrix) (m : List Place) (classes : List ℕ) (j d : ℕ) (f b : Q
     col_fresh c free h = let (r, p) = col_pair c n h in free (col_among r c m ((v.beside r c (λ on. free (t.backward_tree.matched c on))).1 p))
 
     -- the forward tree is as before
-    pub forward_hangs : Hangs n f
-    forward_hangs = record {
+    pub forward_matched_tree : IsMatchedTree n f
+    forward_matched_tree = record {
       distinct = t.forward_tree.distinct;
       matched = λ c h. let (r, p) = col_pair c m (t.forward_tree.matched c h) in col_among r c n ((v.beside r c (t.apart c h)).0 p);
       behind = t.forward_tree.behind;

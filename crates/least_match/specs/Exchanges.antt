@@ -10,7 +10,7 @@ use Rattle.least_match.specs.declared.exchange.Meeting.{Meeting}
 use Rattle.least_match.specs.declared.exchange.Meeting.TheVariants.{FreeCol, FreeRow, Trees}
 
 -- distinct matched columns, each but the first behind its parent
-pub record Hangs (m : List Place) (q : Queue) : Type 0 where
+pub record IsMatchedTree (m : List Place) (q : Queue) : Type 0 where
   pub distinct : AreDistinct (heads q)
   pub matched : (c : ℕ) → Among c (heads q) → Among c (cols_of m)
   pub behind : (i : ℕ) → 0 < i → i < length q → (at q i).1 < i

@@ -1,3 +1,4 @@
+pub mod Ahead
 pub mod Classes
 pub mod Exchanges
 pub mod Extensions

@@ -44,10 +44,12 @@ BackwardDecides Vertical = ⊥
 
 -- a tree ends where all of its columns were looked at and that decides, and only a tree with columns left grows
 abbrev pub IsTurn : Part → ℕ → ℕ → ℕ → ℕ → Turn → Type 0
-IsTurn part ahead forward back backward EndForward = (ahead ≡ forward) × ForwardDecides part
-IsTurn part ahead forward back backward EndBackward = (back ≡ backward) × BackwardDecides part
-IsTurn part ahead forward back backward GrowForward = ahead < forward
-IsTurn part ahead forward back backward GrowBackward = back < backward
+IsTurn part forward_done forward backward_done backward EndForward = (forward_done ≡ forward)
+    × ForwardDecides part
+IsTurn part forward_done forward backward_done backward EndBackward = (backward_done ≡ backward)
+    × BackwardDecides part
+IsTurn part forward_done forward backward_done backward GrowForward = forward_done < forward
+IsTurn part forward_done forward backward_done backward GrowBackward = backward_done < backward
 
 abbrev pub AreScanned : Matrix → List Place → List ℕ → ℕ → Queue → ℕ → Type 0
 AreScanned a m classes j q n = (i : ℕ) → i < n → IsScanned a m classes j q (at q i).0

@@ -1,59 +1,107 @@
-//! Lists of the columns of a tree, looked up before their turn.
+//! First entries of the lists that a search looks at next, read before their turn.
 
-ghost use Rattle.std.specs.Prelude.{ℕ, ◌+◌, ◌<◌, length};
+ghost use Rattle.std.specs.Prelude.{◌≡◌, ℕ, ◌<◌, length, get_or, slice_index};
 ghost use Rattle.bip_defs.specs.Lists.{Among, Lists};
 ghost use Rattle.bip_defs.specs.Matching.{cols_of};
-ghost use Rattle.bip_defs.specs.Matrix.{IsEntry, cols};
+ghost use Rattle.bip_defs.specs.Matrix.{IsEntry, cols, column, row_list};
 ghost use Rattle.bip_defs.specs.Queues.{at};
 ghost use Rattle.bip_graph.specs.Matching.{IsMatchingOf};
+ghost use Rattle.least_match.specs.Ahead.{AreFirstCols, AreFirstRows};
 
 use crate::search::ClassTail;
 use crate::tree::Tree;
 use bip_graph::Matching;
 use sp_ids::{Col, Row};
-use sp_pattern::Pattern;
 
-/// A column and its rows, looked up before its turn.
-#[derive(Clone, Copy)]
-pub struct RowsAhead<'p> {
-    pub col: u32,
-    pub rows: &'p [Row],
+/// How many lists of a tree are begun at a time, so that their reads wait for memory together.
+pub const LISTS: usize = 8;
+
+/// The rows of a column or the columns of a row, of which the first may have been read before the
+/// others.
+#[derive(Drop)]
+pub struct IdList<'p, I> {
+    first: I,
+    ids: &'p [I],
+    ghost first_is: { 0 < length ids.now → first ≡ get_or ids.now 0 first },
 }
 
-/// A row and its columns, looked up before its turn.
-#[derive(Clone, Copy)]
-pub struct ColsAhead<'p> {
-    pub row: u32,
-    pub cols: &'p [Col],
-}
+impl<I: Copy> IdList<'_, I> {
+    /// How many there are.
+    pub fn len(&self) -> usize
+        ensures { result ≡ length self.now.ids.now }
+    {
+        self.ids.len()
+    }
 
-// The place behind one in a queue of so many; the same where it is the last.
-fn next_place(place: u32, len: u32) -> u32
-    requires { place < len }
-    ensures { result < len }
-{
-    let next = place + 1;
-    if next < len { next } else { place }
+    /// The one at an index.
+    #[inline(always)]
+    pub fn at(&self, index: usize) -> I
+        requires { index < length self.now.ids.now }
+        ensures { result ≡ get_or self.now.ids.now index result }
+    {
+        if index == 0 {
+            self.first
+        } else {
+            self.ids[index]
+        }
+    }
 }
 
 impl<'p> ClassTail<'p> {
-    /// The rows of the column behind a place of a forward tree, so that they are at hand at its
-    /// turn; where there is none yet, those of the column at the place.
-    pub fn rows_ahead(&self, forward: &Tree, place: u32) -> RowsAhead<'p>
+    /// The first entry of the column at a place of a forward tree, and those of the next ones, each
+    /// at the remainder of its place by [`LISTS`].
+    pub fn first_rows(&self, forward: &Tree, place: u32) -> [(Row, Col); LISTS]
         requires place { place < length forward.now.queue }
         requires in_range { (i : ℕ) → i < length forward.now.queue
             → (at forward.now.queue i).0 < cols self.now.pattern.now }
-        ensures { Lists (λ r. IsEntry self.now.pattern.now r result.col) result.rows.now }
+        ensures { AreFirstRows self.now.pattern.now result }
     {
-        let len = forward.len();
-        let next = next_place(place, len);
-        let (col, _) = forward.at(next);
-        let rows = self.pattern.rows_of(col);
-        RowsAhead { col: col.0, rows }
+        let (col, _) = forward.at(place);
+        let row = first_row(self.pattern.rows_of(col));
+        let mut entries = [(row, col); LISTS];
+        let end = forward.len().min(place.saturating_add(LISTS as u32));
+        for next in place..end {
+            let (col, _) = forward.at(next);
+            let row = first_row(self.pattern.rows_of(col));
+            entries[next as usize % LISTS] = (row, col);
+        }
+        entries
     }
 
-    /// The row of the column at a place of a backward tree.
-    pub fn row_at(&self, matching: &Matching, backward: &Tree, place: u32) -> Row
+    /// The rows of the column at a place of a forward tree. Where its first entry was not read
+    /// ahead, it is read now, and those of the next columns too.
+    pub fn rows_at(
+        &self,
+        forward: &Tree,
+        place: u32,
+        ahead: &mut [(Row, Col); LISTS],
+    ) -> IdList<'p, Row>
+        requires place { place < length forward.now.queue }
+        requires in_range { (i : ℕ) → i < length forward.now.queue
+            → (at forward.now.queue i).0 < cols self.now.pattern.now }
+        requires ahead { AreFirstRows self.now.pattern.now ahead.old }
+        ensures ahead { AreFirstRows self.now.pattern.now ahead.new }
+        ensures rows { Lists
+            (λ r. IsEntry self.now.pattern.now r (at forward.now.queue place).0) result.ids.now }
+    {
+        let (col, _) = forward.at(place);
+        let (row, of) = ahead[place as usize % LISTS];
+        let rows = self.pattern.rows_of(col);
+        if of == col {
+            return IdList {
+                first: row,
+                ids: rows,
+            };
+        }
+        *ahead = self.first_rows(forward, place);
+        IdList {
+            first: first_row(rows),
+            ids: rows,
+        }
+    }
+
+    // The row of the column at a place of a backward tree.
+    fn row_at(&self, matching: &Matching, backward: &Tree, place: u32) -> Row
         requires matching { IsMatchingOf self.now.pattern.now matching.now }
         requires place { place < length backward.now.queue }
         requires matched { (i : ℕ) → i < length backward.now.queue
@@ -65,43 +113,83 @@ impl<'p> ClassTail<'p> {
         matching.mate(col)
     }
 
-    /// The columns of the row of the column behind a place of a backward tree, so that they are at
-    /// hand at its turn; where there is none yet, those of the row of the column at the place.
-    pub fn cols_ahead(&self, matching: &Matching, backward: &Tree, place: u32) -> ColsAhead<'p>
+    /// The first entry of the row of the column at a place of a backward tree, and those of the
+    /// next ones, each at the remainder of its place by [`LISTS`].
+    pub fn first_cols(
+        &self,
+        matching: &Matching,
+        backward: &Tree,
+        place: u32,
+    ) -> [(Row, Col); LISTS]
         requires matching { IsMatchingOf self.now.pattern.now matching.now }
         requires place { place < length backward.now.queue }
         requires matched { (i : ℕ) → i < length backward.now.queue
             → Among (at backward.now.queue i).0 (cols_of matching.now.pairs) }
-        ensures { Lists (λ c. IsEntry self.now.pattern.now result.row c) result.cols.now }
+        ensures { AreFirstCols self.now.pattern.now result }
     {
-        let len = backward.len();
-        let next = next_place(place, len);
-        let row = self.row_at(matching, backward, next);
+        let row = self.row_at(matching, backward, place);
+        let col = first_col(self.pattern.cols_of(row));
+        let mut entries = [(row, col); LISTS];
+        let end = backward.len().min(place.saturating_add(LISTS as u32));
+        for next in place..end {
+            let row = self.row_at(matching, backward, next);
+            let col = first_col(self.pattern.cols_of(row));
+            entries[next as usize % LISTS] = (row, col);
+        }
+        entries
+    }
+
+    /// The columns of the row of the column at a place of a backward tree. Where its first entry
+    /// was not read ahead, it is read now, and those of the next rows too.
+    pub fn cols_at(
+        &self,
+        matching: &Matching,
+        backward: &Tree,
+        place: u32,
+        ahead: &mut [(Row, Col); LISTS],
+    ) -> IdList<'p, Col>
+        requires matching { IsMatchingOf self.now.pattern.now matching.now }
+        requires place { place < length backward.now.queue }
+        requires matched { (i : ℕ) → i < length backward.now.queue
+            → Among (at backward.now.queue i).0 (cols_of matching.now.pairs) }
+        requires ahead { AreFirstCols self.now.pattern.now ahead.old }
+        ensures ahead { AreFirstCols self.now.pattern.now ahead.new }
+        ensures cols { (r : ℕ) × Among (r, (at backward.now.queue place).0) matching.now.pairs
+            × Lists (λ c. IsEntry self.now.pattern.now r c) result.ids.now }
+    {
+        let row = self.row_at(matching, backward, place);
+        let (of, col) = ahead[place as usize % LISTS];
         let cols = self.pattern.cols_of(row);
-        ColsAhead { row: row.0, cols }
+        if of == row {
+            return IdList {
+                first: col,
+                ids: cols,
+            };
+        }
+        *ahead = self.first_cols(matching, backward, place);
+        IdList {
+            first: first_col(cols),
+            ids: cols,
+        }
     }
 }
 
-/// The rows of a column, as they were looked up ahead or else are looked up now.
-pub fn rows_at<'p>(pattern: &'p Pattern, ahead: RowsAhead<'p>, col: Col) -> &'p [Row]
-    requires col { col < cols pattern.now }
-    requires ahead { Lists (λ r. IsEntry pattern.now r ahead.col) ahead.rows.now }
-    ensures { Lists (λ r. IsEntry pattern.now r col) result.now }
+// The first of the rows, or 0.
+fn first_row(rows: &[Row]) -> Row
+    ensures { result ≡ slice_index rows.now 0 }
 {
-    if ahead.col == col.0 {
-        return ahead.rows;
+    match rows.first() {
+        Some(row) => *row,
+        None => Row(0),
     }
-    pattern.rows_of(col)
 }
 
-/// The columns of a row, as they were looked up ahead or else are looked up now.
-pub fn cols_at<'p>(pattern: &'p Pattern, ahead: ColsAhead<'p>, row: Row) -> &'p [Col]
-    requires row { row < pattern.now.rows }
-    requires ahead { Lists (λ c. IsEntry pattern.now ahead.row c) ahead.cols.now }
-    ensures { Lists (λ c. IsEntry pattern.now row c) result.now }
+// The first of the columns, or 0.
+fn first_col(cols: &[Col]) -> Col
+    ensures { result ≡ slice_index cols.now 0 }
 {
-    if ahead.row == row.0 {
-        return ahead.cols;
+    match cols.first() {
+        Some(col) => *col,
+        None => Col(0),
     }
-    pattern.cols_of(row)
 }

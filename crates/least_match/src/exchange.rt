@@ -6,7 +6,7 @@ ghost use Rattle.bip_defs.specs.Matching.{IsMatching, cols_of, rows_of};
 ghost use Rattle.bip_defs.specs.Matrix.{IsEntry, Matrix, Place};
 ghost use Rattle.bip_defs.specs.Queues.{at};
 ghost use Rattle.bip_graph.specs.Matching.{IsPairing};
-ghost use Rattle.least_match.specs.Exchanges.{AgreeBeside, Hangs, Swaps};
+ghost use Rattle.least_match.specs.Exchanges.{AgreeBeside, IsMatchedTree, Swaps};
 ghost use Rattle.least_match.specs.Trees.{IsLedTo, LeadsBack};
 
 use crate::tree::Tree;
@@ -82,7 +82,7 @@ pub fn pass(matching: &mut Matching, from: Col, to: Col)
 /// row.
 pub fn vacate(matching: &mut Matching, tree: &Tree, place: u32) -> Row
     requires place { place < length tree.now.queue }
-    requires tree { Hangs matching.old.pairs tree.now.queue }
+    requires tree { IsMatchedTree matching.old.pairs tree.now.queue }
     ensures row { Among (result, (at tree.now.queue place).0) matching.old.pairs }
     ensures in_range { result < matching.old.rows }
     ensures row_free { ¬ Among result (rows_of matching.new.pairs) }
@@ -112,7 +112,7 @@ pub fn vacate(matching: &mut Matching, tree: &Tree, place: u32) -> Row
 /// so on up to the first column, whose row is left without a mate.
 pub fn shift(matching: &mut Matching, tree: &Tree, place: u32, free: Row)
     requires place { place < length tree.now.queue }
-    requires tree { Hangs matching.old.pairs tree.now.queue }
+    requires tree { IsMatchedTree matching.old.pairs tree.now.queue }
     requires free { ¬ Among free (rows_of matching.old.pairs) }
     requires in_range { free < matching.old.rows }
     ensures row_free { (r : ℕ) × Among (r, (at tree.now.queue 0).0) matching.old.pairs

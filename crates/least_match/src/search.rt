@@ -12,7 +12,7 @@ ghost use Rattle.least_match.specs.Exchanges.{Meets};
 ghost use Rattle.least_match.specs.Outcomes.{EndsAs, IsIn, IsTurn};
 ghost use Rattle.least_match.specs.Trees.{AreSearchTrees, Enters, HaveCols, IsScanned, IsScannedBack, LeadsTo, Looks};
 
-use crate::ahead::{cols_at, rows_at};
+use crate::ahead::IdList;
 use crate::exchange::Meeting;
 use crate::parts::Part;
 use crate::tree::{SearchTrees, Tree};
@@ -162,14 +162,14 @@ impl ClassTail<'_> {
         &self,
         matching: &Matching,
         place: u32,
-        rows: &[Row],
+        rows: &IdList<'_, Row>,
         trees: &mut SearchTrees,
     ) -> Option<Meeting>
         requires matching { IsMatchingOf self.now.pattern.now matching.now }
         requires cols { HaveCols (cols self.now.pattern.now) trees.old }
         requires place { place < length trees.old.forward.queue }
         requires rows { Lists
-            (λ r. IsEntry self.now.pattern.now r (at trees.old.forward.queue place).0) rows.now }
+            (λ r. IsEntry self.now.pattern.now r (at trees.old.forward.queue place).0) rows.now.ids.now }
         ensures cols { HaveCols (cols self.now.pattern.now) trees.new }
         ensures other { trees.new.backward ≡ trees.old.backward }
         ensures grows { IsPrefix trees.old.forward.queue trees.new.forward.queue }
@@ -184,8 +184,8 @@ impl ClassTail<'_> {
             (IsScanned self.now.pattern.now matching.now.pairs self.now.classes.now self.now.col
             trees.new.forward.queue (at trees.new.forward.queue place).0) }
     {
-        for row in rows {
-            match self.look_forward(matching, *row, place, trees) {
+        for index in 0..rows.len() {
+            match self.look_forward(matching, rows.at(index), place, trees) {
                 Some(meeting) => return Some(meeting),
                 None => {}
             }
@@ -199,7 +199,7 @@ impl ClassTail<'_> {
         &self,
         matching: &Matching,
         place: u32,
-        found: &[Col],
+        found: &IdList<'_, Col>,
         trees: &mut SearchTrees,
     ) -> Option<Meeting>
         requires matching { IsMatchingOf self.now.pattern.now matching.now }
@@ -207,7 +207,7 @@ impl ClassTail<'_> {
         requires cols { HaveCols (cols self.now.pattern.now) trees.old }
         requires place { place < length trees.old.backward.queue }
         requires found { (r : ℕ) × Among (r, (at trees.old.backward.queue place).0)
-            matching.now.pairs × Lists (λ c. IsEntry self.now.pattern.now r c) found.now }
+            matching.now.pairs × Lists (λ c. IsEntry self.now.pattern.now r c) found.now.ids.now }
         ensures cols { HaveCols (cols self.now.pattern.now) trees.new }
         ensures other { trees.new.forward ≡ trees.old.forward }
         ensures grows { IsPrefix trees.old.backward.queue trees.new.backward.queue }
@@ -222,8 +222,8 @@ impl ClassTail<'_> {
             (IsScannedBack self.now.pattern.now matching.now.pairs self.now.classes.now
             self.now.col trees.new.backward.queue (at trees.new.backward.queue place).0) }
     {
-        for next in found {
-            match self.look_back(matching, *next, place, trees) {
+        for index in 0..found.len() {
+            match self.look_back(matching, found.at(index), place, trees) {
                 Some(meeting) => return Some(meeting),
                 None => {}
             }
@@ -236,8 +236,8 @@ impl ClassTail<'_> {
     ///
     /// The tree of which fewer entries were looked at grows next, so that a search which fails
     /// costs about as much as the set with fewer entries of the two that it parts, and the entries
-    /// of one column or one row more. Of each tree the list that it looks at next is looked up
-    /// before the one at hand is gone through.
+    /// of one column or one row more. Of each tree the first entries of the lists that it looks at
+    /// next are read together, before the one at hand is gone through.
     pub fn search(
         &self,
         matching: &Matching,
@@ -260,41 +260,37 @@ impl ClassTail<'_> {
             self.now.col trees.new.forward.queue trees.new.backward.queue result }
     {
         self.begin(first, trees);
-        let mut rows_ahead = self.rows_ahead(&trees.forward, 0);
-        let mut cols_ahead = self.cols_ahead(matching, &trees.backward, 0);
-        let mut ahead: u32 = 0;
-        let mut back: u32 = 0;
-        let mut looked_ahead: u64 = 0;
-        let mut looked_back: u64 = 0;
+        let mut next_rows = self.first_rows(&trees.forward, 0);
+        let mut next_cols = self.first_cols(matching, &trees.backward, 0);
+        let mut forward_at: u32 = 0;
+        let mut backward_at: u32 = 0;
+        let mut forward_looks: u64 = 0;
+        let mut backward_looks: u64 = 0;
         loop {
-            let forward_first = looked_ahead <= looked_back;
-            let ahead_scan = scan_of(&trees.forward, ahead);
-            let back_scan = scan_of(&trees.backward, back);
-            match next_turn(part, ahead_scan, back_scan, forward_first) {
+            let forward_scan = scan_of(&trees.forward, forward_at);
+            let backward_scan = scan_of(&trees.backward, backward_at);
+            let forward_first = forward_looks <= backward_looks;
+            match next_turn(part, forward_scan, backward_scan, forward_first) {
                 Turn::EndForward => return Outcome::ForwardEnds,
                 Turn::EndBackward => return Outcome::BackwardEnds,
                 Turn::GrowForward => {
-                    let (col, _) = trees.forward.at(ahead);
-                    let rows = rows_at(self.pattern, rows_ahead, col);
-                    rows_ahead = self.rows_ahead(&trees.forward, ahead);
-                    match self.scan_forward(matching, ahead, rows, trees) {
+                    let rows = self.rows_at(&trees.forward, forward_at, &mut next_rows);
+                    match self.scan_forward(matching, forward_at, &rows, trees) {
                         Some(meeting) => return Outcome::Path(meeting),
                         None => {}
                     }
-                    looked_ahead = looked_ahead.saturating_add(rows.len() as u64);
-                    ahead += 1;
+                    forward_looks = forward_looks.saturating_add(rows.len() as u64);
+                    forward_at += 1;
                     continue;
                 }
                 Turn::GrowBackward => {
-                    let row = self.row_at(matching, &trees.backward, back);
-                    let cols = cols_at(self.pattern, cols_ahead, row);
-                    cols_ahead = self.cols_ahead(matching, &trees.backward, back);
-                    match self.scan_back(matching, back, cols, trees) {
+                    let cols = self.cols_at(matching, &trees.backward, backward_at, &mut next_cols);
+                    match self.scan_back(matching, backward_at, &cols, trees) {
                         Some(meeting) => return Outcome::Path(meeting),
                         None => {}
                     }
-                    looked_back = looked_back.saturating_add(cols.len() as u64);
-                    back += 1;
+                    backward_looks = backward_looks.saturating_add(cols.len() as u64);
+                    backward_at += 1;
                     continue;
                 }
             }

@@ -5,21 +5,21 @@ use Rattle.bip_defs.proofs.Queues.{head_at}
 use Rattle.bip_defs.proofs.Sets.{rising_distinct}
 use Rattle.least_match.specs.Exchanges.{Meets}
 use Rattle.least_match.proofs.ExchangeLemmas.{parted_free}
-use Rattle.least_match.proofs.WayLemmas.{col_fresh, forward_hangs, forward_led, hangs, j_on, parted_vacates, shifted_frees, still_matched, taken_frees, vacate_vacates}
+use Rattle.least_match.proofs.WayLemmas.{col_fresh, forward_matched_tree, forward_led, matched_tree, j_on, parted_vacates, shifted_frees, still_matched, taken_frees, vacate_vacates}
 use Rattle.least_match.proofs.search.ClassTail.exchange_path.Goals as goal
 
 pub vacate-row-requires-clause-tree : goal.vacate-row-requires-clause-tree
-vacate-row-requires-clause-tree c = hangs _ _ _ _ _ _ c.requires.trees.1.backward_tree
+vacate-row-requires-clause-tree c = matched_tree _ _ _ _ _ _ c.requires.trees.1.backward_tree
 
 pub vacate-row-requires-in-FreeCol-clause-tree : goal.vacate-row-requires-in-FreeCol-clause-tree
-vacate-row-requires-in-FreeCol-clause-tree c = hangs _ _ _ _ _ _ c.requires.trees.1.backward_tree
+vacate-row-requires-in-FreeCol-clause-tree c = matched_tree _ _ _ _ _ _ c.requires.trees.1.backward_tree
 
 pub shift-requires-clause-tree : goal.shift-requires-clause-tree
 shift-requires-clause-tree c =
     let k = c.requires.matching.matching in
     let t = c.requires.trees.1 in
     let e = c.vacate-row.ensures in
-    forward_hangs _ _ _ _ _ _ _ k t _ (vacate_vacates _ _ _ _ _ _ _ k t _ (e.matching _ k t.backward_leads) e.size e.col_free e.beside)
+    forward_matched_tree _ _ _ _ _ _ _ k t _ (vacate_vacates _ _ _ _ _ _ _ k t _ (e.matching _ k t.backward_leads) e.size e.col_free e.beside)
 
 pub unpair_col-requires : goal.unpair_col-requires
 unpair_col-requires c =
@@ -30,7 +30,7 @@ pub shift-requires-in-FreeRow-clause-tree : goal.shift-requires-in-FreeRow-claus
 shift-requires-in-FreeRow-clause-tree c =
     let k = c.requires.matching.matching in
     let t = c.requires.trees.1 in
-    forward_hangs _ _ _ _ _ _ _ k t _ (parted_vacates _ _ _ _ _ _ _ k t _ _ c.unpair_col.ensures.pairings.1.rows_differ (rising_distinct _ c.unpair_col.ensures.pairings.1.cols_rise) c.unpair_col.ensures.row c.unpair_col.ensures.pairs c.unpair_col.ensures.size)
+    forward_matched_tree _ _ _ _ _ _ _ k t _ (parted_vacates _ _ _ _ _ _ _ k t _ _ c.unpair_col.ensures.pairings.1.rows_differ (rising_distinct _ c.unpair_col.ensures.pairings.1.cols_rise) c.unpair_col.ensures.row c.unpair_col.ensures.pairs c.unpair_col.ensures.size)
 
 pub shift-requires-in-FreeRow-clause-free : goal.shift-requires-in-FreeRow-clause-free
 shift-requires-in-FreeRow-clause-free c =
@@ -50,7 +50,7 @@ unpair_col-requires-in-FreeCol c =
     let k = c.requires.matching.matching in
     let t = c.requires.trees.1 in
     let e = c.vacate-row-in-FreeCol.ensures in
-    let h = forward_hangs _ _ _ _ _ _ _ k t _ (vacate_vacates _ _ _ _ _ _ _ k t _ (e.matching _ k t.backward_leads) e.size e.col_free e.beside) in
+    let h = forward_matched_tree _ _ _ _ _ _ _ k t _ (vacate_vacates _ _ _ _ _ _ _ k t _ (e.matching _ k t.backward_leads) e.size e.col_free e.beside) in
     subst (λ (x : ℕ × ℕ). Among x.0 (cols_of c.pair.new.self.pairs)) (sym c.at-first.ensures) (still_matched _ _ _ _ c.pair.ensures.added (h.matched _ (head_at c.args.trees.now.forward.queue 0 t.forward_tree.some)))
 
 pub returns-in-Trees-clause-frees : goal.returns-in-Trees-clause-frees

@@ -1,4 +1,4 @@
-use Rattle.std.proofs.Common.{◌⊎◌, ◌∙◌, ◌<◌, ℕ, ap, arith, length, refl, subst, sym}
+use Rattle.std.proofs.Common.{◌⊎◌, ◌∙◌, ◌<◌, ◌≤◌, ℕ, ap, arith, length, refl, subst, sym}
 use Rattle.std.proofs.lemmas.List.{get_or_read}
 use Rattle.bip_defs.specs.Lists.{Among}
 use Rattle.bip_defs.specs.Matrix.{Place}
@@ -13,33 +13,39 @@ use Rattle.least_match.proofs.SearchLemmas.{col_leads, col_stays, item_among, ea
 use Rattle.least_match.proofs.search.ClassTail.scan_back.Goals as goal
 
 pub look_back-requires-clause-place : goal.look_back-requires-clause-place
-look_back-requires-clause-place c = let le = grown_length _ _ c.loop-next.invariant.grows in omega (arith, le, c.requires.place)
+look_back-requires-clause-place c = let le = grown_length _ _ c.loop-index.invariant.grows in omega (arith, le, c.requires.place)
 
 pub look_back-requires-clause-next : goal.look_back-requires-clause-next
-look_back-requires-clause-next c = entry_col _ _ _ (c.requires.found.2.sound _ (item_among c.args.found.now c.loop-next.next-index c.next-item.result c.next-item.is c.loop-next-test.true))
+look_back-requires-clause-next c =
+    let lt : c.loop-index.index < length c.args.found.now.ids.now = omega (arith, c.loop-index-test.true, c.len-index-end.ensures) in
+    entry_col _ _ _ (c.requires.found.2.sound _ (item_among c.args.found.now.ids.now c.loop-index.index c.at.result c.at.ensures lt))
 
 pub look_back-requires-clause-leads : goal.look_back-requires-clause-leads
-look_back-requires-clause-leads c = col_leads _ _ c.args.found.now c.loop-next.next-index c.next-item.result c.requires.found.0 _ _ c.requires.matching.matching c.requires.found.1 c.requires.found.2 c.next-item.is c.loop-next-test.true (col_stays _ _ c.args.place _ c.loop-next.invariant.grows c.requires.place refl)
+look_back-requires-clause-leads c =
+    let lt : c.loop-index.index < length c.args.found.now.ids.now = omega (arith, c.loop-index-test.true, c.len-index-end.ensures) in
+    col_leads _ _ c.args.found.now.ids.now c.loop-index.index c.at.result c.requires.found.0 _ _ c.requires.matching.matching c.requires.found.1 c.requires.found.2 c.at.ensures lt (col_stays _ _ c.args.place _ c.loop-index.invariant.grows c.requires.place refl)
 
 pub returns-in-Some-clause-trees : goal.returns-in-Some-clause-trees
-returns-in-Some-clause-trees c = λ d t. subst (λ (z : SearchTrees). AreSearchTrees c.args.self.now.pattern.now c.args.matching.now.pairs c.args.self.now.classes.now c.args.self.now.col d z.forward.queue z.backward.queue) (sym c.in-Some.ensures.same) (c.loop-next.invariant.trees d t)
+returns-in-Some-clause-trees c = λ d t. subst (λ (z : SearchTrees). AreSearchTrees c.args.self.now.pattern.now c.args.matching.now.pairs c.args.self.now.classes.now c.args.self.now.col d z.forward.queue z.backward.queue) (sym c.in-Some.ensures.same) (c.loop-index.invariant.trees d t)
 
-pub loop-next-preserved : goal.loop-next-preserved
-loop-next-preserved c =
-    let i = c.loop-next.invariant in
+pub loop-index-preserved : goal.loop-index-preserved
+loop-index-preserved c =
+    let lt : c.loop-index.index < length c.args.found.now.ids.now = omega (arith, c.loop-index-test.true, c.len-index-end.ensures) in
+    let i = c.loop-index.invariant in
     let s = c.in-None.ensures.seen in
     let grows = looks_prefix _ _ _ _ _ _ _ _ _ s in
     let le = grown_length _ _ i.grows in
-    let place : c.args.place < length c.loop-next.trees.backward.queue = omega (arith, le, c.requires.place) in
+    let place : c.args.place < length c.loop-index.trees.backward.queue = omega (arith, le, c.requires.place) in
     record {
       cols = c.in-None.ensures.cols;
       other = c.in-None.ensures.other ∙ i.other;
       grows = grows_more _ _ _ i.grows grows;
-      trees = λ d t. subst (λ (z : Reached). AreSearchTrees c.args.self.now.pattern.now c.args.matching.now.pairs c.args.self.now.classes.now c.args.self.now.col d z.queue c.look_back.new.trees.backward.queue) (sym c.in-None.ensures.other) (looks_back _ _ _ _ d _ _ _ _ _ (i.trees d t) s place (col_leads _ _ c.args.found.now c.loop-next.next-index c.next-item.result c.requires.found.0 _ _ c.requires.matching.matching c.requires.found.1 c.requires.found.2 c.next-item.is c.loop-next-test.true (col_stays _ _ c.args.place _ c.loop-next.invariant.grows c.requires.place refl)));
-      seen = each_more (λ x. IsOther c.args.self.now.classes.now c.args.self.now.col x ⊎ Among x (heads c.look_back.new.trees.backward.queue)) c.args.found.now c.loop-next.next-index c.next-item.result (seen_grown_back _ _ _ _ _ i.seen grows) c.loop-next-test.true (sym (get_or_read c.args.found.now c.loop-next.next-index c.next-item.result c.loop-next-test.true c.next-item.is 0)) (looks_seen _ _ _ _ _ _ _ _ _ s);
+      trees = λ d t. subst (λ (z : Reached). AreSearchTrees c.args.self.now.pattern.now c.args.matching.now.pairs c.args.self.now.classes.now c.args.self.now.col d z.queue c.look_back.new.trees.backward.queue) (sym c.in-None.ensures.other) (looks_back _ _ _ _ d _ _ _ _ _ (i.trees d t) s place (col_leads _ _ c.args.found.now.ids.now c.loop-index.index c.at.result c.requires.found.0 _ _ c.requires.matching.matching c.requires.found.1 c.requires.found.2 c.at.ensures lt (col_stays _ _ c.args.place _ c.loop-index.invariant.grows c.requires.place refl)));
+      seen = each_more (λ x. IsOther c.args.self.now.classes.now c.args.self.now.col x ⊎ Among x (heads c.look_back.new.trees.backward.queue)) c.args.found.now.ids.now c.loop-index.index c.at.result (seen_grown_back _ _ _ _ _ i.seen grows) lt (sym (get_or_read c.args.found.now.ids.now c.loop-index.index c.at.result lt c.at.ensures 0)) (looks_seen _ _ _ _ _ _ _ _ _ s);
     }
 
 pub returns-clause-scanned : goal.returns-clause-scanned
 returns-clause-scanned c =
-    let here = ap (λ (x : ℕ × ℕ). x.0) (sym (grown_at _ _ c.args.place c.loop-next.invariant.grows c.requires.place)) in
-    seen_scanned_back c.args.self.now.pattern.now _ _ _ (at c.loop-next.trees.backward.queue c.args.place).0 c.requires.found.0 c.loop-next.next-index _ c.args.found.now c.requires.matching.matching (subst (λ x. Among {X = Place} (c.requires.found.0, x) c.args.matching.now.pairs) here c.requires.found.1) c.loop-next.invariant.seen c.loop-next-test.false c.requires.found.2
+    let all : length c.args.found.now.ids.now ≤ c.loop-index.index = omega (arith, c.loop-index-test.false, c.len-index-end.ensures) in
+    let here = ap (λ (x : ℕ × ℕ). x.0) (sym (grown_at _ _ c.args.place c.loop-index.invariant.grows c.requires.place)) in
+    seen_scanned_back c.args.self.now.pattern.now _ _ _ (at c.loop-index.trees.backward.queue c.args.place).0 c.requires.found.0 c.loop-index.index _ c.args.found.now.ids.now c.requires.matching.matching (subst (λ x. Among {X = Place} (c.requires.found.0, x) c.args.matching.now.pairs) here c.requires.found.1) c.loop-index.invariant.seen all c.requires.found.2

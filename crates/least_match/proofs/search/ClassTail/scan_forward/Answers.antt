@@ -1,4 +1,4 @@
-use Rattle.std.proofs.Common.{◌⊎◌, ◌∙◌, ◌<◌, ℕ, ap, arith, length, refl, subst, sym}
+use Rattle.std.proofs.Common.{◌⊎◌, ◌∙◌, ◌<◌, ◌≤◌, ℕ, ap, arith, length, refl, subst, sym}
 use Rattle.std.proofs.lemmas.List.{get_or_read}
 use Rattle.bip_defs.specs.Lists.{Among, Lists}
 use Rattle.bip_defs.specs.Matrix.{IsEntry}
@@ -12,30 +12,34 @@ use Rattle.least_match.proofs.SearchLemmas.{col_stays, row_entry, each_more, lea
 use Rattle.least_match.proofs.search.ClassTail.scan_forward.Goals as goal
 
 pub look_forward-requires-clause-place : goal.look_forward-requires-clause-place
-look_forward-requires-clause-place c = let le = grown_length _ _ c.loop-row.invariant.grows in omega (arith, le, c.requires.place)
+look_forward-requires-clause-place c = let le = grown_length _ _ c.loop-index.invariant.grows in omega (arith, le, c.requires.place)
 
 pub look_forward-requires-clause-entry : goal.look_forward-requires-clause-entry
-look_forward-requires-clause-entry c = row_entry _ c.args.rows.now c.loop-row.row-index c.row-item.result _ _ c.requires.rows c.row-item.is c.loop-row-test.true (col_stays _ _ c.args.place _ c.loop-row.invariant.grows c.requires.place refl)
+look_forward-requires-clause-entry c =
+    let lt : c.loop-index.index < length c.args.rows.now.ids.now = omega (arith, c.loop-index-test.true, c.len-index-end.ensures) in
+    row_entry _ c.args.rows.now.ids.now c.loop-index.index c.at.result _ _ c.requires.rows c.at.ensures lt (col_stays _ _ c.args.place _ c.loop-index.invariant.grows c.requires.place refl)
 
 pub returns-in-Some-clause-trees : goal.returns-in-Some-clause-trees
-returns-in-Some-clause-trees c = λ d t. subst (λ (z : SearchTrees). AreSearchTrees c.args.self.now.pattern.now c.args.matching.now.pairs c.args.self.now.classes.now c.args.self.now.col d z.forward.queue z.backward.queue) (sym c.in-Some.ensures.same) (c.loop-row.invariant.trees d t)
+returns-in-Some-clause-trees c = λ d t. subst (λ (z : SearchTrees). AreSearchTrees c.args.self.now.pattern.now c.args.matching.now.pairs c.args.self.now.classes.now c.args.self.now.col d z.forward.queue z.backward.queue) (sym c.in-Some.ensures.same) (c.loop-index.invariant.trees d t)
 
-pub loop-row-preserved : goal.loop-row-preserved
-loop-row-preserved c =
-    let i = c.loop-row.invariant in
+pub loop-index-preserved : goal.loop-index-preserved
+loop-index-preserved c =
+    let lt : c.loop-index.index < length c.args.rows.now.ids.now = omega (arith, c.loop-index-test.true, c.len-index-end.ensures) in
+    let i = c.loop-index.invariant in
     let s = c.in-None.ensures.seen in
     let grows = looks_prefix _ _ _ _ _ _ _ _ _ s.2 in
     let le = grown_length _ _ i.grows in
-    let place : c.args.place < length c.loop-row.trees.forward.queue = omega (arith, le, c.requires.place) in
+    let place : c.args.place < length c.loop-index.trees.forward.queue = omega (arith, le, c.requires.place) in
     record {
       cols = c.in-None.ensures.cols;
       other = c.in-None.ensures.other ∙ i.other;
       grows = grows_more _ _ _ i.grows grows;
-      trees = λ d t. subst (λ (z : Reached). AreSearchTrees c.args.self.now.pattern.now c.args.matching.now.pairs c.args.self.now.classes.now c.args.self.now.col d c.look_forward.new.trees.forward.queue z.queue) (sym c.in-None.ensures.other) (looks_forward _ _ _ _ d _ _ _ _ _ (i.trees d t) s.2 place (leads_by _ _ _ _ _ c.requires.matching.matching s.1 (row_entry _ c.args.rows.now c.loop-row.row-index c.row-item.result _ _ c.requires.rows c.row-item.is c.loop-row-test.true (col_stays _ _ c.args.place _ c.loop-row.invariant.grows c.requires.place refl))));
-      seen = each_more (λ r. (d : ℕ) × Among (r, d) c.args.matching.now.pairs × (IsOther c.args.self.now.classes.now c.args.self.now.col d ⊎ Among d (heads c.look_forward.new.trees.forward.queue))) c.args.rows.now c.loop-row.row-index c.row-item.result (seen_grown _ _ _ _ _ _ i.seen grows) c.loop-row-test.true (sym (get_or_read c.args.rows.now c.loop-row.row-index c.row-item.result c.loop-row-test.true c.row-item.is 0)) (s.0, s.1, looks_seen _ _ _ _ _ _ _ _ _ s.2);
+      trees = λ d t. subst (λ (z : Reached). AreSearchTrees c.args.self.now.pattern.now c.args.matching.now.pairs c.args.self.now.classes.now c.args.self.now.col d c.look_forward.new.trees.forward.queue z.queue) (sym c.in-None.ensures.other) (looks_forward _ _ _ _ d _ _ _ _ _ (i.trees d t) s.2 place (leads_by _ _ _ _ _ c.requires.matching.matching s.1 (row_entry _ c.args.rows.now.ids.now c.loop-index.index c.at.result _ _ c.requires.rows c.at.ensures lt (col_stays _ _ c.args.place _ c.loop-index.invariant.grows c.requires.place refl))));
+      seen = each_more (λ r. (d : ℕ) × Among (r, d) c.args.matching.now.pairs × (IsOther c.args.self.now.classes.now c.args.self.now.col d ⊎ Among d (heads c.look_forward.new.trees.forward.queue))) c.args.rows.now.ids.now c.loop-index.index c.at.result (seen_grown _ _ _ _ _ _ i.seen grows) lt (sym (get_or_read c.args.rows.now.ids.now c.loop-index.index c.at.result lt c.at.ensures 0)) (s.0, s.1, looks_seen _ _ _ _ _ _ _ _ _ s.2);
     }
 
 pub returns-clause-scanned : goal.returns-clause-scanned
 returns-clause-scanned c =
-    let here = ap (λ (x : ℕ × ℕ). x.0) (sym (grown_at _ _ c.args.place c.loop-row.invariant.grows c.requires.place)) in
-    seen_scanned c.args.self.now.pattern.now _ _ _ (at c.loop-row.trees.forward.queue c.args.place).0 c.loop-row.row-index _ c.args.rows.now c.loop-row.invariant.seen c.loop-row-test.false (subst (λ x. Lists (λ r. IsEntry c.args.self.now.pattern.now r x) c.args.rows.now) here c.requires.rows)
+    let all : length c.args.rows.now.ids.now ≤ c.loop-index.index = omega (arith, c.loop-index-test.false, c.len-index-end.ensures) in
+    let here = ap (λ (x : ℕ × ℕ). x.0) (sym (grown_at _ _ c.args.place c.loop-index.invariant.grows c.requires.place)) in
+    seen_scanned c.args.self.now.pattern.now _ _ _ (at c.loop-index.trees.forward.queue c.args.place).0 c.loop-index.index _ c.args.rows.now.ids.now c.loop-index.invariant.seen all (subst (λ x. Lists (λ r. IsEntry c.args.self.now.pattern.now r x) c.args.rows.now.ids.now) here c.requires.rows)

@@ -5,11 +5,11 @@ use Rattle.least_match.specs.Trees.{AreSearchTrees, HaveCols}
 use Rattle.least_match.proofs.SearchLemmas.{AreSeen}
 use Rattle.least_match.proofs.search.ClassTail.scan_forward.Given as goal
 
-abbrev pub invariant-loop-row : goal.invariant-loop-row
-invariant-loop-row l = record {
+abbrev pub invariant-loop-index : goal.invariant-loop-index
+invariant-loop-index l = record {
   cols : HaveCols (cols l.self.pattern.now) l.trees;
   other : l.trees.backward ≡ l.fn.trees.backward;
   grows : IsPrefix l.fn.trees.forward.queue l.trees.forward.queue;
   trees : (d : ℕ) → AreSearchTrees l.self.pattern.now l.matching.pairs l.self.classes.now l.self.col d l.fn.trees.forward.queue l.fn.trees.backward.queue → AreSearchTrees l.self.pattern.now l.matching.pairs l.self.classes.now l.self.col d l.trees.forward.queue l.trees.backward.queue;
-  seen : AreSeen l.matching.pairs l.self.classes.now l.self.col l.trees.forward.queue (take l.row-index l.rows);
+  seen : AreSeen l.matching.pairs l.self.classes.now l.self.col l.trees.forward.queue (take l.index l.rows.ids.now);
 }

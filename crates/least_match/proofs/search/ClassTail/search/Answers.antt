@@ -1,6 +1,5 @@
-use Rattle.std.proofs.Common.{◌∙◌, ◌<◌, ◌≤◌, ℕ, arith, length, subst, sym}
-use Rattle.bip_defs.specs.Lists.{Lists}
-use Rattle.bip_defs.specs.Matrix.{IsEntry, cols}
+use Rattle.std.proofs.Common.{◌∙◌, ◌<◌, ◌≤◌, arith, length, subst, sym}
+use Rattle.bip_defs.specs.Matrix.{cols}
 use Rattle.bip_defs.proofs.Below.{below_more}
 use Rattle.bip_defs.specs.Queues.{at}
 use Rattle.bip_defs.proofs.Queues.{grown_length, head_at}
@@ -12,22 +11,13 @@ use Rattle.least_match.proofs.SearchLemmas.{scanned_grown, scanned_grown_back, t
 use Rattle.least_match.proofs.search.ClassTail.search.Goals as goal
 
 pub returns-in-EndForward-clause-ends : goal.returns-in-EndForward-clause-ends
-returns-in-EndForward-clause-ends c = (forward_inner _ _ _ c.requires.part c.in-EndForward.ensures.1, subst (AreScanned c.args.self.now.pattern.now c.args.matching.now.pairs c.args.self.now.classes.now c.args.self.now.col c.loop-trees.trees.forward.queue) (sym c.scan_of-ahead_scan.ensures.done ∙ c.in-EndForward.ensures.0 ∙ c.scan_of-ahead_scan.ensures.len) c.loop-trees.invariant.scanned)
+returns-in-EndForward-clause-ends c = (forward_inner _ _ _ c.requires.part c.in-EndForward.ensures.1, subst (AreScanned c.args.self.now.pattern.now c.args.matching.now.pairs c.args.self.now.classes.now c.args.self.now.col c.loop-trees.trees.forward.queue) (sym c.scan_of-forward_scan.ensures.done ∙ c.in-EndForward.ensures.0 ∙ c.scan_of-forward_scan.ensures.len) c.loop-trees.invariant.scanned)
 
 pub returns-in-EndBackward-clause-ends : goal.returns-in-EndBackward-clause-ends
-returns-in-EndBackward-clause-ends c = (backward_inner _ _ _ c.requires.part c.in-EndBackward.ensures.1, subst (AreScannedBack c.args.self.now.pattern.now c.args.matching.now.pairs c.args.self.now.classes.now c.args.self.now.col c.loop-trees.trees.backward.queue) (sym c.scan_of-back_scan.ensures.done ∙ c.in-EndBackward.ensures.0 ∙ c.scan_of-back_scan.ensures.len) c.loop-trees.invariant.scanned_back)
+returns-in-EndBackward-clause-ends c = (backward_inner _ _ _ c.requires.part c.in-EndBackward.ensures.1, subst (AreScannedBack c.args.self.now.pattern.now c.args.matching.now.pairs c.args.self.now.classes.now c.args.self.now.col c.loop-trees.trees.backward.queue) (sym c.scan_of-backward_scan.ensures.done ∙ c.in-EndBackward.ensures.0 ∙ c.scan_of-backward_scan.ensures.len) c.loop-trees.invariant.scanned_back)
 
-pub rows_at-rows-requires-clause-col : goal.rows_at-rows-requires-clause-col
-rows_at-rows-requires-clause-col c =
-    let lt = c.in-GrowForward.ensures in
-    let within : c.loop-trees.ahead < length c.loop-trees.trees.forward.queue = omega (arith, lt, c.scan_of-ahead_scan.ensures.done, c.scan_of-ahead_scan.ensures.len) in
-    subst (λ (x : ℕ × ℕ). x.0 < cols c.args.self.now.pattern.now) (sym c.at-col.ensures) (c.loop-trees.invariant.trees.forward_tree.tail _ (head_at c.loop-trees.trees.forward.queue c.loop-trees.ahead within)).within
-
-pub rows_ahead-rows_ahead-requires-in-GrowForward-clause-in_range : goal.rows_ahead-rows_ahead-requires-in-GrowForward-clause-in_range
-rows_ahead-rows_ahead-requires-in-GrowForward-clause-in_range c = λ i lt. (c.loop-trees.invariant.trees.forward_tree.tail _ (head_at c.loop-trees.trees.forward.queue i lt)).within
-
-pub scan_forward-requires-clause-rows : goal.scan_forward-requires-clause-rows
-scan_forward-requires-clause-rows c = subst (λ (x : ℕ × ℕ). Lists (λ r. IsEntry c.args.self.now.pattern.now r x.0) c.rows_at-rows.result.now) c.at-col.ensures c.rows_at-rows.ensures
+pub rows_at-rows-requires-clause-in_range : goal.rows_at-rows-requires-clause-in_range
+rows_at-rows-requires-clause-in_range c = λ i lt. (c.loop-trees.invariant.trees.forward_tree.tail _ (head_at c.loop-trees.trees.forward.queue i lt)).within
 
 pub returns-in-Some-clause-trees : goal.returns-in-Some-clause-trees
 returns-in-Some-clause-trees c = c.in-Some.ensures.trees _ c.loop-trees.invariant.trees
@@ -36,35 +26,29 @@ pub loop-trees-smaller-in-GrowForward : goal.loop-trees-smaller-in-GrowForward
 loop-trees-smaller-in-GrowForward c =
     let few = tree_few _ _ _ _ _ _ c.loop-trees.invariant.trees.forward_tree in
     let lt = c.in-GrowForward.ensures in
-    let below : c.loop-trees.ahead < cols c.args.self.now.pattern.now = omega (arith, few, lt, c.scan_of-ahead_scan.ensures.done, c.scan_of-ahead_scan.ensures.len) in
+    let below : c.loop-trees.forward_at < cols c.args.self.now.pattern.now = omega (arith, few, lt, c.scan_of-forward_scan.ensures.done, c.scan_of-forward_scan.ensures.len) in
     omega (arith, below)
 
 pub loop-trees-preserved-in-GrowForward : goal.loop-trees-preserved-in-GrowForward
 loop-trees-preserved-in-GrowForward c =
     let i = c.loop-trees.invariant in
     let lt = c.in-GrowForward.ensures in
-    let within : c.loop-trees.ahead < length c.loop-trees.trees.forward.queue = omega (arith, lt, c.scan_of-ahead_scan.ensures.done, c.scan_of-ahead_scan.ensures.len) in
+    let within : c.loop-trees.forward_at < length c.loop-trees.trees.forward.queue = omega (arith, lt, c.scan_of-forward_scan.ensures.done, c.scan_of-forward_scan.ensures.len) in
     let grows = c.in-None.ensures.grows in
     let more = grown_length _ _ grows in
     record {
       cols = c.in-None.ensures.cols;
-      rows = c.rows_ahead-rows_ahead-in-GrowForward.ensures;
-      cols_of_row = i.cols_of_row;
+      next_rows = c.rows_at-rows.ensures.ahead;
+      next_cols = i.next_cols;
       trees = c.in-None.ensures.trees _ i.trees;
-      ahead = omega (arith, within, more);
-      back = subst (λ (z : Reached). c.loop-trees.back ≤ length z.queue) (sym c.in-None.ensures.other) i.back;
-      scanned = below_more (λ k. IsScanned c.args.self.now.pattern.now c.args.matching.now.pairs c.args.self.now.classes.now c.args.self.now.col c.scan_forward.new.trees.forward.queue (at c.scan_forward.new.trees.forward.queue k).0) c.loop-trees.ahead (scanned_grown _ _ _ _ _ _ _ grows i.ahead i.scanned) c.in-None.ensures.scanned;
-      scanned_back = subst (λ (z : Reached). AreScannedBack c.args.self.now.pattern.now c.args.matching.now.pairs c.args.self.now.classes.now c.args.self.now.col z.queue c.loop-trees.back) (sym c.in-None.ensures.other) i.scanned_back;
+      forward_at = omega (arith, within, more);
+      backward_at = subst (λ (z : Reached). c.loop-trees.backward_at ≤ length z.queue) (sym c.in-None.ensures.other) i.backward_at;
+      scanned = below_more (λ k. IsScanned c.args.self.now.pattern.now c.args.matching.now.pairs c.args.self.now.classes.now c.args.self.now.col c.scan_forward.new.trees.forward.queue (at c.scan_forward.new.trees.forward.queue k).0) c.loop-trees.forward_at (scanned_grown _ _ _ _ _ _ _ grows i.forward_at i.scanned) c.in-None.ensures.scanned;
+      scanned_back = subst (λ (z : Reached). AreScannedBack c.args.self.now.pattern.now c.args.matching.now.pairs c.args.self.now.classes.now c.args.self.now.col z.queue c.loop-trees.backward_at) (sym c.in-None.ensures.other) i.scanned_back;
     }
 
-pub row_at-row-requires-clause-matched : goal.row_at-row-requires-clause-matched
-row_at-row-requires-clause-matched c = λ i lt. c.loop-trees.invariant.trees.backward_tree.matched _ (head_at c.loop-trees.trees.backward.queue i lt)
-
-pub cols_ahead-cols_ahead-requires-in-GrowBackward-clause-matched : goal.cols_ahead-cols_ahead-requires-in-GrowBackward-clause-matched
-cols_ahead-cols_ahead-requires-in-GrowBackward-clause-matched c = λ i lt. c.loop-trees.invariant.trees.backward_tree.matched _ (head_at c.loop-trees.trees.backward.queue i lt)
-
-pub scan_back-requires-clause-found : goal.scan_back-requires-clause-found
-scan_back-requires-clause-found c = (c.row_at-row.result, c.row_at-row.ensures.mate, c.cols_at-cols.ensures)
+pub cols_at-cols-requires-clause-matched : goal.cols_at-cols-requires-clause-matched
+cols_at-cols-requires-clause-matched c = λ i lt. c.loop-trees.invariant.trees.backward_tree.matched _ (head_at c.loop-trees.trees.backward.queue i lt)
 
 pub returns-in-Some-scan_back-clause-trees : goal.returns-in-Some-scan_back-clause-trees
 returns-in-Some-scan_back-clause-trees c = c.in-Some-scan_back.ensures.trees _ c.loop-trees.invariant.trees
@@ -73,35 +57,35 @@ pub loop-trees-smaller : goal.loop-trees-smaller
 loop-trees-smaller c =
     let few = tree_few _ _ _ _ _ _ c.loop-trees.invariant.trees.backward_tree in
     let lt = c.in-GrowBackward.ensures in
-    let below : c.loop-trees.back < cols c.args.self.now.pattern.now = omega (arith, few, lt, c.scan_of-back_scan.ensures.done, c.scan_of-back_scan.ensures.len) in
+    let below : c.loop-trees.backward_at < cols c.args.self.now.pattern.now = omega (arith, few, lt, c.scan_of-backward_scan.ensures.done, c.scan_of-backward_scan.ensures.len) in
     omega (arith, below)
 
 pub loop-trees-preserved : goal.loop-trees-preserved
 loop-trees-preserved c =
     let i = c.loop-trees.invariant in
     let lt = c.in-GrowBackward.ensures in
-    let within : c.loop-trees.back < length c.loop-trees.trees.backward.queue = omega (arith, lt, c.scan_of-back_scan.ensures.done, c.scan_of-back_scan.ensures.len) in
+    let within : c.loop-trees.backward_at < length c.loop-trees.trees.backward.queue = omega (arith, lt, c.scan_of-backward_scan.ensures.done, c.scan_of-backward_scan.ensures.len) in
     let grows = c.in-None-scan_back.ensures.grows in
     let more = grown_length _ _ grows in
     record {
       cols = c.in-None-scan_back.ensures.cols;
-      rows = i.rows;
-      cols_of_row = c.cols_ahead-cols_ahead-in-GrowBackward.ensures;
+      next_rows = i.next_rows;
+      next_cols = c.cols_at-cols.ensures.ahead;
       trees = c.in-None-scan_back.ensures.trees _ i.trees;
-      ahead = subst (λ (z : Reached). c.loop-trees.ahead ≤ length z.queue) (sym c.in-None-scan_back.ensures.other) i.ahead;
-      back = omega (arith, within, more);
-      scanned = subst (λ (z : Reached). AreScanned c.args.self.now.pattern.now c.args.matching.now.pairs c.args.self.now.classes.now c.args.self.now.col z.queue c.loop-trees.ahead) (sym c.in-None-scan_back.ensures.other) i.scanned;
-      scanned_back = below_more (λ k. IsScannedBack c.args.self.now.pattern.now c.args.matching.now.pairs c.args.self.now.classes.now c.args.self.now.col c.scan_back.new.trees.backward.queue (at c.scan_back.new.trees.backward.queue k).0) c.loop-trees.back (scanned_grown_back _ _ _ _ _ _ _ grows i.back i.scanned_back) c.in-None-scan_back.ensures.scanned;
+      forward_at = subst (λ (z : Reached). c.loop-trees.forward_at ≤ length z.queue) (sym c.in-None-scan_back.ensures.other) i.forward_at;
+      backward_at = omega (arith, within, more);
+      scanned = subst (λ (z : Reached). AreScanned c.args.self.now.pattern.now c.args.matching.now.pairs c.args.self.now.classes.now c.args.self.now.col z.queue c.loop-trees.forward_at) (sym c.in-None-scan_back.ensures.other) i.scanned;
+      scanned_back = below_more (λ k. IsScannedBack c.args.self.now.pattern.now c.args.matching.now.pairs c.args.self.now.classes.now c.args.self.now.col c.scan_back.new.trees.backward.queue (at c.scan_back.new.trees.backward.queue k).0) c.loop-trees.backward_at (scanned_grown_back _ _ _ _ _ _ _ grows i.backward_at i.scanned_back) c.in-None-scan_back.ensures.scanned;
     }
 
-pub rows_ahead-rows_ahead-requires-clause-place : goal.rows_ahead-rows_ahead-requires-clause-place
-rows_ahead-rows_ahead-requires-clause-place c = (c.begin.ensures.trees _ c.requires.matched c.requires.own).forward_tree.some
+pub first_rows-next_rows-requires-clause-place : goal.first_rows-next_rows-requires-clause-place
+first_rows-next_rows-requires-clause-place c = (c.begin.ensures.trees _ c.requires.matched c.requires.own).forward_tree.some
 
-pub rows_ahead-rows_ahead-requires-clause-in_range : goal.rows_ahead-rows_ahead-requires-clause-in_range
-rows_ahead-rows_ahead-requires-clause-in_range c = λ i lt. ((c.begin.ensures.trees _ c.requires.matched c.requires.own).forward_tree.tail _ (head_at c.begin.new.trees.forward.queue i lt)).within
+pub first_rows-next_rows-requires-clause-in_range : goal.first_rows-next_rows-requires-clause-in_range
+first_rows-next_rows-requires-clause-in_range c = λ i lt. ((c.begin.ensures.trees _ c.requires.matched c.requires.own).forward_tree.tail _ (head_at c.begin.new.trees.forward.queue i lt)).within
 
-pub cols_ahead-cols_ahead-requires-clause-place : goal.cols_ahead-cols_ahead-requires-clause-place
-cols_ahead-cols_ahead-requires-clause-place c = (c.begin.ensures.trees _ c.requires.matched c.requires.own).backward_tree.some
+pub first_cols-next_cols-requires-clause-place : goal.first_cols-next_cols-requires-clause-place
+first_cols-next_cols-requires-clause-place c = (c.begin.ensures.trees _ c.requires.matched c.requires.own).backward_tree.some
 
-pub cols_ahead-cols_ahead-requires-clause-matched : goal.cols_ahead-cols_ahead-requires-clause-matched
-cols_ahead-cols_ahead-requires-clause-matched c = λ i lt. (c.begin.ensures.trees _ c.requires.matched c.requires.own).backward_tree.matched _ (head_at c.begin.new.trees.backward.queue i lt)
+pub first_cols-next_cols-requires-clause-matched : goal.first_cols-next_cols-requires-clause-matched
+first_cols-next_cols-requires-clause-matched c = λ i lt. (c.begin.ensures.trees _ c.requires.matched c.requires.own).backward_tree.matched _ (head_at c.begin.new.trees.backward.queue i lt)
