@@ -10,11 +10,11 @@ pub record IsHeavier (a : Matrix) (weight : ℕ → ℕ → ℕ) (h : Heavier) :
   pub entries : h.entries ≡ above a weight h.above
   pub maximum : IsMaximumOf h.entries h.maximum
 
--- each of the pairs weighs at least so much
-abbrev pub WeighAtLeast : (ℕ → ℕ → ℕ) → List Place → ℕ → Type 0
-WeighAtLeast weight pairs bound = (r c : ℕ) → Among (r, c) pairs → bound ≤ weight r c
-
--- of which no perfect matching was found
+-- the same, of which the matching leaves columns unmatched
 pub record IsShort (a : Matrix) (weight : ℕ → ℕ → ℕ) (h : Heavier) : Type 0 where
   pub heavier : IsHeavier a weight h
   pub short : length h.maximum.pairs < cols a
+
+-- each of the pairs weighs at least so much
+abbrev pub WeighAtLeast : (ℕ → ℕ → ℕ) → List Place → ℕ → Type 0
+WeighAtLeast weight pairs bound = (r c : ℕ) → Among (r, c) pairs → bound ≤ weight r c

@@ -54,7 +54,9 @@ fn raise_rows(pattern: &Pattern, weights: &Weights, of_rows: &mut [u64], col: Co
         if weight > greatest {
             greatest = weight;
         }
-        of_rows[at] = of_rows[at].max(weight);
+        if weight > of_rows[at] {
+            of_rows[at] = weight;
+        }
     }
     greatest
 }
