@@ -4,7 +4,7 @@ use Rattle.std.proofs.lemmas.Option.{none-some}
 use Rattle.sp_ids.specs.declared.outcomes.Status.{Status}
 use Rattle.sp_ids.specs.declared.outcomes.Status.TheVariants as statuses
 use Rattle.sp_ports.specs.Device.{Device, FailsOnceAtMost, HasReadFault, HasWriteFault, SourceRose}
-use Rattle.mm_defs.proofs.AnswerLemmas.{given_all, given_prefix, length_got, given_within}
+use Rattle.mm_defs.proofs.AnswerLemmas.{given_all, length_got, given_within}
 use Rattle.mm_defs.specs.Calls.{Call, ended, given, got, offered}
 use Rattle.mm_defs.specs.Faults.{is_limit}
 use Rattle.mm_defs.specs.declared.kinds.Kind.{Kind}
@@ -26,7 +26,7 @@ use Rattle.batch_core.proofs.BatchReadings.{where_known}
 -- what the laws on batches say
 pub record Laws : Type 0 where
   pub one_list : (bytes : List ℕ) (files others : List (List ℕ)) → IsBatch bytes files → IsBatch bytes others → files ≡ others
-  pub none_bad : (bytes : List ℕ) (files : List (List ℕ)) → IsBatch bytes files → first_bad_frame true bytes ≡ None
+  pub given_good : (call : Call) (files : List (List ℕ)) → IsBatch (offered call) files → first_bad_file call ≡ None
   pub stays : (ended : Bool) (bytes more : List ℕ) (fault : BatchFault) → first_bad_frame false bytes ≡ Some fault → first_bad_frame ended (bytes ++ more) ≡ Some fault
   pub read : (call : Call) (error : BatchError) (files : List (List ℕ)) → RefusesBatch call error → IsBatch (offered call) files → length (offered call) ≤ call.room
       → call.failures_after ≡ call.failures_before → error ≡ errors.OutOfMemory
@@ -39,18 +39,7 @@ module _ (laws : Laws) where
       by None e = e
       by (Some x) e = let h = laws.stays ended bytes more x e in absurd (none-some x (sym none ∙ h))
 
-  -- of a batch no frame is bad, however much of it was given
-  batch_given : (call : Call) (files : List (List ℕ)) → IsBatch (offered call) files → first_bad_file call ≡ None
-  batch_given call files batch = by (ended call) refl
-    where
-      none : first_bad_frame true (offered call) ≡ None
-      none = laws.none_bad (offered call) files batch
-
-      by : (e : Bool) → ended call ≡ e → first_bad_frame (ended call) (given call) ≡ None
-      by true e = let k = given_all call e in rw (e, k) none
-      by false e = let r = given_prefix call in rw e (stays_none true (given call) r.0 (rw r.1 none))
-
-  -- nor of what is given, where none is within the limit
+  -- what was given has no bad frame where none is within the limit
   limit_given : (call : Call) → call.room < length (offered call) → first_bad_frame false (take call.room (offered call)) ≡ None → first_bad_file call ≡ None
   limit_given call past none = by (ended call) refl
     where
@@ -67,12 +56,6 @@ module _ (laws : Laws) where
       omega (arith, counts.later, λ (rose : input.failed_before < input.failed_after). no_fault (subst (λ (b : Option (List ℕ)). SourceRose b input.failed_before input.failed_after) (sym tells) rose))
 
   -- a batch within the limit gave no byte past it, and is not too long
-  not_past : (call : Call) → length (offered call) ≤ call.room → call.room < length (got call) → ⊥
-  not_past call within past = let n = length_got call in omega (arith, n, within, past)
-
-  not_long : (bytes : List ℕ) → length bytes ≤ 68719476736 → 68719476736 < length bytes → ⊥
-  not_long bytes within past = omega (arith, within, past)
-
   ends_well : (files : List (List ℕ)) (answer : Answer) (status : Status) → IsAnswerFor files answer → IsOrNoMemory status (status_of_answer answer) → EndsWell files status
   ends_well files Positive status good ends = record { all_good = λ all. ends; some_bad = λ not. absurd (not good) }
   ends_well files Negative status bad ends = record { all_good = λ all. absurd (bad all); some_bad = λ not. ends }
@@ -83,13 +66,13 @@ module _ (laws : Laws) where
   answered r status P answer taken written ends = record {
     usage = λ not. absurd (not taken);
     bad_file = λ _. where_known r.input.before r.input.after is.was_read
-        (λ x y before read fault bad. absurd (none-some fault (sym (batch_given (reading r.input x y) is.files read.batch) ∙ bad)));
+        (λ x y before read fault bad. absurd (none-some fault (sym (laws.given_good (reading r.input x y) is.files read.batch) ∙ bad)));
     good = λ _ no_read no_write. where_known r.input.before r.input.after is.was_read
         (λ x y before read files batch few. subst (λ (fs : List (List ℕ)). EndsWell fs status) (laws.one_list x is.files files read.batch batch)
         (ends_well is.files answer status is.answer_is (ends no_write)));
     not_good = λ _ no_read. where_known r.input.before r.input.after is.was_read (λ x y before read none. absurd (none is.files read.batch read.within));
-    too_many = λ _. where_known r.input.before r.input.after is.was_read (λ x y before read none past. absurd (not_past (reading r.input x y) read.within past));
-    too_long = λ _ no_read. where_known r.input.before r.input.after is.was_read (λ x y before read past none. absurd (not_long x read.within past));
+    too_many = λ _. where_known r.input.before r.input.after is.was_read (λ x y before read none past. let n = length_got (reading r.input x y) in let few = read.within in absurd (omega (arith, n, few, past)));
+    too_long = λ _ no_read. where_known r.input.before r.input.after is.was_read (λ x y before read past none. let few = read.within in absurd (omega (arith, few, past)));
   }
     where
       is : IsAnswer r.input answer written.0

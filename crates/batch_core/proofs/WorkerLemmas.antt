@@ -9,14 +9,6 @@ use Rattle.batch_core.specs.Shares.{IsAtBoard, Share, files_in, new_share}
 
 -- ---- at the start
 
-more_count : (b : Board) (number count : ℕ) → length (more_seats b number count) ≡ count
-more_count b number zero = refl
-more_count b number (suc count) = ap suc (more_count b (1 + number) count)
-
-seat_count : (b : Board) (seats : ℕ) → length (new_seats b seats) ≡ seats
-seat_count b zero = refl
-seat_count b (suc others) = ap suc (more_count b 1 others)
-
 more_at_board : (b : Board) (files : List (List ℕ)) (number count : ℕ) → length b.rows ≡ length files → All (IsAtBoard b) (map (new_share files) (more_seats b number count))
 more_at_board b files number zero rows = All-nil (IsAtBoard b)
 more_at_board b files number (suc count) rows = All-cons (IsAtBoard b) _ _ (record { seat = refl; rows = rows }) (more_at_board b files (1 + number) count rows)
@@ -24,9 +16,6 @@ more_at_board b files number (suc count) rows = All-cons (IsAtBoard b) _ _ (reco
 pub all_at_board : (b : Board) (files : List (List ℕ)) (seats : ℕ) → length b.rows ≡ length files → All (IsAtBoard b) (map (new_share files) (new_seats b seats))
 all_at_board b files zero rows = All-nil (IsAtBoard b)
 all_at_board b files (suc others) rows = All-cons (IsAtBoard b) _ _ (record { seat = refl; rows = rows }) (more_at_board b files 1 others rows)
-
-pub all_seated : (b : Board) (files : List (List ℕ)) (workers : ℕ) → length (map (new_share files) (new_seats b workers)) ≡ workers
-all_seated b files workers = length-map (new_seats b workers) (new_share files) ∙ seat_count b workers
 
 -- a share of these files
 abbrev pub IsOver : List (List ℕ) → Share → Type 0

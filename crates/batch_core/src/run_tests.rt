@@ -4,6 +4,7 @@
 use crate::run_batch;
 use sp_ids::Status;
 use sp_ports::{MemSink, MemSource, NoGate};
+use std::alloc::AllocError;
 use std::process::Abort;
 use std::test::Fail;
 use std::thread::Threads;
@@ -37,7 +38,45 @@ struct Outcome {
     err: &'static str,
 }
 
-/// Runs over a batch whose bytes come in pieces of 7, and compares the status and what was written.
+/// Devices in memory.
+#[derive(Drop)]
+struct InMemory {
+    input: MemSource,
+    out: MemSink,
+    err: MemSink,
+}
+
+/// The devices of a run over a batch, whose bytes come in pieces of 7.
+fn devices_over<R: AllocGlobal>(rt: &R, batch: &[u8], failing: &Failing) -> Result<InMemory, Fail> {
+    let alloc = rt.alloc();
+    let input = MemSource::new(batch.to_vec(alloc)?, 7, failing.input.to_vec(alloc)?);
+    let out = MemSink::new(alloc, 4096, 100, failing.out.to_vec(alloc)?)?;
+    let err = MemSink::new(alloc, 4096, 100, failing.err.to_vec(alloc)?)?;
+    Ok(InMemory { input, out, err })
+}
+
+/// The status of a run on words.
+fn status_of<R: Threads + AllocGlobal + Sync>(
+    rt: &R,
+    words: &[&str],
+    devices: &mut InMemory,
+) -> Result<Status, AllocError> {
+    let mut owned = Vec::new(rt.alloc());
+    for word in words {
+        owned.push(String::from_str(rt.alloc(), word)?)?;
+    }
+    Ok(run_batch(
+        rt,
+        rt.alloc(),
+        owned.as_slice(),
+        &mut devices.input,
+        &mut devices.out,
+        &mut devices.err,
+        &NoGate,
+    ))
+}
+
+/// Runs over a batch, and compares the status and what was written.
 fn expect<R: Threads + Abort + AllocGlobal + Sync>(
     rt: &R,
     words: &[&str],
@@ -45,26 +84,15 @@ fn expect<R: Threads + Abort + AllocGlobal + Sync>(
     failing: &Failing,
     expected: &Outcome,
 ) -> Result<(), Fail> {
-    let alloc = rt.alloc();
-    let mut owned = Vec::new(alloc);
-    for word in words {
-        owned.push(String::from_str(alloc, word)?)?;
-    }
-    let mut input = MemSource::new(batch.to_vec(alloc)?, 7, failing.input.to_vec(alloc)?);
-    let mut out = MemSink::new(alloc, 4096, 100, failing.out.to_vec(alloc)?)?;
-    let mut err = MemSink::new(alloc, 4096, 100, failing.err.to_vec(alloc)?)?;
-    let status = run_batch(
-        rt,
-        alloc,
-        owned.as_slice(),
-        &mut input,
-        &mut out,
-        &mut err,
-        &NoGate,
+    let mut devices = devices_over(rt, batch, failing)?;
+    let status = status_of(rt, words, &mut devices)?;
+    let found = (status, devices.out.bytes(), devices.err.bytes());
+    let wanted = (
+        expected.status,
+        expected.out.as_bytes(),
+        expected.err.as_bytes(),
     );
-    assert_eq!(rt; status, expected.status);
-    assert_eq!(rt; out.bytes(), expected.out.as_bytes());
-    assert_eq!(rt; err.bytes(), expected.err.as_bytes());
+    assert_eq!(rt; found, wanted);
     Ok(())
 }
 

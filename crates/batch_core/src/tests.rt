@@ -15,6 +15,7 @@ use mm_defs::Kind;
 use sp_ids::OutOfMemory;
 use sp_ports::{Gate, NoGate};
 use std::alloc::Global;
+use std::process::Abort;
 use std::test::Fail;
 use std::thread::Threads;
 
@@ -122,6 +123,15 @@ fn board_for_two(alloc: Global) -> Result<(ClaimBoard, ClaimSeat, ClaimSeat), Ou
     Ok((board, zero, one))
 }
 
+// Each file has its answer, in the order of the files.
+fn are_for_all_files<R: Abort>(rt: &R, answers: &[(u32, FileAnswer)]) {
+    assert_eq!(rt; answers.len(), 4);
+    for (place, listed) in answers.iter().enumerate() {
+        assert_eq!(rt; listed.0 as usize, place);
+        assert_eq!(rt; Some(told_by(&listed.1)), FOUND.get(place).copied());
+    }
+}
+
 #[test]
 fn a_file_is_claimed_by_one_worker(rt: HostRuntime) -> Result<(), Fail> {
     let alloc = rt.alloc();
@@ -134,11 +144,7 @@ fn a_file_is_claimed_by_one_worker(rt: HostRuntime) -> Result<(), Fail> {
     let (_seat, none) = first.into_parts();
     assert_eq!(rt; none.len(), 0);
     let (_seat, all) = second.into_parts();
-    assert_eq!(rt; all.len(), 4);
-    for (place, listed) in all.iter().enumerate() {
-        assert_eq!(rt; listed.0 as usize, place);
-        assert_eq!(rt; Some(told_by(&listed.1)), FOUND.get(place).copied());
-    }
+    are_for_all_files(&rt, all.as_slice());
     Ok(())
 }
 

@@ -9,7 +9,7 @@ ghost use Rattle.batch_core.specs.Shares.{AreAnswers, AreFull, IsAtBoard, IsWith
 
 use crate::{Answers, Share};
 use btf_tool::FileAnswer;
-use claim_words::{ClaimBoard, ClaimSeat};
+use claim_words::{ClaimBoard, ClaimSeat, new_seats_are_all};
 use sp_ids::OutOfMemory;
 use sp_ports::Gate;
 use std::alloc::Global;
@@ -69,6 +69,7 @@ fn answered<'a, R: Threads + Sync, G: Gate>(
     requires few { workers ≤ max_workers }
     ensures { IfOk result (λ shares. All (λ share. share.files ≡ files_of files.now) shares.items) }
 {
+    new_seats_are_all();
     let rows = vec![in alloc; None; files.len()]?;
     let columns = vec![in alloc; None; workers as usize]?;
     let (board, seats) = ClaimBoard::new(alloc, rows.as_slice(), columns.as_slice(), workers)?;

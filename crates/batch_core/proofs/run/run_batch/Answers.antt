@@ -23,7 +23,7 @@ returns-in-Ok-perform-clause-says g c =
 pub returns-in-Ok-perform-clause-complete : goal.returns-in-Ok-perform-clause-complete
 returns-in-Ok-perform-clause-complete g c = completes (record {
   one_list = c.batch_has_one_list_of_files.ensures;
-  none_bad = c.batch_has_no_bad_frame.ensures.none_bad;
+  given_good = c.batch_has_no_bad_frame.ensures.given;
   stays = c.bad_frame_stays.ensures;
   read = c.good_batch_is_read.ensures;
 }) _ _ (returns-in-Ok-perform-clause-says g c)
@@ -36,7 +36,7 @@ returns-in-Err-clause-says g c =
 pub returns-in-Err-clause-complete : goal.returns-in-Err-clause-complete
 returns-in-Err-clause-complete g c = completes (record {
   one_list = c.batch_has_one_list_of_files.ensures;
-  none_bad = c.batch_has_no_bad_frame.ensures.none_bad;
+  given_good = c.batch_has_no_bad_frame.ensures.given;
   stays = c.bad_frame_stays.ensures;
   read = c.good_batch_is_read.ensures;
 }) _ _ (returns-in-Err-clause-says g c)

@@ -5,7 +5,7 @@ use Rattle.claim_words.specs.Seat.{Seat, new_seats}
 use Rattle.sp_ids.specs.Limits.{max_workers}
 use Rattle.mm_frames.specs.Batches.{files_of}
 use Rattle.batch_core.specs.Shares.{IsAtBoard, Share, files_in, new_share}
-use Rattle.batch_core.proofs.WorkerLemmas.{IsOver, all_at_board, all_seated, all_written, new_files, same_files}
+use Rattle.batch_core.proofs.WorkerLemmas.{IsOver, all_at_board, all_written, new_files, same_files}
 use Rattle.batch_core.proofs.workers.answered.Goals as goal
 
 pub work_all-requires-clause-at_board : goal.work_all-requires-clause-at_board
@@ -21,7 +21,7 @@ pub work_all-requires-clause-columns : goal.work_all-requires-clause-columns
 work_all-requires-clause-columns g c κs within =
     let files = files_of c.args.files.now in
     let count : length c.as_mut_slice.result.now ≡ c.args.workers =
-    ap length c.as_mut_slice.ensures.value ∙ ap length c.in_ok-shares.ensures ∙ ap (λ (seats : List Seat). length (map (new_share files) seats)) c.in_ok-board.ensures.seats ∙ all_seated c.in_ok-board.board files c.args.workers in
+    ap length c.as_mut_slice.ensures.value ∙ ap length c.in_ok-shares.ensures ∙ ap (λ (seats : List Seat). length (map (new_share files) seats)) c.in_ok-board.ensures.seats ∙ length-map (new_seats c.in_ok-board.board c.args.workers) (new_share files) ∙ c.new_seats_are_all.ensures.many c.in_ok-board.board c.args.workers in
     let roots : length c.in_ok-board.board.roots ≡ c.args.workers =
     ap length c.in_ok-board.ensures.board.1 ∙ ap length c.as_slice-2.ensures.value ∙ sym c.in_ok-columns.columns.ok.0 ∙ c.in_ok-columns.ensures.len in
     omega (arith, count, roots)
@@ -30,7 +30,7 @@ pub work_all-requires-clause-few : goal.work_all-requires-clause-few
 work_all-requires-clause-few g c κs within =
     let files = files_of c.args.files.now in
     let count : length c.as_mut_slice.result.now ≡ c.args.workers =
-    ap length c.as_mut_slice.ensures.value ∙ ap length c.in_ok-shares.ensures ∙ ap (λ (seats : List Seat). length (map (new_share files) seats)) c.in_ok-board.ensures.seats ∙ all_seated c.in_ok-board.board files c.args.workers in
+    ap length c.as_mut_slice.ensures.value ∙ ap length c.in_ok-shares.ensures ∙ ap (λ (seats : List Seat). length (map (new_share files) seats)) c.in_ok-board.ensures.seats ∙ length-map (new_seats c.in_ok-board.board c.args.workers) (new_share files) ∙ c.new_seats_are_all.ensures.many c.in_ok-board.board c.args.workers in
     let few : c.args.workers ≤ max_workers = c.requires.few in
     omega (arith, count, few)
 
