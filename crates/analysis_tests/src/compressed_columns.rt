@@ -20,8 +20,26 @@ struct Columns {
     ids: Vec<u32>,
 }
 
-/// The columns of a matrix: the rows of each from its last place in the table to its first, and then
-/// once more from the first to the last.
+/// Adds the rows of a column, which counts from 0, among places, which count from 1: from its last
+/// place to its first, and then once more from the first to the last. Tells how many.
+fn push_rows(ids: &mut Vec<u32>, places: &[(u32, u32)], col: u32) -> Result<u32, Fail> {
+    let mut count: u32 = 0;
+    for (row, at) in places.iter().rev() {
+        if at.wrapping_sub(1) == col {
+            ids.push(row.wrapping_sub(1))?;
+            count = count.wrapping_add(1);
+        }
+    }
+    for (row, at) in places {
+        if at.wrapping_sub(1) == col {
+            ids.push(row.wrapping_sub(1))?;
+            count = count.wrapping_add(1);
+        }
+    }
+    Ok(count)
+}
+
+/// The columns of a matrix.
 fn columns_of(alloc: Global, worked: &Worked<'_>) -> Result<Columns, Fail> {
     let sizes = worked.pairs(alloc, "sizes")?;
     let (rows, cols) = *sizes.get(0).ok_or("no sizes")?;
@@ -30,18 +48,7 @@ fn columns_of(alloc: Global, worked: &Worked<'_>) -> Result<Columns, Fail> {
     let mut ids = Vec::new(alloc);
     let mut count: u32 = 0;
     for col in 0..cols {
-        for (row, at) in places.iter().rev() {
-            if at.wrapping_sub(1) == col {
-                ids.push(row.wrapping_sub(1))?;
-                count = count.wrapping_add(1);
-            }
-        }
-        for (row, at) in &places {
-            if at.wrapping_sub(1) == col {
-                ids.push(row.wrapping_sub(1))?;
-                count = count.wrapping_add(1);
-            }
-        }
+        count = count.wrapping_add(push_rows(&mut ids, places.as_slice(), col)?);
         starts.push(count)?;
     }
     Ok(Columns { rows, starts, ids })

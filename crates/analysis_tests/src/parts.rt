@@ -1,6 +1,8 @@
 //! The coarse parts, the strong components and the fine blocks of each matrix.
 
-ghost use Rattle.bip_graph.specs.Matching.{IsMatchingOf};
+ghost use Rattle.bip_defs.specs.Parts.{ArePartsOf};
+ghost use Rattle.bip_graph.specs.Decompositions.{parts_of};
+ghost use Rattle.bip_graph.specs.Matching.{IsMatchingOf, IsMaximumOf};
 
 use bip_graph::{Blocks, Matching, Parts};
 use dm_coarse::{coarse, coarse_if_maximum};
@@ -140,6 +142,26 @@ fn has_numbers<R: Abort + AllocGlobal>(
     Ok(())
 }
 
+/// The components and the blocks.
+fn has_components_and_blocks<R: Abort + AllocGlobal>(
+    rt: &R,
+    worked: &Worked<'_>,
+    pattern: &Pattern,
+    matching: &Matching,
+    parts: &Parts,
+) -> Result<(), Fail>
+    requires maximum { IsMaximumOf pattern.now matching.now }
+    requires parts { ArePartsOf pattern.now (parts_of parts.now) }
+{
+    let wanted = blocks_of(rt, worked)?;
+    let components = strong_components(rt.alloc(), pattern, matching, parts)?;
+    has_components(rt, worked.name(), &components, wanted.as_slice());
+    has_numbers(rt, worked, &components)?;
+    let blocks = fine(rt.alloc(), pattern, matching, parts)?;
+    has_blocks(rt, worked.name(), &blocks, wanted.as_slice());
+    Ok(())
+}
+
 /// The parts, the components and the blocks, from the matching of the plain engine.
 fn is_decomposed<R: Abort + AllocGlobal + Threads + Sync>(
     rt: &R,
@@ -149,13 +171,7 @@ fn is_decomposed<R: Abort + AllocGlobal + Threads + Sync>(
     let (matching, _columns) = plain(rt.alloc(), &pattern)?;
     let parts = coarse(rt, rt.alloc(), &pattern, &matching)?;
     has_parts(rt, worked, &parts)?;
-    let wanted = blocks_of(rt, worked)?;
-    let components = strong_components(rt.alloc(), &pattern, &matching, &parts)?;
-    has_components(rt, worked.name(), &components, wanted.as_slice());
-    has_numbers(rt, worked, &components)?;
-    let blocks = fine(rt.alloc(), &pattern, &matching, &parts)?;
-    has_blocks(rt, worked.name(), &blocks, wanted.as_slice());
-    Ok(())
+    has_components_and_blocks(rt, worked, &pattern, &matching, &parts)
 }
 
 #[test]
@@ -188,6 +204,23 @@ fn has_parts_if_maximum<R: Abort + AllocGlobal + Threads + Sync>(
     Ok(())
 }
 
+/// From the matchings of an example.
+fn has_parts_from_given<R: Abort + AllocGlobal + Threads + Sync>(
+    rt: &R,
+    worked: &Worked<'_>,
+    pattern: &Pattern,
+) -> Result<(), Fail> {
+    for line in worked.lines.split('\n') {
+        if let Some(text) = line.strip_prefix("from:") {
+            let (pairs, _sure) = text.split_once('|').ok_or("no bar")?;
+            let pairs = pairs_in(rt.alloc(), pairs)?;
+            let matching = matching_of(rt.alloc(), pattern, pairs.as_slice())?;
+            has_parts_if_maximum(rt, worked, pattern, &matching)?;
+        }
+    }
+    Ok(())
+}
+
 /// From no pairs, from the start and from the matchings of an example.
 fn has_parts_from_each<R: Abort + AllocGlobal + Threads + Sync>(
     rt: &R,
@@ -198,15 +231,7 @@ fn has_parts_from_each<R: Abort + AllocGlobal + Threads + Sync>(
     has_parts_if_maximum(rt, worked, &pattern, &none)?;
     let started = start(rt.alloc(), &pattern)?;
     has_parts_if_maximum(rt, worked, &pattern, &started)?;
-    for line in worked.lines.split('\n') {
-        if let Some(text) = line.strip_prefix("from:") {
-            let (pairs, _sure) = text.split_once('|').ok_or("no bar")?;
-            let pairs = pairs_in(rt.alloc(), pairs)?;
-            let matching = matching_of(rt.alloc(), &pattern, pairs.as_slice())?;
-            has_parts_if_maximum(rt, worked, &pattern, &matching)?;
-        }
-    }
-    Ok(())
+    has_parts_from_given(rt, worked, &pattern)
 }
 
 #[test]

@@ -1,11 +1,23 @@
 //! Patterns of small matrices and of one with many entries, the weights of entries, and the matrix
 //! of a number, worked out by hand. Tables count rows and columns from 1.
 
+ghost use Rattle.std.specs.Prelude.{◌≡◌};
+
 use sp_ids::{Col, Field, Id, OutOfMemory, Row, Triples};
 use sp_pattern::{Pattern, Weights, load_matrix};
 use std::process::Abort;
 use std::test::Fail;
 use test_matrices::{integers_of, pattern_of};
+
+// The matrix has the five places of the lists below, each once.
+fn has_the_places<R: Abort>(rt: &R, pattern: &Pattern) {
+    assert_eq!(rt; (pattern.rows(), pattern.cols()), (4, 4));
+    assert_eq!(rt; pattern.entries(), 5);
+    assert_eq!(rt; pattern.rows_of(Col(0)), [Row(1), Row(3)].as_slice());
+    assert_eq!(rt; pattern.cols_of(Row(0)), [Col(1), Col(3)].as_slice());
+    assert_eq!(rt; pattern.has(Row(2), Col(2)), true);
+    assert_eq!(rt; pattern.has(Row(9), Col(9)), false);
+}
 
 // One matrix: by columns; by rows; each place beside its mirror image, with the lower half by
 // columns, by rows and in no order; in no order at all. In each list one place stands twice.
@@ -20,13 +32,7 @@ fn places_in_each_order(rt: HostRuntime) -> Result<(), Fail> {
         [(3, 3), (1, 4), (2, 1), (1, 2), (4, 1), (2, 1)],
     ];
     for places in orders {
-        let pattern = pattern_of(&rt, 4, 4, places.as_slice())?;
-        assert_eq!(rt; (pattern.rows(), pattern.cols()), (4, 4));
-        assert_eq!(rt; pattern.entries(), 5);
-        assert_eq!(rt; pattern.rows_of(Col(0)), [Row(1), Row(3)].as_slice());
-        assert_eq!(rt; pattern.cols_of(Row(0)), [Col(1), Col(3)].as_slice());
-        assert_eq!(rt; pattern.has(Row(2), Col(2)), true);
-        assert_eq!(rt; pattern.has(Row(9), Col(9)), false);
+        has_the_places(&rt, &pattern_of(&rt, 4, 4, places.as_slice())?);
     }
     Ok(())
 }
@@ -117,19 +123,30 @@ fn load_matrix_of_thirty(rt: HostRuntime) -> Result<(), Fail> {
     Ok(())
 }
 
+// The one column has the weights 7 and 8.
+fn has_weights<R: Abort>(rt: &R, pattern: &Pattern, weights: &Weights<'_>)
+    requires { weights.now.matrix ≡ pattern.now }
+{
+    assert_eq!(rt; pattern.cols(), 1);
+    assert_eq!(rt; weights.weights_of(Col(0)), [7, 8].as_slice());
+    assert_eq!(rt; pattern.has(Row(1), Col(0)), true);
+    assert_eq!(rt; weights.weight(Row(1), Col(0)), 8);
+}
+
+// Of the two rows of the one column this one is left.
+fn has_row<R: Abort>(rt: &R, pattern: &Pattern, row: Row) {
+    assert_eq!(rt; pattern.cols(), 1);
+    assert_eq!(rt; pattern.rows_of(Col(0)), [row].as_slice());
+}
+
 // The place (2, 1) is given twice.
 #[test]
 fn weights_and_entries_above_one(rt: HostRuntime) -> Result<(), Fail> {
     let given = integers_of(rt.alloc(), 2, 1, &[(2, 1, 1), (1, 1, -7), (2, 1, -9)])?;
     let pattern = Pattern::build(&rt, rt.alloc(), &given)?;
     let weights = Weights::build(rt.alloc(), &pattern, &given)?;
-    assert_eq!(rt; pattern.cols(), 1);
-    assert_eq!(rt; weights.weights_of(Col(0)), [7, 8].as_slice());
-    assert_eq!(rt; pattern.has(Row(1), Col(0)), true);
-    assert_eq!(rt; weights.weight(Row(1), Col(0)), 8);
-    let above = pattern.above(rt.alloc(), &weights, 7)?;
-    assert_eq!(rt; above.cols(), 1);
-    assert_eq!(rt; above.rows_of(Col(0)), [Row(1)].as_slice());
+    has_weights(&rt, &pattern, &weights);
+    has_row(&rt, &pattern.above(rt.alloc(), &weights, 7)?, Row(1));
     Ok(())
 }
 
@@ -142,8 +159,10 @@ fn places_that_add_up_to_zero(rt: HostRuntime) -> Result<(), Fail> {
         (2, 1, -9223372036854775807),
     ];
     let given = integers_of(rt.alloc(), 2, 1, &entries)?;
-    let pattern = Pattern::build_nonzero(&rt, rt.alloc(), &given)?;
-    assert_eq!(rt; pattern.cols(), 1);
-    assert_eq!(rt; pattern.rows_of(Col(0)), [Row(0)].as_slice());
+    has_row(
+        &rt,
+        &Pattern::build_nonzero(&rt, rt.alloc(), &given)?,
+        Row(0),
+    );
     Ok(())
 }

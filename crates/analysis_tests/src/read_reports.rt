@@ -1,7 +1,7 @@
 //! Reports that are read, and bytes that are none.
 
-use bip_graph::{Blocks, Parts};
-use btf_text::read_report;
+use bip_graph::{Blocks, Components, Parts};
+use btf_text::{Report, read_report};
 use sp_ids::{Col, Row};
 use std::process::Abort;
 use std::test::Fail;
@@ -43,14 +43,8 @@ fn a_report_with_orders(rt: HostRuntime) -> Result<(), Fail> {
     Ok(())
 }
 
-#[test]
-fn components_and_the_greatest_numbers(rt: HostRuntime) -> Result<(), Fail> {
-    let text =
-        b"btf 2\nmatrix 4294967295 1 0\nrank 0\nhorizontal 0 1\nrows\ncolumns 1\nhorizontal_components 1\ncomponent 1 0 1\nrows\ncolumns 1\nsquare 0 0\nvertical 1 0\nrows 4294967295\ncolumns\nvertical_components 1\ncomponent 1 1 0\nrows 4294967295\ncolumns\npairs 0\nend\n";
-    let read = read_report(rt.alloc(), text)?.ok_or("these bytes are a report")?;
-    assert_eq!(rt; (read.version, read.m), (2, u32::MAX));
-    assert_eq!(rt; read.parts.vr.as_slice(), [Row(4_294_967_294)].as_slice());
-    let components = read.components.ok_or("the components stand there")?;
+/// The one column is a component by itself, and so is the last of the most rows.
+fn has_the_components<R: Abort>(rt: &R, components: &Components) {
     assert_eq!(rt; components.horizontal.len(), 1);
     assert_eq!(rt; components.horizontal.all_cols(), [Col(0)].as_slice());
     assert_eq!(rt; components.vertical.len(), 1);
@@ -58,9 +52,27 @@ fn components_and_the_greatest_numbers(rt: HostRuntime) -> Result<(), Fail> {
         components.vertical.all_rows(),
         [Row(4_294_967_294)].as_slice()
     );
+}
+
+fn has_the_greatest_numbers<R: Abort>(rt: &R, read: &Report) -> Result<(), Fail> {
+    assert_eq!(rt; (read.version, read.m), (2, u32::MAX));
+    assert_eq!(rt; read.parts.vr.as_slice(), [Row(4_294_967_294)].as_slice());
+    let components = read
+        .components
+        .as_ref()
+        .ok_or("the components stand there")?;
+    has_the_components(rt, components);
     assert!(rt; read.orders.is_none());
     assert!(rt; read.pairs.is_empty());
     Ok(())
+}
+
+#[test]
+fn components_and_the_greatest_numbers(rt: HostRuntime) -> Result<(), Fail> {
+    let text =
+        b"btf 2\nmatrix 4294967295 1 0\nrank 0\nhorizontal 0 1\nrows\ncolumns 1\nhorizontal_components 1\ncomponent 1 0 1\nrows\ncolumns 1\nsquare 0 0\nvertical 1 0\nrows 4294967295\ncolumns\nvertical_components 1\ncomponent 1 1 0\nrows 4294967295\ncolumns\npairs 0\nend\n";
+    let read = read_report(rt.alloc(), text)?.ok_or("these bytes are a report")?;
+    has_the_greatest_numbers(&rt, &read)
 }
 
 /// Bytes that are no report.

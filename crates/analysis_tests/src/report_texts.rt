@@ -6,6 +6,7 @@ use btf_text::{TextBuf, write_load, write_pairs, write_report};
 use sp_ids::{Col, OutOfMemory, Row};
 use sp_ports::{Failed, MemSink, SteadySink};
 use std::alloc::Global;
+use std::process::Abort;
 use std::test::Fail;
 use test_matrices::{matching_of, pattern_of};
 
@@ -66,23 +67,31 @@ fn the_summary_of_three_parts(rt: HostRuntime) -> Result<(), Fail> {
     Ok(())
 }
 
+/// The text of a report with its orders and these pairs.
+fn has_text<R: Abort + AllocGlobal>(
+    rt: &R,
+    dec: &Decomposition,
+    matching: &Matching,
+    text: &[u8],
+) -> Result<(), Fail> {
+    let mut buf = TextBuf::new(rt.alloc())?;
+    let mut out = SteadySink::new(rt.alloc(), 1000, 7)?;
+    assert_eq!(rt;
+        write_report(&mut out, &mut buf, dec, None, matching, true, true),
+        Ok(())
+    );
+    assert_eq!(rt; out.bytes(), text);
+    Ok(())
+}
+
 #[test]
 fn the_report_of_three_parts(rt: HostRuntime) -> Result<(), Fail> {
     // Column 1 is matched and column 2 is not.
-    let alloc = rt.alloc();
-    let dec = three_parts(alloc)?;
     let pattern = pattern_of(&rt, 4, 4, &THREE_PARTS)?;
-    let matching = matching_of(alloc, &pattern, &[(3, 4), (1, 1), (2, 3)])?;
-    let mut buf = TextBuf::new(alloc)?;
-    let mut out = SteadySink::new(alloc, 1000, 7)?;
-    assert_eq!(rt;
-        write_report(&mut out, &mut buf, &dec, None, &matching, true, true),
-        Ok(())
-    );
+    let matching = matching_of(rt.alloc(), &pattern, &[(3, 4), (1, 1), (2, 3)])?;
     let text =
         b"btf 1\nmatrix 4 4 7\nrank 3\nhorizontal 1 2\nrows 1\ncolumns 1 2\nsquare 1 1\nblock 1 1\nrows 2\ncolumns 3\nvertical 2 1\nrows 3 4\ncolumns 4\nrow_order 1 2 3 4\ncolumn_order 1 2 3 4\npairs 3\n1 1\n2 3\n3 4\nend\n";
-    assert_eq!(rt; out.bytes(), text.as_slice());
-    Ok(())
+    has_text(&rt, &three_parts(rt.alloc())?, &matching, text)
 }
 
 /// Two rows of two columns each, which are all horizontal.
@@ -105,26 +114,34 @@ pub(crate) fn two_components(alloc: Global) -> Result<Components, OutOfMemory> {
     })
 }
 
-#[test]
-fn a_report_that_is_cut_off(rt: HostRuntime) -> Result<(), Fail> {
-    // The second call fails: the buffer's first 65,536 bytes were taken, which end in the list of
-    // rows.
-    let alloc = rt.alloc();
+/// Many rows, which are all horizontal.
+fn many_rows(alloc: Global) -> Result<Decomposition, OutOfMemory> {
     let mut dec = square(alloc, 0, 0, Blocks::new(alloc));
     for row in 0..20_000 {
         dec.parts.hr.push(Row(row))?;
     }
+    Ok(dec)
+}
+
+/// The second call fails: the buffer's first 65,536 bytes were taken, which end in the list of rows.
+fn is_cut_off<R: Abort + AllocGlobal>(rt: &R, dec: &Decomposition) -> Result<(), Fail> {
+    let alloc = rt.alloc();
     let matching = Matching::empty(alloc, 0, 0)?;
     let mut buf = TextBuf::new(alloc)?;
     let mut failing = MemSink::new(alloc, 200_000, 65_536, [1].to_vec(alloc)?)?;
     assert_eq!(rt;
-        write_report(&mut failing, &mut buf, &dec, None, &matching, false, true),
+        write_report(&mut failing, &mut buf, dec, None, &matching, false, true),
         Err(Failed)
     );
     assert_eq!(rt; failing.failed_calls(), 1);
     let prefix = b"btf 1\nmatrix 0 0 0\nrank 0\nhorizontal 20000 0\nrows 1 2 3";
     assert!(rt; failing.bytes().starts_with(prefix));
     Ok(())
+}
+
+#[test]
+fn a_report_that_is_cut_off(rt: HostRuntime) -> Result<(), Fail> {
+    is_cut_off(&rt, &many_rows(rt.alloc())?)
 }
 
 #[test]

@@ -3,7 +3,7 @@
 ghost use Rattle.std.specs.Prelude.{◌≡◌, ◌<◌, [], ◌∷◌, length, IfOk};
 ghost use Rattle.claim_words.specs.Answers.{col_before};
 ghost use Rattle.claim_words.specs.Listed.{nothing};
-ghost use Rattle.claim_words.specs.Seat.{AreAllSeats, after_claim, first_seat, new_seat};
+ghost use Rattle.claim_words.specs.Seat.{AreAllSeats, IsSameSeat, after_claim, first_seat, new_seat};
 ghost use Rattle.claim_words.specs.Settles.{SettlesAll};
 ghost use Rattle.claim_words.specs.WorkerState.{AreAllWorkers, fresh_lists, seated};
 
@@ -11,6 +11,7 @@ use claim_words::{ClaimBoard, ClaimSeat, Claimed, Closed, Won, Worker, seats_in_
 use sp_ids::{Col, Id, OutOfMemory, Row};
 use sp_ports::Gate;
 use std::alloc::Global;
+use std::process::Abort;
 use std::test::Fail;
 use std::thread::{Threads, join_mut};
 use test_gates::BarrierGate;
@@ -177,19 +178,40 @@ fn gather_for_two(
     Ok((zero, one))
 }
 
-#[test]
-fn workers_gather_what_they_list(rt: HostRuntime) -> Result<(), Fail> {
-    let (board, mut zero, mut one) = board_with_workers(rt.alloc())?;
-    assert_eq!(rt; zero.claim(&board, Row(0), Col(0))?, Claimed::Mine);
-    assert_eq!(rt; one.claim(&board, Row(0), Col(1))?, Claimed::Held(Col(0)));
-    assert_eq!(rt; one.claim(&board, Row(1), Col(0))?, Claimed::Mine);
-    assert_eq!(rt; one.win(&board, Col(0), Row(1))?, Won::Mine);
-    assert_eq!(rt; zero.look_root(&board, Col(0)), Some(Row(1)));
-    assert_eq!(rt; zero.look_row(&board, Row(1)), Some(Col(0)));
-    let (mut zero, mut one) = gather_for_two(rt.alloc(), &board, zero, one)?;
+// Worker 0 claims row 0, and worker 1 claims row 1 and wins the root. Each sees what the other did.
+fn work_by_two<R: Abort>(
+    rt: &R,
+    board: &ClaimBoard,
+    zero: &mut Worker,
+    one: &mut Worker,
+) -> Result<(), OutOfMemory>
+    requires seats { (zero.old.seat.board ≡ board.now) × (one.old.seat.board ≡ board.now) }
+    requires words { (length board.now.rows ≡ 2) × (length board.now.roots ≡ 1) }
+    ensures zero { IsSameSeat zero.old.seat zero.new.seat }
+    ensures one { IsSameSeat one.old.seat one.new.seat }
+{
+    assert_eq!(rt; zero.claim(board, Row(0), Col(0))?, Claimed::Mine);
+    assert_eq!(rt; one.claim(board, Row(0), Col(1))?, Claimed::Held(Col(0)));
+    assert_eq!(rt; one.claim(board, Row(1), Col(0))?, Claimed::Mine);
+    assert_eq!(rt; one.win(board, Col(0), Row(1))?, Won::Mine);
+    assert_eq!(rt; zero.look_root(board, Col(0)), Some(Row(1)));
+    assert_eq!(rt; zero.look_row(board, Row(1)), Some(Col(0)));
+    Ok(())
+}
+
+// What each has claimed and won is still fresh.
+fn have_fresh_lists<R: Abort>(rt: &R, zero: &Worker, one: &Worker) {
     assert_eq!(rt; zero.fresh_claims(), [(Row(0), Col(0))].as_slice());
     assert_eq!(rt; one.fresh_claims(), [(Row(1), Col(0))].as_slice());
     assert_eq!(rt; one.fresh_wins(), [(Col(0), Row(1))].as_slice());
+}
+
+#[test]
+fn workers_gather_what_they_list(rt: HostRuntime) -> Result<(), Fail> {
+    let (board, mut zero, mut one) = board_with_workers(rt.alloc())?;
+    work_by_two(&rt, &board, &mut zero, &mut one)?;
+    let (mut zero, mut one) = gather_for_two(rt.alloc(), &board, zero, one)?;
+    have_fresh_lists(&rt, &zero, &one);
     zero.settle();
     one.settle();
     assert!(rt; one.fresh_claims().is_empty() && one.fresh_wins().is_empty());

@@ -287,6 +287,31 @@ fn board_for_four<'a>(
     ))
 }
 
+// Closes the board, of which these are all seats.
+fn close_for_four(
+    alloc: Global,
+    board: ClaimBoard,
+    zero: ClaimSeat,
+    one: ClaimSeat,
+    two: ClaimSeat,
+    three: ClaimSeat,
+) -> Result<Closed, OutOfMemory>
+    requires board { IsContested board }
+    requires seats { AreAllSeats board (zero ∷ one ∷ two ∷ three ∷ []) }
+    ensures { IfOk result (λ c. (length c.rows ≡ 1000) × (length c.roots ≡ 4)) }
+{
+    seats_in_order_are_all();
+    let mut seats = Vec::new(alloc);
+    seats.push(zero)?;
+    seats.push(one)?;
+    seats.push(two)?;
+    seats.push(three)?;
+    match board.close(seats) {
+        Ok(closed) => Ok(closed),
+        Err(_) => Err(OutOfMemory),
+    }
+}
+
 // Closes the board, and tells whether it shows what each seat was told.
 fn closed_shows(
     alloc: Global,
@@ -299,15 +324,7 @@ fn closed_shows(
     requires board { IsContested board }
     requires seats { AreAllSeats board (zero.seat ∷ one.seat ∷ two.seat ∷ three.seat ∷ []) }
 {
-    seats_in_order_are_all();
-    let mut seats = Vec::new(alloc);
-    seats.push(zero.seat)?;
-    seats.push(one.seat)?;
-    seats.push(two.seat)?;
-    seats.push(three.seat)?;
-    let Ok(closed) = board.close(seats) else {
-        return Err(OutOfMemory);
-    };
+    let closed = close_for_four(alloc, board, zero.seat, one.seat, two.seat, three.seat)?;
     let lower = shows(&closed, zero.holders.as_slice(), zero.leaves.as_slice())
         && shows(&closed, one.holders.as_slice(), one.leaves.as_slice());
     let upper = shows(&closed, two.holders.as_slice(), two.leaves.as_slice())

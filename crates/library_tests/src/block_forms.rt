@@ -2,10 +2,31 @@
 //! table, with numbers of both widths.
 
 use crate::matrices::{MATRICES, Worked};
-use crate::small::{unwritten, widened};
-use blocktri::{Narrow, NumberList, Wide, decomposition, matching, rank};
+use crate::small::{FormLists, Lengths, unwritten, widened};
+use blocktri::{Narrow, NumberList, Wide, matching, rank};
 use std::process::Abort;
 use std::test::Fail;
+
+fn has_lists<R: Abort>(rt: &R, worked: &Worked<'_>, lists: &FormLists) {
+    let name = worked.name;
+    assert_eq!(rt; lists.row_order.as_slice(), worked.row_order, "{name}");
+    assert_eq!(rt;
+        lists.column_order.as_slice(),
+        worked.column_order,
+        "{name}"
+    );
+    assert_eq!(rt;
+        lists.block_starts.as_slice(),
+        worked.block_starts,
+        "{name}"
+    );
+    assert_eq!(rt; lists.of_rows.as_slice(), worked.row_component, "{name}");
+    assert_eq!(rt;
+        lists.of_columns.as_slice(),
+        worked.column_component,
+        "{name}"
+    );
+}
 
 fn has_form<R: Abort + AllocGlobal, N: NumberList>(
     rt: &R,
@@ -13,29 +34,16 @@ fn has_form<R: Abort + AllocGlobal, N: NumberList>(
     starts: N,
     ids: N,
 ) -> Result<(), Fail> {
-    let name = worked.name;
-    let mut row_order = unwritten(rt.alloc(), worked.row_order.len())?;
-    let mut column_order = unwritten(rt.alloc(), worked.column_order.len())?;
-    let mut block_starts = unwritten(rt.alloc(), worked.block_starts.len())?;
-    let mut of_rows = unwritten(rt.alloc(), worked.row_component.len())?;
-    let mut of_columns = unwritten(rt.alloc(), worked.column_component.len())?;
-    let found = decomposition(
-        rt.alloc(),
-        worked.rows as u64,
-        starts,
-        ids,
-        row_order.as_mut_slice(),
-        column_order.as_mut_slice(),
-        block_starts.as_mut_slice(),
-        of_rows.as_mut_slice(),
-        of_columns.as_mut_slice(),
-    );
-    assert_eq!(rt; found, Ok(worked.sizes), "{name}");
-    assert_eq!(rt; row_order.as_slice(), worked.row_order, "{name}");
-    assert_eq!(rt; column_order.as_slice(), worked.column_order, "{name}");
-    assert_eq!(rt; block_starts.as_slice(), worked.block_starts, "{name}");
-    assert_eq!(rt; of_rows.as_slice(), worked.row_component, "{name}");
-    assert_eq!(rt; of_columns.as_slice(), worked.column_component, "{name}");
+    let lengths = Lengths {
+        rows: worked.row_order.len(),
+        columns: worked.column_order.len(),
+        starts: worked.block_starts.len(),
+        components: (worked.row_component.len(), worked.column_component.len()),
+    };
+    let mut lists = FormLists::new(rt.alloc(), lengths)?;
+    let found = lists.write(rt.alloc(), worked.rows, starts, ids);
+    assert_eq!(rt; found, Ok(worked.sizes), "{}", worked.name);
+    has_lists(rt, worked, &lists);
     Ok(())
 }
 

@@ -1,52 +1,22 @@
 //! Lists that the calls on patterns refuse. Nothing is written then.
 
-use crate::small::{is_unwritten, unwritten};
-use blocktri::{
-    ColumnsError, Narrow, NumberList, Refusal, Wide, block_order, decomposition, matching, rank,
-};
+use crate::small::{FormLists, Lengths, is_unwritten, unwritten};
+use blocktri::{ColumnsError, Narrow, NumberList, Refusal, Wide, block_order, matching, rank};
 use std::process::Abort;
 use std::test::Fail;
-
-// How long the lists are that are to be written: an order of the rows and of the columns, the block
-// starts, and the numbers of the rows' and of the columns' components.
-#[derive(Clone, Copy)]
-struct Lengths {
-    rows: usize,
-    columns: usize,
-    starts: usize,
-    components: (usize, usize),
-}
 
 fn form_is_refused<R: Abort + AllocGlobal, N: NumberList>(
     rt: &R,
     rows: u32,
     starts: N,
     ids: N,
-    lists: Lengths,
+    lengths: Lengths,
     refusal: Refusal,
 ) -> Result<(), Fail> {
-    let mut row_order = unwritten(rt.alloc(), lists.rows)?;
-    let mut column_order = unwritten(rt.alloc(), lists.columns)?;
-    let mut block_starts = unwritten(rt.alloc(), lists.starts)?;
-    let mut of_rows = unwritten(rt.alloc(), lists.components.0)?;
-    let mut of_columns = unwritten(rt.alloc(), lists.components.1)?;
-    let form = decomposition(
-        rt.alloc(),
-        rows as u64,
-        starts,
-        ids,
-        row_order.as_mut_slice(),
-        column_order.as_mut_slice(),
-        block_starts.as_mut_slice(),
-        of_rows.as_mut_slice(),
-        of_columns.as_mut_slice(),
-    );
+    let mut lists = FormLists::new(rt.alloc(), lengths)?;
+    let form = lists.write(rt.alloc(), rows, starts, ids);
     assert_eq!(rt; form, Err(refusal));
-    is_unwritten(rt, row_order.as_slice());
-    is_unwritten(rt, column_order.as_slice());
-    is_unwritten(rt, block_starts.as_slice());
-    is_unwritten(rt, of_rows.as_slice());
-    is_unwritten(rt, of_columns.as_slice());
+    lists.are_unwritten(rt);
     Ok(())
 }
 

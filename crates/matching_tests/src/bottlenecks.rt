@@ -23,20 +23,23 @@ fn least_of(table: &Table, pairs: &[(Row, Col)]) -> Option<u64> {
     Some(least)
 }
 
-// The answer has the least weight that all ways have at most, in one pair and in none less, and
-// columns with fewer neighbours above it. Or there is no way, and it tells why.
-fn is_greatest<R: Abort + AllocGlobal + Threads + Sync>(
+// The bottleneck of these entries.
+fn bottleneck_of<R: AllocGlobal + Threads + Sync>(
     rt: &R,
     size: u32,
-    table: &Table,
-) -> Result<(), Fail> {
-    let entries = entries_of(rt.alloc(), table)?;
-    let given = integers_of(rt.alloc(), size, size, entries.as_slice())?;
+    entries: &[(u32, u32, i64)],
+) -> Result<Bottleneck, Fail> {
+    let given = integers_of(rt.alloc(), size, size, entries)?;
     let pattern = Pattern::build(rt, rt.alloc(), &given)?;
     let weights = Weights::build(rt.alloc(), &pattern, &given)?;
-    let found = best(rt.alloc(), &pattern, &weights)?;
+    Ok(best(rt.alloc(), &pattern, &weights)?)
+}
+
+// The answer has the least weight that all ways have at most, in one pair and in none less, and
+// columns with fewer neighbours above it. Or there is no way, and it tells why.
+fn tells_greatest<R: Abort>(rt: &R, size: u32, table: &Table, found: &Bottleneck) {
     let most = by_all_ways(table, Aim::Least, size as usize, 0, [false; 4]);
-    match (&found, most) {
+    match (found, most) {
         (Bottleneck::Best { pairs, least, hall }, Some(most)) => {
             assert_eq!(rt; pairs.as_slice().len(), size as usize);
             assert_eq!(rt;
@@ -54,6 +57,16 @@ fn is_greatest<R: Abort + AllocGlobal + Threads + Sync>(
         }
         _ => assert!(rt; false, "{table:?}"),
     }
+}
+
+fn is_greatest<R: Abort + AllocGlobal + Threads + Sync>(
+    rt: &R,
+    size: u32,
+    table: &Table,
+) -> Result<(), Fail> {
+    let entries = entries_of(rt.alloc(), table)?;
+    let found = bottleneck_of(rt, size, entries.as_slice())?;
+    tells_greatest(rt, size, table, &found);
     Ok(())
 }
 

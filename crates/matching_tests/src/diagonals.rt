@@ -31,32 +31,51 @@ fn sum_of(table: &Table, pairs: &[(Row, Col)]) -> Option<u64> {
     Some(sum)
 }
 
+// The heaviest diagonal of these entries.
+fn heaviest_of<R: AllocGlobal + Threads + Sync>(
+    rt: &R,
+    size: u32,
+    entries: &[(u32, u32, i64)],
+) -> Result<Heaviest, Fail> {
+    let given = integers_of(rt.alloc(), size, size, entries)?;
+    let pattern = Pattern::build(rt, rt.alloc(), &given)?;
+    let weights = Weights::build(rt.alloc(), &pattern, &given)?;
+    Ok(heaviest(rt.alloc(), &pattern, &weights)?)
+}
+
 // The answer has the sum that all ways have at most, or there is no way and it tells why.
-fn is_greatest<R: Abort + AllocGlobal + Threads + Sync>(
+fn tells_greatest<R: Abort>(
     rt: &R,
     size: u32,
     table: &Table,
-) -> Result<(), Fail> {
-    let entries = entries_of(rt.alloc(), table)?;
-    let given = integers_of(rt.alloc(), size, size, entries.as_slice())?;
-    let pattern = Pattern::build(rt, rt.alloc(), &given)?;
-    let weights = Weights::build(rt.alloc(), &pattern, &given)?;
-    let found = heaviest(rt.alloc(), &pattern, &weights)?;
+    entries: &[(u32, u32, i64)],
+    found: &Heaviest,
+) {
     let most = by_all_ways(table, Aim::Sum, size as usize, 0, [false; 4]);
-    match (&found, most) {
+    match (found, most) {
         (Heaviest::Diagonal { pairs, u, v, sum }, Some(most)) => {
             assert_eq!(rt; pairs.as_slice().len(), size as usize);
             assert_eq!(rt;
                 (*sum, sum_of(table, pairs.as_slice())),
                 (most as i128, Some(most))
             );
-            are_fair(rt, entries.as_slice(), u.as_slice(), v.as_slice());
+            are_fair(rt, entries, u.as_slice(), v.as_slice());
         }
         (Heaviest::Singular { rank, hall }, None) => {
             is_singular(rt, table, size, *rank, hall.as_slice());
         }
         _ => assert!(rt; false, "{table:?}"),
     }
+}
+
+fn is_greatest<R: Abort + AllocGlobal + Threads + Sync>(
+    rt: &R,
+    size: u32,
+    table: &Table,
+) -> Result<(), Fail> {
+    let entries = entries_of(rt.alloc(), table)?;
+    let found = heaviest_of(rt, size, entries.as_slice())?;
+    tells_greatest(rt, size, table, entries.as_slice(), &found);
     Ok(())
 }
 

@@ -1,6 +1,7 @@
 //! Runs of events on the forest of alternating trees, worked out by hand.
 
 use crate::pairs::{are_pairs, has_pairs};
+use bip_graph::Matching;
 use forest_core::{Forest, every_run};
 use sp_ids::{Col, Event, Id, Row};
 use sp_pattern::Pattern;
@@ -143,20 +144,23 @@ static RUNS: [Run; 7] = [
     },
 ];
 
-fn runs<R: Abort + AllocGlobal + Threads + Sync>(rt: &R, run: &Run) -> Result<(), Fail> {
-    let pattern = pattern_of(rt, run.rows, run.cols, run.places)?;
-    let (forest, made) = after(rt, &pattern, run.pairs, run.steps)?;
-    assert_eq!(rt; made, run.made, "{}", run.name);
-    assert_eq!(rt; forest.claims().len(), run.claims, "{}", run.name);
-    assert_eq!(rt; forest.done(), run.done, "{}", run.name);
-    let matching = forest.into_matching();
+/// The matching that a run leaves.
+fn is_left<R: Abort>(rt: &R, run: &Run, matching: &Matching) {
     assert_eq!(rt;
         matching.size() as usize,
         run.after.len(),
         "{:?}",
         run.steps
     );
-    has_pairs(rt, run.name, &matching, run.after);
+    has_pairs(rt, run.name, matching, run.after);
+}
+
+fn runs<R: Abort + AllocGlobal + Threads + Sync>(rt: &R, run: &Run) -> Result<(), Fail> {
+    let pattern = pattern_of(rt, run.rows, run.cols, run.places)?;
+    let (forest, made) = after(rt, &pattern, run.pairs, run.steps)?;
+    let found = (made, forest.claims().len(), forest.done());
+    assert_eq!(rt; found, (run.made, run.claims, run.done), "{}", run.name);
+    is_left(rt, run, &forest.into_matching());
     Ok(())
 }
 

@@ -2,6 +2,7 @@
 
 use bip_graph::{Blocks, Matching, Mates};
 use sp_ids::{Col, OutOfMemory, Row};
+use std::process::Abort;
 
 // The base matching has row 0 at column 2. Two paths are exchanged one after the other: column 1
 // takes row 0 and column 2 takes row 1; then column 0 takes row 0 and column 1 takes row 2.
@@ -59,17 +60,22 @@ fn makes_a_matching(rt: HostRuntime) -> Result<(), OutOfMemory> {
     Ok(())
 }
 
+// A block of row 2 and column 2, and then one of the rows and columns 0 and 1.
+fn has_both<R: Abort>(rt: &R, blocks: &Blocks) {
+    assert_eq!(rt; blocks.len(), 2);
+    assert_eq!(rt; blocks.rows(0), [Row(2)].as_slice());
+    assert_eq!(rt; blocks.cols(1), [Col(0), Col(1)].as_slice());
+    assert_eq!(rt; blocks.all_rows(), [Row(2), Row(0), Row(1)].as_slice());
+    assert_eq!(rt; blocks.all_cols(), [Col(2), Col(0), Col(1)].as_slice());
+}
+
 #[test]
 fn blocks_in_order(rt: HostRuntime) -> Result<(), OutOfMemory> {
     let mut blocks = Blocks::with_room(rt.alloc(), 2, 3, 3)?;
     assert!(rt; blocks.is_empty());
     blocks.push(&[Row(2)], &[Col(2)])?;
     blocks.push(&[Row(0), Row(1)], &[Col(0), Col(1)])?;
-    assert_eq!(rt; blocks.len(), 2);
-    assert_eq!(rt; blocks.rows(0), [Row(2)].as_slice());
-    assert_eq!(rt; blocks.cols(1), [Col(0), Col(1)].as_slice());
-    assert_eq!(rt; blocks.all_rows(), [Row(2), Row(0), Row(1)].as_slice());
-    assert_eq!(rt; blocks.all_cols(), [Col(2), Col(0), Col(1)].as_slice());
+    has_both(&rt, &blocks);
     Ok(())
 }
 

@@ -8,6 +8,7 @@ ghost use Rattle.sp_ids.specs.Limits.{max_workers};
 use crate::pairs::{are_pairs, has_pairs};
 use forest_core::Forest;
 use sp_ids::OutOfMemory;
+use sp_pattern::Pattern;
 use sp_ports::{Gate, MeetGate};
 use std::process::Abort;
 use std::test::Fail;
@@ -183,14 +184,25 @@ fn phases_add<R: Abort + AllocGlobal + Threads + Sync>(
     Ok(())
 }
 
+/// Phases by so many workers from no pairs, which add one.
+fn phases_add_one<R: Abort + AllocGlobal + Threads + Sync>(
+    rt: &R,
+    pattern: &Pattern,
+    workers: u32,
+) -> Result<(), Fail>
+    requires { (1 ≤ workers) × (workers ≤ max_workers) }
+{
+    let none = matching_of(rt.alloc(), pattern, &[])?;
+    let mut forest = Forest::new(rt.alloc(), pattern, none)?;
+    Ok(phases_add(rt, &mut forest, workers, 1, 1)?)
+}
+
 /// One path, and then the row leads from the one column to the other.
 #[test]
 fn phases_on_one_row(rt: HostRuntime) -> Result<(), Fail> {
     let pattern = pattern_of(&rt, 1, 2, &[(1, 1), (1, 2)])?;
     for workers in NUMBERS {
-        let none = matching_of(rt.alloc(), &pattern, &[])?;
-        let mut forest = Forest::new(rt.alloc(), &pattern, none)?;
-        phases_add(&rt, &mut forest, workers, 1, 1)?;
+        phases_add_one(&rt, &pattern, workers)?;
     }
     Ok(())
 }

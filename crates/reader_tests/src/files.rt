@@ -7,6 +7,7 @@ use mm_reader::{Input, next_byte, read_matrix, read_rest};
 use sp_ids::{Col, Field, Row, Triples};
 use sp_ports::{Failed, MemSource, Source};
 use std::alloc::{AllocError, Global};
+use std::process::Abort;
 use std::test::Fail;
 
 /// One entry, in 59 bytes.
@@ -295,15 +296,20 @@ fn values(triples: &Triples) -> &[i64] {
     &[]
 }
 
+/// This is what is read of an example's file.
+fn are_read<R: Abort>(rt: &R, example: &Example, triples: &Triples) {
+    assert_eq!(rt; triples.field(), example.field);
+    assert_eq!(rt; (triples.rows(), triples.cols()), example.sizes);
+    assert!(rt; are_places(triples.places(), example.places));
+    assert_eq!(rt; values(triples), example.values);
+}
+
 #[test]
 fn pieces_change_nothing(rt: HostRuntime) -> Result<(), Fail> {
     for example in &GOOD {
         for piece in [1, 2, 3, 7, 59, 4096] {
             let triples = read(rt.alloc(), example.file, piece, 1000)?;
-            assert_eq!(rt; triples.field(), example.field);
-            assert_eq!(rt; (triples.rows(), triples.cols()), example.sizes);
-            assert!(rt; are_places(triples.places(), example.places));
-            assert_eq!(rt; values(&triples), example.values);
+            are_read(&rt, example, &triples);
         }
     }
     Ok(())
@@ -410,15 +416,20 @@ static FOLLOWED: [&[u8]; 3] = [
     b"%%MatrixMarket matrix array integer skew-symmetric\n1 1\n% c\nbtf 1\n",
 ];
 
+/// What follows the matrix of a source.
+fn rest_of(alloc: Global, source: &mut MemSource, end: End) -> Result<Vec<u8>, Fail> {
+    let mut input = Input::new(alloc, 100)?;
+    let _triples = read_matrix(alloc, &mut input, source, end)?;
+    Ok(read_rest(alloc, &mut input, source)?)
+}
+
 #[test]
 fn the_rest_is_all_that_follows(rt: HostRuntime) -> Result<(), Fail> {
     let alloc = rt.alloc();
     for file in &FOLLOWED {
         for piece in [1, 61, 100] {
             let mut source = MemSource::new(file.to_vec(alloc)?, piece, Vec::new(alloc));
-            let mut input = Input::new(alloc, 100)?;
-            let _triples = read_matrix(alloc, &mut input, &mut source, End::LastEntry)?;
-            let rest = read_rest(alloc, &mut input, &mut source)?;
+            let rest = rest_of(alloc, &mut source, End::LastEntry)?;
             assert_eq!(rt; rest.as_slice(), b"% c\nbtf 1\n".as_slice());
         }
     }
@@ -444,9 +455,7 @@ fn nothing_is_asked_behind_the_end(rt: HostRuntime) -> Result<(), Fail> {
     for (end, length) in [(End::File, 59), (End::File, 58), (End::LastEntry, 58)] {
         let bytes = SMALLEST[..length].to_vec(alloc)?;
         let mut source = MemSource::new(bytes, 100, [2].to_vec(alloc)?);
-        let mut input = Input::new(alloc, 1000)?;
-        let _triples = read_matrix(alloc, &mut input, &mut source, end)?;
-        assert_eq!(rt; read_rest(alloc, &mut input, &mut source)?.len(), 0);
+        assert_eq!(rt; rest_of(alloc, &mut source, end)?.len(), 0);
         assert_eq!(rt; source.failed_calls(), 0);
         assert_eq!(rt; source.read(&mut [0; 1]), Err(Failed));
     }
@@ -465,23 +474,44 @@ fn the_rest_asks_no_more_past_the_limit(rt: HostRuntime) -> Result<(), Fail> {
     Ok(())
 }
 
+/// A line end comes, and then nothing.
+fn one_byte_comes<R: Abort + AllocGlobal>(rt: &R, source: &mut MemSource) -> Result<(), Fail> {
+    let mut input = Input::new(rt.alloc(), 1)?;
+    let first = next_byte(&mut input, source)?;
+    let end = next_byte(&mut input, source)?;
+    let again = next_byte(&mut input, source)?;
+    assert_eq!(rt; (first, end, again), (Some(b'\n'), None, None));
+    assert_eq!(rt; (input.lines(), input.is_good()), (1, true));
+    Ok(())
+}
+
 // The second call gives no bytes, and the third would fail.
 #[test]
 fn bytes_come_one_by_one(rt: HostRuntime) -> Result<(), Fail> {
     let alloc = rt.alloc();
     let mut source = MemSource::new(b"\n".to_vec(alloc)?, 2, [2].to_vec(alloc)?);
-    let mut input = Input::new(alloc, 1)?;
-    let first = next_byte(&mut input, &mut source)?;
-    let end = next_byte(&mut input, &mut source)?;
-    let again = next_byte(&mut input, &mut source)?;
-    assert_eq!(rt; (first, end, again), (Some(b'\n'), None, None));
-    assert_eq!(rt; (input.lines(), input.is_good()), (1, true));
+    one_byte_comes(&rt, &mut source)?;
     assert_eq!(rt; source.failed_calls(), 0);
     Ok(())
 }
 
+/// An `a` comes, and the byte behind it is refused. It is not ahead before.
+fn second_is_refused<R: Abort + AllocGlobal>(
+    rt: &R,
+    source: &mut MemSource,
+    limit: u64,
+    error: ReadError,
+) -> Result<(), Fail> {
+    let mut input = Input::new(rt.alloc(), limit)?;
+    assert_eq!(rt; next_byte(&mut input, source)?, Some(b'a'));
+    assert_eq!(rt; input.ahead(), 0);
+    assert_eq!(rt; next_byte(&mut input, source), Err(error));
+    assert_eq!(rt; input.is_good(), false);
+    Ok(())
+}
+
 // The second byte is past the limit, whether the source would give it with the first or alone, or
-// its call fails. It is not ahead before.
+// its call fails.
 #[test]
 fn a_next_byte_is_refused(rt: HostRuntime) -> Result<(), Fail> {
     let alloc = rt.alloc();
@@ -493,11 +523,7 @@ fn a_next_byte_is_refused(rt: HostRuntime) -> Result<(), Fail> {
     for (piece, limit, failing, error) in cases {
         assert!(rt; 0 < piece);
         let mut source = MemSource::new(b"ab".to_vec(alloc)?, piece, [failing].to_vec(alloc)?);
-        let mut input = Input::new(alloc, limit)?;
-        assert_eq!(rt; next_byte(&mut input, &mut source)?, Some(b'a'));
-        assert_eq!(rt; input.ahead(), 0);
-        assert_eq!(rt; next_byte(&mut input, &mut source), Err(error));
-        assert_eq!(rt; input.is_good(), false);
+        second_is_refused(&rt, &mut source, limit, error)?;
     }
     Ok(())
 }

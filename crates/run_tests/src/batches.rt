@@ -1,9 +1,11 @@
 //! A batch that several workers answer at once. Texts of other batches are tested beside
 //! `run_batch`.
 
+use crate::runs::{Devices, InMemory, Outcome, STEADY, owned};
 use batch_core::run_batch;
 use sp_ids::Status;
-use sp_ports::{Gate, MeetGate, MemSink, MemSource};
+use sp_ports::{Gate, MeetGate};
+use std::alloc::AllocError;
 use std::process::Abort;
 use std::test::Fail;
 use std::thread::Threads;
@@ -17,32 +19,40 @@ const GOOD_AND_BAD: &str =
 const GOOD_AND_BAD_TEXT: &str =
     "file 1 0\nbtf 2\nmatrix 1 1 1\nrank 1\nhorizontal 0 0\nhorizontal_components 0\nsquare 1 1\nblock 1 1\nrows 1\ncolumns 1\nvertical 0 0\nvertical_components 0\nend\nfile 2 3\nbtf: malformed line 1: NoBanner\nend 2\n";
 
+/// So many workers answer what these devices give.
+fn answer_by<R: Threads + AllocGlobal + Sync, G: Gate>(
+    rt: &R,
+    workers: &str,
+    devices: &mut InMemory,
+    gate: &G,
+) -> Result<Status, AllocError> {
+    let words = owned(rt, &["--workers", workers])?;
+    Ok(run_batch(
+        rt,
+        rt.alloc(),
+        words.as_slice(),
+        &mut devices.input,
+        &mut devices.out,
+        &mut devices.err,
+        gate,
+    ))
+}
+
 /// So many workers answer the two files at this gate.
 fn answer_at<R: Threads + Abort + AllocGlobal + Sync, G: Gate>(
     rt: &R,
     workers: &str,
     gate: &G,
 ) -> Result<(), Fail> {
-    let alloc = rt.alloc();
-    let mut words = Vec::new(alloc);
-    words.push(String::from_str(alloc, "--workers")?)?;
-    words.push(String::from_str(alloc, workers)?)?;
-    let bytes = GOOD_AND_BAD.as_bytes().to_vec(alloc)?;
-    let mut input = MemSource::new(bytes, 7, Vec::new(alloc));
-    let mut out = MemSink::new(alloc, 4096, 100, Vec::new(alloc))?;
-    let mut err = MemSink::new(alloc, 4096, 100, Vec::new(alloc))?;
-    let status = run_batch(
-        rt,
-        alloc,
-        words.as_slice(),
-        &mut input,
-        &mut out,
-        &mut err,
-        gate,
+    let sevens = Devices { piece: 7, ..STEADY };
+    let mut devices = InMemory::new(rt, GOOD_AND_BAD.as_bytes(), &sevens)?;
+    let status = answer_by(rt, workers, &mut devices, gate)?;
+    let wanted = (
+        Status::Negative,
+        GOOD_AND_BAD_TEXT.as_bytes(),
+        b"".as_slice(),
     );
-    assert_eq!(rt; status, Status::Negative);
-    assert_eq!(rt; out.bytes(), GOOD_AND_BAD_TEXT.as_bytes());
-    assert_eq!(rt; err.bytes(), b"".as_slice());
+    assert_eq!(rt; Outcome { status, devices }.told(), wanted);
     Ok(())
 }
 

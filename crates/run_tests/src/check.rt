@@ -86,11 +86,10 @@ fn an_input_that_has_ended_is_not_asked_again(rt: HostRuntime) -> Result<(), Fai
     };
     let file = file_of(&rt, "1 1 1\n1 1")?;
     let mut found = outcome_of(&rt, &["check"], file.as_bytes(), &devices)?;
-    assert_eq!(rt; found.status, Status::Negative);
-    assert_eq!(rt; found.out.bytes(), b"invalid 1\n".as_slice());
-    assert_eq!(rt; found.err.bytes(), b"".as_slice());
-    assert_eq!(rt; found.input.failed_calls(), 0);
-    assert_eq!(rt; found.input.read(&mut [0u8; 16]), Err(Failed));
+    let verdict = b"invalid 1\n".as_slice();
+    assert_eq!(rt; found.told(), (Status::Negative, verdict, b"".as_slice()));
+    assert_eq!(rt; found.devices.input.failed_calls(), 0);
+    assert_eq!(rt; found.devices.input.read(&mut [0u8; 16]), Err(Failed));
     Ok(())
 }
 
@@ -113,23 +112,39 @@ fn without_line<R: AllocGlobal>(
     Ok(bytes)
 }
 
-/// Judges a file with a report behind it, and with each report that has a line less.
-fn judged_by_lines<R: Threads + Abort + AllocGlobal + Sync>(
+/// The status of `check` on a file with these bytes behind it, and its verdict.
+fn verdict_of<R: Threads + Abort + AllocGlobal + Sync>(
+    rt: &R,
+    file: &[u8],
+    report: &[u8],
+) -> Result<(Status, Vec<u8>), Fail> {
+    let mut followed = file.to_vec(rt.alloc())?;
+    followed.extend_from_slice(report)?;
+    answer(rt, &["check"], followed.as_slice())
+}
+
+/// The report behind a file is valid.
+fn is_valid<R: Threads + Abort + AllocGlobal + Sync>(
     rt: &R,
     file: &[u8],
     report: &[u8],
 ) -> Result<(), Fail> {
-    let alloc = rt.alloc();
-    let mut followed = file.to_vec(alloc)?;
-    followed.extend_from_slice(report)?;
-    let (status, verdict) = answer(rt, &["check"], followed.as_slice())?;
-    assert_eq!(rt; status, Status::Ok);
-    assert_eq!(rt; verdict.as_slice(), b"valid\n".as_slice());
+    let (status, verdict) = verdict_of(rt, file, report)?;
+    let wanted = (Status::Ok, b"valid\n".as_slice());
+    assert_eq!(rt; (status, verdict.as_slice()), wanted);
+    Ok(())
+}
+
+/// Each report that has a line less is not.
+fn needs_each_line<R: Threads + Abort + AllocGlobal + Sync>(
+    rt: &R,
+    file: &[u8],
+    report: &[u8],
+) -> Result<(), Fail> {
     let lines = report.iter().filter(|byte| **byte == b'\n').count();
     for left_out in 0..lines {
-        let mut followed = file.to_vec(alloc)?;
-        followed.extend_from_slice(without_line(rt, report, left_out)?.as_slice())?;
-        let (status, verdict) = answer(rt, &["check"], followed.as_slice())?;
+        let less = without_line(rt, report, left_out)?;
+        let (status, verdict) = verdict_of(rt, file, less.as_slice())?;
         assert_eq!(rt; status, Status::Negative);
         assert!(rt; verdict.as_slice().starts_with(b"invalid "));
     }
@@ -160,7 +175,8 @@ fn reports_are_valid(rt: HostRuntime) -> Result<(), Fail> {
         ] {
             let (status, report) = answer(&rt, words, file.as_bytes())?;
             assert_eq!(rt; status, Status::Ok);
-            judged_by_lines(&rt, file.as_bytes(), report.as_slice())?;
+            is_valid(&rt, file.as_bytes(), report.as_slice())?;
+            needs_each_line(&rt, file.as_bytes(), report.as_slice())?;
         }
     }
     Ok(())

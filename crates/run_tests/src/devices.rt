@@ -12,20 +12,30 @@ use std::thread::Threads;
 /// Words of a report of the first version.
 const REPORT: [&str; 3] = ["analyse", "--report", "1"];
 
+/// A job whose read with this number fails.
+fn read_fails<R: Threads + Abort + AllocGlobal + Sync>(
+    rt: &R,
+    job: &str,
+    call: u64,
+) -> Result<(), Fail> {
+    let devices = Devices {
+        failing_reads: &[call],
+        ..STEADY
+    };
+    let found = outcome_of(rt, &[job], SMALLEST.as_bytes(), &devices)?;
+    let line = b"btf: read fault\n".as_slice();
+    let wanted = (Status::ReadFault, b"".as_slice(), line);
+    assert_eq!(rt; found.told(), wanted, "{job}, call {call}");
+    assert_eq!(rt; found.devices.input.failed_calls(), 1, "{job}, call {call}");
+    Ok(())
+}
+
 // The 59 bytes come in six pieces, and call 6 tells the end.
 #[test]
 fn each_read_fails_in_turn(rt: HostRuntime) -> Result<(), Fail> {
     for job in ["rank", "analyse"] {
         for call in 0u64..7 {
-            let devices = Devices {
-                failing_reads: &[call],
-                ..STEADY
-            };
-            let found = outcome_of(&rt, &[job], SMALLEST.as_bytes(), &devices)?;
-            assert_eq!(rt; found.status, Status::ReadFault, "{job}, call {call}");
-            assert_eq!(rt; found.out.bytes(), b"".as_slice(), "{job}, call {call}");
-            assert_eq!(rt; found.err.bytes(), b"btf: read fault\n".as_slice());
-            assert_eq!(rt; found.input.failed_calls(), 1, "{job}, call {call}");
+            read_fails(&rt, job, call)?;
         }
     }
     Ok(())
@@ -71,11 +81,12 @@ fn report_is_cut<R: Threads + Abort + AllocGlobal + Sync>(
     devices: &Devices<'_>,
     taken: usize,
 ) -> Result<(), Fail> {
+    let report = SMALLEST_REPORT.as_bytes();
+    assert!(rt; taken <= report.len());
     let found = outcome_of(rt, &REPORT, SMALLEST.as_bytes(), devices)?;
-    assert_eq!(rt; found.status, Status::WriteFault, "{taken} bytes");
-    assert!(rt; SMALLEST_REPORT.as_bytes().starts_with(found.out.bytes()));
-    assert_eq!(rt; found.out.bytes().len(), taken);
-    assert_eq!(rt; found.err.bytes(), b"btf: write fault\n".as_slice());
+    let line = b"btf: write fault\n".as_slice();
+    let wanted = (Status::WriteFault, &report[..taken], line);
+    assert_eq!(rt; found.told(), wanted, "{taken} bytes");
     Ok(())
 }
 
@@ -196,18 +207,24 @@ fn pieces_of_the_input_change_nothing(rt: HostRuntime) -> Result<(), Fail> {
     Ok(())
 }
 
+/// Runs over one entry, by devices that do what is asked and count nothing.
+fn steadily<R: Threads + Abort + AllocGlobal + Sync>(
+    rt: &R,
+    words: &[&str],
+    text: &str,
+) -> Result<(), Fail> {
+    let alloc = rt.alloc();
+    let mut input = SteadySource::new(SMALLEST.as_bytes().to_vec(alloc)?, 10);
+    let mut out = SteadySink::new(alloc, 4096, 10)?;
+    let mut err = SteadySink::new(alloc, 4096, 10)?;
+    let status = run_over(rt, words, &mut input, &mut out, &mut err, &NoGate)?;
+    let wanted = (Status::Ok, text.as_bytes(), b"".as_slice());
+    assert_eq!(rt; (status, out.bytes(), err.bytes()), wanted);
+    Ok(())
+}
+
 #[test]
 fn steady_devices(rt: HostRuntime) -> Result<(), Fail> {
-    let alloc = rt.alloc();
-    let jobs: [(&[&str], &str); 2] = [(&["rank"], SMALLEST_RANK), (&REPORT, SMALLEST_REPORT)];
-    for (words, text) in jobs {
-        let mut input = SteadySource::new(SMALLEST.as_bytes().to_vec(alloc)?, 10);
-        let mut out = SteadySink::new(alloc, 4096, 10)?;
-        let mut err = SteadySink::new(alloc, 4096, 10)?;
-        let status = run_over(&rt, words, &mut input, &mut out, &mut err, &NoGate)?;
-        assert_eq!(rt; status, Status::Ok);
-        assert_eq!(rt; out.bytes(), text.as_bytes());
-        assert_eq!(rt; err.bytes(), b"".as_slice());
-    }
-    Ok(())
+    steadily(&rt, &["rank"], SMALLEST_RANK)?;
+    steadily(&rt, &REPORT, SMALLEST_REPORT)
 }

@@ -129,8 +129,23 @@ fn prices_of(alloc: Global, text: &str, front: &str) -> Result<Prices, Fail> {
     })
 }
 
-// A diagonal and its prices: no entry weighs more than its row and column cost, and each pair
-// weighs as much.
+/// There is a price for each row and column. No entry weighs more than its row and column cost, and
+/// each pair weighs as much.
+fn are_fair<R: Abort>(rt: &R, example: &Example<'_>, prices: &Prices, text: &str) {
+    let sizes = (prices.rows.len(), prices.cols.len());
+    assert_eq!(rt; sizes, (example.size, example.size), "{text}");
+    for entry in example.entries {
+        assert!(rt;
+            prices.above(entry).is_some_and(|above| 0 <= above),
+            "{text}"
+        );
+    }
+    for pair in example.pairs {
+        assert_eq!(rt; prices.above(pair), Some(0), "{text}");
+    }
+}
+
+// A diagonal and its prices.
 #[test]
 fn heaviest_diagonals(rt: HostRuntime) -> Result<(), Fail> {
     for example in [
@@ -146,17 +161,7 @@ fn heaviest_diagonals(rt: HostRuntime) -> Result<(), Fail> {
         assert_eq!(rt; status, Status::Ok);
         let text = str::from_utf8(bytes.as_slice())?;
         let prices = prices_of(rt.alloc(), text, example.front)?;
-        assert_eq!(rt; prices.rows.len(), example.size, "{text}");
-        assert_eq!(rt; prices.cols.len(), example.size, "{text}");
-        for entry in example.entries {
-            assert!(rt;
-                prices.above(entry).is_some_and(|above| 0 <= above),
-                "{text}"
-            );
-        }
-        for pair in example.pairs {
-            assert_eq!(rt; prices.above(pair), Some(0), "{text}");
-        }
+        are_fair(&rt, &example, &prices, text);
     }
     Ok(())
 }

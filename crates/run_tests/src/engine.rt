@@ -1,5 +1,8 @@
 //! Each engine on small matrices.
 
+ghost use Rattle.std.specs.Prelude.{◌≤◌};
+ghost use Rattle.sp_ids.specs.Limits.{max_workers};
+
 use btf_tool::{Engine, solve};
 use sp_ids::{Col, Field, OutOfMemory, Row, Triples};
 use sp_pattern::Pattern;
@@ -25,6 +28,21 @@ fn pattern_of<R: Threads + Abort + AllocGlobal + Sync>(
     Pattern::build(rt, rt.alloc(), &triples)
 }
 
+/// The size of a maximum matching by an engine with so many workers.
+fn has_size<R: Threads + Abort + AllocGlobal + Sync>(
+    rt: &R,
+    pattern: &Pattern,
+    engine: Engine,
+    workers: u32,
+    size: u32,
+) -> Result<(), Fail>
+    requires { (1 ≤ workers) × (workers ≤ max_workers) }
+{
+    let matching = solve(rt, rt.alloc(), pattern, engine, workers, &NoGate)?;
+    assert_eq!(rt; matching.size(), size);
+    Ok(())
+}
+
 /// The size of a maximum matching by each engine. Numbers count from 1.
 fn expect_size<R: Threads + Abort + AllocGlobal + Sync>(
     rt: &R,
@@ -33,15 +51,12 @@ fn expect_size<R: Threads + Abort + AllocGlobal + Sync>(
     places: &[(u32, u32)],
     size: u32,
 ) -> Result<(), Fail> {
-    let alloc = rt.alloc();
     let pattern = pattern_of(rt, rows, cols, places)?;
-    let plain = solve(rt, alloc, &pattern, Engine::Plain, 1, &NoGate)?;
-    let mc21 = solve(rt, alloc, &pattern, Engine::Mc21, 2, &NoGate)?;
-    let pf = solve(rt, alloc, &pattern, Engine::Pf, 64, &NoGate)?;
-    assert_eq!(rt; (plain.size(), mc21.size(), pf.size()), (size, size, size));
+    has_size(rt, &pattern, Engine::Plain, 1, size)?;
+    has_size(rt, &pattern, Engine::Mc21, 2, size)?;
+    has_size(rt, &pattern, Engine::Pf, 64, size)?;
     for workers in [1, 2, 64] {
-        let graft = solve(rt, alloc, &pattern, Engine::Graft, workers, &NoGate)?;
-        assert_eq!(rt; graft.size(), size);
+        has_size(rt, &pattern, Engine::Graft, workers, size)?;
     }
     Ok(())
 }

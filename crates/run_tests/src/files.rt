@@ -3,7 +3,9 @@
 use crate::runs::{BANNER, STEADY, expect, outcome_of};
 use sp_ids::Status;
 use std::alloc::AllocError;
+use std::process::Abort;
 use std::test::Fail;
+use std::thread::Threads;
 
 /// Files that are refused: their lines, parted by ` / `, where a `P` stands for the first line of
 /// files of places alone, and what is told behind `btf: `.
@@ -87,17 +89,25 @@ fn refused_files(rt: HostRuntime) -> Result<(), Fail> {
     Ok(())
 }
 
+/// These bytes have no banner.
+fn have_no_banner<R: Threads + Abort + AllocGlobal + Sync>(
+    rt: &R,
+    job: &str,
+    bytes: &[u8],
+) -> Result<(), Fail> {
+    let found = outcome_of(rt, &[job], bytes, &STEADY)?;
+    let line = b"btf: malformed line 1: NoBanner\n".as_slice();
+    let wanted = (Status::Malformed, b"".as_slice(), line);
+    assert_eq!(rt; found.told(), wanted, "{job}");
+    Ok(())
+}
+
 // No bytes at all, and the first bytes of a compressed file.
 #[test]
 fn refused_bytes(rt: HostRuntime) -> Result<(), Fail> {
-    let line = b"btf: malformed line 1: NoBanner\n";
-    for bytes in [b"".as_slice(), b"\x1f\x8b\x08".as_slice()] {
-        for job in ["rank", "analyse", "diagonal"] {
-            let found = outcome_of(&rt, &[job], bytes, &STEADY)?;
-            assert_eq!(rt; found.status, Status::Malformed, "{job}");
-            assert_eq!(rt; found.out.bytes(), b"".as_slice(), "{job}");
-            assert_eq!(rt; found.err.bytes(), line.as_slice(), "{job}");
-        }
+    for job in ["rank", "analyse", "diagonal"] {
+        have_no_banner(&rt, job, b"")?;
+        have_no_banner(&rt, job, b"\x1f\x8b\x08")?;
     }
     Ok(())
 }

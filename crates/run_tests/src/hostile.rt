@@ -1,7 +1,7 @@
 //! `check` on changes of a report, on bytes that are made to mislead it, and on reports that
 //! promise more than they hold.
 
-use crate::runs::{Devices, STEADY, THREE_PARTS, expect, file_of, outcome_of};
+use crate::runs::{Devices, Outcome, STEADY, THREE_PARTS, expect, file_of, outcome_of};
 use sp_ids::Status;
 use std::alloc::AllocError;
 use std::process::Abort;
@@ -137,6 +137,18 @@ fn report<R: AllocGlobal>(rt: &R) -> Result<Vec<u8>, AllocError> {
     changed(rt, LINES.as_slice(), &VALID[0])
 }
 
+/// A run has told a verdict and nothing else, by the status of one.
+fn is_verdict<R: Abort>(rt: &R, found: &Outcome) {
+    let (status, text, line) = found.told();
+    assert_eq!(rt; line, b"".as_slice());
+    if status == Status::Ok {
+        assert_eq!(rt; text, b"valid\n".as_slice());
+    } else {
+        assert_eq!(rt; status, Status::Negative);
+        assert!(rt; text.starts_with(b"invalid ") && text.len() == 10);
+    }
+}
+
 /// The verdict on the matrix with all three parts followed by these bytes.
 pub(crate) fn verdict<R: Threads + Abort + AllocGlobal + Sync>(
     rt: &R,
@@ -150,15 +162,8 @@ pub(crate) fn verdict<R: Threads + Abort + AllocGlobal + Sync>(
         ..STEADY
     };
     let found = outcome_of(rt, &["check"], input.as_slice(), &devices)?;
-    assert_eq!(rt; found.err.bytes(), b"".as_slice());
-    let text = found.out.bytes();
-    if found.status == Status::Ok {
-        assert_eq!(rt; text, b"valid\n".as_slice());
-    } else {
-        assert_eq!(rt; found.status, Status::Negative);
-        assert!(rt; text.starts_with(b"invalid ") && text.len() == 10);
-    }
-    Ok(text.to_vec(alloc)?)
+    is_verdict(rt, &found);
+    Ok(found.devices.out.bytes().to_vec(alloc)?)
 }
 
 /// All of these changes of the report of these lines have this verdict.

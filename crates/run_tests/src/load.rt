@@ -2,7 +2,7 @@
 
 use crate::runs::{Devices, STEADY, expect, outcome_of};
 use sp_ids::Status;
-use sp_ports::{Failed, Source};
+use sp_ports::{Failed, MemSource, Source};
 use std::process::Abort;
 use std::test::Fail;
 use std::thread::Threads;
@@ -69,8 +69,15 @@ fn summaries_by_each_engine(rt: HostRuntime) -> Result<(), Fail> {
     Ok(())
 }
 
-// The next read of the input is still its first one, which fails, and then its bytes come from the
-// front.
+/// The next read is still the first one, which fails, and then the bytes come from the front.
+fn is_untouched<R: Abort>(rt: &R, input: &mut MemSource) {
+    assert_eq!(rt; input.failed_calls(), 0);
+    let mut buffer = [0u8; 16];
+    assert_eq!(rt; input.read(&mut buffer), Err(Failed));
+    assert_eq!(rt; input.read(&mut buffer), Ok(4));
+    assert!(rt; buffer.starts_with(b"no m"));
+}
+
 #[test]
 fn the_input_is_left_alone(rt: HostRuntime) -> Result<(), Fail> {
     let devices = Devices {
@@ -81,11 +88,7 @@ fn the_input_is_left_alone(rt: HostRuntime) -> Result<(), Fail> {
     let words = ["load", "--size", "1", "--seed", "5"];
     let mut found = outcome_of(&rt, &words, b"no matrix", &devices)?;
     assert_eq!(rt; found.status, Status::Ok);
-    assert_eq!(rt; found.input.failed_calls(), 0);
-    let mut buffer = [0u8; 16];
-    assert_eq!(rt; found.input.read(&mut buffer), Err(Failed));
-    assert_eq!(rt; found.input.read(&mut buffer), Ok(4));
-    assert!(rt; buffer.starts_with(b"no m"));
+    is_untouched(&rt, &mut found.devices.input);
     Ok(())
 }
 

@@ -52,13 +52,48 @@ pub(crate) const STEADY: Devices<'static> = Devices {
     err_room: 4096,
 };
 
+/// Devices in memory.
+#[derive(Drop)]
+pub(crate) struct InMemory {
+    pub(crate) input: MemSource,
+    pub(crate) out: MemSink,
+    pub(crate) err: MemSink,
+}
+
+impl InMemory {
+    /// The devices that behave so, over a file.
+    pub(crate) fn new<R: Abort + AllocGlobal>(
+        rt: &R,
+        file: &[u8],
+        devices: &Devices<'_>,
+    ) -> Result<InMemory, Fail> {
+        let alloc = rt.alloc();
+        assert!(rt; 0 < devices.piece);
+        let failing_reads = devices.failing_reads.to_vec(alloc)?;
+        let input = MemSource::new(file.to_vec(alloc)?, devices.piece, failing_reads);
+        let failing_writes = devices.failing_writes.to_vec(alloc)?;
+        let out = MemSink::new(alloc, devices.room, 10, failing_writes)?;
+        let err = MemSink::new(alloc, devices.err_room, 10, Vec::new(alloc))?;
+        Ok(InMemory { input, out, err })
+    }
+}
+
 /// What came of a run, and the devices behind it.
 #[derive(Drop)]
 pub(crate) struct Outcome {
     pub(crate) status: Status,
-    pub(crate) input: MemSource,
-    pub(crate) out: MemSink,
-    pub(crate) err: MemSink,
+    pub(crate) devices: InMemory,
+}
+
+impl Outcome {
+    /// The status, what was written of an answer, and what was written of a refusal.
+    pub(crate) fn told(&self) -> (Status, &[u8], &[u8]) {
+        (
+            self.status,
+            self.devices.out.bytes(),
+            self.devices.err.bytes(),
+        )
+    }
 }
 
 /// The file of places alone with these lines behind its first.
@@ -66,6 +101,15 @@ pub(crate) fn file_of<R: AllocGlobal>(rt: &R, lines: &str) -> Result<String, All
     let mut file = String::from_str(rt.alloc(), BANNER)?;
     file.push_str(lines)?;
     Ok(file)
+}
+
+/// The words as a program is given them.
+pub(crate) fn owned<R: AllocGlobal>(rt: &R, words: &[&str]) -> Result<Vec<String>, AllocError> {
+    let mut list = Vec::new(rt.alloc());
+    for word in words {
+        list.push(String::from_str(rt.alloc(), word)?)?;
+    }
+    Ok(list)
 }
 
 /// Runs the program on words over any devices and any gate.
@@ -77,12 +121,8 @@ pub(crate) fn run_over<R: Threads + AllocGlobal + Sync, S: Source, O: Sink, E: S
     err: &mut E,
     gate: &G,
 ) -> Result<Status, AllocError> {
-    let alloc = rt.alloc();
-    let mut list = Vec::new(alloc);
-    for word in words {
-        list.push(String::from_str(alloc, word)?)?;
-    }
-    Ok(run(rt, alloc, list.as_slice(), input, out, err, gate))
+    let list = owned(rt, words)?;
+    Ok(run(rt, rt.alloc(), list.as_slice(), input, out, err, gate))
 }
 
 /// Runs the program on words and a file.
@@ -92,20 +132,16 @@ pub(crate) fn outcome_of<R: Threads + Abort + AllocGlobal + Sync>(
     file: &[u8],
     devices: &Devices<'_>,
 ) -> Result<Outcome, Fail> {
-    let alloc = rt.alloc();
-    assert!(rt; 0 < devices.piece);
-    let failing_reads = devices.failing_reads.to_vec(alloc)?;
-    let mut input = MemSource::new(file.to_vec(alloc)?, devices.piece, failing_reads);
-    let failing_writes = devices.failing_writes.to_vec(alloc)?;
-    let mut out = MemSink::new(alloc, devices.room, 10, failing_writes)?;
-    let mut err = MemSink::new(alloc, devices.err_room, 10, Vec::new(alloc))?;
-    let status = run_over(rt, words, &mut input, &mut out, &mut err, &NoGate)?;
-    Ok(Outcome {
-        status,
-        input,
-        out,
-        err,
-    })
+    let mut devices = InMemory::new(rt, file, devices)?;
+    let status = run_over(
+        rt,
+        words,
+        &mut devices.input,
+        &mut devices.out,
+        &mut devices.err,
+        &NoGate,
+    )?;
+    Ok(Outcome { status, devices })
 }
 
 /// Runs the program on words and a file, and compares the status and what was written.
@@ -119,9 +155,8 @@ pub(crate) fn expect<R: Threads + Abort + AllocGlobal + Sync>(
     err: &str,
 ) -> Result<(), Fail> {
     let found = outcome_of(rt, words, file.as_bytes(), devices)?;
-    assert_eq!(rt; found.status, status, "{words:?} on {file:?}");
-    assert_eq!(rt; found.out.bytes(), out.as_bytes(), "{words:?} on {file:?}");
-    assert_eq!(rt; found.err.bytes(), err.as_bytes(), "{words:?} on {file:?}");
+    let wanted = (status, out.as_bytes(), err.as_bytes());
+    assert_eq!(rt; found.told(), wanted, "{words:?} on {file:?}");
     Ok(())
 }
 
@@ -133,6 +168,7 @@ pub(crate) fn answer<R: Threads + Abort + AllocGlobal + Sync>(
     file: &[u8],
 ) -> Result<(Status, Vec<u8>), Fail> {
     let found = outcome_of(rt, words, file, &STEADY)?;
-    assert_eq!(rt; found.err.bytes(), b"".as_slice(), "{words:?}");
-    Ok((found.status, found.out.bytes().to_vec(rt.alloc())?))
+    let (status, text, line) = found.told();
+    assert_eq!(rt; line, b"".as_slice(), "{words:?}");
+    Ok((status, text.to_vec(rt.alloc())?))
 }

@@ -1,9 +1,9 @@
 //! Several workers: that they work at once, and that no text depends on how many there are or on
 //! who is first.
 
-use crate::runs::{BANNER, THREE_PARTS, answer, file_of, run_over};
+use crate::runs::{BANNER, InMemory, STEADY, THREE_PARTS, answer, file_of, run_over};
 use sp_ids::Status;
-use sp_ports::{Gate, MeetGate, MemSink, MemSource};
+use sp_ports::{Gate, MeetGate};
 use std::process::Abort;
 use std::test::Fail;
 use std::thread::Threads;
@@ -14,15 +14,21 @@ fn two_search_at<R: Threads + Abort + AllocGlobal + Sync, G: Gate>(
     rt: &R,
     gate: &G,
 ) -> Result<(), Fail> {
-    let alloc = rt.alloc();
-    let mut input = MemSource::new(Vec::new(alloc), 1, Vec::new(alloc));
-    let mut out = MemSink::new(alloc, 4096, 4096, Vec::new(alloc))?;
-    let mut err = MemSink::new(alloc, 4096, 4096, Vec::new(alloc))?;
     let words = ["load", "--size", "30", "--seed", "0", "--workers", "2"];
-    let status = run_over(rt, &words, &mut input, &mut out, &mut err, gate)?;
-    assert_eq!(rt; status, Status::Ok);
+    let mut devices = InMemory::new(rt, b"", &STEADY)?;
+    let status = run_over(
+        rt,
+        &words,
+        &mut devices.input,
+        &mut devices.out,
+        &mut devices.err,
+        gate,
+    )?;
     let text = "matrix 30 30 85\nrank 22\nhorizontal 22 30\nsquare 0 0\nvertical 8 0\n";
-    assert_eq!(rt; out.bytes(), text.as_bytes());
+    assert_eq!(rt;
+        (status, devices.out.bytes()),
+        (Status::Ok, text.as_bytes())
+    );
     Ok(())
 }
 
