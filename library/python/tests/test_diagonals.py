@@ -125,11 +125,16 @@ def test_matrices_without_a_diagonal(call):
 
 @pytest.mark.parametrize("call", CALLS)
 def test_malformed_arrays(call):
-    matrix = sparse.csc_matrix(numpy.eye(2, dtype=int))
-    matrix.data = matrix.data[:1]
-    with pytest.raises(ValueError, match=r"data has the shape \(1,\), but there are 2 indices"):
-        call(matrix)
-    matrix = sparse.csc_matrix(numpy.eye(2, dtype=int))
-    matrix.indices[1] = 2
-    with pytest.raises(ValueError, match=r"indices\[1\] is 2"):
-        call(matrix)
+    for form in (sparse.csc_matrix, sparse.csr_matrix):
+        matrix = form(numpy.eye(2, dtype=int))
+        matrix.data = matrix.data[:1]
+        with pytest.raises(ValueError, match=r"data has the shape \(1,\), but there are 2 indices"):
+            call(matrix)
+        matrix = form(numpy.eye(2, dtype=int))
+        matrix.indices[1] = 2
+        with pytest.raises(ValueError, match=r"indices\[1\] is 2"):
+            call(matrix)
+        matrix = form(numpy.eye(2, dtype=int))
+        matrix.indptr[1] = -1
+        with pytest.raises(ValueError, match=r"indptr\[1:3\] is \[-1, 2\]"):
+            call(matrix)
