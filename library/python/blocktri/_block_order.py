@@ -54,8 +54,8 @@ def block_order(matrix: Any) -> BlockOrder:
     >>> p, q, r = blocktri.block_order([[0, 1, 1], [1, 0, 1], [0, 1, 1]])
     >>> r
     array([0, 1, 3])
-    >>> p[0], q[0]
-    (1, 0)
+    >>> p[:1], q[:1]
+    (array([1], dtype=int32), array([0], dtype=int32))
     >>> blocktri.block_order([[1, 1, 1], [0, 0, 1], [0, 0, 1]])
     Traceback (most recent call last):
     ...

@@ -94,6 +94,21 @@ def test_numbers_of_all_64_bits():
     matrix = sparse.csc_matrix(numpy.array([[large, 0], [1, -large]]))
     assert assert_heaviest(matrix) == 2 * large
     assert assert_bottleneck(matrix) == large
+    assert assert_heaviest(sparse.csc_matrix(numpy.diag([large, large, -large]))) == 3 * large
+
+
+def chain(form):
+    """Zeros on the only diagonal, and below each but the last an entry as heavy as can be, so that each row has to cost as much more
+    than the one before it."""
+    places = [(0, 0), (1, 0), (1, 1), (2, 1), (2, 2), (3, 2), (3, 3)]
+    return form(([0, 2**63 - 1] * 3 + [0], tuple(zip(*places))), shape=(4, 4))
+
+
+@pytest.mark.parametrize("form", [sparse.csc_matrix, sparse.csr_matrix])
+def test_prices_that_need_more_than_64_bits(form):
+    with pytest.raises(ValueError, match="a price needs more than 64 bits"):
+        blocktri.heaviest_diagonal(chain(form))
+    assert assert_bottleneck(chain(form)) == 0
 
 
 @pytest.mark.parametrize("call", CALLS)
@@ -108,7 +123,7 @@ def test_values_that_are_too_large(call):
     with pytest.raises(TypeError, match="values must be integers of 64 bits, not 9223372036854775808"):
         call(sparse.csc_matrix(numpy.array([[2**63]], "u8")))
     arrays = ([1, 1, 2**62, 2**62, 1], [0, 0, 2, 2, 2], [0, 1, 4, 5])
-    for form, words in ((sparse.csc_matrix, "row 2, column 1"), (sparse.csr_matrix, "row [12], column [12]")):
+    for form, words in ((sparse.csc_matrix, "row 2, column 1"), (sparse.csr_matrix, "row 1, column 2")):
         with pytest.raises(ValueError, match=f"the values in {words} add up to more than 9223372036854775807"):
             call(form(arrays, shape=(3, 3)))
 
