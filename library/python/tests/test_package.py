@@ -1,8 +1,11 @@
 """How the package is installed, finds its library, and does without SciPy."""
 
+import inspect
 import os
+import re
 import subprocess
 import sys
+import tarfile
 import textwrap
 import zipfile
 
@@ -29,8 +32,10 @@ def test_a_wheel_has_all_that_is_wanted(tmp_path):
     before = {name: os.path.join(backend.PACKAGE, name) for name in os.listdir(backend.PACKAGE)}
     with zipfile.ZipFile(tmp_path / backend.build_wheel(tmp_path)) as wheel:
         names = wheel.namelist()
+        assert all(entry.external_attr >> 16 == 0o644 for entry in wheel.infolist())
         wheel.extractall(tmp_path / "there")
     assert {f"blocktri/{name}" for name in before if name.endswith(".py")} | {"blocktri/py.typed"} <= set(names)
+    assert any(name.endswith(".dist-info/LICENSE") for name in names)
     assert run("import blocktri; print(blocktri.structural_rank([[1, 1], [0, 0]]))", str(tmp_path / "there"),
                BLOCKTRI_LIBRARY="" if "blocktri/libblocktri.so" in names else FILE) == ("1\n", "")
 
@@ -46,11 +51,29 @@ def test_pip_installs_a_checkout_without_a_network(tmp_path):
     assert printed == (f"{tmp_path}/blocktri/__init__.py 1\n", "")
 
 
+def contents(wheel):
+    """What each file has, but for the library and for what tells whether it is there."""
+    with zipfile.ZipFile(wheel) as archive:
+        names = [name for name in archive.namelist() if not name.endswith((backend.LIBRARY, "/WHEEL", "/RECORD"))]
+        return {name: archive.read(name) for name in names}
+
+
 def test_a_source_archive_makes_the_same_wheel(tmp_path):
-    import tarfile
     with tarfile.open(tmp_path / backend.build_sdist(tmp_path)) as archive:
-        names = {name.partition("/")[2] for name in archive.getnames()}
-    assert {"PKG-INFO", "pyproject.toml", "backend.py", "blocktri/__init__.py", "blocktri/py.typed"} <= names
+        archive.extractall(tmp_path)
+        folder = tmp_path / archive.getnames()[0].partition("/")[0]
+    assert (folder / "PKG-INFO").read_bytes() == backend._metadata()
+    (tmp_path / "again").mkdir()
+    wheel, error = run(f"import backend; print(backend.build_wheel({str(tmp_path / 'again')!r}))", str(folder))
+    assert error == ""
+    assert contents(tmp_path / "again" / wheel.strip()) == contents(tmp_path / backend.build_wheel(tmp_path))
+
+
+def test_the_library_has_the_version_of_the_package():
+    with open(os.path.join(PACKAGE, "..", "Makefile")) as file:
+        numbers = dict(re.findall("^(VERSION|ABI) = (.*)$", file.read(), re.MULTILINE))
+    assert numbers["VERSION"] == backend._version()
+    assert f'"libblocktri.so.{numbers["ABI"]}"' in inspect.getsource(_library._load)
 
 
 def test_a_library_that_is_not_there_or_not_right(tmp_path):
