@@ -177,7 +177,7 @@ static void compare_least(const struct answer *got) {
     CHECK(got->row_of_column[c] == (row < rows ? row : BLOCKTRI_NONE));
     if (row < rows) taken |= 1u << row, size++;
   }
-  CHECK(size == rank);
+  CHECK(size == rank && got->size == size);
 }
 
 static void compare_any(const struct answer *got) {
