@@ -1,5 +1,6 @@
 """How the package is installed, finds its library, and does without SciPy."""
 
+import doctest
 import inspect
 import os
 import re
@@ -91,13 +92,27 @@ def test_without_scipy():
         for form in "csc", "csr":
             matrix = types.SimpleNamespace(format=form, shape=(2, 2), indptr=[0, 1, 2], indices=[1, 0])
             print(blocktri.structural_rank(matrix), blocktri.maximum_matching(matrix), len(blocktri.dmperm(matrix).blocks))
-        try:
-            blocktri.structural_rank([[1]])
-        except TypeError as error:
-            print(error)
+            matrix.data = [3, 4]
+            print(blocktri.heaviest_diagonal(matrix).sum)
+        for refused in (lambda: blocktri.structural_rank([[1]]), lambda: blocktri.maximum_matching(matrix, least=True),
+                        lambda: blocktri.bottleneck_diagonal(matrix)):
+            try:
+                refused()
+            except TypeError as error:
+                print(error)
     """, BLOCKTRI_LIBRARY=FILE)
+    words = "without SciPy a matrix must be in one of the formats "
     assert error == ""
-    assert printed.splitlines() == ["2 [1 0] 2"] * 2 + ["without SciPy a matrix must be in one of the formats csc, csr"]
+    assert printed.splitlines() == ["2 [1 0] 2", "7"] * 2 + [words + "csc, csr", words + "csc", words + "csc"]
+
+
+def test_what_the_pages_show(monkeypatch):
+    monkeypatch.chdir(os.path.join(PACKAGE, "..", ".."))
+    assert doctest.testfile(os.path.abspath("docs/PYTHON.md"), module_relative=False).failed == 0
+    command = [sys.executable, "examples/block_form.py", "examples/process.mtx"]
+    done = subprocess.run(command, env=os.environ | {"PYTHONPATH": PACKAGE}, capture_output=True, text=True)
+    with open("docs/EXAMPLES.md") as page:
+        assert done.stdout and textwrap.indent(done.stdout, "    ") in page.read()
 
 
 def test_matplotlib_is_loaded_for_pictures_alone():
