@@ -83,7 +83,8 @@ def _as_it_stands(matrix: Any) -> Columns:
     for count, what in zip((*matrix.shape, ids.size), ("rows", "columns", "indices")):
         if count > NONE:
             raise ValueError(f"the matrix has {count} {what}, which is more than {NONE}")
-    return Columns(int(rows), *_of_one_width(rows, starts, ids), is_transposed)
+    starts, ids = _of_one_width(rows, starts, ids)
+    return Columns(int(rows), starts, ids, is_transposed)
 
 
 def _turned(rows: Columns, values: numpy.typing.NDArray[Any]) -> tuple[Columns, numpy.typing.NDArray[Any]]:
@@ -126,8 +127,7 @@ def _of_one_width(
 
     The library reads a negative number of 32 bits as one of at least 2^31. Where that could be a row or a start it needs 64.
     """
-    width = 8 if rows > 2**31 or ids.size >= 2**31 else max(4, starts.itemsize, ids.itemsize)
-    kinds = _KINDS[width]
+    kinds = _KINDS[8 if rows > 2**31 or ids.size >= 2**31 else max(4, starts.itemsize, ids.itemsize)]
     return [array if array.dtype in kinds and array.flags.c_contiguous and array.flags.aligned
             else numpy.require(array, kinds[0], ("C", "A")) for array in (starts, ids)]
 

@@ -82,7 +82,8 @@ def test_larger_matrices():
 
 def test_each_format_and_kind_of_value():
     matrix = sparse.csc_matrix(numpy.array([[1, 5, 2], [4, 1, 0], [0, 6, -7]]))
-    for form in itertools.chain(in_all_forms(matrix), (with_wide_indices(matrix.astype(kind)) for kind in "f8 f4 i1 i2".split())):
+    kinds = (with_wide_indices(matrix.astype(kind)) for kind in "f8 f4 i1 i2 >i8 >f8".split())
+    for form in itertools.chain(in_all_forms(matrix), kinds):
         assert assert_heaviest(form) == 16
         assert assert_bottleneck(form) == 4
     assert assert_heaviest(sparse.csr_matrix(numpy.eye(3, dtype=bool))) == 3
@@ -134,7 +135,7 @@ def test_matrices_without_a_diagonal(call):
         with pytest.raises(blocktri.StructurallySingular) as caught:
             call(form([[1, 1, 1], [0, 0, 1], [0, 0, 1]]))
         assert caught.value.columns.tolist() == [0, 1] and caught.value.rows.tolist() == [0]
-        with pytest.raises(ValueError, match="must be square"):
+        with pytest.raises(ValueError, match=r"must be square, but has the shape \(1, 2\)"):
             call(form([[1, 1]]))
 
 
