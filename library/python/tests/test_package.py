@@ -1,9 +1,11 @@
 """How the package is installed, finds its library, and does without SciPy."""
 
+import ctypes
 import doctest
 import inspect
 import os
 import re
+import shutil
 import subprocess
 import sys
 import tarfile
@@ -18,7 +20,8 @@ sys.path.insert(0, PACKAGE)
 import backend  # noqa: E402
 from blocktri import _library  # noqa: E402
 
-FILE = _library._load()._name
+LOADED = _library._load()
+FILE = LOADED._name
 
 
 def run(program, path=PACKAGE, **environment):
@@ -82,6 +85,19 @@ def test_a_library_that_is_not_there_or_not_right(tmp_path):
     assert error.startswith("ImportError: the shared library of blocktri can't be loaded: ") and "none.so" in error
     _, error = run("import blocktri", BLOCKTRI_LIBRARY="libc.so.6")
     assert error.startswith("ImportError: the shared library is older than this package: ") and "blocktri_rank" in error
+
+
+@pytest.mark.skipif(not os.path.exists(FILE), reason="the library lies where only the loader finds it")
+def test_the_systems_loader_finds_the_library(tmp_path):
+    shutil.copytree(backend.PACKAGE, tmp_path / "blocktri", ignore=shutil.ignore_patterns(backend.LIBRARY, "__pycache__"))
+    (tmp_path / "folder").mkdir()
+    shutil.copy(FILE, tmp_path / "folder" / "libblocktri.so.0")
+    printed = run("import blocktri; print(blocktri.structural_rank([[1]]))", str(tmp_path), LD_LIBRARY_PATH=str(tmp_path / "folder"))
+    assert printed == ("1\n", "")
+
+
+def test_calls_let_go_of_the_interpreters_lock():
+    assert isinstance(LOADED, ctypes.CDLL) and not isinstance(LOADED, ctypes.PyDLL)
 
 
 def test_without_scipy():
