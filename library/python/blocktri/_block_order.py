@@ -63,7 +63,7 @@ def block_order(matrix: Any) -> BlockOrder:
     """
     columns = compressed(matrix)
     size, blocks = columns.count, ctypes.c_uint32()
-    orders = [numpy.empty(lines, numpy.uint32) for lines in (columns.rows, size, size + 1)]
+    orders = [numpy.empty(lines, numpy.uint32) for lines in (size, size, size + 1)]
     with needing_diagonal(matrix, columns):
         call("block_order", columns, *orders, ctypes.byref(blocks))
     starts = orders[2][: blocks.value + 1].astype(numpy.intp)
