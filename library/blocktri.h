@@ -1,7 +1,7 @@
 /* blocktri.h: the structure of a sparse matrix, from its compressed columns: structural rank, maximum matching,
  * Dulmage-Mendelsohn decomposition and block triangular form.
  *
- * Link with -lblocktri. C99 or C++. Each call is proved to give the answer that stands here, on every input.
+ * Link with -lblocktri. C99 or C++11. Each call is proved to give the answer that stands here, on every input.
  *
  * THE MATRIX. Three arguments give it:
  *   rows    the number of rows;
@@ -10,18 +10,22 @@
  *   ids     row numbers, counted from 0, in any order within a column. A place that is given several times is one entry.
  * Values play a part in blocktri_heaviest and blocktri_bottleneck alone. There may be at most 4,294,967,295 rows, as many columns,
  * and as many ids.
- * Indices have 32 bits, or 64 bits in the calls whose names end in _64. A signed index may be passed as it stands: a negative
- * one is a number that no row or start has, and so it is refused.
+ * Indices have 32 bits, or 64 bits in the calls whose names end in _64. Signed ones may be passed as they stand: a negative one of
+ * 64 bits is refused, and so is one of 32 bits, which is read as at least 2,147,483,648, where there are no more rows than that and
+ * fewer ids.
  *
  * Nothing of it is trusted. What is not as it should be is answered by a status, with the place of the first fault.
  *
  * POINTERS. A list is passed as a pointer and the number of its elements. No pointer may be null, not even that of an empty list,
- * and each must be aligned for what it points to. What a call writes may not overlap with anything else that it is passed, and
- * no other thread may write what a call reads while it runs. An argument of type bool must be true or false.
+ * and each must be aligned for what it points to. What a call writes may not overlap with anything else that it is passed. While
+ * it runs, no other thread may write what it reads, or use what it writes. An argument of type bool must be true or false.
  *
- * THREADS. No call starts a thread, takes a lock or keeps anything: calls may run at the same time.
+ * THREADS. No call starts a thread, takes a lock or keeps anything: calls may run at the same time, each with lists to write and a
+ * fault of its own.
  *
- * MEMORY comes from malloc, and all of it is given back before a call returns.
+ * MEMORY comes from malloc and realloc, and all of it is given back by free before a call returns. These must be of one allocator,
+ * and a call may be made only where they may be called: so in no signal handler, and in the forked child of a process with threads
+ * only where the C library allows it.
  */
 #ifndef BLOCKTRI_H
 #define BLOCKTRI_H
@@ -35,22 +39,24 @@ extern "C" {
 #endif
 
 /* What a call returns. At BLOCKTRI_OK there is an answer, and *fault is as it was. At any other status there is none, and
- * nothing was written but, where it says so, *fault. */
+ * nothing was written but, where it says so, *fault. Lengths are looked at first, then rows, starts, ids, sums, whether there is a
+ * perfect matching, and prices; the first of these that is wrong is told. Memory may be short wherever the ids are right. */
 enum blocktri_status {
   BLOCKTRI_OK = 0,
   /* the matrix is not square, or its structural rank is less than its size */
   BLOCKTRI_SINGULAR = 1,
-  /* the sum of a place's values passes 9,223,372,036,854,775,807 in magnitude; of all such places this is the one of least
-   * column, and in it of least row, and ids[*fault] is its first id */
+  /* the sum of a place's values passes 9,223,372,036,854,775,807 in magnitude; ids[*fault] is the first id of that place which of
+   * all such places has the least column, and in it the least row */
   BLOCKTRI_SUM_LIMIT = 4,
   BLOCKTRI_OUT_OF_MEMORY = 7,
-  /* starts[*fault] is the first start that is not right; of no starts at all, *fault is 0 */
+  /* starts[*fault] is the first start that is not right; of no starts at all, *fault is 0. With too many ids the last start is not
+   * right, with too many columns starts[4294967296] */
   BLOCKTRI_BAD_START = 20,
   /* the starts are right, and ids[*fault] is the first id that is not less than rows */
   BLOCKTRI_BAD_ROW = 21,
-  /* a list has not the length that the call asks for; this is looked at before anything else */
+  /* a list is shorter or longer than the call asks for */
   BLOCKTRI_BAD_LENGTH = 22,
-  /* there are more than 4,294,967,295 rows; this is looked at before the starts */
+  /* there are more than 4,294,967,295 rows */
   BLOCKTRI_TOO_MANY_ROWS = 23,
   /* no prices that show the heaviest diagonal all fit 64 bits */
   BLOCKTRI_PRICE_LIMIT = 24
@@ -143,8 +149,8 @@ int32_t blocktri_decomposition_64(uint64_t rows, const uint64_t *starts, size_t 
  * and the columns that it has there: those from block_starts[b] up to but not block_starts[b + 1] of both orders. *blocks gets the
  * number of blocks; block_starts[*blocks] is the number of rows, and what stands behind it stays as it was.
  *
- * The status is BLOCKTRI_SINGULAR exactly where the matrix is not square or its rank is less than its size. Which of several
- * entries of a block stand on the diagonal may be any; all else is one for each matrix. */
+ * The status is BLOCKTRI_SINGULAR where the matrix is not square or its rank is less than its size. Which of several entries of a
+ * block stand on the diagonal may be any; all else is one for each matrix. */
 int32_t blocktri_block_order(uint32_t rows, const uint32_t *starts, size_t starts_length, const uint32_t *ids, size_t ids_length,
                              uint32_t *row_order, size_t row_order_length, uint32_t *column_order, size_t column_order_length,
                              uint32_t *block_starts, size_t block_starts_length, uint32_t *blocks, uint64_t *fault);
@@ -181,8 +187,8 @@ int32_t blocktri_heaviest_64(uint64_t rows, const uint64_t *starts, size_t start
  *
  * row_of_column[j] gets the row of column j, and *least the least weight, which is 0 of no pairs. The first *columns_count places
  * of columns get the columns that show it, rising: they are more than the rows in which they have entries above *least. So every
- * perfect matching has a pair of at most that weight. What stands behind them in columns stays as it was. values_length must be
- * ids_length, and row_of_column and columns must have a place for each column. */
+ * perfect matching has a pair of at most that weight. (Of a matrix without columns there are none.) What stands behind them in
+ * columns stays as it was. values_length must be ids_length, and row_of_column and columns must have a place for each column. */
 int32_t blocktri_bottleneck(uint32_t rows, const uint32_t *starts, size_t starts_length, const uint32_t *ids, size_t ids_length,
                             const int64_t *values, size_t values_length, uint32_t *row_of_column, size_t row_of_column_length,
                             uint64_t *least, uint32_t *columns, size_t columns_length, uint32_t *columns_count,

@@ -17,6 +17,7 @@ import zipfile
 HERE = os.path.dirname(os.path.abspath(__file__))
 PACKAGE = os.path.join(HERE, "blocktri")
 LIBRARY = "libblocktri.so"
+LICENCE = "LICENSE"
 
 
 def build_wheel(wheel_directory, config_settings=None, metadata_directory=None):
@@ -33,7 +34,8 @@ def build_editable(wheel_directory, config_settings=None, metadata_directory=Non
 
 def build_sdist(sdist_directory, config_settings=None):
     base = f"blocktri-{_version()}"
-    files = {"PKG-INFO": _metadata()} | {name: _read(os.path.join(HERE, name)) for name in ("backend.py", "pyproject.toml")}
+    files = {"PKG-INFO": _metadata(), LICENCE: _licence()}
+    files |= {name: _read(os.path.join(HERE, name)) for name in ("backend.py", "pyproject.toml")}
     library = [LIBRARY] if os.path.exists(os.path.join(PACKAGE, LIBRARY)) else []
     files |= {f"blocktri/{name}": _read(os.path.join(PACKAGE, name)) for name in _sources() + library}
     with tarfile.open(os.path.join(sdist_directory, base + ".tar.gz"), "w:gz", format=tarfile.PAX_FORMAT) as archive:
@@ -51,6 +53,7 @@ def _write_wheel(directory, files):
     pure = "false" if has_library else "true"
     files = files | {
         f"{information}/METADATA": _metadata(),
+        f"{information}/{LICENCE}": _licence(),
         f"{information}/WHEEL": f"Wheel-Version: 1.0\nGenerator: backend\nRoot-Is-Purelib: {pure}\nTag: {tag}\n".encode(),
     }
     record = [f"{name},sha256={_digest(content)},{len(content)}\n" for name, content in files.items()]
@@ -58,7 +61,9 @@ def _write_wheel(directory, files):
     name = f"blocktri-{_version()}-{tag}.whl"
     with zipfile.ZipFile(os.path.join(directory, name), "w", zipfile.ZIP_DEFLATED) as wheel:
         for path, content in files.items():
-            wheel.writestr(path, content)
+            entry = zipfile.ZipInfo(path)
+            entry.external_attr = 0o644 << 16
+            wheel.writestr(entry, content, zipfile.ZIP_DEFLATED)
     return name
 
 
@@ -66,11 +71,18 @@ def _metadata():
     with open(os.path.join(HERE, "pyproject.toml"), "rb") as file:
         project = tomllib.load(file)["project"]
     lines = ["Metadata-Version: 2.1", f"Name: {project['name']}", f"Version: {_version()}", f"Summary: {project['description']}"]
+    lines += [f"License: {project['license']['text']}", f"License-File: {LICENCE}"]
     lines += [f"Requires-Python: {project['requires-python']}"]
     lines += [f"Requires-Dist: {needed}" for needed in project["dependencies"]]
     for extra, packages in project["optional-dependencies"].items():
         lines += [f"Provides-Extra: {extra}"] + [f'Requires-Dist: {needed}; extra == "{extra}"' for needed in packages]
     return ("\n".join(lines) + "\n").encode()
+
+
+def _licence():
+    """The licence, which stands beside this file in a source archive, and at the top of a checkout."""
+    beside = os.path.join(HERE, LICENCE)
+    return _read(beside if os.path.exists(beside) else os.path.join(HERE, "..", "..", LICENCE))
 
 
 def _version():

@@ -66,10 +66,21 @@ static uint32_t block_of(uint32_t column, uint32_t square_rows, uint32_t square_
   return block_rows;
 }
 
+/* the columns and the rows that some maximum matching misses */
+static uint32_t columns_missed(void) {
+  uint32_t rank = rank_without(0, 0), missed = 0;
+  for (uint32_t c = 0; c < columns; c++) missed |= (uint32_t)(rank_without(0, 1u << c) == rank) << c;
+  return missed;
+}
+
+static uint32_t rows_missed(void) {
+  uint32_t rank = rank_without(0, 0), missed = 0;
+  for (uint32_t r = 0; r < rows; r++) missed |= (uint32_t)(rank_without(1u << r, 0) == rank) << r;
+  return missed;
+}
+
 static void compare_form(const struct answer *got) {
-  uint32_t rank = rank_without(0, 0), missed_columns = 0, missed_rows = 0, row_order[SIDE], column_order[SIDE];
-  for (uint32_t c = 0; c < columns; c++) missed_columns |= (uint32_t)(rank_without(0, 1u << c) == rank) << c;
-  for (uint32_t r = 0; r < rows; r++) missed_rows |= (uint32_t)(rank_without(1u << r, 0) == rank) << r;
+  uint32_t missed_columns = columns_missed(), missed_rows = rows_missed(), row_order[SIDE], column_order[SIDE];
   uint32_t horizontal_rows = neighbours(missed_columns), vertical_columns = columns_meeting(missed_rows);
   uint32_t left_rows = ((1u << rows) - 1) & ~horizontal_rows & ~missed_rows;
   uint32_t left_columns = ((1u << columns) - 1) & ~missed_columns & ~vertical_columns;
@@ -94,7 +105,7 @@ static void compare_form(const struct answer *got) {
   CHECK(write_set(row_order, row_at, missed_rows) == rows);
   CHECK(write_set(column_order, column_at, vertical_columns) == columns);
   const struct blocktri_sizes *sizes = &got->sizes;
-  CHECK(sizes->rank == rank && sizes->square == square && sizes->blocks == blocks);
+  CHECK(sizes->rank == rank_without(0, 0) && sizes->square == square && sizes->blocks == blocks);
   CHECK(sizes->horizontal_rows == count(horizontal_rows) && sizes->horizontal_columns == count(missed_columns));
   CHECK(sizes->vertical_rows == count(missed_rows) && sizes->vertical_columns == count(vertical_columns));
   CHECK(!memcmp(got->row_order, row_order, rows * sizeof *row_order));
@@ -124,9 +135,7 @@ static void mark(uint32_t *numbers, uint32_t set, uint32_t number) {
 }
 
 static void compare_components(const struct answer *got) {
-  uint32_t rank = rank_without(0, 0), missed_columns = 0, missed_rows = 0, row_component[SIDE], column_component[SIDE];
-  for (uint32_t c = 0; c < columns; c++) missed_columns |= (uint32_t)(rank_without(0, 1u << c) == rank) << c;
-  for (uint32_t r = 0; r < rows; r++) missed_rows |= (uint32_t)(rank_without(1u << r, 0) == rank) << r;
+  uint32_t missed_columns = columns_missed(), missed_rows = rows_missed(), row_component[SIDE], column_component[SIDE];
   uint32_t horizontal_rows = neighbours(missed_columns), vertical_columns = columns_meeting(missed_rows), count = 0;
   for (uint32_t i = 0; i < SIDE; i++) row_component[i] = column_component[i] = BLOCKTRI_NONE;
   for (uint32_t c = 0; c < columns; c++)
@@ -177,7 +186,7 @@ static void compare_least(const struct answer *got) {
     CHECK(got->row_of_column[c] == (row < rows ? row : BLOCKTRI_NONE));
     if (row < rows) taken |= 1u << row, size++;
   }
-  CHECK(size == rank);
+  CHECK(size == rank && got->size == size);
 }
 
 static void compare_any(const struct answer *got) {

@@ -125,12 +125,22 @@ static void lists_of_the_wrong_length(void) {
   CHECK(!memcmp(&got, &kept, sizeof got));
 }
 
+static void texts(void) {
+  static const int32_t statuses[] = {BLOCKTRI_OK,        BLOCKTRI_SINGULAR,    BLOCKTRI_SUM_LIMIT,  BLOCKTRI_OUT_OF_MEMORY,
+                                     BLOCKTRI_BAD_START, BLOCKTRI_BAD_ROW,     BLOCKTRI_BAD_LENGTH, BLOCKTRI_TOO_MANY_ROWS,
+                                     BLOCKTRI_PRICE_LIMIT, -1 /* no status */};
+  size_t count = sizeof statuses / sizeof *statuses;
+  for (size_t i = 0; i < count; i++)
+    for (size_t j = 0; j < i; j++) CHECK(strcmp(blocktri_text(statuses[i]), blocktri_text(statuses[j])));
+  CHECK(!strcmp(blocktri_text(2), blocktri_text(-1)));
+}
+
 int main(void) {
   starts_that_are_not_right();
   no_starts();
   ids_that_are_no_rows();
   too_many_rows();
   lists_of_the_wrong_length();
-  for (int32_t status = -1; status < 30; status++) CHECK(blocktri_text(status)[0]);
+  texts();
   return 0;
 }

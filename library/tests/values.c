@@ -122,6 +122,8 @@ static void is_bottleneck(const struct weighted *a, const struct found *found, u
   is_perfect(a, found->rows);
   CHECK(found->least == (a->size == 0 ? 0 : most));
   uint32_t neighbours = 0, count = found->columns_count;
+  CHECK(count <= a->size);
+  for (uint32_t k = 0; k < count; k++) CHECK(found->columns[k] < a->size && (k == 0 || found->columns[k - 1] < found->columns[k]));
   for (uint32_t c = 0; c < a->size; c++) CHECK(found->least <= a->weight[found->rows[c]][c]);
   for (uint32_t r = 0; r < a->size; r++) {
     bool is_met = false;
@@ -185,12 +187,40 @@ static void is_refused(const struct weighted *a, int32_t heavy, int32_t wide, ui
   CHECK(wide == BLOCKTRI_OK || memcmp(&given, &none, sizeof none) == 0);
 }
 
+static void prices_that_just_fit(void) {
+  struct weighted a = chain(3);
+  struct found found = heaviest(&a);
+  CHECK(found.status == BLOCKTRI_OK);
+  CHECK(found.row_prices[0] == -INT64_MAX && found.row_prices[1] == 0 && found.row_prices[2] == INT64_MAX);
+  CHECK(found.column_prices[0] == INT64_MAX && found.column_prices[1] == 0 && found.column_prices[2] == -INT64_MAX);
+}
+
+/* three weights of 2^63 - 1 are 2^64 and 2^63 - 3 */
+static void a_sum_of_two_words(void) {
+  struct weighted a = chain(3);
+  for (uint32_t k = 0; k < a.count; k++) a.values[k] = k % 2 == 0 ? INT64_MAX : 0;
+  struct found found = heaviest(&a);
+  CHECK(found.status == BLOCKTRI_OK && found.sum.high == 1 && found.sum.low == (UINT64_C(1) << 63) - 3);
+}
+
+/* of two places of a column whose sums are too large the one of least row is told, by its first id, before it is told that the
+ * matrix has no diagonal */
+static void which_sum_is_told(void) {
+  struct weighted a;
+  memset(&a, 0, sizeof a);
+  a.size = 3, a.count = 6;
+  const uint32_t starts[] = {0, 1, 1, 6}, ids[] = {2, 1, 0, 1, 1, 0};
+  const int64_t values[] = {1, INT64_MIN, -1, -1, 0, INT64_MIN};
+  for (uint32_t c = 0; c <= a.size; c++) a.wide_starts[c] = a.starts[c] = starts[c];
+  for (uint32_t k = 0; k < a.count; k++) a.wide_ids[k] = a.ids[k] = ids[k], a.values[k] = values[k];
+  is_refused(&a, BLOCKTRI_SUM_LIMIT, BLOCKTRI_SUM_LIMIT, 2);
+  a.values[2] = 1; /* as much as a sum may be in row 0 */
+  is_refused(&a, BLOCKTRI_SUM_LIMIT, BLOCKTRI_SUM_LIMIT, 1);
+  a.values[3] = 1;
+  is_refused(&a, BLOCKTRI_SINGULAR, BLOCKTRI_SINGULAR, 0);
+}
+
 static void refusals(void) {
-  struct weighted b = chain(3);
-  struct found least = heaviest(&b);
-  CHECK(least.status == BLOCKTRI_OK);
-  CHECK(least.row_prices[0] == -INT64_MAX && least.row_prices[1] == 0 && least.row_prices[2] == INT64_MAX);
-  CHECK(least.column_prices[0] == INT64_MAX && least.column_prices[1] == 0 && least.column_prices[2] == -INT64_MAX);
   struct weighted a = chain(4);
   is_refused(&a, BLOCKTRI_PRICE_LIMIT, BLOCKTRI_OK, 0);
   a.values[3] = INT64_MIN; /* row 2 of column 1 */
@@ -201,8 +231,10 @@ static void refusals(void) {
   is_refused(&a, BLOCKTRI_BAD_ROW, BLOCKTRI_BAD_ROW, 2);
   a.wide_starts[1] = a.starts[1] = 7;
   is_refused(&a, BLOCKTRI_BAD_START, BLOCKTRI_BAD_START, 2);
+}
 
-  a = chain(2);
+static void lists_that_do_not_fit(void) {
+  struct weighted a = chain(2);
   struct found found = untouched_found();
   for (size_t wrong = 0; wrong < 4; wrong++) {
     CHECK(blocktri_heaviest(2, a.starts, 3, a.ids, 3, a.values, 3 - (wrong == 0), found.rows, 2 - (wrong == 1), found.row_prices,
@@ -213,12 +245,18 @@ static void refusals(void) {
     CHECK(blocktri_bottleneck(2, a.starts, 3, a.ids, 3, a.values, 3 + (wrong == 0), found.rows, 2 + (wrong == 1), &found.least,
                               found.columns, 2 - (wrong == 2), &found.columns_count, &found.fault) == BLOCKTRI_BAD_LENGTH);
   }
+  CHECK(blocktri_bottleneck_64(UINT64_C(1) << 32, a.wide_starts, 3, a.wide_ids, 3, a.values, 3, found.rows, 2, &found.least,
+                               found.columns, 2, &found.columns_count, &found.fault) == BLOCKTRI_TOO_MANY_ROWS);
   struct found none = untouched_found();
   CHECK(memcmp(&found, &none, sizeof none) == 0);
 }
 
 int main(void) {
   random_matrices();
+  prices_that_just_fit();
+  a_sum_of_two_words();
+  which_sum_is_told();
   refusals();
+  lists_that_do_not_fit();
   return 0;
 }

@@ -4,8 +4,8 @@ The calls are those of the C library ``libblocktri``, whose answers are proved. 
 those in CSC or CSR, with indices of 32 or 64 bits, where they stand, and any other by SciPy's conversion. Nothing of the caller's
 is changed, and no other thread may change the arrays of a matrix while a call reads them. Calls may run at the same time.
 
-Without SciPy any object will do that has `format` (``"csc"`` or ``"csr"``), `shape`, `indptr` and `indices`. Rows and columns count
-from 0.
+Without SciPy any object will do that has `format` (``"csc"`` or ``"csr"``), `shape`, `indptr` and `indices`, and `data` where values
+are asked for; for a least matching and a bottleneck it must be ``"csc"``. Rows and columns count from 0.
 
 `blocktri.csgraph` has drop-ins for ``scipy.sparse.csgraph``.
 """

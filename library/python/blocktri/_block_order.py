@@ -54,8 +54,8 @@ def block_order(matrix: Any) -> BlockOrder:
     >>> p, q, r = blocktri.block_order([[0, 1, 1], [1, 0, 1], [0, 1, 1]])
     >>> r
     array([0, 1, 3])
-    >>> p[0], q[0]
-    (1, 0)
+    >>> p[:1], q[:1]
+    (array([1], dtype=int32), array([0], dtype=int32))
     >>> blocktri.block_order([[1, 1, 1], [0, 0, 1], [0, 0, 1]])
     Traceback (most recent call last):
     ...
@@ -63,7 +63,7 @@ def block_order(matrix: Any) -> BlockOrder:
     """
     columns = compressed(matrix)
     size, blocks = columns.count, ctypes.c_uint32()
-    orders = [numpy.empty(lines, numpy.uint32) for lines in (columns.rows, size, size + 1)]
+    orders = [numpy.empty(lines, numpy.uint32) for lines in (size, size, size + 1)]
     with needing_diagonal(matrix, columns):
         call("block_order", columns, *orders, ctypes.byref(blocks))
     starts = orders[2][: blocks.value + 1].astype(numpy.intp)

@@ -8,7 +8,7 @@ from typing import Any
 import numpy
 import numpy.typing
 
-from ._library import NONE
+from ._library import NONE, check
 
 # what the library takes as it stands, by the bytes of a number
 _KINDS: dict[int, tuple[numpy.dtype[Any], numpy.dtype[Any]]] = {
@@ -37,30 +37,20 @@ def compressed(matrix: Any, keeps_rows: bool = False) -> Columns:
 
     The arrays of a matrix in CSC or CSR are taken as they stand where their indices have 32 or 64 bits.
     """
-    matrix = _with_arrays(matrix, ("csc",) if keeps_rows else ("csc", "csr"))
-    if len(matrix.shape) != 2:
-        raise ValueError(f"a matrix has two dimensions, not the shape {matrix.shape}")
-    is_transposed = matrix.format == "csr"
-    rows, columns = reversed(matrix.shape) if is_transposed else matrix.shape
-    if rows > NONE:
-        raise ValueError(f"the matrix has {rows} {'columns' if is_transposed else 'rows'}, which is more than {NONE}")
-    starts, ids = _of_one_width(_integers(matrix.indptr, "indptr"), _integers(matrix.indices, "indices"))
-    if starts.shape != (columns + 1,):
-        raise ValueError(f"indptr has the shape {starts.shape}, but for the shape {matrix.shape} it must be ({columns + 1},)")
-    if ids.ndim != 1:
-        raise ValueError(f"indices has {ids.ndim} dimensions, but must have one")
-    if 0 <= starts[-1] < ids.size:  # what stands behind the last start is no entry
-        ids = ids[: int(starts[-1])]
-    return Columns(int(rows), starts, ids, is_transposed)
+    columns = _as_it_stands(_with_arrays(matrix))
+    if keeps_rows and columns.is_transposed:
+        return _turned(columns, numpy.zeros(columns.ids.size, bool))[0]
+    return columns
 
 
 def weighted(matrix: Any, keeps_rows: bool = False) -> tuple[Columns, numpy.typing.NDArray[numpy.int64]]:
     """The columns of a matrix, as `compressed` has them, and a value for each of their places."""
-    matrix = _with_arrays(matrix, ("csc",) if keeps_rows else ("csc", "csr"))
-    columns, values = compressed(matrix), numpy.asarray(matrix.data)
+    matrix = _with_arrays(matrix)
+    columns, values = _as_it_stands(matrix), numpy.asarray(matrix.data)
     if values.ndim != 1 or values.size < columns.ids.size:
         raise ValueError(f"data has the shape {values.shape}, but there are {columns.ids.size} indices")
-    return columns, whole(values[: columns.ids.size])
+    values = whole(values[: columns.ids.size])
+    return _turned(columns, values) if keeps_rows and columns.is_transposed else (columns, values)
 
 
 def whole(values: numpy.typing.NDArray[Any]) -> numpy.typing.NDArray[numpy.int64]:
@@ -77,29 +67,69 @@ def whole(values: numpy.typing.NDArray[Any]) -> numpy.typing.NDArray[numpy.int64
     return integers
 
 
-def _with_arrays(matrix: Any, formats: tuple[str, ...]) -> Any:
-    """The matrix itself where it has one of these formats, else what SciPy makes of it."""
-    if getattr(matrix, "format", None) in formats:
+def _as_it_stands(matrix: Any) -> Columns:
+    """The columns of a matrix in CSC, or those of the transpose of one in CSR."""
+    if len(matrix.shape) != 2:
+        raise ValueError(f"a matrix has two dimensions, not the shape {matrix.shape}")
+    is_transposed = matrix.format == "csr"
+    rows, columns = reversed(matrix.shape) if is_transposed else matrix.shape
+    starts, ids = _integers(matrix.indptr, "indptr"), _integers(matrix.indices, "indices")
+    if starts.shape != (columns + 1,):
+        raise ValueError(f"indptr has the shape {starts.shape}, but for the shape {matrix.shape} it must be ({columns + 1},)")
+    if ids.ndim != 1:
+        raise ValueError(f"indices has {ids.ndim} dimensions, but must have one")
+    if 0 <= starts[-1] < ids.size:  # what stands behind the last start is no entry
+        ids = ids[: int(starts[-1])]
+    for count, what in zip((*matrix.shape, ids.size), ("rows", "columns", "indices")):
+        if count > NONE:
+            raise ValueError(f"the matrix has {count} {what}, which is more than {NONE}")
+    starts, ids = _of_one_width(rows, starts, ids)
+    return Columns(int(rows), starts, ids, is_transposed)
+
+
+def _turned(rows: Columns, values: numpy.typing.NDArray[Any]) -> tuple[Columns, numpy.typing.NDArray[Any]]:
+    """The columns of a matrix whose rows are given, with their values. SciPy trusts the rows, so they are looked at before."""
+    check(rows)
+    turned = _sparse("csc").csr_matrix((values, rows.ids, rows.starts), shape=(rows.count, rows.rows)).tocsc()
+    return Columns(rows.count, turned.indptr, turned.indices, False), turned.data
+
+
+def _with_arrays(matrix: Any) -> Any:
+    """The matrix itself where it is in CSC or CSR, else what SciPy makes of it."""
+    if getattr(matrix, "format", None) in ("csc", "csr"):
         return matrix
+    sparse = _sparse("csc, csr")
+    return matrix.tocsc() if sparse.issparse(matrix) else sparse.csc_matrix(matrix)
+
+
+def _sparse(formats: str) -> Any:
+    """SciPy's module of sparse matrices, for one that is in none of these formats."""
     try:
         from scipy import sparse
     except ImportError:
-        raise TypeError(f"without SciPy a matrix must be in one of the formats {', '.join(formats)}") from None
-    return matrix.tocsc() if sparse.issparse(matrix) else sparse.csc_matrix(matrix)
+        raise TypeError(f"without SciPy a matrix must be in one of the formats {formats}") from None
+    return sparse
 
 
 def _integers(values: Any, name: str) -> numpy.typing.NDArray[numpy.integer[Any]]:
     array: numpy.typing.NDArray[Any] = numpy.asarray(values)
+    if array.size == 0 and not isinstance(values, numpy.ndarray):  # NumPy takes an empty list for floating-point numbers
+        array = array.astype(numpy.int32)
     if array.dtype.kind not in "iu":
         raise TypeError(f"{name} must have integers, not {array.dtype}")
     return array
 
 
-def _of_one_width(*arrays: numpy.typing.NDArray[numpy.integer[Any]]) -> list[numpy.typing.NDArray[numpy.integer[Any]]]:
-    """The arrays with numbers of 32 bits, or of 64 where one of them needs it; each as it stands where it has them."""
-    kinds = _KINDS[max(4, *(array.itemsize for array in arrays))]
+def _of_one_width(
+    rows: int, starts: numpy.typing.NDArray[numpy.integer[Any]], ids: numpy.typing.NDArray[numpy.integer[Any]]
+) -> list[numpy.typing.NDArray[numpy.integer[Any]]]:
+    """The arrays with numbers of 32 bits, or of 64 where one of them needs it; each as it stands where it has them.
+
+    The library reads a negative number of 32 bits as one of at least 2^31. Where that could be a row or a start it needs 64.
+    """
+    kinds = _KINDS[8 if rows > 2**31 or ids.size >= 2**31 else max(4, starts.itemsize, ids.itemsize)]
     return [array if array.dtype in kinds and array.flags.c_contiguous and array.flags.aligned
-            else numpy.require(array, kinds[0], ("C", "A")) for array in arrays]
+            else numpy.require(array, kinds[0], ("C", "A")) for array in (starts, ids)]
 
 
 def signed(lines: numpy.typing.NDArray[numpy.uint32], size: int) -> numpy.typing.NDArray[numpy.signedinteger[Any]]:

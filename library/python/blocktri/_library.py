@@ -118,6 +118,16 @@ def call(name: str, columns: Columns, *arguments: object) -> None:
         raise _error(status, columns, fault.value)
 
 
+def check(columns: Columns) -> None:
+    """Raises what a call raises where these are no compressed columns."""
+    starts, ids = (array.view(f"u{array.itemsize}") for array in (columns.starts, columns.ids))
+    is_wrong = numpy.append(starts[0] != 0, starts[1:] < starts[:-1])
+    is_wrong[-1] |= starts[-1] != ids.size
+    for status, wrong in ((_BAD_START, is_wrong), (_BAD_ROW, ids >= columns.rows)):
+        if wrong.any():
+            raise _error(status, columns, int(wrong.argmax()))
+
+
 def _error(status: int, columns: Columns, fault: int) -> Exception:
     if status == _SINGULAR:
         return NoPerfectMatching()

@@ -48,7 +48,7 @@ def _entries(form: Decomposition) -> tuple[numpy.typing.NDArray[Any], numpy.typi
     """Where the entries of the matrix stand in the block form: their rows and their columns."""
     columns = compressed(form._matrix)
     rows = columns.ids
-    of_columns = numpy.repeat(numpy.arange(columns.count), numpy.diff(columns.starts))
+    of_columns = numpy.repeat(numpy.arange(columns.count), numpy.diff(columns.starts).astype(numpy.intp))
     if columns.is_transposed:
         rows, of_columns = of_columns, rows
     return inverse(form.row_order, form.shape[0])[rows], inverse(form.column_order, form.shape[1])[of_columns]

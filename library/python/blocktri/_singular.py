@@ -40,7 +40,8 @@ class StructurallySingular(ValueError):
 def needing_diagonal(matrix: Any, columns: Columns) -> Iterator[None]:
     """Around a call of the library that needs a perfect matching of a matrix, whose columns or rows are given too."""
     if columns.rows != columns.count:
-        raise ValueError(f"the matrix must be square, but has {columns.rows} and {columns.count} lines")
+        shape = (columns.count, columns.rows) if columns.is_transposed else (columns.rows, columns.count)
+        raise ValueError(f"the matrix must be square, but has the shape {shape}")
     try:
         yield
     except NoPerfectMatching:

@@ -62,7 +62,7 @@ def min_weight_full_bipartite_matching(
     """As ``scipy.sparse.csgraph.min_weight_full_bipartite_matching``, for weights that are integers.
 
     They may stand as floating-point numbers. Weights that are no integers of 64 bits are a `TypeError`; weights that differ by more
-    than ``2**63 - 1`` are a `ValueError`.
+    than ``2**63 - 1``, or by so much that no prices of 64 bits show the answer, are a `ValueError`.
 
     Examples
     --------

@@ -11,7 +11,8 @@ import blocktri
 from blocktri._columns import compressed, signed
 from matrices import drawn, in_all_forms, with_wide_indices
 
-CALLS = (blocktri.structural_rank, blocktri.maximum_matching, blocktri.dmperm, lambda a: blocktri.maximum_matching(a, "column"))
+CALLS = (blocktri.structural_rank, blocktri.maximum_matching, blocktri.dmperm, lambda a: blocktri.maximum_matching(a, "column"),
+         lambda a: blocktri.maximum_matching(a, least=True))
 
 
 def handmade(indptr, indices, shape, form=sparse.csc_matrix, **changes):
@@ -82,10 +83,13 @@ def test_what_stands_behind_the_last_start_is_no_entry():
     assert blocktri.dmperm(matrix).blocks.sizes().tolist() == [1, 1]
 
 
-def test_any_object_with_the_arrays_will_do():
-    one = types.SimpleNamespace(format="csc", shape=(2, 2), indptr=[0, 1, 2], indices=[1, 0])
+@pytest.mark.parametrize("form", ["csc", "csr"])
+def test_any_object_with_the_arrays_will_do(form):
+    one = types.SimpleNamespace(format=form, shape=(2, 2), indptr=[0, 1, 2], indices=[1, 0])
     assert blocktri.structural_rank(one) == 2
-    assert blocktri.maximum_matching(one).tolist() == [1, 0]
+    assert blocktri.maximum_matching(one).tolist() == blocktri.maximum_matching(one, least=True).tolist() == [1, 0]
+    none = types.SimpleNamespace(format=form, shape=(2, 1)[:: 1 if form == "csc" else -1], indptr=[0, 0], indices=[])
+    assert blocktri.structural_rank(none) == 0
 
 
 MALFORMED = [
@@ -158,6 +162,25 @@ def test_more_rows_than_there_may_be(width):
         matrix = handmade(starts, ids, (1, 1), form, _shape=shape)
         with pytest.raises(ValueError, match=f"{max(shape)} (rows|columns), which is more than 4294967295"):
             blocktri.structural_rank(matrix)
+
+
+@pytest.mark.parametrize("form", ["csc", "csr"])
+def test_more_columns_or_indices_than_there_may_be(form):
+    """The arrays have one number in memory."""
+    many, turn = 2**32, 1 if form == "csc" else -1
+    for shape, indptr, indices, what in (
+            ((1, many), numpy.broadcast_to(numpy.int32(0), many + 1), [], "columns" if form == "csc" else "rows"),
+            ((1, 1), [0, many], numpy.broadcast_to(numpy.int32(0), many), "indices")):
+        matrix = types.SimpleNamespace(format=form, shape=shape[::turn], indptr=indptr, indices=indices)
+        with pytest.raises(ValueError, match=f"the matrix has 4294967296 {what}, which is more than 4294967295"):
+            blocktri.structural_rank(matrix)
+
+
+def test_a_negative_number_of_32_bits_is_no_row_of_more_than_two_thousand_million():
+    starts, ids = numpy.array([0, 1], "i4"), numpy.array([-2], "i4")
+    for shape, form, what in (((2**32 - 1, 1), sparse.csc_matrix, "rows"), ((1, 2**32 - 1), sparse.csr_matrix, "columns")):
+        with pytest.raises(ValueError, match=rf"indices\[0\] is -2, but the matrix has 4294967295 {what}"):
+            blocktri.structural_rank(handmade(starts, ids, (1, 1), form, _shape=shape))
 
 
 def test_numbers_that_need_more_than_32_bits_with_a_sign():

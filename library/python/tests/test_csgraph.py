@@ -157,6 +157,10 @@ def test_weights_that_are_no_integers():
         blocktri.csgraph.min_weight_full_bipartite_matching(sparse.csr_matrix([[0.5, 0], [0.5, 0]]))
     with pytest.raises(ValueError, match="differ by more than 9223372036854775807"):
         blocktri.csgraph.min_weight_full_bipartite_matching(sparse.csr_matrix([[-(2**62) - 1, 1], [1, 2**62]]))
+    large = 2**63 - 1  # in each row but the first, left of a diagonal that is the only one
+    matrix = sparse.csr_matrix(([1, large, 1, large, 1, large, 1], [0, 0, 1, 1, 2, 2, 3], [0, 1, 3, 5, 7]))
+    with pytest.raises(ValueError, match="a price needs more than 64 bits"):
+        blocktri.csgraph.min_weight_full_bipartite_matching(matrix, maximize=True)
     with pytest.raises(ValueError, match="expected a matrix containing numerical entries, got <U1"):
         matrix = sparse.csr_matrix([[1]])
         matrix.data = matrix.data.astype("U1")

@@ -82,7 +82,8 @@ def test_larger_matrices():
 
 def test_each_format_and_kind_of_value():
     matrix = sparse.csc_matrix(numpy.array([[1, 5, 2], [4, 1, 0], [0, 6, -7]]))
-    for form in itertools.chain(in_all_forms(matrix), (with_wide_indices(matrix.astype(kind)) for kind in "f8 f4 i1 i2".split())):
+    kinds = (with_wide_indices(matrix.astype(kind)) for kind in "f8 f4 i1 i2 >i8 >f8".split())
+    for form in itertools.chain(in_all_forms(matrix), kinds):
         assert assert_heaviest(form) == 16
         assert assert_bottleneck(form) == 4
     assert assert_heaviest(sparse.csr_matrix(numpy.eye(3, dtype=bool))) == 3
@@ -94,6 +95,21 @@ def test_numbers_of_all_64_bits():
     matrix = sparse.csc_matrix(numpy.array([[large, 0], [1, -large]]))
     assert assert_heaviest(matrix) == 2 * large
     assert assert_bottleneck(matrix) == large
+    assert assert_heaviest(sparse.csc_matrix(numpy.diag([large, large, -large]))) == 3 * large
+
+
+def chain(form):
+    """Zeros on the only diagonal, and below each but the last an entry as heavy as can be, so that each row has to cost as much more
+    than the one before it."""
+    places = [(0, 0), (1, 0), (1, 1), (2, 1), (2, 2), (3, 2), (3, 3)]
+    return form(([0, 2**63 - 1] * 3 + [0], tuple(zip(*places))), shape=(4, 4))
+
+
+@pytest.mark.parametrize("form", [sparse.csc_matrix, sparse.csr_matrix])
+def test_prices_that_need_more_than_64_bits(form):
+    with pytest.raises(ValueError, match="a price needs more than 64 bits"):
+        blocktri.heaviest_diagonal(chain(form))
+    assert assert_bottleneck(chain(form)) == 0
 
 
 @pytest.mark.parametrize("call", CALLS)
@@ -108,7 +124,7 @@ def test_values_that_are_too_large(call):
     with pytest.raises(TypeError, match="values must be integers of 64 bits, not 9223372036854775808"):
         call(sparse.csc_matrix(numpy.array([[2**63]], "u8")))
     arrays = ([1, 1, 2**62, 2**62, 1], [0, 0, 2, 2, 2], [0, 1, 4, 5])
-    for form, words in ((sparse.csc_matrix, "row 2, column 1"), (sparse.csr_matrix, "row [12], column [12]")):
+    for form, words in ((sparse.csc_matrix, "row 2, column 1"), (sparse.csr_matrix, "row 1, column 2")):
         with pytest.raises(ValueError, match=f"the values in {words} add up to more than 9223372036854775807"):
             call(form(arrays, shape=(3, 3)))
 
@@ -119,17 +135,22 @@ def test_matrices_without_a_diagonal(call):
         with pytest.raises(blocktri.StructurallySingular) as caught:
             call(form([[1, 1, 1], [0, 0, 1], [0, 0, 1]]))
         assert caught.value.columns.tolist() == [0, 1] and caught.value.rows.tolist() == [0]
-        with pytest.raises(ValueError, match="must be square"):
+        with pytest.raises(ValueError, match=r"must be square, but has the shape \(1, 2\)"):
             call(form([[1, 1]]))
 
 
 @pytest.mark.parametrize("call", CALLS)
 def test_malformed_arrays(call):
-    matrix = sparse.csc_matrix(numpy.eye(2, dtype=int))
-    matrix.data = matrix.data[:1]
-    with pytest.raises(ValueError, match=r"data has the shape \(1,\), but there are 2 indices"):
-        call(matrix)
-    matrix = sparse.csc_matrix(numpy.eye(2, dtype=int))
-    matrix.indices[1] = 2
-    with pytest.raises(ValueError, match=r"indices\[1\] is 2"):
-        call(matrix)
+    for form in (sparse.csc_matrix, sparse.csr_matrix):
+        matrix = form(numpy.eye(2, dtype=int))
+        matrix.data = matrix.data[:1]
+        with pytest.raises(ValueError, match=r"data has the shape \(1,\), but there are 2 indices"):
+            call(matrix)
+        matrix = form(numpy.eye(2, dtype=int))
+        matrix.indices[1] = 2
+        with pytest.raises(ValueError, match=r"indices\[1\] is 2"):
+            call(matrix)
+        matrix = form(numpy.eye(2, dtype=int))
+        matrix.indptr[1] = -1
+        with pytest.raises(ValueError, match=r"indptr\[1:3\] is \[-1, 2\]"):
+            call(matrix)

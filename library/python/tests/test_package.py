@@ -1,8 +1,14 @@
 """How the package is installed, finds its library, and does without SciPy."""
 
+import ctypes
+import doctest
+import inspect
 import os
+import re
+import shutil
 import subprocess
 import sys
+import tarfile
 import textwrap
 import zipfile
 
@@ -14,7 +20,8 @@ sys.path.insert(0, PACKAGE)
 import backend  # noqa: E402
 from blocktri import _library  # noqa: E402
 
-FILE = _library._load()._name
+LOADED = _library._load()
+FILE = LOADED._name
 
 
 def run(program, path=PACKAGE, **environment):
@@ -29,8 +36,10 @@ def test_a_wheel_has_all_that_is_wanted(tmp_path):
     before = {name: os.path.join(backend.PACKAGE, name) for name in os.listdir(backend.PACKAGE)}
     with zipfile.ZipFile(tmp_path / backend.build_wheel(tmp_path)) as wheel:
         names = wheel.namelist()
+        assert all(entry.external_attr >> 16 == 0o644 for entry in wheel.infolist())
         wheel.extractall(tmp_path / "there")
     assert {f"blocktri/{name}" for name in before if name.endswith(".py")} | {"blocktri/py.typed"} <= set(names)
+    assert any(name.endswith(".dist-info/LICENSE") for name in names)
     assert run("import blocktri; print(blocktri.structural_rank([[1, 1], [0, 0]]))", str(tmp_path / "there"),
                BLOCKTRI_LIBRARY="" if "blocktri/libblocktri.so" in names else FILE) == ("1\n", "")
 
@@ -46,11 +55,29 @@ def test_pip_installs_a_checkout_without_a_network(tmp_path):
     assert printed == (f"{tmp_path}/blocktri/__init__.py 1\n", "")
 
 
+def contents(wheel):
+    """What each file has, but for the library and for what tells whether it is there."""
+    with zipfile.ZipFile(wheel) as archive:
+        names = [name for name in archive.namelist() if not name.endswith((backend.LIBRARY, "/WHEEL", "/RECORD"))]
+        return {name: archive.read(name) for name in names}
+
+
 def test_a_source_archive_makes_the_same_wheel(tmp_path):
-    import tarfile
     with tarfile.open(tmp_path / backend.build_sdist(tmp_path)) as archive:
-        names = {name.partition("/")[2] for name in archive.getnames()}
-    assert {"PKG-INFO", "pyproject.toml", "backend.py", "blocktri/__init__.py", "blocktri/py.typed"} <= names
+        archive.extractall(tmp_path)
+        folder = tmp_path / archive.getnames()[0].partition("/")[0]
+    assert (folder / "PKG-INFO").read_bytes() == backend._metadata()
+    (tmp_path / "again").mkdir()
+    wheel, error = run(f"import backend; print(backend.build_wheel({str(tmp_path / 'again')!r}))", str(folder))
+    assert error == ""
+    assert contents(tmp_path / "again" / wheel.strip()) == contents(tmp_path / backend.build_wheel(tmp_path))
+
+
+def test_the_library_has_the_version_of_the_package():
+    with open(os.path.join(PACKAGE, "..", "Makefile")) as file:
+        numbers = dict(re.findall("^(VERSION|ABI) = (.*)$", file.read(), re.MULTILINE))
+    assert numbers["VERSION"] == backend._version()
+    assert f'"libblocktri.so.{numbers["ABI"]}"' in inspect.getsource(_library._load)
 
 
 def test_a_library_that_is_not_there_or_not_right(tmp_path):
@@ -58,6 +85,19 @@ def test_a_library_that_is_not_there_or_not_right(tmp_path):
     assert error.startswith("ImportError: the shared library of blocktri can't be loaded: ") and "none.so" in error
     _, error = run("import blocktri", BLOCKTRI_LIBRARY="libc.so.6")
     assert error.startswith("ImportError: the shared library is older than this package: ") and "blocktri_rank" in error
+
+
+@pytest.mark.skipif(not os.path.exists(FILE), reason="the library lies where only the loader finds it")
+def test_the_systems_loader_finds_the_library(tmp_path):
+    shutil.copytree(backend.PACKAGE, tmp_path / "blocktri", ignore=shutil.ignore_patterns(backend.LIBRARY, "__pycache__"))
+    (tmp_path / "folder").mkdir()
+    shutil.copy(FILE, tmp_path / "folder" / "libblocktri.so.0")
+    printed = run("import blocktri; print(blocktri.structural_rank([[1]]))", str(tmp_path), LD_LIBRARY_PATH=str(tmp_path / "folder"))
+    assert printed == ("1\n", "")
+
+
+def test_calls_let_go_of_the_interpreters_lock():
+    assert isinstance(LOADED, ctypes.CDLL) and not isinstance(LOADED, ctypes.PyDLL)
 
 
 def test_without_scipy():
@@ -68,13 +108,27 @@ def test_without_scipy():
         for form in "csc", "csr":
             matrix = types.SimpleNamespace(format=form, shape=(2, 2), indptr=[0, 1, 2], indices=[1, 0])
             print(blocktri.structural_rank(matrix), blocktri.maximum_matching(matrix), len(blocktri.dmperm(matrix).blocks))
-        try:
-            blocktri.structural_rank([[1]])
-        except TypeError as error:
-            print(error)
+            matrix.data = [3, 4]
+            print(blocktri.heaviest_diagonal(matrix).sum)
+        for refused in (lambda: blocktri.structural_rank([[1]]), lambda: blocktri.maximum_matching(matrix, least=True),
+                        lambda: blocktri.bottleneck_diagonal(matrix)):
+            try:
+                refused()
+            except TypeError as error:
+                print(error)
     """, BLOCKTRI_LIBRARY=FILE)
+    words = "without SciPy a matrix must be in one of the formats "
     assert error == ""
-    assert printed.splitlines() == ["2 [1 0] 2"] * 2 + ["without SciPy a matrix must be in one of the formats csc, csr"]
+    assert printed.splitlines() == ["2 [1 0] 2", "7"] * 2 + [words + "csc, csr", words + "csc", words + "csc"]
+
+
+def test_what_the_pages_show(monkeypatch):
+    monkeypatch.chdir(os.path.join(PACKAGE, "..", ".."))
+    assert doctest.testfile(os.path.abspath("docs/PYTHON.md"), module_relative=False).failed == 0
+    command = [sys.executable, "examples/block_form.py", "examples/process.mtx"]
+    done = subprocess.run(command, env=os.environ | {"PYTHONPATH": PACKAGE}, capture_output=True, text=True)
+    with open("docs/EXAMPLES.md") as page:
+        assert done.stdout and textwrap.indent(done.stdout, "    ") in page.read()
 
 
 def test_matplotlib_is_loaded_for_pictures_alone():

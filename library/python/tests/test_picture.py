@@ -65,6 +65,14 @@ def test_random_matrices(ax, form):
             assert found.row_order[int(top + 0.5) : int(bottom + 0.5)].tolist() == block.rows.tolist()
 
 
+@pytest.mark.parametrize("kind", ["u4", "i8", "u8"])
+def test_each_kind_of_index(ax, kind):
+    matrix = sparse.csc_matrix([[1, 0], [1, 1]])
+    matrix.indptr, matrix.indices = matrix.indptr.astype(kind), matrix.indices.astype(kind)
+    blocktri.dmperm(matrix).spy(ax)
+    assert len(entries_of(ax)) == 3
+
+
 def test_the_current_axes_are_the_default(ax):
     pyplot.sca(ax)
     assert blocktri.dmperm(sparse.eye(3)).spy() is ax
