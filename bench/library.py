@@ -70,7 +70,7 @@ def within(job, ours, best):
     """Whether nanoseconds an entry are within the aim."""
     if best > 20:
         return ours <= best / 2
-    return ours <= max(best, best + MARGIN[job])
+    return ours <= best + MARGIN[job]
 
 
 def cells(options, calls, entries):
