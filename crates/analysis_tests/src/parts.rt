@@ -1,7 +1,6 @@
 //! The coarse parts, the strong components and the fine blocks of each matrix.
 
-ghost use Rattle.bip_defs.specs.Parts.{ArePartsOf};
-ghost use Rattle.bip_graph.specs.Decompositions.{parts_of};
+ghost use Rattle.bip_graph.specs.Decompositions.{HasParts};
 ghost use Rattle.bip_graph.specs.Matching.{IsMatchingOf, IsMaximumOf};
 
 use bip_graph::{Blocks, Matching, Parts};
@@ -151,7 +150,7 @@ fn has_components_and_blocks<R: Abort + AllocGlobal>(
     parts: &Parts,
 ) -> Result<(), Fail>
     requires maximum { IsMaximumOf pattern.now matching.now }
-    requires parts { ArePartsOf pattern.now (parts_of parts.now) }
+    requires parts { HasParts pattern.now parts.now }
 {
     let wanted = blocks_of(rt, worked)?;
     let components = strong_components(rt.alloc(), pattern, matching, parts)?;

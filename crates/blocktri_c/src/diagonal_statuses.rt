@@ -3,7 +3,7 @@
 ghost use Rattle.std.specs.Prelude.{◌≡◌, ◌≢◌, pos};
 ghost use Rattle.blocktri_c.specs.DiagonalStatuses.{diagonal_fault_of, diagonal_status_of};
 
-use crate::statuses::status;
+use crate::statuses::{SINGULAR, status};
 use blocktri::DiagonalRefusal;
 
 /// The status where there is no answer, with the place of the fault.
@@ -18,7 +18,7 @@ pub fn diagonal_status(refusal: DiagonalRefusal, fault: &mut u64) -> i32
             *fault = at as u64;
             4
         }
-        DiagonalRefusal::Singular => 1,
+        DiagonalRefusal::Singular => SINGULAR,
         DiagonalRefusal::PriceLimit => 24,
     }
 }

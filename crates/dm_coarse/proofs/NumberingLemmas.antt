@@ -11,7 +11,7 @@ use Rattle.bip_defs.proofs.Connected.{joined_back, joined_on}
 use Rattle.bip_defs.proofs.Full.{few_below}
 use Rattle.bip_defs.proofs.Sets.{among_at, below_each_sound, number_among, number_same, place_among, rising_distinct, rising_last}
 use Rattle.bip_graph.specs.Matching.{none}
-use Rattle.dm_coarse.specs.Forest.{AreAnchorsJoined, AreJoinedCols, AreParentsJoined, HasAnchor, HasNewAnchor, IsAlong, IsAnchored, IsForest, IsJoinedRow, IsNode, IsRoot, IsSameForest, LeadsToRoot, ShareTree}
+use Rattle.dm_coarse.specs.Forest.{AreAnchorsJoined, AreJoinedCols, AreParentsJoined, HasAnchor, HasNewAnchor, IsAnchored, IsForest, IsJoinedRow, IsNode, IsRoot, IsSameForest, LeadsToRoot, ShareTree}
 use Rattle.dm_coarse.specs.Numbering.{AreColNumbers, AreComponents, AreNumbers, AreNumbersOfRows, AreTrees, HasOwnTrees, IsOfRoot, Keeps}
 use Rattle.dm_coarse.proofs.ForestLemmas.{root_number, same_forest, same_forests}
 

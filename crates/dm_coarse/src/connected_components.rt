@@ -1,11 +1,11 @@
 //! The connected components of the horizontal and of the vertical part.
 
-ghost use Rattle.std.specs.Prelude.{◌≡◌, ◌+◌, ◌<◌, ◌^◌, length, map, IfOk};
+ghost use Rattle.std.specs.Prelude.{◌≡◌, ◌<◌, ◌^◌, length, map, IfOk};
 ghost use Rattle.bip_defs.specs.ConnectedComponents.{AreConnectedComponents, AreOrderedComponents, IsHorizontalVertex, IsVerticalVertex, least_row};
 ghost use Rattle.bip_defs.specs.Blocks.{least_col};
 ghost use Rattle.bip_defs.specs.Lists.{Lists};
 ghost use Rattle.bip_defs.specs.Matrix.{Matrix, cols, upto};
-ghost use Rattle.bip_defs.specs.Parts.{IsHorizontalCol, IsVerticalRow};
+ghost use Rattle.bip_defs.specs.Parts.{IsHorizontalCol};
 ghost use Rattle.bip_graph.specs.Decompositions.{HasParts, components_of};
 ghost use Rattle.dm_coarse.specs.Gathered.{AreGathered};
 ghost use Rattle.id_groups.specs.Groups.{block_of};

@@ -76,9 +76,9 @@ pub fn coarse_in_turn(
 ///
 /// The horizontal columns are the unmatched ones and the mates of the horizontal rows, and the
 /// vertical rows the unmatched ones and the mates of the vertical columns. Answers `OutOfMemory`
-/// where there is none for 9 bytes for each row or column on the side of the marks and 1 for each on
-/// the other, or for 4 each for the lists. Work: each entry is looked at once at most, and each row
-/// and column a fixed number of times.
+/// where 9 bytes for each row or column on the side of the marks and 1 for each on the other can't
+/// be had, or 4 each for the lists. Work: each entry is looked at once at most, and each row and
+/// column a fixed number of times.
 pub fn coarse_by_marks(
     alloc: Global,
     pattern: &Pattern,

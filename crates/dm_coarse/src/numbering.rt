@@ -2,7 +2,7 @@
 
 ghost use Rattle.std.specs.Prelude.{◌<◌, ◌^◌, ℕ, length, map, slice_index, IfOk};
 ghost use Rattle.bip_defs.specs.Lists.{Among, Lists};
-ghost use Rattle.bip_defs.specs.Matrix.{IsEntry, Matrix, cols};
+ghost use Rattle.bip_defs.specs.Matrix.{IsEntry, cols};
 ghost use Rattle.bip_defs.specs.Parts.{IsHorizontalCol};
 ghost use Rattle.dm_coarse.specs.Forest.{HasAnchor, IsAnchored, IsForest, IsNode};
 ghost use Rattle.dm_coarse.specs.Numbering.{AreColNumbers, AreComponents, AreNumbers, AreNumbersOfRows, AreTrees, HasOwnTrees, Keeps};
@@ -26,8 +26,8 @@ pub struct Numbers {
 /// A forest of disjoint sets (Galler and Fisher 1964): each column of the part is a tree of its own
 /// at first, and each row makes one tree of those of its columns. A root is the least column of its
 /// tree, and each walk to one halves the path (Tarjan and van Leeuwen 1984). The lists of the
-/// columns are read in order, and the lists of the rows not at all. Then each tree has a number, its
-/// columns theirs in place of their parents, and its rows theirs in place of their anchors.
+/// columns are read in order, and the lists of the rows not at all. Then each tree has a number,
+/// its columns theirs in place of their parents, and its rows theirs in place of their anchors.
 ///
 /// It takes 4 bytes a row and 4 a column, which are kept. Work: one look at each entry of a column
 /// of the part, with a walk to a root, which takes a logarithmic number of steps at most on the

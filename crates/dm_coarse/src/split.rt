@@ -24,8 +24,8 @@ pub enum Part {
     Vertical,
 }
 
-/// The rows of each part of the matrix that a side sees, rising, where it is known which columns are
-/// horizontal and which rows are vertical.
+/// The rows of each part of the matrix that a side sees, rising, where it is known which columns
+/// are horizontal and which rows are vertical.
 ///
 /// Takes 4 bytes a row. Work: one look at each row and its mate.
 pub fn split<F: Opposite, S: Side<F>>(

@@ -12,8 +12,7 @@ mod way;
 
 ghost use Rattle.std.specs.Prelude.{IfOk};
 ghost use Rattle.bip_defs.specs.LeastMatching.{IsLeastMaximum};
-ghost use Rattle.bip_defs.specs.Parts.{ArePartsOf};
-ghost use Rattle.bip_graph.specs.Decompositions.{parts_of};
+ghost use Rattle.bip_graph.specs.Decompositions.{HasParts};
 ghost use Rattle.bip_graph.specs.Matching.{IsMaximumOf};
 ghost use Rattle.least_match.specs.Outcomes.{AreParted};
 
@@ -66,7 +65,7 @@ pub fn least_by_parts(
     parts: &Parts,
 ) -> Result<Matching, OutOfMemory>
     requires maximum { IsMaximumOf pattern.now matching }
-    requires parts { ArePartsOf pattern.now (parts_of parts.now) }
+    requires parts { HasParts pattern.now parts.now }
     ensures least { IfOk result (λ m. IsLeastMaximum pattern.now m.pairs) }
     ensures maximum { IfOk result (IsMaximumOf pattern.now) }
 {

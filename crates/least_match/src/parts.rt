@@ -4,8 +4,8 @@ ghost use Rattle.std.specs.Prelude.{ℕ, ◌<◌, length, IfOk};
 ghost use Rattle.bip_defs.specs.Lists.{Among};
 ghost use Rattle.bip_defs.specs.Marks.{Marks};
 ghost use Rattle.bip_defs.specs.Matrix.{cols};
-ghost use Rattle.bip_defs.specs.Parts.{ArePartsOf, IsHorizontalCol, IsVerticalRow};
-ghost use Rattle.bip_graph.specs.Decompositions.{parts_of};
+ghost use Rattle.bip_defs.specs.Parts.{IsHorizontalCol, IsVerticalRow};
+ghost use Rattle.bip_graph.specs.Decompositions.{HasParts};
 ghost use Rattle.bip_graph.specs.Matching.{IsMaximumOf};
 ghost use Rattle.least_match.specs.Outcomes.{AreParted, IsGiven, IsIn};
 
@@ -58,7 +58,7 @@ pub fn listed_parts(
     pattern: &Pattern,
     parts: &Parts,
 ) -> Result<Vec<Part>, OutOfMemory>
-    requires { ArePartsOf pattern.now (parts_of parts.now) }
+    requires { HasParts pattern.now parts.now }
     ensures { IfOk result (λ v. AreParted pattern.now v.items) }
 {
     let mut of_cols = vec![in alloc; Part::Square; pattern.cols() as usize]?;

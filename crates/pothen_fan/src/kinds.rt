@@ -16,9 +16,11 @@ use sp_ids::{Col, OutOfMemory};
 use sp_pattern::Side;
 use std::alloc::Global;
 
-// How many phases there are of both kinds. The matrices of the tables of docs/BENCHMARKS.md take 74
-// at most.
+// How many phases of both kinds there are before those of shortest paths.
 const MIXED_PHASES: u32 = 128;
+
+// While fewer than one column in so many is unmatched, each phase is breadth-first.
+const COLUMNS_A_ROOT: u32 = 20;
 
 /// What phases keep from one to the next.
 #[derive(Drop)]
@@ -29,10 +31,11 @@ pub struct Phases {
     unmatched: usize,
     reversed: bool,
     breadth_first: bool,
+    breadth_first_below: usize,
 }
 
 impl Phases {
-    /// The first phase is depth-first.
+    /// The first phase is breadth-first.
     pub fn new<F: Opposite, S: Side<F>>(
         alloc: Global,
         side: &S,
@@ -51,7 +54,8 @@ impl Phases {
             roots,
             unmatched,
             reversed: false,
-            breadth_first: false,
+            breadth_first: true,
+            breadth_first_below: (side.cols() / COLUMNS_A_ROOT) as usize,
         })
     }
 
@@ -103,7 +107,7 @@ impl Phases {
     }
 
     // Turns to the other kind after a phase that matched less than half of the roots that were
-    // unmatched, rounded down.
+    // unmatched, rounded down, and to breadth-first phases where few are left.
     fn choose(&mut self, growth: usize)
         ensures { self.new ≡ record self.old
             { breadth_first = self.new.breadth_first; unmatched = self.new.unmatched } }
@@ -112,6 +116,9 @@ impl Phases {
             self.breadth_first = !self.breadth_first;
         }
         self.unmatched = self.unmatched.saturating_sub(growth);
+        if self.unmatched < self.breadth_first_below {
+            self.breadth_first = true;
+        }
     }
 
     /// The marks of the searches of the kind that is next: of the last phase, where it has not grown

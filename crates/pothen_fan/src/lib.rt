@@ -19,8 +19,12 @@
 //! they need not be the shortest, nor as many as there can be.
 //!
 //! Depth-first phases are few where most of them find many paths, breadth-first phases where few
-//! columns are left whose paths are long. So after a phase that has matched less than half of the
-//! unmatched columns that have entries, rounded down, the next is of the other kind.
+//! columns are left whose paths are long. So the first phase is breadth-first, and after one that
+//! has matched less than half of the unmatched columns that have entries, rounded down, the next is
+//! of the other kind. While fewer than a twentieth of all columns are unmatched and have entries,
+//! each phase is breadth-first: a depth-first path may go through thousands of columns where one of
+//! twenty is there, and each of them gets another row, which whoever looks for the least maximum
+//! matching has to take back.
 //!
 //! Nothing bounds the number of such phases but the rank. So after 128 of them, which few matrices
 //! come to, all further ones exchange shortest augmenting paths without a vertex in common, until

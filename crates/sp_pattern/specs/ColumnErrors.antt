@@ -11,5 +11,6 @@ abbrev pub IsColumnsError : ℕ → List ℕ → List ℕ → ColumnsError → T
 IsColumnsError rows starts ids TooManyRows = 2 ^ 32 ≤ rows
 IsColumnsError rows starts ids (BadStart i) = (rows < 2 ^ 32) × IsBadStart starts (length ids) i
 IsColumnsError rows starts ids (BadRow k) =
-    (rows < 2 ^ 32) × (length starts ≤ 2 ^ 32) × AreStarts starts ids × IsBadRow rows ids k
+    (rows < 2 ^ 32) × (length starts ≤ 2 ^ 32) × (length ids < 2 ^ 32) × AreStarts starts ids
+    × IsBadRow rows ids k
 IsColumnsError rows starts ids OutOfMemory = AreColumns rows starts ids
