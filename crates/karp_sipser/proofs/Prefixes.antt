@@ -1,7 +1,7 @@
 -- The prefix of a list of rows or columns that a loop has passed.
-use Rattle.std.proofs.Common.{◌≡◌, ◌≢◌, ◌⊎◌, ◌∙◌, ℕ, zero, suc, ◌+◌, ◌<◌, ◌≤◌, List, [], ◌∷◌, ◌++◌, Bool, true, false, not, Option, None, Some, IfNone, IfSome, is_some, map, take, take_all, length, slice_index, slice_index_or, slice_set, refl, ap, sym, subst, inl, inr, ⊎_elim, arith}
+use Rattle.std.proofs.Common.{◌≡◌, ◌≢◌, ◌⊎◌, ◌∙◌, ℕ, zero, suc, ◌+◌, ◌<◌, ◌≤◌, List, [], ◌∷◌, Bool, true, false, not, Option, None, Some, IfNone, IfSome, is_some, map, take, take_all, length, slice_index, slice_index_or, slice_set, refl, ap, sym, subst, inl, inr, ⊎_elim, arith}
 use Rattle.std.proofs.lemmas.Bool.{cases_eq, true≢false}
-use Rattle.std.proofs.lemmas.List.{get_or_append_left, get_or_at, get_or-set_other, get_or-set_same, length-map, length-set, take_more}
+use Rattle.std.proofs.lemmas.List.{get_or-set_other, get_or-set_same, length-map, length-set, take_more}
 use Rattle.bip_defs.proofs.Sets.{among_last, among_left, among_right, below_each_sound}
 use Rattle.bip_defs.specs.Lists.{Among, IsRising}
 use Rattle.bip_defs.specs.Start.{IsLeast, IsOnly}
@@ -59,12 +59,12 @@ of_rest x y xs ys e h ne =
     let h' : Among y (x ∷ xs) = subst (Among y) e h in
     elim h' [ inl same ↦ absurd (ne same) | inr k ↦ k ]
 
--- what holds of each number of a list that has grown by one
-pub each_next : (F : ℕ → ℕ → Type 0) (ns : List ℕ) (k n : ℕ) → length ns ≡ k → ((x : ℕ) → x < k → F x (slice_index ns x)) → F k n
-    → (x : ℕ) → x < k + 1 → F x (slice_index (ns ++ n ∷ []) x)
-each_next F ns k n long before last x lt = elim (cases_eq x k) [
-  | inl e ↦ subst (λ z. F z (slice_index (ns ++ n ∷ []) z)) (sym e) (subst (F k) (sym (get_or_at ns n [] 0 k long)) last)
-  | inr ne ↦ subst (F x) (sym (get_or_append_left ns (n ∷ []) 0 x (omega arith))) (before x (omega arith))
+-- what holds of each number up to a place, where the number at the next place was written
+pub each_next : (F : ℕ → ℕ → Type 0) (ns : List ℕ) (k n : ℕ) → k < length ns → ((x : ℕ) → x < k → F x (slice_index ns x)) → F k n
+    → (x : ℕ) → x < k + 1 → F x (slice_index (slice_set ns k n) x)
+each_next F ns k n inside before last x lt = elim (cases_eq x k) [
+  | inl e ↦ subst (λ z. F z (slice_index (slice_set ns k n) z)) (sym e) (subst (F k) (sym (get_or-set_same ns k n 0 inside)) last)
+  | inr ne ↦ subst (F x) (sym (get_or-set_other ns k x n 0 ne)) (before x (omega arith))
 ]
 
 -- the number of an element that was read

@@ -45,13 +45,13 @@ impl NeighbourSums {
         ensures ones { IfOk result (λ s. HoldsOnes (S.matrix side.now) [] s.of_one.members) }
     {
         let count = side.cols();
-        let mut words = Vec::with_capacity(alloc, count as usize)?;
+        let mut words = vec![in alloc; 0; count as usize]?;
         let mut of_one = IntSet::new(alloc, count)?;
         let mut longest = 0;
         for vertex in 0..count {
             let ids = side.rows_of(Col(vertex));
             let word = sum_of(ids, unit);
-            words.push(word)?;
+            words[vertex as usize] = word;
             longest = longest.max(ids.len());
             if looks_like_one(word, unit) {
                 of_one.insert(vertex);

@@ -1,7 +1,7 @@
-use Rattle.std.proofs.Common.{◌≡◌, ◌∙◌, ◌<◌, ◌≤◌, ℕ, [], length, length-append, map, sym, ap, inl, inr, refl, arith}
+use Rattle.std.proofs.Common.{◌≡◌, ◌∙◌, ◌<◌, ◌≤◌, ℕ, [], length, map, sym, ap, inl, inr, refl, arith}
 use Rattle.std.proofs.lemmas.Bool.{cases_eq, true≢false}
 use Rattle.std.proofs.lemmas.Bool.Decides.{nat_tests}
-use Rattle.std.proofs.lemmas.List.{length-map}
+use Rattle.std.proofs.lemmas.List.{length-map, length-set}
 use Rattle.std.specs.Ordering.{nat_cmp, ord_max}
 use Rattle.bip_defs.proofs.Sets.{entry_col, lists_same}
 use Rattle.bip_defs.specs.Lists.{Among, Lists}
@@ -30,18 +30,18 @@ loop-vertex-preserved g c =
     ] in
     let long_is : length c.rows_of-ids.result.now ≡ length (column a v) = sym (length-map c.rows_of-ids.result.now g.I.Id.number) ∙ ap length c.rows_of-ids.ensures.column in
     let most : (c.loop-vertex.longest ≤ c.max-longest.result) × (length c.rows_of-ids.result.now ≤ c.max-longest.result) = greater c.loop-vertex.longest (length c.rows_of-ids.result.now) c.max-longest.result c.max-longest.ensures in
-    rw c.in_ok-push.ensures.items
-    (record {
+    let inside : v < length c.loop-vertex.words.items = omega (arith, inv.long, inv.count, c.loop-vertex-test.true) in
+    record {
       count = inv.count;
-      long = omega (arith, inv.long, length-append {A = ℕ});
+      long = length-set c.loop-vertex.words.items v c.sum_of-word.result ∙ inv.long;
       bound = held.0;
-      sums = each_next (λ x s. IsSum c.args.unit (λ r. IsFree a [] r x) s) c.loop-vertex.words.items v c.sum_of-word.result inv.long inv.sums last;
-      ones = each_next (λ x s. LooksLikeOne c.args.unit s → Among x c.if-looks_like_one.of_one.members) c.loop-vertex.words.items v c.sum_of-word.result inv.long (λ x lt looks. held.1 x (inv.ones x lt looks)) held.2;
+      sums = each_next (λ x s. IsSum c.args.unit (λ r. IsFree a [] r x) s) c.loop-vertex.words.items v c.sum_of-word.result inside inv.sums last;
+      ones = each_next (λ x s. LooksLikeOne c.args.unit s → Among x c.if-looks_like_one.of_one.members) c.loop-vertex.words.items v c.sum_of-word.result inside (λ x lt looks. held.1 x (inv.ones x lt looks)) held.2;
       longest = λ x lt. elim (cases_eq x v) [
         | inl e ↦ rw e (omega (arith, long_is, most.1))
         | inr ne ↦ omega (arith, inv.longest x (omega arith), most.0)
       ];
-    })
+    }
 
 pub returns-clause-ones : goal.returns-clause-ones
 returns-clause-ones g c x o =
