@@ -67,6 +67,7 @@ impl IntSet {
     }
 
     /// The least member, which is below the bound. None where the set is empty.
+    #[inline(always)]
     pub fn least(&self) -> Option<u32>
         ensures none { IfNone result (self.now.members ≡ []) }
         ensures least { IfSome result (λ x. Among x self.now.members
@@ -83,6 +84,7 @@ impl IntSet {
     }
 
     /// Takes the least member out, which is below the bound. None where the set is empty.
+    #[inline(always)]
     pub fn take_least(&mut self) -> Option<u32>
         ensures none { IfNone result ((self.old.members ≡ []) × (self.new.members ≡ [])) }
         ensures least { IfSome result (λ x. self.old.members ≡ x ∷ self.new.members) }
