@@ -76,6 +76,31 @@ pub fn matched<N: NumberList>(
     Ok((pattern, matching, marks))
 }
 
+/// The pattern, and a maximum matching for who looks for the least one: the first look's where that
+/// is maximum, and else one by phases from the start of Karp and Sipser. Their paths are short, so
+/// fewer exchanges lead from it to the least one than where the phases begin at the first look.
+pub fn matched_for_the_least<N: NumberList>(
+    alloc: Global,
+    rows: u32,
+    starts: N,
+    ids: N,
+) -> Result<(Pattern, Matching), OutOfMemory>
+    requires { AreColumns rows (N.numbers starts) (N.numbers ids) }
+    ensures pattern { IfOk result
+        (λ p. p.0 ≡ matrix_of rows (N.numbers starts) (N.numbers ids)) }
+    ensures maximum { IfOk result
+        (λ p. IsMaximumOf (matrix_of rows (N.numbers starts) (N.numbers ids)) p.1) }
+{
+    let pattern = Pattern::of_checked_columns(alloc, rows, starts, ids)?;
+    match first_look(alloc, rows, starts, ids)? {
+        Look::Maximum(matching) => Ok((pattern, matching)),
+        Look::FromColumns(_, _) | Look::FromRows(_, _) => {
+            let (matching, _marks) = search_anew(alloc, &pattern)?;
+            Ok((pattern, matching))
+        }
+    }
+}
+
 // A maximum matching, from what a look at the columns found, or from the start of Karp and Sipser
 // where searches from there do not go on, and what the last phase has marked.
 fn searched(

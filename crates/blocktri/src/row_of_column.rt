@@ -10,7 +10,7 @@ ghost use Rattle.blocktri.specs.Answers.{AreRowsOf, HasLength, HasMatrix, TellsM
 ghost use Rattle.blocktri.specs.Causes.{IsRefusal};
 ghost use Rattle.sp_pattern.specs.Columns.{AreColumns, matrix_of};
 
-use crate::maximum::{matched, maximum_matching};
+use crate::maximum::{matched_for_the_least, maximum_matching};
 use crate::refusals::Refusal;
 use bip_graph::Matching;
 use least_match::least;
@@ -27,7 +27,8 @@ const NONE: u32 = u32::MAX;
 ///
 /// `row_of_column` must have a place for each column. Answers `OutOfMemory` as [`crate::rank`]
 /// does, and for the least matching where `least_match::least` has no memory. Work: as `rank`, and
-/// one write for each column; for the least matching what `least_match::least` says of its.
+/// one write for each column; for the least matching, where the first look finds no maximum one, the
+/// start of Karp and Sipser and phases from it, and what `least_match::least` says of its.
 pub fn matching<N: NumberList>(
     alloc: Global,
     rows: u64,
@@ -71,7 +72,7 @@ fn wanted<N: NumberList>(
         (matrix_of rows (N.numbers starts) (N.numbers ids)) is_least m.pairs) }
 {
     if is_least {
-        let (pattern, matching, _marks) = matched(alloc, rows, starts, ids)?;
+        let (pattern, matching) = matched_for_the_least(alloc, rows, starts, ids)?;
         least(alloc, &pattern, matching)
     } else {
         maximum_matching(alloc, rows, starts, ids)
