@@ -1,5 +1,5 @@
 -- Matchings that miss no row and no column.
-use Rattle.std.proofs.Common.{◌≡◌, ◌≢◌, ◌∙◌, ℕ, ◌+◌, ◌≤◌, List, [], ◌∷◌, ◌++◌, length, refl, sym, ap, subst, inl, inr, ⊎_elim, arith}
+use Rattle.std.proofs.Common.{◌≡◌, ◌≢◌, ℕ, ◌≤◌, List, [], ◌∷◌, length, refl, sym, ap, subst, inl, inr, arith}
 use Rattle.std.proofs.lemmas.List.{length-map}
 use Rattle.bip_defs.specs.Bottleneck.{IsFull, IsSingular}
 use Rattle.bip_defs.specs.Lists.{Among, AreDistinct, Lists}
@@ -7,7 +7,7 @@ use Rattle.bip_defs.specs.Matching.{IsMatching, IsMaximum, cols_of, rows_of}
 use Rattle.bip_defs.specs.Matrix.{Matrix, Place, cols, upto}
 use Rattle.bip_defs.specs.Parts.{IsHorizontalCol}
 use Rattle.bip_defs.proofs.Full.{has_all_cols, has_all_rows, matching_few}
-use Rattle.bip_defs.proofs.Sets.{among_last, col_among, one_col, rising_distinct, row_pair, upto_length, upto_more, upto_rising}
+use Rattle.bip_defs.proofs.Sets.{col_among, one_col, rising_distinct, row_pair, upto_length, upto_rising}
 
 -- a matching of a square matrix with as many pairs as columns is full
 pub long_full : (a : Matrix) (m : List Place) → a.rows ≡ cols a → IsMatching a m → cols a ≤ length m → IsFull a m
@@ -44,13 +44,3 @@ short_singular a m hall rank square most e short horizontal = record {
 }
 
 -- Listing the pairs column by column.
-
-cols_grown : (m : List Place) (r c : ℕ) → cols_of (m ++ (r, c) ∷ []) ≡ cols_of m ++ c ∷ []
-cols_grown [] r c = refl
-cols_grown (p ∷ m) r c = ap (λ (z : List ℕ). p.1 ∷ z) (cols_grown m r c)
-
-pub listed_next : (m old new : List Place) (r n : ℕ) → new ≡ old ++ (r, n) ∷ [] → cols_of old ≡ upto n → ((s c : ℕ) → Among (s, c) old → Among (s, c) m) → Among (r, n) m → (cols_of new ≡ upto (n + 1)) × ((s c : ℕ) → Among (s, c) new → Among (s, c) m)
-listed_next m old new r n grown all part on = (
-  ap (λ (z : List Place). cols_of z) grown ∙ cols_grown old r n ∙ ap (λ (z : List ℕ). z ++ n ∷ []) all ∙ sym (upto_more n),
-  λ s c h. ⊎_elim (λ k. part s c k) (λ (e : (s, c) ≡ (r, n)). subst (λ (p : Place). Among p m) (sym e) on) (among_last (s, c) (r, n) old (subst (λ (z : List Place). Among (s, c) z) grown h)),
-)

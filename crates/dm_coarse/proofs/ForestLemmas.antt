@@ -5,7 +5,7 @@ use Rattle.bip_defs.specs.Matrix.{Matrix}
 use Rattle.bip_defs.proofs.Connected.{joined_back, joined_on}
 use Rattle.bip_defs.proofs.Sets.{number_same}
 use Rattle.bip_graph.specs.Matching.{none}
-use Rattle.dm_coarse.specs.Forest.{AreJoinedCols, AreParentsJoined, HasNewAnchor, IsAlong, IsForest, IsNode, IsRoot, IsSameForest, IsUnion, LeadsToRoot, ShareTree}
+use Rattle.dm_coarse.specs.Forest.{AreJoinedCols, AreParentsJoined, IsAlong, IsForest, IsNode, IsRoot, IsSameForest, IsUnion, LeadsToRoot, ShareTree}
 
 pub same_forest : (ps : List ℕ) → IsSameForest ps ps
 same_forest ps = record { long = refl; node = λ c n. n; was_node = λ c n. n; along = λ f x. x }
@@ -192,9 +192,3 @@ module _ (root col other : ℕ) (old ps : List ℕ) (x : LeadsToRoot col other o
       by (inr ne) = moved_root ps other root x.forest x.is_root.0 r.0 number le root ne r
 
 -- The anchor of a row.
-
-pub same_anchor : (anchors : List ℕ) (row root : ℕ) → get_or anchors row 0 ≡ root → HasNewAnchor anchors row root anchors
-same_anchor anchors row root e = record { long = refl; here = e; others = λ r ne. refl }
-
-pub new_anchor : (anchors : List ℕ) (row root : ℕ) → row < length anchors → HasNewAnchor anchors row root (set anchors row root)
-new_anchor anchors row root lt = record { long = length-set anchors row root; here = get_or-set_same anchors row root 0 lt; others = λ r ne. get_or-set_other anchors row r root 0 ne }

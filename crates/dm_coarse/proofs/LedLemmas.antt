@@ -1,5 +1,5 @@
 -- Horizontal columns by walks, from one maximum matching.
-use Rattle.std.proofs.Common.{◌≡◌, ◌≢◌, ◌↔◌, ◌∙◌, ℕ, zero, suc, ◌+◌, ◌<◌, Bool, true, false, IsTrue, List, [], ◌∷◌, ◌++◌, length, get_or, refl, sym, ap, subst, inl, inr, ⊎_elim, arith, length-append}
+use Rattle.std.proofs.Common.{◌≡◌, ◌≢◌, ◌↔◌, ◌∙◌, ℕ, zero, suc, ◌+◌, ◌<◌, Bool, false, IsTrue, List, [], ◌∷◌, ◌++◌, length, get_or, sym, ap, subst, inl, inr, ⊎_elim, arith, length-append}
 use Rattle.std.proofs.Math.Seq.{get_or-append_seam}
 use Rattle.std.proofs.lemmas.List.{get_or_append_left}
 use Rattle.bip_defs.specs.Lists.{Among, AreDistinct, IsMarked}
@@ -66,9 +66,6 @@ mate_led a m r c max h p = let (s, below, free, walk) = horizontal_led a m h.0 m
 
 pub mate_tells : (a : Matrix) (m : List Place) (marks : List Bool) (r c : ℕ) → IsMaximum a m → MarkHorizontalRows a marks → Among (r, c) m → IsMarked marks r ↔ IsHorizontalCol a c
 mate_tells a m marks r c max k p = let e = max.matching.entries r c p in (λ h. mate_led a m r c max ((k.exact r e.0).0 h) p, λ h. (k.exact r e.0).1 (c, h, e))
-
-pub unmatched_tells : (a : Matrix) (m : List Place) (c : ℕ) → IsMaximum a m → c < cols a → ¬ Among c (cols_of m) → IsTrue true ↔ IsHorizontalCol a c
-unmatched_tells a m c max lt free = (λ t. (lt, m, max, free), λ h. refl)
 
 -- one number more
 pub marks_last : (P : ℕ → Type 0) (n : ℕ) (marks : List Bool) (b : Bool) → Marks n P marks → IsTrue b ↔ P n → Marks (n + 1) P (marks ++ b ∷ [])

@@ -13,7 +13,7 @@ use Rattle.bip_defs.proofs.Sets.{among_at, below_each_sound, number_among, numbe
 use Rattle.bip_graph.specs.Matching.{none}
 use Rattle.dm_coarse.specs.Forest.{AreAnchorsJoined, AreJoinedCols, AreParentsJoined, HasAnchor, HasNewAnchor, IsAnchored, IsForest, IsJoinedRow, IsNode, IsRoot, IsSameForest, LeadsToRoot, ShareTree}
 use Rattle.dm_coarse.specs.Numbering.{AreColNumbers, AreComponents, AreNumbers, AreNumbersOfRows, AreTrees, HasOwnTrees, IsOfRoot, Keeps}
-use Rattle.dm_coarse.proofs.ForestLemmas.{root_number, same_forest, same_forests}
+use Rattle.dm_coarse.proofs.ForestLemmas.{root_number, same_forests}
 
 -- the later of two places has the greater number
 pub rising_at : (xs : List ℕ) (i j : ℕ) → IsRising xs → i < j → j < length xs → get_or xs i 0 < get_or xs j 0
@@ -30,13 +30,6 @@ pub record ArePlanted (n : ℕ) (list : List ℕ) (at : ℕ) (parents : List ℕ
   pub long : length parents ≡ n
   pub own : (i : ℕ) → i < at → i < length list → get_or parents (get_or list i 0) 0 ≡ get_or list i 0
   pub other : (c : ℕ) → c < n → get_or parents c 0 ≢ none → Among c list
-
-pub planted_none : (n : ℕ) (list : List ℕ) → ArePlanted n list 0 (replicate n none)
-planted_none n list = record {
-  long = length-replicate n none;
-  own = λ i lt. absurd (omega (arith, lt));
-  other = λ c lt ne. absurd (ne (get_or-replicate n c none 0 lt));
-}
 
 pub planted_more : (n : ℕ) (list : List ℕ) (at d : ℕ) (parents : List ℕ) → ArePlanted n list at parents → at < length list → d ≡ get_or list at 0 → d < n → ArePlanted n list (at + 1) (set parents d d)
 planted_more n list at d parents x lt is small = record {
@@ -88,9 +81,6 @@ own_are_trees a list parents anchors lists small x empty = record {
     no_anchor r lt = ap (λ z. get_or z r 0) empty ∙ get_or-replicate a.rows r none 0 (let l = ap length empty ∙ length-replicate a.rows none in omega (arith, lt, l))
 
 -- The rows of a column.
-
-pub same_keeps : (ps anchors : List ℕ) → Keeps ps anchors ps anchors
-same_keeps ps anchors = record { forest = same_forest ps; anchored = λ r c x. x }
 
 -- the tree of the column has the rows at the places before one
 pub record IsJoining (a : Matrix) (col root at : ℕ) (list ps0 anchors0 ps anchors : List ℕ) : Type 0 where
@@ -191,9 +181,6 @@ joining_end a col root at list ps0 anchors0 ps anchors x lists all r e = let (i,
 pub record AreJoining (a : Matrix) (at : ℕ) (list ps anchors : List ℕ) : Type 0 where
   pub trees : AreTrees a ps anchors
   pub done : (i r : ℕ) → i < at → IsEntry a r (get_or list i 0) → IsAnchored ps anchors r (get_or list i 0)
-
-pub all_joining_start : (a : Matrix) (list ps anchors : List ℕ) → AreTrees a ps anchors → AreJoining a 0 list ps anchors
-all_joining_start a list ps anchors t = record { trees = t; done = λ i r lt. absurd (omega (arith, lt)) }
 
 pub all_joining_more : (a : Matrix) (at col : ℕ) (list ps anchors ps2 anchors2 : List ℕ) → AreJoining a at list ps anchors → col ≡ get_or list at 0 → AreTrees a ps2 anchors2 → Keeps ps anchors ps2 anchors2 → ((r : ℕ) → IsEntry a r col → IsAnchored ps2 anchors2 r col) → AreJoining a (at + 1) list ps2 anchors2
 all_joining_more a at col list ps anchors ps2 anchors2 x is trees keeps rows = record { trees = trees; done = λ i r lt e. done i r lt e (number_same i at) }
@@ -422,21 +409,6 @@ pub record AreNumbering (numbers anchors : List ℕ) (at : ℕ) (rows : List ℕ
   pub none_stays : (r : ℕ) → get_or anchors r 0 ≡ none → get_or rows r 0 ≡ none
   pub rest : (r : ℕ) → at ≤ r → get_or rows r 0 ≡ get_or anchors r 0
 
-pub rows_start : (numbers anchors : List ℕ) → AreNumbering numbers anchors 0 anchors
-rows_start numbers anchors = record { long = refl; done = λ r lt. absurd (omega (arith, lt)); none_stays = λ r e. e; rest = λ r le. refl }
-
-pub rows_skip : (numbers anchors : List ℕ) (at : ℕ) (rows : List ℕ) → AreNumbering numbers anchors at rows → get_or rows at 0 ≡ none → AreNumbering numbers anchors (at + 1) rows
-rows_skip numbers anchors at rows x e = record {
-  long = x.long;
-  done = λ r lt ne. done r lt ne (number_same r at);
-  none_stays = x.none_stays;
-  rest = λ r le. x.rest r (omega (arith, le));
-}
-  where
-    done : (r : ℕ) → r < at + 1 → get_or anchors r 0 ≢ none → (r ≡ at) ⊎ (r ≢ at) → get_or rows r 0 ≡ get_or numbers (get_or anchors r 0) 0
-    done r lt ne (inl same) = absurd (ne (ap (λ z. get_or anchors z 0) same ∙ sym (x.rest at (omega arith)) ∙ e))
-    done r lt ne (inr off) = x.done r (omega (arith, lt, off)) ne
-
 pub rows_more : (numbers anchors : List ℕ) (at : ℕ) (rows : List ℕ) → AreNumbering numbers anchors at rows → at < length rows → get_or rows at 0 ≢ none → AreNumbering numbers anchors (at + 1) (set rows at (get_or numbers (get_or rows at 0) 0))
 rows_more numbers anchors at rows x within some = record {
   long = length-set rows at (get_or numbers (get_or rows at 0) 0) ∙ x.long;
@@ -461,9 +433,6 @@ rows_more numbers anchors at rows x within some = record {
     none_stays : (r : ℕ) → get_or anchors r 0 ≡ none → (r ≡ at) ⊎ (r ≢ at) → get_or (set rows at (get_or numbers (get_or rows at 0) 0)) r 0 ≡ none
     none_stays r e (inl f) = absurd (some (same ∙ ap (λ z. get_or anchors z 0) (sym f) ∙ e))
     none_stays r e (inr off) = there r off ∙ x.none_stays r e
-
-pub rows_end : (numbers anchors : List ℕ) (at : ℕ) (rows : List ℕ) → AreNumbering numbers anchors at rows → length anchors ≤ at → AreNumbersOfRows numbers anchors rows
-rows_end numbers anchors at rows x all = record { long = x.long; row = λ r lt ne. x.done r (omega (arith, lt, all)) ne; none_stays = λ r lt e. x.none_stays r e }
 
 -- The numbers of both.
 

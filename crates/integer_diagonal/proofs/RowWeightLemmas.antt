@@ -20,15 +20,6 @@ below_or_last r zero lt = inr (omega arith)
 below_or_last zero (suc n) lt = inl (omega arith)
 below_or_last (suc r) (suc n) lt = ⊎_elim (λ (l : r < n). inl (omega (arith, l))) (λ (e : r ≡ n). inr (ap suc e)) (below_or_last r n (omega arith))
 
--- no row's weights are kept yet
-pub row_weights_none : (w : Weighing) → AreRowWeights w 0 (0 ∷ []) []
-row_weights_none w = record {
-  long = refl;
-  rise = λ r lt. absurd (omega arith);
-  within = λ r lt. absurd (omega arith);
-  parts = λ r lt. absurd (omega arith);
-}
-
 -- and those of one row more
 pub row_weights_more : (w : Weighing) (n : ℕ) (starts flat new_starts new_flat : List ℕ) → AreRowWeights w n starts flat → slice_index starts n ≡ length flat → new_flat ≡ flat ++ weights_in_row w n → new_starts ≡ starts ++ length new_flat ∷ [] → AreRowWeights w (n + 1) new_starts new_flat × (slice_index new_starts (n + 1) ≡ length new_flat)
 row_weights_more w n starts flat new_starts new_flat k last flat_is starts_are = (

@@ -6,8 +6,7 @@ use Rattle.bip_defs.specs.Matching.{Covers}
 use Rattle.bip_defs.specs.Matrix.{cols, column}
 use Rattle.bip_graph.specs.Matching.{IsMatchingOf, Pairing}
 use Rattle.integer_diagonal.proofs.Cheap.{cheap_cols}
-use Rattle.integer_diagonal.specs.Amounts.{HasRoom}
-use Rattle.integer_diagonal.specs.Duals.{IsAssigned, IsPayable, Priced, cheap}
+use Rattle.integer_diagonal.specs.Duals.{IsAssigned, Priced, cheap}
 use Rattle.sp_pattern.specs.Weights.{Weighing, weight_at}
 
 -- Listing them.
@@ -37,10 +36,6 @@ weight_here w col k r rows weights is long each lt read =
     each k (omega (arith, same, long, lt)) ∙ ap (λ z. weight_at w z col) (sym row)
 
 -- Matching them.
-
--- what is to be added for an entry is in range
-pub payable : (x : Priced) (m : Pairing) (limit : ℕ) → IsAssigned x m → HasRoom (cols x.weighing.matrix) x.top limit → IsPayable x limit
-payable x m limit a room = record { feasible = a.feasible; fits = λ r. (let low = a.bounded.prices r in omega (arith, low, room)) }
 
 -- the pairs are such entries
 pub tight_matching : (x : Priced) (m : Pairing) → IsAssigned x m → IsMatchingOf (cheap x) m

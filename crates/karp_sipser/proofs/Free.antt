@@ -5,7 +5,7 @@ use Rattle.bip_defs.proofs.Transposed.{transpose_is, turned_among, turned_back, 
 use Rattle.bip_defs.specs.Lists.{Among}
 use Rattle.bip_defs.specs.Matching.{cols_of, rows_of, transposed_places}
 use Rattle.bip_defs.specs.Matrix.{Matrix, Place, transpose}
-use Rattle.bip_defs.specs.Start.{ColOfOne, IsFree, IsLeast, IsOnly, RowOfOne}
+use Rattle.bip_defs.specs.Start.{ColOfOne, IsFree, IsLeast, RowOfOne}
 
 -- new has the pairs of old and this one
 abbrev pub Adds : Place → List Place → List Place → Type 0
@@ -60,9 +60,3 @@ no_row_turned a m none r o = none r (row_turned a m r o)
 
 pub least_row_turned : (a : Matrix) (m : List Place) (r : ℕ) → IsLeast (ColOfOne (transpose a) (transposed_places m)) r → IsLeast (RowOfOne a m) r
 least_row_turned a m r l = (turned_row a m r l.0, λ y o. l.1 y (row_turned a m y o))
-
-pub only_row_turned : (a : Matrix) (m : List Place) (r c : ℕ) → IsOnly (λ s. IsFree a m s c) r → IsOnly (λ s. IsFree (transpose a) (transposed_places m) c s) r
-only_row_turned a m r c o = (free_turned a m r c o.0, λ s f. o.1 s (turned_free a m s c f))
-
-pub only_col_turned : (a : Matrix) (m : List Place) (r c : ℕ) → IsOnly (λ d. IsFree (transpose a) (transposed_places m) d r) c → IsOnly (λ d. IsFree a m r d) c
-only_col_turned a m r c o = (turned_free a m r c o.0, λ d f. o.1 d (free_turned a m r d f))

@@ -32,9 +32,6 @@ pub record AreBeside (E F : ℕ → Type 0) (mate : ℕ) (ids : List ℕ) : Type
 pub beside_same : (E F G H : ℕ → Type 0) (mate : ℕ) (ids : List ℕ) → ((x : ℕ) → E x → G x) → ((x : ℕ) → H x → F x) → AreBeside E F mate ids → AreBeside G H mate ids
 beside_same E F G H mate ids to from b = record { rising = b.rising; sound = λ x h. to x (b.sound x h); complete = λ x f ne. b.complete x (from x f) ne }
 
-pub only_same : (P Q : ℕ → Type 0) (x : ℕ) → ((y : ℕ) → P y → Q y) → ((y : ℕ) → Q y → P y) → IsOnly P x → IsOnly Q x
-only_same P Q x to from o = (to x o.0, λ y q. o.1 y (from y q))
-
 pub either : (b : Bool) → (b ≡ true) ⊎ (b ≡ false)
 either true = inl refl
 either false = inr refl
