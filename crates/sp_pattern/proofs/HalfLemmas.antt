@@ -1,13 +1,13 @@
 -- The half of a symmetric matrix, compressed while it is looked through.
 use Rattle.std.proofs.Common.{◌≡◌, ◌≢◌, ◌↔◌, ◌∙◌, ℕ, zero, suc, ◌+◌, ◌<◌, ◌≤◌, List, [], ◌∷◌, ◌++◌, length, get_or, map, take, refl, sym, ap, arith, subst, inl, inr, ⊎_elim, Bool, true, false, not, true≢false}
-use Rattle.std.proofs.lemmas.List.{get_or-map, length-append, length-map, take_all, take_more}
+use Rattle.std.proofs.lemmas.List.{get_or-map, length-append, length-map, take_more}
 use Rattle.bip_defs.specs.Lists.{Among}
 use Rattle.bip_defs.specs.Matrix.{Place}
 use Rattle.bip_defs.proofs.Sets.{among_last, among_left, among_right}
 use Rattle.sp_pattern.specs.Mirror.{IsBehindMirror, lower, lowered}
 use Rattle.sp_pattern.specs.Pairs.{AreInside, IsAtMost, IsBefore, IsCompressed, IsOrderOf, Pair, pair_at}
 use Rattle.sp_pattern.proofs.MirrorLemmas.{col_read, lower_mirror, row_read}
-use Rattle.sp_pattern.proofs.Orders.{at_most_trans, before_after, before_from_at_most, compressed_empty, compressed_push, same_found, same_is, same_pair}
+use Rattle.sp_pattern.proofs.Orders.{at_most_trans, before_after, before_from_at_most, compressed_empty, compressed_push, order_from, same_found, same_is, same_pair}
 
 -- What is read of the places.
 
@@ -124,16 +124,4 @@ halved_behind m pair ps k next last starts flat h lt is (inr b) =
 
 pub halved_end : (m n : ℕ) (ps : List Pair) (k : ℕ) (last : Pair) (starts opened flat : List ℕ) → IsHalved m ps k last starts flat → length opened ≡ m + 1 → k ≡ length ps → AreInside m n ps
     → ((ds : List Pair) → IsCompressed ds starts flat → IsCompressed ds opened flat) → IsOrderOf m n ps opened flat
-halved_end m n ps k last starts opened flat h long done inside kept = record {
-  order = record {
-    pairs = h.pairs;
-    long = long;
-    compressed = kept h.pairs h.compressed;
-    inside = λ p g. inside p ((members p).0 g);
-  };
-  same = members;
-  few = let f = h.few in omega (arith, f, done);
-}
-  where
-    members : (p : Pair) → Among p h.pairs ↔ Among p ps
-    members p = subst (λ qs. Among p h.pairs ↔ Among p qs) (take_all k ps (omega (arith, done))) (h.same p)
+halved_end m n ps k last starts opened flat h long done inside kept = order_from m n ps h.pairs k starts opened flat h.compressed h.same h.few done long inside kept

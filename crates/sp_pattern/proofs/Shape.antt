@@ -1,5 +1,5 @@
 -- What holds of a matrix whose columns and rows are listed, rising.
-use Rattle.std.proofs.Common.{◌≡◌, ◌↔◌, ℕ, ◌+◌, ◌<◌, ◌≤◌, true, List, [], length, get_or, refl, sym, arith, IsTrue, slice_index_or, subst, Ok, Err, is_ok, IsTrue, true≢false, nat_cmp}
+use Rattle.std.proofs.Common.{◌≡◌, ◌↔◌, ℕ, ◌+◌, ◌<◌, ◌≤◌, List, [], length, get_or, refl, sym, arith, IsTrue, slice_index_or, subst, Ok, Err, is_ok, IsTrue, true≢false, nat_cmp}
 use Rattle.std.proofs.lemmas.List.{get_or_past}
 use Rattle.std.specs.List.Sorted.{IsBinarySearchResult}
 use Rattle.std.proofs.Math.Decide.{dec_lt}
@@ -52,13 +52,9 @@ piece_rows cs rs us vs c o lt = o.rows c (col_fits cs rs us c lt)
 
 -- Looking for a row.
 
-pub found_iff : (P : ℕ → Type 0) (xs : List ℕ) (x : ℕ) (r : Result ℕ ℕ) → Lists P xs → IsBinarySearchResult (λ y. nat_cmp y x) xs r → IsTrue (is_ok r) ↔ P x
-found_iff P xs x (Ok i) l h =
-    let s = searched xs x (Ok i) h (rising_order xs l.rising) in
-    ((λ _. l.sound x (subst (λ y. Among y xs) s.1 (among_at xs i 0 s.0))), λ _. refl)
-found_iff P xs x (Err i) l h =
-    let s = searched xs x (Err i) h (rising_order xs l.rising) in
-    ((λ t. absurd (true≢false (sym t))), λ p. absurd (apart s (place_among x 0 xs (l.complete x p))))
+-- where a search finds none, none is there
+pub found_nowhere : (P : ℕ → Type 0) (xs : List ℕ) (x i : ℕ) → Lists P xs → IsBinarySearchResult (λ y. nat_cmp y x) xs (Err i) → ¬ P x
+found_nowhere P xs x i l h p = apart (searched xs x (Err i) h (rising_order xs l.rising)) (place_among x 0 xs (l.complete x p))
   where
     apart : (i ≤ length xs) × ((k : ℕ) → k < i → get_or xs k 0 < x) × ((k : ℕ) → i ≤ k → k < length xs → x < get_or xs k 0) → (k : ℕ) × (k < length xs) × (slice_index_or xs k 0 ≡ x) → ⊥
     apart s (k, lt, e) = by (dec_lt k i)
@@ -66,3 +62,9 @@ found_iff P xs x (Err i) l h =
         by : Dec (k < i) → ⊥
         by (yes h) = let below = s.1 k h in omega arith
         by (no nh) = let above = s.2 k (omega arith) lt in omega arith
+
+pub found_iff : (P : ℕ → Type 0) (xs : List ℕ) (x : ℕ) (r : Result ℕ ℕ) → Lists P xs → IsBinarySearchResult (λ y. nat_cmp y x) xs r → IsTrue (is_ok r) ↔ P x
+found_iff P xs x (Ok i) l h =
+    let s = searched xs x (Ok i) h (rising_order xs l.rising) in
+    ((λ _. l.sound x (subst (λ y. Among y xs) s.1 (among_at xs i 0 s.0))), λ _. refl)
+found_iff P xs x (Err i) l h = ((λ t. absurd (true≢false (sym t))), λ p. absurd (found_nowhere P xs x i l h p))

@@ -1,5 +1,5 @@
 -- Where entries stand, and their weights.
-use Rattle.std.proofs.Common.{◌≡◌, ◌≢◌, ◌⊎◌, ◌∙◌, ℕ, zero, suc, ◌+◌, ◌-◌, ◌<◌, ◌≤◌, List, [], ◌∷◌, length, get_or, take, drop, nat_eq, if◌then◌else◌, refl, sym, ap, arith, subst, inl, inr, ⊎_elim, sum_by, eq-eqb, false, Ok, Err, is_ok, nat_cmp, slice_index_or, true≢false}
+use Rattle.std.proofs.Common.{◌≡◌, ◌≢◌, ◌⊎◌, ◌∙◌, ℕ, zero, suc, ◌+◌, ◌-◌, ◌<◌, ◌≤◌, List, [], ◌∷◌, length, get_or, take, drop, nat_eq, if◌then◌else◌, refl, sym, ap, arith, subst, inl, inr, ⊎_elim, sum_by, eq-eqb, false, Ok, Err, is_ok, nat_cmp, true≢false}
 use Rattle.std.proofs.Math.Decide.{dec_lt}
 use Rattle.std.proofs.Math.Numerals.{suc-eq-add-one}
 use Rattle.std.proofs.lemmas.List.{get_or-take, get_or-drop, get_or_default, length-take}
@@ -14,10 +14,10 @@ use Rattle.bip_defs.specs.Lists.{Among, IsRising, Lists}
 use Rattle.bip_defs.specs.Matrix.{IsEntry, Matrix, column, cols, entry_count}
 use Rattle.bip_defs.specs.Pieces.{AreStarts, pieces}
 use Rattle.bip_defs.proofs.Pieces.{get_or-pieces, length-pieces, length-slice_range, start_within}
-use Rattle.bip_defs.proofs.Sets.{among_at, below_each_sound, entry_col, number_same, place_among, rising_order}
+use Rattle.bip_defs.proofs.Sets.{among_at, below_each_sound, entry_col, number_same, rising_order}
 use Rattle.sp_pattern.specs.Stored.{AreOrders, stored}
 use Rattle.sp_pattern.specs.Weights.{Weighing, place_in, position, start_of, weight_at, weights_in}
-use Rattle.sp_pattern.proofs.Shape.{col_fits, found_iff, orders_columns, piece_column}
+use Rattle.sp_pattern.proofs.Shape.{col_fits, found_iff, found_nowhere, orders_columns, piece_column}
 
 -- The starts are the numbers of entries before each column.
 
@@ -66,16 +66,7 @@ pub found_place : (P : ℕ → Type 0) (xs : List ℕ) (x : ℕ) (r : Result ℕ
 found_place P xs x (Ok i) l p h =
     let s = searched xs x (Ok i) h (rising_order xs l.rising) in
     sym (ap (λ z. place_in z xs) (sym s.1) ∙ place_in_at xs i l.rising s.0)
-found_place P xs x (Err i) l p h =
-    let s = searched xs x (Err i) h (rising_order xs l.rising) in
-    absurd (apart s (place_among x 0 xs (l.complete x p)))
-  where
-    apart : (i ≤ length xs) × ((k : ℕ) → k < i → get_or xs k 0 < x) × ((k : ℕ) → i ≤ k → k < length xs → x < get_or xs k 0) → (k : ℕ) × (k < length xs) × (slice_index_or xs k 0 ≡ x) → ⊥
-    apart s (k, lt, e) = by (dec_lt k i)
-      where
-        by : Dec (k < i) → ⊥
-        by (yes h) = let below = s.1 k h in omega arith
-        by (no nh) = let above = s.2 k (omega arith) lt in omega arith
+found_place P xs x (Err i) l p h = absurd (found_nowhere P xs x i l h p)
 
 -- Positions.
 

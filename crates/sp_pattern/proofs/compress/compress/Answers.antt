@@ -43,4 +43,4 @@ returns g c =
     let flat = map g.I.Id.number c.loop-k.flat.items in
     let long : length flat ≡ c.len-2.result = length_numbers g.I.Id.number c.loop-k.flat.items ∙ (let n = c.len-2.ensures in let ok = c.loop-k.flat.ok in omega (arith, n, ok)) in
     let done : c.loop-k.k ≡ length ps = let n = c.len-len.ensures in let t = c.loop-k-test.false in let e = c.loop-k.auto.k-end in omega (arith, n, t, e) in
-    compressing_end c.args.outer c.args.inner ps c.loop-k.k c.loop-k.starts.items c.fill_starts-2.new.starts.items flat c.loop-k.invariant.compressing (omega (arith, done)) c.in_ok-fill_starts-2.ensures.opened done c.requires.inside (λ ds f. c.in_ok-fill_starts-2.ensures.compressed ds flat long f)
+    compressing_end c.args.outer c.args.inner ps c.loop-k.k c.loop-k.starts.items c.fill_starts-2.new.starts.items flat c.loop-k.invariant.compressing c.in_ok-fill_starts-2.ensures.opened done c.requires.inside (λ ds f. c.in_ok-fill_starts-2.ensures.compressed ds flat long f)
