@@ -5,13 +5,13 @@ use Rattle.std.proofs.lemmas.List.{take-append-drop, take_more}
 use Rattle.bip_defs.proofs.Uniqueness.{same_matrix}
 use Rattle.bip_defs.specs.ConnectedComponents as connected
 use Rattle.bip_defs.specs.Matrix.{HasPlaces, Matrix}
-use Rattle.bip_graph.specs.Answers.{IsAnalysis, orders_of, report_of, where_asked}
+use Rattle.bip_graph.specs.Answers.{IsAnalysis, report_of}
 use Rattle.bip_graph.specs.Decompositions.{Decomposes, components_of, decomposition_of}
-use Rattle.bip_graph.specs.Texts.{Report, Sizes, report_text}
+use Rattle.bip_graph.specs.Texts.{report_text}
 use Rattle.bip_graph.specs.declared.answers.Decomposition.{Decomposition}
 use Rattle.btf_lines.specs.Lines.{limit_line, malformed_line}
 use Rattle.btf_text.specs.Batches.{behind_file_line, files_end}
-use Rattle.btf_text.specs.Reports.{reported}
+use Rattle.btf_text.specs.Reports.{report_with, reported}
 use Rattle.btf_tool.specs.FileAnswer.{IsFileAnswer}
 use Rattle.btf_tool.specs.Runs.{status_of_fault}
 use Rattle.btf_tool.specs.declared.answers.Answer.{Answer}
@@ -58,21 +58,7 @@ one_text one files s t p q =
 -- ---- the text of the answers
 
 same_report : (a : Matrix) (d : Decomposition) (components : Option connected.Components) → Decomposes a d → reported d components false None ≡ report_of a (decomposition_of d) components false None
-same_report a d components is = ap with_sizes (λ i. record { rows = is.rows i; cols = is.cols_are i; entries = is.entries i })
-  where
-    with_sizes : Sizes → Report
-    with_sizes s = record {
-      sizes = s;
-      rank = d.rank;
-      components = components;
-      horizontal_rows = d.parts.hr.items;
-      horizontal_cols = d.parts.hc.items;
-      blocks = d.blocks;
-      vertical_rows = d.parts.vr.items;
-      vertical_cols = d.parts.vc.items;
-      orders = where_asked false (orders_of (decomposition_of d));
-      pairs = None;
-    }
+same_report a d components is = ap (λ sizes. report_with sizes d components false None) (λ i. record { rows = is.rows i; cols = is.cols_are i; entries = is.entries i })
 
 answer_text : (number : ℕ) (file : List ℕ) (answer : found.FileAnswer) → IsFileAnswer file answer → IsFileText number file (text_of_answer number answer)
 answer_text number file (Reported d c) is = inl (record {

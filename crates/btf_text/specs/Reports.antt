@@ -16,11 +16,11 @@ abbrev pub components_in : Option Components → Option connected.Components
 components_in None = None
 components_in (Some c) = Some (components_of c)
 
--- all of it, these components, the orders where they are asked for, and these pairs
-abbrev pub reported : Decomposition → Option connected.Components → Bool → Option (List Place)
-    → Report
-reported d components order pairs = record {
-  sizes = sizes_in d;
+-- all of it under these sizes, these components, the orders where they are asked for, and these pairs
+abbrev pub report_with : Sizes → Decomposition → Option connected.Components → Bool
+    → Option (List Place) → Report
+report_with sizes d components order pairs = record {
+  sizes = sizes;
   rank = d.rank;
   components = components;
   horizontal_rows = d.parts.hr.items;
@@ -31,6 +31,11 @@ reported d components order pairs = record {
   orders = where_asked order (orders_of (decomposition_of d));
   pairs = pairs;
 }
+
+-- all of it under its own sizes
+abbrev pub reported : Decomposition → Option connected.Components → Bool → Option (List Place)
+    → Report
+reported d = report_with (sizes_in d) d
 
 -- the lists of the parts, the components and the blocks
 abbrev pub part_lines : Decomposition → Option connected.Components → List TextLine

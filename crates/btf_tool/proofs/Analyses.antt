@@ -4,31 +4,17 @@ use Rattle.bip_defs.specs.ConnectedComponents.{Components}
 use Rattle.bip_defs.specs.Lists.{IsRising}
 use Rattle.bip_defs.specs.Matching.{cols_of}
 use Rattle.bip_defs.specs.Matrix.{Matrix, Place}
-use Rattle.bip_graph.specs.Answers.{AreOfVersion, ArePairs, IsAnalysis, IsMaximumOrLeast, orders_of, report_of, where_asked}
+use Rattle.bip_graph.specs.Answers.{AreOfVersion, ArePairs, IsAnalysis, IsMaximumOrLeast, report_of, where_asked}
 use Rattle.bip_graph.specs.Decompositions.{Decomposes, decomposition_of}
-use Rattle.bip_graph.specs.Texts.{Report, Sizes, matrix_line, rank_line, report_text, square_line, text_of}
+use Rattle.bip_graph.specs.Texts.{Sizes, matrix_line, rank_line, report_text, square_line, text_of}
 use Rattle.bip_graph.specs.declared.answers.Decomposition.{Decomposition}
-use Rattle.btf_text.specs.Reports.{lengths_line, reported, summary_text}
+use Rattle.btf_text.specs.Reports.{lengths_line, report_with, reported, summary_text}
 use Rattle.btf_tool.specs.Summaries.{IsSummary}
 
 -- what is reported of it by its decomposition is its report
 pub report_is : (a : Matrix) (d : Decomposition) (components : Option Components) (order : Bool) (pairs : Option (List Place)) → Decomposes a d
     → reported d components order pairs ≡ report_of a (decomposition_of d) components order pairs
-report_is a d components order pairs is = ap with_sizes (λ i. record { rows = is.rows i; cols = is.cols_are i; entries = is.entries i })
-  where
-    with_sizes : Sizes → Report
-    with_sizes s = record {
-      sizes = s;
-      rank = d.rank;
-      components = components;
-      horizontal_rows = d.parts.hr.items;
-      horizontal_cols = d.parts.hc.items;
-      blocks = d.blocks;
-      vertical_rows = d.parts.vr.items;
-      vertical_cols = d.parts.vc.items;
-      orders = where_asked order (orders_of (decomposition_of d));
-      pairs = pairs;
-    }
+report_is a d components order pairs is = ap (λ sizes. report_with sizes d components order pairs) (λ i. record { rows = is.rows i; cols = is.cols_are i; entries = is.entries i })
 
 -- the report has pairs where they are asked for, or the least ones are
 pub analysis_answers : (a : Matrix) (d : Decomposition) (m : List Place) (version : ℕ) (components : Option Components) (order pairs least asked : Bool) → Decomposes a d → IsMaximumOrLeast a least m
