@@ -1,6 +1,6 @@
 -- What holds of each element of two lists, one after the other.
 use Rattle.std.proofs.Common.{◌≡◌, ℕ, suc, ◌+◌, List, [], ◌∷◌, ◌++◌, length, sym, subst, arith, length-append, Result, Ok, Err, OnOk}
-use Rattle.level_sharing.specs.Each.{AreReady, EachFrom, EachPairFrom}
+use Rattle.level_sharing.specs.Each.{AreReady, EachFrom, EachPairFrom, HaveWorked}
 
 behind : (n k : ℕ) → suc n + k ≡ n + suc k
 behind n k = omega arith
@@ -36,6 +36,14 @@ pub each_pair_halves : {X : Type 0} (P : ℕ → X → X → Type 0) (n m : ℕ)
     → EachPairFrom P n prefix prefix' → EachPairFrom P m suffix suffix' → EachPairFrom P n whole (prefix' ++ suffix')
 each_pair_halves P n m prefix prefix' suffix suffix' whole w e f b = subst (λ xs. EachPairFrom P n xs (prefix' ++ suffix')) (sym w) (each_pair_append P n prefix prefix' suffix suffix' f (subst (λ k. EachPairFrom P k suffix suffix') e b))
 
-pub ok_then : {A E P Q : Type 0} (r : Result A E) → (P → Q) → OnOk r P → OnOk r Q
-ok_then (Ok a) f p = f p
-ok_then (Err e) f p = tt
+-- the same of elements that were worked on, where both answers are told as one
+pub worked_halves : {X E : Type 0} (leaves completes : ℕ → X → X → Type 0) (n m : ℕ) (prefix prefix' suffix suffix' whole : List X) (low high answer : Result (Unit {0}) E) → whole ≡ prefix ++ suffix → m ≡ n + length prefix
+    → HaveWorked leaves completes n prefix prefix' low → HaveWorked leaves completes m suffix suffix' high → OnOk answer ((low ≡ Ok tt) × (high ≡ Ok tt)) → HaveWorked leaves completes n whole (prefix' ++ suffix') answer
+worked_halves {E = E} leaves completes n m prefix prefix' suffix suffix' whole low high answer w e f b both = record {
+  always = each_pair_halves leaves n m prefix prefix' suffix suffix' whole w e f.always b.always;
+  ok = done answer both;
+}
+  where
+    done : (r : Result (Unit {0}) E) → OnOk r ((low ≡ Ok tt) × (high ≡ Ok tt)) → OnOk r (EachPairFrom completes n whole (prefix' ++ suffix'))
+    done (Ok a) (p, q) = each_pair_halves completes n m prefix prefix' suffix suffix' whole w e (rw p at f.ok) (rw q at b.ok)
+    done (Err x) both = tt

@@ -1,8 +1,8 @@
 //! Workers that do their work at once.
 
-ghost use Rattle.std.specs.Prelude.{◌≡◌, ℕ, ◌+◌, ◌<◌, ◌≤◌, ◌^◌, ◌++◌, length, IsTrue, OnOk};
+ghost use Rattle.std.specs.Prelude.{◌≡◌, ℕ, ◌+◌, ◌<◌, ◌≤◌, ◌^◌, ◌++◌, length, IsTrue, Ok, OnOk};
 ghost use Rattle.std.specs.Thread.{IsSync};
-ghost use Rattle.level_sharing.specs.Each.{AreReady, EachFrom, EachPairFrom};
+ghost use Rattle.level_sharing.specs.Each.{AreReady, EachFrom, EachPairFrom, HaveWorked};
 
 use sp_ports::Gate;
 use std::thread::{Threads, available_parallelism, join_mut};
@@ -129,18 +129,23 @@ fn work_from<R: Threads + Sync, G: Gate, T: Send, E: Send + Drop, W: Work<T, E>>
         &mut || -> Result<(), E>
             requires { IsSync R.row × IsSync G.row × IsSync W.row
                 × (0 < length prefix.now) × AreReady (W.can_begin work.now) first prefix.now }
-            ensures { EachPairFrom (W.leaves work.entry.now) first prefix.entry.now prefix.exit.now
-                × OnOk result
-                (EachPairFrom (W.completes work.entry.now) first prefix.entry.now prefix.exit.now) }
+            ensures { HaveWorked (W.leaves work.entry.now) (W.completes work.entry.now) first
+                prefix.entry.now prefix.exit.now result }
         { work_from(rt, gate, work, first, low_threads, prefix) },
         &mut || -> Result<(), E>
             requires { IsSync R.row × IsSync G.row × IsSync W.row
                 × (0 < length suffix.now) × AreReady (W.can_begin work.now) next suffix.now }
-            ensures { EachPairFrom (W.leaves work.entry.now) next suffix.entry.now suffix.exit.now
-                × OnOk result
-                (EachPairFrom (W.completes work.entry.now) next suffix.entry.now suffix.exit.now) }
+            ensures { HaveWorked (W.leaves work.entry.now) (W.completes work.entry.now) next
+                suffix.entry.now suffix.exit.now result }
         { work_from(rt, gate, work, next, high_threads, suffix) },
     );
+    first_fault(low, high)
+}
+
+// The fault of the first of two answers that has one.
+fn first_fault<E: Drop>(low: Result<(), E>, high: Result<(), E>) -> Result<(), E>
+    ensures { OnOk result ((low ≡ Ok tt) × (high ≡ Ok tt)) }
+{
     low?;
     high
 }
