@@ -1,9 +1,11 @@
 //! A forest that was worked out by hand, augmented by one worker and by two.
 
 ghost use Rattle.std.specs.Prelude.{◌≡◌, ◌≤◌, [], IfOk};
+ghost use Rattle.bip_defs.specs.Matrix.{cols};
 ghost use Rattle.forest_core.specs.Exchanged.{AreExchanged};
 ghost use Rattle.sp_ids.specs.Limits.{max_workers};
 
+use crate::outcomes::{both_have_met, have_come_once};
 use crate::small::{has_the_path, one_pair, pattern_of_three};
 use bip_graph::Mates;
 use flip_words::Taken;
@@ -12,7 +14,6 @@ use sp_ids::{Col, Event, OutOfMemory, Row};
 use sp_pattern::Pattern;
 use sp_ports::{Gate, MeetGate, NoGate};
 use std::process::Abort;
-use std::test::Fail;
 use std::thread::Threads;
 use test_gates::BarrierGate;
 use tree_augment::{augment, closed_mates_are_exchanged, open};
@@ -65,6 +66,24 @@ fn augmented<R: AllocGlobal + Threads + Sync, G: Gate>(
     }
 }
 
+// So many workers exchange the one path of the forest at this gate, and the forest adopts it.
+fn adopts_the_path<R: Abort + AllocGlobal + Threads + Sync, G: Gate>(
+    rt: &R,
+    forest: &mut Forest,
+    workers: u32,
+    gate: &G,
+) -> Result<(), OutOfMemory>
+    requires workers { (1 ≤ workers) × (workers ≤ max_workers) }
+    requires none_flipped { forest.old.flipped ≡ [] }
+    requires sizes { (forest.old.matrix.rows ≡ 3) × (cols forest.old.matrix ≡ 3) }
+{
+    let mates = augmented(rt, forest, workers, gate)?;
+    has_the_path(rt, &mates);
+    forest.adopt(mates);
+    assert!(rt; forest.flipped(Col(1)));
+    Ok(())
+}
+
 // So many workers exchange the one path at this gate.
 fn exchanges_the_path<R: Abort + AllocGlobal + Threads + Sync, G: Gate>(
     rt: &R,
@@ -75,40 +94,45 @@ fn exchanges_the_path<R: Abort + AllocGlobal + Threads + Sync, G: Gate>(
 {
     let pattern = pattern_of_three(rt)?;
     let mut forest = forest_of_one_path(rt, &pattern)?;
-    let mates = augmented(rt, &forest, workers, gate)?;
-    has_the_path(rt, &mates);
-    forest.adopt(mates);
-    assert!(rt; forest.flipped(Col(1)));
-    Ok(())
+    adopts_the_path(rt, &mut forest, workers, gate)
 }
 
 // Each worker arrives once, and with several of them all work at once.
 #[test]
-fn workers_augment_together(rt: HostRuntime) -> Result<(), Fail> {
+fn workers_augment_together(rt: HostRuntime) -> Result<(), OutOfMemory> {
     for workers in [1, 2, 3] {
         let gate = BarrierGate::new(rt.alloc(), workers)?;
         exchanges_the_path(&rt, workers, &gate)?;
-        assert!(rt; gate.have_arrived(workers, 1) && !gate.ran_out());
+        have_come_once(&rt, &gate, workers);
     }
     Ok(())
 }
 
 #[test]
-fn two_workers_meet(rt: HostRuntime) -> Result<(), Fail> {
+fn two_workers_meet(rt: HostRuntime) -> Result<(), OutOfMemory> {
     let gate = MeetGate::new(rt.alloc())?;
     exchanges_the_path(&rt, 2, &gate)?;
-    assert_eq!(rt; (gate.arrivals(0), gate.arrivals(1)), (1, 1));
-    assert!(rt; !gate.ran_out());
+    both_have_met(&rt, &gate);
     Ok(())
 }
 
-// The seat that took the tree finds that it has it.
-#[test]
-fn the_taker_asks_again(rt: HostRuntime) -> Result<(), Fail> {
-    let pattern = pattern_of_three(&rt)?;
-    let forest = forest_of_one_path(&rt, &pattern)?;
-    let (board, mut seats) = open(&rt, rt.alloc(), &forest, 1)?;
-    augment(&rt, &forest, &board, seats.as_mut_slice(), &NoGate);
+// Of one worker on a board of the forest, the seat that took the tree finds that it has it.
+fn asks_again<R: Abort + AllocGlobal + Threads + Sync>(
+    rt: &R,
+    forest: &Forest,
+) -> Result<(), OutOfMemory>
+    requires none_flipped { forest.now.flipped ≡ [] }
+    requires cols { cols forest.now.matrix ≡ 3 }
+{
+    let (board, mut seats) = open(rt, rt.alloc(), forest, 1)?;
+    augment(rt, forest, &board, seats.as_mut_slice(), &NoGate);
     assert_eq!(rt; board.take(&mut seats[0], Col(1)), Taken::Held(0));
     Ok(())
+}
+
+#[test]
+fn the_taker_asks_again(rt: HostRuntime) -> Result<(), OutOfMemory> {
+    let pattern = pattern_of_three(&rt)?;
+    let forest = forest_of_one_path(&rt, &pattern)?;
+    asks_again(&rt, &forest)
 }

@@ -7,12 +7,12 @@ ghost use Rattle.claim_words.specs.Seat.{AreAllSeats, IsSameSeat, after_claim, f
 ghost use Rattle.claim_words.specs.Settles.{SettlesAll};
 ghost use Rattle.claim_words.specs.WorkerState.{AreAllWorkers, fresh_lists, seated};
 
+use crate::outcomes::{has_fresh_lists, have_come_once};
 use claim_words::{ClaimBoard, ClaimSeat, Claimed, Closed, Won, Worker, seats_in_order_are_all};
 use sp_ids::{Col, Id, OutOfMemory, Row};
 use sp_ports::Gate;
 use std::alloc::Global;
 use std::process::Abort;
-use std::test::Fail;
 use std::thread::{Threads, join_mut};
 use test_gates::BarrierGate;
 
@@ -46,9 +46,7 @@ fn close_for_two(
     ensures { IfOk result (λ words. SettlesAll board words (one ∷ zero ∷ [])) }
 {
     seats_in_order_are_all();
-    let mut seats = Vec::new(alloc);
-    seats.push(one)?;
-    seats.push(zero)?;
+    let seats = vec![in alloc; one, zero]?;
     match board.close(seats) {
         Ok(closed) => Ok(closed),
         Err(_) => Err(OutOfMemory),
@@ -56,7 +54,7 @@ fn close_for_two(
 }
 
 #[test]
-fn a_row_that_was_held_before(rt: HostRuntime) -> Result<(), Fail> {
+fn a_row_that_was_held_before(rt: HostRuntime) -> Result<(), OutOfMemory> {
     let (board, mut zero, _one) = board_for_two(rt.alloc(), &[Some(Col(0))], &[None])?;
     assert_eq!(rt;
         board.claim(&mut zero, Row(0), Col(0)),
@@ -65,17 +63,42 @@ fn a_row_that_was_held_before(rt: HostRuntime) -> Result<(), Fail> {
     Ok(())
 }
 
+// The seat gets the row for column 0.
+fn gets_row<R: Abort>(rt: &R, board: &ClaimBoard, seat: &mut ClaimSeat, row: Row)
+    requires seat { seat.old.board ≡ board.now }
+    requires row { row < length board.now.rows }
+    ensures { IsSameSeat seat.old seat.new }
+{
+    assert_eq!(rt; board.claim(seat, row, Col(0)), Claimed::Mine);
+}
+
+// What a seat is told that wins root 0 for the leaf.
+fn wins<R: Abort>(rt: &R, board: &ClaimBoard, seat: &mut ClaimSeat, leaf: Row, answer: Won)
+    requires seat { seat.old.board ≡ board.now }
+    requires root { 0 < length board.now.roots }
+    ensures { IsSameSeat seat.old seat.new }
+{
+    assert_eq!(rt; board.win(seat, Col(0), leaf), answer);
+}
+
+// The closed board tells this holder of the row.
+fn is_held<R: Abort>(rt: &R, closed: &Closed, row: Row, holder: Option<Col>)
+    requires { row < length closed.now.rows }
+{
+    assert_eq!(rt; closed.holder(row), holder);
+}
+
 #[test]
-fn one_leaf_for_a_root(rt: HostRuntime) -> Result<(), Fail> {
+fn one_leaf_for_a_root(rt: HostRuntime) -> Result<(), OutOfMemory> {
     let (board, mut zero, mut one) = board_for_two(rt.alloc(), &[None, None], &[None])?;
-    assert_eq!(rt; board.claim(&mut zero, Row(0), Col(0)), Claimed::Mine);
-    assert_eq!(rt; board.claim(&mut one, Row(1), Col(0)), Claimed::Mine);
-    assert_eq!(rt; board.win(&mut zero, Col(0), Row(0)), Won::Mine);
-    assert_eq!(rt; board.win(&mut one, Col(0), Row(1)), Won::Held(Row(0)));
+    gets_row(&rt, &board, &mut zero, Row(0));
+    gets_row(&rt, &board, &mut one, Row(1));
+    wins(&rt, &board, &mut zero, Row(0), Won::Mine);
+    wins(&rt, &board, &mut one, Row(1), Won::Held(Row(0)));
     assert_eq!(rt; board.look_root(&mut one, Col(0)), Some(Row(0)));
     let closed = close_for_two(rt.alloc(), board, zero, one)?;
-    assert_eq!(rt; closed.holder(Row(0)), Some(Col(0)));
-    assert_eq!(rt; closed.holder(Row(1)), Some(Col(0)));
+    is_held(&rt, &closed, Row(0), Some(Col(0)));
+    is_held(&rt, &closed, Row(1), Some(Col(0)));
     assert_eq!(rt; closed.leaf(Col(0)), Some(Row(0)));
     Ok(())
 }
@@ -129,18 +152,27 @@ fn winner(zero: Claimed, one: Claimed) -> Option<Col> {
     }
 }
 
+// The seat sees this holder of row 0.
+fn sees_holder<R: Abort>(rt: &R, board: &ClaimBoard, seat: &mut ClaimSeat, holder: Option<Col>)
+    requires seat { seat.old.board ≡ board.now }
+    requires row { 0 < length board.now.rows }
+    ensures { IsSameSeat seat.old seat.new }
+{
+    assert_eq!(rt; board.look_row(seat, Row(0)), holder);
+}
+
 #[test]
-fn two_threads_on_one_row(rt: HostRuntime) -> Result<(), Fail> {
-    let (board, mut zero, mut one) = board_for_two(rt.alloc(), &[None], &[None, None])?;
+fn two_threads_on_one_row(rt: HostRuntime) -> Result<(), OutOfMemory> {
     let gate = BarrierGate::new(rt.alloc(), 2)?;
+    let (board, mut zero, mut one) = board_for_two(rt.alloc(), &[None], &[None, None])?;
     let (first, second) = claim_at_once(&rt, &board, &gate, &mut zero, &mut one);
-    assert!(rt; gate.have_arrived(2, 1) && !gate.ran_out());
+    have_come_once(&rt, &gate, 2);
     let won = winner(first, second);
     assert!(rt; won.is_some());
-    assert_eq!(rt; board.look_row(&mut zero, Row(0)), won);
-    assert_eq!(rt; board.look_row(&mut one, Row(0)), won);
+    sees_holder(&rt, &board, &mut zero, won);
+    sees_holder(&rt, &board, &mut one, won);
     let closed = close_for_two(rt.alloc(), board, zero, one)?;
-    assert_eq!(rt; closed.holder(Row(0)), won);
+    is_held(&rt, &closed, Row(0), won);
     Ok(())
 }
 
@@ -165,9 +197,7 @@ fn gather_for_two(
     ensures fresh { IfOk result (λ r. fresh_lists (r.0 ∷ r.1 ∷ [])
         ≡ fresh_lists (zero ∷ one ∷ [])) }
 {
-    let mut workers = Vec::new(alloc);
-    workers.push(zero)?;
-    workers.push(one)?;
+    let mut workers = vec![in alloc; zero, one]?;
     board.gather(workers.as_mut_slice());
     let Some(one) = workers.pop() else {
         unreachable!()
@@ -176,6 +206,43 @@ fn gather_for_two(
         unreachable!()
     };
     Ok((zero, one))
+}
+
+// What a worker is told that claims the row for the column.
+fn claims<R: Abort>(
+    rt: &R,
+    board: &ClaimBoard,
+    worker: &mut Worker,
+    row: Row,
+    col: Col,
+    answer: Claimed,
+) -> Result<(), OutOfMemory>
+    requires seat { worker.old.seat.board ≡ board.now }
+    requires row { row < length board.now.rows }
+    ensures { IsSameSeat worker.old.seat worker.new.seat }
+{
+    assert_eq!(rt; worker.claim(board, row, col)?, answer);
+    Ok(())
+}
+
+// The worker wins root 0 for the leaf in row 1.
+fn wins_root<R: Abort>(rt: &R, board: &ClaimBoard, worker: &mut Worker) -> Result<(), OutOfMemory>
+    requires seat { worker.old.seat.board ≡ board.now }
+    requires root { 0 < length board.now.roots }
+    ensures { IsSameSeat worker.old.seat worker.new.seat }
+{
+    assert_eq!(rt; worker.win(board, Col(0), Row(1))?, Won::Mine);
+    Ok(())
+}
+
+// The worker sees that root 0 has its leaf in row 1, and that column 0 holds this row.
+fn sees_leaf_and_holder<R: Abort>(rt: &R, board: &ClaimBoard, worker: &mut Worker)
+    requires seat { worker.old.seat.board ≡ board.now }
+    requires words { (length board.now.rows ≡ 2) × (length board.now.roots ≡ 1) }
+    ensures { IsSameSeat worker.old.seat worker.new.seat }
+{
+    assert_eq!(rt; worker.look_root(board, Col(0)), Some(Row(1)));
+    assert_eq!(rt; worker.look_row(board, Row(1)), Some(Col(0)));
 }
 
 // Worker 0 claims row 0, and worker 1 claims row 1 and wins the root. Each sees what the other did.
@@ -190,32 +257,30 @@ fn work_by_two<R: Abort>(
     ensures zero { IsSameSeat zero.old.seat zero.new.seat }
     ensures one { IsSameSeat one.old.seat one.new.seat }
 {
-    assert_eq!(rt; zero.claim(board, Row(0), Col(0))?, Claimed::Mine);
-    assert_eq!(rt; one.claim(board, Row(0), Col(1))?, Claimed::Held(Col(0)));
-    assert_eq!(rt; one.claim(board, Row(1), Col(0))?, Claimed::Mine);
-    assert_eq!(rt; one.win(board, Col(0), Row(1))?, Won::Mine);
-    assert_eq!(rt; zero.look_root(board, Col(0)), Some(Row(1)));
-    assert_eq!(rt; zero.look_row(board, Row(1)), Some(Col(0)));
+    claims(rt, board, zero, Row(0), Col(0), Claimed::Mine)?;
+    claims(rt, board, one, Row(0), Col(1), Claimed::Held(Col(0)))?;
+    claims(rt, board, one, Row(1), Col(0), Claimed::Mine)?;
+    wins_root(rt, board, one)?;
+    sees_leaf_and_holder(rt, board, zero);
     Ok(())
 }
 
 // What each has claimed and won is still fresh.
 fn have_fresh_lists<R: Abort>(rt: &R, zero: &Worker, one: &Worker) {
-    assert_eq!(rt; zero.fresh_claims(), [(Row(0), Col(0))].as_slice());
-    assert_eq!(rt; one.fresh_claims(), [(Row(1), Col(0))].as_slice());
-    assert_eq!(rt; one.fresh_wins(), [(Col(0), Row(1))].as_slice());
+    has_fresh_lists(rt, zero, &[(Row(0), Col(0))], &[]);
+    has_fresh_lists(rt, one, &[(Row(1), Col(0))], &[(Col(0), Row(1))]);
 }
 
 #[test]
-fn workers_gather_what_they_list(rt: HostRuntime) -> Result<(), Fail> {
+fn workers_gather_what_they_list(rt: HostRuntime) -> Result<(), OutOfMemory> {
     let (board, mut zero, mut one) = board_with_workers(rt.alloc())?;
     work_by_two(&rt, &board, &mut zero, &mut one)?;
     let (mut zero, mut one) = gather_for_two(rt.alloc(), &board, zero, one)?;
     have_fresh_lists(&rt, &zero, &one);
     zero.settle();
     one.settle();
-    assert!(rt; one.fresh_claims().is_empty() && one.fresh_wins().is_empty());
+    has_fresh_lists(&rt, &one, &[], &[]);
     let closed = close_for_two(rt.alloc(), board, zero.into_seat(), one.into_seat())?;
-    assert_eq!(rt; closed.holder(Row(1)), Some(Col(0)));
+    is_held(&rt, &closed, Row(1), Some(Col(0)));
     Ok(())
 }

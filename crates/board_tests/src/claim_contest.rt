@@ -6,13 +6,14 @@ ghost use Rattle.std.specs.Thread.{IsSync};
 ghost use Rattle.claim_words.specs.Seat.{AreAllSeats, IsSameSeat, new_seats};
 ghost use Rattle.board_tests.specs.ClaimContest.{Contests, IsContested};
 
+use crate::outcomes::have_come_once;
 use claim_words::{ClaimBoard, ClaimSeat, Claimed, Closed, Won, seats_in_order_are_all};
 use crossbeam_queue::ArrayQueue;
 use sp_ids::{Col, OutOfMemory, Row};
 use sp_ports::Gate;
 use std::alloc::Global;
+use std::process::Abort;
 use std::sync::Wait;
-use std::test::Fail;
 use std::thread::{Threads, join_mut};
 use test_gates::BarrierGate;
 
@@ -301,50 +302,67 @@ fn close_for_four(
     ensures { IfOk result (λ c. (length c.rows ≡ 1000) × (length c.roots ≡ 4)) }
 {
     seats_in_order_are_all();
-    let mut seats = Vec::new(alloc);
-    seats.push(zero)?;
-    seats.push(one)?;
-    seats.push(two)?;
-    seats.push(three)?;
+    let seats = vec![in alloc; zero, one, two, three]?;
     match board.close(seats) {
         Ok(closed) => Ok(closed),
         Err(_) => Err(OutOfMemory),
     }
 }
 
-// Closes the board, and tells whether it shows what each seat was told.
-fn closed_shows(
-    alloc: Global,
+// Closes the board, which shows what each seat was told.
+fn closed_shows<R: Abort + AllocGlobal>(
+    rt: &R,
     board: ClaimBoard,
     zero: Contender<'_>,
     one: Contender<'_>,
     two: Contender<'_>,
     three: Contender<'_>,
-) -> Result<bool, OutOfMemory>
+) -> Result<(), OutOfMemory>
     requires board { IsContested board }
     requires seats { AreAllSeats board (zero.seat ∷ one.seat ∷ two.seat ∷ three.seat ∷ []) }
 {
-    let closed = close_for_four(alloc, board, zero.seat, one.seat, two.seat, three.seat)?;
-    let lower = shows(&closed, zero.holders.as_slice(), zero.leaves.as_slice())
-        && shows(&closed, one.holders.as_slice(), one.leaves.as_slice());
-    let upper = shows(&closed, two.holders.as_slice(), two.leaves.as_slice())
-        && shows(&closed, three.holders.as_slice(), three.leaves.as_slice());
-    Ok(lower && upper)
+    let closed = close_for_four(rt.alloc(), board, zero.seat, one.seat, two.seat, three.seat)?;
+    for (holders, leaves) in [
+        (&zero.holders, &zero.leaves),
+        (&one.holders, &one.leaves),
+        (&two.holders, &two.leaves),
+        (&three.holders, &three.leaves),
+    ] {
+        assert!(rt; shows(&closed, holders.as_slice(), leaves.as_slice()));
+    }
+    Ok(())
+}
+
+// The looks of both seats give what they were told.
+fn look_again<R: Abort>(
+    rt: &R,
+    board: &ClaimBoard,
+    left: &mut Contender<'_>,
+    right: &mut Contender<'_>,
+)
+    requires { Contests board.now left.old.seat × Contests board.now right.old.seat }
+    ensures { IsSameSeat left.old.seat left.new.seat × IsSameSeat right.old.seat right.new.seat }
+{
+    assert!(rt; looks_agree(board, left));
+    assert!(rt; looks_agree(board, right));
+}
+
+// Each seat has handed its count over, and each row and each root went to one of them.
+fn have_all<R: Abort + Wait>(rt: &R, counts: &ArrayQueue<Count>) {
+    assert_eq!(rt; sums(rt, counts), ([true; 4], 1000, 4));
 }
 
 #[test]
-fn four_seats_on_every_word(rt: HostRuntime) -> Result<(), Fail> {
+fn four_seats_on_every_word(rt: HostRuntime) -> Result<(), OutOfMemory> {
     let counts = ArrayQueue::new(rt.alloc(), 4)?;
     let gate = BarrierGate::new(rt.alloc(), 4)?;
     let (board, mut zero, mut one, mut two, mut three) = board_for_four(rt.alloc(), &gate)?;
     contend_by_four(
         &rt, &board, &mut zero, &mut one, &mut two, &mut three, &counts,
     )?;
-    assert!(rt; gate.have_arrived(4, 1) && !gate.ran_out());
-    assert_eq!(rt; sums(&rt, &counts), ([true; 4], 1000, 4));
-    assert!(rt; looks_agree(&board, &mut zero) && looks_agree(&board, &mut one));
-    assert!(rt; looks_agree(&board, &mut two) && looks_agree(&board, &mut three));
-    let shown = closed_shows(rt.alloc(), board, zero, one, two, three)?;
-    assert!(rt; shown);
-    Ok(())
+    have_come_once(&rt, &gate, 4);
+    have_all(&rt, &counts);
+    look_again(&rt, &board, &mut zero, &mut one);
+    look_again(&rt, &board, &mut two, &mut three);
+    closed_shows(&rt, board, zero, one, two, three)
 }

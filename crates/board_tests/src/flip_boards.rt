@@ -5,13 +5,14 @@ ghost use Rattle.flip_words.specs.Listed.{nothing};
 ghost use Rattle.flip_words.specs.Seat.{AreAllSeats, IsSameSeat, Took, after_take, first_seat, new_seat};
 ghost use Rattle.flip_words.specs.Taken.{taker_before};
 
+use crate::outcomes::have_come_once;
 use crate::small::has_the_path;
 use bip_graph::{Matching, Mates};
 use flip_words::{FlipBoard, FlipSeat, Taken, seats_in_order_are_all};
 use sp_ids::{Col, OutOfMemory, Row};
 use sp_ports::Gate;
 use std::alloc::Global;
-use std::test::Fail;
+use std::process::Abort;
 use std::thread::{Threads, join_mut};
 use test_gates::BarrierGate;
 
@@ -65,9 +66,7 @@ fn close_for_two(
     ensures cols { IfOk result (λ m. length m.cols ≡ board.cols) }
 {
     seats_in_order_are_all();
-    let mut seats = Vec::new(alloc);
-    seats.push(one)?;
-    seats.push(zero)?;
+    let seats = vec![in alloc; one, zero]?;
     match board.close(alloc, seats) {
         Ok(mates) => Ok(mates),
         Err(_) => Err(OutOfMemory),
@@ -75,7 +74,7 @@ fn close_for_two(
 }
 
 #[test]
-fn the_taker_exchanges_the_path(rt: HostRuntime) -> Result<(), Fail> {
+fn the_taker_exchanges_the_path(rt: HostRuntime) -> Result<(), OutOfMemory> {
     let (board, mut zero, mut one) = board_for_two(rt.alloc())?;
     let Taken::Mine = board.take(&mut zero, Col(1)) else {
         panic!(rt; "no seat had taken the tree");
@@ -90,7 +89,7 @@ fn the_taker_exchanges_the_path(rt: HostRuntime) -> Result<(), Fail> {
 }
 
 #[test]
-fn a_seat_asks_for_its_own_tree(rt: HostRuntime) -> Result<(), Fail> {
+fn a_seat_asks_for_its_own_tree(rt: HostRuntime) -> Result<(), OutOfMemory> {
     let (board, _zero, mut one) = board_for_two(rt.alloc())?;
     assert_eq!(rt; board.take(&mut one, Col(1)), Taken::Mine);
     assert_eq!(rt; board.take(&mut one, Col(1)), Taken::Held(1));
@@ -129,14 +128,19 @@ fn take_at_once<R: Threads>(
     )
 }
 
-#[test]
-fn two_threads_take_one_tree(rt: HostRuntime) -> Result<(), Fail> {
-    let (board, mut zero, mut one) = board_for_two(rt.alloc())?;
-    let gate = BarrierGate::new(rt.alloc(), 2)?;
-    let taken = take_at_once(&rt, &board, &gate, &mut zero, &mut one);
-    assert!(rt; gate.have_arrived(2, 1) && !gate.ran_out());
+// One of the two seats took the tree, and the other was told so.
+fn one_took_it<R: Abort>(rt: &R, taken: (Taken, Taken)) {
     let first = taken == (Taken::Mine, Taken::Held(0));
     let second = taken == (Taken::Held(1), Taken::Mine);
     assert!(rt; first || second);
+}
+
+#[test]
+fn two_threads_take_one_tree(rt: HostRuntime) -> Result<(), OutOfMemory> {
+    let gate = BarrierGate::new(rt.alloc(), 2)?;
+    let (board, mut zero, mut one) = board_for_two(rt.alloc())?;
+    let taken = take_at_once(&rt, &board, &gate, &mut zero, &mut one);
+    have_come_once(&rt, &gate, 2);
+    one_took_it(&rt, taken);
     Ok(())
 }

@@ -7,12 +7,12 @@ ghost use Rattle.bip_defs.specs.WordValues.{held};
 ghost use Rattle.flip_words.specs.Seat.{AreAllSeats, new_seats};
 ghost use Rattle.board_tests.specs.FlipContest.{HasVisited, IsContested, Visits};
 
+use crate::outcomes::have_come_once;
 use bip_graph::{Matching, Mates};
 use flip_words::{FlipBoard, FlipSeat, Taken, seats_in_order_are_all};
 use sp_ids::{Col, OutOfMemory, Row};
 use sp_ports::Gate;
 use std::alloc::Global;
-use std::test::Fail;
 use std::thread::{Threads, join_mut};
 use test_gates::BarrierGate;
 
@@ -166,11 +166,7 @@ fn close_for_four(
     ensures { IfOk result (λ m. (length m.rows ≡ 100) × (length m.cols ≡ 100)) }
 {
     seats_in_order_are_all();
-    let mut seats = Vec::new(alloc);
-    seats.push(zero)?;
-    seats.push(one)?;
-    seats.push(two)?;
-    seats.push(three)?;
+    let seats = vec![in alloc; zero, one, two, three]?;
     match board.close(alloc, seats) {
         Ok(mates) => Ok(mates),
         Err(_) => Err(OutOfMemory),
@@ -190,13 +186,13 @@ fn are_exchanged(mates: &Mates) -> bool
 }
 
 #[test]
-fn four_seats_on_every_tree(rt: HostRuntime) -> Result<(), Fail> {
-    let (board, mut zero, mut one, mut two, mut three) = board_for_four(rt.alloc())?;
+fn four_seats_on_every_tree(rt: HostRuntime) -> Result<(), OutOfMemory> {
     let gate = BarrierGate::new(rt.alloc(), 4)?;
+    let (board, mut zero, mut one, mut two, mut three) = board_for_four(rt.alloc())?;
     let taken = contend_by_four(
         &rt, &board, &gate, &mut zero, &mut one, &mut two, &mut three,
     );
-    assert!(rt; gate.have_arrived(4, 1) && !gate.ran_out());
+    have_come_once(&rt, &gate, 4);
     assert_eq!(rt; taken, TREES);
     let mates = close_for_four(rt.alloc(), board, zero, one, two, three)?;
     assert!(rt; are_exchanged(&mates));

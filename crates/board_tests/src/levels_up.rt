@@ -6,6 +6,7 @@ ghost use Rattle.bip_defs.specs.Matrix.{cols};
 ghost use Rattle.claim_words.specs.WorkerState.{seated};
 ghost use Rattle.level_sharing.specs.Agreement.{Agree};
 
+use crate::outcomes::{both_have_met, has_fresh_lists, have_come_once};
 use crate::small::{one_pair, pattern_of_three};
 use bottom_up::attach;
 use claim_words::{ClaimBoard, ClaimSeat, Worker};
@@ -16,7 +17,6 @@ use sp_pattern::Pattern;
 use sp_ports::{Gate, MeetGate};
 use std::alloc::Global;
 use std::process::Abort;
-use std::test::Fail;
 use std::thread::Threads;
 use test_gates::BarrierGate;
 
@@ -78,26 +78,22 @@ fn board_for_two(alloc: Global, forest: &Forest) -> Result<(ClaimBoard, Vec<Work
     Ok((board, workers))
 }
 
-// What two workers have claimed and won after a level from the first three rows.
+// A level of two workers from the first three rows: the worker 0 claims row 0 for column 0, and
+// nothing else is claimed or won.
 fn level<R: Abort + AllocGlobal + Threads + Sync, G: Gate>(
     rt: &R,
     forest: &Forest,
     gate: &G,
-) -> Result<Vec<Worker>, OutOfMemory>
+) -> Result<(), OutOfMemory>
     requires { IsSettled forest.now }
-    ensures { IfOk result (λ workers. length workers.items ≡ 2) }
 {
     assert!(rt; forest.pattern().rows() == 3);
     let (board, mut workers) = board_for_two(rt.alloc(), forest)?;
     let free = [Row(0), Row(1), Row(2)];
     attach(rt, forest, &board, &free, workers.as_mut_slice(), gate)?;
-    Ok(workers)
-}
-
-// What a worker has claimed since the level began; it has won nothing.
-fn has_claimed<R: Abort>(rt: &R, worker: &Worker, claims: &[(Row, Col)]) {
-    assert_eq!(rt; worker.fresh_claims(), claims);
-    assert!(rt; worker.fresh_wins().is_empty());
+    has_fresh_lists(rt, &workers[0], &[(Row(0), Col(0))], &[]);
+    has_fresh_lists(rt, &workers[1], &[], &[]);
+    Ok(())
 }
 
 // A level of two workers at this gate. The columns 1 and 2 are matched with the rows 0 and 1 now, no
@@ -108,20 +104,24 @@ fn row_is_claimed_at<R: Abort + AllocGlobal + Threads + Sync, G: Gate>(
 ) -> Result<(), OutOfMemory> {
     let pattern = pattern_of_three(rt)?;
     let forest = forest_after_a_graft(rt, &pattern)?;
-    let workers = level(rt, &forest, gate)?;
-    has_claimed(rt, &workers[0], &[(Row(0), Col(0))]);
-    has_claimed(rt, &workers[1], &[]);
+    level(rt, &forest, gate)
+}
+
+// The two workers meet.
+fn row_is_claimed_at_a_meeting<R: Abort + AllocGlobal + Threads + Sync>(
+    rt: &R,
+) -> Result<(), OutOfMemory> {
+    let gate = MeetGate::new(rt.alloc())?;
+    row_is_claimed_at(rt, &gate)?;
+    both_have_met(rt, &gate);
     Ok(())
 }
 
 #[test]
-fn a_column_claims_the_row_that_is_free_again(rt: HostRuntime) -> Result<(), Fail> {
-    let meeting = MeetGate::new(rt.alloc())?;
-    row_is_claimed_at(&rt, &meeting)?;
-    assert_eq!(rt; (meeting.arrivals(0), meeting.arrivals(1)), (1, 1));
-    assert!(rt; !meeting.ran_out());
-    let barrier = BarrierGate::new(rt.alloc(), 2)?;
-    row_is_claimed_at(&rt, &barrier)?;
-    assert!(rt; barrier.have_arrived(2, 1) && !barrier.ran_out());
+fn a_column_claims_the_row_that_is_free_again(rt: HostRuntime) -> Result<(), OutOfMemory> {
+    row_is_claimed_at_a_meeting(&rt)?;
+    let gate = BarrierGate::new(rt.alloc(), 2)?;
+    row_is_claimed_at(&rt, &gate)?;
+    have_come_once(&rt, &gate, 2);
     Ok(())
 }

@@ -19,6 +19,8 @@ mod levels_down;
 #[cfg(test)]
 mod levels_up;
 #[cfg(test)]
+mod outcomes;
+#[cfg(test)]
 mod shares;
 #[cfg(test)]
 mod small;

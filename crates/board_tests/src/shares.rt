@@ -1,5 +1,6 @@
 //! Workers that do their work at once, and their shares of a list.
 
+use crate::outcomes::have_come_once;
 use level_sharing::{Work, processors, share, share_work, work_at_once};
 use sp_ports::MeetGate;
 use std::convert::Infallible;
@@ -47,7 +48,7 @@ fn three_workers_work_at_once(rt: HostRuntime) -> Result<(), Fail> {
     let mut sums = [10, 20, 30];
     let Ok(()) = work_at_once(&rt, &gate, &AddNumber, &mut sums);
     assert_eq!(rt; sums, [10, 21, 32]);
-    assert!(rt; gate.have_arrived(3, 1) && !gate.ran_out());
+    have_come_once(&rt, &gate, 3);
     Ok(())
 }
 
@@ -98,7 +99,7 @@ fn a_gate_can_ask_for_threads(rt: HostRuntime) -> Result<(), Fail> {
     let mut sums = [10, 20];
     let Ok(()) = share_work(&rt, &gate, &AddNumber, 0, &mut sums);
     assert_eq!(rt; sums, [10, 21]);
-    assert!(rt; gate.have_arrived(2, 1) && !gate.ran_out());
+    have_come_once(&rt, &gate, 2);
     Ok(())
 }
 

@@ -1,6 +1,6 @@
 //! Two small matrices, a matching of one pair, and its mates once a path is exchanged.
 
-ghost use Rattle.std.specs.Prelude.{◌≡◌, length, IfOk};
+ghost use Rattle.std.specs.Prelude.{◌≡◌, ◌<◌, length, IfOk};
 ghost use Rattle.bip_defs.specs.Matrix.{cols};
 ghost use Rattle.bip_graph.specs.Matching.{IsMatchingOf};
 
@@ -58,14 +58,28 @@ pub(crate) fn one_pair<'p, R: Abort + AllocGlobal>(
     Ok(forest.into_matching())
 }
 
+// The mate of the row is this column, or it has none.
+fn row_has_mate<R: Abort>(rt: &R, mates: &Mates, row: Row, mate: Option<Col>)
+    requires { row < length mates.now.rows }
+{
+    assert_eq!(rt; mates.col_of(row), mate);
+}
+
+// The mate of the column is this row, or it has none.
+fn col_has_mate<R: Abort>(rt: &R, mates: &Mates, col: Col, mate: Option<Row>)
+    requires { col < length mates.now.cols }
+{
+    assert_eq!(rt; mates.row_of(col), mate);
+}
+
 /// Row 0 is matched with column 1 and row 1 with column 2, and nothing else.
 pub(crate) fn has_the_path<R: Abort>(rt: &R, mates: &Mates)
     requires { (length mates.now.rows ≡ 3) × (length mates.now.cols ≡ 3) }
 {
-    assert_eq!(rt; mates.col_of(Row(0)), Some(Col(1)));
-    assert_eq!(rt; mates.col_of(Row(1)), Some(Col(2)));
-    assert_eq!(rt; mates.col_of(Row(2)), None);
-    assert_eq!(rt; mates.row_of(Col(0)), None);
-    assert_eq!(rt; mates.row_of(Col(1)), Some(Row(0)));
-    assert_eq!(rt; mates.row_of(Col(2)), Some(Row(1)));
+    row_has_mate(rt, mates, Row(0), Some(Col(1)));
+    row_has_mate(rt, mates, Row(1), Some(Col(2)));
+    row_has_mate(rt, mates, Row(2), None);
+    col_has_mate(rt, mates, Col(0), None);
+    col_has_mate(rt, mates, Col(1), Some(Row(0)));
+    col_has_mate(rt, mates, Col(2), Some(Row(1)));
 }

@@ -4,5 +4,5 @@ use Rattle.board_tests.proofs.claim_boards.close_for_two.Goals as goal
 
 pub close-requires : goal.close-requires
 close-requires c =
-    let items : c.push-2.new.self.items ≡ c.args.one ∷ c.args.zero ∷ [] = search rules in
+    let items : c.in_ok-seats.seats.items ≡ c.args.one ∷ c.args.zero ∷ [] = search rules in
     rw items (swapped c.args.board c.args.zero c.args.one (c.seats_in_order_are_all.ensures c.args.board _ c.requires))
