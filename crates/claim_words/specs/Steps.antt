@@ -8,6 +8,7 @@ use Rattle.claim_words.specs.Board.{Words}
 use Rattle.claim_words.specs.Listed.{Listed, claimed, followed_by, looked, nothing, root_word, row_word, won}
 use Rattle.claim_words.specs.Rule.{Known}
 use Rattle.claim_words.specs.Settles.{Settles}
+use Rattle.claim_words.specs.WordCodes.{greatest_word}
 pub use Rattle.board_seats.specs.View.{counting_more, knowing}
 
 -- the seat knew of a value of the row's word, or of the root's
@@ -24,7 +25,7 @@ KnewRoot k root leaf = (held k.opened.roots root ≡ Some leaf)
 -- and the seat has these lists now
 pub record Tells {S : Type 0} (k : Known) (Knew : ℕ → Type 0) (now : Listed) (found : ℕ)
     (before after : Me S (Option Known)) : Type 0 where
-  pub fits : found ≤ 4294967296
+  pub fits : found ≤ greatest_word
   pub same : (x : ℕ) → Knew x → value_of found ≡ Some x
   pub after_is : after ≡ (knowing k now, before.1)
 

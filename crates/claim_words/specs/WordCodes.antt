@@ -14,9 +14,13 @@ code_by number (Some x) = 1 + number x
 abbrev pub words_for : List (Option ℕ) → List (Option ℕ) → List ℕ
 words_for rows roots = (0 ∷ map (code_by (λ (x : ℕ). x)) rows) ++ map (code_by (λ (x : ℕ). x)) roots
 
+-- the word that holds the greatest number of 32 bits
+abbrev pub greatest_word : ℕ
+greatest_word = 4294967296
+
 -- each word is empty or holds a number of 32 bits
 abbrev pub AllFit : List ℕ → Type 0
-AllFit words = (i : ℕ) → slice_index words i ≤ 4294967296
+AllFit words = (i : ℕ) → slice_index words i ≤ greatest_word
 
 abbrev pub rows_in : ℕ → List ℕ → List (Option ℕ)
 rows_in = firsts_in

@@ -5,7 +5,7 @@ ghost use Rattle.bip_defs.specs.Occurrences.{times};
 ghost use Rattle.bip_defs.specs.WordValues.{value_of};
 ghost use Rattle.claim_words.specs.Answers.{col_before, leaf_before};
 ghost use Rattle.claim_words.specs.Board.{Words};
-ghost use Rattle.claim_words.specs.WordCodes.{AllFit, code_by, words_for};
+ghost use Rattle.claim_words.specs.WordCodes.{AllFit, code_by, greatest_word, words_for};
 ghost use Rattle.claim_words.specs.Listed.{followed_by, nothing, root_word, row_word};
 ghost use Rattle.claim_words.specs.Seat.{KnowsRoot, KnowsRow, after_claim, after_look, after_win, first_seat, new_seat, new_seats};
 ghost use Rattle.claim_words.specs.Settles.{Settles};
@@ -47,7 +47,7 @@ impl Model for ClaimBoard {
 
 // What a word holds.
 pub(crate) fn value(word: u64) -> Option<u32>
-    requires { word ≤ 4294967296 }
+    requires { word ≤ greatest_word }
     ensures { result ≡ value_of word }
 {
     if word == 0 {
@@ -90,7 +90,7 @@ pub(crate) fn identified<I: Id>(number: Option<u32>) -> Option<I>
 // The word that holds a value, or is empty.
 fn code<I: Id>(value: Option<I>) -> u64
     ensures code { result ≡ code_by I.number value }
-    ensures fits { result ≤ 4294967296 }
+    ensures fits { result ≤ greatest_word }
 {
     match value {
         None => 0,

@@ -44,3 +44,7 @@ max_batch_files = 65536
 -- the most bytes of a file of a batch
 abbrev pub max_batch_file_bytes : ℕ
 max_batch_file_bytes = 1073741824
+
+-- the most entries that a list of them holds, and a matrix to which edits add entries
+abbrev pub max_entries : ℕ
+max_entries = 4294967295

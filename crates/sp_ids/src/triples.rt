@@ -1,6 +1,7 @@
 //! The entries of a matrix file.
 
 ghost use Rattle.std.specs.Prelude.{◌≡◌, ◌≢◌, ◌<◌, ◌↔◌, IsTrue, pos, [], length, slice_index_or, IfOk, OnErr, OnOk};
+ghost use Rattle.sp_ids.specs.Limits.{max_entries};
 ghost use Rattle.std.specs.List.{AllByRecursion};
 ghost use Rattle.sp_ids.specs.Entries.{IsInside, with_entry, places, values};
 ghost use Rattle.sp_ids.specs.declared.triples.Field.TheVariants.{Integer};
@@ -65,7 +66,7 @@ impl Triples {
     pub fn push(&mut self, row: Row, col: Col, value: i64) -> Result<(), OutOfMemory>
         requires row { row < self.old.rows }
         requires col { col < self.old.cols }
-        requires few { length self.old.items < 4294967295 }
+        requires few { length self.old.items < max_entries }
         requires value { self.old.field ≢ Integer → value ≡ pos 0 }
         ensures ok { OnOk result
             (self.new ≡ with_entry self.old (record { row = row; col = col; value = value })) }
