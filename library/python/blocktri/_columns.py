@@ -94,12 +94,39 @@ def _turned(rows: Columns, values: numpy.typing.NDArray[Any]) -> tuple[Columns, 
     return Columns(rows.count, turned.indptr, turned.indices, False), turned.data
 
 
+@dataclass(frozen=True)
+class _Compressed:
+    """Compressed columns as SciPy names their parts. Rows stand in any order, and a place may stand several times."""
+
+    shape: tuple[int, ...]
+    indptr: numpy.typing.NDArray[numpy.integer[Any]]
+    indices: numpy.typing.NDArray[numpy.integer[Any]]
+    data: numpy.typing.NDArray[Any]
+    format: str = "csc"
+
+
 def _with_arrays(matrix: Any) -> Any:
-    """The matrix itself where it is in CSC or CSR, else what SciPy makes of it."""
+    """The matrix itself where it is in CSC or CSR, else its compressed columns."""
     if getattr(matrix, "format", None) in ("csc", "csr"):
         return matrix
     sparse = _sparse("csc, csr")
-    return matrix.tocsc() if sparse.issparse(matrix) else sparse.csc_matrix(matrix)
+    if not sparse.issparse(matrix):
+        return sparse.csc_matrix(matrix)
+    if len(matrix.shape) != 2:
+        raise ValueError(f"a matrix has two dimensions, not the shape {matrix.shape}")
+    return _columns_of_places(matrix.tocoo(copy=False))
+
+
+def _columns_of_places(places: Any) -> _Compressed:
+    """The columns of a matrix in COO.
+
+    SciPy's own conversion adds up what stands at one place in the type of the values, where the sum may not fit. Here each value
+    stays, and the library adds them up.
+    """
+    order = numpy.argsort(places.col, kind="stable")
+    counts = numpy.bincount(places.col, minlength=places.shape[1])
+    starts = numpy.concatenate((numpy.zeros(1, numpy.int64), numpy.cumsum(counts)))
+    return _Compressed(places.shape, starts, places.row[order], places.data[order])
 
 
 def _sparse(formats: str) -> Any:

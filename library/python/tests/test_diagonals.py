@@ -154,3 +154,48 @@ def test_malformed_arrays(call):
         matrix.indptr[1] = -1
         with pytest.raises(ValueError, match=r"indptr\[1:3\] is \[-1, 2\]"):
             call(matrix)
+
+
+def one_place(values, form, kind):
+    """A matrix of one row and column in a format, whose one place is given once for each of the values."""
+    none = numpy.zeros(len(values), numpy.int32)
+    data = numpy.array(values, kind)
+    if form == "coo":
+        return sparse.coo_matrix((data, (none, none)), shape=(1, 1))
+    if form == "bsr":
+        return sparse.bsr_matrix((data.reshape(-1, 1, 1), none, [0, len(values)]), shape=(1, 1))
+    kept_by = sparse.csr_matrix if form == "csr" else sparse.csc_matrix
+    return kept_by((data, none, [0, len(values)]), shape=(1, 1))
+
+
+# the other formats of SciPy keep a place once
+SEVERAL_TIMES = ("csc", "csr", "coo", "bsr")
+
+
+@pytest.mark.parametrize("form", SEVERAL_TIMES)
+@pytest.mark.parametrize("call", CALLS)
+@pytest.mark.parametrize("kind, values, magnitude", [
+    ("i1", [100, 100], 200), ("i1", [127, 127], 254), ("i1", [-128, -128], 256), ("i1", [-128, 127], 1),
+    ("u1", [200, 100], 300), ("u1", [255, 255], 510), ("bool", [True, True], 2),
+    ("i2", [2**15 - 1] * 2, 2**16 - 2), ("i2", [-(2**15)] * 2, 2**16), ("u2", [2**16 - 1] * 2, 2**17 - 2),
+    ("i4", [2**31 - 1] * 2, 2**32 - 2), ("i4", [-(2**31)] * 2, 2**32), ("u4", [2**32 - 1] * 2, 2**33 - 2),
+    ("i8", [2**62, 2**62 - 1], 2**63 - 1), ("i8", [-(2**62), -(2**62) + 1], 2**63 - 1),
+    ("i8", [2**63 - 1, 2**63 - 1, -(2**63) + 1], 2**63 - 1), ("u8", [2**62, 2**62 - 1], 2**63 - 1),
+    ("f4", [2.0**24, 1.0], 2**24 + 1), ("f8", [2.0**53, 1.0], 2**53 + 1),
+])
+def test_sums_in_any_type(call, form, kind, values, magnitude):
+    matrix = one_place(values, form, kind)
+    answer = call(matrix)
+    assert answer[-1 if call is blocktri.heaviest_diagonal else 1] == magnitude
+    assert matrix.nnz == len(values)  # what was handed in stays
+
+
+@pytest.mark.parametrize("form", SEVERAL_TIMES)
+@pytest.mark.parametrize("call", CALLS)
+@pytest.mark.parametrize("kind, values", [
+    ("i8", [2**62] * 3), ("i8", [2**63 - 1, 1]), ("i8", [-(2**63) + 1, -1]), ("u8", [2**62] * 3), ("u8", [2**63 - 1, 1]),
+    ("f8", [2.0**62] * 2),
+])
+def test_sums_past_the_limit(call, form, kind, values):
+    with pytest.raises(ValueError, match="sum"):
+        call(one_place(values, form, kind))
