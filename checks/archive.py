@@ -4,9 +4,9 @@
     checks/archive.py
 
 `rt ci` proves `blocktri_c`, and builds no archive of it. The libraries below it stay in their out/ folders as it built them:
-statements without kept work, of which `rt lib` takes none, so that it proves the 17 crates once more. This runs the
-toolchain's own build over them as they stand, which proves `blocktri_c` again, by itself, and builds nothing that is not
-proved. Where a library there is another's (a stamp tells that `rt check` or `rt lib` left it), `rt lib` does all.
+statements without kept work, of which `rt lib` takes none, so that it would prove each of those crates once more. This
+runs the toolchain's own build over them as they stand, which proves `blocktri_c` again, by itself, and builds nothing
+that is not proved. Where a library there is another's (a stamp tells that `rt check` or `rt lib` left it), `rt lib` does all.
 """
 import os
 import subprocess
