@@ -24,10 +24,9 @@ seen bytes faults old new = record {
 abbrev pub IsSteady : Device → Type 0
 IsSteady d = d.failed_after ≡ d.failed_before
 
--- Its count of failures has not fallen, and is one more at most.
-pub record FailsOnceAtMost (d : Device) : Type 0 where
-  pub later : d.failed_before ≤ d.failed_after
-  pub once : d.failed_after ≤ d.failed_before + 1
+-- its count of failures has not fallen
+abbrev pub CountHasNotFallen : Device → Type 0
+CountHasNotFallen d = d.failed_before ≤ d.failed_after
 
 -- the count has grown, or stands where it can grow no more: at the last value of a u64
 abbrev pub Rose : ℕ → ℕ → Type 0
@@ -49,7 +48,7 @@ HasWriteFault d = Rose d.failed_before d.failed_after
 -- At Ok no call of it has failed, and an Err has its cause.
 pub record FailsOnly {T E : Type 0} (d : Device) (cause : Type 0)
     (result : Result T E) : Type 0 where
-  pub counts : FailsOnceAtMost d
+  pub counts : CountHasNotFallen d
   pub steady : OnOk result (IsSteady d)
   pub failed : OnErr result cause
 
@@ -75,7 +74,7 @@ pub record Took (d : Device) (text : List ℕ) : Type 0 where
 -- it failed, and took a prefix of the text
 pub record TookPrefix (d : Device) (text : List ℕ) : Type 0 where
   pub bytes : TakesPrefix d.before d.after text
-  pub counts : FailsOnceAtMost d
+  pub counts : CountHasNotFallen d
   pub fault : HasWriteFault d
 
 -- the text was written: all of it at Ok, and at Err as much of it as the device took before it failed
