@@ -1,7 +1,7 @@
 //! Reports that are read, and bytes that are none.
 
-use bip_graph::{Blocks, Components, Parts};
-use btf_text::{Report, read_report};
+use bip_graph::{Blocks, Parts};
+use btf_text::{ListedComponents, Report, read_report};
 use sp_ids::{Col, Row};
 use std::process::Abort;
 use std::test::Fail;
@@ -44,7 +44,7 @@ fn a_report_with_orders(rt: HostRuntime) -> Result<(), Fail> {
 }
 
 /// The one column is a component by itself, and so is the last of the most rows.
-fn has_the_components<R: Abort>(rt: &R, components: &Components) {
+fn has_the_components<R: Abort>(rt: &R, components: &ListedComponents) {
     assert_eq!(rt; components.horizontal.len(), 1);
     assert_eq!(rt; components.horizontal.all_cols(), [Col(0)].as_slice());
     assert_eq!(rt; components.vertical.len(), 1);
