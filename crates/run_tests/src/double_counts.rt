@@ -89,7 +89,11 @@ fn expect_twice<R: Threads + Abort + AllocGlobal + Sync>(
     let words = ["analyse", "--report", "1"];
     let status = run_over(rt, &words, &mut input, &mut out, &mut err, &NoGate)?;
     let told = (status, out.device.bytes(), err.device.bytes());
-    let texts = (wanted.status, wanted.text.as_bytes(), wanted.line.as_bytes());
+    let texts = (
+        wanted.status,
+        wanted.text.as_bytes(),
+        wanted.line.as_bytes(),
+    );
     assert_eq!(rt; told, texts);
     let counts = [
         input.device.failed_calls().saturating_add(input.again),
