@@ -5,7 +5,7 @@ use Rattle.bip_defs.specs.Matrix.{Place}
 use Rattle.bip_defs.specs.Paths.{IsAugmenting}
 use Rattle.bip_graph.specs.Matching.{Pairing}
 use Rattle.matching_tests.proofs.MatchingTypes.{augments_by, first_pair, path_pairs}
-use Rattle.matching_tests.proofs.matching_types.exchanges_paths.Goals as goal
+use Rattle.matching_tests.proofs.matching_types.two_paths_exchange.Goals as goal
 
 differ : (x y : ℕ) → (x ≡ y → ⊥) → ¬ ((x ≡ y) ⊎ ⊥)
 differ x y ne h = ⊎_elim ne (λ k. k) h
