@@ -16,9 +16,8 @@
 //! There is at least one such phase, and another one as long as the last one has matched at least
 //! half of what was left. They find many paths fast, but a path may go through thousands of columns
 //! where one of twenty is there, and where few columns are left, a phase still goes over most of
-//! the matrix. So after a phase that matched less than half, and where fewer than one column in a
-//! hundred is left, another search completes the matching: that of `breadth_first_match`, whose
-//! trees grow from all unmatched columns at once.
+//! the matrix. So after a phase that matched less than half another search completes the matching:
+//! that of `breadth_first_match`, whose trees grow from all unmatched columns at once.
 #![tactic(auto)]
 
 mod longer;
@@ -112,13 +111,12 @@ pub fn complete_with_marks(
 /// matching was maximum: then it is as long.
 ///
 /// It makes depth-first phases, at least one, from the side that `complete` searches from, and
-/// another after each that has matched at least half of what was unmatched and has entries, unless
-/// that leaves some, but fewer than one column in a hundred. So it need not end at a maximum
-/// matching: it takes what is found fast. The matching must be of the pattern's entries and sizes.
-/// Answers `OutOfMemory` where there is no memory for 4 bytes a vertex of the side that is searched
-/// from, 4 more where it is unmatched and has entries, and 17 a vertex of the other side; the
-/// matching is dropped then. Work: one look at each row and column, and at most two passes over the
-/// entries for each phase.
+/// another after each that has matched at least half of what was unmatched and has entries. So it
+/// need not end at a maximum matching: it takes what is found fast. The matching must be of the
+/// pattern's entries and sizes. Answers `OutOfMemory` where there is no memory for 4 bytes a vertex
+/// of the side that is searched from, 4 more where it is unmatched and has entries, and 17 a vertex
+/// of the other side; the matching is dropped then. Work: one look at each row and column, and at
+/// most two passes over the entries for each phase.
 pub fn lengthen(
     alloc: Global,
     pattern: &Pattern,

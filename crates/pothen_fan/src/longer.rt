@@ -15,9 +15,6 @@ use sp_ids::{Col, OutOfMemory};
 use sp_pattern::Side;
 use std::alloc::Global;
 
-// Where fewer than one column in so many is left, no further phase is depth-first.
-const COLUMNS_A_ROOT: u32 = 100;
-
 /// A maximum matching, by phases from one side, in which every row and column that was matched
 /// before is matched, and what the last phase has marked.
 pub fn complete_from_with_marks<F: Opposite, S: Side<F>>(
@@ -38,8 +35,8 @@ pub fn complete_from_with_marks<F: Opposite, S: Side<F>>(
 }
 
 /// Depth-first phases from one side, at least one, and another while each matches at least half of
-/// the roots that were unmatched before it, and not too few are left. What the last one has marked,
-/// where it has found no path.
+/// the roots that were unmatched before it. What the last one has marked, where it has found no
+/// path.
 pub fn lengthen_from<F: Opposite, S: Side<F>>(
     alloc: Global,
     side: &S,
@@ -59,7 +56,6 @@ pub fn lengthen_from<F: Opposite, S: Side<F>>(
 {
     let mut search = Search::new(alloc, side.rows(), side.cols())?;
     let roots = roots(alloc, side, &matching)?;
-    let few = (side.cols() / COLUMNS_A_ROOT) as usize;
     let mut left = roots.len();
     let mut longer = matching;
     let mut reversed = false;
@@ -69,7 +65,7 @@ pub fn lengthen_from<F: Opposite, S: Side<F>>(
             return Ok((longer, Some(search.into_marks())));
         }
         left = left.saturating_sub(growth as usize);
-        if !pays(growth as usize, left, few) {
+        if !pays(growth as usize, left) {
             return Ok((longer, None));
         }
         reversed = !reversed;
@@ -106,7 +102,7 @@ fn grow<F: Opposite, S: Side<F>>(
 }
 
 // Whether another phase is worth while after one that has left so many unmatched: where it matched
-// at least half, and they are not few, or none, which the next phase shows at once.
-fn pays(growth: usize, left: usize, few: usize) -> bool {
-    growth >= left && (left >= few || left == 0)
+// at least half.
+fn pays(growth: usize, left: usize) -> bool {
+    growth >= left
 }
