@@ -11,21 +11,25 @@ pub trait Gate: Sync {
     /// exchange of paths and in each batch that the workers share.
     fn arrive(&self, worker: u32);
 
-    /// Whether workers are to have threads of their own however little there is to do. It changes
-    /// no answer. Unless a gate says otherwise they need not: what costs less than the start of a
-    /// thread is then done by one worker after the other. A gate at which workers wait for each
-    /// other says that they do.
+    /// Whether each worker needs a thread of its own, however little work there is. It changes no
+    /// answer. It is true unless a gate says otherwise: a worker that waits for another one must
+    /// not keep it from starting. Where it is false, a piece of work that costs less than the start
+    /// of a thread is done by one worker after the other.
     fn needs_threads(&self) -> bool {
-        false
+        true
     }
 }
 
-/// Returns at once.
+/// The gate at which nobody waits: `arrive` returns at once, and no worker needs a thread.
 #[derive(Clone, Copy, Debug)]
 pub struct NoGate;
 
 impl Gate for NoGate {
     fn arrive(&self, _worker: u32) {}
+
+    fn needs_threads(&self) -> bool {
+        false
+    }
 }
 
 // How often worker 0 looks in one arrival whether worker 1 has come, unless told otherwise.
@@ -98,9 +102,5 @@ impl Gate for MeetGate {
         if worker == 0 {
             self.meet(before.saturating_add(1));
         }
-    }
-
-    fn needs_threads(&self) -> bool {
-        true
     }
 }
