@@ -1,11 +1,10 @@
-use Rattle.std.proofs.Common.{◌∙◌, ap, subst, sym, true≢false, refl}
+use Rattle.std.proofs.Common.{◌∙◌, ap, subst, sym, true≢false}
 use Rattle.bip_defs.specs.Forest.{IsRested, State, new_forest}
 use Rattle.bip_defs.specs.Matching.{IsMatching}
 use Rattle.bip_defs.specs.Matrix.{Matrix, cols}
 use Rattle.bip_defs.proofs.Covers.{covers_more}
 use Rattle.forest_core.specs.Events.{LeadsTo}
 use Rattle.tree_graft.proofs.PhaseLemmas.{last_phase, lead_matching, left_maximum, phases_fall, known_none, known_some}
-use Rattle.tree_graft.proofs.SearchLemmas.{nothing_to_claim}
 use Rattle.tree_graft.proofs.maximum.complete_by_phases.Goals as goal
 
 pub returns-then-not-can_grow-clause-maximum : goal.returns-then-not-can_grow-clause-maximum
