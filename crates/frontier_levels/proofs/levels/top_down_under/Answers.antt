@@ -3,7 +3,7 @@ use Rattle.std.proofs.lemmas.Result.{on_ok_weaker}
 use Rattle.frontier_levels.proofs.LevelLemmas.{all_may_begin}
 use Rattle.level_sharing.specs.Level.{level_of}
 use Rattle.level_sharing.specs.Shares.{KeepToShares, shares_by_columns}
-use Rattle.frontier_levels.proofs.levels.top_down.Goals as goal
+use Rattle.frontier_levels.proofs.levels.top_down_under.Goals as goal
 
 pub share_work-result-requires-clause-begin : goal.share_work-result-requires-clause-begin
 share_work-result-requires-clause-begin g c κs within =

@@ -6,7 +6,7 @@ use Rattle.bip_defs.specs.Matrix.{IsEntry, Matrix, Place}
 use Rattle.bip_graph.specs.Matching.{Pairing}
 use Rattle.tree_graft.proofs.PhaseLemmas.{grown_from, if_ok_both, lead_matching, was_maximum, was_not_maximum}
 use Rattle.tree_graft.proofs.SearchLemmas.{closed, none_listed, nothing_to_claim}
-use Rattle.tree_graft.proofs.phase.Goals as goal
+use Rattle.tree_graft.proofs.phase_under.Goals as goal
 
 pub returns-then-not-can_grow-clause-maximum : goal.returns-then-not-can_grow-clause-maximum
 returns-then-not-can_grow-clause-maximum g c =

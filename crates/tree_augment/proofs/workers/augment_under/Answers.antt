@@ -1,6 +1,6 @@
 use Rattle.std.proofs.Common.{arith}
 use Rattle.tree_augment.proofs.WorkerLemmas.{augmented, ready}
-use Rattle.tree_augment.proofs.workers.augment.Goals as goal
+use Rattle.tree_augment.proofs.workers.augment_under.Goals as goal
 
 pub share_work-requires-clause-begin : goal.share_work-requires-clause-begin
 share_work-requires-clause-begin g c κs within = ready c.args.seats.now c.requires.board c.requires.all c.requires.none_taken

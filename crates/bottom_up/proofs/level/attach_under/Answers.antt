@@ -3,7 +3,7 @@ use Rattle.std.proofs.lemmas.Result.{on_ok_weaker}
 use Rattle.level_sharing.specs.Level.{level_of}
 use Rattle.level_sharing.specs.Shares.{shares_of_rows}
 use Rattle.bottom_up.proofs.LevelLemmas.{keep_to_rows}
-use Rattle.bottom_up.proofs.level.attach.Goals as goal
+use Rattle.bottom_up.proofs.level.attach_under.Goals as goal
 
 pub share_work-result-requires-clause-begin : goal.share_work-result-requires-clause-begin
 share_work-result-requires-clause-begin g c κs within = c.workers_are_at_the_start.ensures c.args.forest.now c.args.board.now c.args.workers.now _ _ c.requires.agree

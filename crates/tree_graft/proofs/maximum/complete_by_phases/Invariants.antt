@@ -3,7 +3,7 @@ use Rattle.bip_defs.specs.Matching.{IsMaximum}
 use Rattle.bip_defs.specs.Matrix.{cols}
 use Rattle.forest_core.specs.Events.{LeadsTo}
 use Rattle.bip_defs.specs.Forest.{IsRested, new_forest}
-use Rattle.tree_graft.proofs.complete_by_phases.Given as goal
+use Rattle.tree_graft.proofs.maximum.complete_by_phases.Given as goal
 
 abbrev pub invariant-loop-grows : goal.invariant-loop-grows
 invariant-loop-grows g l = record {

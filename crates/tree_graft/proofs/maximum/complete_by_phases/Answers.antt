@@ -1,22 +1,14 @@
-use Rattle.std.proofs.Common.{◌∙◌, ap, subst, sym, true≢false, refl}
+use Rattle.std.proofs.Common.{◌∙◌, ap, subst, sym, true≢false}
 use Rattle.bip_defs.specs.Forest.{IsRested, State, new_forest}
 use Rattle.bip_defs.specs.Matching.{IsMatching}
 use Rattle.bip_defs.specs.Matrix.{Matrix, cols}
 use Rattle.bip_defs.proofs.Covers.{covers_more}
 use Rattle.forest_core.specs.Events.{LeadsTo}
 use Rattle.tree_graft.proofs.PhaseLemmas.{last_phase, lead_matching, left_maximum, phases_fall, known_none, known_some}
-use Rattle.tree_graft.proofs.SearchLemmas.{nothing_to_claim}
-use Rattle.tree_graft.proofs.complete_by_phases.Goals as goal
+use Rattle.tree_graft.proofs.maximum.complete_by_phases.Goals as goal
 
 pub returns-then-not-can_grow-clause-maximum : goal.returns-then-not-can_grow-clause-maximum
-returns-then-not-can_grow-clause-maximum g c =
-    let first = new_forest c.args.pattern.now c.args.matching.pairs in
-    let rested = c.forests_are_rested.ensures.new c.args.pattern.now c.args.matching.pairs in
-    let sound = c.events_keep_sound.ensures.new c.args.pattern.now c.args.matching.pairs c.requires.matching.matching in
-    record {
-      matching = c.requires.matching;
-      maximum = c.done_is_maximum.ensures.base first sound rested.settled (nothing_to_claim first rested refl (c.can_grow.ensures c.if-not-can_grow.true)) refl;
-    }
+returns-then-not-can_grow-clause-maximum g c = c.full_matchings_are_maximum.ensures c.args.pattern.now c.args.matching c.requires.matching (c.can_grow.ensures c.if-not-can_grow.true)
 
 pub returns-then-not-can_grow-clause-covered : goal.returns-then-not-can_grow-clause-covered
 returns-then-not-can_grow-clause-covered g c = record { rows = λ r h. h; cols = λ x h. h }
@@ -35,8 +27,8 @@ loop-grows-smaller g c =
     let first = new_forest c.args.pattern.now c.args.matching.pairs in
     let k = c.loop-grows.invariant in
     let sound = c.events_keep_sound.ensures.runs first c.loop-grows.forest k.legal.0 (c.events_keep_sound.ensures.new c.args.pattern.now c.args.matching.pairs c.requires.matching.matching) k.legal.1 in
-    let matching = lead_matching c.events_keep_sound.ensures.runs c.runs_join.ensures.matrix c.loop-grows.forest c.phase.new.forest sound c.phase.ensures.legal in
-    rw c.loop-grows-test.true (phases_fall c.args.pattern.now c.loop-grows.forest c.phase.new.forest c.in_ok-grows.field-0 _ matching (c.runs_join.ensures.matrix first c.loop-grows.forest k.legal) c.in_ok-grows.ensures.growth (known_some c.in_ok-grows.field-0))
+    let matching = lead_matching c.events_keep_sound.ensures.runs c.runs_join.ensures.matrix c.loop-grows.forest c.phase_under.new.forest sound c.phase_under.ensures.legal in
+    rw c.loop-grows-test.true (phases_fall c.args.pattern.now c.loop-grows.forest c.phase_under.new.forest c.in_ok-grows.field-0 _ matching (c.runs_join.ensures.matrix first c.loop-grows.forest k.legal) c.in_ok-grows.ensures.growth (known_some c.in_ok-grows.field-0))
 
 pub loop-grows-preserved : goal.loop-grows-preserved
 loop-grows-preserved g c =
@@ -44,11 +36,11 @@ loop-grows-preserved g c =
     let k = c.loop-grows.invariant in
     let e = c.in_ok-grows.ensures in
     let sound = c.events_keep_sound.ensures.runs first c.loop-grows.forest k.legal.0 (c.events_keep_sound.ensures.new c.args.pattern.now c.args.matching.pairs c.requires.matching.matching) k.legal.1 in
-    let matching = lead_matching c.events_keep_sound.ensures.runs c.runs_join.ensures.matrix c.loop-grows.forest c.phase.new.forest sound c.phase.ensures.legal in
+    let matching = lead_matching c.events_keep_sound.ensures.runs c.runs_join.ensures.matrix c.loop-grows.forest c.phase_under.new.forest sound c.phase_under.ensures.legal in
     record {
       rested = e.rested;
-      legal = c.runs_join.ensures.on first c.loop-grows.forest c.phase.new.forest k.legal c.phase.ensures.legal;
-      last = λ none. last_phase c.args.pattern.now c.loop-grows.forest c.phase.new.forest c.in_ok-grows.field-0 matching (c.runs_join.ensures.matrix first c.loop-grows.forest k.legal) e.growth e.maximum (known_none c.in_ok-grows.field-0 none);
+      legal = c.runs_join.ensures.on first c.loop-grows.forest c.phase_under.new.forest k.legal c.phase_under.ensures.legal;
+      last = λ none. last_phase c.args.pattern.now c.loop-grows.forest c.phase_under.new.forest c.in_ok-grows.field-0 matching (c.runs_join.ensures.matrix first c.loop-grows.forest k.legal) e.growth e.maximum (known_none c.in_ok-grows.field-0 none);
     }
 
 pub returns-clause-maximum : goal.returns-clause-maximum
