@@ -1,7 +1,10 @@
 /* blocktri.h: the structure of a sparse matrix, from its compressed columns: structural rank, maximum matching,
  * Dulmage-Mendelsohn decomposition and block triangular form.
  *
- * Link with -lblocktri. C99 or C++11. Each call is proved to give the answer that stands here, on every input.
+ * Link with -lblocktri. C99 or C++11. For every input it is proved that what a call answers is right: at each status what stands
+ * here of it holds, and at BLOCKTRI_OK the answer is the one that stands here. No proof says when BLOCKTRI_OUT_OF_MEMORY comes, which
+ * may take the place of any answer. What is said below of threads, memory and blocktri_text is tested and not proved, and that the
+ * structural rank is the greatest that values can give is a theorem of the literature.
  *
  * THE MATRIX. Three arguments give it:
  *   rows    the number of rows;

@@ -1,35 +1,28 @@
 //! The connected components of the horizontal and of the vertical part, of matrices that were
 //! worked out by hand.
 
-use bip_graph::{Blocks, Components};
+ghost use Rattle.bip_graph.specs.Matching.{IsMaximumOf};
+
+use bip_graph::{Blocks, Matching};
 use dm_coarse::{coarse, components};
 use hall_witness::plain;
-use std::process::Abort;
+use sp_ids::OutOfMemory;
+use sp_pattern::Pattern;
 use std::test::Fail;
 use std::thread::Threads;
 use test_matrices::{are, pattern_of};
 
-/// The components of the matrix with entries at these places, from the matching of the plain
-/// engine.
-fn components_of<R: AllocGlobal + Threads + Sync>(
-    rt: &R,
-    rows: u32,
-    cols: u32,
-    places: &[(u32, u32)],
-) -> Result<Components, Fail> {
-    let pattern = pattern_of(rt, rows, cols, places)?;
-    let (matching, _columns) = plain(rt.alloc(), &pattern)?;
-    let parts = coarse(rt, rt.alloc(), &pattern, &matching)?;
-    Ok(components(rt.alloc(), &pattern, &parts)?)
-}
-
-/// Compares components with lists of rows and columns that count from 1.
-fn have_lists<R: Abort>(rt: &R, name: &str, found: &Blocks, wanted: &[(&[u32], &[u32])]) {
-    assert_eq!(rt; found.len(), wanted.len(), "{name}");
-    for (at, (rows, cols)) in wanted.iter().enumerate() {
-        assert!(rt; are(found.rows(at), rows), "{name}");
-        assert!(rt; are(found.cols(at), cols), "{name}");
+/// Whether components are these lists of rows and columns, which count from 1.
+fn are_lists(found: &Blocks, wanted: &[(&[u32], &[u32])]) -> bool {
+    if found.len() != wanted.len() {
+        return false;
     }
+    for at in 0..wanted.len() {
+        if !are(found.rows(at), wanted[at].0) || !are(found.cols(at), wanted[at].1) {
+            return false;
+        }
+    }
+    true
 }
 
 /// Rows and columns of components, which count from 1.
@@ -91,17 +84,34 @@ static EXAMPLES: [Example; 6] = [
     },
 ];
 
-/// Compares the components of both parts with those of an example.
-fn have_components<R: Abort>(rt: &R, example: &Example, found: &Components) {
-    have_lists(rt, example.name, &found.horizontal, example.horizontal);
-    have_lists(rt, example.name, &found.vertical, example.vertical);
+/// Whether the components of both parts, from a maximum matching, are those of an example.
+fn has_components<R: AllocGlobal + Threads + Sync>(
+    rt: &R,
+    example: &Example,
+    pattern: &Pattern,
+    matching: &Matching,
+) -> Result<bool, OutOfMemory>
+    requires { IsMaximumOf pattern.now matching.now }
+{
+    let parts = coarse(rt, rt.alloc(), pattern, matching)?;
+    let found = components(rt.alloc(), pattern, &parts)?;
+    Ok(
+        are_lists(&found.horizontal, example.horizontal)
+            && are_lists(&found.vertical, example.vertical),
+    )
+}
+
+/// The same, from the matching of the plain engine.
+fn is_right<R: AllocGlobal + Threads + Sync>(rt: &R, example: &Example) -> Result<bool, Fail> {
+    let pattern = pattern_of(rt, example.rows, example.cols, example.places)?;
+    let (matching, _columns) = plain(rt.alloc(), &pattern)?;
+    Ok(has_components(rt, example, &pattern, &matching)?)
 }
 
 #[test]
 fn components_of_small_matrices(rt: HostRuntime) -> Result<(), Fail> {
     for example in &EXAMPLES {
-        let found = components_of(&rt, example.rows, example.cols, example.places)?;
-        have_components(&rt, example, &found);
+        assert!(rt; is_right(&rt, example)?, "{}", example.name);
     }
     Ok(())
 }

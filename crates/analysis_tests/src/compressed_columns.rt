@@ -1,14 +1,15 @@
 //! Each matrix of the table as compressed columns of both widths, in which the rows of a column stand
 //! in no order and each place is given twice; and lists that are no compressed columns.
 
-use crate::parts::{blocks_of, has_blocks, has_parts};
+ghost use Rattle.bip_graph.specs.Matching.{IsMaximumOf};
+
+use crate::parts::{has_fine_blocks, has_parts};
+use bip_graph::Matching;
 use dm_coarse::coarse_in_turn;
-use dm_fine::fine;
 use hall_witness::plain;
 use sp_ids::{Col, Row};
 use sp_pattern::{ColumnsError, Narrow, NumberList, Pattern, Wide, check_columns};
 use std::alloc::Global;
-use std::process::Abort;
 use std::test::Fail;
 use test_matrices::{Worked, worked_matrices};
 
@@ -41,14 +42,22 @@ fn push_rows(ids: &mut Vec<u32>, places: &[(u32, u32)], col: u32) -> Result<u32,
 
 /// The columns of a matrix.
 fn columns_of(alloc: Global, worked: &Worked<'_>) -> Result<Columns, Fail> {
-    let sizes = worked.pairs(alloc, "sizes")?;
-    let (rows, cols) = *sizes.get(0).ok_or("no sizes")?;
+    let (rows, cols) = sizes_of(alloc, worked)?;
     let places = worked.pairs(alloc, "places")?;
+    compressed(alloc, rows, cols, places.as_slice())
+}
+
+fn sizes_of(alloc: Global, worked: &Worked<'_>) -> Result<(u32, u32), Fail> {
+    let sizes = worked.pairs(alloc, "sizes")?;
+    Ok(*sizes.get(0).ok_or("no sizes")?)
+}
+
+fn compressed(alloc: Global, rows: u32, cols: u32, places: &[(u32, u32)]) -> Result<Columns, Fail> {
     let mut starts = vec![in alloc; 0]?;
     let mut ids = Vec::new(alloc);
     let mut count: u32 = 0;
     for col in 0..cols {
-        count = count.wrapping_add(push_rows(&mut ids, places.as_slice(), col)?);
+        count = count.wrapping_add(push_rows(&mut ids, places, col)?);
         starts.push(count)?;
     }
     Ok(Columns { rows, starts, ids })
@@ -63,154 +72,209 @@ fn widened(alloc: Global, numbers: &[u32]) -> Result<Vec<u64>, Fail> {
     Ok(wide)
 }
 
-/// The pattern has the places of the table, each once.
-fn has_places<R: Abort + AllocGlobal>(
-    rt: &R,
-    worked: &Worked<'_>,
-    pattern: &Pattern,
-) -> Result<(), Fail> {
-    let name = worked.name();
-    let places = worked.pairs(rt.alloc(), "places")?;
-    assert_eq!(rt; pattern.entries() as usize, places.len(), "{name}");
-    for (row, col) in &places {
-        let (row, col) = (Row(row.wrapping_sub(1)), Col(col.wrapping_sub(1)));
-        assert!(rt; pattern.has(row, col), "{name}");
+/// Whether the pattern has these places, each once. Rows and columns count from 1.
+fn has_places(pattern: &Pattern, places: &[(u32, u32)]) -> bool {
+    for (row, col) in places {
+        if !pattern.has(Row(row.wrapping_sub(1)), Col(col.wrapping_sub(1))) {
+            return false;
+        }
     }
-    Ok(())
+    pattern.entries() as usize == places.len()
 }
 
-/// The rank, the parts and the blocks.
-fn is_decomposed<R: Abort + AllocGlobal>(
-    rt: &R,
+/// Whether the parts and the blocks are those of the table.
+fn is_decomposed(
+    alloc: Global,
     worked: &Worked<'_>,
     pattern: &Pattern,
-) -> Result<(), Fail> {
-    let name = worked.name();
-    let (matching, _columns) = plain(rt.alloc(), pattern)?;
-    assert_eq!(rt; matching.size(), worked.rank(rt.alloc())?, "{name}");
-    let parts = coarse_in_turn(rt.alloc(), pattern, &matching)?;
-    has_parts(rt, worked, &parts)?;
-    let blocks = fine(rt.alloc(), pattern, &matching, &parts)?;
-    has_blocks(rt, name, &blocks, blocks_of(rt, worked)?.as_slice());
-    Ok(())
+    matching: &Matching,
+) -> Result<bool, Fail>
+    requires { IsMaximumOf pattern.now matching.now }
+{
+    let parts = coarse_in_turn(alloc, pattern, matching)?;
+    Ok(
+        has_parts(alloc, worked, &parts)?
+            && has_fine_blocks(alloc, worked, pattern, matching, &parts)?,
+    )
 }
 
-/// The pattern of the columns, and what is found of it.
-fn is_analysed<R: Abort + AllocGlobal, N: NumberList>(
-    rt: &R,
+/// Whether the places, the rank, the parts and the blocks of a pattern are those of the table.
+fn is_analysed(alloc: Global, worked: &Worked<'_>, pattern: &Pattern) -> Result<bool, Fail> {
+    let places = worked.pairs(alloc, "places")?;
+    let rank = worked.rank(alloc)?;
+    let (matching, _columns) = plain(alloc, pattern)?;
+    Ok(
+        has_places(pattern, places.as_slice())
+            && matching.size() == rank
+            && is_decomposed(alloc, worked, pattern, &matching)?,
+    )
+}
+
+/// Whether columns have a pattern of so many rows, with all that the table tells of it.
+fn are_right<N: NumberList>(
+    alloc: Global,
     worked: &Worked<'_>,
     rows: u32,
     starts: N,
     ids: N,
-) -> Result<(), Fail> {
-    let name = worked.name();
-    let pattern = Pattern::of_columns(rt.alloc(), rows as u64, starts, ids).or(Err("refused"))?;
-    assert_eq!(rt; pattern.rows(), rows, "{name}");
-    has_places(rt, worked, &pattern)?;
-    is_decomposed(rt, worked, &pattern)
-}
-
-#[test]
-fn columns_in_no_order(rt: HostRuntime) -> Result<(), Fail> {
-    for worked in &worked_matrices(rt.alloc())? {
-        let columns = columns_of(rt.alloc(), worked)?;
-        let (starts, ids) = (columns.starts.as_slice(), columns.ids.as_slice());
-        let narrow = (Narrow { list: starts }, Narrow { list: ids });
-        is_analysed(&rt, worked, columns.rows, narrow.0, narrow.1)?;
-        let wide_starts = widened(rt.alloc(), starts)?;
-        let wide_ids = widened(rt.alloc(), ids)?;
-        let starts = Wide {
-            list: wide_starts.as_slice(),
-        };
-        let ids = Wide {
-            list: wide_ids.as_slice(),
-        };
-        is_analysed(&rt, worked, columns.rows, starts, ids)?;
+) -> Result<bool, Fail> {
+    match Pattern::of_columns(alloc, rows as u64, starts, ids) {
+        Ok(pattern) => Ok(pattern.rows() == rows && is_analysed(alloc, worked, &pattern)?),
+        Err(_) => Ok(false),
     }
-    Ok(())
 }
 
-/// These lists are no compressed columns for this reason.
-fn are_refused<R: Abort + AllocGlobal, N: NumberList>(
-    rt: &R,
-    rows: u64,
-    starts: N,
-    ids: N,
-    error: ColumnsError,
-) {
-    assert_eq!(rt; check_columns(rows, starts, ids), Err(error));
-    let pattern = Pattern::of_columns(rt.alloc(), rows, starts, ids);
-    assert_eq!(rt; pattern.err(), Some(error));
+/// Whether columns of 32 bits are right.
+fn narrow_are_right(alloc: Global, worked: &Worked<'_>, columns: &Columns) -> Result<bool, Fail> {
+    let starts = Narrow {
+        list: columns.starts.as_slice(),
+    };
+    let ids = Narrow {
+        list: columns.ids.as_slice(),
+    };
+    are_right(alloc, worked, columns.rows, starts, ids)
 }
 
-fn both_are_refused<R: Abort + AllocGlobal>(
-    rt: &R,
-    rows: u64,
-    starts: &[u32],
-    ids: &[u32],
-    error: ColumnsError,
-) -> Result<(), Fail> {
-    are_refused(
-        rt,
-        rows,
-        Narrow { list: starts },
-        Narrow { list: ids },
-        error,
-    );
-    let wide_starts = widened(rt.alloc(), starts)?;
-    let wide_ids = widened(rt.alloc(), ids)?;
+/// Whether columns of 64 bits are.
+fn wide_are_right(alloc: Global, worked: &Worked<'_>, columns: &Columns) -> Result<bool, Fail> {
+    let wide_starts = widened(alloc, columns.starts.as_slice())?;
+    let wide_ids = widened(alloc, columns.ids.as_slice())?;
     let starts = Wide {
         list: wide_starts.as_slice(),
     };
     let ids = Wide {
         list: wide_ids.as_slice(),
     };
-    are_refused(rt, rows, starts, ids, error);
+    are_right(alloc, worked, columns.rows, starts, ids)
+}
+
+#[test]
+fn columns_in_no_order(rt: HostRuntime) -> Result<(), Fail> {
+    for worked in &worked_matrices(rt.alloc())? {
+        let columns = columns_of(rt.alloc(), worked)?;
+        assert!(rt;
+            narrow_are_right(rt.alloc(), worked, &columns)?,
+            "{}",
+            worked.name()
+        );
+        assert!(rt;
+            wide_are_right(rt.alloc(), worked, &columns)?,
+            "{}, 64 bits",
+            worked.name()
+        );
+    }
     Ok(())
 }
 
-// The number of rows is looked at before the starts.
+/// Whether these lists are no compressed columns for this reason.
+fn are_refused<N: NumberList>(
+    alloc: Global,
+    rows: u64,
+    starts: N,
+    ids: N,
+    error: ColumnsError,
+) -> bool {
+    let pattern = Pattern::of_columns(alloc, rows, starts, ids);
+    check_columns(rows, starts, ids) == Err(error) && pattern.err() == Some(error)
+}
+
+/// Lists that are no compressed columns, for a reason.
+#[derive(Clone, Copy)]
+struct Wrong {
+    rows: u64,
+    starts: &'static [u32],
+    ids: &'static [u32],
+    error: ColumnsError,
+}
+
+/// Whether they are refused as numbers of both widths.
+fn both_are_refused(alloc: Global, wrong: &Wrong) -> Result<bool, Fail> {
+    let wide_starts = widened(alloc, wrong.starts)?;
+    let wide_ids = widened(alloc, wrong.ids)?;
+    let starts = Wide {
+        list: wide_starts.as_slice(),
+    };
+    let ids = Wide {
+        list: wide_ids.as_slice(),
+    };
+    Ok(narrow_are_refused(alloc, wrong) && are_refused(alloc, wrong.rows, starts, ids, wrong.error))
+}
+
+fn narrow_are_refused(alloc: Global, wrong: &Wrong) -> bool {
+    let starts = Narrow { list: wrong.starts };
+    let ids = Narrow { list: wrong.ids };
+    are_refused(alloc, wrong.rows, starts, ids, wrong.error)
+}
+
+fn all_are_refused(alloc: Global, list: &[Wrong]) -> Result<bool, Fail> {
+    for wrong in list {
+        if !both_are_refused(alloc, wrong)? {
+            return Ok(false);
+        }
+    }
+    Ok(true)
+}
+
+/// The number of rows is looked at before the starts.
+#[rattlefmt::skip]
+static MANY_ROWS: [Wrong; 2] = [
+    Wrong { rows: 4294967296, starts: &[0, 1], ids: &[0], error: ColumnsError::TooManyRows },
+    Wrong { rows: 4294967296, starts: &[], ids: &[], error: ColumnsError::TooManyRows },
+];
+
 #[test]
 fn too_many_rows(rt: HostRuntime) -> Result<(), Fail> {
-    let (rows, error) = (4294967296, ColumnsError::TooManyRows);
-    both_are_refused(&rt, rows, &[0, 1], &[0], error)?;
-    both_are_refused(&rt, rows, &[], &[], error)
+    assert!(rt; all_are_refused(rt.alloc(), &MANY_ROWS)?);
+    Ok(())
 }
 
-// There is no start; the first is not 0; one falls, and a later one too; the last is not the number
-// of ids. Starts are looked at before ids.
+/// There is no start; the first is not 0; one falls, and a later one too; the last is not the number
+/// of ids. Starts are looked at before ids.
+#[rattlefmt::skip]
+static STARTS: [Wrong; 8] = [
+    Wrong { rows: 2, starts: &[], ids: &[], error: ColumnsError::BadStart(0) },
+    Wrong { rows: 2, starts: &[], ids: &[0], error: ColumnsError::BadStart(0) },
+    Wrong { rows: 2, starts: &[1, 1], ids: &[0], error: ColumnsError::BadStart(0) },
+    Wrong { rows: 2, starts: &[0, 2, 1], ids: &[0], error: ColumnsError::BadStart(2) },
+    Wrong { rows: 2, starts: &[0, 1, 3, 2, 1], ids: &[0], error: ColumnsError::BadStart(3) },
+    Wrong { rows: 2, starts: &[0, 1], ids: &[0, 1], error: ColumnsError::BadStart(1) },
+    Wrong { rows: 2, starts: &[0, 1, 3], ids: &[0, 1], error: ColumnsError::BadStart(2) },
+    Wrong { rows: 1, starts: &[0, 0], ids: &[7], error: ColumnsError::BadStart(1) },
+];
+
 #[test]
 fn first_start_that_is_not_right(rt: HostRuntime) -> Result<(), Fail> {
-    both_are_refused(&rt, 2, &[], &[], ColumnsError::BadStart(0))?;
-    both_are_refused(&rt, 2, &[], &[0], ColumnsError::BadStart(0))?;
-    both_are_refused(&rt, 2, &[1, 1], &[0], ColumnsError::BadStart(0))?;
-    both_are_refused(&rt, 2, &[0, 2, 1], &[0], ColumnsError::BadStart(2))?;
-    both_are_refused(&rt, 2, &[0, 1, 3, 2, 1], &[0], ColumnsError::BadStart(3))?;
-    both_are_refused(&rt, 2, &[0, 1], &[0, 1], ColumnsError::BadStart(1))?;
-    both_are_refused(&rt, 2, &[0, 1, 3], &[0, 1], ColumnsError::BadStart(2))?;
-    both_are_refused(&rt, 1, &[0, 0], &[7], ColumnsError::BadStart(1))
+    assert!(rt; all_are_refused(rt.alloc(), &STARTS)?);
+    Ok(())
 }
 
-// Of 3 rows 3, 5 and 7 are none, of 2 rows 2, and of no rows 0.
+/// Of 3 rows 3, 5 and 7 are none, of 2 rows 2, and of no rows 0.
+#[rattlefmt::skip]
+static ROWS: [Wrong; 4] = [
+    Wrong { rows: 3, starts: &[0, 2, 3], ids: &[3, 0, 0], error: ColumnsError::BadRow(0) },
+    Wrong { rows: 3, starts: &[0, 1, 3], ids: &[2, 5, 7], error: ColumnsError::BadRow(1) },
+    Wrong { rows: 2, starts: &[0, 2, 4], ids: &[1, 0, 1, 2], error: ColumnsError::BadRow(3) },
+    Wrong { rows: 0, starts: &[0, 1], ids: &[0], error: ColumnsError::BadRow(0) },
+];
+
 #[test]
 fn first_id_that_is_no_row(rt: HostRuntime) -> Result<(), Fail> {
-    both_are_refused(&rt, 3, &[0, 2, 3], &[3, 0, 0], ColumnsError::BadRow(0))?;
-    both_are_refused(&rt, 3, &[0, 1, 3], &[2, 5, 7], ColumnsError::BadRow(1))?;
-    both_are_refused(&rt, 2, &[0, 2, 4], &[1, 0, 1, 2], ColumnsError::BadRow(3))?;
-    both_are_refused(&rt, 0, &[0, 1], &[0], ColumnsError::BadRow(0))
+    assert!(rt; all_are_refused(rt.alloc(), &ROWS)?);
+    Ok(())
 }
 
 // The greatest number of 64 bits is the signed -1, and the lower half of 2^32 is 0.
 #[test]
 fn numbers_past_32_bits(rt: HostRuntime) {
+    let alloc = rt.alloc();
     let (starts, ids) = (Wide { list: &[0, 2] }, Wide { list: &[0, 1] });
     let past = Wide {
         list: &[0, u64::MAX],
     };
-    are_refused(&rt, 2, past, ids, ColumnsError::BadStart(1));
-    are_refused(&rt, 2, starts, past, ColumnsError::BadRow(1));
+    assert!(rt; are_refused(alloc, 2, past, ids, ColumnsError::BadStart(1)));
+    assert!(rt; are_refused(alloc, 2, starts, past, ColumnsError::BadRow(1)));
     let lower = Wide {
         list: &[0, 4294967296],
     };
-    are_refused(&rt, 2, starts, lower, ColumnsError::BadRow(1));
+    assert!(rt; are_refused(alloc, 2, starts, lower, ColumnsError::BadRow(1)));
 }

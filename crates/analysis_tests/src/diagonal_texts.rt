@@ -4,12 +4,13 @@
 ghost use Rattle.std.specs.Prelude.{◌≡◌, IsTrue};
 ghost use Rattle.bip_defs.specs.Matrix.{AreEntries};
 ghost use Rattle.btf_text.specs.Diagonals.{PairsAreEntries};
+ghost use Rattle.sp_ids.specs.declared.triples.Field.TheVariants.{Integer};
 
 use bip_graph::Heaviest;
 use btf_text::{TextBuf, write_diagonal};
-use sp_ids::{Col, OutOfMemory, Row};
+use sp_ids::{Col, OutOfMemory, Row, Triples};
 use sp_pattern::{Pattern, Weights};
-use sp_ports::{Failed, SteadySink};
+use sp_ports::SteadySink;
 use std::alloc::Global;
 use std::test::Fail;
 use test_matrices::integers_of;
@@ -37,60 +38,78 @@ fn has_entries(pattern: &Pattern, answer: &Heaviest) -> bool
     }
 }
 
-/// The text that is written, or nothing where it is not written.
-fn written(
+/// Whether this text is written.
+fn has_text(
     alloc: Global,
     answer: &Heaviest,
     pattern: &Pattern,
     weights: &Weights,
-) -> Result<Vec<u8>, OutOfMemory>
+    text: &[u8],
+) -> Result<bool, OutOfMemory>
     requires { weights.now.matrix ≡ pattern.now }
 {
     if !has_entries(pattern, answer) {
-        return Ok(Vec::new(alloc));
+        return Ok(false);
     }
     let mut buf = TextBuf::new(alloc)?;
     let mut out = SteadySink::new(alloc, 1000, 7)?;
-    match write_diagonal(&mut out, &mut buf, answer, pattern, weights) {
-        Ok(()) => Ok(out.bytes().to_vec(alloc)?),
-        Err(Failed) => Ok(Vec::new(alloc)),
-    }
+    let is_written = write_diagonal(&mut out, &mut buf, answer, pattern, weights).is_ok();
+    Ok(is_written && out.bytes() == text)
+}
+
+/// Whether this text is written of the matrix with these entries.
+fn has_text_of(
+    alloc: Global,
+    answer: &Heaviest,
+    pattern: &Pattern,
+    given: &Triples,
+    text: &[u8],
+) -> Result<bool, Fail>
+    requires { given.now.field ≡ Integer }
+{
+    let weights = Weights::build(alloc, pattern, given)?;
+    Ok(has_text(alloc, answer, pattern, &weights, text)?)
+}
+
+/// The longest prices, and prices below zero.
+fn long_prices(alloc: Global) -> Result<Heaviest, OutOfMemory> {
+    Ok(Heaviest::Diagonal {
+        pairs: [(Row(0), Col(0)), (Row(1), Col(1))].to_vec(alloc)?,
+        u: [i128::MIN, -3].to_vec(alloc)?,
+        v: [i128::MAX, 10].to_vec(alloc)?,
+        sum: -1,
+    })
 }
 
 #[test]
 fn the_longest_prices_and_prices_below_zero(rt: HostRuntime) -> Result<(), Fail> {
     // Weights are magnitudes: -7 weighs 7.
-    let alloc = rt.alloc();
     let entries = [(1, 1, 9_223_372_036_854_775_807), (2, 2, -7)];
-    let triples = integers_of(alloc, 2, 2, &entries)?;
-    let pattern = Pattern::build(&rt, alloc, &triples)?;
-    let weights = Weights::build(alloc, &pattern, &triples)?;
-    let answer = Heaviest::Diagonal {
-        pairs: [(Row(0), Col(0)), (Row(1), Col(1))].to_vec(alloc)?,
-        u: [i128::MIN, -3].to_vec(alloc)?,
-        v: [i128::MAX, 10].to_vec(alloc)?,
-        sum: -1,
-    };
-    let text = written(alloc, &answer, &pattern, &weights)?;
-    let expected =
+    let given = integers_of(rt.alloc(), 2, 2, &entries)?;
+    let pattern = Pattern::build(&rt, rt.alloc(), &given)?;
+    let answer = long_prices(rt.alloc())?;
+    let text =
         b"diagonal 2 -1\n1 1 9223372036854775807\n2 2 7\nrow_prices -170141183460469231731687303715884105728 -3\ncolumn_prices 170141183460469231731687303715884105727 10\nend\n";
-    assert_eq!(rt; text.as_slice(), expected.as_slice());
+    assert!(rt; has_text_of(rt.alloc(), &answer, &pattern, &given, text)?);
     Ok(())
+}
+
+/// Two columns that do not rise.
+fn falling_columns(alloc: Global) -> Result<Heaviest, OutOfMemory> {
+    Ok(Heaviest::Singular {
+        rank: 3,
+        hall: [Col(2), Col(0)].to_vec(alloc)?,
+    })
 }
 
 #[test]
 fn columns_that_do_not_rise(rt: HostRuntime) -> Result<(), Fail> {
     // Rows 2 and 4 have entries in columns 1 and 3, row 1 in column 2 alone, and row 3 has none.
-    let alloc = rt.alloc();
-    let triples = integers_of(alloc, 4, 4, &[(1, 2, 1), (2, 3, 1), (4, 1, 1), (4, 3, 1)])?;
-    let pattern = Pattern::build(&rt, alloc, &triples)?;
-    let weights = Weights::build(alloc, &pattern, &triples)?;
-    let answer = Heaviest::Singular {
-        rank: 3,
-        hall: [Col(2), Col(0)].to_vec(alloc)?,
-    };
-    let text = written(alloc, &answer, &pattern, &weights)?;
-    let expected = b"singular 3\nrows 2 4\ncolumns 3 1\nend\n";
-    assert_eq!(rt; text.as_slice(), expected.as_slice());
+    let entries = [(1, 2, 1), (2, 3, 1), (4, 1, 1), (4, 3, 1)];
+    let given = integers_of(rt.alloc(), 4, 4, &entries)?;
+    let pattern = Pattern::build(&rt, rt.alloc(), &given)?;
+    let answer = falling_columns(rt.alloc())?;
+    let text = b"singular 3\nrows 2 4\ncolumns 3 1\nend\n";
+    assert!(rt; has_text_of(rt.alloc(), &answer, &pattern, &given, text)?);
     Ok(())
 }

@@ -11,65 +11,64 @@ use karp_sipser::start;
 use sp_ids::{Col, Row};
 use sp_pattern::Pattern;
 use square_components::{Components, strong_components};
-use std::process::Abort;
+use std::alloc::Global;
 use std::test::Fail;
 use std::thread::Threads;
 use test_matrices::{
     Lists, Worked, are, lists_in, matching_of, pairs_in, pattern_from, worked_matrices,
 };
 
-/// These are the rows and the columns of one part.
-fn are_lists<R: Abort>(rt: &R, name: &str, rows: &[Row], cols: &[Col], wanted: &Lists) {
-    assert!(rt; are(rows, wanted.rows.as_slice()), "{name}");
-    assert!(rt; are(cols, wanted.cols.as_slice()), "{name}");
+/// Whether these are the rows and the columns of a part, or of a block.
+fn are_lists(rows: &[Row], cols: &[Col], wanted: &Lists) -> bool {
+    are(rows, wanted.rows.as_slice()) && are(cols, wanted.cols.as_slice())
 }
 
-/// These are the parts of a matrix.
-pub(crate) fn has_parts<R: Abort + AllocGlobal>(
-    rt: &R,
+/// Whether these are the rows and the columns of a line.
+fn has_part(
+    alloc: Global,
     worked: &Worked<'_>,
-    parts: &Parts,
-) -> Result<(), Fail> {
-    let name = worked.name();
-    let horizontal = worked.lists(rt.alloc(), "horizontal")?;
-    are_lists(
-        rt,
-        name,
-        parts.hr.as_slice(),
-        parts.hc.as_slice(),
-        &horizontal,
-    );
-    let square = worked.lists(rt.alloc(), "square")?;
-    are_lists(rt, name, parts.sr.as_slice(), parts.sc.as_slice(), &square);
-    let vertical = worked.lists(rt.alloc(), "vertical")?;
-    are_lists(
-        rt,
-        name,
-        parts.vr.as_slice(),
-        parts.vc.as_slice(),
-        &vertical,
-    );
-    Ok(())
+    word: &str,
+    rows: &[Row],
+    cols: &[Col],
+) -> Result<bool, Fail> {
+    let wanted = worked.lists(alloc, word)?;
+    Ok(are_lists(rows, cols, &wanted))
+}
+
+/// Whether these are the parts of a matrix.
+pub(crate) fn has_parts(alloc: Global, worked: &Worked<'_>, parts: &Parts) -> Result<bool, Fail> {
+    let (hr, hc) = (parts.hr.as_slice(), parts.hc.as_slice());
+    let (sr, sc) = (parts.sr.as_slice(), parts.sc.as_slice());
+    let (vr, vc) = (parts.vr.as_slice(), parts.vc.as_slice());
+    Ok(
+        has_part(alloc, worked, "horizontal", hr, hc)?
+            && has_part(alloc, worked, "square", sr, sc)?
+            && has_part(alloc, worked, "vertical", vr, vc)?,
+    )
 }
 
 /// The blocks of a matrix, in their order.
-pub(crate) fn blocks_of<R: AllocGlobal>(rt: &R, worked: &Worked<'_>) -> Result<Vec<Lists>, Fail> {
-    let mut blocks = Vec::new(rt.alloc());
+pub(crate) fn blocks_of(alloc: Global, worked: &Worked<'_>) -> Result<Vec<Lists>, Fail> {
+    let mut blocks = Vec::new(alloc);
     for text in worked.line("blocks")?.split(',') {
         if !text.is_empty() {
-            blocks.push(lists_in(rt.alloc(), text)?)?;
+            blocks.push(lists_in(alloc, text)?)?;
         }
     }
     Ok(blocks)
 }
 
-/// These are the blocks, in their order.
-pub(crate) fn has_blocks<R: Abort>(rt: &R, name: &str, blocks: &Blocks, wanted: &[Lists]) {
-    assert_eq!(rt; blocks.len(), wanted.len(), "{name}");
-    assert_eq!(rt; blocks.is_empty(), wanted.is_empty(), "{name}");
-    for (at, lists) in wanted.iter().enumerate() {
-        are_lists(rt, name, blocks.rows(at), blocks.cols(at), lists);
+/// Whether these are the blocks, in their order.
+pub(crate) fn are_blocks(blocks: &Blocks, wanted: &[Lists]) -> bool {
+    if blocks.len() != wanted.len() || blocks.is_empty() != wanted.is_empty() {
+        return false;
     }
+    for at in 0..wanted.len() {
+        if !are_lists(blocks.rows(at), blocks.cols(at), &wanted[at]) {
+            return false;
+        }
+    }
+    true
 }
 
 /// The number of a column's component, where the column counts from 1.
@@ -78,165 +77,215 @@ fn number_of(components: &Components, col: u32) -> Option<u32> {
     components.numbers.get(at as usize).copied()
 }
 
-/// These columns have one number.
-fn have_number<R: Abort>(
-    rt: &R,
-    name: &str,
-    components: &Components,
-    cols: &[u32],
-    number: Option<u32>,
-) {
+/// Whether these columns have this number.
+fn have_number(components: &Components, cols: &[u32], number: Option<u32>) -> bool {
     for col in cols {
-        assert_eq!(rt; number_of(components, *col), number, "{name}");
+        if number_of(components, *col) != number {
+            return false;
+        }
     }
+    true
 }
 
-/// There are as many components as blocks, and the columns of a block have one number.
-fn has_components<R: Abort>(rt: &R, name: &str, components: &Components, wanted: &[Lists]) {
-    assert_eq!(rt; components.count as usize, wanted.len(), "{name}");
+/// Whether there are as many components as blocks, and the columns of a block have one number.
+fn are_components(components: &Components, wanted: &[Lists]) -> bool {
     for lists in wanted {
         if let Some(first) = lists.cols.get(0) {
             let number = number_of(components, *first);
-            have_number(rt, name, components, lists.cols.as_slice(), number);
+            if !have_number(components, lists.cols.as_slice(), number) {
+                return false;
+            }
         }
     }
+    components.count as usize == wanted.len()
 }
 
-/// A column that is not square has no number. Where there is one way to number the components,
-/// these are the numbers.
-fn has_numbers<R: Abort + AllocGlobal>(
-    rt: &R,
+/// Whether the columns of a part that is not square have no number.
+fn have_none(
+    alloc: Global,
     worked: &Worked<'_>,
+    word: &str,
     components: &Components,
-) -> Result<(), Fail> {
-    let none = Some(u32::MAX);
-    let horizontal = worked.lists(rt.alloc(), "horizontal")?;
-    have_number(
-        rt,
-        worked.name(),
-        components,
-        horizontal.cols.as_slice(),
-        none,
-    );
-    let vertical = worked.lists(rt.alloc(), "vertical")?;
-    have_number(
-        rt,
-        worked.name(),
-        components,
-        vertical.cols.as_slice(),
-        none,
-    );
-    if worked.find("components").is_some() {
-        let numbers = worked.numbers(rt.alloc(), "components")?;
-        assert_eq!(rt;
-            components.numbers.len(),
-            numbers.len(),
-            "{}",
-            worked.name()
-        );
-        for (found, number) in components.numbers.iter().zip(numbers.iter()) {
-            assert_eq!(rt; *found, number.wrapping_sub(1), "{}", worked.name());
-        }
-    }
-    Ok(())
+) -> Result<bool, Fail> {
+    let part = worked.lists(alloc, word)?;
+    Ok(have_number(components, part.cols.as_slice(), Some(u32::MAX)))
 }
 
-/// The components and the blocks.
-fn has_components_and_blocks<R: Abort + AllocGlobal>(
-    rt: &R,
+/// Whether all columns have these numbers, which count from 1, with 0 for none.
+fn are_numbers(found: &[u32], numbers: &[u32]) -> bool {
+    if found.len() != numbers.len() {
+        return false;
+    }
+    for at in 0..found.len() {
+        if found[at] != numbers[at].wrapping_sub(1) {
+            return false;
+        }
+    }
+    true
+}
+
+/// Whether the numbers are those of the table, where there is one way to number the components.
+fn has_numbers(alloc: Global, worked: &Worked<'_>, components: &Components) -> Result<bool, Fail> {
+    if worked.find("components").is_none() {
+        return Ok(true);
+    }
+    let numbers = worked.numbers(alloc, "components")?;
+    Ok(are_numbers(components.numbers.as_slice(), numbers.as_slice()))
+}
+
+/// Whether the components are right.
+fn has_components(
+    alloc: Global,
     worked: &Worked<'_>,
     pattern: &Pattern,
     matching: &Matching,
     parts: &Parts,
-) -> Result<(), Fail>
+) -> Result<bool, Fail>
     requires maximum { IsMaximumOf pattern.now matching.now }
     requires parts { HasParts pattern.now parts.now }
 {
-    let wanted = blocks_of(rt, worked)?;
-    let components = strong_components(rt.alloc(), pattern, matching, parts)?;
-    has_components(rt, worked.name(), &components, wanted.as_slice());
-    has_numbers(rt, worked, &components)?;
-    let blocks = fine(rt.alloc(), pattern, matching, parts)?;
-    has_blocks(rt, worked.name(), &blocks, wanted.as_slice());
-    Ok(())
+    let wanted = blocks_of(alloc, worked)?;
+    let components = strong_components(alloc, pattern, matching, parts)?;
+    Ok(
+        are_components(&components, wanted.as_slice())
+            && have_none(alloc, worked, "horizontal", &components)?
+            && have_none(alloc, worked, "vertical", &components)?
+            && has_numbers(alloc, worked, &components)?,
+    )
 }
 
-/// The parts, the components and the blocks, from the matching of the plain engine.
-fn is_decomposed<R: Abort + AllocGlobal + Threads + Sync>(
+/// Whether the fine blocks are right.
+pub(crate) fn has_fine_blocks(
+    alloc: Global,
+    worked: &Worked<'_>,
+    pattern: &Pattern,
+    matching: &Matching,
+    parts: &Parts,
+) -> Result<bool, Fail>
+    requires maximum { IsMaximumOf pattern.now matching.now }
+    requires parts { HasParts pattern.now parts.now }
+{
+    let wanted = blocks_of(alloc, worked)?;
+    let blocks = fine(alloc, pattern, matching, parts)?;
+    Ok(are_blocks(&blocks, wanted.as_slice()))
+}
+
+/// Whether the parts, the components and the blocks are right, from a maximum matching.
+fn is_decomposed<R: AllocGlobal + Threads + Sync>(
     rt: &R,
     worked: &Worked<'_>,
-) -> Result<(), Fail> {
+    pattern: &Pattern,
+    matching: &Matching,
+) -> Result<bool, Fail>
+    requires { IsMaximumOf pattern.now matching.now }
+{
+    let parts = coarse(rt, rt.alloc(), pattern, matching)?;
+    Ok(
+        has_parts(rt.alloc(), worked, &parts)?
+            && has_components(rt.alloc(), worked, pattern, matching, &parts)?
+            && has_fine_blocks(rt.alloc(), worked, pattern, matching, &parts)?,
+    )
+}
+
+/// The same, from the matching of the plain engine.
+fn is_right<R: AllocGlobal + Threads + Sync>(rt: &R, worked: &Worked<'_>) -> Result<bool, Fail> {
     let pattern = pattern_from(rt, worked, false)?;
     let (matching, _columns) = plain(rt.alloc(), &pattern)?;
-    let parts = coarse(rt, rt.alloc(), &pattern, &matching)?;
-    has_parts(rt, worked, &parts)?;
-    has_components_and_blocks(rt, worked, &pattern, &matching, &parts)
+    is_decomposed(rt, worked, &pattern, &matching)
 }
 
 #[test]
 fn parts_components_and_blocks(rt: HostRuntime) -> Result<(), Fail> {
     let matrices = worked_matrices(rt.alloc())?;
-    assert_eq!(rt; matrices.len(), 37);
+    assert!(rt; matrices.len() == 37);
     for worked in &matrices {
-        is_decomposed(&rt, worked)?;
+        assert!(rt; is_right(&rt, worked)?, "{}", worked.name());
     }
     Ok(())
 }
 
-/// The parts from a matching that is as long as the rank, and none from a shorter one.
-fn has_parts_if_maximum<R: Abort + AllocGlobal + Threads + Sync>(
+/// Whether there are parts from a matching that is as long as the rank, and none from a shorter one.
+fn has_parts_if_maximum<R: AllocGlobal + Threads + Sync>(
     rt: &R,
     worked: &Worked<'_>,
     pattern: &Pattern,
     matching: &Matching,
-) -> Result<(), Fail>
+) -> Result<bool, Fail>
     requires { IsMatchingOf pattern.now matching.now }
 {
     let maximum = matching.size() == worked.rank(rt.alloc())?;
     match coarse_if_maximum(rt, rt.alloc(), pattern, matching)? {
-        Some(parts) => {
-            assert!(rt; maximum, "{}", worked.name());
-            has_parts(rt, worked, &parts)?;
-        }
-        None => assert!(rt; !maximum, "{}", worked.name()),
+        Some(parts) => Ok(maximum && has_parts(rt.alloc(), worked, &parts)?),
+        None => Ok(!maximum),
     }
-    Ok(())
 }
 
-/// From the matchings of an example.
-fn has_parts_from_given<R: Abort + AllocGlobal + Threads + Sync>(
+/// The same from the matching of these pairs.
+fn has_parts_from<R: AllocGlobal + Threads + Sync>(
     rt: &R,
     worked: &Worked<'_>,
     pattern: &Pattern,
-) -> Result<(), Fail> {
-    for line in worked.lines.split('\n') {
-        if let Some(text) = line.strip_prefix("from:") {
-            let (pairs, _sure) = text.split_once('|').ok_or("no bar")?;
-            let pairs = pairs_in(rt.alloc(), pairs)?;
-            let matching = matching_of(rt.alloc(), pattern, pairs.as_slice())?;
-            has_parts_if_maximum(rt, worked, pattern, &matching)?;
-        }
-    }
-    Ok(())
+    pairs: &[(u32, u32)],
+) -> Result<bool, Fail> {
+    let matching = matching_of(rt.alloc(), pattern, pairs)?;
+    has_parts_if_maximum(rt, worked, pattern, &matching)
 }
 
-/// From no pairs, from the start and from the matchings of an example.
-fn has_parts_from_each<R: Abort + AllocGlobal + Threads + Sync>(
+/// The same from the matching of a line.
+fn has_parts_from_line<R: AllocGlobal + Threads + Sync>(
     rt: &R,
     worked: &Worked<'_>,
-) -> Result<(), Fail> {
+    pattern: &Pattern,
+    text: &str,
+) -> Result<bool, Fail> {
+    let (pairs, _sure) = text.split_once('|').ok_or("no bar")?;
+    let pairs = pairs_in(rt.alloc(), pairs)?;
+    has_parts_from(rt, worked, pattern, pairs.as_slice())
+}
+
+/// The same from the matchings of an example.
+fn has_parts_from_given<R: AllocGlobal + Threads + Sync>(
+    rt: &R,
+    worked: &Worked<'_>,
+    pattern: &Pattern,
+) -> Result<bool, Fail> {
+    for line in worked.lines.split('\n') {
+        if let Some(text) = line.strip_prefix("from:") {
+            if !has_parts_from_line(rt, worked, pattern, text)? {
+                return Ok(false);
+            }
+        }
+    }
+    Ok(true)
+}
+
+/// The same from the start.
+fn has_parts_from_start<R: AllocGlobal + Threads + Sync>(
+    rt: &R,
+    worked: &Worked<'_>,
+    pattern: &Pattern,
+) -> Result<bool, Fail> {
+    let started = start(rt.alloc(), pattern)?;
+    has_parts_if_maximum(rt, worked, pattern, &started)
+}
+
+/// The same from no pairs, from the start and from the matchings of an example.
+fn has_parts_from_each<R: AllocGlobal + Threads + Sync>(
+    rt: &R,
+    worked: &Worked<'_>,
+) -> Result<bool, Fail> {
     let pattern = pattern_from(rt, worked, false)?;
-    let none = matching_of(rt.alloc(), &pattern, &[])?;
-    has_parts_if_maximum(rt, worked, &pattern, &none)?;
-    let started = start(rt.alloc(), &pattern)?;
-    has_parts_if_maximum(rt, worked, &pattern, &started)?;
-    has_parts_from_given(rt, worked, &pattern)
+    Ok(
+        has_parts_from(rt, worked, &pattern, &[])?
+            && has_parts_from_start(rt, worked, &pattern)?
+            && has_parts_from_given(rt, worked, &pattern)?,
+    )
 }
 
 #[test]
 fn parts_from_maximum_matchings_alone(rt: HostRuntime) -> Result<(), Fail> {
     for worked in &worked_matrices(rt.alloc())? {
-        has_parts_from_each(&rt, worked)?;
+        assert!(rt; has_parts_from_each(&rt, worked)?, "{}", worked.name());
     }
     Ok(())
 }

@@ -2,21 +2,23 @@
 //! of a number, worked out by hand. Tables count rows and columns from 1.
 
 ghost use Rattle.std.specs.Prelude.{◌≡◌};
+ghost use Rattle.sp_ids.specs.declared.triples.Field.TheVariants.{Integer};
 
-use sp_ids::{Col, Field, Id, OutOfMemory, Row, Triples};
+use sp_ids::{Col, Field, Id, Row, Triples};
 use sp_pattern::{Pattern, Weights, load_matrix};
-use std::process::Abort;
+use std::alloc::Global;
 use std::test::Fail;
-use test_matrices::{integers_of, pattern_of};
+use test_matrices::{are, integers_of, pattern_of};
 
-// The matrix has the five places of the lists below, each once.
-fn has_the_places<R: Abort>(rt: &R, pattern: &Pattern) {
-    assert_eq!(rt; (pattern.rows(), pattern.cols()), (4, 4));
-    assert_eq!(rt; pattern.entries(), 5);
-    assert_eq!(rt; pattern.rows_of(Col(0)), [Row(1), Row(3)].as_slice());
-    assert_eq!(rt; pattern.cols_of(Row(0)), [Col(1), Col(3)].as_slice());
-    assert_eq!(rt; pattern.has(Row(2), Col(2)), true);
-    assert_eq!(rt; pattern.has(Row(9), Col(9)), false);
+// Whether the matrix has the five places of the lists below, each once.
+fn has_the_places(pattern: &Pattern) -> bool {
+    pattern.rows() == 4
+        && pattern.cols() == 4
+        && pattern.entries() == 5
+        && are(pattern.rows_of(Col(0)), &[2, 4])
+        && are(pattern.cols_of(Row(0)), &[2, 4])
+        && pattern.has(Row(2), Col(2))
+        && !pattern.has(Row(9), Col(9))
 }
 
 // One matrix: by columns; by rows; each place beside its mirror image, with the lower half by
@@ -32,27 +34,34 @@ fn places_in_each_order(rt: HostRuntime) -> Result<(), Fail> {
         [(3, 3), (1, 4), (2, 1), (1, 2), (4, 1), (2, 1)],
     ];
     for places in orders {
-        has_the_places(&rt, &pattern_of(&rt, 4, 4, places.as_slice())?);
+        let pattern = pattern_of(&rt, 4, 4, places.as_slice())?;
+        assert!(rt; has_the_places(&pattern));
     }
     Ok(())
 }
 
-// The row r has entries in the columns 513 r, 513 r + 1 and so on, modulo the size.
-fn far_apart<R: Abort + AllocGlobal>(
-    rt: &R,
-    size: u32,
-    count: u32,
-) -> Result<Triples, OutOfMemory> {
-    assert!(rt; size > 0);
-    let mut triples = Triples::new(rt.alloc(), size, size, Field::Pattern)?;
+// The row r has entries in the columns 513 r, 513 r + 1 and so on, modulo the size. Fails where that
+// is 0.
+fn far_apart(alloc: Global, size: u32, count: u32) -> Result<Triples, Fail> {
+    let mut triples = Triples::new(alloc, size, size, Field::Pattern)?;
     for k in 0..count {
-        let row = k.wrapping_mul(513) % size;
-        let col = row.wrapping_mul(513).wrapping_add(k / size) % size;
-        let in_range = row < triples.rows() && col < triples.cols() && triples.len() < 4294967295;
-        assert!(rt; in_range, "no place for row {row} and column {col}");
-        triples.push(Row(row), Col(col), 0)?;
+        push_far_apart(&mut triples, size, k)?;
     }
     Ok(triples)
+}
+
+// The entry of a number.
+fn push_far_apart(triples: &mut Triples, size: u32, k: u32) -> Result<(), Fail> {
+    if size == 0 {
+        return Err(Fail::new("no rows"));
+    }
+    let row = k.wrapping_mul(513) % size;
+    let col = row.wrapping_mul(513).wrapping_add(k / size) % size;
+    if row >= triples.rows() || col >= triples.cols() || triples.len() >= 4294967295 {
+        return Err(Fail::new("an entry is out of range, or there are too many"));
+    }
+    triples.push(Row(row), Col(col), 0)?;
+    Ok(())
 }
 
 // Whether a place is one of these, where there are 131,072 rows and columns.
@@ -110,33 +119,42 @@ fn cols_are_far_apart(pattern: &Pattern) -> bool {
 // has as many rows as each row has columns.
 #[test]
 fn many_places_far_apart(rt: HostRuntime) -> Result<(), Fail> {
-    let pattern = Pattern::build(&rt, rt.alloc(), &far_apart(&rt, 131072, 2097152)?)?;
-    assert_eq!(rt; (pattern.rows(), pattern.entries()), (131072, 2097152));
-    assert!(rt; rows_are_far_apart(&pattern));
-    assert!(rt; cols_are_far_apart(&pattern));
+    let triples = far_apart(rt.alloc(), 131072, 2097152)?;
+    let pattern = Pattern::build(&rt, rt.alloc(), &triples)?;
+    assert!(rt; pattern.rows() == 131072 && pattern.entries() == 2097152);
+    assert!(rt; rows_are_far_apart(&pattern) && cols_are_far_apart(&pattern));
     Ok(())
 }
 
 #[test]
 fn load_matrix_of_thirty(rt: HostRuntime) -> Result<(), Fail> {
-    assert_eq!(rt; load_matrix(&rt, rt.alloc(), 30, 0)?.entries(), 85);
+    let pattern = load_matrix(&rt, rt.alloc(), 30, 0)?;
+    assert!(rt; pattern.entries() == 85);
     Ok(())
 }
 
-// The one column has the weights 7 and 8.
-fn has_weights<R: Abort>(rt: &R, pattern: &Pattern, weights: &Weights<'_>)
+// Whether the one column has the weights 7 and 8.
+fn has_weights(pattern: &Pattern, weights: &Weights<'_>) -> bool
     requires { weights.now.matrix ≡ pattern.now }
 {
-    assert_eq!(rt; pattern.cols(), 1);
-    assert_eq!(rt; weights.weights_of(Col(0)), [7, 8].as_slice());
-    assert_eq!(rt; pattern.has(Row(1), Col(0)), true);
-    assert_eq!(rt; weights.weight(Row(1), Col(0)), 8);
+    pattern.cols() == 1
+        && weights.weights_of(Col(0)) == [7, 8].as_slice()
+        && pattern.has(Row(1), Col(0))
+        && weights.weight(Row(1), Col(0)) == 8
 }
 
-// Of the two rows of the one column this one is left.
-fn has_row<R: Abort>(rt: &R, pattern: &Pattern, row: Row) {
-    assert_eq!(rt; pattern.cols(), 1);
-    assert_eq!(rt; pattern.rows_of(Col(0)), [row].as_slice());
+// Whether this row, which counts from 1, is left of the two rows of the one column.
+fn has_row(pattern: &Pattern, row: u32) -> bool {
+    pattern.cols() == 1 && are(pattern.rows_of(Col(0)), &[row])
+}
+
+// Whether the weights are right, and the entries above 7 are the one of row 2.
+fn is_weighed(alloc: Global, pattern: &Pattern, given: &Triples) -> Result<bool, Fail>
+    requires { given.now.field ≡ Integer }
+{
+    let weights = Weights::build(alloc, pattern, given)?;
+    let above = pattern.above(alloc, &weights, 7)?;
+    Ok(has_weights(pattern, &weights) && has_row(&above, 2))
 }
 
 // The place (2, 1) is given twice.
@@ -144,9 +162,7 @@ fn has_row<R: Abort>(rt: &R, pattern: &Pattern, row: Row) {
 fn weights_and_entries_above_one(rt: HostRuntime) -> Result<(), Fail> {
     let given = integers_of(rt.alloc(), 2, 1, &[(2, 1, 1), (1, 1, -7), (2, 1, -9)])?;
     let pattern = Pattern::build(&rt, rt.alloc(), &given)?;
-    let weights = Weights::build(rt.alloc(), &pattern, &given)?;
-    has_weights(&rt, &pattern, &weights);
-    has_row(&rt, &pattern.above(rt.alloc(), &weights, 7)?, Row(1));
+    assert!(rt; is_weighed(rt.alloc(), &pattern, &given)?);
     Ok(())
 }
 
@@ -159,10 +175,7 @@ fn places_that_add_up_to_zero(rt: HostRuntime) -> Result<(), Fail> {
         (2, 1, -9223372036854775807),
     ];
     let given = integers_of(rt.alloc(), 2, 1, &entries)?;
-    has_row(
-        &rt,
-        &Pattern::build_nonzero(&rt, rt.alloc(), &given)?,
-        Row(0),
-    );
+    let pattern = Pattern::build_nonzero(&rt, rt.alloc(), &given)?;
+    assert!(rt; has_row(&pattern, 1));
     Ok(())
 }

@@ -1,28 +1,54 @@
 //! Reports that are read, and bytes that are none.
 
-use bip_graph::{Blocks, Components, Parts};
+use bip_graph::{Blocks, Parts};
 use btf_text::{Report, read_report};
 use sp_ids::{Col, Row};
-use std::process::Abort;
+use std::alloc::Global;
 use std::test::Fail;
+use test_matrices::are;
 
-fn has_the_outer_lists<R: Abort>(rt: &R, parts: &Parts) {
-    assert_eq!(rt; parts.hr.as_slice(), [Row(0)].as_slice());
-    assert_eq!(rt; parts.hc.as_slice(), [Col(0), Col(1)].as_slice());
-    assert_eq!(rt; parts.vr.as_slice(), [Row(2), Row(3)].as_slice());
-    assert_eq!(rt; parts.vc.as_slice(), [Col(3)].as_slice());
-    assert!(rt; parts.sr.is_empty() && parts.sc.is_empty());
+/// Whether the parts are those of rows 1, 3 4 and columns 1 2, 4, with nothing listed between.
+fn has_the_outer_lists(parts: &Parts) -> bool {
+    are(parts.hr.as_slice(), &[1])
+        && are(parts.hc.as_slice(), &[1, 2])
+        && are(parts.vr.as_slice(), &[3, 4])
+        && are(parts.vc.as_slice(), &[4])
+        && parts.sr.is_empty()
+        && parts.sc.is_empty()
 }
 
-fn has_the_two_blocks<R: Abort>(rt: &R, blocks: &Blocks) {
-    assert_eq!(rt; blocks.len(), 2);
-    assert_eq!(rt; blocks.all_rows(), [Row(4), Row(1), Row(5)].as_slice());
-    assert_eq!(rt; blocks.all_cols(), [Col(4), Col(2), Col(5)].as_slice());
+fn has_the_two_blocks(blocks: &Blocks) -> bool {
+    blocks.len() == 2 && are(blocks.all_rows(), &[5, 2, 6]) && are(blocks.all_cols(), &[5, 3, 6])
 }
 
-fn has_the_orders<R: Abort>(rt: &R, rows: &[Row], cols: &[Col]) {
-    assert_eq!(rt; rows, [Row(0), Row(1), Row(2), Row(3)].as_slice());
-    assert_eq!(rt; cols, [Col(3), Col(2)].as_slice());
+/// Whether the pairs, the orders of rows 1 to 4 and those of columns 4 and 3 are there.
+fn has_the_orders(read: &Report) -> bool {
+    let pairs = [(Row(0), Col(0)), (Row(1), Col(2)), (Row(2), Col(3))];
+    match &read.orders {
+        Some((rows, cols)) => {
+            are(rows.as_slice(), &[1, 2, 3, 4])
+                && are(cols.as_slice(), &[4, 3])
+                && read.pairs.as_slice() == pairs.as_slice()
+        }
+        None => false,
+    }
+}
+
+fn has_the_sizes(read: &Report) -> bool {
+    read.m == 6 && read.n == 6 && read.e == 9 && read.rank == 5
+}
+
+/// Whether a text is read, as the report with orders.
+fn is_read_with_orders(alloc: Global, text: &[u8]) -> Result<bool, Fail> {
+    match read_report(alloc, text)? {
+        Some(read) => Ok(
+            has_the_sizes(&read)
+                && has_the_outer_lists(&read.parts)
+                && has_the_two_blocks(&read.blocks)
+                && has_the_orders(&read),
+        ),
+        None => Ok(false),
+    }
 }
 
 #[test]
@@ -30,49 +56,44 @@ fn a_report_with_orders(rt: HostRuntime) -> Result<(), Fail> {
     // The blocks are in their own order, and the lists of the square part are left empty.
     let text =
         b"btf 1\nmatrix 6 6 9\nrank 5\nhorizontal 1 2\nrows 1\ncolumns 1 2\nsquare 3 2\nblock 1 1\nrows 5\ncolumns 5\nblock 2 2\nrows 2 6\ncolumns 3 6\nvertical 2 1\nrows 3 4\ncolumns 4\nrow_order 1 2 3 4\ncolumn_order 4 3\npairs 3\n1 1\n2 3\n3 4\nend\n";
-    let read = read_report(rt.alloc(), text)?.ok_or("these bytes are a report")?;
-    assert_eq!(rt; (read.m, read.n, read.e, read.rank), (6, 6, 9, 5));
-    has_the_outer_lists(&rt, &read.parts);
-    has_the_two_blocks(&rt, &read.blocks);
-    assert_eq!(rt;
-        read.pairs.as_slice(),
-        [(Row(0), Col(0)), (Row(1), Col(2)), (Row(2), Col(3))].as_slice()
-    );
-    let orders = read.orders.ok_or("the orders stand there")?;
-    has_the_orders(&rt, orders.0.as_slice(), orders.1.as_slice());
+    assert!(rt; is_read_with_orders(rt.alloc(), text)?);
     Ok(())
 }
 
-/// The one column is a component by itself, and so is the last of the most rows.
-fn has_the_components<R: Abort>(rt: &R, components: &Components) {
-    assert_eq!(rt; components.horizontal.len(), 1);
-    assert_eq!(rt; components.horizontal.all_cols(), [Col(0)].as_slice());
-    assert_eq!(rt; components.vertical.len(), 1);
-    assert_eq!(rt;
-        components.vertical.all_rows(),
-        [Row(4_294_967_294)].as_slice()
-    );
+/// Whether the one column is a component by itself, and so is the last of the most rows.
+fn has_the_components(read: &Report) -> bool {
+    match &read.components {
+        Some(components) => {
+            components.horizontal.len() == 1
+                && are(components.horizontal.all_cols(), &[1])
+                && components.vertical.len() == 1
+                && are(components.vertical.all_rows(), &[u32::MAX])
+        }
+        None => false,
+    }
 }
 
-fn has_the_greatest_numbers<R: Abort>(rt: &R, read: &Report) -> Result<(), Fail> {
-    assert_eq!(rt; (read.version, read.m), (2, u32::MAX));
-    assert_eq!(rt; read.parts.vr.as_slice(), [Row(4_294_967_294)].as_slice());
-    let components = read
-        .components
-        .as_ref()
-        .ok_or("the components stand there")?;
-    has_the_components(rt, components);
-    assert!(rt; read.orders.is_none());
-    assert!(rt; read.pairs.is_empty());
-    Ok(())
+/// Whether a text is read, as the report with the greatest numbers.
+fn is_read_with_components(alloc: Global, text: &[u8]) -> Result<bool, Fail> {
+    match read_report(alloc, text)? {
+        Some(read) => Ok(
+            read.version == 2
+                && read.m == u32::MAX
+                && are(read.parts.vr.as_slice(), &[u32::MAX])
+                && has_the_components(&read)
+                && read.orders.is_none()
+                && read.pairs.is_empty(),
+        ),
+        None => Ok(false),
+    }
 }
 
 #[test]
 fn components_and_the_greatest_numbers(rt: HostRuntime) -> Result<(), Fail> {
     let text =
         b"btf 2\nmatrix 4294967295 1 0\nrank 0\nhorizontal 0 1\nrows\ncolumns 1\nhorizontal_components 1\ncomponent 1 0 1\nrows\ncolumns 1\nsquare 0 0\nvertical 1 0\nrows 4294967295\ncolumns\nvertical_components 1\ncomponent 1 1 0\nrows 4294967295\ncolumns\npairs 0\nend\n";
-    let read = read_report(rt.alloc(), text)?.ok_or("these bytes are a report")?;
-    has_the_greatest_numbers(&rt, &read)
+    assert!(rt; is_read_with_components(rt.alloc(), text)?);
+    Ok(())
 }
 
 /// Bytes that are no report.
@@ -111,10 +132,15 @@ static OTHERS: [&[u8]; 22] = [
     b"btf 2\nmatrix 0 0 0\nrank 0\nhorizontal 0 0\nhorizontal_components 0\nsquare 0 0\nvertical 0 0\npairs 0\nend\n",
 ];
 
+fn is_no_report(alloc: Global, text: &[u8]) -> Result<bool, Fail> {
+    let read = read_report(alloc, text)?;
+    Ok(read.is_none())
+}
+
 #[test]
 fn bytes_that_are_no_report(rt: HostRuntime) -> Result<(), Fail> {
     for text in &OTHERS {
-        assert!(rt; read_report(rt.alloc(), text)?.is_none());
+        assert!(rt; is_no_report(rt.alloc(), text)?);
     }
     Ok(())
 }

@@ -3,7 +3,7 @@ use Rattle.std.proofs.Common.{◌≡◌, ◌+◌, ◌-◌, ◌≤◌, ◌<◌, �
 use Rattle.std.proofs.lemmas.Option.{none-some}
 use Rattle.sp_ids.specs.declared.outcomes.Status.{Status}
 use Rattle.sp_ids.specs.declared.outcomes.Status.TheVariants as statuses
-use Rattle.sp_ports.specs.Device.{Device, FailsOnceAtMost, HasReadFault, HasWriteFault, SourceRose}
+use Rattle.sp_ports.specs.Device.{CountHasNotFallen, Device, HasReadFault, HasWriteFault, SourceRose}
 use Rattle.mm_defs.proofs.AnswerLemmas.{given_all, length_got, given_within}
 use Rattle.mm_defs.specs.Calls.{Call, ended, given, got, offered}
 use Rattle.mm_defs.specs.Faults.{is_limit}
@@ -51,9 +51,9 @@ module _ (laws : Laws) where
       by false e = let r = given_within call in rw e (stays_none false (given call) r.0 (rw (← r.1) none))
 
   -- an input that tells its bytes and did not fail counts as before
-  steady : (input : Device) (x : List ℕ) → input.before ≡ Some x → FailsOnceAtMost input → ¬ HasReadFault input → input.failed_after ≡ input.failed_before
+  steady : (input : Device) (x : List ℕ) → input.before ≡ Some x → CountHasNotFallen input → ¬ HasReadFault input → input.failed_after ≡ input.failed_before
   steady input x tells counts no_fault =
-      omega (arith, counts.later, λ (rose : input.failed_before < input.failed_after). no_fault (subst (λ (b : Option (List ℕ)). SourceRose b input.failed_before input.failed_after) (sym tells) rose))
+      omega (arith, counts, λ (rose : input.failed_before < input.failed_after). no_fault (subst (λ (b : Option (List ℕ)). SourceRose b input.failed_before input.failed_after) (sym tells) rose))
 
   -- a batch within the limit gave no byte past it, and is not too long
   ends_well : (files : List (List ℕ)) (answer : Answer) (status : Status) → IsAnswerFor files answer → IsOrNoMemory status (status_of_answer answer) → EndsWell files status
@@ -104,7 +104,7 @@ module _ (laws : Laws) where
   either status false said = inl said
 
   -- the run was refused for a bad frame
-  bad : (r : Run) (status : Status) (file : ℕ) (kind : Kind) (limit : Bool) → status ≡ (if limit then statuses.Limit else statuses.Malformed) → AreTaken r.words → FailsOnceAtMost r.input
+  bad : (r : Run) (status : Status) (file : ℕ) (kind : Kind) (limit : Bool) → status ≡ (if limit then statuses.Limit else statuses.Malformed) → AreTaken r.words → CountHasNotFallen r.input
       → IsBadFile limit r.input (record { file = file; kind = kind }) → Completes r status
   bad r status file kind limit said taken later first = record {
     usage = λ not. absurd (not taken);

@@ -23,7 +23,7 @@ handed_on t0 t1 t2 f0 f1 f2 text (Ok v) took same cause = record {
 }
 handed_on t0 t1 t2 f0 f1 f2 text (Err e) took same cause = record {
   bytes = (text, [], sym (append-nil text), subst (λ (t : Option (List ℕ)). Takes t0 t text) (sym same) took.bytes);
-  counts = record { later = omega (arith, took.steady, cause.counts.later); once = omega (arith, took.steady, cause.counts.once) };
+  counts = omega (arith, took.steady, cause.counts);
   fault = subst (λ (n : ℕ). Rose n f2) took.steady cause.failed;
 }
 

@@ -3,7 +3,7 @@ use Rattle.std.specs.Prelude.{◌≡◌, ◌≤◌, ◌<◌, ◌⊎◌, ℕ, Boo
 use Rattle.sp_ids.specs.Limits.{max_input_bytes}
 use Rattle.sp_ids.specs.declared.outcomes.Status.{Status}
 use Rattle.sp_ids.specs.declared.outcomes.Status.TheVariants as statuses
-use Rattle.sp_ports.specs.Device.{Device, FailsOnceAtMost, HasReadFault, HasWriteFault, IsSteady, IsUntouched, Took, TookPrefix, WroteAsFar}
+use Rattle.sp_ports.specs.Device.{CountHasNotFallen, Device, HasReadFault, HasWriteFault, IsSteady, IsUntouched, Took, TookPrefix, WroteAsFar}
 use Rattle.mm_defs.specs.Calls.{Call, got, offered}
 use Rattle.mm_defs.specs.Faults.{is_limit}
 use Rattle.mm_frames.specs.Batches.{BatchFault, IsBatch, first_bad_file, first_bad_frame}
@@ -97,15 +97,15 @@ IsCause input out refusal = IsUnread input refusal × IsUntouched out
 abbrev pub BatchSays : Device → Device → Result Answer Refusal → Type 0
 BatchSays input out (Ok answer) = IsSteady input × IsSteady out
     × WithAnswer answer input (Took out)
-BatchSays input out (Err refusal) = FailsOnceAtMost input × FailsOnceAtMost out
+BatchSays input out (Err refusal) = CountHasNotFallen input × CountHasNotFallen out
     × IsCause input out refusal
 
 -- What a refusal says of a run.
 abbrev pub HasCause : Run → Refusal → Type 0
 -- the words are not taken, and nothing was read or written
 HasCause r Usage = (¬ AreTaken r.words) × IsUntouched r.input × IsUntouched r.out
-HasCause r OutOfMemory = FailsOnceAtMost r.input × StaysKnown r.input × IsUntouched r.out
-HasCause r refusal = AreTaken r.words × FailsOnceAtMost r.input × IsCause r.input r.out refusal
+HasCause r OutOfMemory = CountHasNotFallen r.input × StaysKnown r.input × IsUntouched r.out
+HasCause r refusal = AreTaken r.words × CountHasNotFallen r.input × IsCause r.input r.out refusal
 
 -- The run was refused: the status is the refusal's, its line was written, and it has its cause.
 pub record IsRefused (r : Run) (status : Status) : Type 0 where

@@ -2,7 +2,7 @@
 
 ghost use Rattle.std.specs.Prelude.{IfErr, IfOk};
 ghost use Rattle.mm_frames.specs.Batches.{files_of};
-ghost use Rattle.sp_ports.specs.Device.{FailsOnceAtMost, IsSteady, seen};
+ghost use Rattle.sp_ports.specs.Device.{CountHasNotFallen, IsSteady, seen};
 ghost use Rattle.btf_tool.specs.Jobs.{GavePrefix, OfReading};
 ghost use Rattle.batch_core.specs.BatchRuns.{IsUnread, WasRead};
 ghost use Rattle.batch_core.specs.Shares.{IsWithinLimits};
@@ -21,7 +21,7 @@ pub(crate) fn read_batch<S: Source>(alloc: Global, input: &mut S) -> Result<Vec<
     ensures steady { IfOk result (λ _. IsSteady (seen S.left S.faults input.old input.new)) }
     ensures limits { IfOk result (λ files. IsWithinLimits (files_of files.items)) }
     ensures unread { IfErr result (IsUnread (seen S.left S.faults input.old input.new)) }
-    ensures counts { FailsOnceAtMost (seen S.left S.faults input.old input.new) }
+    ensures counts { CountHasNotFallen (seen S.left S.faults input.old input.new) }
     ensures gave { OfReading (seen S.left S.faults input.old input.new) GavePrefix }
 {
     let mut bytes = Input::new(alloc, MAX_INPUT_BYTES)?;

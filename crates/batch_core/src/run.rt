@@ -2,7 +2,7 @@
 
 ghost use Rattle.std.specs.Prelude.{map, string_bytes};
 ghost use Rattle.btf_words.specs.BatchWords.{IsWithinLimits};
-ghost use Rattle.sp_ports.specs.Device.{FailsOnceAtMost, seen};
+ghost use Rattle.sp_ports.specs.Device.{CountHasNotFallen, seen};
 ghost use Rattle.btf_tool.specs.Jobs.{GavePrefix, OfReading};
 ghost use Rattle.batch_core.specs.BatchRuns.{BatchSays, Completes, Says};
 
@@ -57,10 +57,10 @@ pub fn run_batch<R: Threads + Sync, S: Source, O: Sink, E: Sink, G: Gate>(
       err = seen E.taken E.faults err.old err.new;
     }) result }
 
-    // At most one call of each device fails.
-    ensures input_once { FailsOnceAtMost (seen S.left S.faults input.old input.new) }
-    ensures out_once { FailsOnceAtMost (seen O.taken O.faults out.old out.new) }
-    ensures err_once { FailsOnceAtMost (seen E.taken E.faults err.old err.new) }
+    // No device's count of failures falls.
+    ensures input_count { CountHasNotFallen (seen S.left S.faults input.old input.new) }
+    ensures out_count { CountHasNotFallen (seen O.taken O.faults out.old out.new) }
+    ensures err_count { CountHasNotFallen (seen E.taken E.faults err.old err.new) }
 
     // What the input has left is the end of what it had, and at most one byte past its limit was
     // taken.

@@ -14,6 +14,7 @@ use Rattle.bip_defs.proofs.Paired.{block_square, maximum_pairs}
 use Rattle.bip_defs.proofs.Queues.{distinct_at}
 use Rattle.bip_defs.proofs.Sets.{among_at, few_distinct, number_same, one_col, one_row, place_among, rising_distinct, upto_length, upto_lists, upto_rising}
 use Rattle.bip_defs.proofs.BottleneckLemmas.{full_length}
+use Rattle.bip_defs.proofs.Uniqueness.{same_rank}
 use Rattle.bip_graph.specs.Answers.{orders_of}
 use Rattle.bip_graph.specs.Orders.{rows_before}
 use Rattle.blocktri.specs.Answers.{AreBlockStarts}
@@ -56,17 +57,17 @@ no_vertical : (a : Matrix) (m : List Place) → IsMaximum a m → length m ≡ a
 no_vertical a m max full c v = let (r, row, e) = v in let (lt, o, most, missed) = row in let longest = most.longest m max.matching in missed (has_all_rows a o most.matching (omega (arith, full, longest)) r lt)
 
 -- then the order of the columns has those of the blocks alone
-columns_of_blocks : (a : Matrix) (d : Decomposition) (m : List Place) → IsDecompositionOf a d → IsMaximum a m → a.rows ≡ cols a → length m ≡ a.rows → (orders_of d).1 ≡ all_cols d.blocks
+pub columns_of_blocks : (a : Matrix) (d : Decomposition) (m : List Place) → IsDecompositionOf a d → IsMaximum a m → a.rows ≡ cols a → length m ≡ a.rows → (orders_of d).1 ≡ all_cols d.blocks
 columns_of_blocks a d m is max square full =
     let left : d.parts.horizontal_cols ≡ [] = none_among d.parts.horizontal_cols (λ c h. no_horizontal a m max square full c (is.parts.horizontal_cols.sound c h)) in
     let right : d.parts.vertical_cols ≡ [] = none_among d.parts.vertical_cols (λ c h. no_vertical a m max full c (is.parts.vertical_cols.sound c h)) in
     rw (left, right) (append-nil (all_cols d.blocks))
 
-before_shift : (b : Block) (bs : List Block) (i : ℕ) → rows_before (b ∷ bs) (suc i) ≡ length b.rows + rows_before bs i
+pub before_shift : (b : Block) (bs : List Block) (i : ℕ) → rows_before (b ∷ bs) (suc i) ≡ length b.rows + rows_before bs i
 before_shift b bs i = length-append b.rows (all_rows (take i bs))
 
 -- in the places of a block's rows stand its columns, where each block has as many of both
-column_in_block : (bs : List Block) (i k : ℕ) → ((b : Block) → Among b bs → length b.rows ≡ length b.cols) → i < length bs → rows_before bs i ≤ k → k < rows_before bs (i + 1) → Among (get_or (all_cols bs) k 0) (block_at bs i).cols
+pub column_in_block : (bs : List Block) (i k : ℕ) → ((b : Block) → Among b bs → length b.rows ≡ length b.cols) → i < length bs → rows_before bs i ≤ k → k < rows_before bs (i + 1) → Among (get_or (all_cols bs) k 0) (block_at bs i).cols
 column_in_block [] i k same lt from to = absurd (omega (arith, lt))
 column_in_block (b ∷ bs) zero k same lt from to =
     let more = before_more (b ∷ bs) 0 lt in
@@ -83,7 +84,7 @@ column_in_block (b ∷ bs) (suc i) k same lt from to =
     (column_in_block bs i (k - length b.cols) (λ d h. same d (inr h)) (omega (arith, lt)) (omega (arith, equal, here, from)) (omega (arith, equal, here, from, next, to)))
 
 -- blocks that have each as many rows as columns have together as many
-all_same : (bs : List Block) → ((b : Block) → Among b bs → length b.rows ≡ length b.cols) → length (all_rows bs) ≡ length (all_cols bs)
+pub all_same : (bs : List Block) → ((b : Block) → Among b bs → length b.rows ≡ length b.cols) → length (all_rows bs) ≡ length (all_cols bs)
 all_same [] same = refl
 all_same (b ∷ bs) same =
     let rows = length-append b.rows (all_rows bs) in
@@ -147,6 +148,7 @@ order_told a d m count row_order column_order old starts is max square full once
   square = square;
   decomposition = d;
   is_decomposition = is;
+  full = same_rank a d.rank (length m) is.rank (m, max, refl) ∙ full;
   columns = columns;
   rows = mates_once a m column_order row_order max.matching once.distinct (omega (arith, wide, square)) long mates;
   diagonal = λ k lt. max.matching.entries (get_or row_order k 0) (get_or column_order k 0) (mates k (omega (arith, wide, lt)));

@@ -3,7 +3,10 @@ pub mod DiagonalLemmas
 pub mod DiagonalOrderLemmas
 pub mod LawLemmas
 pub mod LookLemmas
+pub mod OrderLaws
 pub mod PriceLemmas
+pub mod RankLaws
+pub mod ReportLaws
 pub mod RisingLemmas
 pub mod SetLemmas
 pub mod WriteLemmas

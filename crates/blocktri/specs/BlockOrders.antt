@@ -19,6 +19,7 @@ pub record TellsBlockOrder (a : Matrix) (count : ℕ) (row_order column_order ol
   pub square : a.rows ≡ cols a
   pub decomposition : Decomposition
   pub is_decomposition : IsDecompositionOf a decomposition
+  pub full : decomposition.rank ≡ a.rows
   pub columns : column_order ≡ (orders_of decomposition).1
   pub rows : ListsOnce (λ r. r < a.rows) row_order
   pub diagonal : (k : ℕ) → k < cols a
@@ -28,6 +29,19 @@ pub record TellsBlockOrder (a : Matrix) (count : ℕ) (row_order column_order ol
       → Among (slice_index row_order k) (block_at decomposition.blocks b).rows
   pub starts : AreBlockStarts decomposition.blocks old_starts block_starts
   pub count_is : count ≡ length decomposition.blocks
+
+-- the place is one of the block of this number
+pub record IsInBlock (count : ℕ) (block_starts : List ℕ) (b k : ℕ) : Type 0 where
+  pub block : b < count
+  pub from : slice_index block_starts b ≤ k
+  pub to : k < slice_index block_starts (b + 1)
+
+-- of no entry, at the places that the orders give its row and its column, is the row in a later
+-- block than the column
+abbrev pub IsUpperByBlocks : Matrix → ℕ → List ℕ → List ℕ → List ℕ → Type 0
+IsUpperByBlocks a count row_order column_order block_starts = (i j b c : ℕ)
+    → IsInBlock count block_starts b i → IsInBlock count block_starts c j
+    → IsEntry a (slice_index row_order i) (slice_index column_order j) → b ≤ c
 
 -- a perfect matching of a square matrix, and its decomposition
 pub record IsPerfectOf (a : Matrix) (d : answers.Decomposition) (m : Pairing) : Type 0 where

@@ -41,6 +41,13 @@ pub record TellsComponents (a : Matrix) (s : Sizes) (row_component
   pub vertical : s.vertical_components ≡ length components.vertical
   pub numbers : AreComponentNumbers a components row_component column_component
 
+-- these are the components, so many of each part, and the lists have their numbers
+pub record HasComponents (a : Matrix) (c : Components) (s : Sizes) (row_component
+    column_component : List ℕ) : Type 0 where
+  pub horizontal : s.horizontal_components ≡ length c.horizontal
+  pub vertical : s.vertical_components ≡ length c.vertical
+  pub numbers : AreComponentNumbers a c row_component column_component
+
 -- the first so many blocks have written their numbers to the places of the numbers that `members`
 -- gives of each; what stands elsewhere stays
 pub record AreNumbered (members : Block → List ℕ) (blocks : List Block) (count : ℕ)

@@ -1,14 +1,18 @@
 //! Laws on the answers, at no cost.
 
-ghost use Rattle.std.specs.Prelude.{◌≡◌, ◌↔◌, ◌-◌, ℕ, List, length, true};
+ghost use Rattle.std.specs.Prelude.{◌≡◌, ◌↔◌, ◌-◌, ℕ, Bool, IfSome, List, length, slice_index, true};
 ghost use Rattle.bip_defs.specs.Lists.{Among};
 ghost use Rattle.bip_defs.specs.Matching.{IsRank};
 ghost use Rattle.bip_defs.specs.Matrix.{HasPlaces, Matrix, Place};
-ghost use Rattle.blocktri.specs.Answers.{Tells, TellsMatching};
-ghost use Rattle.blocktri.specs.OuterComponents.{TellsComponents};
+ghost use Rattle.bip_graph.specs.Answers.{IsAnalysis};
+ghost use Rattle.blocktri.specs.Answers.{AreRowsOf, IsWritten, Tells, TellsMatching};
+ghost use Rattle.blocktri.specs.BlockOrders.{IsUpperByBlocks, TellsBlockOrder};
+ghost use Rattle.blocktri.specs.OuterComponents.{HasComponents, TellsComponents};
+ghost use Rattle.blocktri.specs.PerfectMatchings.{HasNoPerfectMatching, IsBelowFullRank};
 ghost use Rattle.blocktri.specs.declared.block_form.Sizes.{Sizes};
 ghost use Rattle.sp_pattern.specs.Columns.{AreColumns, matrix_of, places_of};
 
+use bip_graph::orders_are_block_upper_triangular;
 use sp_pattern::columns_give_their_places;
 
 /// What the calls answer of compressed columns is what `btf` answers of a file with the same
@@ -36,4 +40,48 @@ pub fn answers_are_those_of_a_file()
         → TellsMatching a true k ys → (j ≡ k) × (xs ≡ ys) }
 {
     columns_give_their_places();
+}
+
+/// What the calls answer of a matrix is what its report says, in either version and whatever it was
+/// asked for: the rank; the orders, block starts and sizes of the decomposition that it lists; the
+/// components, where it lists them; and the least matching, where its pairs are that one.
+pub fn answers_are_those_of_a_report()
+    ensures rank { (a : Matrix) (version : ℕ) (order pairs least : Bool) (text : List ℕ)
+        (t : IsAnalysis a version order pairs least text) (k : ℕ) → IsRank a k
+        → k ≡ t.decomposition.rank }
+    ensures decomposition { (a : Matrix) (version : ℕ) (order pairs least : Bool) (text : List ℕ)
+        (t : IsAnalysis a version order pairs least text) (s : Sizes)
+        (rows columns old starts : List ℕ) → Tells a s rows columns old starts
+        → IsWritten t.decomposition s rows columns old starts }
+    ensures components { (a : Matrix) (version : ℕ) (order pairs least : Bool) (text : List ℕ)
+        (t : IsAnalysis a version order pairs least text) (s : Sizes) (rows columns : List ℕ)
+        → TellsComponents a s rows columns
+        → IfSome t.components (λ c. HasComponents a c s rows columns) }
+    ensures least { (a : Matrix) (version : ℕ) (order pairs : Bool) (text : List ℕ)
+        (t : IsAnalysis a version order pairs true text) (k : ℕ) (xs : List ℕ)
+        → TellsMatching a true k xs
+        → IfSome t.matching (λ m. (k ≡ length m) × AreRowsOf m xs) }
+{}
+
+/// A matrix has no perfect matching exactly where it is not square or its rank is less than its
+/// size. So the calls that answer so ([`crate::block_order`] by `None`, [`crate::heaviest`] and
+/// [`crate::bottleneck`] by `Singular`) do it exactly there.
+pub fn no_perfect_matching_is_below_full_rank()
+    ensures { (a : Matrix) (rank : ℕ) → IsRank a rank
+        → HasNoPerfectMatching a ↔ IsBelowFullRank a rank }
+{}
+
+/// In the orders of [`crate::block_order`] the matrix is block upper triangular: no entry's row is
+/// in a later block than its column. The first block starts at 0, and behind the last one stands
+/// the number of rows.
+pub fn block_orders_are_block_upper_triangular()
+    ensures upper { (a : Matrix) (count : ℕ) (rows columns old starts : List ℕ)
+        → TellsBlockOrder a count rows columns old starts
+        → IsUpperByBlocks a count rows columns starts }
+    ensures first { (a : Matrix) (count : ℕ) (rows columns old starts : List ℕ)
+        → TellsBlockOrder a count rows columns old starts → slice_index starts 0 ≡ 0 }
+    ensures last { (a : Matrix) (count : ℕ) (rows columns old starts : List ℕ)
+        → TellsBlockOrder a count rows columns old starts → slice_index starts count ≡ a.rows }
+{
+    orders_are_block_upper_triangular();
 }

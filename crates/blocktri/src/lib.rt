@@ -4,7 +4,7 @@
 //! trusted.
 //!
 //! No call starts a thread. What the calls answer of a matrix is what the program `btf` answers of
-//! a file with the same places: [`answers_are_those_of_a_file`].
+//! a file with the same places: [`answers_are_those_of_a_file`], [`answers_are_those_of_a_report`].
 #![tactic(auto)]
 
 mod block_form;
@@ -31,7 +31,10 @@ pub use bottleneck_matching::{LeastWeight, bottleneck};
 pub use diagonal_order::block_order;
 pub use diagonal_refusals::DiagonalRefusal;
 pub use heaviest_diagonal::{Sum, heaviest};
-pub use laws::answers_are_those_of_a_file;
+pub use laws::{
+    answers_are_those_of_a_file, answers_are_those_of_a_report,
+    block_orders_are_block_upper_triangular, no_perfect_matching_is_below_full_rank,
+};
 pub use refusals::Refusal;
 pub use row_of_column::matching;
 pub use sp_pattern::{ColumnsError, Narrow, NumberList, Wide};

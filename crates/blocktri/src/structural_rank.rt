@@ -21,9 +21,10 @@ use std::alloc::Global;
 /// 4 a column, from others and from the rows over the pattern. Where it matches at least three
 /// quarters of those, or at most one, all further phases go on as well; else they begin anew, over
 /// the pattern and at the start of Karp and Sipser (1981). Answers `OutOfMemory` where there is no
-/// memory for that. Work: beside what `pothen_fan::phase_from` and `pothen_fan::complete_from` say
-/// of theirs, at most five looks at each number over the columns; else what
-/// `sp_pattern::Pattern::of_columns`, `karp_sipser::start` and `pothen_fan::complete` say.
+/// memory for that. Work: beside what `pothen_fan::phase_from` and
+/// `breadth_first_match::complete_from` say of theirs, at most five looks at each number over the
+/// columns; else what `sp_pattern::Pattern::of_columns`, `karp_sipser::start` and
+/// `breadth_first_match::complete` say.
 pub fn rank<N: NumberList>(alloc: Global, rows: u64, starts: N, ids: N) -> Result<u32, ColumnsError>
     ensures rank { IfOk result
         (λ k. HasMatrix rows (N.numbers starts) (N.numbers ids) (λ a. IsRank a k)) }

@@ -1,4 +1,5 @@
-//! Boards of claims that were worked out by hand, with two seats or two workers.
+//! Boards of claims that were worked out by hand, with two seats or two workers. Each has two rows
+//! and one root.
 
 ghost use Rattle.std.specs.Prelude.{◌≡◌, ◌<◌, [], ◌∷◌, length, IfOk};
 ghost use Rattle.claim_words.specs.Answers.{col_before};
@@ -16,16 +17,28 @@ use std::process::Abort;
 use std::thread::{Threads, join_mut};
 use test_gates::BarrierGate;
 
-// A board and its two seats.
+// A step of a seat or a worker, with what it is told at last: who held the row, or which leaf the root
+// had. By none a claim or a win is its own.
+#[derive(Clone, Copy)]
+enum Step {
+    Claim(u32, u32, Option<u32>),
+    Win(u32, Option<u32>),
+    SeeHolder(u32, Option<u32>),
+    SeeLeaf(Option<u32>),
+}
+
+// Steps, each of the seat or the worker with this number.
+type Steps = &'static [(u32, Step)];
+
+// A board, with this holder of row 0 and nothing else, and its two seats.
 fn board_for_two(
     alloc: Global,
-    rows: &[Option<Col>],
-    roots: &[Option<Row>],
+    holder: Option<Col>,
 ) -> Result<(ClaimBoard, ClaimSeat, ClaimSeat), OutOfMemory>
-    ensures board { IfOk result (λ b. (b.0.rows ≡ rows.now) × (b.0.roots ≡ roots.now)) }
+    ensures board { IfOk result (λ b. (length b.0.rows ≡ 2) × (length b.0.roots ≡ 1)) }
     ensures seats { IfOk result (λ b. (b.1 ≡ first_seat b.0 2 nothing) × (b.2 ≡ new_seat b.0 1)) }
 {
-    let (board, mut seats) = ClaimBoard::new(alloc, rows, roots, 2)?;
+    let (board, mut seats) = ClaimBoard::new(alloc, &[holder, None], &[None], 2)?;
     let Some(one) = seats.pop() else {
         unreachable!()
     };
@@ -53,54 +66,133 @@ fn close_for_two(
     }
 }
 
-#[test]
-fn a_row_that_was_held_before(rt: HostRuntime) -> Result<(), OutOfMemory> {
-    let (board, mut zero, _one) = board_for_two(rt.alloc(), &[Some(Col(0))], &[None])?;
-    assert_eq!(rt;
-        board.claim(&mut zero, Row(0), Col(0)),
-        Claimed::Held(Col(0))
-    );
+// The number of a row or a column, if there is one.
+fn number_of<I: Id>(id: Option<I>) -> Option<u32> {
+    match id {
+        Some(id) => Some(id.number()),
+        None => None,
+    }
+}
+
+// The number of the column that a claim was told of.
+fn holder_of(answer: Claimed) -> Option<u32> {
+    match answer {
+        Claimed::Mine => None,
+        Claimed::Held(col) => Some(col.number()),
+    }
+}
+
+// The number of the row that a win was told of.
+fn leaf_of(answer: Won) -> Option<u32> {
+    match answer {
+        Won::Mine => None,
+        Won::Held(row) => Some(row.number()),
+    }
+}
+
+// A seat makes a step, and is told what it is to be told.
+fn make<R: Abort>(rt: &R, board: &ClaimBoard, seat: &mut ClaimSeat, step: Step)
+    requires seat { seat.old.board ≡ board.now }
+    requires words { (length board.now.rows ≡ 2) × (length board.now.roots ≡ 1) }
+    ensures { IsSameSeat seat.old seat.new }
+{
+    match step {
+        Step::Claim(row, col, holder) => {
+            assert!(rt; row < 2);
+            assert!(rt; holder_of(board.claim(seat, Row(row), Col(col))) == holder);
+        }
+        Step::Win(row, leaf) => {
+            assert!(rt; leaf_of(board.win(seat, Col(0), Row(row))) == leaf);
+        }
+        Step::SeeHolder(row, holder) => {
+            assert!(rt; row < 2);
+            assert!(rt; number_of(board.look_row(seat, Row(row))) == holder);
+        }
+        Step::SeeLeaf(leaf) => {
+            assert!(rt; number_of(board.look_root(seat, Col(0))) == leaf);
+        }
+    }
+}
+
+// The seat with this number makes a step.
+fn make_one<R: Abort>(
+    rt: &R,
+    board: &ClaimBoard,
+    zero: &mut ClaimSeat,
+    one: &mut ClaimSeat,
+    step: (u32, Step),
+)
+    requires seats { (zero.old.board ≡ board.now) × (one.old.board ≡ board.now) }
+    requires words { (length board.now.rows ≡ 2) × (length board.now.roots ≡ 1) }
+    ensures { IsSameSeat zero.old zero.new × IsSameSeat one.old one.new }
+{
+    if step.0 == 0 {
+        make(rt, board, zero, step.1);
+    } else {
+        make(rt, board, one, step.1);
+    }
+}
+
+// Both make these steps, in their order.
+fn make_all<R: Abort>(
+    rt: &R,
+    board: &ClaimBoard,
+    zero: &mut ClaimSeat,
+    one: &mut ClaimSeat,
+    steps: &[(u32, Step)],
+)
+    requires seats { (zero.old.board ≡ board.now) × (one.old.board ≡ board.now) }
+    requires words { (length board.now.rows ≡ 2) × (length board.now.roots ≡ 1) }
+    ensures { IsSameSeat zero.old zero.new × IsSameSeat one.old one.new }
+{
+    for step in steps {
+        make_one(rt, board, zero, one, *step);
+    }
+}
+
+// The closed board tells these holders of both rows.
+fn are_held<R: Abort>(rt: &R, closed: &Closed, holders: (Option<u32>, Option<u32>))
+    requires { length closed.now.rows ≡ 2 }
+{
+    let (zero, one) = (closed.holder(Row(0)), closed.holder(Row(1)));
+    assert!(rt; (number_of(zero), number_of(one)) == holders);
+}
+
+// The steps are told what they are to be told, and then the closed board tells these holders of both
+// rows, and this leaf.
+fn goes<R: Abort + AllocGlobal>(
+    rt: &R,
+    holder: Option<Col>,
+    steps: Steps,
+    holders: (Option<u32>, Option<u32>),
+    leaf: Option<u32>,
+) -> Result<(), OutOfMemory> {
+    let (board, mut zero, mut one) = board_for_two(rt.alloc(), holder)?;
+    make_all(rt, &board, &mut zero, &mut one, steps);
+    let closed = close_for_two(rt.alloc(), board, zero, one)?;
+    are_held(rt, &closed, holders);
+    assert!(rt; number_of(closed.leaf(Col(0))) == leaf);
     Ok(())
 }
 
-// The seat gets the row for column 0.
-fn gets_row<R: Abort>(rt: &R, board: &ClaimBoard, seat: &mut ClaimSeat, row: Row)
-    requires seat { seat.old.board ≡ board.now }
-    requires row { row < length board.now.rows }
-    ensures { IsSameSeat seat.old seat.new }
-{
-    assert_eq!(rt; board.claim(seat, row, Col(0)), Claimed::Mine);
+const HELD: Steps = &[(0, Step::Claim(0, 0, Some(0)))];
+
+#[test]
+fn a_row_that_was_held_before(rt: HostRuntime) -> Result<(), OutOfMemory> {
+    goes(&rt, Some(Col(0)), HELD, (Some(0), None), None)
 }
 
-// What a seat is told that wins root 0 for the leaf.
-fn wins<R: Abort>(rt: &R, board: &ClaimBoard, seat: &mut ClaimSeat, leaf: Row, answer: Won)
-    requires seat { seat.old.board ≡ board.now }
-    requires root { 0 < length board.now.roots }
-    ensures { IsSameSeat seat.old seat.new }
-{
-    assert_eq!(rt; board.win(seat, Col(0), leaf), answer);
-}
-
-// The closed board tells this holder of the row.
-fn is_held<R: Abort>(rt: &R, closed: &Closed, row: Row, holder: Option<Col>)
-    requires { row < length closed.now.rows }
-{
-    assert_eq!(rt; closed.holder(row), holder);
-}
+const ONE_LEAF: Steps = &[
+    (0, Step::Claim(0, 0, None)),
+    (1, Step::Claim(1, 0, None)),
+    (0, Step::Win(0, None)),
+    (1, Step::Win(1, Some(0))),
+    (1, Step::SeeLeaf(Some(0))),
+];
 
 #[test]
 fn one_leaf_for_a_root(rt: HostRuntime) -> Result<(), OutOfMemory> {
-    let (board, mut zero, mut one) = board_for_two(rt.alloc(), &[None, None], &[None])?;
-    gets_row(&rt, &board, &mut zero, Row(0));
-    gets_row(&rt, &board, &mut one, Row(1));
-    wins(&rt, &board, &mut zero, Row(0), Won::Mine);
-    wins(&rt, &board, &mut one, Row(1), Won::Held(Row(0)));
-    assert_eq!(rt; board.look_root(&mut one, Col(0)), Some(Row(0)));
-    let closed = close_for_two(rt.alloc(), board, zero, one)?;
-    is_held(&rt, &closed, Row(0), Some(Col(0)));
-    is_held(&rt, &closed, Row(1), Some(Col(0)));
-    assert_eq!(rt; closed.leaf(Col(0)), Some(Row(0)));
-    Ok(())
+    goes(&rt, None, ONE_LEAF, (Some(0), Some(0)), Some(0))
 }
 
 // Both seats claim the row 0 at once, for the columns 0 and 1, once both threads have come.
@@ -135,54 +227,53 @@ fn claim_at_once<R: Threads>(
     )
 }
 
-// The number of the column that a claim was told of.
-fn holder_of(answer: Claimed) -> Option<u32> {
-    match answer {
-        Claimed::Mine => None,
-        Claimed::Held(col) => Some(col.number()),
-    }
-}
-
 // The column that got the row, where one of the two did and the other was told so.
-fn winner(zero: Claimed, one: Claimed) -> Option<Col> {
+fn winner(zero: Claimed, one: Claimed) -> Option<u32> {
     match (holder_of(zero), holder_of(one)) {
-        (None, Some(0)) => Some(Col(0)),
-        (Some(1), None) => Some(Col(1)),
+        (None, Some(0)) => Some(0),
+        (Some(1), None) => Some(1),
         _ => None,
     }
 }
 
-// The seat sees this holder of row 0.
-fn sees_holder<R: Abort>(rt: &R, board: &ClaimBoard, seat: &mut ClaimSeat, holder: Option<Col>)
-    requires seat { seat.old.board ≡ board.now }
-    requires row { 0 < length board.now.rows }
-    ensures { IsSameSeat seat.old seat.new }
+// The column that got row 0, which both seats claim at once. Both see it then.
+fn contend<R: Abort + Threads>(
+    rt: &R,
+    board: &ClaimBoard,
+    gate: &BarrierGate,
+    zero: &mut ClaimSeat,
+    one: &mut ClaimSeat,
+) -> Option<u32>
+    requires seats { (zero.old.board ≡ board.now) × (one.old.board ≡ board.now) }
+    requires words { (length board.now.rows ≡ 2) × (length board.now.roots ≡ 1) }
+    ensures { IsSameSeat zero.old zero.new × IsSameSeat one.old one.new }
 {
-    assert_eq!(rt; board.look_row(seat, Row(0)), holder);
+    let (first, second) = claim_at_once(rt, board, gate, zero, one);
+    let won = winner(first, second);
+    make(rt, board, zero, Step::SeeHolder(0, won));
+    make(rt, board, one, Step::SeeHolder(0, won));
+    won
 }
 
 #[test]
 fn two_threads_on_one_row(rt: HostRuntime) -> Result<(), OutOfMemory> {
     let gate = BarrierGate::new(rt.alloc(), 2)?;
-    let (board, mut zero, mut one) = board_for_two(rt.alloc(), &[None], &[None, None])?;
-    let (first, second) = claim_at_once(&rt, &board, &gate, &mut zero, &mut one);
+    let (board, mut zero, mut one) = board_for_two(rt.alloc(), None)?;
+    let won = contend(&rt, &board, &gate, &mut zero, &mut one);
     have_come_once(&rt, &gate, 2);
-    let won = winner(first, second);
     assert!(rt; won.is_some());
-    sees_holder(&rt, &board, &mut zero, won);
-    sees_holder(&rt, &board, &mut one, won);
     let closed = close_for_two(rt.alloc(), board, zero, one)?;
-    is_held(&rt, &closed, Row(0), won);
+    are_held(&rt, &closed, (won, None));
     Ok(())
 }
 
-// A board of two rows and a root, and its two workers.
+// A board and its two workers.
 fn board_with_workers(alloc: Global) -> Result<(ClaimBoard, Worker, Worker), OutOfMemory>
     ensures board { IfOk result (λ b. (length b.0.rows ≡ 2) × (length b.0.roots ≡ 1)) }
     ensures workers { IfOk result (λ b. (b.1 ≡ seated (first_seat b.0 2 nothing))
         × (b.2 ≡ seated (new_seat b.0 1))) }
 {
-    let (board, zero, one) = board_for_two(alloc, &[None, None], &[None])?;
+    let (board, zero, one) = board_for_two(alloc, None)?;
     Ok((board, Worker::new(alloc, zero), Worker::new(alloc, one)))
 }
 
@@ -208,44 +299,65 @@ fn gather_for_two(
     Ok((zero, one))
 }
 
-// What a worker is told that claims the row for the column.
-fn claims<R: Abort>(
+// A worker makes a step, and is told what it is to be told.
+fn work<R: Abort>(
     rt: &R,
     board: &ClaimBoard,
     worker: &mut Worker,
-    row: Row,
-    col: Col,
-    answer: Claimed,
+    step: Step,
 ) -> Result<(), OutOfMemory>
-    requires seat { worker.old.seat.board ≡ board.now }
-    requires row { row < length board.now.rows }
-    ensures { IsSameSeat worker.old.seat worker.new.seat }
-{
-    assert_eq!(rt; worker.claim(board, row, col)?, answer);
-    Ok(())
-}
-
-// The worker wins root 0 for the leaf in row 1.
-fn wins_root<R: Abort>(rt: &R, board: &ClaimBoard, worker: &mut Worker) -> Result<(), OutOfMemory>
-    requires seat { worker.old.seat.board ≡ board.now }
-    requires root { 0 < length board.now.roots }
-    ensures { IsSameSeat worker.old.seat worker.new.seat }
-{
-    assert_eq!(rt; worker.win(board, Col(0), Row(1))?, Won::Mine);
-    Ok(())
-}
-
-// The worker sees that root 0 has its leaf in row 1, and that column 0 holds this row.
-fn sees_leaf_and_holder<R: Abort>(rt: &R, board: &ClaimBoard, worker: &mut Worker)
     requires seat { worker.old.seat.board ≡ board.now }
     requires words { (length board.now.rows ≡ 2) × (length board.now.roots ≡ 1) }
     ensures { IsSameSeat worker.old.seat worker.new.seat }
 {
-    assert_eq!(rt; worker.look_root(board, Col(0)), Some(Row(1)));
-    assert_eq!(rt; worker.look_row(board, Row(1)), Some(Col(0)));
+    match step {
+        Step::Claim(row, col, holder) => {
+            assert!(rt; row < 2);
+            assert!(rt; holder_of(worker.claim(board, Row(row), Col(col))?) == holder);
+        }
+        Step::Win(row, leaf) => {
+            assert!(rt; leaf_of(worker.win(board, Col(0), Row(row))?) == leaf);
+        }
+        Step::SeeHolder(row, holder) => {
+            assert!(rt; row < 2);
+            assert!(rt; number_of(worker.look_row(board, Row(row))) == holder);
+        }
+        Step::SeeLeaf(leaf) => {
+            assert!(rt; number_of(worker.look_root(board, Col(0))) == leaf);
+        }
+    }
+    Ok(())
+}
+
+// The worker with this number makes a step.
+fn work_one<R: Abort>(
+    rt: &R,
+    board: &ClaimBoard,
+    zero: &mut Worker,
+    one: &mut Worker,
+    step: (u32, Step),
+) -> Result<(), OutOfMemory>
+    requires seats { (zero.old.seat.board ≡ board.now) × (one.old.seat.board ≡ board.now) }
+    requires words { (length board.now.rows ≡ 2) × (length board.now.roots ≡ 1) }
+    ensures { IsSameSeat zero.old.seat zero.new.seat × IsSameSeat one.old.seat one.new.seat }
+{
+    if step.0 == 0 {
+        work(rt, board, zero, step.1)
+    } else {
+        work(rt, board, one, step.1)
+    }
 }
 
 // Worker 0 claims row 0, and worker 1 claims row 1 and wins the root. Each sees what the other did.
+const WORK: Steps = &[
+    (0, Step::Claim(0, 0, None)),
+    (1, Step::Claim(0, 1, Some(0))),
+    (1, Step::Claim(1, 0, None)),
+    (1, Step::Win(1, None)),
+    (0, Step::SeeLeaf(Some(1))),
+    (0, Step::SeeHolder(1, Some(0))),
+];
+
 fn work_by_two<R: Abort>(
     rt: &R,
     board: &ClaimBoard,
@@ -254,14 +366,11 @@ fn work_by_two<R: Abort>(
 ) -> Result<(), OutOfMemory>
     requires seats { (zero.old.seat.board ≡ board.now) × (one.old.seat.board ≡ board.now) }
     requires words { (length board.now.rows ≡ 2) × (length board.now.roots ≡ 1) }
-    ensures zero { IsSameSeat zero.old.seat zero.new.seat }
-    ensures one { IsSameSeat one.old.seat one.new.seat }
+    ensures { IsSameSeat zero.old.seat zero.new.seat × IsSameSeat one.old.seat one.new.seat }
 {
-    claims(rt, board, zero, Row(0), Col(0), Claimed::Mine)?;
-    claims(rt, board, one, Row(0), Col(1), Claimed::Held(Col(0)))?;
-    claims(rt, board, one, Row(1), Col(0), Claimed::Mine)?;
-    wins_root(rt, board, one)?;
-    sees_leaf_and_holder(rt, board, zero);
+    for step in WORK {
+        work_one(rt, board, zero, one, *step)?;
+    }
     Ok(())
 }
 
@@ -281,6 +390,6 @@ fn workers_gather_what_they_list(rt: HostRuntime) -> Result<(), OutOfMemory> {
     one.settle();
     has_fresh_lists(&rt, &one, &[], &[]);
     let closed = close_for_two(rt.alloc(), board, zero.into_seat(), one.into_seat())?;
-    is_held(&rt, &closed, Row(1), Some(Col(0)));
+    are_held(&rt, &closed, (Some(0), Some(0)));
     Ok(())
 }

@@ -21,6 +21,8 @@ mod levels_up;
 #[cfg(test)]
 mod outcomes;
 #[cfg(test)]
+mod searches;
+#[cfg(test)]
 mod shares;
 #[cfg(test)]
 mod small;

@@ -1,10 +1,12 @@
 //! Workers that do their work at once, and their shares of a list.
 
 use crate::outcomes::have_come_once;
-use level_sharing::{Work, processors, share, share_work, work_at_once};
-use sp_ports::MeetGate;
+use level_sharing::{Sharing, Work, processors, share, share_work, work_at_once};
+use sp_ports::{Gate, MeetGate};
 use std::convert::Infallible;
+use std::process::Abort;
 use std::test::Fail;
+use std::thread::Threads;
 use test_gates::BarrierGate;
 
 // So many looks are enough for a thread to start, where it is to be seen that none does.
@@ -28,27 +30,39 @@ impl Work<u64, Infallible> for AddNumber {
     }
 }
 
+// Nine workers work at once at this gate. Each works once.
+fn add_by_nine<R: Threads + Abort + Sync, G: Gate>(rt: &R, gate: &G) {
+    let mut sums = [10, 10, 10, 10, 10, 10, 10, 10, 10];
+    let Ok(()) = work_at_once(rt, gate, &AddNumber, &mut sums);
+    assert_eq!(rt; sums, [10, 11, 12, 13, 14, 15, 16, 17, 18]);
+}
+
+// Two workers share work on so many items at this gate. Each arrives and works once. Whether one of
+// them waited in vain.
+fn add_by_two<R: Threads + Abort + Sync>(rt: &R, gate: &BarrierGate, items: usize) -> bool {
+    let mut sums = [10, 20];
+    let Ok(()) = share_work(rt, &Sharing::usual(gate), &AddNumber, items, &mut sums);
+    assert_eq!(rt; sums, [10, 21]);
+    assert!(rt; gate.have_arrived(2, 1));
+    gate.ran_out()
+}
+
 #[test]
 fn each_worker_arrives_once_and_works_once(rt: HostRuntime) -> Result<(), Fail> {
     let gate = MeetGate::new(rt.alloc())?;
-    let mut sums = [10, 20, 30];
-    let Ok(()) = work_at_once(&rt, &gate, &AddNumber, &mut sums);
-    assert_eq!(rt; sums, [10, 21, 32]);
-    assert_eq!(rt; gate.arrivals(0), 1);
-    assert_eq!(rt; gate.arrivals(1), 1);
-    assert_eq!(rt; gate.arrivals(2), 1);
-    assert_eq!(rt; gate.arrivals(3), 0);
-    assert!(rt; !gate.ran_out());
+    add_by_nine(&rt, &gate);
+    for worker in 0..9 {
+        assert_eq!(rt; gate.arrivals(worker), 1);
+    }
+    assert!(rt; gate.arrivals(9) == 0 && !gate.ran_out());
     Ok(())
 }
 
 #[test]
 fn three_workers_work_at_once(rt: HostRuntime) -> Result<(), Fail> {
     let gate = BarrierGate::new(rt.alloc(), 3)?;
-    let mut sums = [10, 20, 30];
-    let Ok(()) = work_at_once(&rt, &gate, &AddNumber, &mut sums);
-    assert_eq!(rt; sums, [10, 21, 32]);
-    have_come_once(&rt, &gate, 3);
+    add_by_nine(&rt, &gate);
+    have_come_once(&rt, &gate, 9);
     Ok(())
 }
 
@@ -56,10 +70,7 @@ fn three_workers_work_at_once(rt: HostRuntime) -> Result<(), Fail> {
 #[test]
 fn little_work_starts_no_thread(rt: HostRuntime) -> Result<(), Fail> {
     let gate = BarrierGate::without_threads(rt.alloc(), 2, FEW_TURNS)?;
-    let mut sums = [10, 20];
-    let Ok(()) = share_work(&rt, &gate, &AddNumber, 499_999, &mut sums);
-    assert_eq!(rt; sums, [10, 21]);
-    assert!(rt; gate.have_arrived(2, 1) && gate.ran_out());
+    assert!(rt; add_by_two(&rt, &gate, 499_999));
     Ok(())
 }
 
@@ -69,11 +80,7 @@ fn much_work_is_done_at_once(rt: HostRuntime) -> Result<(), Fail> {
     let alone = processors(&rt) == 1;
     let turns = if alone { FEW_TURNS } else { 10_000_000 };
     let gate = BarrierGate::without_threads(rt.alloc(), 2, turns)?;
-    let mut sums = [10, 20];
-    let Ok(()) = share_work(&rt, &gate, &AddNumber, 500_000, &mut sums);
-    assert_eq!(rt; sums, [10, 21]);
-    assert!(rt; gate.have_arrived(2, 1));
-    assert_eq!(rt; gate.ran_out(), alone);
+    assert_eq!(rt; add_by_two(&rt, &gate, 500_000), alone);
     Ok(())
 }
 
@@ -85,9 +92,7 @@ fn no_more_threads_than_processors(rt: HostRuntime) -> Result<(), Fail> {
     let parties = processors(&rt).min(8) as u32 + 1;
     let turns = if fewer { FEW_TURNS } else { 10_000_000 };
     let gate = BarrierGate::without_threads(rt.alloc(), parties, turns)?;
-    let mut sums = [10, 10, 10, 10, 10, 10, 10, 10, 10];
-    let Ok(()) = work_at_once(&rt, &gate, &AddNumber, &mut sums);
-    assert_eq!(rt; sums, [10, 11, 12, 13, 14, 15, 16, 17, 18]);
+    add_by_nine(&rt, &gate);
     assert!(rt; gate.have_arrived(9, 1));
     assert_eq!(rt; gate.ran_out(), fewer);
     Ok(())
@@ -96,10 +101,7 @@ fn no_more_threads_than_processors(rt: HostRuntime) -> Result<(), Fail> {
 #[test]
 fn a_gate_can_ask_for_threads(rt: HostRuntime) -> Result<(), Fail> {
     let gate = BarrierGate::new(rt.alloc(), 2)?;
-    let mut sums = [10, 20];
-    let Ok(()) = share_work(&rt, &gate, &AddNumber, 0, &mut sums);
-    assert_eq!(rt; sums, [10, 21]);
-    have_come_once(&rt, &gate, 2);
+    assert!(rt; !add_by_two(&rt, &gate, 0));
     Ok(())
 }
 

@@ -7,8 +7,8 @@ ghost use Rattle.bottleneck.specs.Heavier.{WeighAtLeast};
 ghost use Rattle.sp_pattern.specs.Weights.{weight_at};
 
 use bip_graph::Matching;
+use breadth_first_match::complete;
 use karp_sipser::start;
-use pothen_fan::complete;
 use sp_ids::{Col, OutOfMemory};
 use sp_pattern::{Pattern, Weights};
 use std::alloc::Global;

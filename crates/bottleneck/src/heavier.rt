@@ -9,7 +9,7 @@ ghost use Rattle.bottleneck.specs.Heavier.{IsHeavier};
 ghost use Rattle.sp_pattern.specs.Weights.{weight_at};
 
 use bip_graph::Matching;
-use pothen_fan::complete;
+use breadth_first_match::complete;
 use sp_ids::{Col, OutOfMemory, Row};
 use sp_pattern::{Pattern, Weights};
 use std::alloc::Global;

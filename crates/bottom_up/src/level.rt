@@ -14,7 +14,7 @@ use crate::search::BottomUpSearch;
 use claim_words::{ClaimBoard, Worker, workers_are_few};
 use forest_core::{Forest, new_pairs_run};
 use level_sharing::{
-    levels_are_legal, levels_are_shown, levels_go_through_rows, levels_keep_to_shares,
+    Sharing, levels_are_legal, levels_are_shown, levels_go_through_rows, levels_keep_to_shares,
     progress_keeps_seats, share_work, workers_are_at_the_start,
 };
 use sp_ids::{OutOfMemory, Row};
@@ -60,6 +60,34 @@ pub fn attach<R: Threads + Sync, G: Gate>(
         → Among r (rows_of (grown forest.entry.now workers.new).claims)
         ⊎ HasWon (grown forest.entry.now workers.new) c) }
 {
+    attach_under(rt, forest, board, free, workers, &Sharing::usual(gate))
+}
+
+/// [`attach`], where it is told how many rows are worth threads.
+pub fn attach_under<R: Threads + Sync, G: Gate>(
+    rt: &R,
+    forest: &Forest,
+    board: &ClaimBoard,
+    free: &[Row],
+    workers: &mut [Worker],
+    sharing: &Sharing<'_, G>,
+) -> Result<(), OutOfMemory>
+    requires agree { Agree board.now workers.old forest.now.claims forest.now.leaves }
+    requires board_rows { length board.now.rows ≡ forest.now.matrix.rows }
+    requires board_roots { length board.now.roots ≡ cols forest.now.matrix }
+    requires settled { IsSettled forest.now }
+    requires rows { (r : ℕ) → Among r free.now → r < forest.now.matrix.rows }
+    ensures legal { Runs forest.entry.now (fresh_events workers.new)
+        (grown forest.entry.now workers.new) }
+    ensures words { Shows board.entry.now workers.new
+        (grown forest.entry.now workers.new).claims (grown forest.entry.now workers.new).leaves }
+    ensures shares { KeepToRows free.entry.now workers.new }
+    ensures settled { OnOk result (IsSettled (grown forest.entry.now workers.new)) }
+    ensures rows { OnOk result ((r c : ℕ) → Among r free.entry.now
+        → IsEntry forest.entry.now.matrix r c → InForest forest.entry.now c
+        → Among r (rows_of (grown forest.entry.now workers.new).claims)
+        ⊎ HasWon (grown forest.entry.now workers.new) c) }
+{
     workers_are_few(workers);
     new_pairs_run();
     workers_are_at_the_start();
@@ -75,7 +103,7 @@ pub fn attach<R: Threads + Sync, G: Gate>(
         free,
         workers: count,
     };
-    let result = share_work(rt, gate, &search, free.len(), workers);
+    let result = share_work(rt, sharing, &search, free.len(), workers);
     board.gather(workers);
     result
 }

@@ -9,4 +9,4 @@
 mod level;
 mod search;
 
-pub use level::attach;
+pub use level::{attach, attach_under};

@@ -2,7 +2,7 @@
 use Rattle.std.specs.Prelude.{◌≡◌, ℕ}
 use Rattle.std.specs.declared.io.ErrorKind.{ErrorKind}
 use Rattle.std.specs.declared.io.ErrorKind.TheVariants as kinds
-use Rattle.sp_ports.specs.Device.{Device, FailsOnceAtMost, IsUntouched, WroteAsFar}
+use Rattle.sp_ports.specs.Device.{CountHasNotFallen, Device, IsUntouched, WroteAsFar}
 use Rattle.btf_tool.specs.Jobs.{GavePrefix, OfReading}
 use Rattle.btf_tool.specs.Runs.{Run}
 use Rattle.batch_core.specs.BatchRefusals.{line_of, status_of}
@@ -17,10 +17,10 @@ pub record EndsWith (r : Run) (number : ℕ) : Type 0 where
   pub status : Status
   pub says : Says r status
   pub complete : Completes r status
-  -- at most one call of each device fails
-  pub input_once : FailsOnceAtMost r.input
-  pub out_once : FailsOnceAtMost r.out
-  pub err_once : FailsOnceAtMost r.err
+  -- no device's count of failures falls
+  pub input_count : CountHasNotFallen r.input
+  pub out_count : CountHasNotFallen r.out
+  pub err_count : CountHasNotFallen r.err
   -- what the input has left is the end of what it had, and at most one byte past its limit was taken
   pub gave : OfReading r.input GavePrefix
   pub number_is : number ≡ exit_code status

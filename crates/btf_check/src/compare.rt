@@ -4,8 +4,10 @@ ghost use Rattle.std.specs.Prelude.{◌≡◌, ◌↔◌, ℕ, ◌<◌, ◌++◌
 ghost use Rattle.bip_defs.specs.Lists.{Among, AreDistinct};
 ghost use Rattle.bip_graph.specs.Decompositions.{components_of};
 ghost use Rattle.btf_check.specs.ReportParts.{AreOnce};
+ghost use Rattle.btf_text.specs.ReportRead.{listed_in};
 
 use bip_graph::{Blocks, Components};
+use btf_text::ListedComponents;
 use sp_ids::{Col, Id, OutOfMemory, Row};
 use std::alloc::Global;
 
@@ -71,11 +73,11 @@ pub(crate) fn same_blocks(a: &Blocks, b: &Blocks) -> bool
     true
 }
 
-/// Whether two answers have the same components in the same order.
-pub(crate) fn same_components(a: &Components, b: &Components) -> bool
-    ensures { IsTrue result ↔ (components_of a.now ≡ components_of b.now) }
+/// Whether a report lists these components, in the same order.
+pub(crate) fn same_components(told: &ListedComponents, own: &Components) -> bool
+    ensures { IsTrue result ↔ (listed_in told.now ≡ components_of own.now) }
 {
-    same_blocks(&a.horizontal, &b.horizontal) && same_blocks(&a.vertical, &b.vertical)
+    told.horizontal.are(&own.horizontal) && told.vertical.are(&own.vertical)
 }
 
 /// Whether a list of rows is three others, one after another.

@@ -7,9 +7,8 @@ ghost use Rattle.bip_defs.specs.Matching.{IsMaximum, cols_of};
 ghost use Rattle.bip_graph.specs.Decompositions.{HasParts, parts_of};
 ghost use Rattle.btf_check.specs.ReportParts.{HasOuterParts, HasSizes};
 ghost use Rattle.btf_check.specs.Reasons.{AreOrdersOf, TellsParts};
-ghost use Rattle.btf_text.specs.ReportRead.{orders_in, contents};
+ghost use Rattle.btf_text.specs.ReportRead.{components_read, contents, orders_in};
 ghost use Rattle.btf_check.specs.Verdicts.{IsJudged};
-ghost use Rattle.btf_text.specs.Reports.{components_in};
 
 use crate::Verdict;
 use crate::compare::{
@@ -68,7 +67,7 @@ fn tells_components(
     requires { HasParts pattern.now parts.now }
     ensures { IfOk result
         (λ b. IsTrue b
-        ↔ IfSome (components_in report.now.components) (AreConnectedComponents pattern.now)) }
+        ↔ IfSome (components_read report.now.components) (AreConnectedComponents pattern.now)) }
 {
     let Some(told) = &report.components else {
         return Ok(true);

@@ -19,7 +19,7 @@ use Rattle.btf_text.proofs.Spelled.{bind_some, some_is, unless_some, where_some}
 abbrev component_line : ℕ → List ℕ → List ℕ → TextLine
 component_line number rows cols = line (codes "component") (number ∷ length rows ∷ length cols ∷ [])
 
-record IsComponentOf (number : ℕ) (bytes : List ℕ) (x : (List ℕ × List ℕ) × List ℕ) : Type 0 where
+pub record IsComponentOf (number : ℕ) (bytes : List ℕ) (x : (List ℕ × List ℕ) × List ℕ) : Type 0 where
   pub spells : bytes ≡ text_of (component_line number x.0.0 x.0.1 ∷ lists x.0.0 x.0.1) ++ x.1
   pub like : IsComponentLike (record { rows = x.0.0; cols = x.0.1 })
 
@@ -29,7 +29,7 @@ line_of number m n i j k rest a b c =
     ∙ ap (λ (u : ℕ). spelled (line (codes "component") (i ∷ u ∷ n ∷ [])) ++ rest) b
     ∙ ap (λ (u : ℕ). spelled (line (codes "component") (i ∷ j ∷ u ∷ [])) ++ rest) c
 
-component_takes : (number : ℕ) (bytes : List ℕ) (x : (List ℕ × List ℕ) × List ℕ) → component_at number bytes ≡ Some x → IsComponentOf number bytes x
+pub component_takes : (number : ℕ) (bytes : List ℕ) (x : (List ℕ × List ℕ) × List ℕ) → component_at number bytes ≡ Some x → IsComponentOf number bytes x
 unfolding component_at
 component_takes number bytes x e =
     let word : List ℕ = codes "component" in

@@ -1,6 +1,7 @@
 pub mod BlockLists
 pub mod Bodies
 pub mod BufferLaws
+pub mod ComponentArrays
 pub mod ComponentLists
 pub mod Digits
 pub mod Halves

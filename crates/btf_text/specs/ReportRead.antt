@@ -1,11 +1,12 @@
 -- What a report that was read says.
 use Rattle.std.specs.Prelude.{◌≡◌, ℕ, List, [], Option, Some, None}
 use Rattle.std.specs.Global.{Vec}
+use Rattle.bip_defs.specs.ConnectedComponents.{Components}
 use Rattle.bip_graph.specs.Texts as texts
 use Rattle.sp_ids.specs.declared.ids.Col.{Col}
 use Rattle.sp_ids.specs.declared.ids.Row.{Row}
-use Rattle.btf_text.specs.Reports.{components_in}
 use Rattle.btf_text.specs.ReportGrammar as grammar
+use Rattle.btf_text.specs.declared.listed_components.ListedComponents.{ListedComponents}
 use Rattle.btf_text.specs.declared.reader.Body.{Body}
 use Rattle.btf_text.specs.declared.reader.Report.{Report}
 
@@ -13,11 +14,20 @@ abbrev pub orders_in : Option (Vec Row × Vec Col) → Option (List ℕ × List 
 orders_in None = None
 orders_in (Some orders) = Some (orders.0.items, orders.1.items)
 
+-- the components of both parts
+abbrev pub listed_in : ListedComponents → Components
+listed_in c = record { horizontal = c.horizontal; vertical = c.vertical }
+
+-- the components, where there are any
+abbrev pub components_read : Option ListedComponents → Option Components
+components_read None = None
+components_read (Some c) = Some (listed_in c)
+
 abbrev pub contents : Report → texts.Report
 contents r = record {
   sizes = record { rows = r.m; cols = r.n; entries = r.e };
   rank = r.rank;
-  components = components_in r.components;
+  components = components_read r.components;
   horizontal_rows = r.parts.hr.items;
   horizontal_cols = r.parts.hc.items;
   blocks = r.blocks;

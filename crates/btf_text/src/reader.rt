@@ -5,14 +5,14 @@ ghost use Rattle.bip_graph.specs.Texts as texts;
 ghost use Rattle.bip_graph.specs.Texts.{report_text};
 ghost use Rattle.bip_graph.specs.Answers.{where_asked};
 ghost use Rattle.btf_text.specs.Readable.{IsReadable};
-ghost use Rattle.btf_text.specs.Reports.{components_in};
 ghost use Rattle.btf_text.specs.ReportGrammar.{ReadsAs, body_at, head_at, report_at, sizes_at, tail_at, version_at};
-ghost use Rattle.btf_text.specs.ReportRead.{GivesSquareByBlocks, HasVersion, contents, lists_in, orders_in};
+ghost use Rattle.btf_text.specs.ReportRead.{GivesSquareByBlocks, HasVersion, components_read, contents, lists_in, orders_in};
 
+use crate::listed_components::{ComponentList, ListedComponents};
 use crate::numerals::{field_at, line_end, one_at, word_at};
 use crate::sections::{components_at, orders_at, pairs_at, part_at, square_at};
 use crate::stop::Stop;
-use bip_graph::{Blocks, Components, Parts};
+use bip_graph::{Blocks, Parts};
 use sp_ids::{Col, OutOfMemory, Row};
 use std::alloc::Global;
 
@@ -34,7 +34,7 @@ pub struct Report {
     pub rank: u32,
     pub parts: Parts,
     pub blocks: Blocks,
-    pub components: Option<Components>,
+    pub components: Option<ListedComponents>,
     pub pairs: Vec<(Row, Col)>,
     pub orders: Option<(Vec<Row>, Vec<Col>)>,
 }
@@ -82,11 +82,11 @@ fn head_at(bytes: &[u8]) -> Result<(((u32, u32, u32), u32), &[u8]), Stop>
 struct Body {
     hr: Vec<Row>,
     hc: Vec<Col>,
-    horizontal: Blocks,
+    horizontal: ComponentList,
     blocks: Blocks,
     vr: Vec<Row>,
     vc: Vec<Col>,
-    vertical: Blocks,
+    vertical: ComponentList,
 }
 
 /// What stands between the head and the orders; version 1 has no components.
@@ -133,21 +133,25 @@ fn tail_at(alloc: Global, bytes: &[u8]) -> Result<Tail, Stop>
 }
 
 /// The components of both parts, in version 2.
-fn in_version(version: u32, horizontal: Blocks, vertical: Blocks) -> Option<Components>
-    ensures { components_in result
+fn in_version(
+    version: u32,
+    horizontal: ComponentList,
+    vertical: ComponentList,
+) -> Option<ListedComponents>
+    ensures { components_read result
         ≡ where_asked (version == 2) (record { horizontal = horizontal; vertical = vertical }) }
 {
     if version != 2 {
         return None;
     }
-    Some(Components {
+    Some(ListedComponents {
         horizontal,
         vertical,
     })
 }
 
 /// The version of a report with these components, or with none.
-fn version_of(components: &Option<Components>) -> u32
+fn version_of(components: &Option<ListedComponents>) -> u32
     ensures { result ≡ texts.version_of components.now }
 {
     match components {
@@ -193,10 +197,10 @@ fn report_at(alloc: Global, bytes: &[u8]) -> Result<Report, Stop>
 /// Reads a report with pairs, of version 1 or 2, with or without orders: all of the bytes, from
 /// `btf` to the end of the line `end`.
 ///
-/// Answers `None` exactly where the bytes are not such a report, and `OutOfMemory` where its lists
-/// can't be had. No list is reserved by a number of the text: each grows as its numbers are read,
-/// to 4 bytes each, 8 a block or component and 8 a pair. The blocks, and the components of a part,
-/// can be had up to 2^32 - 1 rows and as many columns in all. Work: one look at each byte.
+/// Answers `None` exactly where the bytes are not such a report, and `OutOfMemory` where there is
+/// not enough memory for its lists. No list is reserved by a number of the text: each grows as its
+/// numbers are read, to 4 bytes each, 8 a block or component and 8 a pair. Components may list as
+/// many rows and columns in all as the bytes hold. Work: one look at each byte.
 pub fn read_report(alloc: Global, bytes: &[u8]) -> Result<Option<Report>, OutOfMemory>
     // What is read is spelled so, each byte of it.
     ensures found { IfOk result

@@ -5,6 +5,7 @@ ghost use Rattle.bip_defs.specs.Matching.{cols_of};
 ghost use Rattle.btf_text.specs.ReportGrammar.{ReadsAs, block_at, blocks_at, both_orders_at, lists_at, orders_at, pair_at, pair_list_at, pairs_at, part_at, rises, square_at, component_at, components_at, counted_at, numbered_at};
 ghost use Rattle.btf_text.specs.ReportRead.{orders_in};
 
+use crate::listed_components::ComponentList;
 use crate::numerals::{
     field_at, id_of, line_end, list_at, number_at, one_at, rises, three_at, two_at,
 };
@@ -119,10 +120,10 @@ fn component_at(
 }
 
 /// So many components, numbered from 1.
-fn numbered_at(alloc: Global, bytes: &[u8], count: u32) -> Result<(Blocks, &[u8]), Stop>
+fn numbered_at(alloc: Global, bytes: &[u8], count: u32) -> Result<(ComponentList, &[u8]), Stop>
     ensures { ReadsAs (λ x. (x.0, x.1.now)) result (numbered_at count 1 bytes.now) }
 {
-    let mut read = Blocks::new(alloc);
+    let mut read = ComponentList::new(alloc);
     let mut rest = bytes;
     for at in 0..count {
         let ((rows, cols), after) = component_at(alloc, rest, at + 1)?;
@@ -134,7 +135,11 @@ fn numbered_at(alloc: Global, bytes: &[u8], count: u32) -> Result<(Blocks, &[u8]
 
 /// The number of components, and the components.
 #[tactic(auto, unfolding(crate::specs::ReportGrammar::counted_at))]
-fn counted_at<'a>(alloc: Global, bytes: &'a [u8], word: &[u8]) -> Result<(Blocks, &'a [u8]), Stop>
+fn counted_at<'a>(
+    alloc: Global,
+    bytes: &'a [u8],
+    word: &[u8],
+) -> Result<(ComponentList, &'a [u8]), Stop>
     ensures { ReadsAs (λ x. (x.0, x.1.now)) result (counted_at word.now bytes.now) }
 {
     let (count, rest) = one_at(bytes, word)?;
@@ -148,11 +153,11 @@ pub(crate) fn components_at<'a>(
     bytes: &'a [u8],
     version: u32,
     word: &[u8],
-) -> Result<(Blocks, &'a [u8]), Stop>
+) -> Result<(ComponentList, &'a [u8]), Stop>
     ensures { ReadsAs (λ x. (x.0, x.1.now)) result (components_at version word.now bytes.now) }
 {
     if version != 2 {
-        return Ok((Blocks::new(alloc), bytes));
+        return Ok((ComponentList::new(alloc), bytes));
     }
     counted_at(alloc, bytes, word)
 }

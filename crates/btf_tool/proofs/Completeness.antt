@@ -25,7 +25,7 @@ use Rattle.btf_tool.specs.declared.answers.Answer.{Answer}
 use Rattle.btf_tool.specs.declared.answers.Answer.TheVariants.{Negative, Positive}
 use Rattle.btf_tool.specs.declared.refusals.Refusal.{Refusal}
 use Rattle.btf_tool.specs.declared.refusals.Refusal.TheVariants.{Usage, Malformed, Limit, TooLong, SumLimit, NeedsInteger, ReadFault, WriteFault, OutOfMemory}
-use Rattle.sp_ports.specs.Device.{Device, FailsOnceAtMost, HasWriteFault, IsSteady, IsUntouched, WroteAsFar}
+use Rattle.sp_ports.specs.Device.{CountHasNotFallen, Device, HasWriteFault, IsSteady, IsUntouched, WroteAsFar}
 use Rattle.btf_tool.specs.Jobs.{GavePrefix, IsFitFor, IsMatrixOf, IsTextOf, NeedsIntegers, OfReading, ReadsFile, WasRead, Weighs, WithAnswer, WithFileAnswer, drops_of, form_of, reading}
 use Rattle.btf_tool.specs.Inputs.{Form, IsGoodInput, first_bad_in}
 use Rattle.btf_tool.specs.Inputs as forms
@@ -443,19 +443,19 @@ untouched_gave input same =
     still None = tt
     still (Some x) = record { gave = []; in_order = refl; few = omega arith }
 
--- no call of it has failed
-pub untouched_counts : (d : Device) → IsUntouched d → FailsOnceAtMost d
-untouched_counts d same = record { later = omega (arith, same.1); once = omega (arith, same.1) }
+-- the count of a device that was not used has not fallen
+pub untouched_counts : (d : Device) → IsUntouched d → CountHasNotFallen d
+untouched_counts d same = omega (arith, same.1)
 
--- a device that did not fail, or that failed once, failed once at most
-steady_counts : (d : Device) → IsSteady d → FailsOnceAtMost d
-steady_counts d same = record { later = omega (arith, same); once = omega (arith, same) }
+-- nor has that of a device whose calls all succeeded
+steady_counts : (d : Device) → IsSteady d → CountHasNotFallen d
+steady_counts d same = omega (arith, same)
 
-pub job_counts : (job : Job) (input out : Device) (result : Result Answer Refusal) → JobSays job input out result → FailsOnceAtMost input × FailsOnceAtMost out
+pub job_counts : (job : Job) (input out : Device) (result : Result Answer Refusal) → JobSays job input out result → CountHasNotFallen input × CountHasNotFallen out
 job_counts job input out (Ok answer) says = (steady_counts input says.1, steady_counts out says.2)
 job_counts job input out (Err refusal) says = (says.0, says.1)
 
-pub line_counts : (d : Device) (text : List ℕ) → WroteAsFar d text → FailsOnceAtMost d
+pub line_counts : (d : Device) (text : List ℕ) → WroteAsFar d text → CountHasNotFallen d
 line_counts d text (inl took) = steady_counts d took.steady
 line_counts d text (inr took) = took.counts
 

@@ -21,7 +21,7 @@ use Rattle.btf_tool.specs.declared.answers.Answer.TheVariants.{Negative, Positiv
 use Rattle.btf_tool.specs.declared.refusals.Refusal.{Refusal}
 use Rattle.btf_tool.specs.declared.refusals.Refusal.TheVariants.{WriteFault, OutOfMemory}
 use Rattle.mm_reader.specs.EntryLimits.{AreWithinLimits}
-use Rattle.sp_ports.specs.Device.{Device, FailsOnceAtMost, IsUntouched, Took, TookPrefix}
+use Rattle.sp_ports.specs.Device.{CountHasNotFallen, Device, IsUntouched, Took, TookPrefix}
 use Rattle.btf_tool.specs.Jobs.{IsFitFor, IsMatrixOf, IsTextOf, MayAnswer, OfReading, ReadsFile, WasRead, WithAnswer, WithFileAnswer, drops_of, form_of}
 use Rattle.btf_tool.specs.VerdictText.{IsVerdictText, answer_of, verdict_text}
 use Rattle.btf_tool.specs.Runs.{IsReadAs, JobSays}
@@ -34,7 +34,7 @@ as_refusal (Ok v) refusal Q is q = absurd is
 as_refusal (Err e) refusal Q is q = subst (λ (r : Refusal). Q (Err r)) (sym is) q
 
 -- memory ran out after the reading
-pub no_memory : (job : Job) (input out : Device) (t : Entries) (rest : List ℕ) → IsReadAs (form_of job) input t rest → FailsOnceAtMost input → IsUntouched out → JobSays job input out (Err OutOfMemory)
+pub no_memory : (job : Job) (input out : Device) (t : Entries) (rest : List ℕ) → IsReadAs (form_of job) input t rest → CountHasNotFallen input → IsUntouched out → JobSays job input out (Err OutOfMemory)
 no_memory job input out t rest says later same = (later, untouched_counts out same, (where_known input.before input.after says.1 (λ x y before h. tt), same))
 
 -- a job that reads a file answers over it
@@ -72,7 +72,7 @@ pub job_written : (job : Job) (answer : Answer) (input out : Device) (text : Lis
 job_written job answer input out text t rest a reads says within fit matrix fits is_text took =
     (may_answer job answer t a rest text is_text, says.0, took.steady, with_answer job answer input (Took out) text t rest a reads says.1 within fit matrix fits is_text took)
 
-pub job_not_written : (job : Job) (answer : Answer) (input out : Device) (text : List ℕ) (t : Entries) (rest : List ℕ) (a : Matrix) → ReadsFile job → IsReadAs (form_of job) input t rest → AreWithinLimits t → FailsOnceAtMost input
+pub job_not_written : (job : Job) (answer : Answer) (input out : Device) (text : List ℕ) (t : Entries) (rest : List ℕ) (a : Matrix) → ReadsFile job → IsReadAs (form_of job) input t rest → AreWithinLimits t → CountHasNotFallen input
     → IsFitFor job t → IsMatrixOf (drops_of job) t a → IsPattern a → IsTextOf job t a rest answer text → TookPrefix out text → JobSays job input out (Err WriteFault)
 job_not_written job answer input out text t rest a reads says within counts fit matrix fits is_text prefix =
     (counts, prefix.counts, (prefix.fault, says.0, (answer, with_answer job answer input (TookPrefix out) text t rest a reads says.1 within fit matrix fits is_text prefix)))

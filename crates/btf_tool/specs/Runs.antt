@@ -21,7 +21,7 @@ use Rattle.btf_tool.specs.declared.answers.Answer.{Answer}
 use Rattle.btf_tool.specs.declared.answers.Answer.TheVariants.{Negative, Positive}
 use Rattle.btf_tool.specs.declared.refusals.Refusal.{Refusal}
 use Rattle.btf_tool.specs.declared.refusals.Refusal.TheVariants.{Usage, Malformed, Limit, TooLong, SumLimit, NeedsInteger, ReadFault, WriteFault, OutOfMemory}
-use Rattle.sp_ports.specs.Device.{Device, FailsOnceAtMost, IsSteady, IsUntouched, HasReadFault, HasWriteFault, Took, TookPrefix, WroteAsFar}
+use Rattle.sp_ports.specs.Device.{CountHasNotFallen, Device, IsSteady, IsUntouched, HasReadFault, HasWriteFault, Took, TookPrefix, WroteAsFar}
 use Rattle.btf_tool.specs.Jobs.{Holds, IsFitFor, IsMatrixOf, MayAnswer, NeedsIntegers, OfReading, ReadsFile, WasRead, Weighs, WithAnswer, drops_of, form_of}
 use Rattle.btf_tool.specs.Inputs.{Form, IsGoodInput, first_bad_in, first_fault_in}
 use Rattle.btf_tool.specs.VerdictText.{answer_of}
@@ -145,15 +145,15 @@ IsNoMatrix drop_zeros t refusal = ⊥
 abbrev pub JobSays : Job → Device → Device → Result Answer Refusal → Type 0
 JobSays job input out (Ok answer) = MayAnswer job answer × IsSteady input × IsSteady out
     × WithAnswer job answer input (Took out)
-JobSays job input out (Err refusal) = FailsOnceAtMost input × FailsOnceAtMost out
+JobSays job input out (Err refusal) = CountHasNotFallen input × CountHasNotFallen out
     × IsCause job input out refusal
 
 -- What a refusal says of a run.
 abbrev pub HasCause : Run → Refusal → Type 0
 -- the words are not taken, and nothing was read or written
 HasCause r Usage = (¬ AreTaken r.words) × IsUntouched r.input × IsUntouched r.out
-HasCause r OutOfMemory = FailsOnceAtMost r.input × StaysKnown r.input × IsUntouched r.out
-HasCause r refusal = (job : Job) × Names r.words job × FailsOnceAtMost r.input
+HasCause r OutOfMemory = CountHasNotFallen r.input × StaysKnown r.input × IsUntouched r.out
+HasCause r refusal = (job : Job) × Names r.words job × CountHasNotFallen r.input
     × IsCause job r.input r.out refusal
 
 -- The run was refused: the status is the refusal's, its line was written, and it has its cause.

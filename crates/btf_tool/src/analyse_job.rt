@@ -10,7 +10,7 @@ ghost use Rattle.sp_ports.specs.Device.{seen};
 ghost use Rattle.btf_tool.specs.Jobs.{GavePrefix, OfReading};
 ghost use Rattle.btf_tool.specs.Runs.{JobSays};
 
-use crate::decompose::{decompose, matched_parts};
+use crate::decompose::{decompose, matched_parts_for};
 use crate::engines::least_if_asked;
 use crate::matrix::matrix_of;
 use crate::reading::read_file;
@@ -96,8 +96,9 @@ fn analysis_of<R: Threads + Sync, G: Gate>(
     ensures of_version { IfOk result
         (λ a. AreOfVersion pattern.now options.report.version (components_in a.components)) }
 {
-    let (found, parts) = matched_parts(rt, alloc, pattern, options.choice, gate)?;
-    let matching = least_if_asked(alloc, pattern, found, &parts, options.report.least)?;
+    let (choice, least) = (options.choice, options.report.least);
+    let (found, parts) = matched_parts_for(rt, alloc, pattern, choice, least, gate)?;
+    let matching = least_if_asked(alloc, pattern, found, &parts, least)?;
     let decomposition = decompose(alloc, pattern, &matching, parts)?;
     let components = components_for(alloc, options.report.version, pattern, &decomposition.parts)?;
     Ok(Analysis {

@@ -8,9 +8,11 @@ ghost use Rattle.btf_words.specs.Words.{HasWorkers};
 
 use crate::engines::matching_for;
 use bip_graph::{Decomposition, Matching, OuterMarks, Parts};
-use btf_words::EngineChoice;
+use breadth_first_match::complete_with_marks;
+use btf_words::{Engine, EngineChoice};
 use dm_coarse::{coarse, coarse_by_marks};
 use dm_fine::fine;
+use karp_sipser::start;
 use sp_ids::OutOfMemory;
 use sp_pattern::Pattern;
 use sp_ports::Gate;
@@ -34,6 +36,33 @@ pub(crate) fn matched_parts<R: Threads + Sync, G: Gate>(
     let (matching, marks) = matching_for(rt, alloc, pattern, choice, gate)?;
     let parts = parts_from(rt, alloc, pattern, &matching, marks)?;
     Ok((matching, parts))
+}
+
+/// [`matched_parts`] for a report, whose pairs may be those of the least maximum matching.
+///
+/// Where they are, the engines `Pf` and `Graft` give way to breadth-first phases on the calling
+/// thread: a depth-first path takes many columns away from their least rows, each of which the
+/// search for the least matching would have to take back.
+pub(crate) fn matched_parts_for<R: Threads + Sync, G: Gate>(
+    rt: &R,
+    alloc: Global,
+    pattern: &Pattern,
+    choice: EngineChoice,
+    least: bool,
+    gate: &G,
+) -> Result<(Matching, Parts), OutOfMemory>
+    requires workers { HasWorkers choice }
+    ensures maximum { IfOk result (λ p. IsMaximumOf pattern.now p.0) }
+    ensures parts { IfOk result (λ p. HasParts pattern.now p.1) }
+{
+    let searches_depth_first = matches!(choice.engine, Engine::Pf | Engine::Graft);
+    if !least || !searches_depth_first {
+        return matched_parts(rt, alloc, pattern, choice, gate);
+    }
+    let matching = start(alloc, pattern)?;
+    let (maximum, marks) = complete_with_marks(alloc, pattern, matching)?;
+    let parts = coarse_by_marks(alloc, pattern, &maximum, &marks)?;
+    Ok((maximum, parts))
 }
 
 /// The coarse parts, from a maximum matching: by what the last phase has marked and one search from

@@ -6,7 +6,7 @@ ghost use Rattle.mm_defs.specs.Words.{lines};
 ghost use Rattle.mm_frames.specs.Edits.{IsWithinMatrix, edits_of};
 ghost use Rattle.mm_reader.specs.EntryLimits.{AreWithinLimits};
 ghost use Rattle.btf_tool.specs.Inputs as forms;
-ghost use Rattle.sp_ports.specs.Device.{FailsOnceAtMost, seen};
+ghost use Rattle.sp_ports.specs.Device.{CountHasNotFallen, seen};
 ghost use Rattle.btf_tool.specs.Jobs.{GavePrefix, OfReading};
 ghost use Rattle.btf_tool.specs.Runs.{IsReadAs, IsUnread};
 
@@ -39,7 +39,7 @@ pub(crate) fn read_file<S: Source>(alloc: Global, input: &mut S) -> Result<Tripl
     ensures limits { IfOk result AreWithinLimits }
     ensures unread { IfErr result
         (IsUnread forms.Alone (seen S.left S.faults input.old input.new)) }
-    ensures counts { FailsOnceAtMost (seen S.left S.faults input.old input.new) }
+    ensures counts { CountHasNotFallen (seen S.left S.faults input.old input.new) }
     ensures gave { OfReading (seen S.left S.faults input.old input.new) GavePrefix }
 {
     let mut bytes = Input::new(alloc, MAX_INPUT_BYTES)?;
@@ -55,7 +55,7 @@ pub(crate) fn read_followed<S: Source>(alloc: Global, input: &mut S) -> Result<F
     ensures limits { IfOk result (λ f. AreWithinLimits f.triples) }
     ensures unread { IfErr result
         (IsUnread forms.Followed (seen S.left S.faults input.old input.new)) }
-    ensures counts { FailsOnceAtMost (seen S.left S.faults input.old input.new) }
+    ensures counts { CountHasNotFallen (seen S.left S.faults input.old input.new) }
     ensures gave { OfReading (seen S.left S.faults input.old input.new) GavePrefix }
 {
     let mut bytes = Input::new(alloc, MAX_INPUT_BYTES)?;
@@ -75,7 +75,7 @@ pub(crate) fn read_edited<S: Source>(alloc: Global, input: &mut S) -> Result<Edi
         (λ f. All (IsWithinMatrix f.triples.rows f.triples.cols) f.edits.items) }
     ensures unread { IfErr result
         (IsUnread forms.Edited (seen S.left S.faults input.old input.new)) }
-    ensures counts { FailsOnceAtMost (seen S.left S.faults input.old input.new) }
+    ensures counts { CountHasNotFallen (seen S.left S.faults input.old input.new) }
     ensures gave { OfReading (seen S.left S.faults input.old input.new) GavePrefix }
 {
     let mut bytes = Input::new(alloc, MAX_INPUT_BYTES)?;

@@ -2,8 +2,10 @@
 -- that are flags or are set once. A command, and an option of a command, is one line of a list here.
 use Rattle.std.specs.Prelude.{◌≡◌, ℕ, true, false, List, [], ◌∷◌, map, Some, codes}
 use Rattle.std.specs.Borrow.{Bor}
+use Rattle.std.specs.List.{AllByRecursion}
 use Rattle.clap.specs.Words.{App, Rule, Shape, Text, new_rule}
 use Rattle.clap.specs.Simple.{new_shape}
+use Rattle.clap.specs.declared.builder.arg.Arg.{Arg}
 use Rattle.clap.specs.declared.builder.action.ArgAction.TheVariants.{Set, SetTrue}
 use Rattle.clap.specs.declared.builder.value_parser.ValueParser.TheVariants as vp
 use Rattle.sp_ids.specs.Limits.{max_load_seed, max_load_size, max_workers}
@@ -28,6 +30,10 @@ abbrev pub texts_of : Names → List Text
 texts_of names = map (λ name. name.now) names.now
 
 -- ---- options
+
+-- each of them is one of its command alone, and not of the commands below that
+abbrev pub AreLocal : List Arg → Type 0
+AreLocal options = AllByRecursion (λ option. option.global ≡ false) options
 
 -- `--id VALUE`, at most once
 abbrev pub option_rule : Text → Rule

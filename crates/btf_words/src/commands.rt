@@ -1,12 +1,12 @@
 //! The commands of the program. Each joins the program by one function, and `command_line` lists
 //! those that are there.
 
-ghost use Rattle.std.specs.Prelude.{◌≡◌, [], IfOk};
-ghost use Rattle.clap.specs.Words.{app_of, with_subcommand};
-ghost use Rattle.btf_words.specs.Table.{IsBtf, analyse_command, edit_command, load_command, program as program_shape, reading_command};
+ghost use Rattle.std.specs.Prelude.{◌≡◌, [], IfOk, map};
+ghost use Rattle.clap.specs.Words.{app_of, rule_of, with_subcommand};
+ghost use Rattle.btf_words.specs.Table.{AreLocal, IsBtf, analyse_command, command, edit_command, load_command, program as program_shape, reading_command};
 
 use crate::options::{drop_zeros, engine, least, order, pairs, report, seed, size, workers};
-use clap::Command;
+use clap::{Arg, Command};
 use std::alloc::{AllocError, Global};
 
 static ENGINES: [&str; 4] = ["plain", "mc21", "pf", "graft"];
@@ -38,6 +38,21 @@ fn program<'a>(alloc: Global) -> Command<'a>
         .subcommand_required(true)
 }
 
+/// The program with one more command, which has these options.
+fn with_command<'a>(
+    alloc: Global,
+    name: &'a str,
+    options: Vec<Arg<'a>>,
+    program: Command<'a>,
+) -> Result<Command<'a>, AllocError>
+    requires { AreLocal options.items }
+    ensures { IfOk result (λ c. app_of c ≡ with_subcommand (app_of program.entry)
+        (command name.entry.now (map rule_of options.entry.items))) }
+{
+    let command = Command::new(alloc, name).args(options)?;
+    program.subcommand(command)
+}
+
 /// The program with a command that reads a matrix and has the one option `--drop-zeros`.
 fn with_reading_command<'a>(
     alloc: Global,
@@ -47,8 +62,8 @@ fn with_reading_command<'a>(
     ensures { IfOk result (λ c. app_of c
         ≡ with_subcommand (app_of program.entry) (reading_command name.entry.now)) }
 {
-    let command = Command::new(alloc, name).arg(drop_zeros(alloc))?;
-    program.subcommand(command)
+    let options = vec![in alloc; drop_zeros(alloc)]?;
+    with_command(alloc, name, options, program)
 }
 
 fn with_analyse<'a>(
@@ -59,15 +74,16 @@ fn with_analyse<'a>(
     ensures { IfOk result (λ c. app_of c
         ≡ with_subcommand (app_of program.entry) (analyse_command engines.entry)) }
 {
-    let analyse = Command::new(alloc, "analyse")
-        .arg(engine(alloc, engines))?
-        .arg(workers(alloc))?
-        .arg(order(alloc))?
-        .arg(pairs(alloc))?
-        .arg(drop_zeros(alloc))?
-        .arg(report(alloc))?
-        .arg(least(alloc))?;
-    program.subcommand(analyse)
+    let options = vec![in alloc;
+        engine(alloc, engines),
+        workers(alloc),
+        order(alloc),
+        pairs(alloc),
+        drop_zeros(alloc),
+        report(alloc),
+        least(alloc),
+    ]?;
+    with_command(alloc, "analyse", options, program)
 }
 
 fn with_load<'a>(
@@ -78,17 +94,18 @@ fn with_load<'a>(
     ensures { IfOk result (λ c. app_of c
         ≡ with_subcommand (app_of program.entry) (load_command engines.entry)) }
 {
-    let load = Command::new(alloc, "load")
-        .arg(size(alloc))?
-        .arg(seed(alloc))?
-        .arg(engine(alloc, engines))?
-        .arg(workers(alloc))?;
-    program.subcommand(load)
+    let options = vec![in alloc;
+        size(alloc),
+        seed(alloc),
+        engine(alloc, engines),
+        workers(alloc),
+    ]?;
+    with_command(alloc, "load", options, program)
 }
 
 /// The program with the command that has no option.
 fn with_edit<'a>(alloc: Global, program: Command<'a>) -> Result<Command<'a>, AllocError>
     ensures { IfOk result (λ c. app_of c ≡ with_subcommand (app_of program.entry) edit_command) }
 {
-    program.subcommand(Command::new(alloc, "edit"))
+    with_command(alloc, "edit", Vec::new(alloc), program)
 }

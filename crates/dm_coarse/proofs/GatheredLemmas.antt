@@ -6,11 +6,11 @@ use Rattle.bip_defs.specs.Lists.{Among, IsRising, Lists, StandsAt}
 use Rattle.bip_defs.specs.Matrix.{Matrix, upto}
 use Rattle.bip_defs.specs.Parts.{IsHorizontalCol, IsVerticalRow}
 use Rattle.bip_defs.proofs.Connected.{component_same, joined_back, joined_inside, turned_block}
-use Rattle.bip_defs.proofs.Sets.{among_map, among_map_back, below_each_from, below_each_sound, lists_same, upto_complete, upto_rising, upto_sound}
+use Rattle.bip_defs.proofs.Queues.{distinct_at}
+use Rattle.bip_defs.proofs.Sets.{among_map, among_map_back, below_each_from, below_each_sound, lists_same, rising_distinct, rising_order, upto_complete, upto_rising, upto_sound}
 use Rattle.id_groups.specs.Groups.{block_of, group}
 use Rattle.dm_coarse.specs.Gathered.{AreGathered}
-use Rattle.dm_coarse.specs.Numbering.{AreNumbers}
-use Rattle.dm_coarse.proofs.NumberingLemmas.{rising_at}
+use Rattle.outer_components.specs.Numbers.{AreNumbers}
 
 -- the first of a rising list is at most each of it
 first_least : (xs : List ℕ) (x : ℕ) → IsRising xs → Among x xs → get_or xs 0 0 ≤ x
@@ -93,8 +93,11 @@ module _ (a : Matrix) (count : ℕ) (rs cs : List (List ℕ)) (g : AreGathered a
           let (j, among, same) = among_map_back (block_of rs cs) b ks on in
           let kt = within k (inl refl) in
           let jt = within j (inr among) in
-          let up = rising_at n.roots k j n.rising (below_each_sound k j ks rising.0 among) (rw n.count_is jt) in
-          omega (arith, up, least k kt, least j jt, ap least_col same, is)
+          let before = below_each_sound k j ks rising.0 among in
+          let within : j < length n.roots = rw n.count_is jt in
+          let order = rising_order n.roots n.rising k j (omega (arith, before)) within in
+          let apart = distinct_at n.roots k j (rising_distinct n.roots n.rising) before within in
+          omega (arith, order, apart, least k kt, least j jt, ap least_col same, is)
 
   -- each vertex of the part is joined with the root of a component
   has_root : (v : Vertex) → P v → (k : ℕ) × (k < count) × Joined a P v (ColAt (root k))

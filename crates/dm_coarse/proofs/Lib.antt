@@ -1,5 +1,3 @@
-pub mod ForestLemmas
 pub mod GatheredLemmas
 pub mod LedLemmas
-pub mod NumberingLemmas
 pub mod SplitLemmas

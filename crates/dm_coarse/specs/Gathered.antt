@@ -2,7 +2,7 @@
 use Rattle.std.specs.Prelude.{ℕ, List}
 use Rattle.bip_defs.specs.Matrix.{Matrix}
 use Rattle.id_groups.specs.Groups.{AreGroups}
-use Rattle.dm_coarse.specs.Numbering.{AreNumbers}
+use Rattle.outer_components.specs.Numbers.{AreNumbers}
 
 pub record AreGathered (a : Matrix) (count : ℕ) (rows columns : List (List ℕ)) : Type 0 where
   pub row_numbers : List ℕ

@@ -1,5 +1,3 @@
-pub mod Forest
 pub mod Gathered
-pub mod Numbering
 pub mod Searches
 pub mod Split

@@ -10,25 +10,24 @@ ghost use Rattle.bip_graph.specs.Decompositions.{HasParts, components_of};
 ghost use Rattle.dm_coarse.specs.Gathered.{AreGathered};
 ghost use Rattle.id_groups.specs.Groups.{block_of};
 
-use crate::numbering::number_components;
 use bip_graph::{Blocks, Components, Parts};
 use id_groups::{Groups, gather};
+use outer_components::{ColumnLists, number_components};
 use sp_ids::{Col, Id, OutOfMemory, Row};
-use sp_pattern::{FromRows, Pattern, Side};
+use sp_pattern::{FromRows, Pattern};
 use std::alloc::Global;
 
 /// The connected components of the horizontal and of the vertical part, from the parts: all of
 /// them, the horizontal ones by their least columns and the vertical ones by their least rows.
 ///
-/// Two forests of disjoint sets (Galler and Fisher 1964): of the columns of the horizontal part, by
-/// its rows, and of the rows of the vertical part, by its columns. A part that is empty costs
-/// nothing.
+/// By labels, class by class ([`number_components`]): of the horizontal part over the lists of its
+/// columns, and of the vertical part over those of its rows. A part that is empty costs nothing.
 ///
-/// Answers `OutOfMemory` where 4 bytes a row and a column can't be had for a part, then 4 a row and
-/// a column and 8 a component to gather them, and as much for their lists. Work: each entry of a
-/// column of the horizontal and of a row of the vertical part is looked at once, with a walk to a
-/// root, which takes a logarithmic number of steps at most on the average of all walks (Tarjan and
-/// van Leeuwen 1984); each row and column of the matrix a fixed number of times.
+/// Answers `OutOfMemory` where 4 bytes a row and a column can't be had for a part, and beside them 8
+/// to 24 a label and a contact of labels; then 4 a row and a column and 8 a component to gather
+/// them, and as much for their lists. Work: each entry of a column of the horizontal and of a row of
+/// the vertical part is looked at twice, and each row and column a fixed number of times, and once
+/// more for each so many contacts as are an eighth of the rows and columns.
 pub fn components(
     alloc: Global,
     pattern: &Pattern,
@@ -86,19 +85,19 @@ fn vertical_components(
     listed(alloc, &rows, &cols, parts.vr.len(), parts.vc.len())
 }
 
-// The rows and the columns of each component of the horizontal part of the matrix that a side sees,
+// The rows and the columns of each component of the horizontal part of the matrix of these lists,
 // which has these columns.
-fn join_part<F: Id, N: Id, S: Side<F>>(
+fn join_part<F: Id, N: Id, L: ColumnLists<F>>(
     alloc: Global,
-    side: &S,
+    lists: &L,
     columns: &[N],
 ) -> Result<(Groups<F>, Groups<N>), OutOfMemory>
-    requires columns { Lists (IsHorizontalCol (S.matrix side.now)) (map N.number columns.now) }
-    requires few_rows { Matrix.rows (S.matrix side.now) < 2 ^ 32 }
-    requires few_cols { cols (S.matrix side.now) < 2 ^ 32 }
-    ensures { IfOk result (λ g. AreGathered (S.matrix side.now) (length g.1) g.0 g.1) }
+    requires columns { Lists (IsHorizontalCol (L.matrix lists.now)) (map N.number columns.now) }
+    requires few_rows { Matrix.rows (L.matrix lists.now) < 2 ^ 32 }
+    requires few_cols { cols (L.matrix lists.now) < 2 ^ 32 }
+    ensures { IfOk result (λ g. AreGathered (L.matrix lists.now) (length g.1) g.0 g.1) }
 {
-    let numbers = number_components(alloc, side, columns)?;
+    let numbers = number_components(alloc, lists, columns)?;
     let rows = gather(alloc, numbers.rows.as_slice(), numbers.count)?;
     let cols = gather(alloc, numbers.cols.as_slice(), numbers.count)?;
     Ok((rows, cols))

@@ -3,9 +3,7 @@
 #![tactic(auto)]
 
 mod connected_components;
-mod forest;
 mod known_side;
-mod numbering;
 mod searches;
 mod split;
 

@@ -10,6 +10,7 @@ use Rattle.bip_defs.proofs.EditLemmas.{changed_cols, with_lists, with_place_kept
 use Rattle.bip_defs.proofs.Full.{few_below}
 use Rattle.bip_defs.proofs.Sets.{among_map_back, entry_col, lists_same, lists_unique, pigeonhole, rising_distinct}
 use Rattle.bip_defs.proofs.Transposed.{row_list_lists, transpose_back, transpose_cols, transpose_column, transpose_is}
+use Rattle.sp_ids.specs.Limits.{max_entries}
 use Rattle.sp_pattern.specs.Stored.{IsPattern}
 use Rattle.edit_session.specs.Columns.{IsCounted, column_places, first_places}
 use Rattle.edit_session.proofs.PatternLemmas.{first_complete, first_length, first_sound}
@@ -77,7 +78,7 @@ transpose_counted a n k e =
       count = omega (arith, count, e);
     }
 
-pub turned_few : (a b : Matrix) → b ≡ transpose a → IsPattern a → entry_count a < 4294967295 → entry_count b + 1 < 4294967296
+pub turned_few : (a b : Matrix) → b ≡ transpose a → IsPattern a → entry_count a < max_entries → entry_count b + 1 < 2 ^ 32
 turned_few a b t k few = let count = transpose_count a k.columns in omega (arith, few, count, ap entry_count t)
 
 pub turned_within : (a b : Matrix) (r : ℕ) → b ≡ transpose a → r < a.rows → r < cols b

@@ -13,6 +13,7 @@ ghost use Rattle.edit_session.specs.Sessions.{IsSaturating, IsKept, IsPaired, Ma
 ghost use Rattle.hall_witness.specs.Back.{IsSearchedTo};
 ghost use Rattle.hall_witness.specs.Covers.{IsCover, IsCovered, IsSearchedFrom};
 ghost use Rattle.hall_witness.specs.Over.{IsSearchedOver};
+ghost use Rattle.sp_ids.specs.Limits.{max_entries};
 
 use crate::columns::Columns;
 use crate::patterns::pattern_of;
@@ -179,7 +180,7 @@ impl Session {
     ) -> Result<u32, OutOfMemory>
         requires row { row < self.old.matrix.rows }
         requires col { col < cols self.old.matrix }
-        requires few { entry_count self.old.matrix < 4294967295 }
+        requires few { entry_count self.old.matrix < max_entries }
         ensures matrix { OnOk result (self.new.matrix ≡ with_place self.old.matrix (row, col)) }
         ensures rank { IfOk result (IsRank self.new.matrix) }
         ensures unchanged { OnErr result (self.new ≡ self.old) }

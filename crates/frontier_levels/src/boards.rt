@@ -15,8 +15,8 @@ use std::alloc::Global;
 use std::thread::{Threads, join};
 
 /// A board whose words hold the claims and the leaves of a forest, and so many workers, each with a
-/// seat. Where there are two workers at least and rows and columns are worth threads, its lists are
-/// filled by two threads at once.
+/// seat. Where there are two workers at least and rows and columns together are worth threads, as
+/// `worth_threads` of them are, its lists are filled by two threads at once.
 ///
 /// Answers `OutOfMemory` where 24 bytes a row and column can't be had; 8 of them stay, until the
 /// board is closed. Work: one look at each row and column.
@@ -25,6 +25,7 @@ pub fn open<R: Threads + Sync>(
     alloc: Global,
     forest: &Forest,
     workers: u32,
+    worth_threads: u32,
 ) -> Result<(ClaimBoard, Vec<Worker>), OutOfMemory>
     requires { (1 ≤ workers) × (workers ≤ max_workers) }
     ensures agree { IfOk result (λ o. Agree o.0 o.1.items forest.now.claims forest.now.leaves) }
@@ -34,7 +35,7 @@ pub fn open<R: Threads + Sync>(
 {
     new_seats_are_all();
     new_workers_agree();
-    let (by_row, by_root) = lists(rt, alloc, forest, workers);
+    let (by_row, by_root) = lists(rt, alloc, forest, workers, worth_threads);
     let holders = by_row?;
     let leaves = by_root?;
     let (board, seats) = ClaimBoard::new(alloc, holders.as_slice(), leaves.as_slice(), workers)?;
@@ -48,6 +49,7 @@ fn lists<R: Threads + Sync>(
     alloc: Global,
     forest: &Forest,
     workers: u32,
+    worth_threads: u32,
 ) -> (
     Result<Vec<Option<Col>>, OutOfMemory>,
     Result<Vec<Option<Row>>, OutOfMemory>,
@@ -59,7 +61,7 @@ fn lists<R: Threads + Sync>(
 {
     let pattern = forest.pattern();
     let vertices = pattern.rows() as usize + pattern.cols() as usize;
-    if workers < 2 || !are_worth_threads(rt, vertices) {
+    if workers < 2 || !are_worth_threads(rt, vertices, worth_threads) {
         return (forest.row_holders(alloc), forest.root_leaves(alloc));
     }
     let of_rows = move || -> Result<Vec<Option<Col>>, OutOfMemory>

@@ -13,8 +13,9 @@ use crate::search::TopDownSearch;
 use claim_words::{ClaimBoard, Worker, workers_are_few};
 use forest_core::{Forest, new_pairs_run};
 use level_sharing::{
-    Work, levels_are_legal, levels_are_shown, levels_go_through_columns, levels_keep_to_shares,
-    progress_keeps_seats, share, share_work, shares_cover_a_list, workers_are_at_the_start,
+    Sharing, Work, levels_are_legal, levels_are_shown, levels_go_through_columns,
+    levels_keep_to_shares, progress_keeps_seats, share, share_work, shares_cover_a_list,
+    workers_are_at_the_start,
 };
 use sp_ids::{Col, OutOfMemory};
 use sp_ports::Gate;
@@ -27,8 +28,7 @@ use std::thread::Threads;
 /// Of w workers, the worker i has the places from `i * l / w` up to `(i + 1) * l / w` of a frontier
 /// of l columns; it calls `gate.arrive(i)` once, whether its share is empty or not. Workers run at
 /// once where there is enough to do (`share_work`), as far as threads can be had, and want of a
-/// thread changes nothing. Answers `OutOfMemory`
-/// where a fresh list can't grow: what is listed then stands, and the level is not done. Memory: 8
+/// thread changes nothing. Answers `OutOfMemory` where a fresh list can't grow: what is listed then stands, and the level is not done. Memory: 8
 /// bytes for each fresh claim and win, and 8 KiB of the stack for each worker. Work: one look at
 /// each entry of the frontier's columns, and one more look and two exchanges at most for each row
 /// that nobody is seen to hold.
@@ -42,6 +42,33 @@ pub fn top_down<R: Threads + Sync, G: Gate>(
     frontier: &[Col],
     workers: &mut [Worker],
     gate: &G,
+) -> Result<(), OutOfMemory>
+    requires agree { Agree board.now workers.old forest.now.claims forest.now.leaves }
+    requires rows { length board.now.rows ≡ forest.now.matrix.rows }
+    requires roots { length board.now.roots ≡ cols forest.now.matrix }
+    requires settled { IsSettled forest.now }
+    requires inside { (c : ℕ) → Among c frontier.now → InForest forest.now c }
+    ensures legal { Runs forest.entry.now (fresh_events workers.new)
+        (grown forest.entry.now workers.new) }
+    ensures words { Shows board.entry.now workers.new (grown forest.entry.now workers.new).claims
+        (grown forest.entry.now workers.new).leaves }
+    ensures shares { KeepToColumns frontier.entry.now workers.new }
+    ensures settled { OnOk result (IsSettled (grown forest.entry.now workers.new)) }
+    ensures frontier { OnOk result ((c : ℕ) → Among c frontier.entry.now
+        → HasWon (grown forest.entry.now workers.new) c
+        ⊎ IsUsedUp (grown forest.entry.now workers.new) c) }
+{
+    top_down_under(rt, forest, board, frontier, workers, &Sharing::usual(gate))
+}
+
+/// [`top_down`], where it is told how many columns are worth threads.
+pub fn top_down_under<R: Threads + Sync, G: Gate>(
+    rt: &R,
+    forest: &Forest,
+    board: &ClaimBoard,
+    frontier: &[Col],
+    workers: &mut [Worker],
+    sharing: &Sharing<'_, G>,
 ) -> Result<(), OutOfMemory>
     requires agree { Agree board.now workers.old forest.now.claims forest.now.leaves }
     requires rows { length board.now.rows ≡ forest.now.matrix.rows }
@@ -72,7 +99,7 @@ pub fn top_down<R: Threads + Sync, G: Gate>(
         frontier,
         workers: workers.len(),
     };
-    let result = share_work(rt, gate, &down, frontier.len(), workers);
+    let result = share_work(rt, sharing, &down, frontier.len(), workers);
     board.gather(workers);
     result
 }

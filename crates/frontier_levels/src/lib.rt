@@ -12,4 +12,4 @@ mod search;
 
 pub use boards::open;
 pub use events::absorb;
-pub use levels::top_down;
+pub use levels::{top_down, top_down_under};

@@ -23,8 +23,8 @@ use crate::start::{greatest_of_all, start};
 use crate::tight::match_tight;
 use crate::width::Width;
 use bip_graph::{Heaviest, Matching};
+use breadth_first_match::complete;
 use hall_witness::hall_set;
-use pothen_fan::complete;
 use sp_ids::{Col, OutOfMemory, Row};
 use sp_pattern::{Pattern, Weights};
 use std::alloc::Global;
@@ -36,9 +36,9 @@ use std::alloc::Global;
 /// The weights must be those of the pattern. `Rectangular` exactly where the matrix has not as many
 /// rows as columns; `Singular` exactly where it has, and its rank is less, with the columns that
 /// some maximum matching misses. Answers `OutOfMemory` where there is no memory for what
-/// `karp_sipser::start` and `pothen_fan::complete` take, for the blocks, for a pattern of the
-/// entries that cost as much as the prices ask, for the prices of a phase and the weights row by
-/// row, which are 8 bytes an entry and 8 a row, or for the tables and the heap of a search. The
+/// `karp_sipser::start` and `breadth_first_match::complete` take, for the blocks, for a pattern of
+/// the entries that cost as much as the prices ask, for the prices of a phase and the weights row
+/// by row, which are 8 bytes an entry and 8 a row, or for the tables and the heap of a search. The
 /// tables take 65 bytes a row or column where the greatest price to begin with, times 3 n + 4 for n
 /// columns, is less than 2^64 - 1: then all sums of a search are kept in numbers of 64 bits. Else
 /// they are kept in numbers of 128 bits, and the tables take 97 bytes a row or column. That price

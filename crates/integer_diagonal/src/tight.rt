@@ -9,7 +9,7 @@ ghost use Rattle.integer_diagonal.specs.Duals.{IsAssignment, IsPayable, cheap, d
 use crate::amount::Amount;
 use crate::assignment::Assignment;
 use crate::width::Width;
-use pothen_fan::complete;
+use breadth_first_match::complete;
 use sp_ids::{Col, OutOfMemory, Row};
 use sp_pattern::{Filter, Pattern, Weights};
 use std::alloc::Global;
@@ -18,9 +18,9 @@ use std::alloc::Global;
 /// variables.
 ///
 /// No row and no column loses its mate without a new one, and the prices stay. Beside what it
-/// answers it takes a pattern of the tight entries, and what `pothen_fan::complete` takes; answers
-/// `OutOfMemory` where that can't be had. Work: one look at each entry, and the phases of a maximum
-/// matching of the tight ones.
+/// answers it takes a pattern of the tight entries, and what `breadth_first_match::complete` takes;
+/// answers `OutOfMemory` where that can't be had. Work: one look at each entry, and the phases of a
+/// maximum matching of the tight ones.
 pub fn match_tight<W: Width>(
     alloc: Global,
     pattern: &Pattern,

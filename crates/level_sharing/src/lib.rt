@@ -34,4 +34,6 @@ pub use steps::{
     progress_keeps_seats, steps_are_progress, steps_are_remembered, steps_settle,
     workers_are_at_the_start, workers_stay_through,
 };
-pub use work::{Work, are_worth_threads, processors, share_work, work_at_once};
+pub use work::{
+    Sharing, WORTH_THREADS, Work, are_worth_threads, processors, share_work, work_at_once,
+};

@@ -26,16 +26,34 @@ pub trait Work<T, E>: Sync {
         ensures ok { OnOk result (completes self.now number worker.old worker.new) };
 }
 
-// Fewer items to share are done by one thread in some milliseconds, which is what the start of
-// others costs on a busy machine.
-const WORTH_THREADS: usize = 500_000;
+/// So many items are worth more threads than one, unless it is told otherwise: fewer are done by one
+/// thread in some milliseconds, which is what the start of others costs on a busy machine.
+pub const WORTH_THREADS: u32 = 500_000;
 
-/// Whether work on so many items is worth more threads than one: at least 500,000 are, where the
-/// program may use two processors.
-pub fn are_worth_threads<R: Threads>(rt: &R, items: usize) -> bool
-    ensures many { IsTrue result → 500000 ≤ items }
+/// How workers share their work: the gate at which each of them arrives, and how many items are
+/// worth threads. Neither changes what the work leaves.
+#[derive(Clone, Copy)]
+pub struct Sharing<'g, G> {
+    pub gate: &'g G,
+    pub worth_threads: u32,
+}
+
+impl<'g, G> Sharing<'g, G> {
+    /// At this gate, where 500,000 items are worth threads.
+    pub fn usual(gate: &'g G) -> Sharing<'g, G> {
+        Sharing {
+            gate,
+            worth_threads: WORTH_THREADS,
+        }
+    }
+}
+
+/// Whether work on so many items is worth more threads than one: where it is on `worth_threads` of
+/// them at least, and the program may use two processors.
+pub fn are_worth_threads<R: Threads>(rt: &R, items: usize, worth_threads: u32) -> bool
+    ensures many { IsTrue result → worth_threads ≤ items }
 {
-    items >= WORTH_THREADS && processors(rt) > 1
+    items >= worth_threads as usize && processors(rt) > 1
 }
 
 /// Each worker does its part of work on so many items: at once with the others where these are worth
@@ -46,7 +64,7 @@ pub fn are_worth_threads<R: Threads>(rt: &R, items: usize) -> bool
 /// did their parts nonetheless. Work: as `work_at_once`, or no thread is started.
 pub fn share_work<R: Threads + Sync, G: Gate, T: Send, E: Send + Drop, W: Work<T, E>>(
     rt: &R,
-    gate: &G,
+    sharing: &Sharing<'_, G>,
     work: &W,
     items: usize,
     workers: &mut [T],
@@ -56,7 +74,8 @@ pub fn share_work<R: Threads + Sync, G: Gate, T: Send, E: Send + Drop, W: Work<T
     ensures always { EachPairFrom (W.leaves work.now) 0 workers.old workers.new }
     ensures ok { OnOk result (EachPairFrom (W.completes work.now) 0 workers.old workers.new) }
 {
-    if gate.needs_threads() || are_worth_threads(rt, items) {
+    let gate = sharing.gate;
+    if gate.needs_threads() || are_worth_threads(rt, items, sharing.worth_threads) {
         work_at_once(rt, gate, work, workers)
     } else {
         work_in_turn(gate, work, 0, workers)

@@ -4,77 +4,98 @@
 use crate::matrices::{MATRICES, Worked};
 use crate::small::{FormLists, Lengths, unwritten, widened};
 use blocktri::{Narrow, NumberList, Wide, matching, rank};
-use std::process::Abort;
+use std::alloc::Global;
 use std::test::Fail;
 
-fn has_lists<R: Abort>(rt: &R, worked: &Worked<'_>, lists: &FormLists) {
-    let name = worked.name;
-    assert_eq!(rt; lists.row_order.as_slice(), worked.row_order, "{name}");
-    assert_eq!(rt;
-        lists.column_order.as_slice(),
-        worked.column_order,
-        "{name}"
-    );
-    assert_eq!(rt;
-        lists.block_starts.as_slice(),
-        worked.block_starts,
-        "{name}"
-    );
-    assert_eq!(rt; lists.of_rows.as_slice(), worked.row_component, "{name}");
-    assert_eq!(rt;
-        lists.of_columns.as_slice(),
-        worked.column_component,
-        "{name}"
-    );
+fn has_lists(worked: &Worked<'_>, lists: &FormLists) -> bool {
+    lists.row_order.as_slice() == worked.row_order
+        && lists.column_order.as_slice() == worked.column_order
+        && lists.block_starts.as_slice() == worked.block_starts
+        && lists.of_rows.as_slice() == worked.row_component
+        && lists.of_columns.as_slice() == worked.column_component
 }
 
-fn has_form<R: Abort + AllocGlobal, N: NumberList>(
-    rt: &R,
-    worked: &Worked<'_>,
-    starts: N,
-    ids: N,
-) -> Result<(), Fail> {
-    let lengths = Lengths {
+/// How long the lists of a matrix's form are.
+fn lengths_of(worked: &Worked<'_>) -> Lengths {
+    Lengths {
         rows: worked.row_order.len(),
         columns: worked.column_order.len(),
         starts: worked.block_starts.len(),
         components: (worked.row_component.len(), worked.column_component.len()),
-    };
-    let mut lists = FormLists::new(rt.alloc(), lengths)?;
-    let found = lists.write(rt.alloc(), worked.rows, starts, ids);
-    assert_eq!(rt; found, Ok(worked.sizes), "{}", worked.name);
-    has_lists(rt, worked, &lists);
-    Ok(())
+    }
 }
 
-fn has_matchings<R: Abort + AllocGlobal, N: NumberList>(
-    rt: &R,
+/// Whether the form has the sizes and the lists of the table.
+fn has_form<N: NumberList>(
+    alloc: Global,
     worked: &Worked<'_>,
     starts: N,
     ids: N,
-) -> Result<(), Fail> {
-    let name = worked.name;
-    let rows = worked.rows as u64;
-    let size = worked.sizes.rank;
-    assert_eq!(rt; rank(rt.alloc(), rows, starts, ids), Ok(size), "{name}");
-    let mut mates = unwritten(rt.alloc(), worked.least.len())?;
-    let found = matching(rt.alloc(), rows, starts, ids, false, mates.as_mut_slice());
-    assert_eq!(rt; found, Ok(size), "{name}");
-    let found = matching(rt.alloc(), rows, starts, ids, true, mates.as_mut_slice());
-    assert_eq!(rt; found, Ok(size), "{name}");
-    assert_eq!(rt; mates.as_slice(), worked.least, "{name}");
-    Ok(())
+) -> Result<bool, Fail> {
+    let mut lists = FormLists::new(alloc, lengths_of(worked))?;
+    let found = lists.write(alloc, worked.rows, starts, ids);
+    Ok(found == Ok(worked.sizes) && has_lists(worked, &lists))
+}
+
+/// Whether the rank and both matchings have the size of the table, and the least one is that of the
+/// table.
+fn has_matchings<N: NumberList>(
+    alloc: Global,
+    worked: &Worked<'_>,
+    starts: N,
+    ids: N,
+) -> Result<bool, Fail> {
+    let mut mates = unwritten(alloc, worked.least.len())?;
+    let (rows, size) = (worked.rows as u64, Ok(worked.sizes.rank));
+    let any = matching(alloc, rows, starts, ids, false, mates.as_mut_slice());
+    let least = matching(alloc, rows, starts, ids, true, mates.as_mut_slice());
+    Ok(any == size && least == size && mates.as_slice() == worked.least)
+}
+
+/// Whether the rank is that of the table.
+fn has_rank<N: NumberList>(alloc: Global, worked: &Worked<'_>, starts: N, ids: N) -> bool {
+    rank(alloc, worked.rows as u64, starts, ids) == Ok(worked.sizes.rank)
+}
+
+/// Whether all answers are those of the table.
+fn has_answers<N: NumberList>(
+    alloc: Global,
+    worked: &Worked<'_>,
+    starts: N,
+    ids: N,
+) -> Result<bool, Fail> {
+    Ok(
+        has_rank(alloc, worked, starts, ids)
+            && has_form(alloc, worked, starts, ids)?
+            && has_matchings(alloc, worked, starts, ids)?,
+    )
+}
+
+/// The same with numbers of 32 bits.
+fn narrow_has_answers(alloc: Global, worked: &Worked<'_>) -> Result<bool, Fail> {
+    let starts = Narrow {
+        list: worked.starts,
+    };
+    has_answers(alloc, worked, starts, Narrow { list: worked.ids })
+}
+
+/// The same with numbers of 64 bits.
+fn wide_has_answers(alloc: Global, worked: &Worked<'_>) -> Result<bool, Fail> {
+    let wide_starts = widened(alloc, worked.starts)?;
+    let wide_ids = widened(alloc, worked.ids)?;
+    let starts = Wide {
+        list: wide_starts.as_slice(),
+    };
+    let ids = Wide {
+        list: wide_ids.as_slice(),
+    };
+    has_answers(alloc, worked, starts, ids)
 }
 
 #[test]
 fn columns_of_32_bits(rt: HostRuntime) -> Result<(), Fail> {
     for worked in &MATRICES {
-        let starts = Narrow {
-            list: worked.starts,
-        };
-        let ids = Narrow { list: worked.ids };
-        has_form(&rt, worked, starts, ids)?;
-        has_matchings(&rt, worked, starts, ids)?;
+        assert!(rt; narrow_has_answers(rt.alloc(), worked)?, "{}", worked.name);
     }
     Ok(())
 }
@@ -82,16 +103,7 @@ fn columns_of_32_bits(rt: HostRuntime) -> Result<(), Fail> {
 #[test]
 fn columns_of_64_bits(rt: HostRuntime) -> Result<(), Fail> {
     for worked in &MATRICES {
-        let wide_starts = widened(rt.alloc(), worked.starts)?;
-        let wide_ids = widened(rt.alloc(), worked.ids)?;
-        let starts = Wide {
-            list: wide_starts.as_slice(),
-        };
-        let ids = Wide {
-            list: wide_ids.as_slice(),
-        };
-        has_form(&rt, worked, starts, ids)?;
-        has_matchings(&rt, worked, starts, ids)?;
+        assert!(rt; wide_has_answers(rt.alloc(), worked)?, "{}", worked.name);
     }
     Ok(())
 }

@@ -3,7 +3,7 @@
 use crate::matrices::{CYCLE, EMPTY, MATRICES, TRIANGLE, Worked};
 use crate::small::{is_unwritten, unwritten};
 use blocktri::{Narrow, Refusal, block_order};
-use std::process::Abort;
+use std::alloc::Global;
 use std::test::Fail;
 
 // What is answered of a matrix of the table, and the lists that were to be written.
@@ -15,12 +15,12 @@ struct Orders {
     block_starts: Vec<u32>,
 }
 
-fn orders_of<R: AllocGlobal>(rt: &R, worked: &Worked<'_>) -> Result<Orders, Fail> {
-    let mut row_order = unwritten(rt.alloc(), worked.row_order.len())?;
-    let mut column_order = unwritten(rt.alloc(), worked.column_order.len())?;
-    let mut block_starts = unwritten(rt.alloc(), worked.block_starts.len())?;
+fn orders_of(alloc: Global, worked: &Worked<'_>) -> Result<Orders, Fail> {
+    let mut row_order = unwritten(alloc, worked.row_order.len())?;
+    let mut column_order = unwritten(alloc, worked.column_order.len())?;
+    let mut block_starts = unwritten(alloc, worked.block_starts.len())?;
     let found = block_order(
-        rt.alloc(),
+        alloc,
         worked.rows as u64,
         Narrow {
             list: worked.starts,
@@ -38,49 +38,50 @@ fn orders_of<R: AllocGlobal>(rt: &R, worked: &Worked<'_>) -> Result<Orders, Fail
     })
 }
 
-// The columns and the blocks are those of the block triangular form.
-fn has_blocks<R: Abort>(rt: &R, worked: &Worked<'_>, orders: &Orders) {
-    let name = worked.name;
-    assert_eq!(rt; orders.found, Ok(Some(worked.sizes.blocks)), "{name}");
-    let columns = orders.column_order.as_slice();
-    assert_eq!(rt; columns, worked.column_order, "{name}");
-    let starts = orders.block_starts.as_slice();
-    assert_eq!(rt; starts, worked.block_starts, "{name}");
+// Whether the columns and the blocks are those of the block triangular form.
+fn has_blocks(worked: &Worked<'_>, orders: &Orders) -> bool {
+    orders.found == Ok(Some(worked.sizes.blocks))
+        && orders.column_order.as_slice() == worked.column_order
+        && orders.block_starts.as_slice() == worked.block_starts
+}
+
+// Whether they are, and the rows are in this order.
+fn has_order(alloc: Global, worked: &Worked<'_>, rows: &[u32]) -> Result<bool, Fail> {
+    let orders = orders_of(alloc, worked)?;
+    Ok(has_blocks(worked, &orders) && orders.row_order.as_slice() == rows)
 }
 
 // The diagonal is the one perfect matching.
 #[test]
 fn triangle(rt: HostRuntime) -> Result<(), Fail> {
-    let orders = orders_of(&rt, &TRIANGLE)?;
-    has_blocks(&rt, &TRIANGLE, &orders);
-    assert_eq!(rt; orders.row_order.as_slice(), [2, 1, 0].as_slice());
+    assert!(rt; has_order(rt.alloc(), &TRIANGLE, &[2, 1, 0])?);
     Ok(())
 }
 
 // The empty matching is perfect.
 #[test]
 fn no_rows_and_no_columns(rt: HostRuntime) -> Result<(), Fail> {
-    let orders = orders_of(&rt, &EMPTY)?;
-    has_blocks(&rt, &EMPTY, &orders);
+    assert!(rt; has_order(rt.alloc(), &EMPTY, &[])?);
     Ok(())
 }
 
 // There are two perfect matchings: the diagonal, and the entries beside it.
 #[test]
 fn cycle(rt: HostRuntime) -> Result<(), Fail> {
-    let orders = orders_of(&rt, &CYCLE)?;
-    has_blocks(&rt, &CYCLE, &orders);
-    let rows = orders.row_order.as_slice();
-    assert!(rt; rows == [0, 1, 2].as_slice() || rows == [2, 0, 1].as_slice());
+    let on_diagonal = has_order(rt.alloc(), &CYCLE, &[0, 1, 2])?;
+    assert!(rt; on_diagonal || has_order(rt.alloc(), &CYCLE, &[2, 0, 1])?);
     Ok(())
 }
 
-// Nothing is written where there is no order.
-fn has_none<R: Abort>(rt: &R, worked: &Worked<'_>, orders: &Orders) {
-    assert_eq!(rt; orders.found, Ok(None), "{}", worked.name);
-    is_unwritten(rt, orders.row_order.as_slice());
-    is_unwritten(rt, orders.column_order.as_slice());
-    is_unwritten(rt, orders.block_starts.as_slice());
+// Whether there is no order, and nothing is written then.
+fn has_none(alloc: Global, worked: &Worked<'_>) -> Result<bool, Fail> {
+    let orders = orders_of(alloc, worked)?;
+    Ok(
+        orders.found == Ok(None)
+            && is_unwritten(orders.row_order.as_slice())
+            && is_unwritten(orders.column_order.as_slice())
+            && is_unwritten(orders.block_starts.as_slice()),
+    )
 }
 
 // The other matrices of the table are not square, or their rank is less than their size.
@@ -88,7 +89,7 @@ fn has_none<R: Abort>(rt: &R, worked: &Worked<'_>, orders: &Orders) {
 fn no_perfect_matching(rt: HostRuntime) -> Result<(), Fail> {
     for worked in &MATRICES {
         if worked.sizes.square != worked.rows {
-            has_none(&rt, worked, &orders_of(&rt, worked)?);
+            assert!(rt; has_none(rt.alloc(), worked)?, "{}", worked.name);
         }
     }
     Ok(())

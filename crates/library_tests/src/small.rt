@@ -3,7 +3,6 @@
 use crate::matrices::LEFT;
 use blocktri::{NumberList, Refusal, Sizes, decomposition};
 use std::alloc::Global;
-use std::process::Abort;
 use std::test::Fail;
 
 /// A list for a call to write.
@@ -11,11 +10,14 @@ pub(crate) fn unwritten(alloc: Global, length: usize) -> Result<Vec<u32>, Fail> 
     Ok(vec![in alloc; LEFT; length]?)
 }
 
-/// Fails the test where something was written.
-pub(crate) fn is_unwritten<R: Abort>(rt: &R, list: &[u32]) {
+/// Whether nothing was written.
+pub(crate) fn is_unwritten(list: &[u32]) -> bool {
     for number in list {
-        assert_eq!(rt; *number, LEFT);
+        if *number != LEFT {
+            return false;
+        }
     }
+    true
 }
 
 /// How long the lists of a form are: an order of the rows and of the columns, the block starts, and
@@ -70,13 +72,13 @@ impl FormLists {
         )
     }
 
-    /// Fails the test where something was written.
-    pub(crate) fn are_unwritten<R: Abort>(&self, rt: &R) {
-        is_unwritten(rt, self.row_order.as_slice());
-        is_unwritten(rt, self.column_order.as_slice());
-        is_unwritten(rt, self.block_starts.as_slice());
-        is_unwritten(rt, self.of_rows.as_slice());
-        is_unwritten(rt, self.of_columns.as_slice());
+    /// Whether nothing was written.
+    pub(crate) fn are_unwritten(&self) -> bool {
+        is_unwritten(self.row_order.as_slice())
+            && is_unwritten(self.column_order.as_slice())
+            && is_unwritten(self.block_starts.as_slice())
+            && is_unwritten(self.of_rows.as_slice())
+            && is_unwritten(self.of_columns.as_slice())
     }
 }
 

@@ -3,226 +3,235 @@
 use blocktri::{
     ColumnsError, DiagonalRefusal, Narrow, Refusal, WeightedColumns, bottleneck, heaviest,
 };
-use std::process::Abort;
+use std::alloc::Global;
 
 const MOST: i64 = i64::MAX;
 
-// The heaviest diagonal and the bottleneck of two columns, with at most three rows, are refused for
-// this reason.
-fn are_refused<R: Abort + AllocGlobal>(
-    rt: &R,
-    rows: usize,
-    starts: [u32; 3],
-    ids: &[u32],
-    values: &[i64],
+const LEAST: i64 = i64::MIN;
+
+// Whether all numbers are 7, as before the call.
+fn are_sevens(list: &[u32]) -> bool {
+    for number in list {
+        if *number != 7 {
+            return false;
+        }
+    }
+    true
+}
+
+// The same of prices.
+fn prices_are_sevens(list: &[i64]) -> bool {
+    for number in list {
+        if *number != 7 {
+            return false;
+        }
+    }
+    true
+}
+
+/// A matrix, and the reason for which it is refused.
+#[derive(Clone, Copy)]
+struct Wrong {
+    rows: u64,
+    starts: &'static [u32],
+    ids: &'static [u32],
+    values: &'static [i64],
     reason: DiagonalRefusal,
-) {
-    assert!(rt; rows <= 3);
-    let (starts, ids) = (Narrow { list: &starts }, Narrow { list: ids });
-    let (mut mates, mut u, mut v, mut columns) = ([7; 2], [7; 3], [7; 2], [7; 2]);
+}
+
+fn matrix_of(wrong: &Wrong) -> WeightedColumns<'static, Narrow<'static>> {
+    WeightedColumns {
+        rows: wrong.rows,
+        starts: Narrow { list: wrong.starts },
+        ids: Narrow { list: wrong.ids },
+        values: wrong.values,
+    }
+}
+
+// Whether the heaviest diagonal is refused where lists of these lengths, at most 4, are to be
+// written: for the mates, the prices of the rows and those of the columns.
+fn heaviest_is_refused(
+    alloc: Global,
+    wrong: &Wrong,
+    mates: usize,
+    rows: usize,
+    columns: usize,
+) -> bool {
+    if mates > 4 || rows > 4 || columns > 4 {
+        return false;
+    }
+    let (mut row_of_column, mut u, mut v) = ([7; 4], [7; 4], [7; 4]);
     let found = heaviest(
-        rt.alloc(),
-        &WeightedColumns {
-            rows: rows as u64,
-            starts,
-            ids,
-            values,
-        },
-        &mut mates,
-        &mut u[..rows],
-        &mut v,
-    );
-    assert_eq!(rt; found, Err(reason));
-    let found = bottleneck(
-        rt.alloc(),
-        &WeightedColumns {
-            rows: rows as u64,
-            starts,
-            ids,
-            values,
-        },
-        &mut mates,
-        &mut columns,
-    );
-    assert_eq!(rt; found, Err(reason));
-    assert_eq!(rt; (mates, columns), ([7; 2], [7; 2]));
-    assert_eq!(rt; (u, v), ([7; 3], [7; 2]));
-}
-
-// In the first, the sum at row 1 of column 1 is 2^63, and its first id is the one at place 1; in
-// the last, that of row 0 is -2^63 and stands above it, at place 2. A sum past the limit comes
-// before the want of a perfect matching.
-#[test]
-fn sum_past_the_limit(rt: HostRuntime) {
-    let starts = [0, 1, 4];
-    let past = DiagonalRefusal::SumLimit(1);
-    are_refused(&rt, 2, starts, &[0, 1, 0, 1], &[1, MOST, 1, 1], past);
-    are_refused(&rt, 3, [0, 1, 2], &[0, 1], &[1, i64::MIN], past);
-    let above = DiagonalRefusal::SumLimit(2);
-    let values = [1, MOST, i64::MIN, 1];
-    are_refused(&rt, 2, starts, &[0, 1, 0, 1], &values, above);
-}
-
-// Both columns have their entry in row 0; then there are more rows than columns, and then fewer.
-#[test]
-fn no_perfect_matching(rt: HostRuntime) {
-    let singular = DiagonalRefusal::Singular;
-    are_refused(&rt, 2, [0, 1, 2], &[0, 0], &[1, 2], singular);
-    are_refused(&rt, 3, [0, 1, 2], &[0, 1], &[1, 2], singular);
-    are_refused(&rt, 1, [0, 1, 2], &[0, 0], &[1, 2], singular);
-}
-
-// A start that falls, an id that is no row, and fewer and more values than ids; of the last the ids
-// are not looked at.
-#[test]
-fn lists_that_are_not_right(rt: HostRuntime) {
-    let falls = DiagonalRefusal::Lists(Refusal::Columns(ColumnsError::BadStart(2)));
-    are_refused(&rt, 2, [0, 2, 1], &[0], &[1], falls);
-    let no_row = DiagonalRefusal::Lists(Refusal::Columns(ColumnsError::BadRow(1)));
-    are_refused(&rt, 2, [0, 1, 2], &[0, 2], &[1, 1], no_row);
-    let wrong = DiagonalRefusal::Lists(Refusal::Lengths);
-    are_refused(&rt, 2, [0, 1, 2], &[0, 1], &[1], wrong);
-    are_refused(&rt, 2, [0, 1, 2], &[0, 5], &[1, 1, 1], wrong);
-}
-
-#[test]
-fn no_starts(rt: HostRuntime) {
-    let (starts, ids) = (Narrow { list: &[] }, Narrow { list: &[] });
-    let no_start = DiagonalRefusal::Lists(Refusal::Columns(ColumnsError::BadStart(0)));
-    let mut u = [7; 1];
-    let sum = heaviest(
-        rt.alloc(),
-        &WeightedColumns {
-            rows: 1,
-            starts,
-            ids,
-            values: &[],
-        },
-        &mut [],
-        &mut u,
-        &mut [],
-    );
-    assert_eq!(rt; sum, Err(no_start));
-    assert_eq!(rt; u, [7]);
-    let found = bottleneck(
-        rt.alloc(),
-        &WeightedColumns {
-            rows: 1,
-            starts,
-            ids,
-            values: &[],
-        },
-        &mut [],
-        &mut [],
-    );
-    assert_eq!(rt; found, Err(no_start));
-}
-
-// The call that writes a price for each row looks at the length of that list first.
-#[test]
-fn too_many_rows(rt: HostRuntime) {
-    let many = DiagonalRefusal::Lists(Refusal::Columns(ColumnsError::TooManyRows));
-    let (mut mates, mut columns) = ([7; 1], [7; 1]);
-    let found = bottleneck(
-        rt.alloc(),
-        &WeightedColumns {
-            rows: 4294967296,
-            starts: Narrow { list: &[0, 1] },
-            ids: Narrow { list: &[0] },
-            values: &[1],
-        },
-        &mut mates,
-        &mut columns,
-    );
-    assert_eq!(rt; found, Err(many));
-    assert_eq!(rt; (mates, columns), ([7], [7]));
-}
-
-// What the heaviest diagonal of one entry is answered with lists of these lengths, of at most two,
-// to be written.
-fn heaviest_is_not_long<R: Abort + AllocGlobal>(rt: &R, mates: usize, rows: usize, columns: usize) {
-    assert!(rt; mates <= 2 && rows <= 2 && columns <= 2);
-    let (mut row_of_column, mut u, mut v) = ([7; 2], [7; 2], [7; 2]);
-    let sum = heaviest(
-        rt.alloc(),
-        &WeightedColumns {
-            rows: 1,
-            starts: Narrow { list: &[0, 1] },
-            ids: Narrow { list: &[0] },
-            values: &[1],
-        },
+        alloc,
+        &matrix_of(wrong),
         &mut row_of_column[..mates],
         &mut u[..rows],
         &mut v[..columns],
     );
-    assert_eq!(rt; sum, Err(DiagonalRefusal::Lists(Refusal::Lengths)));
-    assert_eq!(rt; row_of_column, [7; 2]);
-    assert_eq!(rt; (u, v), ([7; 2], [7; 2]));
+    found == Err(wrong.reason)
+        && are_sevens(&row_of_column)
+        && prices_are_sevens(&u)
+        && prices_are_sevens(&v)
 }
 
-// Each of the lists should have one place.
+// The same of the bottleneck, with lists for the mates and for the columns that show it.
+fn bottleneck_is_refused(alloc: Global, wrong: &Wrong, mates: usize, columns: usize) -> bool {
+    if mates > 4 || columns > 4 {
+        return false;
+    }
+    let (mut row_of_column, mut shown_by) = ([7; 4], [7; 4]);
+    let found = bottleneck(
+        alloc,
+        &matrix_of(wrong),
+        &mut row_of_column[..mates],
+        &mut shown_by[..columns],
+    );
+    found == Err(wrong.reason) && are_sevens(&row_of_column) && are_sevens(&shown_by)
+}
+
+// Whether both are refused where the lists have the right lengths.
+fn both_are_refused(alloc: Global, wrong: &Wrong) -> bool {
+    let (rows, columns) = (wrong.rows as usize, wrong.starts.len().saturating_sub(1));
+    heaviest_is_refused(alloc, wrong, columns, rows, columns)
+        && bottleneck_is_refused(alloc, wrong, columns, columns)
+}
+
+// Whether they are of all these matrices.
+fn all_are_refused(alloc: Global, list: &[Wrong]) -> bool {
+    for wrong in list {
+        if !both_are_refused(alloc, wrong) {
+            return false;
+        }
+    }
+    true
+}
+
+/// In the first, the sum at row 1 of column 1 is 2^63, and its first id is the one at place 1; in
+/// the last, that of row 0 is -2^63 and stands above it, at place 2. A sum past the limit comes
+/// before the want of a perfect matching.
+#[rattlefmt::skip]
+static SUMS: [Wrong; 3] = [
+    Wrong {
+        rows: 2, starts: &[0, 1, 4], ids: &[0, 1, 0, 1], values: &[1, MOST, 1, 1],
+        reason: DiagonalRefusal::SumLimit(1),
+    },
+    Wrong {
+        rows: 3, starts: &[0, 1, 2], ids: &[0, 1], values: &[1, LEAST],
+        reason: DiagonalRefusal::SumLimit(1),
+    },
+    Wrong {
+        rows: 2, starts: &[0, 1, 4], ids: &[0, 1, 0, 1], values: &[1, MOST, LEAST, 1],
+        reason: DiagonalRefusal::SumLimit(2),
+    },
+];
+
+#[test]
+fn sum_past_the_limit(rt: HostRuntime) {
+    assert!(rt; all_are_refused(rt.alloc(), &SUMS));
+}
+
+/// Both columns have their entry in row 0; then there are more rows than columns, and then fewer.
+#[rattlefmt::skip]
+static SINGULAR: [Wrong; 3] = [
+    Wrong {
+        rows: 2, starts: &[0, 1, 2], ids: &[0, 0], values: &[1, 2],
+        reason: DiagonalRefusal::Singular,
+    },
+    Wrong {
+        rows: 3, starts: &[0, 1, 2], ids: &[0, 1], values: &[1, 2],
+        reason: DiagonalRefusal::Singular,
+    },
+    Wrong {
+        rows: 1, starts: &[0, 1, 2], ids: &[0, 0], values: &[1, 2],
+        reason: DiagonalRefusal::Singular,
+    },
+];
+
+#[test]
+fn no_perfect_matching(rt: HostRuntime) {
+    assert!(rt; all_are_refused(rt.alloc(), &SINGULAR));
+}
+
+/// A start that falls, an id that is no row, and fewer and more values than ids; of the last the ids
+/// are not looked at.
+#[rattlefmt::skip]
+static LISTS: [Wrong; 4] = [
+    Wrong {
+        rows: 2, starts: &[0, 2, 1], ids: &[0], values: &[1],
+        reason: DiagonalRefusal::Lists(Refusal::Columns(ColumnsError::BadStart(2))),
+    },
+    Wrong {
+        rows: 2, starts: &[0, 1, 2], ids: &[0, 2], values: &[1, 1],
+        reason: DiagonalRefusal::Lists(Refusal::Columns(ColumnsError::BadRow(1))),
+    },
+    Wrong {
+        rows: 2, starts: &[0, 1, 2], ids: &[0, 1], values: &[1],
+        reason: DiagonalRefusal::Lists(Refusal::Lengths),
+    },
+    Wrong {
+        rows: 2, starts: &[0, 1, 2], ids: &[0, 5], values: &[1, 1, 1],
+        reason: DiagonalRefusal::Lists(Refusal::Lengths),
+    },
+];
+
+#[test]
+fn lists_that_are_not_right(rt: HostRuntime) {
+    assert!(rt; all_are_refused(rt.alloc(), &LISTS));
+}
+
+#[rattlefmt::skip]
+static NO_STARTS: Wrong = Wrong {
+    rows: 1, starts: &[], ids: &[], values: &[],
+    reason: DiagonalRefusal::Lists(Refusal::Columns(ColumnsError::BadStart(0))),
+};
+
+#[test]
+fn no_starts(rt: HostRuntime) {
+    assert!(rt; both_are_refused(rt.alloc(), &NO_STARTS));
+}
+
+#[rattlefmt::skip]
+static MANY_ROWS: Wrong = Wrong {
+    rows: 4294967296, starts: &[0, 1], ids: &[0], values: &[1],
+    reason: DiagonalRefusal::Lists(Refusal::Columns(ColumnsError::TooManyRows)),
+};
+
+// The call that writes a price for each row looks at the length of that list first.
+#[test]
+fn too_many_rows(rt: HostRuntime) {
+    assert!(rt; bottleneck_is_refused(rt.alloc(), &MANY_ROWS, 1, 1));
+}
+
+/// One entry. Each of the lists should have one place.
+#[rattlefmt::skip]
+static ONE_ENTRY: Wrong = Wrong {
+    rows: 1, starts: &[0, 1], ids: &[0], values: &[1],
+    reason: DiagonalRefusal::Lists(Refusal::Lengths),
+};
+
 #[test]
 fn lengths_of_the_heaviest(rt: HostRuntime) {
-    heaviest_is_not_long(&rt, 2, 1, 1);
-    heaviest_is_not_long(&rt, 1, 0, 1);
-    heaviest_is_not_long(&rt, 1, 1, 2);
+    assert!(rt; heaviest_is_refused(rt.alloc(), &ONE_ENTRY, 2, 1, 1));
+    assert!(rt; heaviest_is_refused(rt.alloc(), &ONE_ENTRY, 1, 0, 1));
+    assert!(rt; heaviest_is_refused(rt.alloc(), &ONE_ENTRY, 1, 1, 2));
 }
 
-// Each of the two lists should have one place, and one of them has two.
 #[test]
 fn lengths_of_the_bottleneck(rt: HostRuntime) {
-    let (starts, ids) = (Narrow { list: &[0, 1] }, Narrow { list: &[0] });
-    let wrong = DiagonalRefusal::Lists(Refusal::Lengths);
-    let (mut one, mut two) = ([7; 1], [7; 2]);
-    let found = bottleneck(
-        rt.alloc(),
-        &WeightedColumns {
-            rows: 1,
-            starts,
-            ids,
-            values: &[1],
-        },
-        &mut two,
-        &mut one,
-    );
-    assert_eq!(rt; found, Err(wrong));
-    let found = bottleneck(
-        rt.alloc(),
-        &WeightedColumns {
-            rows: 1,
-            starts,
-            ids,
-            values: &[1],
-        },
-        &mut one,
-        &mut two,
-    );
-    assert_eq!(rt; found, Err(wrong));
-    assert_eq!(rt; (one, two), ([7; 1], [7; 2]));
+    assert!(rt; bottleneck_is_refused(rt.alloc(), &ONE_ENTRY, 2, 1));
+    assert!(rt; bottleneck_is_refused(rt.alloc(), &ONE_ENTRY, 1, 2));
 }
 
-// The diagonal of zeros is the one there is, and each row's price is at least 2^63 - 1 more than
-// that of the row above it. So no prices of four rows fit.
+/// The diagonal of zeros is the one there is, and each row's price is at least 2^63 - 1 more than
+/// that of the row above it. So no prices of four rows fit.
+#[rattlefmt::skip]
+static HIGH_PRICES: Wrong = Wrong {
+    rows: 4, starts: &[0, 2, 4, 6, 7], ids: &[0, 1, 1, 2, 2, 3, 3],
+    values: &[0, MOST, 0, MOST, 0, MOST, 0],
+    reason: DiagonalRefusal::PriceLimit,
+};
+
 #[test]
 fn price_past_64_bits(rt: HostRuntime) {
-    let (mut rows, mut u, mut v) = ([7; 4], [7; 4], [7; 4]);
-    let sum = heaviest(
-        rt.alloc(),
-        &WeightedColumns {
-            rows: 4,
-            starts: Narrow {
-                list: &[0, 2, 4, 6, 7],
-            },
-            ids: Narrow {
-                list: &[0, 1, 1, 2, 2, 3, 3],
-            },
-            values: &[0, MOST, 0, MOST, 0, MOST, 0],
-        },
-        &mut rows,
-        &mut u,
-        &mut v,
-    );
-    assert_eq!(rt; sum, Err(DiagonalRefusal::PriceLimit));
-    assert_eq!(rt; rows, [7; 4]);
-    assert_eq!(rt; (u, v), ([7; 4], [7; 4]));
+    assert!(rt; heaviest_is_refused(rt.alloc(), &HIGH_PRICES, 4, 4, 4));
 }

@@ -1,14 +1,17 @@
 //! Perfect matchings of greatest least weight, by all ways for full and for sparse tables. Those of
 //! matrices that were worked out by hand are in `run_tests`.
 
+ghost use Rattle.std.specs.Prelude.{◌≡◌};
+ghost use Rattle.sp_ids.specs.declared.triples.Field.TheVariants.{Integer};
+
 use crate::tables::{
     Aim, FULL, Table, UNLIKE, by_all_ways, entries_of, is_singular, magnitude, neighbours, table_of,
 };
 use bip_graph::Bottleneck;
 use bottleneck::best;
-use sp_ids::{Col, Row};
+use sp_ids::{Col, Row, Triples};
 use sp_pattern::{Pattern, Weights};
-use std::process::Abort;
+use std::alloc::Global;
 use std::test::Fail;
 use std::thread::Threads;
 use test_matrices::integers_of;
@@ -23,51 +26,49 @@ fn least_of(table: &Table, pairs: &[(Row, Col)]) -> Option<u64> {
     Some(least)
 }
 
-// The bottleneck of these entries.
-fn bottleneck_of<R: AllocGlobal + Threads + Sync>(
-    rt: &R,
-    size: u32,
-    entries: &[(u32, u32, i64)],
-) -> Result<Bottleneck, Fail> {
-    let given = integers_of(rt.alloc(), size, size, entries)?;
-    let pattern = Pattern::build(rt, rt.alloc(), &given)?;
-    let weights = Weights::build(rt.alloc(), &pattern, &given)?;
-    Ok(best(rt.alloc(), &pattern, &weights)?)
+// The bottleneck of a matrix with these entries.
+fn bottleneck_of(alloc: Global, pattern: &Pattern, given: &Triples) -> Result<Bottleneck, Fail>
+    requires { given.now.field ≡ Integer }
+{
+    let weights = Weights::build(alloc, pattern, given)?;
+    Ok(best(alloc, pattern, &weights)?)
 }
 
-// The answer has the least weight that all ways have at most, in one pair and in none less, and
-// columns with fewer neighbours above it. Or there is no way, and it tells why.
-fn tells_greatest<R: Abort>(rt: &R, size: u32, table: &Table, found: &Bottleneck) {
-    let most = by_all_ways(table, Aim::Least, size as usize, 0, [false; 4]);
-    match (found, most) {
-        (Bottleneck::Best { pairs, least, hall }, Some(most)) => {
-            assert_eq!(rt; pairs.as_slice().len(), size as usize);
-            assert_eq!(rt;
-                (*least, least_of(table, pairs.as_slice())),
-                (most, Some(most))
-            );
+// Whether pairs are on a diagonal of the table whose least weight is this one, which is that of all
+// ways.
+fn has_least(table: &Table, size: u32, pairs: &[(Row, Col)], least: u64) -> bool {
+    pairs.len() == size as usize
+        && least_of(table, pairs) == Some(least)
+        && by_all_ways(table, Aim::Least, size as usize, 0, [false; 4]) == Some(least)
+}
+
+// Whether the answer has the least weight that all ways have at most, in one pair and in none less,
+// and columns with fewer neighbours above it. Or there is no way, and it tells why.
+fn tells_greatest(size: u32, table: &Table, found: &Bottleneck) -> bool {
+    match found {
+        Bottleneck::Best { pairs, least, hall } => {
             let columns = hall.as_slice();
-            assert!(rt;
-                neighbours(table, columns, Some(most)) < columns.len(),
-                "{table:?}"
-            );
+            has_least(table, size, pairs.as_slice(), *least)
+                && neighbours(table, columns, Some(*least)) < columns.len()
         }
-        (Bottleneck::Singular { rank, hall }, None) => {
-            is_singular(rt, table, size, *rank, hall.as_slice());
+        Bottleneck::Singular { rank, hall } => {
+            is_singular(table, size, *rank, hall.as_slice())
+                && by_all_ways(table, Aim::Least, size as usize, 0, [false; 4]).is_none()
         }
-        _ => assert!(rt; false, "{table:?}"),
+        Bottleneck::Rectangular => false,
     }
 }
 
-fn is_greatest<R: Abort + AllocGlobal + Threads + Sync>(
+fn is_greatest<R: AllocGlobal + Threads + Sync>(
     rt: &R,
     size: u32,
     table: &Table,
-) -> Result<(), Fail> {
+) -> Result<bool, Fail> {
     let entries = entries_of(rt.alloc(), table)?;
-    let found = bottleneck_of(rt, size, entries.as_slice())?;
-    tells_greatest(rt, size, table, &found);
-    Ok(())
+    let given = integers_of(rt.alloc(), size, size, entries.as_slice())?;
+    let pattern = Pattern::build(rt, rt.alloc(), &given)?;
+    let found = bottleneck_of(rt.alloc(), &pattern, &given)?;
+    Ok(tells_greatest(size, table, &found))
 }
 
 /// Tables, each with the number of its rows and columns that are looked at. In the first two the
@@ -88,7 +89,10 @@ static TABLES: [(u32, [[i64; 4]; 4]); 9] = [
 #[test]
 fn greatest_of_all_ways(rt: HostRuntime) -> Result<(), Fail> {
     for (size, values) in &TABLES {
-        is_greatest(&rt, *size, &table_of(values, *size, FULL))?;
+        assert!(rt;
+            is_greatest(&rt, *size, &table_of(values, *size, FULL))?,
+            "{values:?}"
+        );
     }
     Ok(())
 }
@@ -97,10 +101,13 @@ fn greatest_of_all_ways(rt: HostRuntime) -> Result<(), Fail> {
 #[test]
 fn greatest_of_all_ways_by_some_places(rt: HostRuntime) -> Result<(), Fail> {
     for bits in 0..512 {
-        is_greatest(&rt, 3, &table_of(&UNLIKE, 3, bits))?;
+        assert!(rt; is_greatest(&rt, 3, &table_of(&UNLIKE, 3, bits))?, "{bits}");
     }
     for part in 0..500 {
-        is_greatest(&rt, 4, &table_of(&UNLIKE, 4, part * 131))?;
+        assert!(rt;
+            is_greatest(&rt, 4, &table_of(&UNLIKE, 4, part * 131))?,
+            "{part}"
+        );
     }
     Ok(())
 }

@@ -1,25 +1,27 @@
 //! Sessions of edits beside the matrix made anew after each edit. Whole sessions with their texts
 //! are in `run_tests`.
 
-ghost use Rattle.std.specs.Prelude.{◌≡◌, ◌<◌, ◌≤◌};
+ghost use Rattle.std.specs.Prelude.{◌≡◌, ◌<◌, ◌≤◌, IfOk, IsTrue};
 ghost use Rattle.bip_defs.specs.Matrix.{cols, entry_count};
+ghost use Rattle.bip_graph.specs.Decompositions.{HasParts};
+ghost use Rattle.bip_graph.specs.Matching.{IsMaximumOf};
 
-use bip_graph::{Blocks, Components, Decomposition, Parts};
+use bip_graph::{Blocks, Components, Decomposition, Matching, Parts};
 use dm_coarse::{coarse, components};
 use dm_fine::fine;
 use edit_session::Session;
 use hall_witness::{Steps, plain};
 use sp_ids::{Col, OutOfMemory, Row};
+use sp_pattern::Pattern;
 use std::alloc::Global;
 use std::marker::Brand;
-use std::process::Abort;
 use std::sync::ledger::{Blank, Ledger};
 use std::test::Fail;
 use std::thread::Threads;
 use test_matrices::pattern_of;
 
 /// An edit, whose row and column count from 1.
-#[derive(Clone, Copy, Debug)]
+#[derive(Clone, Copy)]
 enum Edit {
     Set(u32, u32),
     Clear(u32, u32),
@@ -184,52 +186,74 @@ const GROWING: Edits<'static> = Edits {
 /// How many sessions grow side by side.
 const SESSIONS_THAT_GROW: usize = 16;
 
-/// Fails the test where a place is out of range, or the matrix has grown beyond what these tests
-/// make.
-fn check_place<R: Abort>(rt: &R, session: &Session, row: u32, col: u32)
-    ensures row { (0 < row) × (row ≤ session.now.matrix.rows) }
-    ensures col { (0 < col) × (col ≤ cols session.now.matrix) }
-    ensures few { entry_count session.now.matrix < 100 }
+/// Whether a place is in range, and the matrix has not grown beyond what these tests make.
+fn is_place(session: &Session, row: u32, col: u32) -> bool
+    ensures row { IsTrue result → (0 < row) × (row ≤ session.now.matrix.rows) }
+    ensures col { IsTrue result → (0 < col) × (col ≤ cols session.now.matrix) }
+    ensures few { IsTrue result → entry_count session.now.matrix < 100 }
 {
-    assert!(rt; 0 < row && row <= session.rows(), "row {row}");
-    assert!(rt; 0 < col && col <= session.cols(), "column {col}");
-    assert!(rt; session.entries() < 100, "too many entries");
+    if row < 1 || row > session.rows() {
+        return false;
+    }
+    if col < 1 || col > session.cols() {
+        return false;
+    }
+    session.entries() < 100
 }
 
-/// Makes an edit, and gives the rank.
-fn make_edit<R: Abort, L: Ledger>(
-    rt: &R,
+/// Sets a place, and gives the rank, or none where there is no such place.
+fn set<L: Ledger>(
+    session: &mut Session,
+    row: u32,
+    col: u32,
+    steps: &mut Steps<L>,
+) -> Result<Option<u32>, OutOfMemory> {
+    if !is_place(session, row, col) {
+        return Ok(None);
+    }
+    Ok(Some(session.set(Row(row - 1), Col(col - 1), steps)?))
+}
+
+/// Clears a place in the same way.
+fn clear<L: Ledger>(
+    session: &mut Session,
+    row: u32,
+    col: u32,
+    steps: &mut Steps<L>,
+) -> Result<Option<u32>, OutOfMemory> {
+    if !is_place(session, row, col) {
+        return Ok(None);
+    }
+    Ok(Some(session.clear(Row(row - 1), Col(col - 1), steps)?))
+}
+
+/// Makes an edit, and gives the rank, or none where there is no such place.
+fn make_edit<L: Ledger>(
     session: &mut Session,
     edit: Edit,
     steps: &mut Steps<L>,
-) -> Result<u32, OutOfMemory> {
+) -> Result<Option<u32>, OutOfMemory> {
     match edit {
-        Edit::Set(row, col) => {
-            check_place(rt, session, row, col);
-            session.set(Row(row - 1), Col(col - 1), steps)
-        }
-        Edit::Clear(row, col) => {
-            check_place(rt, session, row, col);
-            session.clear(Row(row - 1), Col(col - 1), steps)
-        }
+        Edit::Set(row, col) => set(session, row, col, steps),
+        Edit::Clear(row, col) => clear(session, row, col, steps),
     }
 }
 
-/// Makes an edit, and gives the rank. Where memory is refused once, the session is the one of the
-/// places before it, and then the edit is made all the same.
-fn edit_or_again<R: Abort + AllocGlobal + Threads + Sync, L: Ledger>(
+/// Makes an edit, and gives whether it leaves this rank. Where memory is refused once, the session
+/// is the one of the places before it, and then the edit is made all the same.
+fn leaves_rank<R: AllocGlobal + Threads + Sync, L: Ledger>(
     rt: &R,
     session: &mut Session,
-    edit: Edit,
+    (edit, rank): (Edit, u32),
     places: &[(u32, u32)],
     steps: &mut Steps<L>,
-) -> Result<u32, Fail> {
-    if let Ok(rank) = make_edit(rt, session, edit, steps) {
-        return Ok(rank);
+) -> Result<bool, Fail> {
+    if let Ok(found) = make_edit(session, edit, steps) {
+        return Ok(found == Some(rank) && session.rank() == rank);
     }
-    let (rows, cols) = (session.rows(), session.cols());
-    is_from_scratch(rt, session, rows, cols, places)?;
-    Ok(make_edit(rt, session, edit, steps)?)
+    let is_unchanged = is_from_scratch(rt, session, places)?;
+    let found = make_edit(session, edit, steps)?;
+    Ok(is_unchanged && found == Some(rank) && session.rank() == rank)
 }
 
 /// The places after an edit.
@@ -254,199 +278,252 @@ fn after_edit(
     Ok(after)
 }
 
-fn same_parts<R: Abort>(rt: &R, found: &Parts, wanted: &Parts) {
-    assert_eq!(rt; found.hr.as_slice(), wanted.hr.as_slice());
-    assert_eq!(rt; found.hc.as_slice(), wanted.hc.as_slice());
-    assert_eq!(rt; found.sr.as_slice(), wanted.sr.as_slice());
-    assert_eq!(rt; found.sc.as_slice(), wanted.sc.as_slice());
-    assert_eq!(rt; found.vr.as_slice(), wanted.vr.as_slice());
-    assert_eq!(rt; found.vc.as_slice(), wanted.vc.as_slice());
+fn same_parts(found: &Parts, wanted: &Parts) -> bool {
+    found.hr.as_slice() == wanted.hr.as_slice()
+        && found.hc.as_slice() == wanted.hc.as_slice()
+        && found.sr.as_slice() == wanted.sr.as_slice()
+        && found.sc.as_slice() == wanted.sc.as_slice()
+        && found.vr.as_slice() == wanted.vr.as_slice()
+        && found.vc.as_slice() == wanted.vc.as_slice()
 }
 
-fn same_blocks<R: Abort>(rt: &R, found: &Blocks, wanted: &Blocks) {
-    assert_eq!(rt; found.len(), wanted.len());
-    assert_eq!(rt; found.all_rows(), wanted.all_rows());
-    assert_eq!(rt; found.all_cols(), wanted.all_cols());
+fn same_blocks(found: &Blocks, wanted: &Blocks) -> bool {
+    found.len() == wanted.len()
+        && found.all_rows() == wanted.all_rows()
+        && found.all_cols() == wanted.all_cols()
 }
 
-/// What is found in a matrix that is made of places anew.
-#[derive(Drop)]
-struct MadeAnew {
-    entries: u32,
-    rank: u32,
-    parts: Parts,
-    blocks: Blocks,
-    components: Components,
+/// A maximum matching.
+fn maximum(alloc: Global, pattern: &Pattern) -> Result<Matching, OutOfMemory>
+    ensures { IfOk result (IsMaximumOf pattern.now) }
+{
+    let (matching, _missed) = plain(alloc, pattern)?;
+    Ok(matching)
 }
 
-fn made_anew<R: AllocGlobal + Threads + Sync>(
+/// Whether these are the fine blocks.
+fn are_fine(
+    alloc: Global,
+    pattern: &Pattern,
+    matching: &Matching,
+    parts: &Parts,
+    found: &Blocks,
+) -> Result<bool, OutOfMemory>
+    requires maximum { IsMaximumOf pattern.now matching.now }
+    requires parts { HasParts pattern.now parts.now }
+{
+    let blocks = fine(alloc, pattern, matching, parts)?;
+    Ok(same_blocks(found, &blocks))
+}
+
+/// Whether these are the components.
+fn are_joined(
+    alloc: Global,
+    pattern: &Pattern,
+    parts: &Parts,
+    found: &Components,
+) -> Result<bool, OutOfMemory>
+    requires { HasParts pattern.now parts.now }
+{
+    let joined = components(alloc, pattern, parts)?;
+    Ok(
+        same_blocks(&found.horizontal, &joined.horizontal)
+            && same_blocks(&found.vertical, &joined.vertical),
+    )
+}
+
+/// Whether a report tells what is found in a matrix, from a maximum matching of it.
+fn tells<R: AllocGlobal + Threads + Sync>(
     rt: &R,
-    rows: u32,
-    cols: u32,
-    places: &[(u32, u32)],
-) -> Result<MadeAnew, Fail> {
-    let pattern = pattern_of(rt, rows, cols, places)?;
-    let (matching, _missed) = plain(rt.alloc(), &pattern)?;
-    let parts = coarse(rt, rt.alloc(), &pattern, &matching)?;
-    let blocks = fine(rt.alloc(), &pattern, &matching, &parts)?;
-    let components = components(rt.alloc(), &pattern, &parts)?;
-    Ok(MadeAnew {
-        entries: pattern.entries(),
-        rank: matching.size(),
-        parts,
-        blocks,
-        components,
-    })
+    pattern: &Pattern,
+    matching: &Matching,
+    found: &Decomposition,
+    joined: &Components,
+) -> Result<bool, OutOfMemory>
+    requires { IsMaximumOf pattern.now matching.now }
+{
+    let parts = coarse(rt, rt.alloc(), pattern, matching)?;
+    Ok(
+        same_parts(&found.parts, &parts)
+            && are_fine(rt.alloc(), pattern, matching, &parts, &found.blocks)?
+            && are_joined(rt.alloc(), pattern, &parts, joined)?,
+    )
 }
 
-/// A report tells what is found in a matrix that is made anew.
-fn tells<R: Abort>(rt: &R, found: &Decomposition, joined: &Components, anew: &MadeAnew) {
-    assert_eq!(rt; (found.e, found.rank), (anew.entries, anew.rank));
-    same_parts(rt, &found.parts, &anew.parts);
-    same_blocks(rt, &found.blocks, &anew.blocks);
-    same_blocks(rt, &joined.horizontal, &anew.components.horizontal);
-    same_blocks(rt, &joined.vertical, &anew.components.vertical);
+/// Whether the numbers of a session and of its report are those of a matrix and of a maximum
+/// matching of it.
+fn same_numbers(
+    session: &Session,
+    pattern: &Pattern,
+    matching: &Matching,
+    found: &Decomposition,
+) -> bool {
+    session.rank() == matching.size()
+        && session.entries() == pattern.entries()
+        && found.m == pattern.rows()
+        && found.n == pattern.cols()
+        && found.e == pattern.entries()
+        && found.rank == matching.size()
 }
 
-/// The session's rank, its number of entries and its report are those of the matrix that is made of
-/// these places anew.
-fn is_from_scratch<R: Abort + AllocGlobal + Threads + Sync>(
+/// Whether the session's rank, its number of entries and its report are those of a matrix.
+fn is_session_of<R: AllocGlobal + Threads + Sync>(
     rt: &R,
     session: &Session,
-    rows: u32,
-    cols: u32,
-    places: &[(u32, u32)],
-) -> Result<(), Fail> {
-    let anew = made_anew(rt, rows, cols, places)?;
-    assert_eq!(rt;
-        (session.rank(), session.entries()),
-        (anew.rank, anew.entries)
-    );
+    pattern: &Pattern,
+) -> Result<bool, OutOfMemory> {
+    let matching = maximum(rt.alloc(), pattern)?;
     let (found, joined) = session.report(rt)?;
-    assert_eq!(rt; (found.m, found.n), (rows, cols));
-    tells(rt, &found, &joined, &anew);
-    Ok(())
+    Ok(
+        same_numbers(session, pattern, &matching, &found)
+            && tells(rt, pattern, &matching, &found, &joined)?,
+    )
 }
 
-/// A session that begins with these places.
-fn session_of<R: AllocGlobal + Threads + Sync>(
+/// Whether the session is that of the matrix that is made of these places anew.
+fn is_from_scratch<R: AllocGlobal + Threads + Sync>(
     rt: &R,
-    rows: u32,
-    cols: u32,
+    session: &Session,
     places: &[(u32, u32)],
-) -> Result<Session, Fail> {
-    let pattern = pattern_of(rt, rows, cols, places)?;
-    let (matching, _missed) = plain(rt.alloc(), &pattern)?;
-    Ok(Session::new(rt.alloc(), &pattern, matching)?)
+) -> Result<bool, Fail> {
+    let pattern = pattern_of(rt, session.rows(), session.cols(), places)?;
+    Ok(is_session_of(rt, session, &pattern)?)
 }
 
-/// Makes an edit, and compares with the matrix made anew of the places after it, which it gives.
-fn edited<R: Abort + AllocGlobal + Threads + Sync, L: Ledger>(
+/// A session that begins with a matrix.
+fn session_of(alloc: Global, pattern: &Pattern) -> Result<Session, OutOfMemory> {
+    let matching = maximum(alloc, pattern)?;
+    Session::new(alloc, pattern, matching)
+}
+
+/// Whether each edit leaves the rank that it is to leave, and the session of the matrix made anew of
+/// the places after it.
+fn edits_leave<R: AllocGlobal + Threads + Sync, L: Ledger>(
     rt: &R,
     session: &mut Session,
-    (change, rank): (Edit, u32),
-    places: &[(u32, u32)],
+    edits: &Edits<'_>,
     steps: &mut Steps<L>,
-) -> Result<Vec<(u32, u32)>, Fail> {
-    let found = edit_or_again(rt, session, change, places, steps)?;
-    assert_eq!(rt; (found, session.rank()), (rank, rank), "{change:?}");
-    let after = after_edit(rt.alloc(), places, change)?;
-    is_from_scratch(
-        rt,
-        session,
-        session.rows(),
-        session.cols(),
-        after.as_slice(),
-    )?;
-    Ok(after)
+) -> Result<bool, Fail> {
+    let mut places = Vec::from_slice(rt.alloc(), edits.places)?;
+    for edit in edits.edits {
+        let after = after_edit(rt.alloc(), places.as_slice(), edit.0)?;
+        if !leaves_rank(rt, session, *edit, places.as_slice(), steps)?
+            || !is_from_scratch(rt, session, after.as_slice())?
+        {
+            return Ok(false);
+        }
+        places = after;
+    }
+    Ok(true)
 }
 
-/// Makes the edits of a session and compares after each.
-fn replay<R: Abort + AllocGlobal + Threads + Sync, L: Ledger>(
+/// Whether a session of these edits leaves what it is to leave, from its first rank on.
+fn replays<R: AllocGlobal + Threads + Sync, L: Ledger>(
     rt: &R,
     edits: &Edits<'_>,
     blank: Blank,
-) -> Result<(), Fail>
+) -> Result<bool, Fail>
     requires name { blank.name ≡ L.name }
     requires parts { blank.parts ≡ L.parts }
     requires some { 0 < blank.parts }
 {
-    let mut session = session_of(rt, edits.rows, edits.cols, edits.places)?;
-    assert_eq!(rt; session.rank(), edits.rank);
-    let mut places = Vec::from_slice(rt.alloc(), edits.places)?;
+    let pattern = pattern_of(rt, edits.rows, edits.cols, edits.places)?;
+    let mut session = session_of(rt.alloc(), &pattern)?;
     let mut steps = Steps::<L>::new(blank);
-    for edit in edits.edits {
-        places = edited(rt, &mut session, *edit, places.as_slice(), &mut steps)?;
-    }
-    Ok(())
+    Ok(
+        session.rank() == edits.rank
+            && session.rows() == edits.rows
+            && session.cols() == edits.cols
+            && edits_leave(rt, &mut session, edits, &mut steps)?,
+    )
 }
 
-/// Several sessions that begin with these places.
-fn sessions_of<R: AllocGlobal + Threads + Sync>(
-    rt: &R,
-    rows: u32,
-    cols: u32,
-    places: &[(u32, u32)],
-) -> Result<Vec<Session>, Fail> {
-    let pattern = pattern_of(rt, rows, cols, places)?;
-    let (matching, _missed) = plain(rt.alloc(), &pattern)?;
-    let mut sessions = Vec::with_capacity(rt.alloc(), SESSIONS_THAT_GROW)?;
+/// Several sessions that begin with a matrix.
+fn sessions_of(alloc: Global, pattern: &Pattern) -> Result<Vec<Session>, OutOfMemory> {
+    let mut sessions = Vec::with_capacity(alloc, SESSIONS_THAT_GROW)?;
     for _ in 0..SESSIONS_THAT_GROW {
-        let matching = matching.copy(rt.alloc())?;
-        sessions.push(Session::new(rt.alloc(), &pattern, matching)?)?;
+        sessions.push(session_of(alloc, pattern)?)?;
     }
     Ok(sessions)
 }
 
-/// Makes an edit in every one of several sessions.
-fn edit_all<R: Abort + AllocGlobal + Threads + Sync, L: Ledger>(
+/// Makes an edit in every one of several sessions. Whether each leaves the rank.
+fn edit_all<R: AllocGlobal + Threads + Sync, L: Ledger>(
     rt: &R,
     sessions: &mut [Session],
-    (change, rank): (Edit, u32),
+    edit: (Edit, u32),
     places: &[(u32, u32)],
     steps: &mut Steps<L>,
-) -> Result<(), Fail> {
+) -> Result<bool, Fail> {
     for session in sessions {
-        let found = edit_or_again(rt, session, change, places, steps)?;
-        assert_eq!(rt; (found, session.rank()), (rank, rank), "{change:?}");
+        if !leaves_rank(rt, session, edit, places, steps)? {
+            return Ok(false);
+        }
     }
-    Ok(())
+    Ok(true)
+}
+
+/// Whether every one of several sessions is that of the matrix made anew of these places.
+fn are_from_scratch<R: AllocGlobal + Threads + Sync>(
+    rt: &R,
+    sessions: &[Session],
+    edits: &Edits<'_>,
+    places: &[(u32, u32)],
+) -> Result<bool, Fail> {
+    for session in sessions {
+        if session.rows() != edits.rows
+            || session.cols() != edits.cols
+            || !is_from_scratch(rt, session, places)?
+        {
+            return Ok(false);
+        }
+    }
+    Ok(true)
 }
 
 /// Makes each edit in every one of several sessions, and compares them at the end. From session to
 /// session only the edits take memory.
-fn replay_side_by_side<R: Abort + AllocGlobal + Threads + Sync, L: Ledger>(
+fn edits_leave_all<R: AllocGlobal + Threads + Sync, L: Ledger>(
+    rt: &R,
+    sessions: &mut [Session],
+    edits: &Edits<'_>,
+    steps: &mut Steps<L>,
+) -> Result<bool, Fail> {
+    let mut places = Vec::from_slice(rt.alloc(), edits.places)?;
+    for edit in edits.edits {
+        if !edit_all(rt, sessions, *edit, places.as_slice(), steps)? {
+            return Ok(false);
+        }
+        places = after_edit(rt.alloc(), places.as_slice(), edit.0)?;
+    }
+    are_from_scratch(rt, sessions, edits, places.as_slice())
+}
+
+/// The same of new sessions.
+fn replays_side_by_side<R: AllocGlobal + Threads + Sync, L: Ledger>(
     rt: &R,
     edits: &Edits<'_>,
     blank: Blank,
-) -> Result<(), Fail>
+) -> Result<bool, Fail>
     requires name { blank.name ≡ L.name }
     requires parts { blank.parts ≡ L.parts }
     requires some { 0 < blank.parts }
 {
-    let mut places = Vec::from_slice(rt.alloc(), edits.places)?;
-    let mut sessions = sessions_of(rt, edits.rows, edits.cols, places.as_slice())?;
+    let pattern = pattern_of(rt, edits.rows, edits.cols, edits.places)?;
+    let mut sessions = sessions_of(rt.alloc(), &pattern)?;
     let mut steps = Steps::<L>::new(blank);
-    for edit in edits.edits {
-        edit_all(
-            rt,
-            sessions.as_mut_slice(),
-            *edit,
-            places.as_slice(),
-            &mut steps,
-        )?;
-        places = after_edit(rt.alloc(), places.as_slice(), edit.0)?;
-    }
-    for session in &sessions {
-        is_from_scratch(rt, session, edits.rows, edits.cols, places.as_slice())?;
-    }
-    Ok(())
+    edits_leave_all(rt, sessions.as_mut_slice(), edits, &mut steps)
 }
 
 #[test]
 fn each_edit_leaves_the_matrix_made_anew(rt: HostRuntime) -> Result<(), Fail> {
+    let mut number: u32 = 0;
     for edits in SESSIONS {
-        replay::<HostRuntime, Brand>(&rt, &edits, Blank::new(1))?;
+        number = number.wrapping_add(1);
+        assert!(rt;
+            replays::<HostRuntime, Brand>(&rt, &edits, Blank::new(1))?,
+            "session {number}"
+        );
     }
     Ok(())
 }
@@ -456,5 +533,6 @@ fn each_edit_leaves_the_matrix_made_anew(rt: HostRuntime) -> Result<(), Fail> {
 // --fail-alloc 200` it is in an edit that copies the lists, by 240 in one that does not.
 #[test]
 fn an_edit_without_memory_changes_nothing(rt: HostRuntime) -> Result<(), Fail> {
-    replay_side_by_side::<HostRuntime, Brand>(&rt, &GROWING, Blank::new(1))
+    assert!(rt; replays_side_by_side::<HostRuntime, Brand>(&rt, &GROWING, Blank::new(1))?);
+    Ok(())
 }

@@ -1,20 +1,18 @@
 //! Runs of events on the forest of alternating trees, worked out by hand.
 
 use crate::pairs::{are_pairs, has_pairs};
-use bip_graph::Matching;
 use forest_core::{Forest, every_run};
-use sp_ids::{Col, Event, Id, Row};
+use sp_ids::{Col, Event, Id, OutOfMemory, Row};
 use sp_pattern::Pattern;
-use std::process::Abort;
+use std::alloc::Global;
 use std::test::Fail;
-use std::thread::Threads;
 use test_matrices::{matching_of, pattern_of};
 
 /// Pairs of a row and a column, which count from 1.
 type Pairs = &'static [(u32, u32)];
 
 /// An event whose rows and columns count from 1.
-#[derive(Clone, Copy, Debug)]
+#[derive(Clone, Copy)]
 enum Step {
     Claim(u32, u32),
     Win(u32, u32),
@@ -26,48 +24,45 @@ enum Step {
 
 use Step::{Claim, Done, Flip, Graft, Rebuild, Win};
 
-fn event_of<R: Abort>(rt: &R, step: Step) -> Event {
+/// The event of a step. Number 0 becomes the greatest one, which is no row and no column.
+fn event_of(step: Step) -> Event {
     match step {
-        Claim(row, col) => {
-            assert!(rt; 0 < row && 0 < col);
-            Event::Claim {
-                row: Row(row - 1),
-                col: Col(col - 1),
-            }
-        }
-        Win(root, leaf) => {
-            assert!(rt; 0 < root && 0 < leaf);
-            Event::Win {
-                root: Col(root - 1),
-                leaf: Row(leaf - 1),
-            }
-        }
-        Flip(root) => {
-            assert!(rt; 0 < root);
-            Event::Flip {
-                root: Col(root - 1),
-            }
-        }
+        Claim(row, col) => Event::Claim {
+            row: Row(row.wrapping_sub(1)),
+            col: Col(col.wrapping_sub(1)),
+        },
+        Win(root, leaf) => Event::Win {
+            root: Col(root.wrapping_sub(1)),
+            leaf: Row(leaf.wrapping_sub(1)),
+        },
+        Flip(root) => Event::Flip {
+            root: Col(root.wrapping_sub(1)),
+        },
         Graft => Event::Graft,
         Rebuild => Event::Rebuild,
         Done => Event::Done,
     }
 }
 
+fn events_of(alloc: Global, steps: &[Step]) -> Result<Vec<Event>, OutOfMemory> {
+    let mut events = Vec::new(alloc);
+    for step in steps {
+        events.push(event_of(*step))?;
+    }
+    Ok(events)
+}
+
 /// The forest after these events from a matching of these pairs, up to the first that is not legal,
 /// and how many were made.
-fn after<'p, R: Abort + AllocGlobal>(
-    rt: &R,
+fn after<'p>(
+    alloc: Global,
     pattern: &'p Pattern,
     pairs: &[(u32, u32)],
     steps: &[Step],
 ) -> Result<(Forest<'p>, usize), Fail> {
-    let matching = matching_of(rt.alloc(), pattern, pairs)?;
-    let mut events = Vec::new(rt.alloc());
-    for step in steps {
-        events.push(event_of(rt, *step))?;
-    }
-    Ok(every_run(rt.alloc(), pattern, matching, events.as_slice())?)
+    let events = events_of(alloc, steps)?;
+    let matching = matching_of(alloc, pattern, pairs)?;
+    Ok(every_run(alloc, pattern, matching, events.as_slice())?)
 }
 
 /// A run of events, how many of them are legal, and what they leave: so many claims, whether it is
@@ -144,39 +139,31 @@ static RUNS: [Run; 7] = [
     },
 ];
 
-/// The matching that a run leaves.
-fn is_left<R: Abort>(rt: &R, run: &Run, matching: &Matching) {
-    assert_eq!(rt;
-        matching.size() as usize,
-        run.after.len(),
-        "{:?}",
-        run.steps
-    );
-    has_pairs(rt, run.name, matching, run.after);
-}
-
-fn runs<R: Abort + AllocGlobal + Threads + Sync>(rt: &R, run: &Run) -> Result<(), Fail> {
-    let pattern = pattern_of(rt, run.rows, run.cols, run.places)?;
-    let (forest, made) = after(rt, &pattern, run.pairs, run.steps)?;
-    let found = (made, forest.claims().len(), forest.done());
-    assert_eq!(rt; found, (run.made, run.claims, run.done), "{}", run.name);
-    is_left(rt, run, &forest.into_matching());
-    Ok(())
+/// Whether the run makes so many events, and leaves what it is to leave.
+fn is_run(alloc: Global, pattern: &Pattern, run: &Run) -> Result<bool, Fail> {
+    let (forest, made) = after(alloc, pattern, run.pairs, run.steps)?;
+    let is_left = made == run.made
+        && forest.claims().len() == run.claims
+        && forest.done() == run.done;
+    let matching = forest.into_matching();
+    Ok(is_left && matching.size() as usize == run.after.len() && has_pairs(&matching, run.after))
 }
 
 #[test]
 fn runs_of_events(rt: HostRuntime) -> Result<(), Fail> {
     for run in &RUNS {
-        runs(&rt, run)?;
+        let pattern = pattern_of(&rt, run.rows, run.cols, run.places)?;
+        assert!(rt; is_run(rt.alloc(), &pattern, run)?, "{}", run.name);
     }
     Ok(())
 }
 
-/// What a forest tells after a few events more. The claims are pairs; the other lists have a number
-/// for each row or column, and 0 where there is none. A flipped root has number 1.
+/// What a forest of two trees tells after these events. The claims are pairs; the other lists have a
+/// number for each row or column, and 0 where there is none. A flipped root has number 1.
 #[derive(Clone, Copy)]
 struct State {
-    last: &'static [Step],
+    name: &'static str,
+    steps: &'static [Step],
     claims: Pairs,
     holders: &'static [u32],
     roots: &'static [u32],
@@ -188,6 +175,8 @@ struct State {
 
 const TWO_TREES_PLACES: Pairs = &[(1, 1), (3, 2), (3, 3), (4, 3), (4, 4)];
 
+const TWO_TREES_PAIRS: Pairs = &[(3, 3), (4, 4)];
+
 /// The tree of column 1 wins row 1; that of column 2 has rows 3 and 4 and no leaf.
 static GROWN: [Step; 4] = [Claim(3, 2), Claim(1, 1), Claim(4, 3), Win(1, 1)];
 
@@ -195,21 +184,24 @@ static GROWN: [Step; 4] = [Claim(3, 2), Claim(1, 1), Claim(4, 3), Win(1, 1)];
 #[rattlefmt::skip]
 static STATES: [State; 3] = [
     State {
-        last: &[],
+        name: "two trees",
+        steps: &[Claim(3, 2), Claim(1, 1), Claim(4, 3), Win(1, 1)],
         claims: &[(3, 2), (1, 1), (4, 3)],
         holders: &[1, 0, 2, 3], roots: &[1, 2, 2, 2],
         leaves: &[1, 0, 0, 0], flipped: &[0, 0, 0, 0],
         base_rows: &[0, 0, 3, 4], base_cols: &[0, 0, 3, 4],
     },
     State {
-        last: &[Flip(1)],
+        name: "two trees, a path exchanged",
+        steps: &[Claim(3, 2), Claim(1, 1), Claim(4, 3), Win(1, 1), Flip(1)],
         claims: &[(3, 2), (1, 1), (4, 3)],
         holders: &[1, 0, 2, 3], roots: &[1, 2, 2, 2],
         leaves: &[1, 0, 0, 0], flipped: &[1, 0, 0, 0],
         base_rows: &[0, 0, 3, 4], base_cols: &[0, 0, 3, 4],
     },
     State {
-        last: &[Flip(1), Graft],
+        name: "two trees, a path exchanged, then a graft",
+        steps: &[Claim(3, 2), Claim(1, 1), Claim(4, 3), Win(1, 1), Flip(1), Graft],
         claims: &[(3, 2), (4, 3)],
         holders: &[0, 0, 2, 3], roots: &[0, 2, 2, 2],
         leaves: &[0, 0, 0, 0], flipped: &[0, 0, 0, 0],
@@ -217,66 +209,63 @@ static STATES: [State; 3] = [
     },
 ];
 
-/// Compares a row or column with the number that a list has at a place, from 0 on, and none with 0.
-fn is_at<R: Abort, I: Id>(rt: &R, found: Option<I>, list: &[u32], at: u32) {
-    let number = match list.get(at as usize) {
+/// The number of a row or column, which counts from 1, and 0 for none.
+fn number_of<I: Id>(found: Option<I>) -> u32 {
+    match found {
+        Some(id) => id.number().saturating_add(1),
+        None => 0,
+    }
+}
+
+/// The number that a list has at a place, from 0 on, and 0 past its end.
+fn at(list: &[u32], place: u32) -> u32 {
+    match list.get(place as usize) {
         Some(number) => *number,
         None => 0,
-    };
-    match found {
-        Some(id) => assert_eq!(rt; Some(id.number()), number.checked_sub(1)),
-        None => assert_eq!(rt; number, 0),
     }
 }
 
-fn tells_rows<R: Abort>(rt: &R, forest: &Forest<'_>, state: &State) {
+fn tells_rows(forest: &Forest<'_>, state: &State) -> bool {
     for row in 0..forest.pattern().rows() {
-        is_at(rt, forest.holder(Row(row)), state.holders, row);
-        is_at(rt, forest.base_col(Row(row)), state.base_cols, row);
+        let holder = number_of(forest.holder(Row(row)));
+        let base_col = number_of(forest.base_col(Row(row)));
+        if holder != at(state.holders, row) || base_col != at(state.base_cols, row) {
+            return false;
+        }
     }
+    true
 }
 
-fn tells_cols<R: Abort>(rt: &R, forest: &Forest<'_>, state: &State) {
+fn tells_cols(forest: &Forest<'_>, state: &State) -> bool {
     for col in 0..forest.pattern().cols() {
-        is_at(rt, forest.root_of(Col(col)), state.roots, col);
-        is_at(rt, forest.base_row(Col(col)), state.base_rows, col);
-        is_at(rt, forest.leaf(Col(col)), state.leaves, col);
-        let flipped = if forest.flipped(Col(col)) {
-            Some(Row(0))
-        } else {
-            None
-        };
-        is_at(rt, flipped, state.flipped, col);
+        if number_of(forest.root_of(Col(col))) != at(state.roots, col)
+            || number_of(forest.base_row(Col(col))) != at(state.base_rows, col)
+            || number_of(forest.leaf(Col(col))) != at(state.leaves, col)
+            || forest.flipped(Col(col)) != (at(state.flipped, col) == 1)
+        {
+            return false;
+        }
     }
+    true
 }
 
-/// The forest of two trees after the events that grow it and a few more.
-fn two_trees<'p, R: Abort + AllocGlobal>(
-    rt: &R,
-    pattern: &'p Pattern,
-    last: &[Step],
-) -> Result<Forest<'p>, Fail> {
-    let mut steps = Vec::from_slice(rt.alloc(), &GROWN)?;
-    steps.extend_from_slice(last)?;
-    let (forest, made) = after(rt, pattern, &[(3, 3), (4, 4)], steps.as_slice())?;
-    assert_eq!(rt; made, steps.len());
-    Ok(forest)
-}
-
-fn tells<R: Abort + AllocGlobal>(rt: &R, pattern: &Pattern, state: &State) -> Result<(), Fail> {
-    let forest = two_trees(rt, pattern, state.last)?;
-    tells_rows(rt, &forest, state);
-    tells_cols(rt, &forest, state);
-    // Claims stand in the order in which they were made.
-    are_pairs(rt, "two trees", forest.claims(), state.claims);
-    Ok(())
+/// Whether the forest tells all that it is to tell. Claims stand in the order in which they were
+/// made.
+fn tells(alloc: Global, pattern: &Pattern, state: &State) -> Result<bool, Fail> {
+    let (forest, made) = after(alloc, pattern, TWO_TREES_PAIRS, state.steps)?;
+    Ok(
+        made == state.steps.len()
+            && tells_rows(&forest, state)
+            && tells_cols(&forest, state)
+            && are_pairs(forest.claims(), state.claims),
+    )
 }
 
 #[test]
 fn what_two_trees_tell(rt: HostRuntime) -> Result<(), Fail> {
     let pattern = pattern_of(&rt, 4, 4, TWO_TREES_PLACES)?;
     for state in &STATES {
-        tells(&rt, &pattern, state)?;
+        assert!(rt; tells(rt.alloc(), &pattern, state)?, "{}", state.name);
     }
     Ok(())
 }
@@ -300,84 +289,108 @@ static ILLEGAL: [Step; 13] = [
     Flip(5),
 ];
 
+/// How many of these events are legal.
+fn count_legal(forest: &Forest<'_>, steps: &[Step]) -> usize {
+    let mut count: usize = 0;
+    for step in steps {
+        if forest.may(event_of(*step)) {
+            count = count.wrapping_add(1);
+        }
+    }
+    count
+}
+
+fn forbids(alloc: Global, pattern: &Pattern) -> Result<bool, Fail> {
+    let (forest, made) = after(alloc, pattern, TWO_TREES_PAIRS, &GROWN)?;
+    Ok(made == 4 && count_legal(&forest, &ILLEGAL) == 0 && forest.may(event_of(Flip(1))))
+}
+
 #[test]
 fn what_is_not_legal(rt: HostRuntime) -> Result<(), Fail> {
     let pattern = pattern_of(&rt, 4, 4, TWO_TREES_PLACES)?;
-    let forest = two_trees(&rt, &pattern, &[])?;
-    for step in &ILLEGAL {
-        assert!(rt; !forest.may(event_of(&rt, *step)), "{step:?}");
-    }
-    assert!(rt; forest.may(event_of(&rt, Flip(1))));
+    assert!(rt; forbids(rt.alloc(), &pattern)?);
     Ok(())
 }
 
-/// The numbers of a list, which count from 1, with 0 for none.
-fn numbers_of<I: Id>(list: &[Option<I>]) -> [u32; 4] {
-    let mut numbers = [0; 4];
-    for (at, found) in list.iter().enumerate() {
-        if let Some(id) = found {
-            if at < 4 {
-                numbers[at] = id.number().saturating_add(1);
-            }
+/// Whether a list has these numbers, which count from 1, with 0 for none, and then none.
+fn has_numbers<I: Id>(list: &[Option<I>], numbers: &[u32]) -> bool {
+    let mut place: u32 = 0;
+    for found in list {
+        if number_of(*found) != at(numbers, place) {
+            return false;
         }
+        place = place.wrapping_add(1);
     }
-    numbers
+    numbers.len() <= list.len()
 }
 
-/// A list has these numbers.
-fn has_numbers<R: Abort, I: Id>(rt: &R, list: &Vec<Option<I>>, numbers: [u32; 4]) {
-    assert_eq!(rt; numbers_of(list.as_slice()), numbers);
+/// Whether the lists by row that a board is opened with are right.
+fn has_row_lists(alloc: Global, forest: &Forest<'_>) -> Result<bool, OutOfMemory> {
+    let holders = forest.row_holders(alloc)?;
+    let trees = forest.row_trees(alloc)?;
+    Ok(
+        has_numbers(holders.as_slice(), &[0, 1, 2, 0])
+            && has_numbers(trees.as_slice(), &[0, 1, 1, 0]),
+    )
 }
 
-/// The lists by row that a board is opened with.
-fn has_row_lists<R: Abort + AllocGlobal>(rt: &R, forest: &Forest<'_>) -> Result<(), Fail> {
-    has_numbers(rt, &forest.row_holders(rt.alloc())?, [0, 1, 2, 0]);
-    has_numbers(rt, &forest.row_trees(rt.alloc())?, [0, 1, 1, 0]);
-    Ok(())
+/// Whether the lists by column are right.
+fn has_column_lists(alloc: Global, forest: &Forest<'_>) -> Result<bool, OutOfMemory> {
+    let leaves = forest.root_leaves(alloc)?;
+    let trees = forest.col_trees(alloc)?;
+    Ok(has_numbers(leaves.as_slice(), &[3, 0, 0]) && has_numbers(trees.as_slice(), &[1, 1, 3]))
 }
 
-/// The lists by column.
-fn has_column_lists<R: Abort + AllocGlobal>(rt: &R, forest: &Forest<'_>) -> Result<(), Fail> {
-    has_numbers(rt, &forest.root_leaves(rt.alloc())?, [3, 0, 0, 0]);
-    has_numbers(rt, &forest.col_trees(rt.alloc())?, [1, 1, 3, 0]);
-    Ok(())
+const ONE_PATH_PLACES: Pairs = &[(1, 1), (2, 1), (2, 2), (3, 2), (4, 2)];
+
+fn has_lists(alloc: Global, pattern: &Pattern) -> Result<bool, Fail> {
+    let (forest, made) = after(
+        alloc,
+        pattern,
+        &[(2, 2)],
+        &[Claim(2, 1), Claim(3, 2), Win(1, 3)],
+    )?;
+    Ok(made == 3 && has_row_lists(alloc, &forest)? && has_column_lists(alloc, &forest)?)
 }
 
 // Column 1 claims row 2 and wins row 3 by way of column 2. Boards are opened with these lists.
 #[test]
 fn lists_by_row_and_by_column(rt: HostRuntime) -> Result<(), Fail> {
-    let places = [(1, 1), (2, 1), (2, 2), (3, 2), (4, 2)];
-    let pattern = pattern_of(&rt, 4, 3, &places)?;
-    let steps = [Claim(2, 1), Claim(3, 2), Win(1, 3)];
-    let (forest, made) = after(&rt, &pattern, &[(2, 2)], &steps)?;
-    assert_eq!(rt; made, 3);
-    has_row_lists(&rt, &forest)?;
-    has_column_lists(&rt, &forest)
+    let pattern = pattern_of(&rt, 4, 3, ONE_PATH_PLACES)?;
+    assert!(rt; has_lists(rt.alloc(), &pattern)?);
+    Ok(())
 }
 
-/// No row is claimed, and the base matching has the exchanged path.
-fn is_rebuilt<R: Abort + AllocGlobal>(rt: &R, forest: &Forest<'_>) -> Result<(), Fail> {
-    assert!(rt; forest.claims().is_empty());
-    has_numbers(rt, &forest.row_holders(rt.alloc())?, [0; 4]);
-    has_pairs(rt, "few claims", forest.base(), &[(2, 1), (3, 2)]);
-    Ok(())
+/// Whether no row is claimed, and the base matching has the exchanged path.
+fn is_rebuilt(alloc: Global, forest: &Forest<'_>) -> Result<bool, OutOfMemory> {
+    let holders = forest.row_holders(alloc)?;
+    Ok(
+        forest.claims().is_empty()
+            && has_numbers(holders.as_slice(), &[])
+            && has_pairs(forest.base(), &[(2, 1), (3, 2)]),
+    )
+}
+
+/// Two claims, whose path is exchanged, a rebuild, and a claim that is not legal then.
+static REBUILD: [Step; 6] = [
+    Claim(2, 1),
+    Claim(3, 2),
+    Win(1, 3),
+    Flip(1),
+    Rebuild,
+    Claim(40, 3),
+];
+
+fn frees_rows(alloc: Global, pattern: &Pattern) -> Result<bool, Fail> {
+    let (forest, made) = after(alloc, pattern, &[(2, 2)], &REBUILD)?;
+    Ok(made == 5 && is_rebuilt(alloc, &forest)?)
 }
 
 // Two claims among 40 rows are taken back one by one, and many by filling the table: either way all
 // rows are free.
 #[test]
 fn a_rebuild_with_few_claims(rt: HostRuntime) -> Result<(), Fail> {
-    let places = [(1, 1), (2, 1), (2, 2), (3, 2), (4, 2)];
-    let pattern = pattern_of(&rt, 40, 3, &places)?;
-    let steps = [
-        Claim(2, 1),
-        Claim(3, 2),
-        Win(1, 3),
-        Flip(1),
-        Rebuild,
-        Claim(40, 3),
-    ];
-    let (forest, made) = after(&rt, &pattern, &[(2, 2)], &steps)?;
-    assert_eq!(rt; made, 5);
-    is_rebuilt(&rt, &forest)
+    let pattern = pattern_of(&rt, 40, 3, ONE_PATH_PLACES)?;
+    assert!(rt; frees_rows(rt.alloc(), &pattern)?);
+    Ok(())
 }

@@ -1,16 +1,19 @@
 //! What the last phase of the engine of Pothen and Fan has marked, the coarse parts and the horizontal
 //! columns by it, and the horizontal rows by a search, worked out by hand.
 
+ghost use Rattle.bip_defs.specs.Parts.{MarkHorizontalRows};
 ghost use Rattle.bip_graph.specs.Matching.{IsMaximumOf};
 ghost use Rattle.bip_graph.specs.OuterMarks.{AreOuterMarks};
 
+use crate::pairs::are_marks;
 use bip_graph::{Matching, OuterMarks, Parts};
 use dm_coarse::{coarse_by_marks, horizontal_cols};
 use horizontal_rows::horizontal_rows;
 use pothen_fan::complete_with_marks;
+use sp_ids::OutOfMemory;
 use sp_pattern::Pattern;
 use sp_ports::NoGate;
-use std::process::Abort;
+use std::alloc::Global;
 use std::test::Fail;
 use std::thread::Threads;
 use test_matrices::{are, matching_of, pattern_of};
@@ -91,110 +94,118 @@ static MARKED: [Marked; 9] = [
     },
 ];
 
-/// Compares marks with numbers that count from 1.
-fn are_marks<R: Abort>(rt: &R, name: &str, marks: &[bool], len: u32, numbers: &[u32]) {
-    assert_eq!(rt; marks.len(), len as usize, "{name}");
-    let mut number: u32 = 0;
-    for marked in marks {
-        number = number.wrapping_add(1);
-        assert_eq!(rt; *marked, numbers.contains(&number), "{name}");
-    }
+/// Whether these are the six lists of the parts.
+fn are_parts(wanted: &Marked, parts: &Parts) -> bool {
+    are(parts.hr.as_slice(), wanted.horizontal.0)
+        && are(parts.hc.as_slice(), wanted.horizontal.1)
+        && are(parts.sr.as_slice(), wanted.square.0)
+        && are(parts.sc.as_slice(), wanted.square.1)
+        && are(parts.vr.as_slice(), wanted.vertical.0)
+        && are(parts.vc.as_slice(), wanted.vertical.1)
 }
 
-/// Compares the six lists of the parts.
-fn are_parts<R: Abort>(rt: &R, wanted: &Marked, parts: &Parts) {
-    let name = wanted.name;
-    assert!(rt; are(parts.hr.as_slice(), wanted.horizontal.0), "{name}");
-    assert!(rt; are(parts.hc.as_slice(), wanted.horizontal.1), "{name}");
-    assert!(rt; are(parts.sr.as_slice(), wanted.square.0), "{name}");
-    assert!(rt; are(parts.sc.as_slice(), wanted.square.1), "{name}");
-    assert!(rt; are(parts.vr.as_slice(), wanted.vertical.0), "{name}");
-    assert!(rt; are(parts.vc.as_slice(), wanted.vertical.1), "{name}");
+/// Whether marks of rows lead to the horizontal columns.
+fn has_cols(
+    alloc: Global,
+    wanted: &Marked,
+    pattern: &Pattern,
+    matching: &Matching,
+    rows: &[bool],
+) -> Result<bool, OutOfMemory>
+    requires maximum { IsMaximumOf pattern.now matching.now }
+    requires rows { MarkHorizontalRows pattern.now rows.now }
+{
+    let cols = horizontal_cols(alloc, pattern, matching, rows)?;
+    Ok(are(cols.as_slice(), wanted.horizontal.1))
 }
 
-/// The parts by the marks, and by marks of rows the horizontal columns.
-fn has_parts<R: Abort + AllocGlobal>(
-    rt: &R,
+/// Whether the marks are as wanted, and where they are of rows, so are the horizontal columns.
+fn has_marks(
+    alloc: Global,
     wanted: &Marked,
     pattern: &Pattern,
     matching: &Matching,
     marks: &OuterMarks,
-) -> Result<(), Fail>
+) -> Result<bool, OutOfMemory>
     requires maximum { IsMaximumOf pattern.now matching.now }
     requires marks { AreOuterMarks pattern.now marks.now }
 {
-    let name = wanted.name;
     match marks {
         OuterMarks::HorizontalRows(rows) => {
-            assert!(rt; !wanted.from_rows, "{name}");
-            are_marks(rt, name, rows.as_slice(), wanted.rows, wanted.marked);
-            let cols = horizontal_cols(rt.alloc(), pattern, matching, rows.as_slice())?;
-            assert!(rt; are(cols.as_slice(), wanted.horizontal.1), "{name}");
+            let are_right = are_marks(rows.as_slice(), wanted.rows, wanted.marked);
+            let leads_to_cols = has_cols(alloc, wanted, pattern, matching, rows.as_slice())?;
+            Ok(!wanted.from_rows && are_right && leads_to_cols)
         }
         OuterMarks::VerticalCols(cols) => {
-            assert!(rt; wanted.from_rows, "{name}");
-            are_marks(rt, name, cols.as_slice(), wanted.cols, wanted.marked);
+            Ok(wanted.from_rows && are_marks(cols.as_slice(), wanted.cols, wanted.marked))
         }
     }
-    let parts = coarse_by_marks(rt.alloc(), pattern, matching, marks)?;
-    are_parts(rt, wanted, &parts);
-    Ok(())
 }
 
-/// The search that takes up the columns in order marks the horizontal rows.
-fn has_rows<R: Abort + AllocGlobal>(
-    rt: &R,
+/// Whether the parts by the marks are as wanted.
+fn has_parts(
+    alloc: Global,
     wanted: &Marked,
     pattern: &Pattern,
     matching: &Matching,
-) -> Result<(), Fail>
+    marks: &OuterMarks,
+) -> Result<bool, OutOfMemory>
+    requires maximum { IsMaximumOf pattern.now matching.now }
+    requires marks { AreOuterMarks pattern.now marks.now }
+{
+    let parts = coarse_by_marks(alloc, pattern, matching, marks)?;
+    Ok(are_parts(wanted, &parts))
+}
+
+/// Whether the search that takes up the columns in order marks the horizontal rows.
+fn has_rows(
+    alloc: Global,
+    wanted: &Marked,
+    pattern: &Pattern,
+    matching: &Matching,
+) -> Result<bool, OutOfMemory>
     requires maximum { IsMaximumOf pattern.now matching.now }
 {
-    let rows = horizontal_rows(rt.alloc(), pattern, matching)?;
-    are_marks(
-        rt,
-        wanted.name,
-        rows.as_slice(),
-        wanted.rows,
-        wanted.horizontal.0,
-    );
-    Ok(())
+    let rows = horizontal_rows(alloc, pattern, matching)?;
+    Ok(are_marks(rows.as_slice(), wanted.rows, wanted.horizontal.0))
 }
 
-/// The last phase marks what it is to mark, and the rows and parts are as wanted.
-fn marks_all<R: Abort + AllocGlobal + Threads + Sync>(rt: &R, wanted: &Marked) -> Result<(), Fail> {
-    let pattern = pattern_of(rt, wanted.rows, wanted.cols, wanted.places)?;
-    let no_pairs = matching_of(rt.alloc(), &pattern, &[])?;
-    let (matching, marks) = complete_with_marks(rt.alloc(), &pattern, no_pairs)?;
-    has_rows(rt, wanted, &pattern, &matching)?;
-    has_parts(rt, wanted, &pattern, &matching, &marks)
+/// Whether the last phase marks what it is to mark, and the rows and parts are as wanted.
+fn marks_all(alloc: Global, wanted: &Marked, pattern: &Pattern) -> Result<bool, Fail> {
+    let no_pairs = matching_of(alloc, pattern, &[])?;
+    let (matching, marks) = complete_with_marks(alloc, pattern, no_pairs)?;
+    Ok(
+        has_rows(alloc, wanted, pattern, &matching)?
+            && has_marks(alloc, wanted, pattern, &matching, &marks)?
+            && has_parts(alloc, wanted, pattern, &matching, &marks)?,
+    )
 }
 
-/// The last serial phase of the search by workers marks the same. There is none without entries.
-fn serial_marks_all<R: Abort + AllocGlobal + Threads + Sync>(
+/// Whether the last serial phase of the search by workers marks the same. There is none without
+/// entries.
+fn serial_marks_all<R: AllocGlobal + Threads + Sync>(
     rt: &R,
     wanted: &Marked,
-) -> Result<(), Fail> {
-    let pattern = pattern_of(rt, wanted.rows, wanted.cols, wanted.places)?;
-    let no_pairs = matching_of(rt.alloc(), &pattern, &[])?;
-    let completed = tree_graft::complete_with_marks(rt, rt.alloc(), &pattern, no_pairs, 2, &NoGate);
+    pattern: &Pattern,
+) -> Result<bool, Fail> {
+    let no_pairs = matching_of(rt.alloc(), pattern, &[])?;
+    let completed = tree_graft::complete_with_marks(rt, rt.alloc(), pattern, no_pairs, 2, &NoGate);
     let (matching, marks) = completed?;
-    assert_eq!(rt;
-        marks.is_none(),
-        wanted.places.is_empty(),
-        "{}",
-        wanted.name
-    );
     match marks {
-        Some(marks) => has_parts(rt, wanted, &pattern, &matching, &marks),
-        None => Ok(()),
+        Some(marks) => Ok(
+            !wanted.places.is_empty()
+                && has_marks(rt.alloc(), wanted, pattern, &matching, &marks)?
+                && has_parts(rt.alloc(), wanted, pattern, &matching, &marks)?,
+        ),
+        None => Ok(wanted.places.is_empty()),
     }
 }
 
 #[test]
 fn the_last_phase_marks_the_horizontal_rows(rt: HostRuntime) -> Result<(), Fail> {
     for wanted in &MARKED {
-        marks_all(&rt, wanted)?;
+        let pattern = pattern_of(&rt, wanted.rows, wanted.cols, wanted.places)?;
+        assert!(rt; marks_all(rt.alloc(), wanted, &pattern)?, "{}", wanted.name);
     }
     Ok(())
 }
@@ -202,7 +213,8 @@ fn the_last_phase_marks_the_horizontal_rows(rt: HostRuntime) -> Result<(), Fail>
 #[test]
 fn so_does_the_last_serial_phase_before_workers(rt: HostRuntime) -> Result<(), Fail> {
     for wanted in &MARKED {
-        serial_marks_all(&rt, wanted)?;
+        let pattern = pattern_of(&rt, wanted.rows, wanted.cols, wanted.places)?;
+        assert!(rt; serial_marks_all(&rt, wanted, &pattern)?, "{}", wanted.name);
     }
     Ok(())
 }

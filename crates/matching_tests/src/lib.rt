@@ -8,6 +8,8 @@ mod bottlenecks;
 #[cfg(test)]
 mod diagonals;
 #[cfg(test)]
+mod disjoint_phases;
+#[cfg(test)]
 mod edit_sessions;
 #[cfg(test)]
 mod engines;

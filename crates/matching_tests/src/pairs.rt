@@ -2,27 +2,43 @@
 
 use bip_graph::Matching;
 use sp_ids::{Col, Row};
-use std::process::Abort;
 
-/// Compares pairs, in their order, with numbers that count from 1.
-pub(crate) fn are_pairs<R: Abort>(
-    rt: &R,
-    name: &str,
-    pairs: &[(Row, Col)],
-    numbers: &[(u32, u32)],
-) {
-    assert_eq!(rt; pairs.len(), numbers.len(), "{name}");
-    for (pair, wanted) in pairs.iter().zip(numbers) {
-        assert_eq!(rt; Some(pair.0.0), wanted.0.checked_sub(1), "{name}");
-        assert_eq!(rt; Some(pair.1.0), wanted.1.checked_sub(1), "{name}");
+/// Whether pairs are those of these numbers, which count from 1, in their order.
+pub(crate) fn are_pairs(pairs: &[(Row, Col)], numbers: &[(u32, u32)]) -> bool {
+    if pairs.len() != numbers.len() {
+        return false;
     }
+    for at in 0..pairs.len() {
+        let ((row, col), wanted) = (pairs[at], numbers[at]);
+        if row.0.checked_add(1) != Some(wanted.0) || col.0.checked_add(1) != Some(wanted.1) {
+            return false;
+        }
+    }
+    true
 }
 
 /// Whether rows and columns that count from 1 are pairs of a matching.
-pub(crate) fn has_pairs<R: Abort>(rt: &R, name: &str, matching: &Matching, pairs: &[(u32, u32)]) {
+pub(crate) fn has_pairs(matching: &Matching, pairs: &[(u32, u32)]) -> bool {
     for (row, col) in pairs {
-        assert!(rt; 0 < *row && 0 < *col && *col <= matching.cols(), "{name}");
-        let mate = matching.row_of(Col(*col - 1));
-        assert_eq!(rt; mate, Some(Row(*row - 1)), "{name}");
+        if *row == 0 || *col == 0 || *col > matching.cols() {
+            return false;
+        }
+        if matching.row_of(Col(*col - 1)) != Some(Row(*row - 1)) {
+            return false;
+        }
     }
+    true
+}
+
+/// Whether marks, one for each of so many rows or columns, are those of these numbers, which count
+/// from 1.
+pub(crate) fn are_marks(marks: &[bool], count: u32, numbers: &[u32]) -> bool {
+    let mut number: u32 = 0;
+    for marked in marks {
+        number = number.wrapping_add(1);
+        if *marked != numbers.contains(&number) {
+            return false;
+        }
+    }
+    marks.len() == count as usize
 }

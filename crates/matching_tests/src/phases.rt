@@ -1,7 +1,7 @@
 //! Phases of the search from all unmatched columns at once, by one worker and by several who wait
 //! for each other, worked out by hand.
 
-ghost use Rattle.std.specs.Prelude.{◌≤◌, OnOk};
+ghost use Rattle.std.specs.Prelude.{◌≤◌, IfOk, OnOk};
 ghost use Rattle.bip_defs.specs.Forest.{IsRested};
 ghost use Rattle.sp_ids.specs.Limits.{max_workers};
 
@@ -10,7 +10,7 @@ use forest_core::Forest;
 use sp_ids::OutOfMemory;
 use sp_pattern::Pattern;
 use sp_ports::{Gate, MeetGate};
-use std::process::Abort;
+use std::alloc::Global;
 use std::test::Fail;
 use std::thread::Threads;
 use test_gates::BarrierGate;
@@ -92,108 +92,156 @@ static PHASES: [Phases; 4] = [
 const NUMBERS: [u32; 4] = [1, 2, 3, 64];
 
 /// A gate at which the first two of so many workers meet, or the only one comes.
-fn gate_for<R: AllocGlobal>(rt: &R, workers: u32) -> Result<BarrierGate, OutOfMemory> {
-    BarrierGate::new(rt.alloc(), workers.min(2))
+fn gate_for(alloc: Global, workers: u32) -> Result<BarrierGate, OutOfMemory> {
+    BarrierGate::new(alloc, workers.min(2))
 }
 
-/// A phase by so many workers leaves what it is to leave, and the workers have met.
-fn goes<R: Abort + AllocGlobal + Threads + Sync>(
+/// One phase, and how many pairs it adds.
+fn step<R: AllocGlobal + Threads + Sync, G: Gate>(
     rt: &R,
-    name: &str,
     forest: &mut Forest<'_>,
     workers: u32,
-    gate: &BarrierGate,
-    wanted: &Phase,
-) -> Result<(), OutOfMemory>
+    gate: &G,
+) -> Result<u32, OutOfMemory>
     requires workers { (1 ≤ workers) × (workers ≤ max_workers) }
     requires rested { IsRested forest.old }
     ensures { OnOk result (IsRested forest.new) }
 {
-    let growth = phase(rt, rt.alloc(), forest, workers, gate)?;
-    assert_eq!(rt; growth, wanted.growth, "{name} by {workers}");
-    assert!(rt;
-        gate.have_arrived(workers, wanted.arrivals),
-        "{name} by {workers}"
-    );
-    assert!(rt; !gate.ran_out(), "{name} by {workers}");
-    are_pairs(rt, name, forest.claims(), wanted.claims);
-    Ok(())
+    phase(rt, rt.alloc(), forest, workers, gate)
 }
 
-/// Both phases leave what they are to leave, and then the forest is done.
-fn goes_twice<R: Abort + AllocGlobal + Threads + Sync>(
+/// Whether a phase by so many workers leaves what it is to leave, and the workers have met.
+fn goes<R: AllocGlobal + Threads + Sync>(
+    rt: &R,
+    forest: &mut Forest<'_>,
+    workers: u32,
+    gate: &BarrierGate,
+    wanted: &Phase,
+) -> Result<bool, OutOfMemory>
+    requires workers { (1 ≤ workers) × (workers ≤ max_workers) }
+    requires rested { IsRested forest.old }
+    ensures { OnOk result (IsRested forest.new) }
+{
+    let growth = step(rt, forest, workers, gate)?;
+    Ok(
+        growth == wanted.growth
+            && gate.have_arrived(workers, wanted.arrivals)
+            && !gate.ran_out()
+            && are_pairs(forest.claims(), wanted.claims),
+    )
+}
+
+/// Whether both phases leave what they are to leave, and then the forest is done.
+fn goes_twice<R: AllocGlobal + Threads + Sync>(
     rt: &R,
     phases: &Phases,
     workers: u32,
     forest: &mut Forest<'_>,
-) -> Result<(), Fail>
+) -> Result<bool, OutOfMemory>
     requires workers { (1 ≤ workers) × (workers ≤ max_workers) }
     requires rested { IsRested forest.old }
 {
-    let gate = gate_for(rt, workers)?;
-    goes(rt, phases.name, forest, workers, &gate, &phases.first)?;
-    goes(rt, phases.name, forest, workers, &gate, &phases.second)?;
-    assert!(rt; forest.done(), "{}", phases.name);
-    Ok(())
+    let gate = gate_for(rt.alloc(), workers)?;
+    let first = goes(rt, forest, workers, &gate, &phases.first)?;
+    let second = goes(rt, forest, workers, &gate, &phases.second)?;
+    Ok(first && second && forest.done())
 }
 
-fn go<R: Abort + AllocGlobal + Threads + Sync>(
+/// The forest of a matrix and a matching of these pairs.
+fn forest_of<'p>(
+    alloc: Global,
+    pattern: &'p Pattern,
+    pairs: &[(u32, u32)],
+) -> Result<Forest<'p>, Fail>
+    ensures { IfOk result IsRested }
+{
+    let matching = matching_of(alloc, pattern, pairs)?;
+    Ok(Forest::new(alloc, pattern, matching)?)
+}
+
+fn go<R: AllocGlobal + Threads + Sync>(
     rt: &R,
+    pattern: &Pattern,
     phases: &Phases,
     workers: u32,
-) -> Result<(), Fail>
+) -> Result<bool, Fail>
     requires { (1 ≤ workers) × (workers ≤ max_workers) }
 {
+    let mut forest = forest_of(rt.alloc(), pattern, phases.pairs)?;
+    Ok(goes_twice(rt, phases, workers, &mut forest)?)
+}
+
+/// Whether both phases go as wanted by each number of workers.
+fn go_by_all<R: AllocGlobal + Threads + Sync>(rt: &R, phases: &Phases) -> Result<bool, Fail> {
     let pattern = pattern_of(rt, phases.rows, phases.cols, phases.places)?;
-    let matching = matching_of(rt.alloc(), &pattern, phases.pairs)?;
-    let mut forest = Forest::new(rt.alloc(), &pattern, matching)?;
-    goes_twice(rt, phases, workers, &mut forest)
+    for workers in NUMBERS {
+        if !go(rt, &pattern, phases, workers)? {
+            return Ok(false);
+        }
+    }
+    Ok(true)
 }
 
 #[test]
 fn phases_go_down_or_up_and_keep_trees(rt: HostRuntime) -> Result<(), Fail> {
     for phases in &PHASES {
-        for workers in NUMBERS {
-            go(&rt, phases, workers)?;
-        }
+        assert!(rt; go_by_all(&rt, phases)?, "{}", phases.name);
     }
     Ok(())
 }
 
-/// Three phases add so many pairs, the last of them none, and the workers have met. Then the forest
-/// is done, with so many claims.
-fn phases_add<R: Abort + AllocGlobal + Threads + Sync>(
+/// How many pairs three phases add.
+fn three_phases<R: AllocGlobal + Threads + Sync>(
+    rt: &R,
+    forest: &mut Forest<'_>,
+    workers: u32,
+    gate: &BarrierGate,
+) -> Result<(u32, u32, u32), OutOfMemory>
+    requires workers { (1 ≤ workers) × (workers ≤ max_workers) }
+    requires rested { IsRested forest.old }
+{
+    let first = step(rt, forest, workers, gate)?;
+    let second = step(rt, forest, workers, gate)?;
+    let third = step(rt, forest, workers, gate)?;
+    Ok((first, second, third))
+}
+
+/// Whether three phases add so many pairs, the last of them none, and the workers have met. Then the
+/// forest is done, with so many claims.
+fn phases_add<R: AllocGlobal + Threads + Sync>(
     rt: &R,
     forest: &mut Forest<'_>,
     workers: u32,
     growth: u32,
     claims: usize,
-) -> Result<(), OutOfMemory>
+) -> Result<bool, OutOfMemory>
     requires workers { (1 ≤ workers) × (workers ≤ max_workers) }
     requires rested { IsRested forest.old }
 {
-    let gate = gate_for(rt, workers)?;
-    let first = phase(rt, rt.alloc(), forest, workers, &gate)?;
-    assert!(rt; 0 < first);
-    let second = phase(rt, rt.alloc(), forest, workers, &gate)?;
-    assert_eq!(rt; first.saturating_add(second), growth);
-    assert_eq!(rt; phase(rt, rt.alloc(), forest, workers, &gate)?, 0);
-    assert!(rt; forest.done() && forest.claims().len() == claims);
-    assert!(rt; 0 < gate.arrivals(0) && gate.have_arrived(workers, gate.arrivals(0)));
-    assert!(rt; !gate.ran_out());
-    Ok(())
+    let gate = gate_for(rt.alloc(), workers)?;
+    let (first, second, third) = three_phases(rt, forest, workers, &gate)?;
+    let arrivals = gate.arrivals(0);
+    Ok(
+        0 < first
+            && first.saturating_add(second) == growth
+            && third == 0
+            && forest.done()
+            && forest.claims().len() == claims
+            && 0 < arrivals
+            && gate.have_arrived(workers, arrivals)
+            && !gate.ran_out(),
+    )
 }
 
-/// Phases by so many workers from no pairs, which add one.
-fn phases_add_one<R: Abort + AllocGlobal + Threads + Sync>(
+/// Whether phases by so many workers from no pairs add one.
+fn phases_add_one<R: AllocGlobal + Threads + Sync>(
     rt: &R,
     pattern: &Pattern,
     workers: u32,
-) -> Result<(), Fail>
+) -> Result<bool, Fail>
     requires { (1 ≤ workers) × (workers ≤ max_workers) }
 {
-    let none = matching_of(rt.alloc(), pattern, &[])?;
-    let mut forest = Forest::new(rt.alloc(), pattern, none)?;
+    let mut forest = forest_of(rt.alloc(), pattern, &[])?;
     Ok(phases_add(rt, &mut forest, workers, 1, 1)?)
 }
 
@@ -202,9 +250,23 @@ fn phases_add_one<R: Abort + AllocGlobal + Threads + Sync>(
 fn phases_on_one_row(rt: HostRuntime) -> Result<(), Fail> {
     let pattern = pattern_of(&rt, 1, 2, &[(1, 1), (1, 2)])?;
     for workers in NUMBERS {
-        phases_add_one(&rt, &pattern, workers)?;
+        assert!(rt; phases_add_one(&rt, &pattern, workers)?, "{workers}");
     }
     Ok(())
+}
+
+/// Whether phases add two pairs, and the matching is the one that there is.
+fn phases_add_two<R: AllocGlobal + Threads + Sync>(
+    rt: &R,
+    pattern: &Pattern,
+    workers: u32,
+) -> Result<bool, Fail>
+    requires { (1 ≤ workers) × (workers ≤ max_workers) }
+{
+    let mut forest = forest_of(rt.alloc(), pattern, &[(1, 3)])?;
+    let have_added = phases_add(rt, &mut forest, workers, 2, 0)?;
+    let matching = forest.into_matching();
+    Ok(have_added && has_pairs(&matching, &[(1, 1), (3, 2), (2, 3)]))
 }
 
 /// Two paths, in one phase or in two, and then all rows and columns are matched in the one way that
@@ -213,46 +275,40 @@ fn phases_on_one_row(rt: HostRuntime) -> Result<(), Fail> {
 fn phases_beside_a_single_entry(rt: HostRuntime) -> Result<(), Fail> {
     let pattern = pattern_of(&rt, 3, 3, &[(1, 1), (1, 2), (3, 2), (1, 3), (2, 3)])?;
     for workers in NUMBERS {
-        let matching = matching_of(rt.alloc(), &pattern, &[(1, 3)])?;
-        let mut forest = Forest::new(rt.alloc(), &pattern, matching)?;
-        phases_add(&rt, &mut forest, workers, 2, 0)?;
-        let matching = forest.into_matching();
-        has_pairs(&rt, "a single entry", &matching, &[(1, 1), (3, 2), (2, 3)]);
+        assert!(rt; phases_add_two(&rt, &pattern, workers)?, "{workers}");
     }
     Ok(())
 }
 
-/// Two phases by two workers at this gate. The first goes up once and exchanges a path. The second
-/// goes up twice, at last with no row to claim.
-fn two_phases<R: Abort + AllocGlobal + Threads + Sync, G: Gate>(
+/// Whether two phases by two workers at this gate add a pair and then none. The first goes up once
+/// and exchanges a path. The second goes up twice, at last with no row to claim.
+fn two_phases<R: AllocGlobal + Threads + Sync, G: Gate>(
     rt: &R,
     gate: &G,
     forest: &mut Forest<'_>,
-) -> Result<(), Fail>
+) -> Result<bool, OutOfMemory>
     requires { IsRested forest.old }
 {
-    assert_eq!(rt; phase(rt, rt.alloc(), forest, 2, gate)?, 1);
-    assert_eq!(rt; phase(rt, rt.alloc(), forest, 2, gate)?, 0);
-    Ok(())
+    let first = step(rt, forest, 2, gate)?;
+    let second = step(rt, forest, 2, gate)?;
+    Ok(first == 1 && second == 0)
 }
 
 /// Two phases on one row with an entry in each of two columns.
-fn two_phases_on_one_row<R: Abort + AllocGlobal + Threads + Sync, G: Gate>(
+fn two_phases_on_one_row<R: AllocGlobal + Threads + Sync, G: Gate>(
     rt: &R,
     gate: &G,
-) -> Result<(), Fail> {
+) -> Result<bool, Fail> {
     let pattern = pattern_of(rt, 1, 2, &[(1, 1), (1, 2)])?;
-    let none = matching_of(rt.alloc(), &pattern, &[])?;
-    let mut forest = Forest::new(rt.alloc(), &pattern, none)?;
-    two_phases(rt, gate, &mut forest)
+    let mut forest = forest_of(rt.alloc(), &pattern, &[])?;
+    Ok(two_phases(rt, gate, &mut forest)?)
 }
 
 #[test]
 fn workers_arrive_in_each_phase(rt: HostRuntime) -> Result<(), Fail> {
     let meeting = MeetGate::new(rt.alloc())?;
-    two_phases_on_one_row(&rt, &meeting)?;
-    assert_eq!(rt; (meeting.arrivals(0), meeting.arrivals(1)), (4, 4));
-    assert!(rt; !meeting.ran_out());
+    assert!(rt; two_phases_on_one_row(&rt, &meeting)?);
+    assert!(rt; meeting.arrivals(0) == 4 && meeting.arrivals(1) == 4 && !meeting.ran_out());
     Ok(())
 }
 

@@ -10,58 +10,88 @@ use hall_witness::{Reach, reach};
 use sp_ids::{Col, Field, OutOfMemory, Row, Triples};
 use sp_pattern::Pattern;
 use sp_ports::{Gate, MeetGate};
-use std::process::Abort;
+use std::alloc::Global;
 use std::test::Fail;
 use std::thread::Threads;
 use test_gates::BarrierGate;
 use tree_graft::complete;
 
-/// An entry in each column of the first row, and no other.
-fn one_row_of<R: Abort + AllocGlobal + Threads + Sync>(
+/// An entry in each column of the first row, and no other. Fails where there is no row, and where
+/// there are 20,000 columns and more.
+fn entries_of_one_row(alloc: Global, rows: u32, cols: u32) -> Result<Triples, Fail> {
+    let mut triples = Triples::new(alloc, rows, cols, Field::Pattern)?;
+    for col in 0..cols {
+        if triples.rows() == 0 || col >= triples.cols() || triples.len() >= 20_000 {
+            return Err(Fail::new("no row, or too many columns"));
+        }
+        triples.push(Row(0), Col(col), 0)?;
+    }
+    Ok(triples)
+}
+
+fn one_row_of<R: AllocGlobal + Threads + Sync>(
     rt: &R,
     rows: u32,
     cols: u32,
-) -> Result<Pattern, OutOfMemory> {
-    let mut triples = Triples::new(rt.alloc(), rows, cols, Field::Pattern)?;
-    for col in 0..cols {
-        assert!(rt; 0 < triples.rows() && col < triples.cols() && triples.len() < 20_000);
-        triples.push(Row(0), Col(col), 0)?;
-    }
-    Pattern::build(rt, rt.alloc(), &triples)
+) -> Result<Pattern, Fail> {
+    let triples = entries_of_one_row(rt.alloc(), rows, cols)?;
+    Ok(Pattern::build(rt, rt.alloc(), &triples)?)
 }
 
-/// One pair is found.
-fn has_one_pair<R: Abort + AllocGlobal + Threads + Sync, G: Gate>(
+/// Whether one pair is found.
+fn has_one_pair<R: AllocGlobal + Threads + Sync, G: Gate>(
     rt: &R,
     pattern: &Pattern,
     workers: u32,
     gate: &G,
-) -> Result<(), OutOfMemory>
+) -> Result<bool, OutOfMemory>
     requires { (1 ≤ workers) × (workers ≤ max_workers) }
 {
     let none = Matching::empty(rt.alloc(), pattern.rows(), pattern.cols())?;
     let found = complete(rt, rt.alloc(), pattern, none, workers, gate)?;
-    assert_eq!(rt; found.size(), 1);
-    may_miss_each_column(rt, pattern, &found)
+    Ok(found.size() == 1 && may_miss_each_column(rt.alloc(), pattern, &found)?)
 }
 
-/// All columns may be missed, and their one neighbour is the first row.
-fn may_miss_each_column<R: Abort + AllocGlobal>(
-    rt: &R,
+/// Whether these are all columns, and their one neighbour is the first row.
+fn are_all_columns(pattern: &Pattern, columns: &[Col]) -> bool {
+    for col in columns {
+        if col.0 >= pattern.cols() || !is_first_row(pattern.rows_of(*col)) {
+            return false;
+        }
+    }
+    columns.len() == pattern.cols() as usize
+}
+
+fn is_first_row(rows: &[Row]) -> bool {
+    rows.len() == 1 && rows[0].0 == 0
+}
+
+/// Whether all columns may be missed, and their one neighbour is the first row.
+fn may_miss_each_column(
+    alloc: Global,
     pattern: &Pattern,
     found: &Matching,
-) -> Result<(), OutOfMemory>
+) -> Result<bool, OutOfMemory>
     requires { IsMatchingOf pattern.now found.now }
 {
-    let Reach::Witness(columns) = reach(rt.alloc(), pattern, found)? else {
-        panic!(rt; "one pair is all that there is");
-    };
-    assert_eq!(rt; columns.len(), pattern.cols() as usize);
-    for col in &columns {
-        assert!(rt; col.0 < pattern.cols());
-        assert_eq!(rt; pattern.rows_of(*col), [Row(0)].as_slice());
+    match reach(alloc, pattern, found)? {
+        Reach::Witness(columns) => Ok(are_all_columns(pattern, columns.as_slice())),
+        Reach::Path(_) => Ok(false),
     }
-    Ok(())
+}
+
+/// Whether the pair is found by so many workers, who each arrive so often.
+fn is_found_by<R: AllocGlobal + Threads + Sync>(
+    rt: &R,
+    pattern: &Pattern,
+    workers: u32,
+    arrivals: u64,
+) -> Result<bool, OutOfMemory>
+    requires { (1 ≤ workers) × (workers ≤ max_workers) }
+{
+    let gate = BarrierGate::new(rt.alloc(), workers)?;
+    let is_found = has_one_pair(rt, pattern, workers, &gate)?;
+    Ok(is_found && gate.have_arrived(workers, arrivals) && !gate.ran_out())
 }
 
 /// The numbers of rows and of columns, and how often each worker arrives. Up to 10,000 of both the
@@ -80,13 +110,10 @@ fn workers_search_on_both_sides(rt: HostRuntime) -> Result<(), Fail> {
     for (rows, cols, arrivals) in SIZES {
         let pattern = one_row_of(&rt, rows, cols)?;
         for workers in [1, 2, 3] {
-            let gate = BarrierGate::new(rt.alloc(), workers)?;
-            has_one_pair(&rt, &pattern, workers, &gate)?;
             assert!(rt;
-                gate.have_arrived(workers, arrivals),
+                is_found_by(&rt, &pattern, workers, arrivals)?,
                 "{rows} {cols} {workers}"
             );
-            assert!(rt; !gate.ran_out(), "{rows} {cols} {workers}");
         }
     }
     Ok(())
@@ -96,22 +123,31 @@ fn workers_search_on_both_sides(rt: HostRuntime) -> Result<(), Fail> {
 fn two_workers_meet(rt: HostRuntime) -> Result<(), Fail> {
     let gate = MeetGate::new(rt.alloc())?;
     let pattern = one_row_of(&rt, 1, 2)?;
-    has_one_pair(&rt, &pattern, 2, &gate)?;
-    assert_eq!(rt; (gate.arrivals(0), gate.arrivals(1)), (4, 4));
-    assert!(rt; !gate.ran_out());
+    assert!(rt; has_one_pair(&rt, &pattern, 2, &gate)?);
+    assert!(rt; gate.arrivals(0) == 4 && gate.arrivals(1) == 4 && !gate.ran_out());
     Ok(())
 }
 
-/// From no pairs there is a path of one pair.
+/// Whether there is a path of one pair from no pairs, an entry in the first row.
+fn has_a_path(alloc: Global, pattern: &Pattern) -> Result<bool, OutOfMemory> {
+    let none = Matching::empty(alloc, pattern.rows(), pattern.cols())?;
+    match reach(alloc, pattern, &none)? {
+        Reach::Path(path) => Ok(is_one_entry(pattern, path.as_slice())),
+        Reach::Witness(_) => Ok(false),
+    }
+}
+
+fn is_one_entry(pattern: &Pattern, path: &[(Row, Col)]) -> bool {
+    if path.len() != 1 {
+        return false;
+    }
+    let (row, col) = path[0];
+    row.0 == 0 && pattern.has(row, col)
+}
+
 #[test]
 fn a_path_from_no_pairs(rt: HostRuntime) -> Result<(), Fail> {
     let pattern = one_row_of(&rt, 1, 2)?;
-    let none = Matching::empty(rt.alloc(), pattern.rows(), pattern.cols())?;
-    let Reach::Path(path) = reach(rt.alloc(), &pattern, &none)? else {
-        panic!(rt; "no pair is not all that there is");
-    };
-    assert_eq!(rt; path.len(), 1);
-    let (row, col) = path[0];
-    assert!(rt; row == Row(0) && pattern.has(row, col));
+    assert!(rt; has_a_path(rt.alloc(), &pattern)?);
     Ok(())
 }

@@ -4,7 +4,7 @@ use Rattle.std.specs.Global.{Vec}
 use Rattle.std.specs.Result.{IsErrOf}
 use Rattle.std.specs.Str.{bytes_eq}
 use Rattle.sp_ids.specs.Limits.{max_batch_files, max_batch_file_bytes}
-use Rattle.sp_ports.specs.Device.{Device, FailsOnceAtMost, HasReadFault, IsSteady}
+use Rattle.sp_ports.specs.Device.{CountHasNotFallen, Device, HasReadFault, IsSteady}
 use Rattle.mm_defs.specs.declared.kinds.Kind.{Kind}
 use Rattle.mm_defs.specs.declared.kinds.Kind.TheVariants.{BatchHeader, Files, FileBytes, ShortFile}
 use Rattle.mm_defs.specs.Words.{Word, is_lf, word, words}
@@ -191,9 +191,9 @@ StaysGood good (Err errors.TooLong) = good ≡ false
 StaysGood good (Err errors.ReadFault) = good ≡ false
 StaysGood good (Err errors.OutOfMemory) = good ≡ true
 
--- At Ok no read of the source has failed, and ReadFault is answered only where one has. None is made after it.
+-- At Ok the source's count of failures is as before, and ReadFault is answered only where it rose. It never falls.
 pub record FailsByFailedRead {T : Type 0} (source : Device)
     (result : Result T BatchError) : Type 0 where
-  pub counts : FailsOnceAtMost source
+  pub counts : CountHasNotFallen source
   pub steady : OnOk result (IsSteady source)
   pub failed : IsErrOf result errors.ReadFault → HasReadFault source

@@ -2,7 +2,7 @@
 use Rattle.std.specs.Prelude.{◌≡◌, ◌≤◌, ◌+◌, ◌-◌, length, true, Result, OnOk}
 use Rattle.std.specs.Result.{IsErrOf}
 use Rattle.sp_ports.specs.Bytes.{WhereKnown}
-use Rattle.sp_ports.specs.Device.{Device, FailsOnceAtMost, HasReadFault, IsSteady}
+use Rattle.sp_ports.specs.Device.{CountHasNotFallen, Device, HasReadFault, IsSteady}
 use Rattle.mm_defs.specs.declared.answers.ReadError.{ReadError}
 use Rattle.mm_defs.specs.declared.answers.ReadError.TheVariants.{ReadFault}
 use Rattle.mm_defs.specs.Calls.{Call, Intake, call_on, room}
@@ -33,9 +33,9 @@ OnCall input source P = WhereKnown source.before source.after
     (λ before after.
     P (call_on (room input) input.ahead source.failed_before source.failed_after before after))
 
--- At Ok no read of the source has failed, and ReadFault is answered only where one has. None is made after it.
+-- At Ok the source's count of failures is as before, and ReadFault is answered only where it rose. It never falls.
 pub record FailsByReadFault {T : Type 0} (source : Device)
     (result : Result T ReadError) : Type 0 where
-  pub counts : FailsOnceAtMost source
+  pub counts : CountHasNotFallen source
   pub steady : OnOk result (IsSteady source)
   pub failed : IsErrOf result ReadFault → HasReadFault source

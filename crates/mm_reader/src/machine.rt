@@ -1,8 +1,8 @@
 //! The reader's machine: what each line is, by the lines before it.
 
-ghost use Rattle.std.specs.Prelude.{◌≡◌, ◌≤◌, ◌<◌, ◌+◌, ◌++◌, ℕ, nat_abs, pos, true, false, List, [], ◌∷◌, length, take, IfOk, IfErr, IfSome, OnOk, MatchResult, ◌-◌, ◌^◌};
+ghost use Rattle.std.specs.Prelude.{◌≡◌, ◌≤◌, ◌<◌, ◌*◌, ◌+◌, ◌++◌, ℕ, nat_abs, pos, true, false, List, [], ◌∷◌, length, take, IfOk, IfErr, IfSome, OnOk, MatchResult, ◌-◌, ◌^◌};
 ghost use Rattle.sp_ids.specs.Entries.{Entries};
-ghost use Rattle.sp_ids.specs.Limits.{max_value};
+ghost use Rattle.sp_ids.specs.Limits.{max_entry_lines, max_value};
 ghost use Rattle.mm_defs.specs.Words.{is_skipped, words};
 ghost use Rattle.mm_defs.specs.Header.{is_general, is_integer_field};
 ghost use Rattle.mm_defs.specs.File.{Reads, mirror, placed, with_mirrors, line_faults, later_lines};
@@ -269,7 +269,7 @@ fn add_value(
     requires row { place.row < triples.old.rows }
     requires col { place.col < triples.old.cols }
     requires square { is_general symmetry ≡ false → triples.old.rows ≡ triples.old.cols }
-    requires few { length triples.old.items < 4294967290 }
+    requires few { length triples.old.items + 2 ≤ 2 * max_entry_lines }
     requires field { triples.old.field ≡ Field.Integer }
     requires small { nat_abs value ≤ max_value }
     ensures { OnOk result
@@ -293,7 +293,7 @@ fn add(symmetry: Symmetry, entry: Entry, triples: &mut Triples) -> Result<(), Ou
     requires row { entry.row < triples.old.rows }
     requires col { entry.col < triples.old.cols }
     requires square { is_general symmetry ≡ false → triples.old.rows ≡ triples.old.cols }
-    requires few { length triples.old.items < 4294967290 }
+    requires few { length triples.old.items + 2 ≤ 2 * max_entry_lines }
     requires value { is_integer_field triples.old.field ≡ false → entry.value ≡ pos 0 }
     requires small { nat_abs entry.value ≤ max_value }
     ensures { OnOk result

@@ -8,6 +8,7 @@ mod LayerLemmas
 mod MarkLemmas
 mod PathLemmas
 mod Queues
+mod RootLemmas
 mod ShortestLemmas
 mod StartLemmas
 mod Steps

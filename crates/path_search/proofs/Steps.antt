@@ -13,9 +13,6 @@ use Rattle.bip_defs.proofs.Full.{few_below}
 use Rattle.path_search.proofs.MarkLemmas.{marked_grows, marked_now, marks_more, explored_grows}
 use Rattle.path_search.proofs.TrailLemmas.{passed_all, passed_more, passed_none, rows_last, passed_grows, trail_alternates, trail_back, trail_begins, trail_empty, trail_entries, trail_grows, trail_matched, trail_on, trail_root, trail_walk}
 
-abbrev pub ended : SearchState → ℕ → ℕ → SearchState
-ended s r c = record s { path = s.path ++ (r, c) ∷ [] }
-
 abbrev pub entered : SearchState → ℕ → ℕ → SearchState
 entered s r c = record s { marks = set s.marks r true; visited = s.visited ++ r ∷ []; path = s.path ++ (r, c) ∷ [] }
 
@@ -27,9 +24,6 @@ left_from s r d j = record s { path = s.path ++ (r, d) ∷ []; places = s.places
 
 pub unmarked_unvisited : (a : Matrix) (m : List Place) (reversed : Bool) (s : SearchState) (c k r : ℕ) → IsSearchAt a m reversed s c k → ¬ IsMarked s.marks r → ¬ Among r s.visited
 unmarked_unvisited a m reversed s c k r f un h = un (f.visited_marked r h)
-
-pub unmatched_unvisited : (a : Matrix) (m : List Place) (reversed : Bool) (s : SearchState) (c k r : ℕ) → IsSearchAt a m reversed s c k → ¬ Among r (rows_of m) → ¬ Among r s.visited
-unmatched_unvisited a m reversed s c k r f free h = ⊎_elim (λ g. free (trail_matched a m reversed s.marks s.root c s.path s.places r f.trail g)) (λ g. free (row_among r g.0 m g.1)) (f.finished r h)
 
 -- there is room for one row more
 pub visited_room : (a : Matrix) (m : List Place) (reversed : Bool) (s : SearchState) (c k r : ℕ) → IsSearchAt a m reversed s c k → r < a.rows → ¬ Among r s.visited → suc (length s.visited) ≤ a.rows
@@ -43,8 +37,8 @@ onward_entered s r c lt un = record { cols_stay = refl; root_stays = refl; marks
 row_on_path : (path : List Place) (x r c : ℕ) → Among x (rows_of (path ++ (r, c) ∷ [])) → Among x (rows_of path) ⊎ (x ≡ r)
 row_on_path path x r c h = among_last x r (rows_of path) (subst (λ xs. Among x xs) (rows_last path (r, c)) h)
 
-pub reaches_end : (a : Matrix) (m : List Place) (reversed : Bool) (s : SearchState) (c k r : ℕ) → IsSearchAt a m reversed s c k → IsEntry a r c → ¬ Among r (rows_of m) → HasFound a m (ended s r c)
-reaches_end a m reversed s c k r f e free = record {
+pub reaches_entered : (a : Matrix) (m : List Place) (reversed : Bool) (s : SearchState) (c k r : ℕ) → IsSearchAt a m reversed s c k → IsEntry a r c → ¬ Among r (rows_of m) → HasFound a m (entered s r c)
+reaches_entered a m reversed s c k r f e free = record {
   augmenting = record {
     begins = trail_begins a m reversed s.marks s.root c r s.path s.places f.trail f.root_unmatched;
     alternates = trail_alternates a m reversed s.marks s.root c r s.path s.places f.trail free;
@@ -52,13 +46,8 @@ reaches_end a m reversed s c k r f e free = record {
   };
   entries = λ x d h. ⊎_elim (λ g. trail_entries a m reversed s.marks s.root c s.path s.places f.trail x d g) (λ (g : (x, d) ≡ (r, c)). subst (λ (q : Place). IsEntry a q.0 q.1) (sym g) e) (among_last (x, d) (r, c) s.path h);
   from_root = trail_root a m reversed s.marks s.root c r s.path s.places f.trail;
-  visited = λ x h matched. ⊎_elim (λ g. f.path_visited x g) (λ (g : x ≡ r). absurd (free (subst (λ y. Among y (rows_of m)) g matched))) (row_on_path s.path x r c h);
+  visited = λ x h. ⊎_elim (λ g. among_left x s.visited (r ∷ []) (f.path_visited x g)) (λ g. among_right x s.visited (r ∷ []) (inl g)) (row_on_path s.path x r c h);
 }
-
-pub reaches_entered : (a : Matrix) (m : List Place) (reversed : Bool) (s : SearchState) (c k r : ℕ) → IsSearchAt a m reversed s c k → IsEntry a r c → ¬ Among r (rows_of m) → HasFound a m (entered s r c)
-reaches_entered a m reversed s c k r f e free =
-    let g = reaches_end a m reversed s c k r f e free in
-    record { augmenting = g.augmenting; entries = g.entries; from_root = g.from_root; visited = λ x h matched. among_left x s.visited (r ∷ []) (g.visited x h matched) }
 
 -- Down.
 

@@ -18,12 +18,12 @@ pub record Onward (old new : SearchState) : Type 0 where
   pub marks : (start : List Bool) → HasMarked old.visited start old.marks
       → HasMarked new.visited start new.marks
 
--- its path is augmenting
+-- its path is augmenting, over rows that it has visited
 pub record HasFound (a : Matrix) (m : List Place) (s : SearchState) : Type 0 where
   pub augmenting : IsAugmenting m s.path
   pub entries : AreEntries a s.path
   pub from_root : Among s.root (cols_of s.path)
-  pub visited : (r : ℕ) → Among r (rows_of s.path) → Among r (rows_of m) → Among r s.visited
+  pub visited : (r : ℕ) → Among r (rows_of s.path) → Among r s.visited
 
 -- what falls with each step: twice the rows that are unvisited, and the path's length
 abbrev pub steps_left : Matrix → SearchState → ℕ

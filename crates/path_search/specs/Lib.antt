@@ -3,6 +3,7 @@ pub mod Batches
 pub mod Forests
 pub mod Growth
 pub mod Layers
+pub mod Roots
 pub mod Search
 pub mod Shortest
 pub mod Trails

@@ -51,13 +51,20 @@ pub fn next_unmarked<F: Id>(rows: &[F], marks: &[bool], place: usize, reversed: 
     at
 }
 
-/// An unmatched row of the list, from `look` on, which moves past all that were looked at: matched
-/// rows stay matched.
-pub fn unmatched_row<F: Opposite>(rows: &[F], matching: &Matching, look: &mut u32) -> Option<Row>
+/// An unmatched row of the list that is not marked, from `look` on, which moves past all that were
+/// looked at: matched rows stay matched, and marked ones are left to others.
+pub fn unmatched_row<F: Opposite>(
+    rows: &[F],
+    matching: &Matching,
+    marks: &[bool],
+    look: &mut u32,
+) -> Option<Row>
     requires in_range { (r : ℕ) → Among r (map F.number rows.now) → r < (F.seen matching.now).rows }
+    requires marks { length marks.now ≡ (F.seen matching.now).rows }
     requires few { length rows.now < 2 ^ 32 }
-    ensures { IfSome result
+    ensures found { IfSome result
         (λ r. Among r (map F.number rows.now) × (¬ Among r (rows_of (F.seen matching.now).pairs))) }
+    ensures unmarked { IfSome result (λ r. ¬ IsMarked marks.now r) }
 {
     let mut at = *look as usize;
     while at < rows.len() {
@@ -66,8 +73,10 @@ pub fn unmatched_row<F: Opposite>(rows: &[F], matching: &Matching, look: &mut u3
         match F::col_of(matching, row) {
             Some(_) => {}
             None => {
-                *look = at as u32;
-                return Some(row);
+                if !marks[row.0 as usize] {
+                    *look = at as u32;
+                    return Some(row);
+                }
             }
         }
     }

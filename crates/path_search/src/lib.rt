@@ -13,8 +13,10 @@ mod reached;
 mod search;
 mod shortest;
 mod step;
+mod unmatched;
 
 pub use forest::SearchForest;
 pub use laws::marked_rows_are_horizontal;
 pub use layers::Layers;
 pub use search::Search;
+pub use unmatched::{count_roots, roots};

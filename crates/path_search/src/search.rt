@@ -1,7 +1,7 @@
 //! Searches, and what one keeps for the next.
 
 ghost use Rattle.std.specs.Bool.{OnTrue, OnFalse};
-ghost use Rattle.std.specs.Prelude.{◌≡◌, ℕ, suc, ◌<◌, ◌≤◌, ◌∷◌, ◌++◌, [], Bool, List, true, length, map, set, slice_index, IfOk, IfSome, IfNone};
+ghost use Rattle.std.specs.Prelude.{◌≡◌, ◌⊎◌, ℕ, suc, ◌<◌, ◌≤◌, ◌∷◌, ◌++◌, [], Bool, List, true, length, map, set, slice_index, IfOk, IfSome, IfNone};
 ghost use Rattle.bip_defs.specs.Lists.{Among, IsMarked};
 ghost use Rattle.bip_defs.specs.Matching.{Covers, rows_of, cols_of};
 ghost use Rattle.bip_defs.specs.Matrix.{AreEntries, IsEntry, Matrix, cols};
@@ -102,14 +102,6 @@ impl Search {
         self.path.push_reserved((row, col));
     }
 
-    // Ends the path.
-    fn end(&mut self, row: Row, col: Col)
-        requires room { length self.old.path < length self.old.marks }
-        ensures { self.new ≡ record self.old { path = self.old.path ++ (row, col) ∷ [] } }
-    {
-        self.path.push_reserved((row, col));
-    }
-
     // Notes the place from where the list of the path's last column is left to be read.
     fn note(&mut self, place: u32)
         requires room { length self.old.places < length self.old.marks }
@@ -134,7 +126,7 @@ impl Search {
         Some(Position { col, place })
     }
 
-    // An unmatched row of a column, where one was not passed yet.
+    // An unmatched row of a column that is not marked, where one was not passed yet.
     fn look_ahead<F: Opposite, S: Side<F>>(
         &mut self,
         side: &S,
@@ -142,17 +134,20 @@ impl Search {
         col: Col,
     ) -> Option<Row>
         requires rows { (F.seen matching.now).rows ≡ (S.matrix side.now).rows }
+        requires marks { length self.old.marks ≡ (S.matrix side.now).rows }
         requires looks { self.old.cols ≡ cols (S.matrix side.now) }
         requires col { col < cols (S.matrix side.now) }
         ensures same { self.new ≡ self.old }
         ensures found { IfSome result
             (λ r. IsEntry (S.matrix side.now) r col
             × (¬ Among r (rows_of (F.seen matching.now).pairs))) }
+        ensures unmarked { IfSome result (λ r. ¬ IsMarked self.old.marks r) }
     {
         sizes_fit::<F, S>(side);
         let rows = side.rows_of(col);
+        let marks = self.marks.as_slice();
         let look = &mut self.look[col.0 as usize];
-        unmatched_row(rows, matching, look)
+        unmatched_row(rows, matching, marks, look)
     }
 
     // The first place of an unmarked row, from `place` on, or one past the end.
@@ -217,7 +212,7 @@ impl Search {
     {
         if at.place == 0 {
             if let Some(row) = self.look_ahead(side, matching, at.col) {
-                self.end(row, at.col);
+                self.enter(row, at.col);
                 return Step::Found;
             }
         }
@@ -265,6 +260,8 @@ impl Search {
         ensures found { OnTrue result
             (Finds (S.matrix side.now)
             (F.seen matching.now).pairs self.old.marks root self.new.path) }
+        ensures visited { OnTrue result
+            ((r : ℕ) → Among r (rows_of self.new.path) → Among r self.new.visited) }
         ensures failed { OnFalse result
             (Exhausts (S.matrix side.now)
             (F.seen matching.now).pairs self.new.marks self.new.visited root) }
@@ -305,9 +302,10 @@ impl Search {
     /// it found one.
     ///
     /// The search is depth-first with look-ahead, through rows that are not marked, and marks each
-    /// row that it goes down over. An unmatched row that look-ahead finds ends the path and is not
-    /// marked. Where `reversed` holds, each column's list is read from its end. Work: the entries
-    /// of the columns that it comes to, and of all look-aheads together each entry once.
+    /// row that it goes down over, and the unmatched one that ends the path. So the paths of
+    /// searches that keep each other's marks have no row in common. Where `reversed` holds, each
+    /// column's list is read from its end. Work: the entries of the columns that it comes to, and
+    /// of all look-aheads together each entry once.
     pub fn augment<F: Opposite, S: Side<F>>(
         &mut self,
         side: &S,
@@ -326,6 +324,10 @@ impl Search {
         ensures covered { Covers (F.seen matching.old).pairs (F.seen matching.new).pairs }
         ensures found { OnTrue result
             (Augments root self.old.marks (F.seen matching.old).pairs (F.seen matching.new).pairs) }
+
+        // Each row that gets a mate, or another one, is among those that this search has marked.
+        ensures moved { (r d : ℕ) → Among (r, d) (F.seen matching.new).pairs
+            → Among (r, d) (F.seen matching.old).pairs ⊎ Among r self.new.visited }
 
         // Without a path the matching stays, and the rows that were marked are of no use to any
         // other path.

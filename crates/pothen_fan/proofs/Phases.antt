@@ -59,26 +59,11 @@ pub extends_either : (a : Matrix) (m n : Pairing) (old new : List Bool) (root : 
 extends_either a m n old new root true found failed = extends_found a m n old new root found
 extends_either a m n old new root false found failed = extends_failed a m n old new root failed.0 failed.1
 
--- a phase that has not grown the matching is the last
-pub last_phase : (a : Matrix) (start m : Pairing) (grew : Bool) → (IsTrue grew ↔ (length start.pairs < length m.pairs)) → ((m ≡ start) × IsMaximum a start.pairs) ⊎ (length start.pairs < length m.pairs) → grew ≡ false → IsMaximum a m.pairs
-last_phase a start m grew fact (inl same) e = subst (λ (p : Pairing). IsMaximum a p.pairs) (sym same.0) same.1
-last_phase a start m grew fact (inr more) e = absurd (true≢false (sym (fact.1 more) ∙ e))
-
-pub on_false : {P : Type 0} (b : Bool) → b ≡ false → OnFalse b P → P
-on_false true e p = absurd (true≢false e)
-on_false false e p = p
-
--- the columns without a pair, and one while phases go on, fall
-pub phases_fall : (a : Matrix) (start m : Pairing) (grew : Bool) → (IsTrue grew ↔ (length start.pairs < length m.pairs)) → ((m ≡ start) × IsMaximum a start.pairs) ⊎ (length start.pairs < length m.pairs) → IsMatching a m.pairs → (cols a - length m.pairs) + (if grew then 1 else 0) < (cols a - length start.pairs) + 1
-phases_fall a start m true fact out k = let more = fact.0 refl in let le = matching_few a m.pairs k in omega arith
-phases_fall a start m false fact (inl same) k = let e = ap (λ (p : Pairing). length p.pairs) same.0 in omega arith
-phases_fall a start m false fact (inr more) k = absurd (true≢false (sym (fact.1 more)))
-
 -- Phases that go on while they pay.
 
-pub growth_falls : (a : Matrix) (start m : Pairing) (growth : ℕ) (on : Bool) → length m.pairs ≡ length start.pairs + growth → (IsTrue on → 0 < growth) → IsMatching a m.pairs → (cols a - length m.pairs) + (if on then 1 else 0) < (cols a - length start.pairs) + 1
-growth_falls a start m growth true grown some k = let more = some refl in let le = matching_few a m.pairs k in omega arith
-growth_falls a start m growth false grown some k = omega arith
+pub ungrown_maximum : (a : Matrix) (start m : Pairing) (growth : ℕ) → length m.pairs ≡ length start.pairs + growth → growth ≡ 0 → ((m ≡ start) × IsMaximum a start.pairs) ⊎ (length start.pairs < length m.pairs) → IsMaximum a m.pairs
+ungrown_maximum a start m growth grown none (inl same) = subst (λ (p : Pairing). IsMaximum a p.pairs) (sym same.0) same.1
+ungrown_maximum a start m growth grown none (inr more) = absurd (omega arith)
 
 pub growth_ends : (a : Matrix) (first start m : Pairing) → length first.pairs ≤ length start.pairs → ((m ≡ start) × IsMaximum a start.pairs) ⊎ (length start.pairs < length m.pairs) → IsMaximum a m.pairs ⊎ (length first.pairs < length m.pairs)
 growth_ends a first start m le (inl same) = inl (subst (λ (p : Pairing). IsMaximum a p.pairs) (sym same.0) same.1)

@@ -3,14 +3,10 @@ use Rattle.std.specs.Prelude.{◌≡◌, ◌⊎◌, ℕ, ◌<◌, Bool, List, le
 use Rattle.bip_defs.specs.Lists.{Among, IsMarked}
 use Rattle.bip_defs.specs.Marks.{AreClosed, IsExplored}
 use Rattle.bip_defs.specs.Matching.{cols_of}
-use Rattle.bip_defs.specs.Matrix.{IsEntry, Matrix, Place, cols}
+use Rattle.bip_defs.specs.Matrix.{Matrix, Place, cols}
 use Rattle.bip_graph.specs.Matching.{Pairing}
+use Rattle.path_search.specs.Roots.{IsRoot}
 use Rattle.path_search.specs.Search.{AreLedTo}
-
--- an unmatched column that has an entry
-pub record IsRoot (a : Matrix) (m : List Place) (c : ℕ) : Type 0 where
-  pub unmatched : ¬ Among c (cols_of m)
-  pub entry : (r : ℕ) × IsEntry a r c
 
 -- columns of the matrix, among them each unmatched one that has an entry
 pub record HoldRoots (a : Matrix) (m : List Place) (roots : List ℕ) : Type 0 where

@@ -1,40 +1,26 @@
-//! Maximum matchings by phases of searches for augmenting paths.
+//! Maximum matchings by Pothen and Fan's phases of depth-first searches for augmenting paths, and
+//! then by breadth-first ones.
 //!
 //! Phases search from the columns or from the rows: from the side on which fewer unmatched ones
 //! have entries, since most searches from the other side are bound to fail, and such a search looks
 //! at all that it reaches (Davis 2006 compares the sides of the matrix, before any is matched).
 //! What follows is said of columns; from the rows it is the same for the transpose.
 //!
-//! A depth-first phase, after Pothen and Fan (1990), searches once from each unmatched column, and
-//! goes down over each row at most once. Each column's list is looked through for an unmatched row
-//! before the search goes deeper, from where the last look-ahead ended: rows that were found
-//! matched stay matched. So a phase is at most two passes over the entries. A row that was found by
-//! look-ahead may be gone over by a later search of the phase, so unlike theirs the paths of a
-//! phase need not be disjoint. Phases turn the direction in which lists are read (Azad,
-//! Halappanavar, Rajamanickam, Boman, Khan and Pothen 2012).
+//! A phase, after Pothen and Fan (1990), searches once from each unmatched column, and comes to each
+//! row at most once: no row is visited by two of its searches, so its paths have no vertex in
+//! common. Each column's list is looked through for an unmatched row before the search goes deeper,
+//! from where the last look-ahead ended: rows that were found matched stay matched. So a phase is
+//! at most two passes over the entries. Phases turn the direction in which lists are read (Duff,
+//! Kaya and Uçar 2011).
 //!
-//! A breadth-first phase grows a tree from each unmatched column, all of them side by side and each
-//! until it finds an unmatched row (Azad, Buluç and Pothen 2017, whose trees are grafted between
-//! phases and here grow anew). Its paths are short, but unlike those of Hopcroft and Karp (1973)
-//! they need not be the shortest, nor as many as there can be.
-//!
-//! Depth-first phases are few where most of them find many paths, breadth-first phases where few
-//! columns are left whose paths are long. So the first phase is breadth-first, and after one that
-//! has matched less than half of the unmatched columns that have entries, rounded down, the next is
-//! of the other kind. While fewer than a twentieth of all columns are unmatched and have entries,
-//! each phase is breadth-first: a depth-first path may go through thousands of columns where one of
-//! twenty is there, and each of them gets another row, which whoever looks for the least maximum
-//! matching has to take back.
-//!
-//! Nothing bounds the number of such phases but the rank. So after 128 of them, which few matrices
-//! come to, all further ones exchange shortest augmenting paths without a vertex in common, until
-//! none is left beside them (Hopcroft and Karp 1973): they are at most twice the square root of the
-//! rank, and two more. They are not begun with, since on many matrices they find few paths each.
+//! There is at least one such phase, and another one as long as the last one has matched at least
+//! half of what was left. They find many paths fast, but a path may go through thousands of columns
+//! where one of twenty is there, and where few columns are left, a phase still goes over most of
+//! the matrix. So after a phase that matched less than half another search completes the matching:
+//! that of `breadth_first_match`, whose trees grow from all unmatched columns at once.
 #![tactic(auto)]
 
-mod kinds;
 mod longer;
-mod shortest;
 mod sweep;
 
 ghost use Rattle.std.specs.Prelude.{◌≡◌, ◌⊎◌, ◌↔◌, ◌+◌, ◌<◌, length, IfOk, OnErr};
@@ -42,10 +28,9 @@ ghost use Rattle.bip_defs.specs.Matching.{Covers, IsMaximum};
 ghost use Rattle.bip_graph.specs.Matching.{IsMatchingOf, IsMaximumOf};
 ghost use Rattle.bip_graph.specs.OuterMarks.{AreOuterMarks};
 
-use crate::longer::lengthen_from;
-use crate::sweep::count_roots;
+use crate::longer::{complete_from_with_marks, lengthen_from};
 use bip_graph::{Matching, OuterMarks, matchings_of_the_transpose};
-pub use kinds::{complete_from, complete_from_with_marks};
+use path_search::count_roots;
 use sp_ids::OutOfMemory;
 use sp_pattern::{FromRows, Pattern};
 use std::alloc::Global;
@@ -73,14 +58,14 @@ pub fn phase(alloc: Global, pattern: &Pattern, matching: &mut Matching) -> Resul
 /// A maximum matching, in which every row and column that was matched before is matched.
 ///
 /// Phases search from the side on which fewer unmatched rows or columns have entries, and from the
-/// columns where they are as many. The matching must be of the pattern's entries and sizes. Answers
-/// `OutOfMemory` where there is no memory for 16 bytes a vertex of the side that is searched from,
-/// 4 more where it is unmatched and has entries, and 26 a vertex of the other side, or, for phases
-/// of shortest paths, 20 a vertex of the side that is searched from and 9 of the other, with what
-/// two growing lists of vertices take; the matching is dropped then. Work: one look at each row
-/// and column, and at most two passes over the entries for each phase. All but the last make the
-/// matching larger. They are at most 128 of both kinds, and then at most 2 sqrt(rank) + 2 of
-/// shortest paths, the last of which makes a pass more.
+/// columns where they are as many: depth-first as [`lengthen`] does, and then, unless the last of
+/// these found no path, as `breadth_first_match::complete` does. The matching must be of the
+/// pattern's entries and sizes. Answers `OutOfMemory` where there is no memory for 4 bytes a vertex
+/// of the side that is searched from, 4 more where it is unmatched and has entries, and 17 a vertex
+/// of the other side, or for what the other search takes after these are freed; the matching is
+/// dropped then. Work: one look at each row and column, at most two passes over the entries for
+/// each depth-first phase, and the work of the other search. All phases but the last of each kind
+/// make the matching larger.
 pub fn complete(
     alloc: Global,
     pattern: &Pattern,
@@ -146,8 +131,10 @@ pub fn lengthen(
     matchings_of_the_transpose();
     let from_rows = FromRows { pattern };
     if count_roots(&from_rows, &matching) < count_roots(pattern, &matching) {
-        lengthen_from(alloc, &from_rows, matching)
+        let (longer, _marks) = lengthen_from(alloc, &from_rows, matching)?;
+        Ok(longer)
     } else {
-        lengthen_from(alloc, pattern, matching)
+        let (longer, _marks) = lengthen_from(alloc, pattern, matching)?;
+        Ok(longer)
     }
 }

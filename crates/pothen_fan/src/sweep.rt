@@ -1,16 +1,15 @@
 //! One depth-first phase.
 
-ghost use Rattle.std.specs.Prelude.{◌≡◌, ℕ, ◌<◌, ◌↔◌, ◌+◌, List, length, IfOk, IsTrue, OnErr};
-ghost use Rattle.bip_defs.specs.Lists.{Lists};
+ghost use Rattle.std.specs.Prelude.{◌≡◌, ◌<◌, ◌↔◌, ◌+◌, length, IfOk, OnErr};
 ghost use Rattle.bip_defs.specs.Matching.{Covers, IsMaximum};
 ghost use Rattle.bip_defs.specs.Matrix.{cols};
 ghost use Rattle.bip_defs.specs.Parts.{MarkHorizontalRows};
 ghost use Rattle.bip_graph.specs.Matching.{IsMatchingOf};
 ghost use Rattle.path_search.specs.Growth.{GrowsUnlessMaximum};
-ghost use Rattle.pothen_fan.specs.Roots.{Extends, HoldRoots, IsRoot};
+ghost use Rattle.pothen_fan.specs.Roots.{Extends, HoldRoots};
 
 use bip_graph::{Matching, Opposite};
-use path_search::{Search, marked_rows_are_horizontal};
+use path_search::{Search, marked_rows_are_horizontal, roots};
 use sp_ids::{Col, OutOfMemory};
 use sp_pattern::Side;
 use std::alloc::Global;
@@ -44,52 +43,6 @@ pub fn phase_from<F: Opposite, S: Side<F>>(
     let before = F::size(matching);
     sweep(&mut search, side, matching, roots.as_slice(), false);
     Ok(F::size(matching) - before)
-}
-
-// Whether a column is unmatched and has entries.
-fn is_root<F: Opposite, S: Side<F>>(side: &S, matching: &Matching, col: Col) -> bool
-    requires sizes { (F.seen matching.now).cols ≡ cols (S.matrix side.now) }
-    requires col { col < cols (S.matrix side.now) }
-    ensures { IsTrue result ↔ IsRoot (S.matrix side.now) (F.seen matching.now).pairs col }
-{
-    match F::row_of(matching, col) {
-        Some(_) => false,
-        None => !side.rows_of(col).is_empty(),
-    }
-}
-
-/// How many unmatched columns have entries.
-pub fn count_roots<F: Opposite, S: Side<F>>(side: &S, matching: &Matching) -> u32
-    requires { (F.seen matching.now).cols ≡ cols (S.matrix side.now) }
-    ensures { (w : List ℕ) × Lists (IsRoot (S.matrix side.now) (F.seen matching.now).pairs) w
-        × (result ≡ length w) }
-{
-    let mut count = 0;
-    for col in 0..side.cols() {
-        if is_root(side, matching, Col(col)) {
-            count += 1;
-        }
-    }
-    count
-}
-
-/// The unmatched columns that have entries.
-pub fn roots<F: Opposite, S: Side<F>>(
-    alloc: Global,
-    side: &S,
-    matching: &Matching,
-) -> Result<Vec<Col>, OutOfMemory>
-    requires { (F.seen matching.now).cols ≡ cols (S.matrix side.now) }
-    ensures { IfOk result
-        (λ roots. Lists (IsRoot (S.matrix side.now) (F.seen matching.now).pairs) roots.items) }
-{
-    let mut roots = Vec::new(alloc);
-    for number in 0..side.cols() {
-        if is_root(side, matching, Col(number)) {
-            roots.push(Col(number))?;
-        }
-    }
-    Ok(roots)
 }
 
 /// Searches once from each root that is unmatched, with no row marked at first.

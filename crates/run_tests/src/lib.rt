@@ -18,6 +18,8 @@ mod devices;
 #[cfg(test)]
 mod diagonal;
 #[cfg(test)]
+mod double_counts;
+#[cfg(test)]
 mod dropped_zeros;
 #[cfg(test)]
 mod edits;

@@ -31,10 +31,7 @@ took_prefix d e first text next one two =
         ap (λ (t : List ℕ). first ++ t) is ∙ sym (append_assoc first prefix rest),
         takes_both d.before d.after e.after first prefix one.bytes (rw (← next.0) takes),
       );
-      counts = record {
-        later = omega (arith, two.counts.later, next.1, one.steady);
-        once = omega (arith, two.counts.once, next.1, one.steady);
-      };
+      counts = omega (arith, two.counts, next.1, one.steady);
       fault = rw (← (next.1 ∙ one.steady)) two.fault;
     }
 

@@ -2,7 +2,7 @@
 use Rattle.std.specs.Prelude.{◌≡◌, ◌≤◌, ◌<◌, ◌+◌, ◌-◌, ◌^◌, ◌⊎◌, ℕ, List, Option, None, Some, Result, Ok, Err, OnOk, OnErr, min}
 use Rattle.sp_ports.specs.Bytes.{Takes, TakesPrefix}
 
--- the bytes that it tells, and how often it has failed
+-- the bytes that it tells, and its count of failures
 pub record Device : Type 0 where
   pub before : Option (List ℕ)
   pub after : Option (List ℕ)
@@ -18,38 +18,37 @@ seen bytes faults old new = record {
   failed_after = faults new;
 }
 
--- ---- how often it has failed
+-- ---- its count of failures
 
--- no call of it has failed
+-- its count of failures is as before
 abbrev pub IsSteady : Device → Type 0
 IsSteady d = d.failed_after ≡ d.failed_before
 
--- Its count of failures has not fallen, and is one more at most.
-pub record FailsOnceAtMost (d : Device) : Type 0 where
-  pub later : d.failed_before ≤ d.failed_after
-  pub once : d.failed_after ≤ d.failed_before + 1
+-- its count of failures has not fallen
+abbrev pub CountHasNotFallen : Device → Type 0
+CountHasNotFallen d = d.failed_before ≤ d.failed_after
 
 -- the count has grown, or stands where it can grow no more: at the last value of a u64
 abbrev pub Rose : ℕ → ℕ → Type 0
 Rose before now = min (before + 1) (2 ^ 64 - 1) ≤ now
 
--- the same of a source: one that tells its bytes counts each failure
+-- the same of a source: the count of one that tells its bytes has grown
 abbrev pub SourceRose : Option (List ℕ) → ℕ → ℕ → Type 0
 SourceRose None before now = Rose before now
 SourceRose (Some left) before now = before < now
 
--- a read of it has failed
+-- a read of it has failed: its count rose
 abbrev pub HasReadFault : Device → Type 0
 HasReadFault d = SourceRose d.before d.failed_before d.failed_after
 
--- a write or a flush of it has failed
+-- a write or a flush of it has failed: its count rose
 abbrev pub HasWriteFault : Device → Type 0
 HasWriteFault d = Rose d.failed_before d.failed_after
 
--- At Ok no call of it has failed, and an Err has its cause.
+-- At Ok its count of failures is as before, and an Err has its cause. The count never falls.
 pub record FailsOnly {T E : Type 0} (d : Device) (cause : Type 0)
     (result : Result T E) : Type 0 where
-  pub counts : FailsOnceAtMost d
+  pub counts : CountHasNotFallen d
   pub steady : OnOk result (IsSteady d)
   pub failed : OnErr result cause
 
@@ -75,7 +74,7 @@ pub record Took (d : Device) (text : List ℕ) : Type 0 where
 -- it failed, and took a prefix of the text
 pub record TookPrefix (d : Device) (text : List ℕ) : Type 0 where
   pub bytes : TakesPrefix d.before d.after text
-  pub counts : FailsOnceAtMost d
+  pub counts : CountHasNotFallen d
   pub fault : HasWriteFault d
 
 -- the text was written: all of it at Ok, and at Err as much of it as the device took before it failed

@@ -5,38 +5,44 @@ use std::alloc::Global;
 use std::sync::atomic::{AtomicBool, AtomicU64, Ordering};
 use std::thread;
 
-/// Where workers may be made to wait for each other. It changes no answer.
+/// A place that workers pass, and where they may wait for each other. It changes no answer.
+///
+/// To write a gate, write `arrive`. The other method is there for `NoGate`, at which nobody waits.
 pub trait Gate: Sync {
-    /// A worker has come to its share. Each worker calls it once in each level of a search, in each
-    /// exchange of paths and in each batch that the workers share.
+    /// A worker is about to start its share of the work. Each worker calls it once in each level of
+    /// a search, in each exchange of paths and in each batch that the workers share.
     fn arrive(&self, worker: u32);
 
-    /// Whether workers are to have threads of their own however little there is to do. It changes
-    /// no answer. Unless a gate says otherwise they need not: what costs less than the start of a
-    /// thread is then done by one worker after the other. A gate at which workers wait for each
-    /// other says that they do.
+    /// Whether each worker needs a thread of its own, however little work there is. It changes no
+    /// answer. It is true unless a gate says otherwise: a worker that waits for another one must
+    /// not keep it from starting. Where it is false, a piece of work that costs less than the start
+    /// of a thread is done by one worker after the other.
     fn needs_threads(&self) -> bool {
-        false
+        true
     }
 }
 
-/// Returns at once.
+/// The gate at which nobody waits: `arrive` returns at once, and no worker needs a thread.
 #[derive(Clone, Copy, Debug)]
 pub struct NoGate;
 
 impl Gate for NoGate {
     fn arrive(&self, _worker: u32) {}
+
+    fn needs_threads(&self) -> bool {
+        false
+    }
 }
 
 // How often worker 0 looks in one arrival whether worker 1 has come, unless told otherwise.
 const MAX_TURNS: u32 = 50_000_000;
 
-/// Makes two workers meet: the k-th time that worker 0 arrives it waits until worker 1 has arrived
-/// k times.
+/// Makes two workers meet: when worker 0 arrives for the k-th time, it waits until worker 1 has
+/// arrived k times.
 ///
-/// It is for tests. Between two looks worker 0 lets other threads run, and once it has looked so
-/// often in one arrival as it may it goes on, so `arrive` returns whatever the other workers do. It
-/// counts the arrivals of workers 0 to 63, and keeps 8 bytes for each.
+/// It is for tests. While worker 0 waits it lets other threads run. It looks a bounded number of
+/// times and then goes on, so `arrive` returns whatever the other workers do. The gate counts the
+/// arrivals of workers 0 to 63, at 8 bytes each.
 #[derive(Drop)]
 pub struct MeetGate {
     arrivals: Vec<AtomicU64>,
@@ -45,13 +51,13 @@ pub struct MeetGate {
 }
 
 impl MeetGate {
-    /// A gate at which nobody has arrived, where worker 0 looks 50,000,000 times at most. Answers
-    /// `OutOfMemory` where the counts can't be had.
+    /// A gate at which nobody has arrived yet. Worker 0 looks at most 50,000,000 times in one
+    /// arrival. Answers `OutOfMemory` when allocation fails.
     pub fn new(alloc: Global) -> Result<MeetGate, OutOfMemory> {
         MeetGate::with_turns(alloc, MAX_TURNS)
     }
 
-    /// The same, where worker 0 looks at most so many times in one arrival.
+    /// The same, where worker 0 looks at most `turns` times in one arrival.
     pub fn with_turns(alloc: Global, turns: u32) -> Result<MeetGate, OutOfMemory> {
         let mut arrivals = Vec::with_capacity(alloc, MAX_WORKERS as usize)?;
         for _worker in 0..MAX_WORKERS {
@@ -98,9 +104,5 @@ impl Gate for MeetGate {
         if worker == 0 {
             self.meet(before.saturating_add(1));
         }
-    }
-
-    fn needs_threads(&self) -> bool {
-        true
     }
 }

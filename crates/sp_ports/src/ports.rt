@@ -10,15 +10,16 @@ pub struct Failed;
 
 /// Bytes from outside.
 pub trait Source {
-    /// What is left, where it is told.
+    /// The bytes that are left, where the source tells them.
     ghost left: { Self → Option (List ℕ) };
 
-    /// How often a read has failed.
+    /// A count of failures. It never falls, and one failure may raise it by more than one.
     ghost faults: { Self → ℕ };
 
     /// Moves bytes from the start of what is left into the buffer, and tells how many. 0 for a
     /// buffer that is not empty comes only at the end. `Failed` comes only where the count of
-    /// faults rose, and then nothing was moved. A call counts one fault at most.
+    /// faults rose, and then nothing was moved. At `Ok` the count stays as it was. The count of a
+    /// source that does not tell its bytes may also stand at the last value of a u64 at `Failed`.
     fn read(&mut self, buf: &mut [u8]) -> Result<usize, Failed>
         ensures bound { IfOk result (λ k. k ≤ length buf.old) }
         ensures bytes { IfOk result (λ k. Gives (left self.old) (left self.new) (take k buf.new)) }
@@ -30,14 +31,15 @@ pub trait Source {
 
 /// Where bytes go.
 pub trait Sink {
-    /// What was taken, where it is told.
+    /// The bytes that were taken, where the sink tells them.
     ghost taken: { Self → Option (List ℕ) };
 
-    /// How often a call has failed.
+    /// A count of failures. It never falls, and one failure may raise it by more than one.
     ghost faults: { Self → ℕ };
 
     /// Takes bytes from the start of the piece, and tells how many: at least one of a piece that is
-    /// not empty. `Failed` comes only where the count of faults rose, and then nothing was taken.
+    /// not empty. `Failed` comes only where the count of faults rose, or stands at the last value of
+    /// a u64, and then nothing was taken. At `Ok` the count stays as it was.
     fn write(&mut self, piece: &[u8]) -> Result<usize, Failed>
         ensures bound { IfOk result (λ k. k ≤ length piece.now) }
         ensures some { IfOk result (λ k. 0 < length piece.now → 0 < k) }
@@ -46,15 +48,15 @@ pub trait Sink {
         ensures kept { OnErr result (taken self.new ≡ taken self.old) }
         ensures cause { FailsByWrites (seen taken faults self.old self.new) result };
 
-    /// Hands on what was taken. `Failed` comes only where the count of faults rose.
+    /// Hands on what was taken. `Failed` and the count of faults: as for `write`.
     fn flush(&mut self) -> Result<(), Failed>
         ensures kept { taken self.new ≡ taken self.old }
         ensures cause { FailsByWrites (seen taken faults self.old self.new) result };
 }
 
-/// Writes all of the bytes, in as many calls as the sink asks. After `Failed`, which comes only
-/// where a call failed, a prefix of them was taken, and no call was made after the one that failed.
-/// It takes no memory.
+/// Writes all of the bytes, in as many calls as the sink needs. `Failed` comes only where the
+/// sink's count of faults rose, and then the sink has taken a prefix of the bytes. It takes no
+/// memory.
 pub fn write_all<K: Sink>(out: &mut K, bytes: &[u8]) -> Result<(), Failed>
     ensures { Writes (seen K.taken K.faults out.old out.new) bytes.now result }
 {

@@ -94,8 +94,8 @@ pub fn are<I: Id>(ids: &[I], numbers: &[u32]) -> bool {
     if ids.len() != numbers.len() {
         return false;
     }
-    for (id, number) in ids.iter().zip(numbers) {
-        if Some(id.number()) != number.checked_sub(1) {
+    for at in 0..ids.len() {
+        if ids[at].number().checked_add(1) != Some(numbers[at]) {
             return false;
         }
     }

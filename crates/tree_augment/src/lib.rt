@@ -14,4 +14,4 @@ mod workers;
 
 pub use laws::closed_mates_are_exchanged;
 pub use opening::open;
-pub use workers::augment;
+pub use workers::{augment, augment_under};

@@ -17,7 +17,8 @@ use std::thread::{Threads, join};
 
 /// A board with the mates of the forest's base matching and with its trees, on which nothing is
 /// taken or set, and so many seats, from 1 to 64. Where there are two seats at least and rows and
-/// columns are worth threads, the lists of trees are filled by two threads at once.
+/// columns together are worth threads, as `worth_threads` of them are, the lists of trees are filled
+/// by two threads at once.
 ///
 /// Answers `OutOfMemory` where the board can't be had, which keeps 8 bytes for each row and 16 for
 /// each column, or for a moment as much again and 8 bytes for each row and each column. Work: one
@@ -27,6 +28,7 @@ pub fn open<R: Threads + Sync>(
     alloc: Global,
     forest: &Forest,
     seats: u32,
+    worth_threads: u32,
 ) -> Result<(FlipBoard, Vec<FlipSeat>), OutOfMemory>
     requires seats { (1 ≤ seats) × (seats ≤ max_workers) }
     ensures board { IfOk result (λ b. IsBoardOf forest.now b.0) }
@@ -38,7 +40,7 @@ pub fn open<R: Threads + Sync>(
     forest.is_sound();
     sound_forests_have_trees();
     new_seats_are_all();
-    let (by_row, by_col) = trees(rt, alloc, forest, seats);
+    let (by_row, by_col) = trees(rt, alloc, forest, seats, worth_threads);
     let row_trees = by_row?;
     let col_trees = by_col?;
     FlipBoard::new(
@@ -56,6 +58,7 @@ fn trees<R: Threads + Sync>(
     alloc: Global,
     forest: &Forest,
     seats: u32,
+    worth_threads: u32,
 ) -> (
     Result<Vec<Option<Col>>, OutOfMemory>,
     Result<Vec<Option<Col>>, OutOfMemory>,
@@ -67,7 +70,7 @@ fn trees<R: Threads + Sync>(
 {
     let pattern = forest.pattern();
     let vertices = pattern.rows() as usize + pattern.cols() as usize;
-    if seats < 2 || !are_worth_threads(rt, vertices) {
+    if seats < 2 || !are_worth_threads(rt, vertices, worth_threads) {
         return (forest.row_trees(alloc), forest.col_trees(alloc));
     }
     let of_rows = move || -> Result<Vec<Option<Col>>, OutOfMemory>

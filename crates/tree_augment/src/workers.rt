@@ -8,7 +8,7 @@ ghost use Rattle.tree_augment.specs.ForestBoards.{IsBoardOf};
 use crate::rounds::go_round;
 use flip_words::{FlipBoard, FlipSeat, seats_are_few, seats_stay_all};
 use forest_core::Forest;
-use level_sharing::{Work, share_start, share_work};
+use level_sharing::{Sharing, Work, share_start, share_work};
 use sp_ports::Gate;
 use std::convert::Infallible;
 use std::thread::Threads;
@@ -63,6 +63,23 @@ pub fn augment<R: Threads + Sync, G: Gate>(
     requires none_taken { HaveTakenNone seats.old }
     ensures { HaveAugmented forest.entry.now board.entry.now seats.new }
 {
+    augment_under(rt, forest, board, seats, &Sharing::usual(gate));
+}
+
+/// [`augment`], where it is told how many roots with a leaf are worth threads.
+pub fn augment_under<R: Threads + Sync, G: Gate>(
+    rt: &R,
+    forest: &Forest,
+    board: &FlipBoard,
+    seats: &mut [FlipSeat],
+    sharing: &Sharing<'_, G>,
+)
+    requires board { IsBoardOf forest.now board.now }
+    requires none_flipped { forest.now.flipped ≡ [] }
+    requires all { HoldsAllSeats board.now seats.old }
+    requires none_taken { HaveTakenNone seats.old }
+    ensures { HaveAugmented forest.entry.now board.entry.now seats.new }
+{
     seats_stay_all();
     seats_are_few(seats);
     let rounds = Rounds {
@@ -70,5 +87,5 @@ pub fn augment<R: Threads + Sync, G: Gate>(
         board,
         workers: seats.len(),
     };
-    let Ok(()) = share_work(rt, gate, &rounds, forest.leaves().len(), seats);
+    let Ok(()) = share_work(rt, sharing, &rounds, forest.leaves().len(), seats);
 }

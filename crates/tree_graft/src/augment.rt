@@ -10,11 +10,12 @@ ghost use Rattle.tree_graft.specs.Counts.{AreKeptIf, FreesFew};
 use crate::switches::trees_stay;
 use bip_graph::Mates;
 use forest_core::{Forest, forests_are_rested, runs_join};
+use level_sharing::Sharing;
 use sp_ids::OutOfMemory;
 use sp_ports::Gate;
 use std::alloc::Global;
 use std::thread::Threads;
-use tree_augment::{closed_mates_are_exchanged, open};
+use tree_augment::{augment_under, closed_mates_are_exchanged, open};
 
 /// Exchanges the path of each root with a leaf, by workers at once, and then keeps the trees
 /// without a leaf, where fewer than five rows are freed for each column in them, or frees all rows.
@@ -25,7 +26,7 @@ pub fn augment<R: Threads + Sync, G: Gate>(
     alloc: Global,
     forest: &mut Forest,
     workers: u32,
-    gate: &G,
+    sharing: &Sharing<'_, G>,
 ) -> Result<u32, OutOfMemory>
     requires workers { (1 ≤ workers) × (workers ≤ max_workers) }
     requires flipped { forest.old.flipped ≡ [] }
@@ -39,7 +40,7 @@ pub fn augment<R: Threads + Sync, G: Gate>(
     runs_join();
     let before = forest.base().size();
     let keeps = trees_stay(forest);
-    let mates = exchanged_mates(rt, alloc, forest, workers, gate)?;
+    let mates = exchanged_mates(rt, alloc, forest, workers, sharing)?;
     forest.adopt(mates);
     renew(forest, keeps);
     Ok(forest.base().size() - before)
@@ -51,7 +52,7 @@ fn exchanged_mates<R: Threads + Sync, G: Gate>(
     alloc: Global,
     forest: &Forest,
     workers: u32,
-    gate: &G,
+    sharing: &Sharing<'_, G>,
 ) -> Result<Mates, OutOfMemory>
     requires workers { (1 ≤ workers) × (workers ≤ max_workers) }
     requires flipped { forest.now.flipped ≡ [] }
@@ -59,8 +60,8 @@ fn exchanged_mates<R: Threads + Sync, G: Gate>(
 {
     forest.is_sound();
     closed_mates_are_exchanged();
-    let (board, mut seats) = open(rt, alloc, forest, workers)?;
-    tree_augment::augment(rt, forest, &board, seats.as_mut_slice(), gate);
+    let (board, mut seats) = open(rt, alloc, forest, workers, sharing.worth_threads)?;
+    augment_under(rt, forest, &board, seats.as_mut_slice(), sharing);
     match board.close(alloc, seats) {
         Ok(mates) => Ok(mates),
         Err(_back) => Err(OutOfMemory),

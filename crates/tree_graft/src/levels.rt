@@ -15,10 +15,11 @@ ghost use Rattle.tree_graft.specs.PhaseSearch.{IsAtLevel, IsAtNextLevel, IsDone,
 use crate::frontiers::{mates_of, unclaimed_rows, unmatched_columns};
 use crate::switches::goes_down_from;
 use bip_graph::Matching;
-use bottom_up::attach;
+use bottom_up::attach_under;
 use claim_words::{ClaimBoard, Worker};
 use forest_core::Forest;
-use frontier_levels::{absorb, open, top_down};
+use frontier_levels::{absorb, open, top_down_under};
+use level_sharing::Sharing;
 use sp_ids::{Col, OutOfMemory, Row};
 use sp_pattern::Pattern;
 use sp_ports::Gate;
@@ -53,7 +54,7 @@ pub fn grow<R: Threads + Sync, G: Gate>(
     alloc: Global,
     forest: &mut Forest,
     workers: u32,
-    gate: &G,
+    sharing: &Sharing<'_, G>,
 ) -> Result<(), OutOfMemory>
     requires workers { (1 ≤ workers) × (workers ≤ max_workers) }
     requires rested { IsRested forest.old }
@@ -61,8 +62,8 @@ pub fn grow<R: Threads + Sync, G: Gate>(
     ensures settled { OnOk result (IsSettled forest.new) }
     ensures scanned { OnOk result ((c : ℕ) → InForest forest.new c → IsScanned forest.new c) }
 {
-    let mut search = PhaseSearch::begin(rt, alloc, forest, workers)?;
-    search.run(rt, forest, gate)?;
+    let mut search = PhaseSearch::begin(rt, alloc, forest, workers, sharing.worth_threads)?;
+    search.run(rt, forest, sharing)?;
     let PhaseSearch { board, workers, .. } = search;
     board.close_with(alloc, workers)?;
     Ok(())
@@ -85,6 +86,7 @@ impl PhaseSearch {
         alloc: Global,
         forest: &Forest,
         workers: u32,
+        worth_threads: u32,
     ) -> Result<PhaseSearch, OutOfMemory>
         requires workers { (1 ≤ workers) × (workers ≤ max_workers) }
         requires settled { IsSettled forest.now }
@@ -92,7 +94,7 @@ impl PhaseSearch {
     {
         let frontier = Vec::with_capacity(alloc, forest.pattern().cols() as usize)?;
         let free = Vec::with_capacity(alloc, forest.pattern().rows() as usize)?;
-        let (board, workers) = open(rt, alloc, forest, workers)?;
+        let (board, workers) = open(rt, alloc, forest, workers, worth_threads)?;
         Ok(PhaseSearch {
             board,
             workers,
@@ -106,7 +108,7 @@ impl PhaseSearch {
         &mut self,
         rt: &R,
         forest: &mut Forest,
-        gate: &G,
+        sharing: &Sharing<'_, G>,
     ) -> Result<(), OutOfMemory>
         requires { IsReady self.old.board self.old.workers.items forest.old }
         ensures grown { GrowsOn forest.old forest.new }
@@ -114,9 +116,9 @@ impl PhaseSearch {
             (IsReady self.new.board self.new.workers.items forest.new) }
         ensures scanned { OnOk result ((c : ℕ) → InForest forest.new c → IsScanned forest.new c) }
     {
-        self.first_frontier(rt, forest, gate)?;
+        self.first_frontier(rt, forest, sharing)?;
         while !self.frontier.as_slice().is_empty() {
-            self.level(rt, forest, gate)?;
+            self.level(rt, forest, sharing)?;
         }
         Ok(())
     }
@@ -127,7 +129,7 @@ impl PhaseSearch {
         &mut self,
         rt: &R,
         forest: &mut Forest,
-        gate: &G,
+        sharing: &Sharing<'_, G>,
     ) -> Result<(), OutOfMemory>
         requires { IsReady self.old.board self.old.workers.items forest.old }
         ensures grown { GrowsOn forest.old forest.new }
@@ -136,7 +138,7 @@ impl PhaseSearch {
         if forest.claims().is_empty() {
             unmatched_columns(forest, &mut self.frontier)
         } else {
-            self.level_up(rt, forest, gate)
+            self.level_up(rt, forest, sharing)
         }
     }
 
@@ -145,16 +147,16 @@ impl PhaseSearch {
         &mut self,
         rt: &R,
         forest: &mut Forest,
-        gate: &G,
+        sharing: &Sharing<'_, G>,
     ) -> Result<(), OutOfMemory>
         requires { IsAtLevel self.old forest.old }
         ensures grown { GrowsOn forest.old forest.new }
         ensures next { OnOk result (IsAtNextLevel forest.old self.new forest.new) }
     {
         if goes_down_from(forest, self.frontier.as_slice()) {
-            self.level_down(rt, forest, gate)
+            self.level_down(rt, forest, sharing)
         } else {
-            self.level_up(rt, forest, gate)
+            self.level_up(rt, forest, sharing)
         }
     }
 
@@ -163,7 +165,7 @@ impl PhaseSearch {
         &mut self,
         rt: &R,
         forest: &mut Forest,
-        gate: &G,
+        sharing: &Sharing<'_, G>,
     ) -> Result<(), OutOfMemory>
         requires { IsAtLevel self.old forest.old }
         ensures grown { GrowsOn forest.old forest.new }
@@ -171,7 +173,7 @@ impl PhaseSearch {
     {
         let frontier = self.frontier.as_slice();
         let workers = self.workers.as_mut_slice();
-        let done = top_down(rt, forest, &self.board, frontier, workers, gate);
+        let done = top_down_under(rt, forest, &self.board, frontier, workers, sharing);
         self.end_level(forest, done)
     }
 
@@ -180,7 +182,7 @@ impl PhaseSearch {
         &mut self,
         rt: &R,
         forest: &mut Forest,
-        gate: &G,
+        sharing: &Sharing<'_, G>,
     ) -> Result<(), OutOfMemory>
         requires { IsReady self.old.board self.old.workers.items forest.old }
         ensures grown { GrowsOn forest.old forest.new }
@@ -189,7 +191,7 @@ impl PhaseSearch {
         unclaimed_rows(forest, &mut self.free)?;
         let free = self.free.as_slice();
         let workers = self.workers.as_mut_slice();
-        let done = attach(rt, forest, &self.board, free, workers, gate);
+        let done = attach_under(rt, forest, &self.board, free, workers, sharing);
         self.end_level(forest, done)
     }
 

@@ -6,15 +6,10 @@ ghost use Rattle.tree_graft.specs.Counts.{FreesFew, IsCountOf};
 ghost use Rattle.tree_graft.specs.PhaseSearch.{IsUnclaimed};
 
 use crate::counts::{freed_count, kept_count, unclaimed_count};
+use crate::sizes::Sizes;
 use forest_core::Forest;
 use sp_ids::Col;
 use sp_pattern::Pattern;
-
-// So many rows and columns are searched by workers alone, where a gate needs threads.
-const SMALL: u32 = 10_000;
-
-// Of so many rows and columns together the boards of a phase by workers cost more than it saves.
-const LARGE: u64 = 6_000_000;
 
 /// Whether a level goes down from the frontier, and not up from the unclaimed rows: exactly where
 /// there are more than five unclaimed rows for each column of the frontier. It takes no memory.
@@ -52,12 +47,8 @@ pub fn trees_stay(forest: &Forest) -> bool
     keeps_trees(kept_count(forest, freed), freed)
 }
 
-/// Whether a pattern has more rows and columns than serial phases search to the end.
-pub fn is_large(pattern: &Pattern) -> bool {
-    u64::from(pattern.rows()) + u64::from(pattern.cols()) > LARGE
-}
-
-/// Whether a pattern is so small that workers search it from the start, where they are to meet.
-pub fn is_small(pattern: &Pattern) -> bool {
-    pattern.rows() <= SMALL && pattern.cols() <= SMALL
+/// Whether a pattern has more rows and columns together than serial phases search to the end: the
+/// boards of a phase by workers cost more than it saves where they are few.
+pub fn is_large(pattern: &Pattern, sizes: &Sizes) -> bool {
+    u64::from(pattern.rows()) + u64::from(pattern.cols()) > sizes.serial_to_the_end
 }

@@ -1,4 +1,3 @@
-use Rattle.std.proofs.lemmas.Result.{IfOk-weaker}
 use Rattle.bip_defs.proofs.Covers.{straight_covers}
 use Rattle.pothen_fan.proofs.Phases.{straight_longer}
 use Rattle.pothen_fan.proofs.lengthen.Goals as goal
@@ -9,11 +8,11 @@ count_roots-requires c = ((c.matchings_of_the_transpose.ensures.matching _ _).0 
 pub lengthen_from-requires : goal.lengthen_from-requires
 lengthen_from-requires c = record { matching = (c.matchings_of_the_transpose.ensures.matching _ _).0 c.requires.matching }
 
-pub returns-then-count_roots-clause-matching : goal.returns-then-count_roots-clause-matching
-returns-then-count_roots-clause-matching c = IfOk-weaker c.lengthen_from.result _ _ (λ m k. (c.matchings_of_the_transpose.ensures.matching c.args.pattern.now m).1 k) c.lengthen_from.ensures.matching
+pub returns-in_ok-longer-clause-matching : goal.returns-in_ok-longer-clause-matching
+returns-in_ok-longer-clause-matching c = (c.matchings_of_the_transpose.ensures.matching c.args.pattern.now c.in_ok-longer.longer).1 c.in_ok-longer.ensures.matching
 
-pub returns-then-count_roots-clause-longer : goal.returns-then-count_roots-clause-longer
-returns-then-count_roots-clause-longer c = IfOk-weaker c.lengthen_from.result _ _ (λ m k. straight_longer c.args.pattern.now c.args.matching m k) c.lengthen_from.ensures.longer
+pub returns-in_ok-longer-clause-longer : goal.returns-in_ok-longer-clause-longer
+returns-in_ok-longer-clause-longer c = straight_longer c.args.pattern.now c.args.matching c.in_ok-longer.longer c.in_ok-longer.ensures.longer
 
-pub returns-then-count_roots-clause-covered : goal.returns-then-count_roots-clause-covered
-returns-then-count_roots-clause-covered c = IfOk-weaker c.lengthen_from.result _ _ (λ m k. straight_covers c.args.matching.pairs m.pairs k) c.lengthen_from.ensures.covered
+pub returns-in_ok-longer-clause-covered : goal.returns-in_ok-longer-clause-covered
+returns-in_ok-longer-clause-covered c = straight_covers c.args.matching.pairs c.in_ok-longer.longer.pairs c.in_ok-longer.ensures.covered

@@ -14,7 +14,7 @@ pub returns-in-Err-OutOfMemory-clause-says : goal.returns-in-Err-OutOfMemory-cla
 returns-in-Err-OutOfMemory-clause-says g c =
     let unused = seen g.S.Source.left g.S.Source.faults c.args.input.now c.args.input.now in
     refusal_says _ _ OutOfMemory c.refuse-in-Err-OutOfMemory.ensures.status c.refuse-in-Err-OutOfMemory.ensures.line
-    (record { later = omega arith; once = omega arith }, c.unused_input_tells.ensures unused (refl, refl), (refl, refl))
+    (omega arith, c.unused_input_tells.ensures unused (refl, refl), (refl, refl))
 
 pub returns-in-Ok-perform-clause-says : goal.returns-in-Ok-perform-clause-says
 returns-in-Ok-perform-clause-says g c =

@@ -1,7 +1,7 @@
-use Rattle.std.proofs.Common.{◌≡◌, ◌∷◌, ◌++◌, [], List, ◌∙◌, ℕ, ap₂}
+use Rattle.std.proofs.Common.{◌≡◌, ◌∷◌, ◌++◌, [], List, ◌∙◌, ℕ, ap, ap₂, arith, length}
 use Rattle.std.proofs.lemmas.Result.{err_from_is_err_and}
 use Rattle.btf_text.specs.ReportGrammar.{numbered_at}
-use Rattle.btf_text.proofs.ComponentLists.{numbered_begin, numbered_done, numbered_more, numbered_stop}
+use Rattle.btf_text.proofs.ComponentLists.{component_takes, numbered_begin, numbered_done, numbered_more, numbered_stop}
 use Rattle.btf_text.proofs.sections.numbered_at.Goals as goal
 
 pub returns-in_err-rows : goal.returns-in_err-rows
@@ -11,6 +11,12 @@ returns-in_err-rows c =
 
 pub loop-at-init : goal.loop-at-init
 loop-at-init c = rw c.new-read.ensures (numbered_begin c.args.count c.args.bytes.now)
+
+pub push-requires-clause-rows : goal.push-requires-clause-rows
+push-requires-clause-rows c = let t = component_takes _ _ _ c.in_ok-rows.ensures in omega (arith, t.like.rows.few, ap length c.as_slice.ensures.value)
+
+pub push-requires-clause-cols : goal.push-requires-clause-cols
+push-requires-clause-cols c = let t = component_takes _ _ _ c.in_ok-rows.ensures in omega (arith, t.like.cols.few, ap length c.as_slice-in-loop-at.ensures.value)
 
 pub loop-at-preserved : goal.loop-at-preserved
 loop-at-preserved c =

@@ -56,38 +56,38 @@ returns-in-Err-Usage-clause-gave g c = untouched_gave (seen g.S.Source.left g.S.
 pub returns-in-Err-OutOfMemory-clause-gave : goal.returns-in-Err-OutOfMemory-clause-gave
 returns-in-Err-OutOfMemory-clause-gave g c = untouched_gave (seen g.S.Source.left g.S.Source.faults c.args.input.now c.args.input.now) (refl, refl)
 
-pub returns-in-Err-Usage-clause-input_once : goal.returns-in-Err-Usage-clause-input_once
-returns-in-Err-Usage-clause-input_once g c = untouched_counts (seen g.S.Source.left g.S.Source.faults c.args.input.now c.args.input.now) (refl, refl)
+pub returns-in-Err-Usage-clause-input_count : goal.returns-in-Err-Usage-clause-input_count
+returns-in-Err-Usage-clause-input_count g c = untouched_counts (seen g.S.Source.left g.S.Source.faults c.args.input.now c.args.input.now) (refl, refl)
 
-pub returns-in-Err-Usage-clause-out_once : goal.returns-in-Err-Usage-clause-out_once
-returns-in-Err-Usage-clause-out_once g c = untouched_counts (seen g.O.Sink.taken g.O.Sink.faults c.args.out.now c.args.out.now) (refl, refl)
+pub returns-in-Err-Usage-clause-out_count : goal.returns-in-Err-Usage-clause-out_count
+returns-in-Err-Usage-clause-out_count g c = untouched_counts (seen g.O.Sink.taken g.O.Sink.faults c.args.out.now c.args.out.now) (refl, refl)
 
-pub returns-in-Err-Usage-clause-err_once : goal.returns-in-Err-Usage-clause-err_once
-returns-in-Err-Usage-clause-err_once g c = line_counts _ _ c.refuse.ensures.line
+pub returns-in-Err-Usage-clause-err_count : goal.returns-in-Err-Usage-clause-err_count
+returns-in-Err-Usage-clause-err_count g c = line_counts _ _ c.refuse.ensures.line
 
-pub returns-in-Err-OutOfMemory-clause-input_once : goal.returns-in-Err-OutOfMemory-clause-input_once
-returns-in-Err-OutOfMemory-clause-input_once g c = untouched_counts (seen g.S.Source.left g.S.Source.faults c.args.input.now c.args.input.now) (refl, refl)
+pub returns-in-Err-OutOfMemory-clause-input_count : goal.returns-in-Err-OutOfMemory-clause-input_count
+returns-in-Err-OutOfMemory-clause-input_count g c = untouched_counts (seen g.S.Source.left g.S.Source.faults c.args.input.now c.args.input.now) (refl, refl)
 
-pub returns-in-Err-OutOfMemory-clause-out_once : goal.returns-in-Err-OutOfMemory-clause-out_once
-returns-in-Err-OutOfMemory-clause-out_once g c = untouched_counts (seen g.O.Sink.taken g.O.Sink.faults c.args.out.now c.args.out.now) (refl, refl)
+pub returns-in-Err-OutOfMemory-clause-out_count : goal.returns-in-Err-OutOfMemory-clause-out_count
+returns-in-Err-OutOfMemory-clause-out_count g c = untouched_counts (seen g.O.Sink.taken g.O.Sink.faults c.args.out.now c.args.out.now) (refl, refl)
 
-pub returns-in-Err-OutOfMemory-clause-err_once : goal.returns-in-Err-OutOfMemory-clause-err_once
-returns-in-Err-OutOfMemory-clause-err_once g c = line_counts _ _ c.refuse-in-Err-OutOfMemory.ensures.line
+pub returns-in-Err-OutOfMemory-clause-err_count : goal.returns-in-Err-OutOfMemory-clause-err_count
+returns-in-Err-OutOfMemory-clause-err_count g c = line_counts _ _ c.refuse-in-Err-OutOfMemory.ensures.line
 
-pub returns-in-Ok-perform-clause-input_once : goal.returns-in-Ok-perform-clause-input_once
-returns-in-Ok-perform-clause-input_once g c = (job_counts c.in-Ok.job _ _ _ c.perform.ensures.says).0
+pub returns-in-Ok-perform-clause-input_count : goal.returns-in-Ok-perform-clause-input_count
+returns-in-Ok-perform-clause-input_count g c = (job_counts c.in-Ok.job _ _ _ c.perform.ensures.says).0
 
-pub returns-in-Ok-perform-clause-out_once : goal.returns-in-Ok-perform-clause-out_once
-returns-in-Ok-perform-clause-out_once g c = (job_counts c.in-Ok.job _ _ _ c.perform.ensures.says).1
+pub returns-in-Ok-perform-clause-out_count : goal.returns-in-Ok-perform-clause-out_count
+returns-in-Ok-perform-clause-out_count g c = (job_counts c.in-Ok.job _ _ _ c.perform.ensures.says).1
 
-pub returns-in-Err-clause-input_once : goal.returns-in-Err-clause-input_once
-returns-in-Err-clause-input_once g c = (job_counts c.in-Ok.job _ _ _ c.perform.ensures.says).0
+pub returns-in-Err-clause-input_count : goal.returns-in-Err-clause-input_count
+returns-in-Err-clause-input_count g c = (job_counts c.in-Ok.job _ _ _ c.perform.ensures.says).0
 
-pub returns-in-Err-clause-out_once : goal.returns-in-Err-clause-out_once
-returns-in-Err-clause-out_once g c = (job_counts c.in-Ok.job _ _ _ c.perform.ensures.says).1
+pub returns-in-Err-clause-out_count : goal.returns-in-Err-clause-out_count
+returns-in-Err-clause-out_count g c = (job_counts c.in-Ok.job _ _ _ c.perform.ensures.says).1
 
-pub returns-in-Ok-perform-clause-err_once : goal.returns-in-Ok-perform-clause-err_once
-returns-in-Ok-perform-clause-err_once g c = untouched_counts (seen g.E.Sink.taken g.E.Sink.faults c.args.err.now c.args.err.now) (refl, refl)
+pub returns-in-Ok-perform-clause-err_count : goal.returns-in-Ok-perform-clause-err_count
+returns-in-Ok-perform-clause-err_count g c = untouched_counts (seen g.E.Sink.taken g.E.Sink.faults c.args.err.now c.args.err.now) (refl, refl)
 
-pub returns-in-Err-clause-err_once : goal.returns-in-Err-clause-err_once
-returns-in-Err-clause-err_once g c = line_counts _ _ c.refuse-in-Err.ensures.line
+pub returns-in-Err-clause-err_count : goal.returns-in-Err-clause-err_count
+returns-in-Err-clause-err_count g c = line_counts _ _ c.refuse-in-Err.ensures.line

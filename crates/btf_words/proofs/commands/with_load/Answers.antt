@@ -1,14 +1,13 @@
-use Rattle.std.proofs.Common.{rules, ap, ap₂, ◌≡◌, ◌∙◌}
+use Rattle.std.proofs.Common.{ap, codes, map, List, [], ◌∷◌, refl, ◌≡◌, ◌∙◌}
 use Rattle.std.proofs.lemmas.Result.{IfOk-weaker}
-use Rattle.clap.specs.Words.{App, app_of, with_rule, with_subcommand}
-use Rattle.btf_words.specs.Table.{load_command}
+use Rattle.clap.specs.Words.{Rule, app_of, rule_of, with_subcommand}
+use Rattle.btf_words.specs.Table.{command, engine_rule, workers_rule, size_rule, seed_rule}
 use Rattle.btf_words.proofs.commands.with_load.Goals as goal
 
 pub returns : goal.returns
 returns c =
-    let one = c.in_ok-arg.ensures.shape c.size.ensures.local ∙ ap₂ with_rule c.new.ensures.app c.size.ensures.rule in
-    let two = c.in_ok-arg-2.ensures.shape c.seed.ensures.local ∙ ap₂ with_rule one c.seed.ensures.rule in
-    let three = c.in_ok-arg-3.ensures.shape c.engine.ensures.local ∙ ap₂ with_rule two c.engine.ensures.rule in
-    let four = c.in_ok-load.ensures.shape c.workers.ensures.local ∙ ap₂ with_rule three c.workers.ensures.rule in
-    let shape : (app_of c.in_ok-load.load).top ≡ load_command c.args.engines = ap (λ (a : App). a.top) four in
-    IfOk-weaker c.subcommand.result _ _ (λ r h. h.shape (search rules) ∙ ap (with_subcommand (app_of c.args.program)) shape) c.subcommand.ensures
+    let rules : map rule_of c.in_ok-options.options.items ≡ size_rule ∷ seed_rule ∷ engine_rule c.args.engines ∷ workers_rule ∷ []
+    = ap (map rule_of) c.in_ok-options.ensures.items
+    ∙ rw (c.size.ensures.rule, c.seed.ensures.rule, c.engine.ensures.rule, c.workers.ensures.rule) refl in
+    IfOk-weaker c.with_command.result _ _
+    (λ r h. h ∙ ap (λ (all : List Rule). with_subcommand (app_of c.args.program) (command (codes "load") all)) rules) c.with_command.ensures

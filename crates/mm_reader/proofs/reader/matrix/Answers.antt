@@ -17,7 +17,7 @@ returns-in-Err g c =
       within = tt;
       gave = (h.gave, h.known);
       most = most_known c.args.window.now c.args.window.now [] (g.S.Source.faults c.args.source.now) (g.S.Source.faults c.args.source.now) _ _ h c.requires.window;
-      cause = record { counts = record { later = omega arith; once = omega arith }; steady = tt; failed = λ e. absurd cc };
+      cause = record { counts = omega arith; steady = tt; failed = λ e. absurd cc };
       counted = counted_known c.args.window.now c.args.window.now [] _ _ h;
       past = λ e. absurd cc;
       window = keeps c.args.window.now c.args.window.now [] _ _ h c.requires.window;
@@ -46,7 +46,7 @@ returns-in_err-done g c =
       within = tt;
       gave = (h.gave, h.known);
       most = most_known c.args.window.now c.consume.new.window _ (g.S.Source.faults c.args.source.now) (g.S.Source.faults c.reading.source) _ _ h e.window;
-      cause = record { counts = record { later = omega (arith, i.steady); once = omega (arith, i.steady) }; steady = tt; failed = λ x. absurd (refused_no_fault _ _ _ _ _ (e.err i.fed.used i.fed.stands) x) };
+      cause = record { counts = omega (arith, i.steady); steady = tt; failed = λ x. absurd (refused_no_fault _ _ _ _ _ (e.err i.fed.used i.fed.stands) x) };
       counted = counted_known c.args.window.now c.consume.new.window _ _ _ h;
       past = λ x. e.past (same_error c.in_err-done.field-0.0 errors.TooLong x);
       window = keeps c.args.window.now c.consume.new.window _ _ _ h e.window;
@@ -73,7 +73,7 @@ returns-then-done g c =
       within = rw c.triples_of.ensures (complete_within c.args.end c.consume.new.m.phase c.consume.new.m.triples e.ok.ready (sym e.ok.done_is ∙ c.if-done.true));
       gave = (h.gave, h.known);
       most = most_known c.args.window.now c.consume.new.window f.used (g.S.Source.faults c.args.source.now) (g.S.Source.faults c.reading.source) _ _ h e.window;
-      cause = record { counts = record { later = omega (arith, i.steady); once = omega (arith, i.steady) }; steady = i.steady; failed = λ x. absurd cc };
+      cause = record { counts = omega (arith, i.steady); steady = i.steady; failed = λ x. absurd cc };
       counted = counted_known c.args.window.now c.consume.new.window f.used _ _ h;
       past = λ x. absurd cc;
       window = keeps c.args.window.now c.consume.new.window f.used _ _ h e.window;
@@ -100,7 +100,7 @@ returns-then-window g c =
       within = c.conclude.ensures.within;
       gave = (h.gave, h.known);
       most = most_known c.args.window.now c.consume.new.window f.used (g.S.Source.faults c.args.source.now) (g.S.Source.faults c.reading.source) _ _ h e.window;
-      cause = record { counts = record { later = omega (arith, i.steady); once = omega (arith, i.steady) }; steady = on_ok _ c.conclude.result i.steady; failed = λ x. absurd (ended_no_fault _ c.args.end f.used c.conclude.result answer x) };
+      cause = record { counts = omega (arith, i.steady); steady = on_ok _ c.conclude.result i.steady; failed = λ x. absurd (ended_no_fault _ c.args.end f.used c.conclude.result answer x) };
       counted = counted_known c.args.window.now c.consume.new.window f.used _ _ h;
       past = λ x. absurd (ended_in_room _ c.args.end f.used c.conclude.result answer x);
       window = keeps c.args.window.now c.consume.new.window f.used _ _ h e.window;
@@ -130,7 +130,7 @@ returns-in-Err-refill g c =
       within = tt;
       gave = (h.gave, h.known);
       most = most_known c.args.window.now c.refill.new.window f.used (g.S.Source.faults c.args.source.now) (g.S.Source.faults c.refill.new.source) _ _ h r.window;
-      cause = record { counts = record { later = omega (arith, i.steady, r.cause.counts.later); once = omega (arith, i.steady, r.cause.counts.once) }; steady = tt; failed = λ x. s };
+      cause = record { counts = omega (arith, i.steady, r.cause.counts); steady = tt; failed = λ x. s };
       counted = counted_known c.args.window.now c.refill.new.window f.used _ _ h;
       past = λ x. absurd cc;
       window = keeps c.args.window.now c.refill.new.window f.used _ _ h r.window;

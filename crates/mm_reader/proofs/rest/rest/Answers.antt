@@ -19,7 +19,7 @@ returns-in_err-take_ahead g c =
       unjudged = unjudged c.reading.window c.in_err-take_ahead.field-0.0 e.err;
       gave = (h.gave, h.known);
       most = most_known c.args.window.now c.take_ahead.new.window c.reading.bytes.items (g.S.Source.faults c.args.source.now) (g.S.Source.faults c.reading.source) _ _ h e.window.window;
-      cause = record { counts = record { later = omega (arith, i.steady); once = omega (arith, i.steady) }; steady = tt; failed = λ x. absurd (refused_no_rest_fault _ c.reading.window c.in_err-take_ahead.field-0.0 e.err x) };
+      cause = record { counts = omega (arith, i.steady); steady = tt; failed = λ x. absurd (refused_no_rest_fault _ c.reading.window c.in_err-take_ahead.field-0.0 e.err x) };
       counted = counted_known c.args.window.now c.take_ahead.new.window c.reading.bytes.items _ _ h;
       past = λ x. rw e.same (past_ahead _ c.reading.window i.window c.in_err-take_ahead.field-0.0 e.err x);
       window = keeps c.args.window.now c.take_ahead.new.window c.reading.bytes.items _ _ h e.window.window;
@@ -40,7 +40,7 @@ returns-then-window g c =
       unjudged = tt;
       gave = (h.gave, h.known);
       most = most_known c.args.window.now c.take_ahead.new.window c.take_ahead.new.bytes.items (g.S.Source.faults c.args.source.now) (g.S.Source.faults c.reading.source) _ _ h e.window.window;
-      cause = record { counts = record { later = omega (arith, i.steady); once = omega (arith, i.steady) }; steady = i.steady; failed = λ x. absurd cc };
+      cause = record { counts = omega (arith, i.steady); steady = i.steady; failed = λ x. absurd cc };
       counted = counted_known c.args.window.now c.take_ahead.new.window c.take_ahead.new.bytes.items _ _ h;
       past = λ x. absurd cc;
       window = keeps c.args.window.now c.take_ahead.new.window c.take_ahead.new.bytes.items _ _ h e.window.window;
@@ -65,7 +65,7 @@ returns-in-Err g c =
       unjudged = tt;
       gave = (h.gave, h.known);
       most = most_known c.args.window.now c.refill.new.window c.take_ahead.new.bytes.items (g.S.Source.faults c.args.source.now) (g.S.Source.faults c.refill.new.source) _ _ h r.window;
-      cause = record { counts = record { later = omega (arith, i.steady, r.cause.counts.later); once = omega (arith, i.steady, r.cause.counts.once) }; steady = tt; failed = λ x. s };
+      cause = record { counts = omega (arith, i.steady, r.cause.counts); steady = tt; failed = λ x. s };
       counted = counted_known c.args.window.now c.refill.new.window c.take_ahead.new.bytes.items _ _ h;
       past = λ x. absurd cc;
       window = keeps c.args.window.now c.refill.new.window c.take_ahead.new.bytes.items _ _ h r.window;

@@ -1,29 +1,31 @@
-use Rattle.std.proofs.Common.{◌∙◌, arith, true≢false}
+use Rattle.std.proofs.Common.{◌∙◌, arith}
 use Rattle.bip_defs.proofs.Covers.{covers_more, covers_none}
-use Rattle.pothen_fan.proofs.Phases.{growth_ends, growth_falls, roots_still}
+use Rattle.bip_defs.proofs.Full.{matching_few}
+use Rattle.pothen_fan.proofs.Phases.{growth_ends, roots_still, ungrown_maximum}
 use Rattle.pothen_fan.proofs.Roots.{roots_hold}
 use Rattle.pothen_fan.proofs.longer.lengthen_from.Goals as goal
 
-pub loop-goes_on-init : goal.loop-goes_on-init
-loop-goes_on-init g c = record {
+pub loop-longer-init : goal.loop-longer-init
+loop-longer-init g c = record {
   matching = c.requires.matching;
   rows = c.in_ok-search.ensures.rows ∙ c.rows.ensures;
   cols = c.in_ok-search.ensures.cols ∙ c.cols.ensures;
   roots = roots_hold _ _ _ c.in_ok-roots.ensures;
   covered = covers_none _;
   grown = omega arith;
-  last = λ e. absurd (true≢false e);
 }
 
-pub loop-goes_on-smaller : goal.loop-goes_on-smaller
-loop-goes_on-smaller g c =
+pub loop-longer-smaller : goal.loop-longer-smaller
+loop-longer-smaller g c =
     let e = c.grow-growth.ensures in
-    rw c.loop-goes_on-test.true (growth_falls _ (g.F.Opposite.seen c.loop-goes_on.longer) (g.F.Opposite.seen c.grow-growth.new.matching) _ _ e.growth c.pays-goes_on.ensures e.matching.matching)
+    let few = matching_few (g.S.Side.matrix c.args.side.now) (g.F.Opposite.seen c.grow-growth.new.matching).pairs e.matching.matching in
+    let more = e.growth in
+    omega (arith, c.if-growth-eq0.false)
 
-pub loop-goes_on-preserved : goal.loop-goes_on-preserved
-loop-goes_on-preserved g c =
+pub loop-longer-preserved : goal.loop-longer-preserved
+loop-longer-preserved g c =
     let e = c.grow-growth.ensures in
-    let k = c.loop-goes_on.invariant in
+    let k = c.loop-longer.invariant in
     let longer = e.growth in
     record {
       matching = e.matching;
@@ -32,5 +34,7 @@ loop-goes_on-preserved g c =
       roots = roots_still _ _ _ _ e.covered k.roots;
       covered = covers_more k.covered e.covered;
       grown = let le = k.grown in omega (arith, le, longer);
-      last = λ none. growth_ends _ (g.F.Opposite.seen c.args.matching) _ _ k.grown e.maximum;
     }
+
+pub returns-then-not-pays-clause-covered : goal.returns-then-not-pays-clause-covered
+returns-then-not-pays-clause-covered g c = covers_more c.loop-longer.invariant.covered c.grow-growth.ensures.covered

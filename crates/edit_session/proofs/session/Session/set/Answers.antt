@@ -8,6 +8,7 @@ use Rattle.bip_graph.specs.Matching.{IsMatchingOf}
 use Rattle.hall_witness.specs.Back.{IsSearchedTo}
 use Rattle.hall_witness.specs.Covers.{IsCovered, IsSearchedFrom}
 use Rattle.hall_witness.specs.Over.{IsSearchedOver}
+use Rattle.sp_ids.specs.Limits.{max_entries}
 use Rattle.edit_session.specs.Sessions.{IsSaturating, IsPaired, MatchedMatrix}
 use Rattle.edit_session.proofs.SessionLemmas.{room_left, set_again, set_cover, set_matching, set_rows, set_saturating, turned_room_left}
 use Rattle.edit_session.proofs.TransposeLemmas.{turned_few, turned_within}
@@ -48,7 +49,7 @@ insert-requires-2-clause-col g c = rw c.row-2.view_is (turned_within c.self.insi
 
 pub insert-requires-2-clause-few : goal.insert-requires-2-clause-few
 insert-requires-2-clause-few g c = turned_few c.self.inside.columns.matrix c.make_room-2.new.self.matrix (c.in_ok-make_room-2.ensures.matrix ∙ c.self.invariant.rows) c.is_pattern.ensures
-    (subst (λ (w : MatchedMatrix). entry_count w.matrix < 4294967295) (sym c.self.view_is) c.requires.few)
+    (subst (λ (w : MatchedMatrix). entry_count w.matrix < max_entries) (sym c.self.view_is) c.requires.few)
 
 pub match_entry-requires-clause-rows : goal.match_entry-requires-clause-rows
 match_entry-requires-clause-rows g c =

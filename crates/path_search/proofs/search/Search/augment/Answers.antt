@@ -1,7 +1,7 @@
-use Rattle.std.proofs.Common.{refl}
+use Rattle.std.proofs.Common.{refl, inl}
 use Rattle.bip_defs.proofs.Below.{entries_within}
 use Rattle.path_search.proofs.FailedSearches.{search_failed}
-use Rattle.path_search.proofs.FlipLemmas.{augmented}
+use Rattle.path_search.proofs.FlipLemmas.{augmented, moved_visited}
 use Rattle.path_search.proofs.search.Search.augment.Goals as goal
 
 pub flip-requires-clause-in_range : goal.flip-requires-clause-in_range
@@ -15,3 +15,9 @@ returns-clause-matching g c = c.flip.ensures.matching _ c.requires.matching c.if
 
 pub returns-clause-found : goal.returns-clause-found
 returns-clause-found g c = augmented _ _ _ c.find.new.self.path _ _ c.if-not-find.ensures.found c.flip.ensures.pairs c.flip.ensures.size
+
+pub returns-then-not-find-clause-moved : goal.returns-then-not-find-clause-moved
+returns-then-not-find-clause-moved g c = λ r d h. inl h
+
+pub returns-clause-moved : goal.returns-clause-moved
+returns-clause-moved g c = rw c.flip.ensures.same (moved_visited _ _ c.find.new.self.path _ c.if-not-find.ensures.visited c.flip.ensures.pairs)

@@ -1,6 +1,8 @@
-use Rattle.std.proofs.Common.{arith, map}
+use Rattle.std.proofs.Common.{◌≡◌, ◌∙◌, List, Bool, IfSome, ap, arith, length, map, subst, sym}
 use Rattle.std.proofs.lemmas.List.{length-map}
 use Rattle.std.proofs.lemmas.Option.{IfSome_then}
+use Rattle.bip_defs.specs.Lists.{IsMarked}
+use Rattle.path_search.specs.Search.{SearchState}
 use Rattle.path_search.proofs.Steps.{column_short}
 use Rattle.path_search.proofs.search.Search.look_ahead.Goals as goal
 
@@ -14,4 +16,14 @@ unmatched_row-requires-clause-few g c =
     omega (arith, length-map c.rows_of-rows.result.now g.F.Id.number)
 
 pub returns-clause-found : goal.returns-clause-found
-returns-clause-found g c = IfSome_then c.unmatched_row.result c.unmatched_row.ensures (λ r h. (c.rows_of-rows.ensures.rows.sound r h.0, h.1))
+returns-clause-found g c = IfSome_then c.unmatched_row.result c.unmatched_row.ensures.found (λ r h. (c.rows_of-rows.ensures.rows.sound r h.0, h.1))
+
+pub unmatched_row-requires-clause-marks : goal.unmatched_row-requires-clause-marks
+unmatched_row-requires-clause-marks g c =
+    let marks : c.as_slice-marks.result.now ≡ c.args.self.now.marks = c.as_slice-marks.ensures.value ∙ ap (λ (s : SearchState). s.marks) c.self.view_is in
+    rw c.requires.rows (ap length marks ∙ c.requires.marks)
+
+pub returns-clause-unmarked : goal.returns-clause-unmarked
+returns-clause-unmarked g c =
+    let marks : c.as_slice-marks.result.now ≡ c.args.self.now.marks = c.as_slice-marks.ensures.value ∙ ap (λ (s : SearchState). s.marks) c.self.view_is in
+    subst (λ (xs : List Bool). IfSome c.unmatched_row.result (λ r. ¬ IsMarked xs r)) marks c.unmatched_row.ensures.unmarked

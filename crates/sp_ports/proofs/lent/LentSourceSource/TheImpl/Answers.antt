@@ -26,7 +26,7 @@ kept P (Ok k) succeeds = tt
 kept P (Err e) succeeds = absurd cc
 
 cause : (old new : List ℕ) (r : Result ℕ Failed) → IsOk r → FailsByReads (seen (λ (s : List ℕ). Some s) never old new) r
-cause old new (Ok k) succeeds = record { counts = record { later = omega arith; once = omega arith }; steady = refl; failed = tt }
+cause old new (Ok k) succeeds = record { counts = omega arith; steady = refl; failed = tt }
 cause old new (Err e) succeeds = absurd cc
 
 pub read-tells : goal.read-tells

@@ -1,0 +1,3 @@
+pub mod ClassLemmas
+pub mod LabelLemmas
+pub mod MergeLemmas

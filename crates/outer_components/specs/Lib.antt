@@ -1,0 +1,4 @@
+pub mod Classes
+pub mod Contacts
+pub mod Labels
+pub mod Numbers
