@@ -11,9 +11,9 @@ ghost use Rattle.blocktri.specs.Causes.{IsRefusal};
 ghost use Rattle.blocktri.specs.OuterComponents.{TellsComponents};
 ghost use Rattle.sp_pattern.specs.Columns.{AreColumns, matrix_of};
 
+use crate::component_numbers::write_components;
 use crate::maximum::matched;
 use crate::orders::{lengths_add_up, write_block_starts, write_column_order, write_row_order};
-use crate::outer_components::write_components;
 use crate::refusals::Refusal;
 use bip_graph::{Components, Decomposition, Matching, OuterMarks};
 use dm_coarse::{coarse_by_marks, coarse_in_turn, components};

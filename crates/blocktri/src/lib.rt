@@ -9,6 +9,7 @@
 
 mod block_form;
 mod bottleneck_matching;
+mod component_numbers;
 mod diagonal_order;
 mod diagonal_refusals;
 mod first_look;
@@ -17,7 +18,6 @@ mod laws;
 mod maximum;
 mod narrow_prices;
 mod orders;
-mod outer_components;
 mod refusals;
 mod rising_columns;
 mod row_of_column;

@@ -4,7 +4,7 @@ use Rattle.bip_graph.specs.Decompositions.{components_of}
 use Rattle.bip_graph.specs.Matching.{none}
 use Rattle.blocktri.specs.OuterComponents.{AreApart, cols_of_block, rows_of_block}
 use Rattle.blocktri.proofs.ComponentLemmas.{component_numbers, filled_none, horizontal_cols_apart, horizontal_rows_apart, vertical_cols_apart, vertical_rows_apart}
-use Rattle.blocktri.proofs.outer_components.write_components.Goals as goal
+use Rattle.blocktri.proofs.component_numbers.write_components.Goals as goal
 
 pub write_numbers-requires-clause-rows : goal.write_numbers-requires-clause-rows
 write_numbers-requires-clause-rows c =

@@ -3,7 +3,7 @@ use Rattle.std.proofs.lemmas.List.{map-id}
 use Rattle.bip_defs.specs.Lists.{Among}
 use Rattle.blocktri.specs.OuterComponents.{IsWrittenAt, cols_of_block, rows_of_block}
 use Rattle.blocktri.proofs.ComponentLemmas.{numbered_more}
-use Rattle.blocktri.proofs.outer_components.write_numbers.Goals as goal
+use Rattle.blocktri.proofs.component_numbers.write_numbers.Goals as goal
 
 pub write_number-requires : goal.write_number-requires
 write_number-requires c = λ x h.

@@ -1,5 +1,5 @@
 use Rattle.blocktri.specs.OuterComponents.{AreNumbered, cols_of_block, rows_of_block}
-use Rattle.blocktri.proofs.outer_components.write_numbers.Given as goal
+use Rattle.blocktri.proofs.component_numbers.write_numbers.Given as goal
 
 abbrev pub invariant-loop-block : goal.invariant-loop-block
 invariant-loop-block l = record {

@@ -2,7 +2,7 @@ use Rattle.std.proofs.Common.{arith, map}
 use Rattle.std.proofs.lemmas.List.{length-map}
 use Rattle.bip_defs.proofs.Slices.{number_at, number_read}
 use Rattle.blocktri.proofs.ComponentLemmas.{written_more}
-use Rattle.blocktri.proofs.outer_components.write_number.Goals as goal
+use Rattle.blocktri.proofs.component_numbers.write_number.Goals as goal
 
 pub bounds-out-number : goal.bounds-out-number
 bounds-out-number g c =
