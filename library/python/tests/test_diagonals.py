@@ -197,5 +197,5 @@ def test_sums_in_any_type(call, form, kind, values, magnitude):
     ("f8", [2.0**62] * 2),
 ])
 def test_sums_past_the_limit(call, form, kind, values):
-    with pytest.raises(ValueError, match="sum"):
+    with pytest.raises(ValueError, match="add up to more"):
         call(one_place(values, form, kind))
