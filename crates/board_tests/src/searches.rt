@@ -52,8 +52,8 @@ const IN_TURN: u32 = u32::MAX;
 
 const ON_THREADS: u32 = 0;
 
-// So many looks are enough where nobody is to come.
-const FEW_TURNS: u32 = 1_000;
+// So many looks are enough where nobody is to come. On a busy machine each takes long.
+const FEW_TURNS: u32 = 100;
 
 // Of so many rows the first levels go up from the unclaimed rows, and of so many down from the
 // frontier.
