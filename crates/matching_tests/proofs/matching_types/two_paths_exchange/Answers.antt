@@ -21,9 +21,9 @@ on_path p (inl e) = inl (ap (λ (q : Place). q.0) e)
 on_path p (inr h) = elim h [ ]
 
 pub flip-requires-clause-path : goal.flip-requires-clause-path
-flip-requires-clause-path g c = augments_by _ _ _ (first_pair _ c.pair.new.self.pairs (0, 2) (ap (λ (v : Pairing). v.pairs) c.in_ok-matching.ensures) c.pair.ensures.added) first_path
+flip-requires-clause-path c = augments_by _ _ _ (first_pair _ c.pair.new.self.pairs (0, 2) (ap (λ (v : Pairing). v.pairs) c.in_ok-matching.ensures) c.pair.ensures.added) first_path
 
 pub flip-requires-2-clause-path : goal.flip-requires-2-clause-path
-flip-requires-2-clause-path g c =
+flip-requires-2-clause-path c =
     let before = first_pair _ c.pair.new.self.pairs (0, 2) (ap (λ (v : Pairing). v.pairs) c.in_ok-matching.ensures) c.pair.ensures.added in
     augments_by _ _ _ (path_pairs _ c.flip.new.self.pairs _ ((0, 1) ∷ (1, 2) ∷ []) before c.flip.ensures.pairs on_path) second_path
